@@ -1,0 +1,1 @@
+//! Checksums, hashes, rounding and sizes.

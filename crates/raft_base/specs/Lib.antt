@@ -1,3 +1,4 @@
 pub mod Errors
 pub mod Reading
 pub mod Signature
+pub mod Varint

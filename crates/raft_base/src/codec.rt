@@ -1,7 +1,14 @@
 //! Numbers as bytes.
 
+ghost use Rattle.std.specs.Prelude.{OnOk};
+ghost use Rattle.std.specs.Io.KnownBytes.{Appends};
+ghost use Rattle.raft_base.specs.Varint.{varint};
+
+pub mod varint;
+
+pub use crate::codec::varint::{append_var_u64, decode_var_u64};
 use std::io;
-use std::io::ErrorKind;
+use std::io::{ErrorKind, Write};
 use thiserror::Error;
 
 /// Bytes that a decoder reads from the front.
@@ -50,3 +57,20 @@ impl Error {
 
 /// The answer of a codec.
 pub type Result<T> = std::result::Result<T, Error>;
+
+/// Writes numbers to any writer. The error is the writer's.
+pub trait NumberEncoder: Write {
+    /// Writes `v` in base 128, in its shortest spelling.
+    final fn encode_var_u64(&mut self, v: u64) -> Result<()>
+    where
+        Self: Sized,
+        ensures { OnOk result (Appends (Self.contents self.old) (Self.contents self.new) (varint v)) }
+    {
+        let mut bytes = [0; varint::MAX_VAR_U64_LEN];
+        let len = varint::put_var_u64(&mut bytes, v);
+        self.write_all(&bytes[..len])?;
+        Ok(())
+    }
+}
+
+impl<W: Write> NumberEncoder for W {}

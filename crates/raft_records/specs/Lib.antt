@@ -1,0 +1,4 @@
+pub mod Item
+pub mod Grammar
+pub mod Spelling
+pub mod Faults

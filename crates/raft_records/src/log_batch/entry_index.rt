@@ -1,4 +1,7 @@
-//! Where one entry of a region's log stands.
+//! Where the entries of a region's log stand.
+
+ghost use Rattle.std.specs.Prelude.{◌≡◌, ◌≢◌, ◌↔◌, ◌++◌, ◌^◌, ◌<◌, IsTrue, IfOk, IfErr, OnOk, OnErr};
+ghost use Rattle.raft_base.specs.Reading.{Reads, HasNoFront};
 
 use crate::log_batch::CompressionType;
 use raft_base::FileBlockHandle;
@@ -16,3 +19,7 @@ pub struct EntryIndex {
     /// How many bytes it has.
     pub entry_len: u32,
 }
+
+/// The entries of one item: consecutive ones of one region.
+#[derive(PartialEq, Eq, Debug, Drop)]
+pub struct EntryIndexes(pub Vec<EntryIndex>);

@@ -1,0 +1,71 @@
+-- Why items are refused: which error comes for which bytes.
+use Rattle.std.specs.Prelude.{◌≡◌, ◌≢◌, ℕ, ◌<◌, ◌⊎◌, List, [], ◌∷◌, ◌++◌, length, codes, string_bytes}
+use Rattle.std.specs.declared.io.ErrorKind.TheVariants.{UnexpectedEof}
+use Rattle.std.specs.Fmt.{decimal}
+use Rattle.raft_base.specs.declared.errors.Error.{Error}
+use Rattle.raft_base.specs.declared.errors.Error.TheVariants as errors
+use Rattle.raft_base.specs.Errors.{IsIoOf}
+use Rattle.raft_base.specs.Reading.{IsFaultBehind}
+use Rattle.raft_base.specs.Varint.{IsVarint, IsVarintFault}
+use Rattle.raft_records.specs.Item.{Pair}
+use Rattle.raft_records.specs.Grammar.{IsByteString}
+use Rattle.raft_records.specs.Spelling.{IsWritablePair}
+
+-- want of memory
+abbrev pub IsMemory : Error → Type 0
+IsMemory errors.Memory = Unit {0}
+IsMemory _ = ⊥
+
+-- bytes end too early, as an io error or as a codec's
+abbrev pub IsEof : Error → Type 0
+IsEof (errors.Codec e) = IsIoOf e UnexpectedEof
+IsEof _ = ⊥
+
+-- a refusal by this text, or for want of memory for it
+abbrev pub IsCorruption : List ℕ → Error → Type 0
+IsCorruption text (errors.Corruption t) = string_bytes t ≡ text
+IsCorruption text errors.Memory = Unit {0}
+IsCorruption text _ = ⊥
+
+-- no number stands in front
+abbrev pub IsNumberFault : List ℕ → Error → Type 0
+IsNumberFault bytes (errors.Codec e) = IsVarintFault bytes e
+IsNumberFault bytes _ = ⊥
+
+-- no command: nothing, an unknown type byte, or no number behind Compact's
+abbrev pub IsCommandFault : List ℕ → Error → Type 0
+IsCommandFault [] e = IsEof e
+IsCommandFault (kind ∷ rest) e =
+    ((kind ≢ 1) × (kind ≢ 2) × IsCorruption (codes "Unrecognized command type: " ++ decimal kind) e) ⊎ ((kind ≡ 2) × IsNumberFault rest e)
+
+-- an op type other than Put and Del
+abbrev pub IsOpTypeFault : ℕ → Error → Type 0
+IsOpTypeFault byte e = (byte ≢ 1) × (byte ≢ 2) × IsCorruption (codes "Unrecognized op type: " ++ decimal byte) e
+
+-- a refusal by any text, or for want of memory for it
+abbrev pub IsAnyCorruption : Error → Type 0
+IsAnyCorruption (errors.Corruption t) = Unit {0}
+IsAnyCorruption e = IsMemory e
+
+-- no byte string: no length, or one that passes the end
+abbrev pub IsByteStringFault : List ℕ → Error → Type 0
+IsByteStringFault bytes e =
+    IsNumberFault bytes e ⊎ IsFaultBehind IsVarint (λ n rest (f : Error). (length rest < n) × IsAnyCorruption f) bytes e
+
+-- the key or the value of a Put is none, or there is no memory for them
+abbrev pub IsPutFault : List ℕ → Error → Type 0
+IsPutFault bytes e = IsMemory e ⊎ IsByteStringFault bytes e ⊎ IsFaultBehind IsByteString (λ _. IsByteStringFault) bytes e
+
+-- the key of a Del is none, or there is no memory for it
+abbrev pub IsDelFault : List ℕ → Error → Type 0
+IsDelFault bytes e = IsMemory e ⊎ IsByteStringFault bytes e
+
+-- no key value: nothing, an unknown op type, or a fault behind it
+abbrev pub IsKeyValueFault : List ℕ → Error → Type 0
+IsKeyValueFault [] e = IsEof e
+IsKeyValueFault (byte ∷ rest) e = IsOpTypeFault byte e ⊎ ((byte ≡ 1) × IsPutFault rest e) ⊎ ((byte ≡ 2) × IsDelFault rest e)
+
+-- a Put without a value is not written
+abbrev pub IsPairRefusal : Pair → Error → Type 0
+IsPairRefusal p (errors.InvalidArgument text) = IsWritablePair p → ⊥
+IsPairRefusal p e = IsMemory e

@@ -1,0 +1,36 @@
+-- The bytes that encoders write: of each number the shortest spelling.
+use Rattle.std.specs.Prelude.{ℕ, ◌+◌, List, [], ◌∷◌, ◌++◌, length, Option, Some, None}
+use Rattle.std.specs.List.{flat_map}
+use Rattle.raft_base.specs.Varint.{varint}
+use Rattle.raft_records.specs.declared.log_batch.command.Command.{Command}
+use Rattle.raft_records.specs.declared.log_batch.command.Command.TheVariants.{Clean, Compact}
+use Rattle.raft_records.specs.declared.log_batch.entry_index.EntryIndex.{EntryIndex}
+use Rattle.raft_records.specs.declared.log_batch.key_value.OpType.{OpType}
+use Rattle.raft_records.specs.declared.log_batch.key_value.OpType.TheVariants.{Put, Del}
+use Rattle.raft_records.specs.Item.{Item, Content, entries, command, pair, Pair}
+use Rattle.raft_records.specs.Grammar.{op_type_byte, tail_of}
+
+abbrev pub command_bytes : Command → List ℕ
+command_bytes Clean = 1 ∷ []
+command_bytes (Compact index) = 2 ∷ varint index
+
+-- a length, and that many bytes
+abbrev pub byte_string : List ℕ → List ℕ
+byte_string text = varint (length text) ++ text
+
+-- a Put has a value
+abbrev pub IsWritableWith : OpType → Option (List ℕ) → Type 0
+IsWritableWith Put None = ⊥
+IsWritableWith _ _ = Unit {0}
+
+abbrev pub IsWritablePair : Pair → Type 0
+IsWritablePair p = IsWritableWith p.op_type p.value
+
+-- behind the key a Put has its value
+abbrev pub value_bytes : OpType → Option (List ℕ) → List ℕ
+value_bytes Put (Some value) = byte_string value
+value_bytes _ _ = []
+
+-- the op type byte, the key, and a Put's value
+abbrev pub pair_bytes : Pair → List ℕ
+pair_bytes p = op_type_byte p.op_type ∷ byte_string p.key ++ value_bytes p.op_type p.value

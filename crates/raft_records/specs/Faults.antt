@@ -1,14 +1,16 @@
 -- Why items are refused: which error comes for which bytes.
-use Rattle.std.specs.Prelude.{◌≡◌, ◌≢◌, ℕ, ◌<◌, ◌⊎◌, List, [], ◌∷◌, ◌++◌, length, codes, string_bytes}
+use Rattle.std.specs.Prelude.{◌≡◌, ◌≢◌, ℕ, ◌-◌, ◌^◌, ◌<◌, ◌≤◌, ◌⊎◌, List, [], ◌∷◌, ◌++◌, length, codes, string_bytes}
 use Rattle.std.specs.declared.io.ErrorKind.TheVariants.{UnexpectedEof}
 use Rattle.std.specs.Fmt.{decimal}
 use Rattle.raft_base.specs.declared.errors.Error.{Error}
 use Rattle.raft_base.specs.declared.errors.Error.TheVariants as errors
 use Rattle.raft_base.specs.Errors.{IsIoOf}
-use Rattle.raft_base.specs.Reading.{IsFaultBehind}
+use Rattle.raft_base.specs.Reading.{IsFaultBehind, IsSequenceFault}
 use Rattle.raft_base.specs.Varint.{IsVarint, IsVarintFault}
+use Rattle.raft_records.specs.declared.log_batch.entry_index.EntryIndex.{EntryIndex}
 use Rattle.raft_records.specs.Item.{Pair}
-use Rattle.raft_records.specs.Grammar.{IsByteString}
+use Rattle.raft_records.specs.Entries.{AreWritable}
+use Rattle.raft_records.specs.Grammar.{IsByteString, IsTail, behind_entry}
 use Rattle.raft_records.specs.Spelling.{IsWritablePair}
 
 -- want of memory
@@ -69,3 +71,25 @@ IsKeyValueFault (byte ∷ rest) e = IsOpTypeFault byte e ⊎ ((byte ≡ 1) × Is
 abbrev pub IsPairRefusal : Pair → Error → Type 0
 IsPairRefusal p (errors.InvalidArgument text) = IsWritablePair p → ⊥
 IsPairRefusal p e = IsMemory e
+
+-- no tail offset: the index would be 2^64 - 1, no number stands there, or it falls or passes 2^32 - 1
+abbrev pub IsTailFault : ℕ × ℕ → List ℕ → Error → Type 0
+IsTailFault next bytes e =
+    ((2 ^ 64 - 1 ≤ next.0) × IsAnyCorruption e) ⊎ IsNumberFault bytes e ⊎ IsFaultBehind IsVarint (λ tail rest (f : Error). ((tail < next.1) ⊎ (2 ^ 32 ≤ tail)) × IsAnyCorruption f) bytes e
+
+-- a fault in one of so many tail offsets, or there is no memory for them
+abbrev pub IsTailsFault : ℕ → ℕ × ℕ → List ℕ → Error → Type 0
+IsTailsFault count next bytes e = IsMemory e ⊎ IsSequenceFault behind_entry IsTail IsTailFault count next bytes e
+
+-- behind the count, which is not 0: no first index, or a fault in the tail offsets
+abbrev pub IsRunFault : ℕ → ℕ → List ℕ → Error → Type 0
+IsRunFault s n bytes e = (0 < n) × (IsNumberFault bytes e ⊎ IsFaultBehind IsVarint (λ first. IsTailsFault n (first, s)) bytes e)
+
+-- no entries: no count, or a fault behind it
+abbrev pub IsEntriesFault : ℕ → List ℕ → Error → Type 0
+IsEntriesFault s bytes e = IsNumberFault bytes e ⊎ IsFaultBehind IsVarint (IsRunFault s) bytes e
+
+-- entries that don't run on are not written
+abbrev pub IsEntriesRefusal : List EntryIndex → Error → Type 0
+IsEntriesRefusal es (errors.InvalidArgument text) = AreWritable es → ⊥
+IsEntriesRefusal es e = IsMemory e

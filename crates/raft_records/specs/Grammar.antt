@@ -67,11 +67,15 @@ pub record IsTail (next : ℕ × ℕ) (bytes : List ℕ) (e : EntryIndex) : Type
 abbrev pub behind_entry : ℕ × ℕ → EntryIndex → ℕ × ℕ
 behind_entry next e = (next.0 + 1, tail_of e)
 
--- n entries behind s entry bytes: the first index, and each one's tail offset; nothing where there are none
+-- n tail offsets, one behind the other, the first for this index and offset
+pub record AreTails (n : ℕ) (next : ℕ × ℕ) (bytes : List ℕ) (es : List EntryIndex) : Type 0 where
+  pub tails : IsSequence behind_entry IsTail next bytes es
+  pub count : length es ≡ n
+
+-- n entries behind s entry bytes: the first index and the tail offsets; nothing where there are none
 abbrev pub IsRun : ℕ → ℕ → List ℕ → List EntryIndex → Type 0
 IsRun s n bytes [] = (bytes ≡ []) × (n ≡ 0)
-IsRun s n bytes (e ∷ es) =
-    IsPair IsVarint (λ first. IsSequence behind_entry IsTail (first, s)) bytes e.index (e ∷ es) × (n ≡ suc (length es))
+IsRun s n bytes (e ∷ es) = IsPair IsVarint (λ first. AreTails n (first, s)) bytes e.index (e ∷ es)
 
 -- the count of entries and the entries, read after s entry bytes
 abbrev pub IsEntries : ℕ → List ℕ → List EntryIndex → Type 0

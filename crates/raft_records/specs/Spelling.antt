@@ -8,6 +8,7 @@ use Rattle.raft_records.specs.declared.log_batch.entry_index.EntryIndex.{EntryIn
 use Rattle.raft_records.specs.declared.log_batch.key_value.OpType.{OpType}
 use Rattle.raft_records.specs.declared.log_batch.key_value.OpType.TheVariants.{Put, Del}
 use Rattle.raft_records.specs.Item.{Item, Content, entries, command, pair, Pair}
+use Rattle.raft_records.specs.Entries.{AreWritable}
 use Rattle.raft_records.specs.Grammar.{op_type_byte, tail_of}
 
 abbrev pub command_bytes : Command → List ℕ
@@ -34,3 +35,30 @@ value_bytes _ _ = []
 -- the op type byte, the key, and a Put's value
 abbrev pub pair_bytes : Pair → List ℕ
 pair_bytes p = op_type_byte p.op_type ∷ byte_string p.key ++ value_bytes p.op_type p.value
+
+-- behind the count come the first index and the tail offsets, where there are entries
+abbrev pub run_bytes : List EntryIndex → List ℕ
+run_bytes [] = []
+run_bytes (e ∷ es) = varint e.index ++ flat_map (λ x. varint (tail_of x)) (e ∷ es)
+
+abbrev pub entries_bytes : List EntryIndex → List ℕ
+entries_bytes es = varint (length es) ++ run_bytes es
+
+-- an item's type byte and its content
+abbrev pub content_bytes : Content → List ℕ
+content_bytes (entries es) = 1 ∷ entries_bytes es
+content_bytes (command c) = 2 ∷ command_bytes c
+content_bytes (pair p) = 3 ∷ pair_bytes p
+
+-- an item's bytes
+abbrev pub item_bytes : Item → List ℕ
+item_bytes item = varint item.raft_group_id ++ content_bytes item.content
+
+-- what can be written: a run of entries whose bytes run on, a Put with a value
+abbrev pub IsWritableContent : Content → Type 0
+IsWritableContent (entries es) = AreWritable es
+IsWritableContent (command c) = Unit {0}
+IsWritableContent (pair p) = IsWritablePair p
+
+abbrev pub IsWritable : Item → Type 0
+IsWritable item = IsWritableContent item.content

@@ -6,7 +6,7 @@ pub mod key_value;
 pub mod log_item;
 
 pub use command::Command;
-pub use entry_index::{EntryIndex, EntryIndexes};
+pub use entry_index::{EntryIndex, EntryIndexes, is_consecutive};
 pub use key_value::{KeyValue, OpType};
 pub use log_item::{LogItem, LogItemContent};
 

@@ -21,8 +21,7 @@ pub returns-clause-ok : goal.returns-clause-ok
 returns-clause-ok c =
     let read = both_read c.in_ok-key.key.now c.in_ok-value.value.now c.in_ok-key.ensures.ok c.in_ok-value.ensures.ok in
     let key = ap (λ kv. kv.key.items) c.new.ensures in
-    let made = ap pair_of c.new.ensures in
-    (
+    let made = ap pair_of c.new.ensures in (
       c.in_ok-value-2.value.items,
       made ∙ ap (λ (k : List ℕ). pair_with Put k (Some c.in_ok-value-2.value.items) None) (sym key),
       rw (key, c.in_ok-key-2.ensures.items, c.in_ok-value-2.ensures.items) read,

@@ -1,16 +1,15 @@
 -- On the bytes of entries.
-use Rattle.std.proofs.Common.{◌≡◌, ℕ, zero, suc, ◌+◌, ◌-◌, ◌^◌, ◌<◌, ◌≤◌, ◌⊎◌, ◌↔◌, List, [], ◌∷◌, ◌++◌, length, get_or, drop, Some, None, refl, sym, ap, ◌∙◌, subst, arith, inl, inr}
+use Rattle.std.proofs.Common.{◌≡◌, ℕ, suc, ◌+◌, ◌-◌, ◌^◌, ◌<◌, ◌≤◌, ◌⊎◌, ◌↔◌, List, [], ◌∷◌, ◌++◌, length, get_or, drop, None, refl, sym, ap, ◌∙◌, subst, arith, inl, inr}
 use Rattle.std.proofs.lemmas.List.{drop_more}
 use Rattle.raft_base.specs.Reading.{Reads, HasNoFront, HasOneFront, IsPair, IsSequence, state_after, IsSequenceFault}
 use Rattle.raft_base.specs.Varint.{IsVarint}
 use Rattle.raft_base.specs.declared.errors.Error.{Error}
 use Rattle.raft_base.proofs.VarintLemmas.{varint_one_front}
-use Rattle.raft_base.proofs.ReadingLemmas.{reads_as, reads_pair, no_first, no_second, second_at, pair_one_front}
+use Rattle.raft_base.proofs.ReadingLemmas.{reads_pair, no_first, no_second, pair_one_front}
 use Rattle.raft_base.proofs.SequenceLemmas.{reads_more, state_after-push, stuck, sequence_one_front, fault_after}
 use Rattle.raft_records.specs.declared.log_batch.CompressionType.TheVariants as compressions
 use Rattle.raft_records.specs.declared.log_batch.entry_index.EntryIndex.{EntryIndex}
-use Rattle.raft_records.specs.Item.{bare_entry}
-use Rattle.raft_records.specs.Entries.{IsConsecutiveFrom, IsConsecutive}
+use Rattle.raft_records.specs.Entries.{IsConsecutiveFrom, IsConsecutive, Tile, RunOn}
 use Rattle.raft_records.specs.Grammar.{tail_of, IsTail, behind_entry, AreTails, IsRun, IsEntries, end_behind}
 use Rattle.raft_records.specs.Faults.{IsTailFault, IsTailsFault, IsEntriesFault}
 
@@ -21,10 +20,10 @@ tail_read bytes rest index offset tail e fits le lt r made =
     let entry : EntryIndex = record { index = index; entries = None; compression_type = compressions.None; entry_offset = offset; entry_len = tail - offset } in
     let sum : offset + (tail - offset) ≡ tail = omega arith in
     let whole : Reads (IsTail (index, offset)) bytes rest entry = record {
-        front = r.front;
-        spells = record { tail = subst (λ (t : ℕ). IsVarint r.front t) (sym sum) r.spells; index = refl; offset = refl; index_fits = fits; tail_fits = omega arith; bare = refl };
-        split = r.split;
-      } in
+      front = r.front;
+      spells = record { tail = subst (λ (t : ℕ). IsVarint r.front t) (sym sum) r.spells; index = refl; offset = refl; index_fits = fits; tail_fits = omega arith; bare = refl };
+      split = r.split;
+    } in
     subst (λ (x : EntryIndex). Reads (IsTail (index, offset)) bytes rest x) (sym made) whole
 
 pub no_index : (bytes : List ℕ) (index offset : ℕ) → 2 ^ 64 - 1 ≤ index → HasNoFront (IsTail (index, offset)) bytes
@@ -50,8 +49,7 @@ tail_one_front next a b more rest x y s t e =
     let indexes : x.index ≡ y.index = s.index ∙ sym t.index in
     let offsets : x.entry_offset ≡ y.entry_offset = s.offset ∙ sym t.offset in
     let tails : tail_of x ≡ tail_of y = same.1 in
-    let lens : x.entry_len ≡ y.entry_len = omega arith in
-    (
+    let lens : x.entry_len ≡ y.entry_len = omega arith in (
       same.0,
       s.bare ∙ ap (λ (i : ℕ). entry_with i x.entry_offset x.entry_len) indexes ∙ ap (λ (o : ℕ). entry_with y.index o x.entry_len) offsets ∙ ap (λ (l : ℕ). entry_with y.index y.entry_offset l) lens ∙ sym t.bare,
     )
@@ -180,3 +178,22 @@ consecutive_start [] e at lt = absurd (omega arith)
 consecutive_start (x ∷ xs) e at lt =
     let same : e.index ≡ x.index = ap (λ (y : EntryIndex). y.index) at in
     (λ h. subst (λ (k : ℕ). IsConsecutiveFrom k (x ∷ xs)) (sym same) h, λ h. subst (λ (k : ℕ). IsConsecutiveFrom k (x ∷ xs)) same h)
+
+-- ---- bytes that run on
+
+pub tile_step : (es : List EntryIndex) (i offset : ℕ) (e : EntryIndex) → i < length es → e ≡ get_or es i e → e.entry_offset ≡ offset → offset + e.entry_len < 2 ^ 32 → Tile offset (drop i es) ↔ Tile (offset + e.entry_len) (drop (i + 1) es)
+tile_step es i offset e lt at same fits =
+    let split : drop i es ≡ e ∷ drop (i + 1) es = drop_more es i e lt ∙ ap (λ (x : EntryIndex). x ∷ drop (i + 1) es) (sym at) in
+    rw split (λ h. h.2, λ h. (same, fits, h))
+
+pub not_tiled : (es : List EntryIndex) (i offset : ℕ) (e : EntryIndex) → i < length es → e ≡ get_or es i e → (e.entry_offset ≡ offset → offset + e.entry_len < 2 ^ 32 → ⊥) → Tile offset (drop i es) → ⊥
+not_tiled es i offset e lt at out h =
+    let split : drop i es ≡ e ∷ drop (i + 1) es = drop_more es i e lt ∙ ap (λ (x : EntryIndex). x ∷ drop (i + 1) es) (sym at) in
+    let first = subst (λ (xs : List EntryIndex). Tile offset xs) split h in
+    out first.0 first.1
+
+pub tile_start : (es : List EntryIndex) (e : EntryIndex) → e ≡ get_or es 0 e → 0 < length es → RunOn es ↔ Tile e.entry_offset es
+tile_start [] e at lt = absurd (omega arith)
+tile_start (x ∷ xs) e at lt =
+    let same : e.entry_offset ≡ x.entry_offset = ap (λ (y : EntryIndex). y.entry_offset) at in
+    (λ h. subst (λ (k : ℕ). Tile k (x ∷ xs)) (sym same) h, λ h. subst (λ (k : ℕ). Tile k (x ∷ xs)) same h)

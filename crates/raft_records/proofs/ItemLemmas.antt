@@ -1,16 +1,16 @@
 -- On the bytes of commands and key values.
-use Rattle.std.proofs.Common.{◌≡◌, ℕ, ◌+◌, ◌<◌, ◌≤◌, List, [], ◌∷◌, ◌++◌, length, take, drop, Option, Some, None, refl, sym, ap, ◌∙◌, subst, arith}
-use Rattle.std.proofs.lemmas.List.{take-append-drop, length-take-le, length-append, take-take, take_at}
+use Rattle.std.proofs.Common.{◌≡◌, ℕ, ◌+◌, ◌<◌, ◌≤◌, List, [], ◌∷◌, ◌++◌, length, take, drop, Option, Some, None, refl, sym, ap, ◌∙◌, subst, append_assoc, arith}
+use Rattle.std.proofs.lemmas.List.{take-append-drop, length-take-le, length-append, take_at}
 use Rattle.raft_base.specs.Reading.{Reads, HasNoFront, HasOneFront, IsTagged, IsPair}
 use Rattle.raft_base.specs.Varint.{IsVarint}
 use Rattle.raft_base.proofs.VarintLemmas.{varint_one_front}
 use Rattle.raft_base.proofs.ReadingLemmas.{reads_as, reads_tagged, reads_pair, no_first, no_second, second_at, pair_one_front, heads, tagged_at, no_tagged, tagged_same, tagged_one_front}
-use Rattle.raft_records.specs.declared.log_batch.command.Command.{Command}
-use Rattle.raft_records.specs.declared.log_batch.command.Command.TheVariants.{Clean, Compact}
+use Rattle.raft_records.specs.declared.log_batch.command.Command.TheVariants.{Compact}
 use Rattle.raft_base.specs.declared.pipe_log.FileId.{FileId}
 use Rattle.raft_records.specs.declared.log_batch.key_value.OpType.{OpType}
 use Rattle.raft_records.specs.declared.log_batch.key_value.OpType.TheVariants.{Put, Del}
 use Rattle.raft_records.specs.Item.{Pair}
+use Rattle.raft_records.specs.Spelling.{Keeps}
 use Rattle.raft_records.specs.Grammar.{IsCommand, IsText, IsByteString, IsKeyAndValue, IsKeyValue, IsPairOf, IsPutRead, IsDelRead}
 
 -- ---- commands
@@ -140,8 +140,13 @@ pair_one a b more rest x y p q e = pair_one_of a b more rest x.key y.key x.op_ty
 
 -- ---- what is written
 
--- what a longer front keeps, a shorter one keeps
-pub front_kept : (xs ys mid zs : List ℕ) → mid ≡ xs ++ ys → take (length mid) zs ≡ mid → take (length xs) zs ≡ xs
-front_kept xs ys mid zs split e =
-    let le : length xs ≤ length mid = omega (arith, ap length split, length-append xs ys) in
-    sym (take-take (length xs) (length mid) zs le) ∙ ap (λ (t : List ℕ). take (length xs) t) (e ∙ split) ∙ take_at xs ys (length xs) refl
+pub keeps_all : (old new behind : List ℕ) → new ≡ old ++ behind → Keeps old new
+keeps_all old new behind e = record { behind = behind; split = e }
+
+-- what stands in front of bytes that are kept is kept
+pub keeps_front : (old mid new more : List ℕ) → mid ≡ old ++ more → Keeps mid new → Keeps old new
+keeps_front old mid new more e k = record { behind = more ++ k.behind; split = k.split ∙ ap (λ (t : List ℕ). t ++ k.behind) e ∙ append_assoc old more k.behind }
+
+-- cut back to their length, the old bytes are there again
+pub cut_back : (old new : List ℕ) → Keeps old new → take (length old) new ≡ old
+cut_back old new k = rw k.split (take_at old k.behind (length old) refl)

@@ -1,2 +1,3 @@
+pub mod ContentLemmas
 pub mod EntryLemmas
 pub mod ItemLemmas

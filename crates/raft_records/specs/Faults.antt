@@ -1,5 +1,6 @@
 -- Why items are refused: which error comes for which bytes.
 use Rattle.std.specs.Prelude.{◌≡◌, ◌≢◌, ℕ, ◌-◌, ◌^◌, ◌<◌, ◌≤◌, ◌⊎◌, List, [], ◌∷◌, ◌++◌, length, codes, string_bytes}
+use Rattle.std.specs.IoError.{error_kind}
 use Rattle.std.specs.declared.io.ErrorKind.TheVariants.{UnexpectedEof}
 use Rattle.std.specs.Fmt.{decimal}
 use Rattle.raft_base.specs.declared.errors.Error.{Error}
@@ -8,10 +9,10 @@ use Rattle.raft_base.specs.Errors.{IsIoOf}
 use Rattle.raft_base.specs.Reading.{IsFaultBehind, IsSequenceFault}
 use Rattle.raft_base.specs.Varint.{IsVarint, IsVarintFault}
 use Rattle.raft_records.specs.declared.log_batch.entry_index.EntryIndex.{EntryIndex}
-use Rattle.raft_records.specs.Item.{Pair}
+use Rattle.raft_records.specs.Item.{Pair, Item}
 use Rattle.raft_records.specs.Entries.{AreWritable}
 use Rattle.raft_records.specs.Grammar.{IsByteString, IsTail, behind_entry}
-use Rattle.raft_records.specs.Spelling.{IsWritablePair}
+use Rattle.raft_records.specs.Spelling.{IsWritablePair, IsWritable}
 
 -- want of memory
 abbrev pub IsMemory : Error → Type 0
@@ -93,3 +94,26 @@ IsEntriesFault s bytes e = IsNumberFault bytes e ⊎ IsFaultBehind IsVarint (IsR
 abbrev pub IsEntriesRefusal : List EntryIndex → Error → Type 0
 IsEntriesRefusal es (errors.InvalidArgument text) = AreWritable es → ⊥
 IsEntriesRefusal es e = IsMemory e
+
+-- the bytes end before the item's type
+abbrev pub IsIoEof : Error → Type 0
+IsIoEof (errors.Io e) = error_kind e ≡ UnexpectedEof
+IsIoEof _ = ⊥
+
+-- no content: nothing, an unknown type byte, or a fault of what it says
+abbrev pub IsContentFault : ℕ → List ℕ → Error → Type 0
+IsContentFault s [] e = IsIoEof e
+IsContentFault s (kind ∷ rest) e =
+    ((kind ≢ 1) × (kind ≢ 2) × (kind ≢ 3) × IsCorruption (codes "Unrecognized log item type: " ++ decimal kind) e)
+    ⊎ ((kind ≡ 1) × IsEntriesFault s rest e)
+    ⊎ ((kind ≡ 2) × IsCommandFault rest e)
+    ⊎ ((kind ≡ 3) × IsKeyValueFault rest e)
+
+-- no item: no region, or a fault of its content
+abbrev pub IsItemFault : ℕ → List ℕ → Error → Type 0
+IsItemFault s bytes e = IsNumberFault bytes e ⊎ IsFaultBehind IsVarint (λ _. IsContentFault s) bytes e
+
+-- what can't be written is not written
+abbrev pub IsItemRefusal : Item → Error → Type 0
+IsItemRefusal item (errors.InvalidArgument text) = IsWritable item → ⊥
+IsItemRefusal item e = IsMemory e

@@ -1,5 +1,5 @@
 -- The bytes of log items, by cases.
-use Rattle.std.specs.Prelude.{◌≡◌, ℕ, suc, ◌+◌, ◌-◌, ◌^◌, ◌<◌, List, [], ◌∷◌, length, Option, Some, None}
+use Rattle.std.specs.Prelude.{◌≡◌, ℕ, ◌+◌, ◌-◌, ◌^◌, ◌<◌, List, [], ◌∷◌, length, Option, Some, None}
 use Rattle.raft_base.specs.Reading.{Reads, IsTagged, IsPair, IsSequence}
 use Rattle.raft_base.specs.Varint.{IsVarint}
 use Rattle.raft_base.specs.declared.pipe_log.FileId.{FileId}

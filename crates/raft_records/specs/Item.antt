@@ -1,9 +1,7 @@
 -- Log items as plain values: what they hold, without where it lies in memory.
-use Rattle.std.specs.Prelude.{ℕ, List, map, Option, Some, None}
+use Rattle.std.specs.Prelude.{ℕ, List, map, Option, None}
 use Rattle.std.specs.Option.{option_map}
 use Rattle.raft_base.specs.declared.pipe_log.FileId.{FileId}
-use Rattle.raft_base.specs.declared.pipe_log.FileBlockHandle.{FileBlockHandle}
-use Rattle.raft_records.specs.declared.log_batch.CompressionType as compression
 use Rattle.raft_records.specs.declared.log_batch.CompressionType.TheVariants as compressions
 use Rattle.raft_records.specs.declared.log_batch.command.Command.{Command}
 use Rattle.raft_records.specs.declared.log_batch.entry_index.EntryIndex.{EntryIndex}
@@ -60,3 +58,13 @@ bare_content (pair p) = pair (record { op_type = p.op_type; key = p.key; value =
 -- an item without what its bytes don't hold: places, compression types, files, and a Del's value
 abbrev pub bare : Item → Item
 bare item = record { raft_group_id = item.raft_group_id; content = bare_content item.content }
+
+-- items by their parts
+abbrev pub entries_item : ℕ → List EntryIndex → Item
+entries_item region es = record { raft_group_id = region; content = entries es }
+
+abbrev pub command_item : ℕ → Command → Item
+command_item region c = record { raft_group_id = region; content = command c }
+
+abbrev pub pair_item : ℕ → OpType → List ℕ → Option (List ℕ) → Item
+pair_item region op_type key value = record { raft_group_id = region; content = pair (record { op_type = op_type; key = key; value = value; file_id = None }) }

@@ -1,15 +1,20 @@
 -- The bytes that encoders write: of each number the shortest spelling.
-use Rattle.std.specs.Prelude.{ℕ, ◌+◌, List, [], ◌∷◌, ◌++◌, length, Option, Some, None}
+use Rattle.std.specs.Prelude.{◌≡◌, ℕ, List, [], ◌∷◌, ◌++◌, length, Option, Some, None}
 use Rattle.std.specs.List.{flat_map}
 use Rattle.raft_base.specs.Varint.{varint}
 use Rattle.raft_records.specs.declared.log_batch.command.Command.{Command}
 use Rattle.raft_records.specs.declared.log_batch.command.Command.TheVariants.{Clean, Compact}
 use Rattle.raft_records.specs.declared.log_batch.entry_index.EntryIndex.{EntryIndex}
 use Rattle.raft_records.specs.declared.log_batch.key_value.OpType.{OpType}
-use Rattle.raft_records.specs.declared.log_batch.key_value.OpType.TheVariants.{Put, Del}
+use Rattle.raft_records.specs.declared.log_batch.key_value.OpType.TheVariants.{Put}
 use Rattle.raft_records.specs.Item.{Item, Content, entries, command, pair, Pair}
 use Rattle.raft_records.specs.Entries.{AreWritable}
 use Rattle.raft_records.specs.Grammar.{op_type_byte, tail_of}
+
+-- the old bytes stand in front of the new ones
+pub record Keeps (old new : List ℕ) : Type 0 where
+  pub behind : List ℕ
+  pub split : new ≡ old ++ behind
 
 abbrev pub command_bytes : Command → List ℕ
 command_bytes Clean = 1 ∷ []
@@ -36,10 +41,14 @@ value_bytes _ _ = []
 abbrev pub pair_bytes : Pair → List ℕ
 pair_bytes p = op_type_byte p.op_type ∷ byte_string p.key ++ value_bytes p.op_type p.value
 
+-- the tail offset of each entry
+abbrev pub tails_bytes : List EntryIndex → List ℕ
+tails_bytes es = flat_map (λ e. varint (tail_of e)) es
+
 -- behind the count come the first index and the tail offsets, where there are entries
 abbrev pub run_bytes : List EntryIndex → List ℕ
 run_bytes [] = []
-run_bytes (e ∷ es) = varint e.index ++ flat_map (λ x. varint (tail_of x)) (e ∷ es)
+run_bytes (e ∷ es) = varint e.index ++ tails_bytes (e ∷ es)
 
 abbrev pub entries_bytes : List EntryIndex → List ℕ
 entries_bytes es = varint (length es) ++ run_bytes es

@@ -8,7 +8,7 @@ ghost use Rattle.raft_records.specs.Spelling.{command_bytes};
 
 use raft_base::codec::BytesSlice;
 use raft_base::{Error, Result, codec};
-use std::alloc::Global;
+use std::alloc::{AllocError, Global};
 
 const CLEAN: u8 = 1;
 
@@ -30,6 +30,14 @@ impl Command {
         ensures err { OnErr result (buf.new.items ≡ buf.old.items) }
         ensures memory { IfErr result (λ e. e ≡ Error.Memory) }
     {
+        Ok(self.write(buf)?)
+    }
+
+    /// The same; only memory can fail.
+    pub(crate) fn write(&self, buf: &mut Vec<u8>) -> std::result::Result<(), AllocError>
+        ensures ok { OnOk result (buf.new.items ≡ buf.old.items ++ command_bytes self.now) }
+        ensures err { OnErr result (buf.new.items ≡ buf.old.items) }
+    {
         match self {
             Command::Clean => Ok(buf.push(CLEAN)?),
             Command::Compact { index } => {
@@ -39,7 +47,7 @@ impl Command {
                 if written.is_err() {
                     buf.truncate(len);
                 }
-                Ok(written?)
+                written
             }
         }
     }
@@ -58,7 +66,7 @@ impl Command {
     }
 
     /// The command in front of `bytes`, and what is behind it.
-    fn front(alloc: Global, bytes: &[u8]) -> Result<(Command, &[u8])>
+    pub(crate) fn front(alloc: Global, bytes: &[u8]) -> Result<(Command, &[u8])>
         ensures ok { IfOk result (λ read. Reads IsCommand bytes.now read.1.now read.0) }
         ensures refused { OnErr result (HasNoFront IsCommand bytes.now) }
         ensures fault { IfErr result (IsCommandFault bytes.now) }

@@ -1,15 +1,17 @@
 //! Where the entries of a region's log stand.
 
-ghost use Rattle.std.specs.Prelude.{◌≡◌, ◌≢◌, ◌↔◌, IsTrue, IfOk, IfErr, OnOk, OnErr};
+ghost use Rattle.std.specs.Prelude.{◌≡◌, ◌≢◌, ◌↔◌, ◌++◌, IsTrue, IfOk, IfErr, OnOk, OnErr};
 ghost use Rattle.raft_base.specs.Reading.{Reads, HasNoFront};
 ghost use Rattle.raft_records.specs.Grammar.{IsEntries, IsTail, AreTails, end_behind};
-ghost use Rattle.raft_records.specs.Faults.{IsEntriesFault, IsTailFault, IsTailsFault};
-ghost use Rattle.raft_records.specs.Entries.{IsConsecutive};
+ghost use Rattle.raft_records.specs.Faults.{IsEntriesFault, IsTailFault, IsTailsFault, IsEntriesRefusal};
+ghost use Rattle.raft_records.specs.Entries.{IsConsecutive, RunOn, AreWritable};
+ghost use Rattle.raft_base.specs.Varint.{varint};
+ghost use Rattle.raft_records.specs.Spelling.{Keeps, tails_bytes, entries_bytes};
 
 use crate::log_batch::CompressionType;
 use raft_base::codec::BytesSlice;
 use raft_base::{Error, FileBlockHandle, Result, codec};
-use std::alloc::Global;
+use std::alloc::{AllocError, Global};
 
 /// An entry of a region's log: its index, and the place of its bytes.
 #[derive(Clone, Copy, PartialEq, Eq, Debug)]
@@ -55,11 +57,67 @@ pub fn is_consecutive(entries: &[EntryIndex]) -> bool
     true
 }
 
+/// Whether each entry's bytes begin where those of the one before it end, and end below 2^32.
+fn runs_on(entries: &[EntryIndex]) -> bool
+    ensures { IsTrue result ↔ RunOn entries.now }
+{
+    let mut offset = match entries.first() {
+        Some(first) => first.entry_offset,
+        None => return true,
+    };
+    for entry in entries {
+        if entry.entry_offset != offset || entry.entry_len > u32::MAX - offset {
+            return false;
+        }
+        offset += entry.entry_len;
+    }
+    true
+}
+
 /// The entries of one item: consecutive ones of one region.
 #[derive(PartialEq, Eq, Debug, Drop)]
 pub struct EntryIndexes(pub Vec<EntryIndex>);
 
 impl EntryIndexes {
+    /// Whether the entries can be written: their indexes are consecutive and their bytes run on.
+    pub(crate) fn is_writable(&self) -> bool
+        ensures { IsTrue result ↔ AreWritable self.now.0.items }
+    {
+        is_consecutive(self.0.as_slice()) && runs_on(self.0.as_slice())
+    }
+
+    /// Appends the entries' bytes. A list that is not consecutive, an entry that doesn't begin where
+    /// the one before it ended, and a tail offset above 2^32 - 1 are `InvalidArgument`. On `Err` the
+    /// vector is as it was.
+    pub fn encode(&self, alloc: Global, buf: &mut Vec<u8>) -> Result<()>
+        ensures ok { OnOk result (buf.new.items ≡ buf.old.items ++ entries_bytes self.now.0.items) }
+        ensures accepted { OnOk result (AreWritable self.now.0.items) }
+        ensures err { OnErr result (buf.new.items ≡ buf.old.items) }
+        ensures fault { IfErr result (IsEntriesRefusal self.now.0.items) }
+    {
+        if !self.is_writable() {
+            return Err(Error::InvalidArgument(format!(in alloc; "the entries don't run on")?));
+        }
+        let len = buf.len();
+        let written = self.write(buf);
+        if written.is_err() {
+            buf.truncate(len);
+        }
+        Ok(written?)
+    }
+
+    /// Appends the entries' bytes. On `Err` some bytes may stand behind those of the vector.
+    pub(crate) fn write(&self, buf: &mut Vec<u8>) -> std::result::Result<(), AllocError>
+        ensures ok { OnOk result (buf.new.items ≡ buf.old.items ++ entries_bytes self.now.0.items) }
+        ensures err { OnErr result (Keeps buf.old.items buf.new.items) }
+    {
+        codec::append_var_u64(buf, self.0.len() as u64)?;
+        match self.0.first() {
+            Some(first) => append_run(buf, first.index, self.0.as_slice()),
+            None => Ok(()),
+        }
+    }
+
     /// Reads the entries of an item that stands behind `entries_size` entry bytes, without a place.
     /// `entries_size` becomes the end of their bytes. On `Err` it and the slice are as they were.
     pub fn decode(
@@ -100,6 +158,25 @@ impl EntryIndexes {
         let (entries, end, rest) = tails_front(alloc, rest, count, first, entries_size)?;
         Ok((EntryIndexes(entries), end, rest))
     }
+}
+
+/// Appends the first index and the tail offsets of entries.
+fn append_run(
+    buf: &mut Vec<u8>,
+    first: u64,
+    entries: &[EntryIndex],
+) -> std::result::Result<(), AllocError>
+    ensures ok { OnOk result (buf.new.items ≡ buf.old.items ++ (varint first ++ tails_bytes entries.now)) }
+    ensures err { OnErr result (Keeps buf.old.items buf.new.items) }
+{
+    codec::append_var_u64(buf, first)?;
+    for entry in entries {
+        codec::append_var_u64(
+            buf,
+            u64::from(entry.entry_offset) + u64::from(entry.entry_len),
+        )?;
+    }
+    Ok(())
 }
 
 /// The tail offsets of `count` entries from the index `first` on, behind `entries_size` entry bytes.

@@ -1,11 +1,11 @@
 //! Key values of a region.
 
-ghost use Rattle.std.specs.Prelude.{◌≡◌, ◌≢◌, ◌++◌, None, length, take, IfOk, IfErr, OnOk, OnErr};
+ghost use Rattle.std.specs.Prelude.{◌≡◌, ◌≢◌, ◌↔◌, ◌++◌, None, IsTrue, IfOk, IfErr, OnOk, OnErr};
 ghost use Rattle.raft_base.specs.Reading.{Reads, HasNoFront};
 ghost use Rattle.raft_records.specs.Grammar.{IsByteString, IsKeyAndValue, IsKeyValue, IsPutRead, IsDelRead};
 ghost use Rattle.raft_records.specs.Item.{pair_of};
 ghost use Rattle.raft_records.specs.Faults.{IsByteStringFault, IsPutFault, IsDelFault, IsKeyValueFault, IsOpTypeFault, IsPairRefusal};
-ghost use Rattle.raft_records.specs.Spelling.{byte_string, pair_bytes, IsWritablePair};
+ghost use Rattle.raft_records.specs.Spelling.{Keeps, byte_string, pair_bytes, IsWritablePair};
 
 use raft_base::codec::BytesSlice;
 use raft_base::{Error, FileId, Result, codec};
@@ -68,6 +68,16 @@ impl KeyValue {
         }
     }
 
+    /// Whether the change can be written: a `Put` has a value.
+    pub(crate) fn is_writable(&self) -> bool
+        ensures { IsTrue result ↔ IsWritablePair (pair_of self.now) }
+    {
+        match (self.op_type, &self.value) {
+            (OpType::Put, None) => false,
+            _ => true,
+        }
+    }
+
     /// Appends the change's bytes; the value of a `Del` is not written. A `Put` without a value is
     /// `InvalidArgument`. On `Err` the vector is as it was.
     pub fn encode(&self, alloc: Global, buf: &mut Vec<u8>) -> Result<()>
@@ -76,29 +86,27 @@ impl KeyValue {
         ensures err { OnErr result (buf.new.items ≡ buf.old.items) }
         ensures fault { IfErr result (IsPairRefusal (pair_of self.now)) }
     {
+        if !self.is_writable() {
+            return Err(Error::InvalidArgument(format!(in alloc; "a put has no value")?));
+        }
         let len = buf.len();
-        let written = self.write(alloc, buf);
+        let written = self.write(buf);
         if written.is_err() {
             buf.truncate(len);
         }
-        written
+        Ok(written?)
     }
 
-    /// The same, but that on `Err` some bytes may stand behind those of the vector.
-    pub(crate) fn write(&self, alloc: Global, buf: &mut Vec<u8>) -> Result<()>
+    /// Appends the change's bytes. On `Err` some bytes may stand behind those of the vector.
+    pub(crate) fn write(&self, buf: &mut Vec<u8>) -> std::result::Result<(), AllocError>
         ensures ok { OnOk result (buf.new.items ≡ buf.old.items ++ pair_bytes (pair_of self.now)) }
-        ensures accepted { OnOk result (IsWritablePair (pair_of self.now)) }
-        ensures err { OnErr result (take (length buf.old.items) buf.new.items ≡ buf.old.items) }
-        ensures fault { IfErr result (IsPairRefusal (pair_of self.now)) }
+        ensures err { OnErr result (Keeps buf.old.items buf.new.items) }
     {
         buf.push(self.op_type.to_u8())?;
         append_byte_string(buf, self.key.as_slice())?;
         match (self.op_type, &self.value) {
-            (OpType::Del, _) => Ok(()),
-            (OpType::Put, Some(value)) => Ok(append_byte_string(buf, value.as_slice())?),
-            (OpType::Put, None) => Err(Error::InvalidArgument(format!(in alloc;
-                "a put has no value"
-            )?)),
+            (OpType::Put, Some(value)) => append_byte_string(buf, value.as_slice()),
+            _ => Ok(()),
         }
     }
 
@@ -157,7 +165,7 @@ impl KeyValue {
 /// Appends `text` behind its length. On `Err` some bytes may stand behind those of the vector.
 fn append_byte_string(buf: &mut Vec<u8>, text: &[u8]) -> std::result::Result<(), AllocError>
     ensures ok { OnOk result (buf.new.items ≡ buf.old.items ++ byte_string text.now) }
-    ensures err { OnErr result (take (length buf.old.items) buf.new.items ≡ buf.old.items) }
+    ensures err { OnErr result (Keeps buf.old.items buf.new.items) }
 {
     codec::append_var_u64(buf, text.len() as u64)?;
     buf.extend_from_slice(text)

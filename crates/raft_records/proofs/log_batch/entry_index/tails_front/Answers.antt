@@ -1,7 +1,7 @@
-use Rattle.std.proofs.Common.{◌≢◌, ◌≡◌, ◌+◌, ◌-◌, ◌<◌, suc, length, arith, inl, inr}
+use Rattle.std.proofs.Common.{◌-◌, arith, inr}
 use Rattle.std.proofs.lemmas.List.{length_push}
 use Rattle.std.proofs.lemmas.Result.{err_from_is_err_and}
-use Rattle.raft_records.proofs.EntryLemmas.{none_read, one_more_read, no_more_tails, tail_fault, end_read, all_read}
+use Rattle.raft_records.proofs.EntryLemmas.{one_more_read, no_more_tails, tail_fault, end_read, all_read}
 use Rattle.raft_records.proofs.log_batch.entry_index.tails_front.Goals as goal
 
 pub returns-in_err-entry-clause-refused : goal.returns-in_err-entry-clause-refused

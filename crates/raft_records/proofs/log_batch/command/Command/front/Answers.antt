@@ -1,4 +1,4 @@
-use Rattle.std.proofs.Common.{◌≡◌, ℕ, List, ◌∷◌, subst}
+use Rattle.std.proofs.Common.{◌≡◌, ℕ, ◌∷◌, subst}
 use Rattle.raft_records.proofs.ItemLemmas.{compact_read}
 use Rattle.raft_records.proofs.log_batch.command.Command.front.Goals as goal
 

@@ -1,6 +1,6 @@
 use Rattle.std.proofs.lemmas.Result.{err_from_is_err_and}
-use Rattle.std.proofs.Common.{List, sym, subst, inl, inr, arith}
-use Rattle.raft_records.proofs.EntryLemmas.{no_count, no_run, no_first_index, no_tails, run_read, entries_read, entries_fault, empty_run}
+use Rattle.std.proofs.Common.{arith}
+use Rattle.raft_records.proofs.EntryLemmas.{no_count, no_run, no_first_index, no_tails, run_read, entries_read, entries_fault}
 use Rattle.raft_records.proofs.log_batch.entry_index.EntryIndexes.front.Goals as goal
 
 pub returns-in_err-count-clause-refused : goal.returns-in_err-count-clause-refused

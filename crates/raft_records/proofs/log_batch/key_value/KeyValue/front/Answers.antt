@@ -1,5 +1,5 @@
-use Rattle.std.proofs.Common.{◌≡◌, ◌∷◌, ℕ, subst, sym, ap, ◌∙◌}
-use Rattle.std.proofs.lemmas.Result.{IfOk-weaker, MatchResult-weaker}
+use Rattle.std.proofs.Common.{◌≡◌, ◌∷◌, ℕ, subst, ap, ◌∙◌}
+use Rattle.std.proofs.lemmas.Result.{MatchResult-weaker}
 use Rattle.raft_records.specs.Grammar.{op_type_byte}
 use Rattle.raft_records.specs.Item.{pair_of}
 use Rattle.raft_records.proofs.ItemLemmas.{put_read, del_read, no_put, no_del}

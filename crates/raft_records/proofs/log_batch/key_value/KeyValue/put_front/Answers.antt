@@ -1,7 +1,5 @@
 use Rattle.std.proofs.Common.{List, ℕ, Some, None, sym, ap, ◌∙◌}
 use Rattle.std.proofs.lemmas.Result.{err_from_is_err_and}
-use Rattle.raft_base.specs.Reading.{Reads}
-use Rattle.raft_records.specs.Grammar.{IsKeyAndValue}
 use Rattle.raft_records.specs.declared.log_batch.key_value.OpType.TheVariants.{Put}
 use Rattle.raft_records.specs.Item.{pair_of}
 use Rattle.raft_records.proofs.ItemLemmas.{no_key, no_value, both_read, pair_with}

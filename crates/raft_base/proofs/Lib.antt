@@ -1,3 +1,6 @@
+pub mod DivisionLemmas
 pub mod ReadingLemmas
 pub mod SequenceLemmas
+pub mod TableLemmas
 pub mod VarintLemmas
+pub mod WordLemmas

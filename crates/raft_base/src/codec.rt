@@ -1,7 +1,20 @@
 //! Numbers as bytes.
 
+ghost use Rattle.std.specs.Prelude.{OnOk};
+ghost use Rattle.std.specs.Io.KnownBytes.{Appends};
+ghost use Rattle.byteorder.specs.Endian.{big_bytes, little_bytes};
+ghost use Rattle.raft_base.specs.Fixed.{u64_desc_bytes, i64_bytes, i64_desc_bytes, i32_le_bytes, i64_le_bytes};
+
+pub mod fixed;
+
+use crate::codec::fixed::SIGN_BIT;
+pub use crate::codec::fixed::{
+    decode_i32_le, decode_i64, decode_i64_desc, decode_i64_le, decode_u16, decode_u16_le,
+    decode_u32, decode_u32_le, decode_u64, decode_u64_desc, decode_u64_le, read_u8,
+};
+use byteorder::{BigEndian, LittleEndian, WriteBytesExt};
 use std::io;
-use std::io::ErrorKind;
+use std::io::{ErrorKind, Write};
 use thiserror::Error;
 
 /// Bytes that a decoder reads from the front.
@@ -50,3 +63,120 @@ impl Error {
 
 /// The answer of a codec.
 pub type Result<T> = std::result::Result<T, Error>;
+
+/// Writes numbers to any writer. The error is the writer's.
+pub trait NumberEncoder: Write {
+    /// Writes `v` in eight bytes, the highest first: they order as the numbers do.
+    final fn encode_u64(&mut self, v: u64) -> Result<()>
+    where
+        Self: Sized,
+        ensures { OnOk result (Appends (Self.contents self.old) (Self.contents self.new) (big_bytes 8 v)) }
+    {
+        self.write_u64::<BigEndian>(v)?;
+        Ok(())
+    }
+
+    /// Writes `v` in four bytes, the highest first.
+    final fn encode_u32(&mut self, v: u32) -> Result<()>
+    where
+        Self: Sized,
+        ensures { OnOk result (Appends (Self.contents self.old) (Self.contents self.new) (big_bytes 4 v)) }
+    {
+        self.write_u32::<BigEndian>(v)?;
+        Ok(())
+    }
+
+    /// Writes `v` in two bytes, the highest first.
+    final fn encode_u16(&mut self, v: u16) -> Result<()>
+    where
+        Self: Sized,
+        ensures { OnOk result (Appends (Self.contents self.old) (Self.contents self.new) (big_bytes 2 v)) }
+    {
+        self.write_u16::<BigEndian>(v)?;
+        Ok(())
+    }
+
+    /// Writes `v` in eight bytes that order in reverse of the numbers: every bit complemented, the
+    /// highest byte first.
+    final fn encode_u64_desc(&mut self, v: u64) -> Result<()>
+    where
+        Self: Sized,
+        ensures { OnOk result (Appends (Self.contents self.old) (Self.contents self.new) (u64_desc_bytes v)) }
+    {
+        self.write_u64::<BigEndian>(!v)?;
+        Ok(())
+    }
+
+    /// Writes `v` in eight bytes that order as the numbers do: two's complement with the sign bit
+    /// flipped, the highest byte first.
+    final fn encode_i64(&mut self, v: i64) -> Result<()>
+    where
+        Self: Sized,
+        ensures { OnOk result (Appends (Self.contents self.old) (Self.contents self.new) (i64_bytes v)) }
+    {
+        self.write_u64::<BigEndian>(v.cast_unsigned() ^ SIGN_BIT)?;
+        Ok(())
+    }
+
+    /// Writes the bytes of `encode_i64` with every bit complemented: they order in reverse.
+    final fn encode_i64_desc(&mut self, v: i64) -> Result<()>
+    where
+        Self: Sized,
+        ensures { OnOk result (Appends (Self.contents self.old) (Self.contents self.new) (i64_desc_bytes v)) }
+    {
+        self.write_u64::<BigEndian>(!(v.cast_unsigned() ^ SIGN_BIT))?;
+        Ok(())
+    }
+
+    /// Writes `v` in two bytes, the lowest first.
+    final fn encode_u16_le(&mut self, v: u16) -> Result<()>
+    where
+        Self: Sized,
+        ensures { OnOk result (Appends (Self.contents self.old) (Self.contents self.new) (little_bytes 2 v)) }
+    {
+        self.write_u16::<LittleEndian>(v)?;
+        Ok(())
+    }
+
+    /// Writes `v` in four bytes, the lowest first.
+    final fn encode_u32_le(&mut self, v: u32) -> Result<()>
+    where
+        Self: Sized,
+        ensures { OnOk result (Appends (Self.contents self.old) (Self.contents self.new) (little_bytes 4 v)) }
+    {
+        self.write_u32::<LittleEndian>(v)?;
+        Ok(())
+    }
+
+    /// Writes `v` in eight bytes, the lowest first.
+    final fn encode_u64_le(&mut self, v: u64) -> Result<()>
+    where
+        Self: Sized,
+        ensures { OnOk result (Appends (Self.contents self.old) (Self.contents self.new) (little_bytes 8 v)) }
+    {
+        self.write_u64::<LittleEndian>(v)?;
+        Ok(())
+    }
+
+    /// Writes `v` as two's complement in four bytes, the lowest first.
+    final fn encode_i32_le(&mut self, v: i32) -> Result<()>
+    where
+        Self: Sized,
+        ensures { OnOk result (Appends (Self.contents self.old) (Self.contents self.new) (i32_le_bytes v)) }
+    {
+        self.write_i32::<LittleEndian>(v)?;
+        Ok(())
+    }
+
+    /// Writes `v` as two's complement in eight bytes, the lowest first.
+    final fn encode_i64_le(&mut self, v: i64) -> Result<()>
+    where
+        Self: Sized,
+        ensures { OnOk result (Appends (Self.contents self.old) (Self.contents self.new) (i64_le_bytes v)) }
+    {
+        self.write_i64::<LittleEndian>(v)?;
+        Ok(())
+    }
+}
+
+impl<W: Write> NumberEncoder for W {}

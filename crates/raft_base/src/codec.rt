@@ -4,14 +4,20 @@ ghost use Rattle.std.specs.Prelude.{OnOk};
 ghost use Rattle.std.specs.Io.KnownBytes.{Appends};
 ghost use Rattle.byteorder.specs.Endian.{big_bytes, little_bytes};
 ghost use Rattle.raft_base.specs.Fixed.{u64_desc_bytes, i64_bytes, i64_desc_bytes, i32_le_bytes, i64_le_bytes};
+ghost use Rattle.raft_base.specs.Varint.{varint};
+ghost use Rattle.raft_base.specs.Zigzag.{zigzag};
 
 pub mod fixed;
+pub mod varint;
+pub mod zigzag;
 
 use crate::codec::fixed::SIGN_BIT;
 pub use crate::codec::fixed::{
     decode_i32_le, decode_i64, decode_i64_desc, decode_i64_le, decode_u16, decode_u16_le,
     decode_u32, decode_u32_le, decode_u64, decode_u64_desc, decode_u64_le, read_u8,
 };
+pub use crate::codec::varint::{append_var_u64, decode_var_u64};
+pub use crate::codec::zigzag::decode_var_i64;
 use byteorder::{BigEndian, LittleEndian, WriteBytesExt};
 use std::io;
 use std::io::{ErrorKind, Write};
@@ -176,6 +182,28 @@ pub trait NumberEncoder: Write {
     {
         self.write_i64::<LittleEndian>(v)?;
         Ok(())
+    }
+
+    /// Writes `v` in base 128, in its shortest spelling.
+    final fn encode_var_u64(&mut self, v: u64) -> Result<()>
+    where
+        Self: Sized,
+        ensures { OnOk result (Appends (Self.contents self.old) (Self.contents self.new) (varint v)) }
+    {
+        let mut bytes = [0; varint::MAX_VAR_U64_LEN];
+        let len = varint::put_var_u64(&mut bytes, v);
+        self.write_all(&bytes[..len])?;
+        Ok(())
+    }
+
+    /// Writes `v` in base 128 by its code, which is small where `v` is near 0: twice `v` from 0
+    /// on, and the complement of that below 0.
+    final fn encode_var_i64(&mut self, v: i64) -> Result<()>
+    where
+        Self: Sized,
+        ensures { OnOk result (Appends (Self.contents self.old) (Self.contents self.new) (varint (zigzag v))) }
+    {
+        self.encode_var_u64(zigzag::code_of(v))
     }
 }
 

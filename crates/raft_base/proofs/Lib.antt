@@ -1,2 +1,3 @@
 pub mod FixedLemmas
+pub mod FixedOrder
 pub mod VarintLemmas

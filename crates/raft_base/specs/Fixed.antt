@@ -1,7 +1,11 @@
 -- Numbers in a fixed count of bytes.
 use Rattle.std.specs.Prelude.{◌≡◌, ℕ, ◌-◌, ◌^◌, ◌<◌, ℤ, List, FitsSigned, bit_xor}
-use Rattle.std.specs.Int.{cast_unsigned, w32, w64}
+use Rattle.std.specs.Int.{Width, w64, cast_unsigned, to_le_bytes}
+use Rattle.std.specs.Ordering.{nat_cmp}
+use Rattle.std.specs.Cmp.Lexicographic.{slice_cmp}
+use Rattle.std.specs.declared.cmp.Ordering.{Ordering}
 use Rattle.byteorder.specs.Endian.{big_bytes, little_bytes}
+use Rattle.raft_base.specs.Reading.{HasOneFront}
 
 -- a value in its range, and the bytes that stand for it
 pub record IsSpelledBy {X : Type 0} (InRange : X → Type 0) (bytes_of : X → List ℕ) (bytes : List ℕ) (x : X) : Type 0 where
@@ -36,12 +40,9 @@ i64_bytes z = big_bytes 8 (sign_flipped z)
 abbrev pub i64_desc_bytes : ℤ → List ℕ
 i64_desc_bytes z = big_bytes 8 (complement (sign_flipped z))
 
--- two's complement in four and in eight bytes, the lowest first
-abbrev pub i32_le_bytes : ℤ → List ℕ
-i32_le_bytes z = little_bytes 4 (cast_unsigned w32 z)
-
-abbrev pub i64_le_bytes : ℤ → List ℕ
-i64_le_bytes z = little_bytes 8 (cast_unsigned w64 z)
+-- a signed number of a type's width in two's complement, the lowest byte first
+abbrev pub signed_le_bytes : Width → ℤ → List ℕ
+signed_le_bytes w z = to_le_bytes w (cast_unsigned w z)
 
 -- what these bytes are read as
 abbrev pub IsU64Desc : List ℕ → ℕ → Type 0
@@ -53,8 +54,15 @@ IsI64 = IsSpelledBy (FitsSigned w64) i64_bytes
 abbrev pub IsI64Desc : List ℕ → ℤ → Type 0
 IsI64Desc = IsSpelledBy (FitsSigned w64) i64_desc_bytes
 
-abbrev pub IsI32Le : List ℕ → ℤ → Type 0
-IsI32Le = IsSpelledBy (FitsSigned w32) i32_le_bytes
+abbrev pub IsSignedLittle : Width → List ℕ → ℤ → Type 0
+IsSignedLittle w = IsSpelledBy (FitsSigned w) (signed_le_bytes w)
 
-abbrev pub IsI64Le : List ℕ → ℤ → Type 0
-IsI64Le = IsSpelledBy (FitsSigned w64) i64_le_bytes
+-- what is written is read again, whatever follows it: it stands for its value, and no spelling begins another
+pub record IsReadAgain {X : Type 0} (InRange : X → Type 0) (bytes_of : X → List ℕ) : Type 0 where
+  pub spelled : (x : X) → InRange x → IsSpelledBy InRange bytes_of (bytes_of x) x
+  pub one_front : HasOneFront (IsSpelledBy InRange bytes_of)
+
+-- the bytes, the first ones first, order as the values do
+abbrev pub OrdersAs : {X : Type 0} → (X → X → Ordering) → (X → Type 0) → (X → List ℕ) → Type 0
+OrdersAs {X} cmp InRange bytes_of =
+    (x y : X) → InRange x → InRange y → slice_cmp nat_cmp (bytes_of x) (bytes_of y) ≡ cmp x y

@@ -2,8 +2,9 @@
 
 ghost use Rattle.std.specs.Prelude.{OnOk};
 ghost use Rattle.std.specs.Io.KnownBytes.{Appends};
+ghost use Rattle.std.specs.Int.{w32, w64};
 ghost use Rattle.byteorder.specs.Endian.{big_bytes, little_bytes};
-ghost use Rattle.raft_base.specs.Fixed.{u64_desc_bytes, i64_bytes, i64_desc_bytes, i32_le_bytes, i64_le_bytes};
+ghost use Rattle.raft_base.specs.Fixed.{u64_desc_bytes, i64_bytes, i64_desc_bytes, signed_le_bytes};
 ghost use Rattle.raft_base.specs.Varint.{varint};
 ghost use Rattle.raft_base.specs.Zigzag.{zigzag};
 
@@ -168,7 +169,7 @@ pub trait NumberEncoder: Write {
     final fn encode_i32_le(&mut self, v: i32) -> Result<()>
     where
         Self: Sized,
-        ensures { OnOk result (Appends (Self.contents self.old) (Self.contents self.new) (i32_le_bytes v)) }
+        ensures { OnOk result (Appends (Self.contents self.old) (Self.contents self.new) (signed_le_bytes w32 v)) }
     {
         self.write_i32::<LittleEndian>(v)?;
         Ok(())
@@ -178,7 +179,7 @@ pub trait NumberEncoder: Write {
     final fn encode_i64_le(&mut self, v: i64) -> Result<()>
     where
         Self: Sized,
-        ensures { OnOk result (Appends (Self.contents self.old) (Self.contents self.new) (i64_le_bytes v)) }
+        ensures { OnOk result (Appends (Self.contents self.old) (Self.contents self.new) (signed_le_bytes w64 v)) }
     {
         self.write_i64::<LittleEndian>(v)?;
         Ok(())

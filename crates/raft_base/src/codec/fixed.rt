@@ -1,10 +1,13 @@
 //! Numbers in a fixed count of bytes.
 
-ghost use Rattle.std.specs.Prelude.{◌≡◌, ◌<◌, ◌↔◌, [], ◌∷◌, ◌++◌, length, IfOk, IfErr, IsErr, OnErr};
+ghost use Rattle.std.specs.Prelude.{◌≡◌, ℕ, ◌^◌, ◌<◌, ℤ, pos, ◌+ℤ◌, FitsSigned, ◌↔◌, [], ◌∷◌, ◌++◌, length, IfOk, IfErr, IsErr, OnErr};
 ghost use Rattle.std.specs.declared.io.ErrorKind.TheVariants.{UnexpectedEof};
+ghost use Rattle.std.specs.Int.{w32, w64};
+ghost use Rattle.std.specs.Ordering.{nat_cmp, int_cmp};
+ghost use Rattle.byteorder.specs.Endian.{big_bytes, little_bytes};
 ghost use Rattle.raft_base.specs.Errors.{IsIoOf};
 ghost use Rattle.raft_base.specs.Reading.{Reads};
-ghost use Rattle.raft_base.specs.Fixed.{IsBig, IsLittle, IsU64Desc, IsI64, IsI64Desc, IsI32Le, IsI64Le};
+ghost use Rattle.raft_base.specs.Fixed.{IsBig, IsLittle, IsU64Desc, IsI64, IsI64Desc, IsSignedLittle, IsReadAgain, OrdersAs, sign_flipped, u64_desc_bytes, i64_bytes, i64_desc_bytes, signed_le_bytes};
 
 use crate::codec::{BytesSlice, Error, Result};
 
@@ -171,7 +174,7 @@ pub fn decode_u64_le(buf: &mut BytesSlice<'_>) -> Result<u64>
 /// was, and the error is `Io` of kind `UnexpectedEof`.
 #[inline]
 pub fn decode_i32_le(buf: &mut BytesSlice<'_>) -> Result<i32>
-    ensures ok { IfOk result (Reads IsI32Le buf.old.now buf.new.now) }
+    ensures ok { IfOk result (Reads (IsSignedLittle w32) buf.old.now buf.new.now) }
     ensures err { OnErr result (buf.new.now ≡ buf.old.now) }
     ensures refused { IsErr result ↔ (length buf.old.now < 4) }
     ensures fault { IfErr result (λ e. IsIoOf e UnexpectedEof) }
@@ -184,7 +187,7 @@ pub fn decode_i32_le(buf: &mut BytesSlice<'_>) -> Result<i32>
 /// was, and the error is `Io` of kind `UnexpectedEof`.
 #[inline]
 pub fn decode_i64_le(buf: &mut BytesSlice<'_>) -> Result<i64>
-    ensures ok { IfOk result (Reads IsI64Le buf.old.now buf.new.now) }
+    ensures ok { IfOk result (Reads (IsSignedLittle w64) buf.old.now buf.new.now) }
     ensures err { OnErr result (buf.new.now ≡ buf.old.now) }
     ensures refused { IsErr result ↔ (length buf.old.now < 8) }
     ensures fault { IfErr result (λ e. IsIoOf e UnexpectedEof) }
@@ -192,3 +195,25 @@ pub fn decode_i64_le(buf: &mut BytesSlice<'_>) -> Result<i64>
     let bits = decode_u64_le(buf)?;
     Ok(bits.cast_signed())
 }
+
+/// What is written in a fixed count of bytes is read again, whatever follows it.
+pub fn fixed_is_read_again()
+    ensures big { (width : ℕ) → IsReadAgain (λ x. x < 256 ^ width) (big_bytes width) }
+    ensures little { (width : ℕ) → IsReadAgain (λ x. x < 256 ^ width) (little_bytes width) }
+    ensures u64_desc { IsReadAgain (λ x. x < 2 ^ 64) u64_desc_bytes }
+    ensures i64 { IsReadAgain (FitsSigned w64) i64_bytes }
+    ensures i64_desc { IsReadAgain (FitsSigned w64) i64_desc_bytes }
+    ensures i32_le { IsReadAgain (FitsSigned w32) (signed_le_bytes w32) }
+    ensures i64_le { IsReadAgain (FitsSigned w64) (signed_le_bytes w64) }
+{}
+
+/// Bytes with the highest first order as their numbers do, those of `encode_i64` too, and those of
+/// `encode_u64_desc` and `encode_i64_desc` in reverse. An `i64` is written as its distance from the
+/// least one.
+pub fn bytes_order_as_numbers()
+    ensures big { (width : ℕ) → OrdersAs nat_cmp (λ x. x < 256 ^ width) (big_bytes width) }
+    ensures u64_desc { OrdersAs (λ x y. nat_cmp y x) (λ x. x < 2 ^ 64) u64_desc_bytes }
+    ensures i64 { OrdersAs int_cmp (FitsSigned w64) i64_bytes }
+    ensures i64_desc { OrdersAs (λ x y. int_cmp y x) (FitsSigned w64) i64_desc_bytes }
+    ensures distance { (z : ℤ) → FitsSigned w64 z → pos (sign_flipped z) ≡ z +ℤ pos (2 ^ 63) }
+{}

@@ -1,5 +1,5 @@
 -- Numbers in a fixed count of bytes.
-use Rattle.std.specs.Prelude.{◌≡◌, ℕ, ◌-◌, ◌^◌, ◌<◌, ℤ, List, FitsSigned, bit_xor}
+use Rattle.std.specs.Prelude.{◌≡◌, ℕ, ◌-◌, ◌^◌, ◌<◌, ℤ, List, length, FitsSigned, bit_xor}
 use Rattle.std.specs.Int.{Width, w64, cast_unsigned, to_le_bytes}
 use Rattle.std.specs.Ordering.{nat_cmp}
 use Rattle.std.specs.Cmp.Lexicographic.{slice_cmp}
@@ -57,8 +57,10 @@ IsI64Desc = IsSpelledBy (FitsSigned w64) i64_desc_bytes
 abbrev pub IsSignedLittle : Width → List ℕ → ℤ → Type 0
 IsSignedLittle w = IsSpelledBy (FitsSigned w) (signed_le_bytes w)
 
--- what is written is read again, whatever follows it: it stands for its value, and no spelling begins another
-pub record IsReadAgain {X : Type 0} (InRange : X → Type 0) (bytes_of : X → List ℕ) : Type 0 where
+-- what is written takes this many bytes and is read again, whatever follows it: it stands for its value, and no
+-- spelling begins another
+pub record IsReadAgain {X : Type 0} (width : ℕ) (InRange : X → Type 0) (bytes_of : X → List ℕ) : Type 0 where
+  pub counted : (x : X) → length (bytes_of x) ≡ width
   pub spelled : (x : X) → InRange x → IsSpelledBy InRange bytes_of (bytes_of x) x
   pub one_front : HasOneFront (IsSpelledBy InRange bytes_of)
 

@@ -112,6 +112,7 @@ IsReadAgain-signed_le_bytes w n len most =
   where
     fits : (z : ℤ) → FitsSigned w z → cast_unsigned w z < 256 ^ n
     fits z h = rw (← most) (Fits-of_z {w = w} h).fits
+
     same : (x y : ℤ) → FitsSigned w x → FitsSigned w y → signed_le_bytes w x ≡ signed_le_bytes w y → x ≡ y
     same x y p q e =
         let bytes : little_bytes n (cast_unsigned w x) ≡ little_bytes n (cast_unsigned w y) = rw len at e in

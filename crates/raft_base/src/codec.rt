@@ -9,6 +9,8 @@ ghost use Rattle.raft_base.specs.Varint.{varint};
 ghost use Rattle.raft_base.specs.Zigzag.{zigzag};
 
 pub mod fixed;
+#[cfg(test)]
+mod tests;
 pub mod varint;
 pub mod zigzag;
 

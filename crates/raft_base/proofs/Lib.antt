@@ -1,4 +1,6 @@
 pub mod DivisionLemmas
+pub mod FixedLemmas
+pub mod FixedOrder
 pub mod ReadingLemmas
 pub mod SequenceLemmas
 pub mod TableLemmas

@@ -1,3 +1,4 @@
 pub mod Checksum
 pub mod Errors
 pub mod Signature
+pub mod SparseMultiple

@@ -3,10 +3,15 @@
 ghost use Rattle.std.specs.Prelude.{◌≡◌, ℕ, ◌+◌, ◌*◌, ◌^◌, ◌<◌, ◌≤◌, bit_xor, length};
 ghost use Rattle.raft_base.specs.Checksum.{crc_steps, register_after, crc32_of};
 
+mod sparse;
 mod tables;
 
 use byteorder::{ByteOrder, LittleEndian};
+use sparse::by_blocks;
 use tables::TABLES;
+
+/// From this length on a text is divided by blocks.
+const LONG: usize = 512;
 
 /// What `byte` and then `zeros` zeros make of a register of zeros.
 #[inline(always)]
@@ -66,5 +71,10 @@ fn by_sixteens(mut register: u32, bytes: &[u8]) -> u32
 pub fn crc32(bytes: &[u8]) -> u32
     ensures { result ≡ crc32_of bytes.now }
 {
-    !by_sixteens(u32::MAX, bytes)
+    let register = if bytes.len() < LONG {
+        by_sixteens(u32::MAX, bytes)
+    } else {
+        by_blocks(u32::MAX, bytes)
+    };
+    !register
 }

@@ -1,8 +1,10 @@
 pub mod BlockLemmas
 pub mod DivisionLemmas
+pub mod FiveWordLemmas
 pub mod MultipleLemmas
 pub mod QuotientLemmas
 pub mod RemainderLemmas
+pub mod SettledLemmas
 pub mod TableLemmas
 pub mod WindowLemmas
 pub mod WordLemmas

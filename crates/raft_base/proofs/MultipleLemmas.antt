@@ -7,7 +7,7 @@ use Rattle.raft_base.specs.Checksum.{crc_step, crc_steps}
 use Rattle.raft_base.proofs.DivisionLemmas.{xor_pairs, steps_xor, steps_add, steps_shifted, steps_zero, steps_fit}
 
 -- what the multiple with terms after a, b, c and d steps, and at once, makes of a register
-pub multiplied : ℕ → ℕ → ℕ → ℕ → ℕ → ℕ
+unfoldable pub multiplied : ℕ → ℕ → ℕ → ℕ → ℕ → ℕ
 multiplied a b c d x = bit_xor (bit_xor (bit_xor (bit_xor (crc_steps a x) (crc_steps b x)) (crc_steps c x)) (crc_steps d x)) x
 
 multiplied_xor : (a b c d x y : ℕ) → multiplied a b c d (bit_xor x y) ≡ bit_xor (multiplied a b c d x) (multiplied a b c d y)

@@ -148,3 +148,12 @@ byte_next c look i xs within small look_is =
 pub bytes_done : (c i : ℕ) (xs : List ℕ) → length xs ≤ i → register_after c (drop i xs) ≡ c
 unfolding register_after
 bytes_done c i xs past = at_drop_all (register_after c) xs i past
+
+-- eight bytes, as a word
+pub word_joins : (c word : ℕ) (xs front back : List ℕ) → 8 ≤ length xs → ((k : ℕ) → get_or xs k 0 < 256)
+    → front ≡ take 8 xs → back ≡ drop 8 xs → word ≡ little_from 0 8 front
+    → register_after (crc_steps 64 (bit_xor c word)) back ≡ register_after c xs
+word_joins c word xs front back long small front_is back_is word_is =
+    let whole : word ≡ little_from 0 8 xs = word_is ∙ ap (little_from 0 8) front_is ∙ little_from-take 0 8 8 xs (omega arith) in
+    ap (register_after (crc_steps 64 (bit_xor c word))) back_is ∙ ap (λ w. register_after (crc_steps 64 (bit_xor c w)) (drop 8 xs)) whole
+    ∙ sym (number_joins 8 c xs long small)

@@ -5,13 +5,18 @@ ghost use Rattle.raft_base.specs.Checksum.{crc_steps, register_after, crc32_of};
 
 mod sparse;
 mod tables;
+mod words;
 
 use byteorder::{ByteOrder, LittleEndian};
 use sparse::by_blocks;
 use tables::TABLES;
+use words::by_words;
 
-/// From this length on a text is divided by blocks.
-const LONG: usize = 512;
+/// From this length on a text is divided by words, before its last bytes are looked up.
+const MIDDLING: usize = 72;
+
+/// From this length on a text is divided by blocks, before its last bytes are divided by words.
+const LONG: usize = 640;
 
 /// What `byte` and then `zeros` zeros make of a register of zeros.
 #[inline(always)]
@@ -67,14 +72,23 @@ fn by_sixteens(mut register: u32, bytes: &[u8]) -> u32
     by_bytes(register, rest)
 }
 
+/// The register after `bytes`, in the way that is fastest for as many.
+#[inline]
+fn advanced(register: u32, bytes: &[u8]) -> u32
+    ensures { result ≡ register_after register bytes.now }
+{
+    if bytes.len() < MIDDLING {
+        return by_sixteens(register, bytes);
+    }
+    if bytes.len() < LONG {
+        return by_words(register, bytes);
+    }
+    by_blocks(register, bytes)
+}
+
 /// The CRC-32 of `bytes`, as zip files and Ethernet frames have it.
 pub fn crc32(bytes: &[u8]) -> u32
     ensures { result ≡ crc32_of bytes.now }
 {
-    let register = if bytes.len() < LONG {
-        by_sixteens(u32::MAX, bytes)
-    } else {
-        by_blocks(u32::MAX, bytes)
-    };
-    !register
+    !advanced(u32::MAX, bytes)
 }

@@ -7,7 +7,7 @@ ghost use Rattle.std.specs.Prelude.{◌≡◌, ℕ, ◌+◌, ◌<◌, ◌≤◌,
 ghost use Rattle.raft_base.specs.Checksum.{register_after};
 ghost use Rattle.raft_base.specs.SparseMultiple.{AreZeros, IsQuotient, IsRemainder, StartsAlike};
 
-use super::by_sixteens;
+use super::words::by_words;
 use byteorder::{ByteOrder, LittleEndian};
 
 /// How far back the division looks, in bytes.
@@ -76,5 +76,5 @@ pub fn by_blocks(register: u32, bytes: &[u8]) -> u32
     forget(&mut quotient);
     let mut remainder = [0u8; REACH];
     settle(&mut remainder, &quotient, rest);
-    by_sixteens(0, &remainder)
+    by_words(0, &remainder)
 }

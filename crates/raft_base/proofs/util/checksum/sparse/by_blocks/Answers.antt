@@ -35,7 +35,7 @@ returns c =
     let s = c.loop-rest.invariant.stands in
     let long : length c.loop-rest.rest.now ≡ 300 = omega arith in
     let same = remainder_same (λ k. get_or c.loop-rest.quotient k 0) (λ k. get_or c.forget.new.quotient k 0) (λ k h. sym (c.forget.ensures.before k h)) in
-    c.by_sixteens.ensures
+    c.by_words.ensures
     ∙ remainder_settled s.now c.loop-rest.rest.now c.settle.new.remainder c.forget.new.quotient long (omega arith)
       c.loop-rest.invariant.bytes (λ k h. rw (c.forget.ensures.before k h) (s.first k h)) c.settle.ensures c.forget.ensures.zeros
       (s.stands ∙ ap (crc_steps 2400) same)

@@ -1,5 +1,5 @@
 -- The last words of a text, with what the remainder holds taken off.
-use Rattle.std.proofs.Common.{◌≡◌, ℕ, zero, suc, ◌+◌, ◌*◌, ◌^◌, List, [], ◌∷◌, get_or, length, refl, sym, ap, ◌∙◌, arith}
+use Rattle.std.proofs.Common.{◌≡◌, ℕ, suc, ◌+◌, ◌*◌, ◌^◌, List, [], ◌∷◌, get_or, length, refl, sym, ap, ◌∙◌, arith}
 use lib.Bits.{bit_xor, xor_assoc, xor_comm, xor_zero_r}
 use Rattle.raft_base.specs.Checksum.{crc_steps}
 use Rattle.raft_base.specs.SparseMultiple.{number_of_words, StandFor}

@@ -1,6 +1,7 @@
 pub mod BlockLemmas
 pub mod DivisionLemmas
 pub mod FiveWordLemmas
+pub mod LawLemmas
 pub mod MultipleLemmas
 pub mod QuotientLemmas
 pub mod RemainderLemmas

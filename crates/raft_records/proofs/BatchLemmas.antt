@@ -4,11 +4,11 @@ use Rattle.std.specs.List.{flat_map}
 use Rattle.raft_base.specs.Checksum.{crc32_of}
 use Rattle.raft_base.specs.declared.pipe_log.FileBlockHandle.{FileBlockHandle}
 use Rattle.raft_base.specs.declared.pipe_log.FileId.{FileId}
-use Rattle.std.proofs.lemmas.List.{length-append, map-append, take_more, flat_map_more}
+use Rattle.std.proofs.lemmas.List.{length-append, length-map, drop_more, map-append, take_more, flat_map_more}
 use Rattle.std.proofs.lemmas.List.Edits.{map_over_more}
 use Rattle.raft_base.specs.declared.errors.Error.{Error}
 use Rattle.raft_base.specs.Reading.{Reads, HasNoFront, HasOneFront, IsPair, IsSequence, state_after}
-use Rattle.raft_base.specs.Varint.{IsVarint}
+use Rattle.raft_base.specs.Varint.{IsVarint, varint}
 use Rattle.raft_base.proofs.VarintLemmas.{varint_one_front, varint_some}
 use Rattle.raft_base.proofs.ReadingLemmas.{reads_pair, no_first, no_second}
 use Rattle.raft_base.proofs.SequenceLemmas.{reads_more, stuck, sequence_one_front, fault_after}
@@ -16,11 +16,12 @@ use Rattle.raft_records.specs.declared.log_batch.CompressionType.{CompressionTyp
 use Rattle.raft_records.specs.declared.log_batch.entry_index.EntryIndex.{EntryIndex}
 use Rattle.raft_records.specs.declared.log_batch.key_value.OpType.{OpType}
 use Rattle.raft_records.specs.declared.log_batch.key_value.OpType.TheVariants.{Put, Del}
-use Rattle.raft_records.specs.Item.{Item, Content, entries, command, pair, Pair}
+use Rattle.raft_records.specs.declared.log_batch.log_item.LogItem.{LogItem}
+use Rattle.raft_records.specs.Item.{Item, Content, entries, command, pair, Pair, item_of, content_of}
 use Rattle.raft_records.specs.Entries.{IsConsecutiveFrom, IsConsecutive, Tile}
 use Rattle.raft_records.specs.Grammar.{tail_of, IsTail, behind_entry, AreTails, IsRun, IsPairOf, IsContent, IsItem, end_behind, behind_item}
-use Rattle.raft_records.specs.Spelling.{IsWritableWith, item_bytes}
-use Rattle.raft_records.specs.ItemBatch.{FitsBehind, FitTogether, end_of_items, placed_entry, placed, IsKeptBeside, AreItems, IsCounted, signed, checksum_bytes, IsItemBatch, IsSealed, AreItemsFault}
+use Rattle.raft_records.specs.Spelling.{IsWritableWith, tails_bytes, entries_bytes, item_bytes}
+use Rattle.raft_records.specs.ItemBatch.{FitsBehind, FitTogether, end_of_items, placed_entry, placed, IsKeptBeside, AreItems, IsCounted, signed, checksum_bytes, IsItemBatch, IsSealed, AreItemsFault, batch_bytes, first_entry, first_entry_or}
 use Rattle.raft_records.specs.Faults.{IsItemFault}
 use Rattle.raft_records.proofs.ContentLemmas.{item_one_front}
 use Rattle.raft_records.proofs.SealLemmas.{four, content_is}
@@ -119,8 +120,7 @@ end_is_state s (x ∷ xs) = end_is_state (behind_item s x) xs
 pub items_fit : (block : FileBlockHandle) (c : CompressionType) (s : ℕ) (bytes : List ℕ) (xs : List Item) → IsSequence behind_item IsItem s bytes xs → FitTogether s (map (placed block c) xs)
 items_fit block c s bytes [] q = tt
 items_fit block c s bytes (x ∷ xs) q =
-    let rest = items_fit block c (behind_item s x) q.second xs q.second_spells in
-    (
+    let rest = items_fit block c (behind_item s x) q.second xs q.second_spells in (
       fits_placed block c s x.content (item_fits s q.first x q.first_spells),
       subst (λ (t : ℕ). FitTogether t (map (placed block c) xs)) (sym (behind_placed block c s x)) rest,
     )
@@ -193,20 +193,25 @@ no_items signature n bytes content mid s r none xs rest b =
 
 -- ---- loops over items
 
+-- an element seen
+pub seen_at : {X Y : Type 0} (g : X → Y) (ys : List X) (i : ℕ) (x : X) → x ≡ get_or ys i x → g x ≡ get_or (map g ys) i (g x)
+seen_at g ys i x at = ap g at ∙ sym (get_or-map' g ys i x)
+  where
+    get_or-map' : {X Y : Type 0} (g : X → Y) (ys : List X) (i : ℕ) (d : X) → get_or (map g ys) i (g d) ≡ g (get_or ys i d)
+    get_or-map' g [] i d = refl
+    get_or-map' g (y ∷ ys) zero d = refl
+    get_or-map' g (y ∷ ys) (suc i) d = get_or-map' g ys i d
+
 -- the step of a loop that changes each value, as a view of it says
 pub map_view_more : {X Y : Type 0} (g : X → Y) (f : Y → Y) (xs : List Y) (ys : List X) (i : ℕ) (old new : X) → i < length ys → length xs ≡ length ys → map g ys ≡ map f (take i xs) ++ drop i xs → old ≡ get_or ys i old → g new ≡ f (g old) → map g (set ys i new) ≡ map f (take (i + 1) xs) ++ drop (i + 1) xs
 map_view_more {X} {Y} g f xs ys i old new lt len e at step =
-    let seen : g old ≡ get_or (map g ys) i (g old) = ap g at ∙ sym (get_or-map g ys i old) in
+    let seen : g old ≡ get_or (map g ys) i (g old) = seen_at g ys i old at in
     map-set' g ys i new ∙ ap (λ (v : Y). set (map g ys) i v) step ∙ map_over_more f xs (map g ys) i (g old) (omega arith) e seen
   where
     map-set' : {X Y : Type 0} (g : X → Y) (ys : List X) (i : ℕ) (v : X) → map g (set ys i v) ≡ set (map g ys) i (g v)
     map-set' g [] i v = refl
     map-set' g (y ∷ ys) zero v = refl
     map-set' {X} {Y} g (y ∷ ys) (suc i) v = ap (λ (t : List Y). g y ∷ t) (map-set' g ys i v)
-    get_or-map : {X Y : Type 0} (g : X → Y) (ys : List X) (i : ℕ) (d : X) → get_or (map g ys) i (g d) ≡ g (get_or ys i d)
-    get_or-map g [] i d = refl
-    get_or-map g (y ∷ ys) zero d = refl
-    get_or-map g (y ∷ ys) (suc i) d = get_or-map g ys i d
 
 -- the items up to one more
 pub items_more : {X Y : Type 0} (g : X → Y) (xs : List X) (i : ℕ) (x : X) → i < length xs → x ≡ get_or xs i x → map g (take (i + 1) xs) ≡ map g (take i xs) ++ g x ∷ []
@@ -219,3 +224,64 @@ size_more xs x size total e f = let pushed : items_size (xs ++ x ∷ []) ≡ ite
 pub bytes_more : (count : List ℕ) (old buf new : List ℕ) (xs : List Item) (x : Item) → buf ≡ old ++ (count ++ flat_map item_bytes xs) → new ≡ buf ++ item_bytes x → new ≡ old ++ (count ++ flat_map item_bytes (xs ++ x ∷ []))
 bytes_more count old buf new xs x e f =
     f ∙ ap (λ (t : List ℕ). t ++ item_bytes x) e ∙ append_assoc old (count ++ flat_map item_bytes xs) (item_bytes x) ∙ ap (λ (t : List ℕ). old ++ t) (flat_map_more item_bytes count xs x)
+
+-- ---- what places leave as it is
+
+tails_placed : (block : FileBlockHandle) (c : CompressionType) (es : List EntryIndex) → tails_bytes (map (placed_entry block c) es) ≡ tails_bytes es
+tails_placed block c [] = refl
+tails_placed block c (e ∷ es) = ap (λ (t : List ℕ). varint (tail_of e) ++ t) (tails_placed block c es)
+
+entries_placed : (block : FileBlockHandle) (c : CompressionType) (es : List EntryIndex) → entries_bytes (map (placed_entry block c) es) ≡ entries_bytes es
+entries_placed block c [] = refl
+entries_placed block c (e ∷ es) =
+    ap (λ (n : ℕ). varint (suc n) ++ (varint e.index ++ tails_bytes (map (placed_entry block c) (e ∷ es)))) (length-map es (placed_entry block c))
+    ∙ ap (λ (t : List ℕ). varint (suc (length es)) ++ (varint e.index ++ t)) (tails_placed block c (e ∷ es))
+
+bytes_placed : (block : FileBlockHandle) (c : CompressionType) (x : Item) → item_bytes (placed block c x) ≡ item_bytes x
+bytes_placed block c x = go x.content
+  where
+    go : (content : Content) → item_bytes (placed block c (record { raft_group_id = x.raft_group_id; content = content })) ≡ item_bytes (record { raft_group_id = x.raft_group_id; content = content })
+    go (entries es) = ap (λ (t : List ℕ). varint x.raft_group_id ++ 1 ∷ t) (entries_placed block c es)
+    go (command y) = refl
+    go (pair p) = refl
+
+all_placed : (block : FileBlockHandle) (c : CompressionType) (xs : List Item) → flat_map item_bytes (map (placed block c) xs) ≡ flat_map item_bytes xs
+all_placed block c [] = refl
+all_placed block c (x ∷ xs) = ap (λ (t : List ℕ). t ++ flat_map item_bytes (map (placed block c) xs)) (bytes_placed block c x) ∙ ap (λ (t : List ℕ). item_bytes x ++ t) (all_placed block c xs)
+
+batch_placed : (block : FileBlockHandle) (c : CompressionType) (xs : List Item) → batch_bytes (map (placed block c) xs) ≡ batch_bytes xs
+unfolding batch_bytes
+batch_placed block c xs = ap (λ (n : ℕ). varint n ++ flat_map item_bytes (map (placed block c) xs)) (length-map xs (placed block c)) ∙ ap (λ (t : List ℕ). varint (length xs) ++ t) (all_placed block c xs)
+
+size_placed : (block : FileBlockHandle) (c : CompressionType) (x : Item) → item_size (placed block c x) ≡ item_size x
+size_placed block c x = go x.content
+  where
+    go : (content : Content) → item_size (placed block c (record { raft_group_id = x.raft_group_id; content = content })) ≡ item_size (record { raft_group_id = x.raft_group_id; content = content })
+    go (entries []) = refl
+    go (entries (e ∷ es)) = omega (arith, length-map es (placed_entry block c))
+    go (command y) = refl
+    go (pair p) = refl
+
+sizes_placed : (block : FileBlockHandle) (c : CompressionType) (xs : List Item) → items_size (map (placed block c) xs) ≡ items_size xs
+sizes_placed block c [] = refl
+sizes_placed block c (x ∷ xs) = omega (arith, size_placed block c x, sizes_placed block c xs)
+
+fit_placed : (block : FileBlockHandle) (c : CompressionType) (s : ℕ) (xs : List Item) → FitTogether s xs → FitTogether s (map (placed block c) xs)
+fit_placed block c s [] h = tt
+fit_placed block c s (x ∷ xs) h =
+    (fits_placed block c s x.content h.0, subst (λ (t : ℕ). FitTogether t (map (placed block c) xs)) (sym (behind_placed block c s x)) (fit_placed block c (behind_item s x) xs h.1))
+
+pub placed_kept : (block : FileBlockHandle) (c : CompressionType) (xs : List Item) (size bytes : ℕ) (crc : Option ℕ) → IsKeptBeside xs size bytes crc → IsKeptBeside (map (placed block c) xs) size bytes crc
+placed_kept block c xs size bytes crc k =
+    record {
+      fit = fit_placed block c 0 xs k.fit;
+      size = k.size ∙ ap saturated (sym (sizes_placed block c xs));
+      entry_bytes = k.entry_bytes ∙ sym (end_of_placed block c 0 xs);
+      checksum = λ n some. k.checksum n some ∙ ap crc32_of (sym (batch_placed block c xs));
+    }
+
+-- ---- the first entry
+
+pub first_entry_step : (xs : List LogItem) (i : ℕ) (x : LogItem) → i < length xs → x ≡ get_or xs i x → first_entry (map item_of (drop i xs)) ≡ first_entry_or (content_of x.content) (first_entry (map item_of (drop (i + 1) xs)))
+first_entry_step xs i x lt at =
+    ap (λ (t : List LogItem). first_entry (map item_of t)) (drop_more xs i x lt ∙ ap (λ (v : LogItem). v ∷ drop (i + 1) xs) (sym at))

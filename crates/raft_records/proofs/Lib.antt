@@ -2,4 +2,5 @@ pub mod BatchLemmas
 pub mod ContentLemmas
 pub mod EntryLemmas
 pub mod ItemLemmas
+pub mod LayLemmas
 pub mod SealLemmas

@@ -117,3 +117,8 @@ IsItemFault s bytes e = IsNumberFault bytes e ⊎ IsFaultBehind IsVarint (λ _. 
 abbrev pub IsItemRefusal : Item → Error → Type 0
 IsItemRefusal item (errors.InvalidArgument text) = IsWritable item → ⊥
 IsItemRefusal item e = IsMemory e
+
+-- want of memory, or a message that refused to write itself
+abbrev pub IsMemoryOrMessage : Error → Type 0
+IsMemoryOrMessage (errors.Message e) = Unit {0}
+IsMemoryOrMessage e = IsMemory e

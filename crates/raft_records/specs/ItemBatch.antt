@@ -126,6 +126,32 @@ raised_content s (pair p) = pair p
 abbrev pub raised : ℕ → Item → Item
 raised s item = record { raft_group_id = item.raft_group_id; content = raised_content s item.content }
 
+-- each entry's bytes can stand so much further back
+abbrev pub CanRaise : ℕ → List EntryIndex → Type 0
+CanRaise s [] = Unit {0}
+CanRaise s (e ∷ es) = (e.entry_offset + s < 2 ^ 32) × CanRaise s es
+
+abbrev pub CanRaiseContent : ℕ → Content → Type 0
+CanRaiseContent s (entries es) = CanRaise s es
+CanRaiseContent s (command c) = Unit {0}
+CanRaiseContent s (pair p) = Unit {0}
+
+-- the first entry of a list
+abbrev pub first_of : List EntryIndex → Option EntryIndex
+first_of [] = None
+first_of (e ∷ es) = Some e
+
+-- an entries item's first entry, or what the items behind it have
+abbrev pub first_entry_or : Content → Option EntryIndex → Option EntryIndex
+first_entry_or (entries es) others = first_of es
+first_entry_or (command c) others = others
+first_entry_or (pair p) others = others
+
+-- the first entry of the first entries item
+abbrev pub first_entry : List Item → Option EntryIndex
+first_entry [] = None
+first_entry (item ∷ items) = first_entry_or item.content (first_entry items)
+
 -- ---- refusals
 
 -- the checksum that stands at the end is not that of the bytes before it

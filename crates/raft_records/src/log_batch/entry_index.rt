@@ -6,7 +6,7 @@ ghost use Rattle.raft_records.specs.Grammar.{IsEntries, IsTail, AreTails, end_be
 ghost use Rattle.raft_records.specs.Faults.{IsEntriesFault, IsTailFault, IsTailsFault, IsEntriesRefusal};
 ghost use Rattle.raft_records.specs.Entries.{IsConsecutive, RunOn, AreWritable};
 ghost use Rattle.raft_base.specs.Varint.{varint};
-ghost use Rattle.raft_records.specs.ItemBatch.{placed_entry};
+ghost use Rattle.raft_records.specs.ItemBatch.{placed_entry, raised_entry, CanRaise};
 ghost use Rattle.raft_records.specs.Sizes.{entries_size, saturated};
 ghost use Rattle.raft_records.specs.Spelling.{Keeps, tails_bytes, entries_bytes};
 
@@ -97,6 +97,16 @@ impl EntryIndexes {
         for entry in self.0.iter_mut() {
             entry.entries = Some(block);
             entry.compression_type = compression_type;
+        }
+    }
+
+    /// Puts the entries' bytes `by` bytes further back.
+    pub(crate) fn raise(&mut self, by: u32)
+        requires { CanRaise by self.old.0.items }
+        ensures { self.new.0.items ≡ map (raised_entry by) self.old.0.items }
+    {
+        for entry in self.0.iter_mut() {
+            entry.entry_offset += by;
         }
     }
 

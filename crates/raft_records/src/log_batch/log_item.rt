@@ -6,7 +6,7 @@ ghost use Rattle.raft_base.specs.Reading.{Reads, HasNoFront};
 ghost use Rattle.raft_records.specs.Grammar.{IsItem, IsContent, behind_item, entry_bytes_with};
 ghost use Rattle.raft_records.specs.Item.{item_of, content_of, entries_item, command_item, pair_item};
 ghost use Rattle.raft_records.specs.Faults.{IsItemFault, IsContentFault, IsItemRefusal};
-ghost use Rattle.raft_records.specs.ItemBatch.{placed};
+ghost use Rattle.raft_records.specs.ItemBatch.{placed, raised, CanRaiseContent};
 ghost use Rattle.raft_records.specs.Sizes.{item_size, saturated};
 ghost use Rattle.raft_records.specs.Spelling.{Keeps, item_bytes, content_bytes, IsWritable};
 
@@ -98,6 +98,17 @@ impl LogItem {
             LogItemContent::EntryIndexes(entries) => entries.place(block, compression_type),
             LogItemContent::Command(_) => {}
             LogItemContent::Kv(kv) => kv.file_id = Some(block.id),
+        }
+    }
+
+    /// Puts the bytes of the item's entries `by` bytes further back.
+    pub(crate) fn raise(&mut self, by: u32)
+        requires { CanRaiseContent by (content_of self.old.content) }
+        ensures { item_of self.new ≡ raised by (item_of self.old) }
+    {
+        match &mut self.content {
+            LogItemContent::EntryIndexes(entries) => entries.raise(by),
+            LogItemContent::Command(_) | LogItemContent::Kv(_) => {}
         }
     }
 

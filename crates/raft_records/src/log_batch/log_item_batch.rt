@@ -1,27 +1,28 @@
 //! Batches of log items, without entry bytes.
 
-ghost use Rattle.std.specs.Prelude.{◌≡◌, ◌≢◌, ℕ, ◌+◌, ◌-◌, ◌^◌, ◌<◌, min, List, [], ◌∷◌, ◌++◌, map, length, IfOk, IfErr, OnOk, OnErr, IsTrue, ◌↔◌};
-ghost use Rattle.std.specs.Option.{option_map};
+ghost use Rattle.std.specs.Prelude.{◌≡◌, ◌≢◌, ℕ, ◌+◌, ◌^◌, ◌<◌, List, [], ◌∷◌, ◌++◌, map, Some, None, IfOk, IfErr, OnOk, OnErr};
+ghost use Rattle.std.specs.Vec.Iter.{into_iter_items};
 ghost use Rattle.std.specs.Slice.Iter.{iter_rest};
 ghost use Rattle.raft_base.specs.Reading.{Reads, HasNoFront};
 ghost use Rattle.raft_base.specs.Signature.{signature_of};
 ghost use Rattle.raft_records.specs.Grammar.{behind_item};
 ghost use Rattle.raft_records.specs.Item.{Item, content_of, item_of, entries_item, command_item, pair_item};
 ghost use Rattle.raft_records.specs.Entries.{IsConsecutive};
-ghost use Rattle.raft_records.specs.ItemBatch.{AreItems, IsItemBatch, IsDecoded, AreItemsFault, IsItemBatchFault, checksum_bytes, batch_bytes, placed, raised, laid, entry_lengths, entry_bytes_of, end_of_items, FitsBehind, IsEncoded, no_checksum};
+ghost use Rattle.raft_records.specs.ItemBatch.{AreItems, IsItemBatch, IsDecoded, AreItemsFault, IsItemBatchFault, checksum_bytes, batch_bytes, placed, raised, laid, entry_lengths, entry_bytes_of, end_of_items, FitsBehind, IsEncoded, no_checksum, FitTogether, first_entry};
+ghost use Rattle.raft_records.specs.Faults.{IsMemoryOrMessage};
 ghost use Rattle.raft_records.specs.Spelling.{Keeps};
-ghost use Rattle.raft_records.specs.Sizes.{items_size, saturated};
+ghost use Rattle.raft_records.specs.Sizes.{items_size, batch_size, saturated};
 ghost use Rattle.raft_records.specs.declared.log_batch.key_value.OpType.TheVariants.{Put, Del};
 
 use crate::log_batch::checksum::{CHECKSUM_LEN, sign, verify_checksum};
-use crate::log_batch::{Command, CompressionType, EntryIndex, LogItem, OpType};
+use crate::log_batch::{Command, CompressionType, EntryIndex, LogItem, LogItemContent, OpType};
 use byteorder::{ByteOrder, LittleEndian};
 use raft_base::codec::BytesSlice;
 use raft_base::util::crc32;
 use raft_base::{Error, FileBlockHandle, LogFileContext, Message, Result, codec};
 use std::alloc::{AllocError, Global};
 use std::marker::Model;
-use std::{slice, vec};
+use std::{mem, slice, vec};
 
 /// Items in order, without the entries' bytes. The bytes of the entries of its items run on from the
 /// first item to the last.
@@ -97,6 +98,46 @@ impl LogItemBatch {
         self.entries_size
     }
 
+    /// The approximate length of the batch's bytes, held at `usize::MAX`. It is at least their length
+    /// where all region ids and indexes are below 2^56.
+    pub fn approximate_size(&self) -> usize
+        ensures { result ≡ saturated (batch_size self.now) }
+    {
+        self.item_size.saturating_add(8 + CHECKSUM_LEN)
+    }
+
+    /// The first entry of the first item that has entries to list, if it has any.
+    pub fn entry_index(&self) -> Option<EntryIndex>
+        ensures { result ≡ first_entry self.now }
+    {
+        for item in &self.items {
+            if let LogItemContent::EntryIndexes(entries) = &item.content {
+                return entries.0.first().copied();
+            }
+        }
+        None
+    }
+
+    /// Adds entries of a region, whose bytes stand behind those of the batch: their offsets are set
+    /// so. It asks consecutive entries, and that the bytes of all entries stay below 2^32
+    /// (`entries_size` tells those of the batch). On `Err` the batch is as it was.
+    pub fn add_entry_indexes(
+        &mut self,
+        region_id: u64,
+        mut entry_indexes: Vec<EntryIndex>,
+    ) -> Result<()>
+        requires consecutive { IsConsecutive entry_indexes.items }
+        requires room { entry_bytes_of self.old + entry_lengths entry_indexes.items < 2 ^ 32 }
+        ensures ok { OnOk result (self.new ≡ self.old
+            ++ entries_item region_id (laid (entry_bytes_of self.old) entry_indexes.items) ∷ []) }
+        ensures err { OnErr result (self.new ≡ self.old) }
+        ensures memory { IfErr result (λ e. e ≡ Error.Memory) }
+    {
+        let start = self.entries_size();
+        let end = lay(&mut entry_indexes, start);
+        self.add(LogItem::new_entry_indexes(region_id, entry_indexes), end)
+    }
+
     /// Adds a command on a region's log. On `Err` the batch is as it was.
     pub fn add_command(&mut self, region_id: u64, command: Command) -> Result<()>
         ensures ok { OnOk result (self.new ≡ self.old ++ command_item region_id command ∷ []) }
@@ -105,6 +146,97 @@ impl LogItemBatch {
     {
         let entries_size = self.entries_size;
         self.add(LogItem::new_command(region_id, command), entries_size)
+    }
+
+    /// Adds the removal of a region's key. On `Err` the batch is as it was.
+    pub fn delete(&mut self, region_id: u64, key: Vec<u8>) -> Result<()>
+        ensures ok { OnOk result (self.new ≡ self.old ++ pair_item region_id Del key.items None ∷ []) }
+        ensures err { OnErr result (self.new ≡ self.old) }
+        ensures memory { IfErr result (λ e. e ≡ Error.Memory) }
+    {
+        let entries_size = self.entries_size();
+        self.add(
+            LogItem::new_kv(region_id, OpType::Del, key, None),
+            entries_size,
+        )
+    }
+
+    /// Adds a value of a region's key. On `Err` the batch is as it was.
+    pub fn put(&mut self, region_id: u64, key: Vec<u8>, value: Vec<u8>) -> Result<()>
+        ensures ok { OnOk result (self.new ≡ self.old
+            ++ pair_item region_id Put key.items (Some value.items) ∷ []) }
+        ensures err { OnErr result (self.new ≡ self.old) }
+        ensures memory { IfErr result (λ e. e ≡ Error.Memory) }
+    {
+        let entries_size = self.entries_size();
+        self.add(
+            LogItem::new_kv(region_id, OpType::Put, key, Some(value)),
+            entries_size,
+        )
+    }
+
+    /// Adds a message as the value of a region's key. `Message` where the message refuses to write
+    /// itself. On `Err` the batch is as it was.
+    pub fn put_message<S: Message>(
+        &mut self,
+        alloc: Global,
+        region_id: u64,
+        key: Vec<u8>,
+        message: &S,
+    ) -> Result<()>
+        ensures ok { OnOk result (self.new ≡ self.old
+            ++ pair_item region_id Put key.items (Some (S.bytes_of message.now)) ∷ []) }
+        ensures err { OnErr result (self.new ≡ self.old) }
+        ensures fault { IfErr result IsMemoryOrMessage }
+    {
+        let mut value = Vec::new(alloc);
+        message.write_to_vec(&mut value)?;
+        self.put(region_id, key, value)
+    }
+
+    /// Moves the items of `rhs` behind those of the batch; their entries' bytes stand behind the
+    /// batch's, so that their offsets rise. It asks that the bytes of all entries stay below 2^32. On
+    /// `Err` both are as they were.
+    pub fn merge(&mut self, rhs: &mut LogItemBatch) -> Result<()>
+        requires { entry_bytes_of self.old + entry_bytes_of rhs.old < 2 ^ 32 }
+        ensures ok { OnOk result (self.new ≡ self.old ++ map (raised (entry_bytes_of self.old)) rhs.old) }
+        ensures emptied { OnOk result (rhs.new ≡ []) }
+        ensures err { OnErr result (self.new ≡ self.old) }
+        ensures rhs_err { OnErr result (rhs.new ≡ rhs.old) }
+        ensures memory { IfErr result (λ e. e ≡ Error.Memory) }
+    {
+        self.items.reserve(rhs.items.len())?;
+        raise_items(&mut rhs.items, self.entries_size, rhs.entries_size);
+        if self.items.append(&mut rhs.items).is_err() {
+            unreachable!()
+        }
+        self.item_size = self.item_size.saturating_add(rhs.item_size);
+        self.entries_size += rhs.entries_size;
+        self.checksum = None;
+        rhs.item_size = 0;
+        rhs.entries_size = 0;
+        rhs.checksum = None;
+        Ok(())
+    }
+
+    /// Hands out the items in order, and leaves the batch empty.
+    pub fn drain(&mut self) -> vec::IntoIter<LogItem>
+        ensures items { map item_of (into_iter_items result) ≡ self.old }
+        ensures emptied { self.new ≡ [] }
+    {
+        let alloc = *self.items.allocator();
+        let items = mem::replace(&mut self.items, Vec::new(alloc));
+        self.item_size = 0;
+        self.entries_size = 0;
+        self.checksum = None;
+        items.into_iter()
+    }
+
+    /// Gives every entry its place and every key value its file. It takes no memory.
+    pub(crate) fn place(&mut self, block: FileBlockHandle, compression_type: CompressionType)
+        ensures { self.new ≡ map (placed block compression_type) self.old }
+    {
+        place_items(&mut self.items, block, compression_type);
     }
 
     /// Appends the batch's bytes to the vector, four zero bytes in the place of the checksum. On
@@ -248,4 +380,30 @@ fn approximate_size_of(items: &[LogItem]) -> usize
         size = size.saturating_add(item.approximate_size());
     }
     size
+}
+
+/// Lays the bytes of entries one behind the other from `start` on, and answers where they end.
+fn lay(entries: &mut Vec<EntryIndex>, start: u32) -> u32
+    requires { start + entry_lengths entries.old.items < 2 ^ 32 }
+    ensures laid { entries.new.items ≡ laid start entries.old.items }
+    ensures end { result ≡ start + entry_lengths entries.old.items }
+{
+    let mut offset = start;
+    for entry in entries.iter_mut() {
+        entry.entry_offset = offset;
+        offset += entry.entry_len;
+    }
+    offset
+}
+
+/// Puts the bytes of all entries `by` bytes further back; `end` is where they end before.
+fn raise_items(items: &mut Vec<LogItem>, by: u32, end: u32)
+    requires fit { FitTogether 0 (map item_of items.old.items) }
+    requires end { end ≡ entry_bytes_of (map item_of items.old.items) }
+    requires room { by + end < 2 ^ 32 }
+    ensures { map item_of items.new.items ≡ map (raised by) (map item_of items.old.items) }
+{
+    for item in items.iter_mut() {
+        item.raise(by);
+    }
 }

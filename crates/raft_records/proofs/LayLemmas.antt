@@ -1,0 +1,214 @@
+-- On entries whose bytes are laid or raised.
+use Rattle.std.proofs.Common.{◌≡◌, ℕ, zero, suc, ◌+◌, ◌-◌, ◌^◌, ◌<◌, ◌≤◌, List, [], ◌∷◌, ◌++◌, map, length, take, drop, set, get_or, Option, Some, None, refl, sym, ap, ◌∙◌, subst, append_assoc, arith}
+use Rattle.std.proofs.lemmas.List.{length-map, length-take-le, take_more, drop_more, get_or_at, set_at}
+use Rattle.raft_records.specs.declared.log_batch.CompressionType.TheVariants as compressions
+use Rattle.raft_records.specs.declared.log_batch.entry_index.EntryIndex.{EntryIndex}
+use Rattle.raft_records.specs.Item.{Item, Content, entries, command, pair, Pair}
+use Rattle.raft_records.specs.Entries.{IsConsecutiveFrom, IsConsecutive, Tile}
+use Rattle.raft_records.specs.Grammar.{tail_of, end_behind, behind_item}
+use Rattle.raft_records.specs.ItemBatch.{FitsBehind, FitTogether, end_of_items, entry_bytes_of, laid, entry_lengths, raised_entry, raised_content, raised, CanRaise, CanRaiseContent, IsKeptBeside}
+use Rattle.raft_records.specs.Sizes.{item_size, items_size, saturated}
+
+-- ---- laid
+
+abbrev pub laid_entry : ℕ → EntryIndex → EntryIndex
+laid_entry s e = record { index = e.index; entries = e.entries; compression_type = e.compression_type; entry_offset = s; entry_len = e.entry_len }
+
+pub length-laid : (s : ℕ) (es : List EntryIndex) → length (laid s es) ≡ length es
+length-laid s [] = refl
+length-laid s (e ∷ es) = ap suc (length-laid (s + e.entry_len) es)
+
+pub laid-push : (s : ℕ) (es : List EntryIndex) (e : EntryIndex) → laid s (es ++ e ∷ []) ≡ laid s es ++ laid_entry (s + entry_lengths es) e ∷ []
+laid-push s [] e = ap (λ (o : ℕ). laid_entry o e ∷ []) (omega arith)
+laid-push s (x ∷ xs) e =
+    let sum : s + x.entry_len + entry_lengths xs ≡ s + (x.entry_len + entry_lengths xs) = omega arith in
+    ap (λ (t : List EntryIndex). laid_entry s x ∷ t) (laid-push (s + x.entry_len) xs e ∙ ap (λ (o : ℕ). laid (s + x.entry_len) xs ++ laid_entry o e ∷ []) sum)
+
+pub entry_lengths-push : (es : List EntryIndex) (e : EntryIndex) → entry_lengths (es ++ e ∷ []) ≡ entry_lengths es + e.entry_len
+entry_lengths-push [] e = omega arith
+entry_lengths-push (x ∷ xs) e = omega (arith, entry_lengths-push xs e)
+
+pub entry_lengths-split : (es : List EntryIndex) (i : ℕ) (e : EntryIndex) → i < length es → e ≡ get_or es i e → entry_lengths (take i es) + e.entry_len ≤ entry_lengths es
+entry_lengths-split [] i e lt at = absurd (omega arith)
+entry_lengths-split (x ∷ xs) zero e lt at = let len : e.entry_len ≡ x.entry_len = ap (λ (y : EntryIndex). y.entry_len) at in omega arith
+entry_lengths-split (x ∷ xs) (suc i) e lt at = omega (arith, entry_lengths-split xs i e (omega arith) at)
+
+-- a list whose front is changed is the same behind it
+pub rest_at : (front xs ys : List EntryIndex) (i : ℕ) (d : EntryIndex) → ys ≡ front ++ drop i xs → length front ≡ i → i < length xs → get_or ys i d ≡ get_or xs i d
+rest_at front xs ys i d e len lt = ap (λ (t : List EntryIndex). get_or t i d) (e ∙ ap (λ (t : List EntryIndex). front ++ t) (drop_more xs i d lt)) ∙ get_or_at front (get_or xs i d) (drop (i + 1) xs) d i len
+
+-- the step of a loop that lays entries
+pub lay_more : (s i offset : ℕ) (xs ys : List EntryIndex) (x : EntryIndex) → i < length xs → ys ≡ laid s (take i xs) ++ drop i xs → x ≡ get_or ys i x → offset ≡ s + entry_lengths (take i xs) → (set ys i (laid_entry offset x) ≡ laid s (take (i + 1) xs) ++ drop (i + 1) xs) × (offset + x.entry_len ≡ s + entry_lengths (take (i + 1) xs)) × (offset + x.entry_len ≤ s + entry_lengths xs)
+lay_more s i offset xs ys x lt e at ends =
+    let len : length (laid s (take i xs)) ≡ i = length-laid s (take i xs) ∙ length-take-le i xs (omega arith) in
+    let seen : x ≡ get_or xs i x = at ∙ rest_at (laid s (take i xs)) xs ys i x e len lt in
+    let split : ys ≡ laid s (take i xs) ++ x ∷ drop (i + 1) xs = e ∙ ap (λ (t : List EntryIndex). laid s (take i xs) ++ t) (drop_more xs i x lt ∙ ap (λ (v : EntryIndex). v ∷ drop (i + 1) xs) (sym seen)) in
+    let more : take (i + 1) xs ≡ take i xs ++ x ∷ [] = take_more xs i x lt ∙ ap (λ (v : EntryIndex). take i xs ++ v ∷ []) (sym seen) in
+    let whole : laid s (take (i + 1) xs) ≡ laid s (take i xs) ++ laid_entry offset x ∷ [] = ap (laid s) more ∙ laid-push s (take i xs) x ∙ ap (λ (o : ℕ). laid s (take i xs) ++ laid_entry o x ∷ []) (sym ends) in (
+      ap (λ (t : List EntryIndex). set t i (laid_entry offset x)) split ∙ set_at (laid s (take i xs)) x (drop (i + 1) xs) (laid_entry offset x) i len ∙ sym (ap (λ (t : List EntryIndex). t ++ drop (i + 1) xs) whole ∙ append_assoc (laid s (take i xs)) (laid_entry offset x ∷ []) (drop (i + 1) xs)),
+      omega (arith, ap entry_lengths more, entry_lengths-push (take i xs) x),
+      omega (arith, entry_lengths-split xs i x lt seen),
+    )
+
+laid_from : (i s : ℕ) (es : List EntryIndex) → IsConsecutiveFrom i es → IsConsecutiveFrom i (laid s es)
+laid_from i s [] h = tt
+laid_from i s (e ∷ es) h = (h.0, h.1, laid_from (i + 1) (s + e.entry_len) es h.2)
+
+laid_tile : (s : ℕ) (es : List EntryIndex) → s + entry_lengths es < 2 ^ 32 → Tile s (laid s es)
+laid_tile s [] lt = tt
+laid_tile s (e ∷ es) lt = (refl, omega arith, laid_tile (s + e.entry_len) es (omega arith))
+
+pub laid_fits : (s : ℕ) (es : List EntryIndex) → IsConsecutive es → s + entry_lengths es < 2 ^ 32 → FitsBehind s (entries (laid s es))
+laid_fits s [] h lt = (tt, tt)
+laid_fits s (e ∷ es) h lt = (laid_from e.index s (e ∷ es) h, laid_tile s (e ∷ es) lt)
+
+pub end_of_laid : (s : ℕ) (es : List EntryIndex) → end_behind s (laid s es) ≡ s + entry_lengths es
+end_of_laid s [] = omega arith
+end_of_laid s (e ∷ es) = omega (arith, end_of_laid (s + e.entry_len) es)
+
+-- ---- raised
+
+pub can_raise_at : (s : ℕ) (es : List EntryIndex) (i : ℕ) (d : EntryIndex) → CanRaise s es → i < length es → (get_or es i d).entry_offset + s < 2 ^ 32
+can_raise_at s [] i d h lt = absurd (omega arith)
+can_raise_at s (e ∷ es) zero d h lt = h.0
+can_raise_at s (e ∷ es) (suc i) d h lt = can_raise_at s es i d h.1 (omega arith)
+
+tile_end : (s : ℕ) (es : List EntryIndex) → Tile s es → s ≤ end_behind s es
+tile_end s [] h = omega arith
+tile_end s (e ∷ es) h =
+    let at : e.entry_offset ≡ s = h.0 in
+    omega (arith, tile_end (tail_of e) es (subst (λ (o : ℕ). Tile (o + e.entry_len) es) (sym at) h.2))
+
+tile_raises : (s by end : ℕ) (es : List EntryIndex) → Tile s es → end_behind s es ≤ end → end + by < 2 ^ 32 → CanRaise by es
+tile_raises s by end [] h le lt = tt
+tile_raises s by end (e ∷ es) h le lt =
+    let at : e.entry_offset ≡ s = h.0 in
+    let rest : Tile (tail_of e) es = subst (λ (o : ℕ). Tile (o + e.entry_len) es) (sym at) h.2 in
+    (omega (arith, tile_end (tail_of e) es rest), tile_raises (tail_of e) by end es rest le lt)
+
+content_end : (s : ℕ) (c : Content) → FitsBehind s c → s ≤ behind_item s (record { raft_group_id = 0; content = c })
+content_end s (entries es) h = tile_end s es h.1
+content_end s (command c) h = omega arith
+content_end s (pair p) h = omega arith
+
+items_end : (s : ℕ) (xs : List Item) → FitTogether s xs → s ≤ end_of_items s xs
+items_end s [] h = omega arith
+items_end s (x ∷ xs) h = omega (arith, content_end s x.content h.0, items_end (behind_item s x) xs h.1)
+
+content_raises : (s by end : ℕ) (c : Content) → FitsBehind s c → behind_item s (record { raft_group_id = 0; content = c }) ≤ end → end + by < 2 ^ 32 → CanRaiseContent by c
+content_raises s by end (entries es) h le lt = tile_raises s by end es h.1 le lt
+content_raises s by end (command c) h le lt = tt
+content_raises s by end (pair p) h le lt = tt
+
+pub items_raise_at : (s by end : ℕ) (xs : List Item) (i : ℕ) (d : Item) → FitTogether s xs → end_of_items s xs ≤ end → end + by < 2 ^ 32 → i < length xs → CanRaiseContent by (get_or xs i d).content
+items_raise_at s by end [] i d h le lt in_range = absurd (omega arith)
+items_raise_at s by end (x ∷ xs) zero d h le lt in_range = content_raises s by end x.content h.0 (omega (arith, items_end (behind_item s x) xs h.1)) lt
+items_raise_at s by end (x ∷ xs) (suc i) d h le lt in_range = items_raise_at (behind_item s x) by end xs i d h.1 le lt (omega arith)
+
+raised_from : (i by : ℕ) (es : List EntryIndex) → IsConsecutiveFrom i es → IsConsecutiveFrom i (map (raised_entry by) es)
+raised_from i by [] h = tt
+raised_from i by (e ∷ es) h = (h.0, h.1, raised_from (i + 1) by es h.2)
+
+raised_consecutive : (by : ℕ) (es : List EntryIndex) → IsConsecutive es → IsConsecutive (map (raised_entry by) es)
+raised_consecutive by [] h = tt
+raised_consecutive by (e ∷ es) h = raised_from e.index by (e ∷ es) h
+
+raised_tile : (s by : ℕ) (es : List EntryIndex) → Tile s es → end_behind s es + by < 2 ^ 32 → Tile (s + by) (map (raised_entry by) es)
+raised_tile s by [] h lt = tt
+raised_tile s by (e ∷ es) h lt =
+    let at : e.entry_offset ≡ s = h.0 in
+    let rest : Tile (tail_of e) es = subst (λ (o : ℕ). Tile (o + e.entry_len) es) (sym at) h.2 in
+    let same : tail_of e + by ≡ s + by + e.entry_len = omega arith in
+    (omega arith, omega (arith, tile_end (tail_of e) es rest), subst (λ (o : ℕ). Tile o (map (raised_entry by) es)) same (raised_tile (tail_of e) by es rest lt))
+
+raised_end : (s by : ℕ) (es : List EntryIndex) → end_behind (s + by) (map (raised_entry by) es) ≡ end_behind s es + by
+raised_end s by [] = refl
+raised_end s by (e ∷ es) =
+    let same : e.entry_offset + by + e.entry_len ≡ tail_of e + by = omega arith in
+    ap (λ (o : ℕ). end_behind o (map (raised_entry by) es)) same ∙ raised_end (tail_of e) by es
+
+raised_content_fits : (s by : ℕ) (c : Content) → FitsBehind s c → behind_item s (record { raft_group_id = 0; content = c }) + by < 2 ^ 32 → FitsBehind (s + by) (raised_content by c)
+raised_content_fits s by (entries es) h lt = (raised_consecutive by es h.0, raised_tile s by es h.1 lt)
+raised_content_fits s by (command c) h lt = h
+raised_content_fits s by (pair p) h lt = h
+
+raised_content_end : (s by : ℕ) (c : Content) → behind_item (s + by) (raised by (record { raft_group_id = 0; content = c })) ≡ behind_item s (record { raft_group_id = 0; content = c }) + by
+raised_content_end s by (entries es) = raised_end s by es
+raised_content_end s by (command c) = refl
+raised_content_end s by (pair p) = refl
+
+pub raised_fit : (s by : ℕ) (xs : List Item) → FitTogether s xs → end_of_items s xs + by < 2 ^ 32 → FitTogether (s + by) (map (raised by) xs)
+raised_fit s by [] h lt = tt
+raised_fit s by (x ∷ xs) h lt = (
+  raised_content_fits s by x.content h.0 (omega (arith, items_end (behind_item s x) xs h.1)),
+  subst (λ (o : ℕ). FitTogether o (map (raised by) xs)) (sym (raised_content_end s by x.content)) (raised_fit (behind_item s x) by xs h.1 lt),
+)
+
+pub raised_items_end : (s by : ℕ) (xs : List Item) → end_of_items (s + by) (map (raised by) xs) ≡ end_of_items s xs + by
+raised_items_end s by [] = refl
+raised_items_end s by (x ∷ xs) = ap (λ (o : ℕ). end_of_items o (map (raised by) xs)) (raised_content_end s by x.content) ∙ raised_items_end (behind_item s x) by xs
+
+raised_size : (by : ℕ) (x : Item) → item_size (raised by x) ≡ item_size x
+raised_size by x = go x.content
+  where
+    go : (c : Content) → item_size (raised by (record { raft_group_id = x.raft_group_id; content = c })) ≡ item_size (record { raft_group_id = x.raft_group_id; content = c })
+    go (entries []) = refl
+    go (entries (e ∷ es)) = omega (arith, length-map es (raised_entry by))
+    go (command c) = refl
+    go (pair p) = refl
+
+pub raised_items_size : (by : ℕ) (xs : List Item) → items_size (map (raised by) xs) ≡ items_size xs
+raised_items_size by [] = refl
+raised_items_size by (x ∷ xs) = omega (arith, raised_size by x, raised_items_size by xs)
+
+-- ---- two lists of items
+
+fit_append : (s : ℕ) (xs ys : List Item) → FitTogether s xs → FitTogether (end_of_items s xs) ys → FitTogether s (xs ++ ys)
+fit_append s [] ys h g = g
+fit_append s (x ∷ xs) ys h g = (h.0, fit_append (behind_item s x) xs ys h.1 g)
+
+end_append : (s : ℕ) (xs ys : List Item) → end_of_items s (xs ++ ys) ≡ end_of_items (end_of_items s xs) ys
+end_append s [] ys = refl
+end_append s (x ∷ xs) ys = end_append (behind_item s x) xs ys
+
+size_append : (xs ys : List Item) → items_size (xs ++ ys) ≡ items_size xs + items_size ys
+size_append [] ys = omega arith
+size_append (x ∷ xs) ys = omega (arith, size_append xs ys)
+
+pub merged_kept : (xs ys : List Item) (size size' bytes bytes' total : ℕ) (crc crc' : Option ℕ) → IsKeptBeside xs size bytes crc → IsKeptBeside ys size' bytes' crc' → bytes + bytes' < 2 ^ 32 → total ≡ saturated (size + size') → IsKeptBeside (xs ++ map (raised bytes) ys) total (bytes + bytes') None
+merged_kept xs ys size size' bytes bytes' total crc crc' k l lt sum =
+    let here : bytes ≡ end_of_items 0 xs = k.entry_bytes in
+    let there : bytes' ≡ end_of_items 0 ys = l.entry_bytes in
+    let fit : FitTogether (0 + bytes) (map (raised bytes) ys) = raised_fit 0 bytes ys l.fit (omega arith) in
+    let start : 0 + bytes ≡ end_of_items 0 xs = omega arith in
+    let first : size ≡ saturated (items_size xs) = k.size in
+    let second : size' ≡ saturated (items_size ys) = l.size in
+    let sizes : items_size (xs ++ map (raised bytes) ys) ≡ items_size xs + items_size ys = omega (arith, size_append xs (map (raised bytes) ys), raised_items_size bytes ys) in
+    record {
+      fit = fit_append 0 xs (map (raised bytes) ys) k.fit (subst (λ (o : ℕ). FitTogether o (map (raised bytes) ys)) start fit);
+      size = omega arith;
+      entry_bytes = sym (end_append 0 xs (map (raised bytes) ys) ∙ ap (λ (o : ℕ). end_of_items o (map (raised bytes) ys)) (sym start) ∙ raised_items_end 0 bytes ys ∙ omega arith);
+      checksum = λ c some. absurd cc;
+    }
+
+-- ---- loops
+
+abbrev pub no_entry : EntryIndex
+no_entry = record { index = 0; entries = None; compression_type = compressions.None; entry_offset = 0; entry_len = 0 }
+
+pub raise_fits : (by i : ℕ) (xs ys : List EntryIndex) (d : EntryIndex) → i < length xs → ys ≡ map (raised_entry by) (take i xs) ++ drop i xs → CanRaise by xs → (get_or ys i d).entry_offset + by < 2 ^ 32
+raise_fits by i xs ys d lt e h =
+    let len : length (map (raised_entry by) (take i xs)) ≡ i = length-map (take i xs) (raised_entry by) ∙ length-take-le i xs (omega arith) in
+    rw (rest_at (map (raised_entry by) (take i xs)) xs ys i d e len lt) (can_raise_at by xs i d h lt)
+
+item_rest_at : (front xs ys : List Item) (i : ℕ) (d : Item) → ys ≡ front ++ drop i xs → length front ≡ i → i < length xs → get_or ys i d ≡ get_or xs i d
+item_rest_at front xs ys i d e len lt = ap (λ (t : List Item). get_or t i d) (e ∙ ap (λ (t : List Item). front ++ t) (drop_more xs i d lt)) ∙ get_or_at front (get_or xs i d) (drop (i + 1) xs) d i len
+
+-- the item that a loop raises next can be raised
+pub raise_next : (by end i : ℕ) (xs ys : List Item) (x : Item) → i < length xs → ys ≡ map (raised by) (take i xs) ++ drop i xs → x ≡ get_or ys i x → FitTogether 0 xs → end ≡ entry_bytes_of xs → by + end < 2 ^ 32 → CanRaiseContent by x.content
+raise_next by end i xs ys x lt e at fit ends room =
+    let len : length (map (raised by) (take i xs)) ≡ i = length-map (take i xs) (raised by) ∙ length-take-le i xs (omega arith) in
+    let seen : x ≡ get_or xs i x = at ∙ item_rest_at (map (raised by) (take i xs)) xs ys i x e len lt in
+    let last : end_of_items 0 xs ≤ end = omega (arith, ends) in
+    let sum : end + by < 2 ^ 32 = omega arith in
+    subst (λ (v : Item). CanRaiseContent by v.content) (sym seen) (items_raise_at 0 by end xs i x fit last sum lt)

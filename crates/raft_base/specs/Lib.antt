@@ -1,3 +1,4 @@
+pub mod Checksum
 pub mod Errors
 pub mod Fixed
 pub mod Reading

@@ -1,1 +1,5 @@
 //! Checksums, hashes, rounding and sizes.
+
+mod checksum;
+
+pub use checksum::crc32;

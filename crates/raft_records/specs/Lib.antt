@@ -1,0 +1,5 @@
+pub mod Item
+pub mod Entries
+pub mod Grammar
+pub mod Spelling
+pub mod Faults

@@ -3,8 +3,9 @@
 
 pub mod log_batch;
 
-pub use log_batch::CompressionType;
-pub use log_batch::entry_index::EntryIndex;
+pub use log_batch::{
+    Command, CompressionType, EntryIndex, EntryIndexes, KeyValue, LogItem, LogItemContent, OpType,
+};
 pub use raft_base::{
     Error, FileBlockHandle, FileId, FileSeq, LogFileContext, LogQueue, Message, MessageError,
     MessageExt, Result, Version, codec,

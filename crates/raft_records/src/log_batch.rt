@@ -1,6 +1,14 @@
 //! Items and batches of items, and their bytes.
 
+pub mod command;
 pub mod entry_index;
+pub mod key_value;
+pub mod log_item;
+
+pub use command::Command;
+pub use entry_index::{EntryIndex, EntryIndexes, is_consecutive};
+pub use key_value::{KeyValue, OpType};
+pub use log_item::{LogItem, LogItemContent};
 
 /// How the entry bytes of a batch are compressed.
 #[derive(Clone, Copy, PartialEq, Eq, Debug)]

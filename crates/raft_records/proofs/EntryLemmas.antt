@@ -1,0 +1,199 @@
+-- On the bytes of entries.
+use Rattle.std.proofs.Common.{◌≡◌, ℕ, suc, ◌+◌, ◌-◌, ◌^◌, ◌<◌, ◌≤◌, ◌⊎◌, ◌↔◌, List, [], ◌∷◌, ◌++◌, length, get_or, drop, None, refl, sym, ap, ◌∙◌, subst, arith, inl, inr}
+use Rattle.std.proofs.lemmas.List.{drop_more}
+use Rattle.raft_base.specs.Reading.{Reads, HasNoFront, HasOneFront, IsPair, IsSequence, state_after, IsSequenceFault}
+use Rattle.raft_base.specs.Varint.{IsVarint}
+use Rattle.raft_base.specs.declared.errors.Error.{Error}
+use Rattle.raft_base.proofs.VarintLemmas.{varint_one_front}
+use Rattle.raft_base.proofs.ReadingLemmas.{reads_pair, no_first, no_second, pair_one_front}
+use Rattle.raft_base.proofs.SequenceLemmas.{reads_more, state_after-push, stuck, sequence_one_front, fault_after}
+use Rattle.raft_records.specs.declared.log_batch.CompressionType.TheVariants as compressions
+use Rattle.raft_records.specs.declared.log_batch.entry_index.EntryIndex.{EntryIndex}
+use Rattle.raft_records.specs.Entries.{IsConsecutiveFrom, IsConsecutive, Tile, RunOn}
+use Rattle.raft_records.specs.Grammar.{tail_of, IsTail, behind_entry, AreTails, IsRun, IsEntries, end_behind}
+use Rattle.raft_records.specs.Faults.{IsTailFault, IsTailsFault, IsEntriesFault}
+
+-- ---- one tail offset
+
+pub tail_read : (bytes rest : List ℕ) (index offset tail : ℕ) (e : EntryIndex) → index < 2 ^ 64 - 1 → offset ≤ tail → tail < 2 ^ 32 → Reads IsVarint bytes rest tail → e ≡ record { index = index; entries = None; compression_type = compressions.None; entry_offset = offset; entry_len = tail - offset } → Reads (IsTail (index, offset)) bytes rest e
+tail_read bytes rest index offset tail e fits le lt r made =
+    let entry : EntryIndex = record { index = index; entries = None; compression_type = compressions.None; entry_offset = offset; entry_len = tail - offset } in
+    let sum : offset + (tail - offset) ≡ tail = omega arith in
+    let whole : Reads (IsTail (index, offset)) bytes rest entry = record {
+      front = r.front;
+      spells = record { tail = subst (λ (t : ℕ). IsVarint r.front t) (sym sum) r.spells; index = refl; offset = refl; index_fits = fits; tail_fits = omega arith; bare = refl };
+      split = r.split;
+    } in
+    subst (λ (x : EntryIndex). Reads (IsTail (index, offset)) bytes rest x) (sym made) whole
+
+pub no_index : (bytes : List ℕ) (index offset : ℕ) → 2 ^ 64 - 1 ≤ index → HasNoFront (IsTail (index, offset)) bytes
+no_index bytes index offset le front rest e t split = let same : e.index ≡ index = t.index in let lt : e.index < 2 ^ 64 - 1 = t.index_fits in absurd (omega arith)
+
+pub no_tail_number : (bytes : List ℕ) (index offset : ℕ) → HasNoFront IsVarint bytes → HasNoFront (IsTail (index, offset)) bytes
+no_tail_number bytes index offset none front rest e t split = none front rest (tail_of e) t.tail split
+
+pub no_tail : (bytes mid : List ℕ) (index offset tail : ℕ) → Reads IsVarint bytes mid tail → (tail < offset) ⊎ (2 ^ 32 ≤ tail) → HasNoFront (IsTail (index, offset)) bytes
+no_tail bytes mid index offset tail r out front rest e t split =
+    let same = varint_one_front r.front front mid rest tail (tail_of e) r.spells t.tail (sym r.split ∙ split) in
+    let number : tail ≡ tail_of e = same.1 in
+    let begins : e.entry_offset ≡ offset = t.offset in
+    let ends : tail_of e < 2 ^ 32 = t.tail_fits in
+    elim out [ inl lt ↦ absurd (omega arith) | inr le ↦ absurd (omega arith) ]
+
+abbrev entry_with : ℕ → ℕ → ℕ → EntryIndex
+entry_with index offset len = record { index = index; entries = None; compression_type = compressions.None; entry_offset = offset; entry_len = len }
+
+pub tail_one_front : (next : ℕ × ℕ) → HasOneFront (IsTail next)
+tail_one_front next a b more rest x y s t e =
+    let same = varint_one_front a b more rest (tail_of x) (tail_of y) s.tail t.tail e in
+    let indexes : x.index ≡ y.index = s.index ∙ sym t.index in
+    let offsets : x.entry_offset ≡ y.entry_offset = s.offset ∙ sym t.offset in
+    let tails : tail_of x ≡ tail_of y = same.1 in
+    let lens : x.entry_len ≡ y.entry_len = omega arith in (
+      same.0,
+      s.bare ∙ ap (λ (i : ℕ). entry_with i x.entry_offset x.entry_len) indexes ∙ ap (λ (o : ℕ). entry_with y.index o x.entry_len) offsets ∙ ap (λ (l : ℕ). entry_with y.index y.entry_offset l) lens ∙ sym t.bare,
+    )
+
+-- ---- tail offsets one behind the other
+
+-- what was read so far: these entries, and behind them come this index and this offset
+pub record AreReadSoFar (first s : ℕ) (bytes rest : List ℕ) (es : List EntryIndex) (index offset : ℕ) : Type 0 where
+  pub reads : Reads (IsSequence behind_entry IsTail (first, s)) bytes rest es
+  pub state : state_after behind_entry (first, s) es ≡ (index, offset)
+
+pub none_read : (first s : ℕ) (bytes : List ℕ) (es : List EntryIndex) → es ≡ [] → AreReadSoFar first s bytes bytes es first s
+none_read first s bytes es e =
+    let start : AreReadSoFar first s bytes bytes [] first s = record { reads = record { front = []; spells = refl; split = refl }; state = refl } in
+    subst (λ (xs : List EntryIndex). AreReadSoFar first s bytes bytes xs first s) (sym e) start
+
+tail_at : (first s : ℕ) (es : List EntryIndex) (index offset : ℕ) (bytes rest : List ℕ) (e : EntryIndex) → state_after behind_entry (first, s) es ≡ (index, offset) → Reads (IsTail (index, offset)) bytes rest e → Reads (IsTail (state_after behind_entry (first, s) es)) bytes rest e
+tail_at first s es index offset bytes rest e state r = subst (λ (p : ℕ × ℕ). Reads (IsTail p) bytes rest e) (sym state) r
+
+pub one_more_read : (first s : ℕ) (bytes mid rest : List ℕ) (es : List EntryIndex) (e : EntryIndex) (index offset : ℕ) → AreReadSoFar first s bytes mid es index offset → Reads (IsTail (index, offset)) mid rest e → AreReadSoFar first s bytes rest (es ++ e ∷ []) (index + 1) (offset + e.entry_len)
+one_more_read first s bytes mid rest es e index offset so r =
+    let begins : e.entry_offset ≡ offset = r.spells.offset in
+    record {
+      reads = reads_more behind_entry IsTail (first, s) es e so.reads (tail_at first s es index offset mid rest e so.state r);
+      state = state_after-push behind_entry (first, s) es e ∙ ap (λ (p : ℕ × ℕ). behind_entry p e) so.state ∙ ap (λ (o : ℕ). (index + 1, o + e.entry_len)) begins;
+    }
+
+pub no_more_tails : (first s : ℕ) (bytes mid : List ℕ) (es : List EntryIndex) (index offset count : ℕ) → AreReadSoFar first s bytes mid es index offset → length es < count → HasNoFront (IsTail (index, offset)) mid → HasNoFront (AreTails count (first, s)) bytes
+no_more_tails first s bytes mid es index offset count so lt none front rest ys a e =
+    let here : HasNoFront (IsTail (state_after behind_entry (first, s) es)) mid = subst (λ (p : ℕ × ℕ). HasNoFront (IsTail p) mid) (sym so.state) none in
+    let len : length ys ≡ count = a.count in
+    stuck behind_entry IsTail tail_one_front (first, s) es ys so.reads here front rest a.tails e (omega arith)
+
+pub tail_fault : (first s : ℕ) (bytes mid : List ℕ) (es : List EntryIndex) (index offset count more : ℕ) (fault : Error) → AreReadSoFar first s bytes mid es index offset → count ≡ length es + suc more → IsTailFault (index, offset) mid fault → IsSequenceFault behind_entry IsTail IsTailFault count (first, s) bytes fault
+tail_fault first s bytes mid es index offset count more fault so c f =
+    fault_after behind_entry IsTail IsTailFault (first, s) es count (suc more) fault c so.reads (inl (subst (λ (p : ℕ × ℕ). IsTailFault p mid fault) (sym so.state) f))
+
+pub end_is : (next : ℕ × ℕ) (es : List EntryIndex) → end_behind next.1 es ≡ (state_after behind_entry next es).1
+end_is next [] = refl
+end_is next (e ∷ es) = end_is (behind_entry next e) es
+
+pub end_read : (first s : ℕ) (bytes rest : List ℕ) (es : List EntryIndex) (index offset : ℕ) → AreReadSoFar first s bytes rest es index offset → offset ≡ end_behind s es
+end_read first s bytes rest es index offset so = sym (end_is (first, s) es ∙ ap (λ (p : ℕ × ℕ). p.1) so.state)
+
+pub all_read : (first s count : ℕ) (bytes rest : List ℕ) (es : List EntryIndex) (index offset : ℕ) → AreReadSoFar first s bytes rest es index offset → length es ≡ count → Reads (AreTails count (first, s)) bytes rest es
+all_read first s count bytes rest es index offset so len = record { front = so.reads.front; spells = record { tails = so.reads.spells; count = len }; split = so.reads.split }
+
+tails_one_front : (n : ℕ) (next : ℕ × ℕ) → HasOneFront (AreTails n next)
+tails_one_front n next a b more rest xs ys p q e = sequence_one_front behind_entry IsTail tail_one_front next xs ys a b more rest (p.count ∙ sym q.count) p.tails q.tails e
+
+-- ---- behind the count
+
+pub run_read : (s count first : ℕ) (bytes mid rest : List ℕ) (es : List EntryIndex) → 0 < count → Reads IsVarint bytes mid first → Reads (AreTails count (first, s)) mid rest es → Reads (IsRun s count) bytes rest es
+run_read s count first bytes mid rest [] some r t = let len : 0 ≡ count = t.spells.count in absurd (omega arith)
+run_read s count first bytes mid rest (e ∷ es) some r t =
+    let index : e.index ≡ first = t.spells.tails.first_spells.index in
+    let both = reads_pair IsVarint (λ first. AreTails count (first, s)) first (e ∷ es) r t in
+    record { front = both.front; spells = subst (λ (i : ℕ). IsPair IsVarint (λ first. AreTails count (first, s)) both.front i (e ∷ es)) (sym index) both.spells; split = both.split }
+
+pub no_first_index : (s count : ℕ) (bytes : List ℕ) → 0 < count → HasNoFront IsVarint bytes → HasNoFront (IsRun s count) bytes
+no_first_index s count bytes some none front rest [] p e = let zero_is : count ≡ 0 = p.1 in absurd (omega arith)
+no_first_index s count bytes some none front rest (x ∷ xs) p e = no_first IsVarint (λ first. AreTails count (first, s)) none front rest x.index (x ∷ xs) p e
+
+pub no_tails : (s count first : ℕ) (bytes mid : List ℕ) → 0 < count → Reads IsVarint bytes mid first → HasNoFront (AreTails count (first, s)) mid → HasNoFront (IsRun s count) bytes
+no_tails s count first bytes mid some r none front rest [] p e = let zero_is : count ≡ 0 = p.1 in absurd (omega arith)
+no_tails s count first bytes mid some r none front rest (x ∷ xs) p e = no_second IsVarint (λ first. AreTails count (first, s)) varint_one_front r none front rest x.index (x ∷ xs) p e
+
+run_one_front : (s n : ℕ) → HasOneFront (IsRun s n)
+run_one_front s n a b more rest [] [] p q e = (p.0 ∙ sym q.0, refl)
+run_one_front s n a b more rest [] (y ∷ ys) p q e = let zero_is : n ≡ 0 = p.1 in let len : suc (length ys) ≡ n = q.second_spells.count in absurd (omega arith)
+run_one_front s n a b more rest (x ∷ xs) [] p q e = let zero_is : n ≡ 0 = q.1 in let len : suc (length xs) ≡ n = p.second_spells.count in absurd (omega arith)
+run_one_front s n a b more rest (x ∷ xs) (y ∷ ys) p q e =
+    let same = pair_one_front IsVarint (λ first. AreTails n (first, s)) varint_one_front (λ first. tails_one_front n (first, s)) a b more rest x.index y.index (x ∷ xs) (y ∷ ys) p q e in
+    (same.0, same.2)
+
+run_length : (s n : ℕ) (bytes : List ℕ) (es : List EntryIndex) → IsRun s n bytes es → n ≡ length es
+run_length s n bytes [] p = p.1
+run_length s n bytes (e ∷ es) p = sym p.second_spells.count
+
+pub entries_read : (s count : ℕ) (bytes mid rest : List ℕ) (es : List EntryIndex) → Reads IsVarint bytes mid count → Reads (IsRun s count) mid rest es → Reads (IsEntries s) bytes rest es
+entries_read s count bytes mid rest es r t =
+    let both = reads_pair IsVarint (IsRun s) count es r t in
+    record { front = both.front; spells = subst (λ (n : ℕ). IsPair IsVarint (IsRun s) both.front n es) (run_length s count t.front es t.spells) both.spells; split = both.split }
+
+pub empty_run : (s : ℕ) (rest : List ℕ) → Reads (IsRun s 0) rest rest []
+empty_run s rest = record { front = []; spells = (refl, refl); split = refl }
+
+pub no_count : (s : ℕ) (bytes : List ℕ) → HasNoFront IsVarint bytes → HasNoFront (IsEntries s) bytes
+no_count s bytes none front rest es p e = no_first IsVarint (IsRun s) none front rest (length es) es p e
+
+pub no_run : (s count : ℕ) (bytes mid : List ℕ) → Reads IsVarint bytes mid count → HasNoFront (IsRun s count) mid → HasNoFront (IsEntries s) bytes
+no_run s count bytes mid r none front rest es p e = no_second IsVarint (IsRun s) varint_one_front r none front rest (length es) es p e
+
+-- a fault behind the count and the first index
+pub entries_fault : (s count first : ℕ) (bytes mid tails : List ℕ) (fault : Error) → 0 < count → Reads IsVarint bytes mid count → Reads IsVarint mid tails first → IsTailsFault count (first, s) tails fault → IsEntriesFault s bytes fault
+entries_fault s count first bytes mid tails fault some r t f =
+    inr (record {
+      first = r.front;
+      rest = mid;
+      value = count;
+      first_spells = r.spells;
+      split = r.split;
+      fault = (some, inr (record { first = t.front; rest = tails; value = first; first_spells = t.spells; split = t.split; fault = f }));
+    })
+
+pub entries_one_front : (s : ℕ) → HasOneFront (IsEntries s)
+entries_one_front s a b more rest x y p q e =
+    let same = pair_one_front IsVarint (IsRun s) varint_one_front (run_one_front s) a b more rest (length x) (length y) x y p q e in
+    (same.0, same.2)
+
+-- ---- consecutive indexes
+
+pub consecutive_step : (es : List EntryIndex) (i index : ℕ) (e : EntryIndex) → i < length es → e ≡ get_or es i e → e.index ≡ index → index < 2 ^ 64 - 1 → IsConsecutiveFrom index (drop i es) ↔ IsConsecutiveFrom (index + 1) (drop (i + 1) es)
+consecutive_step es i index e lt at same fits =
+    let split : drop i es ≡ e ∷ drop (i + 1) es = drop_more es i e lt ∙ ap (λ (x : EntryIndex). x ∷ drop (i + 1) es) (sym at) in
+    rw split (λ h. h.2, λ h. (same, fits, h))
+
+pub not_consecutive : (es : List EntryIndex) (i index : ℕ) (e : EntryIndex) → i < length es → e ≡ get_or es i e → (e.index ≡ index → index < 2 ^ 64 - 1 → ⊥) → IsConsecutiveFrom index (drop i es) → ⊥
+not_consecutive es i index e lt at out h =
+    let split : drop i es ≡ e ∷ drop (i + 1) es = drop_more es i e lt ∙ ap (λ (x : EntryIndex). x ∷ drop (i + 1) es) (sym at) in
+    let first = subst (λ (xs : List EntryIndex). IsConsecutiveFrom index xs) split h in
+    out first.0 first.1
+
+pub consecutive_start : (es : List EntryIndex) (e : EntryIndex) → e ≡ get_or es 0 e → 0 < length es → IsConsecutive es ↔ IsConsecutiveFrom e.index es
+consecutive_start [] e at lt = absurd (omega arith)
+consecutive_start (x ∷ xs) e at lt =
+    let same : e.index ≡ x.index = ap (λ (y : EntryIndex). y.index) at in
+    (λ h. subst (λ (k : ℕ). IsConsecutiveFrom k (x ∷ xs)) (sym same) h, λ h. subst (λ (k : ℕ). IsConsecutiveFrom k (x ∷ xs)) same h)
+
+-- ---- bytes that run on
+
+pub tile_step : (es : List EntryIndex) (i offset : ℕ) (e : EntryIndex) → i < length es → e ≡ get_or es i e → e.entry_offset ≡ offset → offset + e.entry_len < 2 ^ 32 → Tile offset (drop i es) ↔ Tile (offset + e.entry_len) (drop (i + 1) es)
+tile_step es i offset e lt at same fits =
+    let split : drop i es ≡ e ∷ drop (i + 1) es = drop_more es i e lt ∙ ap (λ (x : EntryIndex). x ∷ drop (i + 1) es) (sym at) in
+    rw split (λ h. h.2, λ h. (same, fits, h))
+
+pub not_tiled : (es : List EntryIndex) (i offset : ℕ) (e : EntryIndex) → i < length es → e ≡ get_or es i e → (e.entry_offset ≡ offset → offset + e.entry_len < 2 ^ 32 → ⊥) → Tile offset (drop i es) → ⊥
+not_tiled es i offset e lt at out h =
+    let split : drop i es ≡ e ∷ drop (i + 1) es = drop_more es i e lt ∙ ap (λ (x : EntryIndex). x ∷ drop (i + 1) es) (sym at) in
+    let first = subst (λ (xs : List EntryIndex). Tile offset xs) split h in
+    out first.0 first.1
+
+pub tile_start : (es : List EntryIndex) (e : EntryIndex) → e ≡ get_or es 0 e → 0 < length es → RunOn es ↔ Tile e.entry_offset es
+tile_start [] e at lt = absurd (omega arith)
+tile_start (x ∷ xs) e at lt =
+    let same : e.entry_offset ≡ x.entry_offset = ap (λ (y : EntryIndex). y.entry_offset) at in
+    (λ h. subst (λ (k : ℕ). Tile k (x ∷ xs)) (sym same) h, λ h. subst (λ (k : ℕ). Tile k (x ∷ xs)) same h)

@@ -1,0 +1,152 @@
+-- On the bytes of commands and key values.
+use Rattle.std.proofs.Common.{◌≡◌, ℕ, ◌+◌, ◌<◌, ◌≤◌, List, [], ◌∷◌, ◌++◌, length, take, drop, Option, Some, None, refl, sym, ap, ◌∙◌, subst, append_assoc, arith}
+use Rattle.std.proofs.lemmas.List.{take-append-drop, length-take-le, length-append, take_at}
+use Rattle.raft_base.specs.Reading.{Reads, HasNoFront, HasOneFront, IsTagged, IsPair}
+use Rattle.raft_base.specs.Varint.{IsVarint}
+use Rattle.raft_base.proofs.VarintLemmas.{varint_one_front}
+use Rattle.raft_base.proofs.ReadingLemmas.{reads_as, reads_tagged, reads_pair, no_first, no_second, second_at, pair_one_front, heads, tagged_at, no_tagged, tagged_same, tagged_one_front}
+use Rattle.raft_records.specs.declared.log_batch.command.Command.TheVariants.{Compact}
+use Rattle.raft_base.specs.declared.pipe_log.FileId.{FileId}
+use Rattle.raft_records.specs.declared.log_batch.key_value.OpType.{OpType}
+use Rattle.raft_records.specs.declared.log_batch.key_value.OpType.TheVariants.{Put, Del}
+use Rattle.raft_records.specs.Item.{Pair}
+use Rattle.raft_records.specs.Spelling.{Keeps}
+use Rattle.raft_records.specs.Grammar.{IsCommand, IsText, IsByteString, IsKeyAndValue, IsKeyValue, IsPairOf, IsPutRead, IsDelRead}
+
+-- ---- commands
+
+pub compact_read : (bytes behind rest : List ℕ) (index : ℕ) → bytes ≡ 2 ∷ behind → Reads IsVarint behind rest index → Reads IsCommand bytes rest (Compact index)
+compact_read bytes behind rest index e r =
+    subst (λ (b : List ℕ). Reads IsCommand b rest (Compact index)) (sym e) (reads_as (IsTagged 2 IsVarint) IsCommand index (Compact index) (λ a p. p) (reads_tagged 2 IsVarint index r))
+
+-- ---- byte strings
+
+-- two fronts of one list that are as long are one
+same_length : (a b more rest : List ℕ) → length a ≡ length b → a ++ more ≡ b ++ rest → a ≡ b
+same_length [] [] more rest len e = refl
+same_length [] (y ∷ b) more rest len e = absurd (omega arith)
+same_length (x ∷ a) [] more rest len e = absurd (omega arith)
+same_length (x ∷ a) (y ∷ b) more rest len e =
+    let h = heads x y (a ++ more) (b ++ rest) e in
+    let same = same_length a b more rest (omega arith) h.1 in
+    cc
+
+pub text_read : (bytes mid : List ℕ) (n : ℕ) → n ≤ length mid → Reads IsVarint bytes mid n → Reads IsByteString bytes (drop n mid) (take n mid)
+text_read bytes mid n le r =
+    let len : length (take n mid) ≡ n = length-take-le n mid le in
+    let text : Reads (IsText n) mid (drop n mid) (take n mid) = record { front = take n mid; spells = (refl, len); split = sym (take-append-drop n mid) } in
+    reads_as (λ a (t : List ℕ). IsPair IsVarint IsText a n t) IsByteString (take n mid) (take n mid) (λ a p. subst (λ (k : ℕ). IsPair IsVarint IsText a k (take n mid)) (sym len) p) (reads_pair IsVarint IsText n (take n mid) r text)
+
+pub no_length : {bytes : List ℕ} → HasNoFront IsVarint bytes → HasNoFront IsByteString bytes
+no_length none front rest text p e = no_first IsVarint IsText none front rest (length text) text p e
+
+pub too_long_text : {bytes mid : List ℕ} {n : ℕ} → Reads IsVarint bytes mid n → length mid < n → HasNoFront IsByteString bytes
+too_long_text {bytes} {mid} {n} r lt front rest text p e =
+    let at = second_at IsVarint IsText varint_one_front r front rest (length text) text p e in
+    let whole : length mid ≡ length p.second + length rest = ap length at.1 ∙ length-append p.second rest in
+    let len : length p.second ≡ length text = ap length p.second_spells.0 in
+    let n_is : n ≡ length text = at.0 in
+    absurd (omega arith)
+
+pub text_one_front : HasOneFront IsByteString
+text_one_front a b more rest x y p q e =
+    let same = pair_one_front IsVarint IsText varint_one_front texts a b more rest (length x) (length y) x y p q e in
+    (same.0, same.2)
+  where
+    texts : (n : ℕ) → HasOneFront (IsText n)
+    texts n c d more rest x y s t e =
+        let c_is = s.0 in
+        let d_is = t.0 in
+        let len : length c ≡ length d = ap length s.0 ∙ s.1 ∙ sym t.1 ∙ sym (ap length t.0) in
+        let same : c ≡ d = same_length c d more rest len e in
+        (same, sym s.0 ∙ same ∙ t.0)
+
+-- ---- key values
+
+abbrev pub pair_with : OpType → List ℕ → Option (List ℕ) → Option FileId → Pair
+pair_with o key v f = record { op_type = o; key = key; value = v; file_id = f }
+
+both_one_front : HasOneFront IsKeyAndValue
+both_one_front a b more rest x y p q e =
+    let same = pair_one_front IsByteString (λ _. IsByteString) text_one_front (λ _. text_one_front) a b more rest x.0 y.0 x.1 y.1 p q e in
+    (same.0, ap (λ (k : List ℕ). (k, x.1)) same.1 ∙ ap (λ (v : List ℕ). (y.0, v)) same.2)
+
+pub no_key : {bytes : List ℕ} → HasNoFront IsByteString bytes → HasNoFront IsKeyAndValue bytes
+no_key none front rest both p e = no_first IsByteString (λ _. IsByteString) none front rest both.0 both.1 p e
+
+pub no_value : {bytes mid key : List ℕ} → Reads IsByteString bytes mid key → HasNoFront IsByteString mid → HasNoFront IsKeyAndValue bytes
+no_value r none front rest both p e = no_second IsByteString (λ _. IsByteString) text_one_front r none front rest both.0 both.1 p e
+
+pub both_read : (key value : List ℕ) {bytes mid rest : List ℕ} → Reads IsByteString bytes mid key → Reads IsByteString mid rest value → Reads IsKeyAndValue bytes rest (key, value)
+both_read key value r s =
+    reads_as (λ a (v : List ℕ). IsPair IsByteString (λ _. IsByteString) a key v) IsKeyAndValue value (key, value) (λ a p. p) (reads_pair IsByteString (λ _. IsByteString) key value r s)
+
+pub put_read : (bytes behind rest : List ℕ) (p : Pair) → bytes ≡ 1 ∷ behind → IsPutRead behind rest p → Reads IsKeyValue bytes rest p
+put_read bytes behind rest p e r =
+    let put : Pair = record { op_type = Put; key = p.key; value = Some r.0; file_id = None } in
+    let read : Reads IsKeyValue (1 ∷ behind) rest put = reads_as (IsTagged 1 IsKeyAndValue) IsKeyValue (p.key, r.0) put (λ a q. q) (reads_tagged 1 IsKeyAndValue (p.key, r.0) r.2) in
+    subst (λ (b : List ℕ). Reads IsKeyValue b rest p) (sym e) (subst (λ (q : Pair). Reads IsKeyValue (1 ∷ behind) rest q) (sym r.1) read)
+
+pub del_read : (bytes behind rest : List ℕ) (p : Pair) → bytes ≡ 2 ∷ behind → IsDelRead behind rest p → Reads IsKeyValue bytes rest p
+del_read bytes behind rest p e r =
+    let del : Pair = record { op_type = Del; key = p.key; value = None; file_id = None } in
+    let read : Reads IsKeyValue (2 ∷ behind) rest del = reads_as (IsTagged 2 IsByteString) IsKeyValue p.key del (λ a q. q) (reads_tagged 2 IsByteString p.key r.1) in
+    subst (λ (b : List ℕ). Reads IsKeyValue b rest p) (sym e) (subst (λ (q : Pair). Reads IsKeyValue (2 ∷ behind) rest q) (sym r.0) read)
+
+no_put_of : (behind front rest key : List ℕ) (o : OpType) (v : Option (List ℕ)) (f : Option FileId) → HasNoFront IsKeyAndValue behind → IsPairOf o v f key front → 1 ∷ behind ≡ front ++ rest → ⊥
+no_put_of behind front rest key Put (Some v) None none p e = no_tagged 1 IsKeyAndValue none front rest (key, v) p e
+no_put_of behind front rest key Del None None none p e = absurd (omega (arith, (tagged_at 2 1 IsByteString behind front rest key p e).0))
+no_put_of behind front rest key Put None f none p e = p
+no_put_of behind front rest key Put (Some v) (Some f) none p e = p
+no_put_of behind front rest key Del (Some v) f none p e = p
+no_put_of behind front rest key Del None (Some f) none p e = p
+
+pub no_put : (bytes behind : List ℕ) → bytes ≡ 1 ∷ behind → HasNoFront IsKeyAndValue behind → HasNoFront IsKeyValue bytes
+no_put bytes behind split none front rest x p e = no_put_of behind front rest x.key x.op_type x.value x.file_id none p (sym split ∙ e)
+
+no_del_of : (behind front rest key : List ℕ) (o : OpType) (v : Option (List ℕ)) (f : Option FileId) → HasNoFront IsByteString behind → IsPairOf o v f key front → 2 ∷ behind ≡ front ++ rest → ⊥
+no_del_of behind front rest key Put (Some v) None none p e = absurd (omega (arith, (tagged_at 1 2 IsKeyAndValue behind front rest (key, v) p e).0))
+no_del_of behind front rest key Del None None none p e = no_tagged 2 IsByteString none front rest key p e
+no_del_of behind front rest key Put None f none p e = p
+no_del_of behind front rest key Put (Some v) (Some f) none p e = p
+no_del_of behind front rest key Del (Some v) f none p e = p
+no_del_of behind front rest key Del None (Some f) none p e = p
+
+pub no_del : (bytes behind : List ℕ) → bytes ≡ 2 ∷ behind → HasNoFront IsByteString behind → HasNoFront IsKeyValue bytes
+no_del bytes behind split none front rest x p e = no_del_of behind front rest x.key x.op_type x.value x.file_id none p (sym split ∙ e)
+
+pair_one_of : (a b more rest key key' : List ℕ) (o o' : OpType) (v v' : Option (List ℕ)) (f f' : Option FileId) → IsPairOf o v f key a → IsPairOf o' v' f' key' b → a ++ more ≡ b ++ rest → (a ≡ b) × (pair_with o key v f ≡ pair_with o' key' v' f')
+pair_one_of a b more rest key key' Put Put (Some v) (Some v') None None p q e =
+    let same = tagged_same 1 IsKeyAndValue both_one_front a b more rest (key, v) (key', v') p q e in
+    (same.0, ap (λ (t : List ℕ × List ℕ). pair_with Put t.0 (Some t.1) None) same.1)
+pair_one_of a b more rest key key' Put Del (Some v) None None None p q e =
+    absurd (omega (arith, tagged_one_front 1 2 (λ c (u : Unit {0}). IsKeyAndValue c (key, v)) (λ c (u : Unit {0}). IsByteString c key') a b more rest tt tt p q e))
+pair_one_of a b more rest key key' Del Put None (Some v') None None p q e =
+    absurd (omega (arith, tagged_one_front 2 1 (λ c (u : Unit {0}). IsByteString c key) (λ c (u : Unit {0}). IsKeyAndValue c (key', v')) a b more rest tt tt p q e))
+pair_one_of a b more rest key key' Del Del None None None None p q e =
+    let same = tagged_same 2 IsByteString text_one_front a b more rest key key' p q e in
+    (same.0, ap (λ (t : List ℕ). pair_with Del t None None) same.1)
+pair_one_of a b more rest key key' Put o' None v' f f' p q e = absurd p
+pair_one_of a b more rest key key' Put o' (Some v) v' (Some f) f' p q e = absurd p
+pair_one_of a b more rest key key' Del o' (Some v) v' f f' p q e = absurd p
+pair_one_of a b more rest key key' Del o' None v' (Some f) f' p q e = absurd p
+pair_one_of a b more rest key key' o Put v None f f' p q e = absurd q
+pair_one_of a b more rest key key' o Put v (Some v') f (Some f') p q e = absurd q
+pair_one_of a b more rest key key' o Del v (Some v') f f' p q e = absurd q
+pair_one_of a b more rest key key' o Del v None f (Some f') p q e = absurd q
+
+pub pair_one : HasOneFront IsKeyValue
+pair_one a b more rest x y p q e = pair_one_of a b more rest x.key y.key x.op_type y.op_type x.value y.value x.file_id y.file_id p q e
+
+-- ---- what is written
+
+pub keeps_all : (old new behind : List ℕ) → new ≡ old ++ behind → Keeps old new
+keeps_all old new behind e = record { behind = behind; split = e }
+
+-- what stands in front of bytes that are kept is kept
+pub keeps_front : (old mid new more : List ℕ) → mid ≡ old ++ more → Keeps mid new → Keeps old new
+keeps_front old mid new more e k = record { behind = more ++ k.behind; split = k.split ∙ ap (λ (t : List ℕ). t ++ k.behind) e ∙ append_assoc old more k.behind }
+
+-- cut back to their length, the old bytes are there again
+pub cut_back : (old new : List ℕ) → Keeps old new → take (length old) new ≡ old
+cut_back old new k = rw k.split (take_at old k.behind (length old) refl)

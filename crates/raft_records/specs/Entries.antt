@@ -1,0 +1,28 @@
+-- Lists of entries of one region.
+use Rattle.std.specs.Prelude.{◌≡◌, ℕ, ◌+◌, ◌-◌, ◌^◌, ◌<◌, List, [], ◌∷◌}
+use Rattle.raft_records.specs.declared.log_batch.entry_index.EntryIndex.{EntryIndex}
+
+-- the indexes rise by one from this one on, and none is 2^64 - 1
+abbrev pub IsConsecutiveFrom : ℕ → List EntryIndex → Type 0
+IsConsecutiveFrom index [] = Unit {0}
+IsConsecutiveFrom index (e ∷ es) = (e.index ≡ index) × (index < 2 ^ 64 - 1) × IsConsecutiveFrom (index + 1) es
+
+-- the indexes rise by one and none is 2^64 - 1
+abbrev pub IsConsecutive : List EntryIndex → Type 0
+IsConsecutive [] = Unit {0}
+IsConsecutive (e ∷ es) = IsConsecutiveFrom e.index (e ∷ es)
+
+-- each entry's bytes begin where those before it end, here at s, and end below 2^32
+abbrev pub Tile : ℕ → List EntryIndex → Type 0
+Tile s [] = Unit {0}
+Tile s (e ∷ es) = (e.entry_offset ≡ s) × (s + e.entry_len < 2 ^ 32) × Tile (s + e.entry_len) es
+
+-- entries whose bytes run on from the first one's offset
+abbrev pub RunOn : List EntryIndex → Type 0
+RunOn [] = Unit {0}
+RunOn (e ∷ es) = Tile e.entry_offset (e ∷ es)
+
+-- what an entries item may hold to be written
+pub record AreWritable (es : List EntryIndex) : Type 0 where
+  pub consecutive : IsConsecutive es
+  pub run_on : RunOn es

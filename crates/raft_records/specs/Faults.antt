@@ -1,0 +1,119 @@
+-- Why items are refused: which error comes for which bytes.
+use Rattle.std.specs.Prelude.{◌≡◌, ◌≢◌, ℕ, ◌-◌, ◌^◌, ◌<◌, ◌≤◌, ◌⊎◌, List, [], ◌∷◌, ◌++◌, length, codes, string_bytes}
+use Rattle.std.specs.IoError.{error_kind}
+use Rattle.std.specs.declared.io.ErrorKind.TheVariants.{UnexpectedEof}
+use Rattle.std.specs.Fmt.{decimal}
+use Rattle.raft_base.specs.declared.errors.Error.{Error}
+use Rattle.raft_base.specs.declared.errors.Error.TheVariants as errors
+use Rattle.raft_base.specs.Errors.{IsIoOf}
+use Rattle.raft_base.specs.Reading.{IsFaultBehind, IsSequenceFault}
+use Rattle.raft_base.specs.Varint.{IsVarint, IsVarintFault}
+use Rattle.raft_records.specs.declared.log_batch.entry_index.EntryIndex.{EntryIndex}
+use Rattle.raft_records.specs.Item.{Pair, Item}
+use Rattle.raft_records.specs.Entries.{AreWritable}
+use Rattle.raft_records.specs.Grammar.{IsByteString, IsTail, behind_entry}
+use Rattle.raft_records.specs.Spelling.{IsWritablePair, IsWritable}
+
+-- want of memory
+abbrev pub IsMemory : Error → Type 0
+IsMemory errors.Memory = Unit {0}
+IsMemory _ = ⊥
+
+-- bytes end too early, as an io error or as a codec's
+abbrev pub IsEof : Error → Type 0
+IsEof (errors.Codec e) = IsIoOf e UnexpectedEof
+IsEof _ = ⊥
+
+-- a refusal by this text, or for want of memory for it
+abbrev pub IsCorruption : List ℕ → Error → Type 0
+IsCorruption text (errors.Corruption t) = string_bytes t ≡ text
+IsCorruption text errors.Memory = Unit {0}
+IsCorruption text _ = ⊥
+
+-- no number stands in front
+abbrev pub IsNumberFault : List ℕ → Error → Type 0
+IsNumberFault bytes (errors.Codec e) = IsVarintFault bytes e
+IsNumberFault bytes _ = ⊥
+
+-- no command: nothing, an unknown type byte, or no number behind Compact's
+abbrev pub IsCommandFault : List ℕ → Error → Type 0
+IsCommandFault [] e = IsEof e
+IsCommandFault (kind ∷ rest) e =
+    ((kind ≢ 1) × (kind ≢ 2) × IsCorruption (codes "Unrecognized command type: " ++ decimal kind) e) ⊎ ((kind ≡ 2) × IsNumberFault rest e)
+
+-- an op type other than Put and Del
+abbrev pub IsOpTypeFault : ℕ → Error → Type 0
+IsOpTypeFault byte e = (byte ≢ 1) × (byte ≢ 2) × IsCorruption (codes "Unrecognized op type: " ++ decimal byte) e
+
+-- a refusal by any text, or for want of memory for it
+abbrev pub IsAnyCorruption : Error → Type 0
+IsAnyCorruption (errors.Corruption t) = Unit {0}
+IsAnyCorruption e = IsMemory e
+
+-- no byte string: no length, or one that passes the end
+abbrev pub IsByteStringFault : List ℕ → Error → Type 0
+IsByteStringFault bytes e =
+    IsNumberFault bytes e ⊎ IsFaultBehind IsVarint (λ n rest (f : Error). (length rest < n) × IsAnyCorruption f) bytes e
+
+-- the key or the value of a Put is none, or there is no memory for them
+abbrev pub IsPutFault : List ℕ → Error → Type 0
+IsPutFault bytes e = IsMemory e ⊎ IsByteStringFault bytes e ⊎ IsFaultBehind IsByteString (λ _. IsByteStringFault) bytes e
+
+-- the key of a Del is none, or there is no memory for it
+abbrev pub IsDelFault : List ℕ → Error → Type 0
+IsDelFault bytes e = IsMemory e ⊎ IsByteStringFault bytes e
+
+-- no key value: nothing, an unknown op type, or a fault behind it
+abbrev pub IsKeyValueFault : List ℕ → Error → Type 0
+IsKeyValueFault [] e = IsEof e
+IsKeyValueFault (byte ∷ rest) e = IsOpTypeFault byte e ⊎ ((byte ≡ 1) × IsPutFault rest e) ⊎ ((byte ≡ 2) × IsDelFault rest e)
+
+-- a Put without a value is not written
+abbrev pub IsPairRefusal : Pair → Error → Type 0
+IsPairRefusal p (errors.InvalidArgument text) = IsWritablePair p → ⊥
+IsPairRefusal p e = IsMemory e
+
+-- no tail offset: the index would be 2^64 - 1, no number stands there, or it falls or passes 2^32 - 1
+abbrev pub IsTailFault : ℕ × ℕ → List ℕ → Error → Type 0
+IsTailFault next bytes e =
+    ((2 ^ 64 - 1 ≤ next.0) × IsAnyCorruption e) ⊎ IsNumberFault bytes e ⊎ IsFaultBehind IsVarint (λ tail rest (f : Error). ((tail < next.1) ⊎ (2 ^ 32 ≤ tail)) × IsAnyCorruption f) bytes e
+
+-- a fault in one of so many tail offsets, or there is no memory for them
+abbrev pub IsTailsFault : ℕ → ℕ × ℕ → List ℕ → Error → Type 0
+IsTailsFault count next bytes e = IsMemory e ⊎ IsSequenceFault behind_entry IsTail IsTailFault count next bytes e
+
+-- behind the count, which is not 0: no first index, or a fault in the tail offsets
+abbrev pub IsRunFault : ℕ → ℕ → List ℕ → Error → Type 0
+IsRunFault s n bytes e = (0 < n) × (IsNumberFault bytes e ⊎ IsFaultBehind IsVarint (λ first. IsTailsFault n (first, s)) bytes e)
+
+-- no entries: no count, or a fault behind it
+abbrev pub IsEntriesFault : ℕ → List ℕ → Error → Type 0
+IsEntriesFault s bytes e = IsNumberFault bytes e ⊎ IsFaultBehind IsVarint (IsRunFault s) bytes e
+
+-- entries that don't run on are not written
+abbrev pub IsEntriesRefusal : List EntryIndex → Error → Type 0
+IsEntriesRefusal es (errors.InvalidArgument text) = AreWritable es → ⊥
+IsEntriesRefusal es e = IsMemory e
+
+-- the bytes end before the item's type
+abbrev pub IsIoEof : Error → Type 0
+IsIoEof (errors.Io e) = error_kind e ≡ UnexpectedEof
+IsIoEof _ = ⊥
+
+-- no content: nothing, an unknown type byte, or a fault of what it says
+abbrev pub IsContentFault : ℕ → List ℕ → Error → Type 0
+IsContentFault s [] e = IsIoEof e
+IsContentFault s (kind ∷ rest) e =
+    ((kind ≢ 1) × (kind ≢ 2) × (kind ≢ 3) × IsCorruption (codes "Unrecognized log item type: " ++ decimal kind) e)
+    ⊎ ((kind ≡ 1) × IsEntriesFault s rest e)
+    ⊎ ((kind ≡ 2) × IsCommandFault rest e)
+    ⊎ ((kind ≡ 3) × IsKeyValueFault rest e)
+
+-- no item: no region, or a fault of its content
+abbrev pub IsItemFault : ℕ → List ℕ → Error → Type 0
+IsItemFault s bytes e = IsNumberFault bytes e ⊎ IsFaultBehind IsVarint (λ _. IsContentFault s) bytes e
+
+-- what can't be written is not written
+abbrev pub IsItemRefusal : Item → Error → Type 0
+IsItemRefusal item (errors.InvalidArgument text) = IsWritable item → ⊥
+IsItemRefusal item e = IsMemory e

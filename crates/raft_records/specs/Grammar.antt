@@ -1,0 +1,106 @@
+-- The bytes of log items, by cases.
+use Rattle.std.specs.Prelude.{◌≡◌, ℕ, ◌+◌, ◌-◌, ◌^◌, ◌<◌, List, [], ◌∷◌, length, Option, Some, None}
+use Rattle.raft_base.specs.Reading.{Reads, IsTagged, IsPair, IsSequence}
+use Rattle.raft_base.specs.Varint.{IsVarint}
+use Rattle.raft_base.specs.declared.pipe_log.FileId.{FileId}
+use Rattle.raft_records.specs.declared.log_batch.command.Command.{Command}
+use Rattle.raft_records.specs.declared.log_batch.command.Command.TheVariants.{Clean, Compact}
+use Rattle.raft_records.specs.declared.log_batch.entry_index.EntryIndex.{EntryIndex}
+use Rattle.raft_records.specs.declared.log_batch.key_value.OpType.{OpType}
+use Rattle.raft_records.specs.declared.log_batch.key_value.OpType.TheVariants.{Put, Del}
+use Rattle.raft_records.specs.Item.{Item, Content, entries, command, pair, Pair, bare_entry}
+
+-- the byte that stands for an op type
+abbrev pub op_type_byte : OpType → ℕ
+op_type_byte Put = 1
+op_type_byte Del = 2
+
+-- a command's type byte, and behind Compact's the index
+abbrev pub IsCommand : List ℕ → Command → Type 0
+IsCommand bytes Clean = bytes ≡ 1 ∷ []
+IsCommand bytes (Compact index) = IsTagged 2 IsVarint bytes index
+
+-- these bytes, n of them
+abbrev pub IsText : ℕ → List ℕ → List ℕ → Type 0
+IsText n bytes text = (bytes ≡ text) × (length text ≡ n)
+
+-- a length, and that many bytes
+abbrev pub IsByteString : List ℕ → List ℕ → Type 0
+IsByteString bytes text = IsPair IsVarint IsText bytes (length text) text
+
+-- a key and its value
+abbrev pub IsKeyAndValue : List ℕ → List ℕ × List ℕ → Type 0
+IsKeyAndValue bytes both = IsPair IsByteString (λ _. IsByteString) bytes both.0 both.1
+
+-- a Put has an op type byte, key and value, a Del an op type byte and a key; the file is not in the bytes
+abbrev pub IsPairOf : OpType → Option (List ℕ) → Option FileId → List ℕ → List ℕ → Type 0
+IsPairOf Put (Some value) None key bytes = IsTagged 1 IsKeyAndValue bytes (key, value)
+IsPairOf Del None None key bytes = IsTagged 2 IsByteString bytes key
+IsPairOf _ _ _ key bytes = ⊥
+
+-- key and value of a Put were read, which has no file
+abbrev pub IsPutRead : List ℕ → List ℕ → Pair → Type 0
+IsPutRead old new p = (value : List ℕ) × (p ≡ record { op_type = Put; key = p.key; value = Some value; file_id = None }) × Reads IsKeyAndValue old new (p.key, value)
+
+-- the key of a Del was read, which has no value and no file
+abbrev pub IsDelRead : List ℕ → List ℕ → Pair → Type 0
+IsDelRead old new p = (p ≡ record { op_type = Del; key = p.key; value = None; file_id = None }) × Reads IsByteString old new p.key
+
+abbrev pub IsKeyValue : List ℕ → Pair → Type 0
+IsKeyValue bytes p = IsPairOf p.op_type p.value p.file_id p.key bytes
+
+-- where an entry's bytes end, counted from the first entry byte of the batch
+abbrev pub tail_of : EntryIndex → ℕ
+tail_of e = e.entry_offset + e.entry_len
+
+-- An entry's tail offset. Its index and the offset of its bytes are those that come next; its bytes are
+-- fewer than 2^32, its index is below 2^64 - 1, and its place is not in the bytes.
+pub record IsTail (next : ℕ × ℕ) (bytes : List ℕ) (e : EntryIndex) : Type 0 where
+  pub tail : IsVarint bytes (tail_of e)
+  pub index : e.index ≡ next.0
+  pub offset : e.entry_offset ≡ next.1
+  pub index_fits : e.index < 2 ^ 64 - 1
+  pub tail_fits : tail_of e < 2 ^ 32
+  pub bare : e ≡ bare_entry e
+
+-- the index and the offset behind an entry
+abbrev pub behind_entry : ℕ × ℕ → EntryIndex → ℕ × ℕ
+behind_entry next e = (next.0 + 1, tail_of e)
+
+-- n tail offsets, one behind the other, the first for this index and offset
+pub record AreTails (n : ℕ) (next : ℕ × ℕ) (bytes : List ℕ) (es : List EntryIndex) : Type 0 where
+  pub tails : IsSequence behind_entry IsTail next bytes es
+  pub count : length es ≡ n
+
+-- n entries behind s entry bytes: the first index and the tail offsets; nothing where there are none
+abbrev pub IsRun : ℕ → ℕ → List ℕ → List EntryIndex → Type 0
+IsRun s n bytes [] = (bytes ≡ []) × (n ≡ 0)
+IsRun s n bytes (e ∷ es) = IsPair IsVarint (λ first. AreTails n (first, s)) bytes e.index (e ∷ es)
+
+-- the count of entries and the entries, read after s entry bytes
+abbrev pub IsEntries : ℕ → List ℕ → List EntryIndex → Type 0
+IsEntries s bytes es = IsPair IsVarint (IsRun s) bytes (length es) es
+
+-- a type byte and what it says
+abbrev pub IsContent : ℕ → List ℕ → Content → Type 0
+IsContent s bytes (entries es) = IsTagged 1 (IsEntries s) bytes es
+IsContent s bytes (command c) = IsTagged 2 IsCommand bytes c
+IsContent s bytes (pair p) = IsTagged 3 IsKeyValue bytes p
+
+-- the region and the content of an item, read after s entry bytes
+abbrev pub IsItem : ℕ → List ℕ → Item → Type 0
+IsItem s bytes item = IsPair IsVarint (λ _. IsContent s) bytes item.raft_group_id item.content
+
+-- the entry bytes up to the end of these entries, which come behind s of them
+abbrev pub end_behind : ℕ → List EntryIndex → ℕ
+end_behind s [] = s
+end_behind s (e ∷ es) = end_behind (tail_of e) es
+
+-- the entry bytes up to the end of an item behind s of them
+abbrev pub entry_bytes_with : ℕ → Content → ℕ
+entry_bytes_with s (entries es) = end_behind s es
+entry_bytes_with s (command c) = s
+entry_bytes_with s (pair p) = s
+
+abbrev pub behind_item : ℕ → Item → ℕ
+behind_item s item = entry_bytes_with s item.content

@@ -1,0 +1,88 @@
+//! Commands on a region's log.
+
+ghost use Rattle.std.specs.Prelude.{◌≡◌, ◌≢◌, ◌++◌, IfOk, IfErr, OnOk, OnErr};
+ghost use Rattle.raft_base.specs.Reading.{Reads, HasNoFront};
+ghost use Rattle.raft_records.specs.Grammar.{IsCommand};
+ghost use Rattle.raft_records.specs.Faults.{IsCommandFault};
+ghost use Rattle.raft_records.specs.Spelling.{command_bytes};
+
+use raft_base::codec::BytesSlice;
+use raft_base::{Error, Result, codec};
+use std::alloc::{AllocError, Global};
+
+const CLEAN: u8 = 1;
+
+const COMPACT: u8 = 2;
+
+/// What is done to a region's log.
+#[derive(Clone, PartialEq, Eq, Debug, Drop)]
+pub enum Command {
+    /// The region's records go.
+    Clean,
+    /// The entries below `index` go.
+    Compact { index: u64 },
+}
+
+impl Command {
+    /// Appends the command's bytes. On `Err` the vector is as it was.
+    pub fn encode(&self, buf: &mut Vec<u8>) -> Result<()>
+        ensures ok { OnOk result (buf.new.items ≡ buf.old.items ++ command_bytes self.now) }
+        ensures err { OnErr result (buf.new.items ≡ buf.old.items) }
+        ensures memory { IfErr result (λ e. e ≡ Error.Memory) }
+    {
+        Ok(self.write(buf)?)
+    }
+
+    /// The same; only memory can fail.
+    pub(crate) fn write(&self, buf: &mut Vec<u8>) -> std::result::Result<(), AllocError>
+        ensures ok { OnOk result (buf.new.items ≡ buf.old.items ++ command_bytes self.now) }
+        ensures err { OnErr result (buf.new.items ≡ buf.old.items) }
+    {
+        match self {
+            Command::Clean => Ok(buf.push(CLEAN)?),
+            Command::Compact { index } => {
+                let len = buf.len();
+                buf.push(COMPACT)?;
+                let written = codec::append_var_u64(buf, *index);
+                if written.is_err() {
+                    buf.truncate(len);
+                }
+                written
+            }
+        }
+    }
+
+    /// Reads a command from the front. Where it succeeds it takes no memory; on `Err` the slice is
+    /// as it was.
+    pub fn decode(alloc: Global, buf: &mut BytesSlice<'_>) -> Result<Command>
+        ensures ok { IfOk result (Reads IsCommand buf.old.now buf.new.now) }
+        ensures err { OnErr result (buf.new.now ≡ buf.old.now) }
+        ensures refused { OnErr result (HasNoFront IsCommand buf.old.now) }
+        ensures fault { IfErr result (IsCommandFault buf.old.now) }
+    {
+        let (command, rest) = Command::front(alloc, *buf)?;
+        *buf = rest;
+        Ok(command)
+    }
+
+    /// The command in front of `bytes`, and what is behind it.
+    pub(crate) fn front(alloc: Global, bytes: &[u8]) -> Result<(Command, &[u8])>
+        ensures ok { IfOk result (λ read. Reads IsCommand bytes.now read.1.now read.0) }
+        ensures refused { OnErr result (HasNoFront IsCommand bytes.now) }
+        ensures fault { IfErr result (IsCommandFault bytes.now) }
+    {
+        let Some((kind, behind)) = bytes.split_first() else {
+            return Err(Error::Codec(codec::Error::unexpected_eof()));
+        };
+        let kind = *kind;
+        match kind {
+            CLEAN => Ok((Command::Clean, behind)),
+            COMPACT => {
+                let mut rest = behind;
+                let index = codec::decode_var_u64(&mut rest)?;
+                Ok((Command::Compact { index }, rest))
+            }
+            _ => Err(Error::Corruption(format!(in alloc; "Unrecognized command type: {kind}")?)),
+        }
+    }
+}

@@ -1,0 +1,190 @@
+//! Key values of a region.
+
+ghost use Rattle.std.specs.Prelude.{◌≡◌, ◌≢◌, ◌↔◌, ◌++◌, None, IsTrue, IfOk, IfErr, OnOk, OnErr};
+ghost use Rattle.raft_base.specs.Reading.{Reads, HasNoFront};
+ghost use Rattle.raft_records.specs.Grammar.{IsByteString, IsKeyAndValue, IsKeyValue, IsPutRead, IsDelRead};
+ghost use Rattle.raft_records.specs.Item.{pair_of};
+ghost use Rattle.raft_records.specs.Faults.{IsByteStringFault, IsPutFault, IsDelFault, IsKeyValueFault, IsOpTypeFault, IsPairRefusal};
+ghost use Rattle.raft_records.specs.Spelling.{Keeps, byte_string, pair_bytes, IsWritablePair};
+
+use raft_base::codec::BytesSlice;
+use raft_base::{Error, FileId, Result, codec};
+use std::alloc::{AllocError, Global};
+
+/// What is done to a key.
+#[derive(Clone, Copy, PartialEq, Eq, Debug)]
+pub enum OpType {
+    /// It gets a value.
+    Put = 1,
+    /// It goes.
+    Del = 2,
+}
+
+impl OpType {
+    ghost use Rattle.raft_records.specs.Grammar.{op_type_byte};
+
+    /// The op type that a byte stands for. Any other byte is `Corruption`.
+    pub fn from_u8(alloc: Global, byte: u8) -> Result<OpType>
+        ensures ok { IfOk result (λ op_type. byte ≡ op_type_byte op_type) }
+        ensures fault { IfErr result (IsOpTypeFault byte) }
+    {
+        match byte {
+            1 => Ok(OpType::Put),
+            2 => Ok(OpType::Del),
+            _ => Err(Error::Corruption(format!(in alloc; "Unrecognized op type: {byte}")?)),
+        }
+    }
+
+    /// The byte that stands for the op type.
+    pub fn to_u8(self) -> u8
+        ensures { result ≡ op_type_byte self }
+    {
+        self as u8
+    }
+}
+
+/// A change of one key.
+#[derive(PartialEq, Eq, Debug, Drop)]
+pub struct KeyValue {
+    pub op_type: OpType,
+    pub key: Vec<u8>,
+    /// The new value of a `Put`.
+    pub value: Option<Vec<u8>>,
+    /// The file that holds this change, once it has been written to one.
+    pub file_id: Option<FileId>,
+}
+
+impl KeyValue {
+    /// A change that has not been written to a file.
+    pub fn new(op_type: OpType, key: Vec<u8>, value: Option<Vec<u8>>) -> KeyValue
+        ensures { result
+            ≡ record { op_type = op_type; key = key; value = value; file_id = None } }
+    {
+        KeyValue {
+            op_type,
+            key,
+            value,
+            file_id: None,
+        }
+    }
+
+    /// Whether the change can be written: a `Put` has a value.
+    pub(crate) fn is_writable(&self) -> bool
+        ensures { IsTrue result ↔ IsWritablePair (pair_of self.now) }
+    {
+        match (self.op_type, &self.value) {
+            (OpType::Put, None) => false,
+            _ => true,
+        }
+    }
+
+    /// Appends the change's bytes; the value of a `Del` is not written. A `Put` without a value is
+    /// `InvalidArgument`. On `Err` the vector is as it was.
+    pub fn encode(&self, alloc: Global, buf: &mut Vec<u8>) -> Result<()>
+        ensures ok { OnOk result (buf.new.items ≡ buf.old.items ++ pair_bytes (pair_of self.now)) }
+        ensures accepted { OnOk result (IsWritablePair (pair_of self.now)) }
+        ensures err { OnErr result (buf.new.items ≡ buf.old.items) }
+        ensures fault { IfErr result (IsPairRefusal (pair_of self.now)) }
+    {
+        if !self.is_writable() {
+            return Err(Error::InvalidArgument(format!(in alloc; "a put has no value")?));
+        }
+        let len = buf.len();
+        let written = self.write(buf);
+        if written.is_err() {
+            buf.truncate(len);
+        }
+        Ok(written?)
+    }
+
+    /// Appends the change's bytes. On `Err` some bytes may stand behind those of the vector.
+    pub(crate) fn write(&self, buf: &mut Vec<u8>) -> std::result::Result<(), AllocError>
+        ensures ok { OnOk result (buf.new.items ≡ buf.old.items ++ pair_bytes (pair_of self.now)) }
+        ensures err { OnErr result (Keeps buf.old.items buf.new.items) }
+    {
+        buf.push(self.op_type.to_u8())?;
+        append_byte_string(buf, self.key.as_slice())?;
+        match (self.op_type, &self.value) {
+            (OpType::Put, Some(value)) => append_byte_string(buf, value.as_slice()),
+            _ => Ok(()),
+        }
+    }
+
+    /// Reads a change from the front, without a file. On `Err` the slice is as it was.
+    pub fn decode(alloc: Global, buf: &mut BytesSlice<'_>) -> Result<KeyValue>
+        ensures ok { IfOk result (λ kv. Reads IsKeyValue buf.old.now buf.new.now (pair_of kv)) }
+        ensures err { OnErr result (buf.new.now ≡ buf.old.now) }
+        ensures refused { IfErr result (λ e. e ≢ Error.Memory → HasNoFront IsKeyValue buf.old.now) }
+        ensures fault { IfErr result (IsKeyValueFault buf.old.now) }
+    {
+        let (kv, rest) = KeyValue::front(alloc, *buf)?;
+        *buf = rest;
+        Ok(kv)
+    }
+
+    /// The change in front of `bytes`, and what is behind it.
+    pub(crate) fn front(alloc: Global, bytes: &[u8]) -> Result<(KeyValue, &[u8])>
+        ensures ok { IfOk result (λ read. Reads IsKeyValue bytes.now read.1.now (pair_of read.0)) }
+        ensures refused { IfErr result (λ e. e ≢ Error.Memory → HasNoFront IsKeyValue bytes.now) }
+        ensures fault { IfErr result (IsKeyValueFault bytes.now) }
+    {
+        let Some((byte, behind)) = bytes.split_first() else {
+            return Err(Error::Codec(codec::Error::unexpected_eof()));
+        };
+        match OpType::from_u8(alloc, *byte)? {
+            OpType::Put => KeyValue::put_front(alloc, behind),
+            OpType::Del => KeyValue::del_front(alloc, behind),
+        }
+    }
+
+    /// A `Put` behind its op type byte.
+    fn put_front(alloc: Global, bytes: &[u8]) -> Result<(KeyValue, &[u8])>
+        ensures ok { IfOk result (λ read. IsPutRead bytes.now read.1.now (pair_of read.0)) }
+        ensures refused { IfErr result (λ e. e ≢ Error.Memory → HasNoFront IsKeyAndValue bytes.now) }
+        ensures fault { IfErr result (IsPutFault bytes.now) }
+    {
+        let (key, behind) = byte_string_front(alloc, bytes)?;
+        let (value, rest) = byte_string_front(alloc, behind)?;
+        let key = Vec::from_slice(alloc, key)?;
+        let value = Vec::from_slice(alloc, value)?;
+        Ok((KeyValue::new(OpType::Put, key, Some(value)), rest))
+    }
+
+    /// A `Del` behind its op type byte.
+    fn del_front(alloc: Global, bytes: &[u8]) -> Result<(KeyValue, &[u8])>
+        ensures ok { IfOk result (λ read. IsDelRead bytes.now read.1.now (pair_of read.0)) }
+        ensures refused { IfErr result (λ e. e ≢ Error.Memory → HasNoFront IsByteString bytes.now) }
+        ensures fault { IfErr result (IsDelFault bytes.now) }
+    {
+        let (key, rest) = byte_string_front(alloc, bytes)?;
+        let key = Vec::from_slice(alloc, key)?;
+        Ok((KeyValue::new(OpType::Del, key, None), rest))
+    }
+}
+
+/// Appends `text` behind its length. On `Err` some bytes may stand behind those of the vector.
+fn append_byte_string(buf: &mut Vec<u8>, text: &[u8]) -> std::result::Result<(), AllocError>
+    ensures ok { OnOk result (buf.new.items ≡ buf.old.items ++ byte_string text.now) }
+    ensures err { OnErr result (Keeps buf.old.items buf.new.items) }
+{
+    codec::append_var_u64(buf, text.len() as u64)?;
+    buf.extend_from_slice(text)
+}
+
+/// The byte string in front of `bytes`, which stands behind its length, and what is behind it.
+fn byte_string_front(alloc: Global, bytes: &[u8]) -> Result<(&[u8], &[u8])>
+    ensures ok { IfOk result (λ read. Reads IsByteString bytes.now read.1.now read.0.now) }
+    ensures refused { OnErr result (HasNoFront IsByteString bytes.now) }
+    ensures fault { IfErr result (IsByteStringFault bytes.now) }
+{
+    let mut rest = bytes;
+    let len = codec::decode_var_u64(&mut rest)?;
+    if len > rest.len() as u64 {
+        let left = rest.len();
+        return Err(Error::Corruption(format!(in alloc;
+            "a length of {len} passes the {left} bytes that are left"
+        )?));
+    }
+    let (text, behind) = rest.split_at(len as usize);
+    Ok((text, behind))
+}

@@ -1,3 +1,5 @@
+pub mod BatchLemmas
 pub mod ContentLemmas
 pub mod EntryLemmas
 pub mod ItemLemmas
+pub mod SealLemmas

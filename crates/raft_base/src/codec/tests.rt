@@ -6,14 +6,14 @@ use byteorder::ByteOrder;
 use std::result::Result;
 use std::test::Fail;
 
-/// A row for each number: what it is written as.
+/// A row for each line: what stands behind the arrow is written for what stands before it.
 macro_rules! rows {
-    ($($number:expr => $($bytes:literal)*;)*) => {
-        [$(($number, $($bytes),*)),*]
+    ($($($number:expr),+ => $($bytes:literal)+;)+) => {
+        [$(($($number),+, $($bytes),+)),+]
     };
 }
 
-/// Numbers, and what `encode_u64`, `encode_u64_desc` and `encode_u64_le` write.
+/// A number, and what `encode_u64`, `encode_u64_desc` and `encode_u64_le` write.
 const U64_ROWS: [(u64, u64, u64, u64); 16] = rows! {
     0 => 0x00000000_00000000 0xffffffff_ffffffff 0x00000000_00000000;
     1 => 0x00000000_00000001 0xffffffff_fffffffe 0x01000000_00000000;
@@ -33,7 +33,7 @@ const U64_ROWS: [(u64, u64, u64, u64); 16] = rows! {
     u64::MAX => 0xffffffff_ffffffff 0x00000000_00000000 0xffffffff_ffffffff;
 };
 
-/// Numbers, and what `encode_i64`, `encode_i64_desc` and `encode_i64_le` write.
+/// A number, and what `encode_i64`, `encode_i64_desc` and `encode_i64_le` write.
 const I64_ROWS: [(i64, u64, u64, u64); 20] = rows! {
     i64::MIN => 0x00000000_00000000 0xffffffff_ffffffff 0x00000000_00000080;
     -1024 => 0x7fffffff_fffffc00 0x80000000_000003ff 0x00fcffff_ffffffff;
@@ -57,47 +57,28 @@ const I64_ROWS: [(i64, u64, u64, u64); 20] = rows! {
     i64::MAX => 0xffffffff_ffffffff 0x00000000_00000000 0xffffffff_ffffff7f;
 };
 
-/// Numbers, and what `encode_u32` and `encode_u32_le` write.
-const U32_ROWS: [(u32, u32, u32); 16] = rows! {
-    0 => 0x00000000 0x00000000;
-    1 => 0x00000001 0x01000000;
-    2 => 0x00000002 0x02000000;
-    10 => 0x0000000a 0x0a000000;
-    20 => 0x00000014 0x14000000;
-    63 => 0x0000003f 0x3f000000;
-    64 => 0x00000040 0x40000000;
-    65 => 0x00000041 0x41000000;
-    127 => 0x0000007f 0x7f000000;
-    128 => 0x00000080 0x80000000;
-    129 => 0x00000081 0x81000000;
-    255 => 0x000000ff 0xff000000;
-    256 => 0x00000100 0x00010000;
-    257 => 0x00000101 0x01010000;
-    1024 => 0x00000400 0x00040000;
-    u32::MAX => 0xffffffff 0xffffffff;
+/// Two numbers, what `encode_u32` and `encode_u32_le` write of the first, and what `encode_u16`
+/// and `encode_u16_le` write of the second.
+const SHORT_ROWS: [(u32, u16, u32, u32, u16, u16); 16] = rows! {
+    0, 0 => 0x00000000 0x00000000 0x0000 0x0000;
+    1, 1 => 0x00000001 0x01000000 0x0001 0x0100;
+    2, 2 => 0x00000002 0x02000000 0x0002 0x0200;
+    10, 10 => 0x0000000a 0x0a000000 0x000a 0x0a00;
+    20, 20 => 0x00000014 0x14000000 0x0014 0x1400;
+    63, 63 => 0x0000003f 0x3f000000 0x003f 0x3f00;
+    64, 64 => 0x00000040 0x40000000 0x0040 0x4000;
+    65, 65 => 0x00000041 0x41000000 0x0041 0x4100;
+    127, 127 => 0x0000007f 0x7f000000 0x007f 0x7f00;
+    128, 128 => 0x00000080 0x80000000 0x0080 0x8000;
+    129, 129 => 0x00000081 0x81000000 0x0081 0x8100;
+    255, 255 => 0x000000ff 0xff000000 0x00ff 0xff00;
+    256, 256 => 0x00000100 0x00010000 0x0100 0x0001;
+    257, 257 => 0x00000101 0x01010000 0x0101 0x0101;
+    1024, 1024 => 0x00000400 0x00040000 0x0400 0x0004;
+    u32::MAX, u16::MAX => 0xffffffff 0xffffffff 0xffff 0xffff;
 };
 
-/// Numbers, and what `encode_u16` and `encode_u16_le` write.
-const U16_ROWS: [(u16, u16, u16); 16] = rows! {
-    0 => 0x0000 0x0000;
-    1 => 0x0001 0x0100;
-    2 => 0x0002 0x0200;
-    10 => 0x000a 0x0a00;
-    20 => 0x0014 0x1400;
-    63 => 0x003f 0x3f00;
-    64 => 0x0040 0x4000;
-    65 => 0x0041 0x4100;
-    127 => 0x007f 0x7f00;
-    128 => 0x0080 0x8000;
-    129 => 0x0081 0x8100;
-    255 => 0x00ff 0xff00;
-    256 => 0x0100 0x0001;
-    257 => 0x0101 0x0101;
-    1024 => 0x0400 0x0004;
-    u16::MAX => 0xffff 0xffff;
-};
-
-/// Numbers, and what `encode_i32_le` writes.
+/// A number, and what `encode_i32_le` writes.
 const I32_ROWS: [(i32, u32); 20] = rows! {
     i32::MIN => 0x00000080;
     -1024 => 0x00fcffff;
@@ -121,7 +102,7 @@ const I32_ROWS: [(i32, u32); 20] = rows! {
     i32::MAX => 0xffffff7f;
 };
 
-/// Numbers, and what `encode_var_u64` writes.
+/// A number, and what `encode_var_u64` writes.
 const VAR_U64_ROWS: [(u64, &[u8]); 16] = rows! {
     0 => b"\x00";
     1 => b"\x01";
@@ -141,7 +122,7 @@ const VAR_U64_ROWS: [(u64, &[u8]); 16] = rows! {
     u64::MAX => b"\xff\xff\xff\xff\xff\xff\xff\xff\xff\x01";
 };
 
-/// Numbers, and what `encode_var_i64` writes.
+/// A number, and what `encode_var_i64` writes.
 const VAR_I64_ROWS: [(i64, &[u8]); 20] = rows! {
     i64::MIN => b"\xff\xff\xff\xff\xff\xff\xff\xff\xff\x01";
     -1024 => b"\xff\x0f";
@@ -165,145 +146,167 @@ const VAR_I64_ROWS: [(i64, &[u8]); 20] = rows! {
     i64::MAX => b"\xfe\xff\xff\xff\xff\xff\xff\xff\xff\x01";
 };
 
+/// Whether the row is written, and read back.
+fn is_u64_row(row: (u64, u64, u64, u64)) -> super::Result<bool> {
+    let (number, ascending, descending, lowest_first) = row;
+    let mut bytes = [0; 24];
+    let mut out: &mut [u8] = &mut bytes;
+    out.encode_u64(number)?;
+    out.encode_u64_desc(number)?;
+    out.encode_u64_le(number)?;
+    let mut buf: &[u8] = &bytes;
+    Ok(
+        BigEndian::read_u64(&buf[0..8]) == ascending
+            && BigEndian::read_u64(&buf[8..16]) == descending
+            && BigEndian::read_u64(&buf[16..24]) == lowest_first
+            && decode_u64(&mut buf)? == number
+            && decode_u64_desc(&mut buf)? == number
+            && decode_u64_le(&mut buf)? == number,
+    )
+}
+
 #[test]
 fn u64_rows(rt: HostRuntime) -> Result<(), Fail> {
-    for (number, ascending, descending, lowest_first) in U64_ROWS {
-        let mut bytes = [0; 24];
-        let mut out: &mut [u8] = &mut bytes;
-        out.encode_u64(number)?;
-        out.encode_u64_desc(number)?;
-        out.encode_u64_le(number)?;
-        let mut buf: &[u8] = &bytes;
-        assert_eq!(rt; BigEndian::read_u64(&buf[0..8]), ascending);
-        assert_eq!(rt; BigEndian::read_u64(&buf[8..16]), descending);
-        assert_eq!(rt; BigEndian::read_u64(&buf[16..24]), lowest_first);
-        assert_eq!(rt; decode_u64(&mut buf)?, number);
-        assert_eq!(rt; decode_u64_desc(&mut buf)?, number);
-        assert_eq!(rt; decode_u64_le(&mut buf)?, number);
+    for row in U64_ROWS {
+        assert!(rt; is_u64_row(row)?);
     }
     Ok(())
+}
+
+/// Whether the row is written, and read back.
+fn is_i64_row(row: (i64, u64, u64, u64)) -> super::Result<bool> {
+    let (number, ascending, descending, lowest_first) = row;
+    let mut bytes = [0; 24];
+    let mut out: &mut [u8] = &mut bytes;
+    out.encode_i64(number)?;
+    out.encode_i64_desc(number)?;
+    out.encode_i64_le(number)?;
+    let mut buf: &[u8] = &bytes;
+    Ok(
+        BigEndian::read_u64(&buf[0..8]) == ascending
+            && BigEndian::read_u64(&buf[8..16]) == descending
+            && BigEndian::read_u64(&buf[16..24]) == lowest_first
+            && decode_i64(&mut buf)? == number
+            && decode_i64_desc(&mut buf)? == number
+            && decode_i64_le(&mut buf)? == number,
+    )
 }
 
 #[test]
 fn i64_rows(rt: HostRuntime) -> Result<(), Fail> {
-    for (number, ascending, descending, lowest_first) in I64_ROWS {
-        let mut bytes = [0; 24];
-        let mut out: &mut [u8] = &mut bytes;
-        out.encode_i64(number)?;
-        out.encode_i64_desc(number)?;
-        out.encode_i64_le(number)?;
-        let mut buf: &[u8] = &bytes;
-        assert_eq!(rt; BigEndian::read_u64(&buf[0..8]), ascending);
-        assert_eq!(rt; BigEndian::read_u64(&buf[8..16]), descending);
-        assert_eq!(rt; BigEndian::read_u64(&buf[16..24]), lowest_first);
-        assert_eq!(rt; decode_i64(&mut buf)?, number);
-        assert_eq!(rt; decode_i64_desc(&mut buf)?, number);
-        assert_eq!(rt; decode_i64_le(&mut buf)?, number);
+    for row in I64_ROWS {
+        assert!(rt; is_i64_row(row)?);
     }
     Ok(())
 }
 
+/// Whether the row is written, and read back.
+fn is_short_row(row: (u32, u16, u32, u32, u16, u16)) -> super::Result<bool> {
+    let (
+        long,
+        short,
+        long_highest_first,
+        long_lowest_first,
+        short_highest_first,
+        short_lowest_first,
+    ) = row;
+    let mut bytes = [0; 12];
+    let mut out: &mut [u8] = &mut bytes;
+    out.encode_u32(long)?;
+    out.encode_u32_le(long)?;
+    out.encode_u16(short)?;
+    out.encode_u16_le(short)?;
+    let mut buf: &[u8] = &bytes;
+    Ok(
+        BigEndian::read_u32(&buf[0..4]) == long_highest_first
+            && BigEndian::read_u32(&buf[4..8]) == long_lowest_first
+            && BigEndian::read_u16(&buf[8..10]) == short_highest_first
+            && BigEndian::read_u16(&buf[10..12]) == short_lowest_first
+            && decode_u32(&mut buf)? == long
+            && decode_u32_le(&mut buf)? == long
+            && decode_u16(&mut buf)? == short
+            && decode_u16_le(&mut buf)? == short,
+    )
+}
+
 #[test]
-fn u32_rows(rt: HostRuntime) -> Result<(), Fail> {
-    for (number, highest_first, lowest_first) in U32_ROWS {
-        let mut bytes = [0; 8];
-        let mut out: &mut [u8] = &mut bytes;
-        out.encode_u32(number)?;
-        out.encode_u32_le(number)?;
-        let mut buf: &[u8] = &bytes;
-        assert_eq!(rt; BigEndian::read_u32(&buf[0..4]), highest_first);
-        assert_eq!(rt; BigEndian::read_u32(&buf[4..8]), lowest_first);
-        assert_eq!(rt; decode_u32(&mut buf)?, number);
-        assert_eq!(rt; decode_u32_le(&mut buf)?, number);
+fn short_rows(rt: HostRuntime) -> Result<(), Fail> {
+    for row in SHORT_ROWS {
+        assert!(rt; is_short_row(row)?);
     }
     Ok(())
 }
 
-#[test]
-fn u16_rows(rt: HostRuntime) -> Result<(), Fail> {
-    for (number, highest_first, lowest_first) in U16_ROWS {
-        let mut bytes = [0; 4];
-        let mut out: &mut [u8] = &mut bytes;
-        out.encode_u16(number)?;
-        out.encode_u16_le(number)?;
-        let mut buf: &[u8] = &bytes;
-        assert_eq!(rt; BigEndian::read_u16(&buf[0..2]), highest_first);
-        assert_eq!(rt; BigEndian::read_u16(&buf[2..4]), lowest_first);
-        assert_eq!(rt; decode_u16(&mut buf)?, number);
-        assert_eq!(rt; decode_u16_le(&mut buf)?, number);
-    }
-    Ok(())
+/// Whether the row is written, and read back.
+fn is_i32_row(row: (i32, u32)) -> super::Result<bool> {
+    let (number, lowest_first) = row;
+    let mut bytes = [0; 4];
+    let mut out: &mut [u8] = &mut bytes;
+    out.encode_i32_le(number)?;
+    let mut buf: &[u8] = &bytes;
+    Ok(BigEndian::read_u32(&buf[0..4]) == lowest_first && decode_i32_le(&mut buf)? == number)
 }
 
 #[test]
 fn i32_rows(rt: HostRuntime) -> Result<(), Fail> {
-    for (number, lowest_first) in I32_ROWS {
-        let mut bytes = [0; 4];
-        let mut out: &mut [u8] = &mut bytes;
-        out.encode_i32_le(number)?;
-        let mut buf: &[u8] = &bytes;
-        assert_eq!(rt; BigEndian::read_u32(buf), lowest_first);
-        assert_eq!(rt; decode_i32_le(&mut buf)?, number);
+    for row in I32_ROWS {
+        assert!(rt; is_i32_row(row)?);
     }
     Ok(())
+}
+
+/// Whether the number is written so, and read back.
+fn is_var_u64_row(number: u64, spelling: &[u8]) -> super::Result<bool> {
+    let mut bytes = [0; 10];
+    let mut out: &mut [u8] = &mut bytes;
+    out.encode_var_u64(number)?;
+    let mut buf = spelling;
+    Ok(bytes.starts_with(spelling) && decode_var_u64(&mut buf)? == number && buf.is_empty())
 }
 
 #[test]
 fn var_u64_rows(rt: HostRuntime) -> Result<(), Fail> {
     for (number, spelling) in VAR_U64_ROWS {
-        let mut bytes = [0; 10];
-        let mut out: &mut [u8] = &mut bytes;
-        out.encode_var_u64(number)?;
-        assert!(rt; bytes.starts_with(spelling));
-        let mut buf = spelling;
-        assert_eq!(rt; decode_var_u64(&mut buf)?, number);
-        assert!(rt; buf.is_empty());
+        assert!(rt; is_var_u64_row(number, spelling)?);
     }
     Ok(())
+}
+
+/// Whether the number is written so, and read back.
+fn is_var_i64_row(number: i64, spelling: &[u8]) -> super::Result<bool> {
+    let mut bytes = [0; 10];
+    let mut out: &mut [u8] = &mut bytes;
+    out.encode_var_i64(number)?;
+    let mut buf = spelling;
+    Ok(bytes.starts_with(spelling) && decode_var_i64(&mut buf)? == number && buf.is_empty())
 }
 
 #[test]
 fn var_i64_rows(rt: HostRuntime) -> Result<(), Fail> {
     for (number, spelling) in VAR_I64_ROWS {
-        let mut bytes = [0; 10];
-        let mut out: &mut [u8] = &mut bytes;
-        out.encode_var_i64(number)?;
-        assert!(rt; bytes.starts_with(spelling));
-        let mut buf = spelling;
-        assert_eq!(rt; decode_var_i64(&mut buf)?, number);
-        assert!(rt; buf.is_empty());
+        assert!(rt; is_var_i64_row(number, spelling)?);
     }
     Ok(())
 }
 
+/// The numbers rise from row to row, and their bytes with them; the third column falls.
 #[test]
-fn bytes_of_u64_order_as_the_numbers(rt: HostRuntime) -> Result<(), Fail> {
+fn u64_rows_order(rt: HostRuntime) {
     for pair in U64_ROWS.windows(2) {
-        let mut bytes = [0; 32];
-        let mut out: &mut [u8] = &mut bytes;
-        out.encode_u64(pair[0].0)?;
-        out.encode_u64(pair[1].0)?;
-        out.encode_u64_desc(pair[0].0)?;
-        out.encode_u64_desc(pair[1].0)?;
-        assert!(rt; bytes[0..8] < bytes[8..16]);
-        assert!(rt; bytes[16..24] > bytes[24..32]);
+        let (number, ascending, descending, _) = pair[0];
+        let (next, above, below, _) = pair[1];
+        assert!(rt; number < next && ascending < above && below < descending);
     }
-    Ok(())
 }
 
+/// The numbers rise from row to row, and their bytes with them; the third column falls.
 #[test]
-fn bytes_of_i64_order_as_the_numbers(rt: HostRuntime) -> Result<(), Fail> {
+fn i64_rows_order(rt: HostRuntime) {
     for pair in I64_ROWS.windows(2) {
-        let mut bytes = [0; 32];
-        let mut out: &mut [u8] = &mut bytes;
-        out.encode_i64(pair[0].0)?;
-        out.encode_i64(pair[1].0)?;
-        out.encode_i64_desc(pair[0].0)?;
-        out.encode_i64_desc(pair[1].0)?;
-        assert!(rt; bytes[0..8] < bytes[8..16]);
-        assert!(rt; bytes[16..24] > bytes[24..32]);
+        let (number, ascending, descending, _) = pair[0];
+        let (next, above, below, _) = pair[1];
+        assert!(rt; number < next && ascending < above && below < descending);
     }
-    Ok(())
 }
 
 #[test]
@@ -312,9 +315,7 @@ fn seven_bytes_hold_no_u64(rt: HostRuntime) {
     let mut out: &mut [u8] = &mut bytes;
     assert!(rt; matches!(out.encode_u64(1), Err(Error::Io(_))));
     let mut buf: &[u8] = b"1234567";
-    match decode_u64(&mut buf) {
-        Err(Error::Io(e)) => assert_eq!(rt; e.kind(), ErrorKind::UnexpectedEof),
-        _ => panic!(rt; "a number was read"),
-    }
-    assert_eq!(rt; buf.len(), 7);
+    let read = decode_u64(&mut buf);
+    assert!(rt; matches!(read, Err(Error::Io(e)) if e.kind() == ErrorKind::UnexpectedEof));
+    assert!(rt; buf.len() == 7);
 }

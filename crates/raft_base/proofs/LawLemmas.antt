@@ -35,15 +35,16 @@ steps_back (suc n) c =
     let first = one_more (c % 2) (mod-lt c (omega arith)) in
     let rest = steps_back n (crc_step c) in
     let product = product_of rest.0 0x1DB710641 in
-    let left = crc_steps n (crc_step c) in
-    (first.0 ∷ rest.0,
+    let left = crc_steps n (crc_step c) in (
+      first.0 ∷ rest.0,
       step_back c
-      ∙ ap (λ y. bit_xor (c % 2 * 0x1DB710641) (y * 2)) rest.1
-      ∙ ap (bit_xor (c % 2 * 0x1DB710641))
-        (xor_shift 1 product (left * 2 ^ n) ∙ ap (λ y. bit_xor y (left * 2 ^ n * 2)) (mul_comm product 2)
-        ∙ ap (bit_xor (2 * product)) (mul_assoc left (2 ^ n) 2 ∙ ap (λ y. left * y) (sym (pow-suc 2 n))))
-      ∙ sym (xor_assoc (c % 2 * 0x1DB710641) (2 * product) (left * 2 ^ suc n))
-      ∙ ap (λ y. bit_xor y (left * 2 ^ suc n)) (sym (first.1 rest.0)))
+          ∙ ap (λ y. bit_xor (c % 2 * 0x1DB710641) (y * 2)) rest.1
+          ∙ ap (bit_xor (c % 2 * 0x1DB710641))
+          (xor_shift 1 product (left * 2 ^ n) ∙ ap (λ y. bit_xor y (left * 2 ^ n * 2)) (mul_comm product 2)
+          ∙ ap (bit_xor (2 * product)) (mul_assoc left (2 ^ n) 2 ∙ ap (λ y. left * y) (sym (pow-suc 2 n))))
+          ∙ sym (xor_assoc (c % 2 * 0x1DB710641) (2 * product) (left * 2 ^ suc n))
+          ∙ ap (λ y. bit_xor y (left * 2 ^ suc n)) (sym (first.1 rest.0)),
+    )
 
 -- bytes join as one number
 bytes_join : (c : ℕ) (bytes : List ℕ) → ((k : ℕ) → get_or bytes k 0 < 256)

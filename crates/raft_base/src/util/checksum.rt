@@ -99,8 +99,7 @@ pub fn crc32(bytes: &[u8]) -> u32
 pub fn crc32_is_remainder()
     ensures appended { (register : ℕ) (bytes more : List ℕ) → register_after register (bytes ++ more) ≡ register_after (register_after register bytes) more }
     ensures remainder { (register : ℕ) (bytes : List ℕ) → ((k : ℕ) → slice_index bytes k < 256) → (quotient : List Bool) × (bit_xor register (number_of_bytes bytes) ≡ bit_xor (product_of quotient 0x1DB710641) (register_after register bytes * 2 ^ (8 * length bytes))) }
-{
-}
+{}
 
 #[cfg(test)]
 mod tests {

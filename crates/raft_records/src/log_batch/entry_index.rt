@@ -77,7 +77,7 @@ fn runs_on(entries: &[EntryIndex]) -> bool
 }
 
 /// The entries of one item: consecutive ones of one region.
-#[derive(PartialEq, Eq, Debug, Drop)]
+#[derive(Clone, PartialEq, Eq, Debug, Drop)]
 pub struct EntryIndexes(pub Vec<EntryIndex>);
 
 impl EntryIndexes {

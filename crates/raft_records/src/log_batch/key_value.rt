@@ -45,7 +45,7 @@ impl OpType {
 }
 
 /// A change of one key.
-#[derive(PartialEq, Eq, Debug, Drop)]
+#[derive(Clone, PartialEq, Eq, Debug, Drop)]
 pub struct KeyValue {
     pub op_type: OpType,
     pub key: Vec<u8>,

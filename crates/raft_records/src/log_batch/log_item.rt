@@ -24,14 +24,14 @@ const TYPE_COMMAND: u8 = 2;
 const TYPE_KV: u8 = 3;
 
 /// A change of the records of the region `raft_group_id`.
-#[derive(PartialEq, Eq, Debug, Drop)]
+#[derive(Clone, PartialEq, Eq, Debug, Drop)]
 pub struct LogItem {
     pub raft_group_id: u64,
     pub content: LogItemContent,
 }
 
 /// What a log item changes.
-#[derive(PartialEq, Eq, Debug, Drop)]
+#[derive(Clone, PartialEq, Eq, Debug, Drop)]
 pub enum LogItemContent {
     /// New entries.
     EntryIndexes(EntryIndexes),

@@ -1,3 +1,4 @@
 pub mod ContentLemmas
 pub mod EntryLemmas
 pub mod ItemLemmas
+pub mod LineLemmas

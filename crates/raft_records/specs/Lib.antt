@@ -3,3 +3,4 @@ pub mod Entries
 pub mod Grammar
 pub mod Spelling
 pub mod Faults
+pub mod Lines

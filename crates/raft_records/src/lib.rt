@@ -2,6 +2,7 @@
 #![tactic(auto)]
 
 pub mod log_batch;
+pub mod print;
 
 pub use log_batch::{
     Command, CompressionType, EntryIndex, EntryIndexes, KeyValue, LogItem, LogItemContent, OpType,

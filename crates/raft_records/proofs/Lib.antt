@@ -2,3 +2,4 @@ pub mod ContentLemmas
 pub mod EntryLemmas
 pub mod ItemLemmas
 pub mod LineLemmas
+pub mod RequestLemmas

@@ -4,3 +4,4 @@ pub mod Grammar
 pub mod Spelling
 pub mod Faults
 pub mod Lines
+pub mod Requests

@@ -3,6 +3,7 @@
 
 pub mod log_batch;
 pub mod print;
+pub mod run;
 
 pub use log_batch::{
     Command, CompressionType, EntryIndex, EntryIndexes, KeyValue, LogItem, LogItemContent, OpType,

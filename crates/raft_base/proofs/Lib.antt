@@ -1,6 +1,16 @@
+pub mod BlockLemmas
 pub mod DivisionLemmas
+pub mod FiveWordLemmas
+pub mod FixedLemmas
+pub mod FixedOrder
+pub mod LawLemmas
+pub mod MultipleLemmas
+pub mod QuotientLemmas
 pub mod ReadingLemmas
+pub mod RemainderLemmas
 pub mod SequenceLemmas
+pub mod SettledLemmas
 pub mod TableLemmas
 pub mod VarintLemmas
+pub mod WindowLemmas
 pub mod WordLemmas

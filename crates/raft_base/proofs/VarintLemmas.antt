@@ -174,6 +174,10 @@ unfolding varint
 varint_shortest n bytes s =
     groups_bound 9 (length bytes) n (rw s.value (base_128-lt bytes)) (not_empty bytes s.continued)
 
+-- a number takes a byte at least
+pub varint_some : (bytes : List ℕ) (n : ℕ) → IsVarint bytes n → 0 < length bytes
+varint_some bytes n s = not_empty bytes s.continued
+
 -- ---- no spelling begins another
 
 same_front : (a b more rest : List ℕ) → IsContinued a → IsContinued b → a ++ more ≡ b ++ rest → a ≡ b

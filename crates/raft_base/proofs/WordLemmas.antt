@@ -107,6 +107,16 @@ byte_joins c b small =
 pub bytes_left : (n : ℕ) (xs rest : List ℕ) → rest ≡ drop n xs → ((k : ℕ) → get_or xs k 0 < 256) → (k : ℕ) → get_or rest k 0 < 256
 bytes_left n xs rest rest_is small k = rw (rest_is, get_or-drop n xs k 0) (small (n + k))
 
+take_bytes : (n : ℕ) (xs : List ℕ) → ((k : ℕ) → get_or xs k 0 < 256) → (k : ℕ) → get_or (take n xs) k 0 < 256
+take_bytes zero xs small k = omega arith
+take_bytes (suc n) [] small k = omega arith
+take_bytes (suc n) (x ∷ xs) small zero = small 0
+take_bytes (suc n) (x ∷ xs) small (suc k) = take_bytes n xs (λ j. small (suc j)) k
+
+-- and so is a front of it
+pub bytes_front : (n : ℕ) (xs front : List ℕ) → front ≡ take n xs → ((k : ℕ) → get_or xs k 0 < 256) → (k : ℕ) → get_or front k 0 < 256
+bytes_front n xs front front_is small k = rw front_is (take_bytes n xs small k)
+
 -- sixteen bytes, as two words
 pub words_join : (c low high a b : ℕ) (xs front back rest : List ℕ) → 16 ≤ length xs → ((k : ℕ) → get_or xs k 0 < 256)
     → front ≡ take 8 xs → back ≡ drop 8 xs → rest ≡ drop 8 back → low ≡ little_from 0 8 front → high ≡ little_from 0 8 back
@@ -138,3 +148,12 @@ byte_next c look i xs within small look_is =
 pub bytes_done : (c i : ℕ) (xs : List ℕ) → length xs ≤ i → register_after c (drop i xs) ≡ c
 unfolding register_after
 bytes_done c i xs past = at_drop_all (register_after c) xs i past
+
+-- eight bytes, as a word
+pub word_joins : (c word : ℕ) (xs front back : List ℕ) → 8 ≤ length xs → ((k : ℕ) → get_or xs k 0 < 256)
+    → front ≡ take 8 xs → back ≡ drop 8 xs → word ≡ little_from 0 8 front
+    → register_after (crc_steps 64 (bit_xor c word)) back ≡ register_after c xs
+word_joins c word xs front back long small front_is back_is word_is =
+    let whole : word ≡ little_from 0 8 xs = word_is ∙ ap (little_from 0 8) front_is ∙ little_from-take 0 8 8 xs (omega arith) in
+    ap (register_after (crc_steps 64 (bit_xor c word))) back_is ∙ ap (λ w. register_after (crc_steps 64 (bit_xor c w)) (drop 8 xs)) whole
+    ∙ sym (number_joins 8 c xs long small)

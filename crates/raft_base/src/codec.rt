@@ -2,11 +2,26 @@
 
 ghost use Rattle.std.specs.Prelude.{OnOk};
 ghost use Rattle.std.specs.Io.KnownBytes.{Appends};
+ghost use Rattle.std.specs.Int.{w32, w64};
+ghost use Rattle.byteorder.specs.Endian.{big_bytes, little_bytes};
+ghost use Rattle.raft_base.specs.Fixed.{u64_desc_bytes, i64_bytes, i64_desc_bytes, signed_le_bytes};
 ghost use Rattle.raft_base.specs.Varint.{varint};
+ghost use Rattle.raft_base.specs.Zigzag.{zigzag};
 
+pub mod fixed;
+#[cfg(test)]
+mod tests;
 pub mod varint;
+pub mod zigzag;
 
+use crate::codec::fixed::SIGN_BIT;
+pub use crate::codec::fixed::{
+    decode_i32_le, decode_i64, decode_i64_desc, decode_i64_le, decode_u16, decode_u16_le,
+    decode_u32, decode_u32_le, decode_u64, decode_u64_desc, decode_u64_le, read_u8,
+};
 pub use crate::codec::varint::{append_var_u64, decode_var_u64};
+pub use crate::codec::zigzag::decode_var_i64;
+use byteorder::{BigEndian, LittleEndian, WriteBytesExt};
 use std::io;
 use std::io::{ErrorKind, Write};
 use thiserror::Error;
@@ -60,6 +75,118 @@ pub type Result<T> = std::result::Result<T, Error>;
 
 /// Writes numbers to any writer. The error is the writer's.
 pub trait NumberEncoder: Write {
+    /// Writes `v` in eight bytes, the highest first: they order as the numbers do.
+    final fn encode_u64(&mut self, v: u64) -> Result<()>
+    where
+        Self: Sized,
+        ensures { OnOk result (Appends (Self.contents self.old) (Self.contents self.new) (big_bytes 8 v)) }
+    {
+        self.write_u64::<BigEndian>(v)?;
+        Ok(())
+    }
+
+    /// Writes `v` in four bytes, the highest first.
+    final fn encode_u32(&mut self, v: u32) -> Result<()>
+    where
+        Self: Sized,
+        ensures { OnOk result (Appends (Self.contents self.old) (Self.contents self.new) (big_bytes 4 v)) }
+    {
+        self.write_u32::<BigEndian>(v)?;
+        Ok(())
+    }
+
+    /// Writes `v` in two bytes, the highest first.
+    final fn encode_u16(&mut self, v: u16) -> Result<()>
+    where
+        Self: Sized,
+        ensures { OnOk result (Appends (Self.contents self.old) (Self.contents self.new) (big_bytes 2 v)) }
+    {
+        self.write_u16::<BigEndian>(v)?;
+        Ok(())
+    }
+
+    /// Writes `v` in eight bytes that order in reverse of the numbers: every bit complemented, the
+    /// highest byte first.
+    final fn encode_u64_desc(&mut self, v: u64) -> Result<()>
+    where
+        Self: Sized,
+        ensures { OnOk result (Appends (Self.contents self.old) (Self.contents self.new) (u64_desc_bytes v)) }
+    {
+        self.write_u64::<BigEndian>(!v)?;
+        Ok(())
+    }
+
+    /// Writes `v` in eight bytes that order as the numbers do: two's complement with the sign bit
+    /// flipped, the highest byte first.
+    final fn encode_i64(&mut self, v: i64) -> Result<()>
+    where
+        Self: Sized,
+        ensures { OnOk result (Appends (Self.contents self.old) (Self.contents self.new) (i64_bytes v)) }
+    {
+        self.write_u64::<BigEndian>(v.cast_unsigned() ^ SIGN_BIT)?;
+        Ok(())
+    }
+
+    /// Writes the bytes of `encode_i64` with every bit complemented: they order in reverse.
+    final fn encode_i64_desc(&mut self, v: i64) -> Result<()>
+    where
+        Self: Sized,
+        ensures { OnOk result (Appends (Self.contents self.old) (Self.contents self.new) (i64_desc_bytes v)) }
+    {
+        self.write_u64::<BigEndian>(!(v.cast_unsigned() ^ SIGN_BIT))?;
+        Ok(())
+    }
+
+    /// Writes `v` in two bytes, the lowest first.
+    final fn encode_u16_le(&mut self, v: u16) -> Result<()>
+    where
+        Self: Sized,
+        ensures { OnOk result (Appends (Self.contents self.old) (Self.contents self.new) (little_bytes 2 v)) }
+    {
+        self.write_u16::<LittleEndian>(v)?;
+        Ok(())
+    }
+
+    /// Writes `v` in four bytes, the lowest first.
+    final fn encode_u32_le(&mut self, v: u32) -> Result<()>
+    where
+        Self: Sized,
+        ensures { OnOk result (Appends (Self.contents self.old) (Self.contents self.new) (little_bytes 4 v)) }
+    {
+        self.write_u32::<LittleEndian>(v)?;
+        Ok(())
+    }
+
+    /// Writes `v` in eight bytes, the lowest first.
+    final fn encode_u64_le(&mut self, v: u64) -> Result<()>
+    where
+        Self: Sized,
+        ensures { OnOk result (Appends (Self.contents self.old) (Self.contents self.new) (little_bytes 8 v)) }
+    {
+        self.write_u64::<LittleEndian>(v)?;
+        Ok(())
+    }
+
+    /// Writes `v` as two's complement in four bytes, the lowest first.
+    final fn encode_i32_le(&mut self, v: i32) -> Result<()>
+    where
+        Self: Sized,
+        ensures { OnOk result (Appends (Self.contents self.old) (Self.contents self.new) (signed_le_bytes w32 v)) }
+    {
+        self.write_i32::<LittleEndian>(v)?;
+        Ok(())
+    }
+
+    /// Writes `v` as two's complement in eight bytes, the lowest first.
+    final fn encode_i64_le(&mut self, v: i64) -> Result<()>
+    where
+        Self: Sized,
+        ensures { OnOk result (Appends (Self.contents self.old) (Self.contents self.new) (signed_le_bytes w64 v)) }
+    {
+        self.write_i64::<LittleEndian>(v)?;
+        Ok(())
+    }
+
     /// Writes `v` in base 128, in its shortest spelling.
     final fn encode_var_u64(&mut self, v: u64) -> Result<()>
     where
@@ -70,6 +197,16 @@ pub trait NumberEncoder: Write {
         let len = varint::put_var_u64(&mut bytes, v);
         self.write_all(&bytes[..len])?;
         Ok(())
+    }
+
+    /// Writes `v` in base 128 by its code, which is small where `v` is near 0: twice `v` from 0
+    /// on, and the complement of that below 0.
+    final fn encode_var_i64(&mut self, v: i64) -> Result<()>
+    where
+        Self: Sized,
+        ensures { OnOk result (Appends (Self.contents self.old) (Self.contents self.new) (varint (zigzag v))) }
+    {
+        self.encode_var_u64(zigzag::code_of(v))
     }
 }
 

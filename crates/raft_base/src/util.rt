@@ -2,4 +2,4 @@
 
 mod checksum;
 
-pub use checksum::crc32;
+pub use checksum::{crc32, crc32_is_remainder};

@@ -22,7 +22,7 @@ compact_read bytes behind rest index e r =
 -- ---- byte strings
 
 -- two fronts of one list that are as long are one
-same_length : (a b more rest : List ℕ) → length a ≡ length b → a ++ more ≡ b ++ rest → a ≡ b
+pub same_length : (a b more rest : List ℕ) → length a ≡ length b → a ++ more ≡ b ++ rest → a ≡ b
 same_length [] [] more rest len e = refl
 same_length [] (y ∷ b) more rest len e = absurd (omega arith)
 same_length (x ∷ a) [] more rest len e = absurd (omega arith)

@@ -1,5 +1,7 @@
+pub mod BatchLemmas
 pub mod ContentLemmas
 pub mod EntryLemmas
 pub mod ItemLemmas
 pub mod LineLemmas
 pub mod RequestLemmas
+pub mod SealLemmas

@@ -1,12 +1,22 @@
 //! CRC-32 of bytes.
 
-ghost use Rattle.std.specs.Prelude.{◌≡◌, ℕ, ◌+◌, ◌*◌, ◌^◌, ◌<◌, ◌≤◌, bit_xor, length};
-ghost use Rattle.raft_base.specs.Checksum.{crc_steps, register_after, crc32_of};
+ghost use Rattle.std.specs.Prelude.{◌≡◌, ℕ, ◌+◌, ◌*◌, ◌^◌, ◌<◌, ◌≤◌, ◌++◌, Bool, List, bit_xor, length, slice_index};
+ghost use Rattle.raft_base.specs.Checksum.{crc_steps, register_after, crc32_of, number_of_bytes, product_of};
 
+mod sparse;
 mod tables;
+mod words;
 
 use byteorder::{ByteOrder, LittleEndian};
+use sparse::by_blocks;
 use tables::TABLES;
+use words::by_words;
+
+/// From this length on a text is divided by words, before its last bytes are looked up.
+const MIDDLING: usize = 72;
+
+/// From this length on a text is divided by blocks, before its last bytes are divided by words.
+const LONG: usize = 640;
 
 /// What `byte` and then `zeros` zeros make of a register of zeros.
 #[inline(always)]
@@ -62,9 +72,69 @@ fn by_sixteens(mut register: u32, bytes: &[u8]) -> u32
     by_bytes(register, rest)
 }
 
+/// The register after `bytes`, in the way that is fastest for as many.
+#[inline]
+fn advanced(register: u32, bytes: &[u8]) -> u32
+    ensures { result ≡ register_after register bytes.now }
+{
+    if bytes.len() < MIDDLING {
+        return by_sixteens(register, bytes);
+    }
+    if bytes.len() < LONG {
+        return by_words(register, bytes);
+    }
+    by_blocks(register, bytes)
+}
+
 /// The CRC-32 of `bytes`, as zip files and Ethernet frames have it.
 pub fn crc32(bytes: &[u8]) -> u32
     ensures { result ≡ crc32_of bytes.now }
 {
-    !by_sixteens(u32::MAX, bytes)
+    !advanced(u32::MAX, bytes)
+}
+
+/// The register is a remainder: bytes that join it go on from where it is, and behind it they
+/// differ from the register after them, moved past them, by a multiple of
+/// x^32 + x^26 + x^23 + x^22 + x^16 + x^12 + x^11 + x^10 + x^8 + x^7 + x^5 + x^4 + x^2 + x + 1.
+pub fn crc32_is_remainder()
+    ensures appended { (register : ℕ) (bytes more : List ℕ) → register_after register (bytes ++ more) ≡ register_after (register_after register bytes) more }
+    ensures remainder { (register : ℕ) (bytes : List ℕ) → ((k : ℕ) → slice_index bytes k < 256) → (quotient : List Bool) × (bit_xor register (number_of_bytes bytes) ≡ bit_xor (product_of quotient 0x1DB710641) (register_after register bytes * 2 ^ (8 * length bytes))) }
+{
+}
+
+#[cfg(test)]
+mod tests {
+    use super::*;
+
+    /// Lengths, and the checksums of as many bytes that count up and begin anew after 250.
+    const CHECKSUMS: [(usize, u32); 16] = [
+        (0, 0x00000000),
+        (1, 0xd202ef8d),
+        (15, 0xa06c675e),
+        (16, 0xcecee288),
+        (31, 0x4d786d77),
+        (71, 0x58aee371),
+        (72, 0x1de0d4f7),
+        (87, 0xa9ab1fbf),
+        (88, 0x7c7a2ed8),
+        (255, 0x6f7c9956),
+        (639, 0xff805395),
+        (640, 0xc6fc3391),
+        (2348, 0xfde1f9ae),
+        (2349, 0xf12669cb),
+        (2649, 0xcef9a330),
+        (5000, 0xc1607408),
+    ];
+
+    #[test]
+    fn agrees_with_other_programs(rt: HostRuntime) {
+        assert_eq!(rt; crc32(b"123456789"), 0xcbf43926);
+        let mut bytes = [0u8; 5000];
+        for (k, byte) in bytes.iter_mut().enumerate() {
+            *byte = (k % 251) as u8;
+        }
+        for (len, checksum) in CHECKSUMS {
+            assert_eq!(rt; crc32(&bytes[..len.min(5000)]), checksum, "{len} bytes");
+        }
+    }
 }

@@ -4,6 +4,7 @@ ghost use Rattle.std.specs.Prelude.{◌≡◌, ◌≢◌, ◌++◌, IfOk, IfErr,
 ghost use Rattle.raft_base.specs.Reading.{Reads, HasNoFront};
 ghost use Rattle.raft_records.specs.Grammar.{IsCommand};
 ghost use Rattle.raft_records.specs.Faults.{IsCommandFault};
+ghost use Rattle.raft_records.specs.Sizes.{command_size};
 ghost use Rattle.raft_records.specs.Spelling.{command_bytes};
 
 use raft_base::codec::BytesSlice;
@@ -24,6 +25,16 @@ pub enum Command {
 }
 
 impl Command {
+    /// The approximate length of the command's bytes.
+    pub(crate) fn approximate_size(&self) -> usize
+        ensures { result ≡ command_size self.now }
+    {
+        match self {
+            Command::Clean => 1,
+            Command::Compact { .. } => 1 + 8,
+        }
+    }
+
     /// Appends the command's bytes. On `Err` the vector is as it was.
     pub fn encode(&self, buf: &mut Vec<u8>) -> Result<()>
         ensures ok { OnOk result (buf.new.items ≡ buf.old.items ++ command_bytes self.now) }

@@ -1,11 +1,13 @@
 //! Where the entries of a region's log stand.
 
-ghost use Rattle.std.specs.Prelude.{◌≡◌, ◌≢◌, ◌↔◌, ◌++◌, IsTrue, IfOk, IfErr, OnOk, OnErr};
+ghost use Rattle.std.specs.Prelude.{◌≡◌, ◌≢◌, ◌↔◌, ◌++◌, map, IsTrue, IfOk, IfErr, OnOk, OnErr};
 ghost use Rattle.raft_base.specs.Reading.{Reads, HasNoFront};
 ghost use Rattle.raft_records.specs.Grammar.{IsEntries, IsTail, AreTails, end_behind};
 ghost use Rattle.raft_records.specs.Faults.{IsEntriesFault, IsTailFault, IsTailsFault, IsEntriesRefusal};
 ghost use Rattle.raft_records.specs.Entries.{IsConsecutive, RunOn, AreWritable};
 ghost use Rattle.raft_base.specs.Varint.{varint};
+ghost use Rattle.raft_records.specs.ItemBatch.{placed_entry};
+ghost use Rattle.raft_records.specs.Sizes.{entries_size, saturated};
 ghost use Rattle.raft_records.specs.Spelling.{Keeps, tails_bytes, entries_bytes};
 
 use crate::log_batch::CompressionType;
@@ -79,6 +81,25 @@ fn runs_on(entries: &[EntryIndex]) -> bool
 pub struct EntryIndexes(pub Vec<EntryIndex>);
 
 impl EntryIndexes {
+    /// The approximate length of the entries' bytes, held at `usize::MAX`.
+    pub(crate) fn approximate_size(&self) -> usize
+        ensures { result ≡ saturated (entries_size self.now.0.items) }
+    {
+        let tails = self.0.len().saturating_mul(8);
+        let first = if self.0.is_empty() { 0 } else { 8 };
+        tails.saturating_add(8 + first)
+    }
+
+    /// Gives each entry its place.
+    pub(crate) fn place(&mut self, block: FileBlockHandle, compression_type: CompressionType)
+        ensures { self.new.0.items ≡ map (placed_entry block compression_type) self.old.0.items }
+    {
+        for entry in self.0.iter_mut() {
+            entry.entries = Some(block);
+            entry.compression_type = compression_type;
+        }
+    }
+
     /// Whether the entries can be written: their indexes are consecutive and their bytes run on.
     pub(crate) fn is_writable(&self) -> bool
         ensures { IsTrue result ↔ AreWritable self.now.0.items }

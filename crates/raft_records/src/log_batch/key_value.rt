@@ -5,6 +5,7 @@ ghost use Rattle.raft_base.specs.Reading.{Reads, HasNoFront};
 ghost use Rattle.raft_records.specs.Grammar.{IsByteString, IsKeyAndValue, IsKeyValue, IsPutRead, IsDelRead};
 ghost use Rattle.raft_records.specs.Item.{pair_of};
 ghost use Rattle.raft_records.specs.Faults.{IsByteStringFault, IsPutFault, IsDelFault, IsKeyValueFault, IsOpTypeFault, IsPairRefusal};
+ghost use Rattle.raft_records.specs.Sizes.{pair_size, saturated};
 ghost use Rattle.raft_records.specs.Spelling.{Keeps, byte_string, pair_bytes, IsWritablePair};
 
 use raft_base::codec::BytesSlice;
@@ -66,6 +67,20 @@ impl KeyValue {
             value,
             file_id: None,
         }
+    }
+
+    /// The approximate length of the change's bytes, held at `usize::MAX`.
+    pub(crate) fn approximate_size(&self) -> usize
+        ensures { result ≡ saturated (pair_size (pair_of self.now)) }
+    {
+        let value = match &self.value {
+            Some(value) => value.len(),
+            None => 0,
+        };
+        self.key
+            .len()
+            .saturating_add(value)
+            .saturating_add(1 + 8 + 8)
     }
 
     /// Whether the change can be written: a `Put` has a value.

@@ -6,11 +6,13 @@ ghost use Rattle.raft_base.specs.Reading.{Reads, HasNoFront};
 ghost use Rattle.raft_records.specs.Grammar.{IsItem, IsContent, behind_item, entry_bytes_with};
 ghost use Rattle.raft_records.specs.Item.{item_of, content_of, entries_item, command_item, pair_item};
 ghost use Rattle.raft_records.specs.Faults.{IsItemFault, IsContentFault, IsItemRefusal};
+ghost use Rattle.raft_records.specs.ItemBatch.{placed};
+ghost use Rattle.raft_records.specs.Sizes.{item_size, saturated};
 ghost use Rattle.raft_records.specs.Spelling.{Keeps, item_bytes, content_bytes, IsWritable};
 
-use crate::log_batch::{Command, EntryIndex, EntryIndexes, KeyValue, OpType};
+use crate::log_batch::{Command, CompressionType, EntryIndex, EntryIndexes, KeyValue, OpType};
 use raft_base::codec::BytesSlice;
-use raft_base::{Error, Result, codec};
+use raft_base::{Error, FileBlockHandle, Result, codec};
 use std::alloc::{AllocError, Global};
 use std::io;
 use std::io::ErrorKind;
@@ -73,6 +75,29 @@ impl LogItem {
         LogItem {
             raft_group_id,
             content: LogItemContent::Kv(KeyValue::new(op_type, key, value)),
+        }
+    }
+
+    /// The approximate length of the item's bytes, held at `usize::MAX`.
+    pub(crate) fn approximate_size(&self) -> usize
+        ensures { result ≡ saturated (item_size (item_of self.now)) }
+    {
+        let content = match &self.content {
+            LogItemContent::EntryIndexes(entries) => entries.approximate_size(),
+            LogItemContent::Command(command) => command.approximate_size(),
+            LogItemContent::Kv(kv) => kv.approximate_size(),
+        };
+        content.saturating_add(8 + 1)
+    }
+
+    /// Gives the item's entries their place, its key value its file.
+    pub(crate) fn place(&mut self, block: FileBlockHandle, compression_type: CompressionType)
+        ensures { item_of self.new ≡ placed block compression_type (item_of self.old) }
+    {
+        match &mut self.content {
+            LogItemContent::EntryIndexes(entries) => entries.place(block, compression_type),
+            LogItemContent::Command(_) => {}
+            LogItemContent::Kv(kv) => kv.file_id = Some(block.id),
         }
     }
 

@@ -1,0 +1,221 @@
+-- On lists of items that a batch holds.
+use Rattle.std.proofs.Common.{◌≡◌, ℕ, zero, suc, ◌+◌, ◌-◌, ◌^◌, ◌<◌, ◌≤◌, min, List, [], ◌∷◌, ◌++◌, map, length, take, drop, set, get_or, Option, Some, None, refl, sym, ap, ◌∙◌, subst, append_assoc, arith, inl, inr}
+use Rattle.std.specs.List.{flat_map}
+use Rattle.raft_base.specs.Checksum.{crc32_of}
+use Rattle.raft_base.specs.declared.pipe_log.FileBlockHandle.{FileBlockHandle}
+use Rattle.raft_base.specs.declared.pipe_log.FileId.{FileId}
+use Rattle.std.proofs.lemmas.List.{length-append, map-append, take_more, flat_map_more}
+use Rattle.std.proofs.lemmas.List.Edits.{map_over_more}
+use Rattle.raft_base.specs.declared.errors.Error.{Error}
+use Rattle.raft_base.specs.Reading.{Reads, HasNoFront, HasOneFront, IsPair, IsSequence, state_after}
+use Rattle.raft_base.specs.Varint.{IsVarint}
+use Rattle.raft_base.proofs.VarintLemmas.{varint_one_front, varint_some}
+use Rattle.raft_base.proofs.ReadingLemmas.{reads_pair, no_first, no_second}
+use Rattle.raft_base.proofs.SequenceLemmas.{reads_more, stuck, sequence_one_front, fault_after}
+use Rattle.raft_records.specs.declared.log_batch.CompressionType.{CompressionType}
+use Rattle.raft_records.specs.declared.log_batch.entry_index.EntryIndex.{EntryIndex}
+use Rattle.raft_records.specs.declared.log_batch.key_value.OpType.{OpType}
+use Rattle.raft_records.specs.declared.log_batch.key_value.OpType.TheVariants.{Put, Del}
+use Rattle.raft_records.specs.Item.{Item, Content, entries, command, pair, Pair}
+use Rattle.raft_records.specs.Entries.{IsConsecutiveFrom, IsConsecutive, Tile}
+use Rattle.raft_records.specs.Grammar.{tail_of, IsTail, behind_entry, AreTails, IsRun, IsPairOf, IsContent, IsItem, end_behind, behind_item}
+use Rattle.raft_records.specs.Spelling.{IsWritableWith, item_bytes}
+use Rattle.raft_records.specs.ItemBatch.{FitsBehind, FitTogether, end_of_items, placed_entry, placed, IsKeptBeside, AreItems, IsCounted, signed, checksum_bytes, IsItemBatch, IsSealed, AreItemsFault}
+use Rattle.raft_records.specs.Faults.{IsItemFault}
+use Rattle.raft_records.proofs.ContentLemmas.{item_one_front}
+use Rattle.raft_records.proofs.SealLemmas.{four, content_is}
+use Rattle.raft_records.specs.Sizes.{item_size, items_size, saturated}
+
+-- ---- one more item
+
+pub fit_push : (s : ℕ) (xs : List Item) (x : Item) → FitTogether s xs → FitsBehind (end_of_items s xs) x.content → FitTogether s (xs ++ x ∷ [])
+fit_push s [] x h f = (f, tt)
+fit_push s (y ∷ ys) x h f = (h.0, fit_push (behind_item s y) ys x h.1 f)
+
+pub end_push : (s : ℕ) (xs : List Item) (x : Item) → end_of_items s (xs ++ x ∷ []) ≡ behind_item (end_of_items s xs) x
+end_push s [] x = refl
+end_push s (y ∷ ys) x = end_push (behind_item s y) ys x
+
+pub size_push : (xs : List Item) (x : Item) → items_size (xs ++ x ∷ []) ≡ items_size xs + item_size x
+size_push [] x = omega arith
+size_push (y ∷ ys) x = omega (arith, size_push ys x)
+
+pub kept_push : (xs : List Item) (x : Item) (size entry_bytes size' : ℕ) (checksum : Option ℕ) → IsKeptBeside xs size entry_bytes checksum → FitsBehind (end_of_items 0 xs) x.content → size' ≡ saturated (size + saturated (item_size x)) → IsKeptBeside (xs ++ x ∷ []) size' (behind_item (end_of_items 0 xs) x) None
+kept_push xs x size entry_bytes size' checksum k f e =
+    let before : size ≡ saturated (items_size xs) = k.size in
+    let pushed : items_size (xs ++ x ∷ []) ≡ items_size xs + item_size x = size_push xs x in
+    record { fit = fit_push 0 xs x k.fit f; entry_bytes = sym (end_push 0 xs x); size = omega arith; checksum = λ crc some. absurd cc }
+
+-- ---- places
+
+pub fits_placed : (block : FileBlockHandle) (c : CompressionType) (s : ℕ) (content : Content) → FitsBehind s content → FitsBehind s (placed block c (record { raft_group_id = 0; content = content })).content
+fits_placed block c s (entries es) h = (consecutive_placed es h.0, tile_placed s es h.1)
+  where
+    from_placed : (i : ℕ) (es : List EntryIndex) → IsConsecutiveFrom i es → IsConsecutiveFrom i (map (placed_entry block c) es)
+    from_placed i [] h = tt
+    from_placed i (e ∷ es) h = (h.0, h.1, from_placed (i + 1) es h.2)
+
+    consecutive_placed : (es : List EntryIndex) → IsConsecutive es → IsConsecutive (map (placed_entry block c) es)
+    consecutive_placed [] h = tt
+    consecutive_placed (e ∷ es) h = (h.0, h.1, from_placed (e.index + 1) es h.2)
+
+    tile_placed : (s : ℕ) (es : List EntryIndex) → Tile s es → Tile s (map (placed_entry block c) es)
+    tile_placed s [] h = tt
+    tile_placed s (e ∷ es) h = (h.0, h.1, tile_placed (s + e.entry_len) es h.2)
+fits_placed block c s (command x) h = h
+fits_placed block c s (pair p) h = h
+
+end_placed : (block : FileBlockHandle) (c : CompressionType) (s : ℕ) (es : List EntryIndex) → end_behind s (map (placed_entry block c) es) ≡ end_behind s es
+end_placed block c s [] = refl
+end_placed block c s (e ∷ es) = end_placed block c (tail_of e) es
+
+pub behind_placed : (block : FileBlockHandle) (c : CompressionType) (s : ℕ) (x : Item) → behind_item s (placed block c x) ≡ behind_item s x
+behind_placed block c s x = go x.content
+  where
+    go : (content : Content) → behind_item s (placed block c (record { raft_group_id = x.raft_group_id; content = content })) ≡ behind_item s (record { raft_group_id = x.raft_group_id; content = content })
+    go (entries es) = end_placed block c s es
+    go (command y) = refl
+    go (pair p) = refl
+
+-- ---- what is read fits together
+
+tails_fit : (next : ℕ × ℕ) (bytes : List ℕ) (es : List EntryIndex) → IsSequence behind_entry IsTail next bytes es → IsConsecutiveFrom next.0 es × Tile next.1 es
+tails_fit next bytes [] q = (tt, tt)
+tails_fit next bytes (e ∷ es) q =
+    let t = q.first_spells in
+    let rest = tails_fit (behind_entry next e) q.second es q.second_spells in
+    let begins : e.entry_offset ≡ next.1 = t.offset in
+    let index : e.index ≡ next.0 = t.index in
+    let index_fits : e.index < 2 ^ 64 - 1 = t.index_fits in
+    let tail_fits : tail_of e < 2 ^ 32 = t.tail_fits in
+    ((index, omega arith, rest.0), (begins, omega arith, subst (λ (o : ℕ). Tile (o + e.entry_len) es) begins rest.1))
+
+run_fits : (s n : ℕ) (bytes : List ℕ) (es : List EntryIndex) → IsRun s n bytes es → IsConsecutive es × Tile s es
+run_fits s n bytes [] r = (tt, tt)
+run_fits s n bytes (e ∷ es) r = tails_fit (e.index, s) r.second (e ∷ es) r.second_spells.tails
+
+writable_of : (o : OpType) (v : Option (List ℕ)) (f : Option FileId) (key bytes : List ℕ) → IsPairOf o v f key bytes → IsWritableWith o v
+writable_of Put (Some v) None key bytes p = tt
+writable_of Del None None key bytes p = tt
+writable_of Put None f key bytes p = p
+writable_of Put (Some v) (Some f) key bytes p = absurd p
+writable_of Del (Some v) f key bytes p = absurd p
+writable_of Del None (Some f) key bytes p = absurd p
+
+content_fits : (s : ℕ) (bytes : List ℕ) (content : Content) → IsContent s bytes content → FitsBehind s content
+content_fits s bytes (entries es) t = run_fits s (length es) t.2.second es t.2.second_spells
+content_fits s bytes (command c) t = tt
+content_fits s bytes (pair p) t = writable_of p.op_type p.value p.file_id p.key t.0 t.2
+
+pub item_fits : (s : ℕ) (bytes : List ℕ) (x : Item) → IsItem s bytes x → FitsBehind s x.content
+item_fits s bytes x p = content_fits s p.second x.content p.second_spells
+
+-- ---- items read one behind the other
+
+pub end_is_state : (s : ℕ) (xs : List Item) → end_of_items s xs ≡ state_after behind_item s xs
+end_is_state s [] = refl
+end_is_state s (x ∷ xs) = end_is_state (behind_item s x) xs
+
+pub items_fit : (block : FileBlockHandle) (c : CompressionType) (s : ℕ) (bytes : List ℕ) (xs : List Item) → IsSequence behind_item IsItem s bytes xs → FitTogether s (map (placed block c) xs)
+items_fit block c s bytes [] q = tt
+items_fit block c s bytes (x ∷ xs) q =
+    let rest = items_fit block c (behind_item s x) q.second xs q.second_spells in
+    (
+      fits_placed block c s x.content (item_fits s q.first x q.first_spells),
+      subst (λ (t : ℕ). FitTogether t (map (placed block c) xs)) (sym (behind_placed block c s x)) rest,
+    )
+
+pub end_of_placed : (block : FileBlockHandle) (c : CompressionType) (s : ℕ) (xs : List Item) → end_of_items s (map (placed block c) xs) ≡ end_of_items s xs
+end_of_placed block c s [] = refl
+end_of_placed block c s (x ∷ xs) = ap (λ (t : ℕ). end_of_items t (map (placed block c) xs)) (behind_placed block c s x) ∙ end_of_placed block c (behind_item s x) xs
+
+pub decoded_kept : (block : FileBlockHandle) (c : CompressionType) (n : ℕ) (bytes rest : List ℕ) (xs ys : List Item) (size entries_size : ℕ) → Reads (AreItems n) bytes rest xs → ys ≡ map (placed block c) xs → entries_size ≡ end_of_items 0 xs → size ≡ saturated (items_size ys) → IsKeptBeside ys size entries_size None
+decoded_kept block c n bytes rest xs ys size entries_size r e ends sized =
+    record {
+      fit = subst (λ (zs : List Item). FitTogether 0 zs) (sym e) (items_fit block c 0 r.front xs r.spells.items_spelled);
+      size = sized;
+      entry_bytes = ends ∙ sym (end_of_placed block c 0 xs) ∙ ap (end_of_items 0) (sym e);
+      checksum = λ crc some. absurd cc;
+    }
+
+-- one more item behind those that were read
+pub one_more_item : (bytes mid rest : List ℕ) (xs : List Item) (x : Item) (s : ℕ) → Reads (IsSequence behind_item IsItem 0) bytes mid xs → s ≡ end_of_items 0 xs → Reads (IsItem s) mid rest x → Reads (IsSequence behind_item IsItem 0) bytes rest (xs ++ x ∷ [])
+one_more_item bytes mid rest xs x s r e q =
+    reads_more behind_item IsItem 0 xs x r (subst (λ (t : ℕ). Reads (IsItem t) mid rest x) (e ∙ end_is_state 0 xs) q)
+
+pub no_more_items : (bytes mid : List ℕ) (xs : List Item) (s count : ℕ) → Reads (IsSequence behind_item IsItem 0) bytes mid xs → s ≡ end_of_items 0 xs → length xs < count → HasNoFront (IsItem s) mid → HasNoFront (AreItems count) bytes
+no_more_items bytes mid xs s count r e lt none front rest ys a split =
+    let here : HasNoFront (IsItem (state_after behind_item 0 xs)) mid = subst (λ (t : ℕ). HasNoFront (IsItem t) mid) (e ∙ end_is_state 0 xs) none in
+    let len : length ys ≡ count = a.count in
+    stuck behind_item IsItem item_one_front 0 xs ys r here front rest a.items_spelled split (omega arith)
+
+pub item_fault : (bytes mid : List ℕ) (xs : List Item) (s count more : ℕ) (fault : Error) → Reads (IsSequence behind_item IsItem 0) bytes mid xs → s ≡ end_of_items 0 xs → count ≡ length xs + suc more → IsItemFault s mid fault → AreItemsFault count bytes fault
+item_fault bytes mid xs s count more fault r e c f =
+    inr (fault_after behind_item IsItem IsItemFault 0 xs count (suc more) fault c r (inl (subst (λ (t : ℕ). IsItemFault t mid fault) (e ∙ end_is_state 0 xs) f)))
+
+items_one_front : (n : ℕ) → HasOneFront (AreItems n)
+items_one_front n a b more rest xs ys p q e = sequence_one_front behind_item IsItem item_one_front 0 xs ys a b more rest (p.count ∙ sym q.count) p.items_spelled q.items_spelled e
+
+-- ---- the whole batch
+
+pub counted_read : (n : ℕ) (content mid rest : List ℕ) (xs : List Item) → Reads IsVarint content mid n → Reads (AreItems n) mid rest xs → Reads IsCounted content rest xs
+counted_read n content mid rest xs r t =
+    let both = reads_pair IsVarint AreItems n xs r t in
+    record { front = both.front; spells = subst (λ (k : ℕ). IsPair IsVarint AreItems both.front k xs) (sym t.spells.count) both.spells; split = both.split }
+
+pub batch_read : (signature : Option ℕ) (bytes content rest : List ℕ) (xs : List Item) → IsSealed signature bytes content → Reads IsCounted content rest xs → IsItemBatch bytes signature xs rest
+batch_read signature bytes content rest xs s r =
+    record {
+      front = r.front;
+      counted = r.spells;
+      split = s.split ∙ ap (λ (t : List ℕ). t ++ checksum_bytes signature t) r.split;
+    }
+
+-- the content of an item batch is its count, its items and its rest
+pub batch_content : (signature : Option ℕ) (bytes content rest : List ℕ) (xs : List Item) → IsSealed signature bytes content → (b : IsItemBatch bytes signature xs rest) → content ≡ b.front ++ rest
+batch_content signature bytes content rest xs s b =
+    (content_is signature bytes (b.front ++ rest) content (checksum_bytes signature (b.front ++ rest)) b.split (four (signed signature (crc32_of (b.front ++ rest)))) s).0
+
+counted_some : (front : List ℕ) (xs : List Item) → IsCounted front xs → 0 < length front
+counted_some front xs p = omega (arith, ap length p.split, length-append p.first p.second, varint_some p.first (length xs) p.first_spells)
+
+pub no_seal : (signature : Option ℕ) (bytes : List ℕ) → ((content : List ℕ) → IsSealed signature bytes content → ⊥) → (xs : List Item) (rest : List ℕ) → IsItemBatch bytes signature xs rest → ⊥
+no_seal signature bytes none xs rest b =
+    none (b.front ++ rest) (record { some = omega (arith, length-append b.front rest, counted_some b.front xs b.counted); split = b.split })
+
+pub no_items_count : (signature : Option ℕ) (bytes content : List ℕ) → IsSealed signature bytes content → HasNoFront IsVarint content → (xs : List Item) (rest : List ℕ) → IsItemBatch bytes signature xs rest → ⊥
+no_items_count signature bytes content s none xs rest b =
+    no_first IsVarint AreItems none b.front rest (length xs) xs b.counted (batch_content signature bytes content rest xs s b)
+
+pub no_items : (signature : Option ℕ) (n : ℕ) (bytes content mid : List ℕ) → IsSealed signature bytes content → Reads IsVarint content mid n → HasNoFront (AreItems n) mid → (xs : List Item) (rest : List ℕ) → IsItemBatch bytes signature xs rest → ⊥
+no_items signature n bytes content mid s r none xs rest b =
+    no_second IsVarint AreItems varint_one_front r none b.front rest (length xs) xs b.counted (batch_content signature bytes content rest xs s b)
+
+-- ---- loops over items
+
+-- the step of a loop that changes each value, as a view of it says
+pub map_view_more : {X Y : Type 0} (g : X → Y) (f : Y → Y) (xs : List Y) (ys : List X) (i : ℕ) (old new : X) → i < length ys → length xs ≡ length ys → map g ys ≡ map f (take i xs) ++ drop i xs → old ≡ get_or ys i old → g new ≡ f (g old) → map g (set ys i new) ≡ map f (take (i + 1) xs) ++ drop (i + 1) xs
+map_view_more {X} {Y} g f xs ys i old new lt len e at step =
+    let seen : g old ≡ get_or (map g ys) i (g old) = ap g at ∙ sym (get_or-map g ys i old) in
+    map-set' g ys i new ∙ ap (λ (v : Y). set (map g ys) i v) step ∙ map_over_more f xs (map g ys) i (g old) (omega arith) e seen
+  where
+    map-set' : {X Y : Type 0} (g : X → Y) (ys : List X) (i : ℕ) (v : X) → map g (set ys i v) ≡ set (map g ys) i (g v)
+    map-set' g [] i v = refl
+    map-set' g (y ∷ ys) zero v = refl
+    map-set' {X} {Y} g (y ∷ ys) (suc i) v = ap (λ (t : List Y). g y ∷ t) (map-set' g ys i v)
+    get_or-map : {X Y : Type 0} (g : X → Y) (ys : List X) (i : ℕ) (d : X) → get_or (map g ys) i (g d) ≡ g (get_or ys i d)
+    get_or-map g [] i d = refl
+    get_or-map g (y ∷ ys) zero d = refl
+    get_or-map g (y ∷ ys) (suc i) d = get_or-map g ys i d
+
+-- the items up to one more
+pub items_more : {X Y : Type 0} (g : X → Y) (xs : List X) (i : ℕ) (x : X) → i < length xs → x ≡ get_or xs i x → map g (take (i + 1) xs) ≡ map g (take i xs) ++ g x ∷ []
+items_more g xs i x lt at =
+    ap (map g) (take_more xs i x lt) ∙ map-append g (take i xs) (get_or xs i x ∷ []) ∙ ap (λ v. map g (take i xs) ++ g v ∷ []) (sym at)
+
+pub size_more : (xs : List Item) (x : Item) (size total : ℕ) → size ≡ saturated (items_size xs) → total ≡ saturated (size + saturated (item_size x)) → total ≡ saturated (items_size (xs ++ x ∷ []))
+size_more xs x size total e f = let pushed : items_size (xs ++ x ∷ []) ≡ items_size xs + item_size x = size_push xs x in omega arith
+
+pub bytes_more : (count : List ℕ) (old buf new : List ℕ) (xs : List Item) (x : Item) → buf ≡ old ++ (count ++ flat_map item_bytes xs) → new ≡ buf ++ item_bytes x → new ≡ old ++ (count ++ flat_map item_bytes (xs ++ x ∷ []))
+bytes_more count old buf new xs x e f =
+    f ∙ ap (λ (t : List ℕ). t ++ item_bytes x) e ∙ append_assoc old (count ++ flat_map item_bytes xs) (item_bytes x) ∙ ap (λ (t : List ℕ). old ++ t) (flat_map_more item_bytes count xs x)

@@ -1,0 +1,11 @@
+-- A batch of items as its list of items.
+use Rattle.std.specs.Prelude.{List, map}
+use Rattle.raft_records.specs.declared.log_batch.log_item_batch.LogItemBatch.TheInside.{Inside}
+use Rattle.raft_records.specs.Item.{Item, item_of}
+use Rattle.raft_records.specs.ItemBatch.{IsKeptBeside}
+
+abbrev pub items_in : Inside → List Item
+items_in b = map item_of b.items.items
+
+abbrev pub IsWellFormed : Inside → Type 0
+IsWellFormed b = IsKeptBeside (items_in b) b.item_size b.entries_size b.checksum

@@ -1,0 +1,165 @@
+-- The bytes of a batch of items, and the lists of items that a batch can hold.
+use Rattle.std.specs.Prelude.{◌≡◌, ◌≢◌, ℕ, ◌+◌, ◌-◌, ◌^◌, ◌<◌, ◌≤◌, min, ◌⊎◌, List, [], ◌∷◌, ◌++◌, length, map, take, drop, bit_xor, codes, Option, Some, None}
+use Rattle.std.specs.Fmt.{decimal}
+use Rattle.std.specs.List.{flat_map}
+use Rattle.byteorder.specs.Endian.{little_bytes, little_number}
+use Rattle.raft_base.specs.declared.errors.Error.{Error}
+use Rattle.raft_base.specs.declared.pipe_log.FileBlockHandle.{FileBlockHandle}
+use Rattle.raft_base.specs.Reading.{IsPair, IsSequence, IsFaultBehind, IsSequenceFault}
+use Rattle.raft_base.specs.Checksum.{crc32_of}
+use Rattle.raft_base.specs.Varint.{IsVarint, varint}
+use Rattle.raft_records.specs.declared.log_batch.CompressionType.{CompressionType}
+use Rattle.raft_records.specs.declared.log_batch.entry_index.EntryIndex.{EntryIndex}
+use Rattle.raft_records.specs.Item.{Item, Content, entries, command, pair, Pair, bare}
+use Rattle.raft_records.specs.Entries.{IsConsecutive, Tile}
+use Rattle.raft_records.specs.Grammar.{IsItem, behind_item}
+use Rattle.raft_records.specs.Spelling.{item_bytes, IsWritablePair}
+use Rattle.raft_records.specs.Sizes.{items_size, saturated}
+use Rattle.raft_records.specs.Faults.{IsMemory, IsCorruption, IsNumberFault, IsItemFault}
+
+-- ---- bytes
+
+-- n items, one behind the other, the first behind no entry bytes
+pub record AreItems (n : ℕ) (bytes : List ℕ) (items : List Item) : Type 0 where
+  pub items_spelled : IsSequence behind_item IsItem 0 bytes items
+  pub count : length items ≡ n
+
+-- the count of items and the items
+abbrev pub IsCounted : List ℕ → List Item → Type 0
+IsCounted bytes items = IsPair IsVarint AreItems bytes (length items) items
+
+-- a CRC as it is written: xored with the file's signature where there is one
+abbrev pub signed : Option ℕ → ℕ → ℕ
+signed None crc = crc
+signed (Some signature) crc = bit_xor crc signature
+
+-- the four bytes behind these: their CRC, signed
+abbrev pub checksum_bytes : Option ℕ → List ℕ → List ℕ
+checksum_bytes signature bytes = little_bytes 4 (signed signature (crc32_of bytes))
+
+-- an item batch: the count and the items, a rest that is free, and the signed CRC of all before it
+pub record IsItemBatch (bytes : List ℕ) (signature : Option ℕ) (items : List Item) (rest : List ℕ) : Type 0 where
+  pub front : List ℕ
+  pub counted : IsCounted front items
+  pub split : bytes ≡ (front ++ rest) ++ checksum_bytes signature (front ++ rest)
+
+-- what an encoder writes before the checksum: count and items in shortest spelling
+unfoldable pub batch_bytes : List Item → List ℕ
+batch_bytes items = varint (length items) ++ flat_map item_bytes items
+
+-- what stands in the place of the checksum before it is written
+abbrev pub no_checksum : List ℕ
+no_checksum = 0 ∷ 0 ∷ 0 ∷ 0 ∷ []
+
+-- the bytes that an encoder wrote of these items, and four bytes for the checksum
+pub record IsEncoded (items : List Item) (bytes : List ℕ) : Type 0 where
+  pub seal : List ℕ
+  pub four : length seal ≡ 4
+  pub split : bytes ≡ batch_bytes items ++ seal
+
+-- ---- places
+
+-- an entry in this block
+abbrev pub placed_entry : FileBlockHandle → CompressionType → EntryIndex → EntryIndex
+placed_entry block compression e =
+    record { index = e.index; entries = Some block; compression_type = compression; entry_offset = e.entry_offset; entry_len = e.entry_len }
+
+abbrev pub placed_content : FileBlockHandle → CompressionType → Content → Content
+placed_content block compression (entries es) = entries (map (placed_entry block compression) es)
+placed_content block compression (command c) = command c
+placed_content block compression (pair p) = pair (record { op_type = p.op_type; key = p.key; value = p.value; file_id = Some block.id })
+
+-- an item whose entries are in this block and whose key value is in its file
+abbrev pub placed : FileBlockHandle → CompressionType → Item → Item
+placed block compression item = record { raft_group_id = item.raft_group_id; content = placed_content block compression item.content }
+
+-- the items of an item batch were read, and each got its place; the new bytes are the batch's rest
+pub record IsDecoded (old : List ℕ) (signature : Option ℕ) (block : FileBlockHandle) (compression : CompressionType) (items : List Item) (new : List ℕ) : Type 0 where
+  pub read : List Item
+  pub batch : IsItemBatch old signature read new
+  pub places : items ≡ map (placed block compression) read
+
+-- ---- what a batch holds
+
+-- an item that can be written behind s entry bytes
+abbrev pub FitsBehind : ℕ → Content → Type 0
+FitsBehind s (entries es) = IsConsecutive es × Tile s es
+FitsBehind s (command c) = Unit {0}
+FitsBehind s (pair p) = IsWritablePair p
+
+-- items that can be written one behind the other: their entries' bytes run on
+abbrev pub FitTogether : ℕ → List Item → Type 0
+FitTogether s [] = Unit {0}
+FitTogether s (item ∷ items) = FitsBehind s item.content × FitTogether (behind_item s item) items
+
+-- how many entry bytes there are, behind s of them
+abbrev pub end_of_items : ℕ → List Item → ℕ
+end_of_items s [] = s
+end_of_items s (item ∷ items) = end_of_items (behind_item s item) items
+
+-- the entry bytes of a batch
+abbrev pub entry_bytes_of : List Item → ℕ
+entry_bytes_of items = end_of_items 0 items
+
+-- entries whose bytes are laid from s on
+abbrev pub laid : ℕ → List EntryIndex → List EntryIndex
+laid s [] = []
+laid s (e ∷ es) =
+    record { index = e.index; entries = e.entries; compression_type = e.compression_type; entry_offset = s; entry_len = e.entry_len } ∷ laid (s + e.entry_len) es
+
+-- the bytes of these entries together
+abbrev pub entry_lengths : List EntryIndex → ℕ
+entry_lengths [] = 0
+entry_lengths (e ∷ es) = e.entry_len + entry_lengths es
+
+-- an entry whose bytes stand s further back
+abbrev pub raised_entry : ℕ → EntryIndex → EntryIndex
+raised_entry s e =
+    record { index = e.index; entries = e.entries; compression_type = e.compression_type; entry_offset = e.entry_offset + s; entry_len = e.entry_len }
+
+abbrev pub raised_content : ℕ → Content → Content
+raised_content s (entries es) = entries (map (raised_entry s) es)
+raised_content s (command c) = command c
+raised_content s (pair p) = pair p
+
+-- an item behind s more entry bytes
+abbrev pub raised : ℕ → Item → Item
+raised s item = record { raft_group_id = item.raft_group_id; content = raised_content s item.content }
+
+-- ---- refusals
+
+-- the checksum that stands at the end is not that of the bytes before it
+pub record IsChecksumFault (signature : Option ℕ) (bytes : List ℕ) (e : Error) : Type 0 where
+  pub content : List ℕ
+  pub found : ℕ
+  pub found_fits : found < 2 ^ 32
+  pub split : bytes ≡ content ++ little_bytes 4 found
+  pub differs : crc32_of content ≢ signed signature found
+  pub error : IsCorruption (codes "Checksum expected " ++ (decimal (signed signature found) ++ (codes " but got " ++ decimal (crc32_of content)))) e
+
+-- bytes that are too short, or end in a wrong checksum
+abbrev pub IsSealFault : Option ℕ → List ℕ → Error → Type 0
+IsSealFault signature bytes e =
+    ((length bytes ≤ 4) × IsCorruption (codes "Content too short " ++ decimal (length bytes)) e) ⊎ IsChecksumFault signature bytes e
+
+-- bytes that end in the checksum of those before it, of which there is one at least
+pub record IsSealed (signature : Option ℕ) (bytes content : List ℕ) : Type 0 where
+  pub some : 0 < length content
+  pub split : bytes ≡ content ++ checksum_bytes signature content
+
+-- no count, or a fault in one of the items, or there is no memory for them
+abbrev pub AreItemsFault : ℕ → List ℕ → Error → Type 0
+AreItemsFault n bytes e = IsMemory e ⊎ IsSequenceFault behind_item IsItem IsItemFault n 0 bytes e
+
+-- no item batch: a fault of its seal, or behind a good one a fault of the count or the items
+abbrev pub IsItemBatchFault : Option ℕ → List ℕ → Error → Type 0
+IsItemBatchFault signature bytes e =
+    IsSealFault signature bytes e
+    ⊎ ((content : List ℕ) × IsSealed signature bytes content × (IsNumberFault content e ⊎ IsFaultBehind IsVarint AreItemsFault content e))
+
+-- the items fit together, and what is kept beside them is theirs
+pub record IsKeptBeside (items : List Item) (item_bytes entries_size : ℕ) (crc : Option ℕ) : Type 0 where
+  pub fit : FitTogether 0 items
+  pub size : item_bytes ≡ saturated (items_size items)
+  pub entry_bytes : entries_size ≡ entry_bytes_of items
+  pub checksum : (c : ℕ) → crc ≡ Some c → c ≡ crc32_of (batch_bytes items)

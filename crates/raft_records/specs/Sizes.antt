@@ -1,0 +1,46 @@
+-- Approximate sizes of items, in bytes: eight for each number, one for each type.
+use Rattle.std.specs.Prelude.{ℕ, ◌+◌, ◌-◌, ◌*◌, ◌^◌, min, List, [], ◌∷◌, length, Option, Some, None}
+use Rattle.raft_records.specs.declared.log_batch.command.Command.{Command}
+use Rattle.raft_records.specs.declared.log_batch.command.Command.TheVariants.{Clean, Compact}
+use Rattle.raft_records.specs.declared.log_batch.entry_index.EntryIndex.{EntryIndex}
+use Rattle.raft_records.specs.Item.{Item, Content, entries, command, pair, Pair}
+
+-- the count, the first index where there are entries, and each tail offset
+abbrev pub entries_size : List EntryIndex → ℕ
+entries_size [] = 8
+entries_size (e ∷ es) = 8 + 8 + 8 * length (e ∷ es)
+
+-- the type, and the index of a compaction
+abbrev pub command_size : Command → ℕ
+command_size Clean = 1
+command_size (Compact index) = 1 + 8
+
+-- how many bytes a value has
+abbrev pub value_length : Option (List ℕ) → ℕ
+value_length None = 0
+value_length (Some value) = length value
+
+-- the op type, and key and value with their lengths
+abbrev pub pair_size : Pair → ℕ
+pair_size p = 1 + 8 + length p.key + 8 + value_length p.value
+
+abbrev pub content_size : Content → ℕ
+content_size (entries es) = entries_size es
+content_size (command c) = command_size c
+content_size (pair p) = pair_size p
+
+-- the region, the type and the content
+abbrev pub item_size : Item → ℕ
+item_size item = 8 + 1 + content_size item.content
+
+abbrev pub items_size : List Item → ℕ
+items_size [] = 0
+items_size (item ∷ items) = item_size item + items_size items
+
+-- held at the greatest usize
+abbrev pub saturated : ℕ → ℕ
+saturated n = min n (2 ^ 64 - 1)
+
+-- the count, the items and the checksum
+abbrev pub batch_size : List Item → ℕ
+batch_size items = 8 + items_size items + 4

@@ -1,0 +1,58 @@
+//! Checksums behind bytes.
+
+ghost use Rattle.std.specs.Prelude.{◌≡◌, ◌≢◌, List, ℕ, length, IfOk, IfErr};
+ghost use Rattle.byteorder.specs.Endian.{little_bytes};
+ghost use Rattle.raft_records.specs.ItemBatch.{signed, IsSealed, IsSealFault};
+
+use raft_base::util::crc32;
+use raft_base::{Error, Result, codec};
+use std::alloc::Global;
+
+/// How many bytes a checksum takes.
+pub(crate) const CHECKSUM_LEN: usize = 4;
+
+/// What stands before the checksum at the end of `bytes`, which is that of all before it, xored with
+/// the signature if there is one. `Corruption` where it isn't, or where nothing stands before it.
+pub(crate) fn verify_checksum(alloc: Global, bytes: &[u8], signature: Option<u32>) -> Result<&[u8]>
+    ensures ok { IfOk result (λ content. IsSealed signature bytes.now content.now) }
+    ensures refused { IfErr result (λ e. (content : List ℕ) → IsSealed signature bytes.now content → ⊥) }
+    ensures fault { IfErr result (IsSealFault signature bytes.now) }
+{
+    let len = bytes.len();
+    if len <= CHECKSUM_LEN {
+        return Err(Error::Corruption(format!(in alloc; "Content too short {len}")?));
+    }
+    let (content, seal) = bytes.split_at(len - CHECKSUM_LEN);
+    let found = checksum_of(seal);
+    let actual = crc32(content);
+    if found != sign(actual, signature) {
+        let expected = sign(found, signature);
+        return Err(Error::Corruption(format!(in alloc;
+            "Checksum expected {expected} but got {actual}"
+        )?));
+    }
+    Ok(content)
+}
+
+/// The checksum that these four bytes are.
+fn checksum_of(seal: &[u8]) -> u32
+    requires { length seal.now ≡ CHECKSUM_LEN }
+    ensures { seal.now ≡ little_bytes 4 result }
+{
+    let mut rest = seal;
+    match codec::decode_u32_le(&mut rest) {
+        Ok(checksum) => checksum,
+        Err(_) => unreachable!(),
+    }
+}
+
+/// A checksum xored with the signature, if there is one: as it is written, or, of one that was
+/// written, as it was before.
+pub(crate) fn sign(checksum: u32, signature: Option<u32>) -> u32
+    ensures { result ≡ signed signature checksum }
+{
+    match signature {
+        Some(signature) => checksum ^ signature,
+        None => checksum,
+    }
+}

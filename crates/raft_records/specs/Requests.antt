@@ -1,6 +1,7 @@
 -- What the words of a command line ask for, and the words that name refusals.
-use Rattle.std.specs.Prelude.{◌≡◌, ℕ, ◌^◌, ◌<◌, List, [], ◌∷◌, codes}
+use Rattle.std.specs.Prelude.{◌≡◌, ℕ, ◌^◌, ◌<◌, List, [], ◌∷◌, codes, Option, IfSome}
 use Rattle.std.specs.Str.Parse.{IsNumeral, digits_value}
+use Rattle.raft_base.specs.Signature.{signature_of}
 use Rattle.raft_base.specs.declared.errors.Error.{Error}
 use Rattle.raft_base.specs.declared.errors.Error.TheVariants as errors
 use Rattle.raft_base.specs.declared.pipe_log.LogFileContext.{LogFileContext}
@@ -8,6 +9,7 @@ use Rattle.raft_base.specs.declared.pipe_log.LogQueue.{LogQueue}
 use Rattle.raft_base.specs.declared.pipe_log.LogQueue.TheVariants.{Append, Rewrite}
 use Rattle.raft_base.specs.declared.pipe_log.Version.{Version}
 use Rattle.raft_base.specs.declared.pipe_log.Version.TheVariants.{V1, V2}
+use Rattle.raft_records.specs.Lines.{Prints}
 
 -- the word for a queue
 abbrev pub queue_word : LogQueue → List ℕ
@@ -38,6 +40,16 @@ pub record AsksBatch (words : List (List ℕ)) (context : LogFileContext) : Type
   pub version : List ℕ
   pub form : words ≡ codes "batch" ∷ queue ∷ seq ∷ version ∷ []
   pub file : NamesFile queue seq version context
+
+-- no batch is asked for
+abbrev pub AsksNothing : List (List ℕ) → Type 0
+AsksNothing words = (context : LogFileContext) → AsksBatch words context → ⊥
+
+-- the batch that was asked for was in the input, where that is known, and is printed
+pub record IsAnswered (words : List (List ℕ)) (input old new : Option (List ℕ)) : Type 0 where
+  pub context : LogFileContext
+  pub asked : AsksBatch words context
+  pub printed : IfSome input (λ bytes. Prints bytes (signature_of context) old new)
 
 -- the word for a refusal
 abbrev pub refusal_word : Error → List ℕ

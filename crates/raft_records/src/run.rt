@@ -1,12 +1,65 @@
 //! What the program `raftlog` does, over any reader and writers.
 
-ghost use Rattle.std.specs.Prelude.{◌≡◌, ℕ, IfSome, IfNone, map, string_bytes};
+ghost use Rattle.std.specs.Prelude.{◌≡◌, ◌≤◌, ◌↔◌, ℕ, IfSome, IfNone, map, string_bytes};
+ghost use Rattle.std.specs.Io.KnownBytes.{Keeps};
+ghost use Rattle.raft_base.specs.Signature.{signature_of};
 ghost use Rattle.raft_base.specs.declared.pipe_log.LogFileContext.{LogFileContext};
 ghost use Rattle.raft_base.specs.declared.pipe_log.LogQueue.{LogQueue};
 ghost use Rattle.raft_base.specs.declared.pipe_log.Version.{Version};
-ghost use Rattle.raft_records.specs.Requests.{queue_word, version_word, IsNumberWord, NamesFile, AsksBatch, refusal_word};
+ghost use Rattle.raft_records.specs.Requests.{queue_word, version_word, IsNumberWord, NamesFile, AsksBatch, AsksNothing, IsAnswered, refusal_word};
 
+use crate::print::print_batch;
 use raft_base::{Error, FileId, LogFileContext, LogQueue, Version};
+use std::alloc::Global;
+use std::io::{Read, Write};
+
+/// How a run of `raftlog` ends.
+#[derive(Clone, Copy, PartialEq, Eq, Debug)]
+enum Status {
+    /// What was asked for is done.
+    Done = 0,
+    /// It was refused.
+    Refused = 1,
+    /// The words ask for nothing that `raftlog` does.
+    Misused = 2,
+}
+
+/// What is printed where the words ask for nothing that `raftlog` does.
+const USAGE: &str = "\
+usage: raftlog batch <queue> <seq> <version>
+       raftlog recover <queue> <version> <workers> <seq>=<path>..
+";
+
+/// Does what the words of a command line ask for, and answers the status to end with: 0 where it is
+/// done, 1 where it is refused, 2 where the words ask for nothing. A refusal and a hint at the words
+/// are a line on `err`; where that can't be written, the status is the same.
+pub fn run<R: Read, W: Write, E: Write>(
+    alloc: Global,
+    words: &[String],
+    input: &mut R,
+    out: &mut W,
+    err: &mut E,
+) -> u8
+    ensures known { result ≤ 2 }
+    ensures done { result ≡ 0 → IsAnswered (map string_bytes words.now)
+        (R.remaining input.old) (W.contents out.old) (W.contents out.new) }
+    ensures misused { (result ≡ 2) ↔ AsksNothing (map string_bytes words.now) }
+    ensures untouched { result ≡ 2 → Keeps (W.contents out.old) (W.contents out.new) }
+    ensures quiet { result ≡ 0 → Keeps (E.contents err.old) (E.contents err.new) }
+{
+    let Some(context) = batch_request(words) else {
+        let _ = err.write_all(USAGE.as_bytes());
+        return Status::Misused as u8;
+    };
+    match print_batch(alloc, input, out, &context) {
+        Ok(()) => Status::Done as u8,
+        Err(error) => {
+            let word = refusal(&error);
+            let _ = writeln!(err, "raftlog: refused: {word}");
+            Status::Refused as u8
+        }
+    }
+}
 
 /// The file whose item batch the words ask for.
 fn batch_request(words: &[String]) -> Option<LogFileContext>

@@ -3,4 +3,7 @@ pub mod ContentLemmas
 pub mod EntryLemmas
 pub mod ItemLemmas
 pub mod LayLemmas
+pub mod LineLemmas
+pub mod PrintLemmas
+pub mod RequestLemmas
 pub mod SealLemmas

@@ -6,3 +6,5 @@ pub mod Sizes
 pub mod BatchModel
 pub mod Spelling
 pub mod Faults
+pub mod Lines
+pub mod Requests

@@ -1,0 +1,41 @@
+-- The text of a batch that was decoded: no line shows a place.
+use Rattle.std.proofs.Common.{◌≡◌, ℕ, List, [], ◌∷◌, ◌++◌, length, map, Option, None, Some, IfSome, refl, ap, sym, subst, ◌∙◌, ◌+◌}
+use Rattle.std.proofs.lemmas.List.{length-map}
+use Rattle.std.specs.List.{flat_map}
+use Rattle.raft_base.specs.declared.pipe_log.FileBlockHandle.{FileBlockHandle}
+use Rattle.raft_records.specs.declared.log_batch.CompressionType.{CompressionType}
+use Rattle.raft_records.specs.declared.log_batch.entry_index.EntryIndex.{EntryIndex}
+use Rattle.raft_records.specs.declared.log_batch.log_item.LogItem.{LogItem}
+use Rattle.raft_records.specs.Item.{Item, Content, entries, command, pair, item_of}
+use Rattle.raft_records.specs.Grammar.{end_behind}
+use Rattle.raft_records.specs.ItemBatch.{IsDecoded, placed, placed_content, placed_entry}
+use Rattle.raft_records.specs.Lines.{IsTextOf, line_of, counts_line, content_text}
+
+end_placed : (block : FileBlockHandle) (compression : CompressionType) (s : ℕ) (es : List EntryIndex) → end_behind s (map (placed_entry block compression) es) ≡ end_behind s es
+end_placed block compression s [] = refl
+end_placed block compression s (e ∷ es) = end_placed block compression (e.entry_offset + e.entry_len) es
+
+content_placed : (block : FileBlockHandle) (compression : CompressionType) (content : Content) → content_text (placed_content block compression content) ≡ content_text content
+content_placed block compression (entries []) = refl
+content_placed block compression (entries (e ∷ es)) = rw (end_placed block compression 0 (e ∷ es), length-map (e ∷ es) (placed_entry block compression)) refl
+content_placed block compression (command c) = refl
+content_placed block compression (pair p) = refl
+
+lines_placed : (block : FileBlockHandle) (compression : CompressionType) (items : List Item) → flat_map line_of (map (placed block compression) items) ≡ flat_map line_of items
+lines_placed block compression [] = refl
+lines_placed block compression (item ∷ items) = rw (content_placed block compression item.content, lines_placed block compression items) refl
+
+-- lines of the decoded items and a line of counts are the batch's text
+pub decoded_text : (bytes rest lines text : List ℕ) (signature : Option ℕ) (block : FileBlockHandle) (compression : CompressionType) (decoded : List LogItem) (items : List Item) (count : ℕ) → IsDecoded bytes signature block compression items rest → map item_of decoded ≡ items → count ≡ length decoded → lines ≡ flat_map line_of (map item_of decoded) → text ≡ lines ++ counts_line count (length rest) → IsTextOf bytes signature text
+decoded_text bytes rest lines text signature block compression decoded items count d same n l t =
+    let places : map item_of decoded ≡ map (placed block compression) d.read = same ∙ d.places in
+    let read_lines : lines ≡ flat_map line_of d.read = l ∙ (ap (flat_map line_of) places ∙ lines_placed block compression d.read) in
+    let read_count : count ≡ length d.read = n ∙ (sym (length-map decoded item_of) ∙ (ap length places ∙ length-map d.read (placed block compression))) in
+    record { items = d.read; rest = rest; batch = d.batch; lines = rw (← read_lines, ← read_count) t }
+
+-- what holds of all that was read into an empty vector holds of the input
+pub of_input : (P : List ℕ → Type 0) (input : Option (List ℕ)) (empty read bytes : List ℕ) → IfSome input (λ xs. read ≡ empty ++ xs) → empty ≡ [] → bytes ≡ read → P bytes → IfSome input P
+of_input P None empty read bytes known none same h = tt
+of_input P (Some xs) empty read bytes known none same h =
+    let whole : bytes ≡ xs = same ∙ rw none at known in
+    subst P whole h

@@ -1,0 +1,85 @@
+-- Item batches as text: a line for each item, and a last line of counts.
+use Rattle.std.specs.Prelude.{◌≡◌, ◌⊎◌, ℕ, List, [], ◌∷◌, ◌++◌, length, codes, Option, Some, None}
+use Rattle.std.specs.Fmt.{decimal}
+use Rattle.std.specs.Io.KnownBytes.{Appends}
+use Rattle.std.specs.List.{flat_map}
+use Rattle.hex.specs.Hex.{encode_lower}
+use Rattle.raft_records.specs.declared.log_batch.command.Command.{Command}
+use Rattle.raft_records.specs.declared.log_batch.command.Command.TheVariants.{Clean, Compact}
+use Rattle.raft_records.specs.declared.log_batch.entry_index.EntryIndex.{EntryIndex}
+use Rattle.raft_records.specs.declared.log_batch.key_value.OpType.{OpType}
+use Rattle.raft_records.specs.declared.log_batch.key_value.OpType.TheVariants.{Put, Del}
+use Rattle.raft_base.specs.declared.errors.Error.{Error}
+use Rattle.raft_base.specs.declared.errors.Error.TheVariants.{Io}
+use Rattle.raft_records.specs.Item.{Item, Content, entries, command, pair}
+use Rattle.raft_records.specs.Grammar.{end_behind}
+use Rattle.raft_records.specs.ItemBatch.{IsItemBatch, IsItemBatchFault}
+use Rattle.raft_records.specs.Faults.{IsMemory}
+
+-- the bytes of a key or a value in base 16, `-` where there are none
+abbrev pub bytes_text : List ℕ → List ℕ
+bytes_text [] = codes "-"
+bytes_text (byte ∷ bytes) = encode_lower (byte ∷ bytes)
+
+-- a missing value is shown as one without bytes
+abbrev pub value_text : Option (List ℕ) → List ℕ
+value_text None = bytes_text []
+value_text (Some value) = bytes_text value
+
+-- how many entries, the index of the first and the tail offset of the last
+abbrev pub entries_text : List EntryIndex → List ℕ
+entries_text [] = codes "entries 0"
+entries_text (e ∷ es) =
+    codes "entries " ++ decimal (length (e ∷ es)) ++ codes " first " ++ decimal e.index ++ codes " tail " ++ decimal (end_behind 0 (e ∷ es))
+
+abbrev pub command_text : Command → List ℕ
+command_text Clean = codes "clean"
+command_text (Compact index) = codes "compact " ++ decimal index
+
+-- a Put shows its key and its value, a Del its key
+abbrev pub pair_text : OpType → List ℕ → Option (List ℕ) → List ℕ
+pair_text Put key value = codes "put " ++ bytes_text key ++ codes " " ++ value_text value
+pair_text Del key value = codes "del " ++ bytes_text key
+
+abbrev pub content_text : Content → List ℕ
+content_text (entries es) = entries_text es
+content_text (command c) = command_text c
+content_text (pair p) = pair_text p.op_type p.key p.value
+
+-- the line of an item: its region, and what it changes
+abbrev pub line_of : Item → List ℕ
+line_of item = decimal item.raft_group_id ++ codes " " ++ content_text item.content ++ codes "\n"
+
+-- the last line: how many items there were, and how many bytes are left unread
+abbrev pub counts_line : ℕ → ℕ → List ℕ
+counts_line items rest = codes "items " ++ decimal items ++ codes " rest " ++ decimal rest ++ codes "\n"
+
+-- the text of items with so many bytes left unread behind them
+abbrev pub text_of : List Item → ℕ → List ℕ
+text_of items rest = flat_map line_of items ++ counts_line (length items) rest
+
+-- the text of the item batch that these bytes are
+pub record IsTextOf (bytes : List ℕ) (signature : Option ℕ) (text : List ℕ) : Type 0 where
+  pub items : List Item
+  pub rest : List ℕ
+  pub batch : IsItemBatch bytes signature items rest
+  pub lines : text ≡ text_of items (length rest)
+
+-- the text of an item batch was written behind the old bytes, where those are known
+pub record Prints (input : List ℕ) (signature : Option ℕ) (old new : Option (List ℕ)) : Type 0 where
+  pub text : List ℕ
+  pub of_input : IsTextOf input signature text
+  pub written : Appends old new text
+
+-- no item batch
+abbrev pub IsNoItemBatch : List ℕ → Option ℕ → Type 0
+IsNoItemBatch bytes signature = (items : List Item) (rest : List ℕ) → IsItemBatch bytes signature items rest → ⊥
+
+-- why bytes are not printed: they are no item batch, or there is no memory
+abbrev pub IsPrintFault : List ℕ → Option ℕ → Error → Type 0
+IsPrintFault bytes signature e = IsMemory e ⊎ IsItemBatchFault signature bytes e
+
+-- a reader or a writer failed, or an item ends before its type
+abbrev pub IsIo : Error → Type 0
+IsIo (Io _) = Unit {0}
+IsIo _ = ⊥

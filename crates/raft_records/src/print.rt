@@ -1,0 +1,184 @@
+//! Item batches as text.
+
+ghost use Rattle.std.specs.Prelude.{◌≡◌, ◌≢◌, ◌++◌, IfOk, IfErr, IfSome, OnOk, map, string_bytes};
+ghost use Rattle.std.specs.Io.KnownBytes.{IsAtEnd, Keeps};
+ghost use Rattle.std.specs.List.{flat_map};
+ghost use Rattle.raft_base.specs.Signature.{signature_of};
+ghost use Rattle.raft_records.specs.Grammar.{tail_of};
+ghost use Rattle.raft_records.specs.Item.{item_of, content_of, pair_of};
+ghost use Rattle.raft_records.specs.Lines.{bytes_text, entries_text, command_text, pair_text, content_text, line_of, counts_line, IsTextOf, Prints, IsNoItemBatch, IsPrintFault, IsIo};
+
+use crate::log_batch::{
+    Command, CompressionType, EntryIndex, KeyValue, LogItem, LogItemBatch, LogItemContent, OpType,
+};
+use raft_base::{Error, FileBlockHandle, LogFileContext, Result};
+use std::alloc::{AllocError, Global};
+use std::io::{Read, Write};
+
+/// Prints the item batch that the whole of `reader` is, in the file of `context`: a line for each
+/// item, and a last one with the number of items and of the bytes that are left unread behind them.
+/// Where the bytes are no item batch, or memory is short, nothing is written. A failure of the
+/// reader or the writer is `Io`.
+pub fn print_batch<R: Read, W: Write>(
+    alloc: Global,
+    reader: &mut R,
+    writer: &mut W,
+    context: &LogFileContext,
+) -> Result<()>
+    ensures ok { OnOk result (IfSome (R.remaining reader.old) (λ input.
+        Prints input (signature_of context.now) (W.contents writer.old) (W.contents writer.new))) }
+    ensures all_read { OnOk result (IsAtEnd (R.remaining reader.new)) }
+    ensures silent { IfErr result (λ e. (IsIo e → ⊥) →
+        Keeps (W.contents writer.old) (W.contents writer.new)) }
+    ensures refused { IfErr result (λ e. (IsIo e → ⊥) → e ≢ Error.Memory →
+        IfSome (R.remaining reader.old) (λ input. IsNoItemBatch input (signature_of context.now))) }
+    ensures fault { IfErr result (λ e. (IsIo e → ⊥) →
+        IfSome (R.remaining reader.old) (λ input. IsPrintFault input (signature_of context.now) e)) }
+{
+    let mut input = Vec::new(alloc);
+    reader.read_to_end(&mut input)?;
+    let text = batch_text(alloc, input.as_slice(), context)?;
+    writer.write_all(text.as_bytes())?;
+    Ok(())
+}
+
+/// The text of the item batch that the whole slice is.
+fn batch_text(alloc: Global, bytes: &[u8], context: &LogFileContext) -> Result<String>
+    ensures ok { IfOk result (λ text.
+        IsTextOf bytes.now (signature_of context.now) (string_bytes text)) }
+    ensures refused { IfErr result (λ e. e ≢ Error.Memory →
+        IsNoItemBatch bytes.now (signature_of context.now)) }
+    ensures fault { IfErr result (IsPrintFault bytes.now (signature_of context.now)) }
+{
+    // No line shows a place.
+    let place = FileBlockHandle {
+        id: context.id,
+        offset: 0,
+        len: 0,
+    };
+    let mut rest = bytes;
+    let batch = LogItemBatch::decode(alloc, &mut rest, place, CompressionType::None, context)?;
+    let items = batch.into_items();
+    let mut text = String::new(alloc);
+    append_lines(alloc, items.as_slice(), &mut text)?;
+    append_counts(items.len(), rest.len(), &mut text)?;
+    Ok(text)
+}
+
+/// Appends a line for each item.
+fn append_lines(
+    alloc: Global,
+    items: &[LogItem],
+    text: &mut String,
+) -> std::result::Result<(), AllocError>
+    ensures { OnOk result (string_bytes text.new
+        ≡ string_bytes text.old ++ flat_map line_of (map item_of items.now)) }
+{
+    for item in items {
+        append_line(alloc, item, text)?;
+    }
+    Ok(())
+}
+
+/// Appends the line of an item.
+fn append_line(
+    alloc: Global,
+    item: &LogItem,
+    text: &mut String,
+) -> std::result::Result<(), AllocError>
+    ensures { OnOk result
+        (string_bytes text.new ≡ string_bytes text.old ++ line_of (item_of item.now)) }
+{
+    write!(text, "{} ", item.raft_group_id)?;
+    append_content(alloc, &item.content, text)?;
+    text.push('\n')
+}
+
+/// Appends what an item changes.
+fn append_content(
+    alloc: Global,
+    content: &LogItemContent,
+    text: &mut String,
+) -> std::result::Result<(), AllocError>
+    ensures { OnOk result
+        (string_bytes text.new ≡ string_bytes text.old ++ content_text (content_of content.now)) }
+{
+    match content {
+        LogItemContent::EntryIndexes(entries) => append_entries(entries.0.as_slice(), text),
+        LogItemContent::Command(Command::Clean) => text.push_str("clean"),
+        LogItemContent::Command(Command::Compact { index }) => write!(text, "compact {index}"),
+        LogItemContent::Kv(kv) => append_key_value(alloc, kv, text),
+    }
+}
+
+/// Appends how many entries there are, the first one's index and the last one's tail offset.
+fn append_entries(entries: &[EntryIndex], text: &mut String) -> std::result::Result<(), AllocError>
+    ensures { OnOk result (string_bytes text.new ≡ string_bytes text.old ++ entries_text entries.now) }
+{
+    let (Some(first), Some(last)) = (entries.first(), entries.last()) else {
+        return text.push_str("entries 0");
+    };
+    let count = entries.len();
+    let index = first.index;
+    let tail = tail_offset(last);
+    write!(text, "entries {count} first {index} tail {tail}")
+}
+
+/// Where an entry's bytes end, counted from the first entry byte of the batch.
+fn tail_offset(entry: &EntryIndex) -> u64
+    ensures { result ≡ tail_of entry.now }
+{
+    u64::from(entry.entry_offset) + u64::from(entry.entry_len)
+}
+
+/// Appends the change of a key.
+fn append_key_value(
+    alloc: Global,
+    kv: &KeyValue,
+    text: &mut String,
+) -> std::result::Result<(), AllocError>
+    ensures { OnOk result (string_bytes text.new
+        ≡ string_bytes text.old ++ pair_text kv.now.op_type kv.now.key.items (pair_of kv.now).value) }
+{
+    match kv.op_type {
+        OpType::Put => {
+            text.push_str("put ")?;
+            append_bytes(alloc, kv.key.as_slice(), text)?;
+            text.push(' ')?;
+            match &kv.value {
+                Some(value) => append_bytes(alloc, value.as_slice(), text),
+                None => append_bytes(alloc, &[], text),
+            }
+        }
+        OpType::Del => {
+            text.push_str("del ")?;
+            append_bytes(alloc, kv.key.as_slice(), text)
+        }
+    }
+}
+
+/// Appends bytes in base 16, `-` where there are none.
+fn append_bytes(
+    alloc: Global,
+    bytes: &[u8],
+    text: &mut String,
+) -> std::result::Result<(), AllocError>
+    ensures { OnOk result (string_bytes text.new ≡ string_bytes text.old ++ bytes_text bytes.now) }
+{
+    if bytes.is_empty() {
+        return text.push('-');
+    }
+    let digits = hex::encode(alloc, bytes)?;
+    text.push_str(digits.as_str())
+}
+
+/// Appends the last line: how many items there are, and how many bytes are left behind them.
+fn append_counts(
+    items: usize,
+    rest: usize,
+    text: &mut String,
+) -> std::result::Result<(), AllocError>
+    ensures { OnOk result (string_bytes text.new ≡ string_bytes text.old ++ counts_line items rest) }
+{
+    writeln!(text, "items {items} rest {rest}")
+}

@@ -7,3 +7,4 @@ pub mod LineLemmas
 pub mod PrintLemmas
 pub mod RequestLemmas
 pub mod SealLemmas
+pub mod WrittenLemmas

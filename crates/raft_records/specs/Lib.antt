@@ -1,10 +1,11 @@
-pub mod Item
-pub mod Entries
-pub mod Grammar
-pub mod ItemBatch
-pub mod Sizes
 pub mod BatchModel
-pub mod Spelling
+pub mod Entries
 pub mod Faults
+pub mod Grammar
+pub mod Item
+pub mod ItemBatch
 pub mod Lines
 pub mod Requests
+pub mod Sizes
+pub mod Spelling
+pub mod Written

@@ -3,15 +3,16 @@
 ghost use Rattle.std.specs.Prelude.{◌≡◌, ◌≢◌, ℕ, ◌+◌, ◌^◌, ◌<◌, List, [], ◌∷◌, ◌++◌, map, Some, None, IfOk, IfErr, OnOk, OnErr};
 ghost use Rattle.std.specs.Vec.Iter.{into_iter_items};
 ghost use Rattle.std.specs.Slice.Iter.{iter_rest};
-ghost use Rattle.raft_base.specs.Reading.{Reads, HasNoFront};
+ghost use Rattle.raft_base.specs.Reading.{Reads, HasNoFront, HasOneFront};
 ghost use Rattle.raft_base.specs.Signature.{signature_of};
-ghost use Rattle.raft_records.specs.Grammar.{behind_item};
+ghost use Rattle.raft_records.specs.Grammar.{IsItem, behind_item};
 ghost use Rattle.raft_records.specs.Item.{Item, content_of, item_of, entries_item, command_item, pair_item};
 ghost use Rattle.raft_records.specs.Entries.{IsConsecutive};
 ghost use Rattle.raft_records.specs.ItemBatch.{AreItems, IsItemBatch, IsDecoded, AreItemsFault, IsItemBatchFault, checksum_bytes, batch_bytes, placed, raised, laid, entry_lengths, entry_bytes_of, end_of_items, FitsBehind, IsEncoded, no_checksum, FitTogether, first_entry};
 ghost use Rattle.raft_records.specs.Faults.{IsMemoryOrMessage};
 ghost use Rattle.raft_records.specs.Spelling.{Keeps};
 ghost use Rattle.raft_records.specs.Sizes.{items_size, batch_size, saturated};
+ghost use Rattle.raft_records.specs.Written.{ItemIsSpelled, BatchIsSpelled};
 ghost use Rattle.raft_records.specs.declared.log_batch.key_value.OpType.TheVariants.{Put, Del};
 
 use crate::log_batch::checksum::{CHECKSUM_LEN, sign, verify_checksum};
@@ -323,6 +324,15 @@ impl LogItemBatch {
         Ok(())
     }
 }
+
+/// What is written of an item is a spelling of it, and no spelling of an item begins another, so it is
+/// read again, whatever follows it. What is written and signed of a batch is an item batch of its
+/// items.
+pub fn items_are_read_again()
+    ensures item { ItemIsSpelled }
+    ensures one_front { (s : ℕ) → HasOneFront (IsItem s) }
+    ensures batch { BatchIsSpelled }
+{}
 
 /// Appends the count, the items and four zero bytes. On `Err` some bytes may stand behind those of
 /// the vector.

@@ -1,2 +1,4 @@
 pub mod Errors
+pub mod NumberHash
+pub mod Rounding
 pub mod Signature

@@ -9,4 +9,7 @@ pub mod util;
 
 pub use errors::{Error, Result};
 pub use message::{Message, MessageError, MessageExt};
-pub use pipe_log::{FileBlockHandle, FileId, FileSeq, LogFileContext, LogQueue, Version};
+pub use pipe_log::{
+    FileBlockHandle, FileId, FileSeq, LogFileContext, LogQueue, PipeLog, ReactiveBytes, Version,
+};
+pub use util::Factory;

@@ -1,7 +1,9 @@
 //! Checksums, hashes, rounding and sizes.
 
+mod factory;
 mod hash;
 mod rounding;
 
-pub use hash::{hash_u64, hash_u64_can_be_undone, unhash_u64};
+pub use factory::Factory;
+pub use hash::{hash_u64, hash_u64_laws, unhash_u64};
 pub use rounding::{round_down, round_up};

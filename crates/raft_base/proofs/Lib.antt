@@ -1,1 +1,4 @@
 pub mod NumberHashLemmas
+pub mod SizeDigitLemmas
+pub mod SizeNumberLemmas
+pub mod SizeScalingLemmas

@@ -4,4 +4,8 @@ pub mod FileSpan
 pub mod NumberHash
 pub mod Rounding
 pub mod Signature
+pub mod SizeNumber
+pub mod SizeReading
+pub mod SizeText
+pub mod SizeUnits
 pub mod VersionNumber

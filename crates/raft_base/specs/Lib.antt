@@ -5,7 +5,9 @@ pub mod NumberHash
 pub mod Rounding
 pub mod Signature
 pub mod SizeNumber
+pub mod SizePrint
 pub mod SizeReading
 pub mod SizeText
 pub mod SizeUnits
+pub mod SizeValue
 pub mod VersionNumber

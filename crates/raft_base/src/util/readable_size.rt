@@ -1,0 +1,151 @@
+//! Sizes with units, as settings give them.
+
+ghost use Rattle.std.specs.Prelude.{◌≡◌, ◌<◌, ◌*◌, ◌/◌, ◌^◌, ◌++◌, Some};
+ghost use Rattle.std.specs.Fmt.{decimal};
+ghost use Rattle.raft_base.specs.SizePrint.{size_text};
+ghost use Rattle.raft_base.specs.SizeValue.{IsReadAs, IsValueReadAs};
+ghost use Rattle.toml.specs.View.{view};
+
+use super::size_text::{SizeError, parse_size};
+use super::units::{GIB, KIB, MIB, PIB, TIB};
+use std::fmt;
+use std::ops::{Div, Mul};
+use std::str::FromStr;
+use toml::Value;
+
+/// A size in bytes. It is printed and read with a unit, as `2KiB` or `0.5 MB`.
+#[derive(Clone, Copy, Debug, PartialEq, Eq, PartialOrd)]
+pub struct ReadableSize(pub u64);
+
+impl ReadableSize {
+    /// So many times 2^10 bytes.
+    pub const fn kb(count: u64) -> ReadableSize
+        requires { count * 2 ^ 10 < 2 ^ 64 }
+        ensures { result.0 ≡ count * 2 ^ 10 }
+    {
+        ReadableSize(count * KIB)
+    }
+
+    /// So many times 2^20 bytes.
+    pub const fn mb(count: u64) -> ReadableSize
+        requires { count * 2 ^ 20 < 2 ^ 64 }
+        ensures { result.0 ≡ count * 2 ^ 20 }
+    {
+        ReadableSize(count * MIB)
+    }
+
+    /// So many times 2^30 bytes.
+    pub const fn gb(count: u64) -> ReadableSize
+        requires { count * 2 ^ 30 < 2 ^ 64 }
+        ensures { result.0 ≡ count * 2 ^ 30 }
+    {
+        ReadableSize(count * GIB)
+    }
+
+    /// How often 2^20 bytes fit into the size.
+    pub const fn as_mb(self) -> u64
+        ensures { result ≡ self.0 / 2 ^ 20 }
+    {
+        self.0 / MIB
+    }
+
+    // The number and the unit that are printed.
+    fn printed(self) -> (u64, &'static str)
+        ensures { size_text self.0 ≡ decimal result.0 ++ result.1.now }
+    {
+        let size = self.0;
+        if size == 0 {
+            (0, "KiB")
+        } else if size % PIB == 0 {
+            (size / PIB, "PiB")
+        } else if size % TIB == 0 {
+            (size / TIB, "TiB")
+        } else if size % GIB == 0 {
+            (size / GIB, "GiB")
+        } else if size % MIB == 0 {
+            (size / MIB, "MiB")
+        } else if size % KIB == 0 {
+            (size / KIB, "KiB")
+        } else {
+            (size, "B")
+        }
+    }
+}
+
+/// A part of the size, rounded down.
+impl Div<u64> for ReadableSize {
+    type Output = ReadableSize;
+
+    ghost can_div = { λ size divisor. 0 < divisor };
+
+    ghost div_gives = { λ size divisor r. r.0 ≡ size.0 / divisor };
+
+    fn div(self, rhs: u64) -> ReadableSize {
+        ReadableSize(self.0 / rhs)
+    }
+}
+
+/// How often a size fits into the size.
+impl Div<ReadableSize> for ReadableSize {
+    type Output = u64;
+
+    ghost can_div = { λ size divisor. 0 < divisor.0 };
+
+    ghost div_gives = { λ size divisor r. r ≡ size.0 / divisor.0 };
+
+    fn div(self, rhs: ReadableSize) -> u64 {
+        self.0 / rhs.0
+    }
+}
+
+/// So many times the size.
+impl Mul<u64> for ReadableSize {
+    type Output = ReadableSize;
+
+    ghost can_mul = { λ size count. size.0 * count < 2 ^ 64 };
+
+    ghost mul_gives = { λ size count r. r.0 ≡ size.0 * count };
+
+    fn mul(self, rhs: u64) -> ReadableSize {
+        ReadableSize(self.0 * rhs)
+    }
+}
+
+/// A number and a unit, as ` 0.5 PiB` or `1e+1MB`, rounded down to whole bytes and held from 0 to
+/// 2^64 - 1.
+///
+/// The units are `B` or none, and `K`, `M`, `G`, `T` and `P`, alone or with `B` or `iB` behind
+/// them, for 2^10, 2^20, 2^30, 2^40 and 2^50 bytes.
+impl FromStr for ReadableSize {
+    type Err = SizeError;
+
+    ghost from_str_gives = { IsReadAs };
+
+    fn from_str(s: &str) -> Result<ReadableSize, SizeError> {
+        Ok(ReadableSize(parse_size(s)?))
+    }
+}
+
+/// The size in the largest unit that divides it.
+impl fmt::Display for ReadableSize {
+    ghost output = { λ size. Some (size_text size.0) };
+
+    fn fmt<W: fmt::Write>(&self, f: &mut fmt::Formatter<W>) -> fmt::Result {
+        let (count, unit) = self.printed();
+        write!(f, "{count}{unit}")
+    }
+}
+
+/// The size that a setting gives: a text, or a whole number of bytes.
+pub fn size_from_value(value: &Value) -> Result<ReadableSize, SizeError>
+    ensures { IsValueReadAs (view value.now) result }
+{
+    match value {
+        Value::String(text) => text.as_str().parse(),
+        Value::Integer(size) => match u64::try_from(*size) {
+            Ok(size) => Ok(ReadableSize(size)),
+            Err(_) => Err(SizeError::Kind),
+        },
+        _ => Err(SizeError::Kind),
+    }
+}

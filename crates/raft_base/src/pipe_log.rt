@@ -1,6 +1,9 @@
 //! Log files by name, and places in them.
 
 use crate::Result;
+use serde::{
+    Described, Deserialize, DeserializeOwned, Deserializer, Format, Serialize, Serializer,
+};
 use std::alloc::Global;
 use std::cmp::Ordering;
 use std::convert::AsSlice;
@@ -170,6 +173,60 @@ impl fmt::Display for Version {
 
     fn fmt<W: fmt::Write>(&self, f: &mut fmt::Formatter<W>) -> fmt::Result {
         write!(f, "{}", self.to_u64())
+    }
+}
+
+impl Described for Version {
+    ghost use Rattle.serde.specs.Event.{Logs, unsigned};
+    ghost use Rattle.raft_base.specs.VersionNumber.{number_of};
+
+    ghost writes = { λ version old new. Logs old new (unsigned (number_of version)) };
+}
+
+/// As its number.
+impl Serialize for Version {
+    fn serialize<S: Serializer>(
+        &self,
+        out: &mut S,
+    ) -> std::result::Result<(), S::Error> {
+        self.to_u64().serialize(out)
+    }
+}
+
+/// From its number.
+impl<'de> Deserialize<'de> for Version {
+    ghost use Rattle.std.specs.Prelude.{IfOk};
+    ghost use Rattle.serde.specs.Event.{unsigned};
+    ghost use Rattle.serde.specs.Steps.{Gives};
+    ghost use Rattle.raft_base.specs.VersionNumber.{number_of};
+
+    fn deserialize<F: Format>(
+        alloc: Global,
+        from: &mut Deserializer<'de, '_, F>,
+    ) -> std::result::Result<Version, F::Error>
+        ensures { IfOk result (λ version. Gives F.gives from.old (unsigned (number_of version)) from.new) }
+    {
+        Version::deserialize_owned(alloc, from)
+    }
+}
+
+impl DeserializeOwned for Version {
+    ghost use Rattle.std.specs.Prelude.{IfOk};
+    ghost use Rattle.serde.specs.Event.{unsigned};
+    ghost use Rattle.serde.specs.Steps.{Gives};
+    ghost use Rattle.raft_base.specs.VersionNumber.{number_of};
+
+    fn deserialize_owned<F: Format>(
+        alloc: Global,
+        from: &mut Deserializer<'_, '_, F>,
+    ) -> std::result::Result<Version, F::Error>
+        ensures { IfOk result (λ version. Gives F.gives from.old (unsigned (number_of version)) from.new) }
+    {
+        let number = u64::deserialize_owned(alloc, from)?;
+        match Version::from_u64(number) {
+            Some(version) => Ok(version),
+            None => Err(from.custom("unknown version")),
+        }
     }
 }
 

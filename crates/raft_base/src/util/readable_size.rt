@@ -1,17 +1,28 @@
 //! Sizes with units, as settings give them.
 
-ghost use Rattle.std.specs.Prelude.{◌≡◌, ◌<◌, ◌*◌, ◌/◌, ◌^◌, ◌++◌, Some};
+ghost use Rattle.std.specs.Prelude.{◌≡◌, ◌<◌, ◌*◌, ◌/◌, ◌^◌, ◌++◌, Some, IfOk};
 ghost use Rattle.std.specs.Fmt.{decimal};
 ghost use Rattle.raft_base.specs.SizePrint.{size_text};
-ghost use Rattle.raft_base.specs.SizeValue.{IsReadAs, IsValueReadAs};
+ghost use Rattle.raft_base.specs.SizeValue.{IsReadAs, IsValueReadAs, ReadsSize};
 ghost use Rattle.toml.specs.View.{view};
 
 use super::size_text::{SizeError, parse_size};
 use super::units::{GIB, KIB, MIB, PIB, TIB};
+use serde::{
+    Described, Deserialize, DeserializeOwned, Deserializer, Format, Serialize, Serializer,
+};
+use std::alloc::Global;
 use std::fmt;
+use std::fmt::InlineText;
 use std::ops::{Div, Mul};
 use std::str::FromStr;
 use toml::Value;
+
+// Room for 20 digits and a unit.
+const TEXT_ROOM: usize = 24;
+
+// Room for the text of a `SizeError`.
+const ERROR_ROOM: usize = 80;
 
 /// A size in bytes. It is printed and read with a unit, as `2KiB` or `0.5 MB`.
 #[derive(Clone, Copy, Debug, PartialEq, Eq, PartialOrd)]
@@ -133,6 +144,43 @@ impl fmt::Display for ReadableSize {
     fn fmt<W: fmt::Write>(&self, f: &mut fmt::Formatter<W>) -> fmt::Result {
         let (count, unit) = self.printed();
         write!(f, "{count}{unit}")
+    }
+}
+
+impl Described for ReadableSize {}
+
+/// As its text.
+impl Serialize for ReadableSize {
+    fn serialize<S: Serializer>(&self, out: &mut S) -> Result<(), S::Error> {
+        let text = InlineText::<TEXT_ROOM>::of(*self);
+        out.str(text.as_str())
+    }
+}
+
+/// From a text.
+impl<'de> Deserialize<'de> for ReadableSize {
+    fn deserialize<F: Format>(
+        alloc: Global,
+        from: &mut Deserializer<'de, '_, F>,
+    ) -> Result<ReadableSize, F::Error>
+        ensures { IfOk result (ReadsSize F.gives from.old from.new) }
+    {
+        ReadableSize::deserialize_owned(alloc, from)
+    }
+}
+
+impl DeserializeOwned for ReadableSize {
+    fn deserialize_owned<F: Format>(
+        alloc: Global,
+        from: &mut Deserializer<'_, '_, F>,
+    ) -> Result<ReadableSize, F::Error>
+        ensures { IfOk result (ReadsSize F.gives from.old from.new) }
+    {
+        let text = String::deserialize_owned(alloc, from)?;
+        match ReadableSize::from_str(text.as_str()) {
+            Ok(size) => Ok(size),
+            Err(e) => Err(from.custom(InlineText::<ERROR_ROOM>::of(e).as_str())),
+        }
     }
 }
 

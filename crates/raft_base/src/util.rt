@@ -14,3 +14,6 @@ pub use readable_size::{ReadableSize, size_from_value};
 pub use rounding::{round_down, round_up};
 pub use size_text::SizeError;
 pub use units::{B, GIB, KIB, MIB, PIB, TIB};
+
+#[cfg(test)]
+mod tests;

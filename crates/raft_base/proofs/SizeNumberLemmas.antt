@@ -16,12 +16,12 @@ use Rattle.raft_base.proofs.SizeDigitLemmas.{digits_front}
 pub sign_split : (text : List ℕ) → (sign : List ℕ) × IsSign sign (has_minus text) × (text ≡ sign ++ behind_sign text)
 sign_split [] = ([], inl refl, refl)
 sign_split (c ∷ cs) = elim (cases_eq c 45) [
-      inl minus ↦ rw minus (45 ∷ [], refl, refl)
-    | inr no_minus ↦ elim (cases_eq c 43) [
-        inl plus ↦ rw plus (43 ∷ [], inr refl, refl)
-      | inr no_plus ↦ rw (ne_eqb c 45 no_minus, ne_eqb c 43 no_plus) ([], inl refl, refl)
-      ]
-    ]
+  | inl minus ↦ rw minus (45 ∷ [], refl, refl)
+  | inr no_minus ↦ elim (cases_eq c 43) [
+    | inl plus ↦ rw plus (43 ∷ [], inr refl, refl)
+    | inr no_plus ↦ rw (ne_eqb c 45 no_minus, ne_eqb c 43 no_plus) ([], inl refl, refl)
+  ]
+]
 
 abbrev NoSignFirst : List ℕ → Type 0
 NoSignFirst [] = ⊤
@@ -59,11 +59,15 @@ power_at : (text : List ℕ) (minus : Bool) (digits : List ℕ) → IsPower text
 power_at text minus digits h =
     let found = sign_found h.sign digits minus h.is_sign (numeral_no_sign digits h.is_numeral) in
     let at : (c : ℕ) → (c ≡ 101) ⊎ (c ≡ 69) → h.mark ≡ c ∷ [] → PowerAt text minus digits =
-        λ c is_mark e. record {
-            mark = c; power = h.sign ++ digits; is_mark = is_mark;
-            split = h.split ∙ append_assoc h.mark h.sign digits ∙ ap (λ (m : List ℕ). m ++ (h.sign ++ digits)) e;
-            minus_is = found.0; digits_are = found.1; numeral = h.is_numeral
-        } in
+    λ c is_mark e. record {
+      mark = c;
+      power = h.sign ++ digits;
+      is_mark = is_mark;
+      split = h.split ∙ append_assoc h.mark h.sign digits ∙ ap (λ (m : List ℕ). m ++ (h.sign ++ digits)) e;
+      minus_is = found.0;
+      digits_are = found.1;
+      numeral = h.is_numeral;
+    } in
     elim h.is_mark [ inl e ↦ at 101 (inl refl) e | inr e ↦ at 69 (inr refl) e ]
 
 -- what stands behind a mark is the power
@@ -71,10 +75,12 @@ pub power_behind : (mark : ℕ) (power : List ℕ) → (mark ≡ 101) ⊎ (mark 
 power_behind mark power is_mark numeral =
     let sign = sign_split power in
     inr (record {
-        mark = mark ∷ []; sign = sign.0;
-        is_mark = elim is_mark [ inl e ↦ inl (ap (λ (c : ℕ). c ∷ []) e) | inr e ↦ inr (ap (λ (c : ℕ). c ∷ []) e) ];
-        is_sign = sign.1; is_numeral = numeral;
-        split = ap (λ (p : List ℕ). mark ∷ p) sign.2
+      mark = mark ∷ [];
+      sign = sign.0;
+      is_mark = elim is_mark [ inl e ↦ inl (ap (λ (c : ℕ). c ∷ []) e) | inr e ↦ inr (ap (λ (c : ℕ). c ∷ []) e) ];
+      is_sign = sign.1;
+      is_numeral = numeral;
+      split = ap (λ (p : List ℕ). mark ∷ p) sign.2;
     })
 
 pub numeral_behind : (mark : ℕ) (power : List ℕ) (minus : Bool) (digits : List ℕ) → IsExponent (mark ∷ power) minus digits → IsNumeral 10 (behind_sign power)
@@ -95,9 +101,9 @@ exponent_marked c cs minus digits (inr h) =
 exponent_stops : (text : List ℕ) (minus : Bool) (digits : List ℕ) → IsExponent text minus digits → NoDigitFirst text × NoPointFirst text
 exponent_stops [] minus digits h = (tt, tt)
 exponent_stops (c ∷ cs) minus digits h = elim (exponent_marked c cs minus digits h) [
-      inl e ↦ rw e (omega arith, λ f. omega (arith, f))
-    | inr e ↦ rw e (omega arith, λ f. omega (arith, f))
-    ]
+  | inl e ↦ rw e (omega arith, λ f. omega (arith, f))
+  | inr e ↦ rw e (omega arith, λ f. omega (arith, f))
+]
 
 exponent_once : (text : List ℕ) (a b : Bool) (ds es : List ℕ) → IsExponent text a ds → IsExponent text b es → (a ≡ b) × (ds ≡ es)
 exponent_once text a b ds es (inl h) (inl k) = (h.1 ∙ sym k.1, h.2 ∙ sym k.2)
@@ -142,13 +148,13 @@ taken_once text m n v w f g x y a b =
 
 mantissa_no_sign : (mantissa whole fraction rest : List ℕ) → IsMantissa mantissa whole fraction → NoSignFirst (mantissa ++ rest)
 mantissa_no_sign mantissa (c ∷ cs) fraction rest h = elim h.point [
-      inl e ↦ rw e.0 (digit_no_sign c (cs ++ rest) h.whole_digits.0)
-    | inr e ↦ rw e (digit_no_sign c ((cs ++ (46 ∷ [])) ++ fraction ++ rest) h.whole_digits.0)
-    ]
+  | inl e ↦ rw e.0 (digit_no_sign c (cs ++ rest) h.whole_digits.0)
+  | inr e ↦ rw e (digit_no_sign c ((cs ++ (46 ∷ [])) ++ fraction ++ rest) h.whole_digits.0)
+]
 mantissa_no_sign mantissa [] fraction rest h = elim h.point [
-      inl e ↦ absurd (omega (arith, h.some_digit, ap length e.1))
-    | inr e ↦ rw e ((λ f. omega (arith, f)), (λ f. omega (arith, f)))
-    ]
+  | inl e ↦ absurd (omega (arith, h.some_digit, ap length e.1))
+  | inr e ↦ rw e ((λ f. omega (arith, f)), (λ f. omega (arith, f)))
+]
 
 pub number_taken : (text : List ℕ) (n : Number) (h : IsNumber text n) → Taken text n.minus n.whole n.fraction h.exponent
 number_taken text n h =
@@ -157,17 +163,22 @@ number_taken text n h =
     let found = sign_found h.sign body n.minus h.is_sign (mantissa_no_sign h.mantissa n.whole n.fraction h.exponent h.is_mantissa) in
     let stops = exponent_stops h.exponent n.exponent_minus n.exponent h.is_exponent in
     let taken : (behind : List ℕ) → body ≡ n.whole ++ behind → NoDigitFirst behind → TakesFraction behind n.fraction h.exponent → Taken text n.minus n.whole n.fraction h.exponent =
-        λ behind e free takes. record {
-            behind = behind; minus_is = ap has_minus split ∙ found.0; body_is = ap behind_sign split ∙ found.1 ∙ e;
-            whole_digits = h.is_mantissa.whole_digits; behind_stops = free; takes = takes;
-            fraction_digits = h.is_mantissa.fraction_digits; rest_stops = stops.0
-        } in
+    λ behind e free takes. record {
+      behind = behind;
+      minus_is = ap has_minus split ∙ found.0;
+      body_is = ap behind_sign split ∙ found.1 ∙ e;
+      whole_digits = h.is_mantissa.whole_digits;
+      behind_stops = free;
+      takes = takes;
+      fraction_digits = h.is_mantissa.fraction_digits;
+      rest_stops = stops.0;
+    } in
     elim h.is_mantissa.point [
-      inl e ↦ taken h.exponent (ap (λ (m : List ℕ). m ++ h.exponent) e.0) stops.0 (inr (refl, e.1, stops.1))
-    | inr e ↦
-        taken (46 ∷ (n.fraction ++ h.exponent))
-            (ap (λ (m : List ℕ). m ++ h.exponent) e ∙ append_assoc (n.whole ++ (46 ∷ [])) n.fraction h.exponent ∙ append_assoc n.whole (46 ∷ []) (n.fraction ++ h.exponent))
-            (omega arith) (inl refl)
+      | inl e ↦ taken h.exponent (ap (λ (m : List ℕ). m ++ h.exponent) e.0) stops.0 (inr (refl, e.1, stops.1))
+      | inr e ↦
+          taken (46 ∷ (n.fraction ++ h.exponent))
+          (ap (λ (m : List ℕ). m ++ h.exponent) e ∙ append_assoc (n.whole ++ (46 ∷ [])) n.fraction h.exponent ∙ append_assoc n.whole (46 ∷ []) (n.fraction ++ h.exponent))
+          (omega arith) (inl refl)
     ]
 
 pub taken_number : (text : List ℕ) (n : Number) (rest : List ℕ) → Taken text n.minus n.whole n.fraction rest → 0 < length n.whole + length n.fraction → IsExponent rest n.exponent_minus n.exponent → IsNumber text n
@@ -176,19 +187,23 @@ taken_number text n rest t some exponent =
     let is_sign : IsSign sign.0 n.minus = subst (IsSign sign.0) t.minus_is sign.1 in
     let body : text ≡ sign.0 ++ (n.whole ++ t.behind) = sign.2 ∙ ap (λ (b : List ℕ). sign.0 ++ b) t.body_is in
     let number : (mantissa : List ℕ) → n.whole ++ t.behind ≡ mantissa ++ rest → IsMantissa mantissa n.whole n.fraction → IsNumber text n =
-        λ mantissa split is_mantissa. record {
-            sign = sign.0; mantissa = mantissa; exponent = rest; is_sign = is_sign;
-            is_mantissa = is_mantissa; is_exponent = exponent;
-            split = body ∙ ap (λ (b : List ℕ). sign.0 ++ b) split ∙ sym (append_assoc sign.0 mantissa rest)
-        } in
+    λ mantissa split is_mantissa. record {
+      sign = sign.0;
+      mantissa = mantissa;
+      exponent = rest;
+      is_sign = is_sign;
+      is_mantissa = is_mantissa;
+      is_exponent = exponent;
+      split = body ∙ ap (λ (b : List ℕ). sign.0 ++ b) split ∙ sym (append_assoc sign.0 mantissa rest);
+    } in
     elim t.takes [
-      inl e ↦
-        number (n.whole ++ (46 ∷ []) ++ n.fraction)
-            (ap (λ (b : List ℕ). n.whole ++ b) e ∙ sym (append_assoc (n.whole ++ (46 ∷ [])) n.fraction rest ∙ append_assoc n.whole (46 ∷ []) (n.fraction ++ rest)))
-            (record { whole_digits = t.whole_digits; fraction_digits = t.fraction_digits; some_digit = some; point = inr refl })
-    | inr e ↦
-        number n.whole (ap (λ (b : List ℕ). n.whole ++ b) e.0)
-            (record { whole_digits = t.whole_digits; fraction_digits = t.fraction_digits; some_digit = some; point = inl (refl, e.1) })
+      | inl e ↦
+          number (n.whole ++ (46 ∷ []) ++ n.fraction)
+          (ap (λ (b : List ℕ). n.whole ++ b) e ∙ sym (append_assoc (n.whole ++ (46 ∷ [])) n.fraction rest ∙ append_assoc n.whole (46 ∷ []) (n.fraction ++ rest)))
+          (record { whole_digits = t.whole_digits; fraction_digits = t.fraction_digits; some_digit = some; point = inr refl })
+      | inr e ↦
+          number n.whole (ap (λ (b : List ℕ). n.whole ++ b) e.0)
+          (record { whole_digits = t.whole_digits; fraction_digits = t.fraction_digits; some_digit = some; point = inl (refl, e.1) })
     ]
 
 same_number : (m n : Number) → m.minus ≡ n.minus → m.whole ≡ n.whole → m.fraction ≡ n.fraction → m.exponent_minus ≡ n.exponent_minus → m.exponent ≡ n.exponent → m ≡ n
@@ -198,7 +213,7 @@ pub number_once : (text : List ℕ) (m n : Number) → IsNumber text m → IsNum
 number_once text m n h k =
     let same = taken_once text m.minus n.minus m.whole n.whole m.fraction n.fraction h.exponent k.exponent (number_taken text m h) (number_taken text n k) in
     let exponent = exponent_once k.exponent m.exponent_minus n.exponent_minus m.exponent n.exponent
-        (subst (λ (t : List ℕ). IsExponent t m.exponent_minus m.exponent) same.rest h.is_exponent) k.is_exponent in
+    (subst (λ (t : List ℕ). IsExponent t m.exponent_minus m.exponent) same.rest h.is_exponent) k.is_exponent in
     same_number m n same.minus same.whole same.fraction exponent.0 exponent.1
 
 -- ---- what the reader answers
@@ -218,8 +233,14 @@ exponent_read (Some p) text mark is_mark some first minus digits numeral =
 -- the steps of the reader up to the exponent
 pub taken_by : (text : List ℕ) (minus : Bool) (body whole behind fraction rest : List ℕ) → minus ≡ has_minus text → body ≡ behind_sign text → body ≡ whole ++ behind → AllDigits 10 whole → NoDigitFirst behind → TakesFraction behind fraction rest → AllDigits 10 fraction → NoDigitFirst rest → Taken text minus whole fraction rest
 taken_by text minus body whole behind fraction rest minus_is body_is split w bs t f rs = record {
-    behind = behind; minus_is = sym minus_is; body_is = sym body_is ∙ split;
-    whole_digits = w; behind_stops = bs; takes = t; fraction_digits = f; rest_stops = rs
+  behind = behind;
+  minus_is = sym minus_is;
+  body_is = sym body_is ∙ split;
+  whole_digits = w;
+  behind_stops = bs;
+  takes = t;
+  fraction_digits = f;
+  rest_stops = rs;
 }
 
 -- without a digit there is no number

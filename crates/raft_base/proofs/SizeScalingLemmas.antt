@@ -18,15 +18,15 @@ pub scaled_down : (value up down : ℕ) → up < down → scaled_size value 0 (d
 scaled_down value up down h =
     let power : 10 ^ down ≡ 10 ^ (down - up) * 10 ^ up = ap (λ (k : ℕ). 10 ^ k) (let e : down ≡ down - up + up = omega arith in e) ∙ pow-add 10 (down - up) up in
     let same : value * 10 ^ up / 10 ^ down ≡ value / 10 ^ (down - up) =
-        ap (λ (m : ℕ). value * 10 ^ up / m) power ∙ mul-div-mul_right value (10 ^ (down - up)) (pow_pos up) in
+    ap (λ (m : ℕ). value * 10 ^ up / m) power ∙ mul-div-mul_right value (10 ^ (down - up)) (pow_pos up) in
     ap (λ (m : ℕ). min (2 ^ 64 - 1) m) (ap (λ (m : ℕ). m / 10 ^ (down - up)) (mul-one value) ∙ sym same)
 
 pub scaled_up : (value up down : ℕ) → down ≤ up → scaled_size value (up - down) 0 ≡ scaled_size value up down
 scaled_up value up down h =
     let power : 10 ^ up ≡ 10 ^ (up - down) * 10 ^ down = ap (λ (k : ℕ). 10 ^ k) (let e : up ≡ up - down + down = omega arith in e) ∙ pow-add 10 (up - down) down in
     let same : value * 10 ^ up / 10 ^ down ≡ value * 10 ^ (up - down) =
-        ap (λ (m : ℕ). m / 10 ^ down) (ap (λ (m : ℕ). value * m) power ∙ sym (mul_assoc value (10 ^ (up - down)) (10 ^ down)))
-        ∙ mul-div_cancel (value * 10 ^ (up - down)) (pow_pos down) in
+    ap (λ (m : ℕ). m / 10 ^ down) (ap (λ (m : ℕ). value * m) power ∙ sym (mul_assoc value (10 ^ (up - down)) (10 ^ down)))
+    ∙ mul-div_cancel (value * 10 ^ (up - down)) (pow_pos down) in
     ap (λ (m : ℕ). min (2 ^ 64 - 1) m) (div-one (value * 10 ^ (up - down)) ∙ sym same)
 
 -- a small value is divided away
@@ -47,38 +47,38 @@ raised_away value up down some far =
     let power : 10 ^ 20 * 10 ^ down ≤ 10 ^ up = rw (← pow-add 10 20 down) (pow-le (20 + down) up (omega arith)) in
     let more : 1 * 10 ^ up ≤ value * 10 ^ up = mul-le-mul_right (10 ^ up) (omega arith) in
     held_at_greatest (value * 10 ^ up / 10 ^ down)
-        (let q : 10 ^ 20 ≤ value * 10 ^ up / 10 ^ down = le-div (10 ^ 20) (value * 10 ^ up) (10 ^ down) (pow_pos down) (omega arith) in omega arith)
+    (let q : 10 ^ 20 ≤ value * 10 ^ up / 10 ^ down = le-div (10 ^ 20) (value * 10 ^ up) (10 ^ down) (pow_pos down) (omega arith) in omega arith)
 
 -- what was held before it was raised
 pub raised_held : (value up : ℕ) → scaled_size (min (2 ^ 64 - 1) value) up 0 ≡ scaled_size value up 0
 raised_held value up =
     let grows : (v : ℕ) → 2 ^ 64 - 1 ≤ v → scaled_size v up 0 ≡ 2 ^ 64 - 1 = λ v large.
-        (let more : v * 1 ≤ v * 10 ^ up = mul-le-mul_left v (one-le-pow up 10 (lit≤ tt)) in
-        held_at_greatest (v * 10 ^ up / 10 ^ 0) (rw div-one (omega arith))) in
+    (let more : v * 1 ≤ v * 10 ^ up = mul-le-mul_left v (one-le-pow up 10 (lit≤ tt)) in
+    held_at_greatest (v * 10 ^ up / 10 ^ 0) (rw div-one (omega arith))) in
     elim (cases_lt (2 ^ 64 - 1) value) [
-      inl large ↦ grows (min (2 ^ 64 - 1) value) (omega arith) ∙ sym (grows value (omega arith))
-    | inr small ↦ ap (λ (v : ℕ). scaled_size v up 0) (let e : min (2 ^ 64 - 1) value ≡ value = omega arith in e)
+      | inl large ↦ grows (min (2 ^ 64 - 1) value) (omega arith) ∙ sym (grows value (omega arith))
+      | inr small ↦ ap (λ (v : ℕ). scaled_size v up 0) (let e : min (2 ^ 64 - 1) value ≡ value = omega arith in e)
     ]
 
 -- an exponent may be held where it is past all that counts
 pub held_up : (value up down limit : ℕ) → down + 20 ≤ limit → scaled_size value (min limit up) down ≡ scaled_size value up down
 held_up value up down limit far =
     elim (cases_lt limit up) [
-      inl past ↦ elim (cases_lt 0 value) [
-        inl some ↦ raised_away value (min limit up) down some (omega arith) ∙ sym (raised_away value up down some (omega arith))
-      | inr none ↦
-          (let zero_value : value ≡ 0 = omega arith in
-          ap (λ (v : ℕ). scaled_size v (min limit up) down) zero_value ∙ raised_zero (min limit up) down
-          ∙ sym (ap (λ (v : ℕ). scaled_size v up down) zero_value ∙ raised_zero up down))
+      | inl past ↦ elim (cases_lt 0 value) [
+        | inl some ↦ raised_away value (min limit up) down some (omega arith) ∙ sym (raised_away value up down some (omega arith))
+        | inr none ↦
+            (let zero_value : value ≡ 0 = omega arith in
+            ap (λ (v : ℕ). scaled_size v (min limit up) down) zero_value ∙ raised_zero (min limit up) down
+            ∙ sym (ap (λ (v : ℕ). scaled_size v up down) zero_value ∙ raised_zero up down))
       ]
-    | inr within ↦ ap (λ (k : ℕ). scaled_size value k down) (let e : min limit up ≡ up = omega arith in e)
+      | inr within ↦ ap (λ (k : ℕ). scaled_size value k down) (let e : min limit up ≡ up = omega arith in e)
     ]
 
 pub held_down : (value down places limit : ℕ) → value < 2 ^ 120 → 37 ≤ limit → scaled_size value 0 (min limit down + places) ≡ scaled_size value 0 (down + places)
 held_down value down places limit small far =
     elim (cases_lt limit down) [
-      inl past ↦ lowered_away value (min limit down + places) small (omega arith) ∙ sym (lowered_away value (down + places) small (omega arith))
-    | inr within ↦ ap (λ (k : ℕ). scaled_size value 0 (k + places)) (let e : min limit down ≡ down = omega arith in e)
+      | inl past ↦ lowered_away value (min limit down + places) small (omega arith) ∙ sym (lowered_away value (down + places) small (omega arith))
+      | inr within ↦ ap (λ (k : ℕ). scaled_size value 0 (k + places)) (let e : min limit down ≡ down = omega arith in e)
     ]
 
 -- ---- a number's size

@@ -1,8 +1,9 @@
 //! Sizes with units, as settings give them.
 
-ghost use Rattle.std.specs.Prelude.{◌≡◌, ◌<◌, ◌*◌, ◌/◌, ◌^◌, ◌++◌, Some, IfOk};
+ghost use Rattle.std.specs.Prelude.{◌≡◌, ◌<◌, ◌*◌, ◌/◌, ◌^◌, ◌++◌, ℕ, List, Result, Ok, Some, IfOk};
 ghost use Rattle.std.specs.Fmt.{decimal};
 ghost use Rattle.raft_base.specs.SizePrint.{size_text};
+ghost use Rattle.raft_base.specs.SizeText.{IsSizeText};
 ghost use Rattle.raft_base.specs.SizeValue.{IsReadAs, IsValueReadAs, ReadsSize};
 ghost use Rattle.toml.specs.View.{view};
 
@@ -29,6 +30,9 @@ const ERROR_ROOM: usize = 80;
 pub struct ReadableSize(pub u64);
 
 impl ReadableSize {
+    ghost use Rattle.raft_base.specs.declared.util.readable_size.ReadableSize.{ReadableSize};
+    ghost use Rattle.raft_base.specs.declared.util.size_text.SizeError.{SizeError};
+
     /// So many times 2^10 bytes.
     pub const fn kb(count: u64) -> ReadableSize
         requires { count * 2 ^ 10 < 2 ^ 64 }
@@ -58,6 +62,17 @@ impl ReadableSize {
         ensures { result ≡ self.0 / 2 ^ 20 }
     {
         self.0 / MIB
+    }
+
+    /// The laws of texts: a text can be read in one way alone, what is printed of a size stands
+    /// for that size, and so it is read again as that size.
+    pub fn text_laws()
+        ensures one_way { (text : List ℕ) (r s : Result ReadableSize SizeError) → IsReadAs text r
+            → IsReadAs text s → r ≡ s }
+        ensures printed { (n : ℕ) → n < 2 ^ 64 → IsSizeText (size_text n) n }
+        ensures read_again { (n : ℕ) (r : Result ReadableSize SizeError) → n < 2 ^ 64
+            → IsReadAs (size_text n) r → r ≡ Ok (record { 0 = n }) }
+    {
     }
 
     // The number and the unit that are printed.

@@ -1,5 +1,6 @@
 pub mod NumberHashLemmas
 pub mod SizeDigitLemmas
+pub mod SizeExponentLemmas
 pub mod SizeLawLemmas
 pub mod SizeNumberLemmas
 pub mod SizePrintLemmas

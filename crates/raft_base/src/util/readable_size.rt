@@ -72,8 +72,7 @@ impl ReadableSize {
         ensures printed { (n : ℕ) → n < 2 ^ 64 → IsSizeText (size_text n) n }
         ensures read_again { (n : ℕ) (r : Result ReadableSize SizeError) → n < 2 ^ 64
             → IsReadAs (size_text n) r → r ≡ Ok (record { 0 = n }) }
-    {
-    }
+    {}
 
     // The number and the unit that are printed.
     fn printed(self) -> (u64, &'static str)

@@ -1,5 +1,7 @@
+ghost use Rattle.std.specs.Prelude.{◌≡◌};
+
 use super::size_text::SizeError;
-use super::{ReadableSize, hash_u64, round_down, round_up, size_from_value, unhash_u64};
+use super::{Factory, ReadableSize, hash_u64, round_down, round_up, size_from_value, unhash_u64};
 use crate::Version;
 use serde::{Deserialize, Serialize};
 use std::alloc::Global;
@@ -111,6 +113,7 @@ fn numbers_are_rounded_and_hashed(rt: HostRuntime) {
     assert_eq!(rt; round_down(79, 4096), 0);
     assert_eq!(rt; round_up(18, 4), 20);
     assert_eq!(rt; hash_u64(1), 6_238_072_747_940_578_789);
+    assert_eq!(rt; unhash_u64(1), 10_839_530_715_563_148_754);
     assert_eq!(rt; unhash_u64(hash_u64(777)), 777);
 }
 
@@ -134,6 +137,27 @@ fn values_are_read(rt: HostRuntime) {
     );
     let size = read_value(rt.alloc(), "4KiB");
     assert!(rt; size == Ok(ReadableSize(4096)) || size == Err(SizeError::Empty));
+}
+
+// Gives the same size each time.
+struct Sizes(u64);
+
+impl Factory<ReadableSize> for Sizes {
+    ghost gives = { λ sizes size. size.0 ≡ sizes.0 };
+
+    fn new_target(&self, _alloc: Global) -> crate::Result<ReadableSize> {
+        Ok(ReadableSize(self.0))
+    }
+}
+
+fn two_of<T: Drop, F: Factory<T>>(alloc: Global, factory: &F) -> crate::Result<(T, T)> {
+    Ok((factory.new_target(alloc)?, factory.new_target(alloc)?))
+}
+
+#[test]
+fn factories_give_targets(rt: HostRuntime) {
+    let both = two_of(rt.alloc(), &Sizes(512)).ok();
+    assert_eq!(rt; both, Some((ReadableSize(512), ReadableSize(512))));
 }
 
 #[derive(Drop, Serialize, Deserialize)]

@@ -1,4 +1,4 @@
-use Rattle.std.proofs.Common.{◌≡◌, ◌++◌, ℕ, List, ap, sym, codes, lit<}
+use Rattle.std.proofs.Common.{◌++◌, ℕ, List, ap, sym, codes, lit<}
 use Rattle.std.proofs.lemmas.Fmt.{decimal_digit}
 use Rattle.raft_base.proofs.util.readable_size.ReadableSize.printed.Goals as goal
 

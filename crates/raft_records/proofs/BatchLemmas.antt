@@ -1,16 +1,21 @@
 -- On lists of items that a batch holds.
 use Rattle.std.proofs.Common.{◌≡◌, ℕ, zero, suc, ◌+◌, ◌-◌, ◌^◌, ◌<◌, ◌≤◌, min, List, [], ◌∷◌, ◌++◌, map, length, take, drop, set, get_or, Option, Some, None, refl, sym, ap, ◌∙◌, subst, append_assoc, arith, inl, inr}
+use Rattle.std.specs.Prelude.{bit_xor}
+use Rattle.std.specs.Int.Bits.{xor_assoc, xor_self, xor_zero_l}
+use Rattle.std.proofs.lemmas.Nat.{xor_of_32}
+use Rattle.byteorder.specs.Endian.{little_bytes}
 use Rattle.std.specs.List.{flat_map}
 use Rattle.raft_base.specs.Checksum.{crc32_of}
 use Rattle.raft_base.specs.declared.pipe_log.FileBlockHandle.{FileBlockHandle}
 use Rattle.raft_base.specs.declared.pipe_log.FileId.{FileId}
-use Rattle.std.proofs.lemmas.List.{length-append, length-map, drop_more, map-append, take_more, flat_map_more}
+use Rattle.std.proofs.lemmas.List.{append_cancel_left, length-append, length-map, drop_more, map-append, take_more, flat_map_more}
 use Rattle.std.proofs.lemmas.List.Edits.{map_over_more}
 use Rattle.raft_base.specs.declared.errors.Error.{Error}
 use Rattle.raft_base.specs.Reading.{Reads, HasNoFront, HasOneFront, IsPair, IsSequence, state_after}
 use Rattle.raft_base.specs.Varint.{IsVarint, varint}
 use Rattle.raft_base.proofs.VarintLemmas.{varint_one_front, varint_some}
-use Rattle.raft_base.proofs.ReadingLemmas.{reads_pair, no_first, no_second}
+use Rattle.raft_base.proofs.ReadingLemmas.{reads_pair, no_first, no_second, pair_one_front}
+use Rattle.raft_base.proofs.FixedLemmas.{IsReadAgain-little_bytes}
 use Rattle.raft_base.proofs.SequenceLemmas.{reads_more, stuck, sequence_one_front, fault_after}
 use Rattle.raft_records.specs.declared.log_batch.CompressionType.{CompressionType}
 use Rattle.raft_records.specs.declared.log_batch.entry_index.EntryIndex.{EntryIndex}
@@ -285,3 +290,31 @@ placed_kept block c xs size bytes crc k =
 pub first_entry_step : (xs : List LogItem) (i : ℕ) (x : LogItem) → i < length xs → x ≡ get_or xs i x → first_entry (map item_of (drop i xs)) ≡ first_entry_or (content_of x.content) (first_entry (map item_of (drop (i + 1) xs)))
 first_entry_step xs i x lt at =
     ap (λ (t : List LogItem). first_entry (map item_of t)) (drop_more xs i x lt ∙ ap (λ (v : LogItem). v ∷ drop (i + 1) xs) (sym at))
+
+-- ---- one batch
+
+pub one_batch : (bytes rest rest' : List ℕ) (signature : Option ℕ) (xs ys : List Item) → IsItemBatch bytes signature xs rest → IsItemBatch bytes signature ys rest' → (xs ≡ ys) × (rest ≡ rest')
+one_batch bytes rest rest' signature xs ys b d =
+    let sealed : IsSealed signature bytes (d.front ++ rest') = record { some = omega (arith, length-append d.front rest', counted_some d.front ys d.counted); split = d.split } in
+    let same : d.front ++ rest' ≡ b.front ++ rest = batch_content signature bytes (d.front ++ rest') rest xs sealed b in
+    let one = pair_one_front IsVarint AreItems varint_one_front items_one_front b.front d.front rest rest' (length xs) (length ys) xs ys b.counted d.counted (sym same) in
+    (one.2, append_cancel_left d.front rest rest' (ap (λ (t : List ℕ). t ++ rest) (sym one.0) ∙ sym same))
+
+crc_fits : (bytes : List ℕ) → crc32_of bytes < 2 ^ 32
+unfolding crc32_of
+crc_fits bytes = omega arith
+
+signed_one : (crc s t : ℕ) → bit_xor crc s ≡ bit_xor crc t → s ≡ t
+signed_one crc s t e =
+    let back : (n : ℕ) → bit_xor crc (bit_xor crc n) ≡ n = λ n. sym (xor_assoc crc crc n) ∙ ap (λ (k : ℕ). bit_xor k n) (xor_self crc) ∙ xor_zero_l n in
+    sym (back s) ∙ ap (bit_xor crc) e ∙ back t
+
+pub one_file : (bytes rest rest' : List ℕ) (s t : ℕ) (xs ys : List Item) → s < 2 ^ 32 → t < 2 ^ 32 → IsItemBatch bytes (Some s) xs rest → IsItemBatch bytes (Some t) ys rest' → s ≡ t
+one_file bytes rest rest' s t xs ys sf tf b d =
+    let content = b.front ++ rest in
+    let sealed : IsSealed (Some t) bytes (d.front ++ rest') = record { some = omega (arith, length-append d.front rest', counted_some d.front ys d.counted); split = d.split } in
+    let is = content_is (Some t) bytes content (d.front ++ rest') (checksum_bytes (Some s) content) b.split (four (signed (Some s) (crc32_of content))) sealed in
+    let crcs : crc32_of (d.front ++ rest') ≡ crc32_of content = ap crc32_of is.0 in
+    let seals : little_bytes 4 (bit_xor (crc32_of content) t) ≡ little_bytes 4 (bit_xor (crc32_of content) s) = ap (λ (n : ℕ). little_bytes 4 (bit_xor n t)) (sym crcs) ∙ is.1 in
+    let numbers = (IsReadAgain-little_bytes 4).one_front (little_bytes 4 (bit_xor (crc32_of content) t)) (little_bytes 4 (bit_xor (crc32_of content) s)) [] [] (bit_xor (crc32_of content) t) (bit_xor (crc32_of content) s) (record { in_range = xor_of_32 (crc32_of content) t (crc_fits content) tf; written = refl }) (record { in_range = xor_of_32 (crc32_of content) s (crc_fits content) sf; written = refl }) (ap (λ (x : List ℕ). x ++ []) seals) in
+    signed_one (crc32_of content) s t (sym numbers.1)

@@ -193,9 +193,6 @@ merged_kept xs ys size size' bytes bytes' total crc crc' k l lt sum =
 
 -- ---- loops
 
-abbrev pub no_entry : EntryIndex
-no_entry = record { index = 0; entries = None; compression_type = compressions.None; entry_offset = 0; entry_len = 0 }
-
 pub raise_fits : (by i : ℕ) (xs ys : List EntryIndex) (d : EntryIndex) → i < length xs → ys ≡ map (raised_entry by) (take i xs) ++ drop i xs → CanRaise by xs → (get_or ys i d).entry_offset + by < 2 ^ 32
 raise_fits by i xs ys d lt e h =
     let len : length (map (raised_entry by) (take i xs)) ≡ i = length-map (take i xs) (raised_entry by) ∙ length-take-le i xs (omega arith) in

@@ -1,6 +1,11 @@
 -- Lists of entries of one region.
-use Rattle.std.specs.Prelude.{◌≡◌, ℕ, ◌+◌, ◌-◌, ◌^◌, ◌<◌, List, [], ◌∷◌}
+use Rattle.std.specs.Prelude.{◌≡◌, ℕ, ◌+◌, ◌-◌, ◌^◌, ◌<◌, List, [], ◌∷◌, None}
+use Rattle.raft_records.specs.declared.log_batch.CompressionType.TheVariants as compressions
 use Rattle.raft_records.specs.declared.log_batch.entry_index.EntryIndex.{EntryIndex}
+
+-- index 0, without bytes and without a place
+abbrev pub no_entry : EntryIndex
+no_entry = record { index = 0; entries = None; compression_type = compressions.None; entry_offset = 0; entry_len = 0 }
 
 -- the indexes rise by one from this one on, and none is 2^64 - 1
 abbrev pub IsConsecutiveFrom : ℕ → List EntryIndex → Type 0

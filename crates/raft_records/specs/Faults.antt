@@ -19,7 +19,7 @@ abbrev pub IsMemory : Error → Type 0
 IsMemory errors.Memory = Unit {0}
 IsMemory _ = ⊥
 
--- bytes end too early, as an io error or as a codec's
+-- bytes end too early for a number or a type byte
 abbrev pub IsEof : Error → Type 0
 IsEof (errors.Codec e) = IsIoOf e UnexpectedEof
 IsEof _ = ⊥
@@ -90,7 +90,7 @@ IsRunFault s n bytes e = (0 < n) × (IsNumberFault bytes e ⊎ IsFaultBehind IsV
 abbrev pub IsEntriesFault : ℕ → List ℕ → Error → Type 0
 IsEntriesFault s bytes e = IsNumberFault bytes e ⊎ IsFaultBehind IsVarint (IsRunFault s) bytes e
 
--- entries that don't run on are not written
+-- entries that are not consecutive, or whose bytes don't run on, are not written
 abbrev pub IsEntriesRefusal : List EntryIndex → Error → Type 0
 IsEntriesRefusal es (errors.InvalidArgument text) = AreWritable es → ⊥
 IsEntriesRefusal es e = IsMemory e

@@ -53,8 +53,8 @@ IsKeyValue bytes p = IsPairOf p.op_type p.value p.file_id p.key bytes
 abbrev pub tail_of : EntryIndex → ℕ
 tail_of e = e.entry_offset + e.entry_len
 
--- An entry's tail offset. Its index and the offset of its bytes are those that come next; its bytes are
--- fewer than 2^32, its index is below 2^64 - 1, and its place is not in the bytes.
+-- An entry's tail offset. Its index and the offset of its bytes are those that come next; its tail offset
+-- is below 2^32, its index is below 2^64 - 1, and its place is not in the bytes.
 pub record IsTail (next : ℕ × ℕ) (bytes : List ℕ) (e : EntryIndex) : Type 0 where
   pub tail : IsVarint bytes (tail_of e)
   pub index : e.index ≡ next.0

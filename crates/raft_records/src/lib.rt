@@ -7,10 +7,12 @@ pub mod run;
 
 pub use log_batch::{
     Command, CompressionType, EntryIndex, EntryIndexes, KeyValue, LogItem, LogItemBatch,
-    LogItemContent, OpType,
+    LogItemContent, OpType, is_consecutive,
 };
 pub use print::print_batch;
 pub use raft_base::{
-    Error, FileBlockHandle, FileId, FileSeq, LogFileContext, LogQueue, Message, MessageError,
-    MessageExt, Result, Version, codec,
+    B, Error, Factory, FileBlockHandle, FileId, FileSeq, GIB, KIB, LogFileContext, LogQueue, MIB,
+    Message, MessageError, MessageExt, PIB, PipeLog, ReactiveBytes, ReadableSize, Result,
+    SizeError, TIB, Version, codec, errors, hash_u64, message, pipe_log, round_down, round_up,
+    size_from_value, unhash_u64, util,
 };

@@ -15,6 +15,9 @@ use raft_base::codec::BytesSlice;
 use raft_base::{Error, FileBlockHandle, Result, codec};
 use std::alloc::{AllocError, Global};
 
+/// The most entries that room is made for before they are read.
+const MOST_ENTRIES_AT_ONCE: u64 = 1024;
+
 /// An entry of a region's log: its index, and the place of its bytes.
 #[derive(Clone, Copy, PartialEq, Eq, Debug)]
 pub struct EntryIndex {
@@ -30,6 +33,11 @@ pub struct EntryIndex {
 }
 
 impl Default for EntryIndex {
+    ghost use Rattle.std.specs.Prelude.{◌≡◌};
+    ghost use Rattle.raft_records.specs.Entries.{no_entry};
+
+    ghost is_default = { λ e. e ≡ no_entry };
+
     /// Index 0, no bytes and no place.
     fn default() -> EntryIndex {
         EntryIndex {
@@ -127,7 +135,9 @@ impl EntryIndexes {
         ensures fault { IfErr result (IsEntriesRefusal self.now.0.items) }
     {
         if !self.is_writable() {
-            return Err(Error::InvalidArgument(format!(in alloc; "the entries don't run on")?));
+            return Err(Error::InvalidArgument(format!(in alloc;
+                "the entries are not consecutive or don't run on"
+            )?));
         }
         let len = buf.len();
         let written = self.write(buf);
@@ -225,8 +235,8 @@ fn tails_front(
         HasNoFront (AreTails count (first, entries_size)) bytes.now) }
     ensures fault { IfErr result (IsTailsFault count (first, entries_size) bytes.now) }
 {
-    // Each entry takes a byte at least, so no more are read than bytes are there.
-    let room = count.min(bytes.len() as u64);
+    // Each entry takes a byte at least; a long list grows as its entries are read.
+    let room = count.min(bytes.len() as u64).min(MOST_ENTRIES_AT_ONCE);
     let mut entries = Vec::with_capacity(alloc, room as usize)?;
     let mut rest = bytes;
     let mut index = first;

@@ -1,10 +1,11 @@
 //! Batches of log items, without entry bytes.
 
-ghost use Rattle.std.specs.Prelude.{◌≡◌, ◌≢◌, ℕ, ◌+◌, ◌^◌, ◌<◌, List, [], ◌∷◌, ◌++◌, map, Some, None, IfOk, IfErr, OnOk, OnErr};
+ghost use Rattle.std.specs.Prelude.{◌≡◌, ◌≢◌, ℕ, ◌+◌, ◌%◌, ◌^◌, ◌<◌, Option, List, [], ◌∷◌, ◌++◌, map, Some, None, IfOk, IfErr, OnOk, OnErr};
 ghost use Rattle.std.specs.Vec.Iter.{into_iter_items};
 ghost use Rattle.std.specs.Slice.Iter.{iter_rest};
+ghost use Rattle.raft_base.specs.declared.pipe_log.Version.TheVariants.{V2};
 ghost use Rattle.raft_base.specs.Reading.{Reads, HasNoFront, HasOneFront};
-ghost use Rattle.raft_base.specs.Signature.{signature_of};
+ghost use Rattle.raft_base.specs.Signature.{signature_of, signature_in};
 ghost use Rattle.raft_records.specs.Grammar.{IsItem, behind_item};
 ghost use Rattle.raft_records.specs.Item.{Item, content_of, item_of, entries_item, command_item, pair_item};
 ghost use Rattle.raft_records.specs.Entries.{IsConsecutive};
@@ -24,6 +25,9 @@ use raft_base::{Error, FileBlockHandle, LogFileContext, Message, Result, codec};
 use std::alloc::{AllocError, Global};
 use std::marker::Model;
 use std::{mem, slice, vec};
+
+/// The most items that room is made for before they are read.
+const MOST_ITEMS_AT_ONCE: u64 = 1024;
 
 /// Items in order, without the entries' bytes. The bytes of the entries of its items run on from the
 /// first item to the last.
@@ -327,11 +331,25 @@ impl LogItemBatch {
 
 /// What is written of an item is a spelling of it, and no spelling of an item begins another, so it is
 /// read again, whatever follows it. What is written and signed of a batch is an item batch of its
-/// items.
+/// items. Bytes are an item batch of one list of items, with one rest.
 pub fn items_are_read_again()
     ensures item { ItemIsSpelled }
     ensures one_front { (s : ℕ) → HasOneFront (IsItem s) }
     ensures batch { BatchIsSpelled }
+    ensures one_batch { (bytes rest rest' : List ℕ) (signature : Option ℕ) (items items' : List Item) →
+        IsItemBatch bytes signature items rest → IsItemBatch bytes signature items' rest' →
+        (items ≡ items') × (rest ≡ rest') }
+{}
+
+/// Bytes that are an item batch in one file of version 2 are none in another file of version 2, unless
+/// the low 32 bits of the files' numbers agree; and then they are the same one.
+pub fn batches_belong_to_one_file()
+    ensures other_file { (bytes rest rest' : List ℕ) (seq seq' : ℕ) (items items' : List Item) →
+        IsItemBatch bytes (signature_in V2 seq) items rest →
+        IsItemBatch bytes (signature_in V2 seq') items' rest' → seq % 2 ^ 32 ≡ seq' % 2 ^ 32 }
+    ensures same_bits { (bytes rest : List ℕ) (seq seq' : ℕ) (items : List Item) →
+        seq % 2 ^ 32 ≡ seq' % 2 ^ 32 → IsItemBatch bytes (signature_in V2 seq) items rest →
+        IsItemBatch bytes (signature_in V2 seq') items rest }
 {}
 
 /// Appends the count, the items and four zero bytes. On `Err` some bytes may stand behind those of
@@ -357,8 +375,8 @@ fn items_front(alloc: Global, bytes: &[u8], count: u64) -> Result<(Vec<LogItem>,
     ensures refused { IfErr result (λ e. e ≢ Error.Memory → HasNoFront (AreItems count) bytes.now) }
     ensures fault { IfErr result (AreItemsFault count bytes.now) }
 {
-    // Each item takes a byte at least, so no more are read than bytes are there.
-    let room = count.min(bytes.len() as u64);
+    // Each item takes a byte at least; a long list grows as its items are read.
+    let room = count.min(bytes.len() as u64).min(MOST_ITEMS_AT_ONCE);
     let mut items = Vec::with_capacity(alloc, room as usize)?;
     let mut rest = bytes;
     let mut entries_size = 0;

@@ -2,7 +2,8 @@ use Rattle.std.proofs.Common.{arith}
 use Rattle.std.proofs.lemmas.List.{get_or_default}
 use Rattle.std.proofs.lemmas.List.Edits.{map_over_more}
 use Rattle.raft_records.specs.ItemBatch.{raised_entry}
-use Rattle.raft_records.proofs.LayLemmas.{raise_fits, no_entry}
+use Rattle.raft_records.specs.Entries.{no_entry}
+use Rattle.raft_records.proofs.LayLemmas.{raise_fits}
 use Rattle.raft_records.proofs.log_batch.entry_index.EntryIndexes.raise.Goals as goal
 
 pub overflow_add-entry : goal.overflow_add-entry

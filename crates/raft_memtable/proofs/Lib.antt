@@ -1,0 +1,4 @@
+pub mod LookupLemmas
+pub mod PlaceLemmas
+pub mod RunLemmas
+pub mod SoundLemmas

@@ -1,0 +1,7 @@
+//! The records of regions in memory, and how many of them are live.
+#![tactic(auto)]
+
+pub mod global_stats;
+pub mod memtable;
+
+pub use global_stats::GlobalStats;

@@ -1,0 +1,3 @@
+//! One region's records: where its entries stand, and its key values.
+
+pub mod key_values;

@@ -1,0 +1,1 @@
+//! The key values of one region.

@@ -2,3 +2,4 @@ pub mod LookupLemmas
 pub mod PlaceLemmas
 pub mod RunLemmas
 pub mod SoundLemmas
+pub mod StartLemmas

@@ -1,5 +1,5 @@
 -- What cuts and joins leave of a sound list of entries.
-use Rattle.std.proofs.Common.{◌≡◌, ℕ, zero, suc, ◌+◌, ◌-◌, ◌<◌, ◌≤◌, ◌^◌, min, max, Bool, true, false, List, [], ◌∷◌, ◌++◌, length, get_or, take, drop, refl, sym, ap, ◌∙◌, subst, arith}
+use Rattle.std.proofs.Common.{◌≡◌, ℕ, zero, suc, ◌+◌, ◌-◌, ◌<◌, ◌≤◌, ◌^◌, min, max, Bool, true, false, List, [], ◌∷◌, ◌++◌, length, get_or, take, drop, refl, sym, ap, ◌∙◌, subst, arith, lit<}
 use Rattle.std.proofs.lemmas.Bool.{false≢true}
 use Rattle.std.proofs.lemmas.List.{take_min, drop_min, length-take-le}
 use Rattle.raft_base.specs.declared.pipe_log.LogQueue.{LogQueue}
@@ -85,3 +85,7 @@ cut_counts n es h le = record {
 pub no_front : (es : List EntryIndex) (n : ℕ) → n ≡ length es → (0 < n → false ≡ true) → es ≡ []
 no_front [] n e h = refl
 no_front (x ∷ es) n e h = absurd (false≢true (h (omega arith)))
+
+pub IsSound-nil : IsSound []
+unfolding placed_in end_of
+IsSound-nil = record { run = record { start = 0; rising = tt }; in_front = refl; bounded = lit< tt }

@@ -28,6 +28,11 @@ replayed queue es [] = Some es
 replayed Append es (e ∷ run) = if leaves_hole (end_of es) e.index then None else Some (below e.index es ++ e ∷ run)
 replayed Rewrite es (e ∷ run) = Some (if leaves_hole (end_of es) e.index then e ∷ run else below e.index es ++ e ∷ run)
 
+-- a refusal of what breaks the rules of tables
+abbrev pub IsCorruption : Error → Type 0
+IsCorruption (errors.Corruption text) = Unit {0}
+IsCorruption _ = ⊥
+
 -- why a run with this outcome is refused: by the start rule, since the live number of its queue would pass 2^64 - 1, or for want of memory
 abbrev pub IsRunRefused : LogQueue → Counts → List EntryIndex → Option (List EntryIndex) → Error → Type 0
 IsRunRefused queue counts es None (errors.Corruption text) = Unit {0}

@@ -1,3 +1,4 @@
-//! One region's records: where its entries stand, and its key values.
+//! The table of a region.
 
+pub mod entries;
 pub mod key_values;

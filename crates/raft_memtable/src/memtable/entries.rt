@@ -1,11 +1,11 @@
 //! The entries of a region, in order of index.
 
-ghost use Rattle.std.specs.Prelude.{◌≡◌, ◌≢◌, ◌+◌, ◌-◌, ◌<◌, ◌≤◌, ◌^◌, List, [], ◌∷◌, ◌++◌, length, take, vec_len, MatchOption, OnOk, OnErr, IfErr, nat_le};
-ghost use Rattle.raft_memtable.specs.Counts.{Counts, live};
-ghost use Rattle.raft_memtable.specs.Queues.{count_in, of_queue};
-ghost use Rattle.raft_memtable.specs.Entries.{IsSound, start_of, end_of, entry_at, placed_in, entries_in, below, from, AreCounted, AreRecounted};
-ghost use Rattle.raft_base.specs.declared.pipe_log.LogQueue.{LogQueue};
-ghost use Rattle.raft_base.specs.declared.pipe_log.LogQueue.TheVariants.{Append, Rewrite};
+ghost use Rattle.std.specs.Prelude.{◌≡◌, ◌≢◌, ◌+◌, [], length, MatchOption, IfOk, IfErr};
+ghost use Rattle.raft_memtable.specs.Start.{IsCorruption};
+ghost use Rattle.raft_memtable.specs.Entries.{start_of, entry_at, entries_in, from, AreCounted, AreRecounted};
+ghost use Rattle.raft_base.specs.declared.pipe_log.LogQueue.TheVariants.{Rewrite};
+
+mod runs;
 
 use crate::global_stats::GlobalStats;
 use raft_records::{EntryIndex, Error, LogQueue, Result};
@@ -20,6 +20,16 @@ pub struct Entries {
     deque: VecDeque<EntryIndex>,
     /// How many of them, from the front on, are rewritten.
     rewritten: usize,
+}
+
+/// Where a run meets the entries of a table.
+enum Start {
+    /// It starts among them or right behind them: so many stand below its start.
+    Joins(usize),
+    /// It starts below all of them.
+    InFront,
+    /// It starts behind them, and indexes between are missing.
+    BehindHole,
 }
 
 impl Model for Entries {
@@ -58,6 +68,14 @@ impl Entries {
         ensures { MatchOption result (self.now ≡ []) (λ i. (self.now ≢ []) × (i ≡ start_of self.now)) }
     {
         self.deque.front().map(|e| e.index)
+    }
+
+    /// A refusal with this text, or want of memory for it.
+    fn corruption(&self, text: &str) -> Result<Error>
+        ensures ok { IfOk result IsCorruption }
+        ensures err { IfErr result (λ e. e ≡ Error.Memory) }
+    {
+        Ok(Error::Corruption(String::from_str(*self.deque.allocator(), text)?))
     }
 
     /// How many of them are rewritten.
@@ -100,70 +118,4 @@ impl Entries {
         stats.delete(LogQueue::Append, count - rewritten);
         count as u64
     }
-
-    /// Keeps the first `keep` entries and puts a run of one queue behind them.
-    fn put_behind(
-        &mut self,
-        keep: usize,
-        run: Vec<EntryIndex>,
-        queue: LogQueue,
-        stats: &mut GlobalStats,
-    ) -> Result<()>
-        requires keep { keep ≤ length self.old }
-        requires sound { IsSound (take keep self.old ++ run.items) }
-        requires queue { placed_in queue run.items ≡ run.items }
-        requires counted { AreCounted self.old stats.old }
-        ensures ok { OnOk result (self.new ≡ take keep self.old ++ run.items) }
-        ensures err { OnErr result ((self.new ≡ self.old) × (stats.new ≡ stats.old)) }
-        ensures recounted { AreRecounted self.old self.new stats.old stats.new }
-    {
-        let dropped = self.deque.len() - keep;
-        let rewritten = self.rewritten.min(keep);
-        self.deque.reserve(run.len().saturating_sub(dropped))?;
-        exchange(
-            stats,
-            self.rewritten - rewritten,
-            dropped - (self.rewritten - rewritten),
-            queue,
-            run.len(),
-        )?;
-        self.deque.truncate(keep);
-        self.rewritten = match queue {
-            LogQueue::Append => rewritten,
-            LogQueue::Rewrite => rewritten + run.len(),
-        };
-        let mut run = VecDeque::from_vec(run);
-        if self.deque.append(&mut run).is_err() {
-            unreachable!()
-        }
-        Ok(())
-    }
-}
-
-/// Counts `added` live records of `queue` in place of those that are gone from either queue.
-fn exchange(
-    stats: &mut GlobalStats,
-    rewritten: usize,
-    appended: usize,
-    queue: LogQueue,
-    added: usize,
-) -> Result<()>
-    requires rewritten { rewritten ≤ live Rewrite stats.old }
-    requires appended { appended ≤ live Append stats.old }
-    ensures ok { OnOk result ((q : LogQueue) →
-        live q stats.new + of_queue q appended rewritten ≡ live q stats.old + count_in q queue added) }
-    ensures err { OnErr result (stats.new ≡ stats.old) }
-    ensures full { IfErr result (λ e. (e ≡ Error.Full)
-        × (2 ^ 64 + of_queue queue appended rewritten ≤ live queue stats.old + added)) }
-{
-    let gone = match queue {
-        LogQueue::Append => appended,
-        LogQueue::Rewrite => rewritten,
-    };
-    if added > usize::MAX - (stats.live_entries(queue) - gone) {
-        return Err(Error::Full);
-    }
-    stats.delete(LogQueue::Append, appended);
-    stats.delete(LogQueue::Rewrite, rewritten);
-    stats.add(queue, added)
 }

@@ -15,7 +15,7 @@ each_queue P a r Append = a
 each_queue P a r Rewrite = r
 
 -- each element passes, or none does
-pub AllTest : {X : Type 0} → Bool → (X → Bool) → List X → Type 0
+unfoldable pub AllTest : {X : Type 0} → Bool → (X → Bool) → List X → Type 0
 AllTest b p [] = Unit {0}
 AllTest b p (x ∷ xs) = (p x ≡ b) × AllTest b p xs
 
@@ -38,6 +38,12 @@ unfolding AllTest
 AllTest-take b p zero xs h = tt
 AllTest-take b p (suc n) [] h = tt
 AllTest-take b p (suc n) (x ∷ xs) h = (h.0, AllTest-take b p n xs h.1)
+
+pub AllTest-drop : {X : Type 0} (b : Bool) (p : X → Bool) (n : ℕ) (xs : List X) → AllTest b p xs → AllTest b p (drop n xs)
+unfolding AllTest
+AllTest-drop b p zero xs h = h
+AllTest-drop b p (suc n) [] h = tt
+AllTest-drop b p (suc n) (x ∷ xs) h = AllTest-drop b p n xs h.1
 
 pub filter_none : {X : Type 0} (p : X → Bool) (xs : List X) → AllTest false p xs → filter p xs ≡ []
 unfolding AllTest

@@ -90,6 +90,13 @@ RisesFrom-take zero s es h = tt
 RisesFrom-take (suc n) s [] h = tt
 RisesFrom-take (suc n) s (e ∷ es) h = (h.0, RisesFrom-take n (suc s) es h.1)
 
+pub RisesFrom-drop : (n s : ℕ) (es : List EntryIndex) → RisesFrom s es → n ≤ length es → RisesFrom (s + n) (drop n es)
+RisesFrom-drop zero s es h l = let e : s + 0 ≡ s = omega arith in rw e h
+RisesFrom-drop (suc n) s [] h l = absurd (omega arith)
+RisesFrom-drop (suc n) s (e ∷ es) h l =
+    let k : s + suc n ≡ suc s + n = omega arith in
+    rw k (RisesFrom-drop n (suc s) es h.1 (omega arith))
+
 pub IsRun-drop : (n s : ℕ) (es : List EntryIndex) → RisesFrom s es → IsRun (drop n es)
 IsRun-drop zero s es h = record { start = s; rising = h }
 IsRun-drop (suc n) s [] h = record { start = 0; rising = tt }

@@ -1,5 +1,6 @@
 -- What cuts and joins leave of a sound list of entries.
-use Rattle.std.proofs.Common.{◌≡◌, ℕ, zero, suc, ◌+◌, ◌-◌, ◌<◌, ◌≤◌, ◌^◌, min, max, Bool, true, false, List, [], ◌∷◌, ◌++◌, length, get_or, take, drop, refl, sym, ap, ◌∙◌, subst, arith, lit<}
+use Rattle.std.proofs.Common.{◌≡◌, ℕ, zero, suc, ◌+◌, ◌-◌, ◌<◌, ◌≤◌, ◌^◌, min, max, Bool, true, false, List, [], ◌∷◌, ◌++◌, length, get_or, take, drop, refl, sym, ap, ◌∙◌, subst, arith, lit<, None}
+use Rattle.std.specs.List.{slice_get}
 use Rattle.std.proofs.lemmas.Bool.{false≢true}
 use Rattle.std.proofs.lemmas.List.{take_min, drop_min, length-take-le}
 use Rattle.raft_base.specs.declared.pipe_log.LogQueue.{LogQueue}
@@ -89,3 +90,7 @@ no_front (x ∷ es) n e h = absurd (false≢true (h (omega arith)))
 pub IsSound-nil : IsSound []
 unfolding placed_in end_of
 IsSound-nil = record { run = record { start = 0; rising = tt }; in_front = refl; bounded = lit< tt }
+
+pub no_first : (es : List EntryIndex) → None ≡ slice_get es 0 → es ≡ []
+no_first [] h = refl
+no_first (x ∷ es) h = cc

@@ -5,6 +5,7 @@ ghost use Rattle.raft_memtable.specs.Start.{IsCorruption};
 ghost use Rattle.raft_memtable.specs.Entries.{start_of, entry_at, entries_in, from, AreCounted, AreRecounted};
 ghost use Rattle.raft_base.specs.declared.pipe_log.LogQueue.TheVariants.{Rewrite};
 
+mod places;
 mod runs;
 
 use crate::global_stats::GlobalStats;
@@ -23,6 +24,7 @@ pub struct Entries {
 }
 
 /// Where a run meets the entries of a table.
+#[derive(Clone, Copy)]
 enum Start {
     /// It starts among them or right behind them: so many stand below its start.
     Joins(usize),
@@ -30,6 +32,17 @@ enum Start {
     InFront,
     /// It starts behind them, and indexes between are missing.
     BehindHole,
+}
+
+/// Where the indexes of a run meet those of a table.
+#[derive(Clone, Copy)]
+struct Meeting {
+    /// How many of the table's entries stand below the first that meets.
+    at: usize,
+    /// How many of the run's stand below it.
+    skipped: usize,
+    /// How many meet.
+    count: usize,
 }
 
 impl Model for Entries {

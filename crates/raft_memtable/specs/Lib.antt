@@ -1,2 +1,5 @@
 pub mod Counts
+pub mod KeyValueCode
+pub mod KeyValueView
+pub mod KeyValues
 pub mod Queues

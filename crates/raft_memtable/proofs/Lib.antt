@@ -1,0 +1,4 @@
+pub mod KeyValueCounts
+pub mod KeyValueMaps
+pub mod KeyValuesShown
+pub mod Shown

@@ -1,11 +1,12 @@
 -- The key values of one region.
 use Rattle.std.specs.Prelude.{ℕ, Bool, true, ◌&&◌, List, [], ◌∷◌, Option, Some, None, length, filter, map, nat_le, min, option_map}
+use Rattle.std.specs.declared.alloc.Global.{Global}
+use Rattle.std.specs.declared.vec.Vec.{Vec}
 use Rattle.std.specs.Ordering.{nat_cmp, is_lt, is_le}
 use Rattle.std.specs.Cmp.Lexicographic.{slice_cmp}
 use Rattle.std.specs.FinMap as finite
 use Rattle.raft_base.specs.declared.pipe_log.FileId.{FileId}
 use Rattle.raft_base.specs.declared.pipe_log.LogQueue.{LogQueue}
-use Rattle.raft_base.specs.declared.pipe_log.LogQueue.TheVariants.{Append}
 use Rattle.raft_memtable.specs.Queues.{is_same, count_in}
 
 -- the value of a key, and the file that the pair was written to
@@ -59,14 +60,16 @@ file_count queue (Some file) = count_in queue file.queue 1
 abbrev pub files_in : LogQueue → Keys → List ℕ
 files_in queue keys = map (λ e. e.1.file.seq) (pairs_in queue keys)
 
+-- the lesser of two numbers, where both are there
+abbrev pub lesser : Option ℕ → Option ℕ → Option ℕ
+lesser None m = m
+lesser (Some n) None = Some n
+lesser (Some n) (Some m) = Some (min n m)
+
 -- the least of some numbers, if there are any
 abbrev pub least : List ℕ → Option ℕ
 least [] = None
-least (n ∷ ns) = lesser n (least ns)
-  where
-    lesser : ℕ → Option ℕ → Option ℕ
-    lesser n None = Some n
-    lesser n (Some m) = Some (min n m)
+least (n ∷ ns) = lesser (Some n) (least ns)
 
 -- a key and its value
 abbrev pub key_value : Pair → List ℕ × List ℕ
@@ -86,9 +89,18 @@ is_below (Some end) key = is_lt (slice_cmp nat_cmp key end)
 abbrev pub pairs_between : Option (List ℕ) → Option (List ℕ) → Keys → List Pair
 pairs_between start end keys = filter (λ e. is_from start e.0 && is_below end e.0) (finite.entries keys)
 
--- the appended pairs whose file is at or below the gate
-abbrev pub pairs_before : ℕ → Keys → List Pair
-pairs_before gate keys = filter (λ e. nat_le e.1.file.seq gate) (pairs_in Append keys)
+-- whether a file is in a queue, and at or below the gate, if there is one
+abbrev pub is_up_to : LogQueue → Option ℕ → FileId → Bool
+is_up_to queue None file = is_same queue file.queue
+is_up_to queue (Some gate) file = is_same queue file.queue && nat_le file.seq gate
+
+-- the keys and values of the pairs in a queue whose file is at or below the gate, in the order of the keys
+abbrev pub fetched : LogQueue → Option ℕ → Keys → List (List ℕ × List ℕ)
+fetched queue gate keys = map key_value (filter (λ e. is_up_to queue gate e.1.file) (finite.entries keys))
+
+-- vectors of keys and values, by their bytes
+abbrev pub pairs_shown : List (Vec ℕ Global × Vec ℕ Global) → List (List ℕ × List ℕ)
+pairs_shown pairs = map (λ p. (p.0.items, p.1.items)) pairs
 
 -- pairs put in turn
 abbrev pub with_pairs : Keys → List Pair → Keys

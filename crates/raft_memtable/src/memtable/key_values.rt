@@ -1,10 +1,10 @@
 //! The key values of one region.
 
-ghost use Rattle.std.specs.Prelude.{◌≡◌, ◌+◌, ◌↔◌, IsTrue, OnOk, OnErr, IfOk};
+ghost use Rattle.std.specs.Prelude.{◌≡◌, ◌+◌, ◌∷◌, ◌++◌, ◌↔◌, IsTrue, OnOk, OnErr, IfOk, IfSome, IfNone, filter, length, map, take};
 ghost use Rattle.std.specs.Option.{option_map};
 ghost use Rattle.std.specs.FinMap as finite;
 ghost use Rattle.raft_base.specs.declared.pipe_log.LogQueue.{LogQueue};
-ghost use Rattle.raft_memtable.specs.KeyValues.{pair_count, file_count, value_at, file_at, with_put, with_moved};
+ghost use Rattle.raft_memtable.specs.KeyValues.{pair_count, file_count, value_at, file_at, with_put, with_moved, files_in, least, lesser, is_up_to, fetched, pairs_shown, overlaid};
 
 use raft_records::{FileId, FileSeq, LogQueue};
 use std::alloc::{AllocError, Global};
@@ -143,6 +143,116 @@ impl KeyValues {
         self.rewritten = self.rewritten - rewritten(Some(left)) + rewritten(Some(file));
         Some(left)
     }
+
+    /// The least number among the files of the pairs in `queue`.
+    pub fn least_file_in(&self, queue: LogQueue) -> Option<FileSeq>
+        ensures { result ≡ least (files_in queue self.now) }
+    {
+        let mut least: Option<FileSeq> = None;
+        for pair in self.pairs.values() {
+            if pair.file.queue == queue {
+                least = lesser(least, pair.file.seq);
+            }
+        }
+        least
+    }
+
+    /// Appends the pairs in `queue` whose file is at or below `gate`, if there is one, in the
+    /// order of their keys.
+    ///
+    /// # Errors
+    ///
+    /// Where there is no memory for them. The vector is then as it was.
+    pub fn fetch(
+        &self,
+        queue: LogQueue,
+        gate: Option<FileSeq>,
+        vec: &mut Vec<(Vec<u8>, Vec<u8>)>,
+    ) -> Result<(), AllocError>
+        ensures ok { OnOk result (pairs_shown vec.new.items ≡ pairs_shown vec.old.items ++ fetched queue gate self.now) }
+        ensures err { OnErr result (vec.new.items ≡ vec.old.items) }
+    {
+        let len = vec.len();
+        let pushed = push_fetched(&self.pairs, queue, gate, vec);
+        if pushed.is_err() {
+            vec.truncate(len);
+        }
+        pushed
+    }
+
+    /// Puts the pairs of `rhs` over these, and leaves `rhs` empty.
+    ///
+    /// # Errors
+    ///
+    /// Where there is no memory for all of them. Some of them have then been put, and the others
+    /// are left in `rhs`, but for one that may be lost.
+    pub fn absorb(&mut self, rhs: &mut KeyValues) -> Result<(), AllocError>
+        ensures ok { OnOk result (self.new ≡ overlaid rhs.old self.old) }
+        ensures emptied { OnOk result (rhs.new ≡ finite.empty) }
+    {
+        while let Some((key, pair)) = rhs.take_first() {
+            self.insert(key, pair.value, pair.file)?;
+        }
+        Ok(())
+    }
+
+    /// Takes the first pair away.
+    fn take_first(&mut self) -> Option<(Vec<u8>, StoredValue)>
+        ensures first { IfSome result (λ p. finite.entries self.old ≡ (p.0.items, record { value = p.1.value.items; file = p.1.file }) ∷ finite.entries self.new) }
+        ensures none { IfNone result (self.old ≡ finite.empty) }
+        ensures unchanged { IfNone result (self.new ≡ self.old) }
+    {
+        let (key, pair) = self.pairs.pop_first()?;
+        self.rewritten -= rewritten(Some(pair.file));
+        Some((key, pair))
+    }
+}
+
+/// Pushes clones of the pairs in `queue` whose file is at or below the gate, until one finds no
+/// memory.
+fn push_fetched(
+    pairs: &BTreeMap<Vec<u8>, StoredValue>,
+    queue: LogQueue,
+    gate: Option<FileSeq>,
+    vec: &mut Vec<(Vec<u8>, Vec<u8>)>,
+) -> Result<(), AllocError>
+    ensures ok { OnOk result (pairs_shown vec.new.items ≡ pairs_shown vec.old.items ++ map (λ e. (e.0.items, e.1.value.items)) (filter (λ e. is_up_to queue gate e.1.file) pairs.now.entries)) }
+    ensures kept { take (length vec.old.items) vec.new.items ≡ vec.old.items }
+{
+    for (key, pair) in pairs {
+        if is_up_to(pair.file, queue, gate) {
+            vec.push((copied(key)?, copied(&pair.value)?))?;
+        }
+    }
+    Ok(())
+}
+
+/// The same bytes once more.
+fn copied(bytes: &Vec<u8>) -> Result<Vec<u8>, AllocError>
+    ensures { IfOk result (λ copy. copy.items ≡ bytes.now.items) }
+{
+    bytes.clone()
+}
+
+/// The lesser of two numbers, where both are there.
+fn lesser(a: Option<FileSeq>, b: FileSeq) -> Option<FileSeq>
+    ensures { result ≡ lesser a (Some b) }
+{
+    match a {
+        Some(a) => Some(a.min(b)),
+        None => Some(b),
+    }
+}
+
+/// Whether a file is in `queue`, and at or below the gate, if there is one.
+fn is_up_to(file: FileId, queue: LogQueue, gate: Option<FileSeq>) -> bool
+    ensures { result ≡ is_up_to queue gate file }
+{
+    file.queue == queue
+        && match gate {
+            Some(gate) => file.seq <= gate,
+            None => true,
+        }
 }
 
 /// The file that a pair was in.

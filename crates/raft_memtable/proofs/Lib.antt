@@ -1,8 +1,13 @@
+pub mod KeyValueCounts
+pub mod KeyValueMaps
+pub mod KeyValueReads
+pub mod KeyValuesShown
 pub mod LookupLemmas
 pub mod MovesLemmas
 pub mod PlaceLemmas
 pub mod PlacesLemmas
 pub mod RewriteLemmas
 pub mod RunLemmas
+pub mod Shown
 pub mod SoundLemmas
 pub mod StartLemmas

@@ -1,5 +1,8 @@
 pub mod Counts
 pub mod Entries
+pub mod KeyValueCode
+pub mod KeyValueView
+pub mod KeyValues
 pub mod Meetings
 pub mod Queues
 pub mod Rewriting

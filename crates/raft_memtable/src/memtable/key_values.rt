@@ -1,1 +1,273 @@
 //! The key values of one region.
+
+ghost use Rattle.std.specs.Prelude.{◌≡◌, ◌+◌, ◌∷◌, ◌++◌, ◌↔◌, IsTrue, OnOk, OnErr, IfOk, IfSome, IfNone, filter, length, map, take};
+ghost use Rattle.std.specs.Option.{option_map};
+ghost use Rattle.std.specs.FinMap as finite;
+ghost use Rattle.raft_base.specs.declared.pipe_log.LogQueue.{LogQueue};
+ghost use Rattle.raft_memtable.specs.KeyValues.{pair_count, file_count, value_at, file_at, with_put, with_moved, files_in, least, lesser, is_up_to, fetched, pairs_shown, overlaid};
+
+use raft_records::{FileId, FileSeq, LogQueue};
+use std::alloc::{AllocError, Global};
+use std::collections::BTreeMap;
+use std::marker::Model;
+
+/// A value, and the file that it was written to with its key.
+#[derive(Debug, Drop)]
+struct StoredValue {
+    value: Vec<u8>,
+    file: FileId,
+}
+
+/// The key values of one region, the keys in the order of their bytes.
+#[derive(Debug, Drop)]
+pub struct KeyValues {
+    pairs: BTreeMap<Vec<u8>, StoredValue>,
+    /// How many of the pairs have their file in the rewrite queue.
+    rewritten: usize,
+}
+
+impl Model for KeyValues {
+    ghost use Rattle.raft_memtable.specs.KeyValues.{Keys};
+    ghost use Rattle.raft_memtable.specs.KeyValueCode.{keys_code};
+
+    ghost Value = { Keys };
+
+    ghost coded = { keys_code };
+
+    ghost use Rattle.raft_memtable.specs.KeyValueView.{keys_shown, IsSound};
+
+    ghost view = { keys_shown };
+
+    ghost invariant = { IsSound };
+}
+
+impl KeyValues {
+    /// No pairs.
+    pub fn new(alloc: Global) -> KeyValues
+        ensures { result ≡ finite.empty }
+    {
+        KeyValues {
+            pairs: BTreeMap::new(alloc),
+            rewritten: 0,
+        }
+    }
+
+    /// How many pairs there are.
+    pub fn len(&self) -> usize
+        ensures { result ≡ finite.len self.now }
+    {
+        self.pairs.len()
+    }
+
+    /// Whether there are no pairs.
+    pub fn is_empty(&self) -> bool
+        ensures { IsTrue result ↔ (self.now ≡ finite.empty) }
+    {
+        self.pairs.is_empty()
+    }
+
+    /// How many pairs have their file in `queue`.
+    pub fn count_in(&self, queue: LogQueue) -> usize
+        ensures { result ≡ pair_count queue self.now }
+    {
+        match queue {
+            LogQueue::Append => self.pairs.len() - self.rewritten,
+            LogQueue::Rewrite => self.rewritten,
+        }
+    }
+
+    /// The value of `key`.
+    pub fn get(&self, key: &[u8]) -> Option<&[u8]>
+        ensures { option_map (λ v. v.now) result ≡ value_at self.now key.now }
+    {
+        match self.pairs.get(key) {
+            Some(pair) => Some(pair.value.as_slice()),
+            None => None,
+        }
+    }
+
+    /// The file that the pair of `key` was written to.
+    pub fn file_of(&self, key: &[u8]) -> Option<FileId>
+        ensures { result ≡ file_at self.now key.now }
+    {
+        match self.pairs.get(key) {
+            Some(pair) => Some(pair.file),
+            None => None,
+        }
+    }
+
+    /// Puts a key with its value, which were written to `file`. Answers the file of the pair that
+    /// it replaces.
+    ///
+    /// # Errors
+    ///
+    /// Where there is no memory for one more pair. The pairs are then as they were.
+    pub fn insert(
+        &mut self,
+        key: Vec<u8>,
+        value: Vec<u8>,
+        file: FileId,
+    ) -> Result<Option<FileId>, AllocError>
+        ensures ok { OnOk result (self.new ≡ with_put self.old key.items value.items file) }
+        ensures replaced { IfOk result (λ replaced. replaced ≡ file_at self.old key.items) }
+        ensures counts { IfOk result (λ replaced. (queue : LogQueue) → pair_count queue self.new + file_count queue replaced ≡ pair_count queue self.old + file_count queue (Some file)) }
+        ensures err { OnErr result (self.new ≡ self.old) }
+    {
+        prove!(self.rewritten <= self.pairs.len());
+        let replaced = file_in(self.pairs.insert(key, StoredValue { value, file })?);
+        self.rewritten = self.rewritten - rewritten(replaced) + rewritten(Some(file));
+        Ok(replaced)
+    }
+
+    /// Takes the pair of `key` away, and answers its file.
+    pub fn remove(&mut self, key: &[u8]) -> Option<FileId>
+        ensures after { self.new ≡ finite.remove self.old key.now }
+        ensures removed { result ≡ file_at self.old key.now }
+        ensures counts { (queue : LogQueue) → pair_count queue self.new + file_count queue result ≡ pair_count queue self.old }
+    {
+        let removed = self.pairs.remove(key)?;
+        self.rewritten -= rewritten(Some(removed.file));
+        Some(removed.file)
+    }
+
+    /// Moves the pair of `key`, if there is one, to `file`. Answers the file that it was in.
+    pub fn set_file(&mut self, key: &[u8], file: FileId) -> Option<FileId>
+        ensures after { self.new ≡ with_moved self.old key.now file }
+        ensures moved { result ≡ file_at self.old key.now }
+        ensures counts { (queue : LogQueue) → pair_count queue self.new + file_count queue result ≡ pair_count queue self.old + file_count queue (option_map (λ _. file) result) }
+    {
+        prove!(self.rewritten <= self.pairs.len());
+        let pair = self.pairs.get_mut(key)?;
+        let left = pair.file;
+        pair.file = file;
+        self.rewritten = self.rewritten - rewritten(Some(left)) + rewritten(Some(file));
+        Some(left)
+    }
+
+    /// The least number among the files of the pairs in `queue`.
+    pub fn least_file_in(&self, queue: LogQueue) -> Option<FileSeq>
+        ensures { result ≡ least (files_in queue self.now) }
+    {
+        let mut least: Option<FileSeq> = None;
+        for pair in self.pairs.values() {
+            if pair.file.queue == queue {
+                least = lesser(least, pair.file.seq);
+            }
+        }
+        least
+    }
+
+    /// Appends the pairs in `queue` whose file is at or below `gate`, if there is one, in the
+    /// order of their keys.
+    ///
+    /// # Errors
+    ///
+    /// Where there is no memory for them. The vector is then as it was.
+    pub fn fetch(
+        &self,
+        queue: LogQueue,
+        gate: Option<FileSeq>,
+        vec: &mut Vec<(Vec<u8>, Vec<u8>)>,
+    ) -> Result<(), AllocError>
+        ensures ok { OnOk result (pairs_shown vec.new.items ≡ pairs_shown vec.old.items ++ fetched queue gate self.now) }
+        ensures err { OnErr result (vec.new.items ≡ vec.old.items) }
+    {
+        let len = vec.len();
+        let pushed = push_fetched(&self.pairs, queue, gate, vec);
+        if pushed.is_err() {
+            vec.truncate(len);
+        }
+        pushed
+    }
+
+    /// Puts the pairs of `rhs` over these, and leaves `rhs` empty.
+    ///
+    /// # Errors
+    ///
+    /// Where there is no memory for all of them. Some of them have then been put, and the others
+    /// are left in `rhs`, but for one that may be lost.
+    pub fn absorb(&mut self, rhs: &mut KeyValues) -> Result<(), AllocError>
+        ensures ok { OnOk result (self.new ≡ overlaid rhs.old self.old) }
+        ensures emptied { OnOk result (rhs.new ≡ finite.empty) }
+    {
+        while let Some((key, pair)) = rhs.take_first() {
+            self.insert(key, pair.value, pair.file)?;
+        }
+        Ok(())
+    }
+
+    /// Takes the first pair away.
+    fn take_first(&mut self) -> Option<(Vec<u8>, StoredValue)>
+        ensures first { IfSome result (λ p. finite.entries self.old ≡ (p.0.items, record { value = p.1.value.items; file = p.1.file }) ∷ finite.entries self.new) }
+        ensures none { IfNone result (self.old ≡ finite.empty) }
+        ensures unchanged { IfNone result (self.new ≡ self.old) }
+    {
+        let (key, pair) = self.pairs.pop_first()?;
+        self.rewritten -= rewritten(Some(pair.file));
+        Some((key, pair))
+    }
+}
+
+/// Pushes clones of the pairs in `queue` whose file is at or below the gate, until one finds no
+/// memory.
+fn push_fetched(
+    pairs: &BTreeMap<Vec<u8>, StoredValue>,
+    queue: LogQueue,
+    gate: Option<FileSeq>,
+    vec: &mut Vec<(Vec<u8>, Vec<u8>)>,
+) -> Result<(), AllocError>
+    ensures ok { OnOk result (pairs_shown vec.new.items ≡ pairs_shown vec.old.items ++ map (λ e. (e.0.items, e.1.value.items)) (filter (λ e. is_up_to queue gate e.1.file) pairs.now.entries)) }
+    ensures kept { take (length vec.old.items) vec.new.items ≡ vec.old.items }
+{
+    for (key, pair) in pairs {
+        if is_up_to(pair.file, queue, gate) {
+            vec.push((copied(key)?, copied(&pair.value)?))?;
+        }
+    }
+    Ok(())
+}
+
+/// The same bytes once more.
+fn copied(bytes: &Vec<u8>) -> Result<Vec<u8>, AllocError>
+    ensures { IfOk result (λ copy. copy.items ≡ bytes.now.items) }
+{
+    bytes.clone()
+}
+
+/// The lesser of two numbers, where both are there.
+fn lesser(a: Option<FileSeq>, b: FileSeq) -> Option<FileSeq>
+    ensures { result ≡ lesser a (Some b) }
+{
+    match a {
+        Some(a) => Some(a.min(b)),
+        None => Some(b),
+    }
+}
+
+/// Whether a file is in `queue`, and at or below the gate, if there is one.
+fn is_up_to(file: FileId, queue: LogQueue, gate: Option<FileSeq>) -> bool
+    ensures { result ≡ is_up_to queue gate file }
+{
+    file.queue == queue
+        && match gate {
+            Some(gate) => file.seq <= gate,
+            None => true,
+        }
+}
+
+/// The file that a pair was in.
+fn file_in(pair: Option<StoredValue>) -> Option<FileId>
+    ensures { result ≡ option_map (λ s. s.file) pair }
+{
+    pair.map(|pair| pair.file)
+}
+
+/// What a pair of that file counts in the rewrite queue.
+fn rewritten(file: Option<FileId>) -> usize
+    ensures { result ≡ file_count LogQueue.Rewrite file }
+{
+    match file {
+        Some(file) if file.queue == LogQueue::Rewrite => 1,
+        _ => 0,
+    }
+}

@@ -26,3 +26,9 @@ entry_at_is i zero s (x ∷ es) d e l h =
 entry_at_is i (suc k) s (x ∷ es) d e l h =
     let t : eqb x.index i ≡ false = rw h.0 (grind (arith, nat_tests)) in
     rw t (entry_at_is i k (suc s) es d (omega arith) (omega arith) h.1)
+
+-- the index at a place
+pub index_at : (k s : ℕ) (es : List EntryIndex) (d : EntryIndex) → k < length es → RisesFrom s es → (get_or es k d).index ≡ s + k
+index_at k s [] d l h = absurd (omega arith)
+index_at zero s (x ∷ es) d l h = h.0 ∙ omega arith
+index_at (suc k) s (x ∷ es) d l h = index_at k (suc s) es d (omega arith) h.1 ∙ omega arith

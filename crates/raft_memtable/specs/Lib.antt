@@ -8,3 +8,6 @@ pub mod Queues
 pub mod Rewriting
 pub mod Start
 pub mod StartOf
+pub mod Table
+pub mod TableCode
+pub mod TableView

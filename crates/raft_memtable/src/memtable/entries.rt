@@ -2,7 +2,7 @@
 
 ghost use Rattle.std.specs.Prelude.{◌≡◌, ◌≢◌, ◌+◌, [], length, MatchOption, IfOk, IfErr};
 ghost use Rattle.raft_memtable.specs.Start.{IsCorruption};
-ghost use Rattle.raft_memtable.specs.Entries.{start_of, entry_at, entries_in, from, AreCounted, AreRecounted};
+ghost use Rattle.raft_memtable.specs.Entries.{start_of, end_of, entry_at, entries_in, from, AreCounted, AreRecounted};
 ghost use Rattle.raft_base.specs.declared.pipe_log.LogQueue.TheVariants.{Rewrite};
 
 mod places;
@@ -81,6 +81,24 @@ impl Entries {
         ensures { MatchOption result (self.now ≡ []) (λ i. (self.now ≢ []) × (i ≡ start_of self.now)) }
     {
         self.deque.front().map(|e| e.index)
+    }
+
+    /// The greatest index.
+    pub fn last_index(&self) -> Option<u64>
+        ensures { MatchOption result (self.now ≡ []) (λ i. i + 1 ≡ end_of self.now) }
+    {
+        let back = self.deque.back()?;
+        Some(back.index)
+    }
+
+    /// How many of them are in `queue`.
+    pub fn count_in(&self, queue: LogQueue) -> usize
+        ensures { result ≡ entries_in queue self.now }
+    {
+        match queue {
+            LogQueue::Append => self.deque.len() - self.rewritten,
+            LogQueue::Rewrite => self.rewritten,
+        }
     }
 
     /// A refusal with this text, or want of memory for it.

@@ -1,3 +1,4 @@
+pub mod FetchLemmas
 pub mod KeyValueCounts
 pub mod KeyValueMaps
 pub mod KeyValueReads
@@ -11,3 +12,4 @@ pub mod RunLemmas
 pub mod Shown
 pub mod SoundLemmas
 pub mod StartLemmas
+pub mod TableLemmas

@@ -1,6 +1,6 @@
 -- What the queries of a table's entries fetch.
 use Rattle.std.specs.Prelude.{◌≡◌, ℕ, ◌+◌, ◌<◌, ◌≤◌, suc, Bool, true, false, not, ◌&&◌, List, [], ◌∷◌, ◌++◌, length, take, filter, nat_lt, nat_le, nat_eq, ◌==◌, sum_by, Option, Some, None, if◌then◌else◌}
-use Rattle.std.specs.List.{take_while, zip, slice_get}
+use Rattle.std.specs.List.{take_while, slice_get}
 use Rattle.raft_base.specs.declared.errors.Error.{Error}
 use Rattle.raft_base.specs.declared.errors.Error.TheVariants as errors
 use Rattle.raft_base.specs.declared.pipe_log.FileBlockHandle.{FileBlockHandle}
@@ -24,17 +24,17 @@ abbrev pub is_too_many : Option ℕ → ℕ → List EntryIndex → Bool
 is_too_many None n es = false
 is_too_many (Some limit) n es = nat_lt limit (total_len (suc n) es) && nat_lt 0 (total_len n es)
 
--- as many entries as a limit on their total lets through, from the first on
-pub record IsWithinLimit (limit : Option ℕ) (es : List EntryIndex) (got : List EntryIndex) : Type 0 where
-  pub front : got ≡ take (length got) es
-  pub fit : (n : ℕ) → n < length got → is_too_many limit n es ≡ false
-  pub stops : length got < length es → is_too_many limit (length got) es ≡ true
+-- how many entries a limit on their total lets through, from the first on
+pub record IsLimitCount (limit : Option ℕ) (es : List EntryIndex) (count : ℕ) : Type 0 where
+  pub there : count ≤ length es
+  pub fit : (n : ℕ) → n < count → is_too_many limit n es ≡ false
+  pub stops : count < length es → is_too_many limit count es ≡ true
 
--- they are appended to what was there
+-- so many are appended to what was there
 pub record FetchesWithin (limit : Option ℕ) (es old new : List EntryIndex) : Type 0 where
-  pub got : List EntryIndex
-  pub within : IsWithinLimit limit es got
-  pub appended : new ≡ old ++ got
+  pub count : ℕ
+  pub within : IsLimitCount limit es count
+  pub appended : new ≡ old ++ take count es
 
 -- what a fetch from begin to end answers: nothing where the range is empty; else no entries, a range that begins below the first or ends behind the last is refused, in this order
 pub data RangeAnswer : Type 0 where
@@ -79,11 +79,8 @@ is_same_place (Some a) (Some b) = is_same_block a b
 -- how many entries have another block than the entry before
 abbrev pub change_count : List EntryIndex → ℕ
 change_count [] = 0
-change_count (e ∷ es) = changes_from e es
-  where
-    changes_from : EntryIndex → List EntryIndex → ℕ
-    changes_from e [] = 0
-    changes_from e (x ∷ xs) = (if is_same_place e.entries x.entries then 0 else 1) + changes_from x xs
+change_count (a ∷ []) = 0
+change_count (a ∷ b ∷ es) = (if is_same_place a.entries b.entries then 0 else 1) + change_count (b ∷ es)
 
 -- how many stretches of neighbours in one block there are
 abbrev pub block_count : List EntryIndex → ℕ

@@ -1,8 +1,10 @@
 pub mod Counts
 pub mod Entries
+pub mod Fetches
 pub mod KeyValueCode
 pub mod KeyValueView
 pub mod KeyValues
+pub mod Least
 pub mod Meetings
 pub mod Queues
 pub mod Rewriting

@@ -1,13 +1,15 @@
 -- The table of a region, and how its calls change it.
-use Rattle.std.specs.Prelude.{◌≡◌, ℕ, ◌+◌, ◌≤◌, Bool, true, false, ◌&&◌, List, [], Option, Some, None, nat_lt, nat_le, option_map, if◌then◌else◌}
+use Rattle.std.specs.Prelude.{◌≡◌, ℕ, ◌+◌, ◌≤◌, ◌^◌, Bool, true, false, ◌&&◌, List, [], Option, Some, None, nat_lt, nat_le, option_map, if◌then◌else◌}
 use Rattle.std.specs.FinMap as finite
+use Rattle.raft_base.specs.declared.errors.Error.{Error}
+use Rattle.raft_base.specs.declared.errors.Error.TheVariants as errors
 use Rattle.raft_base.specs.declared.pipe_log.FileId.{FileId}
 use Rattle.raft_base.specs.declared.pipe_log.LogQueue.{LogQueue}
 use Rattle.raft_base.specs.declared.pipe_log.LogQueue.TheVariants.{Append, Rewrite}
 use Rattle.raft_records.specs.declared.log_batch.entry_index.EntryIndex.{EntryIndex}
-use Rattle.raft_memtable.specs.Counts.{Counts, live}
+use Rattle.raft_memtable.specs.Counts.{Counts, live, with_added, with_deleted}
 use Rattle.raft_memtable.specs.Entries.{entries_in, from}
-use Rattle.raft_memtable.specs.KeyValues.{Keys, file_at, with_put, with_moved, pair_count}
+use Rattle.raft_memtable.specs.KeyValues.{Keys, file_at, with_put, with_moved, pair_count, file_count}
 use Rattle.raft_memtable.specs.Queues.{is_same}
 use Rattle.raft_memtable.specs.Rewriting.{rewritten}
 use Rattle.raft_memtable.specs.Start.{appended, replayed}
@@ -94,3 +96,21 @@ rewritten_in gate seq keys key (Some file) = rewritten_pair gate seq keys key fi
 -- one key's pair rewritten to a file of the rewrite queue; none where it is refused
 abbrev pub after_rewrite_key : Option ℕ → ℕ → Table → List ℕ → Option Table
 after_rewrite_key gate seq t key = option_map (with_keys t) (rewritten_in gate seq t.keys key (file_at t.keys key))
+
+-- the counts after a rewriting of one key: one more is written, and one fewer live in the append queue where its pair left it, else one more deleted
+abbrev pub with_rewritten_key : Bool → Counts → Counts
+with_rewritten_key true counts = with_deleted Append 1 (with_added Rewrite 1 counts)
+with_rewritten_key false counts = with_deleted Rewrite 1 (with_added Rewrite 1 counts)
+
+-- why a key put in a queue is refused, told by the file of the pair that it would replace: its live number would pass 2^64 - 1, or want of memory
+abbrev pub IsPutRefused : LogQueue → Counts → Option FileId → Error → Type 0
+IsPutRefused queue counts replaced errors.Full = (2 ^ 64 ≤ live queue counts + 1) × (file_count queue replaced ≡ 0)
+IsPutRefused queue counts replaced errors.Memory = Unit {0}
+IsPutRefused queue counts replaced _ = ⊥
+
+-- why a rewriting of one key with this outcome is refused: its pair is in a later file, since the live number with one more would pass 2^64 - 1, or for want of memory for the refusal's text
+abbrev pub IsKeyRefused : Counts → Option Table → Error → Type 0
+IsKeyRefused counts None (errors.Corruption text) = Unit {0}
+IsKeyRefused counts None errors.Memory = Unit {0}
+IsKeyRefused counts (Some after) errors.Full = 2 ^ 64 ≤ live Rewrite counts + 1
+IsKeyRefused counts outcome _ = ⊥

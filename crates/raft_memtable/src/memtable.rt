@@ -1,21 +1,23 @@
 //! The table of a region: where its entries stand, its key values, and its atomic group.
 
-ghost use Rattle.std.specs.Prelude.{◌≡◌, ◌≢◌, ◌+◌, ◌≤◌, length, MatchOption, OnOk, OnErr, IfErr, IfOk, Some, [], option_map};
+ghost use Rattle.std.specs.Prelude.{◌≡◌, ◌≢◌, ◌+◌, ◌≤◌, ◌^◌, false, length, MatchOption, OnOk, OnErr, IfErr, IfOk, Some, [], option_map, MatchBool};
 ghost use Rattle.raft_base.specs.declared.pipe_log.LogQueue.{LogQueue};
 ghost use Rattle.raft_base.specs.declared.pipe_log.LogQueue.TheVariants.{Append, Rewrite};
 ghost use Rattle.raft_memtable.specs.Entries.{IsRunIn, start_of, end_of, entry_at, entries_in};
-ghost use Rattle.raft_memtable.specs.KeyValues.{value_at};
-ghost use Rattle.raft_memtable.specs.Table.{empty_table, live_of, IsCounted, IsRecounted, after_append, after_replay, after_rewrite, compacted, with_span};
+ghost use Rattle.raft_memtable.specs.Counts.{live};
+ghost use Rattle.raft_memtable.specs.KeyValues.{value_at, file_at, file_count};
+ghost use Rattle.raft_memtable.specs.Table.{empty_table, live_of, IsCounted, IsRecounted, after_append, after_replay, after_rewrite, after_rewrite_key, compacted, with_pair, without_key, with_span, with_rewritten_key, leaves_append, IsPutRefused, IsKeyRefused};
 ghost use Rattle.raft_memtable.specs.Rewriting.{rewritten, recounted, IsRewriteRefused};
 ghost use Rattle.raft_memtable.specs.Start.{appended, replayed, IsRunRefused};
 
 pub mod entries;
 pub mod key_values;
+mod queries;
 
 use crate::global_stats::GlobalStats;
 use entries::Entries;
 use key_values::KeyValues;
-use raft_records::{EntryIndex, Error, FileSeq, LogQueue, Result};
+use raft_records::{EntryIndex, Error, FileId, FileSeq, LogQueue, Result};
 use std::alloc::Global;
 use std::marker::Model;
 
@@ -207,6 +209,103 @@ impl MemTable {
         self.entries.compact_to(index, stats)
     }
 
+    /// Puts a key with its value, which were written to `file`, in place of the pair that the key
+    /// had.
+    ///
+    /// # Errors
+    ///
+    /// `Full` where more than 2^64 - 1 records would be live in the file's queue. The table and the
+    /// counts are then as they were.
+    pub fn put(
+        &mut self,
+        key: Vec<u8>,
+        value: Vec<u8>,
+        file: FileId,
+        stats: &mut GlobalStats,
+    ) -> Result<()>
+        requires { IsCounted self.old stats.old }
+        ensures ok { OnOk result (self.new ≡ with_pair self.old key.items value.items file) }
+        ensures refused { IfErr result (IsPutRefused file.queue stats.old (file_at self.old.keys key.items)) }
+        ensures err { OnErr result ((self.new ≡ self.old) × (stats.new ≡ stats.old)) }
+        ensures recounted { IsRecounted self.old self.new stats.old stats.new }
+    {
+        if stats.live_entries(file.queue) == usize::MAX && !self.has_pair_in(&key, file.queue) {
+            return Err(Error::Full);
+        }
+        if let Some(replaced) = self.keys.insert(key, value, file)? {
+            stats.delete(replaced.queue, 1);
+        }
+        stats.add(file.queue, 1)
+    }
+
+    /// Deletes a key and its value.
+    pub fn delete(&mut self, key: &[u8], stats: &mut GlobalStats)
+        requires { IsCounted self.old stats.old }
+        ensures deleted { self.new ≡ without_key self.old key.now }
+        ensures recounted { IsRecounted self.old self.new stats.old stats.new }
+    {
+        if let Some(file) = self.keys.remove(key) {
+            stats.delete(file.queue, 1);
+        }
+    }
+
+    /// Moves the pair of `key` to the file `seq` of the rewrite queue: one in the append queue
+    /// where there is a gate and its file is at or below it, one in the rewrite queue always.
+    ///
+    /// # Errors
+    ///
+    /// `Corruption` where the pair is in the rewrite queue in a file above `seq`, `Full` where the
+    /// live number of the rewrite queue and one more would pass 2^64 - 1. The table and the live
+    /// numbers are then as they were.
+    pub fn rewrite_key(
+        &mut self,
+        key: Vec<u8>,
+        gate: Option<FileSeq>,
+        seq: FileSeq,
+        stats: &mut GlobalStats,
+    ) -> Result<()>
+        requires { IsCounted self.old stats.old }
+        ensures ok { OnOk result (after_rewrite_key gate seq self.old key.items ≡ Some self.new) }
+        ensures counts { OnOk result (stats.new ≡ with_rewritten_key (leaves_append gate (file_at self.old.keys key.items)) stats.old) }
+        ensures refused { IfErr result (IsKeyRefused stats.old (after_rewrite_key gate seq self.old key.items)) }
+        ensures err { OnErr result (self.new ≡ self.old) }
+        ensures err_counts { IfErr result (λ e. e ≢ Error.Full → stats.new ≡ stats.old) }
+        ensures recounted { IsRecounted self.old self.new stats.old stats.new }
+    {
+        let Some(file) = self.keys.file_of(&key) else {
+            return count_unmoved(stats);
+        };
+        match file.queue {
+            LogQueue::Append => {
+                if !gate.is_some_and(|gate| file.seq <= gate) {
+                    return count_unmoved(stats);
+                }
+                stats.add(LogQueue::Rewrite, 1)?;
+                self.keys.set_file(&key, FileId::new(LogQueue::Rewrite, seq));
+                stats.delete(LogQueue::Append, 1);
+                Ok(())
+            }
+            LogQueue::Rewrite => {
+                if seq < file.seq {
+                    return Err(self.entries.corruption("a key is rewritten to an older file")?);
+                }
+                count_unmoved(stats)?;
+                self.keys.set_file(&key, FileId::new(LogQueue::Rewrite, seq));
+                Ok(())
+            }
+        }
+    }
+
+    /// Whether a key has a pair in `queue`.
+    fn has_pair_in(&self, key: &[u8], queue: LogQueue) -> bool
+        ensures { MatchBool result (file_count queue (file_at self.now.keys key.now) ≡ 1) (file_count queue (file_at self.now.keys key.now) ≡ 0) }
+    {
+        match self.keys.file_of(key) {
+            Some(file) => file.queue == queue,
+            None => false,
+        }
+    }
+
     /// Sets the first and the last file of the region's atomic group in the rewrite queue.
     pub fn apply_rewrite_atomic_group(&mut self, start: FileSeq, end: FileSeq)
         requires { start ≤ end }
@@ -214,4 +313,15 @@ impl MemTable {
     {
         self.span = Some((start, end));
     }
+}
+
+/// Counts a record that was written to the rewrite queue without another place that it leaves.
+fn count_unmoved(stats: &mut GlobalStats) -> Result<()>
+    ensures ok { OnOk result (stats.new ≡ with_rewritten_key false stats.old) }
+    ensures live { (q : LogQueue) → live q stats.new ≡ live q stats.old }
+    ensures full { IfErr result (λ e. (e ≡ Error.Full) × (2 ^ 64 ≤ live Rewrite stats.old + 1)) }
+{
+    stats.add(LogQueue::Rewrite, 1)?;
+    stats.delete(LogQueue::Rewrite, 1);
+    Ok(())
 }

@@ -5,6 +5,7 @@ ghost use Rattle.raft_memtable.specs.Start.{IsCorruption};
 ghost use Rattle.raft_memtable.specs.Entries.{start_of, end_of, entry_at, entries_in, from, AreCounted, AreRecounted};
 ghost use Rattle.raft_base.specs.declared.pipe_log.LogQueue.TheVariants.{Rewrite};
 
+mod fetch;
 mod places;
 mod runs;
 
@@ -102,7 +103,7 @@ impl Entries {
     }
 
     /// A refusal with this text, or want of memory for it.
-    fn corruption(&self, text: &str) -> Result<Error>
+    pub(crate) fn corruption(&self, text: &str) -> Result<Error>
         ensures ok { IfOk result IsCorruption }
         ensures err { IfErr result (λ e. e ≡ Error.Memory) }
     {

@@ -126,7 +126,7 @@ impl Entries {
 }
 
 /// How many entries from `at` on and below `end` may move, up to the first that may not.
-fn movable(
+pub(super) fn movable(
     deque: &VecDeque<EntryIndex>,
     at: usize,
     end: usize,

@@ -1,0 +1,20 @@
+-- Counts of tables.
+use Rattle.std.proofs.Common.{◌≡◌, ℕ, ◌+◌, ◌-◌, ◌<◌, ◌≤◌, true, List, Option, Some, None, refl, sym, ap, ◌∙◌, subst, arith}
+use Rattle.raft_base.specs.declared.pipe_log.FileId.{FileId}
+use Rattle.raft_base.specs.declared.pipe_log.LogQueue.{LogQueue}
+use Rattle.raft_base.specs.declared.pipe_log.LogQueue.TheVariants.{Append, Rewrite}
+use Rattle.raft_memtable.specs.KeyValues.{Keys, file_at, file_count, pair_count}
+use Rattle.raft_memtable.specs.Queues.{is_same, count_in}
+use Rattle.raft_memtable.proofs.KeyValueMaps.{file_count-le}
+
+-- a record of a queue counts there
+pub count_in_own : (q : LogQueue) (n : ℕ) → count_in q q n ≡ n
+count_in_own Append n = refl
+count_in_own Rewrite n = refl
+
+-- a key's pair counts in its file's queue
+pub pair_counted : (keys : Keys) (key : List ℕ) (file : FileId) → Some file ≡ file_at keys key → 1 ≤ pair_count file.queue keys
+pair_counted keys key file h =
+    let a = file_count-le file.queue keys key in
+    let e : file_count file.queue (file_at keys key) ≡ 1 = ap (file_count file.queue) (sym h) ∙ count_in_own file.queue 1 in
+    omega arith

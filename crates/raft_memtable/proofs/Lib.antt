@@ -2,4 +2,5 @@ pub mod KeyValueCounts
 pub mod KeyValueMaps
 pub mod KeyValueReads
 pub mod KeyValuesShown
+pub mod ScanLemmas
 pub mod Shown

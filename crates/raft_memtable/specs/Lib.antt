@@ -3,3 +3,4 @@ pub mod KeyValueCode
 pub mod KeyValueView
 pub mod KeyValues
 pub mod Queues
+pub mod Scan

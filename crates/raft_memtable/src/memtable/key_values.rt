@@ -1,12 +1,17 @@
 //! The key values of one region.
 
 ghost use Rattle.std.specs.Prelude.{◌≡◌, ◌+◌, ◌∷◌, ◌++◌, ◌↔◌, IsTrue, OnOk, OnErr, IfOk, IfSome, IfNone, filter, length, map, take};
-ghost use Rattle.std.specs.Option.{option_map};
+ghost use Rattle.std.specs.Option.{option_copied, option_map};
+ghost use Rattle.std.specs.Fn.{CalledAtTwo};
 ghost use Rattle.std.specs.FinMap as finite;
 ghost use Rattle.raft_base.specs.declared.pipe_log.LogQueue.{LogQueue};
+ghost use Rattle.raft_memtable.specs.Scan.{VisitsUntilFalse, scanned};
 ghost use Rattle.raft_memtable.specs.KeyValues.{pair_count, file_count, value_at, file_at, with_put, with_moved, files_in, least, lesser, is_up_to, fetched, pairs_shown, overlaid};
 
+mod scan;
+
 use raft_records::{FileId, FileSeq, LogQueue};
+use scan::{divided, is_forward, sought, visit, visit_back};
 use std::alloc::{AllocError, Global};
 use std::collections::BTreeMap;
 use std::marker::Model;
@@ -24,6 +29,7 @@ pub struct KeyValues {
     pairs: BTreeMap<Vec<u8>, StoredValue>,
     /// How many of the pairs have their file in the rewrite queue.
     rewritten: usize,
+    alloc: Global,
 }
 
 impl Model for KeyValues {
@@ -49,6 +55,7 @@ impl KeyValues {
         KeyValues {
             pairs: BTreeMap::new(alloc),
             rewritten: 0,
+            alloc,
         }
     }
 
@@ -178,6 +185,32 @@ impl KeyValues {
             vec.truncate(len);
         }
         pushed
+    }
+
+    /// Calls `f` at the keys from `start` on and below `end` with their values, in the order of
+    /// the keys or, where `reverse`, from the last one back, until it answers false. A bound that
+    /// is `None` leaves its side open; where `start` is above `end` nothing is visited.
+    pub fn scan<F: FnMut(&[u8], &[u8]) -> bool>(
+        &self,
+        start: Option<&[u8]>,
+        end: Option<&[u8]>,
+        reverse: bool,
+        f: F,
+    )
+        requires { F.IsAlwaysCallable f }
+        ensures { (last : F) × VisitsUntilFalse (CalledAtTwo F.FnMut) f (scanned (option_copied start.entry) (option_copied end.entry) reverse self.now) last }
+    {
+        if !is_forward(start, end) {
+            return;
+        }
+        let (first, start) = divided(self.alloc, start);
+        let (past, end) = divided(self.alloc, end);
+        let pairs = sought(&self.pairs, &first, &past);
+        if reverse {
+            visit_back(pairs, start, end, f);
+        } else {
+            visit(pairs, start, end, f);
+        }
     }
 
     /// Puts the pairs of `rhs` over these, and leaves `rhs` empty.

@@ -1,4 +1,5 @@
 pub mod KeyValueCounts
+pub mod KeyValueLaws
 pub mod KeyValueMaps
 pub mod KeyValueReads
 pub mod KeyValuesShown

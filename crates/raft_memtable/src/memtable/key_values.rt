@@ -1,12 +1,12 @@
 //! The key values of one region.
 
-ghost use Rattle.std.specs.Prelude.{◌≡◌, ◌+◌, ◌∷◌, ◌++◌, ◌↔◌, IsTrue, OnOk, OnErr, IfOk, IfSome, IfNone, filter, length, map, take};
-ghost use Rattle.std.specs.Option.{option_copied, option_map};
+ghost use Rattle.std.specs.Prelude.{◌≡◌, ℕ, ◌+◌, ◌≤◌, List, [], ◌∷◌, ◌++◌, ◌↔◌, IsTrue, OnOk, OnErr, IfOk, IfSome, IfNone, All, Contains, filter, length, map, take};
+ghost use Rattle.std.specs.Option.{option_copied, option_map, option_or};
 ghost use Rattle.std.specs.Fn.{CalledAtTwo};
 ghost use Rattle.std.specs.FinMap as finite;
 ghost use Rattle.raft_base.specs.declared.pipe_log.LogQueue.{LogQueue};
 ghost use Rattle.raft_memtable.specs.Scan.{VisitsUntilFalse, scanned};
-ghost use Rattle.raft_memtable.specs.KeyValues.{pair_count, file_count, value_at, file_at, with_put, with_moved, files_in, least, lesser, is_up_to, fetched, pairs_shown, overlaid};
+ghost use Rattle.raft_memtable.specs.KeyValues.{Keys, pair_count, file_count, value_at, file_at, with_put, with_moved, files_in, least, lesser, is_up_to, fetched, pairs_shown, overlaid};
 
 mod scan;
 
@@ -303,4 +303,19 @@ fn rewritten(file: Option<FileId>) -> usize
         Some(file) if file.queue == LogQueue::Rewrite => 1,
         _ => 0,
     }
+}
+
+/// The least of some numbers is one of them, and none of them is below it.
+pub fn least_is_lowest()
+    ensures none { (ns : List ℕ) → least ns ≡ None → ns ≡ [] }
+    ensures found { (ns : List ℕ) (n : ℕ) → least ns ≡ Some n → Contains ns n }
+    ensures lowest { (ns : List ℕ) (n : ℕ) → least ns ≡ Some n → All (λ m. n ≤ m) ns }
+{
+}
+
+/// Of two sets of pairs put over one another, a key has what the newer ones hold there or, where
+/// they hold nothing, what the older ones do.
+pub fn newer_pairs_win()
+    ensures { (newer older : Keys) (key : List ℕ) → finite.get (overlaid newer older) key ≡ option_or (finite.get newer key) (finite.get older key) }
+{
 }

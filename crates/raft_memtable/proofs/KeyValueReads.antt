@@ -1,5 +1,5 @@
 -- What walks over the stored pairs find, as contracts see it.
-use Rattle.std.proofs.Common.{◌≡◌, ℕ, ◌+◌, ◌<◌, true, false, cond, List, [], ◌∷◌, length, filter, map, Option, refl, sym, ap, ◌∙◌, arith, inl, inr}
+use Rattle.std.proofs.Common.{◌≡◌, ℕ, Bool, ◌+◌, ◌<◌, true, false, cond, List, reverse, [], ◌∷◌, length, filter, map, Option, refl, sym, ap, ◌∙◌, arith, inl, inr}
 use Rattle.std.specs.declared.alloc.Global.{Global}
 use Rattle.std.specs.declared.vec.Vec.{Vec}
 use Rattle.std.specs.Ordering.{nat_cmp}
@@ -15,6 +15,8 @@ use Rattle.raft_memtable.specs.Queues.{is_same, count_in}
 use Rattle.raft_memtable.specs.KeyValues.{Keys, Pair, Stored, pair_count, files_in, is_up_to, fetched, key_value, overlaid, with_pairs}
 use Rattle.raft_memtable.specs.KeyValueView.{keys_shown, stored_of, IsSound}
 use Rattle.raft_memtable.proofs.KeyValueMaps.{entries-map_of}
+use Rattle.raft_memtable.specs.Scan.{is_between, is_forward, IsDivided, scanned}
+use Rattle.raft_memtable.proofs.ScanLemmas.{none-between, sought-tested}
 use Rattle.raft_memtable.proofs.KeyValueCounts.{length-cond}
 use Rattle.raft_memtable.proofs.KeyValuesShown.{key_cmp}
 
@@ -44,19 +46,34 @@ pub files-shown : (a : Inside) (keys : Keys) (q : LogQueue) → IsSound a → ke
 files-shown a keys q sound is =
     ap (λ es. map (λ e. e.1.file.seq) (filter (λ e. is_same q e.1.file.queue) es)) (sym (ap finite.entries is) ∙ entries-shown a sound.ordered) ∙ files-list q a.pairs.entries
 
-fetched-list : (q : LogQueue) (gate : Option ℕ) (es : List Entry) → map key_value (filter (λ e. is_up_to q gate e.1.file) (map pair_of es)) ≡ map bytes_of (filter (λ e. is_up_to q gate e.1.file) es)
-fetched-list q gate [] = refl
-fetched-list q gate (e ∷ es) =
-    elim (is_up_to q gate e.1.file) as (λ b. map key_value (cond b (pair_of e ∷ filter (λ e. is_up_to q gate e.1.file) (map pair_of es)) (filter (λ e. is_up_to q gate e.1.file) (map pair_of es)))
-    ≡ map bytes_of (cond b (e ∷ filter (λ e. is_up_to q gate e.1.file) es) (filter (λ e. is_up_to q gate e.1.file) es))) [
-      | true ↦ ap (λ r. bytes_of e ∷ r) (fetched-list q gate es)
-      | false ↦ fetched-list q gate es
+-- the chosen keys and values, over the stored pairs
+chosen-list : (t : Pair → Bool) (es : List Entry) → map key_value (filter t (map pair_of es)) ≡ map bytes_of (filter (λ e. t (pair_of e)) es)
+chosen-list t [] = refl
+chosen-list t (e ∷ es) =
+    elim (t (pair_of e)) as (λ b. map key_value (cond b (pair_of e ∷ filter t (map pair_of es)) (filter t (map pair_of es))) ≡ map bytes_of (cond b (e ∷ filter (λ e. t (pair_of e)) es) (filter (λ e. t (pair_of e)) es))) [
+      | true ↦ ap (λ r. bytes_of e ∷ r) (chosen-list t es)
+      | false ↦ chosen-list t es
     ]
+
+chosen-shown : (a : Inside) (keys : Keys) (t : Pair → Bool) → IsSound a → keys_shown a ≡ keys → map key_value (filter t (finite.entries keys)) ≡ map bytes_of (filter (λ e. t (pair_of e)) a.pairs.entries)
+chosen-shown a keys t sound is =
+    ap (λ es. map key_value (filter t es)) (sym (ap finite.entries is) ∙ entries-shown a sound.ordered) ∙ chosen-list t a.pairs.entries
 
 -- the keys and values up to a gate, over the stored pairs
 pub fetched-shown : (a : Inside) (keys : Keys) (q : LogQueue) (gate : Option ℕ) → IsSound a → keys_shown a ≡ keys → fetched q gate keys ≡ map bytes_of (filter (λ e. is_up_to q gate e.1.file) a.pairs.entries)
-fetched-shown a keys q gate sound is =
-    ap (λ es. map key_value (filter (λ e. is_up_to q gate e.1.file) es)) (sym (ap finite.entries is) ∙ entries-shown a sound.ordered) ∙ fetched-list q gate a.pairs.entries
+fetched-shown a keys q gate sound is = chosen-shown a keys (λ e. is_up_to q gate e.1.file) sound is
+
+-- no keys are scanned where the bounds are not in order
+pub scanned-backwards : (keys : Keys) (s e : Option (List ℕ)) (reversed : Bool) → is_forward s e ≡ false → scanned s e reversed keys ≡ []
+scanned-backwards keys s e reversed backwards =
+    let none : map key_value (filter (λ p. is_between s e p.0) (finite.entries keys)) ≡ [] = ap (map key_value) (none-between (λ (p : Pair). p.0) s e (finite.entries keys) backwards) in
+    elim reversed as (λ r. (cond r (reverse (map key_value (filter (λ p. is_between s e p.0) (finite.entries keys)))) (map key_value (filter (λ p. is_between s e p.0) (finite.entries keys)))) ≡ []) [ true ↦ ap reverse none | false ↦ none ]
+
+-- what is scanned, over the stored pairs that are sought and then tested
+pub scanned-shown : (a : Inside) (keys : Keys) (s s' s'' e e' e'' : Option (List ℕ)) → IsSound a → keys_shown a ≡ keys → IsDivided s s' s'' → IsDivided e e' e'' →
+    map bytes_of (filter (λ p. is_between s'' e'' p.0.items) (filter (λ p. is_between s' e' p.0.items) a.pairs.entries)) ≡ scanned s e false keys
+scanned-shown a keys s s' s'' e e' e'' sound is p q =
+    ap (map bytes_of) (sought-tested (λ (p : Entry). p.0.items) s s' s'' e e' e'' a.pairs.entries p q) ∙ sym (chosen-shown a keys (λ p. is_between s e p.0) sound is)
 
 -- the first pair, and the others
 pub first-shown : (a b : Inside) (keys : Keys) (k : Vec ℕ Global) (s : StoredValue) → IsSound a → keys_shown a ≡ keys → IsOrdered key_cmp b.pairs → a.pairs.entries ≡ (k, s) ∷ b.pairs.entries → finite.entries keys ≡ (k.items, stored_of s) ∷ finite.entries (keys_shown b)

@@ -1,14 +1,17 @@
 pub mod FetchLemmas
 pub mod KeyValueCounts
+pub mod KeyValueLaws
 pub mod KeyValueMaps
 pub mod KeyValueReads
 pub mod KeyValuesShown
+pub mod ListTestLemmas
 pub mod LookupLemmas
 pub mod MovesLemmas
 pub mod PlaceLemmas
 pub mod PlacesLemmas
 pub mod RewriteLemmas
 pub mod RunLemmas
+pub mod ScanLemmas
 pub mod Shown
 pub mod SoundLemmas
 pub mod StartLemmas

@@ -1,3 +1,4 @@
+pub mod Change
 pub mod Counts
 pub mod Entries
 pub mod Fetches
@@ -8,6 +9,7 @@ pub mod Least
 pub mod Meetings
 pub mod Queues
 pub mod Rewriting
+pub mod Scan
 pub mod Start
 pub mod StartOf
 pub mod Table

@@ -33,6 +33,11 @@ abbrev pub IsCorruption : Error → Type 0
 IsCorruption (errors.Corruption text) = Unit {0}
 IsCorruption _ = ⊥
 
+-- a refusal of what a caller hands in
+abbrev pub IsInvalidArgument : Error → Type 0
+IsInvalidArgument (errors.InvalidArgument text) = Unit {0}
+IsInvalidArgument _ = ⊥
+
 -- why a run with this outcome is refused: by the start rule, since the live number of its queue would pass 2^64 - 1, or for want of memory
 abbrev pub IsRunRefused : LogQueue → Counts → List EntryIndex → Option (List EntryIndex) → Error → Type 0
 IsRunRefused queue counts es None (errors.Corruption text) = Unit {0}

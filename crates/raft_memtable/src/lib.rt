@@ -5,5 +5,5 @@ pub mod global_stats;
 pub mod memtable;
 
 pub use global_stats::GlobalStats;
-pub use memtable::entries::Entries;
+pub use memtable::{MemTable, TableChange, is_run};
 pub use raft_records::{EntryIndex, Error, FileBlockHandle, FileId, FileSeq, LogQueue, Result};

@@ -10,9 +10,13 @@ ghost use Rattle.raft_memtable.specs.Table.{empty_table, live_of, IsCounted, IsR
 ghost use Rattle.raft_memtable.specs.Rewriting.{rewritten, recounted, IsRewriteRefused};
 ghost use Rattle.raft_memtable.specs.Start.{appended, replayed, IsRunRefused};
 
+mod change;
 pub mod entries;
 pub mod key_values;
+
 mod queries;
+
+pub use change::{TableChange, is_run};
 
 use crate::global_stats::GlobalStats;
 use entries::Entries;

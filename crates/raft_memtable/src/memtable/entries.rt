@@ -1,7 +1,7 @@
 //! The entries of a region, in order of index.
 
 ghost use Rattle.std.specs.Prelude.{◌≡◌, ◌≢◌, ◌+◌, [], length, MatchOption, IfOk, IfErr};
-ghost use Rattle.raft_memtable.specs.Start.{IsCorruption};
+ghost use Rattle.raft_memtable.specs.Start.{IsCorruption, IsInvalidArgument};
 ghost use Rattle.raft_memtable.specs.Entries.{start_of, end_of, entry_at, entries_in, from, AreCounted, AreRecounted};
 ghost use Rattle.raft_base.specs.declared.pipe_log.LogQueue.TheVariants.{Rewrite};
 
@@ -108,6 +108,14 @@ impl Entries {
         ensures err { IfErr result (λ e. e ≡ Error.Memory) }
     {
         Ok(Error::Corruption(String::from_str(*self.deque.allocator(), text)?))
+    }
+
+    /// A refusal of an argument with this text, or want of memory for it.
+    pub(crate) fn invalid(&self, text: &str) -> Result<Error>
+        ensures ok { IfOk result IsInvalidArgument }
+        ensures err { IfErr result (λ e. e ≡ Error.Memory) }
+    {
+        Ok(Error::InvalidArgument(String::from_str(*self.deque.allocator(), text)?))
     }
 
     /// How many of them are rewritten.

@@ -1,12 +1,17 @@
 //! The key values of one region.
 
-ghost use Rattle.std.specs.Prelude.{◌≡◌, ◌+◌, ◌∷◌, ◌++◌, ◌↔◌, IsTrue, OnOk, OnErr, IfOk, IfSome, IfNone, filter, length, map, take};
-ghost use Rattle.std.specs.Option.{option_map};
+ghost use Rattle.std.specs.Prelude.{◌≡◌, ℕ, ◌+◌, ◌≤◌, List, [], ◌∷◌, ◌++◌, ◌↔◌, IsTrue, OnOk, OnErr, IfOk, IfSome, IfNone, All, Contains, filter, length, map, take};
+ghost use Rattle.std.specs.Option.{option_copied, option_map, option_or};
+ghost use Rattle.std.specs.Fn.{CalledAtTwo};
 ghost use Rattle.std.specs.FinMap as finite;
 ghost use Rattle.raft_base.specs.declared.pipe_log.LogQueue.{LogQueue};
-ghost use Rattle.raft_memtable.specs.KeyValues.{pair_count, file_count, value_at, file_at, with_put, with_moved, files_in, least, lesser, is_up_to, fetched, pairs_shown, overlaid};
+ghost use Rattle.raft_memtable.specs.Scan.{VisitsUntilFalse, scanned};
+ghost use Rattle.raft_memtable.specs.KeyValues.{Keys, pair_count, file_count, value_at, file_at, with_put, with_moved, files_in, least, lesser, is_up_to, fetched, pairs_shown, overlaid};
+
+mod scan;
 
 use raft_records::{FileId, FileSeq, LogQueue};
+use scan::{divided, is_forward, sought, visit, visit_back};
 use std::alloc::{AllocError, Global};
 use std::collections::BTreeMap;
 use std::marker::Model;
@@ -24,6 +29,7 @@ pub struct KeyValues {
     pairs: BTreeMap<Vec<u8>, StoredValue>,
     /// How many of the pairs have their file in the rewrite queue.
     rewritten: usize,
+    alloc: Global,
 }
 
 impl Model for KeyValues {
@@ -49,6 +55,7 @@ impl KeyValues {
         KeyValues {
             pairs: BTreeMap::new(alloc),
             rewritten: 0,
+            alloc,
         }
     }
 
@@ -180,6 +187,32 @@ impl KeyValues {
         pushed
     }
 
+    /// Calls `f` at the keys from `start` on and below `end` with their values, in the order of
+    /// the keys or, where `reverse`, from the last one back, until it answers false. A bound that
+    /// is `None` leaves its side open; where `start` is above `end` nothing is visited.
+    pub fn scan<F: FnMut(&[u8], &[u8]) -> bool>(
+        &self,
+        start: Option<&[u8]>,
+        end: Option<&[u8]>,
+        reverse: bool,
+        f: F,
+    )
+        requires { F.IsAlwaysCallable f }
+        ensures { (last : F) × VisitsUntilFalse (CalledAtTwo F.FnMut) f (scanned (option_copied start.entry) (option_copied end.entry) reverse self.now) last }
+    {
+        if !is_forward(start, end) {
+            return;
+        }
+        let (first, start) = divided(self.alloc, start);
+        let (past, end) = divided(self.alloc, end);
+        let pairs = sought(&self.pairs, &first, &past);
+        if reverse {
+            visit_back(pairs, start, end, f);
+        } else {
+            visit(pairs, start, end, f);
+        }
+    }
+
     /// Puts the pairs of `rhs` over these, and leaves `rhs` empty.
     ///
     /// # Errors
@@ -189,6 +222,7 @@ impl KeyValues {
     pub fn absorb(&mut self, rhs: &mut KeyValues) -> Result<(), AllocError>
         ensures ok { OnOk result (self.new ≡ overlaid rhs.old self.old) }
         ensures emptied { OnOk result (rhs.new ≡ finite.empty) }
+        ensures bounded { (queue : LogQueue) → pair_count queue self.new ≤ pair_count queue self.old + pair_count queue rhs.old }
     {
         while let Some((key, pair)) = rhs.take_first() {
             self.insert(key, pair.value, pair.file)?;
@@ -269,5 +303,108 @@ fn rewritten(file: Option<FileId>) -> usize
     match file {
         Some(file) if file.queue == LogQueue::Rewrite => 1,
         _ => 0,
+    }
+}
+
+/// The least of some numbers is one of them, and none of them is below it.
+pub fn least_is_lowest()
+    ensures none { (ns : List ℕ) → least ns ≡ None → ns ≡ [] }
+    ensures found { (ns : List ℕ) (n : ℕ) → least ns ≡ Some n → Contains ns n }
+    ensures lowest { (ns : List ℕ) (n : ℕ) → least ns ≡ Some n → All (λ m. n ≤ m) ns }
+{}
+
+/// Of two sets of pairs put over one another, a key has what the newer ones hold there or, where
+/// they hold nothing, what the older ones do.
+pub fn newer_pairs_win()
+    ensures { (newer older : Keys) (key : List ℕ) → finite.get (overlaid newer older) key ≡ option_or (finite.get newer key) (finite.get older key) }
+{}
+
+#[cfg(test)]
+mod tests {
+    use super::*;
+    use std::test::Fail;
+
+    /// Puts each key with its value, and the file's number with both.
+    fn put(
+        pairs: &mut KeyValues,
+        alloc: Global,
+        file: FileId,
+        all: &[(&[u8], &[u8])],
+    ) -> Result<(), AllocError> {
+        for (key, value) in all {
+            pairs.insert(
+                Vec::from_slice(alloc, *key)?,
+                Vec::from_slice(alloc, *value)?,
+                file,
+            )?;
+        }
+        Ok(())
+    }
+
+    // What is seen is the decimal number of the keys' digits, one behind the other.
+    #[test]
+    fn scans_end_at_bounds_and_when_told(rt: HostRuntime) -> Result<(), Fail> {
+        let mut pairs = KeyValues::new(rt.alloc());
+        let file = FileId::new(LogQueue::Append, 1);
+        put(
+            &mut pairs,
+            rt.alloc(),
+            file,
+            &[(b"2", b"b"), (b"3", b"c"), (b"1", b"a")],
+        )?;
+        let one: Option<&[u8]> = Some(b"1");
+        let two: Option<&[u8]> = Some(b"2");
+        for (start, end, reverse, limit, want) in [
+            (None, None, false, 1000, 123),
+            (None, None, true, 1000, 321),
+            (None, None, false, 10, 12),
+            (None, None, true, 10, 32),
+            (two, None, false, 1000, 23),
+            (two, None, true, 1000, 32),
+            (None, two, false, 1000, 1),
+            (one, two, true, 1000, 1),
+            (two, two, false, 1000, 0),
+            (two, one, false, 1000, 0),
+        ] {
+            let mut seen = 0u64;
+            pairs.scan(start, end, reverse, |key, _| {
+                let digit = key.first().map_or(0, |b| u64::from(*b & 15));
+                seen = seen.wrapping_mul(10).wrapping_add(digit);
+                seen < limit
+            });
+            assert_eq!(rt; seen, want);
+        }
+        Ok(())
+    }
+
+    #[test]
+    fn newer_pairs_replace_older_ones(rt: HostRuntime) -> Result<(), Fail> {
+        let mut older = KeyValues::new(rt.alloc());
+        let mut newer = KeyValues::new(rt.alloc());
+        put(
+            &mut older,
+            rt.alloc(),
+            FileId::new(LogQueue::Rewrite, 7),
+            &[(b"j", b"1"), (b"k", b"2")],
+        )?;
+        put(
+            &mut newer,
+            rt.alloc(),
+            FileId::new(LogQueue::Append, 9),
+            &[(b"k", b"3"), (b"l", b"4")],
+        )?;
+        older.absorb(&mut newer)?;
+        assert!(rt; newer.is_empty());
+        assert_eq!(rt; older.get(b"k"), Some(b"3".as_slice()));
+        assert_eq!(rt; older.count_in(LogQueue::Rewrite), 1);
+        assert_eq!(rt; older.least_file_in(LogQueue::Append), Some(9));
+        let mut vec = Vec::new(rt.alloc());
+        older.fetch(LogQueue::Append, Some(9), &mut vec)?;
+        assert_eq!(rt; vec.len(), 2);
+        let moved = older.set_file(b"l", FileId::new(LogQueue::Rewrite, 50));
+        assert_eq!(rt; moved, Some(FileId::new(LogQueue::Append, 9)));
+        assert_eq!(rt; older.remove(b"j"), Some(FileId::new(LogQueue::Rewrite, 7)));
+        assert_eq!(rt; older.len(), 2);
+        Ok(())
     }
 }

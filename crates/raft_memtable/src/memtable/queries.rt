@@ -1,11 +1,14 @@
 //! What a table answers of its records.
 
-ghost use Rattle.std.specs.Prelude.{◌≡◌, ◌+◌, ◌-◌, ◌<◌, ◌++◌, OnOk, OnErr, IfErr, Some, None};
+ghost use Rattle.std.specs.Prelude.{◌≡◌, ◌+◌, ◌-◌, ◌<◌, ◌++◌, IsOk, OnOk, OnErr, IfErr, Some, None};
+ghost use Rattle.std.specs.Fn.{CalledAtTwo};
 ghost use Rattle.std.specs.List.{slice_get};
+ghost use Rattle.std.specs.Option.{option_copied};
 ghost use Rattle.raft_base.specs.declared.pipe_log.LogQueue.TheVariants.{Append, Rewrite};
 ghost use Rattle.raft_memtable.specs.Entries.{placed_in};
 ghost use Rattle.raft_memtable.specs.Fetches.{Fetches, IsFetchRefused, range_answer, appended_before, block_count, entry_seq, is_some_before};
 ghost use Rattle.raft_memtable.specs.KeyValues.{pairs_shown, fetched, lesser};
+ghost use Rattle.raft_memtable.specs.Scan.{VisitsUntilFalse, scanned};
 ghost use Rattle.raft_memtable.specs.Least.{least_of, lowered};
 
 use crate::memtable::MemTable;
@@ -86,6 +89,24 @@ impl MemTable {
         ensures memory { IfErr result (λ e. e ≡ Error.Memory) }
     {
         self.keys.fetch(LogQueue::Rewrite, None, vec)?;
+        Ok(())
+    }
+
+    /// Calls `f` at the keys from `start` on and below `end` with their values, in the order of the
+    /// keys or, where `reverse`, from the last one back, until it answers false. A bound that is
+    /// `None` leaves its side open; where `start` is above `end` nothing is visited.
+    pub fn scan<F: FnMut(&[u8], &[u8]) -> bool>(
+        &self,
+        start: Option<&[u8]>,
+        end: Option<&[u8]>,
+        reverse: bool,
+        f: F,
+    ) -> Result<()>
+        requires { F.IsAlwaysCallable f }
+        ensures ok { IsOk result }
+        ensures visits { (last : F) × VisitsUntilFalse (CalledAtTwo F.FnMut) f (scanned (option_copied start.entry) (option_copied end.entry) reverse self.now.keys) last }
+    {
+        self.keys.scan(start, end, reverse, f);
         Ok(())
     }
 

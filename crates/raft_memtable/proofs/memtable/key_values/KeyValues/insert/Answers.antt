@@ -17,7 +17,7 @@ overflow_sub-self c =
     omega (arith, counted-shown c.self.inside c.args.self.now c.args.key.items _ c.self.invariant c.self.view_is replaced)
 
 abbrev after : goal.After-self-1 → Inside
-after c = record { pairs = c.insert.new.self; rewritten = c.self.inside.rewritten - c.rewritten.result + c.rewritten-2.result }
+after c = record c.self.inside { pairs = c.insert.new.self; rewritten = c.self.inside.rewritten - c.rewritten.result + c.rewritten-2.result }
 
 replaced : (c : goal.After-self-1) → c.file_in-replaced.result ≡ file_at c.args.self.now c.args.key.items
 replaced c = c.file_in-replaced.ensures ∙ sym (file-shown c.self.inside c.args.self.now c.args.key.items _ c.self.invariant c.self.view_is c.in_ok-insert.ensures.old)

@@ -6,4 +6,4 @@ pub invariant_of-result : goal.invariant_of-result
 invariant_of-result c = sound-none _ c.new.ensures.empty c.new.ensures.ordered refl
 
 pub returns : goal.returns
-returns c = shown-none (record { pairs = c.new.result; rewritten = 0 }) c.new.ensures.empty c.new.ensures.ordered
+returns c = shown-none (record { pairs = c.new.result; rewritten = 0; alloc = c.args.alloc }) c.new.ensures.empty c.new.ensures.ordered

@@ -11,7 +11,7 @@ use Rattle.raft_memtable.proofs.memtable.key_values.KeyValues.remove.Goals as go
 
 pub returns-in_err-removed-clause-after : goal.returns-in_err-removed-clause-after
 returns-in_err-removed-clause-after c =
-    shown-remove c.self.inside (record { pairs = c.remove.new.self; rewritten = c.self.inside.rewritten }) c.args.self.now c.args.key.now c.self.invariant c.self.view_is c.remove.ensures.ordered c.remove.ensures.entries
+    shown-remove c.self.inside (record c.self.inside { pairs = c.remove.new.self }) c.args.self.now c.args.key.now c.self.invariant c.self.view_is c.remove.ensures.ordered c.remove.ensures.entries
 
 pub returns-in_err-removed-clause-removed : goal.returns-in_err-removed-clause-removed
 returns-in_err-removed-clause-removed c =
@@ -23,7 +23,7 @@ overflow_sub-self c =
     omega (arith, counted-shown c.self.inside c.args.self.now c.args.key.now _ c.self.invariant c.self.view_is removed)
 
 abbrev after : goal.After-drop-removed → Inside
-after c = record { pairs = c.remove.new.self; rewritten = c.self.inside.rewritten - c.rewritten.result }
+after c = record c.self.inside { pairs = c.remove.new.self; rewritten = c.self.inside.rewritten - c.rewritten.result }
 
 removed : (c : goal.After-drop-removed) → Some c.in_ok-removed.removed.file ≡ file_at c.args.self.now c.args.key.now
 removed c = sym (file-shown c.self.inside c.args.self.now c.args.key.now (Some c.in_ok-removed.removed) c.self.invariant c.self.view_is (sym (c.in_ok-removed.was) ∙ c.remove.ensures.value))

@@ -17,7 +17,7 @@ prove-unreachable-requires c = omega (arith, rewritten-le-len c.self.inside c.se
 
 pub returns-in_err-pair-clause-after : goal.returns-in_err-pair-clause-after
 returns-in_err-pair-clause-after c =
-    shown-unmoved c.self.inside (record { pairs = c.get_mut.follows.lender-at-none; rewritten = c.self.inside.rewritten }) c.args.self.now c.args.key.now c.args.file c.self.invariant c.self.view_is
+    shown-unmoved c.self.inside (record c.self.inside { pairs = c.get_mut.follows.lender-at-none }) c.args.self.now c.args.key.now c.args.file c.self.invariant c.self.view_is
     (sym c.get_mut.ensures.value ∙ ap option_copied_mut c.in_err-pair.was) (ap (λ m. m.entries) c.get_mut.follows.holds-at-none)
 
 pub returns-in_err-pair-clause-moved : goal.returns-in_err-pair-clause-moved
@@ -30,7 +30,7 @@ overflow_sub-self c =
     omega (arith, counted-shown c.self.inside c.args.self.now c.args.key.now _ c.self.invariant c.self.view_is left)
 
 abbrev after : goal.After-self-3-1 → Inside
-after c = record { pairs = c.get_mut.follows.lender (record { value = c.in_ok-pair.pair.now.value; file = c.args.file }); rewritten = c.self.inside.rewritten - c.rewritten.result + c.rewritten-2.result }
+after c = record c.self.inside { pairs = c.get_mut.follows.lender (record { value = c.in_ok-pair.pair.now.value; file = c.args.file }); rewritten = c.self.inside.rewritten - c.rewritten.result + c.rewritten-2.result }
 
 found : (c : goal.After-self-3-1) → Some c.in_ok-pair.pair.now ≡ lookup (has c.args.key.now) c.self.inside.pairs.entries
 found c = sym (ap option_copied_mut c.in_ok-pair.was) ∙ c.get_mut.ensures.value

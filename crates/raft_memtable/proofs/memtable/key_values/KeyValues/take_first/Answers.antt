@@ -15,11 +15,11 @@ returns-in_err-key-clause-none c =
 
 pub overflow_sub-self : goal.overflow_sub-self
 overflow_sub-self c =
-    let first = first-shown c.self.inside (record { pairs = c.pop_first.new.self; rewritten = 0 }) c.args.self.now c.in_ok-key.key c.in_ok-key.pair c.self.invariant c.self.view_is c.pop_first.ensures.ordered c.in_ok-key.ensures.removal in
+    let first = first-shown c.self.inside (record c.self.inside { pairs = c.pop_first.new.self; rewritten = 0 }) c.args.self.now c.in_ok-key.key c.in_ok-key.pair c.self.invariant c.self.view_is c.pop_first.ensures.ordered c.in_ok-key.ensures.removal in
     omega (arith, c.rewritten.ensures, pair_count-first Rewrite c.args.self.now _ _ _ first, c.self.invariant.counted, ap (pair_count Rewrite) c.self.view_is)
 
 abbrev after : goal.After-self-1 → Inside
-after c = record { pairs = c.pop_first.new.self; rewritten = c.self.inside.rewritten - c.rewritten.result }
+after c = record c.self.inside { pairs = c.pop_first.new.self; rewritten = c.self.inside.rewritten - c.rewritten.result }
 
 first : (c : goal.After-self-1) → finite.entries c.args.self.now ≡ (c.in_ok-key.key.items, stored_of c.in_ok-key.pair) ∷ finite.entries (keys_shown (after c))
 first c = first-shown c.self.inside (after c) c.args.self.now c.in_ok-key.key c.in_ok-key.pair c.self.invariant c.self.view_is c.pop_first.ensures.ordered c.in_ok-key.ensures.removal

@@ -48,10 +48,10 @@ part_of_two a b xs ys h =
     let ld = length-drop a xs in
     let x : a - length (take b xs) ≡ max a m - m = omega arith in
     let first : drop a (take b xs) ≡ take (min b m - min a m) (drop (min a m) xs) =
-      part_is a b xs h ∙ take_same (b - a) (min b m - min a m) (drop a xs) (omega arith) ∙ ap (take (min b m - min a m)) (sym (drop_min a xs)) in
+    part_is a b xs h ∙ take_same (b - a) (min b m - min a m) (drop a xs) (omega arith) ∙ ap (take (min b m - min a m)) (sym (drop_min a xs)) in
     let second : drop (a - length (take b xs)) (take (b - m) ys) ≡ take (max b m - m - (max a m - m)) (drop (max a m - m) ys) =
-      ap (λ k. drop k (take (b - m) ys)) x ∙ part_is (max a m - m) (b - m) ys (omega arith)
-      ∙ ap (λ k. take k (drop (max a m - m) ys)) (let e : b - m - (max a m - m) ≡ max b m - m - (max a m - m) = omega arith in e) in
+    ap (λ k. drop k (take (b - m) ys)) x ∙ part_is (max a m - m) (b - m) ys (omega arith)
+    ∙ ap (λ k. take k (drop (max a m - m) ys)) (let e : b - m - (max a m - m) ≡ max b m - m - (max a m - m) = omega arith in e) in
     ap (drop a) (take_append b xs ys) ∙ drop_append a (take b xs) (take (b - m) ys) ∙ rw (first, second) refl
 
 -- the total with one more length
@@ -71,11 +71,13 @@ limit_stops limit n total len xs d l e f g h k = record { there = omega arith; f
 
 pub limit_more : (limit n total len : ℕ) (xs : List EntryIndex) (d : EntryIndex) → n < length xs → total ≡ total_len n xs → len ≡ (get_or xs n d).entry_len → ((limit < total + len) × (total ≤ 0)) ⊎ (total + len ≤ limit) → ((m : ℕ) → m < n → is_too_many (Some limit) m xs ≡ false) → (total + len ≡ total_len (suc n) xs) × ((m : ℕ) → m < suc n → is_too_many (Some limit) m xs ≡ false)
 limit_more limit n total len xs d l e f g k =
-    let t = total_more xs n d l in
-    (omega arith, λ m b. elim (cases_lt m n) [
-      | inl a ↦ k m a
-      | inr a ↦ subst (λ i. is_too_many (Some limit) i xs ≡ false) (let q : n ≡ m = omega arith in q) (few_enough limit n total len xs d l e f g)
-    ])
+    let t = total_more xs n d l in (
+      omega arith,
+      λ m b. elim (cases_lt m n) [
+        | inl a ↦ k m a
+        | inr a ↦ subst (λ i. is_too_many (Some limit) i xs ≡ false) (let q : n ≡ m = omega arith in q) (few_enough limit n total len xs d l e f g)
+      ],
+    )
 
 pub part_at : (a b i : ℕ) (xs : List EntryIndex) (d : EntryIndex) → a ≤ i → i < b → get_or (drop a (take b xs)) (i - a) d ≡ get_or xs i d
 part_at a b i xs d h l =
@@ -139,7 +141,7 @@ fetched_part limit begin end n es old new h a b w e =
     record {
       count = n;
       within = rw p w;
-      appended = e ∙ ap (λ xs. old ++ xs) (part_front (begin - start_of es) (end - start_of es) n es (omega arith) w.there ∙ ap (take n) (sym p))
+      appended = e ∙ ap (λ xs. old ++ xs) (part_front (begin - start_of es) (end - start_of es) n es (omega arith) w.there ∙ ap (take n) (sym p));
     }
 
 -- stretches of blocks

@@ -118,8 +118,8 @@ moves gate at m es places h l r q t e =
       sound = record {
         run = record { start = s; rising = rise };
         in_front = in_front_of ab (drop (at + m) es) both (IsSound-drop (at + m) es h).in_front;
-        bounded = omega arith
+        bounded = omega arith;
       };
       rewritten = omega arith;
-      appended = omega arith
+      appended = omega arith;
     }

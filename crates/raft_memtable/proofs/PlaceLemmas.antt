@@ -72,6 +72,7 @@ placed_apart q r d e h = at e.entries h
     same Append Rewrite c n s = cc
     same Rewrite Append c n s = cc
     same Rewrite Rewrite c n s = n
+
     at : (o : Option FileBlockHandle) → is_block_in q o ≡ true → is_block_in r o ≡ false
     at None k = refl
     at (Some b) k = same b.id.queue q r d k
@@ -92,8 +93,8 @@ unfolding placed_in
 entries_in_front n es h =
     ap (λ xs. entries_in Rewrite (take n xs)) h
     ∙ count_front (is_placed_in Rewrite) n (placed_in Rewrite es) (placed_in Append es)
-      (AllTest-filter (is_placed_in Rewrite) es)
-      (AllTest-weaker true false (is_placed_in Append) (is_placed_in Rewrite) (placed_apart Append Rewrite refl) (placed_in Append es) (AllTest-filter (is_placed_in Append) es))
+    (AllTest-filter (is_placed_in Rewrite) es)
+    (AllTest-weaker true false (is_placed_in Append) (is_placed_in Rewrite) (placed_apart Append Rewrite refl) (placed_in Append es) (AllTest-filter (is_placed_in Append) es))
 
 pub entries_in-append : (q : LogQueue) (a b : List EntryIndex) → entries_in q (a ++ b) ≡ entries_in q a + entries_in q b
 entries_in-append q a b = ap length (placed_in-append q a b) ∙ length-append (placed_in q a) (placed_in q b)

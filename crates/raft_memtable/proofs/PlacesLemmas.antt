@@ -18,4 +18,4 @@ copied_more at i old places d l k =
     rw (drop_more old (at + i) d l)
     (set_at (take at old ++ take i places) (get_or old (at + i) d) (drop (at + i + 1) old) (get_or places i d) (at + i) n
     ∙ rw (take_more places i d k, e) (sym (append_assoc (take at old ++ take i places) (get_or places i d ∷ []) (drop (at + (i + 1)) old))
-      ∙ ap (λ xs. xs ++ drop (at + (i + 1)) old) (append_assoc (take at old) (take i places) (get_or places i d ∷ []))))
+    ∙ ap (λ xs. xs ++ drop (at + (i + 1)) old) (append_assoc (take at old) (take i places) (get_or places i d ∷ []))))

@@ -126,13 +126,13 @@ rewrites_at gate run es m h r l x =
     let len : length (places_of run skipped count) ≡ count = rw sub (length-take-le count (drop skipped run) (omega (arith, length-drop skipped run))) in
     let place : y + skipped ≡ s + at = omega arith in
     let cut : meeting run es ≡ drop at (take (at + count) es) =
-      meeting_is Rewrite run es h r l
-      ∙ ap (λ k. drop k (take (y + length run - s) es)) (let e : y - s ≡ at = omega arith in e)
-      ∙ ap (drop at) (sym (take_min (y + length run - s) es) ∙ ap (λ k. take k es) (let e : min (y + length run - s) (length es) ≡ at + count = omega arith in e)) in
+    meeting_is Rewrite run es h r l
+    ∙ ap (λ k. drop k (take (y + length run - s) es)) (let e : y - s ≡ at = omega arith in e)
+    ∙ ap (drop at) (sym (take_min (y + length run - s) es) ∙ ap (λ k. take k es) (let e : min (y + length run - s) (length es) ≡ at + count = omega arith in e)) in
     let same : moved_count gate run es ≡ moves_of gate run es at skipped count = rw (cut, len) refl in
     let metlen : length (meeting run es) ≡ count = rw cut (length-drop at (take (at + count) es) ∙ omega (arith, length-take-le (at + count) es inside)) in
     let head : start_of (meeting run es) ≡ s + at =
-      rw cut (start_of_rise (s + at) (drop at (take (at + count) es)) (omega (arith, ap length cut)) (RisesFrom-drop at s (take (at + count) es) (RisesFrom-take (at + count) s es (sound_rising es h)) (omega (arith, length-take-le (at + count) es inside)))) in
+    rw cut (start_of_rise (s + at) (drop at (take (at + count) es)) (omega (arith, ap length cut)) (RisesFrom-drop at s (take (at + count) es) (RisesFrom-take (at + count) s es (sound_rising es h)) (omega (arith, length-take-le (at + count) es inside)))) in
     let under : below (s + at) es ≡ take at es = below_take (s + at) at s es refl (sound_rising es h) in
     let underlen : length (below (s + at) es) ≡ at = rw under (length-take-le at es (omega arith)) in
     let whole : rewritten gate run es ≡ cond (is_misplaced gate (length (below (s + at) es)) (entries_in Rewrite es)) None (Some (with_places run (s + at) (moved_count gate run es) es)) = rewritten_at gate run es (meeting run es) (s + at) (omega arith) head in
@@ -149,7 +149,7 @@ rewrites_at gate run es m h r l x =
       placed = placed_in-take Rewrite (skipped + count - skipped) (drop skipped run) (placed_in-drop Rewrite skipped run r.placed);
       refused = λ t. whole ∙ rw (underlen, t) refl;
       ok = λ t. whole ∙ rw (underlen, t) (ap (λ z. Some z) (rw (← same) spelled));
-      counts = same
+      counts = same;
     }
   where
     start_of_rise : (i : ℕ) (zs : List EntryIndex) → 0 < length zs → RisesFrom i zs → start_of zs ≡ i

@@ -34,7 +34,7 @@ IsSound-take n es h =
     record {
       run = record { start = s; rising = RisesFrom-take n s es h.run.rising };
       in_front = subst RewrittenInFront e (RewrittenInFront-below (s + n) es h.in_front);
-      bounded = omega arith
+      bounded = omega arith;
     }
 
 pub IsSound-drop : (n : ℕ) (es : List EntryIndex) → IsSound es → IsSound (drop n es)
@@ -46,7 +46,7 @@ IsSound-drop n es h =
     record {
       run = IsRun-drop n s es h.run.rising;
       in_front = subst RewrittenInFront e (RewrittenInFront-from (s + n) es h.in_front);
-      bounded = omega arith
+      bounded = omega arith;
     }
 
 -- the first entry is where the run starts
@@ -79,7 +79,7 @@ cut_counts n es h le = record {
   both = entries_in_both (take n es) (IsSound-take n es h).in_front ∙ length-take-le n es le;
   rewritten_behind = entries_in-cut Rewrite n es;
   appended_behind = entries_in-cut Append n es;
-  all = entries_in_both es h.in_front
+  all = entries_in_both es h.in_front;
 }
 
 -- no front: no entries

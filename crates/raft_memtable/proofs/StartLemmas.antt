@@ -60,12 +60,12 @@ pub sound_run : (q : LogQueue) (run : List EntryIndex) → IsRunIn q run → IsS
 sound_run Append run r = record {
   run = r.run;
   in_front = sym (rw (ap (placed_in Rewrite) (sym r.placed) ∙ placed_in_other Append Rewrite refl run) r.placed);
-  bounded = r.bounded
+  bounded = r.bounded;
 }
 sound_run Rewrite run r = record {
   run = r.run;
   in_front = sym (rw (ap (placed_in Append) (sym r.placed) ∙ placed_in_other Rewrite Append refl run, r.placed) (append-nil run));
-  bounded = r.bounded
+  bounded = r.bounded;
 }
 
 -- no appended entries among those that a run of the rewrite queue joins
@@ -104,10 +104,10 @@ sound_joined q (suc n) es run h m r l s =
     record {
       run = record {
         start = start_of es;
-        rising = RisesFrom-append (start_of es) (take k es) run (RisesFrom-take k (start_of es) es (sound_rising es h)) (rw (t, ← p) rr)
+        rising = RisesFrom-append (start_of es) (take k es) run (RisesFrom-take k (start_of es) es (sound_rising es h)) (rw (t, ← p) rr);
       };
       in_front = in_front_joined q k es run h m r.placed;
-      bounded = omega arith
+      bounded = omega arith;
     }
 
 -- a sound list with nothing in the other queue is a run of its queue
@@ -115,12 +115,12 @@ pub run_alone : (q : LogQueue) (es : List EntryIndex) → IsSound es → entries
 run_alone Append es h n = record {
   run = h.run;
   placed = sym (h.in_front ∙ ap (λ xs. xs ++ placed_in Append es) (nil_from_length (placed_in Rewrite es) n));
-  bounded = h.bounded
+  bounded = h.bounded;
 }
 run_alone Rewrite es h n = record {
   run = h.run;
   placed = sym (h.in_front ∙ ap (λ xs. placed_in Rewrite es ++ xs) (nil_from_length (placed_in Append es) n) ∙ append-nil (placed_in Rewrite es));
-  bounded = h.bounded
+  bounded = h.bounded;
 }
 
 pub may_join : (q : LogQueue) (es : List EntryIndex) → (q ≡ Rewrite → entries_in Append es ≡ 0) → MayJoin q es

@@ -13,12 +13,12 @@ ghost use Rattle.raft_memtable.specs.Start.{appended, replayed, IsRunRefused};
 mod change;
 pub mod entries;
 pub mod key_values;
-
 mod queries;
-
-pub use change::{TableChange, is_run};
+#[cfg(test)]
+mod tests;
 
 use crate::global_stats::GlobalStats;
+pub use change::{TableChange, is_run};
 use entries::Entries;
 use key_values::KeyValues;
 use raft_records::{EntryIndex, Error, FileId, FileSeq, LogQueue, Result};
@@ -285,16 +285,21 @@ impl MemTable {
                     return count_unmoved(stats);
                 }
                 stats.add(LogQueue::Rewrite, 1)?;
-                self.keys.set_file(&key, FileId::new(LogQueue::Rewrite, seq));
+                self.keys
+                    .set_file(&key, FileId::new(LogQueue::Rewrite, seq));
                 stats.delete(LogQueue::Append, 1);
                 Ok(())
             }
             LogQueue::Rewrite => {
                 if seq < file.seq {
-                    return Err(self.entries.corruption("a key is rewritten to an older file")?);
+                    return Err(
+                        self.entries
+                            .corruption("a key is rewritten to an older file")?,
+                    );
                 }
                 count_unmoved(stats)?;
-                self.keys.set_file(&key, FileId::new(LogQueue::Rewrite, seq));
+                self.keys
+                    .set_file(&key, FileId::new(LogQueue::Rewrite, seq));
                 Ok(())
             }
         }

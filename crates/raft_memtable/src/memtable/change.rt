@@ -25,9 +25,13 @@ pub enum TableChange {
         file_id: FileId,
     },
     /// [`MemTable::delete`].
-    Delete { key: Vec<u8> },
+    Delete {
+        key: Vec<u8>,
+    },
     /// [`MemTable::compact_to`].
-    Compact { index: u64 },
+    Compact {
+        index: u64,
+    },
     /// [`MemTable::rewrite`].
     Rewrite {
         entries: Vec<EntryIndex>,
@@ -97,7 +101,10 @@ impl MemTable {
         if is_run(run, queue) {
             return Ok(());
         }
-        Err(self.entries.invalid("the entries are no run of their queue")?)
+        Err(
+            self.entries
+                .invalid("the entries are no run of their queue")?,
+        )
     }
 }
 

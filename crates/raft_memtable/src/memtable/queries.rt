@@ -47,11 +47,7 @@ impl MemTable {
 
     /// Appends the appended entries from the first on while their file is at or below `gate` to
     /// `vec`, which stays as it was where there is no memory.
-    pub fn fetch_entry_indexes_before(
-        &self,
-        gate: FileSeq,
-        vec: &mut Vec<EntryIndex>,
-    ) -> Result<()>
+    pub fn fetch_entry_indexes_before(&self, gate: FileSeq, vec: &mut Vec<EntryIndex>) -> Result<()>
         ensures ok { OnOk result (vec.new.items ≡ vec.old.items ++ appended_before gate self.now.entries) }
         ensures err { OnErr result (vec.new.items ≡ vec.old.items) }
         ensures memory { IfErr result (λ e. e ≡ Error.Memory) }

@@ -4,5 +4,5 @@ use Rattle.raft_memtable.proofs.memtable.MemTable.put.Goals as goal
 
 pub delete-requires : goal.delete-requires
 delete-requires c =
-   let a = pair_counted c.self-2.inside.keys c.args.key.items c.in-Some.replaced (sym c.in-Some.is ∙ c.in_ok-replaced.ensures.replaced) in
-   omega (arith, rw (← c.self-2.view_is) at (c.requires c.in-Some.replaced.queue))
+    let a = pair_counted c.self-2.inside.keys c.args.key.items c.in-Some.replaced (sym c.in-Some.is ∙ c.in_ok-replaced.ensures.replaced) in
+    omega (arith, rw (← c.self-2.view_is) at (c.requires c.in-Some.replaced.queue))

@@ -22,7 +22,7 @@ returns-then-index-first-clause-entries c =
     let s = first_is c in
     rw (← c.self.view_is)
     (sym (from_start c.args.index (start_of c.self.inside.deque.items) c.self.inside.deque.items
-      (sound_rising c.self.inside.deque.items c.self.invariant.0) (omega arith)))
+    (sound_rising c.self.inside.deque.items c.self.invariant.0) (omega arith)))
 
 cut : (c : goal.After-delete-2) → c.drop.new.self.0.items ≡ drop c.min-count.result c.self.inside.deque.items
 cut c = c.drop.ensures.items ∙ c.drain.ensures.kept
@@ -39,7 +39,7 @@ invariant_of-self c =
 pub returns-clause-entries : goal.returns-clause-entries
 returns-clause-entries c =
     let s : start_of c.self.inside.deque.items ≡ c.in-Some.front.now.index =
-      start_of_front c.self.inside.deque.items c.in-Some.front.now (omega (arith, c.in-Some.ensures.variant.0 refl, c.self.inside.deque.ok)) c.in-Some.ensures.lookup in
+    start_of_front c.self.inside.deque.items c.in-Some.front.now (omega (arith, c.in-Some.ensures.variant.0 refl, c.self.inside.deque.ok)) c.in-Some.ensures.lookup in
     rw (← c.self.view_is)
     (cut c ∙ from_cut c.args.index c.min-count.result c.self.inside.deque.items c.self.invariant.0 (omega arith) (rw s (omega (arith, c.self.inside.deque.ok))))
 
@@ -49,5 +49,5 @@ returns-clause-recounted c =
     let r = c.self.invariant.1 in
     rw (← c.self.view_is, cut c)
     (each_queue _
-      (omega (arith, c.delete.ensures.live Append, c.delete-2.ensures.live Append))
-      (omega (arith, c.delete.ensures.live Rewrite, c.delete-2.ensures.live Rewrite)))
+    (omega (arith, c.delete.ensures.live Append, c.delete-2.ensures.live Append))
+    (omega (arith, c.delete.ensures.live Rewrite, c.delete-2.ensures.live Rewrite)))

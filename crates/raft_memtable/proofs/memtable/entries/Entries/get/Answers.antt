@@ -11,7 +11,7 @@ pub returns-then-index-first : goal.returns-then-index-first
 returns-then-index-first c =
     let es = c.self.inside.deque.items in
     let s : start_of es ≡ c.in_ok-first.field-0.now.index =
-      start_of_front es c.in_ok-first.field-0.now (omega (arith, c.in_ok-first.ensures.variant.0 refl, c.self.inside.deque.ok)) c.in_ok-first.ensures.lookup in
+    start_of_front es c.in_ok-first.field-0.now (omega (arith, c.in_ok-first.ensures.variant.0 refl, c.self.inside.deque.ok)) c.in_ok-first.ensures.lookup in
     rw (← c.self.view_is) (sym (entry_at_low c.args.index (start_of es) es (omega arith) (sound_rising es c.self.invariant.0)))
 
 found : (i k s : ℕ) (es : List EntryIndex) (r : Option (Bor EntryIndex)) → i ≡ s + k → RisesFrom s es → MatchOption r (length es ≤ k) (λ x. (k < length es) × HoldsAt (λ y. x.now ≡ y) es k) → option_copied r ≡ entry_at i es
@@ -22,7 +22,7 @@ pub returns : goal.returns
 returns c =
     let es = c.self.inside.deque.items in
     let s : start_of es ≡ c.in_ok-first.field-0.now.index =
-      start_of_front es c.in_ok-first.field-0.now (omega (arith, c.in_ok-first.ensures.variant.0 refl, c.self.inside.deque.ok)) c.in_ok-first.ensures.lookup in
+    start_of_front es c.in_ok-first.field-0.now (omega (arith, c.in_ok-first.ensures.variant.0 refl, c.self.inside.deque.ok)) c.in_ok-first.ensures.lookup in
     rw (← c.self.view_is)
     (c.copied.ensures
-      ∙ found c.args.index (c.args.index - c.in_ok-first.field-0.now.index) (start_of es) es c.get.result (rw s (omega arith)) (sound_rising es c.self.invariant.0) c.get.ensures.item.3)
+    ∙ found c.args.index (c.args.index - c.in_ok-first.field-0.now.index) (start_of es) es c.get.result (rw s (omega arith)) (sound_rising es c.self.invariant.0) c.get.ensures.item.3)

@@ -12,7 +12,7 @@ use Rattle.raft_memtable.proofs.memtable.entries.Entries.move_places.Goals as go
 facts_before : (c : goal.After-copy_places-arg-1) → Moves c.args.gate c.args.at c.movable-moved.result c.self.inside.deque.items c.args.places.now
 facts_before c =
     moves c.args.gate c.args.at c.movable-moved.result c.self.inside.deque.items c.args.places.now c.self.invariant.0
-      (rw c.self.view_is c.requires.within) (rw c.self.view_is c.requires.rising) c.requires.placed (rw c.self.view_is c.requires.well_placed) c.movable-moved.ensures
+    (rw c.self.view_is c.requires.within) (rw c.self.view_is c.requires.rising) c.requires.placed (rw c.self.view_is c.requires.well_placed) c.movable-moved.ensures
 
 pub slice_bounds-copy_places-end : goal.slice_bounds-copy_places-end
 slice_bounds-copy_places-end c = let f = facts_before c in sym (length-take-le c.movable-moved.result c.args.places.now f.within)
@@ -20,7 +20,7 @@ slice_bounds-copy_places-end c = let f = facts_before c in sym (length-take-le c
 facts_gate : (c : goal.In-Some) → Moves c.args.gate c.args.at c.movable-moved.result c.self.inside.deque.items c.args.places.now
 facts_gate c =
     moves c.args.gate c.args.at c.movable-moved.result c.self.inside.deque.items c.args.places.now c.self.invariant.0
-      (rw c.self.view_is c.requires.within) (rw c.self.view_is c.requires.rising) c.requires.placed (rw c.self.view_is c.requires.well_placed) c.movable-moved.ensures
+    (rw c.self.view_is c.requires.within) (rw c.self.view_is c.requires.rising) c.requires.placed (rw c.self.view_is c.requires.well_placed) c.movable-moved.ensures
 
 pub overflow_add-self : goal.overflow_add-self
 overflow_add-self c =
@@ -33,7 +33,7 @@ overflow_add-self c =
 facts_delete : (c : goal.After-delete-arg-1) → Moves c.args.gate c.args.at c.movable-moved.result c.self.inside.deque.items c.args.places.now
 facts_delete c =
     moves c.args.gate c.args.at c.movable-moved.result c.self.inside.deque.items c.args.places.now c.self.invariant.0
-      (rw c.self.view_is c.requires.within) (rw c.self.view_is c.requires.rising) c.requires.placed (rw c.self.view_is c.requires.well_placed) c.movable-moved.ensures
+    (rw c.self.view_is c.requires.within) (rw c.self.view_is c.requires.rising) c.requires.placed (rw c.self.view_is c.requires.well_placed) c.movable-moved.ensures
 
 pub delete-requires : goal.delete-requires
 delete-requires c =
@@ -44,7 +44,7 @@ delete-requires c =
 facts_rest : (c : goal.After-delete-arg-in-Some-1) → Moves c.args.gate c.args.at c.movable-moved.result c.self.inside.deque.items c.args.places.now
 facts_rest c =
     moves c.args.gate c.args.at c.movable-moved.result c.self.inside.deque.items c.args.places.now c.self.invariant.0
-      (rw c.self.view_is c.requires.within) (rw c.self.view_is c.requires.rising) c.requires.placed (rw c.self.view_is c.requires.well_placed) c.movable-moved.ensures
+    (rw c.self.view_is c.requires.within) (rw c.self.view_is c.requires.rising) c.requires.placed (rw c.self.view_is c.requires.well_placed) c.movable-moved.ensures
 
 pub overflow_sub-written : goal.overflow_sub-written
 overflow_sub-written c = let f = facts_rest c in let w = f.within in omega (arith, c.requires.written)
@@ -55,7 +55,7 @@ delete-requires-in-Some c = omega (arith, c.in_ok-add.ensures.live Rewrite, c.de
 facts_some : (c : goal.After-delete-in-Some) → Moves c.args.gate c.args.at c.movable-moved.result c.self.inside.deque.items c.args.places.now
 facts_some c =
     moves c.args.gate c.args.at c.movable-moved.result c.self.inside.deque.items c.args.places.now c.self.invariant.0
-      (rw c.self.view_is c.requires.within) (rw c.self.view_is c.requires.rising) c.requires.placed (rw c.self.view_is c.requires.well_placed) c.movable-moved.ensures
+    (rw c.self.view_is c.requires.within) (rw c.self.view_is c.requires.rising) c.requires.placed (rw c.self.view_is c.requires.well_placed) c.movable-moved.ensures
 
 new_some : (c : goal.After-delete-in-Some) → c.copy_places.new.deque.items ≡ take c.args.at c.self.inside.deque.items ++ take c.movable-moved.result c.args.places.now ++ drop (c.args.at + c.movable-moved.result) c.self.inside.deque.items
 new_some c =
@@ -83,8 +83,8 @@ returns-in-Some-clause-recounted c =
     let b = rw c.in-Some.is at f.appended in
     rw (← c.self.view_is, new_some c)
     (each_queue _
-      (omega (arith, c.in_ok-add.ensures.live Append, c.delete.ensures.live Append, c.delete-in-Some.ensures.live Append))
-      (omega (arith, c.requires.written, c.in_ok-add.ensures.live Rewrite, c.delete.ensures.live Rewrite, c.delete-in-Some.ensures.live Rewrite)))
+    (omega (arith, c.in_ok-add.ensures.live Append, c.delete.ensures.live Append, c.delete-in-Some.ensures.live Append))
+    (omega (arith, c.requires.written, c.in_ok-add.ensures.live Rewrite, c.delete.ensures.live Rewrite, c.delete-in-Some.ensures.live Rewrite)))
 
 pub delete-requires-in-None : goal.delete-requires-in-None
 delete-requires-in-None c = omega (arith, c.in_ok-add.ensures.live Rewrite)
@@ -92,7 +92,7 @@ delete-requires-in-None c = omega (arith, c.in_ok-add.ensures.live Rewrite)
 facts_none : (c : goal.After-delete-in-None) → Moves c.args.gate c.args.at c.movable-moved.result c.self.inside.deque.items c.args.places.now
 facts_none c =
     moves c.args.gate c.args.at c.movable-moved.result c.self.inside.deque.items c.args.places.now c.self.invariant.0
-      (rw c.self.view_is c.requires.within) (rw c.self.view_is c.requires.rising) c.requires.placed (rw c.self.view_is c.requires.well_placed) c.movable-moved.ensures
+    (rw c.self.view_is c.requires.within) (rw c.self.view_is c.requires.rising) c.requires.placed (rw c.self.view_is c.requires.well_placed) c.movable-moved.ensures
 
 new_none : (c : goal.After-delete-in-None) → c.copy_places.new.deque.items ≡ take c.args.at c.self.inside.deque.items ++ take c.movable-moved.result c.args.places.now ++ drop (c.args.at + c.movable-moved.result) c.self.inside.deque.items
 new_none c =
@@ -119,5 +119,5 @@ returns-in-None-clause-recounted c =
     let b = rw c.in-None.is at f.appended in
     rw (← c.self.view_is, new_none c)
     (each_queue _
-      (omega (arith, c.in_ok-add.ensures.live Append, c.delete-in-None.ensures.live Append))
-      (omega (arith, c.in_ok-add.ensures.live Rewrite, c.delete-in-None.ensures.live Rewrite)))
+    (omega (arith, c.in_ok-add.ensures.live Append, c.delete-in-None.ensures.live Append))
+    (omega (arith, c.in_ok-add.ensures.live Rewrite, c.delete-in-None.ensures.live Rewrite)))

@@ -29,12 +29,13 @@ pub invariant_of-self-2 : goal.invariant_of-self-2
 invariant_of-self-2 c =
     let k = counts c in
     let r = c.self.invariant.1 in
-    let n = in_queue c Rewrite in
-    (rw (joined c, c.self.view_is) c.requires.sound,
+    let n = in_queue c Rewrite in (
+      rw (joined c, c.self.view_is) c.requires.sound,
       elim c.match-queue.branch [
         | in-Append w ↦ rw (w.self-is, n, w.in-Append.is) (omega arith)
         | in-Rewrite w ↦ rw (w.self-is, n, w.in-Rewrite.is) (omega arith)
-      ])
+      ],
+    )
 
 pub returns-clause-recounted : goal.returns-clause-recounted
 returns-clause-recounted c =
@@ -43,8 +44,8 @@ returns-clause-recounted c =
     let e : c.len-3.result ≡ length c.args.run.now.items = omega (arith, c.args.run.now.ok) in
     rw (← c.self.view_is)
     (each_queue _
-      (omega (arith, in_queue c Append, rw e at (c.in_ok-exchange.ensures.ok Append)))
-      (omega (arith, in_queue c Rewrite, rw e at (c.in_ok-exchange.ensures.ok Rewrite))))
+    (omega (arith, in_queue c Append, rw e at (c.in_ok-exchange.ensures.ok Append)))
+    (omega (arith, in_queue c Rewrite, rw e at (c.in_ok-exchange.ensures.ok Rewrite))))
 
 -- a count that does not fit, told of the entries
 full_is : (q : LogQueue) (counts : Counts) (es front run : List EntryIndex) (a r n : ℕ) → 2 ^ 64 + of_queue q a r ≤ live q counts + n → of_queue q a r + entries_in q front ≡ entries_in q es → n ≡ length run → placed_in q run ≡ run → 2 ^ 64 + entries_in q es ≤ live q counts + entries_in q (front ++ run)
@@ -62,5 +63,5 @@ returns-in_err-exchange-clause-refused c =
     let a = c.len.result - c.args.keep - r in
     rw (p.1, p.2, full.0, ← c.self.view_is)
     (full_is c.args.queue c.args.stats.now es (take c.args.keep es) c.args.run.now.items a r c.len-3.result full.1
-      (each_queue (λ q. of_queue q a r + entries_in q (take c.args.keep es) ≡ entries_in q es) (omega arith) (omega arith) c.args.queue)
-      (omega (arith, c.args.run.now.ok)) c.requires.queue)
+    (each_queue (λ q. of_queue q a r + entries_in q (take c.args.keep es) ≡ entries_in q es) (omega arith) (omega arith) c.args.queue)
+    (omega (arith, c.args.run.now.ok)) c.requires.queue)

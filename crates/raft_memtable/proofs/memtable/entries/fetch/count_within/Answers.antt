@@ -15,7 +15,7 @@ returns-then-total-gt0 c =
     let q = ap (λ (y : EntryIndex). y.entry_len) c.index.ensures in
     rw c.in-Some.is
     (limit_stops c.in-Some.limit n c.loop-i.total c.from.result xs d (omega (arith, length-drop c.args.start (take c.args.end es), length-take c.args.end es, c.args.deque.now.ok))
-      c.loop-i.invariant.0 (c.from.ensures ∙ q ∙ sym p) c.if-sum-limit.true c.if-total-gt0.true c.loop-i.invariant.2)
+    c.loop-i.invariant.0 (c.from.ensures ∙ q ∙ sym p) c.if-sum-limit.true c.if-total-gt0.true c.loop-i.invariant.2)
 
 pub loop-i-preserved : goal.loop-i-preserved
 loop-i-preserved c =
@@ -29,5 +29,5 @@ loop-i-preserved c =
     let k : c.loop-i.i + 1 - c.args.start ≡ suc n = omega arith in
     let bound = c.loop-i.invariant.1 in
     let more = limit_more c.in-Some.limit n c.loop-i.total c.from.result xs d (omega (arith, length-drop c.args.start (take c.args.end es), length-take c.args.end es, c.args.deque.now.ok))
-      c.loop-i.invariant.0 (c.from.ensures ∙ q ∙ sym p) c.else-sum-limit.either c.loop-i.invariant.2 in
+    c.loop-i.invariant.0 (c.from.ensures ∙ q ∙ sym p) c.else-sum-limit.either c.loop-i.invariant.2 in
     rw k (more.0, omega arith, more.1)

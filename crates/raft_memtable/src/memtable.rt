@@ -3,7 +3,7 @@
 ghost use Rattle.std.specs.Prelude.{◌≡◌, ◌≢◌, ◌+◌, ◌≤◌, ◌^◌, false, length, MatchOption, OnOk, OnErr, IfErr, IfOk, Some, [], option_map, MatchBool};
 ghost use Rattle.raft_base.specs.declared.pipe_log.LogQueue.{LogQueue};
 ghost use Rattle.raft_base.specs.declared.pipe_log.LogQueue.TheVariants.{Append, Rewrite};
-ghost use Rattle.raft_memtable.specs.Entries.{IsRunIn, start_of, end_of, entry_at, entries_in};
+ghost use Rattle.raft_memtable.specs.Entries.{IsRunIn, IsSound, start_of, end_of, entry_at, entries_in};
 ghost use Rattle.raft_memtable.specs.Counts.{live};
 ghost use Rattle.raft_memtable.specs.KeyValues.{value_at, file_at, file_count};
 ghost use Rattle.raft_memtable.specs.Table.{empty_table, live_of, IsCounted, IsRecounted, after_append, after_replay, after_rewrite, after_rewrite_key, compacted, with_pair, without_key, with_span, with_rewritten_key, leaves_append, IsPutRefused, IsKeyRefused};
@@ -13,6 +13,7 @@ ghost use Rattle.raft_memtable.specs.Start.{appended, replayed, IsRunRefused};
 mod change;
 pub mod entries;
 pub mod key_values;
+mod merge;
 mod queries;
 #[cfg(test)]
 mod tests;
@@ -59,6 +60,14 @@ impl MemTable {
             keys: KeyValues::new(alloc),
             span: None,
         }
+    }
+
+    /// A table's entries are one run without gaps, each has a place, and the rewritten ones stand in
+    /// front of the appended ones.
+    pub fn holds_one_run(&self)
+        ensures { IsSound self.now.entries }
+    {
+        self.entries.holds_one_run();
     }
 
     /// The region's number.

@@ -2,7 +2,7 @@
 
 ghost use Rattle.std.specs.Prelude.{◌≡◌, ◌≢◌, ◌+◌, [], length, MatchOption, IfOk, IfErr};
 ghost use Rattle.raft_memtable.specs.Start.{IsCorruption, IsInvalidArgument};
-ghost use Rattle.raft_memtable.specs.Entries.{start_of, end_of, entry_at, entries_in, from, AreCounted, AreRecounted};
+ghost use Rattle.raft_memtable.specs.Entries.{IsSound, start_of, end_of, entry_at, entries_in, from, AreCounted, AreRecounted};
 ghost use Rattle.raft_base.specs.declared.pipe_log.LogQueue.TheVariants.{Rewrite};
 
 mod fetch;
@@ -68,6 +68,14 @@ impl Entries {
             deque: VecDeque::new(alloc),
             rewritten: 0,
         }
+    }
+
+    /// The entries are one run without gaps, each has a place, and the rewritten ones stand in front
+    /// of the appended ones.
+    pub fn holds_one_run(&self)
+        ensures { IsSound self.now }
+    {
+        let _ = &self.deque;
     }
 
     /// How many there are.

@@ -13,10 +13,7 @@ ghost use Rattle.raft_memtable.specs.Start.{appended, replayed, IsRunRefused};
 mod change;
 pub mod entries;
 pub mod key_values;
-mod merge;
 mod queries;
-#[cfg(test)]
-mod tests;
 
 use crate::global_stats::GlobalStats;
 pub use change::{TableChange, is_run};

@@ -6,6 +6,7 @@ pub mod KeyValueReads
 pub mod KeyValuesShown
 pub mod ListTestLemmas
 pub mod LookupLemmas
+pub mod MergeLemmas
 pub mod MovesLemmas
 pub mod PlaceLemmas
 pub mod PlacesLemmas

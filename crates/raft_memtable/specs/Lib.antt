@@ -7,6 +7,7 @@ pub mod KeyValueView
 pub mod KeyValues
 pub mod Least
 pub mod Meetings
+pub mod Merge
 pub mod Queues
 pub mod Rewriting
 pub mod Scan

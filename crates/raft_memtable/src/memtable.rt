@@ -13,6 +13,7 @@ ghost use Rattle.raft_memtable.specs.Start.{appended, replayed, IsRunRefused};
 mod change;
 pub mod entries;
 pub mod key_values;
+mod merge;
 mod queries;
 
 use crate::global_stats::GlobalStats;

@@ -171,6 +171,21 @@ fn is_sealed_so(sealed: Result<Vec<u8>>, bytes: &[u8], refused: &mut bool) -> bo
     }
 }
 
+/// Whether these bytes are a batch without items in the file. It takes no memory to read one.
+fn is_empty_batch(alloc: Global, bytes: &[u8], seq: u64, version: Version) -> bool {
+    let context = LogFileContext::new(FileId::new(LogQueue::Append, seq), version);
+    let place = FileBlockHandle {
+        id: context.id,
+        offset: 0,
+        len: 0,
+    };
+    let mut rest = bytes;
+    match LogItemBatch::decode(alloc, &mut rest, place, CompressionType::None, &context) {
+        Ok(batch) => batch.into_items().is_empty() && rest.is_empty(),
+        Err(_refusal) => false,
+    }
+}
+
 #[test]
 fn empty_batch(rt: HostRuntime) {
     let mut refused = false;
@@ -185,6 +200,8 @@ fn empty_batch(rt: HostRuntime) {
     ] {
         let written = sealed(rt.alloc(), &mut batch, seq, version);
         assert!(rt; is_sealed_so(written, bytes, &mut refused));
+        assert!(rt; is_empty_batch(rt.alloc(), bytes, seq, version));
+        assert!(rt; !is_empty_batch(rt.alloc(), bytes, seq ^ 1, Version::V2));
     }
 }
 

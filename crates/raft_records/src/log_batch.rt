@@ -19,3 +19,6 @@ pub enum CompressionType {
     /// They stand as they are.
     None = 0,
 }
+
+#[cfg(test)]
+mod tests;

@@ -1,7 +1,12 @@
 pub mod Item
+pub mod Buffer
 pub mod Entries
 pub mod Grammar
+pub mod Group
+pub mod Header
 pub mod ItemBatch
+pub mod LogBatch
+pub mod LogBatchModel
 pub mod Sizes
 pub mod BatchModel
 pub mod Spelling

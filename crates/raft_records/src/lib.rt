@@ -4,7 +4,8 @@
 pub mod log_batch;
 
 pub use log_batch::{
-    Command, CompressionType, EntryIndex, EntryIndexes, KeyValue, LogItem, LogItemContent, OpType,
+    Command, CompressionType, EntryIndex, EntryIndexes, KeyValue, LogBatch, LogItem,
+    LogItemContent, OpType,
 };
 pub use raft_base::{
     Error, FileBlockHandle, FileId, FileSeq, LogFileContext, LogQueue, Message, MessageError,

@@ -1,10 +1,13 @@
 pub mod BatchLemmas
+pub mod BufferLemmas
 pub mod ContentLemmas
 pub mod EntryLemmas
+pub mod HeaderLemmas
 pub mod ItemLemmas
 pub mod LayLemmas
 pub mod LineLemmas
 pub mod PrintLemmas
 pub mod RequestLemmas
 pub mod SealLemmas
+pub mod StageLemmas
 pub mod WrittenLemmas

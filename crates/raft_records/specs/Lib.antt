@@ -1,10 +1,15 @@
 pub mod BatchModel
+pub mod Buffer
 pub mod Entries
 pub mod Faults
 pub mod Grammar
+pub mod Group
+pub mod Header
 pub mod Item
 pub mod ItemBatch
 pub mod Lines
+pub mod LogBatch
+pub mod LogBatchModel
 pub mod Requests
 pub mod Sizes
 pub mod Spelling

@@ -1,0 +1,194 @@
+-- On the buffer of a log batch.
+use Rattle.std.proofs.Common.{◌≡◌, ◌≢◌, ℕ, zero, suc, ◌+◌, ◌-◌, ◌*◌, ◌^◌, ◌<◌, ◌≤◌, List, [], ◌∷◌, ◌++◌, length, take, drop, Option, Some, None, Result, Ok, Err, OnOk, OnErr, refl, sym, ap, ◌∙◌, subst, append_assoc, arith}
+use Rattle.std.proofs.lemmas.List.{length-append, length-drop, length-take-le, take-append-drop, take_at, drop_at, take_all}
+use Rattle.byteorder.specs.Endian.{big_bytes, little_bytes}
+use Rattle.raft_base.specs.Checksum.{crc32_of}
+use Rattle.raft_base.proofs.FixedLemmas.{IsReadAgain-big_bytes}
+use Rattle.raft_records.specs.declared.log_batch.CompressionType.{CompressionType}
+use Rattle.raft_records.specs.declared.log_batch.CompressionType.TheVariants as compressions
+use Rattle.raft_records.specs.declared.log_batch.command.Command.{Command}
+use Rattle.raft_records.specs.Item.{Item, command_item}
+use Rattle.raft_records.specs.ItemBatch.{checksum_bytes, batch_bytes, entry_bytes_of, IsEncoded, signed, no_checksum}
+use Rattle.raft_records.specs.LogBatch.{Stage, Batch, populating, encoded, sealed, header_bytes, entry_block, item_offset, unsealed_bytes, encoded_length, log_batch_bytes, compression_byte}
+use Rattle.raft_records.specs.Buffer.{entry_bytes_in, IsUnsealed, IsEncodedAs, IsHeldAt, IsHeld}
+use Rattle.raft_records.specs.Spelling.{Keeps}
+use Rattle.raft_records.proofs.BatchLemmas.{end_push}
+use Rattle.raft_records.proofs.SealLemmas.{four}
+
+pub header_len : (offset : ℕ) (c : CompressionType) (len : ℕ) → length (header_bytes offset c len) ≡ 16
+unfolding header_bytes
+header_len offset c len =
+    omega (arith, length-append (big_bytes 8 (len * 256 + compression_byte c)) (big_bytes 8 offset), (IsReadAgain-big_bytes 8).counted (len * 256 + compression_byte c), (IsReadAgain-big_bytes 8).counted offset)
+
+checksum_len : (signature : Option ℕ) (bytes : List ℕ) → length (checksum_bytes signature bytes) ≡ 4
+checksum_len signature bytes = four (signed signature (crc32_of bytes))
+
+-- a block begins with its entry bytes
+block_begins : (es : List ℕ) → (more : List ℕ) × (entry_block es ≡ es ++ more)
+block_begins [] = ([], refl)
+block_begins (e ∷ es) = (checksum_bytes None (e ∷ es), refl)
+
+pub block_len : (es : List ℕ) (n : ℕ) → length es ≡ suc n → length (entry_block es) ≡ suc n + 4
+block_len [] n h = absurd (omega (arith, h))
+block_len (e ∷ es) n h = omega (arith, h, length-append (e ∷ es) (checksum_bytes None (e ∷ es)), checksum_len None (e ∷ es))
+
+pub no_block_len : (es : List ℕ) → length es ≡ 0 → item_offset es ≡ 16
+no_block_len [] h = refl
+no_block_len (e ∷ es) h = absurd (omega (arith, h))
+
+pub some_block_len : (es : List ℕ) (n : ℕ) → length es ≡ n → n ≢ 0 → item_offset es ≡ 16 + n + 4
+some_block_len [] n h ne = absurd (ne (sym h))
+some_block_len (e ∷ es) n h ne = omega (arith, h, length-append (e ∷ es) (checksum_bytes None (e ∷ es)), checksum_len None (e ∷ es))
+
+-- ---- entry bytes in a buffer
+
+-- behind the header of a batch stand its entry bytes
+pub entries_behind : (len n : ℕ) (items : List Item) (es seal buf : List ℕ) → length es ≡ n → buf ≡ unsealed_bytes len items es ++ seal → take n (drop 16 buf) ≡ es
+entries_behind len n items es seal buf counted split =
+    let header = header_bytes (item_offset es) compressions.None len in
+    let begins = block_begins es in
+    let whole : buf ≡ header ++ (es ++ (begins.0 ++ (batch_bytes items ++ seal))) =
+    split ∙ append_assoc header (entry_block es ++ batch_bytes items) seal ∙ ap (λ (t : List ℕ). header ++ t) (append_assoc (entry_block es) (batch_bytes items) seal ∙ ap (λ (t : List ℕ). t ++ (batch_bytes items ++ seal)) begins.1 ∙ append_assoc es begins.0 (batch_bytes items ++ seal)) in
+    ap (λ (t : List ℕ). take n (drop 16 t)) whole ∙ ap (take n) (drop_at header (es ++ (begins.0 ++ (batch_bytes items ++ seal))) 16 (header_len (item_offset es) compressions.None len)) ∙ take_at es (begins.0 ++ (batch_bytes items ++ seal)) n counted
+
+-- while items may be added all bytes behind the header are entry bytes
+pub open_entries : (n : ℕ) (buf : List ℕ) → length buf - 16 ≡ n → take n (drop 16 buf) ≡ drop 16 buf
+open_entries n buf h = take_all n (drop 16 buf) (omega (arith, h, length-drop 16 buf))
+
+-- the same entry bytes in another buffer, which holds those alone behind its header
+pub open_again : (n : ℕ) (old new : List ℕ) → length old - 16 ≡ n → drop 16 new ≡ drop 16 old → length new - 16 ≡ n
+open_again n old new h same = omega (arith, h, ap length same, length-drop 16 old, length-drop 16 new)
+
+-- the entry bytes that were there, and more behind them
+pub held_open : (items : List Item) (buf : List ℕ) → length buf - 16 ≡ entry_bytes_of items → IsHeld populating items (entry_bytes_in items buf) buf
+held_open items buf h =
+    record { whole = ap length (open_entries (entry_bytes_of items) buf h) ∙ length-drop 16 buf ∙ h; held = h }
+
+-- ---- encoded and sealed
+
+pub encoded_as : (items : List Item) (es buf : List ℕ) → items ≢ [] → IsUnsealed items es buf → IsEncodedAs items es buf
+encoded_as [] es buf some u = absurd (some refl)
+encoded_as (x ∷ xs) es buf some u = u
+
+pub unsealed_entries : (items : List Item) (es buf : List ℕ) → length es ≡ entry_bytes_of items → IsUnsealed items es buf → entry_bytes_in items buf ≡ es
+unsealed_entries items es buf counted u =
+    entries_behind (encoded_length items es) (entry_bytes_of items) items es u.seal buf counted u.split
+
+pub held_encoded : (items : List Item) (es buf : List ℕ) → items ≢ [] → length es ≡ entry_bytes_of items → IsUnsealed items es buf → IsHeld encoded items (entry_bytes_in items buf) buf
+held_encoded items es buf some counted u =
+    let same = unsealed_entries items es buf counted u in
+    record {
+      whole = ap length same ∙ counted;
+      held = subst (λ (t : List ℕ). IsEncodedAs items t buf) (sym same) (encoded_as items es buf some u);
+    }
+
+pub held_none : (items : List Item) (buf : List ℕ) → items ≡ [] → buf ≡ [] → IsHeld encoded items (entry_bytes_in items buf) buf
+held_none [] buf e none = record { whole = refl; held = none }
+held_none (x ∷ xs) buf e none = absurd cc
+
+-- what is encoded or sealed is the batch, but for its checksum
+pub unsealed_at : (stage : Stage) (items : List Item) (es buf : List ℕ) → stage ≢ populating → items ≢ [] → IsHeldAt stage items es buf → IsUnsealed items es buf
+unsealed_at populating items es buf ne some h = absurd (ne refl)
+unsealed_at encoded [] es buf ne some h = absurd (some refl)
+unsealed_at encoded (x ∷ xs) es buf ne some h = h
+unsealed_at (sealed s) [] es buf ne some h = absurd (some refl)
+unsealed_at (sealed s) (x ∷ xs) es buf ne some h = record { seal = checksum_bytes s (batch_bytes (x ∷ xs)); four = checksum_len s (batch_bytes (x ∷ xs)); split = h }
+
+pub none_at : (stage : Stage) (items : List Item) (es buf : List ℕ) → stage ≢ populating → items ≡ [] → IsHeldAt stage items es buf → buf ≡ []
+none_at populating items es buf ne none h = absurd (ne refl)
+none_at encoded [] es buf ne none h = h
+none_at encoded (x ∷ xs) es buf ne none h = absurd cc
+none_at (sealed s) [] es buf ne none h = h
+none_at (sealed s) (x ∷ xs) es buf ne none h = absurd cc
+
+-- the item batch begins at its offset
+unsealed_parts : (items : List Item) (es buf : List ℕ) (offset : ℕ) → (u : IsUnsealed items es buf) → offset ≡ item_offset es → (front : List ℕ) × (length front ≡ offset) × (buf ≡ front ++ (batch_bytes items ++ u.seal)) × (unsealed_bytes (encoded_length items es) items es ≡ front ++ batch_bytes items)
+unsealed_parts items es buf offset u at =
+    let header = header_bytes (item_offset es) compressions.None (encoded_length items es) in
+    let front : unsealed_bytes (encoded_length items es) items es ≡ (header ++ entry_block es) ++ batch_bytes items = sym (append_assoc header (entry_block es) (batch_bytes items)) in (
+      header ++ entry_block es,
+      omega (arith, at, length-append header (entry_block es), header_len (item_offset es) compressions.None (encoded_length items es)),
+      u.split ∙ ap (λ (t : List ℕ). t ++ u.seal) front ∙ append_assoc (header ++ entry_block es) (batch_bytes items) u.seal,
+      front,
+    )
+
+pub encoded_at : (items : List Item) (es buf : List ℕ) (offset : ℕ) → IsUnsealed items es buf → offset ≡ item_offset es → IsEncoded items (drop offset buf)
+encoded_at items es buf offset u at =
+    let p = unsealed_parts items es buf offset u at in
+    record { seal = u.seal; four = u.four; split = ap (drop offset) p.2 ∙ drop_at p.0 (batch_bytes items ++ u.seal) offset p.1 }
+
+pub offset_within : (items : List Item) (es buf : List ℕ) (offset : ℕ) → IsUnsealed items es buf → offset ≡ item_offset es → offset ≤ length buf
+offset_within items es buf offset u at =
+    let p = unsealed_parts items es buf offset u at in
+    omega (arith, p.1, ap length p.2, length-append p.0 (batch_bytes items ++ u.seal))
+
+-- the checksum stands in its place
+pub sealed_at : (signature : Option ℕ) (items : List Item) (es buf new : List ℕ) (offset : ℕ) → items ≢ [] → IsUnsealed items es buf → offset ≡ item_offset es → new ≡ take offset buf ++ (batch_bytes items ++ checksum_bytes signature (batch_bytes items)) → new ≡ log_batch_bytes signature items es
+sealed_at signature [] es buf new offset some u at written = absurd (some refl)
+sealed_at signature (x ∷ xs) es buf new offset some u at written =
+    let items = x ∷ xs in
+    let seal = checksum_bytes signature (batch_bytes items) in
+    let p = unsealed_parts items es buf offset u at in
+    let front : take offset buf ≡ p.0 = ap (take offset) p.2 ∙ take_at p.0 (batch_bytes items ++ u.seal) offset p.1 in
+    written ∙ ap (λ (t : List ℕ). t ++ (batch_bytes items ++ seal)) front ∙ sym (append_assoc p.0 (batch_bytes items) seal) ∙ ap (λ (t : List ℕ). t ++ seal) (sym p.3)
+
+pub sealed_entries : (signature : Option ℕ) (items : List Item) (es buf : List ℕ) → items ≢ [] → length es ≡ entry_bytes_of items → buf ≡ log_batch_bytes signature items es → entry_bytes_in items buf ≡ es
+sealed_entries signature [] es buf some counted h = absurd (some refl)
+sealed_entries signature (x ∷ xs) es buf some counted h =
+    entries_behind (encoded_length (x ∷ xs) es) (entry_bytes_of (x ∷ xs)) (x ∷ xs) es (checksum_bytes signature (batch_bytes (x ∷ xs))) buf counted h
+
+pub held_sealed : (signature : Option ℕ) (items : List Item) (es buf : List ℕ) → items ≢ [] → length es ≡ entry_bytes_of items → buf ≡ log_batch_bytes signature items es → IsHeld (sealed signature) items (entry_bytes_in items buf) buf
+held_sealed signature items es buf some counted h =
+    let same = sealed_entries signature items es buf some counted h in
+    record { whole = ap length same ∙ counted; held = h ∙ ap (log_batch_bytes signature items) (sym same) }
+
+pub held_nothing : (signature : Option ℕ) (items : List Item) (buf : List ℕ) → items ≡ [] → buf ≡ [] → IsHeld (sealed signature) items (entry_bytes_in items buf) buf
+held_nothing signature [] buf e none = record { whole = refl; held = none }
+held_nothing signature (x ∷ xs) buf e none = absurd cc
+
+-- ---- encoding
+
+pub closed_keeps : (old new : List ℕ) → new ≡ take 16 old ++ entry_block (drop 16 old) → Keeps old new
+closed_keeps old new e =
+    let begins = block_begins (drop 16 old) in
+    record {
+      behind = begins.0;
+      split = e ∙ ap (λ (t : List ℕ). take 16 old ++ t) begins.1 ∙ sym (append_assoc (take 16 old) (drop 16 old) begins.0) ∙ ap (λ (t : List ℕ). t ++ begins.0) (take-append-drop 16 old);
+    }
+
+pub behind_keeps : (old closed new more : List ℕ) → closed ≡ take 16 old ++ entry_block (drop 16 old) → new ≡ closed ++ more → Keeps old new
+behind_keeps old closed new more e f =
+    let k = closed_keeps old closed e in
+    record { behind = k.behind ++ more; split = f ∙ ap (λ (t : List ℕ). t ++ more) k.split ∙ append_assoc old k.behind more }
+
+pub length_is : (items : List Item) (old closed whole : List ℕ) → items ≢ [] → 16 ≤ length old → closed ≡ take 16 old ++ entry_block (drop 16 old) → whole ≡ closed ++ (batch_bytes items ++ no_checksum) → (length closed ≡ item_offset (drop 16 old)) × (length whole ≡ encoded_length items (drop 16 old))
+length_is [] old closed whole some room e f = absurd (some refl)
+length_is (x ∷ xs) old closed whole some room e f =
+    let offset : length closed ≡ item_offset (drop 16 old) = omega (arith, ap length e, length-append (take 16 old) (entry_block (drop 16 old)), length-take-le 16 old room) in
+    (offset, omega (arith, offset, ap length f, length-append closed (batch_bytes (x ∷ xs) ++ no_checksum), length-append (batch_bytes (x ∷ xs)) no_checksum))
+
+pub encoded_unsealed : (items : List Item) (old closed whole new : List ℕ) (offset len : ℕ) → items ≢ [] → 16 ≤ length old → closed ≡ take 16 old ++ entry_block (drop 16 old) → whole ≡ closed ++ (batch_bytes items ++ no_checksum) → offset ≡ length closed → len ≡ length whole → new ≡ header_bytes offset compressions.None len ++ drop 16 whole → IsUnsealed items (drop 16 old) new
+encoded_unsealed items old closed whole new offset len some room e f at size written =
+    let es = drop 16 old in
+    let says = length_is items old closed whole some room e f in
+    let header : header_bytes offset compressions.None len ≡ header_bytes (item_offset es) compressions.None (encoded_length items es) = ap (λ (o : ℕ). header_bytes o compressions.None len) (at ∙ says.0) ∙ ap (header_bytes (item_offset es) compressions.None) (size ∙ says.1) in
+    let parts : whole ≡ take 16 old ++ (entry_block es ++ (batch_bytes items ++ no_checksum)) = f ∙ ap (λ (t : List ℕ). t ++ (batch_bytes items ++ no_checksum)) e ∙ append_assoc (take 16 old) (entry_block es) (batch_bytes items ++ no_checksum) in
+    let behind : drop 16 whole ≡ entry_block es ++ (batch_bytes items ++ no_checksum) = ap (drop 16) parts ∙ drop_at (take 16 old) (entry_block es ++ (batch_bytes items ++ no_checksum)) 16 (length-take-le 16 old room) in
+    let front = header_bytes (item_offset es) compressions.None (encoded_length items es) in
+    record {
+      seal = no_checksum;
+      four = refl;
+      split = written ∙ ap (λ (t : List ℕ). t ++ drop 16 whole) header ∙ ap (λ (t : List ℕ). front ++ t) (behind ∙ sym (append_assoc (entry_block es) (batch_bytes items) no_checksum)) ∙ sym (append_assoc front (entry_block es ++ batch_bytes items) no_checksum);
+    }
+
+-- a prefix that a refused encoding left, cut back
+pub cut_to : (old new : List ℕ) (n : ℕ) → n ≡ length old → Keeps old new → take n new ≡ old
+cut_to old new n e k = ap (take n) k.split ∙ take_at old k.behind n (sym e)
+
+-- a command has no entry bytes
+pub command_same : (items : List Item) (region : ℕ) (c : Command) → entry_bytes_of (items ++ command_item region c ∷ []) ≡ entry_bytes_of items
+command_same items region c = end_push 0 items (command_item region c)
+
+-- the batch with one more item that has no entry bytes
+pub held_more : (items more : List Item) (buf : List ℕ) → entry_bytes_of more ≡ entry_bytes_of items → length buf - 16 ≡ entry_bytes_of items → IsHeld populating more (entry_bytes_in more buf) buf
+held_more items more buf same h = held_open more buf (h ∙ sym same)

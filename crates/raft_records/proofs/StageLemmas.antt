@@ -1,0 +1,113 @@
+-- On log batches in their buffers.
+use Rattle.std.proofs.Common.{◌≡◌, ◌≢◌, ℕ, zero, suc, ◌+◌, ◌-◌, ◌*◌, ◌^◌, ◌<◌, ◌≤◌, List, [], ◌∷◌, ◌++◌, length, take, drop, Option, Some, None, Result, Ok, Err, OnOk, OnErr, refl, sym, ap, ◌∙◌, subst, append_assoc, arith}
+use Rattle.std.proofs.lemmas.List.{length-append, length-drop, take_at, drop_all, take_all, append-nil, nil_from_length}
+use Rattle.byteorder.specs.Endian.{big_bytes, little_bytes}
+use Rattle.raft_base.specs.Checksum.{crc32_of}
+use Rattle.raft_base.proofs.FixedLemmas.{IsReadAgain-big_bytes}
+use Rattle.raft_records.specs.declared.log_batch.CompressionType.{CompressionType}
+use Rattle.raft_records.specs.declared.log_batch.CompressionType.TheVariants as compressions
+use Rattle.raft_records.specs.declared.log_batch.command.Command.{Command}
+use Rattle.raft_records.specs.Item.{Item, command_item}
+use Rattle.raft_records.specs.ItemBatch.{checksum_bytes, batch_bytes, entry_bytes_of, IsEncoded, signed, no_checksum}
+use Rattle.raft_records.specs.LogBatch.{Stage, Batch, populating, encoded, sealed, header_bytes, entry_block, item_offset, unsealed_bytes, encoded_length, log_batch_bytes, compression_byte}
+use Rattle.raft_records.specs.Buffer.{entry_bytes_in, IsUnsealed, IsEncodedAs, IsHeldAt, IsHeld}
+use Rattle.raft_records.specs.Spelling.{Keeps}
+use Rattle.raft_records.proofs.BatchLemmas.{end_push}
+use Rattle.raft_records.proofs.SealLemmas.{four}
+use Rattle.raft_records.proofs.BufferLemmas.{header_len, open_entries, open_again, held_open, held_more, held_encoded, unsealed_entries, held_sealed, sealed_entries, command_same, length_is, encoded_unsealed}
+
+abbrev pub batch_with : List Item → List ℕ → Stage → Batch
+batch_with items entry_bytes stage = record { items = items; entry_bytes = entry_bytes; stage = stage }
+
+pub open_held : (stage : Stage) (items : List Item) (es buf : List ℕ) → stage ≡ populating → IsHeld stage items es buf → length buf - 16 ≡ entry_bytes_of items
+open_held stage items es buf e h = subst (λ (s : Stage). IsHeldAt s items es buf) e h.held
+
+pub reheld : (stage : Stage) (items : List Item) (old new : List ℕ) → stage ≡ populating → IsHeld stage items (entry_bytes_in items old) old → drop 16 new ≡ drop 16 old → IsHeld stage items (entry_bytes_in items new) new
+reheld stage items old new e h same =
+    subst (λ (s : Stage). IsHeld s items (entry_bytes_in items new) new) (sym e) (held_open items new (open_again (entry_bytes_of items) old new (open_held stage items (entry_bytes_in items old) old e h) same))
+
+pub reheld_more : (stage : Stage) (items more : List Item) (buf : List ℕ) → stage ≡ populating → IsHeld stage items (entry_bytes_in items buf) buf → entry_bytes_of more ≡ entry_bytes_of items → IsHeld stage more (entry_bytes_in more buf) buf
+reheld_more stage items more buf e h same =
+    subst (λ (s : Stage). IsHeld s more (entry_bytes_in more buf) buf) (sym e) (held_more items more buf same (open_held stage items (entry_bytes_in items buf) buf e h))
+
+pub entries_are : (stage : Stage) (items : List Item) (buf : List ℕ) → stage ≡ populating → IsHeld stage items (entry_bytes_in items buf) buf → entry_bytes_in items buf ≡ drop 16 buf
+entries_are stage items buf e h = open_entries (entry_bytes_of items) buf (open_held stage items (entry_bytes_in items buf) buf e h)
+
+pub populated : (stage : Stage) (items : List Item) (old mid new : List ℕ) → stage ≡ populating → IsHeld stage items (entry_bytes_in items old) old → drop 16 mid ≡ drop 16 old → items ≢ [] → IsUnsealed items (drop 16 mid) new → IsHeld encoded items (entry_bytes_in items new) new × (entry_bytes_in items new ≡ entry_bytes_in items old)
+populated stage items old mid new e h same some u =
+    let are : drop 16 mid ≡ entry_bytes_in items old = same ∙ sym (entries_are stage items old e h) in
+    let counted : length (drop 16 mid) ≡ entry_bytes_of items = ap length are ∙ h.whole in
+    (held_encoded items (drop 16 mid) new some counted u, unsealed_entries items (drop 16 mid) new counted u ∙ are)
+
+pub unsealed_len : (items : List Item) (es buf : List ℕ) → items ≢ [] → IsUnsealed items es buf → length buf ≡ encoded_length items es
+unsealed_len [] es buf some u = absurd (some refl)
+unsealed_len (x ∷ xs) es buf some u =
+    let items = x ∷ xs in
+    let header = header_bytes (item_offset es) compressions.None (encoded_length items es) in
+    omega (arith, ap length u.split, length-append (unsealed_bytes (encoded_length items es) items es) u.seal, length-append header (entry_block es ++ batch_bytes items), length-append (entry_block es) (batch_bytes items), header_len (item_offset es) compressions.None (encoded_length items es), u.four)
+
+pub command_kept : {E : Type 0} (r : Result (Unit {0}) E) (items new : List Item) (region : ℕ) (c : Command) → OnOk r (new ≡ items ++ command_item region c ∷ []) → OnErr r (new ≡ items) → entry_bytes_of new ≡ entry_bytes_of items
+command_kept (Ok u) items new region c ok err = ap entry_bytes_of ok ∙ command_same items region c
+command_kept (Err e) items new region c ok err = ap entry_bytes_of err
+
+pub command_view : {E : Type 0} (r : Result (Unit {0}) E) (now : Batch) (stage : Stage) (items new : List Item) (buf : List ℕ) (region : ℕ) (c : Command) → batch_with items (entry_bytes_in items buf) stage ≡ now → OnOk r (new ≡ items ++ command_item region c ∷ []) → OnOk r (batch_with new (entry_bytes_in new buf) stage ≡ batch_with (now.items ++ command_item region c ∷ []) now.entry_bytes now.stage)
+command_view (Ok u) now stage items new buf region c view ok =
+    ap (λ (xs : List Item). batch_with xs (entry_bytes_in xs buf) stage) ok
+    ∙ ap (λ (n : ℕ). batch_with (items ++ command_item region c ∷ []) (take n (drop 16 buf)) stage) (command_same items region c)
+    ∙ ap (λ (b : Batch). batch_with (b.items ++ command_item region c ∷ []) b.entry_bytes b.stage) view
+command_view (Err e) now stage items new buf region c view ok = tt
+
+-- the bytes that a slice of a vector holds after a write are the vector's
+pub written_back : (n : ℕ) (new old : List ℕ) → length old ≡ n → length new ≡ length old → take n (new ++ drop (length new) old) ≡ new
+written_back n new old counted same = take_at new (drop (length new) old) n (same ∙ counted)
+
+pub encoded_whole : (items : List Item) (old closed whole slice new : List ℕ) (offset len n : ℕ) → items ≢ [] → 16 ≤ length old → closed ≡ take 16 old ++ entry_block (drop 16 old) → whole ≡ closed ++ (batch_bytes items ++ no_checksum) → offset ≡ length closed → len ≡ length whole → slice ≡ whole → length whole ≡ n → new ≡ header_bytes offset compressions.None len ++ drop 16 slice → IsUnsealed items (drop 16 old) (take n (new ++ drop (length new) whole))
+encoded_whole items old closed whole slice new offset len n some room e f at size is counted written =
+    let says = length_is items old closed whole some room e f in
+    let wide : 16 ≤ length whole = omega (arith, says.0, ap length f, length-append closed (batch_bytes items ++ no_checksum)) in
+    let placed : new ≡ header_bytes offset compressions.None len ++ drop 16 whole = written ∙ ap (λ (t : List ℕ). header_bytes offset compressions.None len ++ drop 16 t) is in
+    let same : length new ≡ length whole = omega (arith, wide, ap length placed, length-append (header_bytes offset compressions.None len) (drop 16 whole), header_len offset compressions.None len, length-drop 16 whole) in
+    subst (λ (t : List ℕ). IsUnsealed items (drop 16 old) t) (sym (written_back n new whole counted same)) (encoded_unsealed items old closed whole new offset len some room e f at size placed)
+
+-- ---- signing
+
+pub held_unsigned : (stage : Stage) (items : List Item) (es buf : List ℕ) → stage ≢ populating → IsHeld stage items es buf → IsHeld encoded items es buf
+held_unsigned populating items es buf ne h = absurd (ne refl)
+held_unsigned encoded items es buf ne h = h
+held_unsigned (sealed s) [] es buf ne h = record { whole = h.whole; held = h.held }
+held_unsigned (sealed s) (x ∷ xs) es buf ne h =
+    record { whole = h.whole; held = record { seal = checksum_bytes s (batch_bytes (x ∷ xs)); four = four (signed s (crc32_of (batch_bytes (x ∷ xs)))); split = h.held } }
+
+pub sealed_held : (signature : Option ℕ) (items : List Item) (es buf : List ℕ) → length es ≡ entry_bytes_of items → buf ≡ log_batch_bytes signature items es → IsHeld (sealed signature) items (entry_bytes_in items buf) buf × (entry_bytes_in items buf ≡ es)
+sealed_held signature [] es buf counted h =
+    (record { whole = refl; held = h }, sym (nil_from_length es counted))
+sealed_held signature (x ∷ xs) es buf counted h =
+    let some : (x ∷ xs) ≢ [] = λ e. absurd cc in
+    (held_sealed signature (x ∷ xs) es buf some counted h, sealed_entries signature (x ∷ xs) es buf some counted h)
+
+-- a batch that has no bytes is signed as it is
+pub nothing_sealed : (signature : Option ℕ) (items : List Item) (es buf : List ℕ) → IsHeld encoded items es buf → length buf ≡ 0 → buf ≡ log_batch_bytes signature items es
+nothing_sealed signature [] es buf h none = h.held
+nothing_sealed signature (x ∷ xs) es buf h none =
+    absurd (omega (arith, none, unsealed_len (x ∷ xs) es buf (λ e. absurd cc) h.held))
+
+pub unsealed_of : (items : List Item) (es buf : List ℕ) → IsHeld encoded items es buf → length buf ≢ 0 → (items ≢ []) × IsUnsealed items es buf
+unsealed_of [] es buf h ne = absurd (ne (ap length h.held))
+unsealed_of (x ∷ xs) es buf h ne = (λ e. absurd cc, h.held)
+
+-- the part that a slice holds up to its end
+pub to_the_end : (items : List Item) (offset k : ℕ) (buf : List ℕ) → k ≡ length buf - offset → IsEncoded items (drop offset buf) → IsEncoded items (take k (drop offset buf))
+to_the_end items offset k buf e h =
+    subst (λ (t : List ℕ). IsEncoded items t) (sym (take_all k (drop offset buf) (omega (arith, e, length-drop offset buf)))) h
+
+pub part_written : (offset k : ℕ) (old new : List ℕ) → k ≡ length old - offset → take offset old ++ (new ++ drop k (drop offset old)) ≡ take offset old ++ new
+part_written offset k old new e =
+    ap (λ (t : List ℕ). take offset old ++ (new ++ t)) (drop_all k (drop offset old) (omega (arith, e, length-drop offset old))) ∙ ap (λ (t : List ℕ). take offset old ++ t) (append-nil new)
+
+pub sealed_len : (signature : Option ℕ) (items : List Item) (es buf new : List ℕ) → items ≢ [] → IsUnsealed items es buf → new ≡ log_batch_bytes signature items es → length new ≡ length buf
+sealed_len signature [] es buf new some u e = absurd (some refl)
+sealed_len signature (x ∷ xs) es buf new some u e =
+    let items = x ∷ xs in
+    let front = unsealed_bytes (encoded_length items es) items es in
+    let seal = checksum_bytes signature (batch_bytes items) in
+    omega (arith, ap length e, length-append front seal, four (signed signature (crc32_of (batch_bytes items))), ap length u.split, length-append front u.seal, u.four)

@@ -1,0 +1,51 @@
+-- Headers of log batches, and entry blocks, as they are read.
+use Rattle.std.specs.Prelude.{◌≡◌, ◌≢◌, ℕ, ◌+◌, ◌/◌, ◌%◌, ◌^◌, ◌<◌, ◌≤◌, ◌⊎◌, List, [], ◌∷◌, ◌++◌, length, take, codes, None}
+use Rattle.std.specs.Fmt.{decimal}
+use Rattle.byteorder.specs.Endian.{big_bytes}
+use Rattle.raft_base.specs.declared.errors.Error.{Error}
+use Rattle.raft_records.specs.declared.log_batch.CompressionType.{CompressionType}
+use Rattle.raft_records.specs.Faults.{IsMemory, IsCorruption, IsAnyCorruption}
+use Rattle.raft_records.specs.ItemBatch.{IsSealed, IsSealFault}
+use Rattle.raft_records.specs.LogBatch.{header_bytes, compression_byte}
+
+-- a header's bytes: the place of the item batch, the compression of the entries, and the length of the batch
+pub record IsHeader (bytes : List ℕ) (header : ℕ × CompressionType × ℕ) : Type 0 where
+  pub written : bytes ≡ header_bytes header.0 header.1 header.2
+  pub length_fits : header.2 < 2 ^ 56
+  pub behind_header : 16 ≤ header.0
+  pub inside : header.0 ≤ header.2
+
+-- a byte that stands for no compression type
+abbrev pub IsCompressionFault : ℕ → Error → Type 0
+IsCompressionFault byte e = (byte ≢ 0) × IsCorruption (codes "Unrecognized compression type: " ++ decimal byte) e
+
+-- an item batch that would begin behind the end, or inside the header
+abbrev pub IsPlaceFault : ℕ → ℕ → Error → Type 0
+IsPlaceFault len offset e =
+    ((len < offset) × IsCorruption (codes "Log item offset exceeds log batch length") e)
+    ⊎ ((offset ≤ len) × (offset < 16) × IsCorruption (codes "Log item offset is smaller than log batch header length") e)
+
+-- two numbers of eight bytes that make no header: first the compression type is looked at, then the place
+pub record IsWordsFault (bytes : List ℕ) (e : Error) : Type 0 where
+  pub first : ℕ
+  pub second : ℕ
+  pub rest : List ℕ
+  pub first_fits : first < 2 ^ 64
+  pub second_fits : second < 2 ^ 64
+  pub split : bytes ≡ big_bytes 8 first ++ (big_bytes 8 second ++ rest)
+  pub fault : IsCompressionFault (first % 256) e ⊎ ((first % 256 ≡ 0) × IsPlaceFault (first / 256) second e)
+
+-- why no header stands in front
+abbrev pub IsHeaderFault : List ℕ → Error → Type 0
+IsHeaderFault bytes e =
+    ((length bytes < 16) × IsCorruption (codes "Log batch header too short: " ++ decimal (length bytes)) e) ⊎ IsWordsFault bytes e
+
+-- the entry bytes that a block of this length, in front of the bytes, holds; a block of length 0 holds none
+abbrev pub IsBlockOf : ℕ → List ℕ → List ℕ → Type 0
+IsBlockOf len bytes entry_bytes =
+    ((len ≡ 0) × (entry_bytes ≡ [])) ⊎ ((0 < len) × (len ≤ length bytes) × IsSealed None (take len bytes) entry_bytes)
+
+-- the bytes are shorter than the block, or the block doesn't end in its checksum, or there is no memory for its bytes
+abbrev pub IsBlockFault : ℕ → List ℕ → Error → Type 0
+IsBlockFault len bytes e =
+    IsMemory e ⊎ ((length bytes < len) × IsAnyCorruption e) ⊎ ((0 < len) × (len ≤ length bytes) × IsSealFault None (take len bytes) e)

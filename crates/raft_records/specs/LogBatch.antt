@@ -1,0 +1,86 @@
+-- A log batch as callers see it, and its bytes: a header, the entry bytes with their checksum, and an item batch.
+use Rattle.std.specs.Prelude.{◌≡◌, ◌≢◌, ℕ, ◌+◌, ◌*◌, ◌^◌, ◌<◌, ◌≤◌, List, [], ◌∷◌, ◌++◌, length, Option, None}
+use Rattle.byteorder.specs.Endian.{big_bytes}
+use Rattle.raft_records.specs.declared.log_batch.CompressionType.{CompressionType}
+use Rattle.raft_records.specs.declared.log_batch.CompressionType.TheVariants as compressions
+use Rattle.raft_records.specs.Item.{Item}
+use Rattle.raft_records.specs.ItemBatch.{checksum_bytes, batch_bytes, entry_bytes_of, FitTogether, IsItemBatch}
+
+-- how far a batch has come: items may still be added; its bytes stand; they are signed, or have no signature
+pub data Stage : Type 0 where
+  populating : Stage
+  encoded : Stage
+  sealed : Option ℕ → Stage
+
+-- a batch: its items, the bytes of their entries, and how far it has come
+pub record Batch : Type 0 where
+  pub items : List Item
+  pub entry_bytes : List ℕ
+  pub stage : Stage
+
+abbrev pub IsSealedStage : Stage → Type 0
+IsSealedStage (sealed signature) = Unit {0}
+IsSealedStage _ = ⊥
+
+-- a batch without items
+abbrev pub empty_batch : Batch
+empty_batch = record { items = []; entry_bytes = []; stage = populating }
+
+-- the entries of the items tile the entry bytes, in order
+pub record IsBatchOf (items : List Item) (entry_bytes : List ℕ) : Type 0 where
+  pub tiled : FitTogether 0 items
+  pub whole : length entry_bytes ≡ entry_bytes_of items
+
+-- ---- bytes
+
+-- the byte that stands for a compression type
+abbrev pub compression_byte : CompressionType → ℕ
+compression_byte compressions.None = 0
+
+-- a header: the batch's length with the compression type's byte behind it, and the place of the item batch; eight bytes each, the highest first
+unfoldable pub header_bytes : ℕ → CompressionType → ℕ → List ℕ
+header_bytes offset compression len = big_bytes 8 (len * 256 + compression_byte compression) ++ big_bytes 8 offset
+
+-- entry bytes and their checksum, without a signature; nothing where there are none
+abbrev pub entry_block : List ℕ → List ℕ
+entry_block [] = []
+entry_block (byte ∷ bytes) = (byte ∷ bytes) ++ checksum_bytes None (byte ∷ bytes)
+
+-- where the item batch begins: behind the header and the entry block
+abbrev pub item_offset : List ℕ → ℕ
+item_offset entry_bytes = 16 + length (entry_block entry_bytes)
+
+-- header, entry block and item batch up to its checksum, where their length together is this
+abbrev pub unsealed_bytes : ℕ → List Item → List ℕ → List ℕ
+unsealed_bytes len items entry_bytes =
+    header_bytes (item_offset entry_bytes) compressions.None len ++ (entry_block entry_bytes ++ batch_bytes items)
+
+-- how many bytes a batch has: none without items, and else four behind the items
+abbrev pub encoded_length : List Item → List ℕ → ℕ
+encoded_length [] entry_bytes = 0
+encoded_length (item ∷ items) entry_bytes = item_offset entry_bytes + length (batch_bytes (item ∷ items)) + 4
+
+-- the bytes of a batch in shortest numbers, with the signed checksum of its items
+abbrev pub log_batch_bytes : Option ℕ → List Item → List ℕ → List ℕ
+log_batch_bytes signature [] entry_bytes = []
+log_batch_bytes signature (item ∷ items) entry_bytes =
+    unsealed_bytes (encoded_length (item ∷ items) entry_bytes) (item ∷ items) entry_bytes ++ checksum_bytes signature (batch_bytes (item ∷ items))
+
+-- a log batch: header, entry block and item batch one behind the other, the lengths as the header says
+pub record IsLogBatch (bytes : List ℕ) (signature : Option ℕ) (items : List Item) (entry_bytes : List ℕ) : Type 0 where
+  pub footer : List ℕ
+  pub rest : List ℕ
+  pub compression : CompressionType
+  pub item_batch : IsItemBatch footer signature items rest
+  pub fits : length bytes < 2 ^ 56
+  pub split : bytes ≡ header_bytes (item_offset entry_bytes) compression (length bytes) ++ (entry_block entry_bytes ++ footer)
+
+-- a readable batch: header and item batch lie as those of a log batch, whatever the bytes between them are
+pub record IsReadable (bytes : List ℕ) (signature : Option ℕ) (items : List Item) : Type 0 where
+  pub between : List ℕ
+  pub footer : List ℕ
+  pub rest : List ℕ
+  pub compression : CompressionType
+  pub item_batch : IsItemBatch footer signature items rest
+  pub fits : length bytes < 2 ^ 56
+  pub split : bytes ≡ header_bytes (16 + length between) compression (length bytes) ++ (between ++ footer)

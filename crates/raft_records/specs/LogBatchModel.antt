@@ -1,0 +1,17 @@
+-- A log batch as its items, its entry bytes and its stage.
+use Rattle.raft_records.specs.declared.log_batch.batch.BufState.{BufState}
+use Rattle.raft_records.specs.declared.log_batch.batch.BufState.TheVariants as states
+use Rattle.raft_records.specs.declared.log_batch.batch.LogBatch.TheInside.{Inside}
+use Rattle.raft_records.specs.LogBatch.{Stage, populating, encoded, sealed, Batch}
+use Rattle.raft_records.specs.Buffer.{entry_bytes_in, IsHeld}
+
+abbrev pub stage_of : BufState → Stage
+stage_of states.Open = populating
+stage_of states.Encoded = encoded
+stage_of (states.Sealed signature) = sealed signature
+
+abbrev pub batch_in : Inside → Batch
+batch_in b = record { items = b.item_batch; entry_bytes = entry_bytes_in b.item_batch b.buf.items; stage = stage_of b.state }
+
+abbrev pub IsWellHeld : Inside → Type 0
+IsWellHeld b = IsHeld (stage_of b.state) b.item_batch (entry_bytes_in b.item_batch b.buf.items) b.buf.items

@@ -1,5 +1,5 @@
 -- How a log batch is held: in its buffer stand sixteen bytes for the header and the entry bytes, or the bytes of the batch.
-use Rattle.std.specs.Prelude.{◌≡◌, ℕ, ◌+◌, ◌-◌, ◌≤◌, List, [], ◌∷◌, ◌++◌, length, take, drop}
+use Rattle.std.specs.Prelude.{◌≡◌, ℕ, ◌-◌, List, [], ◌∷◌, ◌++◌, length, take, drop}
 use Rattle.raft_records.specs.Item.{Item}
 use Rattle.raft_records.specs.ItemBatch.{entry_bytes_of}
 use Rattle.raft_records.specs.LogBatch.{Stage, populating, encoded, sealed, unsealed_bytes, encoded_length, log_batch_bytes}

@@ -1,12 +1,12 @@
 -- Headers of log batches, and entry blocks, as they are read.
-use Rattle.std.specs.Prelude.{◌≡◌, ◌≢◌, ℕ, ◌+◌, ◌/◌, ◌%◌, ◌^◌, ◌<◌, ◌≤◌, ◌⊎◌, List, [], ◌∷◌, ◌++◌, length, take, codes, None}
+use Rattle.std.specs.Prelude.{◌≡◌, ◌≢◌, ℕ, ◌/◌, ◌%◌, ◌^◌, ◌<◌, ◌≤◌, ◌⊎◌, List, [], ◌++◌, length, take, codes, None}
 use Rattle.std.specs.Fmt.{decimal}
 use Rattle.byteorder.specs.Endian.{big_bytes}
 use Rattle.raft_base.specs.declared.errors.Error.{Error}
 use Rattle.raft_records.specs.declared.log_batch.CompressionType.{CompressionType}
 use Rattle.raft_records.specs.Faults.{IsMemory, IsCorruption, IsAnyCorruption}
 use Rattle.raft_records.specs.ItemBatch.{IsSealed, IsSealFault}
-use Rattle.raft_records.specs.LogBatch.{header_bytes, compression_byte}
+use Rattle.raft_records.specs.LogBatch.{header_bytes}
 
 -- a header's bytes: the place of the item batch, the compression of the entries, and the length of the batch
 pub record IsHeader (bytes : List ℕ) (header : ℕ × CompressionType × ℕ) : Type 0 where

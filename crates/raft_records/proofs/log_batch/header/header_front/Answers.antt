@@ -1,4 +1,4 @@
-use Rattle.std.proofs.Common.{◌≡◌, inl, inr}
+use Rattle.std.proofs.Common.{inl, inr}
 use Rattle.std.proofs.lemmas.Result.{err_from_is_err_and}
 use Rattle.raft_records.proofs.HeaderLemmas.{header_read, too_short_for_header, unknown_type, offset_past_end, offset_in_header, type_ok, words_fault}
 use Rattle.raft_records.proofs.log_batch.header.header_front.Goals as goal

@@ -1,4 +1,4 @@
-use Rattle.std.proofs.Common.{◌≡◌, ◌≢◌, ◌∙◌, ◌<◌, ◌≤◌, ◌^◌, ℕ, [], length, drop, sym, ap, subst, refl, arith, rules}
+use Rattle.std.proofs.Common.{◌≡◌, ◌≢◌, ◌∙◌, ◌<◌, ◌≤◌, ◌^◌, ℕ, [], length, drop, sym, ap, subst, arith, rules}
 use Rattle.raft_records.specs.LogBatch.{Batch, populating, encoded, encoded_length}
 use Rattle.raft_records.specs.LogBatchModel.{stage_of}
 use Rattle.raft_records.specs.Buffer.{entry_bytes_in, IsHeld}

@@ -138,3 +138,6 @@ fn refusal(error: &Error) -> &'static str
         _ => "failed",
     }
 }
+
+#[cfg(test)]
+mod tests;

@@ -5,7 +5,7 @@ SHELL := /bin/bash
 # Builds `raftlog` and prints an item batch with it: the records of region 1 go.
 demo:
 	@mkdir -p crates/raftlog/out
-	@cd crates/raftlog && rt run > out/demo.log 2>&1 || { cat out/demo.log; exit 1; }
+	@cd crates/raftlog && rt run -- batch append 12 1 < stdin > out/demo.log 2>&1 || { cat out/demo.log; exit 1; }
 	@echo "\$$ printf '\x01\x01\x02\x01\x5a\x80\x0b\xdd' | raftlog batch append 12 1"
 	@printf '\x01\x01\x02\x01\x5a\x80\x0b\xdd' | crates/raftlog/out/raftlog batch append 12 1
 

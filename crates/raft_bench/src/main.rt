@@ -55,14 +55,15 @@ fn time_checksum(rt: &HostRuntime) -> io::Result<()> {
 fn time_decoding(rt: &HostRuntime) -> io::Result<()> {
     let mut bytes = Vec::new(rt.alloc());
     rt.stdin().read_to_end(&mut bytes)?;
+    let len = bytes.len();
+    let rounds = 3_000_000 / len.saturating_add(1_000) + 1;
     let mut best = u64::MAX;
     let mut items = 0;
     for _ in 0..50 {
         let start = Instant::now(rt)?;
-        items = work::decode(rt.alloc(), bytes.as_slice());
-        best = best.min(nanoseconds_since(rt, &start)?);
+        items = work::decode(rt.alloc(), bytes.as_slice(), rounds);
+        best = best.min(nanoseconds_since(rt, &start)? / (rounds as u64).max(1));
     }
-    let len = bytes.len();
     let each = best / (items as u64).max(1);
     let speed = rate(len as u64, best);
     println!(rt;

@@ -7,7 +7,7 @@ use raft_records::{
 use std::alloc::{AllocError, Global};
 
 /// Bytes without a pattern.
-pub fn noise(alloc: Global, len: usize) -> std::result::Result<Vec<u8>, AllocError> {
+pub(crate) fn noise(alloc: Global, len: usize) -> std::result::Result<Vec<u8>, AllocError> {
     let mut bytes = vec![in alloc; 0u8; len]?;
     let mut seed = 12345u64;
     for byte in bytes.iter_mut() {
@@ -20,7 +20,7 @@ pub fn noise(alloc: Global, len: usize) -> std::result::Result<Vec<u8>, AllocErr
 }
 
 /// The checksums of `rounds` stretches of `size` bytes, together.
-pub fn checksums(bytes: &[u8], size: usize, rounds: usize) -> u32 {
+pub(crate) fn checksums(bytes: &[u8], size: usize, rounds: usize) -> u32 {
     let mut all = 0;
     for _ in 0..rounds {
         let start = (all & 7) as usize;
@@ -37,17 +37,27 @@ fn context() -> LogFileContext {
     LogFileContext::new(FileId::new(LogQueue::Append, 12), Version::V1)
 }
 
-/// How many items the batch holds, 0 where it is refused.
-pub fn decode(alloc: Global, bytes: &[u8]) -> usize {
+/// How many items the batch holds, 0 where it is refused; it is decoded `rounds` times.
+pub(crate) fn decode(alloc: Global, bytes: &[u8], rounds: usize) -> usize {
     let context = context();
     let place = FileBlockHandle {
         id: context.id,
         offset: 0,
         len: 0,
     };
-    let mut rest = bytes;
-    match LogItemBatch::decode(alloc, &mut rest, place, CompressionType::None, &context) {
-        Ok(batch) => batch.iter().count(),
-        Err(_) => 0,
+    let mut count = 0;
+    for _ in 0..rounds {
+        let mut rest = bytes;
+        count = match LogItemBatch::decode(
+            alloc,
+            &mut rest,
+            place,
+            CompressionType::None,
+            &context,
+        ) {
+            Ok(batch) => batch.iter().count(),
+            Err(_) => 0,
+        };
     }
+    count
 }

@@ -7,6 +7,7 @@ pub mod ItemLemmas
 pub mod LayLemmas
 pub mod LineLemmas
 pub mod PrintLemmas
+pub mod RangeLemmas
 pub mod RequestLemmas
 pub mod SealLemmas
 pub mod StageLemmas

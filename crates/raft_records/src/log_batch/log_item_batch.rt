@@ -320,6 +320,7 @@ impl LogItemBatch {
         ensures err { OnErr result (self.new ≡ self.old) }
         ensures memory { IfErr result (λ e. e ≡ Error.Memory) }
     {
+        item.numbers_fit();
         let size = item.approximate_size();
         self.items.push(item)?;
         self.item_size = self.item_size.saturating_add(size);

@@ -10,6 +10,7 @@ pub mod ItemBatch
 pub mod Lines
 pub mod LogBatch
 pub mod LogBatchModel
+pub mod Parts
 pub mod Range
 pub mod Requests
 pub mod Sizes

@@ -66,21 +66,19 @@ log_batch_bytes signature [] entry_bytes = []
 log_batch_bytes signature (item ∷ items) entry_bytes =
     unsealed_bytes (encoded_length (item ∷ items) entry_bytes) (item ∷ items) entry_bytes ++ checksum_bytes signature (batch_bytes (item ∷ items))
 
--- a log batch: header, entry block and item batch one behind the other, the lengths as the header says
-pub record IsLogBatch (bytes : List ℕ) (signature : Option ℕ) (items : List Item) (entry_bytes : List ℕ) : Type 0 where
-  pub footer : List ℕ
-  pub rest : List ℕ
-  pub compression : CompressionType
-  pub item_batch : IsItemBatch footer signature items rest
-  pub fits : length bytes < 2 ^ 56
-  pub split : bytes ≡ header_bytes (item_offset entry_bytes) compression (length bytes) ++ (entry_block entry_bytes ++ footer)
-
--- a readable batch: header and item batch lie as those of a log batch, whatever the bytes between them are
-pub record IsReadable (bytes : List ℕ) (signature : Option ℕ) (items : List Item) : Type 0 where
-  pub between : List ℕ
+-- a header, these bytes and an item batch, one behind the other; the header says how many bytes there are and where the item batch begins
+pub record IsLaidOut (bytes : List ℕ) (signature : Option ℕ) (items : List Item) (between : List ℕ) : Type 0 where
   pub footer : List ℕ
   pub rest : List ℕ
   pub compression : CompressionType
   pub item_batch : IsItemBatch footer signature items rest
   pub fits : length bytes < 2 ^ 56
   pub split : bytes ≡ header_bytes (16 + length between) compression (length bytes) ++ (between ++ footer)
+
+-- a log batch: between header and item batch stands the block of its entry bytes
+abbrev pub IsLogBatch : List ℕ → Option ℕ → List Item → List ℕ → Type 0
+IsLogBatch bytes signature items entry_bytes = IsLaidOut bytes signature items (entry_block entry_bytes)
+
+-- a readable batch: header and item batch lie as those of a log batch, whatever the bytes between them are
+abbrev pub IsReadable : List ℕ → Option ℕ → List Item → Type 0
+IsReadable bytes signature items = (between : List ℕ) × IsLaidOut bytes signature items between

@@ -14,6 +14,8 @@ use raft_base::{Error, FileBlockHandle, LogFileContext, Result};
 use std::alloc::Global;
 use std::marker::Model;
 
+mod key_values;
+
 /// What the buffer of a batch holds.
 #[derive(Clone, Copy, PartialEq, Eq, Debug)]
 enum BufState {

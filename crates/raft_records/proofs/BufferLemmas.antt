@@ -20,7 +20,7 @@ unfolding header_bytes
 header_len offset c len =
     omega (arith, length-append (big_bytes 8 (len * 256 + compression_byte c)) (big_bytes 8 offset), (IsReadAgain-big_bytes 8).counted (len * 256 + compression_byte c), (IsReadAgain-big_bytes 8).counted offset)
 
-checksum_len : (signature : Option ℕ) (bytes : List ℕ) → length (checksum_bytes signature bytes) ≡ 4
+pub checksum_len : (signature : Option ℕ) (bytes : List ℕ) → length (checksum_bytes signature bytes) ≡ 4
 checksum_len signature bytes = four (signed signature (crc32_of bytes))
 
 -- a block begins with its entry bytes

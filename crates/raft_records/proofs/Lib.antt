@@ -5,6 +5,7 @@ pub mod EntryLemmas
 pub mod HeaderLemmas
 pub mod ItemLemmas
 pub mod LayLemmas
+pub mod LengthLemmas
 pub mod LineLemmas
 pub mod PrintLemmas
 pub mod RequestLemmas

@@ -64,3 +64,8 @@ IsRunning _ = ⊥
 abbrev pub IsKeyRefusal : List ℕ → Error → Type 0
 IsKeyRefusal key (errors.InvalidArgument text) = key ≡ reserved_key
 IsKeyRefusal key e = IsMemory e
+
+-- nor a message, which may refuse to write itself
+abbrev pub IsMessageRefusal : List ℕ → Error → Type 0
+IsMessageRefusal key (errors.Message refusal) = Unit {0}
+IsMessageRefusal key e = IsKeyRefusal key e

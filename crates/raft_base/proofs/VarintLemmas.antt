@@ -174,6 +174,11 @@ unfolding varint
 varint_shortest n bytes s =
     groups_bound 9 (length bytes) n (rw s.value (base_128-lt bytes)) (not_empty bytes s.continued)
 
+-- m bytes are enough for a number below 128 ^ m
+pub varint_within : (m n : ℕ) → n < 128 ^ m → 0 < m → length (varint n) ≤ m
+unfolding varint
+varint_within m n lt some = groups_bound 9 m n lt some
+
 -- a number takes a byte at least
 pub varint_some : (bytes : List ℕ) (n : ℕ) → IsVarint bytes n → 0 < length bytes
 varint_some bytes n s = not_empty bytes s.continued

@@ -6,6 +6,7 @@ pub mod FrameLemmas
 pub mod HeaderLemmas
 pub mod ItemLemmas
 pub mod LayLemmas
+pub mod LengthLemmas
 pub mod LineLemmas
 pub mod PrintLemmas
 pub mod RangeLemmas

@@ -4,6 +4,7 @@ use Rattle.byteorder.specs.Endian.{big_bytes}
 use Rattle.raft_records.specs.declared.log_batch.CompressionType.{CompressionType}
 use Rattle.raft_records.specs.declared.log_batch.CompressionType.TheVariants as compressions
 use Rattle.raft_records.specs.Item.{Item}
+use Rattle.raft_records.specs.Sizes.{batch_size, saturated}
 use Rattle.raft_records.specs.ItemBatch.{checksum_bytes, batch_bytes, entry_bytes_of, FitTogether, IsItemBatch}
 
 -- how far a batch has come: items may still be added; its bytes stand; they are signed, or have no signature
@@ -59,6 +60,13 @@ unsealed_bytes len items entry_bytes =
 abbrev pub encoded_length : List Item → List ℕ → ℕ
 encoded_length [] entry_bytes = 0
 encoded_length (item ∷ items) entry_bytes = item_offset entry_bytes + length (batch_bytes (item ∷ items)) + 4
+
+-- the approximate length: none without items; of an open batch header, entry bytes, their checksum and items as if each number took eight bytes; else the length itself
+abbrev pub approximate_length : Stage → List Item → List ℕ → ℕ
+approximate_length stage [] entry_bytes = 0
+approximate_length populating (item ∷ items) entry_bytes = saturated (16 + length entry_bytes + 4 + batch_size (item ∷ items))
+approximate_length encoded (item ∷ items) entry_bytes = encoded_length (item ∷ items) entry_bytes
+approximate_length (sealed signature) (item ∷ items) entry_bytes = encoded_length (item ∷ items) entry_bytes
 
 -- the bytes of a batch in shortest numbers, with the signed checksum of its items
 abbrev pub log_batch_bytes : Option ℕ → List Item → List ℕ → List ℕ

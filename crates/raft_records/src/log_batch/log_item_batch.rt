@@ -1,6 +1,6 @@
 //! Batches of log items, without entry bytes.
 
-ghost use Rattle.std.specs.Prelude.{◌≡◌, ◌≢◌, ℕ, ◌+◌, ◌%◌, ◌^◌, ◌<◌, Option, List, [], ◌∷◌, ◌++◌, map, Some, None, IfOk, IfErr, OnOk, OnErr};
+ghost use Rattle.std.specs.Prelude.{◌≡◌, ◌≢◌, ℕ, ◌+◌, ◌%◌, ◌^◌, ◌<◌, ◌≤◌, length, Option, List, [], ◌∷◌, ◌++◌, map, Some, None, IfOk, IfErr, OnOk, OnErr};
 ghost use Rattle.std.specs.Vec.Iter.{into_iter_items};
 ghost use Rattle.std.specs.Slice.Iter.{iter_rest};
 ghost use Rattle.raft_base.specs.declared.pipe_log.Version.TheVariants.{V2};
@@ -12,7 +12,7 @@ ghost use Rattle.raft_records.specs.Entries.{IsConsecutive};
 ghost use Rattle.raft_records.specs.ItemBatch.{AreItems, IsItemBatch, IsDecoded, AreItemsFault, IsItemBatchFault, checksum_bytes, batch_bytes, placed, raised, laid, entry_lengths, entry_bytes_of, end_of_items, FitsBehind, IsEncoded, no_checksum, FitTogether, first_entry};
 ghost use Rattle.raft_records.specs.Faults.{IsMemoryOrMessage};
 ghost use Rattle.raft_records.specs.Spelling.{Keeps};
-ghost use Rattle.raft_records.specs.Sizes.{items_size, batch_size, saturated};
+ghost use Rattle.raft_records.specs.Sizes.{items_size, batch_size, saturated, AreSmall};
 ghost use Rattle.raft_records.specs.Written.{ItemIsSpelled, BatchIsSpelled};
 ghost use Rattle.raft_records.specs.declared.log_batch.key_value.OpType.TheVariants.{Put, Del};
 
@@ -104,9 +104,11 @@ impl LogItemBatch {
     }
 
     /// The approximate length of the batch's bytes, held at `usize::MAX`. It is at least their length
-    /// where all region ids and indexes are below 2^56.
+    /// where all region ids and indexes are below 2^56, of bytes that a log batch can hold.
     pub fn approximate_size(&self) -> usize
-        ensures { result ≡ saturated (batch_size self.now) }
+        ensures size { result ≡ saturated (batch_size self.now) }
+        ensures covers { AreSmall self.now → length (batch_bytes self.now) < 2 ^ 56 →
+            length (batch_bytes self.now) + 4 ≤ result }
     {
         self.item_size.saturating_add(8 + CHECKSUM_LEN)
     }

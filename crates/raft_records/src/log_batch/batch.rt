@@ -4,15 +4,17 @@ ghost use Rattle.std.specs.Prelude.{◌≡◌, ◌≢◌, ℕ, ◌+◌, ◌-◌,
 ghost use Rattle.raft_base.specs.Reading.{Reads, HasNoFront};
 ghost use Rattle.raft_base.specs.Signature.{signature_of};
 ghost use Rattle.std.specs.Vec.Iter.{into_iter_items};
-ghost use Rattle.raft_records.specs.Item.{Item, command_item, item_of};
-ghost use Rattle.raft_records.specs.LogBatch.{Stage, populating, encoded, sealed, IsSealedStage, empty_batch, encoded_length, log_batch_bytes, approximate_length};
+ghost use Rattle.raft_records.specs.Item.{Item, bare, command_item, item_of};
+ghost use Rattle.raft_records.specs.LogBatch.{Stage, populating, encoded, sealed, IsSealedStage, empty_batch, IsBatchOf, encoded_length, log_batch_bytes, IsLogBatch, approximate_length};
 ghost use Rattle.raft_records.specs.Sizes.{AreSmall};
+ghost use Rattle.raft_records.specs.Range.{AreInRange};
 ghost use Rattle.raft_records.specs.Header.{IsHeader, IsHeaderFault, IsBlockOf, IsBlockFault};
 
 use crate::log_batch::checksum::CHECKSUM_LEN;
 use crate::log_batch::header::{
     HEADER_LEN, block_front, encode_behind, header_front, reserve_header, seal,
 };
+use crate::log_batch::laws::log_batches_are_read_again;
 use crate::log_batch::{Command, CompressionType, LogItem, LogItemBatch};
 use raft_base::codec::BytesSlice;
 use raft_base::{Error, FileBlockHandle, LogFileContext, Result};
@@ -189,6 +191,21 @@ impl LogBatch {
             result.now ≡ log_batch_bytes signature self.now.items self.now.entry_bytes }
     {
         self.buf.as_slice()
+    }
+
+    /// What is written and signed of a batch is read again: the entries of its items tile its entry
+    /// bytes, its items' numbers are in the ranges of their types, and its bytes, where it has items,
+    /// are a log batch of these items and entry bytes. This is a law: it computes nothing.
+    pub fn is_read_again(&self)
+        ensures tiled { IsBatchOf self.now.items self.now.entry_bytes }
+        ensures in_range { AreInRange self.now.items }
+        ensures spelled { (signature : Option ℕ) → self.now.items ≢ [] →
+            encoded_length self.now.items self.now.entry_bytes < 2 ^ 56 →
+            IsLogBatch (log_batch_bytes signature self.now.items self.now.entry_bytes) signature
+                (map bare self.now.items) self.now.entry_bytes }
+    {
+        self.item_batch.is_read_again();
+        log_batches_are_read_again();
     }
 
     /// Reads the header of a log batch from the front: where its item batch begins, how its entry

@@ -7,12 +7,13 @@ ghost use Rattle.raft_base.specs.declared.pipe_log.Version.TheVariants.{V2};
 ghost use Rattle.raft_base.specs.Reading.{Reads, HasNoFront, HasOneFront};
 ghost use Rattle.raft_base.specs.Signature.{signature_of, signature_in};
 ghost use Rattle.raft_records.specs.Grammar.{IsItem, behind_item};
-ghost use Rattle.raft_records.specs.Item.{Item, content_of, item_of, entries_item, command_item, pair_item};
+ghost use Rattle.raft_records.specs.Item.{Item, bare, content_of, item_of, entries_item, command_item, pair_item};
 ghost use Rattle.raft_records.specs.Entries.{IsConsecutive};
 ghost use Rattle.raft_records.specs.ItemBatch.{AreItems, IsItemBatch, IsDecoded, AreItemsFault, IsItemBatchFault, checksum_bytes, batch_bytes, placed, raised, laid, entry_lengths, entry_bytes_of, end_of_items, FitsBehind, IsEncoded, no_checksum, FitTogether, first_entry};
 ghost use Rattle.raft_records.specs.Faults.{IsMemoryOrMessage};
 ghost use Rattle.raft_records.specs.Spelling.{Keeps};
 ghost use Rattle.raft_records.specs.Sizes.{items_size, batch_size, saturated, AreSmall};
+ghost use Rattle.raft_records.specs.Range.{AreInRange};
 ghost use Rattle.raft_records.specs.Written.{ItemIsSpelled, BatchIsSpelled};
 ghost use Rattle.raft_records.specs.declared.log_batch.key_value.OpType.TheVariants.{Put, Del};
 
@@ -311,6 +312,17 @@ impl LogItemBatch {
             entries_size,
             checksum: None,
         })
+    }
+
+    /// What is written and signed of a batch is read again: its items fit together and their numbers
+    /// are in the ranges of their types. This is a law: it computes nothing.
+    pub fn is_read_again(&self)
+        ensures fit { FitTogether 0 self.now }
+        ensures in_range { AreInRange self.now }
+        ensures spelled { (signature : Option ℕ) →
+            IsItemBatch (batch_bytes self.now ++ checksum_bytes signature (batch_bytes self.now)) signature (map bare self.now) [] }
+    {
+        let _count = self.items.len();
     }
 
     /// Adds an item whose entries' bytes, if any, begin where those of the batch end, and end at

@@ -187,9 +187,13 @@ impl LogBatch {
     /// The bytes of a sealed batch: none without items.
     pub fn encoded_bytes(&self) -> &[u8]
         requires { IsSealedStage self.now.stage }
-        ensures { (signature : Option ℕ) → self.now.stage ≡ sealed signature →
+        ensures bytes { (signature : Option ℕ) → self.now.stage ≡ sealed signature →
             result.now ≡ log_batch_bytes signature self.now.items self.now.entry_bytes }
+        ensures read_again { (signature : Option ℕ) → self.now.stage ≡ sealed signature →
+            self.now.items ≢ [] → encoded_length self.now.items self.now.entry_bytes < 2 ^ 56 →
+            IsLogBatch result.now signature (map bare self.now.items) self.now.entry_bytes }
     {
+        self.is_read_again();
         self.buf.as_slice()
     }
 

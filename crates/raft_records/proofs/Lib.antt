@@ -2,6 +2,7 @@ pub mod BatchLemmas
 pub mod BufferLemmas
 pub mod ContentLemmas
 pub mod EntryLemmas
+pub mod EqualLemmas
 pub mod FrameLemmas
 pub mod HeaderLemmas
 pub mod ItemLemmas

@@ -13,6 +13,7 @@ pub mod LogBatchModel
 pub mod Parts
 pub mod Range
 pub mod Requests
+pub mod Same
 pub mod Sizes
 pub mod Spelling
 pub mod Written

@@ -27,8 +27,10 @@ use Rattle.raft_records.specs.Entries.{IsConsecutiveFrom, IsConsecutive, Tile}
 use Rattle.raft_records.specs.Grammar.{tail_of, IsTail, behind_entry, IsRun, IsPairOf, IsContent, IsItem, end_behind, behind_item}
 use Rattle.raft_records.specs.Spelling.{IsWritableWith, tails_bytes, entries_bytes, item_bytes}
 use Rattle.raft_records.specs.ItemBatch.{FitsBehind, FitTogether, end_of_items, placed_entry, placed, IsKeptBeside, AreItems, IsCounted, signed, checksum_bytes, IsItemBatch, IsSealed, AreItemsFault, batch_bytes, first_entry, first_entry_or}
+use Rattle.raft_records.specs.Range.{IsInRange, AreInRange}
 use Rattle.raft_records.specs.Faults.{IsItemFault}
 use Rattle.raft_records.proofs.ContentLemmas.{item_one_front}
+use Rattle.raft_records.proofs.RangeLemmas.{range_append, range_placed, items_range}
 use Rattle.raft_records.proofs.SealLemmas.{four, content_is}
 use Rattle.raft_records.specs.Sizes.{item_size, items_size, saturated}
 
@@ -46,11 +48,11 @@ pub size_push : (xs : List Item) (x : Item) → items_size (xs ++ x ∷ []) ≡ 
 size_push [] x = omega arith
 size_push (y ∷ ys) x = omega (arith, size_push ys x)
 
-pub kept_push : (xs : List Item) (x : Item) (size entry_bytes size' : ℕ) (checksum : Option ℕ) → IsKeptBeside xs size entry_bytes checksum → FitsBehind (end_of_items 0 xs) x.content → size' ≡ saturated (size + saturated (item_size x)) → IsKeptBeside (xs ++ x ∷ []) size' (behind_item (end_of_items 0 xs) x) None
-kept_push xs x size entry_bytes size' checksum k f e =
+pub kept_push : (xs : List Item) (x : Item) (size entry_bytes size' : ℕ) (checksum : Option ℕ) → IsKeptBeside xs size entry_bytes checksum → FitsBehind (end_of_items 0 xs) x.content → IsInRange x → size' ≡ saturated (size + saturated (item_size x)) → IsKeptBeside (xs ++ x ∷ []) size' (behind_item (end_of_items 0 xs) x) None
+kept_push xs x size entry_bytes size' checksum k f r e =
     let before : size ≡ saturated (items_size xs) = k.size in
     let pushed : items_size (xs ++ x ∷ []) ≡ items_size xs + item_size x = size_push xs x in
-    record { fit = fit_push 0 xs x k.fit f; entry_bytes = sym (end_push 0 xs x); size = omega arith; checksum = λ crc some. absurd cc }
+    record { fit = fit_push 0 xs x k.fit f; in_range = range_append xs (x ∷ []) k.in_range (r, tt); entry_bytes = sym (end_push 0 xs x); size = omega arith; checksum = λ crc some. absurd cc }
 
 -- ---- places
 
@@ -255,6 +257,7 @@ pub placed_kept : (block : FileBlockHandle) (c : CompressionType) (xs : List Ite
 placed_kept block c xs size bytes crc k =
     record {
       fit = fit_placed block c 0 xs k.fit;
+      in_range = range_placed block c xs k.in_range;
       size = k.size ∙ ap saturated (sym (sizes_placed block c xs));
       entry_bytes = k.entry_bytes ∙ sym (end_of_placed block c 0 xs);
       checksum = λ n some. k.checksum n some ∙ ap crc32_of (sym (batch_placed block c xs));

@@ -15,7 +15,7 @@ use Rattle.raft_records.specs.Entries.{IsConsecutiveFrom, IsConsecutive, Tile}
 use Rattle.raft_records.specs.Grammar.{op_type_byte, IsCommand, IsByteString, IsPairOf, tail_of, IsTail, behind_entry, IsRun, IsEntries, IsContent, IsItem, end_behind, behind_item}
 use Rattle.raft_records.specs.Spelling.{command_bytes, byte_string, value_bytes, pair_bytes, tails_bytes, run_bytes, entries_bytes, content_bytes, item_bytes, IsWritableWith}
 use Rattle.raft_records.specs.ItemBatch.{FitsBehind, FitTogether, AreItems, IsItemBatch, batch_bytes, checksum_bytes}
-use Rattle.raft_records.specs.Written.{HasIndex, HasLength, IsContentInRange, IsInRange, AreInRange}
+use Rattle.raft_records.specs.Range.{HasIndex, HasLength, IsContentInRange, IsInRange, AreInRange}
 
 command_spelled : (c : Command) → HasIndex c → IsCommand (command_bytes c) c
 command_spelled Clean h = refl

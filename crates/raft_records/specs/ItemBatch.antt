@@ -14,6 +14,7 @@ use Rattle.raft_records.specs.Item.{Item, Content, entries, command, pair}
 use Rattle.raft_records.specs.Entries.{IsConsecutive, Tile}
 use Rattle.raft_records.specs.Grammar.{IsItem, behind_item}
 use Rattle.raft_records.specs.Spelling.{item_bytes, IsWritablePair}
+use Rattle.raft_records.specs.Range.{AreInRange}
 use Rattle.raft_records.specs.Sizes.{items_size, saturated}
 use Rattle.raft_records.specs.Faults.{IsMemory, IsCorruption, IsNumberFault, IsItemFault}
 
@@ -183,9 +184,10 @@ IsItemBatchFault signature bytes e =
     IsSealFault signature bytes e
     ⊎ ((content : List ℕ) × IsSealed signature bytes content × (IsNumberFault content e ⊎ IsFaultBehind IsVarint AreItemsFault content e))
 
--- the items fit together, and what is kept beside them is theirs
+-- the items fit together, their numbers are in range, and what is kept beside them is theirs
 pub record IsKeptBeside (items : List Item) (item_bytes entries_size : ℕ) (crc : Option ℕ) : Type 0 where
   pub fit : FitTogether 0 items
+  pub in_range : AreInRange items
   pub size : item_bytes ≡ saturated (items_size items)
   pub entry_bytes : entries_size ≡ entry_bytes_of items
   pub checksum : (c : ℕ) → crc ≡ Some c → c ≡ crc32_of (batch_bytes items)

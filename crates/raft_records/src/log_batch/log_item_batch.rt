@@ -1,18 +1,19 @@
 //! Batches of log items, without entry bytes.
 
-ghost use Rattle.std.specs.Prelude.{◌≡◌, ◌≢◌, ℕ, ◌+◌, ◌%◌, ◌^◌, ◌<◌, Option, List, [], ◌∷◌, ◌++◌, map, Some, None, IfOk, IfErr, OnOk, OnErr};
+ghost use Rattle.std.specs.Prelude.{◌≡◌, ◌≢◌, ℕ, ◌+◌, ◌%◌, ◌^◌, ◌<◌, ◌≤◌, length, Option, List, [], ◌∷◌, ◌++◌, map, Some, None, IfOk, IfErr, OnOk, OnErr};
 ghost use Rattle.std.specs.Vec.Iter.{into_iter_items};
 ghost use Rattle.std.specs.Slice.Iter.{iter_rest};
 ghost use Rattle.raft_base.specs.declared.pipe_log.Version.TheVariants.{V2};
 ghost use Rattle.raft_base.specs.Reading.{Reads, HasNoFront, HasOneFront};
 ghost use Rattle.raft_base.specs.Signature.{signature_of, signature_in};
 ghost use Rattle.raft_records.specs.Grammar.{IsItem, behind_item};
-ghost use Rattle.raft_records.specs.Item.{Item, content_of, item_of, entries_item, command_item, pair_item};
+ghost use Rattle.raft_records.specs.Item.{Item, bare, content_of, item_of, entries_item, command_item, pair_item};
 ghost use Rattle.raft_records.specs.Entries.{IsConsecutive};
 ghost use Rattle.raft_records.specs.ItemBatch.{AreItems, IsItemBatch, IsDecoded, AreItemsFault, IsItemBatchFault, checksum_bytes, batch_bytes, placed, raised, laid, entry_lengths, entry_bytes_of, end_of_items, FitsBehind, IsEncoded, no_checksum, FitTogether, first_entry};
 ghost use Rattle.raft_records.specs.Faults.{IsMemoryOrMessage};
 ghost use Rattle.raft_records.specs.Spelling.{Keeps};
-ghost use Rattle.raft_records.specs.Sizes.{items_size, batch_size, saturated};
+ghost use Rattle.raft_records.specs.Sizes.{items_size, batch_size, saturated, AreSmall};
+ghost use Rattle.raft_records.specs.Range.{AreInRange};
 ghost use Rattle.raft_records.specs.Written.{ItemIsSpelled, BatchIsSpelled};
 ghost use Rattle.raft_records.specs.declared.log_batch.key_value.OpType.TheVariants.{Put, Del};
 
@@ -104,9 +105,11 @@ impl LogItemBatch {
     }
 
     /// The approximate length of the batch's bytes, held at `usize::MAX`. It is at least their length
-    /// where all region ids and indexes are below 2^56.
+    /// where all region ids and indexes are below 2^56, of bytes that a log batch can hold.
     pub fn approximate_size(&self) -> usize
-        ensures { result ≡ saturated (batch_size self.now) }
+        ensures size { result ≡ saturated (batch_size self.now) }
+        ensures covers { AreSmall self.now → length (batch_bytes self.now) < 2 ^ 56 →
+            length (batch_bytes self.now) + 4 ≤ result }
     {
         self.item_size.saturating_add(8 + CHECKSUM_LEN)
     }
@@ -304,6 +307,17 @@ impl LogItemBatch {
         Ok(batch)
     }
 
+    /// What is written and signed of a batch is read again: its items fit together and their numbers
+    /// are in the ranges of their types. This is a law: it computes nothing.
+    pub fn is_read_again(&self)
+        ensures fit { FitTogether 0 self.now }
+        ensures in_range { AreInRange self.now }
+        ensures spelled { (signature : Option ℕ) →
+            IsItemBatch (batch_bytes self.now ++ checksum_bytes signature (batch_bytes self.now)) signature (map bare self.now) [] }
+    {
+        let _count = self.items.len();
+    }
+
     /// Adds an item whose entries' bytes, if any, begin where those of the batch end, and end at
     /// `entries_size`.
     fn add(&mut self, item: LogItem, entries_size: u32) -> Result<()>
@@ -313,6 +327,7 @@ impl LogItemBatch {
         ensures err { OnErr result (self.new ≡ self.old) }
         ensures memory { IfErr result (λ e. e ≡ Error.Memory) }
     {
+        item.numbers_fit();
         let size = item.approximate_size();
         self.items.push(item)?;
         self.item_size = self.item_size.saturating_add(size);

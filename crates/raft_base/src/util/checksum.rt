@@ -16,7 +16,7 @@ use words::by_words;
 const MIDDLING: usize = 128;
 
 /// From this length on a text is divided by blocks, before its last bytes are divided by words.
-const LONG: usize = 768;
+const LONG: usize = 640;
 
 /// What `byte` and then `zeros` zeros make of a register of zeros.
 #[inline(always)]
@@ -132,13 +132,13 @@ mod tests {
     const CHECKSUMS: [(usize, u32); 16] = [
         (0, 0x00000000),
         (1, 0xd202ef8d),
+        (7, 0xad5809f9),
+        (8, 0x88aa689f),
         (15, 0xa06c675e),
         (16, 0xcecee288),
         (31, 0x4d786d77),
-        (71, 0x58aee371),
-        (72, 0x1de0d4f7),
-        (87, 0xa9ab1fbf),
-        (88, 0x7c7a2ed8),
+        (127, 0xdec481aa),
+        (128, 0x24650d57),
         (255, 0x6f7c9956),
         (639, 0xff805395),
         (640, 0xc6fc3391),

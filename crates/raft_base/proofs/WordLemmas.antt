@@ -73,8 +73,15 @@ number_joins (suc n) c (x ∷ xs) h small =
     ∙ ap (λ m. crc_steps m (bit_xor (bit_xor c x) (rest * 2 ^ 8))) (sym count)
     ∙ ap (crc_steps (8 * suc n)) (xor_assoc c x (rest * 2 ^ 8) ∙ ap (bit_xor c) (xor_comm x (rest * 2 ^ 8) ∙ apart ∙ ap (λ y. x + 256 * y) (sym moved))))
 
-xor_right : (a b c d e f g h : ℕ) → bit_xor (bit_xor (bit_xor (bit_xor (bit_xor (bit_xor (bit_xor a b) c) d) e) f) g) h ≡ bit_xor a (bit_xor b (bit_xor c (bit_xor d (bit_xor e (bit_xor f (bit_xor g (bit_xor h 0)))))))
-xor_right a b c d e f g h = simp (xor_assoc, xor_zero_r)
+xor_turned : (a b c d e f g h : ℕ) → bit_xor (bit_xor (bit_xor (bit_xor (bit_xor (bit_xor (bit_xor h g) f) e) d) c) b) a ≡ bit_xor a (bit_xor b (bit_xor c (bit_xor d (bit_xor e (bit_xor f (bit_xor g (bit_xor h 0)))))))
+xor_turned a b c d e f g h =
+    xor_comm (bit_xor (bit_xor (bit_xor (bit_xor (bit_xor (bit_xor h g) f) e) d) c) b) a
+    ∙ ap (bit_xor a) (xor_comm (bit_xor (bit_xor (bit_xor (bit_xor (bit_xor h g) f) e) d) c) b
+    ∙ ap (bit_xor b) (xor_comm (bit_xor (bit_xor (bit_xor (bit_xor h g) f) e) d) c
+    ∙ ap (bit_xor c) (xor_comm (bit_xor (bit_xor (bit_xor h g) f) e) d
+    ∙ ap (bit_xor d) (xor_comm (bit_xor (bit_xor h g) f) e
+    ∙ ap (bit_xor e) (xor_comm (bit_xor h g) f
+    ∙ ap (bit_xor f) (xor_comm h g ∙ ap (bit_xor g) (sym (xor_zero_r h))))))))
 
 -- a look-up for each byte of a word
 pub word_look_ups : (more w : ℕ) (bs : List ℕ) (a b c d e f g h : ℕ) → w < 2 ^ 64 → bs ≡ bytes_low_first 0 8 w
@@ -82,11 +89,11 @@ pub word_look_ups : (more w : ℕ) (bs : List ℕ) (a b c d e f g h : ℕ) → w
     → c ≡ crc_steps (8 * (more + 5) + 8) (get_or bs 2 0) → d ≡ crc_steps (8 * (more + 4) + 8) (get_or bs 3 0)
     → e ≡ crc_steps (8 * (more + 3) + 8) (get_or bs 4 0) → f ≡ crc_steps (8 * (more + 2) + 8) (get_or bs 5 0)
     → g ≡ crc_steps (8 * (more + 1) + 8) (get_or bs 6 0) → h ≡ crc_steps (8 * more + 8) (get_or bs 7 0)
-    → bit_xor (bit_xor (bit_xor (bit_xor (bit_xor (bit_xor (bit_xor a b) c) d) e) f) g) h ≡ crc_steps (8 * more + 64) w
+    → bit_xor (bit_xor (bit_xor (bit_xor (bit_xor (bit_xor (bit_xor h g) f) e) d) c) b) a ≡ crc_steps (8 * more + 64) w
 unfolding bytes_then_zeros
 word_look_ups more w bs a b c d e f g h fits bytes pa pb pc pd pe pf pg ph =
     let last : 8 * (more + 0) + 8 ≡ 8 * more + 8 = omega arith in
-    rw (xor_right a b c d e f g h, pa, pb, pc, pd, pe, pf, pg, ph, bytes)
+    rw (xor_turned a b c d e f g h, pa, pb, pc, pd, pe, pf, pg, ph, bytes)
     (sym (ap (λ n. bit_xor (crc_steps (8 * (more + 7) + 8) (byte_at 0 w)) (bit_xor (crc_steps (8 * (more + 6) + 8) (byte_at 1 w)) (bit_xor (crc_steps (8 * (more + 5) + 8) (byte_at 2 w)) (bit_xor (crc_steps (8 * (more + 4) + 8) (byte_at 3 w)) (bit_xor (crc_steps (8 * (more + 3) + 8) (byte_at 4 w)) (bit_xor (crc_steps (8 * (more + 2) + 8) (byte_at 5 w)) (bit_xor (crc_steps (8 * (more + 1) + 8) (byte_at 6 w)) (bit_xor (crc_steps n (byte_at 7 w)) 0)))))))) last)
     ∙ word_bytes more w fits)
 
@@ -116,22 +123,6 @@ take_bytes (suc n) (x ∷ xs) small (suc k) = take_bytes n xs (λ j. small (suc 
 -- and so is a front of it
 pub bytes_front : (n : ℕ) (xs front : List ℕ) → front ≡ take n xs → ((k : ℕ) → get_or xs k 0 < 256) → (k : ℕ) → get_or front k 0 < 256
 bytes_front n xs front front_is small k = rw front_is (take_bytes n xs small k)
-
--- sixteen bytes, as two words
-pub words_join : (c low high a b : ℕ) (xs front back rest : List ℕ) → 16 ≤ length xs → ((k : ℕ) → get_or xs k 0 < 256)
-    → front ≡ take 8 xs → back ≡ drop 8 xs → rest ≡ drop 8 back → low ≡ little_from 0 8 front → high ≡ little_from 0 8 back
-    → a ≡ crc_steps 128 (bit_xor low c) → b ≡ crc_steps 64 high → register_after (bit_xor a b) rest ≡ register_after c xs
-words_join c low high a b xs front back rest long small front_is back_is rest_is low_is high_is a_is b_is =
-    let first : little_from 0 8 front ≡ little_from 0 8 xs = ap (little_from 0 8) front_is ∙ little_from-take 0 8 8 xs (omega arith) in
-    let left : 8 ≤ length back = rw (back_is, length-drop 8 xs) (omega arith) in
-    rw (a_is, b_is, low_is, high_is, first, rest_is)
-    (ap (λ y. register_after y (drop 8 back))
-    (ap (λ y. bit_xor y (crc_steps 64 (little_from 0 8 back)))
-    (ap (crc_steps 128) (xor_comm (little_from 0 8 xs) c) ∙ steps_add 64 64 (bit_xor c (little_from 0 8 xs)))
-    ∙ sym (steps_xor 64 (crc_steps 64 (bit_xor c (little_from 0 8 xs))) (little_from 0 8 back)))
-    ∙ sym (number_joins 8 (crc_steps 64 (bit_xor c (little_from 0 8 xs))) back left (bytes_left 8 xs back back_is small))
-    ∙ ap (register_after (crc_steps 64 (bit_xor c (little_from 0 8 xs)))) back_is
-    ∙ sym (number_joins 8 c xs (omega arith) small))
 
 -- the next byte of a text
 pub byte_next : (c look i : ℕ) (xs : List ℕ) → i < length xs → ((k : ℕ) → get_or xs k 0 < 256)

@@ -1,5 +1,5 @@
 -- What the errors of this layer say.
-use Rattle.std.specs.Prelude.{◌≡◌}
+use Rattle.std.specs.Prelude.{◌≡◌, ⊤}
 use Rattle.std.specs.IoError.{error_kind}
 use Rattle.std.specs.declared.io.ErrorKind.{ErrorKind}
 use Rattle.raft_base.specs.declared.codec.Error as codec
@@ -8,6 +8,11 @@ use Rattle.raft_base.specs.declared.errors.Error as errors
 use Rattle.raft_base.specs.declared.errors.Error.TheVariants as variants
 use Rattle.raft_base.specs.declared.message.MessageError.{MessageError}
 use Rattle.raft_base.specs.declared.message.MessageError.TheVariants as messages
+
+-- an io error
+abbrev pub IsIo : codec.Error → Type 0
+IsIo (codec_errors.Io e) = ⊤
+IsIo _ = ⊥
 
 -- an io error of this kind
 abbrev pub IsIoOf : codec.Error → ErrorKind → Type 0

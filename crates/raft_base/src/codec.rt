@@ -1,9 +1,10 @@
 //! Numbers as bytes.
 
-ghost use Rattle.std.specs.Prelude.{OnOk};
+ghost use Rattle.std.specs.Prelude.{OnOk, IfErr};
 ghost use Rattle.std.specs.Io.KnownBytes.{Appends};
 ghost use Rattle.std.specs.Int.{w32, w64};
 ghost use Rattle.byteorder.specs.Endian.{big_bytes, little_bytes};
+ghost use Rattle.raft_base.specs.Errors.{IsIo};
 ghost use Rattle.raft_base.specs.Fixed.{u64_desc_bytes, i64_bytes, i64_desc_bytes, signed_le_bytes};
 ghost use Rattle.raft_base.specs.Varint.{varint};
 ghost use Rattle.raft_base.specs.Zigzag.{zigzag};
@@ -79,7 +80,8 @@ pub trait NumberEncoder: Write {
     final fn encode_u64(&mut self, v: u64) -> Result<()>
     where
         Self: Sized,
-        ensures { OnOk result (Appends (Self.contents self.old) (Self.contents self.new) (big_bytes 8 v)) }
+        ensures written { OnOk result (Appends (Self.contents self.old) (Self.contents self.new) (big_bytes 8 v)) }
+        ensures io { IfErr result IsIo }
     {
         self.write_u64::<BigEndian>(v)?;
         Ok(())
@@ -89,7 +91,8 @@ pub trait NumberEncoder: Write {
     final fn encode_u32(&mut self, v: u32) -> Result<()>
     where
         Self: Sized,
-        ensures { OnOk result (Appends (Self.contents self.old) (Self.contents self.new) (big_bytes 4 v)) }
+        ensures written { OnOk result (Appends (Self.contents self.old) (Self.contents self.new) (big_bytes 4 v)) }
+        ensures io { IfErr result IsIo }
     {
         self.write_u32::<BigEndian>(v)?;
         Ok(())
@@ -99,7 +102,8 @@ pub trait NumberEncoder: Write {
     final fn encode_u16(&mut self, v: u16) -> Result<()>
     where
         Self: Sized,
-        ensures { OnOk result (Appends (Self.contents self.old) (Self.contents self.new) (big_bytes 2 v)) }
+        ensures written { OnOk result (Appends (Self.contents self.old) (Self.contents self.new) (big_bytes 2 v)) }
+        ensures io { IfErr result IsIo }
     {
         self.write_u16::<BigEndian>(v)?;
         Ok(())
@@ -110,7 +114,8 @@ pub trait NumberEncoder: Write {
     final fn encode_u64_desc(&mut self, v: u64) -> Result<()>
     where
         Self: Sized,
-        ensures { OnOk result (Appends (Self.contents self.old) (Self.contents self.new) (u64_desc_bytes v)) }
+        ensures written { OnOk result (Appends (Self.contents self.old) (Self.contents self.new) (u64_desc_bytes v)) }
+        ensures io { IfErr result IsIo }
     {
         self.write_u64::<BigEndian>(!v)?;
         Ok(())
@@ -121,7 +126,8 @@ pub trait NumberEncoder: Write {
     final fn encode_i64(&mut self, v: i64) -> Result<()>
     where
         Self: Sized,
-        ensures { OnOk result (Appends (Self.contents self.old) (Self.contents self.new) (i64_bytes v)) }
+        ensures written { OnOk result (Appends (Self.contents self.old) (Self.contents self.new) (i64_bytes v)) }
+        ensures io { IfErr result IsIo }
     {
         self.write_u64::<BigEndian>(v.cast_unsigned() ^ SIGN_BIT)?;
         Ok(())
@@ -131,7 +137,8 @@ pub trait NumberEncoder: Write {
     final fn encode_i64_desc(&mut self, v: i64) -> Result<()>
     where
         Self: Sized,
-        ensures { OnOk result (Appends (Self.contents self.old) (Self.contents self.new) (i64_desc_bytes v)) }
+        ensures written { OnOk result (Appends (Self.contents self.old) (Self.contents self.new) (i64_desc_bytes v)) }
+        ensures io { IfErr result IsIo }
     {
         self.write_u64::<BigEndian>(!(v.cast_unsigned() ^ SIGN_BIT))?;
         Ok(())
@@ -141,7 +148,8 @@ pub trait NumberEncoder: Write {
     final fn encode_u16_le(&mut self, v: u16) -> Result<()>
     where
         Self: Sized,
-        ensures { OnOk result (Appends (Self.contents self.old) (Self.contents self.new) (little_bytes 2 v)) }
+        ensures written { OnOk result (Appends (Self.contents self.old) (Self.contents self.new) (little_bytes 2 v)) }
+        ensures io { IfErr result IsIo }
     {
         self.write_u16::<LittleEndian>(v)?;
         Ok(())
@@ -151,7 +159,8 @@ pub trait NumberEncoder: Write {
     final fn encode_u32_le(&mut self, v: u32) -> Result<()>
     where
         Self: Sized,
-        ensures { OnOk result (Appends (Self.contents self.old) (Self.contents self.new) (little_bytes 4 v)) }
+        ensures written { OnOk result (Appends (Self.contents self.old) (Self.contents self.new) (little_bytes 4 v)) }
+        ensures io { IfErr result IsIo }
     {
         self.write_u32::<LittleEndian>(v)?;
         Ok(())
@@ -161,7 +170,8 @@ pub trait NumberEncoder: Write {
     final fn encode_u64_le(&mut self, v: u64) -> Result<()>
     where
         Self: Sized,
-        ensures { OnOk result (Appends (Self.contents self.old) (Self.contents self.new) (little_bytes 8 v)) }
+        ensures written { OnOk result (Appends (Self.contents self.old) (Self.contents self.new) (little_bytes 8 v)) }
+        ensures io { IfErr result IsIo }
     {
         self.write_u64::<LittleEndian>(v)?;
         Ok(())
@@ -171,7 +181,8 @@ pub trait NumberEncoder: Write {
     final fn encode_i32_le(&mut self, v: i32) -> Result<()>
     where
         Self: Sized,
-        ensures { OnOk result (Appends (Self.contents self.old) (Self.contents self.new) (signed_le_bytes w32 v)) }
+        ensures written { OnOk result (Appends (Self.contents self.old) (Self.contents self.new) (signed_le_bytes w32 v)) }
+        ensures io { IfErr result IsIo }
     {
         self.write_i32::<LittleEndian>(v)?;
         Ok(())
@@ -181,7 +192,8 @@ pub trait NumberEncoder: Write {
     final fn encode_i64_le(&mut self, v: i64) -> Result<()>
     where
         Self: Sized,
-        ensures { OnOk result (Appends (Self.contents self.old) (Self.contents self.new) (signed_le_bytes w64 v)) }
+        ensures written { OnOk result (Appends (Self.contents self.old) (Self.contents self.new) (signed_le_bytes w64 v)) }
+        ensures io { IfErr result IsIo }
     {
         self.write_i64::<LittleEndian>(v)?;
         Ok(())
@@ -191,7 +203,8 @@ pub trait NumberEncoder: Write {
     final fn encode_var_u64(&mut self, v: u64) -> Result<()>
     where
         Self: Sized,
-        ensures { OnOk result (Appends (Self.contents self.old) (Self.contents self.new) (varint v)) }
+        ensures written { OnOk result (Appends (Self.contents self.old) (Self.contents self.new) (varint v)) }
+        ensures io { IfErr result IsIo }
     {
         let mut bytes = [0; varint::MAX_VAR_U64_LEN];
         let len = varint::put_var_u64(&mut bytes, v);
@@ -204,7 +217,8 @@ pub trait NumberEncoder: Write {
     final fn encode_var_i64(&mut self, v: i64) -> Result<()>
     where
         Self: Sized,
-        ensures { OnOk result (Appends (Self.contents self.old) (Self.contents self.new) (varint (zigzag v))) }
+        ensures written { OnOk result (Appends (Self.contents self.old) (Self.contents self.new) (varint (zigzag v))) }
+        ensures io { IfErr result IsIo }
     {
         self.encode_var_u64(zigzag::code_of(v))
     }

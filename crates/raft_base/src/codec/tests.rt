@@ -319,3 +319,61 @@ fn seven_bytes_hold_no_u64(rt: HostRuntime) {
     assert!(rt; matches!(read, Err(Error::Io(e)) if e.kind() == ErrorKind::UnexpectedEof));
     assert!(rt; buf.len() == 7);
 }
+
+/// A writer that takes nothing.
+#[derive(Drop)]
+struct Closed;
+
+impl Write for Closed {
+    fn write(&mut self, _buf: &[u8]) -> io::Result<usize> {
+        Err(io::Error::new(ErrorKind::BrokenPipe, "closed"))
+    }
+
+    fn flush(&mut self) -> io::Result<()> {
+        Ok(())
+    }
+}
+
+/// Whether the answer is the error of `Closed`.
+fn is_closed(answer: super::Result<()>) -> bool {
+    matches!(answer, Err(Error::Io(e)) if e.kind() == ErrorKind::BrokenPipe)
+}
+
+#[test]
+fn errors_are_the_writers(rt: HostRuntime) {
+    assert!(rt; is_closed(Closed.encode_u64(1)));
+    assert!(rt; is_closed(Closed.encode_u32(1)));
+    assert!(rt; is_closed(Closed.encode_u16(1)));
+    assert!(rt; is_closed(Closed.encode_u64_desc(1)));
+    assert!(rt; is_closed(Closed.encode_i64(1)));
+    assert!(rt; is_closed(Closed.encode_i64_desc(1)));
+    assert!(rt; is_closed(Closed.encode_u16_le(1)));
+    assert!(rt; is_closed(Closed.encode_u32_le(1)));
+    assert!(rt; is_closed(Closed.encode_u64_le(1)));
+    assert!(rt; is_closed(Closed.encode_i32_le(1)));
+    assert!(rt; is_closed(Closed.encode_i64_le(1)));
+    assert!(rt; is_closed(Closed.encode_var_u64(1)));
+    assert!(rt; is_closed(Closed.encode_var_i64(1)));
+}
+
+/// Whether the vector, which had `len` bytes, got these ones, or was refused memory and stayed.
+fn has_grown(vector: &Vec<u8>, len: usize, answer: super::Result<()>, bytes: &[u8]) -> bool {
+    match answer {
+        Ok(()) => vector.as_slice().get(len..) == Some(bytes),
+        Err(Error::Io(e)) => e.kind() == ErrorKind::OutOfMemory && vector.len() == len,
+        Err(_) => false,
+    }
+}
+
+#[test]
+fn vectors_grow_or_stay(rt: HostRuntime) {
+    let mut vector = Vec::new(rt.alloc());
+    let answer = vector.encode_i32_le(-1023);
+    assert!(rt; has_grown(&vector, 0, answer, b"\x01\xfc\xff\xff"));
+    let len = vector.len();
+    let answer = vector.encode_var_u64(1024);
+    assert!(rt; has_grown(&vector, len, answer, b"\x80\x08"));
+    let len = vector.len();
+    let answer = vector.encode_u64_desc(1);
+    assert!(rt; has_grown(&vector, len, answer, b"\xff\xff\xff\xff\xff\xff\xff\xfe"));
+}

@@ -15,6 +15,8 @@ pub mod entries;
 pub mod key_values;
 mod merge;
 mod queries;
+#[cfg(test)]
+mod tests;
 
 use crate::global_stats::GlobalStats;
 pub use change::{TableChange, is_run};

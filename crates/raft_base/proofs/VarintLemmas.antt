@@ -174,9 +174,36 @@ unfolding varint
 varint_shortest n bytes s =
     groups_bound 9 (length bytes) n (rw s.value (base_128-lt bytes)) (not_empty bytes s.continued)
 
+-- m bytes are enough for a number below 128 ^ m
+pub varint_within : (m n : ℕ) → n < 128 ^ m → 0 < m → length (varint n) ≤ m
+unfolding varint
+varint_within m n lt some = groups_bound 9 m n lt some
+
 -- a number takes a byte at least
 pub varint_some : (bytes : List ℕ) (n : ℕ) → IsVarint bytes n → 0 < length bytes
 varint_some bytes n s = not_empty bytes s.continued
+
+-- what is spelled is a u64
+pub varint_lt : (bytes : List ℕ) (n : ℕ) → IsVarint bytes n → n < 2 ^ 64
+varint_lt bytes n s =
+    let value : n ≡ base_128 bytes = s.value in
+    elim (cases_lt (length bytes) 10) [
+      | inl short ↦
+          let most : 128 ^ length bytes ≤ 128 ^ 9 = pow-le-pow_right {n = 128} (omega arith) {i = length bytes} {j = 9} (omega arith) in
+          omega (arith, value, base_128-lt bytes, most)
+      | inr long ↦
+          let ten : length bytes ≡ 10 = omega (arith, long, s.at_most_ten) in
+          let nine : length (take 9 bytes) ≡ 9 = length-take-le 9 bytes (omega arith) in
+          let last : get_or bytes 9 0 ≤ 1 = s.tenth in
+          let split : take 9 bytes ++ get_or bytes 9 0 ∷ [] ≡ bytes = sym (take_more bytes 9 0 (omega arith)) ∙ take_all 10 bytes (omega arith) in
+          let sum : base_128 (take 9 bytes ++ get_or bytes 9 0 ∷ []) ≡ base_128 (take 9 bytes) + get_or bytes 9 0 % 128 * 128 ^ length (take 9 bytes) = base_128-push (take 9 bytes) (get_or bytes 9 0) in
+          let power : 128 ^ length (take 9 bytes) ≡ 128 ^ 9 = ap (λ (k : ℕ). 128 ^ k) nine in
+          let whole : n ≡ base_128 (take 9 bytes) + get_or bytes 9 0 % 128 * 128 ^ 9 = value ∙ ap base_128 (sym split) ∙ sum ∙ ap (λ (x : ℕ). base_128 (take 9 bytes) + get_or bytes 9 0 % 128 * x) power in
+          let front : base_128 (take 9 bytes) < 128 ^ 9 = subst (λ (x : ℕ). base_128 (take 9 bytes) < x) power (base_128-lt (take 9 bytes)) in
+          let low : get_or bytes 9 0 % 128 ≤ 1 = omega (arith, last) in
+          let product : get_or bytes 9 0 % 128 * 128 ^ 9 ≤ 1 * 128 ^ 9 = omega (arith, low) in
+          omega (arith, whole, front, product)
+    ]
 
 -- ---- no spelling begins another
 

@@ -1,5 +1,5 @@
 -- On lists of items that a batch holds.
-use Rattle.std.proofs.Common.{◌≡◌, ℕ, zero, suc, ◌+◌, ◌-◌, ◌^◌, ◌<◌, ◌≤◌, min, List, [], ◌∷◌, ◌++◌, map, length, take, drop, set, get_or, Option, Some, None, refl, sym, ap, ◌∙◌, subst, append_assoc, arith, inl, inr}
+use Rattle.std.proofs.Common.{◌≡◌, ℕ, zero, suc, ◌+◌, ◌-◌, ◌^◌, ◌<◌, List, [], ◌∷◌, ◌++◌, map, length, take, drop, set, get_or, Option, Some, None, refl, sym, ap, ◌∙◌, subst, append_assoc, arith, inl, inr}
 use Rattle.std.specs.Prelude.{bit_xor}
 use Rattle.std.specs.Int.Bits.{xor_assoc, xor_self, xor_zero_l}
 use Rattle.std.proofs.lemmas.Nat.{xor_of_32}
@@ -8,7 +8,7 @@ use Rattle.std.specs.List.{flat_map}
 use Rattle.raft_base.specs.Checksum.{crc32_of}
 use Rattle.raft_base.specs.declared.pipe_log.FileBlockHandle.{FileBlockHandle}
 use Rattle.raft_base.specs.declared.pipe_log.FileId.{FileId}
-use Rattle.std.proofs.lemmas.List.{append_cancel_left, length-append, length-map, drop_more, map-append, take_more, flat_map_more}
+use Rattle.std.proofs.lemmas.List.{append_cancel_left, length-append, length-map, drop_more, flat_map_more}
 use Rattle.std.proofs.lemmas.List.Edits.{map_over_more}
 use Rattle.raft_base.specs.declared.errors.Error.{Error}
 use Rattle.raft_base.specs.Reading.{Reads, HasNoFront, HasOneFront, IsPair, IsSequence, state_after}
@@ -22,13 +22,15 @@ use Rattle.raft_records.specs.declared.log_batch.entry_index.EntryIndex.{EntryIn
 use Rattle.raft_records.specs.declared.log_batch.key_value.OpType.{OpType}
 use Rattle.raft_records.specs.declared.log_batch.key_value.OpType.TheVariants.{Put, Del}
 use Rattle.raft_records.specs.declared.log_batch.log_item.LogItem.{LogItem}
-use Rattle.raft_records.specs.Item.{Item, Content, entries, command, pair, Pair, item_of, content_of}
+use Rattle.raft_records.specs.Item.{Item, Content, entries, command, pair, item_of, content_of}
 use Rattle.raft_records.specs.Entries.{IsConsecutiveFrom, IsConsecutive, Tile}
-use Rattle.raft_records.specs.Grammar.{tail_of, IsTail, behind_entry, AreTails, IsRun, IsPairOf, IsContent, IsItem, end_behind, behind_item}
+use Rattle.raft_records.specs.Grammar.{tail_of, IsTail, behind_entry, IsRun, IsPairOf, IsContent, IsItem, end_behind, behind_item}
 use Rattle.raft_records.specs.Spelling.{IsWritableWith, tails_bytes, entries_bytes, item_bytes}
 use Rattle.raft_records.specs.ItemBatch.{FitsBehind, FitTogether, end_of_items, placed_entry, placed, IsKeptBeside, AreItems, IsCounted, signed, checksum_bytes, IsItemBatch, IsSealed, AreItemsFault, batch_bytes, first_entry, first_entry_or}
+use Rattle.raft_records.specs.Range.{IsInRange, AreInRange}
 use Rattle.raft_records.specs.Faults.{IsItemFault}
 use Rattle.raft_records.proofs.ContentLemmas.{item_one_front}
+use Rattle.raft_records.proofs.RangeLemmas.{range_append, range_placed, items_range}
 use Rattle.raft_records.proofs.SealLemmas.{four, content_is}
 use Rattle.raft_records.specs.Sizes.{item_size, items_size, saturated}
 
@@ -46,11 +48,11 @@ pub size_push : (xs : List Item) (x : Item) → items_size (xs ++ x ∷ []) ≡ 
 size_push [] x = omega arith
 size_push (y ∷ ys) x = omega (arith, size_push ys x)
 
-pub kept_push : (xs : List Item) (x : Item) (size entry_bytes size' : ℕ) (checksum : Option ℕ) → IsKeptBeside xs size entry_bytes checksum → FitsBehind (end_of_items 0 xs) x.content → size' ≡ saturated (size + saturated (item_size x)) → IsKeptBeside (xs ++ x ∷ []) size' (behind_item (end_of_items 0 xs) x) None
-kept_push xs x size entry_bytes size' checksum k f e =
+pub kept_push : (xs : List Item) (x : Item) (size entry_bytes size' : ℕ) (checksum : Option ℕ) → IsKeptBeside xs size entry_bytes checksum → FitsBehind (end_of_items 0 xs) x.content → IsInRange x → size' ≡ saturated (size + saturated (item_size x)) → IsKeptBeside (xs ++ x ∷ []) size' (behind_item (end_of_items 0 xs) x) None
+kept_push xs x size entry_bytes size' checksum k f r e =
     let before : size ≡ saturated (items_size xs) = k.size in
     let pushed : items_size (xs ++ x ∷ []) ≡ items_size xs + item_size x = size_push xs x in
-    record { fit = fit_push 0 xs x k.fit f; entry_bytes = sym (end_push 0 xs x); size = omega arith; checksum = λ crc some. absurd cc }
+    record { fit = fit_push 0 xs x k.fit f; in_range = range_append xs (x ∷ []) k.in_range (r, tt); entry_bytes = sym (end_push 0 xs x); size = omega arith; checksum = λ crc some. absurd cc }
 
 -- ---- places
 
@@ -122,26 +124,9 @@ pub end_is_state : (s : ℕ) (xs : List Item) → end_of_items s xs ≡ state_af
 end_is_state s [] = refl
 end_is_state s (x ∷ xs) = end_is_state (behind_item s x) xs
 
-pub items_fit : (block : FileBlockHandle) (c : CompressionType) (s : ℕ) (bytes : List ℕ) (xs : List Item) → IsSequence behind_item IsItem s bytes xs → FitTogether s (map (placed block c) xs)
-items_fit block c s bytes [] q = tt
-items_fit block c s bytes (x ∷ xs) q =
-    let rest = items_fit block c (behind_item s x) q.second xs q.second_spells in (
-      fits_placed block c s x.content (item_fits s q.first x q.first_spells),
-      subst (λ (t : ℕ). FitTogether t (map (placed block c) xs)) (sym (behind_placed block c s x)) rest,
-    )
-
 pub end_of_placed : (block : FileBlockHandle) (c : CompressionType) (s : ℕ) (xs : List Item) → end_of_items s (map (placed block c) xs) ≡ end_of_items s xs
 end_of_placed block c s [] = refl
 end_of_placed block c s (x ∷ xs) = ap (λ (t : ℕ). end_of_items t (map (placed block c) xs)) (behind_placed block c s x) ∙ end_of_placed block c (behind_item s x) xs
-
-pub decoded_kept : (block : FileBlockHandle) (c : CompressionType) (n : ℕ) (bytes rest : List ℕ) (xs ys : List Item) (size entries_size : ℕ) → Reads (AreItems n) bytes rest xs → ys ≡ map (placed block c) xs → entries_size ≡ end_of_items 0 xs → size ≡ saturated (items_size ys) → IsKeptBeside ys size entries_size None
-decoded_kept block c n bytes rest xs ys size entries_size r e ends sized =
-    record {
-      fit = subst (λ (zs : List Item). FitTogether 0 zs) (sym e) (items_fit block c 0 r.front xs r.spells.items_spelled);
-      size = sized;
-      entry_bytes = ends ∙ sym (end_of_placed block c 0 xs) ∙ ap (end_of_items 0) (sym e);
-      checksum = λ crc some. absurd cc;
-    }
 
 -- one more item behind those that were read
 pub one_more_item : (bytes mid rest : List ℕ) (xs : List Item) (x : Item) (s : ℕ) → Reads (IsSequence behind_item IsItem 0) bytes mid xs → s ≡ end_of_items 0 xs → Reads (IsItem s) mid rest x → Reads (IsSequence behind_item IsItem 0) bytes rest (xs ++ x ∷ [])
@@ -218,14 +203,6 @@ map_view_more {X} {Y} g f xs ys i old new lt len e at step =
     map-set' g (y ∷ ys) zero v = refl
     map-set' {X} {Y} g (y ∷ ys) (suc i) v = ap (λ (t : List Y). g y ∷ t) (map-set' g ys i v)
 
--- the items up to one more
-pub items_more : {X Y : Type 0} (g : X → Y) (xs : List X) (i : ℕ) (x : X) → i < length xs → x ≡ get_or xs i x → map g (take (i + 1) xs) ≡ map g (take i xs) ++ g x ∷ []
-items_more g xs i x lt at =
-    ap (map g) (take_more xs i x lt) ∙ map-append g (take i xs) (get_or xs i x ∷ []) ∙ ap (λ v. map g (take i xs) ++ g v ∷ []) (sym at)
-
-pub size_more : (xs : List Item) (x : Item) (size total : ℕ) → size ≡ saturated (items_size xs) → total ≡ saturated (size + saturated (item_size x)) → total ≡ saturated (items_size (xs ++ x ∷ []))
-size_more xs x size total e f = let pushed : items_size (xs ++ x ∷ []) ≡ items_size xs + item_size x = size_push xs x in omega arith
-
 pub bytes_more : (count : List ℕ) (old buf new : List ℕ) (xs : List Item) (x : Item) → buf ≡ old ++ (count ++ flat_map item_bytes xs) → new ≡ buf ++ item_bytes x → new ≡ old ++ (count ++ flat_map item_bytes (xs ++ x ∷ []))
 bytes_more count old buf new xs x e f =
     f ∙ ap (λ (t : List ℕ). t ++ item_bytes x) e ∙ append_assoc old (count ++ flat_map item_bytes xs) (item_bytes x) ∙ ap (λ (t : List ℕ). old ++ t) (flat_map_more item_bytes count xs x)
@@ -280,6 +257,7 @@ pub placed_kept : (block : FileBlockHandle) (c : CompressionType) (xs : List Ite
 placed_kept block c xs size bytes crc k =
     record {
       fit = fit_placed block c 0 xs k.fit;
+      in_range = range_placed block c xs k.in_range;
       size = k.size ∙ ap saturated (sym (sizes_placed block c xs));
       entry_bytes = k.entry_bytes ∙ sym (end_of_placed block c 0 xs);
       checksum = λ n some. k.checksum n some ∙ ap crc32_of (sym (batch_placed block c xs));

@@ -6,8 +6,8 @@ use Rattle.raft_base.specs.Checksum.{crc32_of}
 use Rattle.raft_base.proofs.FixedLemmas.{IsReadAgain-big_bytes}
 use Rattle.raft_records.specs.declared.log_batch.CompressionType.{CompressionType}
 use Rattle.raft_records.specs.declared.log_batch.CompressionType.TheVariants as compressions
-use Rattle.raft_records.specs.declared.log_batch.command.Command.{Command}
-use Rattle.raft_records.specs.Item.{Item, command_item}
+use Rattle.raft_records.specs.Item.{Item}
+use Rattle.raft_records.specs.Grammar.{behind_item}
 use Rattle.raft_records.specs.ItemBatch.{checksum_bytes, batch_bytes, entry_bytes_of, IsEncoded, signed, no_checksum}
 use Rattle.raft_records.specs.LogBatch.{Stage, populating, encoded, sealed, header_bytes, entry_block, item_offset, unsealed_bytes, encoded_length, log_batch_bytes, compression_byte}
 use Rattle.raft_records.specs.Buffer.{entry_bytes_in, IsUnsealed, IsEncodedAs, IsHeldAt, IsHeld}
@@ -20,7 +20,7 @@ unfolding header_bytes
 header_len offset c len =
     omega (arith, length-append (big_bytes 8 (len * 256 + compression_byte c)) (big_bytes 8 offset), (IsReadAgain-big_bytes 8).counted (len * 256 + compression_byte c), (IsReadAgain-big_bytes 8).counted offset)
 
-checksum_len : (signature : Option ℕ) (bytes : List ℕ) → length (checksum_bytes signature bytes) ≡ 4
+pub checksum_len : (signature : Option ℕ) (bytes : List ℕ) → length (checksum_bytes signature bytes) ≡ 4
 checksum_len signature bytes = four (signed signature (crc32_of bytes))
 
 -- a block begins with its entry bytes
@@ -185,9 +185,9 @@ encoded_unsealed items old closed whole new offset len some room e f at size wri
 pub cut_to : (old new : List ℕ) (n : ℕ) → n ≡ length old → Keeps old new → take n new ≡ old
 cut_to old new n e k = ap (take n) k.split ∙ take_at old k.behind n (sym e)
 
--- a command has no entry bytes
-pub command_same : (items : List Item) (region : ℕ) (c : Command) → entry_bytes_of (items ++ command_item region c ∷ []) ≡ entry_bytes_of items
-command_same items region c = end_push 0 items (command_item region c)
+-- an item without entry bytes adds none
+pub item_same : (items : List Item) (x : Item) → ((s : ℕ) → behind_item s x ≡ s) → entry_bytes_of (items ++ x ∷ []) ≡ entry_bytes_of items
+item_same items x same = end_push 0 items x ∙ same (entry_bytes_of items)
 
 -- the batch with one more item that has no entry bytes
 pub held_more : (items more : List Item) (buf : List ℕ) → entry_bytes_of more ≡ entry_bytes_of items → length buf - 16 ≡ entry_bytes_of items → IsHeld populating more (entry_bytes_in more buf) buf

@@ -12,7 +12,7 @@ use Rattle.raft_base.specs.declared.errors.Error.{Error}
 use Rattle.raft_records.specs.Header.{IsHeader, IsCompressionFault, IsPlaceFault, IsWordsFault}
 use Rattle.raft_records.proofs.BufferLemmas.{header_len}
 
-byte_of_type : (c : CompressionType) → compression_byte c ≡ 0
+pub byte_of_type : (c : CompressionType) → compression_byte c ≡ 0
 byte_of_type None = refl
 
 -- the two numbers of a header and what is behind them

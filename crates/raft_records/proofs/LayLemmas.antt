@@ -1,13 +1,13 @@
 -- On entries whose bytes are laid or raised.
-use Rattle.std.proofs.Common.{◌≡◌, ℕ, zero, suc, ◌+◌, ◌-◌, ◌^◌, ◌<◌, ◌≤◌, List, [], ◌∷◌, ◌++◌, map, length, take, drop, set, get_or, Option, Some, None, refl, sym, ap, ◌∙◌, subst, append_assoc, arith}
+use Rattle.std.proofs.Common.{◌≡◌, ℕ, zero, suc, ◌+◌, ◌^◌, ◌<◌, ◌≤◌, List, [], ◌∷◌, ◌++◌, map, length, take, drop, set, get_or, Option, None, refl, sym, ap, ◌∙◌, subst, append_assoc, arith}
 use Rattle.std.proofs.lemmas.List.{length-map, length-take-le, take_more, drop_more, get_or_at, set_at}
-use Rattle.raft_records.specs.declared.log_batch.CompressionType.TheVariants as compressions
 use Rattle.raft_records.specs.declared.log_batch.entry_index.EntryIndex.{EntryIndex}
-use Rattle.raft_records.specs.Item.{Item, Content, entries, command, pair, Pair}
+use Rattle.raft_records.specs.Item.{Item, Content, entries, command, pair}
 use Rattle.raft_records.specs.Entries.{IsConsecutiveFrom, IsConsecutive, Tile}
 use Rattle.raft_records.specs.Grammar.{tail_of, end_behind, behind_item}
 use Rattle.raft_records.specs.ItemBatch.{FitsBehind, FitTogether, end_of_items, entry_bytes_of, laid, entry_lengths, raised_entry, raised_content, raised, CanRaise, CanRaiseContent, IsKeptBeside}
 use Rattle.raft_records.specs.Sizes.{item_size, items_size, saturated}
+use Rattle.raft_records.proofs.RangeLemmas.{range_append, range_raised}
 
 -- ---- laid
 
@@ -186,6 +186,7 @@ merged_kept xs ys size size' bytes bytes' total crc crc' k l lt sum =
     let sizes : items_size (xs ++ map (raised bytes) ys) ≡ items_size xs + items_size ys = omega (arith, size_append xs (map (raised bytes) ys), raised_items_size bytes ys) in
     record {
       fit = fit_append 0 xs (map (raised bytes) ys) k.fit (subst (λ (o : ℕ). FitTogether o (map (raised bytes) ys)) start fit);
+      in_range = range_append xs (map (raised bytes) ys) k.in_range (range_raised bytes ys l.in_range);
       size = omega arith;
       entry_bytes = sym (end_append 0 xs (map (raised bytes) ys) ∙ ap (λ (o : ℕ). end_of_items o (map (raised bytes) ys)) (sym start) ∙ raised_items_end 0 bytes ys ∙ omega arith);
       checksum = λ c some. absurd cc;

@@ -2,11 +2,15 @@ pub mod BatchLemmas
 pub mod BufferLemmas
 pub mod ContentLemmas
 pub mod EntryLemmas
+pub mod EqualLemmas
+pub mod FrameLemmas
 pub mod HeaderLemmas
 pub mod ItemLemmas
 pub mod LayLemmas
+pub mod LengthLemmas
 pub mod LineLemmas
 pub mod PrintLemmas
+pub mod RangeLemmas
 pub mod RequestLemmas
 pub mod SealLemmas
 pub mod StageLemmas

@@ -1,15 +1,18 @@
 -- On log batches in their buffers.
-use Rattle.std.proofs.Common.{◌≡◌, ◌≢◌, ℕ, ◌-◌, ◌≤◌, List, [], ◌∷◌, ◌++◌, length, take, drop, Option, Result, Ok, Err, OnOk, OnErr, refl, sym, ap, ◌∙◌, subst, arith}
+use Rattle.std.proofs.Common.{◌≡◌, ◌≢◌, ◌⊎◌, inl, inr, ℕ, ◌-◌, ◌≤◌, List, [], ◌∷◌, ◌++◌, length, take, drop, Option, Result, Ok, Err, OnOk, OnErr, refl, sym, ap, ◌∙◌, subst, arith}
 use Rattle.std.proofs.lemmas.List.{length-append, length-drop, take_at, drop_all, take_all, append-nil, nil_from_length}
 use Rattle.raft_base.specs.Checksum.{crc32_of}
+use Rattle.raft_records.specs.declared.log_batch.batch.BufState.{BufState}
+use Rattle.raft_records.specs.declared.log_batch.batch.BufState.TheVariants as states
+use Rattle.raft_records.specs.LogBatchModel.{stage_of}
 use Rattle.raft_records.specs.declared.log_batch.CompressionType.TheVariants as compressions
-use Rattle.raft_records.specs.declared.log_batch.command.Command.{Command}
-use Rattle.raft_records.specs.Item.{Item, command_item}
+use Rattle.raft_records.specs.Item.{Item}
+use Rattle.raft_records.specs.Grammar.{behind_item}
 use Rattle.raft_records.specs.ItemBatch.{checksum_bytes, batch_bytes, entry_bytes_of, IsEncoded, signed, no_checksum}
-use Rattle.raft_records.specs.LogBatch.{Stage, Batch, populating, encoded, sealed, header_bytes, entry_block, item_offset, unsealed_bytes, encoded_length, log_batch_bytes}
+use Rattle.raft_records.specs.LogBatch.{Stage, Batch, populating, encoded, sealed, header_bytes, entry_block, item_offset, unsealed_bytes, encoded_length, log_batch_bytes, approximate_length}
 use Rattle.raft_records.specs.Buffer.{entry_bytes_in, IsUnsealed, IsHeldAt, IsHeld}
 use Rattle.raft_records.proofs.SealLemmas.{four}
-use Rattle.raft_records.proofs.BufferLemmas.{header_len, open_entries, open_again, held_open, held_more, held_encoded, unsealed_entries, held_sealed, sealed_entries, command_same, length_is, encoded_unsealed}
+use Rattle.raft_records.proofs.BufferLemmas.{header_len, open_entries, open_again, held_open, held_more, held_encoded, unsealed_entries, unsealed_at, held_sealed, sealed_entries, item_same, length_is, encoded_unsealed}
 
 abbrev pub batch_with : List Item → List ℕ → Stage → Batch
 batch_with items entry_bytes stage = record { items = items; entry_bytes = entry_bytes; stage = stage }
@@ -41,16 +44,17 @@ unsealed_len (x ∷ xs) es buf some u =
     let header = header_bytes (item_offset es) compressions.None (encoded_length items es) in
     omega (arith, ap length u.split, length-append (unsealed_bytes (encoded_length items es) items es) u.seal, length-append header (entry_block es ++ batch_bytes items), length-append (entry_block es) (batch_bytes items), header_len (item_offset es) compressions.None (encoded_length items es), u.four)
 
-pub command_kept : {E : Type 0} (r : Result (Unit {0}) E) (items new : List Item) (region : ℕ) (c : Command) → OnOk r (new ≡ items ++ command_item region c ∷ []) → OnErr r (new ≡ items) → entry_bytes_of new ≡ entry_bytes_of items
-command_kept (Ok u) items new region c ok err = ap entry_bytes_of ok ∙ command_same items region c
-command_kept (Err e) items new region c ok err = ap entry_bytes_of err
+-- one more item, which has no entry bytes, or none where there was no memory
+pub item_kept : {E : Type 0} (r : Result (Unit {0}) E) (items new : List Item) (x : Item) → ((s : ℕ) → behind_item s x ≡ s) → OnOk r (new ≡ items ++ x ∷ []) → OnErr r (new ≡ items) → entry_bytes_of new ≡ entry_bytes_of items
+item_kept (Ok u) items new x same ok err = ap entry_bytes_of ok ∙ item_same items x same
+item_kept (Err e) items new x same ok err = ap entry_bytes_of err
 
-pub command_view : {E : Type 0} (r : Result (Unit {0}) E) (now : Batch) (stage : Stage) (items new : List Item) (buf : List ℕ) (region : ℕ) (c : Command) → batch_with items (entry_bytes_in items buf) stage ≡ now → OnOk r (new ≡ items ++ command_item region c ∷ []) → OnOk r (batch_with new (entry_bytes_in new buf) stage ≡ batch_with (now.items ++ command_item region c ∷ []) now.entry_bytes now.stage)
-command_view (Ok u) now stage items new buf region c view ok =
+pub item_view : {E : Type 0} (r : Result (Unit {0}) E) (now : Batch) (stage : Stage) (items new : List Item) (buf : List ℕ) (x : Item) → ((s : ℕ) → behind_item s x ≡ s) → batch_with items (entry_bytes_in items buf) stage ≡ now → OnOk r (new ≡ items ++ x ∷ []) → OnOk r (batch_with new (entry_bytes_in new buf) stage ≡ batch_with (now.items ++ x ∷ []) now.entry_bytes now.stage)
+item_view (Ok u) now stage items new buf x same view ok =
     ap (λ (xs : List Item). batch_with xs (entry_bytes_in xs buf) stage) ok
-    ∙ ap (λ (n : ℕ). batch_with (items ++ command_item region c ∷ []) (take n (drop 16 buf)) stage) (command_same items region c)
-    ∙ ap (λ (b : Batch). batch_with (b.items ++ command_item region c ∷ []) b.entry_bytes b.stage) view
-command_view (Err e) now stage items new buf region c view ok = tt
+    ∙ ap (λ (n : ℕ). batch_with (items ++ x ∷ []) (take n (drop 16 buf)) stage) (item_same items x same)
+    ∙ ap (λ (b : Batch). batch_with (b.items ++ x ∷ []) b.entry_bytes b.stage) view
+item_view (Err e) now stage items new buf x same view ok = tt
 
 -- the bytes that a slice of a vector holds after a write are the vector's
 pub written_back : (n : ℕ) (new old : List ℕ) → length old ≡ n → length new ≡ length old → take n (new ++ drop (length new) old) ≡ new
@@ -106,3 +110,29 @@ sealed_len signature (x ∷ xs) es buf new some u e =
     let front = unsealed_bytes (encoded_length items es) items es in
     let seal = checksum_bytes signature (batch_bytes items) in
     omega (arith, ap length e, length-append front seal, four (signed signature (crc32_of (batch_bytes items))), ap length u.split, length-append front u.seal, u.four)
+
+-- ---- approximate sizes
+
+approximated : (stage : Stage) (items : List Item) (es : List ℕ) → stage ≢ populating → approximate_length stage items es ≡ encoded_length items es
+approximated populating items es ne = absurd (ne refl)
+approximated encoded [] es ne = refl
+approximated encoded (x ∷ xs) es ne = refl
+approximated (sealed s) [] es ne = refl
+approximated (sealed s) (x ∷ xs) es ne = refl
+
+pub not_open : (state : BufState) → (state ≡ states.Encoded) ⊎ ((s : Option ℕ) × (state ≡ states.Sealed s)) → stage_of state ≢ populating
+not_open states.Open (inl e) p = absurd cc
+not_open states.Open (inr e) p = let is = e.1 in absurd cc
+not_open states.Encoded e p = absurd cc
+not_open (states.Sealed s) e p = absurd cc
+
+-- a batch with items, whose bytes are made, has as many bytes as its length says
+pub encoded_length_at : (now : Batch) (stage : Stage) (items : List Item) (es buf : List ℕ) → batch_with items es stage ≡ now → stage ≢ populating → items ≢ [] → IsHeld stage items es buf → length buf ≡ encoded_length now.items now.entry_bytes
+encoded_length_at now stage items es buf view ne some h =
+    unsealed_len items es buf some (unsealed_at stage items es buf ne some h.held) ∙ ap (λ (b : Batch). encoded_length b.items b.entry_bytes) view
+
+pub length_at : (now : Batch) (stage : Stage) (items : List Item) (es buf : List ℕ) → batch_with items es stage ≡ now → stage ≢ populating → items ≢ [] → IsHeld stage items es buf → length buf ≡ approximate_length now.stage now.items now.entry_bytes
+length_at now stage items es buf view ne some h =
+    unsealed_len items es buf some (unsealed_at stage items es buf ne some h.held)
+    ∙ sym (approximated stage items es ne)
+    ∙ ap (λ (b : Batch). approximate_length b.stage b.items b.entry_bytes) view

@@ -2,10 +2,11 @@
 use Rattle.std.specs.Prelude.{◌≡◌, ℕ, ◌<◌, List, [], ◌∷◌, ◌++◌, codes, Option, Some, None}
 use Rattle.std.specs.Fmt.{decimal}
 use Rattle.raft_base.specs.declared.errors.Error.{Error}
+use Rattle.raft_base.specs.declared.errors.Error.TheVariants as errors
 use Rattle.raft_records.specs.declared.log_batch.status.AtomicGroupStatus.{AtomicGroupStatus}
 use Rattle.raft_records.specs.declared.log_batch.status.AtomicGroupStatus.TheVariants.{Begin, Middle, End}
 use Rattle.raft_records.specs.declared.log_batch.key_value.OpType.TheVariants.{Put}
-use Rattle.raft_records.specs.Faults.{IsCorruption}
+use Rattle.raft_records.specs.Faults.{IsMemory, IsCorruption}
 use Rattle.raft_records.specs.Item.{Item, Content, entries, command, pair, Pair, pair_item}
 
 -- the key of every mark: two underscores and the byte 1
@@ -58,3 +59,13 @@ abbrev pub IsRunning : Option AtomicGroupStatus → Type 0
 IsRunning (Some Begin) = Unit {0}
 IsRunning (Some Middle) = Unit {0}
 IsRunning _ = ⊥
+
+-- no value is put under the key of the marks
+abbrev pub IsKeyRefusal : List ℕ → Error → Type 0
+IsKeyRefusal key (errors.InvalidArgument text) = key ≡ reserved_key
+IsKeyRefusal key e = IsMemory e
+
+-- nor a message, which may refuse to write itself
+abbrev pub IsMessageRefusal : List ℕ → Error → Type 0
+IsMessageRefusal key (errors.Message refusal) = Unit {0}
+IsMessageRefusal key e = IsKeyRefusal key e

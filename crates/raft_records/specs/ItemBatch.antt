@@ -1,8 +1,8 @@
 -- The bytes of a batch of items, and the lists of items that a batch can hold.
-use Rattle.std.specs.Prelude.{◌≡◌, ◌≢◌, ℕ, ◌+◌, ◌-◌, ◌^◌, ◌<◌, ◌≤◌, min, ◌⊎◌, List, [], ◌∷◌, ◌++◌, length, map, take, drop, bit_xor, codes, Option, Some, None}
+use Rattle.std.specs.Prelude.{◌≡◌, ◌≢◌, ℕ, ◌+◌, ◌^◌, ◌<◌, ◌≤◌, ◌⊎◌, List, [], ◌∷◌, ◌++◌, length, map, bit_xor, codes, Option, Some, None}
 use Rattle.std.specs.Fmt.{decimal}
 use Rattle.std.specs.List.{flat_map}
-use Rattle.byteorder.specs.Endian.{little_bytes, little_number}
+use Rattle.byteorder.specs.Endian.{little_bytes}
 use Rattle.raft_base.specs.declared.errors.Error.{Error}
 use Rattle.raft_base.specs.declared.pipe_log.FileBlockHandle.{FileBlockHandle}
 use Rattle.raft_base.specs.Reading.{IsPair, IsSequence, IsFaultBehind, IsSequenceFault}
@@ -10,10 +10,11 @@ use Rattle.raft_base.specs.Checksum.{crc32_of}
 use Rattle.raft_base.specs.Varint.{IsVarint, varint}
 use Rattle.raft_records.specs.declared.log_batch.CompressionType.{CompressionType}
 use Rattle.raft_records.specs.declared.log_batch.entry_index.EntryIndex.{EntryIndex}
-use Rattle.raft_records.specs.Item.{Item, Content, entries, command, pair, Pair, bare}
+use Rattle.raft_records.specs.Item.{Item, Content, entries, command, pair}
 use Rattle.raft_records.specs.Entries.{IsConsecutive, Tile}
 use Rattle.raft_records.specs.Grammar.{IsItem, behind_item}
 use Rattle.raft_records.specs.Spelling.{item_bytes, IsWritablePair}
+use Rattle.raft_records.specs.Range.{AreInRange}
 use Rattle.raft_records.specs.Sizes.{items_size, saturated}
 use Rattle.raft_records.specs.Faults.{IsMemory, IsCorruption, IsNumberFault, IsItemFault}
 
@@ -183,9 +184,10 @@ IsItemBatchFault signature bytes e =
     IsSealFault signature bytes e
     ⊎ ((content : List ℕ) × IsSealed signature bytes content × (IsNumberFault content e ⊎ IsFaultBehind IsVarint AreItemsFault content e))
 
--- the items fit together, and what is kept beside them is theirs
+-- the items fit together, their numbers are in range, and what is kept beside them is theirs
 pub record IsKeptBeside (items : List Item) (item_bytes entries_size : ℕ) (crc : Option ℕ) : Type 0 where
   pub fit : FitTogether 0 items
+  pub in_range : AreInRange items
   pub size : item_bytes ≡ saturated (items_size items)
   pub entry_bytes : entries_size ≡ entry_bytes_of items
   pub checksum : (c : ℕ) → crc ≡ Some c → c ≡ crc32_of (batch_bytes items)

@@ -10,7 +10,10 @@ pub mod ItemBatch
 pub mod Lines
 pub mod LogBatch
 pub mod LogBatchModel
+pub mod Parts
+pub mod Range
 pub mod Requests
+pub mod Same
 pub mod Sizes
 pub mod Spelling
 pub mod Written

@@ -4,6 +4,7 @@ use Rattle.byteorder.specs.Endian.{big_bytes}
 use Rattle.raft_records.specs.declared.log_batch.CompressionType.{CompressionType}
 use Rattle.raft_records.specs.declared.log_batch.CompressionType.TheVariants as compressions
 use Rattle.raft_records.specs.Item.{Item}
+use Rattle.raft_records.specs.Sizes.{batch_size, saturated}
 use Rattle.raft_records.specs.ItemBatch.{checksum_bytes, batch_bytes, entry_bytes_of, FitTogether, IsItemBatch}
 
 -- how far a batch has come: items may still be added; its bytes stand; they are signed, or have no signature
@@ -60,27 +61,32 @@ abbrev pub encoded_length : List Item → List ℕ → ℕ
 encoded_length [] entry_bytes = 0
 encoded_length (item ∷ items) entry_bytes = item_offset entry_bytes + length (batch_bytes (item ∷ items)) + 4
 
+-- the approximate length: none without items; of an open batch header, entry bytes, their checksum and items as if each number took eight bytes; else the length itself
+abbrev pub approximate_length : Stage → List Item → List ℕ → ℕ
+approximate_length stage [] entry_bytes = 0
+approximate_length populating (item ∷ items) entry_bytes = saturated (16 + length entry_bytes + 4 + batch_size (item ∷ items))
+approximate_length encoded (item ∷ items) entry_bytes = encoded_length (item ∷ items) entry_bytes
+approximate_length (sealed signature) (item ∷ items) entry_bytes = encoded_length (item ∷ items) entry_bytes
+
 -- the bytes of a batch in shortest numbers, with the signed checksum of its items
 abbrev pub log_batch_bytes : Option ℕ → List Item → List ℕ → List ℕ
 log_batch_bytes signature [] entry_bytes = []
 log_batch_bytes signature (item ∷ items) entry_bytes =
     unsealed_bytes (encoded_length (item ∷ items) entry_bytes) (item ∷ items) entry_bytes ++ checksum_bytes signature (batch_bytes (item ∷ items))
 
--- a log batch: header, entry block and item batch one behind the other, the lengths as the header says
-pub record IsLogBatch (bytes : List ℕ) (signature : Option ℕ) (items : List Item) (entry_bytes : List ℕ) : Type 0 where
-  pub footer : List ℕ
-  pub rest : List ℕ
-  pub compression : CompressionType
-  pub item_batch : IsItemBatch footer signature items rest
-  pub fits : length bytes < 2 ^ 56
-  pub split : bytes ≡ header_bytes (item_offset entry_bytes) compression (length bytes) ++ (entry_block entry_bytes ++ footer)
-
--- a readable batch: header and item batch lie as those of a log batch, whatever the bytes between them are
-pub record IsReadable (bytes : List ℕ) (signature : Option ℕ) (items : List Item) : Type 0 where
-  pub between : List ℕ
+-- a header, these bytes and an item batch, one behind the other; the header says how many bytes there are and where the item batch begins
+pub record IsLaidOut (bytes : List ℕ) (signature : Option ℕ) (items : List Item) (between : List ℕ) : Type 0 where
   pub footer : List ℕ
   pub rest : List ℕ
   pub compression : CompressionType
   pub item_batch : IsItemBatch footer signature items rest
   pub fits : length bytes < 2 ^ 56
   pub split : bytes ≡ header_bytes (16 + length between) compression (length bytes) ++ (between ++ footer)
+
+-- a log batch: between header and item batch stands the block of its entry bytes
+abbrev pub IsLogBatch : List ℕ → Option ℕ → List Item → List ℕ → Type 0
+IsLogBatch bytes signature items entry_bytes = IsLaidOut bytes signature items (entry_block entry_bytes)
+
+-- a readable batch: header and item batch lie as those of a log batch, whatever the bytes between them are
+abbrev pub IsReadable : List ℕ → Option ℕ → List Item → Type 0
+IsReadable bytes signature items = (between : List ℕ) × IsLaidOut bytes signature items between

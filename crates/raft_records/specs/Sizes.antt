@@ -1,5 +1,5 @@
 -- Approximate sizes of items, in bytes: eight for each number, one for each type.
-use Rattle.std.specs.Prelude.{ℕ, ◌+◌, ◌-◌, ◌*◌, ◌^◌, min, List, [], ◌∷◌, length, Option, Some, None}
+use Rattle.std.specs.Prelude.{ℕ, ◌+◌, ◌-◌, ◌*◌, ◌^◌, ◌<◌, min, List, [], ◌∷◌, length, Option, Some, None}
 use Rattle.raft_records.specs.declared.log_batch.command.Command.{Command}
 use Rattle.raft_records.specs.declared.log_batch.command.Command.TheVariants.{Clean, Compact}
 use Rattle.raft_records.specs.declared.log_batch.entry_index.EntryIndex.{EntryIndex}
@@ -44,3 +44,24 @@ saturated n = min n (2 ^ 64 - 1)
 -- the count, the items and the checksum
 abbrev pub batch_size : List Item → ℕ
 batch_size items = 8 + items_size items + 4
+
+-- ---- numbers that eight bytes are enough for
+
+-- the indexes are below 2^56
+abbrev pub AreSmallIndexes : List EntryIndex → Type 0
+AreSmallIndexes [] = Unit {0}
+AreSmallIndexes (e ∷ es) = (e.index < 2 ^ 56) × AreSmallIndexes es
+
+abbrev pub HasSmallIndex : Command → Type 0
+HasSmallIndex Clean = Unit {0}
+HasSmallIndex (Compact index) = index < 2 ^ 56
+
+abbrev pub HasSmallIndexes : Content → Type 0
+HasSmallIndexes (entries es) = AreSmallIndexes es
+HasSmallIndexes (command c) = HasSmallIndex c
+HasSmallIndexes (pair p) = Unit {0}
+
+-- the region ids and the indexes are below 2^56
+abbrev pub AreSmall : List Item → Type 0
+AreSmall [] = Unit {0}
+AreSmall (item ∷ items) = (item.raft_group_id < 2 ^ 56) × HasSmallIndexes item.content × AreSmall items

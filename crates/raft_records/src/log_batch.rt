@@ -7,6 +7,7 @@ mod compression;
 pub mod entry_index;
 mod header;
 pub mod key_value;
+pub mod laws;
 pub mod log_item;
 pub mod log_item_batch;
 pub mod status;

@@ -3,16 +3,29 @@
 ghost use Rattle.std.specs.Prelude.{◌≡◌, ◌≢◌, ℕ, ◌+◌, ◌-◌, ◌^◌, ◌<◌, ◌≤◌, ◌↔◌, List, [], ◌∷◌, ◌++◌, map, length, take, drop, IfOk, IfErr, OnOk, OnErr, IsTrue, Option};
 ghost use Rattle.raft_base.specs.Reading.{Reads, HasNoFront};
 ghost use Rattle.raft_base.specs.Signature.{signature_of};
-ghost use Rattle.raft_records.specs.Item.{Item, command_item};
-ghost use Rattle.raft_records.specs.LogBatch.{Stage, populating, encoded, sealed, IsSealedStage, empty_batch, encoded_length, log_batch_bytes};
+ghost use Rattle.std.specs.Vec.Iter.{into_iter_items};
+ghost use Rattle.raft_records.specs.Item.{Item, bare, command_item, item_of};
+ghost use Rattle.raft_records.specs.LogBatch.{Stage, populating, encoded, sealed, IsSealedStage, empty_batch, IsBatchOf, encoded_length, log_batch_bytes, IsLogBatch, approximate_length};
+ghost use Rattle.raft_records.specs.Sizes.{AreSmall};
+ghost use Rattle.raft_records.specs.Range.{AreInRange};
 ghost use Rattle.raft_records.specs.Header.{IsHeader, IsHeaderFault, IsBlockOf, IsBlockFault};
 
-use crate::log_batch::header::{block_front, encode_behind, header_front, reserve_header, seal};
-use crate::log_batch::{Command, CompressionType, LogItemBatch};
+use crate::log_batch::checksum::CHECKSUM_LEN;
+use crate::log_batch::header::{
+    HEADER_LEN, block_front, encode_behind, header_front, reserve_header, seal,
+};
+use crate::log_batch::laws::log_batches_are_read_again;
+use crate::log_batch::{Command, CompressionType, LogItem, LogItemBatch};
 use raft_base::codec::BytesSlice;
 use raft_base::{Error, FileBlockHandle, LogFileContext, Result};
 use std::alloc::Global;
 use std::marker::Model;
+use std::vec;
+
+mod key_values;
+
+/// The room in bytes that an emptied batch keeps at most for the bytes of later items.
+const MOST_ROOM_KEPT: usize = 8 * 1024 * 1024;
 
 /// What the buffer of a batch holds.
 #[derive(Clone, Copy, PartialEq, Eq, Debug)]
@@ -91,6 +104,39 @@ impl LogBatch {
         matches!(self.state, BufState::Sealed(_))
     }
 
+    /// The approximate length of the batch's bytes, held at `usize::MAX`: 0 without items, and their
+    /// length itself once they are made. It is at least their length where all region ids and indexes
+    /// are below 2^56, unless the batch is too long to be encoded.
+    pub fn approximate_size(&self) -> usize
+        ensures size { result ≡ approximate_length self.now.stage self.now.items self.now.entry_bytes }
+        ensures covers { AreSmall self.now.items →
+            encoded_length self.now.items self.now.entry_bytes < 2 ^ 56 →
+            encoded_length self.now.items self.now.entry_bytes ≤ result }
+    {
+        if self.is_empty() {
+            return 0;
+        }
+        match self.state {
+            BufState::Open => {
+                let entry_bytes = self.item_batch.entries_size() as usize;
+                let items = self.item_batch.approximate_size();
+                items.saturating_add(HEADER_LEN + entry_bytes + CHECKSUM_LEN)
+            }
+            BufState::Encoded | BufState::Sealed(_) => self.buf.len(),
+        }
+    }
+
+    /// Hands out the items in order, and leaves the batch open and empty.
+    pub fn drain(&mut self) -> vec::IntoIter<LogItem>
+        ensures items { map item_of (into_iter_items result) ≡ self.old.items }
+        ensures emptied { self.new ≡ empty_batch }
+    {
+        self.buf.clear();
+        self.buf.shrink_to(MOST_ROOM_KEPT);
+        self.state = BufState::Open;
+        self.item_batch.drain()
+    }
+
     /// Adds a command on a region's log to an open batch. On `Err` the batch is as it was.
     pub fn add_command(&mut self, region_id: u64, command: Command) -> Result<()>
         requires { self.old.stage ≡ populating }
@@ -141,10 +187,29 @@ impl LogBatch {
     /// The bytes of a sealed batch: none without items.
     pub fn encoded_bytes(&self) -> &[u8]
         requires { IsSealedStage self.now.stage }
-        ensures { (signature : Option ℕ) → self.now.stage ≡ sealed signature →
+        ensures bytes { (signature : Option ℕ) → self.now.stage ≡ sealed signature →
             result.now ≡ log_batch_bytes signature self.now.items self.now.entry_bytes }
+        ensures read_again { (signature : Option ℕ) → self.now.stage ≡ sealed signature →
+            self.now.items ≢ [] → encoded_length self.now.items self.now.entry_bytes < 2 ^ 56 →
+            IsLogBatch result.now signature (map bare self.now.items) self.now.entry_bytes }
     {
+        self.is_read_again();
         self.buf.as_slice()
+    }
+
+    /// What is written and signed of a batch is read again: the entries of its items tile its entry
+    /// bytes, its items' numbers are in the ranges of their types, and its bytes, where it has items,
+    /// are a log batch of these items and entry bytes. This is a law: it computes nothing.
+    pub fn is_read_again(&self)
+        ensures tiled { IsBatchOf self.now.items self.now.entry_bytes }
+        ensures in_range { AreInRange self.now.items }
+        ensures spelled { (signature : Option ℕ) → self.now.items ≢ [] →
+            encoded_length self.now.items self.now.entry_bytes < 2 ^ 56 →
+            IsLogBatch (log_batch_bytes signature self.now.items self.now.entry_bytes) signature
+                (map bare self.now.items) self.now.entry_bytes }
+    {
+        self.item_batch.is_read_again();
+        log_batches_are_read_again();
     }
 
     /// Reads the header of a log batch from the front: where its item batch begins, how its entry

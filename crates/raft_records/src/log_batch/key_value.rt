@@ -1,10 +1,11 @@
 //! Key values of a region.
 
-ghost use Rattle.std.specs.Prelude.{◌≡◌, ◌≢◌, ◌↔◌, ◌++◌, None, IsTrue, IfOk, IfErr, OnOk, OnErr};
+ghost use Rattle.std.specs.Prelude.{◌≡◌, ◌≢◌, ◌↔◌, ◌<◌, ◌^◌, ◌++◌, length, None, IsTrue, IfOk, IfErr, OnOk, OnErr};
 ghost use Rattle.raft_base.specs.Reading.{Reads, HasNoFront};
 ghost use Rattle.raft_records.specs.Grammar.{IsByteString, IsKeyAndValue, IsKeyValue, IsPutRead, IsDelRead};
 ghost use Rattle.raft_records.specs.Item.{pair_of};
 ghost use Rattle.raft_records.specs.Faults.{IsByteStringFault, IsPutFault, IsDelFault, IsKeyValueFault, IsOpTypeFault, IsPairRefusal};
+ghost use Rattle.raft_records.specs.Range.{HasLength};
 ghost use Rattle.raft_records.specs.Sizes.{pair_size, saturated};
 ghost use Rattle.raft_records.specs.Spelling.{Keeps, byte_string, pair_bytes, IsWritablePair};
 
@@ -81,6 +82,17 @@ impl KeyValue {
             .len()
             .saturating_add(value)
             .saturating_add(1 + 8 + 8)
+    }
+
+    /// Key and value have lengths. This is a law: it computes nothing.
+    pub(crate) fn lengths_fit(&self)
+        ensures key { length self.now.key.items < 2 ^ 64 }
+        ensures value { HasLength (pair_of self.now).value }
+    {
+        let _key = self.key.len();
+        if let Some(value) = &self.value {
+            let _value = value.len();
+        }
     }
 
     /// Whether the change can be written: a `Put` has a value.

@@ -7,6 +7,7 @@ ghost use Rattle.raft_records.specs.Grammar.{IsItem, IsContent, behind_item, ent
 ghost use Rattle.raft_records.specs.Item.{item_of, content_of, entries_item, command_item, pair_item};
 ghost use Rattle.raft_records.specs.Faults.{IsItemFault, IsContentFault, IsItemRefusal};
 ghost use Rattle.raft_records.specs.ItemBatch.{placed, raised, CanRaiseContent};
+ghost use Rattle.raft_records.specs.Range.{IsInRange};
 ghost use Rattle.raft_records.specs.Sizes.{item_size, saturated};
 ghost use Rattle.raft_records.specs.Spelling.{Keeps, item_bytes, content_bytes, IsWritable};
 
@@ -109,6 +110,23 @@ impl LogItem {
         match &mut self.content {
             LogItemContent::EntryIndexes(entries) => entries.raise(by),
             LogItemContent::Command(_) | LogItemContent::Kv(_) => {}
+        }
+    }
+
+    /// The item's numbers are in the ranges of their types. This is a law: it computes nothing.
+    pub(crate) fn numbers_fit(&self)
+        ensures { IsInRange (item_of self.now) }
+    {
+        let _region = self.raft_group_id;
+        match &self.content {
+            LogItemContent::EntryIndexes(entries) => {
+                let _count = entries.0.len();
+            }
+            LogItemContent::Command(Command::Clean) => {}
+            LogItemContent::Command(Command::Compact { index }) => {
+                let _index = *index;
+            }
+            LogItemContent::Kv(kv) => kv.lengths_fit(),
         }
     }
 

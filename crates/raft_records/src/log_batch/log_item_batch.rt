@@ -1,18 +1,19 @@
 //! Batches of log items, without entry bytes.
 
-ghost use Rattle.std.specs.Prelude.{◌≡◌, ◌≢◌, ℕ, ◌+◌, ◌%◌, ◌^◌, ◌<◌, Option, List, [], ◌∷◌, ◌++◌, map, Some, None, IfOk, IfErr, OnOk, OnErr};
+ghost use Rattle.std.specs.Prelude.{◌≡◌, ◌≢◌, ℕ, ◌+◌, ◌%◌, ◌^◌, ◌<◌, ◌≤◌, length, Option, List, [], ◌∷◌, ◌++◌, map, Some, None, IfOk, IfErr, OnOk, OnErr};
 ghost use Rattle.std.specs.Vec.Iter.{into_iter_items};
 ghost use Rattle.std.specs.Slice.Iter.{iter_rest};
 ghost use Rattle.raft_base.specs.declared.pipe_log.Version.TheVariants.{V2};
 ghost use Rattle.raft_base.specs.Reading.{Reads, HasNoFront, HasOneFront};
 ghost use Rattle.raft_base.specs.Signature.{signature_of, signature_in};
 ghost use Rattle.raft_records.specs.Grammar.{IsItem, behind_item};
-ghost use Rattle.raft_records.specs.Item.{Item, content_of, item_of, entries_item, command_item, pair_item};
+ghost use Rattle.raft_records.specs.Item.{Item, bare, content_of, item_of, entries_item, command_item, pair_item};
 ghost use Rattle.raft_records.specs.Entries.{IsConsecutive};
 ghost use Rattle.raft_records.specs.ItemBatch.{AreItems, IsItemBatch, IsDecoded, AreItemsFault, IsItemBatchFault, checksum_bytes, batch_bytes, placed, raised, laid, entry_lengths, entry_bytes_of, end_of_items, FitsBehind, IsEncoded, no_checksum, FitTogether, first_entry};
 ghost use Rattle.raft_records.specs.Faults.{IsMemoryOrMessage};
 ghost use Rattle.raft_records.specs.Spelling.{Keeps};
-ghost use Rattle.raft_records.specs.Sizes.{items_size, batch_size, saturated};
+ghost use Rattle.raft_records.specs.Sizes.{items_size, batch_size, saturated, AreSmall};
+ghost use Rattle.raft_records.specs.Range.{AreInRange};
 ghost use Rattle.raft_records.specs.Written.{ItemIsSpelled, BatchIsSpelled};
 ghost use Rattle.raft_records.specs.declared.log_batch.key_value.OpType.TheVariants.{Put, Del};
 
@@ -104,9 +105,11 @@ impl LogItemBatch {
     }
 
     /// The approximate length of the batch's bytes, held at `usize::MAX`. It is at least their length
-    /// where all region ids and indexes are below 2^56.
+    /// where all region ids and indexes are below 2^56, of bytes that a log batch can hold.
     pub fn approximate_size(&self) -> usize
-        ensures { result ≡ saturated (batch_size self.now) }
+        ensures size { result ≡ saturated (batch_size self.now) }
+        ensures covers { AreSmall self.now → length (batch_bytes self.now) < 2 ^ 56 →
+            length (batch_bytes self.now) + 4 ≤ result }
     {
         self.item_size.saturating_add(8 + CHECKSUM_LEN)
     }
@@ -299,16 +302,20 @@ impl LogItemBatch {
         let content = verify_checksum(alloc, *buf, context.get_signature())?;
         let mut behind = content;
         let count = codec::decode_var_u64(&mut behind)?;
-        let (mut items, entries_size, rest) = items_front(alloc, behind, count)?;
-        place_items(&mut items, entries, compression_type);
-        let item_size = approximate_size_of(items.as_slice());
+        let (batch, rest) = items_front(alloc, behind, count, entries, compression_type)?;
         *buf = rest;
-        Ok(LogItemBatch {
-            items,
-            item_size,
-            entries_size,
-            checksum: None,
-        })
+        Ok(batch)
+    }
+
+    /// What is written and signed of a batch is read again: its items fit together and their numbers
+    /// are in the ranges of their types. This is a law: it computes nothing.
+    pub fn is_read_again(&self)
+        ensures fit { FitTogether 0 self.now }
+        ensures in_range { AreInRange self.now }
+        ensures spelled { (signature : Option ℕ) →
+            IsItemBatch (batch_bytes self.now ++ checksum_bytes signature (batch_bytes self.now)) signature (map bare self.now) [] }
+    {
+        let _count = self.items.len();
     }
 
     /// Adds an item whose entries' bytes, if any, begin where those of the batch end, and end at
@@ -320,6 +327,7 @@ impl LogItemBatch {
         ensures err { OnErr result (self.new ≡ self.old) }
         ensures memory { IfErr result (λ e. e ≡ Error.Memory) }
     {
+        item.numbers_fit();
         let size = item.approximate_size();
         self.items.push(item)?;
         self.item_size = self.item_size.saturating_add(size);
@@ -367,26 +375,31 @@ fn write_items(buf: &mut Vec<u8>, items: &[LogItem]) -> std::result::Result<(), 
     Ok(())
 }
 
-/// The `count` items in front of `bytes`, the end of their entries' bytes, and what is behind them.
-fn items_front(alloc: Global, bytes: &[u8], count: u64) -> Result<(Vec<LogItem>, u32, &[u8])>
-    ensures ok { IfOk result (λ read.
-        Reads (AreItems count) bytes.now read.2.now (map item_of read.0.items)) }
-    ensures size { IfOk result (λ read. read.1 ≡ entry_bytes_of (map item_of read.0.items)) }
+/// The `count` items in front of `bytes`, each in its place, and what is behind them.
+fn items_front(
+    alloc: Global,
+    bytes: &[u8],
+    count: u64,
+    block: FileBlockHandle,
+    compression_type: CompressionType,
+) -> Result<(LogItemBatch, &[u8])>
+    ensures ok { IfOk result (λ read. (items : List Item) ×
+        Reads (AreItems count) bytes.now read.1.now items × (read.0 ≡ map (placed block compression_type) items)) }
     ensures refused { IfErr result (λ e. e ≢ Error.Memory → HasNoFront (AreItems count) bytes.now) }
     ensures fault { IfErr result (AreItemsFault count bytes.now) }
 {
     // Each item takes a byte at least; a long list grows as its items are read.
     let room = count.min(bytes.len() as u64).min(MOST_ITEMS_AT_ONCE);
-    let mut items = Vec::with_capacity(alloc, room as usize)?;
+    let mut batch = LogItemBatch::with_capacity(alloc, room as usize)?;
     let mut rest = bytes;
-    let mut entries_size = 0;
     for _ in 0..count {
-        let (item, end, behind) = LogItem::front(alloc, rest, entries_size)?;
-        items.push(item)?;
-        entries_size = end;
+        let start = batch.entries_size();
+        let (mut item, end, behind) = LogItem::front(alloc, rest, start)?;
+        item.place(block, compression_type);
+        batch.add(item, end)?;
         rest = behind;
     }
-    Ok((items, entries_size, rest))
+    Ok((batch, rest))
 }
 
 /// Gives each item its place.
@@ -397,17 +410,6 @@ fn place_items(items: &mut Vec<LogItem>, block: FileBlockHandle, compression_typ
     for item in items.iter_mut() {
         item.place(block, compression_type);
     }
-}
-
-/// The approximate size of the items together, held at `usize::MAX`.
-fn approximate_size_of(items: &[LogItem]) -> usize
-    ensures { result ≡ saturated (items_size (map item_of items.now)) }
-{
-    let mut size = 0usize;
-    for item in items {
-        size = size.saturating_add(item.approximate_size());
-    }
-    size
 }
 
 /// Lays the bytes of entries one behind the other from `start` on, and answers where they end.

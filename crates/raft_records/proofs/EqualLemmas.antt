@@ -1,0 +1,104 @@
+-- On equality of items: `==` of what is in memory decides equality of what it is seen as.
+use Rattle.std.proofs.Common.{◌≡◌, ℕ, Bool, true, false, ◌&&◌, List, [], ◌∷◌, map, Option, refl, sym, ap, ◌∙◌, rules}
+use Rattle.std.specs.Bool.{Decides, one_answer}
+use Rattle.std.specs.Cmp.{IsEquivalence, decided, unsigned_Decides, first_so, second_so}
+use Rattle.std.specs.Cmp.Lexicographic.{pointwise, pointwise_decides}
+use Rattle.std.proofs.lemmas.Grind.{common_steps}
+use Rattle.raft_records.specs.contracts.log_batch.command.CommandPartialEq.TheImpl.{eq-value as command_eq}
+use Rattle.raft_records.specs.contracts.log_batch.entry_index.EntryIndexPartialEq.TheImpl.{eq-value as entry_eq}
+use Rattle.raft_records.specs.contracts.log_batch.key_value.KeyValuePartialEq.TheImpl.{eq-value as pair_eq}
+use Rattle.raft_records.specs.contracts.log_batch.log_item.LogItemContentPartialEq.TheImpl.{eq-value as content_eq}
+use Rattle.raft_records.specs.contracts.log_batch.log_item.LogItemPartialEq.TheImpl.{eq-value as item_eq}
+use Rattle.raft_records.specs.declared.log_batch.command.Command.{Command}
+use Rattle.raft_records.specs.declared.log_batch.entry_index.EntryIndex.{EntryIndex}
+use Rattle.raft_records.specs.declared.log_batch.key_value.KeyValue.{KeyValue}
+use Rattle.raft_records.specs.declared.log_batch.log_item.LogItem.{LogItem}
+use Rattle.raft_records.specs.declared.log_batch.log_item.LogItemContent.{LogItemContent}
+use Rattle.raft_records.specs.declared.log_batch.log_item.LogItemContent.TheVariants.{EntryIndexes, Command as Commands, Kv}
+use Rattle.raft_records.specs.Same.{same_pair, same_content, same_item, same_items}
+use Rattle.raft_records.specs.Item.{Item, Content, entries, command, pair, Pair, pair_of, content_of, item_of}
+
+both : {a b : Bool} → a ≡ true → b ≡ true → (a && b) ≡ true
+both {a} {b} p q = (λ i. p i && q i)
+
+entry_decides : (a b : EntryIndex) → Decides (entry_eq.it a b) (a ≡ b)
+entry_decides a b = search rules
+
+command_decides : (a b : Command) → Decides (command_eq.it a b) (a ≡ b)
+command_decides a b = search rules
+
+pair_decides : (a b : KeyValue) → Decides (pair_eq.it a b) (pair_of a ≡ pair_of b)
+pair_decides a b = search rules
+
+content_decides : (a b : LogItemContent) → Decides (content_eq.it a b) (content_of a ≡ content_of b)
+content_decides (EntryIndexes x) (EntryIndexes y) =
+    let d = pointwise_decides entry_decides x.0.items y.0.items in
+    (λ e. ap entries (d.0 e), λ e. d.1 cc)
+content_decides (Commands c) (Commands d) =
+    let k = command_decides c d in
+    (λ e. ap command (k.0 e), λ e. k.1 cc)
+content_decides (Kv p) (Kv q) =
+    let d = pair_decides p q in
+    (λ e. ap pair (d.0 e), λ e. d.1 cc)
+content_decides (EntryIndexes x) (Commands d) = (λ e. absurd cc, λ e. absurd cc)
+content_decides (EntryIndexes x) (Kv q) = (λ e. absurd cc, λ e. absurd cc)
+content_decides (Commands c) (EntryIndexes y) = (λ e. absurd cc, λ e. absurd cc)
+content_decides (Commands c) (Kv q) = (λ e. absurd cc, λ e. absurd cc)
+content_decides (Kv p) (EntryIndexes y) = (λ e. absurd cc, λ e. absurd cc)
+content_decides (Kv p) (Commands d) = (λ e. absurd cc, λ e. absurd cc)
+
+abbrev item_with : ℕ → Content → Item
+item_with region content = record { raft_group_id = region; content = content }
+
+item_decides : (a b : LogItem) → Decides (item_eq.it a b) (item_of a ≡ item_of b)
+item_decides a b =
+    let d = content_decides a.content b.content in
+    let n = unsigned_Decides a.raft_group_id b.raft_group_id in
+    (λ e. ap (λ (m : ℕ). item_with m (content_of a.content)) (n.0 (first_so _ _ e)) ∙ ap (item_with b.raft_group_id) (d.0 (second_so _ _ e)), λ e. both (n.1 (ap (λ (x : Item). x.raft_group_id) e)) (d.1 (ap (λ (x : Item). x.content) e)))
+
+-- ---- the tests of what is seen
+
+same_pair_decides : (p q : Pair) → Decides (same_pair p q) (p ≡ q)
+same_pair_decides p q = search rules
+
+same_content_decides : (a b : Content) → Decides (same_content a b) (a ≡ b)
+same_content_decides (entries x) (entries y) =
+    let d = pointwise_decides entry_decides x y in
+    (λ e. ap entries (d.0 e), λ e. d.1 cc)
+same_content_decides (command c) (command d) =
+    let k = command_decides c d in
+    (λ e. ap command (k.0 e), λ e. k.1 cc)
+same_content_decides (pair p) (pair q) =
+    let d = same_pair_decides p q in
+    (λ e. ap pair (d.0 e), λ e. d.1 cc)
+same_content_decides (entries x) (command d) = (λ e. absurd cc, λ e. absurd cc)
+same_content_decides (entries x) (pair q) = (λ e. absurd cc, λ e. absurd cc)
+same_content_decides (command c) (entries y) = (λ e. absurd cc, λ e. absurd cc)
+same_content_decides (command c) (pair q) = (λ e. absurd cc, λ e. absurd cc)
+same_content_decides (pair p) (entries y) = (λ e. absurd cc, λ e. absurd cc)
+same_content_decides (pair p) (command d) = (λ e. absurd cc, λ e. absurd cc)
+
+same_item_decides : (x y : Item) → Decides (same_item x y) (x ≡ y)
+same_item_decides x y =
+    let d = same_content_decides x.content y.content in
+    let n = unsigned_Decides x.raft_group_id y.raft_group_id in
+    (λ e. ap (λ (m : ℕ). item_with m x.content) (n.0 (first_so _ _ e)) ∙ ap (item_with y.raft_group_id) (d.0 (second_so _ _ e)), λ e. both (n.1 (ap (λ (z : Item). z.raft_group_id) e)) (d.1 (ap (λ (z : Item). z.content) e)))
+
+pub same_items_decides : (xs ys : List Item) → Decides (same_items xs ys) (xs ≡ ys)
+same_items_decides = pointwise_decides same_item_decides
+
+-- ---- lists of items
+
+items_alike : (xs ys : List LogItem) → pointwise item_eq.it xs ys ≡ same_items (map item_of xs) (map item_of ys)
+items_alike [] [] = refl
+items_alike [] (y ∷ ys) = refl
+items_alike (x ∷ xs) [] = refl
+items_alike (x ∷ xs) (y ∷ ys) =
+    let first : item_eq.it x y ≡ same_item (item_of x) (item_of y) = one_answer (item_eq.it x y) (same_item (item_of x) (item_of y)) (item_decides x y) (same_item_decides (item_of x) (item_of y)) in
+    λ i. first i && items_alike xs ys i
+
+pub items_tested : (xs ys : List LogItem) (result : Bool) → result ≡ pointwise item_eq.it xs ys → result ≡ same_items (map item_of xs) (map item_of ys)
+items_tested xs ys result e = e ∙ items_alike xs ys
+
+pub items_same : IsEquivalence same_items
+items_same = decided same_items same_items_decides

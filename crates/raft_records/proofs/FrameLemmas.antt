@@ -1,0 +1,213 @@
+-- On log batches as they are read, part by part.
+use Rattle.std.proofs.Common.{◌≡◌, ◌≢◌, ℕ, zero, suc, ◌+◌, ◌-◌, ◌*◌, ◌^◌, ◌<◌, ◌≤◌, List, [], ◌∷◌, ◌++◌, map, length, take, drop, Option, None, ◌↔◌, ◌⊎◌, Some, inl, inr, refl, sym, ap, ◌∙◌, subst, append_assoc, arith}
+use Rattle.std.specs.List.{flat_map}
+use Rattle.std.proofs.lemmas.List.{length-append, length-drop, length-take-le, append_cancel_left, append-nil, take_at, drop_at, drop-drop, take-append-drop, nil_from_length}
+use Rattle.byteorder.specs.Endian.{big_bytes}
+use Rattle.raft_base.specs.Reading.{Reads, HasOneFront}
+use Rattle.raft_base.specs.Fixed.{IsBig}
+use Rattle.raft_base.specs.Checksum.{crc32_of}
+use Rattle.raft_base.specs.Varint.{varint}
+use Rattle.raft_base.proofs.FixedLemmas.{IsReadAgain-big_bytes}
+use Rattle.raft_base.proofs.VarintLemmas.{varint_some}
+use Rattle.raft_records.specs.declared.log_batch.CompressionType.{CompressionType}
+use Rattle.raft_records.specs.declared.log_batch.CompressionType.TheVariants as compressions
+use Rattle.raft_records.specs.Item.{Item, Content, entries, command, pair, bare}
+use Rattle.raft_records.specs.Range.{AreInRange}
+use Rattle.raft_records.specs.Spelling.{content_bytes, item_bytes}
+use Rattle.raft_records.specs.ItemBatch.{signed, checksum_bytes, batch_bytes, IsItemBatch, IsSealed}
+use Rattle.raft_records.specs.LogBatch.{IsBatchOf, compression_byte, header_bytes, entry_block, item_offset, unsealed_bytes, encoded_length, log_batch_bytes, IsLaidOut, IsLogBatch, IsReadable}
+use Rattle.raft_records.specs.Header.{IsHeader, IsBlockOf}
+use Rattle.raft_records.specs.Parts.{IsFramed, HasParts}
+use Rattle.raft_records.proofs.BufferLemmas.{header_len, block_len}
+use Rattle.raft_records.proofs.HeaderLemmas.{byte_of_type}
+use Rattle.raft_records.proofs.ItemLemmas.{same_length}
+use Rattle.raft_records.proofs.SealLemmas.{four}
+use Rattle.raft_records.proofs.BatchLemmas.{one_batch, one_file}
+use Rattle.raft_records.proofs.WrittenLemmas.{batch_spelled}
+
+-- ---- headers
+
+type_one : (c d : CompressionType) → c ≡ d
+type_one compressions.None compressions.None = refl
+
+big_one : (x y : ℕ) (more rest : List ℕ) → x < 2 ^ 64 → y < 2 ^ 64 → big_bytes 8 x ++ more ≡ big_bytes 8 y ++ rest → (x ≡ y) × (more ≡ rest)
+big_one x y more rest h k e =
+    let one = (IsReadAgain-big_bytes 8).one_front (big_bytes 8 x) (big_bytes 8 y) more rest x y (record { in_range = h; written = refl }) (record { in_range = k; written = refl }) e in
+    (one.1, append_cancel_left (big_bytes 8 x) more rest (e ∙ ap (λ (t : List ℕ). t ++ rest) (sym one.0)))
+
+-- a header says one thing
+pub header_one : HasOneFront IsHeader
+unfolding header_bytes
+header_one a b more rest x y h k e =
+    let lens : length a ≡ length b = ap length h.written ∙ header_len x.0 x.1 x.2 ∙ sym (ap length k.written ∙ header_len y.0 y.1 y.2) in
+    let same : a ≡ b = same_length a b more rest lens e in
+    let x_fits : x.2 < 2 ^ 56 = h.length_fits in
+    let y_fits : y.2 < 2 ^ 56 = k.length_fits in
+    let x_inside : x.0 ≤ x.2 = h.inside in
+    let y_inside : y.0 ≤ y.2 = k.inside in
+    let x_byte : compression_byte x.1 ≡ 0 = byte_of_type x.1 in
+    let y_byte : compression_byte y.1 ≡ 0 = byte_of_type y.1 in
+    let words : big_bytes 8 (x.2 * 256 + compression_byte x.1) ++ big_bytes 8 x.0 ≡ big_bytes 8 (y.2 * 256 + compression_byte y.1) ++ big_bytes 8 y.0 = sym h.written ∙ same ∙ k.written in
+    let first = big_one (x.2 * 256 + compression_byte x.1) (y.2 * 256 + compression_byte y.1) (big_bytes 8 x.0) (big_bytes 8 y.0) (omega arith) (omega arith) words in
+    let second = big_one x.0 y.0 [] [] (omega arith) (omega arith) (ap (λ (t : List ℕ). t ++ []) first.1) in
+    let place : x.0 ≡ y.0 = second.0 in
+    let type : x.1 ≡ y.1 = type_one x.1 y.1 in
+    let len : x.2 ≡ y.2 = omega (arith, first.0, x_byte, y_byte) in
+    (same, λ i. (place i, type i, len i))
+
+-- ---- frames
+
+-- where the parts of a batch stand
+places : (bytes : List ℕ) (signature : Option ℕ) (items : List Item) (between : List ℕ) → (h : IsLaidOut bytes signature items between) → (drop 16 bytes ≡ between ++ h.footer) × (drop (16 + length between) bytes ≡ h.footer) × (16 + length between ≤ length bytes)
+places bytes signature items between h =
+    let head = header_bytes (16 + length between) h.compression (length bytes) in
+    let sixteen : length head ≡ 16 = header_len (16 + length between) h.compression (length bytes) in
+    let behind : drop 16 bytes ≡ between ++ h.footer = ap (drop 16) h.split ∙ drop_at head (between ++ h.footer) 16 sixteen in (
+      behind,
+      sym (drop-drop (length between) 16 bytes) ∙ ap (drop (length between)) behind ∙ drop_at between h.footer (length between) refl,
+      omega (arith, ap length h.split, length-append head (between ++ h.footer), length-append between h.footer, sixteen),
+    )
+
+pub framed : (bytes : List ℕ) (signature : Option ℕ) (items : List Item) (between : List ℕ) → IsLaidOut bytes signature items between → IsFramed bytes signature items (16 + length between)
+framed bytes signature items between h =
+    let at = places bytes signature items between h in
+    let head = header_bytes (16 + length between) h.compression (length bytes) in
+    record {
+      compression = h.compression;
+      rest = h.rest;
+      header = record {
+        front = head;
+        spells = record { written = refl; length_fits = h.fits; behind_header = omega arith; inside = at.2 };
+        split = h.split ∙ ap (λ (t : List ℕ). head ++ t) (sym at.0);
+      };
+      item_batch = subst (λ (t : List ℕ). IsItemBatch t signature items h.rest) (sym at.1) h.item_batch;
+    }
+
+pub laid_out : (bytes : List ℕ) (signature : Option ℕ) (items : List Item) (place : ℕ) → IsFramed bytes signature items place → (16 + length (take (place - 16) (drop 16 bytes)) ≡ place) × IsLaidOut bytes signature items (take (place - 16) (drop 16 bytes))
+laid_out bytes signature items place f =
+    let least : 16 ≤ place = f.header.spells.behind_header in
+    let inside : place ≤ length bytes = f.header.spells.inside in
+    let counted : length (take (place - 16) (drop 16 bytes)) ≡ place - 16 = length-take-le (place - 16) (drop 16 bytes) (omega (arith, length-drop 16 bytes)) in
+    let at : 16 + length (take (place - 16) (drop 16 bytes)) ≡ place = omega arith in
+    let behind : drop (place - 16) (drop 16 bytes) ≡ drop place bytes = drop-drop (place - 16) 16 bytes ∙ ap (λ (n : ℕ). drop n bytes) (omega arith) in
+    let between : drop 16 bytes ≡ take (place - 16) (drop 16 bytes) ++ drop place bytes = sym (take-append-drop (place - 16) (drop 16 bytes)) ∙ ap (λ (t : List ℕ). take (place - 16) (drop 16 bytes) ++ t) behind in
+    let head : f.header.front ≡ header_bytes (16 + length (take (place - 16) (drop 16 bytes))) f.compression (length bytes) = f.header.spells.written ∙ ap (λ (n : ℕ). header_bytes n f.compression (length bytes)) (sym at) in (
+      at,
+      record {
+        footer = drop place bytes;
+        rest = f.rest;
+        compression = f.compression;
+        item_batch = f.item_batch;
+        fits = f.header.spells.length_fits;
+        split = f.header.split ∙ ap (λ (t : List ℕ). t ++ drop 16 bytes) head ∙ ap (λ (t : List ℕ). header_bytes (16 + length (take (place - 16) (drop 16 bytes))) f.compression (length bytes) ++ t) between;
+      },
+    )
+
+pub readable : (bytes : List ℕ) (signature : Option ℕ) (items : List Item) → IsReadable bytes signature items ↔ ((place : ℕ) × IsFramed bytes signature items place)
+readable bytes signature items =
+    (λ (between, h). (16 + length between, framed bytes signature items between h), λ (place, f). (take (place - 16) (drop 16 bytes), (laid_out bytes signature items place f).1))
+
+-- ---- entry blocks
+
+-- a block is what stands in front, as long as it is
+block_is : (len : ℕ) (bytes es : List ℕ) → IsBlockOf len bytes es → take len bytes ≡ entry_block es
+block_is len bytes es (inl h) = ap (λ (n : ℕ). take n bytes) h.0 ∙ ap entry_block (sym h.1)
+block_is len bytes [] (inr h) = absurd (omega (arith, h.2.some))
+block_is len bytes (e ∷ es) (inr h) = h.2.split
+
+is_block : (len : ℕ) (bytes es : List ℕ) → len ≤ length bytes → take len bytes ≡ entry_block es → IsBlockOf len bytes es
+is_block len bytes [] le h = inl (omega (arith, ap length h, length-take-le len bytes le), refl)
+is_block len bytes (e ∷ es) le h =
+    inr (omega (arith, ap length h, length-take-le len bytes le), le, record { some = omega arith; split = h })
+
+block_one : (es es' : List ℕ) → entry_block es ≡ entry_block es' → es ≡ es'
+block_one [] [] h = refl
+block_one [] (y ∷ es') h = absurd (omega (arith, ap length h))
+block_one (x ∷ es) [] h = absurd (omega (arith, ap length h))
+block_one (x ∷ es) (y ∷ es') h =
+    same_length (x ∷ es) (y ∷ es') (checksum_bytes None (x ∷ es)) (checksum_bytes None (y ∷ es')) (omega (arith, ap length h, length-append (x ∷ es) (checksum_bytes None (x ∷ es)), length-append (y ∷ es') (checksum_bytes None (y ∷ es')), four (crc32_of (x ∷ es)), four (crc32_of (y ∷ es')))) h
+
+pub one_block : (len : ℕ) (bytes es es' : List ℕ) → IsBlockOf len bytes es → IsBlockOf len bytes es' → es ≡ es'
+one_block len bytes es es' h k = block_one es es' (sym (block_is len bytes es h) ∙ block_is len bytes es' k)
+
+-- ---- log batches
+
+pub parts : (bytes : List ℕ) (signature : Option ℕ) (items : List Item) (es : List ℕ) → IsLogBatch bytes signature items es ↔ HasParts bytes signature items es
+parts bytes signature items es =
+    (
+      λ h.
+        let at = places bytes signature items (entry_block es) h in
+        let n : 16 + length (entry_block es) - 16 ≡ length (entry_block es) = omega arith in
+        record {
+          place = 16 + length (entry_block es);
+          frame = framed bytes signature items (entry_block es) h;
+          block = is_block (16 + length (entry_block es) - 16) (drop 16 bytes) es (omega (arith, at.2, length-drop 16 bytes)) (ap (λ (k : ℕ). take k (drop 16 bytes)) n ∙ ap (take (length (entry_block es))) at.0 ∙ take_at (entry_block es) h.footer (length (entry_block es)) refl);
+        },
+      λ p.
+        subst (λ (t : List ℕ). IsLaidOut bytes signature items t) (block_is (p.place - 16) (drop 16 bytes) es p.block) (laid_out bytes signature items p.place p.frame).1,
+    )
+
+
+-- what lies between a header and an item batch, and the item batch, are those of the bytes
+laid_one : (bytes : List ℕ) (signature signature' : Option ℕ) (items items' : List Item) (between between' : List ℕ) → (h : IsLaidOut bytes signature items between) (k : IsLaidOut bytes signature' items' between') → (between ≡ between') × (h.footer ≡ k.footer)
+laid_one bytes signature signature' items items' between between' h k =
+    let f = framed bytes signature items between h in
+    let g = framed bytes signature' items' between' k in
+    let one = header_one f.header.front g.header.front (drop 16 bytes) (drop 16 bytes) (16 + length between, f.compression, length bytes) (16 + length between', g.compression, length bytes) f.header.spells g.header.spells (sym f.header.split ∙ g.header.split) in
+    let place : 16 + length between ≡ 16 + length between' = ap (λ (x : ℕ × CompressionType × ℕ). x.0) one.1 in
+    let behind : between ++ h.footer ≡ between' ++ k.footer = sym (places bytes signature items between h).0 ∙ (places bytes signature' items' between' k).0 in
+    let same : between ≡ between' = same_length between between' h.footer k.footer (omega arith) behind in
+    (same, append_cancel_left between h.footer k.footer (behind ∙ ap (λ (t : List ℕ). t ++ k.footer) (sym same)))
+
+pub one_log_batch : (bytes es es' : List ℕ) (signature : Option ℕ) (items items' : List Item) → IsLogBatch bytes signature items es → IsLogBatch bytes signature items' es' → (items ≡ items') × (es ≡ es')
+one_log_batch bytes es es' signature items items' h k =
+    let one = laid_one bytes signature signature items items' (entry_block es) (entry_block es') h k in
+    let batch : IsItemBatch k.footer signature items h.rest = subst (λ (t : List ℕ). IsItemBatch t signature items h.rest) one.1 h.item_batch in
+    ((one_batch k.footer h.rest k.rest signature items items' batch k.item_batch).0, block_one es es' one.0)
+
+pub one_file_readable : (bytes : List ℕ) (s t : ℕ) (items items' : List Item) → s < 2 ^ 32 → t < 2 ^ 32 → IsReadable bytes (Some s) items → IsReadable bytes (Some t) items' → s ≡ t
+one_file_readable bytes s t items items' s_fits t_fits (between, h) (between', k) =
+    let one = laid_one bytes (Some s) (Some t) items items' between between' h k in
+    let batch : IsItemBatch k.footer (Some s) items h.rest = subst (λ (b : List ℕ). IsItemBatch b (Some s) items h.rest) one.1 h.item_batch in
+    one_file k.footer h.rest k.rest s t items items' s_fits t_fits batch k.item_batch
+
+-- ---- what is written
+
+item_some : (x : Item) → 0 < length (item_bytes x)
+item_some x = omega (arith, length-append (varint x.raft_group_id) (content_bytes x.content), some x.content)
+  where
+    some : (c : Content) → 0 < length (content_bytes c)
+    some (entries es) = omega arith
+    some (command c) = omega arith
+    some (pair p) = omega arith
+
+pub count_le : (xs : List Item) → length xs ≤ length (flat_map item_bytes xs)
+count_le [] = omega arith
+count_le (x ∷ xs) = omega (arith, count_le xs, item_some x, length-append (item_bytes x) (flat_map item_bytes xs))
+
+batch_count_le : (xs : List Item) → length xs ≤ length (batch_bytes xs)
+unfolding batch_bytes
+batch_count_le xs =
+    omega (arith, count_le xs, length-append (varint (length xs)) (flat_map item_bytes xs))
+
+pub log_batch_spelled : (signature : Option ℕ) (items : List Item) (es : List ℕ) → IsBatchOf items es → AreInRange items → items ≢ [] → encoded_length items es < 2 ^ 56 → IsLogBatch (log_batch_bytes signature items es) signature (map bare items) es
+log_batch_spelled signature [] es b r some fits = absurd (some refl)
+log_batch_spelled signature (x ∷ xs) es b r some fits =
+    let items = x ∷ xs in
+    let len = encoded_length items es in
+    let head = header_bytes (item_offset es) compressions.None len in
+    let block = entry_block es in
+    let batch = batch_bytes items in
+    let seal = checksum_bytes signature batch in
+    let bytes = unsealed_bytes len items es ++ seal in
+    let parted : bytes ≡ head ++ (block ++ (batch ++ seal)) = append_assoc head (block ++ batch) seal ∙ ap (λ (t : List ℕ). head ++ t) (append_assoc block batch seal) in
+    let counted : length bytes ≡ len = omega (arith, ap length parted, length-append head (block ++ (batch ++ seal)), length-append block (batch ++ seal), length-append batch seal, header_len (item_offset es) compressions.None len, four (signed signature (crc32_of batch))) in
+    let count : length items < 2 ^ 64 = omega (arith, batch_count_le items, fits) in
+    record {
+      footer = batch ++ seal;
+      rest = [];
+      compression = compressions.None;
+      item_batch = batch_spelled signature items b.tiled r count;
+      fits = omega (arith, counted, fits);
+      split = parted ∙ ap (λ (n : ℕ). header_bytes (item_offset es) compressions.None n ++ (block ++ (batch ++ seal))) (sym counted);
+    }

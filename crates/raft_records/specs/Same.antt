@@ -1,4 +1,4 @@
--- The tests by which `==` compares batches of items: part by part. They are true exactly of equal values.
+-- The tests by which `==` compares batches, part by part.
 use Rattle.std.specs.Prelude.{Bool, ◌==◌, nat_eq, List, Option, Some, None}
 use Rattle.std.specs.Option.{option_eq}
 use Rattle.std.specs.Ordering.{on, eq_of_both}
@@ -15,6 +15,7 @@ use Rattle.raft_records.specs.contracts.log_batch.key_value.OpTypeEq.TheImpl.Law
 use Rattle.raft_records.specs.declared.log_batch.command.Command.{Command}
 use Rattle.raft_records.specs.declared.log_batch.entry_index.EntryIndex.{EntryIndex}
 use Rattle.raft_records.specs.Item.{Item, Content, entries, command, pair, Pair}
+use Rattle.raft_records.specs.LogBatch.{Batch, step_of}
 
 -- what a content has of each kind
 abbrev pub entries_in : Content → Option (List EntryIndex)
@@ -47,6 +48,11 @@ same_item = eq_of_both (on (λ x. x.raft_group_id) nat_eq) (on (λ x. x.content)
 abbrev pub same_items : List Item → List Item → Bool
 same_items = pointwise same_item
 
+-- items, entry bytes and step are the same
+abbrev pub same_batch : Batch → Batch → Bool
+same_batch =
+    eq_of_both (on (λ b. b.items) same_items) (eq_of_both (on (λ b. b.entry_bytes) (pointwise nat_eq)) (on (λ b. step_of b.stage) nat_eq))
+
 -- ---- each of them is an equivalence
 
 pair_same : IsEquivalence same_pair
@@ -63,3 +69,7 @@ item_same =
 
 pub items_same : IsEquivalence same_items
 items_same = lists_equiv item_same
+
+pub batch_same : IsEquivalence same_batch
+batch_same =
+    and_equiv (on_equiv (λ (b : Batch). b.items) items_same) (and_equiv (on_equiv (λ (b : Batch). b.entry_bytes) nat_list_eq_equiv) (on_equiv (λ (b : Batch). step_of b.stage) nat_eq_equiv))

@@ -1,7 +1,7 @@
 -- On equality of items: `==` of what is in memory decides equality of what it is seen as.
 use Rattle.std.proofs.Common.{◌≡◌, ℕ, Bool, true, false, ◌&&◌, List, [], ◌∷◌, map, Option, refl, sym, ap, ◌∙◌, rules}
 use Rattle.std.specs.Bool.{Decides, one_answer}
-use Rattle.std.specs.Cmp.{IsEquivalence, decided, unsigned_Decides, first_so, second_so}
+use Rattle.std.specs.Cmp.{unsigned_Decides, first_so, second_so}
 use Rattle.std.specs.Cmp.Lexicographic.{pointwise, pointwise_decides}
 use Rattle.std.proofs.lemmas.Grind.{common_steps}
 use Rattle.raft_records.specs.contracts.log_batch.command.CommandPartialEq.TheImpl.{eq-value as command_eq}
@@ -64,10 +64,10 @@ same_pair_decides p q = search rules
 same_content_decides : (a b : Content) → Decides (same_content a b) (a ≡ b)
 same_content_decides (entries x) (entries y) =
     let d = pointwise_decides entry_decides x y in
-    (λ e. ap entries (d.0 e), λ e. d.1 cc)
+    (λ e. ap entries (d.0 (first_so _ _ e)), λ e. both (d.1 cc) refl)
 same_content_decides (command c) (command d) =
     let k = command_decides c d in
-    (λ e. ap command (k.0 e), λ e. k.1 cc)
+    (λ e. ap command (k.0 (first_so _ _ e)), λ e. both (k.1 cc) refl)
 same_content_decides (pair p) (pair q) =
     let d = same_pair_decides p q in
     (λ e. ap pair (d.0 e), λ e. d.1 cc)
@@ -99,6 +99,3 @@ items_alike (x ∷ xs) (y ∷ ys) =
 
 pub items_tested : (xs ys : List LogItem) (result : Bool) → result ≡ pointwise item_eq.it xs ys → result ≡ same_items (map item_of xs) (map item_of ys)
 items_tested xs ys result e = e ∙ items_alike xs ys
-
-pub items_same : IsEquivalence same_items
-items_same = decided same_items same_items_decides

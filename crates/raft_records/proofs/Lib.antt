@@ -1,5 +1,6 @@
 pub mod BatchLemmas
 pub mod BufferLemmas
+pub mod CloneLemmas
 pub mod ContentLemmas
 pub mod EntryLemmas
 pub mod EqualLemmas

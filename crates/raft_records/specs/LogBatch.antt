@@ -23,6 +23,18 @@ abbrev pub IsSealedStage : Stage → Type 0
 IsSealedStage (sealed signature) = Unit {0}
 IsSealedStage _ = ⊥
 
+-- the steps of a batch in order, whatever signature it has
+abbrev pub step_of : Stage → ℕ
+step_of populating = 0
+step_of encoded = 1
+step_of (sealed signature) = 2
+
+-- batches of the same items and entry bytes that have come as far; for which file they are signed is not looked at
+pub record AreEqual (a b : Batch) : Type 0 where
+  pub items : a.items ≡ b.items
+  pub entry_bytes : a.entry_bytes ≡ b.entry_bytes
+  pub step : step_of a.stage ≡ step_of b.stage
+
 -- a batch without items
 abbrev pub empty_batch : Batch
 empty_batch = record { items = []; entry_bytes = []; stage = populating }

@@ -23,6 +23,7 @@ use std::marker::Model;
 use std::vec;
 
 mod key_values;
+mod traits;
 
 /// The room in bytes that an emptied batch keeps at most for the bytes of later items.
 const MOST_ROOM_KEPT: usize = 8 * 1024 * 1024;

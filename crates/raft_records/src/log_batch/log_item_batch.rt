@@ -27,6 +27,8 @@ use std::alloc::{AllocError, Global};
 use std::marker::Model;
 use std::{mem, slice, vec};
 
+mod traits;
+
 /// The most items that room is made for before they are read.
 const MOST_ITEMS_AT_ONCE: u64 = 1024;
 

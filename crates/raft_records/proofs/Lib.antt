@@ -4,6 +4,7 @@ pub mod ContentLemmas
 pub mod EntryLemmas
 pub mod HeaderLemmas
 pub mod ItemLemmas
+pub mod JoinLemmas
 pub mod LayLemmas
 pub mod LengthLemmas
 pub mod LineLemmas

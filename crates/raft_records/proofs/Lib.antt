@@ -12,4 +12,5 @@ pub mod PrintLemmas
 pub mod RequestLemmas
 pub mod SealLemmas
 pub mod StageLemmas
+pub mod StringLemmas
 pub mod WrittenLemmas

@@ -20,6 +20,7 @@ use std::alloc::Global;
 use std::marker::Model;
 use std::vec;
 
+mod entries;
 mod key_values;
 mod merge;
 

@@ -176,6 +176,11 @@ size_append : (xs ys : List Item) → items_size (xs ++ ys) ≡ items_size xs + 
 size_append [] ys = omega arith
 size_append (x ∷ xs) ys = omega (arith, size_append xs ys)
 
+pub merged_end : (xs ys : List Item) → entry_bytes_of (xs ++ map (raised (entry_bytes_of xs)) ys) ≡ entry_bytes_of xs + entry_bytes_of ys
+merged_end xs ys =
+    let start : entry_bytes_of xs ≡ 0 + entry_bytes_of xs = omega arith in
+    omega (arith, end_append 0 xs (map (raised (entry_bytes_of xs)) ys), ap (λ (o : ℕ). end_of_items o (map (raised (entry_bytes_of xs)) ys)) start, raised_items_end 0 (entry_bytes_of xs) ys)
+
 pub merged_kept : (xs ys : List Item) (size size' bytes bytes' total : ℕ) (crc crc' : Option ℕ) → IsKeptBeside xs size bytes crc → IsKeptBeside ys size' bytes' crc' → bytes + bytes' < 2 ^ 32 → total ≡ saturated (size + size') → IsKeptBeside (xs ++ map (raised bytes) ys) total (bytes + bytes') None
 merged_kept xs ys size size' bytes bytes' total crc crc' k l lt sum =
     let here : bytes ≡ end_of_items 0 xs = k.entry_bytes in

@@ -7,6 +7,7 @@ pub mod EqualLemmas
 pub mod FrameLemmas
 pub mod HeaderLemmas
 pub mod ItemLemmas
+pub mod JoinLemmas
 pub mod LayLemmas
 pub mod LengthLemmas
 pub mod LineLemmas

@@ -1,11 +1,11 @@
 -- A log batch as callers see it, and its bytes: a header, the entry bytes with their checksum, and an item batch.
-use Rattle.std.specs.Prelude.{◌≡◌, ℕ, ◌+◌, ◌*◌, ◌^◌, ◌<◌, List, [], ◌∷◌, ◌++◌, length, Option, None}
+use Rattle.std.specs.Prelude.{◌≡◌, ℕ, ◌+◌, ◌*◌, ◌^◌, ◌<◌, List, [], ◌∷◌, ◌++◌, map, length, Option, None}
 use Rattle.byteorder.specs.Endian.{big_bytes}
 use Rattle.raft_records.specs.declared.log_batch.CompressionType.{CompressionType}
 use Rattle.raft_records.specs.declared.log_batch.CompressionType.TheVariants as compressions
 use Rattle.raft_records.specs.Item.{Item}
 use Rattle.raft_records.specs.Sizes.{batch_size, saturated}
-use Rattle.raft_records.specs.ItemBatch.{checksum_bytes, batch_bytes, entry_bytes_of, FitTogether, IsItemBatch}
+use Rattle.raft_records.specs.ItemBatch.{checksum_bytes, batch_bytes, entry_bytes_of, FitTogether, IsItemBatch, raised}
 
 -- how far a batch has come: items may still be added; its bytes stand; they are signed, or have no signature
 pub data Stage : Type 0 where
@@ -38,6 +38,11 @@ pub record AreEqual (a b : Batch) : Type 0 where
 -- a batch without items
 abbrev pub empty_batch : Batch
 empty_batch = record { items = []; entry_bytes = []; stage = populating }
+
+-- all of another batch behind this one: its entries' bytes stand behind the first one's
+abbrev pub joined : Batch → Batch → Batch
+joined b more =
+    record b { items = b.items ++ map (raised (length b.entry_bytes)) more.items; entry_bytes = b.entry_bytes ++ more.entry_bytes }
 
 -- the entries of the items tile the entry bytes, in order
 pub record IsBatchOf (items : List Item) (entry_bytes : List ℕ) : Type 0 where

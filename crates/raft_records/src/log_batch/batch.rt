@@ -23,7 +23,11 @@ use std::marker::Model;
 use std::vec;
 
 mod key_values;
+mod merge;
 mod traits;
+
+/// The most bytes that the entries of a batch have together.
+const MOST_ENTRY_BYTES: u64 = (1 << 31) - 1;
 
 /// The room in bytes that an emptied batch keeps at most for the bytes of later items.
 const MOST_ROOM_KEPT: usize = 8 * 1024 * 1024;

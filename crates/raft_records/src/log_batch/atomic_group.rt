@@ -7,7 +7,6 @@ ghost use Rattle.raft_records.specs.LogBatch.{populating};
 
 use crate::log_batch::{ATOMIC_GROUP_KEY, AtomicGroupStatus, LogBatch};
 use raft_base::{Error, Result};
-use std::alloc::Global;
 use std::marker::Model;
 
 /// Marks the batches of a group. The first gets the mark `Begin`, the last one `End`, those between
@@ -42,7 +41,7 @@ impl AtomicGroupBuilder {
     }
 
     /// Begins the group with this batch. On `Err` builder and batch are as they were.
-    pub fn begin(&mut self, alloc: Global, log_batch: &mut LogBatch) -> Result<()>
+    pub fn begin(&mut self, log_batch: &mut LogBatch) -> Result<()>
         requires open { log_batch.old.stage ≡ populating }
         requires fresh { self.old.state ≡ None }
         ensures marked { OnOk result (log_batch.new ≡ record log_batch.old {
@@ -52,11 +51,11 @@ impl AtomicGroupBuilder {
         ensures batch_err { OnErr result (log_batch.new ≡ log_batch.old) }
         ensures memory { IfErr result (λ e. e ≡ Error.Memory) }
     {
-        self.mark(alloc, AtomicGroupStatus::Begin, log_batch)
+        self.mark(AtomicGroupStatus::Begin, log_batch)
     }
 
     /// Goes on with the group in this batch. On `Err` builder and batch are as they were.
-    pub fn add(&mut self, alloc: Global, log_batch: &mut LogBatch) -> Result<()>
+    pub fn add(&mut self, log_batch: &mut LogBatch) -> Result<()>
         requires open { log_batch.old.stage ≡ populating }
         requires running { IsRunning self.old.state }
         ensures marked { OnOk result (log_batch.new ≡ record log_batch.old {
@@ -66,12 +65,12 @@ impl AtomicGroupBuilder {
         ensures batch_err { OnErr result (log_batch.new ≡ log_batch.old) }
         ensures memory { IfErr result (λ e. e ≡ Error.Memory) }
     {
-        self.mark(alloc, AtomicGroupStatus::Middle, log_batch)
+        self.mark(AtomicGroupStatus::Middle, log_batch)
     }
 
     /// Ends the group with this batch; the builder is then of no more use. On `Err` builder and batch
     /// are as they were.
-    pub fn end(&mut self, alloc: Global, log_batch: &mut LogBatch) -> Result<()>
+    pub fn end(&mut self, log_batch: &mut LogBatch) -> Result<()>
         requires open { log_batch.old.stage ≡ populating }
         requires running { IsRunning self.old.state }
         ensures marked { OnOk result (log_batch.new ≡ record log_batch.old {
@@ -81,16 +80,11 @@ impl AtomicGroupBuilder {
         ensures batch_err { OnErr result (log_batch.new ≡ log_batch.old) }
         ensures memory { IfErr result (λ e. e ≡ Error.Memory) }
     {
-        self.mark(alloc, AtomicGroupStatus::End, log_batch)
+        self.mark(AtomicGroupStatus::End, log_batch)
     }
 
     /// Adds the group's mark with this status to an open batch.
-    fn mark(
-        &mut self,
-        alloc: Global,
-        status: AtomicGroupStatus,
-        log_batch: &mut LogBatch,
-    ) -> Result<()>
+    fn mark(&mut self, status: AtomicGroupStatus, log_batch: &mut LogBatch) -> Result<()>
         requires { log_batch.old.stage ≡ populating }
         ensures marked { OnOk result (log_batch.new ≡ record log_batch.old {
             items = log_batch.old.items ++ mark_item self.old.id status ∷ [] }) }
@@ -99,6 +93,7 @@ impl AtomicGroupBuilder {
         ensures batch_err { OnErr result (log_batch.new ≡ log_batch.old) }
         ensures memory { IfErr result (λ e. e ≡ Error.Memory) }
     {
+        let alloc = log_batch.allocator();
         let key = Vec::from_slice(alloc, &ATOMIC_GROUP_KEY)?;
         let value = Vec::from_slice(alloc, &[status.to_u8()])?;
         log_batch.put_unchecked(self.id, key, value)?;

@@ -1,8 +1,11 @@
 //! Atomic groups of log batches, which take effect together or not at all.
 
-ghost use Rattle.std.specs.Prelude.{◌≡◌, [], ◌∷◌, ◌++◌, Some, None, IfErr, OnOk, OnErr};
+ghost use Rattle.std.specs.Prelude.{◌≡◌, ℕ, [], ◌∷◌, ◌++◌, Option, Some, None, IfErr, OnOk, OnErr};
+ghost use Rattle.raft_base.specs.declared.errors.Error.{Error as Refusal};
+ghost use Rattle.raft_records.specs.declared.log_batch.status.AtomicGroupStatus.{AtomicGroupStatus as Status};
 ghost use Rattle.raft_records.specs.declared.log_batch.status.AtomicGroupStatus.TheVariants.{Begin, Middle, End};
-ghost use Rattle.raft_records.specs.Group.{IsRunning, mark_item};
+ghost use Rattle.raft_records.specs.Group.{IsRunning, mark_item, status_byte, IsMarkContent, IsMarkRead, IsMarkFault};
+ghost use Rattle.raft_records.specs.Item.{Item};
 ghost use Rattle.raft_records.specs.LogBatch.{populating};
 
 use crate::log_batch::{ATOMIC_GROUP_KEY, AtomicGroupStatus, LogBatch};
@@ -101,3 +104,13 @@ impl AtomicGroupBuilder {
         Ok(())
     }
 }
+
+/// What is added as a mark is read as the mark of its group with its status, and never refused.
+pub fn marks_are_read_again()
+    ensures is_mark { (id : ℕ) (status : Status) → IsMarkContent (mark_item id status).content (status_byte status) }
+    ensures read { (item : Item) (status : Status) (read : Option (ℕ × Status)) →
+        IsMarkContent item.content (status_byte status) → IsMarkRead item read →
+        read ≡ Some (item.raft_group_id, status) }
+    ensures accepted { (item : Item) (status : Status) (e : Refusal) →
+        IsMarkContent item.content (status_byte status) → IsMarkFault item e → ⊥ }
+{}

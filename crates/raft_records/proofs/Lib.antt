@@ -5,6 +5,7 @@ pub mod ContentLemmas
 pub mod EntryLemmas
 pub mod EqualLemmas
 pub mod FrameLemmas
+pub mod GroupLemmas
 pub mod HeaderLemmas
 pub mod ItemLemmas
 pub mod JoinLemmas

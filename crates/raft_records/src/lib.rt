@@ -6,7 +6,7 @@ pub mod print;
 pub mod run;
 
 pub use log_batch::{
-    ATOMIC_GROUP_KEY, AtomicGroupStatus, Command, CompressionType, EntryIndex, EntryIndexes,
+    ATOMIC_GROUP_KEY, AtomicGroupBuilder, AtomicGroupStatus, Command, CompressionType, EntryIndex, EntryIndexes,
     KeyValue, LogBatch, LogItem, LogItemBatch, LogItemContent, OpType, is_consecutive,
 };
 pub use print::print_batch;

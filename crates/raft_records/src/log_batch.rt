@@ -1,5 +1,6 @@
 //! Items and batches of items, and their bytes.
 
+pub mod atomic_group;
 pub mod batch;
 mod checksum;
 pub mod command;
@@ -12,6 +13,7 @@ pub mod log_item;
 pub mod log_item_batch;
 pub mod status;
 
+pub use atomic_group::AtomicGroupBuilder;
 pub use batch::LogBatch;
 pub use command::Command;
 pub use entry_index::{EntryIndex, EntryIndexes, is_consecutive};

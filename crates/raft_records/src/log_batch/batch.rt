@@ -89,6 +89,11 @@ impl LogBatch {
         })
     }
 
+    /// The allocator that the batch was made with.
+    pub(crate) fn allocator(&self) -> Global {
+        *self.buf.allocator()
+    }
+
     /// Whether there are no items.
     pub fn is_empty(&self) -> bool
         ensures { IsTrue result ↔ (self.now.items ≡ []) }

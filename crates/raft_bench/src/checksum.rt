@@ -1,12 +1,12 @@
 //! Times checksums.
 
 use crate::timing::{Noise, TIMES, nanoseconds_since, print_line};
+use raft_records::Result;
 use raft_records::util::crc32;
-use std::io;
 use std::time::Instant;
 
 /// Times the checksums of stretches of 16 MiB, cut into these many bytes.
-pub(crate) fn time(rt: &HostRuntime) -> io::Result<()> {
+pub(crate) fn time(rt: &HostRuntime) -> Result<()> {
     let mut bytes = Vec::new(rt.alloc());
     Noise::new().fill(&mut bytes, 1 << 24)?;
     for size in [8usize, 64, 256, 1 << 10, 1 << 12, 1 << 16, 1 << 20, 1 << 24] {

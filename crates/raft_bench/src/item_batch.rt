@@ -2,15 +2,15 @@
 
 use crate::timing::{nanoseconds_since, print_line};
 use raft_records::{
-    CompressionType, FileBlockHandle, FileId, LogFileContext, LogItemBatch, LogQueue, Version,
+    CompressionType, FileBlockHandle, FileId, LogFileContext, LogItemBatch, LogQueue, Result,
+    Version,
 };
 use std::alloc::Global;
-use std::io;
 use std::io::Read;
 use std::time::Instant;
 
 /// Times the decoding of the item batch on standard input, of file 12 in version 1.
-pub(crate) fn time(rt: &HostRuntime) -> io::Result<()> {
+pub(crate) fn time(rt: &HostRuntime) -> Result<()> {
     let mut bytes = Vec::new(rt.alloc());
     rt.stdin().read_to_end(&mut bytes)?;
     let len = bytes.len();
@@ -24,7 +24,8 @@ pub(crate) fn time(rt: &HostRuntime) -> io::Result<()> {
     }
     let name = format!(in rt.alloc(); "LogItemBatch::decode, batches of {items} items")?;
     let (count, len) = (items.saturating_mul(rounds), len.saturating_mul(rounds));
-    print_line(rt, name.as_str(), best, "item", count, len)
+    print_line(rt, name.as_str(), best, "item", count, len)?;
+    Ok(())
 }
 
 /// How many items the batch holds, 0 where it is refused; it is decoded `rounds` times.

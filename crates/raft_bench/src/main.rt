@@ -1,21 +1,31 @@
 //! Times the record layer. Without words it does nothing; each word names what it times.
 #![tactic(auto)]
 
+mod batches;
 mod checksum;
 mod item_batch;
 mod numbers;
 mod timing;
 
+use raft_records::Result;
 use std::{env, io};
 
 fn main(rt: HostRuntime) -> io::Result<()> {
     for word in env::args(&rt)?.skip(1) {
-        match word.as_str() {
-            "crc32" => checksum::time(&rt)?,
-            "varint" => numbers::time(&rt)?,
-            "decode" => item_batch::time(&rt)?,
-            _ => eprintln!(rt; "usage: raft_bench [crc32] [varint] [decode]")?,
+        if let Err(e) = time(&rt, word.as_str()) {
+            eprintln!(rt; "raft_bench: {e}")?;
         }
     }
     Ok(())
+}
+
+/// Times what a word names, and prints a line for each work.
+fn time(rt: &HostRuntime, word: &str) -> Result<()> {
+    match word {
+        "crc32" => checksum::time(rt),
+        "varint" => numbers::time(rt),
+        "batches" => batches::time(rt),
+        "decode" => item_batch::time(rt),
+        _ => Ok(eprintln!(rt; "usage: raft_bench [crc32] [varint] [batches] [decode]")?),
+    }
 }

@@ -1,15 +1,15 @@
 //! Times numbers in base 128.
 
 use crate::timing::{Noise, TIMES, nanoseconds_since, print_line};
+use raft_records::Result;
 use raft_records::codec::{BytesSlice, NumberEncoder, decode_var_u64};
-use std::io;
 use std::time::Instant;
 
 /// How many numbers are written and read.
 const COUNT: usize = 1_000_000;
 
 /// Times the writing and reading of numbers of several lengths.
-pub(crate) fn time(rt: &HostRuntime) -> io::Result<()> {
+pub(crate) fn time(rt: &HostRuntime) -> Result<()> {
     for bits in [7u32, 14, 28, 56, 64] {
         let mut noise = Noise::new();
         let mut numbers = Vec::new(rt.alloc());
@@ -21,7 +21,7 @@ pub(crate) fn time(rt: &HostRuntime) -> io::Result<()> {
     Ok(())
 }
 
-fn time_length(rt: &HostRuntime, bits: u32, numbers: &[u64]) -> io::Result<()> {
+fn time_length(rt: &HostRuntime, bits: u32, numbers: &[u64]) -> Result<()> {
     let mut bytes = Vec::with_capacity(rt.alloc(), 10 * COUNT)?;
     let (mut best_write, mut best_read) = (u64::MAX, u64::MAX);
     let mut sum = 0;
@@ -38,7 +38,8 @@ fn time_length(rt: &HostRuntime, bits: u32, numbers: &[u64]) -> io::Result<()> {
     let name = format!(in rt.alloc(); "encode_var_u64, {bits} bits")?;
     print_line(rt, name.as_str(), best_write, "number", count, len)?;
     let name = format!(in rt.alloc(); "decode_var_u64, {bits} bits (sum {sum})")?;
-    print_line(rt, name.as_str(), best_read, "number", count, len)
+    print_line(rt, name.as_str(), best_read, "number", count, len)?;
+    Ok(())
 }
 
 fn write(bytes: &mut Vec<u8>, numbers: &[u64]) {

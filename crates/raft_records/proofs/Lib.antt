@@ -8,6 +8,7 @@ pub mod JoinLemmas
 pub mod LayLemmas
 pub mod LengthLemmas
 pub mod LineLemmas
+pub mod PlaceLemmas
 pub mod PrintLemmas
 pub mod RequestLemmas
 pub mod SealLemmas

@@ -1,6 +1,7 @@
 -- A log batch as callers see it, and its bytes: a header, the entry bytes with their checksum, and an item batch.
 use Rattle.std.specs.Prelude.{◌≡◌, ℕ, ◌+◌, ◌*◌, ◌^◌, ◌<◌, ◌≤◌, List, [], ◌∷◌, ◌++◌, map, length, Option, None}
 use Rattle.byteorder.specs.Endian.{big_bytes}
+use Rattle.raft_base.specs.declared.pipe_log.FileBlockHandle.{FileBlockHandle}
 use Rattle.raft_records.specs.declared.log_batch.CompressionType.{CompressionType}
 use Rattle.raft_records.specs.declared.log_batch.CompressionType.TheVariants as compressions
 use Rattle.std.specs.List.{concat}
@@ -85,6 +86,11 @@ header_bytes offset compression len = big_bytes 8 (len * 256 + compression_byte 
 abbrev pub entry_block : List ℕ → List ℕ
 entry_block [] = []
 entry_block (byte ∷ bytes) = (byte ∷ bytes) ++ checksum_bytes None (byte ∷ bytes)
+
+-- where the entry block of a batch stands that was written to this block
+abbrev pub entry_place : FileBlockHandle → List ℕ → FileBlockHandle
+entry_place block entry_bytes =
+    record { id = block.id; offset = block.offset + 16; len = length (entry_block entry_bytes) }
 
 -- where the item batch begins: behind the header and the entry block
 abbrev pub item_offset : List ℕ → ℕ

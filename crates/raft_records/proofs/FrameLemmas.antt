@@ -133,20 +133,18 @@ one_block len bytes es es' h k = block_one es es' (sym (block_is len bytes es h)
 -- ---- log batches
 
 pub parts : (bytes : List ℕ) (signature : Option ℕ) (items : List Item) (es : List ℕ) → IsLogBatch bytes signature items es ↔ HasParts bytes signature items es
-parts bytes signature items es =
-    (
-      λ h.
-        let at = places bytes signature items (entry_block es) h in
-        let n : 16 + length (entry_block es) - 16 ≡ length (entry_block es) = omega arith in
-        record {
-          place = 16 + length (entry_block es);
-          frame = framed bytes signature items (entry_block es) h;
-          block = is_block (16 + length (entry_block es) - 16) (drop 16 bytes) es (omega (arith, at.2, length-drop 16 bytes)) (ap (λ (k : ℕ). take k (drop 16 bytes)) n ∙ ap (take (length (entry_block es))) at.0 ∙ take_at (entry_block es) h.footer (length (entry_block es)) refl);
-        },
-      λ p.
-        subst (λ (t : List ℕ). IsLaidOut bytes signature items t) (block_is (p.place - 16) (drop 16 bytes) es p.block) (laid_out bytes signature items p.place p.frame).1,
-    )
-
+parts bytes signature items es = (
+  λ h.
+      let at = places bytes signature items (entry_block es) h in
+      let n : 16 + length (entry_block es) - 16 ≡ length (entry_block es) = omega arith in
+      record {
+        place = 16 + length (entry_block es);
+        frame = framed bytes signature items (entry_block es) h;
+        block = is_block (16 + length (entry_block es) - 16) (drop 16 bytes) es (omega (arith, at.2, length-drop 16 bytes)) (ap (λ (k : ℕ). take k (drop 16 bytes)) n ∙ ap (take (length (entry_block es))) at.0 ∙ take_at (entry_block es) h.footer (length (entry_block es)) refl);
+      },
+  λ p.
+      subst (λ (t : List ℕ). IsLaidOut bytes signature items t) (block_is (p.place - 16) (drop 16 bytes) es p.block) (laid_out bytes signature items p.place p.frame).1,
+)
 
 -- what lies between a header and an item batch, and the item batch, are those of the bytes
 laid_one : (bytes : List ℕ) (signature signature' : Option ℕ) (items items' : List Item) (between between' : List ℕ) → (h : IsLaidOut bytes signature items between) (k : IsLaidOut bytes signature' items' between') → (between ≡ between') × (h.footer ≡ k.footer)

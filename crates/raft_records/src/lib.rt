@@ -6,8 +6,9 @@ pub mod print;
 pub mod run;
 
 pub use log_batch::{
-    ATOMIC_GROUP_KEY, AtomicGroupBuilder, AtomicGroupStatus, Command, CompressionType, EntryIndex, EntryIndexes,
-    KeyValue, LogBatch, LogItem, LogItemBatch, LogItemContent, OpType, is_consecutive,
+    ATOMIC_GROUP_KEY, AtomicGroupBuilder, AtomicGroupStatus, Command, CompressionType, EntryIndex,
+    EntryIndexes, KeyValue, LogBatch, LogItem, LogItemBatch, LogItemContent, OpType,
+    is_consecutive,
 };
 pub use print::print_batch;
 pub use raft_base::{

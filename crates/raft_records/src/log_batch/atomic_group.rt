@@ -12,6 +12,9 @@ use crate::log_batch::{ATOMIC_GROUP_KEY, AtomicGroupStatus, LogBatch};
 use raft_base::{Error, Result};
 use std::marker::Model;
 
+#[cfg(test)]
+mod tests;
+
 /// Marks the batches of a group. The first gets the mark `Begin`, the last one `End`, those between
 /// them `Middle`; a group may also begin and end in one batch.
 #[derive(Debug, Drop)]
@@ -48,7 +51,8 @@ impl AtomicGroupBuilder {
         requires open { log_batch.old.stage ≡ populating }
         requires fresh { self.old.state ≡ None }
         ensures marked { OnOk result (log_batch.new ≡ record log_batch.old {
-            items = log_batch.old.items ++ mark_item self.old.id Begin ∷ [] }) }
+          items = log_batch.old.items ++ mark_item self.old.id Begin ∷ [];
+        }) }
         ensures state { OnOk result (self.new ≡ record self.old { state = Some Begin }) }
         ensures err { OnErr result (self.new ≡ self.old) }
         ensures batch_err { OnErr result (log_batch.new ≡ log_batch.old) }
@@ -62,7 +66,8 @@ impl AtomicGroupBuilder {
         requires open { log_batch.old.stage ≡ populating }
         requires running { IsRunning self.old.state }
         ensures marked { OnOk result (log_batch.new ≡ record log_batch.old {
-            items = log_batch.old.items ++ mark_item self.old.id Middle ∷ [] }) }
+          items = log_batch.old.items ++ mark_item self.old.id Middle ∷ [];
+        }) }
         ensures state { OnOk result (self.new ≡ record self.old { state = Some Middle }) }
         ensures err { OnErr result (self.new ≡ self.old) }
         ensures batch_err { OnErr result (log_batch.new ≡ log_batch.old) }
@@ -77,7 +82,8 @@ impl AtomicGroupBuilder {
         requires open { log_batch.old.stage ≡ populating }
         requires running { IsRunning self.old.state }
         ensures marked { OnOk result (log_batch.new ≡ record log_batch.old {
-            items = log_batch.old.items ++ mark_item self.old.id End ∷ [] }) }
+          items = log_batch.old.items ++ mark_item self.old.id End ∷ [];
+        }) }
         ensures state { OnOk result (self.new ≡ record self.old { state = Some End }) }
         ensures err { OnErr result (self.new ≡ self.old) }
         ensures batch_err { OnErr result (log_batch.new ≡ log_batch.old) }
@@ -90,7 +96,8 @@ impl AtomicGroupBuilder {
     fn mark(&mut self, status: AtomicGroupStatus, log_batch: &mut LogBatch) -> Result<()>
         requires { log_batch.old.stage ≡ populating }
         ensures marked { OnOk result (log_batch.new ≡ record log_batch.old {
-            items = log_batch.old.items ++ mark_item self.old.id status ∷ [] }) }
+          items = log_batch.old.items ++ mark_item self.old.id status ∷ [];
+        }) }
         ensures state { OnOk result (self.new ≡ record self.old { state = Some status }) }
         ensures err { OnErr result (self.new ≡ self.old) }
         ensures batch_err { OnErr result (log_batch.new ≡ log_batch.old) }

@@ -218,7 +218,7 @@ impl LogBatch {
         ensures spelled { (signature : Option ℕ) → self.now.items ≢ [] →
             encoded_length self.now.items self.now.entry_bytes < 2 ^ 56 →
             IsLogBatch (log_batch_bytes signature self.now.items self.now.entry_bytes) signature
-                (map bare self.now.items) self.now.entry_bytes }
+            (map bare self.now.items) self.now.entry_bytes }
     {
         self.item_batch.is_read_again();
         log_batches_are_read_again();

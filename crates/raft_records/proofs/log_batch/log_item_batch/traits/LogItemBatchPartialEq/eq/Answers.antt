@@ -12,6 +12,6 @@ pub returns-clause-tested : goal.returns-clause-tested
 returns-clause-tested = tested
 
 pub returns-clause-exact : goal.returns-clause-exact
-returns-clause-exact c = 
+returns-clause-exact c =
     let d = same_items_decides c.args.self.now c.args.other.now in
     (λ e. d.0 (sym (tested c) ∙ e), λ e. tested c ∙ d.1 e)

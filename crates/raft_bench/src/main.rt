@@ -4,6 +4,7 @@
 mod checksum;
 mod item_batch;
 mod numbers;
+mod tables;
 mod timing;
 
 use std::{env, io};
@@ -14,7 +15,8 @@ fn main(rt: HostRuntime) -> io::Result<()> {
             "crc32" => checksum::time(&rt)?,
             "varint" => numbers::time(&rt)?,
             "decode" => item_batch::time(&rt)?,
-            _ => eprintln!(rt; "usage: raft_bench [crc32] [varint] [decode]")?,
+            "memtable" => tables::time(&rt)?,
+            _ => eprintln!(rt; "usage: raft_bench [crc32] [varint] [decode] [memtable]")?,
         }
     }
     Ok(())

@@ -3,8 +3,8 @@
 
 mod batches;
 mod checksum;
-mod item_batch;
 mod numbers;
+mod tables;
 mod timing;
 
 use raft_records::Result;
@@ -25,7 +25,7 @@ fn time(rt: &HostRuntime, word: &str) -> Result<()> {
         "crc32" => checksum::time(rt),
         "varint" => numbers::time(rt),
         "batches" => batches::time(rt),
-        "decode" => item_batch::time(rt),
-        _ => Ok(eprintln!(rt; "usage: raft_bench [crc32] [varint] [batches] [decode]")?),
+        "memtable" => Ok(tables::time(rt)?),
+        _ => Ok(eprintln!(rt; "usage: raft_bench [crc32] [varint] [batches] [memtable]")?),
     }
 }

@@ -4,7 +4,7 @@ ghost use Rattle.std.specs.Prelude.{◌≡◌, ◌≢◌, ◌+◌, ◌≤◌, �
 ghost use Rattle.raft_base.specs.declared.pipe_log.LogQueue.{LogQueue};
 ghost use Rattle.raft_base.specs.declared.pipe_log.LogQueue.TheVariants.{Append, Rewrite};
 ghost use Rattle.raft_memtable.specs.Entries.{IsRunIn, IsSound, start_of, end_of, entry_at, entries_in};
-ghost use Rattle.raft_memtable.specs.Counts.{live};
+ghost use Rattle.raft_memtable.specs.Counts.{Counts, live};
 ghost use Rattle.raft_memtable.specs.KeyValues.{value_at, file_at, file_count};
 ghost use Rattle.raft_memtable.specs.Table.{empty_table, live_of, IsCounted, IsRecounted, after_append, after_replay, after_rewrite, after_rewrite_key, compacted, with_pair, without_key, with_span, with_entries, with_keys, with_rewritten_key, MovesKeyAlone, leaves_append, IsPutRefused, IsKeyRefused};
 ghost use Rattle.raft_memtable.specs.Rewriting.{rewritten, recounted, IsRewriteRefused, MovesPlacesAlone};
@@ -52,7 +52,8 @@ impl Model for MemTable {
 impl MemTable {
     /// The table of the region `region_id`, without records.
     pub fn new(alloc: Global, region_id: u64) -> MemTable
-        ensures { result ≡ empty_table region_id }
+        ensures empty { result ≡ empty_table region_id }
+        ensures counted { (counts : Counts) → IsCounted result counts }
     {
         MemTable {
             region_id,

@@ -6,4 +6,4 @@ use Rattle.raft_records.proofs.log_batch.batch.write.LogBatchReactiveBytes.as_by
 pub returns : goal.returns
 returns c =
     let signature = signature_of c.args.context.now in
-    c.encoded_bytes.ensures signature (ap (λ (b : Batch). b.stage) c.prepare_write.ensures) ∙ ap (λ (b : Batch). log_batch_bytes signature b.items b.entry_bytes) c.prepare_write.ensures
+    c.encoded_bytes.ensures.bytes signature (ap (λ (b : Batch). b.stage) c.prepare_write.ensures) ∙ ap (λ (b : Batch). log_batch_bytes signature b.items b.entry_bytes) c.prepare_write.ensures

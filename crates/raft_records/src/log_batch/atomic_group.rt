@@ -16,7 +16,8 @@ use std::marker::Model;
 mod tests;
 
 /// Marks the batches of a group. The first gets the mark `Begin`, the last one `End`, those between
-/// them `Middle`; a group may also begin and end in one batch.
+/// them `Middle`. Each call takes a batch of its own: of two marks in one batch only the first is
+/// read, so a group has two batches at least.
 #[derive(Debug, Drop)]
 pub struct AtomicGroupBuilder {
     id: u64,

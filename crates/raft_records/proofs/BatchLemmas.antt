@@ -257,7 +257,7 @@ all_placed : (block : FileBlockHandle) (c : CompressionType) (xs : List Item) �
 all_placed block c [] = refl
 all_placed block c (x ∷ xs) = ap (λ (t : List ℕ). t ++ flat_map item_bytes (map (placed block c) xs)) (bytes_placed block c x) ∙ ap (λ (t : List ℕ). item_bytes x ++ t) (all_placed block c xs)
 
-batch_placed : (block : FileBlockHandle) (c : CompressionType) (xs : List Item) → batch_bytes (map (placed block c) xs) ≡ batch_bytes xs
+pub batch_placed : (block : FileBlockHandle) (c : CompressionType) (xs : List Item) → batch_bytes (map (placed block c) xs) ≡ batch_bytes xs
 unfolding batch_bytes
 batch_placed block c xs = ap (λ (n : ℕ). varint n ++ flat_map item_bytes (map (placed block c) xs)) (length-map xs (placed block c)) ∙ ap (λ (t : List ℕ). varint (length xs) ++ t) (all_placed block c xs)
 

@@ -12,9 +12,11 @@ pub mod JoinLemmas
 pub mod LayLemmas
 pub mod LengthLemmas
 pub mod LineLemmas
+pub mod PlaceLemmas
 pub mod PrintLemmas
 pub mod RangeLemmas
 pub mod RequestLemmas
 pub mod SealLemmas
 pub mod StageLemmas
+pub mod StringLemmas
 pub mod WrittenLemmas

@@ -1,11 +1,21 @@
 -- Lists of entries of one region.
-use Rattle.std.specs.Prelude.{◌≡◌, ℕ, ◌+◌, ◌-◌, ◌^◌, ◌<◌, List, [], ◌∷◌, None}
+use Rattle.std.specs.Prelude.{◌≡◌, ℕ, ◌+◌, ◌-◌, ◌^◌, ◌<◌, List, [], ◌∷◌, length, None}
 use Rattle.raft_records.specs.declared.log_batch.CompressionType.TheVariants as compressions
 use Rattle.raft_records.specs.declared.log_batch.entry_index.EntryIndex.{EntryIndex}
 
 -- index 0, without bytes and without a place
 abbrev pub no_entry : EntryIndex
 no_entry = record { index = 0; entries = None; compression_type = compressions.None; entry_offset = 0; entry_len = 0 }
+
+-- this index, without bytes and without a place
+abbrev pub entry_at : ℕ → EntryIndex
+entry_at index = record no_entry { index = index }
+
+-- entries with the lengths of these byte strings
+abbrev pub with_lengths : List EntryIndex → List (List ℕ) → List EntryIndex
+with_lengths [] strings = []
+with_lengths (e ∷ es) [] = []
+with_lengths (e ∷ es) (bytes ∷ strings) = record e { entry_len = length bytes } ∷ with_lengths es strings
 
 -- the indexes rise by one from this one on, and none is 2^64 - 1
 abbrev pub IsConsecutiveFrom : ℕ → List EntryIndex → Type 0

@@ -1,11 +1,18 @@
 -- A log batch as callers see it, and its bytes: a header, the entry bytes with their checksum, and an item batch.
-use Rattle.std.specs.Prelude.{◌≡◌, ℕ, ◌+◌, ◌*◌, ◌^◌, ◌<◌, List, [], ◌∷◌, ◌++◌, map, length, Option, None}
+use Rattle.std.specs.Prelude.{◌≡◌, ℕ, ◌+◌, ◌*◌, ◌^◌, ◌<◌, ◌≤◌, List, [], ◌∷◌, ◌++◌, map, length, Option, None}
 use Rattle.byteorder.specs.Endian.{big_bytes}
+use Rattle.raft_base.specs.declared.pipe_log.FileBlockHandle.{FileBlockHandle}
 use Rattle.raft_records.specs.declared.log_batch.CompressionType.{CompressionType}
 use Rattle.raft_records.specs.declared.log_batch.CompressionType.TheVariants as compressions
-use Rattle.raft_records.specs.Item.{Item}
+use Rattle.std.specs.List.{concat}
+use Rattle.raft_base.specs.declared.errors.Error.{Error}
+use Rattle.raft_base.specs.declared.errors.Error.TheVariants as errors
+use Rattle.raft_records.specs.declared.log_batch.entry_index.EntryIndex.{EntryIndex}
+use Rattle.raft_records.specs.Entries.{IsConsecutive, with_lengths}
+use Rattle.raft_records.specs.Faults.{IsMemoryOrMessage}
+use Rattle.raft_records.specs.Item.{Item, entries_item}
 use Rattle.raft_records.specs.Sizes.{batch_size, saturated}
-use Rattle.raft_records.specs.ItemBatch.{checksum_bytes, batch_bytes, entry_bytes_of, FitTogether, IsItemBatch, raised}
+use Rattle.raft_records.specs.ItemBatch.{checksum_bytes, batch_bytes, entry_bytes_of, FitTogether, IsItemBatch, laid, raised}
 
 -- how far a batch has come: items may still be added; its bytes stand; they are signed, or have no signature
 pub data Stage : Type 0 where
@@ -44,6 +51,22 @@ abbrev pub joined : Batch → Batch → Batch
 joined b more =
     record b { items = b.items ++ map (raised (length b.entry_bytes)) more.items; entry_bytes = b.entry_bytes ++ more.entry_bytes }
 
+-- a batch and these entries of a region, whose bytes are these strings and stand behind the batch's own; no entries add nothing
+abbrev pub with_entries : Batch → ℕ → List EntryIndex → List (List ℕ) → Batch
+with_entries b region [] strings = b
+with_entries b region (e ∷ es) strings =
+    record b { items = b.items ++ entries_item region (laid (length b.entry_bytes) (with_lengths (e ∷ es) strings)) ∷ []; entry_bytes = b.entry_bytes ++ concat strings }
+
+-- why the bytes of entries are not taken: they would pass the limit, a message refused to write itself, or there is no memory
+abbrev pub IsBytesFault : ℕ → Error → Type 0
+IsBytesFault size errors.Full = 2 ^ 31 ≤ size
+IsBytesFault size e = IsMemoryOrMessage e
+
+-- why entries are not added: their indexes are not consecutive, or their bytes are not taken
+abbrev pub IsAddFault : List EntryIndex → ℕ → Error → Type 0
+IsAddFault es size (errors.InvalidArgument text) = IsConsecutive es → ⊥
+IsAddFault es size e = IsBytesFault size e
+
 -- the entries of the items tile the entry bytes, in order
 pub record IsBatchOf (items : List Item) (entry_bytes : List ℕ) : Type 0 where
   pub tiled : FitTogether 0 items
@@ -63,6 +86,11 @@ header_bytes offset compression len = big_bytes 8 (len * 256 + compression_byte 
 abbrev pub entry_block : List ℕ → List ℕ
 entry_block [] = []
 entry_block (byte ∷ bytes) = (byte ∷ bytes) ++ checksum_bytes None (byte ∷ bytes)
+
+-- where the entry block of a batch stands that was written to this block
+abbrev pub entry_place : FileBlockHandle → List ℕ → FileBlockHandle
+entry_place block entry_bytes =
+    record { id = block.id; offset = block.offset + 16; len = length (entry_block entry_bytes) }
 
 -- where the item batch begins: behind the header and the entry block
 abbrev pub item_offset : List ℕ → ℕ

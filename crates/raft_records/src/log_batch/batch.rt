@@ -22,9 +22,11 @@ use std::alloc::Global;
 use std::marker::Model;
 use std::vec;
 
+mod entries;
 mod key_values;
 mod merge;
 mod traits;
+mod write;
 
 /// The most bytes that the entries of a batch have together.
 const MOST_ENTRY_BYTES: u64 = (1 << 31) - 1;

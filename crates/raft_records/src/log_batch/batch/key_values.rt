@@ -54,9 +54,9 @@ impl LogBatch {
         ensures err { OnErr result (self.new ≡ self.old) }
         ensures fault { IfErr result (IsMessageRefusal key.items) }
     {
-        refuse_reserved(&key)?;
-        let alloc = *key.allocator();
-        self.item_batch.put_message(alloc, region_id, key, message)
+        let mut value = Vec::new(*key.allocator());
+        message.write_to_vec(&mut value)?;
+        self.put(region_id, key, value)
     }
 
     /// Adds a value of a region's key to an open batch, whatever the key. On `Err` the batch is as it

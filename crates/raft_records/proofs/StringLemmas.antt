@@ -1,0 +1,189 @@
+-- On entries with their bytes.
+use Rattle.std.proofs.Common.{◌≡◌, ◌≢◌, ℕ, zero, suc, ◌+◌, ◌-◌, ◌^◌, ◌<◌, ◌≤◌, List, [], ◌∷◌, ◌++◌, map, length, take, drop, get_or, set, Result, Ok, Err, OnOk, refl, sym, ap, ◌∙◌, subst, append_assoc, add-one, arith}
+use Rattle.std.specs.List.{concat}
+use Rattle.std.proofs.lemmas.List.{length-append, length-drop, length-map, length-set, take_all, drop_more, drop_all, drop-append-le, append-nil}
+use Rattle.raft_records.specs.declared.log_batch.entry_index.EntryIndex.{EntryIndex}
+use Rattle.raft_records.specs.Item.{Item, entries_item}
+use Rattle.raft_records.specs.ItemBatch.{entry_bytes_of, entry_lengths, laid}
+use Rattle.raft_records.specs.LogBatch.{Stage, Batch, populating, with_entries}
+use Rattle.raft_records.specs.Buffer.{entry_bytes_in, IsHeld}
+use Rattle.raft_records.proofs.BatchLemmas.{end_push}
+use Rattle.raft_records.proofs.LayLemmas.{end_of_laid}
+use Rattle.raft_records.proofs.BufferLemmas.{open_entries, held_open}
+use Rattle.raft_records.proofs.StageLemmas.{batch_with, open_held, entries_are}
+use Rattle.raft_records.specs.Entries.{entry_at, with_lengths, IsConsecutiveFrom, IsConsecutive}
+use Rattle.raft_records.specs.Spelling.{Keeps}
+
+-- an entry with its length
+abbrev pub sized : ℕ → List ℕ → EntryIndex
+sized index bytes = record (entry_at index) { entry_len = length bytes }
+
+-- the first i of these messages are written behind the bytes that were there
+pub record IsWriting {X : Type 0} (bytes_of : X → List ℕ) (index_of : X → ℕ) (xs : List X) (i : ℕ) (start buf : List ℕ) (done : List EntryIndex) : Type 0 where
+  pub keeps : Keeps start buf
+  pub bytes : buf ++ concat (map bytes_of (drop i xs)) ≡ start ++ concat (map bytes_of xs)
+  pub lengths : done ++ with_lengths (map (λ x. entry_at (index_of x)) (drop i xs)) (map bytes_of (drop i xs)) ≡ with_lengths (map (λ x. entry_at (index_of x)) xs) (map bytes_of xs)
+  pub small : 0 < i → length buf < 16 + 2 ^ 31
+
+pub keeps_more : (start buf more new : List ℕ) → Keeps start buf → new ≡ buf ++ more → Keeps start new
+keeps_more start buf more new k e =
+    record { behind = k.behind ++ more; split = e ∙ ap (λ (t : List ℕ). t ++ more) k.split ∙ append_assoc start k.behind more }
+
+pub keeps_all : (start : List ℕ) → Keeps start start
+keeps_all start = record { behind = []; split = sym (append-nil start) }
+
+next_is : {X : Type 0} (xs : List X) (i : ℕ) (x : X) → i < length xs → x ≡ get_or xs i x → drop i xs ≡ x ∷ drop (i + 1) xs
+next_is xs i x lt at = drop_more xs i x lt ∙ ap (λ y. y ∷ drop (i + 1) xs) (sym at)
+
+pub written_more : {X : Type 0} (bytes_of : X → List ℕ) (index_of : X → ℕ) (xs : List X) (i : ℕ) (start buf new : List ℕ) (done more : List EntryIndex) (x : X) → IsWriting bytes_of index_of xs i start buf done → i < length xs → x ≡ get_or xs i x → new ≡ buf ++ bytes_of x → length new < 16 + 2 ^ 31 → more ≡ done ++ sized (index_of x) (bytes_of x) ∷ [] → IsWriting bytes_of index_of xs (i + 1) start new more
+written_more {X} bytes_of index_of xs i start buf new done more x w lt at e fits pushed =
+    let next = next_is xs i x lt at in
+    let rest = concat (map bytes_of (drop (i + 1) xs)) in
+    let behind = with_lengths (map (λ y. entry_at (index_of y)) (drop (i + 1) xs)) (map bytes_of (drop (i + 1) xs)) in
+    record {
+      keeps = keeps_more start buf (bytes_of x) new w.keeps e;
+      bytes = ap (λ (t : List ℕ). t ++ rest) e ∙ append_assoc buf (bytes_of x) rest ∙ ap (λ (ys : List X). buf ++ concat (map bytes_of ys)) (sym next) ∙ w.bytes;
+      lengths = ap (λ (t : List EntryIndex). t ++ behind) pushed ∙ append_assoc done (sized (index_of x) (bytes_of x) ∷ []) behind ∙ ap (λ (ys : List X). done ++ with_lengths (map (λ y. entry_at (index_of y)) ys) (map bytes_of ys)) (sym next) ∙ w.lengths;
+      small = λ some. fits;
+    }
+
+pub written_past : {X : Type 0} (bytes_of : X → List ℕ) (index_of : X → ℕ) (xs : List X) (i : ℕ) (start buf new : List ℕ) (done : List EntryIndex) (x : X) → IsWriting bytes_of index_of xs i start buf done → i < length xs → x ≡ get_or xs i x → new ≡ buf ++ bytes_of x → 16 ≤ length start → 16 + 2 ^ 31 ≤ length new → 2 ^ 31 ≤ length start - 16 + length (concat (map bytes_of xs))
+written_past bytes_of index_of xs i start buf new done x w lt at e room past =
+    let next = next_is xs i x lt at in
+    let rest = concat (map bytes_of (drop (i + 1) xs)) in
+    let whole = ap (λ ys. length (buf ++ concat (map bytes_of ys))) (sym next) ∙ ap length w.bytes in
+    omega (arith, room, past, ap length e, whole, length-append buf (bytes_of x), length-append buf (bytes_of x ++ rest), length-append (bytes_of x) rest, length-append start (concat (map bytes_of xs)))
+
+-- all of them are written
+pub written_all : {X : Type 0} (bytes_of : X → List ℕ) (index_of : X → ℕ) (xs : List X) (i : ℕ) (start buf : List ℕ) (done : List EntryIndex) → IsWriting bytes_of index_of xs i start buf done → length xs ≤ i → (buf ≡ start ++ concat (map bytes_of xs)) × (done ≡ with_lengths (map (λ x. entry_at (index_of x)) xs) (map bytes_of xs))
+written_all {X} bytes_of index_of xs i start buf done w le =
+    let none = drop_all i xs le in (
+      sym (append-nil buf) ∙ ap (λ (ys : List X). buf ++ concat (map bytes_of ys)) (sym none) ∙ w.bytes,
+      sym (append-nil done) ∙ ap (λ (ys : List X). done ++ with_lengths (map (λ x. entry_at (index_of x)) ys) (map bytes_of ys)) (sym none) ∙ w.lengths,
+    )
+
+-- ---- lengths
+
+-- entries with the lengths of their strings have as many bytes as the strings
+pub lengths_total : (es : List EntryIndex) (strings : List (List ℕ)) → length es ≡ length strings → entry_lengths (with_lengths es strings) ≡ length (concat strings)
+lengths_total [] [] e = refl
+lengths_total [] (s ∷ ss) e = absurd (omega (arith, e))
+lengths_total (x ∷ xs) [] e = absurd (omega (arith, e))
+lengths_total (x ∷ xs) (s ∷ ss) e = omega (arith, lengths_total xs ss (omega (arith, e)), length-append s (concat ss))
+
+lengths_from : (index : ℕ) (es : List EntryIndex) (strings : List (List ℕ)) → IsConsecutiveFrom index es → IsConsecutiveFrom index (with_lengths es strings)
+lengths_from index [] strings h = tt
+lengths_from index (x ∷ xs) [] h = tt
+lengths_from index (x ∷ xs) (s ∷ ss) h = (h.0, h.1, lengths_from (index + 1) xs ss h.2)
+
+pub lengths_consecutive : (es : List EntryIndex) (strings : List (List ℕ)) → IsConsecutive es → IsConsecutive (with_lengths es strings)
+lengths_consecutive [] strings h = tt
+lengths_consecutive (x ∷ xs) [] h = tt
+lengths_consecutive (x ∷ xs) (s ∷ ss) h = lengths_from x.index (x ∷ xs) (s ∷ ss) h
+
+from_lengths : (index : ℕ) (es : List EntryIndex) (strings : List (List ℕ)) → length es ≡ length strings → IsConsecutiveFrom index (with_lengths es strings) → IsConsecutiveFrom index es
+from_lengths index [] strings e h = tt
+from_lengths index (x ∷ xs) [] e h = absurd (omega (arith, e))
+from_lengths index (x ∷ xs) (s ∷ ss) e h = (h.0, h.1, from_lengths (index + 1) xs ss (omega (arith, e)) h.2)
+
+pub consecutive_of : (es : List EntryIndex) (strings : List (List ℕ)) → length es ≡ length strings → IsConsecutive (with_lengths es strings) → IsConsecutive es
+consecutive_of [] strings e h = tt
+consecutive_of (x ∷ xs) [] e h = absurd (omega (arith, e))
+consecutive_of (x ∷ xs) (s ∷ ss) e h = from_lengths x.index (x ∷ xs) (s ∷ ss) e h
+
+-- ---- the batch with these entries
+
+-- where the bytes of entries stand behind those of a batch
+pub added_end : (items : List Item) (region : ℕ) (es : List EntryIndex) (strings : List (List ℕ)) → length es ≡ length strings → entry_bytes_of (items ++ entries_item region (laid (entry_bytes_of items) (with_lengths es strings)) ∷ []) ≡ entry_bytes_of items + length (concat strings)
+added_end items region es strings e =
+    end_push 0 items (entries_item region (laid (entry_bytes_of items) (with_lengths es strings)))
+    ∙ end_of_laid (entry_bytes_of items) (with_lengths es strings)
+    ∙ ap (λ (n : ℕ). entry_bytes_of items + n) (lengths_total es strings e)
+
+pub added_held : (stage : Stage) (items new : List Item) (region : ℕ) (es : List EntryIndex) (strings : List (List ℕ)) (buf mid bytes : List ℕ) → stage ≡ populating → IsHeld stage items (entry_bytes_in items buf) buf → 16 ≤ length mid → drop 16 mid ≡ drop 16 buf → length es ≡ length strings → new ≡ items ++ entries_item region (laid (entry_bytes_of items) (with_lengths es strings)) ∷ [] → bytes ≡ mid ++ concat strings → IsHeld stage new (entry_bytes_in new bytes) bytes × (entry_bytes_in new bytes ≡ entry_bytes_in items buf ++ concat strings)
+added_held stage items new region es strings buf mid bytes e h room same counts added written =
+    let behind : drop 16 bytes ≡ drop 16 buf ++ concat strings = ap (drop 16) written ∙ drop-append-le 16 mid (concat strings) room ∙ ap (λ (t : List ℕ). t ++ concat strings) same in
+    let total : entry_bytes_of new ≡ entry_bytes_of items + length (concat strings) = ap entry_bytes_of added ∙ added_end items region es strings counts in
+    let len : length bytes - 16 ≡ entry_bytes_of new = omega (arith, total, open_held stage items (entry_bytes_in items buf) buf e h, ap length behind, length-append (drop 16 buf) (concat strings), length-drop 16 buf, length-drop 16 bytes) in (
+      subst (λ (s : Stage). IsHeld s new (entry_bytes_in new bytes) bytes) (sym e) (held_open new bytes len),
+      open_entries (entry_bytes_of new) bytes len ∙ behind ∙ ap (λ (t : List ℕ). t ++ concat strings) (sym (entries_are stage items buf e h)),
+    )
+
+pub added_view : (now : Batch) (stage : Stage) (items new : List Item) (region : ℕ) (es : List EntryIndex) (strings : List (List ℕ)) (old bytes : List ℕ) → batch_with items old stage ≡ now → length old ≡ entry_bytes_of items → es ≢ [] → new ≡ items ++ entries_item region (laid (entry_bytes_of items) (with_lengths es strings)) ∷ [] → bytes ≡ old ++ concat strings → batch_with new bytes stage ≡ with_entries now region es strings
+added_view now stage items new region [] strings old bytes view whole some added written = absurd (some refl)
+added_view now stage items new region (e ∷ es) strings old bytes view whole some added written =
+    ap (λ (xs : List Item). batch_with xs bytes stage) added
+    ∙ ap (λ (t : List ℕ). batch_with (items ++ entries_item region (laid (entry_bytes_of items) (with_lengths (e ∷ es) strings)) ∷ []) t stage) written
+    ∙ ap (λ (n : ℕ). batch_with (items ++ entries_item region (laid n (with_lengths (e ∷ es) strings)) ∷ []) (old ++ concat strings) stage) (sym whole)
+    ∙ ap (λ (b : Batch). with_entries b region (e ∷ es) strings) view
+
+-- room for the header was made
+pub reserved_len : (stage : Stage) (items : List Item) (old new : List ℕ) → stage ≡ populating → IsHeld stage items (entry_bytes_in items old) old → 16 ≤ length new → drop 16 new ≡ drop 16 old → length new ≡ 16 + entry_bytes_of items
+reserved_len stage items old new e h room same =
+    omega (arith, room, open_held stage items (entry_bytes_in items old) old e h, ap length same, length-drop 16 old, length-drop 16 new)
+
+pub on_ok : {T E : Type 0} {P : Type 0} (r : Result T E) → P → OnOk r P
+on_ok (Ok x) p = p
+on_ok (Err e) p = tt
+
+-- messages with as many indexes
+pub same_counts : {X : Type 0} (bytes_of : X → List ℕ) (index_of : X → ℕ) (xs : List X) → length (map (λ x. entry_at (index_of x)) xs) ≡ length (map bytes_of xs)
+same_counts bytes_of index_of xs = length-map xs (λ x. entry_at (index_of x)) ∙ sym (length-map xs bytes_of)
+
+pub map_some : {X : Type 0} {Y : Type 0} (f : X → Y) (xs : List X) → xs ≢ [] → map f xs ≢ []
+map_some f [] some e = some refl
+map_some f (x ∷ xs) some e = absurd cc
+
+-- ---- byte strings
+
+-- the first i of these strings are written behind the bytes that were there, and have set the lengths of their entries
+pub record IsStringing {X : Type 0} (bytes_of : X → List ℕ) (es : List EntryIndex) (xs : List X) (i : ℕ) (start buf : List ℕ) (now : List EntryIndex) : Type 0 where
+  pub keeps : Keeps start buf
+  pub bytes : buf ++ concat (map bytes_of (drop i xs)) ≡ start ++ concat (map bytes_of xs)
+  pub lengths : now ≡ with_lengths (take i es) (map bytes_of xs) ++ drop i es
+  pub count : length now ≡ length xs
+  pub small : 0 < i → length buf < 16 + 2 ^ 31
+
+set_length : {X : Type 0} (bytes_of : X → List ℕ) (es : List EntryIndex) (xs : List X) (i : ℕ) (e : EntryIndex) (x : X) → i < length es → length es ≡ length xs → e ≡ get_or (with_lengths (take i es) (map bytes_of xs) ++ drop i es) i e → x ≡ get_or xs i x → set (with_lengths (take i es) (map bytes_of xs) ++ drop i es) i (record e { entry_len = length (bytes_of x) }) ≡ with_lengths (take (suc i) es) (map bytes_of xs) ++ drop (suc i) es
+set_length bytes_of [] xs i e x lt count at there = absurd (omega (arith, lt))
+set_length bytes_of (y ∷ ys) [] i e x lt count at there = absurd (omega (arith, count))
+set_length bytes_of (y ∷ ys) (z ∷ zs) zero e x lt count at there =
+    ap (λ (v : EntryIndex). record v { entry_len = length (bytes_of x) } ∷ ys) at ∙ ap (λ v. record y { entry_len = length (bytes_of v) } ∷ ys) there
+set_length bytes_of (y ∷ ys) (z ∷ zs) (suc i) e x lt count at there =
+    ap (λ (t : List EntryIndex). record y { entry_len = length (bytes_of z) } ∷ t) (set_length bytes_of ys zs i e x (omega (arith, lt)) (omega (arith, count)) at there)
+
+strung_more : {X : Type 0} (bytes_of : X → List ℕ) (es : List EntryIndex) (xs : List X) (i : ℕ) (start buf new : List ℕ) (now : List EntryIndex) (e : EntryIndex) (x : X) → IsStringing bytes_of es xs i start buf now → i < length xs → length es ≡ length xs → e ≡ get_or now i e → x ≡ get_or xs i x → new ≡ buf ++ bytes_of x → length new < 16 + 2 ^ 31 → IsStringing bytes_of es xs (i + 1) start new (set now i (record e { entry_len = length (bytes_of x) }))
+strung_more {X} bytes_of es xs i start buf new now e x w lt count at there appended fits =
+    let next = next_is xs i x lt there in
+    let rest = concat (map bytes_of (drop (i + 1) xs)) in
+    let here : e ≡ get_or (with_lengths (take i es) (map bytes_of xs) ++ drop i es) i e = at ∙ ap (λ (t : List EntryIndex). get_or t i e) w.lengths in
+    record {
+      keeps = keeps_more start buf (bytes_of x) new w.keeps appended;
+      bytes = ap (λ (t : List ℕ). t ++ rest) appended ∙ append_assoc buf (bytes_of x) rest ∙ ap (λ (ys : List X). buf ++ concat (map bytes_of ys)) (sym next) ∙ w.bytes;
+      lengths = ap (λ (t : List EntryIndex). set t i (record e { entry_len = length (bytes_of x) })) w.lengths ∙ set_length bytes_of es xs i e x (omega (arith, lt, count)) count here there ∙ ap (λ (n : ℕ). with_lengths (take n es) (map bytes_of xs) ++ drop n es) (sym (add-one i));
+      count = length-set now i (record e { entry_len = length (bytes_of x) }) ∙ w.count;
+      small = λ some. fits;
+    }
+
+pub strung_next : {X : Type 0} (bytes_of : X → List ℕ) (es : List EntryIndex) (xs : List X) (i : ℕ) (start buf new : List ℕ) (now : List EntryIndex) (e : EntryIndex) (x : X) (len : ℕ) → IsStringing bytes_of es xs i start buf now → i < length xs → length es ≡ length xs → e ≡ get_or now i e → x ≡ get_or xs i x → new ≡ buf ++ bytes_of x → length new < 16 + 2 ^ 31 → len ≡ length (bytes_of x) → IsStringing bytes_of es xs (i + 1) start new (set now i (record e { entry_len = len }))
+strung_next bytes_of es xs i start buf new now e x len w lt count at there appended fits same =
+    subst (λ (n : ℕ). IsStringing bytes_of es xs (i + 1) start new (set now i (record e { entry_len = n }))) (sym same) (strung_more bytes_of es xs i start buf new now e x w lt count at there appended fits)
+
+pub strung_past : {X : Type 0} (bytes_of : X → List ℕ) (es : List EntryIndex) (xs : List X) (i : ℕ) (start buf : List ℕ) (now : List EntryIndex) (x : X) → IsStringing bytes_of es xs i start buf now → i < length xs → x ≡ get_or xs i x → 16 ≤ length start → 16 + 2 ^ 31 ≤ length buf + length (bytes_of x) → 2 ^ 31 ≤ length start - 16 + length (concat (map bytes_of xs))
+strung_past bytes_of es xs i start buf now x w lt there room past =
+    let next = next_is xs i x lt there in
+    let rest = concat (map bytes_of (drop (i + 1) xs)) in
+    let whole = ap (λ ys. length (buf ++ concat (map bytes_of ys))) (sym next) ∙ ap length w.bytes in
+    omega (arith, room, past, whole, length-append buf (bytes_of x ++ rest), length-append (bytes_of x) rest, length-append start (concat (map bytes_of xs)))
+
+pub strung_all : {X : Type 0} (bytes_of : X → List ℕ) (es : List EntryIndex) (xs : List X) (i : ℕ) (start buf : List ℕ) (now : List EntryIndex) → IsStringing bytes_of es xs i start buf now → length es ≡ length xs → length xs ≤ i → (buf ≡ start ++ concat (map bytes_of xs)) × (now ≡ with_lengths es (map bytes_of xs))
+strung_all {X} bytes_of es xs i start buf now w count le =
+    let none = drop_all i xs le in (
+      sym (append-nil buf) ∙ ap (λ (ys : List X). buf ++ concat (map bytes_of ys)) (sym none) ∙ w.bytes,
+      w.lengths ∙ ap (λ (t : List EntryIndex). with_lengths (take i es) (map bytes_of xs) ++ t) (drop_all i es (omega (arith, count, le))) ∙ append-nil (with_lengths (take i es) (map bytes_of xs)) ∙ ap (λ (t : List EntryIndex). with_lengths t (map bytes_of xs)) (take_all i es (omega (arith, count, le))),
+    )
+
+pub some_counted : {X Y : Type 0} (xs : List X) (ys : List Y) → length xs ≡ length ys → xs ≢ [] → ys ≢ []
+some_counted [] ys e some none = some refl
+some_counted (x ∷ xs) [] e some none = absurd (omega (arith, e))
+some_counted (x ∷ xs) (y ∷ ys) e some none = absurd cc

@@ -1,5 +1,5 @@
 -- On the buffer of a log batch.
-use Rattle.std.proofs.Common.{◌≡◌, ◌≢◌, ℕ, suc, ◌+◌, ◌-◌, ◌*◌, ◌≤◌, List, [], ◌∷◌, ◌++◌, length, take, drop, Option, None, refl, sym, ap, ◌∙◌, subst, append_assoc, arith}
+use Rattle.std.proofs.Common.{◌≡◌, ◌<◌, ◌^◌, ◌≢◌, ℕ, suc, ◌+◌, ◌-◌, ◌*◌, ◌≤◌, List, [], ◌∷◌, ◌++◌, length, take, drop, Option, None, refl, sym, ap, ◌∙◌, subst, append_assoc, arith}
 use Rattle.std.proofs.lemmas.List.{length-append, length-drop, length-take-le, take-append-drop, take_at, drop_at, take_all}
 use Rattle.byteorder.specs.Endian.{big_bytes}
 use Rattle.raft_base.specs.Checksum.{crc32_of}
@@ -62,7 +62,7 @@ open_again n old new h same = omega (arith, h, ap length same, length-drop 16 ol
 -- the entry bytes that were there, and more behind them
 pub held_open : (items : List Item) (buf : List ℕ) → length buf - 16 ≡ entry_bytes_of items → IsHeld populating items (entry_bytes_in items buf) buf
 held_open items buf h =
-    record { whole = ap length (open_entries (entry_bytes_of items) buf h) ∙ length-drop 16 buf ∙ h; held = h }
+    record { whole = ap length (open_entries (entry_bytes_of items) buf h) ∙ length-drop 16 buf ∙ h; held = h; short = tt }
 
 -- ---- encoded and sealed
 
@@ -74,16 +74,17 @@ pub unsealed_entries : (items : List Item) (es buf : List ℕ) → length es ≡
 unsealed_entries items es buf counted u =
     entries_behind (encoded_length items es) (entry_bytes_of items) items es u.seal buf counted u.split
 
-pub held_encoded : (items : List Item) (es buf : List ℕ) → items ≢ [] → length es ≡ entry_bytes_of items → IsUnsealed items es buf → IsHeld encoded items (entry_bytes_in items buf) buf
-held_encoded items es buf some counted u =
+pub held_encoded : (items : List Item) (es buf : List ℕ) → items ≢ [] → length es ≡ entry_bytes_of items → IsUnsealed items es buf → length buf < 2 ^ 56 → IsHeld encoded items (entry_bytes_in items buf) buf
+held_encoded items es buf some counted u short =
     let same = unsealed_entries items es buf counted u in
     record {
       whole = ap length same ∙ counted;
       held = subst (λ (t : List ℕ). IsEncodedAs items t buf) (sym same) (encoded_as items es buf some u);
+      short = short;
     }
 
 pub held_none : (items : List Item) (buf : List ℕ) → items ≡ [] → buf ≡ [] → IsHeld encoded items (entry_bytes_in items buf) buf
-held_none [] buf e none = record { whole = refl; held = none }
+held_none [] buf e none = record { whole = refl; held = none; short = omega (arith, ap length none) }
 held_none (x ∷ xs) buf e none = absurd cc
 
 -- what is encoded or sealed is the batch, but for its checksum
@@ -137,13 +138,13 @@ sealed_entries signature [] es buf some counted h = absurd (some refl)
 sealed_entries signature (x ∷ xs) es buf some counted h =
     entries_behind (encoded_length (x ∷ xs) es) (entry_bytes_of (x ∷ xs)) (x ∷ xs) es (checksum_bytes signature (batch_bytes (x ∷ xs))) buf counted h
 
-pub held_sealed : (signature : Option ℕ) (items : List Item) (es buf : List ℕ) → items ≢ [] → length es ≡ entry_bytes_of items → buf ≡ log_batch_bytes signature items es → IsHeld (sealed signature) items (entry_bytes_in items buf) buf
-held_sealed signature items es buf some counted h =
+pub held_sealed : (signature : Option ℕ) (items : List Item) (es buf : List ℕ) → items ≢ [] → length es ≡ entry_bytes_of items → buf ≡ log_batch_bytes signature items es → length buf < 2 ^ 56 → IsHeld (sealed signature) items (entry_bytes_in items buf) buf
+held_sealed signature items es buf some counted h short =
     let same = sealed_entries signature items es buf some counted h in
-    record { whole = ap length same ∙ counted; held = h ∙ ap (log_batch_bytes signature items) (sym same) }
+    record { whole = ap length same ∙ counted; held = h ∙ ap (log_batch_bytes signature items) (sym same); short = short }
 
 pub held_nothing : (signature : Option ℕ) (items : List Item) (buf : List ℕ) → items ≡ [] → buf ≡ [] → IsHeld (sealed signature) items (entry_bytes_in items buf) buf
-held_nothing signature [] buf e none = record { whole = refl; held = none }
+held_nothing signature [] buf e none = record { whole = refl; held = none; short = omega (arith, ap length none) }
 held_nothing signature (x ∷ xs) buf e none = absurd cc
 
 -- ---- encoding

@@ -187,3 +187,14 @@ pub some_counted : {X Y : Type 0} (xs : List X) (ys : List Y) → length xs ≡ 
 some_counted [] ys e some none = some refl
 some_counted (x ∷ xs) [] e some none = absurd (omega (arith, e))
 some_counted (x ∷ xs) (y ∷ ys) e some none = absurd cc
+
+-- what was found is the entries with their lengths
+pub found_room : (es found : List EntryIndex) (strings : List (List ℕ)) (old new : List ℕ) (before : ℕ) → length es ≡ length strings → found ≡ with_lengths es strings → new ≡ old ++ concat strings → length new < 16 + 2 ^ 31 → length old ≡ 16 + before → before + entry_lengths found < 2 ^ 32
+found_room es found strings old new before counts is written fits whole =
+    omega (arith, fits, whole, ap entry_lengths is, lengths_total es strings counts, ap length written, length-append old (concat strings))
+
+pub found_consecutive : (es found seen : List EntryIndex) (strings : List (List ℕ)) → seen ≡ found → found ≡ with_lengths es strings → IsConsecutive es → IsConsecutive seen
+found_consecutive es found seen strings same is h = subst IsConsecutive (sym (same ∙ is)) (lengths_consecutive es strings h)
+
+pub is_consecutive_found : (es found seen : List EntryIndex) (strings : List (List ℕ)) → length es ≡ length strings → seen ≡ found → found ≡ with_lengths es strings → IsConsecutive seen → IsConsecutive es
+is_consecutive_found es found seen strings counts same is h = consecutive_of es strings counts (subst IsConsecutive (same ∙ is) h)

@@ -5,7 +5,7 @@ ghost use Rattle.raft_base.specs.Reading.{Reads, HasNoFront};
 ghost use Rattle.raft_base.specs.Signature.{signature_of};
 ghost use Rattle.std.specs.Vec.Iter.{into_iter_items};
 ghost use Rattle.raft_records.specs.Item.{Item, command_item, item_of};
-ghost use Rattle.raft_records.specs.LogBatch.{Stage, populating, encoded, sealed, IsSealedStage, empty_batch, encoded_length, log_batch_bytes, approximate_length};
+ghost use Rattle.raft_records.specs.LogBatch.{Stage, populating, encoded, sealed, IsSealedStage, IsBatchOf, empty_batch, encoded_length, log_batch_bytes, approximate_length};
 ghost use Rattle.raft_records.specs.Sizes.{AreSmall};
 ghost use Rattle.raft_records.specs.Header.{IsHeader, IsHeaderFault, IsBlockOf, IsBlockFault};
 
@@ -85,6 +85,14 @@ impl LogBatch {
             state: BufState::Open,
             buf: Vec::new(alloc),
         })
+    }
+
+    /// The entries of a batch's items tile its entry bytes, in order, and these are 2^31 - 1 at most.
+    pub fn entries_tile_bytes(&self)
+        ensures { IsBatchOf self.now.items self.now.entry_bytes }
+    {
+        let _ = &self.buf;
+        self.item_batch.items_fit_together();
     }
 
     /// Whether there are no items.

@@ -4,7 +4,7 @@ use Rattle.raft_base.specs.declared.pipe_log.FileBlockHandle.{FileBlockHandle}
 use Rattle.raft_records.specs.declared.log_batch.CompressionType.{CompressionType}
 use Rattle.raft_records.specs.declared.log_batch.CompressionType.TheVariants as compressions
 use Rattle.raft_records.specs.Item.{Item}
-use Rattle.raft_records.specs.ItemBatch.{placed, batch_bytes, checksum_bytes, entry_bytes_of}
+use Rattle.raft_records.specs.ItemBatch.{placed, checksum_bytes, entry_bytes_of}
 use Rattle.raft_records.specs.LogBatch.{Stage, Batch, populating, encoded, sealed, IsSealedStage, header_bytes, entry_block, entry_place, item_offset, log_batch_bytes}
 use Rattle.raft_records.specs.Buffer.{entry_bytes_in, IsHeld}
 use Rattle.raft_records.proofs.BatchLemmas.{batch_placed, end_of_placed}

@@ -1,6 +1,5 @@
 -- What is written is read again.
-use Rattle.std.specs.Prelude.{◌≡◌, ℕ, ◌^◌, ◌<◌, List, [], ◌∷◌, ◌++◌, length, map, Option, Some, None}
-use Rattle.raft_base.specs.Reading.{HasOneFront}
+use Rattle.std.specs.Prelude.{ℕ, ◌^◌, ◌<◌, List, [], ◌∷◌, ◌++◌, length, map, Option, Some, None}
 use Rattle.raft_records.specs.declared.log_batch.command.Command.{Command}
 use Rattle.raft_records.specs.declared.log_batch.command.Command.TheVariants.{Clean, Compact}
 use Rattle.raft_records.specs.Item.{Item, Content, entries, command, pair, bare}

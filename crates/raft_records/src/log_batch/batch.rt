@@ -260,3 +260,6 @@ impl LogBatch {
         block_front(alloc, buf, place.len, compression_type)
     }
 }
+
+#[cfg(test)]
+mod tests;

@@ -1,5 +1,5 @@
 -- On lists of items that a batch holds.
-use Rattle.std.proofs.Common.{◌≡◌, ℕ, zero, suc, ◌+◌, ◌-◌, ◌^◌, ◌<◌, ◌≤◌, min, List, [], ◌∷◌, ◌++◌, map, length, take, drop, set, get_or, Option, Some, None, refl, sym, ap, ◌∙◌, subst, append_assoc, arith, inl, inr}
+use Rattle.std.proofs.Common.{◌≡◌, ℕ, zero, suc, ◌+◌, ◌-◌, ◌^◌, ◌<◌, List, [], ◌∷◌, ◌++◌, map, length, take, drop, set, get_or, Option, Some, None, refl, sym, ap, ◌∙◌, subst, append_assoc, arith, inl, inr}
 use Rattle.std.specs.Prelude.{bit_xor}
 use Rattle.std.specs.Int.Bits.{xor_assoc, xor_self, xor_zero_l}
 use Rattle.std.proofs.lemmas.Nat.{xor_of_32}
@@ -22,9 +22,9 @@ use Rattle.raft_records.specs.declared.log_batch.entry_index.EntryIndex.{EntryIn
 use Rattle.raft_records.specs.declared.log_batch.key_value.OpType.{OpType}
 use Rattle.raft_records.specs.declared.log_batch.key_value.OpType.TheVariants.{Put, Del}
 use Rattle.raft_records.specs.declared.log_batch.log_item.LogItem.{LogItem}
-use Rattle.raft_records.specs.Item.{Item, Content, entries, command, pair, Pair, item_of, content_of}
+use Rattle.raft_records.specs.Item.{Item, Content, entries, command, pair, item_of, content_of}
 use Rattle.raft_records.specs.Entries.{IsConsecutiveFrom, IsConsecutive, Tile}
-use Rattle.raft_records.specs.Grammar.{tail_of, IsTail, behind_entry, AreTails, IsRun, IsPairOf, IsContent, IsItem, end_behind, behind_item}
+use Rattle.raft_records.specs.Grammar.{tail_of, IsTail, behind_entry, IsRun, IsPairOf, IsContent, IsItem, end_behind, behind_item}
 use Rattle.raft_records.specs.Spelling.{IsWritableWith, tails_bytes, entries_bytes, item_bytes}
 use Rattle.raft_records.specs.ItemBatch.{FitsBehind, FitTogether, end_of_items, placed_entry, placed, IsKeptBeside, AreItems, IsCounted, signed, checksum_bytes, IsItemBatch, IsSealed, AreItemsFault, batch_bytes, first_entry, first_entry_or}
 use Rattle.raft_records.specs.Range.{IsInRange, AreInRange}

@@ -1,5 +1,5 @@
 -- What is written is a spelling.
-use Rattle.std.proofs.Common.{◌≡◌, ℕ, suc, ◌+◌, ◌-◌, ◌^◌, ◌<◌, ◌≤◌, List, [], ◌∷◌, ◌++◌, map, length, Option, Some, None, refl, sym, ap, ◌∙◌, subst, append_assoc, arith}
+use Rattle.std.proofs.Common.{◌≡◌, ℕ, ◌+◌, ◌-◌, ◌^◌, ◌<◌, List, [], ◌∷◌, ◌++◌, map, length, Option, Some, None, refl, sym, ap, subst, arith}
 use Rattle.std.specs.List.{flat_map}
 use Rattle.std.proofs.lemmas.List.{append-nil, length-map}
 use Rattle.raft_base.specs.Reading.{IsPair, IsSequence}
@@ -10,11 +10,11 @@ use Rattle.raft_records.specs.declared.log_batch.command.Command.TheVariants.{Cl
 use Rattle.raft_records.specs.declared.log_batch.entry_index.EntryIndex.{EntryIndex}
 use Rattle.raft_records.specs.declared.log_batch.key_value.OpType.{OpType}
 use Rattle.raft_records.specs.declared.log_batch.key_value.OpType.TheVariants.{Put, Del}
-use Rattle.raft_records.specs.Item.{Item, Content, entries, command, pair, Pair, bare_entry, bare_content, bare, written_value}
+use Rattle.raft_records.specs.Item.{Item, Content, entries, command, pair, bare_entry, bare_content, bare, written_value}
 use Rattle.raft_records.specs.Entries.{IsConsecutiveFrom, IsConsecutive, Tile}
-use Rattle.raft_records.specs.Grammar.{op_type_byte, IsCommand, IsByteString, IsPairOf, tail_of, IsTail, behind_entry, AreTails, IsRun, IsEntries, IsContent, IsItem, end_behind, behind_item}
+use Rattle.raft_records.specs.Grammar.{op_type_byte, IsCommand, IsByteString, IsPairOf, tail_of, IsTail, behind_entry, IsRun, IsEntries, IsContent, IsItem, end_behind, behind_item}
 use Rattle.raft_records.specs.Spelling.{command_bytes, byte_string, value_bytes, pair_bytes, tails_bytes, run_bytes, entries_bytes, content_bytes, item_bytes, IsWritableWith}
-use Rattle.raft_records.specs.ItemBatch.{FitsBehind, FitTogether, AreItems, IsCounted, IsItemBatch, batch_bytes, checksum_bytes}
+use Rattle.raft_records.specs.ItemBatch.{FitsBehind, FitTogether, AreItems, IsItemBatch, batch_bytes, checksum_bytes}
 use Rattle.raft_records.specs.Range.{HasIndex, HasLength, IsContentInRange, IsInRange, AreInRange}
 
 command_spelled : (c : Command) → HasIndex c → IsCommand (command_bytes c) c

@@ -1,6 +1,5 @@
 -- What is written is read again.
 use Rattle.std.specs.Prelude.{ℕ, ◌^◌, ◌<◌, List, [], ◌++◌, length, map, Option}
-use Rattle.raft_base.specs.Reading.{HasOneFront}
 use Rattle.raft_records.specs.Item.{Item, bare}
 use Rattle.raft_records.specs.Range.{IsInRange, AreInRange}
 use Rattle.raft_records.specs.Grammar.{IsItem}

@@ -1,4 +1,4 @@
-use Rattle.std.proofs.Common.{◌≡◌, ◌+◌, ◌++◌, ◌∷◌, [], map, take, ap, sym, ◌∙◌, arith}
+use Rattle.std.proofs.Common.{◌≡◌, ◌+◌, map, take, ap, sym, ◌∙◌, arith}
 use Rattle.raft_records.specs.Item.{item_of}
 use Rattle.raft_records.specs.Sizes.{item_size, items_size, saturated}
 use Rattle.raft_records.proofs.BatchLemmas.{items_more, size_more}

@@ -4,7 +4,7 @@ use Rattle.raft_base.specs.Signature.{signature_of}
 use Rattle.raft_records.specs.Item.{item_of}
 use Rattle.raft_records.specs.ItemBatch.{IsSealed}
 use Rattle.raft_records.specs.Sizes.{items_size, saturated}
-use Rattle.raft_records.proofs.BatchLemmas.{no_seal, no_items_count, no_items, decoded_kept, counted_read, batch_read}
+use Rattle.raft_records.proofs.BatchLemmas.{no_items_count, no_items, decoded_kept, counted_read, batch_read}
 use Rattle.raft_records.proofs.log_batch.log_item_batch.LogItemBatch.decode.Goals as goal
 
 pub returns-in_err-count-clause-refused : goal.returns-in_err-count-clause-refused

@@ -15,8 +15,8 @@ use std::marker::Model;
 #[cfg(test)]
 mod tests;
 
-/// Marks the batches of a group. The first gets the mark `Begin`, the last one `End`, those between
-/// them `Middle`; a group may also begin and end in one batch.
+/// Marks the batches of one group: the first with `Begin`, the last with `End`, those between them
+/// with `Middle`. Each batch takes one mark.
 #[derive(Debug, Drop)]
 pub struct AtomicGroupBuilder {
     id: u64,

@@ -1,5 +1,5 @@
 -- On the buffer of a log batch.
-use Rattle.std.proofs.Common.{◌≡◌, ◌<◌, ◌^◌, ◌≢◌, ℕ, suc, ◌+◌, ◌-◌, ◌*◌, ◌≤◌, List, [], ◌∷◌, ◌++◌, length, take, drop, Option, None, refl, sym, ap, ◌∙◌, subst, append_assoc, arith}
+use Rattle.std.proofs.Common.{◌≡◌, ◌≢◌, ℕ, suc, ◌+◌, ◌-◌, ◌*◌, ◌^◌, ◌<◌, ◌≤◌, List, [], ◌∷◌, ◌++◌, length, take, drop, Option, None, refl, sym, ap, ◌∙◌, subst, append_assoc, arith}
 use Rattle.std.proofs.lemmas.List.{length-append, length-drop, length-take-le, take-append-drop, take_at, drop_at, take_all}
 use Rattle.byteorder.specs.Endian.{big_bytes}
 use Rattle.raft_base.specs.Checksum.{crc32_of}
@@ -85,10 +85,6 @@ held_encoded items es buf some counted lt u short =
       short = short;
     }
 
-pub held_none : (items : List Item) (buf : List ℕ) → items ≡ [] → buf ≡ [] → IsHeld encoded items (entry_bytes_in items buf) buf
-held_none [] buf e none = record { whole = refl; fits = omega arith; held = none; short = omega (arith, ap length none) }
-held_none (x ∷ xs) buf e none = absurd cc
-
 -- what is encoded or sealed is the batch, but for its checksum
 pub unsealed_at : (stage : Stage) (items : List Item) (es buf : List ℕ) → stage ≢ populating → items ≢ [] → IsHeldAt stage items es buf → IsUnsealed items es buf
 unsealed_at populating items es buf ne some h = absurd (ne refl)
@@ -144,10 +140,6 @@ pub held_sealed : (signature : Option ℕ) (items : List Item) (es buf : List �
 held_sealed signature items es buf some counted lt h short =
     let same = sealed_entries signature items es buf some counted h in
     record { whole = ap length same ∙ counted; fits = omega (arith, ap length same, lt); held = h ∙ ap (log_batch_bytes signature items) (sym same); short = short }
-
-pub held_nothing : (signature : Option ℕ) (items : List Item) (buf : List ℕ) → items ≡ [] → buf ≡ [] → IsHeld (sealed signature) items (entry_bytes_in items buf) buf
-held_nothing signature [] buf e none = record { whole = refl; fits = omega arith; held = none; short = omega (arith, ap length none) }
-held_nothing signature (x ∷ xs) buf e none = absurd cc
 
 -- ---- encoding
 

@@ -5,7 +5,7 @@ ghost use Rattle.raft_base.specs.Reading.{Reads, HasNoFront};
 ghost use Rattle.raft_base.specs.Signature.{signature_of};
 ghost use Rattle.std.specs.Vec.Iter.{into_iter_items};
 ghost use Rattle.raft_records.specs.Item.{Item, bare, command_item, item_of};
-ghost use Rattle.raft_records.specs.LogBatch.{Stage, populating, encoded, sealed, IsSealedStage, empty_batch, IsBatchOf, encoded_length, log_batch_bytes, IsLogBatch, approximate_length};
+ghost use Rattle.raft_records.specs.LogBatch.{Stage, populating, encoded, sealed, IsSealedStage, IsBatchOf, empty_batch, encoded_length, log_batch_bytes, IsLogBatch, approximate_length};
 ghost use Rattle.raft_records.specs.Sizes.{AreSmall};
 ghost use Rattle.raft_records.specs.Range.{AreInRange};
 ghost use Rattle.raft_records.specs.Header.{IsHeader, IsHeaderFault, IsBlockOf, IsBlockFault};
@@ -93,6 +93,14 @@ impl LogBatch {
     /// The allocator that the batch was made with.
     pub(crate) fn allocator(&self) -> Global {
         *self.buf.allocator()
+    }
+
+    /// The entries of a batch's items tile its entry bytes, in order, and these are 2^31 - 1 at most.
+    pub fn entries_tile_bytes(&self)
+        ensures { IsBatchOf self.now.items self.now.entry_bytes }
+    {
+        let _ = &self.buf;
+        self.item_batch.items_fit_together();
     }
 
     /// Whether there are no items.
@@ -257,3 +265,6 @@ impl LogBatch {
         block_front(alloc, buf, place.len, compression_type)
     }
 }
+
+#[cfg(test)]
+mod tests;

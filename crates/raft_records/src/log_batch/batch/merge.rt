@@ -3,7 +3,7 @@
 ghost use Rattle.std.specs.Prelude.{◌≡◌, ◌≢◌, ◌+◌, ◌-◌, ◌^◌, ◌<◌, ◌≤◌, [], ◌++◌, length, drop, IfErr, OnOk, OnErr, vec_len, vec_capacity};
 ghost use Rattle.raft_records.specs.LogBatch.{populating, empty_batch, joined};
 
-use super::MOST_ENTRY_BYTES;
+use super::{MOST_ENTRY_BYTES, MOST_ROOM_KEPT};
 use crate::log_batch::LogBatch;
 use crate::log_batch::header::HEADER_LEN;
 use raft_base::{Error, Result};
@@ -63,6 +63,7 @@ fn move_entry_bytes(buf: &mut Vec<u8>, others: &mut Vec<u8>)
         append_entry_bytes(buf, others.as_slice());
     }
     others.clear();
+    others.shrink_to(MOST_ROOM_KEPT);
 }
 
 /// Appends the entry bytes of `others`, for which there is room.

@@ -95,14 +95,6 @@ impl LogBatch {
         *self.buf.allocator()
     }
 
-    /// The entries of a batch's items tile its entry bytes, in order, and these are 2^31 - 1 at most.
-    pub fn entries_tile_bytes(&self)
-        ensures { IsBatchOf self.now.items self.now.entry_bytes }
-    {
-        let _ = &self.buf;
-        self.item_batch.items_fit_together();
-    }
-
     /// Whether there are no items.
     pub fn is_empty(&self) -> bool
         ensures { IsTrue result ↔ (self.now.items ≡ []) }
@@ -218,9 +210,9 @@ impl LogBatch {
     }
 
     /// What is written and signed of a batch is read again: the entries of its items tile its entry
-    /// bytes, its items' numbers are in the ranges of their types, its bytes are fewer than 2^56 once
-    /// they are made, and, where it has items, they are a log batch of these items and entry bytes.
-    /// This is a law: it computes nothing.
+    /// bytes, which are 2^31 - 1 at most, its items' numbers are in the ranges of their types, its bytes
+    /// are fewer than 2^56 once they are made, and, where it has items, they are a log batch of these
+    /// items and entry bytes. This is a law: it computes nothing.
     pub fn is_read_again(&self)
         ensures tiled { IsBatchOf self.now.items self.now.entry_bytes }
         ensures in_range { AreInRange self.now.items }

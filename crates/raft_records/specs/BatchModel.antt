@@ -4,8 +4,10 @@ use Rattle.raft_records.specs.declared.log_batch.log_item_batch.LogItemBatch.The
 use Rattle.raft_records.specs.Item.{Item, item_of}
 use Rattle.raft_records.specs.ItemBatch.{IsKeptBeside}
 
+-- the items of the batch, as plain values
 abbrev pub items_in : Inside → List Item
 items_in b = map item_of b.items.items
 
+-- the items fit together, and what is kept beside them is theirs
 abbrev pub IsWellFormed : Inside → Type 0
 IsWellFormed b = IsKeptBeside (items_in b) b.item_size b.entries_size b.checksum

@@ -31,7 +31,7 @@ IsShortAt populating buf = Unit {0}
 IsShortAt encoded buf = length buf < 2 ^ 56
 IsShortAt (sealed signature) buf = length buf < 2 ^ 56
 
--- what is kept beside a batch is its own; the entry bytes of its items are those that it holds, and within the limit
+-- what is kept beside a batch is its own; the entry bytes of its items are those that it holds; both are within their limits
 pub record IsHeld (stage : Stage) (items : List Item) (entry_bytes buf : List ℕ) : Type 0 where
   pub whole : length entry_bytes ≡ entry_bytes_of items
   pub fits : length entry_bytes < 2 ^ 31

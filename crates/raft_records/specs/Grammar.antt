@@ -46,6 +46,7 @@ IsPutRead old new p = (value : List ℕ) × (p ≡ record { op_type = Put; key =
 abbrev pub IsDelRead : List ℕ → List ℕ → Pair → Type 0
 IsDelRead old new p = (p ≡ record { op_type = Del; key = p.key; value = None; file_id = None }) × Reads IsByteString old new p.key
 
+-- the bytes of a change of a key
 abbrev pub IsKeyValue : List ℕ → Pair → Type 0
 IsKeyValue bytes p = IsPairOf p.op_type p.value p.file_id p.key bytes
 
@@ -102,5 +103,6 @@ entry_bytes_with s (entries es) = end_behind s es
 entry_bytes_with s (command c) = s
 entry_bytes_with s (pair p) = s
 
+-- the entry bytes up to the end of an item, its region left aside
 abbrev pub behind_item : ℕ → Item → ℕ
 behind_item s item = entry_bytes_with s item.content

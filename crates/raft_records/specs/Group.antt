@@ -30,6 +30,7 @@ pub record IsMark (p : Pair) (byte : ℕ) : Type 0 where
   pub key : p.key ≡ reserved_key
   pub value : p.value ≡ Some (byte ∷ [])
 
+-- a content that is a mark with this byte
 abbrev pub IsMarkContent : Content → ℕ → Type 0
 IsMarkContent (pair p) byte = IsMark p byte
 IsMarkContent (entries es) byte = ⊥

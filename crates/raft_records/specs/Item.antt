@@ -30,14 +30,17 @@ pub record Item : Type 0 where
   pub raft_group_id : ℕ
   pub content : Content
 
+-- a change of a key, as a plain value
 abbrev pub pair_of : KeyValue → Pair
 pair_of kv = record { op_type = kv.op_type; key = kv.key.items; value = option_map (λ v. v.items) kv.value; file_id = kv.file_id }
 
+-- a content, as a plain value
 abbrev pub content_of : LogItemContent → Content
 content_of (contents.EntryIndexes es) = entries es.0.items
 content_of (contents.Command c) = command c
 content_of (contents.Kv kv) = pair (pair_of kv)
 
+-- an item, as a plain value
 abbrev pub item_of : LogItem → Item
 item_of item = record { raft_group_id = item.raft_group_id; content = content_of item.content }
 
@@ -50,6 +53,7 @@ abbrev pub written_value : OpType → Option (List ℕ) → Option (List ℕ)
 written_value Put value = value
 written_value Del value = None
 
+-- a content without what its bytes don't hold
 abbrev pub bare_content : Content → Content
 bare_content (entries es) = entries (map bare_entry es)
 bare_content (command c) = command c
@@ -59,12 +63,14 @@ bare_content (pair p) = pair (record { op_type = p.op_type; key = p.key; value =
 abbrev pub bare : Item → Item
 bare item = record { raft_group_id = item.raft_group_id; content = bare_content item.content }
 
--- items by their parts
+-- entries of a region
 abbrev pub entries_item : ℕ → List EntryIndex → Item
 entries_item region es = record { raft_group_id = region; content = entries es }
 
+-- a command on the log of a region
 abbrev pub command_item : ℕ → Command → Item
 command_item region c = record { raft_group_id = region; content = command c }
 
+-- a change of a key of a region, whose file is not known
 abbrev pub pair_item : ℕ → OpType → List ℕ → Option (List ℕ) → Item
 pair_item region op_type key value = record { raft_group_id = region; content = pair (record { op_type = op_type; key = key; value = value; file_id = None }) }

@@ -65,6 +65,7 @@ abbrev pub placed_entry : FileBlockHandle → CompressionType → EntryIndex →
 placed_entry block compression e =
     record { index = e.index; entries = Some block; compression_type = compression; entry_offset = e.entry_offset; entry_len = e.entry_len }
 
+-- a content whose entries are in this block, or whose key value is in its file
 abbrev pub placed_content : FileBlockHandle → CompressionType → Content → Content
 placed_content block compression (entries es) = entries (map (placed_entry block compression) es)
 placed_content block compression (command c) = command c
@@ -118,6 +119,7 @@ abbrev pub raised_entry : ℕ → EntryIndex → EntryIndex
 raised_entry s e =
     record { index = e.index; entries = e.entries; compression_type = e.compression_type; entry_offset = e.entry_offset + s; entry_len = e.entry_len }
 
+-- a content whose entries stand behind s more entry bytes
 abbrev pub raised_content : ℕ → Content → Content
 raised_content s (entries es) = entries (map (raised_entry s) es)
 raised_content s (command c) = command c
@@ -132,6 +134,7 @@ abbrev pub CanRaise : ℕ → List EntryIndex → Type 0
 CanRaise s [] = Unit {0}
 CanRaise s (e ∷ es) = (e.entry_offset + s < 2 ^ 32) × CanRaise s es
 
+-- the entries of a content can stand so much further back
 abbrev pub CanRaiseContent : ℕ → Content → Type 0
 CanRaiseContent s (entries es) = CanRaise s es
 CanRaiseContent s (command c) = Unit {0}

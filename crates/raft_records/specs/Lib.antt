@@ -14,6 +14,7 @@ pub mod Parts
 pub mod Range
 pub mod Requests
 pub mod Same
+pub mod SameLaws
 pub mod Sizes
 pub mod Spelling
 pub mod Written

@@ -32,6 +32,7 @@ entries_text [] = codes "entries 0"
 entries_text (e ∷ es) =
     codes "entries " ++ decimal (length (e ∷ es)) ++ codes " first " ++ decimal e.index ++ codes " tail " ++ decimal (end_behind 0 (e ∷ es))
 
+-- a command, and the index of a compaction
 abbrev pub command_text : Command → List ℕ
 command_text Clean = codes "clean"
 command_text (Compact index) = codes "compact " ++ decimal index
@@ -41,6 +42,7 @@ abbrev pub pair_text : OpType → List ℕ → Option (List ℕ) → List ℕ
 pair_text Put key value = codes "put " ++ bytes_text key ++ codes " " ++ value_text value
 pair_text Del key value = codes "del " ++ bytes_text key
 
+-- what an item changes
 abbrev pub content_text : Content → List ℕ
 content_text (entries es) = entries_text es
 content_text (command c) = command_text c
@@ -80,12 +82,12 @@ abbrev pub IsPrintFault : List ℕ → Option ℕ → Error → Type 0
 IsPrintFault bytes signature e = IsMemory e ⊎ IsItemBatchFault signature bytes e
 
 -- a reader or a writer failed, or an item ends before its type
-abbrev pub IsIo : Error → Type 0
-IsIo (Io _) = Unit {0}
-IsIo _ = ⊥
+abbrev pub IsIoError : Error → Type 0
+IsIoError (Io _) = Unit {0}
+IsIoError _ = ⊥
 
 -- the writer failed, once the whole input was read and was an item batch
 pub record IsWriteFailure (input left : Option (List ℕ)) (signature : Option ℕ) (e : Error) : Type 0 where
-  pub io : IsIo e
+  pub io : IsIoError e
   pub all_read : IsAtEnd left
   pub of_batch : IfSome input (λ bytes. (text : List ℕ) × IsTextOf bytes signature text)

@@ -26,6 +26,7 @@ pub record Batch : Type 0 where
   pub entry_bytes : List ℕ
   pub stage : Stage
 
+-- the bytes are signed, or have no signature
 abbrev pub IsSealedStage : Stage → Type 0
 IsSealedStage (sealed signature) = Unit {0}
 IsSealedStage _ = ⊥

@@ -14,7 +14,7 @@ abbrev pub HasLength : Option (List ℕ) → Type 0
 HasLength None = Unit {0}
 HasLength (Some value) = length value < 2 ^ 64
 
--- lengths and indexes are u64s, as those of every content in memory are
+-- the count of entries, a command's index, and the lengths of key and value are u64s, as those of every content in memory
 abbrev pub IsContentInRange : Content → Type 0
 IsContentInRange (entries es) = length es < 2 ^ 64
 IsContentInRange (command c) = HasIndex c
@@ -24,6 +24,7 @@ IsContentInRange (pair p) = (length p.key < 2 ^ 64) × HasLength p.value
 abbrev pub IsInRange : Item → Type 0
 IsInRange item = (item.raft_group_id < 2 ^ 64) × IsContentInRange item.content
 
+-- each item is in range
 abbrev pub AreInRange : List Item → Type 0
 AreInRange [] = Unit {0}
 AreInRange (item ∷ items) = IsInRange item × AreInRange items

@@ -24,6 +24,7 @@ value_length (Some value) = length value
 abbrev pub pair_size : Pair → ℕ
 pair_size p = 1 + 8 + length p.key + 8 + value_length p.value
 
+-- what there is behind the type
 abbrev pub content_size : Content → ℕ
 content_size (entries es) = entries_size es
 content_size (command c) = command_size c
@@ -33,6 +34,7 @@ content_size (pair p) = pair_size p
 abbrev pub item_size : Item → ℕ
 item_size item = 8 + 1 + content_size item.content
 
+-- the items one behind the other
 abbrev pub items_size : List Item → ℕ
 items_size [] = 0
 items_size (item ∷ items) = item_size item + items_size items
@@ -52,10 +54,12 @@ abbrev pub AreSmallIndexes : List EntryIndex → Type 0
 AreSmallIndexes [] = Unit {0}
 AreSmallIndexes (e ∷ es) = (e.index < 2 ^ 56) × AreSmallIndexes es
 
+-- the index of a compaction is below 2^56
 abbrev pub HasSmallIndex : Command → Type 0
 HasSmallIndex Clean = Unit {0}
 HasSmallIndex (Compact index) = index < 2 ^ 56
 
+-- the indexes of a content are below 2^56
 abbrev pub HasSmallIndexes : Content → Type 0
 HasSmallIndexes (entries es) = AreSmallIndexes es
 HasSmallIndexes (command c) = HasSmallIndex c

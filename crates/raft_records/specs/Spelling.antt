@@ -16,6 +16,7 @@ pub record Keeps (old new : List ℕ) : Type 0 where
   pub behind : List ℕ
   pub split : new ≡ old ++ behind
 
+-- the type byte, and the index of a compaction
 abbrev pub command_bytes : Command → List ℕ
 command_bytes Clean = 1 ∷ []
 command_bytes (Compact index) = 2 ∷ varint index
@@ -29,6 +30,7 @@ abbrev pub IsWritableWith : OpType → Option (List ℕ) → Type 0
 IsWritableWith Put None = ⊥
 IsWritableWith _ _ = Unit {0}
 
+-- a Put of a pair has a value
 abbrev pub IsWritablePair : Pair → Type 0
 IsWritablePair p = IsWritableWith p.op_type p.value
 
@@ -50,6 +52,7 @@ abbrev pub run_bytes : List EntryIndex → List ℕ
 run_bytes [] = []
 run_bytes (e ∷ es) = varint e.index ++ tails_bytes (e ∷ es)
 
+-- the count, and the run
 abbrev pub entries_bytes : List EntryIndex → List ℕ
 entries_bytes es = varint (length es) ++ run_bytes es
 
@@ -69,5 +72,6 @@ IsWritableContent (entries es) = AreWritable es
 IsWritableContent (command c) = Unit {0}
 IsWritableContent (pair p) = IsWritablePair p
 
+-- an item whose content can be written
 abbrev pub IsWritable : Item → Type 0
 IsWritable item = IsWritableContent item.content

@@ -99,17 +99,10 @@ impl LogItemBatch {
         self.items.iter()
     }
 
-    /// The items can be written one behind the other: the entries of each are consecutive, their bytes
-    /// run on from the first item to the last and end below 2^32, and each put has a value.
-    pub fn items_fit_together(&self)
-        ensures { FitTogether 0 self.now }
-    {
-        let _ = &self.items;
-    }
-
-    /// What is written and signed of a batch is read again: its items' numbers are in the ranges of
-    /// their types.
+    /// What is written and signed of a batch is read again: its items fit together and their numbers
+    /// are in the ranges of their types. This is a law: it computes nothing.
     pub fn is_read_again(&self)
+        ensures fit { FitTogether 0 self.now }
         ensures in_range { AreInRange self.now }
         ensures spelled { (signature : Option ℕ) →
             IsItemBatch (batch_bytes self.now ++ checksum_bytes signature (batch_bytes self.now)) signature (map bare self.now) [] }

@@ -13,11 +13,12 @@ impl PartialEq for LogBatch {
     ghost use Rattle.std.specs.Prelude.{◌≡◌, ◌↔◌, IsTrue};
     ghost use Rattle.std.specs.Cmp.{partial_equiv_from_equiv};
     ghost use Rattle.raft_records.specs.LogBatch.{AreEqual};
-    ghost use Rattle.raft_records.specs.Same.{same_batch, batch_same};
+    ghost use Rattle.raft_records.specs.Same.{same_batch};
+    ghost use Rattle.raft_records.specs.SameLaws.{same_batch_is_equivalence};
 
     ghost eq = { same_batch };
 
-    ghost laws = { partial_equiv_from_equiv batch_same };
+    ghost laws = { partial_equiv_from_equiv same_batch_is_equivalence };
 
     /// Whether both have the same items and entry bytes and are both open, both encoded or both
     /// sealed, for whichever files.
@@ -32,9 +33,9 @@ impl PartialEq for LogBatch {
 }
 
 impl Eq for LogBatch {
-    ghost use Rattle.raft_records.specs.Same.{batch_same};
+    ghost use Rattle.raft_records.specs.SameLaws.{same_batch_is_equivalence};
 
-    ghost laws = { batch_same };
+    ghost laws = { same_batch_is_equivalence };
 }
 
 impl Clone for LogBatch {

@@ -8,11 +8,12 @@ use std::alloc::AllocError;
 impl PartialEq for LogItemBatch {
     ghost use Rattle.std.specs.Prelude.{◌≡◌, ◌↔◌, IsTrue};
     ghost use Rattle.std.specs.Cmp.{partial_equiv_from_equiv};
-    ghost use Rattle.raft_records.specs.Same.{same_items, items_same};
+    ghost use Rattle.raft_records.specs.Same.{same_items};
+    ghost use Rattle.raft_records.specs.SameLaws.{same_items_is_equivalence};
 
     ghost eq = { same_items };
 
-    ghost laws = { partial_equiv_from_equiv items_same };
+    ghost laws = { partial_equiv_from_equiv same_items_is_equivalence };
 
     /// Whether the items are the same, in order.
     fn eq(&self, other: &LogItemBatch) -> bool
@@ -24,9 +25,9 @@ impl PartialEq for LogItemBatch {
 }
 
 impl Eq for LogItemBatch {
-    ghost use Rattle.raft_records.specs.Same.{items_same};
+    ghost use Rattle.raft_records.specs.SameLaws.{same_items_is_equivalence};
 
-    ghost laws = { items_same };
+    ghost laws = { same_items_is_equivalence };
 }
 
 impl Clone for LogItemBatch {

@@ -1,5 +1,5 @@
 -- On the buffer of a log batch.
-use Rattle.std.proofs.Common.{◌≡◌, ◌≢◌, ℕ, suc, ◌+◌, ◌-◌, ◌*◌, ◌≤◌, List, [], ◌∷◌, ◌++◌, length, take, drop, Option, None, refl, sym, ap, ◌∙◌, subst, append_assoc, arith}
+use Rattle.std.proofs.Common.{◌≡◌, ◌≢◌, ℕ, suc, ◌+◌, ◌-◌, ◌*◌, ◌^◌, ◌<◌, ◌≤◌, List, [], ◌∷◌, ◌++◌, length, take, drop, Option, None, refl, sym, ap, ◌∙◌, subst, append_assoc, arith}
 use Rattle.std.proofs.lemmas.List.{length-append, length-drop, length-take-le, take-append-drop, take_at, drop_at, take_all}
 use Rattle.byteorder.specs.Endian.{big_bytes}
 use Rattle.raft_base.specs.Checksum.{crc32_of}
@@ -60,9 +60,10 @@ pub open_again : (n : ℕ) (old new : List ℕ) → length old - 16 ≡ n → dr
 open_again n old new h same = omega (arith, h, ap length same, length-drop 16 old, length-drop 16 new)
 
 -- the entry bytes that were there, and more behind them
-pub held_open : (items : List Item) (buf : List ℕ) → length buf - 16 ≡ entry_bytes_of items → IsHeld populating items (entry_bytes_in items buf) buf
-held_open items buf h =
-    record { whole = ap length (open_entries (entry_bytes_of items) buf h) ∙ length-drop 16 buf ∙ h; held = h }
+pub held_open : (items : List Item) (buf : List ℕ) → length buf - 16 ≡ entry_bytes_of items → entry_bytes_of items < 2 ^ 31 → IsHeld populating items (entry_bytes_in items buf) buf
+held_open items buf h lt =
+    let whole : length (entry_bytes_in items buf) ≡ entry_bytes_of items = ap length (open_entries (entry_bytes_of items) buf h) ∙ length-drop 16 buf ∙ h in
+    record { whole = whole; fits = omega (arith, whole, lt); held = h }
 
 -- ---- encoded and sealed
 
@@ -74,17 +75,14 @@ pub unsealed_entries : (items : List Item) (es buf : List ℕ) → length es ≡
 unsealed_entries items es buf counted u =
     entries_behind (encoded_length items es) (entry_bytes_of items) items es u.seal buf counted u.split
 
-pub held_encoded : (items : List Item) (es buf : List ℕ) → items ≢ [] → length es ≡ entry_bytes_of items → IsUnsealed items es buf → IsHeld encoded items (entry_bytes_in items buf) buf
-held_encoded items es buf some counted u =
+pub held_encoded : (items : List Item) (es buf : List ℕ) → items ≢ [] → length es ≡ entry_bytes_of items → length es < 2 ^ 31 → IsUnsealed items es buf → IsHeld encoded items (entry_bytes_in items buf) buf
+held_encoded items es buf some counted lt u =
     let same = unsealed_entries items es buf counted u in
     record {
       whole = ap length same ∙ counted;
+      fits = omega (arith, ap length same, lt);
       held = subst (λ (t : List ℕ). IsEncodedAs items t buf) (sym same) (encoded_as items es buf some u);
     }
-
-pub held_none : (items : List Item) (buf : List ℕ) → items ≡ [] → buf ≡ [] → IsHeld encoded items (entry_bytes_in items buf) buf
-held_none [] buf e none = record { whole = refl; held = none }
-held_none (x ∷ xs) buf e none = absurd cc
 
 -- what is encoded or sealed is the batch, but for its checksum
 pub unsealed_at : (stage : Stage) (items : List Item) (es buf : List ℕ) → stage ≢ populating → items ≢ [] → IsHeldAt stage items es buf → IsUnsealed items es buf
@@ -137,14 +135,10 @@ sealed_entries signature [] es buf some counted h = absurd (some refl)
 sealed_entries signature (x ∷ xs) es buf some counted h =
     entries_behind (encoded_length (x ∷ xs) es) (entry_bytes_of (x ∷ xs)) (x ∷ xs) es (checksum_bytes signature (batch_bytes (x ∷ xs))) buf counted h
 
-pub held_sealed : (signature : Option ℕ) (items : List Item) (es buf : List ℕ) → items ≢ [] → length es ≡ entry_bytes_of items → buf ≡ log_batch_bytes signature items es → IsHeld (sealed signature) items (entry_bytes_in items buf) buf
-held_sealed signature items es buf some counted h =
+pub held_sealed : (signature : Option ℕ) (items : List Item) (es buf : List ℕ) → items ≢ [] → length es ≡ entry_bytes_of items → length es < 2 ^ 31 → buf ≡ log_batch_bytes signature items es → IsHeld (sealed signature) items (entry_bytes_in items buf) buf
+held_sealed signature items es buf some counted lt h =
     let same = sealed_entries signature items es buf some counted h in
-    record { whole = ap length same ∙ counted; held = h ∙ ap (log_batch_bytes signature items) (sym same) }
-
-pub held_nothing : (signature : Option ℕ) (items : List Item) (buf : List ℕ) → items ≡ [] → buf ≡ [] → IsHeld (sealed signature) items (entry_bytes_in items buf) buf
-held_nothing signature [] buf e none = record { whole = refl; held = none }
-held_nothing signature (x ∷ xs) buf e none = absurd cc
+    record { whole = ap length same ∙ counted; fits = omega (arith, ap length same, lt); held = h ∙ ap (log_batch_bytes signature items) (sym same) }
 
 -- ---- encoding
 
@@ -190,5 +184,5 @@ pub item_same : (items : List Item) (x : Item) → ((s : ℕ) → behind_item s 
 item_same items x same = end_push 0 items x ∙ same (entry_bytes_of items)
 
 -- the batch with one more item that has no entry bytes
-pub held_more : (items more : List Item) (buf : List ℕ) → entry_bytes_of more ≡ entry_bytes_of items → length buf - 16 ≡ entry_bytes_of items → IsHeld populating more (entry_bytes_in more buf) buf
-held_more items more buf same h = held_open more buf (h ∙ sym same)
+pub held_more : (items more : List Item) (buf : List ℕ) → entry_bytes_of more ≡ entry_bytes_of items → length buf - 16 ≡ entry_bytes_of items → entry_bytes_of items < 2 ^ 31 → IsHeld populating more (entry_bytes_in more buf) buf
+held_more items more buf same h lt = held_open more buf (h ∙ sym same) (omega (arith, same, lt))

@@ -26,6 +26,7 @@ placed_held block c (sealed signature) items buf s h =
     let same = entries_placed block c items buf in
     record {
       whole = ap length same ∙ h.whole ∙ sym (end_of_placed block c 0 items);
+      fits = omega (arith, ap length same, h.fits);
       held = h.held ∙ sym (log_bytes_placed block c signature items (entry_bytes_in items buf)) ∙ ap (log_batch_bytes signature (map (placed block c) items)) (sym same);
     }
 

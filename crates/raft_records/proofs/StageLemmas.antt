@@ -1,5 +1,5 @@
 -- On log batches in their buffers.
-use Rattle.std.proofs.Common.{◌≡◌, ◌≢◌, ◌⊎◌, inl, inr, ℕ, ◌-◌, ◌≤◌, List, [], ◌∷◌, ◌++◌, length, take, drop, Option, Result, Ok, Err, OnOk, OnErr, refl, sym, ap, ◌∙◌, subst, arith}
+use Rattle.std.proofs.Common.{◌≡◌, ◌≢◌, ◌⊎◌, inl, inr, ℕ, ◌-◌, ◌^◌, ◌<◌, ◌≤◌, List, [], ◌∷◌, ◌++◌, length, take, drop, Option, Result, Ok, Err, OnOk, OnErr, refl, sym, ap, ◌∙◌, subst, arith}
 use Rattle.std.proofs.lemmas.List.{length-append, length-drop, take_at, drop_all, take_all, append-nil, nil_from_length}
 use Rattle.raft_base.specs.Checksum.{crc32_of}
 use Rattle.raft_records.specs.declared.log_batch.batch.BufState.{BufState}
@@ -20,13 +20,17 @@ batch_with items entry_bytes stage = record { items = items; entry_bytes = entry
 pub open_held : (stage : Stage) (items : List Item) (es buf : List ℕ) → stage ≡ populating → IsHeld stage items es buf → length buf - 16 ≡ entry_bytes_of items
 open_held stage items es buf e h = subst (λ (s : Stage). IsHeldAt s items es buf) e h.held
 
+-- entry bytes within the limit
+pub within : (stage : Stage) (items : List Item) (es buf : List ℕ) → IsHeld stage items es buf → entry_bytes_of items < 2 ^ 31
+within stage items es buf h = omega (arith, h.whole, h.fits)
+
 pub reheld : (stage : Stage) (items : List Item) (old new : List ℕ) → stage ≡ populating → IsHeld stage items (entry_bytes_in items old) old → drop 16 new ≡ drop 16 old → IsHeld stage items (entry_bytes_in items new) new
 reheld stage items old new e h same =
-    subst (λ (s : Stage). IsHeld s items (entry_bytes_in items new) new) (sym e) (held_open items new (open_again (entry_bytes_of items) old new (open_held stage items (entry_bytes_in items old) old e h) same))
+    subst (λ (s : Stage). IsHeld s items (entry_bytes_in items new) new) (sym e) (held_open items new (open_again (entry_bytes_of items) old new (open_held stage items (entry_bytes_in items old) old e h) same) (within stage items (entry_bytes_in items old) old h))
 
 pub reheld_more : (stage : Stage) (items more : List Item) (buf : List ℕ) → stage ≡ populating → IsHeld stage items (entry_bytes_in items buf) buf → entry_bytes_of more ≡ entry_bytes_of items → IsHeld stage more (entry_bytes_in more buf) buf
 reheld_more stage items more buf e h same =
-    subst (λ (s : Stage). IsHeld s more (entry_bytes_in more buf) buf) (sym e) (held_more items more buf same (open_held stage items (entry_bytes_in items buf) buf e h))
+    subst (λ (s : Stage). IsHeld s more (entry_bytes_in more buf) buf) (sym e) (held_more items more buf same (open_held stage items (entry_bytes_in items buf) buf e h) (within stage items (entry_bytes_in items buf) buf h))
 
 pub entries_are : (stage : Stage) (items : List Item) (buf : List ℕ) → stage ≡ populating → IsHeld stage items (entry_bytes_in items buf) buf → entry_bytes_in items buf ≡ drop 16 buf
 entries_are stage items buf e h = open_entries (entry_bytes_of items) buf (open_held stage items (entry_bytes_in items buf) buf e h)
@@ -35,7 +39,7 @@ pub populated : (stage : Stage) (items : List Item) (old mid new : List ℕ) →
 populated stage items old mid new e h same some u =
     let are : drop 16 mid ≡ entry_bytes_in items old = same ∙ sym (entries_are stage items old e h) in
     let counted : length (drop 16 mid) ≡ entry_bytes_of items = ap length are ∙ h.whole in
-    (held_encoded items (drop 16 mid) new some counted u, unsealed_entries items (drop 16 mid) new counted u ∙ are)
+    (held_encoded items (drop 16 mid) new some counted (omega (arith, ap length are, h.fits)) u, unsealed_entries items (drop 16 mid) new counted u ∙ are)
 
 pub unsealed_len : (items : List Item) (es buf : List ℕ) → items ≢ [] → IsUnsealed items es buf → length buf ≡ encoded_length items es
 unsealed_len [] es buf some u = absurd (some refl)
@@ -73,16 +77,16 @@ encoded_whole items old closed whole slice new offset len n some room e f at siz
 pub held_unsigned : (stage : Stage) (items : List Item) (es buf : List ℕ) → stage ≢ populating → IsHeld stage items es buf → IsHeld encoded items es buf
 held_unsigned populating items es buf ne h = absurd (ne refl)
 held_unsigned encoded items es buf ne h = h
-held_unsigned (sealed s) [] es buf ne h = record { whole = h.whole; held = h.held }
+held_unsigned (sealed s) [] es buf ne h = record { whole = h.whole; fits = h.fits; held = h.held }
 held_unsigned (sealed s) (x ∷ xs) es buf ne h =
-    record { whole = h.whole; held = record { seal = checksum_bytes s (batch_bytes (x ∷ xs)); four = four (signed s (crc32_of (batch_bytes (x ∷ xs)))); split = h.held } }
+    record { whole = h.whole; fits = h.fits; held = record { seal = checksum_bytes s (batch_bytes (x ∷ xs)); four = four (signed s (crc32_of (batch_bytes (x ∷ xs)))); split = h.held } }
 
-pub sealed_held : (signature : Option ℕ) (items : List Item) (es buf : List ℕ) → length es ≡ entry_bytes_of items → buf ≡ log_batch_bytes signature items es → IsHeld (sealed signature) items (entry_bytes_in items buf) buf × (entry_bytes_in items buf ≡ es)
-sealed_held signature [] es buf counted h =
-    (record { whole = refl; held = h }, sym (nil_from_length es counted))
-sealed_held signature (x ∷ xs) es buf counted h =
+pub sealed_held : (signature : Option ℕ) (items : List Item) (es buf : List ℕ) → length es ≡ entry_bytes_of items → length es < 2 ^ 31 → buf ≡ log_batch_bytes signature items es → IsHeld (sealed signature) items (entry_bytes_in items buf) buf × (entry_bytes_in items buf ≡ es)
+sealed_held signature [] es buf counted lt h =
+    (record { whole = refl; fits = omega arith; held = h }, sym (nil_from_length es counted))
+sealed_held signature (x ∷ xs) es buf counted lt h =
     let some : (x ∷ xs) ≢ [] = λ e. absurd cc in
-    (held_sealed signature (x ∷ xs) es buf some counted h, sealed_entries signature (x ∷ xs) es buf some counted h)
+    (held_sealed signature (x ∷ xs) es buf some counted lt h, sealed_entries signature (x ∷ xs) es buf some counted h)
 
 -- a batch that has no bytes is signed as it is
 pub nothing_sealed : (signature : Option ℕ) (items : List Item) (es buf : List ℕ) → IsHeld encoded items es buf → length buf ≡ 0 → buf ≡ log_batch_bytes signature items es

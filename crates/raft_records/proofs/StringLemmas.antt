@@ -9,8 +9,8 @@ use Rattle.raft_records.specs.LogBatch.{Stage, Batch, populating, with_entries}
 use Rattle.raft_records.specs.Buffer.{entry_bytes_in, IsHeld}
 use Rattle.raft_records.proofs.BatchLemmas.{end_push}
 use Rattle.raft_records.proofs.LayLemmas.{end_of_laid}
-use Rattle.raft_records.proofs.BufferLemmas.{open_entries, held_open}
-use Rattle.raft_records.proofs.StageLemmas.{batch_with, open_held, entries_are}
+use Rattle.raft_records.proofs.BufferLemmas.{open_entries, held_open, cut_to}
+use Rattle.raft_records.proofs.StageLemmas.{batch_with, open_held, entries_are, reheld}
 use Rattle.raft_records.specs.Entries.{entry_at, with_lengths, IsConsecutiveFrom, IsConsecutive}
 use Rattle.raft_records.specs.Spelling.{Keeps}
 
@@ -100,12 +100,12 @@ added_end items region es strings e =
     ∙ end_of_laid (entry_bytes_of items) (with_lengths es strings)
     ∙ ap (λ (n : ℕ). entry_bytes_of items + n) (lengths_total es strings e)
 
-pub added_held : (stage : Stage) (items new : List Item) (region : ℕ) (es : List EntryIndex) (strings : List (List ℕ)) (buf mid bytes : List ℕ) → stage ≡ populating → IsHeld stage items (entry_bytes_in items buf) buf → 16 ≤ length mid → drop 16 mid ≡ drop 16 buf → length es ≡ length strings → new ≡ items ++ entries_item region (laid (entry_bytes_of items) (with_lengths es strings)) ∷ [] → bytes ≡ mid ++ concat strings → IsHeld stage new (entry_bytes_in new bytes) bytes × (entry_bytes_in new bytes ≡ entry_bytes_in items buf ++ concat strings)
-added_held stage items new region es strings buf mid bytes e h room same counts added written =
+pub added_held : (stage : Stage) (items new : List Item) (region : ℕ) (es : List EntryIndex) (strings : List (List ℕ)) (buf mid bytes : List ℕ) → stage ≡ populating → IsHeld stage items (entry_bytes_in items buf) buf → 16 ≤ length mid → drop 16 mid ≡ drop 16 buf → length es ≡ length strings → new ≡ items ++ entries_item region (laid (entry_bytes_of items) (with_lengths es strings)) ∷ [] → bytes ≡ mid ++ concat strings → length bytes < 16 + 2 ^ 31 → IsHeld stage new (entry_bytes_in new bytes) bytes × (entry_bytes_in new bytes ≡ entry_bytes_in items buf ++ concat strings)
+added_held stage items new region es strings buf mid bytes e h room same counts added written fits =
     let behind : drop 16 bytes ≡ drop 16 buf ++ concat strings = ap (drop 16) written ∙ drop-append-le 16 mid (concat strings) room ∙ ap (λ (t : List ℕ). t ++ concat strings) same in
     let total : entry_bytes_of new ≡ entry_bytes_of items + length (concat strings) = ap entry_bytes_of added ∙ added_end items region es strings counts in
     let len : length bytes - 16 ≡ entry_bytes_of new = omega (arith, total, open_held stage items (entry_bytes_in items buf) buf e h, ap length behind, length-append (drop 16 buf) (concat strings), length-drop 16 buf, length-drop 16 bytes) in (
-      subst (λ (s : Stage). IsHeld s new (entry_bytes_in new bytes) bytes) (sym e) (held_open new bytes len),
+      subst (λ (s : Stage). IsHeld s new (entry_bytes_in new bytes) bytes) (sym e) (held_open new bytes len (omega (arith, len, fits))),
       open_entries (entry_bytes_of new) bytes len ∙ behind ∙ ap (λ (t : List ℕ). t ++ concat strings) (sym (entries_are stage items buf e h)),
     )
 
@@ -187,3 +187,20 @@ pub some_counted : {X Y : Type 0} (xs : List X) (ys : List Y) → length xs ≡ 
 some_counted [] ys e some none = some refl
 some_counted (x ∷ xs) [] e some none = absurd (omega (arith, e))
 some_counted (x ∷ xs) (y ∷ ys) e some none = absurd cc
+
+-- what was found is the entries with their lengths
+pub found_room : (es found : List EntryIndex) (strings : List (List ℕ)) (old new : List ℕ) (before : ℕ) → length es ≡ length strings → found ≡ with_lengths es strings → new ≡ old ++ concat strings → length new < 16 + 2 ^ 31 → length old ≡ 16 + before → before + entry_lengths found < 2 ^ 32
+found_room es found strings old new before counts is written fits whole =
+    omega (arith, fits, whole, ap entry_lengths is, lengths_total es strings counts, ap length written, length-append old (concat strings))
+
+pub found_consecutive : (es found seen : List EntryIndex) (strings : List (List ℕ)) → seen ≡ found → found ≡ with_lengths es strings → IsConsecutive es → IsConsecutive seen
+found_consecutive es found seen strings same is h = subst IsConsecutive (sym (same ∙ is)) (lengths_consecutive es strings h)
+
+pub is_consecutive_found : (es found seen : List EntryIndex) (strings : List (List ℕ)) → length es ≡ length strings → seen ≡ found → found ≡ with_lengths es strings → IsConsecutive seen → IsConsecutive es
+is_consecutive_found es found seen strings counts same is h = consecutive_of es strings counts (subst IsConsecutive (same ∙ is) h)
+
+-- a refused addition, cut off again
+pub cut_held : (stage : Stage) (items kept : List Item) (old mid new cut : List ℕ) (n : ℕ) → stage ≡ populating → IsHeld stage items (entry_bytes_in items old) old → drop 16 mid ≡ drop 16 old → Keeps mid new → n ≡ length mid → cut ≡ take n new → kept ≡ items → IsHeld stage kept (entry_bytes_in kept cut) cut
+cut_held stage items kept old mid new cut n e h same keeps len is_cut is_kept =
+    let back : cut ≡ mid = is_cut ∙ cut_to mid new n len keeps in
+    subst (λ (xs : List Item). IsHeld stage xs (entry_bytes_in xs cut) cut) (sym is_kept) (reheld stage items old cut e h (ap (drop 16) back ∙ same))

@@ -1,5 +1,5 @@
 -- How a log batch is held: in its buffer stand sixteen bytes for the header and the entry bytes, or the bytes of the batch.
-use Rattle.std.specs.Prelude.{◌≡◌, ℕ, ◌-◌, List, [], ◌∷◌, ◌++◌, length, take, drop}
+use Rattle.std.specs.Prelude.{◌≡◌, ℕ, ◌-◌, ◌^◌, ◌<◌, List, [], ◌∷◌, ◌++◌, length, take, drop}
 use Rattle.raft_records.specs.Item.{Item}
 use Rattle.raft_records.specs.ItemBatch.{entry_bytes_of}
 use Rattle.raft_records.specs.LogBatch.{Stage, populating, encoded, sealed, unsealed_bytes, encoded_length, log_batch_bytes}
@@ -25,7 +25,8 @@ IsHeldAt populating items entry_bytes buf = length buf - 16 ≡ entry_bytes_of i
 IsHeldAt encoded items entry_bytes buf = IsEncodedAs items entry_bytes buf
 IsHeldAt (sealed signature) items entry_bytes buf = buf ≡ log_batch_bytes signature items entry_bytes
 
--- what is kept beside a batch is its own; the entry bytes of its items are those that it holds
+-- what is kept beside a batch is its own; the entry bytes of its items are those that it holds, and within the limit
 pub record IsHeld (stage : Stage) (items : List Item) (entry_bytes buf : List ℕ) : Type 0 where
   pub whole : length entry_bytes ≡ entry_bytes_of items
+  pub fits : length entry_bytes < 2 ^ 31
   pub held : IsHeldAt stage items entry_bytes buf

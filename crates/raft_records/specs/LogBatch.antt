@@ -67,10 +67,11 @@ abbrev pub IsAddFault : List EntryIndex → ℕ → Error → Type 0
 IsAddFault es size (errors.InvalidArgument text) = IsConsecutive es → ⊥
 IsAddFault es size e = IsBytesFault size e
 
--- the entries of the items tile the entry bytes, in order
+-- the entries of the items tile the entry bytes, in order, and these are within the limit
 pub record IsBatchOf (items : List Item) (entry_bytes : List ℕ) : Type 0 where
   pub tiled : FitTogether 0 items
   pub whole : length entry_bytes ≡ entry_bytes_of items
+  pub fits : length entry_bytes < 2 ^ 31
 
 -- ---- bytes
 

@@ -95,6 +95,14 @@ impl LogBatch {
         *self.buf.allocator()
     }
 
+    /// The entries of a batch's items tile its entry bytes, in order, and these are 2^31 - 1 at most.
+    pub fn entries_tile_bytes(&self)
+        ensures { IsBatchOf self.now.items self.now.entry_bytes }
+    {
+        let _ = &self.buf;
+        self.item_batch.items_fit_together();
+    }
+
     /// Whether there are no items.
     pub fn is_empty(&self) -> bool
         ensures { IsTrue result ↔ (self.now.items ≡ []) }
@@ -257,3 +265,6 @@ impl LogBatch {
         block_front(alloc, buf, place.len, compression_type)
     }
 }
+
+#[cfg(test)]
+mod tests;

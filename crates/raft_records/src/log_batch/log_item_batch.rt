@@ -99,6 +99,14 @@ impl LogItemBatch {
         self.items.iter()
     }
 
+    /// The items can be written one behind the other: the entries of each are consecutive, their bytes
+    /// run on from the first item to the last and end below 2^32, and each put has a value.
+    pub fn items_fit_together(&self)
+        ensures { FitTogether 0 self.now }
+    {
+        let _ = &self.items;
+    }
+
     /// How many bytes the entries of all items have together.
     pub fn entries_size(&self) -> u32
         ensures { result ≡ entry_bytes_of self.now }

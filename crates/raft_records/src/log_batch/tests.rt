@@ -7,7 +7,7 @@ use raft_base::{Error, FileBlockHandle, FileId, LogFileContext, LogQueue, Result
 use std::alloc::Global;
 
 /// Whether this is the first refusal of memory in a test; each is run with one refusal at most.
-fn is_only_refusal(error: &Error, refused: &mut bool) -> bool {
+pub(crate) fn is_only_refusal(error: &Error, refused: &mut bool) -> bool {
     let is_first = !*refused;
     *refused = true;
     is_first && matches!(error, Error::Memory)

@@ -13,12 +13,12 @@ seal-requires c =
 
 pub invariant_of-self : goal.invariant_of-self
 invariant_of-self c =
-    let held = sealed_held (signature_of c.args.context.now) c.self.inside.item_batch (entry_bytes_in c.self.inside.item_batch c.self.inside.buf.items) c.seal.new.buf.items c.self.invariant.whole c.seal.ensures in
+    let held = sealed_held (signature_of c.args.context.now) c.self.inside.item_batch (entry_bytes_in c.self.inside.item_batch c.self.inside.buf.items) c.seal.new.buf.items c.self.invariant.whole c.self.invariant.fits c.seal.ensures in
     rw c.get_signature.ensures held.0
 
 pub returns : goal.returns
 returns c =
-    let held = sealed_held (signature_of c.args.context.now) c.self.inside.item_batch (entry_bytes_in c.self.inside.item_batch c.self.inside.buf.items) c.seal.new.buf.items c.self.invariant.whole c.seal.ensures in
+    let held = sealed_held (signature_of c.args.context.now) c.self.inside.item_batch (entry_bytes_in c.self.inside.item_batch c.self.inside.buf.items) c.seal.new.buf.items c.self.invariant.whole c.self.invariant.fits c.seal.ensures in
     ap (λ s. batch_with c.self.inside.item_batch (entry_bytes_in c.self.inside.item_batch c.seal.new.buf.items) (sealed s)) c.get_signature.ensures
     ∙ ap (λ es. batch_with c.self.inside.item_batch es (sealed (signature_of c.args.context.now))) held.1
     ∙ ap (λ (b : Batch). batch_with b.items b.entry_bytes (sealed (signature_of c.args.context.now))) c.self.view_is

@@ -5,7 +5,7 @@ ghost use Rattle.raft_base.specs.Reading.{Reads, HasNoFront};
 ghost use Rattle.raft_base.specs.Signature.{signature_of};
 ghost use Rattle.std.specs.Vec.Iter.{into_iter_items};
 ghost use Rattle.raft_records.specs.Item.{Item, bare, command_item, item_of};
-ghost use Rattle.raft_records.specs.LogBatch.{Stage, populating, encoded, sealed, IsSealedStage, empty_batch, IsBatchOf, encoded_length, log_batch_bytes, IsLogBatch, approximate_length};
+ghost use Rattle.raft_records.specs.LogBatch.{Stage, populating, encoded, sealed, IsSealedStage, IsBatchOf, empty_batch, encoded_length, log_batch_bytes, IsLogBatch, approximate_length};
 ghost use Rattle.raft_records.specs.Sizes.{AreSmall};
 ghost use Rattle.raft_records.specs.Range.{AreInRange};
 ghost use Rattle.raft_records.specs.Header.{IsHeader, IsHeaderFault, IsBlockOf, IsBlockFault};
@@ -93,6 +93,14 @@ impl LogBatch {
     /// The allocator that the batch was made with.
     pub(crate) fn allocator(&self) -> Global {
         *self.buf.allocator()
+    }
+
+    /// The entries of a batch's items tile its entry bytes, in order, and these are 2^31 - 1 at most.
+    pub fn entries_tile_bytes(&self)
+        ensures { IsBatchOf self.now.items self.now.entry_bytes }
+    {
+        let _ = &self.buf;
+        self.item_batch.items_fit_together();
     }
 
     /// Whether there are no items.
@@ -209,12 +217,10 @@ impl LogBatch {
         self.buf.as_slice()
     }
 
-    /// What is written and signed of a batch is read again: the entries of its items tile its entry
-    /// bytes, which are 2^31 - 1 at most, its items' numbers are in the ranges of their types, its bytes
-    /// are fewer than 2^56 once they are made, and, where it has items, they are a log batch of these
-    /// items and entry bytes. This is a law: it computes nothing.
+    /// What is written and signed of a batch is read again: its items' numbers are in the ranges of
+    /// their types, its bytes are fewer than 2^56 once they are made, and, where it has items, they are
+    /// a log batch of these items and its entry bytes.
     pub fn is_read_again(&self)
-        ensures tiled { IsBatchOf self.now.items self.now.entry_bytes }
         ensures in_range { AreInRange self.now.items }
         ensures short { self.now.stage ≢ populating →
             encoded_length self.now.items self.now.entry_bytes < 2 ^ 56 }
@@ -223,6 +229,7 @@ impl LogBatch {
             IsLogBatch (log_batch_bytes signature self.now.items self.now.entry_bytes) signature
             (map bare self.now.items) self.now.entry_bytes }
     {
+        self.entries_tile_bytes();
         self.item_batch.is_read_again();
         log_batches_are_read_again();
     }

@@ -1,5 +1,5 @@
 -- On entries with their bytes.
-use Rattle.std.proofs.Common.{◌≡◌, ◌≢◌, ℕ, zero, suc, ◌+◌, ◌-◌, ◌^◌, ◌<◌, ◌≤◌, List, [], ◌∷◌, ◌++◌, map, length, take, drop, get_or, set, Result, Ok, Err, OnOk, refl, sym, ap, ◌∙◌, subst, append_assoc, add-one, arith}
+use Rattle.std.proofs.Common.{◌≡◌, ◌≢◌, ℕ, zero, suc, ◌+◌, ◌-◌, ◌^◌, ◌<◌, ◌≤◌, List, [], ◌∷◌, ◌++◌, map, length, take, drop, get_or, set, Result, Ok, Err, OnErr, refl, sym, ap, ◌∙◌, subst, append_assoc, add-one, arith}
 use Rattle.std.specs.List.{concat}
 use Rattle.std.proofs.lemmas.List.{length-append, length-drop, length-map, length-set, take_all, drop_more, drop_all, drop-append-le, append-nil}
 use Rattle.raft_records.specs.declared.log_batch.entry_index.EntryIndex.{EntryIndex}
@@ -81,16 +81,6 @@ lengths_consecutive [] strings h = tt
 lengths_consecutive (x ∷ xs) [] h = tt
 lengths_consecutive (x ∷ xs) (s ∷ ss) h = lengths_from x.index (x ∷ xs) (s ∷ ss) h
 
-from_lengths : (index : ℕ) (es : List EntryIndex) (strings : List (List ℕ)) → length es ≡ length strings → IsConsecutiveFrom index (with_lengths es strings) → IsConsecutiveFrom index es
-from_lengths index [] strings e h = tt
-from_lengths index (x ∷ xs) [] e h = absurd (omega (arith, e))
-from_lengths index (x ∷ xs) (s ∷ ss) e h = (h.0, h.1, from_lengths (index + 1) xs ss (omega (arith, e)) h.2)
-
-pub consecutive_of : (es : List EntryIndex) (strings : List (List ℕ)) → length es ≡ length strings → IsConsecutive (with_lengths es strings) → IsConsecutive es
-consecutive_of [] strings e h = tt
-consecutive_of (x ∷ xs) [] e h = absurd (omega (arith, e))
-consecutive_of (x ∷ xs) (s ∷ ss) e h = from_lengths x.index (x ∷ xs) (s ∷ ss) e h
-
 -- ---- the batch with these entries
 
 -- where the bytes of entries stand behind those of a batch
@@ -122,9 +112,9 @@ pub reserved_len : (stage : Stage) (items : List Item) (old new : List ℕ) → 
 reserved_len stage items old new e h room same =
     omega (arith, room, open_held stage items (entry_bytes_in items old) old e h, ap length same, length-drop 16 old, length-drop 16 new)
 
-pub on_ok : {T E : Type 0} {P : Type 0} (r : Result T E) → P → OnOk r P
-on_ok (Ok x) p = p
-on_ok (Err e) p = tt
+pub on_err : {T E : Type 0} {P : Type 0} (r : Result T E) → P → OnErr r P
+on_err (Ok x) p = tt
+on_err (Err e) p = p
 
 -- messages with as many indexes
 pub same_counts : {X : Type 0} (bytes_of : X → List ℕ) (index_of : X → ℕ) (xs : List X) → length (map (λ x. entry_at (index_of x)) xs) ≡ length (map bytes_of xs)
@@ -195,9 +185,6 @@ found_room es found strings old new before counts is written fits whole =
 
 pub found_consecutive : (es found seen : List EntryIndex) (strings : List (List ℕ)) → seen ≡ found → found ≡ with_lengths es strings → IsConsecutive es → IsConsecutive seen
 found_consecutive es found seen strings same is h = subst IsConsecutive (sym (same ∙ is)) (lengths_consecutive es strings h)
-
-pub is_consecutive_found : (es found seen : List EntryIndex) (strings : List (List ℕ)) → length es ≡ length strings → seen ≡ found → found ≡ with_lengths es strings → IsConsecutive seen → IsConsecutive es
-is_consecutive_found es found seen strings counts same is h = consecutive_of es strings counts (subst IsConsecutive (same ∙ is) h)
 
 -- a refused addition, cut off again
 pub cut_held : (stage : Stage) (items kept : List Item) (old mid new cut : List ℕ) (n : ℕ) → stage ≡ populating → IsHeld stage items (entry_bytes_in items old) old → drop 16 mid ≡ drop 16 old → Keeps mid new → n ≡ length mid → cut ≡ take n new → kept ≡ items → IsHeld stage kept (entry_bytes_in kept cut) cut

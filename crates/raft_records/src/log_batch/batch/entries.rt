@@ -1,6 +1,6 @@
 //! Entries with their bytes in batches.
 
-ghost use Rattle.std.specs.Prelude.{◌≡◌, ◌≢◌, ◌+◌, ◌-◌, ◌^◌, ◌<◌, ◌≤◌, [], ◌∷◌, ◌++◌, map, length, IfOk, IfErr, OnOk, OnErr};
+ghost use Rattle.std.specs.Prelude.{◌≡◌, ◌≢◌, ◌↔◌, ◌+◌, ◌-◌, ◌^◌, ◌<◌, ◌≤◌, [], ◌∷◌, ◌++◌, map, length, IsTrue, IfOk, IfErr, OnOk, OnErr};
 ghost use Rattle.std.specs.List.{concat};
 ghost use Rattle.raft_records.specs.Entries.{IsConsecutive, entry_at, with_lengths};
 ghost use Rattle.raft_records.specs.Faults.{OneRefuses};
@@ -11,7 +11,7 @@ ghost use Rattle.raft_records.specs.Spelling.{Keeps};
 
 use super::MOST_ENTRY_BYTES;
 use crate::log_batch::header::{HEADER_LEN, reserve_header};
-use crate::log_batch::{EntryIndex, LogBatch, LogItemBatch, is_consecutive};
+use crate::log_batch::{EntryIndex, LogBatch, LogItemBatch};
 use raft_base::{Error, Message, MessageExt, Result};
 
 /// The most bytes that the buffer of an open batch has.
@@ -168,13 +168,30 @@ fn write_messages<M: MessageExt>(
             (map (λ e. entry_at (M.index_of e)) entries.now)
         (entry_bytes_of item_batch.old + length (concat (map M.Entry.bytes_of entries.now)))) }
 {
-    let entry_indexes = append_messages::<M>(buf, entries)?;
-    if !is_consecutive(entry_indexes.as_slice()) {
+    if !have_consecutive_indexes::<M>(entries) {
         return Err(Error::InvalidArgument(format!(in *buf.allocator();
             "the indexes of the entries are not consecutive"
         )?));
     }
+    let entry_indexes = append_messages::<M>(buf, entries)?;
     item_batch.add_entry_indexes(region_id, entry_indexes)
+}
+
+/// Whether the indexes of messages rise by one and none is 2^64 - 1. No message is written for it.
+fn have_consecutive_indexes<M: MessageExt>(entries: &[M::Entry]) -> bool
+    ensures { IsTrue result ↔ IsConsecutive (map (λ e. entry_at (M.index_of e)) entries.now) }
+{
+    let mut index = match entries.first() {
+        Some(first) => M::index(first),
+        None => return true,
+    };
+    for entry in entries {
+        if M::index(entry) != index || index == u64::MAX {
+            return false;
+        }
+        index += 1;
+    }
+    true
 }
 
 /// Appends the bytes of messages, and answers their entries' indexes and lengths. `Full` where an open batch's

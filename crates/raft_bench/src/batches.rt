@@ -215,7 +215,7 @@ fn decode(alloc: Global, encoded: &[Vec<u8>]) -> Result<(usize, usize)> {
         let place = FileBlockHandle {
             id: context.id,
             offset: 16,
-            len: offset,
+            len: offset - 16,
         };
         let read = LogItemBatch::decode(alloc, &mut footer, place, compression_type, &context)?;
         items = items.saturating_add(read.iter().count());

@@ -1,27 +1,21 @@
 -- What a rewriting leaves as it was.
-use Rattle.std.proofs.Common.{◌≡◌, ◌≢◌, ◌⊎◌, ℕ, zero, suc, ◌+◌, ◌-◌, ◌<◌, ◌≤◌, min, max, Bool, true, false, cond, List, [], ◌∷◌, ◌++◌, length, take, drop, map, All, Contains, Option, Some, None, refl, sym, ap, ◌∙◌, subst, arith, inl, inr}
-use Rattle.std.specs.Option.{option_map}
+use Rattle.std.proofs.Common.{◌≡◌, ◌≢◌, ◌⊎◌, ℕ, suc, ◌+◌, ◌-◌, ◌≤◌, Bool, true, false, cond, List, [], ◌∷◌, ◌++◌, length, take, drop, All, Contains, Option, Some, None, refl, ◌∙◌, arith, inl, inr}
 use Rattle.std.specs.Ordering.{nat_cmp, eq_by_cmp}
 use Rattle.std.specs.Cmp.Lexicographic.{slice_cmp, nat_list_cmp_total}
 use Rattle.std.specs.FinMap as finite
 use Rattle.std.specs.FinMap.{nat_cmp-IsAntisymmetric, slice_cmp-IsAntisymmetric}
-use Rattle.std.proofs.lemmas.Bool.{cases_lt, false≢true}
 use Rattle.std.proofs.lemmas.List.{length-append, length-take-le, length-drop}
 use Rattle.std.proofs.lemmas.List.Elements.{All-append, All-take, All-drop, All-weaker, All-contains_itself}
 use Rattle.std.proofs.lemmas.List.Sums.{prefix_len-le-length}
 use Rattle.raft_base.specs.declared.pipe_log.FileId.{FileId}
-use Rattle.raft_base.specs.declared.pipe_log.LogQueue.{LogQueue}
-use Rattle.raft_base.specs.declared.pipe_log.LogQueue.TheVariants.{Append, Rewrite}
 use Rattle.raft_records.specs.declared.log_batch.entry_index.EntryIndex.{EntryIndex}
-use Rattle.raft_memtable.specs.declared.memtable.entries.Meeting.{Meeting}
-use Rattle.raft_memtable.specs.Entries.{RisesFrom, IsRunIn, IsSound, start_of, entries_in}
+use Rattle.raft_memtable.specs.Entries.{RisesFrom, IsSound, start_of}
 use Rattle.raft_memtable.specs.KeyValues.{Keys, Stored, value_at, file_at, with_put, with_moved, moved_to}
-use Rattle.raft_memtable.specs.Meetings.{IsMeeting, AreApart}
-use Rattle.raft_memtable.specs.Rewriting.{may_move, is_misplaced, rewritten, indexes_of, MovesPlacesAlone}
-use Rattle.raft_memtable.specs.Table.{MovesKeyAlone, passes_gate, rewritten_pair, rewritten_in}
+use Rattle.raft_memtable.specs.Rewriting.{may_move, indexes_of, MovesPlacesAlone}
+use Rattle.raft_memtable.specs.Table.{MovesKeyAlone}
 use Rattle.raft_memtable.proofs.RunLemmas.{RisesFrom-append, RisesFrom-take, RisesFrom-drop}
 use Rattle.raft_memtable.proofs.SoundLemmas.{sound_rising}
-use Rattle.raft_memtable.proofs.RewriteLemmas.{RewritesAt, rewrites_at, places_of, moves_of, rewritten_none, rewritten_apart}
+use Rattle.raft_memtable.proofs.RewriteLemmas.{RewritesAt, places_of, moves_of}
 use Rattle.raft_memtable.proofs.Shown.{equal}
 
 -- runs from one start that are equally long have the same indexes

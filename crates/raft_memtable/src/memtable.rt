@@ -11,7 +11,7 @@ ghost use Rattle.raft_memtable.specs.Rewriting.{rewritten, recounted, IsRewriteR
 ghost use Rattle.raft_memtable.specs.Start.{appended, replayed, IsRunRefused};
 
 mod change;
-pub mod entries;
+mod entries;
 pub mod key_values;
 mod merge;
 mod queries;

@@ -63,7 +63,7 @@ open_again n old new h same = omega (arith, h, ap length same, length-drop 16 ol
 pub held_open : (items : List Item) (buf : List ℕ) → length buf - 16 ≡ entry_bytes_of items → entry_bytes_of items < 2 ^ 31 → IsHeld populating items (entry_bytes_in items buf) buf
 held_open items buf h lt =
     let whole : length (entry_bytes_in items buf) ≡ entry_bytes_of items = ap length (open_entries (entry_bytes_of items) buf h) ∙ length-drop 16 buf ∙ h in
-    record { whole = whole; fits = omega (arith, whole, lt); held = h }
+    record { whole = whole; fits = omega (arith, whole, lt); held = h; short = tt }
 
 -- ---- encoded and sealed
 
@@ -75,13 +75,14 @@ pub unsealed_entries : (items : List Item) (es buf : List ℕ) → length es ≡
 unsealed_entries items es buf counted u =
     entries_behind (encoded_length items es) (entry_bytes_of items) items es u.seal buf counted u.split
 
-pub held_encoded : (items : List Item) (es buf : List ℕ) → items ≢ [] → length es ≡ entry_bytes_of items → length es < 2 ^ 31 → IsUnsealed items es buf → IsHeld encoded items (entry_bytes_in items buf) buf
-held_encoded items es buf some counted lt u =
+pub held_encoded : (items : List Item) (es buf : List ℕ) → items ≢ [] → length es ≡ entry_bytes_of items → length es < 2 ^ 31 → IsUnsealed items es buf → length buf < 2 ^ 56 → IsHeld encoded items (entry_bytes_in items buf) buf
+held_encoded items es buf some counted lt u short =
     let same = unsealed_entries items es buf counted u in
     record {
       whole = ap length same ∙ counted;
       fits = omega (arith, ap length same, lt);
       held = subst (λ (t : List ℕ). IsEncodedAs items t buf) (sym same) (encoded_as items es buf some u);
+      short = short;
     }
 
 -- what is encoded or sealed is the batch, but for its checksum
@@ -135,10 +136,10 @@ sealed_entries signature [] es buf some counted h = absurd (some refl)
 sealed_entries signature (x ∷ xs) es buf some counted h =
     entries_behind (encoded_length (x ∷ xs) es) (entry_bytes_of (x ∷ xs)) (x ∷ xs) es (checksum_bytes signature (batch_bytes (x ∷ xs))) buf counted h
 
-pub held_sealed : (signature : Option ℕ) (items : List Item) (es buf : List ℕ) → items ≢ [] → length es ≡ entry_bytes_of items → length es < 2 ^ 31 → buf ≡ log_batch_bytes signature items es → IsHeld (sealed signature) items (entry_bytes_in items buf) buf
-held_sealed signature items es buf some counted lt h =
+pub held_sealed : (signature : Option ℕ) (items : List Item) (es buf : List ℕ) → items ≢ [] → length es ≡ entry_bytes_of items → length es < 2 ^ 31 → buf ≡ log_batch_bytes signature items es → length buf < 2 ^ 56 → IsHeld (sealed signature) items (entry_bytes_in items buf) buf
+held_sealed signature items es buf some counted lt h short =
     let same = sealed_entries signature items es buf some counted h in
-    record { whole = ap length same ∙ counted; fits = omega (arith, ap length same, lt); held = h ∙ ap (log_batch_bytes signature items) (sym same) }
+    record { whole = ap length same ∙ counted; fits = omega (arith, ap length same, lt); held = h ∙ ap (log_batch_bytes signature items) (sym same); short = short }
 
 -- ---- encoding
 

@@ -84,7 +84,7 @@ same_item_decides x y =
     let n = unsigned_Decides x.raft_group_id y.raft_group_id in
     (λ e. ap (λ (m : ℕ). item_with m x.content) (n.0 (first_so _ _ e)) ∙ ap (item_with y.raft_group_id) (d.0 (second_so _ _ e)), λ e. both (n.1 (ap (λ (z : Item). z.raft_group_id) e)) (d.1 (ap (λ (z : Item). z.content) e)))
 
-pub same_items_decides : (xs ys : List Item) → Decides (same_items xs ys) (xs ≡ ys)
+same_items_decides : (xs ys : List Item) → Decides (same_items xs ys) (xs ≡ ys)
 same_items_decides = pointwise_decides same_item_decides
 
 -- ---- lists of items
@@ -97,5 +97,12 @@ items_alike (x ∷ xs) (y ∷ ys) =
     let first : item_eq.it x y ≡ same_item (item_of x) (item_of y) = one_answer (item_eq.it x y) (same_item (item_of x) (item_of y)) (item_decides x y) (same_item_decides (item_of x) (item_of y)) in
     λ i. first i && items_alike xs ys i
 
-pub items_tested : (xs ys : List LogItem) (result : Bool) → result ≡ pointwise item_eq.it xs ys → result ≡ same_items (map item_of xs) (map item_of ys)
-items_tested xs ys result e = e ∙ items_alike xs ys
+-- what a comparison of the items in memory says of what is seen of them
+pub items_compared : (xs ys : List LogItem) (one other : List Item) (result : Bool) → map item_of xs ≡ one → map item_of ys ≡ other → result ≡ pointwise item_eq.it xs ys → result ≡ same_items one other
+items_compared xs ys one other result seen seen' e =
+    e ∙ items_alike xs ys ∙ ap (λ (zs : List Item). same_items zs (map item_of ys)) seen ∙ ap (same_items one) seen'
+
+pub exactly : (one other : List Item) (result : Bool) → result ≡ same_items one other → (result ≡ true → one ≡ other) × (one ≡ other → result ≡ true)
+exactly one other result tested =
+    let d = same_items_decides one other in
+    (λ e. d.0 (sym tested ∙ e), λ e. tested ∙ d.1 e)

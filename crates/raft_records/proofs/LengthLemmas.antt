@@ -1,21 +1,20 @@
 -- On approximate sizes: they cover the bytes.
-use Rattle.std.proofs.Common.{◌≡◌, ℕ, ◌+◌, ◌-◌, ◌*◌, ◌^◌, ◌<◌, ◌≤◌, List, [], ◌∷◌, ◌++◌, length, Option, Some, None, refl, sym, ap, ◌∙◌, subst, arith}
+use Rattle.std.proofs.Common.{◌≡◌, ℕ, ◌+◌, ◌*◌, ◌^◌, ◌<◌, ◌≤◌, List, [], ◌∷◌, ◌++◌, length, Option, Some, None, arith}
 use Rattle.std.specs.List.{flat_map}
 use Rattle.std.proofs.lemmas.List.{length-append}
 use Rattle.raft_base.specs.Varint.{varint}
 use Rattle.raft_base.proofs.VarintLemmas.{varint_spells, varint_some, varint_within}
-use Rattle.raft_records.specs.declared.log_batch.command.Command.{Command}
 use Rattle.raft_records.specs.declared.log_batch.command.Command.TheVariants.{Clean, Compact}
 use Rattle.raft_records.specs.declared.log_batch.entry_index.EntryIndex.{EntryIndex}
 use Rattle.raft_records.specs.declared.log_batch.key_value.OpType.{OpType}
 use Rattle.raft_records.specs.declared.log_batch.key_value.OpType.TheVariants.{Put, Del}
-use Rattle.raft_records.specs.Item.{Item, Content, entries, command, pair, Pair}
+use Rattle.raft_records.specs.Item.{Item, Content, entries, command, pair}
 use Rattle.raft_records.specs.Entries.{Tile}
-use Rattle.raft_records.specs.Grammar.{op_type_byte, tail_of, behind_item}
-use Rattle.raft_records.specs.Spelling.{command_bytes, byte_string, value_bytes, tails_bytes, entries_bytes, content_bytes, item_bytes}
-use Rattle.raft_records.specs.Sizes.{entries_size, value_length, content_size, item_size, items_size, batch_size, saturated, AreSmallIndexes, HasSmallIndex, HasSmallIndexes, AreSmall}
+use Rattle.raft_records.specs.Grammar.{tail_of, behind_item}
+use Rattle.raft_records.specs.Spelling.{byte_string, value_bytes, tails_bytes, entries_bytes, content_bytes, item_bytes}
+use Rattle.raft_records.specs.Sizes.{entries_size, value_length, content_size, item_size, items_size, batch_size, saturated, AreSmallIndexes, HasSmallIndexes, AreSmall}
 use Rattle.raft_records.specs.ItemBatch.{FitsBehind, FitTogether, checksum_bytes, batch_bytes}
-use Rattle.raft_records.specs.LogBatch.{entry_block, item_offset, encoded_length}
+use Rattle.raft_records.specs.LogBatch.{item_offset, encoded_length}
 use Rattle.raft_records.proofs.BufferLemmas.{checksum_len}
 
 eight : (n : ℕ) → n < 2 ^ 56 → length (varint n) ≤ 8

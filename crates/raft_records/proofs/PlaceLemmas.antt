@@ -4,7 +4,7 @@ use Rattle.raft_base.specs.declared.pipe_log.FileBlockHandle.{FileBlockHandle}
 use Rattle.raft_records.specs.declared.log_batch.CompressionType.{CompressionType}
 use Rattle.raft_records.specs.declared.log_batch.CompressionType.TheVariants as compressions
 use Rattle.raft_records.specs.Item.{Item}
-use Rattle.raft_records.specs.ItemBatch.{placed, batch_bytes, checksum_bytes, entry_bytes_of}
+use Rattle.raft_records.specs.ItemBatch.{placed, checksum_bytes, entry_bytes_of}
 use Rattle.raft_records.specs.LogBatch.{Stage, Batch, populating, encoded, sealed, IsSealedStage, header_bytes, entry_block, entry_place, item_offset, log_batch_bytes}
 use Rattle.raft_records.specs.Buffer.{entry_bytes_in, IsHeld}
 use Rattle.raft_records.proofs.BatchLemmas.{batch_placed, end_of_placed}
@@ -26,6 +26,7 @@ placed_held block c (sealed signature) items buf s h =
     let same = entries_placed block c items buf in
     record {
       whole = ap length same ∙ h.whole ∙ sym (end_of_placed block c 0 items);
+      short = h.short;
       fits = omega (arith, ap length same, h.fits);
       held = h.held ∙ sym (log_bytes_placed block c signature items (entry_bytes_in items buf)) ∙ ap (log_batch_bytes signature (map (placed block c) items)) (sym same);
     }

@@ -10,7 +10,7 @@ use Rattle.raft_records.specs.Item.{Item}
 use Rattle.raft_records.specs.Grammar.{behind_item}
 use Rattle.raft_records.specs.ItemBatch.{checksum_bytes, batch_bytes, entry_bytes_of, IsEncoded, signed, no_checksum}
 use Rattle.raft_records.specs.LogBatch.{Stage, Batch, populating, encoded, sealed, header_bytes, entry_block, item_offset, unsealed_bytes, encoded_length, log_batch_bytes, approximate_length}
-use Rattle.raft_records.specs.Buffer.{entry_bytes_in, IsUnsealed, IsHeldAt, IsHeld}
+use Rattle.raft_records.specs.Buffer.{entry_bytes_in, IsUnsealed, IsHeldAt, IsShortAt, IsHeld}
 use Rattle.raft_records.proofs.SealLemmas.{four}
 use Rattle.raft_records.proofs.BufferLemmas.{header_len, open_entries, open_again, held_open, held_more, held_encoded, unsealed_entries, unsealed_at, held_sealed, sealed_entries, item_same, length_is, encoded_unsealed}
 
@@ -35,11 +35,11 @@ reheld_more stage items more buf e h same =
 pub entries_are : (stage : Stage) (items : List Item) (buf : List ℕ) → stage ≡ populating → IsHeld stage items (entry_bytes_in items buf) buf → entry_bytes_in items buf ≡ drop 16 buf
 entries_are stage items buf e h = open_entries (entry_bytes_of items) buf (open_held stage items (entry_bytes_in items buf) buf e h)
 
-pub populated : (stage : Stage) (items : List Item) (old mid new : List ℕ) → stage ≡ populating → IsHeld stage items (entry_bytes_in items old) old → drop 16 mid ≡ drop 16 old → items ≢ [] → IsUnsealed items (drop 16 mid) new → IsHeld encoded items (entry_bytes_in items new) new × (entry_bytes_in items new ≡ entry_bytes_in items old)
-populated stage items old mid new e h same some u =
+pub populated : (stage : Stage) (items : List Item) (old mid new : List ℕ) → stage ≡ populating → IsHeld stage items (entry_bytes_in items old) old → drop 16 mid ≡ drop 16 old → items ≢ [] → IsUnsealed items (drop 16 mid) new → length new < 2 ^ 56 → IsHeld encoded items (entry_bytes_in items new) new × (entry_bytes_in items new ≡ entry_bytes_in items old)
+populated stage items old mid new e h same some u short =
     let are : drop 16 mid ≡ entry_bytes_in items old = same ∙ sym (entries_are stage items old e h) in
     let counted : length (drop 16 mid) ≡ entry_bytes_of items = ap length are ∙ h.whole in
-    (held_encoded items (drop 16 mid) new some counted (omega (arith, ap length are, h.fits)) u, unsealed_entries items (drop 16 mid) new counted u ∙ are)
+    (held_encoded items (drop 16 mid) new some counted (omega (arith, ap length are, h.fits)) u short, unsealed_entries items (drop 16 mid) new counted u ∙ are)
 
 pub unsealed_len : (items : List Item) (es buf : List ℕ) → items ≢ [] → IsUnsealed items es buf → length buf ≡ encoded_length items es
 unsealed_len [] es buf some u = absurd (some refl)
@@ -77,16 +77,16 @@ encoded_whole items old closed whole slice new offset len n some room e f at siz
 pub held_unsigned : (stage : Stage) (items : List Item) (es buf : List ℕ) → stage ≢ populating → IsHeld stage items es buf → IsHeld encoded items es buf
 held_unsigned populating items es buf ne h = absurd (ne refl)
 held_unsigned encoded items es buf ne h = h
-held_unsigned (sealed s) [] es buf ne h = record { whole = h.whole; fits = h.fits; held = h.held }
+held_unsigned (sealed s) [] es buf ne h = record { whole = h.whole; fits = h.fits; held = h.held; short = h.short }
 held_unsigned (sealed s) (x ∷ xs) es buf ne h =
-    record { whole = h.whole; fits = h.fits; held = record { seal = checksum_bytes s (batch_bytes (x ∷ xs)); four = four (signed s (crc32_of (batch_bytes (x ∷ xs)))); split = h.held } }
+    record { whole = h.whole; fits = h.fits; held = record { seal = checksum_bytes s (batch_bytes (x ∷ xs)); four = four (signed s (crc32_of (batch_bytes (x ∷ xs)))); split = h.held }; short = h.short }
 
-pub sealed_held : (signature : Option ℕ) (items : List Item) (es buf : List ℕ) → length es ≡ entry_bytes_of items → length es < 2 ^ 31 → buf ≡ log_batch_bytes signature items es → IsHeld (sealed signature) items (entry_bytes_in items buf) buf × (entry_bytes_in items buf ≡ es)
-sealed_held signature [] es buf counted lt h =
-    (record { whole = refl; fits = omega arith; held = h }, sym (nil_from_length es counted))
-sealed_held signature (x ∷ xs) es buf counted lt h =
+pub sealed_held : (signature : Option ℕ) (items : List Item) (es buf : List ℕ) → length es ≡ entry_bytes_of items → length es < 2 ^ 31 → buf ≡ log_batch_bytes signature items es → length buf < 2 ^ 56 → IsHeld (sealed signature) items (entry_bytes_in items buf) buf × (entry_bytes_in items buf ≡ es)
+sealed_held signature [] es buf counted lt h short =
+    (record { whole = refl; fits = omega arith; held = h; short = short }, sym (nil_from_length es counted))
+sealed_held signature (x ∷ xs) es buf counted lt h short =
     let some : (x ∷ xs) ≢ [] = λ e. absurd cc in
-    (held_sealed signature (x ∷ xs) es buf some counted lt h, sealed_entries signature (x ∷ xs) es buf some counted h)
+    (held_sealed signature (x ∷ xs) es buf some counted lt h short, sealed_entries signature (x ∷ xs) es buf some counted h)
 
 -- a batch that has no bytes is signed as it is
 pub nothing_sealed : (signature : Option ℕ) (items : List Item) (es buf : List ℕ) → IsHeld encoded items es buf → length buf ≡ 0 → buf ≡ log_batch_bytes signature items es
@@ -115,6 +115,13 @@ sealed_len signature (x ∷ xs) es buf new some u e =
     let seal = checksum_bytes signature (batch_bytes items) in
     omega (arith, ap length e, length-append front seal, four (signed signature (crc32_of (batch_bytes items))), ap length u.split, length-append front u.seal, u.four)
 
+-- the signed bytes are as many as the unsigned ones
+pub sealed_short : (signature : Option ℕ) (items : List Item) (es buf new : List ℕ) → IsHeld encoded items es buf → new ≡ log_batch_bytes signature items es → length new < 2 ^ 56
+sealed_short signature [] es buf new h e = omega (arith, ap length e)
+sealed_short signature (x ∷ xs) es buf new h e =
+    let short : length buf < 2 ^ 56 = h.short in
+    omega (arith, short, sealed_len signature (x ∷ xs) es buf new (λ e. absurd cc) h.held e)
+
 -- ---- approximate sizes
 
 approximated : (stage : Stage) (items : List Item) (es : List ℕ) → stage ≢ populating → approximate_length stage items es ≡ encoded_length items es
@@ -140,3 +147,20 @@ length_at now stage items es buf view ne some h =
     unsealed_len items es buf some (unsealed_at stage items es buf ne some h.held)
     ∙ sym (approximated stage items es ne)
     ∙ ap (λ (b : Batch). approximate_length b.stage b.items b.entry_bytes) view
+
+-- once the bytes of a batch are made, they are below the limit
+pub encoded_short : (now : Batch) (stage : Stage) (items : List Item) (es buf : List ℕ) → batch_with items es stage ≡ now → IsHeld stage items es buf → now.stage ≢ populating → encoded_length now.items now.entry_bytes < 2 ^ 56
+encoded_short now stage items es buf view h ne =
+    subst (λ (b : Batch). encoded_length b.items b.entry_bytes < 2 ^ 56) view (at items h)
+  where
+    made : stage ≢ populating
+    made e = ne (sym (ap (λ (b : Batch). b.stage) view) ∙ e)
+    few : (s : Stage) → s ≢ populating → IsShortAt s buf → length buf < 2 ^ 56
+    few populating n short = absurd (n refl)
+    few encoded n short = short
+    few (sealed signature) n short = short
+    at : (xs : List Item) → IsHeld stage xs es buf → encoded_length xs es < 2 ^ 56
+    at [] k = omega arith
+    at (x ∷ xs) k =
+        let some : (x ∷ xs) ≢ [] = λ e. absurd cc in
+        omega (arith, few stage made k.short, unsealed_len (x ∷ xs) es buf some (unsealed_at stage (x ∷ xs) es buf made some k.held))

@@ -25,8 +25,15 @@ IsHeldAt populating items entry_bytes buf = length buf - 16 ≡ entry_bytes_of i
 IsHeldAt encoded items entry_bytes buf = IsEncodedAs items entry_bytes buf
 IsHeldAt (sealed signature) items entry_bytes buf = buf ≡ log_batch_bytes signature items entry_bytes
 
+-- once its bytes are made, a batch has fewer than 2^56
+abbrev pub IsShortAt : Stage → List ℕ → Type 0
+IsShortAt populating buf = Unit {0}
+IsShortAt encoded buf = length buf < 2 ^ 56
+IsShortAt (sealed signature) buf = length buf < 2 ^ 56
+
 -- what is kept beside a batch is its own; the entry bytes of its items are those that it holds, and within the limit
 pub record IsHeld (stage : Stage) (items : List Item) (entry_bytes buf : List ℕ) : Type 0 where
   pub whole : length entry_bytes ≡ entry_bytes_of items
   pub fits : length entry_bytes < 2 ^ 31
   pub held : IsHeldAt stage items entry_bytes buf
+  pub short : IsShortAt stage buf

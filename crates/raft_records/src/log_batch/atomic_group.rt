@@ -15,8 +15,9 @@ use std::marker::Model;
 #[cfg(test)]
 mod tests;
 
-/// Marks the batches of a group. The first gets the mark `Begin`, the last one `End`, those between
-/// them `Middle`; a group may also begin and end in one batch.
+/// Marks the batches of one group: the first with `Begin`, the last with `End`, those between them
+/// with `Middle`. Each call takes a batch of its own: of two marks in one batch only the first is
+/// read, so a group has two batches at least.
 #[derive(Debug, Drop)]
 pub struct AtomicGroupBuilder {
     id: u64,

@@ -210,24 +210,26 @@ impl LogBatch {
         ensures bytes { (signature : Option ℕ) → self.now.stage ≡ sealed signature →
             result.now ≡ log_batch_bytes signature self.now.items self.now.entry_bytes }
         ensures read_again { (signature : Option ℕ) → self.now.stage ≡ sealed signature →
-            self.now.items ≢ [] → encoded_length self.now.items self.now.entry_bytes < 2 ^ 56 →
+            self.now.items ≢ [] →
             IsLogBatch result.now signature (map bare self.now.items) self.now.entry_bytes }
     {
         self.is_read_again();
         self.buf.as_slice()
     }
 
-    /// What is written and signed of a batch is read again: the entries of its items tile its entry
-    /// bytes, its items' numbers are in the ranges of their types, and its bytes, where it has items,
-    /// are a log batch of these items and entry bytes. This is a law: it computes nothing.
+    /// What is written and signed of a batch is read again: its items' numbers are in the ranges of
+    /// their types, its bytes are fewer than 2^56 once they are made, and, where it has items, they are
+    /// a log batch of these items and its entry bytes.
     pub fn is_read_again(&self)
-        ensures tiled { IsBatchOf self.now.items self.now.entry_bytes }
         ensures in_range { AreInRange self.now.items }
+        ensures short { self.now.stage ≢ populating →
+            encoded_length self.now.items self.now.entry_bytes < 2 ^ 56 }
         ensures spelled { (signature : Option ℕ) → self.now.items ≢ [] →
             encoded_length self.now.items self.now.entry_bytes < 2 ^ 56 →
             IsLogBatch (log_batch_bytes signature self.now.items self.now.entry_bytes) signature
             (map bare self.now.items) self.now.entry_bytes }
     {
+        self.entries_tile_bytes();
         self.item_batch.is_read_again();
         log_batches_are_read_again();
     }

@@ -107,6 +107,16 @@ impl LogItemBatch {
         let _ = &self.items;
     }
 
+    /// What is written and signed of a batch is read again: its items' numbers are in the ranges of
+    /// their types.
+    pub fn is_read_again(&self)
+        ensures in_range { AreInRange self.now }
+        ensures spelled { (signature : Option ℕ) →
+            IsItemBatch (batch_bytes self.now ++ checksum_bytes signature (batch_bytes self.now)) signature (map bare self.now) [] }
+    {
+        let _count = self.items.len();
+    }
+
     /// How many bytes the entries of all items have together.
     pub fn entries_size(&self) -> u32
         ensures { result ≡ entry_bytes_of self.now }
@@ -315,17 +325,6 @@ impl LogItemBatch {
         let (batch, rest) = items_front(alloc, behind, count, entries, compression_type)?;
         *buf = rest;
         Ok(batch)
-    }
-
-    /// What is written and signed of a batch is read again: its items fit together and their numbers
-    /// are in the ranges of their types. This is a law: it computes nothing.
-    pub fn is_read_again(&self)
-        ensures fit { FitTogether 0 self.now }
-        ensures in_range { AreInRange self.now }
-        ensures spelled { (signature : Option ℕ) →
-            IsItemBatch (batch_bytes self.now ++ checksum_bytes signature (batch_bytes self.now)) signature (map bare self.now) [] }
-    {
-        let _count = self.items.len();
     }
 
     /// Adds an item whose entries' bytes, if any, begin where those of the batch end, and end at

@@ -46,6 +46,7 @@ pub enum Answer {
     Full,
     NotFound,
     Compacted,
+    Memory,
     Other,
 }
 
@@ -63,6 +64,7 @@ pub fn answered(given: Result<u64>) -> Answer {
         Err(Error::Full) => Answer::Full,
         Err(Error::EntryNotFound) => Answer::NotFound,
         Err(Error::EntryCompacted) => Answer::Compacted,
+        Err(Error::Memory) => Answer::Memory,
         Err(_) => Answer::Other,
     }
 }

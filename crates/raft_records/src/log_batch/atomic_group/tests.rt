@@ -1,7 +1,7 @@
 //! A group's first batch, as the Rust crate writes it, and its clones.
 
-ghost use Rattle.std.specs.Prelude.{◌≡◌, ◌≢◌, ◌<◌, ◌^◌, [], None};
-ghost use Rattle.raft_records.specs.LogBatch.{IsSealedStage, encoded_length};
+ghost use Rattle.std.specs.Prelude.{◌≡◌, ◌≢◌, [], None};
+ghost use Rattle.raft_records.specs.LogBatch.{IsSealedStage};
 
 use crate::log_batch::laws::log_batches_are_read_again;
 use crate::log_batch::{
@@ -19,7 +19,6 @@ fn file(seq: u64) -> LogFileContext {
 fn header_of(alloc: Global, batch: &LogBatch) -> (usize, CompressionType, usize)
     requires sealed { IsSealedStage batch.now.stage }
     requires some { batch.now.items ≢ [] }
-    requires short { encoded_length batch.now.items batch.now.entry_bytes < 2 ^ 56 }
 {
     log_batches_are_read_again();
     let mut bytes = batch.encoded_bytes();

@@ -36,8 +36,9 @@ impl Clone for LogItemBatch {
 
     /// A batch of the same items. There may be no memory for it.
     fn clone(&self) -> Result<LogItemBatch, AllocError> {
+        let items = self.items.clone()?;
         Ok(LogItemBatch {
-            items: self.items.clone()?,
+            items,
             item_size: self.item_size,
             entries_size: self.entries_size,
             checksum: self.checksum,

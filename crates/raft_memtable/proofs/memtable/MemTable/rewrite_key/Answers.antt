@@ -1,4 +1,4 @@
-use Rattle.std.proofs.Common.{arith, sym}
+use Rattle.std.proofs.Common.{arith}
 use Rattle.raft_base.specs.declared.pipe_log.LogQueue.TheVariants.{Append}
 use Rattle.raft_memtable.proofs.TableLemmas.{pair_counted}
 use Rattle.raft_memtable.proofs.AloneLemmas.{key_moves}

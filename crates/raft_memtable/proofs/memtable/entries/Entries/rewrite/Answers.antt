@@ -1,14 +1,13 @@
-use Rattle.std.proofs.Common.{ℕ, arith, refl, sym, subst, ◌≡◌, ◌<◌, ◌+◌, ◌-◌, ◌≤◌, ◌++◌, ◌^◌, length, take, drop, ap, ◌∙◌, rules, Some, None, List, [], Option, Result, OnOk, IfErr}
+use Rattle.std.proofs.Common.{ℕ, arith, sym, subst, ◌≡◌, ◌+◌, ◌≤◌, ◌^◌, length, ap, ◌∙◌, Some, None, List, [], Option}
 use Rattle.std.proofs.lemmas.Result.{err_from_is_err_and, on_ok_weaker, IfErr-weaker}
-use Rattle.std.proofs.lemmas.List.{nil_from_length}
 use Rattle.raft_base.specs.declared.errors.Error.{Error}
 use Rattle.raft_base.specs.declared.errors.Error.TheVariants as errors
-use Rattle.raft_base.specs.declared.pipe_log.LogQueue.TheVariants.{Append, Rewrite}
+use Rattle.raft_base.specs.declared.pipe_log.LogQueue.TheVariants.{Rewrite}
 use Rattle.raft_records.specs.declared.log_batch.entry_index.EntryIndex.{EntryIndex}
-use Rattle.raft_memtable.specs.Counts.{Counts, live, with_added, with_deleted}
+use Rattle.raft_memtable.specs.Counts.{Counts, live, with_deleted}
 use Rattle.raft_memtable.specs.Start.{IsCorruption}
-use Rattle.raft_memtable.specs.Entries.{start_of, entries_in}
-use Rattle.raft_memtable.specs.Rewriting.{rewritten, recounted, with_rewritten, is_misplaced, IsRewriteRefused, MovesPlacesAlone}
+use Rattle.raft_memtable.specs.Entries.{start_of}
+use Rattle.raft_memtable.specs.Rewriting.{rewritten, with_rewritten, IsRewriteRefused, MovesPlacesAlone}
 use Rattle.raft_memtable.proofs.SoundLemmas.{start_of_front, no_first}
 use Rattle.raft_memtable.proofs.RewriteLemmas.{RewritesAt, rewrites_at, rewritten_none, rewritten_apart, recounted_apart, recounted_is, run_end}
 use Rattle.raft_memtable.proofs.AloneLemmas.{none_moved, moved_alone}

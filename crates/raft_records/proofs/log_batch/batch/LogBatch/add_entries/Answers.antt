@@ -1,8 +1,8 @@
-use Rattle.std.proofs.Common.{◌≡◌, ◌≢◌, ◌∙◌, [], length, map, drop, ap, sym, subst, arith, rules}
+use Rattle.std.proofs.Common.{◌≡◌, ◌≢◌, [], length, map, arith, rules}
 use Rattle.raft_records.specs.Entries.{entry_at}
 use Rattle.raft_records.specs.LogBatch.{populating}
 use Rattle.raft_records.specs.LogBatchModel.{stage_of}
-use Rattle.raft_records.specs.Buffer.{entry_bytes_in, IsHeld}
+use Rattle.raft_records.specs.Buffer.{entry_bytes_in}
 use Rattle.raft_records.proofs.StageLemmas.{reheld}
 use Rattle.raft_records.proofs.StringLemmas.{added_held, cut_held, added_view, reserved_len, same_counts, map_some}
 use Rattle.raft_records.proofs.log_batch.batch.LogBatch.add_entries.Goals as goal

@@ -1,7 +1,7 @@
 use Rattle.std.proofs.Common.{◌≡◌, ◌≢◌, ◌+◌, ◌^◌, ◌<◌, ◌≤◌, ◌∙◌, List, [], length, ap, sym, subst, arith, rules}
 use Rattle.raft_records.specs.Item.{Item}
 use Rattle.raft_records.specs.ItemBatch.{batch_bytes}
-use Rattle.raft_records.specs.LogBatch.{Batch, encoded_length, approximate_length}
+use Rattle.raft_records.specs.LogBatch.{Batch}
 use Rattle.raft_records.specs.LogBatchModel.{stage_of}
 use Rattle.raft_records.specs.Buffer.{entry_bytes_in}
 use Rattle.raft_records.specs.Sizes.{saturated, AreSmall}

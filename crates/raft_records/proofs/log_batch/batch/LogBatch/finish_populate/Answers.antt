@@ -38,7 +38,7 @@ encoding : (c : goal.After-len) → IsHeld encoded c.self.inside.item_batch (ent
 encoding c =
     let open_stage : stage_of c.self.inside.state ≡ populating = rw (← c.self.view_is) at c.requires in
     let some : c.self.inside.item_batch ≢ [] = search rules in
-    populated (stage_of c.self.inside.state) c.self.inside.item_batch c.self.inside.buf.items c.reserve_header.new.buf.items c.encode_behind.new.buf.items open_stage c.self.invariant c.reserve_header.ensures.same some c.in_default.ensures.ok
+    populated (stage_of c.self.inside.state) c.self.inside.item_batch c.self.inside.buf.items c.reserve_header.new.buf.items c.encode_behind.new.buf.items open_stage c.self.invariant c.reserve_header.ensures.same some c.in_default.ensures.ok (omega (arith, c.in_default.ensures.accepted, unsealed_len c.self.inside.item_batch (drop 16 c.reserve_header.new.buf.items) c.encode_behind.new.buf.items some c.in_default.ensures.ok))
 
 pub invariant_of-self-2 : goal.invariant_of-self-2
 invariant_of-self-2 c =

@@ -1,12 +1,11 @@
-use Rattle.std.proofs.Common.{◌≡◌, ◌+◌, ◌-◌, ◌∙◌, List, ℕ, map, ap, arith}
+use Rattle.std.proofs.Common.{◌≡◌, ◌+◌, ◌-◌, ◌∙◌, map, ap}
 use Rattle.raft_base.specs.declared.pipe_log.FileBlockHandle.{FileBlockHandle}
 use Rattle.raft_records.specs.declared.log_batch.CompressionType.TheVariants as compressions
-use Rattle.raft_records.specs.Item.{Item}
 use Rattle.raft_records.specs.ItemBatch.{placed}
-use Rattle.raft_records.specs.LogBatch.{Batch, IsSealedStage, entry_place, log_batch_bytes}
+use Rattle.raft_records.specs.LogBatch.{Batch, IsSealedStage, log_batch_bytes}
 use Rattle.raft_records.specs.LogBatchModel.{stage_of}
-use Rattle.raft_records.specs.Buffer.{entry_bytes_in, IsHeld}
-use Rattle.raft_records.proofs.PlaceLemmas.{place_is, placed_held, placed_view, entries_placed, log_bytes_placed}
+use Rattle.raft_records.specs.Buffer.{entry_bytes_in}
+use Rattle.raft_records.proofs.PlaceLemmas.{place_is, placed_held, placed_view, log_bytes_placed}
 use Rattle.raft_records.proofs.StageLemmas.{batch_with}
 use Rattle.raft_records.proofs.log_batch.batch.LogBatch.finish_write.Goals as goal
 

@@ -1,4 +1,4 @@
-use Rattle.std.proofs.Common.{◌∙◌, map, refl}
+use Rattle.std.proofs.Common.{map, refl}
 use Rattle.std.proofs.lemmas.Bool.{false≢true}
 use Rattle.raft_records.specs.Entries.{entry_at}
 use Rattle.raft_records.proofs.StringLemmas.{found_room, found_consecutive, is_consecutive_found, same_counts, on_ok}

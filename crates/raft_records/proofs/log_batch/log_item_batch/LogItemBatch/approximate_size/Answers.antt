@@ -1,6 +1,6 @@
-use Rattle.std.proofs.Common.{◌≡◌, ◌+◌, ◌≤◌, length, ap, subst, arith}
-use Rattle.raft_records.specs.ItemBatch.{batch_bytes, FitTogether}
-use Rattle.raft_records.specs.Sizes.{items_size, batch_size, saturated}
+use Rattle.std.proofs.Common.{ap, subst, arith}
+use Rattle.raft_records.specs.ItemBatch.{FitTogether}
+use Rattle.raft_records.specs.Sizes.{items_size}
 use Rattle.raft_records.proofs.LengthLemmas.{size_covers}
 use Rattle.raft_records.proofs.log_batch.log_item_batch.LogItemBatch.approximate_size.Goals as goal
 

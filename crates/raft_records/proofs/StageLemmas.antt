@@ -155,10 +155,12 @@ encoded_short now stage items es buf view h ne =
   where
     made : stage ≢ populating
     made e = ne (sym (ap (λ (b : Batch). b.stage) view) ∙ e)
+
     few : (s : Stage) → s ≢ populating → IsShortAt s buf → length buf < 2 ^ 56
     few populating n short = absurd (n refl)
     few encoded n short = short
     few (sealed signature) n short = short
+
     at : (xs : List Item) → IsHeld stage xs es buf → encoded_length xs es < 2 ^ 56
     at [] k = omega arith
     at (x ∷ xs) k =

@@ -22,6 +22,8 @@ struct Entry {
 impl Message for Entry {
     ghost bytes_of = { λ entry. entry.data.items };
 
+    ghost refuses = { λ entry code. ⊥ };
+
     fn write_to_vec(&self, buf: &mut Vec<u8>) -> std::result::Result<(), MessageError> {
         match buf.extend_from_slice(self.data.as_slice()) {
             Ok(()) => Ok(()),

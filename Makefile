@@ -1,6 +1,6 @@
 # The commands of this repository. `rt` is the toolchain's command.
 SHELL := /bin/bash
-.PHONY: demo test
+.PHONY: bench demo test
 
 # Builds `raftlog` and prints an item batch with it: the records of region 1 go.
 demo:
@@ -12,3 +12,9 @@ demo:
 # Proves every crate from nothing, runs the tests and the programs, and tries the must-fail edits.
 test:
 	@rt ci
+
+# Times checksums, numbers, batches and tables.
+bench:
+	@mkdir -p crates/raft_bench/out
+	@cd crates/raft_bench && rt run > out/bench.log 2>&1 || { cat out/bench.log; exit 1; }
+	@crates/raft_bench/out/raft_bench crc32 varint batches memtable

@@ -1,14 +1,14 @@
 -- Parts of a table's entries, as a fetch takes them.
-use Rattle.std.proofs.Common.{◌≡◌, ℕ, zero, suc, ◌+◌, ◌-◌, ◌<◌, ◌≤◌, ◌^◌, ◌⊎◌, inl, inr, min, max, Bool, true, false, cond, ltb, leb, eqb, List, [], ◌∷◌, ◌++◌, length, get_or, take, drop, Option, Some, None, refl, sym, ap, ◌∙◌, subst, arith}
+use Rattle.std.proofs.Common.{◌≡◌, ℕ, zero, suc, ◌+◌, ◌-◌, ◌<◌, ◌≤◌, ◌⊎◌, inl, inr, min, max, true, false, List, [], ◌∷◌, ◌++◌, length, get_or, take, drop, Option, Some, None, refl, sym, ap, ◌∙◌, subst, arith}
 use Rattle.std.specs.List.{prefix_len, slice_get, take_while}
-use Rattle.std.proofs.lemmas.List.{append_assoc, take_at, drop_at, length-take, length-drop, take-take, take_min, drop_min, drop-take, take_all, get_or-drop, get_or-take}
-use Rattle.std.proofs.lemmas.List.Sums.{sum_by_more, prefix_len-le-length}
+use Rattle.std.proofs.lemmas.List.{take_at, drop_at, length-take, length-drop, take-take, take_min, drop_min, drop-take, get_or-drop, get_or-take}
+use Rattle.std.proofs.lemmas.List.Sums.{sum_by_more}
 use Rattle.std.proofs.lemmas.Bool.{cases_lt}
 use Rattle.std.proofs.lemmas.Bool.Decides.{nat_tests}
 use Rattle.raft_base.specs.declared.pipe_log.LogQueue.TheVariants.{Append, Rewrite}
 use Rattle.raft_records.specs.declared.log_batch.entry_index.EntryIndex.{EntryIndex}
-use Rattle.raft_memtable.specs.Entries.{RisesFrom, IsSound, start_of, end_of, below, from, placed_in, entries_in}
-use Rattle.raft_memtable.specs.Fetches.{between, total_len, is_too_many, IsLimitCount, FetchesWithin, RangeAnswer, Empty, NotFound, Compacted, Found, range_answer, appended_before, block_count, change_count, entry_seq, first_seq}
+use Rattle.raft_memtable.specs.Entries.{IsSound, start_of, from, placed_in, entries_in}
+use Rattle.raft_memtable.specs.Fetches.{between, total_len, is_too_many, IsLimitCount, FetchesWithin, NotFound, Found, range_answer, appended_before, block_count, change_count, entry_seq, first_seq}
 use Rattle.raft_memtable.specs.Rewriting.{is_placed_before}
 use Rattle.raft_memtable.proofs.RunLemmas.{RisesFrom-take}
 use Rattle.raft_memtable.proofs.SoundLemmas.{sound_rising}

@@ -1,3 +1,4 @@
+pub mod AloneLemmas
 pub mod FetchLemmas
 pub mod KeyValueCounts
 pub mod KeyValueLaws

@@ -1,10 +1,10 @@
 -- The test of a list of entries, one entry more and at its end.
-use Rattle.std.proofs.Common.{◌≡◌, ◌≢◌, ℕ, zero, suc, ◌+◌, ◌-◌, ◌<◌, ◌≤◌, ◌^◌, Bool, true, false, List, [], ◌∷◌, ◌++◌, length, get_or, take, None, refl, sym, ap, ◌∙◌, subst, arith}
+use Rattle.std.proofs.Common.{◌≡◌, ℕ, zero, suc, ◌+◌, ◌<◌, ◌≤◌, ◌^◌, Bool, true, List, [], ◌∷◌, length, get_or, take, None, refl, sym, ap, ◌∙◌, subst, arith}
 use Rattle.std.specs.List.{slice_get}
 use Rattle.std.proofs.lemmas.List.{take_more, take_all, length-take-le}
 use Rattle.raft_base.specs.declared.pipe_log.LogQueue.{LogQueue}
 use Rattle.raft_records.specs.declared.log_batch.entry_index.EntryIndex.{EntryIndex}
-use Rattle.raft_memtable.specs.Entries.{RisesFrom, IsRun, IsRunIn, start_of, end_of, placed_in, is_placed_in}
+use Rattle.raft_memtable.specs.Entries.{RisesFrom, IsRunIn, start_of, end_of, placed_in, is_placed_in}
 use Rattle.raft_memtable.proofs.RunLemmas.{RisesFrom-append, placed_in-append, end_of-run}
 use Rattle.raft_memtable.proofs.PlaceLemmas.{AllTest, AllTest-filter}
 use Rattle.raft_memtable.proofs.LookupLemmas.{index_at}

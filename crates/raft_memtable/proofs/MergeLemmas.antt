@@ -1,16 +1,16 @@
 -- Counts through a merge of two tables.
-use Rattle.std.proofs.Common.{◌≡◌, ℕ, zero, suc, ◌+◌, ◌-◌, ◌<◌, ◌≤◌, Bool, true, false, cond, ltb, List, [], ◌∷◌, ◌++◌, length, Option, Some, None, refl, sym, ap, ◌∙◌, subst, arith}
+use Rattle.std.proofs.Common.{◌≡◌, ℕ, ◌+◌, ◌-◌, ◌≤◌, Bool, true, false, cond, ltb, List, [], ◌∷◌, ◌++◌, length, Option, Some, None, refl, ap, subst, arith}
 use Rattle.raft_base.specs.declared.errors.Error.{Error}
 use Rattle.raft_base.specs.declared.errors.Error.TheVariants as errors
 use Rattle.raft_base.specs.declared.pipe_log.LogQueue.{LogQueue}
 use Rattle.raft_base.specs.declared.pipe_log.LogQueue.TheVariants.{Append, Rewrite}
 use Rattle.raft_records.specs.declared.log_batch.entry_index.EntryIndex.{EntryIndex}
 use Rattle.raft_memtable.specs.Entries.{below, end_of, placed_in, entries_in}
-use Rattle.raft_memtable.specs.Queues.{is_same, count_in}
-use Rattle.raft_memtable.specs.Counts.{Counts, live}
-use Rattle.raft_memtable.specs.Merge.{after_join, IsMergeRefused}
+use Rattle.raft_memtable.specs.Queues.{count_in}
+use Rattle.raft_memtable.specs.Counts.{Counts}
+use Rattle.raft_memtable.specs.Merge.{IsMergeRefused}
 use Rattle.raft_memtable.specs.Start.{replayed, leaves_hole, IsRunRefused}
-use Rattle.raft_memtable.specs.Table.{Table, live_of}
+use Rattle.raft_memtable.specs.Table.{Table}
 use Rattle.raft_memtable.proofs.RunLemmas.{below-placed_in}
 use Rattle.raft_memtable.proofs.PlaceLemmas.{entries_in-append}
 

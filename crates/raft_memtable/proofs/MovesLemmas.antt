@@ -1,18 +1,17 @@
 -- What a rewriting leaves of sound entries: they are sound, and as many are in each queue as moved.
-use Rattle.std.proofs.Common.{◌≡◌, ℕ, zero, suc, ◌+◌, ◌-◌, ◌<◌, ◌≤◌, ◌^◌, min, max, Bool, true, false, cond, ltb, leb, ◌&&◌, ◌||◌, List, [], ◌∷◌, ◌++◌, length, take, drop, filter, Option, Some, None, refl, sym, ap, ◌∙◌, subst, arith}
+use Rattle.std.proofs.Common.{◌≡◌, ℕ, suc, ◌+◌, ◌≤◌, min, Bool, true, false, List, [], ◌∷◌, ◌++◌, length, take, drop, Option, Some, None, refl, sym, ap, ◌∙◌, subst, arith}
 use Rattle.std.specs.List.{prefix_len}
-use Rattle.std.proofs.Math.Seq.{take-add}
-use Rattle.std.proofs.lemmas.List.{append-nil, append_assoc, length-take-le, length-append, length-drop, drop-take, take-take}
+use Rattle.std.proofs.lemmas.List.{append_assoc, length-take-le, length-append, length-drop, drop-take, take-take}
 use Rattle.std.proofs.lemmas.List.Sums.{prefix_len-le-length}
 use Rattle.std.proofs.lemmas.Bool.Decides.{nat_tests}
 use Rattle.raft_base.specs.declared.pipe_log.LogQueue.{LogQueue}
 use Rattle.raft_base.specs.declared.pipe_log.LogQueue.TheVariants.{Append, Rewrite}
 use Rattle.raft_records.specs.declared.log_batch.entry_index.EntryIndex.{EntryIndex}
-use Rattle.raft_memtable.specs.Entries.{RisesFrom, IsRun, IsRunIn, IsSound, RewrittenInFront, start_of, end_of, placed_in, is_placed_in, entries_in}
+use Rattle.raft_memtable.specs.Entries.{RisesFrom, IsSound, RewrittenInFront, start_of, end_of, placed_in, is_placed_in, entries_in}
 use Rattle.raft_memtable.specs.Rewriting.{may_move, is_misplaced}
 use Rattle.raft_memtable.proofs.RunLemmas.{RisesFrom-take, RisesFrom-append, RisesFrom-drop, end_of-run, placed_in-append}
 use Rattle.raft_memtable.proofs.PlaceLemmas.{AllTest, AllTest-filter, AllTest-take, AllTest-drop, filter_all, entries_in-append, entries_in_one, placed_in_other}
-use Rattle.raft_memtable.proofs.SoundLemmas.{sound_rising, IsSound-take, IsSound-drop, CutCounts, cut_counts}
+use Rattle.raft_memtable.proofs.SoundLemmas.{sound_rising, IsSound-take, IsSound-drop, cut_counts}
 use Rattle.raft_memtable.proofs.StartLemmas.{run_alone}
 
 pub AllTest-prefix : {X : Type 0} (p : X → Bool) (xs : List X) → AllTest true p (take (prefix_len p xs) xs)

@@ -1,5 +1,5 @@
 -- Where a run meets sound entries, and what rewriting to its places gives.
-use Rattle.std.proofs.Common.{◌≡◌, ℕ, zero, suc, ◌+◌, ◌-◌, ◌<◌, ◌≤◌, ◌^◌, min, max, Bool, true, false, cond, ltb, leb, List, [], ◌∷◌, ◌++◌, length, take, drop, Option, Some, None, refl, sym, ap, ◌∙◌, subst, arith, inl, inr}
+use Rattle.std.proofs.Common.{◌≡◌, ℕ, ◌+◌, ◌-◌, ◌<◌, ◌≤◌, min, true, false, cond, ltb, List, [], ◌∷◌, ◌++◌, length, take, drop, Option, Some, None, refl, sym, ap, ◌∙◌, arith, inl, inr}
 use Rattle.std.specs.List.{prefix_len}
 use Rattle.std.proofs.lemmas.List.{nil_from_length, length-take-le, length-take, length-drop, take-take, take_min}
 use Rattle.std.proofs.lemmas.List.Sums.{prefix_len-le-length}
@@ -14,7 +14,6 @@ use Rattle.raft_memtable.specs.Entries.{RisesFrom, IsRunIn, IsSound, start_of, e
 use Rattle.raft_memtable.specs.Meetings.{IsMeeting, AreApart}
 use Rattle.raft_memtable.specs.Rewriting.{may_move, meeting, moved_count, is_misplaced, with_places, rewritten_from, rewritten, with_rewritten, recounted}
 use Rattle.raft_memtable.proofs.RunLemmas.{below_take, below_start, from_drop, from_start, end_of-run, RisesFrom-take, RisesFrom-drop, RisesFrom-start}
-use Rattle.raft_memtable.proofs.PlaceLemmas.{AllTest, AllTest-filter, AllTest-drop, filter_all}
 use Rattle.raft_memtable.proofs.SoundLemmas.{sound_rising}
 use Rattle.raft_memtable.proofs.MovesLemmas.{placed_in-take, placed_in-drop}
 

@@ -1,13 +1,12 @@
 -- What cuts and joins leave of a sound list of entries.
-use Rattle.std.proofs.Common.{◌≡◌, ℕ, zero, suc, ◌+◌, ◌-◌, ◌<◌, ◌≤◌, ◌^◌, min, max, Bool, true, false, List, [], ◌∷◌, ◌++◌, length, get_or, take, drop, refl, sym, ap, ◌∙◌, subst, arith, lit<, None}
+use Rattle.std.proofs.Common.{◌≡◌, ℕ, ◌+◌, ◌-◌, ◌<◌, ◌≤◌, min, true, false, List, [], ◌∷◌, ◌++◌, length, get_or, take, drop, refl, sym, ap, ◌∙◌, subst, arith, lit<, None}
 use Rattle.std.specs.List.{slice_get}
 use Rattle.std.proofs.lemmas.Bool.{false≢true}
 use Rattle.std.proofs.lemmas.List.{take_min, drop_min, length-take-le}
-use Rattle.raft_base.specs.declared.pipe_log.LogQueue.{LogQueue}
 use Rattle.raft_base.specs.declared.pipe_log.LogQueue.TheVariants.{Append, Rewrite}
 use Rattle.raft_records.specs.declared.log_batch.entry_index.EntryIndex.{EntryIndex}
-use Rattle.raft_memtable.specs.Entries.{RisesFrom, IsRun, IsSound, RewrittenInFront, start_of, end_of, below, from, placed_in, entries_in}
-use Rattle.raft_memtable.proofs.RunLemmas.{below-append, from-append, below-placed_in, from-placed_in, below_take, from_drop, below_start, from_start, RisesFrom-take, RisesFrom-start, RisesFrom-append, IsRun-drop, end_of-run, end_of-take, end_of-drop, end_of-append, placed_in-append}
+use Rattle.raft_memtable.specs.Entries.{RisesFrom, IsSound, RewrittenInFront, start_of, end_of, below, from, placed_in, entries_in}
+use Rattle.raft_memtable.proofs.RunLemmas.{below-append, from-append, below-placed_in, from-placed_in, below_take, from_drop, RisesFrom-take, RisesFrom-start, IsRun-drop, end_of-take, end_of-drop}
 use Rattle.raft_memtable.proofs.PlaceLemmas.{entries_in_front, entries_in_both, entries_in-cut}
 
 pub sound_rising : (es : List EntryIndex) → IsSound es → RisesFrom (start_of es) es

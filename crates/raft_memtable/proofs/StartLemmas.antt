@@ -1,13 +1,12 @@
 -- Where a run starts among the entries, and what is joined there.
-use Rattle.std.proofs.Common.{◌≡◌, ℕ, zero, suc, ◌+◌, ◌-◌, ◌<◌, ◌≤◌, ◌^◌, min, max, Bool, true, false, cond, ltb, leb, ◌&&◌, List, [], ◌∷◌, ◌++◌, length, take, drop, refl, sym, ap, ◌∙◌, subst, arith}
+use Rattle.std.proofs.Common.{◌≡◌, ℕ, zero, suc, ◌+◌, ◌-◌, ◌<◌, ◌≤◌, false, ltb, List, [], ◌∷◌, ◌++◌, length, take, refl, sym, ap, ◌∙◌, arith}
 use Rattle.std.proofs.lemmas.List.{append-nil, append_assoc, nil_from_length, length-take-le}
 use Rattle.std.proofs.lemmas.Bool.Decides.{nat_tests}
 use Rattle.raft_base.specs.declared.pipe_log.LogQueue.{LogQueue}
 use Rattle.raft_base.specs.declared.pipe_log.LogQueue.TheVariants.{Append, Rewrite}
 use Rattle.raft_records.specs.declared.log_batch.entry_index.EntryIndex.{EntryIndex}
-use Rattle.raft_memtable.specs.declared.memtable.entries.Start.{Start}
 use Rattle.raft_memtable.specs.declared.memtable.entries.Start.TheVariants.{Joins, InFront, BehindHole}
-use Rattle.raft_memtable.specs.Entries.{RisesFrom, IsRun, IsRunIn, IsSound, RewrittenInFront, start_of, end_of, below, placed_in, entries_in}
+use Rattle.raft_memtable.specs.Entries.{RisesFrom, IsRunIn, IsSound, RewrittenInFront, start_of, end_of, below, placed_in, entries_in}
 use Rattle.raft_memtable.specs.Start.{leaves_hole, starts_in_front}
 use Rattle.raft_memtable.specs.StartOf.{IsStart}
 use Rattle.raft_memtable.specs.Queues.{other}

@@ -1,13 +1,13 @@
 -- Counts of tables.
-use Rattle.std.proofs.Common.{◌≡◌, ℕ, ◌+◌, ◌-◌, ◌<◌, ◌≤◌, true, List, Option, Some, None, refl, sym, ap, ◌∙◌, subst, arith}
+use Rattle.std.proofs.Common.{◌≡◌, ℕ, ◌≤◌, List, Some, refl, sym, ap, ◌∙◌, arith}
 use Rattle.raft_base.specs.declared.pipe_log.FileId.{FileId}
 use Rattle.raft_base.specs.declared.pipe_log.LogQueue.{LogQueue}
 use Rattle.raft_base.specs.declared.pipe_log.LogQueue.TheVariants.{Append, Rewrite}
 use Rattle.raft_memtable.specs.KeyValues.{Keys, file_at, file_count, pair_count}
-use Rattle.raft_memtable.specs.Counts.{Counts, live}
+use Rattle.raft_memtable.specs.Counts.{Counts}
 use Rattle.raft_memtable.specs.Entries.{placed_in}
 use Rattle.raft_memtable.specs.Table.{Table, empty_table, live_of, IsCounted, IsRecounted}
-use Rattle.raft_memtable.specs.Queues.{is_same, count_in}
+use Rattle.raft_memtable.specs.Queues.{count_in}
 use Rattle.raft_memtable.proofs.KeyValueReads.{entries-empty}
 use Rattle.raft_memtable.proofs.KeyValueMaps.{file_count-le}
 

@@ -1,5 +1,5 @@
 -- Entries of a region's log, in order of index: the words of tables, steps and queries.
-use Rattle.std.specs.Prelude.{◌≡◌, ℕ, ◌+◌, ◌<◌, ◌≤◌, ◌^◌, suc, max, Bool, true, false, ◌&&◌, List, [], ◌∷◌, ◌++◌, length, filter, find, nat_lt, nat_le, nat_eq, ◌==◌, Option, Some, None, if◌then◌else◌}
+use Rattle.std.specs.Prelude.{◌≡◌, ℕ, ◌+◌, ◌<◌, ◌≤◌, ◌^◌, suc, max, Bool, false, List, [], ◌∷◌, ◌++◌, length, filter, find, nat_lt, nat_le, ◌==◌, Option, Some, None}
 use Rattle.raft_base.specs.declared.pipe_log.LogQueue.{LogQueue}
 use Rattle.raft_base.specs.declared.pipe_log.LogQueue.TheVariants.{Append, Rewrite}
 use Rattle.raft_base.specs.declared.pipe_log.FileBlockHandle.{FileBlockHandle}

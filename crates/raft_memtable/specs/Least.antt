@@ -1,5 +1,5 @@
 -- The least file of a table in a queue.
-use Rattle.std.specs.Prelude.{ℕ, ◌+◌, min, nat_le, Option, Some, None, if◌then◌else◌}
+use Rattle.std.specs.Prelude.{ℕ, min, nat_le, Option, Some, None, if◌then◌else◌}
 use Rattle.raft_base.specs.declared.pipe_log.LogQueue.{LogQueue}
 use Rattle.raft_base.specs.declared.pipe_log.LogQueue.TheVariants.{Append, Rewrite}
 use Rattle.raft_memtable.specs.Fetches.{first_seq}

@@ -1,5 +1,5 @@
 -- Rewriting: which places of a table move to the rewrite queue, or within it.
-use Rattle.std.specs.Prelude.{◌≡◌, ℕ, ◌+◌, ◌-◌, ◌≤◌, ◌^◌, Bool, true, false, ◌&&◌, ◌||◌, List, [], ◌∷◌, ◌++◌, length, take, nat_lt, nat_le, Option, Some, None, is_some, if◌then◌else◌}
+use Rattle.std.specs.Prelude.{◌≡◌, ◌⊎◌, ℕ, ◌+◌, ◌-◌, ◌≤◌, ◌^◌, Bool, false, ◌&&◌, ◌||◌, List, [], ◌∷◌, ◌++◌, length, take, map, nat_lt, nat_le, All, Contains, Option, Some, None, is_some, if◌then◌else◌}
 use Rattle.std.specs.List.{prefix_len}
 use Rattle.raft_base.specs.declared.errors.Error.{Error}
 use Rattle.raft_base.specs.declared.errors.Error.TheVariants as errors
@@ -64,3 +64,12 @@ IsRewriteRefused n counts None (errors.Corruption text) = Unit {0}
 IsRewriteRefused n counts None errors.Memory = Unit {0}
 IsRewriteRefused n counts (Some after) errors.Full = 2 ^ 64 ≤ live Rewrite counts + n
 IsRewriteRefused n counts outcome _ = ⊥
+
+-- the indexes of entries, in order
+abbrev pub indexes_of : List EntryIndex → List ℕ
+indexes_of es = map (λ e. e.index) es
+
+-- a rewriting to the places of a run changes places alone: the indexes are the same, and each entry is an old one or one of the run
+pub record MovesPlacesAlone (run before after : List EntryIndex) : Type 0 where
+  pub indexes : indexes_of after ≡ indexes_of before
+  pub entries : All (λ e. Contains before e ⊎ Contains run e) after

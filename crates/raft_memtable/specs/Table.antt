@@ -1,5 +1,5 @@
 -- The table of a region, and how its calls change it.
-use Rattle.std.specs.Prelude.{◌≡◌, ℕ, ◌+◌, ◌≤◌, ◌^◌, Bool, true, false, ◌&&◌, List, [], Option, Some, None, nat_lt, nat_le, option_map, if◌then◌else◌}
+use Rattle.std.specs.Prelude.{◌≡◌, ◌≢◌, ℕ, ◌+◌, ◌≤◌, ◌^◌, Bool, true, false, ◌&&◌, List, [], Option, Some, None, nat_lt, nat_le, option_map, if◌then◌else◌}
 use Rattle.std.specs.FinMap as finite
 use Rattle.raft_base.specs.declared.errors.Error.{Error}
 use Rattle.raft_base.specs.declared.errors.Error.TheVariants as errors
@@ -9,7 +9,7 @@ use Rattle.raft_base.specs.declared.pipe_log.LogQueue.TheVariants.{Append, Rewri
 use Rattle.raft_records.specs.declared.log_batch.entry_index.EntryIndex.{EntryIndex}
 use Rattle.raft_memtable.specs.Counts.{Counts, live, with_added, with_deleted}
 use Rattle.raft_memtable.specs.Entries.{entries_in, from}
-use Rattle.raft_memtable.specs.KeyValues.{Keys, file_at, with_put, with_moved, pair_count, file_count}
+use Rattle.raft_memtable.specs.KeyValues.{Keys, value_at, file_at, with_put, with_moved, pair_count, file_count}
 use Rattle.raft_memtable.specs.Queues.{is_same}
 use Rattle.raft_memtable.specs.Rewriting.{rewritten}
 use Rattle.raft_memtable.specs.Start.{appended, replayed}
@@ -96,6 +96,11 @@ rewritten_in gate seq keys key (Some file) = rewritten_pair gate seq keys key fi
 -- one key's pair rewritten to a file of the rewrite queue; none where it is refused
 abbrev pub after_rewrite_key : Option ℕ → ℕ → Table → List ℕ → Option Table
 after_rewrite_key gate seq t key = option_map (with_keys t) (rewritten_in gate seq t.keys key (file_at t.keys key))
+
+-- a rewriting of one key changes its pair's file alone: every key has the value that it had, and every other key its file
+pub record MovesKeyAlone (key : List ℕ) (before after : Keys) : Type 0 where
+  pub values : (k : List ℕ) → value_at after k ≡ value_at before k
+  pub files : (k : List ℕ) → k ≢ key → file_at after k ≡ file_at before k
 
 -- the counts after a rewriting of one key: one more is written, and one fewer live in the append queue where its pair left it, else one more deleted
 abbrev pub with_rewritten_key : Bool → Counts → Counts

@@ -4,17 +4,19 @@ ghost use Rattle.std.specs.Prelude.{◌≡◌, ◌≢◌, ◌+◌, ◌≤◌, �
 ghost use Rattle.raft_base.specs.declared.pipe_log.LogQueue.{LogQueue};
 ghost use Rattle.raft_base.specs.declared.pipe_log.LogQueue.TheVariants.{Append, Rewrite};
 ghost use Rattle.raft_memtable.specs.Entries.{IsRunIn, IsSound, start_of, end_of, entry_at, entries_in};
-ghost use Rattle.raft_memtable.specs.Counts.{live};
+ghost use Rattle.raft_memtable.specs.Counts.{Counts, live};
 ghost use Rattle.raft_memtable.specs.KeyValues.{value_at, file_at, file_count};
-ghost use Rattle.raft_memtable.specs.Table.{empty_table, live_of, IsCounted, IsRecounted, after_append, after_replay, after_rewrite, after_rewrite_key, compacted, with_pair, without_key, with_span, with_rewritten_key, leaves_append, IsPutRefused, IsKeyRefused};
-ghost use Rattle.raft_memtable.specs.Rewriting.{rewritten, recounted, IsRewriteRefused};
+ghost use Rattle.raft_memtable.specs.Table.{empty_table, live_of, IsCounted, IsRecounted, after_append, after_replay, after_rewrite, after_rewrite_key, compacted, with_pair, without_key, with_span, with_entries, with_keys, with_rewritten_key, MovesKeyAlone, leaves_append, IsPutRefused, IsKeyRefused};
+ghost use Rattle.raft_memtable.specs.Rewriting.{rewritten, recounted, IsRewriteRefused, MovesPlacesAlone};
 ghost use Rattle.raft_memtable.specs.Start.{appended, replayed, IsRunRefused};
 
 mod change;
-pub mod entries;
+mod entries;
 pub mod key_values;
 mod merge;
 mod queries;
+#[cfg(test)]
+mod tests;
 
 use crate::global_stats::GlobalStats;
 pub use change::{TableChange, is_run};
@@ -50,7 +52,8 @@ impl Model for MemTable {
 impl MemTable {
     /// The table of the region `region_id`, without records.
     pub fn new(alloc: Global, region_id: u64) -> MemTable
-        ensures { result ≡ empty_table region_id }
+        ensures empty { result ≡ empty_table region_id }
+        ensures counted { (counts : Counts) → IsCounted result counts }
     {
         MemTable {
             region_id,
@@ -201,6 +204,8 @@ impl MemTable {
         requires run { IsRunIn Rewrite run.items }
         requires counted { IsCounted self.old stats.old }
         ensures ok { OnOk result (after_rewrite gate self.old run.items ≡ Some self.new) }
+        ensures places_alone { OnOk result (MovesPlacesAlone run.items self.old.entries self.new.entries) }
+        ensures others { OnOk result (self.new ≡ with_entries self.old self.new.entries) }
         ensures counts { OnOk result (stats.new ≡ recounted gate run.items self.old.entries stats.old) }
         ensures refused { IfErr result (IsRewriteRefused (length run.items) stats.old (rewritten gate run.items self.old.entries)) }
         ensures err { OnErr result (self.new ≡ self.old) }
@@ -277,6 +282,8 @@ impl MemTable {
     ) -> Result<()>
         requires { IsCounted self.old stats.old }
         ensures ok { OnOk result (after_rewrite_key gate seq self.old key.items ≡ Some self.new) }
+        ensures file_alone { OnOk result (MovesKeyAlone key.items self.old.keys self.new.keys) }
+        ensures others { OnOk result (self.new ≡ with_keys self.old self.new.keys) }
         ensures counts { OnOk result (stats.new ≡ with_rewritten_key (leaves_append gate (file_at self.old.keys key.items)) stats.old) }
         ensures refused { IfErr result (IsKeyRefused stats.old (after_rewrite_key gate seq self.old key.items)) }
         ensures err { OnErr result (self.new ≡ self.old) }

@@ -8,7 +8,7 @@ use Rattle.std.specs.List.{flat_map}
 use Rattle.raft_base.specs.Checksum.{crc32_of}
 use Rattle.raft_base.specs.declared.pipe_log.FileBlockHandle.{FileBlockHandle}
 use Rattle.raft_base.specs.declared.pipe_log.FileId.{FileId}
-use Rattle.std.proofs.lemmas.List.{append_cancel_left, length-append, length-map, drop_more, map-append, take_more, flat_map_more}
+use Rattle.std.proofs.lemmas.List.{append_cancel_left, length-append, length-map, drop_more, flat_map_more}
 use Rattle.std.proofs.lemmas.List.Edits.{map_over_more}
 use Rattle.raft_base.specs.declared.errors.Error.{Error}
 use Rattle.raft_base.specs.Reading.{Reads, HasNoFront, HasOneFront, IsPair, IsSequence, state_after}
@@ -124,27 +124,9 @@ pub end_is_state : (s : ℕ) (xs : List Item) → end_of_items s xs ≡ state_af
 end_is_state s [] = refl
 end_is_state s (x ∷ xs) = end_is_state (behind_item s x) xs
 
-pub items_fit : (block : FileBlockHandle) (c : CompressionType) (s : ℕ) (bytes : List ℕ) (xs : List Item) → IsSequence behind_item IsItem s bytes xs → FitTogether s (map (placed block c) xs)
-items_fit block c s bytes [] q = tt
-items_fit block c s bytes (x ∷ xs) q =
-    let rest = items_fit block c (behind_item s x) q.second xs q.second_spells in (
-      fits_placed block c s x.content (item_fits s q.first x q.first_spells),
-      subst (λ (t : ℕ). FitTogether t (map (placed block c) xs)) (sym (behind_placed block c s x)) rest,
-    )
-
 pub end_of_placed : (block : FileBlockHandle) (c : CompressionType) (s : ℕ) (xs : List Item) → end_of_items s (map (placed block c) xs) ≡ end_of_items s xs
 end_of_placed block c s [] = refl
 end_of_placed block c s (x ∷ xs) = ap (λ (t : ℕ). end_of_items t (map (placed block c) xs)) (behind_placed block c s x) ∙ end_of_placed block c (behind_item s x) xs
-
-pub decoded_kept : (block : FileBlockHandle) (c : CompressionType) (n : ℕ) (bytes rest : List ℕ) (xs ys : List Item) (size entries_size : ℕ) → Reads (AreItems n) bytes rest xs → ys ≡ map (placed block c) xs → entries_size ≡ end_of_items 0 xs → size ≡ saturated (items_size ys) → IsKeptBeside ys size entries_size None
-decoded_kept block c n bytes rest xs ys size entries_size r e ends sized =
-    record {
-      fit = subst (λ (zs : List Item). FitTogether 0 zs) (sym e) (items_fit block c 0 r.front xs r.spells.items_spelled);
-      in_range = subst AreInRange (sym e) (range_placed block c xs (items_range 0 r.front xs r.spells.items_spelled));
-      size = sized;
-      entry_bytes = ends ∙ sym (end_of_placed block c 0 xs) ∙ ap (end_of_items 0) (sym e);
-      checksum = λ crc some. absurd cc;
-    }
 
 -- one more item behind those that were read
 pub one_more_item : (bytes mid rest : List ℕ) (xs : List Item) (x : Item) (s : ℕ) → Reads (IsSequence behind_item IsItem 0) bytes mid xs → s ≡ end_of_items 0 xs → Reads (IsItem s) mid rest x → Reads (IsSequence behind_item IsItem 0) bytes rest (xs ++ x ∷ [])
@@ -220,14 +202,6 @@ map_view_more {X} {Y} g f xs ys i old new lt len e at step =
     map-set' g [] i v = refl
     map-set' g (y ∷ ys) zero v = refl
     map-set' {X} {Y} g (y ∷ ys) (suc i) v = ap (λ (t : List Y). g y ∷ t) (map-set' g ys i v)
-
--- the items up to one more
-pub items_more : {X Y : Type 0} (g : X → Y) (xs : List X) (i : ℕ) (x : X) → i < length xs → x ≡ get_or xs i x → map g (take (i + 1) xs) ≡ map g (take i xs) ++ g x ∷ []
-items_more g xs i x lt at =
-    ap (map g) (take_more xs i x lt) ∙ map-append g (take i xs) (get_or xs i x ∷ []) ∙ ap (λ v. map g (take i xs) ++ g v ∷ []) (sym at)
-
-pub size_more : (xs : List Item) (x : Item) (size total : ℕ) → size ≡ saturated (items_size xs) → total ≡ saturated (size + saturated (item_size x)) → total ≡ saturated (items_size (xs ++ x ∷ []))
-size_more xs x size total e f = let pushed : items_size (xs ++ x ∷ []) ≡ items_size xs + item_size x = size_push xs x in omega arith
 
 pub bytes_more : (count : List ℕ) (old buf new : List ℕ) (xs : List Item) (x : Item) → buf ≡ old ++ (count ++ flat_map item_bytes xs) → new ≡ buf ++ item_bytes x → new ≡ old ++ (count ++ flat_map item_bytes (xs ++ x ∷ []))
 bytes_more count old buf new xs x e f =

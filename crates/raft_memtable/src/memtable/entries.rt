@@ -78,13 +78,6 @@ impl Entries {
         let _ = &self.deque;
     }
 
-    /// How many there are.
-    pub fn len(&self) -> usize
-        ensures { result ≡ length self.now }
-    {
-        self.deque.len()
-    }
-
     /// The least index.
     pub fn first_index(&self) -> Option<u64>
         ensures { MatchOption result (self.now ≡ []) (λ i. (self.now ≢ []) × (i ≡ start_of self.now)) }

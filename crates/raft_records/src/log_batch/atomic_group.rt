@@ -16,7 +16,8 @@ use std::marker::Model;
 mod tests;
 
 /// Marks the batches of one group: the first with `Begin`, the last with `End`, those between them
-/// with `Middle`. Each batch takes one mark.
+/// with `Middle`. Each call takes a batch of its own: of two marks in one batch only the first is
+/// read, so a group has two batches at least.
 #[derive(Debug, Drop)]
 pub struct AtomicGroupBuilder {
     id: u64,

@@ -322,16 +322,9 @@ impl LogItemBatch {
         let content = verify_checksum(alloc, *buf, context.get_signature())?;
         let mut behind = content;
         let count = codec::decode_var_u64(&mut behind)?;
-        let (mut items, entries_size, rest) = items_front(alloc, behind, count)?;
-        place_items(&mut items, entries, compression_type);
-        let item_size = approximate_size_of(items.as_slice());
+        let (batch, rest) = items_front(alloc, behind, count, entries, compression_type)?;
         *buf = rest;
-        Ok(LogItemBatch {
-            items,
-            item_size,
-            entries_size,
-            checksum: None,
-        })
+        Ok(batch)
     }
 
     /// Adds an item whose entries' bytes, if any, begin where those of the batch end, and end at
@@ -391,26 +384,31 @@ fn write_items(buf: &mut Vec<u8>, items: &[LogItem]) -> std::result::Result<(), 
     Ok(())
 }
 
-/// The `count` items in front of `bytes`, the end of their entries' bytes, and what is behind them.
-fn items_front(alloc: Global, bytes: &[u8], count: u64) -> Result<(Vec<LogItem>, u32, &[u8])>
-    ensures ok { IfOk result (λ read.
-        Reads (AreItems count) bytes.now read.2.now (map item_of read.0.items)) }
-    ensures size { IfOk result (λ read. read.1 ≡ entry_bytes_of (map item_of read.0.items)) }
+/// The `count` items in front of `bytes`, each in its place, and what is behind them.
+fn items_front(
+    alloc: Global,
+    bytes: &[u8],
+    count: u64,
+    block: FileBlockHandle,
+    compression_type: CompressionType,
+) -> Result<(LogItemBatch, &[u8])>
+    ensures ok { IfOk result (λ read. (items : List Item) ×
+        Reads (AreItems count) bytes.now read.1.now items × (read.0 ≡ map (placed block compression_type) items)) }
     ensures refused { IfErr result (λ e. e ≢ Error.Memory → HasNoFront (AreItems count) bytes.now) }
     ensures fault { IfErr result (AreItemsFault count bytes.now) }
 {
     // Each item takes a byte at least; a long list grows as its items are read.
     let room = count.min(bytes.len() as u64).min(MOST_ITEMS_AT_ONCE);
-    let mut items = Vec::with_capacity(alloc, room as usize)?;
+    let mut batch = LogItemBatch::with_capacity(alloc, room as usize)?;
     let mut rest = bytes;
-    let mut entries_size = 0;
     for _ in 0..count {
-        let (item, end, behind) = LogItem::front(alloc, rest, entries_size)?;
-        items.push(item)?;
-        entries_size = end;
+        let start = batch.entries_size();
+        let (mut item, end, behind) = LogItem::front(alloc, rest, start)?;
+        item.place(block, compression_type);
+        batch.add(item, end)?;
         rest = behind;
     }
-    Ok((items, entries_size, rest))
+    Ok((batch, rest))
 }
 
 /// Gives each item its place.
@@ -421,17 +419,6 @@ fn place_items(items: &mut Vec<LogItem>, block: FileBlockHandle, compression_typ
     for item in items.iter_mut() {
         item.place(block, compression_type);
     }
-}
-
-/// The approximate size of the items together, held at `usize::MAX`.
-fn approximate_size_of(items: &[LogItem]) -> usize
-    ensures { result ≡ saturated (items_size (map item_of items.now)) }
-{
-    let mut size = 0usize;
-    for item in items {
-        size = size.saturating_add(item.approximate_size());
-    }
-    size
 }
 
 /// Lays the bytes of entries one behind the other from `start` on, and answers where they end.

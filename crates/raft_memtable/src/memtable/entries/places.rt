@@ -6,7 +6,7 @@ ghost use Rattle.std.specs.VecDeque.{deque_len};
 ghost use Rattle.raft_memtable.specs.Counts.{live};
 ghost use Rattle.raft_memtable.specs.Entries.{IsSound, IsRunIn, RisesFrom, start_of, placed_in, entries_in, AreCounted, AreRecounted};
 ghost use Rattle.raft_memtable.specs.Meetings.{IsMeeting, AreApart};
-ghost use Rattle.raft_memtable.specs.Rewriting.{may_move, is_misplaced, with_rewritten, rewritten, recounted, IsRewriteRefused};
+ghost use Rattle.raft_memtable.specs.Rewriting.{may_move, is_misplaced, with_rewritten, rewritten, recounted, IsRewriteRefused, MovesPlacesAlone};
 ghost use Rattle.raft_base.specs.declared.pipe_log.LogQueue.{LogQueue};
 ghost use Rattle.raft_base.specs.declared.pipe_log.LogQueue.TheVariants.{Append, Rewrite};
 
@@ -34,6 +34,7 @@ impl Entries {
         requires run { IsRunIn Rewrite run.now }
         requires counted { AreCounted self.old stats.old }
         ensures ok { OnOk result (rewritten gate run.now self.old ≡ Some self.new) }
+        ensures places_alone { OnOk result (MovesPlacesAlone run.now self.old self.new) }
         ensures counts { OnOk result (stats.new ≡ recounted gate run.now self.old stats.old) }
         ensures refused { IfErr result (IsRewriteRefused (length run.now) stats.old (rewritten gate run.now self.old)) }
         ensures err { OnErr result (self.new ≡ self.old) }

@@ -1,4 +1,4 @@
-use Rattle.std.proofs.Common.{ℕ, ◌≡◌, ◌+◌, ◌<◌, length, arith, refl, ap, sym, ◌∙◌}
+use Rattle.std.proofs.Common.{arith, refl, sym, ◌∙◌}
 use Rattle.raft_memtable.specs.Entries.{start_of, placed_in}
 use Rattle.raft_memtable.proofs.SoundLemmas.{start_of_front}
 use Rattle.raft_memtable.proofs.ListTestLemmas.{no_entries_run, rising_more, placed_more, all_run, run_index, run_bound, run_placed}

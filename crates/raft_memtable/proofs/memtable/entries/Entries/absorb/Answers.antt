@@ -1,6 +1,5 @@
-use Rattle.std.proofs.Common.{arith, refl, sym, ◌≡◌, ◌<◌, ◌+◌, ◌-◌, ◌≤◌, length, ap, ◌∙◌, lit<}
-use Rattle.raft_memtable.specs.Entries.{end_of, placed_in}
-use Rattle.raft_memtable.proofs.StartLemmas.{run_alone}
+use Rattle.std.proofs.Common.{refl}
+use Rattle.raft_memtable.specs.Entries.{placed_in}
 use Rattle.raft_memtable.proofs.SoundLemmas.{IsSound-nil}
 use Rattle.raft_memtable.proofs.memtable.entries.Entries.absorb.Goals as goal
 

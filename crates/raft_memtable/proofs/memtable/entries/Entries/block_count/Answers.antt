@@ -1,5 +1,4 @@
-use Rattle.std.proofs.Common.{ℕ, ◌≡◌, ◌+◌, ◌-◌, ◌<◌, length, drop, arith, refl, ap, sym, ◌∙◌}
-use Rattle.raft_memtable.specs.Fetches.{change_count}
+use Rattle.std.proofs.Common.{◌-◌, ◌<◌, length, arith}
 use Rattle.raft_memtable.proofs.FetchLemmas.{change_count_last, block_count_is}
 use Rattle.raft_memtable.proofs.memtable.entries.Entries.block_count.Goals as goal
 

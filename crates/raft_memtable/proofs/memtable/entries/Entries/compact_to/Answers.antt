@@ -1,8 +1,6 @@
-use Rattle.std.proofs.Common.{rules, arith, refl, sym, ap, ◌≡◌, ◌<◌, ◌+◌, ◌-◌, ◌≤◌, min, length, drop, ◌∙◌}
-use Rattle.std.proofs.lemmas.List.{nil_from_length}
+use Rattle.std.proofs.Common.{arith, refl, sym, ◌≡◌, drop, ◌∙◌}
 use Rattle.raft_base.specs.declared.pipe_log.LogQueue.TheVariants.{Append, Rewrite}
-use Rattle.raft_memtable.specs.Counts.{live}
-use Rattle.raft_memtable.specs.Entries.{from, start_of, entries_in}
+use Rattle.raft_memtable.specs.Entries.{from, start_of}
 use Rattle.raft_memtable.proofs.RunLemmas.{from_start}
 use Rattle.raft_memtable.proofs.PlaceLemmas.{each_queue}
 use Rattle.raft_memtable.proofs.SoundLemmas.{no_front, start_of_front, sound_rising, from_cut, IsSound-drop, CutCounts, cut_counts}

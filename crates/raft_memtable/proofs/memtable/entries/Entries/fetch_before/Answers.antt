@@ -1,11 +1,9 @@
-use Rattle.std.proofs.Common.{ℕ, ◌≡◌, ◌+◌, ◌-◌, ◌<◌, ◌≤◌, ◌++◌, length, take, drop, arith, refl, ap, sym, ◌∙◌}
+use Rattle.std.proofs.Common.{◌≡◌, ◌+◌, ◌≤◌, ◌++◌, length, drop, arith, ap, sym, ◌∙◌}
 use Rattle.std.specs.List.{prefix_len}
 use Rattle.std.proofs.lemmas.List.{take_all, length-drop}
 use Rattle.std.proofs.lemmas.List.Sums.{prefix_len-le-length}
 use Rattle.std.proofs.lemmas.Result.{on_ok_weaker}
-use Rattle.raft_base.specs.declared.pipe_log.LogQueue.TheVariants.{Append, Rewrite}
 use Rattle.raft_memtable.specs.Rewriting.{is_placed_before}
-use Rattle.raft_memtable.specs.Entries.{entries_in}
 use Rattle.raft_memtable.proofs.PlaceLemmas.{entries_in_both}
 use Rattle.raft_memtable.proofs.FetchLemmas.{appended_before_is}
 use Rattle.raft_memtable.proofs.memtable.entries.Entries.fetch_before.Goals as goal

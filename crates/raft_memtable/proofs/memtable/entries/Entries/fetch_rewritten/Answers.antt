@@ -1,4 +1,4 @@
-use Rattle.std.proofs.Common.{ℕ, ◌≡◌, ◌++◌, take, ap, sym, ◌∙◌}
+use Rattle.std.proofs.Common.{◌++◌, take, ap, sym, ◌∙◌}
 use Rattle.std.proofs.lemmas.Result.{on_ok_weaker}
 use Rattle.raft_memtable.proofs.FetchLemmas.{rewritten_is}
 use Rattle.raft_memtable.proofs.memtable.entries.Entries.fetch_rewritten.Goals as goal

@@ -1,8 +1,8 @@
-use Rattle.std.proofs.Common.{ℕ, ◌≡◌, ◌+◌, ◌-◌, ◌<◌, ◌≤◌, ◌++◌, length, take, drop, arith, refl, ap, sym, ◌∙◌}
+use Rattle.std.proofs.Common.{◌≡◌, ◌<◌, length, arith, refl}
 use Rattle.std.proofs.lemmas.Result.{on_ok_weaker, IfErr-weaker}
 use Rattle.raft_base.specs.declared.errors.Error.TheVariants as errors
 use Rattle.raft_memtable.specs.Entries.{start_of}
-use Rattle.raft_memtable.specs.Fetches.{Found, Fetches, IsFetchRefused, range_answer}
+use Rattle.raft_memtable.specs.Fetches.{Found, IsFetchRefused, range_answer}
 use Rattle.raft_memtable.proofs.SoundLemmas.{start_of_front}
 use Rattle.raft_memtable.proofs.FetchLemmas.{range_behind, range_found, fetched_part}
 use Rattle.raft_memtable.proofs.memtable.entries.Entries.fetch_to.Goals as goal

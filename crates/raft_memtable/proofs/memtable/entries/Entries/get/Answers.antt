@@ -1,4 +1,4 @@
-use Rattle.std.proofs.Common.{ℕ, rules, arith, refl, sym, ap, ◌≡◌, ◌<◌, ◌+◌, ◌-◌, ◌≤◌, List, length, get_or, Option, Some, None, MatchOption, ◌∙◌, Bor}
+use Rattle.std.proofs.Common.{ℕ, arith, refl, sym, ap, ◌≡◌, ◌<◌, ◌+◌, ◌-◌, ◌≤◌, List, length, Option, Some, None, MatchOption, ◌∙◌, Bor}
 use Rattle.std.specs.Option.{option_copied}
 use Rattle.std.specs.List.{HoldsAt}
 use Rattle.raft_records.specs.declared.log_batch.entry_index.EntryIndex.{EntryIndex}

@@ -1,4 +1,4 @@
-use Rattle.std.proofs.Common.{arith, refl, sym, ◌≡◌, ◌<◌, ◌+◌, ◌-◌, ◌≤◌, length, ap, ◌∙◌}
+use Rattle.std.proofs.Common.{arith, ◌≡◌, ◌<◌, ◌-◌, length, ap}
 use Rattle.std.specs.VecDeque.{deque_len}
 use Rattle.raft_memtable.specs.Entries.{start_of}
 use Rattle.raft_memtable.proofs.LookupLemmas.{index_at}

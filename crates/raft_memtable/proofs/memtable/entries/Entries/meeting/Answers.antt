@@ -1,6 +1,5 @@
-use Rattle.std.proofs.Common.{arith, refl, sym, ◌≡◌, ◌<◌, ◌+◌, ◌-◌, ◌≤◌, length, ap, ◌∙◌}
-use Rattle.raft_memtable.specs.Entries.{start_of}
-use Rattle.raft_memtable.proofs.SoundLemmas.{no_front, start_of_front}
+use Rattle.std.proofs.Common.{arith, refl, ◌<◌, length}
+use Rattle.raft_memtable.proofs.SoundLemmas.{start_of_front}
 use Rattle.raft_memtable.proofs.StartLemmas.{sound_end}
 use Rattle.raft_memtable.proofs.memtable.entries.Entries.meeting.Goals as goal
 

@@ -1,11 +1,8 @@
-use Rattle.std.proofs.Common.{ℕ, arith, refl, sym, ◌≡◌, ◌<◌, ◌+◌, ◌-◌, ◌≤◌, ◌++◌, length, take, drop, ap, ◌∙◌, rules, Some, None}
+use Rattle.std.proofs.Common.{arith, sym, ◌≡◌, ◌+◌, ◌-◌, ◌++◌, length, take, drop, ap, ◌∙◌}
 use Rattle.std.proofs.lemmas.List.{length-take-le}
-use Rattle.raft_base.specs.declared.pipe_log.LogQueue.{LogQueue}
 use Rattle.raft_base.specs.declared.pipe_log.LogQueue.TheVariants.{Append, Rewrite}
-use Rattle.raft_memtable.specs.Counts.{live, with_deleted}
-use Rattle.raft_memtable.specs.Entries.{entries_in}
-use Rattle.raft_memtable.specs.Rewriting.{with_rewritten}
-use Rattle.raft_memtable.proofs.MovesLemmas.{Moves, moves, joined}
+use Rattle.raft_memtable.specs.Counts.{with_deleted}
+use Rattle.raft_memtable.proofs.MovesLemmas.{Moves, moves}
 use Rattle.raft_memtable.proofs.PlaceLemmas.{each_queue, entries_in_both}
 use Rattle.raft_memtable.proofs.memtable.entries.Entries.move_places.Goals as goal
 

@@ -1,4 +1,4 @@
-use Rattle.std.proofs.Common.{ℕ, ◌^◌, List, rules, arith, refl, sym, ap, ◌≡◌, ◌<◌, ◌+◌, ◌-◌, ◌≤◌, ◌++◌, min, length, take, drop, ◌∙◌}
+use Rattle.std.proofs.Common.{ℕ, ◌^◌, List, arith, ap, ◌≡◌, ◌+◌, ◌-◌, ◌≤◌, ◌++◌, length, take, ◌∙◌}
 use Rattle.std.proofs.lemmas.Result.{err_from_is_err_and}
 use Rattle.std.proofs.lemmas.Grind.{common_steps}
 use Rattle.raft_base.specs.declared.pipe_log.LogQueue.{LogQueue}

@@ -1,16 +1,16 @@
-use Rattle.std.proofs.Common.{ℕ, arith, refl, sym, ◌≡◌, ◌<◌, ◌+◌, ◌-◌, ◌≤◌, ◌++◌, ◌^◌, length, take, drop, ap, ◌∙◌, rules, Some, None, List, [], Option, Result, OnOk, IfErr}
+use Rattle.std.proofs.Common.{ℕ, arith, sym, subst, ◌≡◌, ◌+◌, ◌≤◌, ◌^◌, length, ap, ◌∙◌, Some, None, List, [], Option}
 use Rattle.std.proofs.lemmas.Result.{err_from_is_err_and, on_ok_weaker, IfErr-weaker}
-use Rattle.std.proofs.lemmas.List.{nil_from_length}
 use Rattle.raft_base.specs.declared.errors.Error.{Error}
 use Rattle.raft_base.specs.declared.errors.Error.TheVariants as errors
-use Rattle.raft_base.specs.declared.pipe_log.LogQueue.TheVariants.{Append, Rewrite}
+use Rattle.raft_base.specs.declared.pipe_log.LogQueue.TheVariants.{Rewrite}
 use Rattle.raft_records.specs.declared.log_batch.entry_index.EntryIndex.{EntryIndex}
-use Rattle.raft_memtable.specs.Counts.{Counts, live, with_added, with_deleted}
+use Rattle.raft_memtable.specs.Counts.{Counts, live, with_deleted}
 use Rattle.raft_memtable.specs.Start.{IsCorruption}
-use Rattle.raft_memtable.specs.Entries.{start_of, entries_in}
-use Rattle.raft_memtable.specs.Rewriting.{rewritten, recounted, with_rewritten, is_misplaced, IsRewriteRefused}
+use Rattle.raft_memtable.specs.Entries.{start_of}
+use Rattle.raft_memtable.specs.Rewriting.{rewritten, with_rewritten, IsRewriteRefused, MovesPlacesAlone}
 use Rattle.raft_memtable.proofs.SoundLemmas.{start_of_front, no_first}
 use Rattle.raft_memtable.proofs.RewriteLemmas.{RewritesAt, rewrites_at, rewritten_none, rewritten_apart, recounted_apart, recounted_is, run_end}
+use Rattle.raft_memtable.proofs.AloneLemmas.{none_moved, moved_alone}
 use Rattle.raft_memtable.proofs.memtable.entries.Entries.rewrite.Goals as goal
 
 pub returns-in_default-clause-ok : goal.returns-in_default-clause-ok
@@ -117,3 +117,16 @@ returns-clause-refused c =
     let f = at_moved c in
     IfErr-weaker c.move_places.result (λ e. (e ≡ errors.Full) × (2 ^ 64 ≤ live Rewrite c.args.stats.now + length c.args.run.now)) (IsRewriteRefused (length c.args.run.now) c.args.stats.now (rewritten c.args.gate c.args.run.now c.args.self.now))
     (λ e h. rw h.0 (full_is (length c.args.run.now) c.args.stats.now c.args.gate c.args.run.now c.args.self.now _ (f.ok (sym c.if-is_misplaced.ensures)) h.1)) c.move_places.ensures.full
+
+pub returns-in_default-clause-places_alone : goal.returns-in_default-clause-places_alone
+returns-in_default-clause-places_alone c = none_moved c.args.run.now c.args.self.now
+
+pub returns-in_default-meeting-clause-places_alone : goal.returns-in_default-meeting-clause-places_alone
+returns-in_default-meeting-clause-places_alone c = none_moved c.args.run.now c.args.self.now
+
+pub returns-clause-places_alone : goal.returns-clause-places_alone
+returns-clause-places_alone c =
+    let met = c.in-Some-meeting.meeting in
+    on_ok_weaker c.move_places.result
+    (λ h. subst (MovesPlacesAlone c.args.run.now c.args.self.now) (sym h.0) (moved_alone c.args.gate c.args.run.now c.args.self.now met.at met.skipped met.count c.meeting.ensures.sound (at_moved c)))
+    c.move_places.ensures.ok

@@ -1,5 +1,4 @@
-use Rattle.std.proofs.Common.{arith, refl, sym, ◌≡◌, ◌<◌, ◌+◌, ◌-◌, ◌≤◌, length}
-use Rattle.raft_memtable.specs.Entries.{start_of}
+use Rattle.std.proofs.Common.{arith, refl, ◌<◌, ◌-◌, length}
 use Rattle.raft_memtable.proofs.SoundLemmas.{no_front, start_of_front}
 use Rattle.raft_memtable.proofs.StartLemmas.{start_none, start_in_front, start_behind, start_joins}
 use Rattle.raft_memtable.proofs.memtable.entries.Entries.start.Goals as goal

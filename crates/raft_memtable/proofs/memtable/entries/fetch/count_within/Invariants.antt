@@ -1,4 +1,4 @@
-use Rattle.std.proofs.Common.{◌≡◌, ℕ, ◌+◌, ◌-◌, ◌*◌, ◌^◌, ◌<◌, ◌≤◌, take, drop, false, Some}
+use Rattle.std.proofs.Common.{◌≡◌, ℕ, ◌-◌, ◌*◌, ◌^◌, ◌<◌, ◌≤◌, take, drop, false, Some}
 use Rattle.raft_memtable.specs.Fetches.{total_len, is_too_many}
 use Rattle.raft_memtable.proofs.memtable.entries.fetch.count_within.Given as goal
 

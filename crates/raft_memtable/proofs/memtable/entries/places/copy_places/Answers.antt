@@ -1,4 +1,4 @@
-use Rattle.std.proofs.Common.{arith, refl, sym, ◌≡◌, ◌<◌, ◌+◌, ◌-◌, ◌≤◌, length, ap, ◌∙◌}
+use Rattle.std.proofs.Common.{arith}
 use Rattle.raft_memtable.proofs.PlacesLemmas.{copied_more}
 use Rattle.raft_memtable.proofs.memtable.entries.places.copy_places.Goals as goal
 

@@ -1,4 +1,4 @@
-use Rattle.std.proofs.Common.{◌≡◌, ◌+◌, ◌≤◌, take, drop}
+use Rattle.std.proofs.Common.{◌≡◌, ◌+◌, take, drop}
 use Rattle.std.specs.List.{prefix_len}
 use Rattle.raft_memtable.specs.Rewriting.{may_move}
 use Rattle.raft_memtable.proofs.memtable.entries.places.movable.Given as goal

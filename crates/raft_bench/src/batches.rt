@@ -1,0 +1,222 @@
+//! Times log batches: their bytes are made and signed, and read again.
+
+use crate::timing::{Noise, TIMES, nanoseconds_since, print_line};
+use raft_records::codec::BytesSlice;
+use raft_records::{
+    Command, FileBlockHandle, FileId, LogBatch, LogFileContext, LogItemBatch, LogQueue, Message,
+    MessageError, MessageExt, Result, Version,
+};
+use std::alloc::Global;
+use std::time::Instant;
+
+/// How many bytes an entry has.
+const ENTRY_SIZE: usize = 256;
+
+/// An entry whose message is its bytes.
+#[derive(Clone, PartialEq, Debug, Drop)]
+struct Entry {
+    index: u64,
+    data: Vec<u8>,
+}
+
+impl Message for Entry {
+    ghost bytes_of = { λ entry. entry.data.items };
+
+    fn write_to_vec(&self, buf: &mut Vec<u8>) -> std::result::Result<(), MessageError> {
+        match buf.extend_from_slice(self.data.as_slice()) {
+            Ok(()) => Ok(()),
+            Err(_) => Err(MessageError::Memory),
+        }
+    }
+}
+
+/// The entries of the batches.
+struct Entries;
+
+impl MessageExt for Entries {
+    type Entry = Entry;
+
+    ghost index_of = { λ entry. entry.index };
+
+    fn index(entry: &Entry) -> u64 {
+        entry.index
+    }
+}
+
+/// How batches look: each region brings entries, each fourth one a key value too, each eighth one a
+/// command.
+#[derive(Clone, Copy)]
+struct Shape {
+    batches: u64,
+    regions: u64,
+    entries: u64,
+}
+
+/// Times batches as a store of many groups writes them, and larger ones.
+pub(crate) fn time(rt: &HostRuntime) -> Result<()> {
+    let shapes = [
+        Shape {
+            batches: 2_000,
+            regions: 8,
+            entries: 8,
+        },
+        Shape {
+            batches: 20,
+            regions: 728,
+            entries: 8,
+        },
+        Shape {
+            batches: 1,
+            regions: 10_000,
+            entries: 6,
+        },
+    ];
+    for shape in &shapes {
+        let encoded = time_writing(rt, *shape)?;
+        time_reading(rt, encoded.as_slice())?;
+    }
+    Ok(())
+}
+
+/// The context of the batches.
+fn context() -> LogFileContext {
+    LogFileContext::new(FileId::new(LogQueue::Append, 12), Version::V2)
+}
+
+/// Times how the bytes of batches are made and signed, and answers them.
+fn time_writing(rt: &HostRuntime, shape: Shape) -> Result<Vec<Vec<u8>>> {
+    let alloc = rt.alloc();
+    let messages = messages(alloc, shape.entries)?;
+    let mut best = u64::MAX;
+    let mut encoded = Vec::new(alloc);
+    for _ in 0..TIMES {
+        let mut batches = fill(alloc, shape, messages.as_slice())?;
+        let start = Instant::now(rt)?;
+        seal(&mut batches)?;
+        best = best.min(nanoseconds_since(rt, &start)?);
+        encoded = bytes_of(alloc, batches.as_slice())?;
+    }
+    print_line(
+        rt,
+        "finish_populate, prepare_write",
+        best,
+        "batch",
+        encoded.len(),
+        length(encoded.as_slice()),
+    )?;
+    Ok(encoded)
+}
+
+/// Times how items are read of the bytes of batches.
+fn time_reading(rt: &HostRuntime, encoded: &[Vec<u8>]) -> Result<()> {
+    let mut best = u64::MAX;
+    let mut read = (0, 0);
+    for _ in 0..TIMES {
+        let start = Instant::now(rt)?;
+        read = decode(rt.alloc(), encoded)?;
+        best = best.min(nanoseconds_since(rt, &start)?);
+    }
+    let (items, bytes) = read;
+    print_line(
+        rt,
+        "decode_header, LogItemBatch::decode",
+        best,
+        "item",
+        items,
+        bytes,
+    )?;
+    Ok(())
+}
+
+/// The entries that each region of a batch brings.
+fn messages(alloc: Global, count: u64) -> Result<Vec<Entry>> {
+    let mut noise = Noise::new();
+    let mut messages = Vec::new(alloc);
+    for index in 0..count {
+        let mut data = Vec::with_capacity(alloc, ENTRY_SIZE)?;
+        noise.fill(&mut data, ENTRY_SIZE)?;
+        messages.push(Entry { index, data })?;
+    }
+    Ok(messages)
+}
+
+/// Open batches of this shape.
+fn fill(alloc: Global, shape: Shape, messages: &[Entry]) -> Result<Vec<LogBatch>> {
+    let mut batches = Vec::new(alloc);
+    for _ in 0..shape.batches {
+        let mut batch = LogBatch::default(alloc);
+        for region in 0..shape.regions {
+            add_region(alloc, &mut batch, region, messages)?;
+        }
+        batches.push(batch)?;
+    }
+    Ok(batches)
+}
+
+/// Adds what a region brings to a batch that is open.
+fn add_region(alloc: Global, batch: &mut LogBatch, region: u64, messages: &[Entry]) -> Result<()> {
+    if batch.is_open() {
+        batch.add_entries::<Entries>(region % 1_000 + 1, messages)?;
+    }
+    if batch.is_open() && region % 4 == 0 {
+        batch.put(region, vec![in alloc; 1, 2]?, vec![in alloc; 7; 32]?)?;
+    }
+    if batch.is_open() && region % 8 == 0 {
+        batch.add_command(region, Command::Compact { index: 100 })?;
+    }
+    Ok(())
+}
+
+/// Makes the bytes of open batches, and signs them.
+fn seal(batches: &mut Vec<LogBatch>) -> Result<()> {
+    let context = context();
+    for batch in batches.iter_mut() {
+        if batch.is_open() {
+            batch.finish_populate()?;
+        }
+        if !batch.is_open() {
+            batch.prepare_write(&context);
+        }
+    }
+    Ok(())
+}
+
+/// The bytes of sealed batches.
+fn bytes_of(alloc: Global, batches: &[LogBatch]) -> Result<Vec<Vec<u8>>> {
+    let mut encoded = Vec::new(alloc);
+    for batch in batches {
+        if batch.is_sealed() {
+            encoded.push(Vec::from_slice(alloc, batch.encoded_bytes())?)?;
+        }
+    }
+    Ok(encoded)
+}
+
+/// How many bytes these are together.
+fn length(encoded: &[Vec<u8>]) -> usize {
+    let mut length = 0usize;
+    for bytes in encoded {
+        length = length.saturating_add(bytes.len());
+    }
+    length
+}
+
+/// How many items are read of the batches, and how many bytes their item batches have.
+fn decode(alloc: Global, encoded: &[Vec<u8>]) -> Result<(usize, usize)> {
+    let context = context();
+    let (mut items, mut bytes) = (0usize, 0usize);
+    for batch in encoded {
+        let mut front: BytesSlice<'_> = batch.as_slice();
+        let (offset, compression_type, len) = LogBatch::decode_header(alloc, &mut front)?;
+        let mut footer = batch.get(offset..len).unwrap_or(&[]);
+        bytes = bytes.saturating_add(footer.len());
+        let place = FileBlockHandle {
+            id: context.id,
+            offset: 16,
+            len: offset - 16,
+        };
+        let read = LogItemBatch::decode(alloc, &mut footer, place, compression_type, &context)?;
+        items = items.saturating_add(read.iter().count());
+    }
+    Ok((items, bytes))
+}

@@ -1,0 +1,34 @@
+//! Times checksums.
+
+use crate::timing::{Noise, TIMES, nanoseconds_since, print_line};
+use raft_records::Result;
+use raft_records::util::crc32;
+use std::time::Instant;
+
+/// Times the checksums of stretches of 16 MiB, cut into these many bytes.
+pub(crate) fn time(rt: &HostRuntime) -> Result<()> {
+    let mut bytes = Vec::new(rt.alloc());
+    Noise::new().fill(&mut bytes, 1 << 24)?;
+    for size in [8usize, 64, 256, 1 << 10, 1 << 12, 1 << 16, 1 << 20, 1 << 24] {
+        let mut best = u64::MAX;
+        let mut last = 0;
+        for _ in 0..TIMES {
+            let start = Instant::now(rt)?;
+            last = checksums(bytes.as_slice(), size);
+            best = best.min(nanoseconds_since(rt, &start)?);
+        }
+        let count = bytes.len() / size.max(1);
+        let name = format!(in rt.alloc(); "crc32 of {size} bytes ({last:08x})")?;
+        print_line(rt, name.as_str(), best, "call", count, bytes.len())?;
+    }
+    Ok(())
+}
+
+/// The checksums of stretches of `size` bytes, together.
+fn checksums(bytes: &[u8], size: usize) -> u32 {
+    let mut all = 0;
+    for stretch in bytes.chunks_exact(size.max(1)) {
+        all ^= crc32(stretch);
+    }
+    all
+}

@@ -1,0 +1,412 @@
+//! Times the tables of regions.
+
+ghost use Rattle.raft_memtable.specs.Table.{IsCounted};
+
+use crate::timing::{Noise, TIMES, nanoseconds_since};
+use raft_memtable::{
+    EntryIndex, FileBlockHandle, FileId, FileSeq, GlobalStats, LogQueue, MemTable, Result, is_run,
+};
+use std::alloc::{AllocError, Global};
+use std::io;
+use std::time::Instant;
+
+/// How many regions there are.
+const REGIONS: u64 = 1_000;
+
+/// How many runs are appended to each region.
+const ROUNDS: u64 = 100;
+
+/// How many entries a run has.
+const RUN: u64 = 8;
+
+/// How many entries a region has.
+const ENTRIES: u64 = ROUNDS * RUN;
+
+/// How many entries a fetch gives.
+const FETCH: u64 = 64;
+
+/// How many entries a compaction drops.
+const STEP: u64 = 32;
+
+/// How many keys a table has.
+const KEYS: usize = 100_000;
+
+/// A region's table, and the counts of its records.
+#[derive(Drop)]
+struct Region {
+    table: MemTable,
+    stats: GlobalStats,
+    ghost counted: { IsCounted table stats },
+}
+
+/// A key and its value.
+type Pair = (Vec<u8>, Vec<u8>);
+
+impl Region {
+    fn new(alloc: Global, region_id: u64) -> Region {
+        Region {
+            table: MemTable::new(alloc, region_id),
+            stats: GlobalStats::default(),
+        }
+    }
+
+    /// Appends a list, if it is a run.
+    fn append(&mut self, run: Vec<EntryIndex>) -> Result<()> {
+        if is_run(&run, LogQueue::Append) {
+            self.table.append(run, &mut self.stats)?;
+        }
+        Ok(())
+    }
+
+    /// Rewrites the places in files up to the first to those of a list, if it is a run.
+    fn rewrite(&mut self, run: Vec<EntryIndex>) -> Result<()> {
+        if is_run(&run, LogQueue::Rewrite) {
+            self.table.rewrite(run, Some(1), &mut self.stats)?;
+        }
+        Ok(())
+    }
+
+    fn compact_to(&mut self, index: u64) -> u64 {
+        self.table.compact_to(index, &mut self.stats)
+    }
+
+    fn put(&mut self, pair: Pair) -> Result<()> {
+        let file = FileId::new(LogQueue::Append, 1);
+        self.table.put(pair.0, pair.1, file, &mut self.stats)
+    }
+
+    fn delete(&mut self, key: &[u8]) {
+        self.table.delete(key, &mut self.stats);
+    }
+}
+
+/// Times each call of a table that a log store makes often.
+pub(crate) fn time(rt: &HostRuntime) -> io::Result<()> {
+    time_append(rt)?;
+    time_compact_to(rt)?;
+    time_reads(rt)?;
+    time_rewrite(rt)?;
+    time_puts(rt)?;
+    time_key_reads(rt)
+}
+
+/// Prints a line: how long each of `count` units took at best, in tenths of nanoseconds.
+fn print_each(
+    rt: &HostRuntime,
+    name: &str,
+    nanoseconds: u64,
+    unit: &str,
+    count: u64,
+) -> io::Result<()> {
+    let each = nanoseconds.saturating_mul(10) / count.max(1);
+    let (whole, tenths) = (each / 10, each % 10);
+    println!(rt; "{name}: {whole}.{tenths} ns a {unit}")
+}
+
+/// The entries from `first` on, in one block of a file.
+fn run(
+    alloc: Global,
+    first: u64,
+    len: u64,
+    queue: LogQueue,
+    seq: FileSeq,
+) -> std::result::Result<Vec<EntryIndex>, AllocError> {
+    let mut run = Vec::with_capacity(alloc, len as usize)?;
+    for index in first..first.saturating_add(len) {
+        run.push(EntryIndex {
+            index,
+            entries: Some(FileBlockHandle {
+                id: FileId::new(queue, seq),
+                offset: first,
+                len: 2052,
+            }),
+            entry_len: 256,
+            ..EntryIndex::default()
+        })?;
+    }
+    Ok(run)
+}
+
+/// Regions without records.
+fn empty_regions(alloc: Global) -> std::result::Result<Vec<Region>, AllocError> {
+    let mut regions = Vec::new(alloc);
+    for id in 0..REGIONS {
+        regions.push(Region::new(alloc, id))?;
+    }
+    Ok(regions)
+}
+
+/// Runs for all regions in turn, one behind the other in each.
+fn runs(alloc: Global) -> std::result::Result<Vec<Vec<EntryIndex>>, AllocError> {
+    let mut runs = Vec::new(alloc);
+    for round in 0..ROUNDS {
+        for _ in 0..REGIONS {
+            runs.push(run(alloc, 1 + round * RUN, RUN, LogQueue::Append, 1)?)?;
+        }
+    }
+    Ok(runs)
+}
+
+/// Appends each run to the region whose turn it is. Answers how many were accepted.
+fn append_all(regions: &mut Vec<Region>, runs: Vec<Vec<EntryIndex>>) -> u64 {
+    let mut turn = 0;
+    let mut accepted = 0u64;
+    for run in runs {
+        if turn == regions.len() {
+            turn = 0;
+        }
+        if let Some(region) = regions.get_mut(turn)
+            && region.append(run).is_ok()
+        {
+            accepted = accepted.saturating_add(1);
+        }
+        turn = turn.saturating_add(1);
+    }
+    accepted
+}
+
+/// Regions with all their entries.
+fn full_regions(alloc: Global) -> std::result::Result<Vec<Region>, AllocError> {
+    let mut regions = empty_regions(alloc)?;
+    append_all(&mut regions, runs(alloc)?);
+    Ok(regions)
+}
+
+fn time_append(rt: &HostRuntime) -> io::Result<()> {
+    let mut best = u64::MAX;
+    for _ in 0..TIMES {
+        let mut regions = empty_regions(rt.alloc())?;
+        let runs = runs(rt.alloc())?;
+        let start = Instant::now(rt)?;
+        append_all(&mut regions, runs);
+        best = best.min(nanoseconds_since(rt, &start)?);
+    }
+    print_each(
+        rt,
+        "append, 8 entries a call",
+        best,
+        "entry",
+        REGIONS * ENTRIES,
+    )
+}
+
+fn time_compact_to(rt: &HostRuntime) -> io::Result<()> {
+    let mut best = u64::MAX;
+    let mut dropped = 0u64;
+    for _ in 0..TIMES {
+        let mut regions = full_regions(rt.alloc())?;
+        dropped = 0;
+        let start = Instant::now(rt)?;
+        for step in 1..=ENTRIES / STEP {
+            for region in &mut regions {
+                dropped = dropped.saturating_add(region.compact_to(1 + step * STEP));
+            }
+        }
+        best = best.min(nanoseconds_since(rt, &start)?);
+    }
+    print_each(
+        rt,
+        "compact_to, 32 entries a call",
+        best,
+        "call",
+        dropped / STEP,
+    )
+}
+
+/// Places in regions without a pattern: a region's place, and an index with so many entries behind it.
+fn picks(
+    alloc: Global,
+    noise: &mut Noise,
+    count: u64,
+    behind: u64,
+) -> std::result::Result<Vec<(usize, u64)>, AllocError> {
+    let mut picks = Vec::new(alloc);
+    for _ in 0..count {
+        let region = (noise.next_u64() % REGIONS) as usize;
+        let first = ENTRIES.saturating_sub(behind).max(1);
+        picks.push((region, 1 + noise.next_u64() % first))?;
+    }
+    Ok(picks)
+}
+
+/// How many of these entries there are.
+fn found(regions: &[Region], picks: &[(usize, u64)]) -> u64 {
+    let mut count = 0u64;
+    for (region, index) in picks {
+        if let Some(region) = regions.get(*region)
+            && region.table.get_entry(*index).is_some()
+        {
+            count = count.saturating_add(1);
+        }
+    }
+    count
+}
+
+/// How many entries fetches from these places on give.
+fn fetched(regions: &[Region], picks: &[(usize, u64)], entries: &mut Vec<EntryIndex>) -> u64 {
+    let mut count = 0u64;
+    for (region, index) in picks {
+        entries.clear();
+        if let Some(region) = regions.get(*region) {
+            let end = index.saturating_add(FETCH);
+            if region
+                .table
+                .fetch_entries_to(*index, end, None, entries)
+                .is_ok()
+            {
+                count = count.saturating_add(entries.len() as u64);
+            }
+        }
+    }
+    count
+}
+
+fn time_reads(rt: &HostRuntime) -> io::Result<()> {
+    let regions = full_regions(rt.alloc())?;
+    let mut noise = Noise::new();
+    let entries = picks(rt.alloc(), &mut noise, REGIONS * ENTRIES, 0)?;
+    let fetches = picks(rt.alloc(), &mut noise, REGIONS * ENTRIES / FETCH, FETCH)?;
+    let mut out = Vec::with_capacity(rt.alloc(), FETCH as usize)?;
+    let (mut best_get, mut best_fetch) = (u64::MAX, u64::MAX);
+    let (mut got, mut given) = (0, 0);
+    for _ in 0..TIMES {
+        let start = Instant::now(rt)?;
+        got = found(regions.as_slice(), entries.as_slice());
+        best_get = best_get.min(nanoseconds_since(rt, &start)?);
+        let start = Instant::now(rt)?;
+        given = fetched(regions.as_slice(), fetches.as_slice(), &mut out);
+        best_fetch = best_fetch.min(nanoseconds_since(rt, &start)?);
+    }
+    print_each(rt, "get_entry, at random", best_get, "call", got)?;
+    print_each(
+        rt,
+        "fetch_entries_to, 64 a call",
+        best_fetch,
+        "entry",
+        given,
+    )
+}
+
+/// Rewrites each region whole.
+fn rewrite_all(regions: &mut Vec<Region>, runs: Vec<Vec<EntryIndex>>) {
+    for (region, run) in regions.iter_mut().zip(runs) {
+        if region.rewrite(run).is_err() {
+            return;
+        }
+    }
+}
+
+fn time_rewrite(rt: &HostRuntime) -> io::Result<()> {
+    let mut best = u64::MAX;
+    for _ in 0..TIMES {
+        let mut regions = full_regions(rt.alloc())?;
+        let mut runs = Vec::new(rt.alloc());
+        for _ in 0..REGIONS {
+            runs.push(run(rt.alloc(), 1, ENTRIES, LogQueue::Rewrite, 50)?)?;
+        }
+        let start = Instant::now(rt)?;
+        rewrite_all(&mut regions, runs);
+        best = best.min(nanoseconds_since(rt, &start)?);
+    }
+    print_each(
+        rt,
+        "rewrite, whole tables",
+        best,
+        "entry",
+        REGIONS * ENTRIES,
+    )
+}
+
+/// Keys of 8 bytes with values of 32.
+fn pairs(alloc: Global) -> std::result::Result<Vec<Pair>, AllocError> {
+    let mut noise = Noise::new();
+    let mut pairs = Vec::new(alloc);
+    for _ in 0..KEYS {
+        let key = Vec::from_slice(alloc, &noise.next_u64().to_be_bytes())?;
+        pairs.push((key, Vec::from_slice(alloc, &[7u8; 32])?))?;
+    }
+    Ok(pairs)
+}
+
+/// Puts each pair.
+fn put_all(region: &mut Region, pairs: Vec<Pair>) {
+    for pair in pairs {
+        if region.put(pair).is_err() {
+            return;
+        }
+    }
+}
+
+/// Deletes each key.
+fn delete_all(region: &mut Region, pairs: &[Pair]) {
+    for (key, _) in pairs {
+        region.delete(key);
+    }
+}
+
+fn time_puts(rt: &HostRuntime) -> io::Result<()> {
+    let (mut best_new, mut best_old, mut best_delete) = (u64::MAX, u64::MAX, u64::MAX);
+    for _ in 0..TIMES {
+        let mut region = Region::new(rt.alloc(), 1);
+        let (new, old) = (pairs(rt.alloc())?, pairs(rt.alloc())?);
+        let keys = pairs(rt.alloc())?;
+        let start = Instant::now(rt)?;
+        put_all(&mut region, new);
+        best_new = best_new.min(nanoseconds_since(rt, &start)?);
+        let start = Instant::now(rt)?;
+        put_all(&mut region, old);
+        best_old = best_old.min(nanoseconds_since(rt, &start)?);
+        let start = Instant::now(rt)?;
+        delete_all(&mut region, keys.as_slice());
+        best_delete = best_delete.min(nanoseconds_since(rt, &start)?);
+    }
+    print_each(
+        rt,
+        "put, new keys, one table",
+        best_new,
+        "call",
+        KEYS as u64,
+    )?;
+    print_each(rt, "put, keys that stand", best_old, "call", KEYS as u64)?;
+    print_each(rt, "delete", best_delete, "call", KEYS as u64)
+}
+
+/// How many bytes the values of these keys have.
+fn value_bytes(table: &MemTable, pairs: &[Pair]) -> usize {
+    let mut bytes = 0usize;
+    for (key, _) in pairs {
+        bytes = bytes.saturating_add(table.get(key).map_or(0, |value| value.len()));
+    }
+    bytes
+}
+
+/// How many bytes the keys and values of a table have.
+fn scanned_bytes(table: &MemTable) -> usize {
+    let mut bytes = 0usize;
+    let scanned = table.scan(None, None, false, |key, value| {
+        bytes = bytes.saturating_add(key.len()).saturating_add(value.len());
+        true
+    });
+    match scanned {
+        Ok(()) => bytes,
+        Err(_) => 0,
+    }
+}
+
+fn time_key_reads(rt: &HostRuntime) -> io::Result<()> {
+    let mut region = Region::new(rt.alloc(), 1);
+    let keys = pairs(rt.alloc())?;
+    put_all(&mut region, pairs(rt.alloc())?);
+    let (mut best_get, mut best_scan) = (u64::MAX, u64::MAX);
+    let (mut got, mut scanned) = (0, 0);
+    for _ in 0..TIMES {
+        let start = Instant::now(rt)?;
+        got = value_bytes(&region.table, keys.as_slice());
+        best_get = best_get.min(nanoseconds_since(rt, &start)?);
+        let start = Instant::now(rt)?;
+        scanned = scanned_bytes(&region.table);
+        best_scan = best_scan.min(nanoseconds_since(rt, &start)?);
+    }
+    print_each(rt, "get", best_get, "call", (got / 32) as u64)?;
+    print_each(rt, "scan", best_scan, "pair", (scanned / 40) as u64)
+}

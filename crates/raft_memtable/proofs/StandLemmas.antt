@@ -1,12 +1,12 @@
 -- What stands at an index after a cut, and of entries one behind the other.
-use Rattle.std.proofs.Common.{◌≡◌, ℕ, zero, suc, ◌+◌, ◌-◌, ◌<◌, ◌≤◌, Bool, true, false, cond, ltb, leb, eqb, List, [], ◌∷◌, ◌++◌, length, Option, Some, None, refl, sym, ap, subst, ◌∙◌, arith}
+use Rattle.std.proofs.Common.{◌≡◌, ℕ, ◌<◌, Bool, true, false, cond, ltb, leb, eqb, List, [], ◌∷◌, ◌++◌, length, Option, Some, None, refl, subst, ◌∙◌, arith}
 use Rattle.std.specs.Option.{option_or}
 use Rattle.std.proofs.lemmas.Bool.Decides.{nat_tests}
 use Rattle.raft_base.specs.declared.pipe_log.LogQueue.{LogQueue}
 use Rattle.raft_base.specs.declared.pipe_log.LogQueue.TheVariants.{Append, Rewrite}
 use Rattle.raft_records.specs.declared.log_batch.entry_index.EntryIndex.{EntryIndex}
-use Rattle.raft_memtable.specs.Entries.{RisesFrom, IsRunIn, start_of, end_of, below, from, entry_at, StandsBehind}
-use Rattle.raft_memtable.specs.Start.{leaves_hole, starts_in_front, appended, replayed}
+use Rattle.raft_memtable.specs.Entries.{IsRunIn, start_of, end_of, below, from, entry_at, StandsBehind}
+use Rattle.raft_memtable.specs.Start.{leaves_hole, appended, replayed}
 use Rattle.raft_memtable.proofs.RunLemmas.{RisesFrom-start}
 use Rattle.raft_memtable.proofs.LookupLemmas.{entry_at_low}
 

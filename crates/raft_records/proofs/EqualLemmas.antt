@@ -1,9 +1,8 @@
 -- On equality of items: `==` of what is in memory decides equality of what it is seen as.
-use Rattle.std.proofs.Common.{◌≡◌, ℕ, Bool, true, false, ◌&&◌, List, [], ◌∷◌, map, Option, refl, sym, ap, ◌∙◌, rules}
+use Rattle.std.proofs.Common.{◌≡◌, ℕ, Bool, true, ◌&&◌, List, [], ◌∷◌, map, refl, sym, ap, ◌∙◌, rules}
 use Rattle.std.specs.Bool.{Decides, one_answer}
 use Rattle.std.specs.Cmp.{unsigned_Decides, first_so, second_so}
 use Rattle.std.specs.Cmp.Lexicographic.{pointwise, pointwise_decides}
-use Rattle.std.proofs.lemmas.Grind.{common_steps}
 use Rattle.raft_records.specs.contracts.log_batch.command.CommandPartialEq.TheImpl.{eq-value as command_eq}
 use Rattle.raft_records.specs.contracts.log_batch.entry_index.EntryIndexPartialEq.TheImpl.{eq-value as entry_eq}
 use Rattle.raft_records.specs.contracts.log_batch.key_value.KeyValuePartialEq.TheImpl.{eq-value as pair_eq}

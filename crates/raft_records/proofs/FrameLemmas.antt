@@ -1,24 +1,22 @@
 -- On log batches as they are read, part by part.
-use Rattle.std.proofs.Common.{◌≡◌, ◌≢◌, ℕ, zero, suc, ◌+◌, ◌-◌, ◌*◌, ◌^◌, ◌<◌, ◌≤◌, List, [], ◌∷◌, ◌++◌, map, length, take, drop, Option, None, ◌↔◌, ◌⊎◌, Some, inl, inr, refl, sym, ap, ◌∙◌, subst, append_assoc, arith}
+use Rattle.std.proofs.Common.{◌≡◌, ◌≢◌, ℕ, ◌+◌, ◌-◌, ◌*◌, ◌^◌, ◌<◌, ◌≤◌, List, [], ◌∷◌, ◌++◌, map, length, take, drop, Option, None, ◌↔◌, Some, inl, inr, refl, sym, ap, ◌∙◌, subst, append_assoc, arith}
 use Rattle.std.specs.List.{flat_map}
-use Rattle.std.proofs.lemmas.List.{length-append, length-drop, length-take-le, append_cancel_left, append-nil, take_at, drop_at, drop-drop, take-append-drop, nil_from_length}
+use Rattle.std.proofs.lemmas.List.{length-append, length-drop, length-take-le, append_cancel_left, take_at, drop_at, drop-drop, take-append-drop}
 use Rattle.byteorder.specs.Endian.{big_bytes}
-use Rattle.raft_base.specs.Reading.{Reads, HasOneFront}
-use Rattle.raft_base.specs.Fixed.{IsBig}
+use Rattle.raft_base.specs.Reading.{HasOneFront}
 use Rattle.raft_base.specs.Checksum.{crc32_of}
 use Rattle.raft_base.specs.Varint.{varint}
 use Rattle.raft_base.proofs.FixedLemmas.{IsReadAgain-big_bytes}
-use Rattle.raft_base.proofs.VarintLemmas.{varint_some}
 use Rattle.raft_records.specs.declared.log_batch.CompressionType.{CompressionType}
 use Rattle.raft_records.specs.declared.log_batch.CompressionType.TheVariants as compressions
 use Rattle.raft_records.specs.Item.{Item, Content, entries, command, pair, bare}
 use Rattle.raft_records.specs.Range.{AreInRange}
 use Rattle.raft_records.specs.Spelling.{content_bytes, item_bytes}
-use Rattle.raft_records.specs.ItemBatch.{signed, checksum_bytes, batch_bytes, IsItemBatch, IsSealed}
+use Rattle.raft_records.specs.ItemBatch.{signed, checksum_bytes, batch_bytes, IsItemBatch}
 use Rattle.raft_records.specs.LogBatch.{IsBatchOf, compression_byte, header_bytes, entry_block, item_offset, unsealed_bytes, encoded_length, log_batch_bytes, IsLaidOut, IsLogBatch, IsReadable}
 use Rattle.raft_records.specs.Header.{IsHeader, IsBlockOf}
 use Rattle.raft_records.specs.Parts.{IsFramed, HasParts}
-use Rattle.raft_records.proofs.BufferLemmas.{header_len, block_len}
+use Rattle.raft_records.proofs.BufferLemmas.{header_len}
 use Rattle.raft_records.proofs.HeaderLemmas.{byte_of_type}
 use Rattle.raft_records.proofs.ItemLemmas.{same_length}
 use Rattle.raft_records.proofs.SealLemmas.{four}

@@ -1,10 +1,10 @@
 -- On marks of atomic groups.
-use Rattle.std.proofs.Common.{◌≡◌, ◌≢◌, ℕ, ◌<◌, List, [], ◌∷◌, Option, Some, None, refl, sym, ap, ◌∙◌, arith}
+use Rattle.std.proofs.Common.{◌≡◌, ℕ, ◌<◌, [], ◌∷◌, Option, Some, None, refl, sym, ◌∙◌, arith}
 use Rattle.raft_base.specs.declared.errors.Error.{Error}
 use Rattle.raft_records.specs.declared.log_batch.status.AtomicGroupStatus.{AtomicGroupStatus}
 use Rattle.raft_records.specs.declared.log_batch.status.AtomicGroupStatus.TheVariants.{Begin, Middle, End}
 use Rattle.raft_records.specs.Item.{Item, Content, entries, command, pair}
-use Rattle.raft_records.specs.Group.{status_byte, mark_item, IsMark, IsMarkContent, IsMarkRead, IsMarkFault}
+use Rattle.raft_records.specs.Group.{status_byte, IsMarkContent, IsMarkRead, IsMarkFault}
 
 one_byte : (c : Content) (a b : ℕ) → IsMarkContent c a → IsMarkContent c b → a ≡ b
 one_byte (pair p) a b h k = let e : Some (a ∷ []) ≡ Some (b ∷ []) = sym h.value ∙ k.value in cc

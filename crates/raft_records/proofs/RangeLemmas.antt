@@ -1,5 +1,5 @@
 -- On items whose numbers are in range.
-use Rattle.std.proofs.Common.{◌≡◌, ℕ, ◌^◌, ◌<◌, List, [], ◌∷◌, ◌++◌, map, length, Option, Some, None, sym, subst}
+use Rattle.std.proofs.Common.{ℕ, ◌^◌, ◌<◌, List, [], ◌∷◌, ◌++◌, map, length, Option, Some, None, sym, subst}
 use Rattle.std.proofs.lemmas.List.{length-map}
 use Rattle.raft_base.specs.Reading.{IsSequence}
 use Rattle.raft_base.proofs.VarintLemmas.{varint_lt}
@@ -11,7 +11,7 @@ use Rattle.raft_records.specs.declared.log_batch.command.Command.TheVariants.{Cl
 use Rattle.raft_records.specs.declared.log_batch.key_value.OpType.{OpType}
 use Rattle.raft_records.specs.declared.log_batch.key_value.OpType.TheVariants.{Put, Del}
 use Rattle.raft_records.specs.Item.{Item, Content, entries, command, pair}
-use Rattle.raft_records.specs.Range.{HasIndex, HasLength, IsContentInRange, IsInRange, AreInRange}
+use Rattle.raft_records.specs.Range.{HasIndex, HasLength, IsContentInRange, AreInRange}
 use Rattle.raft_records.specs.Grammar.{IsCommand, IsPairOf, IsContent, IsItem, behind_item}
 use Rattle.raft_records.specs.ItemBatch.{placed_entry, placed, raised_entry, raised}
 

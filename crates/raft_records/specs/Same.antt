@@ -1,5 +1,5 @@
 -- The tests by which `==` compares batches, part by part.
-use Rattle.std.specs.Prelude.{Bool, ◌==◌, nat_eq, List, Option, Some, None}
+use Rattle.std.specs.Prelude.{Bool, nat_eq, List, Option, Some, None}
 use Rattle.std.specs.Option.{option_eq}
 use Rattle.std.specs.Ordering.{on, eq_of_both}
 use Rattle.std.specs.Cmp.{IsEquivalence, on_equiv, and_equiv, nat_eq_equiv}

@@ -1,6 +1,6 @@
-use Rattle.std.proofs.Common.{◌≡◌, ◌≢◌, ◌∙◌, map, sym, subst, rules}
+use Rattle.std.proofs.Common.{◌≡◌, ◌≢◌, map, sym, subst, rules}
 use Rattle.raft_records.specs.Item.{bare}
-use Rattle.raft_records.specs.LogBatch.{populating, sealed, log_batch_bytes, IsLogBatch}
+use Rattle.raft_records.specs.LogBatch.{populating, log_batch_bytes, IsLogBatch}
 use Rattle.raft_records.proofs.log_batch.batch.LogBatch.encoded_bytes.Goals as goal
 
 pub returns-clause-read_again : goal.returns-clause-read_again

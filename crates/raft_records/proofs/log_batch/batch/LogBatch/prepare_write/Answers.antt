@@ -1,8 +1,8 @@
-use Rattle.std.proofs.Common.{◌≡◌, ◌≢◌, ◌<◌, ◌^◌, ◌∙◌, length, ap}
+use Rattle.std.proofs.Common.{◌≢◌, ◌∙◌, ap}
 use Rattle.raft_base.specs.Signature.{signature_of}
-use Rattle.raft_records.specs.LogBatch.{Batch, populating, encoded, sealed}
+use Rattle.raft_records.specs.LogBatch.{Batch, populating, sealed}
 use Rattle.raft_records.specs.LogBatchModel.{stage_of}
-use Rattle.raft_records.specs.Buffer.{entry_bytes_in, IsHeld}
+use Rattle.raft_records.specs.Buffer.{entry_bytes_in}
 use Rattle.raft_records.proofs.StageLemmas.{batch_with, held_unsigned, sealed_held, sealed_short}
 use Rattle.raft_records.proofs.log_batch.batch.LogBatch.prepare_write.Goals as goal
 

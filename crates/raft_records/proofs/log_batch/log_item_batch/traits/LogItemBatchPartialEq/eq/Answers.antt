@@ -1,6 +1,3 @@
-use Rattle.std.proofs.Common.{◌≡◌, Bool, List}
-use Rattle.raft_records.specs.Item.{Item}
-use Rattle.raft_records.specs.Same.{same_items}
 use Rattle.raft_records.proofs.EqualLemmas.{items_compared, exactly}
 use Rattle.raft_records.proofs.log_batch.log_item_batch.traits.LogItemBatchPartialEq.eq.Goals as goal
 

@@ -1,5 +1,6 @@
 -- What the words of a command line ask for, and the words that name refusals.
 use Rattle.std.specs.Prelude.{◌≡◌, ℕ, ◌^◌, ◌<◌, List, [], ◌∷◌, codes, Option, IfSome}
+use Rattle.std.specs.Io.KnownBytes.{IsAtEnd}
 use Rattle.std.specs.Str.Parse.{IsNumeral, digits_value}
 use Rattle.raft_base.specs.Signature.{signature_of}
 use Rattle.raft_base.specs.declared.errors.Error.{Error}
@@ -9,7 +10,7 @@ use Rattle.raft_base.specs.declared.pipe_log.LogQueue.{LogQueue}
 use Rattle.raft_base.specs.declared.pipe_log.LogQueue.TheVariants.{Append, Rewrite}
 use Rattle.raft_base.specs.declared.pipe_log.Version.{Version}
 use Rattle.raft_base.specs.declared.pipe_log.Version.TheVariants.{V1, V2}
-use Rattle.raft_records.specs.Lines.{Prints}
+use Rattle.raft_records.specs.Lines.{IsTextOf, Prints}
 
 -- the word for a queue
 abbrev pub queue_word : LogQueue → List ℕ
@@ -50,6 +51,13 @@ pub record IsAnswered (words : List (List ℕ)) (input old new : Option (List �
   pub context : LogFileContext
   pub asked : AsksBatch words context
   pub printed : IfSome input (λ bytes. Prints bytes (signature_of context) old new)
+
+-- the batch that was asked for was in the input, where that is known, and all was read
+pub record IsFound (words : List (List ℕ)) (input left : Option (List ℕ)) : Type 0 where
+  pub context : LogFileContext
+  pub asked : AsksBatch words context
+  pub all_read : IsAtEnd left
+  pub of_batch : IfSome input (λ bytes. (text : List ℕ) × IsTextOf bytes (signature_of context) text)
 
 -- the word for a refusal
 abbrev pub refusal_word : Error → List ℕ

@@ -1,12 +1,12 @@
 //! What the program `raftlog` does, over any reader and writers.
 
-ghost use Rattle.std.specs.Prelude.{◌≡◌, ◌≤◌, ◌↔◌, ℕ, IfSome, IfNone, map, string_bytes};
+ghost use Rattle.std.specs.Prelude.{◌≡◌, ◌≤◌, ◌↔◌, ◌⊎◌, ℕ, IfSome, IfNone, map, string_bytes};
 ghost use Rattle.std.specs.Io.KnownBytes.{Keeps};
 ghost use Rattle.raft_base.specs.Signature.{signature_of};
 ghost use Rattle.raft_base.specs.declared.pipe_log.LogFileContext.{LogFileContext};
 ghost use Rattle.raft_base.specs.declared.pipe_log.LogQueue.{LogQueue};
 ghost use Rattle.raft_base.specs.declared.pipe_log.Version.{Version};
-ghost use Rattle.raft_records.specs.Requests.{queue_word, version_word, IsNumberWord, NamesFile, AsksBatch, AsksNothing, IsAnswered, refusal_word};
+ghost use Rattle.raft_records.specs.Requests.{queue_word, version_word, IsNumberWord, NamesFile, AsksBatch, AsksNothing, IsAnswered, IsFound, refusal_word};
 
 use crate::print::print_batch;
 use raft_base::{Error, FileId, LogFileContext, LogQueue, Version};
@@ -43,6 +43,8 @@ pub fn run<R: Read, W: Write, E: Write>(
     ensures known { result ≤ 2 }
     ensures done { result ≡ 0 → IsAnswered (map string_bytes words.now)
         (R.remaining input.old) (W.contents out.old) (W.contents out.new) }
+    ensures silent { result ≡ 1 → Keeps (W.contents out.old) (W.contents out.new)
+        ⊎ IsFound (map string_bytes words.now) (R.remaining input.old) (R.remaining input.new) }
     ensures misused { (result ≡ 2) ↔ AsksNothing (map string_bytes words.now) }
     ensures untouched { result ≡ 2 → Keeps (W.contents out.old) (W.contents out.new) }
     ensures quiet { result ≡ 0 → Keeps (E.contents err.old) (E.contents err.new) }

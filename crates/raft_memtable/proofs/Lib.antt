@@ -16,5 +16,6 @@ pub mod RunLemmas
 pub mod ScanLemmas
 pub mod Shown
 pub mod SoundLemmas
+pub mod StandLemmas
 pub mod StartLemmas
 pub mod TableLemmas

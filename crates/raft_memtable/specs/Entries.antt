@@ -1,5 +1,5 @@
 -- Entries of a region's log, in order of index: the words of tables, steps and queries.
-use Rattle.std.specs.Prelude.{◌≡◌, ℕ, ◌+◌, ◌<◌, ◌≤◌, ◌^◌, suc, max, Bool, false, List, [], ◌∷◌, ◌++◌, length, filter, find, nat_lt, nat_le, ◌==◌, Option, Some, None}
+use Rattle.std.specs.Prelude.{◌≡◌, ℕ, ◌+◌, ◌<◌, ◌≤◌, ◌^◌, suc, max, Bool, false, List, [], ◌∷◌, ◌++◌, length, filter, find, nat_lt, nat_le, ◌==◌, Option, Some, None, if◌then◌else◌}
 use Rattle.raft_base.specs.declared.pipe_log.LogQueue.{LogQueue}
 use Rattle.raft_base.specs.declared.pipe_log.LogQueue.TheVariants.{Append, Rewrite}
 use Rattle.raft_base.specs.declared.pipe_log.FileBlockHandle.{FileBlockHandle}
@@ -67,6 +67,10 @@ pub record IsSound (es : List EntryIndex) : Type 0 where
 -- the entry with this index
 abbrev pub entry_at : ℕ → List EntryIndex → Option EntryIndex
 entry_at i es = find (λ e. e.index == i) es
+
+-- what stands behind a run: below its first index the old entries, from it on the run's
+abbrev pub StandsBehind : List EntryIndex → List EntryIndex → List EntryIndex → Type 0
+StandsBehind old run new = (i : ℕ) → entry_at i new ≡ (if nat_lt i (start_of run) then entry_at i old else entry_at i run)
 
 -- how many entries have their place in a queue
 abbrev pub entries_in : LogQueue → List EntryIndex → ℕ

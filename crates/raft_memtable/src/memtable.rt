@@ -13,6 +13,7 @@ ghost use Rattle.raft_memtable.specs.Start.{appended, replayed, IsRunRefused};
 mod change;
 mod entries;
 pub mod key_values;
+mod laws;
 mod merge;
 mod queries;
 #[cfg(test)]
@@ -22,6 +23,7 @@ use crate::global_stats::GlobalStats;
 pub use change::{TableChange, is_run};
 use entries::Entries;
 use key_values::KeyValues;
+pub use laws::entries_stand_by_index;
 use raft_records::{EntryIndex, Error, FileId, FileSeq, LogQueue, Result};
 use std::alloc::Global;
 use std::marker::Model;

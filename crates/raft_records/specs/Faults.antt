@@ -1,10 +1,11 @@
 -- Why items are refused: which error comes for which bytes.
-use Rattle.std.specs.Prelude.{◌≡◌, ◌≢◌, ℕ, ◌-◌, ◌^◌, ◌<◌, ◌≤◌, ◌⊎◌, List, [], ◌∷◌, ◌++◌, length, codes, string_bytes}
+use Rattle.std.specs.Prelude.{◌≡◌, ◌≢◌, ℕ, ◌-◌, ◌^◌, ◌<◌, ◌≤◌, ◌⊎◌, List, [], ◌∷◌, ◌++◌, length, Any, codes, string_bytes}
 use Rattle.std.specs.IoError.{error_kind}
 use Rattle.std.specs.declared.io.ErrorKind.TheVariants.{UnexpectedEof}
 use Rattle.std.specs.Fmt.{decimal}
 use Rattle.raft_base.specs.declared.errors.Error.{Error}
 use Rattle.raft_base.specs.declared.errors.Error.TheVariants as errors
+use Rattle.raft_base.specs.declared.message.MessageError.TheVariants as messages
 use Rattle.raft_base.specs.Errors.{IsIoOf}
 use Rattle.raft_base.specs.Reading.{IsFaultBehind, IsSequenceFault}
 use Rattle.raft_base.specs.Varint.{IsVarint, IsVarintFault}
@@ -118,7 +119,11 @@ abbrev pub IsItemRefusal : Item → Error → Type 0
 IsItemRefusal item (errors.InvalidArgument text) = IsWritable item → ⊥
 IsItemRefusal item e = IsMemory e
 
--- want of memory, or a message that refused to write itself
-abbrev pub IsMemoryOrMessage : Error → Type 0
-IsMemoryOrMessage (errors.Message e) = Unit {0}
-IsMemoryOrMessage e = IsMemory e
+-- want of memory, or a message that refused to write itself with one of these codes
+abbrev pub IsMemoryOrMessage : (ℕ → Type 0) → Error → Type 0
+IsMemoryOrMessage refuses (errors.Message (messages.Refused code)) = refuses code
+IsMemoryOrMessage refuses e = IsMemory e
+
+-- one of these messages refuses to write itself with this code
+abbrev pub OneRefuses : {X : Type 0} → (X → ℕ → Type 0) → List X → ℕ → Type 0
+OneRefuses refuses xs code = Any (λ x. refuses x code) xs

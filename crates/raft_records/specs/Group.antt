@@ -1,8 +1,9 @@
 -- Marks of atomic groups.
-use Rattle.std.specs.Prelude.{◌≡◌, ℕ, ◌<◌, List, [], ◌∷◌, ◌++◌, codes, Option, Some, None}
+use Rattle.std.specs.Prelude.{◌≡◌, ◌≢◌, ℕ, ◌<◌, List, [], ◌∷◌, ◌++◌, codes, Option, Some, None}
 use Rattle.std.specs.Fmt.{decimal}
 use Rattle.raft_base.specs.declared.errors.Error.{Error}
 use Rattle.raft_base.specs.declared.errors.Error.TheVariants as errors
+use Rattle.raft_base.specs.declared.message.MessageError.TheVariants as messages
 use Rattle.raft_records.specs.declared.log_batch.status.AtomicGroupStatus.{AtomicGroupStatus}
 use Rattle.raft_records.specs.declared.log_batch.status.AtomicGroupStatus.TheVariants.{Begin, Middle, End}
 use Rattle.raft_records.specs.declared.log_batch.key_value.OpType.TheVariants.{Put}
@@ -65,7 +66,7 @@ abbrev pub IsKeyRefusal : List ℕ → Error → Type 0
 IsKeyRefusal key (errors.InvalidArgument text) = key ≡ reserved_key
 IsKeyRefusal key e = IsMemory e
 
--- nor a message, which may refuse to write itself
-abbrev pub IsMessageRefusal : List ℕ → Error → Type 0
-IsMessageRefusal key (errors.Message refusal) = Unit {0}
-IsMessageRefusal key e = IsKeyRefusal key e
+-- nor a message; under another key it may refuse to write itself with one of these codes
+abbrev pub IsMessageRefusal : (ℕ → Type 0) → List ℕ → Error → Type 0
+IsMessageRefusal refuses key (errors.Message (messages.Refused code)) = (key ≢ reserved_key) × refuses code
+IsMessageRefusal refuses key e = IsKeyRefusal key e

@@ -1,7 +1,7 @@
 -- Item batches as text: a line for each item, and a last line of counts.
-use Rattle.std.specs.Prelude.{◌≡◌, ◌⊎◌, ℕ, List, [], ◌∷◌, ◌++◌, length, codes, Option, Some, None}
+use Rattle.std.specs.Prelude.{◌≡◌, ◌⊎◌, ℕ, List, [], ◌∷◌, ◌++◌, length, codes, Option, Some, None, IfSome}
 use Rattle.std.specs.Fmt.{decimal}
-use Rattle.std.specs.Io.KnownBytes.{Appends}
+use Rattle.std.specs.Io.KnownBytes.{Appends, IsAtEnd}
 use Rattle.std.specs.List.{flat_map}
 use Rattle.hex.specs.Hex.{encode_lower}
 use Rattle.raft_records.specs.declared.log_batch.command.Command.{Command}
@@ -83,3 +83,9 @@ IsPrintFault bytes signature e = IsMemory e ⊎ IsItemBatchFault signature bytes
 abbrev pub IsIo : Error → Type 0
 IsIo (Io _) = Unit {0}
 IsIo _ = ⊥
+
+-- the writer failed, once the whole input was read and was an item batch
+pub record IsWriteFailure (input left : Option (List ℕ)) (signature : Option ℕ) (e : Error) : Type 0 where
+  pub io : IsIo e
+  pub all_read : IsAtEnd left
+  pub of_batch : IfSome input (λ bytes. (text : List ℕ) × IsTextOf bytes signature text)

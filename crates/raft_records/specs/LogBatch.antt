@@ -57,15 +57,15 @@ with_entries b region [] strings = b
 with_entries b region (e ∷ es) strings =
     record b { items = b.items ++ entries_item region (laid (length b.entry_bytes) (with_lengths (e ∷ es) strings)) ∷ []; entry_bytes = b.entry_bytes ++ concat strings }
 
--- why the bytes of entries are not taken: they would pass the limit, a message refused to write itself, or there is no memory
-abbrev pub IsBytesFault : ℕ → Error → Type 0
-IsBytesFault size errors.Full = 2 ^ 31 ≤ size
-IsBytesFault size e = IsMemoryOrMessage e
+-- why the bytes of entries are not taken: they would pass the limit, a message refused to write itself with one of these codes, or there is no memory
+abbrev pub IsBytesFault : (ℕ → Type 0) → ℕ → Error → Type 0
+IsBytesFault refuses size errors.Full = 2 ^ 31 ≤ size
+IsBytesFault refuses size e = IsMemoryOrMessage refuses e
 
 -- why entries are not added: their indexes are not consecutive, or their bytes are not taken
-abbrev pub IsAddFault : List EntryIndex → ℕ → Error → Type 0
-IsAddFault es size (errors.InvalidArgument text) = IsConsecutive es → ⊥
-IsAddFault es size e = IsBytesFault size e
+abbrev pub IsAddFault : (ℕ → Type 0) → List EntryIndex → ℕ → Error → Type 0
+IsAddFault refuses es size (errors.InvalidArgument text) = IsConsecutive es → ⊥
+IsAddFault refuses es size e = IsBytesFault refuses size e
 
 -- the entries of the items tile the entry bytes, in order, and these are within the limit
 pub record IsBatchOf (items : List Item) (entry_bytes : List ℕ) : Type 0 where

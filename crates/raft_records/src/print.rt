@@ -1,12 +1,12 @@
 //! Item batches as text.
 
-ghost use Rattle.std.specs.Prelude.{◌≡◌, ◌≢◌, ◌++◌, IfOk, IfErr, IfSome, OnOk, map, string_bytes};
+ghost use Rattle.std.specs.Prelude.{◌≡◌, ◌≢◌, ◌++◌, ◌⊎◌, IfOk, IfErr, IfSome, OnOk, map, string_bytes};
 ghost use Rattle.std.specs.Io.KnownBytes.{IsAtEnd, Keeps};
 ghost use Rattle.std.specs.List.{flat_map};
 ghost use Rattle.raft_base.specs.Signature.{signature_of};
 ghost use Rattle.raft_records.specs.Grammar.{tail_of};
 ghost use Rattle.raft_records.specs.Item.{item_of, content_of, pair_of};
-ghost use Rattle.raft_records.specs.Lines.{bytes_text, entries_text, command_text, pair_text, content_text, line_of, counts_line, IsTextOf, Prints, IsNoItemBatch, IsPrintFault, IsIo};
+ghost use Rattle.raft_records.specs.Lines.{bytes_text, entries_text, command_text, pair_text, content_text, line_of, counts_line, IsTextOf, Prints, IsNoItemBatch, IsPrintFault, IsWriteFailure, IsIo};
 
 use crate::log_batch::{
     Command, CompressionType, EntryIndex, KeyValue, LogItem, LogItemBatch, LogItemContent, OpType,
@@ -28,8 +28,8 @@ pub fn print_batch<R: Read, W: Write>(
     ensures ok { OnOk result (IfSome (R.remaining reader.old) (λ input.
         Prints input (signature_of context.now) (W.contents writer.old) (W.contents writer.new))) }
     ensures all_read { OnOk result (IsAtEnd (R.remaining reader.new)) }
-    ensures silent { IfErr result (λ e. (IsIo e → ⊥) →
-        Keeps (W.contents writer.old) (W.contents writer.new)) }
+    ensures silent { IfErr result (λ e. Keeps (W.contents writer.old) (W.contents writer.new)
+        ⊎ IsWriteFailure (R.remaining reader.old) (R.remaining reader.new) (signature_of context.now) e) }
     ensures refused { IfErr result (λ e. (IsIo e → ⊥) → e ≢ Error.Memory →
         IfSome (R.remaining reader.old) (λ input. IsNoItemBatch input (signature_of context.now))) }
     ensures fault { IfErr result (λ e. (IsIo e → ⊥) →

@@ -215,7 +215,7 @@ impl LogItemBatch {
         ensures ok { OnOk result (self.new ≡ self.old
             ++ pair_item region_id Put key.items (Some (S.bytes_of message.now)) ∷ []) }
         ensures err { OnErr result (self.new ≡ self.old) }
-        ensures fault { IfErr result IsMemoryOrMessage }
+        ensures fault { IfErr result (IsMemoryOrMessage (S.refuses message.now)) }
     {
         let mut value = Vec::new(alloc);
         message.write_to_vec(&mut value)?;

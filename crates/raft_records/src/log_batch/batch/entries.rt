@@ -3,6 +3,7 @@
 ghost use Rattle.std.specs.Prelude.{◌≡◌, ◌≢◌, ◌+◌, ◌-◌, ◌^◌, ◌<◌, ◌≤◌, [], ◌∷◌, ◌++◌, map, length, IfOk, IfErr, OnOk, OnErr};
 ghost use Rattle.std.specs.List.{concat};
 ghost use Rattle.raft_records.specs.Entries.{IsConsecutive, entry_at, with_lengths};
+ghost use Rattle.raft_records.specs.Faults.{OneRefuses};
 ghost use Rattle.raft_records.specs.Item.{entries_item};
 ghost use Rattle.raft_records.specs.ItemBatch.{entry_bytes_of, laid};
 ghost use Rattle.raft_records.specs.LogBatch.{populating, with_entries, IsBytesFault, IsAddFault};
@@ -29,7 +30,8 @@ impl LogBatch {
         ensures accepted { OnOk result (entries.now ≢ [] →
             length self.old.entry_bytes + length (concat (map M.Entry.bytes_of entries.now)) < 2 ^ 31) }
         ensures err { OnErr result (self.new ≡ self.old) }
-        ensures fault { IfErr result (IsAddFault (map (λ e. entry_at (M.index_of e)) entries.now)
+        ensures fault { IfErr result (IsAddFault (OneRefuses M.Entry.refuses entries.now)
+            (map (λ e. entry_at (M.index_of e)) entries.now)
             (length self.old.entry_bytes + length (concat (map M.Entry.bytes_of entries.now)))) }
     {
         if entries.is_empty() {
@@ -162,7 +164,8 @@ fn write_messages<M: MessageExt>(
     ensures accepted { OnOk result (length buf.new.items < 16 + 2 ^ 31) }
     ensures err { OnErr result (item_batch.new ≡ item_batch.old) }
     ensures err_bytes { OnErr result (Keeps buf.old.items buf.new.items) }
-    ensures fault { IfErr result (IsAddFault (map (λ e. entry_at (M.index_of e)) entries.now)
+    ensures fault { IfErr result (IsAddFault (OneRefuses M.Entry.refuses entries.now)
+            (map (λ e. entry_at (M.index_of e)) entries.now)
         (entry_bytes_of item_batch.old + length (concat (map M.Entry.bytes_of entries.now)))) }
 {
     let entry_indexes = append_messages::<M>(buf, entries)?;
@@ -187,7 +190,7 @@ fn append_messages<M: MessageExt>(
         ≡ with_lengths (map (λ e. entry_at (M.index_of e)) entries.now) (map M.Entry.bytes_of entries.now)) }
     ensures accepted { OnOk result (entries.now ≢ [] → length buf.new.items < 16 + 2 ^ 31) }
     ensures err { OnErr result (Keeps buf.old.items buf.new.items) }
-    ensures fault { IfErr result (IsBytesFault
+    ensures fault { IfErr result (IsBytesFault (OneRefuses M.Entry.refuses entries.now)
         (length buf.old.items - 16 + length (concat (map M.Entry.bytes_of entries.now)))) }
 {
     let mut entry_indexes = Vec::with_capacity(*buf.allocator(), entries.len())?;

@@ -52,11 +52,11 @@ impl LogBatch {
         }) }
         ensures accepted { OnOk result (key.items ≢ reserved_key) }
         ensures err { OnErr result (self.new ≡ self.old) }
-        ensures fault { IfErr result (IsMessageRefusal key.items) }
+        ensures fault { IfErr result (IsMessageRefusal (S.refuses message.now) key.items) }
     {
-        let mut value = Vec::new(*key.allocator());
-        message.write_to_vec(&mut value)?;
-        self.put(region_id, key, value)
+        refuse_reserved(&key)?;
+        self.item_batch
+            .put_message(*key.allocator(), region_id, key, message)
     }
 
     /// Adds a value of a region's key to an open batch, whatever the key. On `Err` the batch is as it

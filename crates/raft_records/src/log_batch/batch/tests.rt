@@ -1,6 +1,6 @@
 //! Batches of items and entry bytes, as the Rust crate makes them.
 
-ghost use Rattle.std.specs.Prelude.{◌≡◌, IfOk, OnOk, OnErr};
+ghost use Rattle.std.specs.Prelude.{◌≡◌, [], IfOk, OnOk, OnErr};
 ghost use Rattle.raft_records.specs.LogBatch.{populating};
 
 use crate::log_batch::tests::is_only_refusal;
@@ -22,6 +22,8 @@ struct Line {
 
 impl Message for Line {
     ghost bytes_of = { λ line. line.text.now };
+
+    ghost refuses = { λ line code. (line.text.now ≡ []) × (code ≡ 7) };
 
     fn write_to_vec(&self, buf: &mut Vec<u8>) -> std::result::Result<(), MessageError> {
         if self.text.is_empty() {

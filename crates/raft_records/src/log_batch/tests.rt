@@ -2,6 +2,8 @@
 
 ghost use Rattle.std.specs.Prelude.{◌≡◌};
 
+mod refusals;
+
 use super::*;
 use raft_base::{Error, FileBlockHandle, FileId, LogFileContext, LogQueue, Result, Version};
 use std::alloc::Global;
@@ -57,17 +59,83 @@ fn key_values(rt: HostRuntime) {
     let mut refused = false;
     let put = b"\x01\x03\x70\x75\x74\x05\x70\x75\x74\x5f\x76".as_slice();
     let del = b"\x02\x03\x64\x65\x6c".as_slice();
+    let mut long_put = [0xff; 135];
+    long_put[..5].copy_from_slice(b"\x01\x01k\x82\x01");
     for (op_type, key, value, bytes) in [
-        (OpType::Put, "put", Some("put_v"), put),
-        (OpType::Put, "", Some(""), b"\x01\x00\x00".as_slice()),
+        (OpType::Put, "put", Some(b"put_v".as_slice()), put),
+        (
+            OpType::Put,
+            "",
+            Some(b"".as_slice()),
+            b"\x01\x00\x00".as_slice(),
+        ),
+        (
+            OpType::Put,
+            "k",
+            Some([0xff; 130].as_slice()),
+            long_put.as_slice(),
+        ),
         (OpType::Del, "del", None, del),
-        (OpType::Del, "del", Some("del_v"), del),
+        (OpType::Del, "del", Some(b"del_v".as_slice()), del),
         (OpType::Del, "", None, b"\x02\x00".as_slice()),
     ] {
-        let value = value.map(|text: &str| text.as_bytes());
         let mut buf = Vec::new(rt.alloc());
         let written = match key_value(rt.alloc(), op_type, key.as_bytes(), value) {
             Ok(kv) => kv.encode(rt.alloc(), &mut buf),
+            Err(e) => Err(e),
+        };
+        assert!(rt; is_written(written, &buf, bytes, &mut refused));
+    }
+}
+
+/// Entries of these lengths, one behind the other, the first with this index.
+fn run_of(alloc: Global, first: u64, lengths: &[u32]) -> Result<EntryIndexes> {
+    let mut entries = Vec::new(alloc);
+    let mut index = first;
+    let mut entry_offset = 0u32;
+    for entry_len in lengths {
+        entries.push(EntryIndex {
+            index,
+            entry_offset,
+            entry_len: *entry_len,
+            ..EntryIndex::default()
+        })?;
+        index = index.wrapping_add(1);
+        entry_offset = entry_offset.saturating_add(*entry_len);
+    }
+    Ok(EntryIndexes(entries))
+}
+
+/// The first index and the lengths of entries, and their bytes.
+const ENTRIES: [(u64, &[u32], &[u8]); 7] = [
+    (0, &[], b"\x00"),
+    (10, &[1, 1, 1], b"\x03\x0a\x01\x02\x03"),
+    (10, &[2, 1], b"\x02\x0a\x02\x03"),
+    (7, &[0, 0, 5, 0], b"\x04\x07\x00\x00\x05\x05"),
+    (
+        300,
+        &[128, 16_384, 1],
+        b"\x03\xac\x02\x80\x01\x80\x81\x01\x81\x81\x01",
+    ),
+    (
+        18_446_744_073_709_551_614,
+        &[1],
+        b"\x01\xfe\xff\xff\xff\xff\xff\xff\xff\xff\x01\x01",
+    ),
+    (
+        1 << 56,
+        &[u32::MAX],
+        b"\x01\x80\x80\x80\x80\x80\x80\x80\x80\x01\xff\xff\xff\xff\x0f",
+    ),
+];
+
+#[test]
+fn entries_are_their_tail_offsets(rt: HostRuntime) {
+    let mut refused = false;
+    for (first, lengths, bytes) in ENTRIES {
+        let mut buf = Vec::new(rt.alloc());
+        let written = match run_of(rt.alloc(), first, lengths) {
+            Ok(entries) => entries.encode(rt.alloc(), &mut buf),
             Err(e) => Err(e),
         };
         assert!(rt; is_written(written, &buf, bytes, &mut refused));
@@ -79,6 +147,8 @@ fn key_values(rt: HostRuntime) {
 enum Read {
     /// An item, behind which so many entry bytes and so many bytes are.
     Item(u32, usize),
+    /// A type that none is known of, in the words of the refusal.
+    Unrecognized(&'static str),
     Corruption,
     Codec,
     Io,
@@ -97,6 +167,7 @@ fn is_item_row(alloc: Global, bytes: &[u8], read: Read, refused: &mut bool) -> b
                 && is_written(written, &buf, front, refused)
         }
         Err(e) => match (read, &e) {
+            (Read::Unrecognized(text), Error::Corruption(found)) => found.as_str() == text,
             (Read::Corruption, Error::Corruption(_)) => true,
             (Read::Codec, Error::Codec(_)) => true,
             (Read::Io, Error::Io(_)) => true,
@@ -106,7 +177,7 @@ fn is_item_row(alloc: Global, bytes: &[u8], read: Read, refused: &mut bool) -> b
 }
 
 /// Bytes, and what is read in front of them.
-const ITEMS: [(&[u8], Read); 28] = [
+const ITEMS: [(&[u8], Read); 31] = [
     (b"", Read::Codec),
     (b"\x01", Read::Io),
     (b"\x01\x01", Read::Codec),
@@ -114,21 +185,42 @@ const ITEMS: [(&[u8], Read); 28] = [
     (b"\x01\x01\x02\x01", Read::Codec),
     (b"\x01\x02\x01", Read::Item(0, 0)),
     (b"\x01\x02\x02", Read::Codec),
-    (b"\x01\x02\x03", Read::Corruption),
+    (
+        b"\x01\x02\x03",
+        Read::Unrecognized("Unrecognized command type: 3"),
+    ),
     (b"\x01\x01\x02\x07", Read::Codec),
     (b"\x01\x02", Read::Codec),
-    (b"\x01\x02\x07", Read::Corruption),
+    (
+        b"\x01\x02\x07",
+        Read::Unrecognized("Unrecognized command type: 7"),
+    ),
     (b"\x01\x02\x02\x07", Read::Item(0, 0)),
     (b"\x01\x03", Read::Codec),
     (b"\x01\x03\x01", Read::Codec),
     (b"\x01\x03\x01\x03put", Read::Codec),
     (b"\x01\x03\x02\x00", Read::Item(0, 0)),
-    (b"\x01\x03\x00", Read::Corruption),
-    (b"\x01\x03\x03", Read::Corruption),
+    (b"\x01\x03\x02", Read::Codec),
+    (
+        b"\x01\x03\x00",
+        Read::Unrecognized("Unrecognized op type: 0"),
+    ),
+    (
+        b"\x01\x03\x03",
+        Read::Unrecognized("Unrecognized op type: 3"),
+    ),
     (b"\x01\x03\x01\x03put\x05put_v", Read::Item(0, 0)),
     (b"\x01\x03\x01\x05p", Read::Corruption),
-    (b"\x01\x04", Read::Corruption),
+    (
+        b"\x01\x04",
+        Read::Unrecognized("Unrecognized log item type: 4"),
+    ),
+    (
+        b"\x01\x00",
+        Read::Unrecognized("Unrecognized log item type: 0"),
+    ),
     (b"\x80\x01\x02\x01", Read::Item(0, 0)),
+    (b"\x01\x01\x03\x01", Read::Codec),
     (b"\x01\x01\x00\x0a", Read::Item(0, 1)),
     (b"\x01\x01\x02\x0a\x01\x05", Read::Item(5, 0)),
     (b"\x01\x01\x03\x0a\x01\x02\x03", Read::Item(3, 0)),

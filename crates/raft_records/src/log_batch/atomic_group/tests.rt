@@ -81,6 +81,45 @@ fn group_begins(rt: HostRuntime) {
     }
 }
 
+/// The batches of a group, and the items that mark them.
+fn marked_batches(alloc: Global) -> Result<[(LogBatch, &'static [u8]); 3]> {
+    let mut builder = AtomicGroupBuilder::with_id(9);
+    let mut first = LogBatch::default(alloc);
+    builder.begin(&mut first)?;
+    let mut second = LogBatch::default(alloc);
+    builder.add(&mut second)?;
+    let mut third = LogBatch::default(alloc);
+    builder.end(&mut third)?;
+    Ok([
+        (first, b"\x09\x03\x01\x03__\x01\x01\x00".as_slice()),
+        (second, b"\x09\x03\x01\x03__\x01\x01\x01".as_slice()),
+        (third, b"\x09\x03\x01\x03__\x01\x01\x02".as_slice()),
+    ])
+}
+
+/// Whether this is the only item of an open batch, as its bytes say.
+fn is_only_item(mut batch: LogBatch, item: &[u8]) -> Result<bool> {
+    if !batch.is_open() || batch.approximate_size() != 62 {
+        return Ok(false);
+    }
+    let len = batch.finish_populate()?;
+    batch.prepare_write(&file(12));
+    Ok(len == 30 && batch.encoded_bytes().get(17..26) == Some(item))
+}
+
+#[test]
+fn batches_of_a_group_have_its_marks(rt: HostRuntime) {
+    match marked_batches(rt.alloc()) {
+        Ok(batches) => {
+            for (batch, item) in batches {
+                let is_marked = is_only_item(batch, item);
+                assert!(rt; matches!(is_marked, Ok(true) | Err(Error::Memory)));
+            }
+        }
+        Err(e) => assert!(rt; matches!(&e, Error::Memory)),
+    }
+}
+
 /// Whether clones are equal to what they are made of, until an item is added to them.
 fn clones_are_equal(alloc: Global) -> Result<bool> {
     let mut items = LogItemBatch::default(alloc);

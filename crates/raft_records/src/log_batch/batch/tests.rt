@@ -3,6 +3,8 @@
 ghost use Rattle.std.specs.Prelude.{◌≡◌, [], IfOk, OnOk, OnErr};
 ghost use Rattle.raft_records.specs.LogBatch.{populating};
 
+mod rows;
+
 use crate::log_batch::tests::is_only_refusal;
 use crate::log_batch::{
     Command, CompressionType, EntryIndex, LogBatch, LogItem, LogItemBatch, LogItemContent,
@@ -11,6 +13,7 @@ use raft_base::{
     Error, FileBlockHandle, FileId, LogFileContext, LogQueue, Message, MessageError, MessageExt,
     ReactiveBytes, Result, Version,
 };
+use rows::Row;
 use std::alloc::Global;
 
 /// A line of a log, which refuses to write itself where it has no text.
@@ -138,6 +141,15 @@ fn context(seq: u64, version: Version) -> LogFileContext {
     LogFileContext::new(FileId::new(LogQueue::Append, seq), version)
 }
 
+/// The place of the block between a header at the file's start and an item batch.
+fn block_of(id: FileId, item_offset: usize) -> FileBlockHandle {
+    FileBlockHandle {
+        id,
+        offset: 16,
+        len: item_offset.saturating_sub(16),
+    }
+}
+
 /// Whether these are the bytes of the value in a file.
 fn is_written<T: ReactiveBytes>(
     value: &mut T,
@@ -153,114 +165,76 @@ fn is_written<T: ReactiveBytes>(
     bytes.len() == front.len() + seal.len() && bytes.starts_with(front) && bytes.ends_with(seal)
 }
 
-/// Whether an open batch has this approximate size, and then these bytes: the checksum is that in
-/// version 1, and in version 2 in the files 12, 13 and 2^64 - 1.
-fn is_made(batch: &mut LogBatch, size: usize, front: &[u8], seals: [&[u8]; 4]) -> Result<bool> {
-    if batch.ready() || !batch.is_open() || batch.approximate_size() != size {
+/// Whether a sealed batch's header, entry bytes and item batch are read as in the row, in the same file.
+fn is_read_so(
+    alloc: Global,
+    batch: &LogBatch,
+    context: &LogFileContext,
+    row: &Row,
+) -> Result<bool> {
+    if !batch.is_sealed() {
+        return Ok(false);
+    }
+    let bytes = batch.encoded_bytes();
+    if bytes.is_empty() {
+        return Ok(row.front.is_empty());
+    }
+    let mut behind = bytes;
+    let (offset, compression_type, len) = LogBatch::decode_header(alloc, &mut behind)?;
+    if offset != row.offset || offset > len || len != bytes.len() {
+        return Ok(false);
+    }
+    let place = block_of(context.id, offset);
+    let entries = LogBatch::decode_entries_block(alloc, behind, place, compression_type)?;
+    let mut footer = &bytes[offset..];
+    let items = LogItemBatch::decode(alloc, &mut footer, place, compression_type, context)?;
+    Ok(entries.as_slice() == row.entry_bytes && items.approximate_size() == row.item_batch_size)
+}
+
+/// Whether an open batch has the row's approximate size, and then its bytes in five files, which are
+/// read there.
+fn is_made(alloc: Global, batch: &mut LogBatch, row: &Row) -> Result<bool> {
+    if batch.ready() || !batch.is_open() || batch.approximate_size() != row.size {
         return Ok(false);
     }
     let len = batch.finish_populate()?;
-    let mut same = batch.approximate_size() == len && len == front.len() + seals[0].len();
+    let mut same = batch.approximate_size() == len
+        && len.checked_sub(row.front.len()) == Some(row.seals[0].len());
     for (seal, seq, version) in [
-        (seals[0], 12, Version::V1),
-        (seals[1], 12, Version::V2),
-        (seals[2], 13, Version::V2),
-        (seals[1], 0x1_0000_000c, Version::V2),
-        (seals[3], u64::MAX, Version::V2),
+        (row.seals[0], 12, Version::V1),
+        (row.seals[1], 12, Version::V2),
+        (row.seals[2], 13, Version::V2),
+        (row.seals[1], 0x1_0000_000c, Version::V2),
+        (row.seals[3], u64::MAX, Version::V2),
     ] {
-        same &= is_written(batch, seq, version, front, seal);
+        same &= is_written(batch, seq, version, row.front, seal);
+        same &= is_read_so(alloc, batch, &context(seq, version), row)?;
     }
     Ok(same && batch.is_sealed())
 }
 
 #[test]
-fn made_batches(rt: HostRuntime) {
+fn batches_are_made_and_read_as_in_the_rows(rt: HostRuntime) {
     let mut refused = false;
-    for (built, size, front, seals) in [
-        (
-            Ok(LogBatch::default(rt.alloc())),
-            0,
-            b"".as_slice(),
-            [
-                b"".as_slice(),
-                b"".as_slice(),
-                b"".as_slice(),
-                b"".as_slice(),
-            ],
-        ),
-        (
-            with_command(rt.alloc(), 1, Command::Clean),
-            42,
-            b"\x00\x00\x00\x00\x00\x00\x18\x00\x00\x00\x00\x00\x00\x00\x00\x10\x01\x01\x02\x01".as_slice(),
-            [
-                b"\x5a\x80\x0b\xdd".as_slice(),
-                b"\x56\x80\x0b\xdd".as_slice(),
-                b"\x57\x80\x0b\xdd".as_slice(),
-                b"\xa5\x7f\xf4\x22".as_slice(),
-            ],
-        ),
+    let lines = [line_of(10, b"ab"), line_of(11, b"c")];
+    for (built, row) in [
+        (Ok(LogBatch::default(rt.alloc())), rows::EMPTY),
+        (with_command(rt.alloc(), 1, Command::Clean), rows::CLEAN),
         (
             with_command(rt.alloc(), 300, Command::Compact { index: 1 << 40 }),
-            50,
-            b"\x00\x00\x00\x00\x00\x00\x1f\x00\x00\x00\x00\x00\x00\x00\x00\x10\x01\xac\x02\x02\x02\x80\x80\x80\x80\x80\x20".as_slice(),
-            [
-                b"\xd3\x0b\xf6\x41".as_slice(),
-                b"\xdf\x0b\xf6\x41".as_slice(),
-                b"\xde\x0b\xf6\x41".as_slice(),
-                b"\x2c\xf4\x09\xbe".as_slice(),
-            ],
+            rows::COMPACT,
         ),
-        (
-            with_key_values(rt.alloc()),
-            92,
-            b"\x00\x00\x00\x00\x00\x00\x26\x00\x00\x00\x00\x00\x00\x00\x00\x10\x02\x01\x03\x01\x03\x70\x75\x74\x05\x70\x75\x74\x5f\x76\x01\x03\x02\x00".as_slice(),
-            [
-                b"\xf3\xf9\x46\xa8".as_slice(),
-                b"\xff\xf9\x46\xa8".as_slice(),
-                b"\xfe\xf9\x46\xa8".as_slice(),
-                b"\x0c\x06\xb9\x57".as_slice(),
-            ],
-        ),
-        (
-            with_lines(rt.alloc(), 7, &[line_of(10, b"ab"), line_of(11, b"c")]),
-            76,
-            b"\x00\x00\x00\x00\x00\x00\x22\x00\x00\x00\x00\x00\x00\x00\x00\x17\x61\x62\x63\xc2\x41\x24\x35\x01\x07\x01\x02\x0a\x02\x03".as_slice(),
-            [
-                b"\xa7\xb3\xdf\x17".as_slice(),
-                b"\xab\xb3\xdf\x17".as_slice(),
-                b"\xaa\xb3\xdf\x17".as_slice(),
-                b"\x58\x4c\x20\xe8".as_slice(),
-            ],
-        ),
-        (
-            merged(rt.alloc()),
-            127,
-            b"\x00\x00\x00\x00\x00\x00\x2b\x00\x00\x00\x00\x00\x00\x00\x00\x19\x78\x78\x78\x78\x78\x78\xe7\xd1\x42\x02\x07\x01\x03\x0a\x01\x02\x03\x08\x01\x02\x01\x04\x05".as_slice(),
-            [
-                b"\xdc\x30\x8b\x52".as_slice(),
-                b"\xd0\x30\x8b\x52".as_slice(),
-                b"\xd1\x30\x8b\x52".as_slice(),
-                b"\x23\xcf\x74\xad".as_slice(),
-            ],
-        ),
-        (
-            with_one_of_each(rt.alloc()),
-            197,
-            b"\x00\x00\x00\x00\x00\x00\x3f\x00\x00\x00\x00\x00\x00\x00\x00\x17\x61\x62\x63\xc2\x41\x24\x35\x06\x07\x01\x03\x0a\x02\x02\x03\x08\x02\x01\x07\x02\x02\x0b\x09\x03\x01\x01\x6b\x01\x76\x09\x03\x02\x01\x6a\x09\x03\x01\x03\x5f\x5f\x01\x01\x00".as_slice(),
-            [
-                b"\xcf\x22\x56\x23".as_slice(),
-                b"\xc3\x22\x56\x23".as_slice(),
-                b"\xc2\x22\x56\x23".as_slice(),
-                b"\x30\xdd\xa9\xdc".as_slice(),
-            ],
-        ),
+        (with_key_values(rt.alloc()), rows::KEY_VALUES),
+        (with_lines(rt.alloc(), 7, &lines), rows::LINES),
+        (merged(rt.alloc()), rows::MERGED),
+        (with_one_of_each(rt.alloc()), rows::ONE_OF_EACH),
     ] {
         let made = match built {
-            Ok(mut batch) => is_made(&mut batch, size, front, seals),
+            Ok(mut batch) => is_made(rt.alloc(), &mut batch, &row),
             Err(e) => Err(e),
         };
         match made {
-            Ok(same) => assert!(rt; same, "of size {size}"),
+            Ok(same) => assert!(rt; same, "{}", row.size),
             Err(e) => assert!(rt; is_only_refusal(&e, &mut refused)),
         }
     }
@@ -354,11 +328,7 @@ fn is_read(alloc: Global, bytes: &[u8], seq: u64, entry_bytes: &[u8]) -> Result<
         return Ok(false);
     }
     let context = context(seq, Version::V2);
-    let place = FileBlockHandle {
-        id: context.id,
-        offset: 16,
-        len: offset.saturating_sub(16),
-    };
+    let place = block_of(context.id, offset);
     let entries = LogBatch::decode_entries_block(alloc, behind, place, compression_type)?;
     let mut footer = &bytes[offset..];
     match LogItemBatch::decode(alloc, &mut footer, place, compression_type, &context) {

@@ -1,0 +1,119 @@
+//! Batches as raft-engine 0.4.2 makes and reads them.
+
+/// What is made of a batch, and read of it.
+#[derive(Clone, Copy)]
+pub(super) struct Row {
+    /// The approximate size of the open batch.
+    pub(super) size: usize,
+    /// Its bytes up to the checksum.
+    pub(super) front: &'static [u8],
+    /// Its checksum in version 1, and in version 2 in the files 12, 13 and 2^64 - 1; nothing where
+    /// it has no bytes.
+    pub(super) seals: [&'static [u8]; 4],
+    /// Where its item batch begins.
+    pub(super) offset: usize,
+    /// Its entry bytes.
+    pub(super) entry_bytes: &'static [u8],
+    /// The approximate size of its item batch.
+    pub(super) item_batch_size: usize,
+}
+
+/// Without items.
+pub(super) const EMPTY: Row = Row {
+    size: 0,
+    front: b"",
+    seals: [b"", b"", b"", b""],
+    offset: 0,
+    entry_bytes: b"",
+    item_batch_size: 12,
+};
+
+/// Region 1 is cleaned.
+pub(super) const CLEAN: Row = Row {
+    size: 42,
+    front: b"\x00\x00\x00\x00\x00\x00\x18\x00\x00\x00\x00\x00\x00\x00\x00\x10\x01\x01\x02\x01",
+    seals: [
+        b"\x5a\x80\x0b\xdd",
+        b"\x56\x80\x0b\xdd",
+        b"\x57\x80\x0b\xdd",
+        b"\xa5\x7f\xf4\x22",
+    ],
+    offset: 16,
+    entry_bytes: b"",
+    item_batch_size: 22,
+};
+
+/// Region 300 is compacted to 2^40.
+pub(super) const COMPACT: Row = Row {
+    size: 50,
+    front: b"\x00\x00\x00\x00\x00\x00\x1f\x00\x00\x00\x00\x00\x00\x00\x00\x10\x01\xac\x02\x02\x02\x80\x80\x80\x80\x80\x20",
+    seals: [
+        b"\xd3\x0b\xf6\x41",
+        b"\xdf\x0b\xf6\x41",
+        b"\xde\x0b\xf6\x41",
+        b"\x2c\xf4\x09\xbe",
+    ],
+    offset: 16,
+    entry_bytes: b"",
+    item_batch_size: 30,
+};
+
+/// A put and a delete with an empty key, in region 1.
+pub(super) const KEY_VALUES: Row = Row {
+    size: 92,
+    front: b"\x00\x00\x00\x00\x00\x00\x26\x00\x00\x00\x00\x00\x00\x00\x00\x10\x02\x01\x03\x01\x03\x70\x75\x74\x05\x70\x75\x74\x5f\x76\x01\x03\x02\x00",
+    seals: [
+        b"\xf3\xf9\x46\xa8",
+        b"\xff\xf9\x46\xa8",
+        b"\xfe\xf9\x46\xa8",
+        b"\x0c\x06\xb9\x57",
+    ],
+    offset: 16,
+    entry_bytes: b"",
+    item_batch_size: 72,
+};
+
+/// Entries 10 and 11 of region 7.
+pub(super) const LINES: Row = Row {
+    size: 76,
+    front: b"\x00\x00\x00\x00\x00\x00\x22\x00\x00\x00\x00\x00\x00\x00\x00\x17\x61\x62\x63\xc2\x41\x24\x35\x01\x07\x01\x02\x0a\x02\x03",
+    seals: [
+        b"\xa7\xb3\xdf\x17",
+        b"\xab\xb3\xdf\x17",
+        b"\xaa\xb3\xdf\x17",
+        b"\x58\x4c\x20\xe8",
+    ],
+    offset: 23,
+    entry_bytes: b"\x61\x62\x63",
+    item_batch_size: 53,
+};
+
+/// Entries 10 to 12 of region 7, and then 1 and 2 of region 8.
+pub(super) const MERGED: Row = Row {
+    size: 127,
+    front: b"\x00\x00\x00\x00\x00\x00\x2b\x00\x00\x00\x00\x00\x00\x00\x00\x19\x78\x78\x78\x78\x78\x78\xe7\xd1\x42\x02\x07\x01\x03\x0a\x01\x02\x03\x08\x01\x02\x01\x04\x05",
+    seals: [
+        b"\xdc\x30\x8b\x52",
+        b"\xd0\x30\x8b\x52",
+        b"\xd1\x30\x8b\x52",
+        b"\x23\xcf\x74\xad",
+    ],
+    offset: 25,
+    entry_bytes: b"\x78\x78\x78\x78\x78",
+    item_batch_size: 102,
+};
+
+/// Three entries and one item of each other kind.
+pub(super) const ONE_OF_EACH: Row = Row {
+    size: 197,
+    front: b"\x00\x00\x00\x00\x00\x00\x3f\x00\x00\x00\x00\x00\x00\x00\x00\x17\x61\x62\x63\xc2\x41\x24\x35\x06\x07\x01\x03\x0a\x02\x02\x03\x08\x02\x01\x07\x02\x02\x0b\x09\x03\x01\x01\x6b\x01\x76\x09\x03\x02\x01\x6a\x09\x03\x01\x03\x5f\x5f\x01\x01\x00",
+    seals: [
+        b"\xcf\x22\x56\x23",
+        b"\xc3\x22\x56\x23",
+        b"\xc2\x22\x56\x23",
+        b"\x30\xdd\xa9\xdc",
+    ],
+    offset: 23,
+    entry_bytes: b"\x61\x62\x63",
+    item_batch_size: 174,
+};

@@ -165,7 +165,7 @@ fn write_messages<M: MessageExt>(
     ensures err { OnErr result (item_batch.new ≡ item_batch.old) }
     ensures err_bytes { OnErr result (Keeps buf.old.items buf.new.items) }
     ensures fault { IfErr result (IsAddFault (OneRefuses M.Entry.refuses entries.now)
-            (map (λ e. entry_at (M.index_of e)) entries.now)
+        (map (λ e. entry_at (M.index_of e)) entries.now)
         (entry_bytes_of item_batch.old + length (concat (map M.Entry.bytes_of entries.now)))) }
 {
     let entry_indexes = append_messages::<M>(buf, entries)?;

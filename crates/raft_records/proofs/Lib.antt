@@ -15,6 +15,7 @@ pub mod LineLemmas
 pub mod PlaceLemmas
 pub mod PrintLemmas
 pub mod RangeLemmas
+pub mod ReadPlaceLemmas
 pub mod RequestLemmas
 pub mod SealLemmas
 pub mod StageLemmas

@@ -1,13 +1,16 @@
 //! Laws of log batches: what their bytes are read as. Each is a function with an empty body.
 
-ghost use Rattle.std.specs.Prelude.{◌≡◌, ◌↔◌, ℕ, ◌%◌, ◌^◌, List, Option};
+ghost use Rattle.std.specs.Prelude.{◌≡◌, ◌↔◌, ℕ, ◌%◌, ◌^◌, List, map, Option};
 ghost use Rattle.raft_base.specs.declared.pipe_log.Version.TheVariants.{V2};
 ghost use Rattle.raft_base.specs.Reading.{HasOneFront};
 ghost use Rattle.raft_base.specs.Signature.{signature_in};
-ghost use Rattle.raft_records.specs.Item.{Item};
+ghost use Rattle.raft_base.specs.declared.pipe_log.FileBlockHandle.{FileBlockHandle};
+ghost use Rattle.raft_records.specs.declared.log_batch.CompressionType.{CompressionType};
+ghost use Rattle.raft_records.specs.Item.{Item, bare};
+ghost use Rattle.raft_records.specs.ItemBatch.{placed};
 ghost use Rattle.raft_records.specs.LogBatch.{IsLogBatch, IsReadable};
 ghost use Rattle.raft_records.specs.Header.{IsHeader, IsBlockOf};
-ghost use Rattle.raft_records.specs.Parts.{IsFramed, HasParts, LogBatchIsSpelled};
+ghost use Rattle.raft_records.specs.Parts.{IsFramed, HasParts, LogBatchIsSpelled, AreInBytes};
 
 /// What is written and signed of a batch is a log batch of its items and entry bytes. Bytes are a log
 /// batch exactly where a header, an entry block and an item batch are read of them, and each of these
@@ -36,4 +39,12 @@ pub fn log_batches_belong_to_one_file()
     ensures same_bits { (bytes entry_bytes : List ℕ) (seq seq' : ℕ) (items : List Item) →
         seq % 2 ^ 32 ≡ seq' % 2 ^ 32 → IsLogBatch bytes (signature_in V2 seq) items entry_bytes →
         IsLogBatch bytes (signature_in V2 seq') items entry_bytes }
+{}
+
+/// What is read of a written batch is what the batch holds once the write has given its items their
+/// places.
+pub fn placed_items_are_read()
+    ensures { (block : FileBlockHandle) (compression : CompressionType) (items : List Item) →
+        AreInBytes items →
+        map (placed block compression) (map bare items) ≡ map (placed block compression) items }
 {}

@@ -27,10 +27,10 @@ use Rattle.raft_records.specs.Entries.{IsConsecutiveFrom, IsConsecutive, Tile}
 use Rattle.raft_records.specs.Grammar.{tail_of, IsTail, behind_entry, IsRun, IsPairOf, IsContent, IsItem, end_behind, behind_item}
 use Rattle.raft_records.specs.Spelling.{IsWritableWith, tails_bytes, entries_bytes, item_bytes}
 use Rattle.raft_records.specs.ItemBatch.{FitsBehind, FitTogether, end_of_items, placed_entry, placed, IsKeptBeside, AreItems, IsCounted, signed, checksum_bytes, IsItemBatch, IsSealed, AreItemsFault, batch_bytes, first_entry, first_entry_or}
-use Rattle.raft_records.specs.Range.{IsInRange, AreInRange}
+use Rattle.raft_records.specs.Range.{IsInRange}
 use Rattle.raft_records.specs.Faults.{IsItemFault}
 use Rattle.raft_records.proofs.ContentLemmas.{item_one_front}
-use Rattle.raft_records.proofs.RangeLemmas.{range_append, range_placed, items_range}
+use Rattle.raft_records.proofs.RangeLemmas.{range_append, range_placed}
 use Rattle.raft_records.proofs.SealLemmas.{four, content_is}
 use Rattle.raft_records.specs.Sizes.{item_size, items_size, saturated}
 

@@ -322,6 +322,7 @@ impl LogItemBatch {
 
     /// Adds an item whose entries' bytes, if any, begin where those of the batch end, and end at
     /// `entries_size`.
+    #[inline(always)]
     fn add(&mut self, item: LogItem, entries_size: u32) -> Result<()>
         requires fits { FitsBehind (entry_bytes_of self.old) (content_of item.content) }
         requires end { entries_size ≡ behind_item (entry_bytes_of self.old) (item_of item) }

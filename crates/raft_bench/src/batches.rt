@@ -16,16 +16,16 @@ const ENTRY_SIZE: usize = 256;
 #[derive(Clone, PartialEq, Debug, Drop)]
 struct Entry {
     index: u64,
-    data: Vec<u8>,
+    bytes: Vec<u8>,
 }
 
 impl Message for Entry {
-    ghost bytes_of = { λ entry. entry.data.items };
+    ghost bytes_of = { λ entry. entry.bytes.items };
 
     ghost refuses = { λ entry code. ⊥ };
 
     fn write_to_vec(&self, buf: &mut Vec<u8>) -> std::result::Result<(), MessageError> {
-        match buf.extend_from_slice(self.data.as_slice()) {
+        match buf.extend_from_slice(self.bytes.as_slice()) {
             Ok(()) => Ok(()),
             Err(_) => Err(MessageError::Memory),
         }
@@ -135,9 +135,9 @@ fn messages(alloc: Global, count: u64) -> Result<Vec<Entry>> {
     let mut noise = Noise::new();
     let mut messages = Vec::new(alloc);
     for index in 0..count {
-        let mut data = Vec::with_capacity(alloc, ENTRY_SIZE)?;
-        noise.fill(&mut data, ENTRY_SIZE)?;
-        messages.push(Entry { index, data })?;
+        let mut bytes = Vec::with_capacity(alloc, ENTRY_SIZE)?;
+        noise.fill(&mut bytes, ENTRY_SIZE)?;
+        messages.push(Entry { index, bytes })?;
     }
     Ok(messages)
 }

@@ -10,6 +10,9 @@ use crate::log_batch::header::{HEADER_LEN, header_front};
 use raft_base::{Error, FileBlockHandle, FileId, LogFileContext, Result, Version};
 use std::marker::Model;
 
+#[cfg(test)]
+mod tests;
+
 /// Bytes of a file, from an offset in it on: log batches one behind the other.
 #[derive(Debug, Drop)]
 pub struct FilePart {

@@ -12,6 +12,7 @@ pub mod JoinLemmas
 pub mod LayLemmas
 pub mod LengthLemmas
 pub mod LineLemmas
+pub mod PartLemmas
 pub mod PlaceLemmas
 pub mod PrintLemmas
 pub mod RangeLemmas

@@ -2,6 +2,8 @@ pub mod BatchModel
 pub mod Buffer
 pub mod Entries
 pub mod Faults
+pub mod FilePart
+pub mod FilePartModel
 pub mod Grammar
 pub mod Group
 pub mod Header

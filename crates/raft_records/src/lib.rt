@@ -1,10 +1,12 @@
 //! Log records: items, batches of items, and their bytes.
 #![tactic(auto)]
 
+pub mod file_part;
 pub mod log_batch;
 pub mod print;
 pub mod run;
 
+pub use file_part::{FilePart, next_batch};
 pub use log_batch::{
     ATOMIC_GROUP_KEY, AtomicGroupBuilder, AtomicGroupStatus, Command, CompressionType, EntryIndex,
     EntryIndexes, KeyValue, LogBatch, LogItem, LogItemBatch, LogItemContent, OpType,

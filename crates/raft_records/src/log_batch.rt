@@ -6,7 +6,7 @@ mod checksum;
 pub mod command;
 mod compression;
 pub mod entry_index;
-mod header;
+pub(crate) mod header;
 pub mod key_value;
 pub mod laws;
 pub mod log_item;

@@ -1,0 +1,76 @@
+-- Parts of files, and the log batches that stand in them one behind the other.
+use Rattle.std.specs.Prelude.{◌≡◌, ℕ, ◌+◌, ◌-◌, ◌^◌, ◌<◌, ◌≤◌, ◌⊎◌, List, ◌++◌, length, map, drop, take, Option, Some, None}
+use Rattle.raft_base.specs.declared.errors.Error.{Error}
+use Rattle.raft_base.specs.declared.errors.Error.TheVariants as errors
+use Rattle.raft_base.specs.declared.pipe_log.FileBlockHandle.{FileBlockHandle}
+use Rattle.raft_base.specs.declared.pipe_log.FileId.{FileId}
+use Rattle.raft_base.specs.declared.pipe_log.Version.{Version}
+use Rattle.raft_base.specs.Reading.{Reads}
+use Rattle.raft_base.specs.Signature.{signature_in}
+use Rattle.raft_records.specs.declared.log_batch.CompressionType.{CompressionType}
+use Rattle.raft_records.specs.Faults.{IsMemory, IsAnyCorruption}
+use Rattle.raft_records.specs.Header.{IsHeader, IsHeaderFault}
+use Rattle.raft_records.specs.Item.{Item}
+use Rattle.raft_records.specs.ItemBatch.{placed, IsItemBatchFault}
+use Rattle.raft_records.specs.Parts.{IsFramed}
+
+-- bytes of a file, from this offset on
+pub record Part : Type 0 where
+  pub id : FileId
+  pub version : Version
+  pub offset : ℕ
+  pub bytes : List ℕ
+
+-- the signature of the part's file
+abbrev pub part_signature : Part → Option ℕ
+part_signature part = signature_in part.version part.id.seq
+
+-- a part ends past the last offset
+abbrev pub IsPartRefusal : ℕ → Error → Type 0
+IsPartRefusal end (errors.InvalidArgument text) = 2 ^ 64 ≤ end
+IsPartRefusal end e = IsMemory e
+
+-- where the entry bytes of a batch lie in the file: behind its header, up to its item batch
+abbrev pub entries_place : Part → ℕ → ℕ → FileBlockHandle
+entries_place part at place = record { id = part.id; offset = part.offset + at + 16; len = place - 16 }
+
+-- a readable batch stands at this place of a part, and these are its items with their places in the file; the next one begins behind it
+pub record IsBatchAt (part : Part) (at : ℕ) (items : List Item) (next : ℕ) : Type 0 where
+  pub bytes : List ℕ
+  pub read : List Item
+  pub place : ℕ
+  pub frame : IsFramed bytes (part_signature part) read place
+  pub stands : drop at part.bytes ≡ bytes ++ drop next part.bytes
+  pub ends : next ≡ at + length bytes
+  pub places : items ≡ map (placed (entries_place part at place) frame.compression) read
+
+-- the end of the part, or the batch that stands there
+abbrev pub IsNext : Part → ℕ → Option (List Item × ℕ) → Type 0
+IsNext part at None = at ≡ length part.bytes
+IsNext part at (Some next) = IsBatchAt part at next.0 next.1
+
+-- a header that stands in front: where its item batch begins, and how long its batch is
+pub record HasHeader (bytes : List ℕ) (place len : ℕ) : Type 0 where
+  pub compression : CompressionType
+  pub rest : List ℕ
+  pub header : Reads IsHeader bytes rest (place, compression, len)
+
+-- a batch that is longer than what is left
+pub record IsCutShort (bytes : List ℕ) (e : Error) : Type 0 where
+  pub place : ℕ
+  pub len : ℕ
+  pub header : HasHeader bytes place len
+  pub short : length bytes < len
+  pub error : IsAnyCorruption e
+
+-- a fault of the item batch of a batch that stands there whole
+pub record IsFooterFault (signature : Option ℕ) (bytes : List ℕ) (e : Error) : Type 0 where
+  pub place : ℕ
+  pub len : ℕ
+  pub header : HasHeader bytes place len
+  pub whole : len ≤ length bytes
+  pub fault : IsItemBatchFault signature (drop place (take len bytes)) e
+
+-- why no batch is read there
+abbrev pub IsNextFault : Option ℕ → List ℕ → Error → Type 0
+IsNextFault signature bytes e = IsHeaderFault bytes e ⊎ IsCutShort bytes e ⊎ IsFooterFault signature bytes e

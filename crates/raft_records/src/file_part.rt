@@ -1,0 +1,119 @@
+//! Parts of files, and the batches in them.
+
+ghost use Rattle.std.specs.Prelude.{◌≡◌, ◌≢◌, ℕ, ◌+◌, ◌^◌, ◌<◌, ◌≤◌, length, drop, IfOk, IfErr, OnOk, OnErr};
+ghost use Rattle.raft_base.specs.Reading.{HasNoFront};
+ghost use Rattle.raft_records.specs.FilePart.{IsPartRefusal, IsNext, IsNextFault, part_signature};
+ghost use Rattle.raft_records.specs.LogBatch.{IsReadable};
+
+use crate::log_batch::LogItemBatch;
+use crate::log_batch::header::{HEADER_LEN, header_front};
+use raft_base::{Error, FileBlockHandle, FileId, LogFileContext, Result, Version};
+use std::marker::Model;
+
+#[cfg(test)]
+mod tests;
+
+/// Bytes of a file, from an offset in it on: log batches one behind the other.
+#[derive(Debug, Drop)]
+pub struct FilePart {
+    id: FileId,
+    version: Version,
+    offset: u64,
+    bytes: Vec<u8>,
+}
+
+impl Model for FilePart {
+    ghost use Rattle.raft_records.specs.FilePart.{Part};
+
+    ghost Value = { Part };
+
+    ghost use Rattle.raft_records.specs.FilePartModel.{part_in, EndsWithin};
+
+    ghost view = { part_in };
+
+    ghost invariant = { EndsWithin };
+}
+
+impl FilePart {
+    /// The bytes of the file `id` from `offset` on. `InvalidArgument` where they end past 2^64 - 1.
+    pub fn new(id: FileId, version: Version, offset: u64, bytes: Vec<u8>) -> Result<FilePart>
+        ensures ok { IfOk result (λ part. part
+            ≡ record { id = id; version = version; offset = offset; bytes = bytes.items }) }
+        ensures accepted { OnOk result (offset + length bytes.items < 2 ^ 64) }
+        ensures fault { IfErr result (IsPartRefusal (offset + length bytes.items)) }
+    {
+        if bytes.len() as u64 > u64::MAX - offset {
+            return Err(Error::InvalidArgument(format!(in *bytes.allocator();
+                "a part from {offset} on ends past the last offset"
+            )?));
+        }
+        Ok(FilePart {
+            id,
+            version,
+            offset,
+            bytes,
+        })
+    }
+
+    /// The file.
+    pub fn id(&self) -> FileId
+        ensures { result ≡ self.now.id }
+    {
+        self.id
+    }
+
+    /// The version of the file.
+    pub fn version(&self) -> Version
+        ensures { result ≡ self.now.version }
+    {
+        self.version
+    }
+
+    /// Where in the file the bytes begin.
+    pub fn offset(&self) -> u64
+        ensures { result ≡ self.now.offset }
+    {
+        self.offset
+    }
+
+    /// The bytes.
+    pub fn bytes(&self) -> &[u8]
+        ensures { result.now ≡ self.now.bytes }
+    {
+        self.bytes.as_slice()
+    }
+}
+
+/// The items of the log batch that stands at `at` in the part, each with its place in the file, and
+/// where the next batch begins; nothing at the part's end. It doesn't read the entry bytes. A batch
+/// that is longer than what is left is `Corruption`, as is whatever is no header.
+pub fn next_batch(part: &FilePart, at: usize) -> Result<Option<(LogItemBatch, usize)>>
+    requires { at ≤ length part.now.bytes }
+    ensures ok { IfOk result (IsNext part.now at) }
+    ensures left { OnErr result (at < length part.now.bytes) }
+    ensures refused { IfErr result (λ e. e ≢ Error.Memory →
+        HasNoFront (λ bytes. IsReadable bytes (part_signature part.now)) (drop at part.now.bytes)) }
+    ensures fault { IfErr result (IsNextFault (part_signature part.now) (drop at part.now.bytes)) }
+{
+    if at == part.bytes.len() {
+        return Ok(None);
+    }
+    let alloc = *part.bytes.allocator();
+    let (_, rest) = part.bytes().split_at(at);
+    let ((offset, compression_type, len), _) = header_front(alloc, rest)?;
+    if len > rest.len() {
+        return Err(Error::Corruption(format!(in alloc;
+            "a log batch of {len} bytes is cut short"
+        )?));
+    }
+    let place = FileBlockHandle {
+        id: part.id,
+        offset: part.offset + at as u64 + HEADER_LEN as u64,
+        len: offset - HEADER_LEN,
+    };
+    let context = LogFileContext::new(part.id, part.version);
+    let (bytes, _) = rest.split_at(len);
+    let (_, mut footer) = bytes.split_at(offset);
+    let batch = LogItemBatch::decode(alloc, &mut footer, place, compression_type, &context)?;
+    Ok(Some((batch, at + len)))
+}

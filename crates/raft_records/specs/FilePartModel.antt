@@ -1,5 +1,5 @@
 -- A part of a file as its bytes and where they stand.
-use Rattle.std.specs.Prelude.{ℕ, ◌+◌, ◌^◌, ◌<◌, length}
+use Rattle.std.specs.Prelude.{◌+◌, ◌^◌, ◌<◌, length}
 use Rattle.raft_records.specs.declared.file_part.FilePart.TheInside.{Inside}
 use Rattle.raft_records.specs.FilePart.{Part}
 

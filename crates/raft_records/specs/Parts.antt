@@ -32,6 +32,7 @@ IsInBytes (entries es) = Unit {0}
 IsInBytes (command c) = Unit {0}
 IsInBytes (pair p) = written_value p.op_type p.value ≡ p.value
 
+-- the same of each item
 abbrev pub AreInBytes : List Item → Type 0
 AreInBytes [] = Unit {0}
 AreInBytes (item ∷ items) = IsInBytes item.content × AreInBytes items

@@ -1,10 +1,9 @@
-use Rattle.std.proofs.Common.{◌≡◌, ℕ, ◌+◌, ◌++◌, List, map, take, drop, ap, sym, ◌∙◌, subst, arith, inl, inr}
+use Rattle.std.proofs.Common.{ℕ, ◌+◌, ◌++◌, List, map, take, drop, ap, sym, ◌∙◌, subst, inl, inr}
 use Rattle.std.proofs.lemmas.List.{length-take-le}
 use Rattle.std.proofs.lemmas.Result.{err_from_is_err_and}
-use Rattle.raft_base.specs.Reading.{Reads, HasNoFront}
+use Rattle.raft_base.specs.Reading.{HasNoFront}
 use Rattle.raft_base.specs.Signature.{signature_of}
-use Rattle.raft_records.specs.FilePart.{Part, part_signature, IsNextFault, IsBatchAt, entries_place}
-use Rattle.raft_records.specs.Header.{IsHeader}
+use Rattle.raft_records.specs.FilePart.{Part, part_signature, IsNextFault, entries_place}
 use Rattle.raft_records.specs.ItemBatch.{IsItemBatch, IsItemBatchFault, placed}
 use Rattle.raft_records.specs.LogBatch.{IsReadable}
 use Rattle.raft_records.proofs.PartLemmas.{no_header, cut_short, no_footer, batch_stands, batch_split}

@@ -1,9 +1,7 @@
-//! The records of regions in memory, and how many of them are live.
+//! The tables of all regions, and the contexts that rebuild them from log files.
 #![tactic(auto)]
 
-pub mod global_stats;
-pub mod memtable;
-
-pub use global_stats::GlobalStats;
-pub use memtable::{MemTable, TableChange, is_run};
-pub use raft_records::{EntryIndex, Error, FileBlockHandle, FileId, FileSeq, LogQueue, Result};
+pub use raft_table::{
+    EntryIndex, Error, FileBlockHandle, FileId, FileSeq, GlobalStats, LogQueue, MemTable, Result,
+    TableChange, global_stats, is_run, memtable,
+};

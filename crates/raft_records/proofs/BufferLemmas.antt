@@ -4,8 +4,8 @@ use Rattle.std.proofs.lemmas.List.{length-append, length-drop, length-take-le, t
 use Rattle.byteorder.specs.Endian.{big_bytes}
 use Rattle.raft_base.specs.Checksum.{crc32_of}
 use Rattle.raft_base.proofs.FixedLemmas.{IsReadAgain-big_bytes}
-use Rattle.raft_records.specs.declared.log_batch.CompressionType.{CompressionType}
-use Rattle.raft_records.specs.declared.log_batch.CompressionType.TheVariants as compressions
+use Rattle.raft_records.specs.declared.compression_type.CompressionType.{CompressionType}
+use Rattle.raft_records.specs.declared.compression_type.CompressionType.TheVariants as compressions
 use Rattle.raft_records.specs.Item.{Item}
 use Rattle.raft_records.specs.Grammar.{behind_item}
 use Rattle.raft_records.specs.ItemBatch.{checksum_bytes, batch_bytes, entry_bytes_of, IsEncoded, signed, no_checksum}

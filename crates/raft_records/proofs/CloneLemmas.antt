@@ -2,16 +2,16 @@
 use Rattle.std.proofs.Common.{◌≡◌, ℕ, List, [], ◌∷◌, map, Option, Some, None, Vec, Global, refl, ap, rules}
 use Rattle.std.specs.List.{AllZip, each_same}
 use Rattle.raft_base.specs.declared.pipe_log.FileId.{FileId}
-use Rattle.raft_records.specs.contracts.log_batch.command.CommandClone.TheImpl.{is_clone-value as command_clones}
-use Rattle.raft_records.specs.contracts.log_batch.key_value.KeyValueClone.TheImpl.{is_clone-value as pair_clones}
-use Rattle.raft_records.specs.contracts.log_batch.log_item.LogItemContentClone.TheImpl.{is_clone-value as content_clones}
-use Rattle.raft_records.specs.contracts.log_batch.log_item.LogItemClone.TheImpl.{is_clone-value as item_clones}
-use Rattle.raft_records.specs.declared.log_batch.command.Command.{Command}
-use Rattle.raft_records.specs.declared.log_batch.key_value.KeyValue.{KeyValue}
-use Rattle.raft_records.specs.declared.log_batch.key_value.OpType.{OpType}
-use Rattle.raft_records.specs.declared.log_batch.log_item.LogItem.{LogItem}
-use Rattle.raft_records.specs.declared.log_batch.log_item.LogItemContent.{LogItemContent}
-use Rattle.raft_records.specs.declared.log_batch.log_item.LogItemContent.TheVariants.{EntryIndexes, Command as Commands, Kv}
+use Rattle.raft_records.specs.contracts.command.CommandClone.TheImpl.{is_clone-value as command_clones}
+use Rattle.raft_records.specs.contracts.key_value.KeyValueClone.TheImpl.{is_clone-value as pair_clones}
+use Rattle.raft_records.specs.contracts.log_item.LogItemContentClone.TheImpl.{is_clone-value as content_clones}
+use Rattle.raft_records.specs.contracts.log_item.LogItemClone.TheImpl.{is_clone-value as item_clones}
+use Rattle.raft_records.specs.declared.command.Command.{Command}
+use Rattle.raft_records.specs.declared.key_value.KeyValue.{KeyValue}
+use Rattle.raft_records.specs.declared.key_value.OpType.{OpType}
+use Rattle.raft_records.specs.declared.log_item.LogItem.{LogItem}
+use Rattle.raft_records.specs.declared.log_item.LogItemContent.{LogItemContent}
+use Rattle.raft_records.specs.declared.log_item.LogItemContent.TheVariants.{EntryIndexes, Command as Commands, Kv}
 use Rattle.raft_records.specs.Item.{Item, Content, entries, command, pair, Pair, pair_of, content_of, item_of}
 
 command_clone : (a b : Command) → command_clones.it a b → b ≡ a

@@ -7,8 +7,8 @@ use Rattle.raft_base.specs.Reading.{HasOneFront}
 use Rattle.raft_base.specs.Checksum.{crc32_of}
 use Rattle.raft_base.specs.Varint.{varint}
 use Rattle.raft_base.proofs.FixedLemmas.{IsReadAgain-big_bytes}
-use Rattle.raft_records.specs.declared.log_batch.CompressionType.{CompressionType}
-use Rattle.raft_records.specs.declared.log_batch.CompressionType.TheVariants as compressions
+use Rattle.raft_records.specs.declared.compression_type.CompressionType.{CompressionType}
+use Rattle.raft_records.specs.declared.compression_type.CompressionType.TheVariants as compressions
 use Rattle.raft_records.specs.Item.{Item, Content, entries, command, pair, bare}
 use Rattle.raft_records.specs.Range.{AreInRange}
 use Rattle.raft_records.specs.Spelling.{content_bytes, item_bytes}

@@ -5,8 +5,8 @@ use Rattle.byteorder.specs.Endian.{big_bytes}
 use Rattle.raft_base.specs.Reading.{Reads, HasNoFront}
 use Rattle.raft_base.specs.Fixed.{IsBig}
 use Rattle.raft_base.proofs.FixedLemmas.{IsReadAgain-big_bytes}
-use Rattle.raft_records.specs.declared.log_batch.CompressionType.{CompressionType}
-use Rattle.raft_records.specs.declared.log_batch.CompressionType.TheVariants.{None}
+use Rattle.raft_records.specs.declared.compression_type.CompressionType.{CompressionType}
+use Rattle.raft_records.specs.declared.compression_type.CompressionType.TheVariants.{None}
 use Rattle.raft_records.specs.LogBatch.{header_bytes, compression_byte}
 use Rattle.raft_base.specs.declared.errors.Error.{Error}
 use Rattle.raft_records.specs.Header.{IsHeader, IsCompressionFault, IsPlaceFault, IsWordsFault}

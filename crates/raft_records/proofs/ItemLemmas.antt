@@ -5,10 +5,10 @@ use Rattle.raft_base.specs.Reading.{Reads, HasNoFront, HasOneFront, IsTagged, Is
 use Rattle.raft_base.specs.Varint.{IsVarint}
 use Rattle.raft_base.proofs.VarintLemmas.{varint_one_front}
 use Rattle.raft_base.proofs.ReadingLemmas.{reads_as, reads_tagged, reads_pair, no_first, no_second, second_at, pair_one_front, heads, tagged_at, no_tagged, tagged_same, tagged_one_front}
-use Rattle.raft_records.specs.declared.log_batch.command.Command.TheVariants.{Compact}
+use Rattle.raft_records.specs.declared.command.Command.TheVariants.{Compact}
 use Rattle.raft_base.specs.declared.pipe_log.FileId.{FileId}
-use Rattle.raft_records.specs.declared.log_batch.key_value.OpType.{OpType}
-use Rattle.raft_records.specs.declared.log_batch.key_value.OpType.TheVariants.{Put, Del}
+use Rattle.raft_records.specs.declared.key_value.OpType.{OpType}
+use Rattle.raft_records.specs.declared.key_value.OpType.TheVariants.{Put, Del}
 use Rattle.raft_records.specs.Item.{Pair}
 use Rattle.raft_records.specs.Spelling.{Keeps}
 use Rattle.raft_records.specs.Grammar.{IsCommand, IsText, IsByteString, IsKeyAndValue, IsKeyValue, IsPairOf, IsPutRead, IsDelRead}

@@ -5,11 +5,11 @@ use Rattle.raft_base.specs.Reading.{IsSequence}
 use Rattle.raft_base.proofs.VarintLemmas.{varint_lt}
 use Rattle.raft_base.specs.declared.pipe_log.FileBlockHandle.{FileBlockHandle}
 use Rattle.raft_base.specs.declared.pipe_log.FileId.{FileId}
-use Rattle.raft_records.specs.declared.log_batch.CompressionType.{CompressionType}
-use Rattle.raft_records.specs.declared.log_batch.command.Command.{Command}
-use Rattle.raft_records.specs.declared.log_batch.command.Command.TheVariants.{Clean, Compact}
-use Rattle.raft_records.specs.declared.log_batch.key_value.OpType.{OpType}
-use Rattle.raft_records.specs.declared.log_batch.key_value.OpType.TheVariants.{Put, Del}
+use Rattle.raft_records.specs.declared.compression_type.CompressionType.{CompressionType}
+use Rattle.raft_records.specs.declared.command.Command.{Command}
+use Rattle.raft_records.specs.declared.command.Command.TheVariants.{Clean, Compact}
+use Rattle.raft_records.specs.declared.key_value.OpType.{OpType}
+use Rattle.raft_records.specs.declared.key_value.OpType.TheVariants.{Put, Del}
 use Rattle.raft_records.specs.Item.{Item, Content, entries, command, pair}
 use Rattle.raft_records.specs.Range.{HasIndex, HasLength, IsContentInRange, AreInRange}
 use Rattle.raft_records.specs.Grammar.{IsCommand, IsPairOf, IsContent, IsItem, behind_item}

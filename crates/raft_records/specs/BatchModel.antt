@@ -1,6 +1,6 @@
 -- A batch of items as its list of items.
 use Rattle.std.specs.Prelude.{List, map}
-use Rattle.raft_records.specs.declared.log_batch.log_item_batch.LogItemBatch.TheInside.{Inside}
+use Rattle.raft_records.specs.declared.log_item_batch.LogItemBatch.TheInside.{Inside}
 use Rattle.raft_records.specs.Item.{Item, item_of}
 use Rattle.raft_records.specs.ItemBatch.{IsKeptBeside}
 

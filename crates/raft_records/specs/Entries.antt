@@ -1,7 +1,7 @@
 -- Lists of entries of one region.
 use Rattle.std.specs.Prelude.{◌≡◌, ℕ, ◌+◌, ◌-◌, ◌^◌, ◌<◌, List, [], ◌∷◌, length, None}
-use Rattle.raft_records.specs.declared.log_batch.CompressionType.TheVariants as compressions
-use Rattle.raft_records.specs.declared.log_batch.entry_index.EntryIndex.{EntryIndex}
+use Rattle.raft_records.specs.declared.compression_type.CompressionType.TheVariants as compressions
+use Rattle.raft_records.specs.declared.entry_index.EntryIndex.{EntryIndex}
 
 -- index 0, without bytes and without a place
 abbrev pub no_entry : EntryIndex

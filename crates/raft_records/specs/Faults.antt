@@ -9,7 +9,7 @@ use Rattle.raft_base.specs.declared.message.MessageError.TheVariants as messages
 use Rattle.raft_base.specs.Errors.{IsIoOf}
 use Rattle.raft_base.specs.Reading.{IsFaultBehind, IsSequenceFault}
 use Rattle.raft_base.specs.Varint.{IsVarint, IsVarintFault}
-use Rattle.raft_records.specs.declared.log_batch.entry_index.EntryIndex.{EntryIndex}
+use Rattle.raft_records.specs.declared.entry_index.EntryIndex.{EntryIndex}
 use Rattle.raft_records.specs.Item.{Pair, Item}
 use Rattle.raft_records.specs.Entries.{AreWritable}
 use Rattle.raft_records.specs.Grammar.{IsByteString, IsTail, behind_entry}

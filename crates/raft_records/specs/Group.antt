@@ -4,9 +4,9 @@ use Rattle.std.specs.Fmt.{decimal}
 use Rattle.raft_base.specs.declared.errors.Error.{Error}
 use Rattle.raft_base.specs.declared.errors.Error.TheVariants as errors
 use Rattle.raft_base.specs.declared.message.MessageError.TheVariants as messages
-use Rattle.raft_records.specs.declared.log_batch.status.AtomicGroupStatus.{AtomicGroupStatus}
-use Rattle.raft_records.specs.declared.log_batch.status.AtomicGroupStatus.TheVariants.{Begin, Middle, End}
-use Rattle.raft_records.specs.declared.log_batch.key_value.OpType.TheVariants.{Put}
+use Rattle.raft_records.specs.declared.atomic_group.AtomicGroupStatus.{AtomicGroupStatus}
+use Rattle.raft_records.specs.declared.atomic_group.AtomicGroupStatus.TheVariants.{Begin, Middle, End}
+use Rattle.raft_records.specs.declared.key_value.OpType.TheVariants.{Put}
 use Rattle.raft_records.specs.Faults.{IsMemory, IsCorruption}
 use Rattle.raft_records.specs.Item.{Item, Content, entries, command, pair, Pair, pair_item}
 
@@ -21,34 +21,34 @@ status_byte Middle = 1
 status_byte End = 2
 
 -- the mark of a group: a Put of the reserved key, the group's id in the place of a region's
-abbrev pub mark_item : ℕ → AtomicGroupStatus → Item
-mark_item id status = pair_item id Put reserved_key (Some (status_byte status ∷ []))
+abbrev pub group_marker_item : ℕ → AtomicGroupStatus → Item
+group_marker_item id status = pair_item id Put reserved_key (Some (status_byte status ∷ []))
 
 -- a Put of the reserved key whose value is this one byte
-pub record IsMark (p : Pair) (byte : ℕ) : Type 0 where
+pub record IsGroupMarker (p : Pair) (byte : ℕ) : Type 0 where
   pub put : p.op_type ≡ Put
   pub key : p.key ≡ reserved_key
   pub value : p.value ≡ Some (byte ∷ [])
 
 -- a content that is a mark with this byte
-abbrev pub IsMarkContent : Content → ℕ → Type 0
-IsMarkContent (pair p) byte = IsMark p byte
-IsMarkContent (entries es) byte = ⊥
-IsMarkContent (command c) byte = ⊥
+abbrev pub IsGroupMarkerContent : Content → ℕ → Type 0
+IsGroupMarkerContent (pair p) byte = IsGroupMarker p byte
+IsGroupMarkerContent (entries es) byte = ⊥
+IsGroupMarkerContent (command c) byte = ⊥
 
 -- what an item says of groups: the group and its status where it is a mark, else nothing
-abbrev pub IsMarkRead : Item → Option (ℕ × AtomicGroupStatus) → Type 0
-IsMarkRead item None = (byte : ℕ) → IsMarkContent item.content byte → ⊥
-IsMarkRead item (Some read) = (read.0 ≡ item.raft_group_id) × IsMarkContent item.content (status_byte read.1)
+abbrev pub IsGroupMarkerRead : Item → Option (ℕ × AtomicGroupStatus) → Type 0
+IsGroupMarkerRead item None = (byte : ℕ) → IsGroupMarkerContent item.content byte → ⊥
+IsGroupMarkerRead item (Some read) = (read.0 ≡ item.raft_group_id) × IsGroupMarkerContent item.content (status_byte read.1)
 
 -- a byte that stands for no status
 abbrev pub IsStatusFault : ℕ → Error → Type 0
 IsStatusFault byte e = (2 < byte) × IsCorruption (codes "Unrecognized atomic group status: " ++ decimal byte) e
 
 -- a mark whose byte stands for no status
-pub record IsMarkFault (item : Item) (e : Error) : Type 0 where
+pub record IsGroupMarkerFault (item : Item) (e : Error) : Type 0 where
   pub byte : ℕ
-  pub mark : IsMarkContent item.content byte
+  pub mark : IsGroupMarkerContent item.content byte
   pub fault : IsStatusFault byte e
 
 -- a group that is being written: its id, and the last mark that was added, if any

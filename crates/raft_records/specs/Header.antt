@@ -3,7 +3,7 @@ use Rattle.std.specs.Prelude.{◌≡◌, ◌≢◌, ℕ, ◌/◌, ◌%◌, ◌^�
 use Rattle.std.specs.Fmt.{decimal}
 use Rattle.byteorder.specs.Endian.{big_bytes}
 use Rattle.raft_base.specs.declared.errors.Error.{Error}
-use Rattle.raft_records.specs.declared.log_batch.CompressionType.{CompressionType}
+use Rattle.raft_records.specs.declared.compression_type.CompressionType.{CompressionType}
 use Rattle.raft_records.specs.Faults.{IsMemory, IsCorruption, IsAnyCorruption}
 use Rattle.raft_records.specs.ItemBatch.{IsSealed, IsSealFault}
 use Rattle.raft_records.specs.LogBatch.{header_bytes}

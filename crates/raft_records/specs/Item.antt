@@ -2,15 +2,15 @@
 use Rattle.std.specs.Prelude.{ℕ, List, map, Option, None}
 use Rattle.std.specs.Option.{option_map}
 use Rattle.raft_base.specs.declared.pipe_log.FileId.{FileId}
-use Rattle.raft_records.specs.declared.log_batch.CompressionType.TheVariants as compressions
-use Rattle.raft_records.specs.declared.log_batch.command.Command.{Command}
-use Rattle.raft_records.specs.declared.log_batch.entry_index.EntryIndex.{EntryIndex}
-use Rattle.raft_records.specs.declared.log_batch.key_value.OpType.{OpType}
-use Rattle.raft_records.specs.declared.log_batch.key_value.OpType.TheVariants.{Put, Del}
-use Rattle.raft_records.specs.declared.log_batch.key_value.KeyValue.{KeyValue}
-use Rattle.raft_records.specs.declared.log_batch.log_item.LogItem.{LogItem}
-use Rattle.raft_records.specs.declared.log_batch.log_item.LogItemContent.{LogItemContent}
-use Rattle.raft_records.specs.declared.log_batch.log_item.LogItemContent.TheVariants as contents
+use Rattle.raft_records.specs.declared.compression_type.CompressionType.TheVariants as compressions
+use Rattle.raft_records.specs.declared.command.Command.{Command}
+use Rattle.raft_records.specs.declared.entry_index.EntryIndex.{EntryIndex}
+use Rattle.raft_records.specs.declared.key_value.OpType.{OpType}
+use Rattle.raft_records.specs.declared.key_value.OpType.TheVariants.{Put, Del}
+use Rattle.raft_records.specs.declared.key_value.KeyValue.{KeyValue}
+use Rattle.raft_records.specs.declared.log_item.LogItem.{LogItem}
+use Rattle.raft_records.specs.declared.log_item.LogItemContent.{LogItemContent}
+use Rattle.raft_records.specs.declared.log_item.LogItemContent.TheVariants as contents
 
 -- a change of one key
 pub record Pair : Type 0 where

@@ -8,8 +8,8 @@ use Rattle.raft_base.specs.declared.pipe_log.FileBlockHandle.{FileBlockHandle}
 use Rattle.raft_base.specs.Reading.{IsPair, IsSequence, IsFaultBehind, IsSequenceFault}
 use Rattle.raft_base.specs.Checksum.{crc32_of}
 use Rattle.raft_base.specs.Varint.{IsVarint, varint}
-use Rattle.raft_records.specs.declared.log_batch.CompressionType.{CompressionType}
-use Rattle.raft_records.specs.declared.log_batch.entry_index.EntryIndex.{EntryIndex}
+use Rattle.raft_records.specs.declared.compression_type.CompressionType.{CompressionType}
+use Rattle.raft_records.specs.declared.entry_index.EntryIndex.{EntryIndex}
 use Rattle.raft_records.specs.Item.{Item, Content, entries, command, pair}
 use Rattle.raft_records.specs.Entries.{IsConsecutive, Tile}
 use Rattle.raft_records.specs.Grammar.{IsItem, behind_item}

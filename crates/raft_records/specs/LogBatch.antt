@@ -2,12 +2,12 @@
 use Rattle.std.specs.Prelude.{◌≡◌, ℕ, ◌+◌, ◌*◌, ◌^◌, ◌<◌, ◌≤◌, List, [], ◌∷◌, ◌++◌, map, length, Option, None}
 use Rattle.byteorder.specs.Endian.{big_bytes}
 use Rattle.raft_base.specs.declared.pipe_log.FileBlockHandle.{FileBlockHandle}
-use Rattle.raft_records.specs.declared.log_batch.CompressionType.{CompressionType}
-use Rattle.raft_records.specs.declared.log_batch.CompressionType.TheVariants as compressions
+use Rattle.raft_records.specs.declared.compression_type.CompressionType.{CompressionType}
+use Rattle.raft_records.specs.declared.compression_type.CompressionType.TheVariants as compressions
 use Rattle.std.specs.List.{concat}
 use Rattle.raft_base.specs.declared.errors.Error.{Error}
 use Rattle.raft_base.specs.declared.errors.Error.TheVariants as errors
-use Rattle.raft_records.specs.declared.log_batch.entry_index.EntryIndex.{EntryIndex}
+use Rattle.raft_records.specs.declared.entry_index.EntryIndex.{EntryIndex}
 use Rattle.raft_records.specs.Entries.{IsConsecutive, with_lengths}
 use Rattle.raft_records.specs.Faults.{IsMemoryOrMessage}
 use Rattle.raft_records.specs.Item.{Item, entries_item}

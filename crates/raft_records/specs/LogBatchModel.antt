@@ -1,7 +1,7 @@
 -- A log batch as its items, its entry bytes and its stage.
-use Rattle.raft_records.specs.declared.log_batch.batch.BufState.{BufState}
-use Rattle.raft_records.specs.declared.log_batch.batch.BufState.TheVariants as states
-use Rattle.raft_records.specs.declared.log_batch.batch.LogBatch.TheInside.{Inside}
+use Rattle.raft_records.specs.declared.log_batch.BufState.{BufState}
+use Rattle.raft_records.specs.declared.log_batch.BufState.TheVariants as states
+use Rattle.raft_records.specs.declared.log_batch.LogBatch.TheInside.{Inside}
 use Rattle.raft_records.specs.LogBatch.{Stage, populating, encoded, sealed, Batch}
 use Rattle.raft_records.specs.Buffer.{entry_bytes_in, IsHeld}
 

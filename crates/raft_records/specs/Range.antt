@@ -1,7 +1,7 @@
 -- Items whose numbers are those of their types, as the numbers of every item in memory are.
 use Rattle.std.specs.Prelude.{ℕ, ◌^◌, ◌<◌, List, [], ◌∷◌, length, Option, Some, None}
-use Rattle.raft_records.specs.declared.log_batch.command.Command.{Command}
-use Rattle.raft_records.specs.declared.log_batch.command.Command.TheVariants.{Clean, Compact}
+use Rattle.raft_records.specs.declared.command.Command.{Command}
+use Rattle.raft_records.specs.declared.command.Command.TheVariants.{Clean, Compact}
 use Rattle.raft_records.specs.Item.{Item, Content, entries, command, pair}
 
 -- a command's index is a u64

@@ -2,11 +2,11 @@
 use Rattle.std.specs.Prelude.{◌≡◌, ℕ, List, [], ◌∷◌, ◌++◌, length, Option, Some, None}
 use Rattle.std.specs.List.{flat_map}
 use Rattle.raft_base.specs.Varint.{varint}
-use Rattle.raft_records.specs.declared.log_batch.command.Command.{Command}
-use Rattle.raft_records.specs.declared.log_batch.command.Command.TheVariants.{Clean, Compact}
-use Rattle.raft_records.specs.declared.log_batch.entry_index.EntryIndex.{EntryIndex}
-use Rattle.raft_records.specs.declared.log_batch.key_value.OpType.{OpType}
-use Rattle.raft_records.specs.declared.log_batch.key_value.OpType.TheVariants.{Put}
+use Rattle.raft_records.specs.declared.command.Command.{Command}
+use Rattle.raft_records.specs.declared.command.Command.TheVariants.{Clean, Compact}
+use Rattle.raft_records.specs.declared.entry_index.EntryIndex.{EntryIndex}
+use Rattle.raft_records.specs.declared.key_value.OpType.{OpType}
+use Rattle.raft_records.specs.declared.key_value.OpType.TheVariants.{Put}
 use Rattle.raft_records.specs.Item.{Item, Content, entries, command, pair, Pair}
 use Rattle.raft_records.specs.Entries.{AreWritable}
 use Rattle.raft_records.specs.Grammar.{op_type_byte, tail_of}

@@ -5,8 +5,8 @@ ghost use Rattle.raft_base.specs.Reading.{HasNoFront};
 ghost use Rattle.raft_records.specs.FilePart.{IsPartRefusal, IsNext, IsNextFault, part_signature};
 ghost use Rattle.raft_records.specs.LogBatch.{IsReadable};
 
-use crate::log_batch::LogItemBatch;
-use crate::log_batch::header::{HEADER_LEN, header_front};
+use crate::LogItemBatch;
+use crate::header::{HEADER_LEN, header_front};
 use raft_base::{Error, FileBlockHandle, FileId, LogFileContext, Result, Version};
 use std::marker::Model;
 

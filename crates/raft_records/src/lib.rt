@@ -1,17 +1,32 @@
 //! Log records: items, batches of items, and their bytes.
 #![tactic(auto)]
 
+pub mod atomic_group;
+mod checksum;
+pub mod command;
+pub mod compression_type;
+pub mod entry_index;
 pub mod file_part;
+pub(crate) mod header;
+pub mod key_value;
+pub mod laws;
 pub mod log_batch;
+pub mod log_item;
+pub mod log_item_batch;
 pub mod print;
 pub mod run;
+#[cfg(test)]
+mod tests;
 
+pub use atomic_group::{ATOMIC_GROUP_KEY, AtomicGroupBuilder, AtomicGroupStatus};
+pub use command::Command;
+pub use compression_type::CompressionType;
+pub use entry_index::{EntryIndex, EntryIndexes, is_consecutive};
 pub use file_part::{FilePart, next_batch};
-pub use log_batch::{
-    ATOMIC_GROUP_KEY, AtomicGroupBuilder, AtomicGroupStatus, Command, CompressionType, EntryIndex,
-    EntryIndexes, KeyValue, LogBatch, LogItem, LogItemBatch, LogItemContent, OpType,
-    is_consecutive,
-};
+pub use key_value::{KeyValue, OpType};
+pub use log_batch::LogBatch;
+pub use log_item::{LogItem, LogItemContent};
+pub use log_item_batch::LogItemBatch;
 pub use print::print_batch;
 pub use raft_base::{
     B, Error, Factory, FileBlockHandle, FileId, FileSeq, GIB, KIB, LogFileContext, LogQueue, MIB,

@@ -8,7 +8,7 @@ ghost use Rattle.raft_records.specs.Grammar.{tail_of};
 ghost use Rattle.raft_records.specs.Item.{item_of, content_of, pair_of};
 ghost use Rattle.raft_records.specs.Lines.{bytes_text, entries_text, command_text, pair_text, content_text, line_of, counts_line, IsTextOf, Prints, IsNoItemBatch, IsPrintFault, IsWriteFailure, IsIoError};
 
-use crate::log_batch::{
+use crate::{
     Command, CompressionType, EntryIndex, KeyValue, LogItem, LogItemBatch, LogItemContent, OpType,
 };
 use raft_base::{Error, FileBlockHandle, LogFileContext, Result};

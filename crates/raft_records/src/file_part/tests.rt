@@ -1,7 +1,7 @@
 //! Batches read one after another, whole and damaged.
 
 use super::{FilePart, next_batch};
-use crate::log_batch::LogItemContent;
+use crate::LogItemContent;
 use raft_base::{Error, FileBlockHandle, FileId, LogQueue, Result, Version};
 use std::alloc::Global;
 

@@ -1,363 +1,422 @@
-//! Items and batches of items, as the Rust crate writes and reads them.
+//! Batches of items and entry bytes, as the Rust crate makes them.
 
-ghost use Rattle.std.specs.Prelude.{◌≡◌};
+ghost use Rattle.std.specs.Prelude.{◌≡◌, [], IfOk, OnOk, OnErr};
+ghost use Rattle.raft_records.specs.LogBatch.{populating};
 
-mod refusals;
+mod rows;
 
-use super::*;
-use raft_base::{Error, FileBlockHandle, FileId, LogFileContext, LogQueue, Result, Version};
+use crate::tests::is_only_refusal;
+use crate::{
+    Command, CompressionType, EntryIndex, LogBatch, LogItem, LogItemBatch, LogItemContent,
+};
+use raft_base::{
+    Error, FileBlockHandle, FileId, LogFileContext, LogQueue, Message, MessageError, MessageExt,
+    ReactiveBytes, Result, Version,
+};
+use rows::Row;
 use std::alloc::Global;
 
-/// Whether this is the first refusal of memory in a test; each is run with one refusal at most.
-pub(crate) fn is_only_refusal(error: &Error, refused: &mut bool) -> bool {
-    let is_first = !*refused;
-    *refused = true;
-    is_first && matches!(error, Error::Memory)
+/// A line of a log, which refuses to write itself where it has no text.
+#[derive(Clone, Copy, PartialEq, Eq, Debug)]
+struct Line {
+    index: u64,
+    text: &'static [u8],
 }
 
-/// Whether these bytes were written, or nothing was for want of memory.
-fn is_written(written: Result<()>, buf: &Vec<u8>, bytes: &[u8], refused: &mut bool) -> bool {
-    match written {
-        Ok(()) => buf.as_slice() == bytes,
-        Err(e) => is_only_refusal(&e, refused) && buf.is_empty(),
-    }
-}
+impl Message for Line {
+    ghost bytes_of = { λ line. line.text.now };
 
-#[test]
-fn commands(rt: HostRuntime) {
-    let mut refused = false;
-    for (command, bytes) in [
-        (Command::Clean, b"\x01".as_slice()),
-        (Command::Compact { index: 7 }, b"\x02\x07".as_slice()),
-        (Command::Compact { index: 300 }, b"\x02\xac\x02".as_slice()),
-        (
-            Command::Compact { index: u64::MAX },
-            b"\x02\xff\xff\xff\xff\xff\xff\xff\xff\xff\x01".as_slice(),
-        ),
-    ] {
-        let mut buf = Vec::new(rt.alloc());
-        let written = command.encode(&mut buf);
-        assert!(rt; is_written(written, &buf, bytes, &mut refused));
-        let mut rest = bytes;
-        let read = Command::decode(rt.alloc(), &mut rest);
-        assert!(rt; matches!(&read, Ok(same) if *same == command));
-    }
-}
+    ghost refuses = { λ line code. (line.text.now ≡ []) × (code ≡ 7) };
 
-/// A change of one key.
-fn key_value(alloc: Global, op_type: OpType, key: &[u8], value: Option<&[u8]>) -> Result<KeyValue> {
-    let key = Vec::from_slice(alloc, key)?;
-    let value = match value {
-        Some(value) => Some(Vec::from_slice(alloc, value)?),
-        None => None,
-    };
-    Ok(KeyValue::new(op_type, key, value))
-}
-
-#[test]
-fn key_values(rt: HostRuntime) {
-    let mut refused = false;
-    let put = b"\x01\x03\x70\x75\x74\x05\x70\x75\x74\x5f\x76".as_slice();
-    let del = b"\x02\x03\x64\x65\x6c".as_slice();
-    let mut long_put = [0xff; 135];
-    long_put[..5].copy_from_slice(b"\x01\x01k\x82\x01");
-    for (op_type, key, value, bytes) in [
-        (OpType::Put, "put", Some(b"put_v".as_slice()), put),
-        (
-            OpType::Put,
-            "",
-            Some(b"".as_slice()),
-            b"\x01\x00\x00".as_slice(),
-        ),
-        (
-            OpType::Put,
-            "k",
-            Some([0xff; 130].as_slice()),
-            long_put.as_slice(),
-        ),
-        (OpType::Del, "del", None, del),
-        (OpType::Del, "del", Some(b"del_v".as_slice()), del),
-        (OpType::Del, "", None, b"\x02\x00".as_slice()),
-    ] {
-        let mut buf = Vec::new(rt.alloc());
-        let written = match key_value(rt.alloc(), op_type, key.as_bytes(), value) {
-            Ok(kv) => kv.encode(rt.alloc(), &mut buf),
-            Err(e) => Err(e),
-        };
-        assert!(rt; is_written(written, &buf, bytes, &mut refused));
-    }
-}
-
-/// Entries of these lengths, one behind the other, the first with this index.
-fn run_of(alloc: Global, first: u64, lengths: &[u32]) -> Result<EntryIndexes> {
-    let mut entries = Vec::new(alloc);
-    let mut index = first;
-    let mut entry_offset = 0u32;
-    for entry_len in lengths {
-        entries.push(EntryIndex {
-            index,
-            entry_offset,
-            entry_len: *entry_len,
-            ..EntryIndex::default()
-        })?;
-        index = index.wrapping_add(1);
-        entry_offset = entry_offset.saturating_add(*entry_len);
-    }
-    Ok(EntryIndexes(entries))
-}
-
-/// The first index and the lengths of entries, and their bytes.
-const ENTRIES: [(u64, &[u32], &[u8]); 7] = [
-    (0, &[], b"\x00"),
-    (10, &[1, 1, 1], b"\x03\x0a\x01\x02\x03"),
-    (10, &[2, 1], b"\x02\x0a\x02\x03"),
-    (7, &[0, 0, 5, 0], b"\x04\x07\x00\x00\x05\x05"),
-    (
-        300,
-        &[128, 16_384, 1],
-        b"\x03\xac\x02\x80\x01\x80\x81\x01\x81\x81\x01",
-    ),
-    (
-        18_446_744_073_709_551_614,
-        &[1],
-        b"\x01\xfe\xff\xff\xff\xff\xff\xff\xff\xff\x01\x01",
-    ),
-    (
-        1 << 56,
-        &[u32::MAX],
-        b"\x01\x80\x80\x80\x80\x80\x80\x80\x80\x01\xff\xff\xff\xff\x0f",
-    ),
-];
-
-#[test]
-fn entries_are_their_tail_offsets(rt: HostRuntime) {
-    let mut refused = false;
-    for (first, lengths, bytes) in ENTRIES {
-        let mut buf = Vec::new(rt.alloc());
-        let written = match run_of(rt.alloc(), first, lengths) {
-            Ok(entries) => entries.encode(rt.alloc(), &mut buf),
-            Err(e) => Err(e),
-        };
-        assert!(rt; is_written(written, &buf, bytes, &mut refused));
-    }
-}
-
-/// What is read in front of bytes.
-#[derive(Clone, Copy)]
-enum Read {
-    /// An item, behind which so many entry bytes and so many bytes are.
-    Item(u32, usize),
-    /// A type that none is known of, in the words of the refusal.
-    Unrecognized(&'static str),
-    Corruption,
-    Codec,
-    Io,
-}
-
-/// Whether this is read in front of the bytes, and an item is written as it was read.
-fn is_item_row(alloc: Global, bytes: &[u8], read: Read, refused: &mut bool) -> bool {
-    let mut rest = bytes;
-    let mut size = 0;
-    match LogItem::decode(alloc, &mut rest, &mut size) {
-        Ok(item) => {
-            let mut buf = Vec::new(alloc);
-            let written = item.encode(alloc, &mut buf);
-            let front = bytes.strip_suffix(rest).unwrap_or(bytes);
-            matches!(read, Read::Item(end, left) if size == end && rest.len() == left)
-                && is_written(written, &buf, front, refused)
+    fn write_to_vec(&self, buf: &mut Vec<u8>) -> std::result::Result<(), MessageError> {
+        if self.text.is_empty() {
+            return Err(MessageError::Refused(7));
         }
-        Err(e) => match (read, &e) {
-            (Read::Unrecognized(text), Error::Corruption(found)) => found.as_str() == text,
-            (Read::Corruption, Error::Corruption(_)) => true,
-            (Read::Codec, Error::Codec(_)) => true,
-            (Read::Io, Error::Io(_)) => true,
-            _ => is_only_refusal(&e, refused),
-        },
+        match buf.extend_from_slice(self.text) {
+            Ok(()) => Ok(()),
+            Err(_) => Err(MessageError::Memory),
+        }
     }
 }
 
-/// Bytes, and what is read in front of them.
-const ITEMS: [(&[u8], Read); 31] = [
-    (b"", Read::Codec),
-    (b"\x01", Read::Io),
-    (b"\x01\x01", Read::Codec),
-    (b"\x01\x01\x02", Read::Codec),
-    (b"\x01\x01\x02\x01", Read::Codec),
-    (b"\x01\x02\x01", Read::Item(0, 0)),
-    (b"\x01\x02\x02", Read::Codec),
-    (
-        b"\x01\x02\x03",
-        Read::Unrecognized("Unrecognized command type: 3"),
-    ),
-    (b"\x01\x01\x02\x07", Read::Codec),
-    (b"\x01\x02", Read::Codec),
-    (
-        b"\x01\x02\x07",
-        Read::Unrecognized("Unrecognized command type: 7"),
-    ),
-    (b"\x01\x02\x02\x07", Read::Item(0, 0)),
-    (b"\x01\x03", Read::Codec),
-    (b"\x01\x03\x01", Read::Codec),
-    (b"\x01\x03\x01\x03put", Read::Codec),
-    (b"\x01\x03\x02\x00", Read::Item(0, 0)),
-    (b"\x01\x03\x02", Read::Codec),
-    (
-        b"\x01\x03\x00",
-        Read::Unrecognized("Unrecognized op type: 0"),
-    ),
-    (
-        b"\x01\x03\x03",
-        Read::Unrecognized("Unrecognized op type: 3"),
-    ),
-    (b"\x01\x03\x01\x03put\x05put_v", Read::Item(0, 0)),
-    (b"\x01\x03\x01\x05p", Read::Corruption),
-    (
-        b"\x01\x04",
-        Read::Unrecognized("Unrecognized log item type: 4"),
-    ),
-    (
-        b"\x01\x00",
-        Read::Unrecognized("Unrecognized log item type: 0"),
-    ),
-    (b"\x80\x01\x02\x01", Read::Item(0, 0)),
-    (b"\x01\x01\x03\x01", Read::Codec),
-    (b"\x01\x01\x00\x0a", Read::Item(0, 1)),
-    (b"\x01\x01\x02\x0a\x01\x05", Read::Item(5, 0)),
-    (b"\x01\x01\x03\x0a\x01\x02\x03", Read::Item(3, 0)),
-    (b"\x01\x01\x02\x05\x03\x02", Read::Corruption),
-    (
-        b"\x01\x01\x01\xfe\xff\xff\xff\xff\xff\xff\xff\xff\x01\x01",
-        Read::Item(1, 0),
-    ),
-    (
-        b"\x01\x01\x02\xfe\xff\xff\xff\xff\xff\xff\xff\xff\x01\x01\x01",
-        Read::Corruption,
-    ),
-];
+/// Logs of lines.
+struct Lines;
 
-#[test]
-fn items(rt: HostRuntime) {
-    let mut refused = false;
-    for (bytes, read) in ITEMS {
-        assert!(rt;
-            is_item_row(rt.alloc(), bytes, read, &mut refused),
-            "at {bytes:?}"
-        );
+impl MessageExt for Lines {
+    type Entry = Line;
+
+    ghost index_of = { λ line. line.index };
+
+    fn index(line: &Line) -> u64 {
+        line.index
     }
 }
 
-/// The batch's bytes in a file of the append queue.
-fn sealed(alloc: Global, batch: &mut LogItemBatch, seq: u64, version: Version) -> Result<Vec<u8>> {
-    let context = LogFileContext::new(FileId::new(LogQueue::Append, seq), version);
-    let mut buf = Vec::new(alloc);
-    batch.encode(&mut buf)?;
-    batch.prepare_write(buf.as_mut_slice(), &context);
-    Ok(buf)
+/// A line of a log.
+const fn line_of(index: u64, text: &'static [u8]) -> Line {
+    Line { index, text }
 }
 
-/// Whether these are the bytes, or there was no memory for them.
-fn is_sealed_so(sealed: Result<Vec<u8>>, bytes: &[u8], refused: &mut bool) -> bool {
-    match sealed {
-        Ok(buf) => buf.as_slice() == bytes,
-        Err(e) => is_only_refusal(&e, refused),
-    }
-}
-
-/// Whether these bytes are a batch without items in the file. It takes no memory to read one.
-fn is_empty_batch(alloc: Global, bytes: &[u8], seq: u64, version: Version) -> bool {
-    let context = LogFileContext::new(FileId::new(LogQueue::Append, seq), version);
-    let place = FileBlockHandle {
-        id: context.id,
-        offset: 0,
-        len: 0,
-    };
-    let mut rest = bytes;
-    match LogItemBatch::decode(alloc, &mut rest, place, CompressionType::None, &context) {
-        Ok(batch) => batch.into_items().is_empty() && rest.is_empty(),
-        Err(_refusal) => false,
-    }
-}
-
-#[test]
-fn empty_batch(rt: HostRuntime) {
-    let mut refused = false;
-    let mut batch = LogItemBatch::default(rt.alloc());
-    assert!(rt; batch.approximate_size() == 12);
-    for (seq, version, bytes) in [
-        (12, Version::V1, b"\x00\x8d\xef\x02\xd2"),
-        (12, Version::V2, b"\x00\x81\xef\x02\xd2"),
-        (13, Version::V2, b"\x00\x80\xef\x02\xd2"),
-        (0x1_0000_000c, Version::V2, b"\x00\x81\xef\x02\xd2"),
-        (u64::MAX, Version::V2, b"\x00\x72\x10\xfd\x2d"),
-    ] {
-        let written = sealed(rt.alloc(), &mut batch, seq, version);
-        assert!(rt; is_sealed_so(written, bytes, &mut refused));
-        assert!(rt; is_empty_batch(rt.alloc(), bytes, seq, version));
-        assert!(rt; !is_empty_batch(rt.alloc(), bytes, seq ^ 1, Version::V2));
-    }
-}
-
-/// A put and a delete, as one batch.
-fn put_and_delete(alloc: Global) -> Result<LogItemBatch> {
-    let mut batch = LogItemBatch::with_capacity(alloc, 2)?;
-    let key = Vec::from_slice(alloc, b"put")?;
-    batch.put(1, key, Vec::from_slice(alloc, b"put_v")?)?;
-    batch.delete(1, Vec::new(alloc))?;
-    Ok(batch)
-}
-
-/// An entry of one byte.
+/// An entry without bytes.
 fn entry(index: u64) -> EntryIndex
-    ensures index { result.index ≡ index }
-    ensures len { result.entry_len ≡ 1 }
+    ensures { result.index ≡ index }
 {
     EntryIndex {
         index,
-        entry_len: 1,
         ..EntryIndex::default()
     }
 }
 
-/// Three entries of region 7 and, in a batch that was merged into theirs, two of region 8.
-fn merged(alloc: Global) -> Result<LogItemBatch> {
-    let mut batch = LogItemBatch::default(alloc);
-    batch.add_entry_indexes(
-        7,
-        Vec::from_slice(alloc, &[entry(10), entry(11), entry(12)])?,
-    )?;
-    let mut behind = LogItemBatch::default(alloc);
-    behind.add_entry_indexes(8, Vec::from_slice(alloc, &[entry(1), entry(2)])?)?;
-    batch.merge(&mut behind)?;
+/// A batch with a command.
+fn with_command(alloc: Global, region_id: u64, command: Command) -> Result<LogBatch>
+    ensures { IfOk result (λ batch. batch.stage ≡ populating) }
+{
+    let mut batch = LogBatch::default(alloc);
+    batch.add_command(region_id, command)?;
     Ok(batch)
 }
 
-/// The batch's approximate size, its bytes in the file 12, and how many items it hands out.
-fn drained(alloc: Global, built: Result<LogItemBatch>) -> Result<(usize, Vec<u8>, usize)> {
-    let mut batch = built?;
-    let bytes = sealed(alloc, &mut batch, 12, Version::V1)?;
-    Ok((batch.approximate_size(), bytes, batch.drain().count()))
+/// A batch with a put and a delete.
+fn with_key_values(alloc: Global) -> Result<LogBatch>
+    ensures { IfOk result (λ batch. batch.stage ≡ populating) }
+{
+    let mut batch = LogBatch::with_capacity(alloc, 2)?;
+    let key = Vec::from_slice(alloc, b"put")?;
+    batch.put_message(1, key, &line_of(0, b"put_v"))?;
+    batch.delete(1, Vec::new(alloc))?;
+    Ok(batch)
+}
+
+/// A batch with entries.
+fn with_lines(alloc: Global, region_id: u64, lines: &[Line]) -> Result<LogBatch>
+    ensures { IfOk result (λ batch. batch.stage ≡ populating) }
+{
+    let mut batch = LogBatch::default(alloc);
+    batch.add_entries::<Lines>(region_id, lines)?;
+    Ok(batch)
+}
+
+/// A batch with three entries, of which one has no bytes, and one item of each other kind.
+fn with_one_of_each(alloc: Global) -> Result<LogBatch>
+    ensures { IfOk result (λ batch. batch.stage ≡ populating) }
+{
+    let mut batch = LogBatch::default(alloc);
+    let indexes = Vec::from_slice(alloc, &[entry(10), entry(11), entry(12)])?;
+    let texts = vec![in alloc;
+        Vec::from_slice(alloc, b"ab")?,
+        Vec::new(alloc),
+        Vec::from_slice(alloc, b"c")?,
+    ]?;
+    batch.add_raw_entries(7, indexes, texts)?;
+    batch.add_command(8, Command::Clean)?;
+    batch.add_command(7, Command::Compact { index: 11 })?;
+    batch.put(
+        9,
+        Vec::from_slice(alloc, b"k")?,
+        Vec::from_slice(alloc, b"v")?,
+    )?;
+    batch.delete(9, Vec::from_slice(alloc, b"j")?)?;
+    batch.put_unchecked(
+        9,
+        Vec::from_slice(alloc, b"__\x01")?,
+        Vec::from_slice(alloc, &[0])?,
+    )?;
+    Ok(batch)
+}
+
+/// Three entries of region 7, and two of region 8 in a batch that was merged behind theirs.
+fn merged(alloc: Global) -> Result<LogBatch>
+    ensures { IfOk result (λ batch. batch.stage ≡ populating) }
+{
+    let mut batch = LogBatch::default(alloc);
+    let first = [line_of(10, b"x"), line_of(11, b"x"), line_of(12, b"x")];
+    batch.merge(&mut with_lines(alloc, 7, &first)?)?;
+    let second = [line_of(1, b"x"), line_of(2, b"x")];
+    batch.merge(&mut with_lines(alloc, 8, &second)?)?;
+    Ok(batch)
+}
+
+/// A file of the append queue.
+fn context(seq: u64, version: Version) -> LogFileContext {
+    LogFileContext::new(FileId::new(LogQueue::Append, seq), version)
+}
+
+/// The place of the block between a header at the file's start and an item batch.
+fn block_of(id: FileId, item_offset: usize) -> FileBlockHandle {
+    FileBlockHandle {
+        id,
+        offset: 16,
+        len: item_offset.saturating_sub(16),
+    }
+}
+
+/// Whether these are the bytes of the value in a file.
+fn is_written<T: ReactiveBytes>(
+    value: &mut T,
+    seq: u64,
+    version: Version,
+    front: &[u8],
+    seal: &[u8],
+) -> bool {
+    if !value.ready() {
+        return false;
+    }
+    let bytes = value.as_bytes(&context(seq, version));
+    bytes.len() == front.len() + seal.len() && bytes.starts_with(front) && bytes.ends_with(seal)
+}
+
+/// Whether a sealed batch's header, entry bytes and item batch are read as in the row, in the same file.
+fn is_read_so(
+    alloc: Global,
+    batch: &LogBatch,
+    context: &LogFileContext,
+    row: &Row,
+) -> Result<bool> {
+    if !batch.is_sealed() {
+        return Ok(false);
+    }
+    let bytes = batch.encoded_bytes();
+    if bytes.is_empty() {
+        return Ok(row.front.is_empty());
+    }
+    let mut behind = bytes;
+    let (offset, compression_type, len) = LogBatch::decode_header(alloc, &mut behind)?;
+    if offset != row.offset || offset > len || len != bytes.len() {
+        return Ok(false);
+    }
+    let place = block_of(context.id, offset);
+    let entries = LogBatch::decode_entries_block(alloc, behind, place, compression_type)?;
+    let mut footer = &bytes[offset..];
+    let items = LogItemBatch::decode(alloc, &mut footer, place, compression_type, context)?;
+    Ok(entries.as_slice() == row.entry_bytes && items.approximate_size() == row.item_batch_size)
+}
+
+/// Whether an open batch has the row's approximate size, and then its bytes in five files, which are
+/// read there.
+fn is_made(alloc: Global, batch: &mut LogBatch, row: &Row) -> Result<bool> {
+    if batch.ready() || !batch.is_open() || batch.approximate_size() != row.size {
+        return Ok(false);
+    }
+    let len = batch.finish_populate()?;
+    let mut same = batch.approximate_size() == len
+        && len.checked_sub(row.front.len()) == Some(row.seals[0].len());
+    for (seal, seq, version) in [
+        (row.seals[0], 12, Version::V1),
+        (row.seals[1], 12, Version::V2),
+        (row.seals[2], 13, Version::V2),
+        (row.seals[1], 0x1_0000_000c, Version::V2),
+        (row.seals[3], u64::MAX, Version::V2),
+    ] {
+        same &= is_written(batch, seq, version, row.front, seal);
+        same &= is_read_so(alloc, batch, &context(seq, version), row)?;
+    }
+    Ok(same && batch.is_sealed())
 }
 
 #[test]
-fn built_batches(rt: HostRuntime) {
+fn batches_are_made_and_read_as_in_the_rows(rt: HostRuntime) {
     let mut refused = false;
-    for (built, size, bytes) in [
+    let lines = [line_of(10, b"ab"), line_of(11, b"c")];
+    for (built, row) in [
+        (Ok(LogBatch::default(rt.alloc())), rows::EMPTY),
+        (with_command(rt.alloc(), 1, Command::Clean), rows::CLEAN),
         (
-            put_and_delete(rt.alloc()),
-            72,
-            b"\x02\x01\x03\x01\x03put\x05put_v\x01\x03\x02\x00\xf3\xf9\x46\xa8".as_slice(),
+            with_command(rt.alloc(), 300, Command::Compact { index: 1 << 40 }),
+            rows::COMPACT,
         ),
-        (
-            merged(rt.alloc()),
-            102,
-            b"\x02\x07\x01\x03\x0a\x01\x02\x03\x08\x01\x02\x01\x04\x05\xdc\x30\x8b\x52".as_slice(),
-        ),
+        (with_key_values(rt.alloc()), rows::KEY_VALUES),
+        (with_lines(rt.alloc(), 7, &lines), rows::LINES),
+        (merged(rt.alloc()), rows::MERGED),
+        (with_one_of_each(rt.alloc()), rows::ONE_OF_EACH),
     ] {
-        match drained(rt.alloc(), built) {
-            Ok((approximate, written, items)) => {
-                assert!(rt; approximate == size && written.as_slice() == bytes && items == 2);
-            }
+        let made = match built {
+            Ok(mut batch) => is_made(rt.alloc(), &mut batch, &row),
+            Err(e) => Err(e),
+        };
+        match made {
+            Ok(same) => assert!(rt; same, "{}", row.size),
             Err(e) => assert!(rt; is_only_refusal(&e, &mut refused)),
         }
+    }
+}
+
+/// Which refusal a call answers, if any.
+#[derive(Clone, Copy, PartialEq, Eq, Debug)]
+enum Refusal {
+    None,
+    InvalidArgument,
+    Message,
+    Other,
+}
+
+/// What comes of a call that is refused for its argument, unless there is no memory.
+fn refusal_of(called: Result<()>, refused: &mut bool, wanted: Refusal) -> Refusal {
+    match called {
+        Ok(()) => Refusal::None,
+        Err(Error::InvalidArgument(_)) => Refusal::InvalidArgument,
+        Err(Error::Message(MessageError::Refused(7))) => Refusal::Message,
+        Err(e) if is_only_refusal(&e, refused) => wanted,
+        Err(_) => Refusal::Other,
+    }
+}
+
+/// A put of a message under a key.
+fn put_line(alloc: Global, batch: &mut LogBatch, key: &[u8], text: &'static [u8]) -> Result<()>
+    requires { batch.old.stage ≡ populating }
+{
+    batch.put_message(1, Vec::from_slice(alloc, key)?, &line_of(0, text))
+}
+
+/// A put of an empty value under a key.
+fn put_empty(alloc: Global, batch: &mut LogBatch, key: &[u8]) -> Result<()>
+    requires { batch.old.stage ≡ populating }
+{
+    batch.put(1, Vec::from_slice(alloc, key)?, Vec::new(alloc))
+}
+
+/// One of nine calls, of which the last four are not refused.
+fn attempt(alloc: Global, batch: &mut LogBatch, number: usize) -> Result<()> {
+    if !batch.is_open() {
+        return Ok(());
+    }
+    let last = u64::MAX;
+    match number {
+        0 => batch.add_entries::<Lines>(1, &[line_of(10, b"a"), line_of(12, b"b")]),
+        1 => batch.add_entries::<Lines>(1, &[line_of(last, b"a")]),
+        2 => batch.add_entries::<Lines>(1, &[line_of(10, b"a"), line_of(11, b"")]),
+        3 => put_empty(alloc, batch, b"__\x01"),
+        4 => put_line(alloc, batch, b"__\x01", b"a"),
+        5 => put_line(alloc, batch, b"a", b""),
+        6 => batch.add_entries::<Lines>(1, &[]),
+        7 => put_empty(alloc, batch, b"__\x00"),
+        _ => batch.delete(1, Vec::from_slice(alloc, b"__\x01")?),
+    }
+}
+
+#[test]
+fn refused_additions(rt: HostRuntime) {
+    let mut refused = false;
+    for (number, refusal, size) in [
+        (0, Refusal::InvalidArgument, 0),
+        (1, Refusal::InvalidArgument, 0),
+        (2, Refusal::Message, 0),
+        (3, Refusal::InvalidArgument, 0),
+        (4, Refusal::InvalidArgument, 0),
+        (5, Refusal::Message, 0),
+        (6, Refusal::None, 0),
+        (7, Refusal::None, 61),
+        (8, Refusal::None, 61),
+    ] {
+        let mut batch = LogBatch::default(rt.alloc());
+        let called = attempt(rt.alloc(), &mut batch, number);
+        let memory = matches!(&called, Err(Error::Memory));
+        let found = refusal_of(called, &mut refused, refusal);
+        assert!(rt; found == refusal, "of call {number}");
+        let left = if memory { 0 } else { size };
+        assert!(rt;
+            batch.is_open() && batch.approximate_size() == left,
+            "after {number}"
+        );
+    }
+}
+
+/// Whether the items of a log batch are read from its bytes in a file, behind these entry bytes.
+fn is_read(alloc: Global, bytes: &[u8], seq: u64, entry_bytes: &[u8]) -> Result<bool> {
+    let mut behind = bytes;
+    let (offset, compression_type, len) = LogBatch::decode_header(alloc, &mut behind)?;
+    if offset > len || len != bytes.len() {
+        return Ok(false);
+    }
+    let context = context(seq, Version::V2);
+    let place = block_of(context.id, offset);
+    let entries = LogBatch::decode_entries_block(alloc, behind, place, compression_type)?;
+    let mut footer = &bytes[offset..];
+    match LogItemBatch::decode(alloc, &mut footer, place, compression_type, &context) {
+        Ok(items) => Ok(entries.as_slice() == entry_bytes && !items.into_items().is_empty()),
+        Err(Error::Corruption(_)) => Ok(false),
+        Err(e) => Err(e),
+    }
+}
+
+/// Whether a batch that is signed for three files in turn is read each time in that file alone.
+fn is_read_where_signed(alloc: Global) -> Result<bool> {
+    let mut batch = with_one_of_each(alloc)?;
+    batch.finish_populate()?;
+    let mut same = true;
+    for seq in [12, 18, 2001] {
+        if !batch.ready() {
+            return Ok(false);
+        }
+        let bytes = batch.as_bytes(&context(seq, Version::V2));
+        for reader in [12, 18, 2001] {
+            same &= is_read(alloc, bytes, reader, b"abc")? == (seq == reader);
+        }
+    }
+    Ok(same)
+}
+
+#[test]
+fn one_batch_signed_for_three_files(rt: HostRuntime) {
+    match is_read_where_signed(rt.alloc()) {
+        Ok(same) => assert!(rt; same),
+        Err(e) => assert!(rt; matches!(e, Error::Memory)),
+    }
+}
+
+/// Whether this item's entries are in the block, and its key value is in the block's file.
+fn is_placed(item: &LogItem, block: FileBlockHandle) -> bool {
+    match &item.content {
+        LogItemContent::EntryIndexes(entries) => {
+            let compression_type = CompressionType::None;
+            let mut placed = entries.0.len() == 3;
+            for (entry, (entry_offset, entry_len)) in entries
+                .0
+                .iter()
+                .zip(&[(0, 2), (2, 0), (2, 1)])
+            {
+                placed &= entry.entries == Some(block)
+                    && entry.compression_type == compression_type
+                    && (entry.entry_offset, entry.entry_len) == (*entry_offset, *entry_len);
+            }
+            placed
+        }
+        LogItemContent::Command(_) => true,
+        LogItemContent::Kv(kv) => kv.file_id == Some(block.id),
+    }
+}
+
+/// How many items of a batch get their places in the file 12, where it was written at 64, and whether
+/// it is empty once they are handed out.
+fn written_and_drained(alloc: Global) -> Result<(usize, bool)> {
+    let mut batch = with_one_of_each(alloc)?;
+    let len = batch.finish_populate()?;
+    let id = FileId::new(LogQueue::Append, 12);
+    batch.prepare_write(&context(12, Version::V2));
+    batch.finish_write(FileBlockHandle {
+        id,
+        offset: 64,
+        len,
+    });
+    let place = FileBlockHandle {
+        id,
+        offset: 80,
+        len: 7,
+    };
+    let mut items = 0usize;
+    for item in batch.drain() {
+        if is_placed(&item, place) {
+            items = items.saturating_add(1);
+        }
+    }
+    let is_empty = batch.is_open() && batch.is_empty() && batch.approximate_size() == 0;
+    batch.add_command(1, Command::Clean)?;
+    Ok((items, is_empty && batch.finish_populate()? == 24))
+}
+
+#[test]
+fn places_after_a_write(rt: HostRuntime) {
+    match written_and_drained(rt.alloc()) {
+        Ok((items, is_empty)) => assert!(rt; items == 6 && is_empty),
+        Err(e) => assert!(rt; matches!(e, Error::Memory)),
     }
 }

@@ -1,6 +1,0 @@
-use Rattle.std.proofs.Common.{arith}
-use Rattle.raft_memtable.proofs.TableLemmas.{live_of_empty}
-use Rattle.raft_memtable.proofs.memtable.MemTable.new.Goals as goal
-
-pub returns-clause-counted : goal.returns-clause-counted
-returns-clause-counted c = λ counts q. rw (c.new.ensures, c.new-2.ensures) (omega (arith, live_of_empty q c.args.region_id))

@@ -1,8 +1,0 @@
-use Rattle.std.proofs.Common.{refl}
-use Rattle.raft_memtable.specs.Entries.{placed_in}
-use Rattle.raft_memtable.proofs.SoundLemmas.{IsSound-nil}
-use Rattle.raft_memtable.proofs.memtable.entries.Entries.absorb.Goals as goal
-
-pub invariant_of-rhs-2 : goal.invariant_of-rhs-2
-unfolding placed_in
-invariant_of-rhs-2 c = rw c.in_ok-replay.ensures.emptied (IsSound-nil, refl)

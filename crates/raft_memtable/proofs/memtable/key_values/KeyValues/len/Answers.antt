@@ -1,6 +1,0 @@
-use Rattle.std.proofs.Common.{sym, ◌∙◌}
-use Rattle.raft_memtable.proofs.KeyValuesShown.{len-shown}
-use Rattle.raft_memtable.proofs.memtable.key_values.KeyValues.len.Goals as goal
-
-pub returns : goal.returns
-returns c = c.len.ensures.len ∙ sym (len-shown c.self.inside _ c.self.invariant c.self.view_is)

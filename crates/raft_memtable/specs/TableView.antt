@@ -1,7 +1,0 @@
--- Tables as their contracts see them.
-use Rattle.raft_memtable.specs.declared.memtable.MemTable.TheInside.{Inside}
-use Rattle.raft_memtable.specs.Table.{Table}
-
--- the fields as they are
-abbrev pub table_shown : Inside → Table
-table_shown a = record { region_id = a.region_id; entries = a.entries; keys = a.keys; span = a.span }

@@ -1,0 +1,27 @@
+use Rattle.std.proofs.Common.{◌≡◌, ◌∙◌, ◌<◌, ◌^◌, sym, ap, subst, length, arith}
+use Rattle.std.proofs.lemmas.Result.{err_from_is_err_and}
+use Rattle.raft_records.proofs.BufferLemmas.{closed_keeps, behind_keeps, length_is}
+use Rattle.raft_records.proofs.StageLemmas.{encoded_whole}
+use Rattle.raft_records.proofs.header.encode_behind.Goals as goal
+
+pub returns-in_err-encode-clause-err : goal.returns-in_err-encode-clause-err
+returns-in_err-encode-clause-err c =
+    let p = err_from_is_err_and c.from_residual-in_err-encode.result c.from_residual-in_err-encode.ensures.1 in
+    rw (p.1) (closed_keeps c.args.buf.now.items c.encode.new.buf.items (c.in_err-encode.ensures.err ∙ c.in_ok-close_entry_block.ensures.ok))
+
+pub returns-then-len-ge-LENGTH_LIMIT-clause-err : goal.returns-then-len-ge-LENGTH_LIMIT-clause-err
+returns-then-len-ge-LENGTH_LIMIT-clause-err c =
+    behind_keeps c.args.buf.now.items c.close_entry_block.new.buf.items c.encode.new.buf.items _ c.in_ok-close_entry_block.ensures.ok c.in_ok-encode.ensures.ok
+
+pub returns-clause-ok : goal.returns-clause-ok
+returns-clause-ok c =
+    let at : c.len-offset.result ≡ length c.close_entry_block.new.buf.items = omega (arith, c.len-offset.ensures) in
+    let size : c.len-len.result ≡ length c.encode.new.buf.items = omega (arith, c.len-len.ensures) in
+    let counted : length c.encode.new.buf.items ≡ c.encode.new.buf.len = sym (ap length c.as_mut_slice.ensures.value) ∙ c.as_mut_slice.ensures.len in
+    encoded_whole c.args.item_batch.now c.args.buf.now.items c.close_entry_block.new.buf.items c.encode.new.buf.items c.as_mut_slice.result.now c.write_header.new.buf c.len-offset.result c.len-len.result c.encode.new.buf.len c.requires.some c.requires.room c.in_ok-close_entry_block.ensures.ok c.in_ok-encode.ensures.ok at size c.as_mut_slice.ensures.value counted c.write_header.ensures
+
+pub returns-clause-accepted : goal.returns-clause-accepted
+returns-clause-accepted c =
+    let size : c.len-len.result ≡ length c.encode.new.buf.items = omega (arith, c.len-len.ensures) in
+    let says = length_is c.args.item_batch.now c.args.buf.now.items c.close_entry_block.new.buf.items c.encode.new.buf.items c.requires.some c.requires.room c.in_ok-close_entry_block.ensures.ok c.in_ok-encode.ensures.ok in
+    subst (λ n. n < 2 ^ 56) (size ∙ says.1) c.if-len-ge-LENGTH_LIMIT.false

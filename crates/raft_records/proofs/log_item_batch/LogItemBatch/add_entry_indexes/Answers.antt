@@ -1,0 +1,18 @@
+use Rattle.std.proofs.Common.{◌≡◌, ap, sym, subst, ◌∙◌, arith}
+use Rattle.raft_records.specs.Item.{Item, entries_item, item_of}
+use Rattle.raft_records.specs.Grammar.{behind_item}
+use Rattle.raft_records.specs.ItemBatch.{FitsBehind, laid, entry_bytes_of}
+use Rattle.raft_records.proofs.LayLemmas.{laid_fits, end_of_laid}
+use Rattle.raft_records.proofs.log_item_batch.LogItemBatch.add_entry_indexes.Goals as goal
+
+-- the item that is added
+made : (c : goal.After-new_entry_indexes) → item_of c.new_entry_indexes.result ≡ entries_item c.args.region_id (laid (entry_bytes_of c.args.self.now) c.args.entry_indexes.items)
+made c = c.new_entry_indexes.ensures ∙ ap (entries_item c.args.region_id) (c.lay-end.ensures.laid ∙ ap (λ s. laid s c.args.entry_indexes.items) c.entries_size-start.ensures)
+
+pub add-requires-clause-fits : goal.add-requires-clause-fits
+add-requires-clause-fits c =
+    subst (λ (x : Item). FitsBehind (entry_bytes_of c.args.self.now) x.content) (sym (made c)) (laid_fits (entry_bytes_of c.args.self.now) c.args.entry_indexes.items c.requires.consecutive c.requires.room)
+
+pub add-requires-clause-end : goal.add-requires-clause-end
+add-requires-clause-end c =
+    omega (arith, c.lay-end.ensures.end, c.entries_size-start.ensures, end_of_laid (entry_bytes_of c.args.self.now) c.args.entry_indexes.items, ap (behind_item (entry_bytes_of c.args.self.now)) (made c))

@@ -1,0 +1,10 @@
+use Rattle.std.proofs.Common.{ap, subst, arith}
+use Rattle.raft_records.specs.ItemBatch.{FitTogether}
+use Rattle.raft_records.specs.Sizes.{items_size}
+use Rattle.raft_records.proofs.LengthLemmas.{size_covers}
+use Rattle.raft_records.proofs.log_item_batch.LogItemBatch.approximate_size.Goals as goal
+
+pub returns-clause-covers : goal.returns-clause-covers
+returns-clause-covers c small lt =
+    let covers = size_covers c.args.self.now (subst (FitTogether 0) c.self.view_is c.self.invariant.fit) small lt in
+    omega (arith, covers, c.saturating_add.ensures, c.self.invariant.size, ap items_size c.self.view_is)

@@ -1,0 +1,15 @@
+use Rattle.std.proofs.Common.{◌≡◌, ◌++◌, length, map, take, ap, ◌∙◌, append_assoc, arith}
+use Rattle.std.specs.List.{flat_map}
+use Rattle.std.proofs.lemmas.List.{take_all, length-map}
+use Rattle.raft_base.specs.Varint.{varint}
+use Rattle.raft_records.specs.Item.{item_of}
+use Rattle.raft_records.specs.Spelling.{item_bytes}
+use Rattle.raft_records.specs.ItemBatch.{batch_bytes, no_checksum}
+use Rattle.raft_records.proofs.log_item_batch.write_items.Goals as goal
+
+pub returns-clause-ok : goal.returns-clause-ok
+unfolding batch_bytes
+returns-clause-ok c =
+    let whole : take c.loop-item.item-index c.args.items.now ≡ c.args.items.now = take_all c.loop-item.item-index c.args.items.now (omega arith) in
+    let written = c.loop-item.invariant ∙ ap (λ xs. c.args.buf.now.items ++ (varint (length c.args.items.now) ++ flat_map item_bytes (map item_of xs))) whole in
+    rw (length-map c.args.items.now item_of) (c.in_ok-extend_from_slice.ensures.items ∙ ap (λ t. t ++ no_checksum) written ∙ append_assoc c.args.buf.now.items (varint (length c.args.items.now) ++ flat_map item_bytes (map item_of c.args.items.now)) no_checksum)

@@ -1,0 +1,204 @@
+//! Atomic groups of log batches, which take effect together or not at all.
+
+ghost use Rattle.std.specs.Prelude.{◌≡◌, ℕ, [], ◌∷◌, ◌++◌, Option, Some, None, IfErr, OnOk, OnErr, ◌↔◌, List, IsTrue, IfOk, IfSome, IfNone};
+ghost use Rattle.raft_base.specs.declared.errors.Error.{Error as Refusal};
+ghost use Rattle.raft_records.specs.declared.atomic_group.AtomicGroupStatus.{AtomicGroupStatus as Status};
+ghost use Rattle.raft_records.specs.declared.atomic_group.AtomicGroupStatus.TheVariants.{Begin, Middle, End};
+ghost use Rattle.raft_records.specs.Group.{IsRunning, group_marker_item, status_byte, IsGroupMarkerContent, IsGroupMarkerRead, IsGroupMarkerFault, reserved_key, IsGroupMarker};
+ghost use Rattle.raft_records.specs.Item.{Item, item_of, pair_of};
+ghost use Rattle.raft_records.specs.LogBatch.{populating};
+
+use crate::{KeyValue, LogBatch, LogItem, LogItemContent, OpType};
+use raft_base::{Error, Result};
+use std::alloc::Global;
+use std::marker::Model;
+
+/// The key of the marks of atomic groups. No value is put under it but theirs.
+pub const ATOMIC_GROUP_KEY: [u8; 3] = [b'_', b'_', 1];
+
+/// Where in an atomic group a batch stands.
+#[derive(Clone, Copy, PartialEq, Debug)]
+pub enum AtomicGroupStatus {
+    /// It is the first batch of the group.
+    Begin = 0,
+    /// The group goes on.
+    Middle = 1,
+    /// It is the last batch of the group, with which the group takes effect.
+    End = 2,
+}
+
+impl AtomicGroupStatus {
+    ghost use Rattle.raft_records.specs.Group.{status_byte, IsStatusFault};
+
+    /// The group that an item is a mark of, and the mark's status; nothing of an item that is no
+    /// mark. A mark whose byte stands for no status is `Corruption`.
+    pub fn parse(alloc: Global, item: &LogItem) -> Result<Option<(u64, AtomicGroupStatus)>>
+        ensures ok { IfOk result (IsGroupMarkerRead (item_of item.now)) }
+        ensures fault { IfErr result (IsGroupMarkerFault (item_of item.now)) }
+    {
+        let LogItemContent::Kv(kv) = &item.content else {
+            return Ok(None);
+        };
+        match marker_byte(kv) {
+            Some(byte) => {
+                let status = AtomicGroupStatus::from_u8(alloc, byte)?;
+                Ok(Some((item.raft_group_id, status)))
+            }
+            None => Ok(None),
+        }
+    }
+
+    /// The status that a byte stands for. Any other byte is `Corruption`.
+    fn from_u8(alloc: Global, byte: u8) -> Result<AtomicGroupStatus>
+        ensures ok { IfOk result (λ status. byte ≡ status_byte status) }
+        ensures fault { IfErr result (IsStatusFault byte) }
+    {
+        match byte {
+            0 => Ok(AtomicGroupStatus::Begin),
+            1 => Ok(AtomicGroupStatus::Middle),
+            2 => Ok(AtomicGroupStatus::End),
+            _ => Err(Error::Corruption(format!(in alloc;
+                "Unrecognized atomic group status: {byte}"
+            )?)),
+        }
+    }
+
+    /// The byte that stands for the status.
+    pub(crate) fn to_u8(self) -> u8
+        ensures { result ≡ status_byte self }
+    {
+        self as u8
+    }
+}
+
+/// Whether this key is kept for the marks of atomic groups.
+pub(crate) fn is_reserved(key: &[u8]) -> bool
+    ensures { IsTrue result ↔ (key.now ≡ reserved_key) }
+{
+    key == ATOMIC_GROUP_KEY.as_slice()
+}
+
+/// The byte of a mark, if the change is one.
+fn marker_byte(kv: &KeyValue) -> Option<u8>
+    ensures some { IfSome result (IsGroupMarker (pair_of kv.now)) }
+    ensures none { IfNone result ((byte : ℕ) → IsGroupMarker (pair_of kv.now) byte → ⊥) }
+{
+    if kv.op_type != OpType::Put || !is_reserved(kv.key.as_slice()) {
+        return None;
+    }
+    match &kv.value {
+        Some(value) if value.len() == 1 => Some(value[0]),
+        _ => None,
+    }
+}
+
+#[cfg(test)]
+mod tests;
+
+/// Marks the batches of one group: the first with `Begin`, the last with `End`, those between them
+/// with `Middle`. Each call takes a batch of its own: of two marks in one batch only the first is
+/// read, so a group has two batches at least.
+#[derive(Debug, Drop)]
+pub struct AtomicGroupBuilder {
+    id: u64,
+    status: Option<AtomicGroupStatus>,
+}
+
+impl Model for AtomicGroupBuilder {
+    ghost use Rattle.raft_records.specs.Group.{Group};
+
+    ghost Value = { Group };
+
+    ghost view = { λ group. record { id = group.id; state = group.status } };
+}
+
+impl AtomicGroupBuilder {
+    /// A builder of the group `id`, which hasn't begun.
+    pub fn with_id(id: u64) -> AtomicGroupBuilder
+        ensures { result ≡ record { id = id; state = None } }
+    {
+        AtomicGroupBuilder { id, status: None }
+    }
+
+    /// The mark that was added last, if any was.
+    pub fn state(&self) -> Option<AtomicGroupStatus>
+        ensures { result ≡ self.now.state }
+    {
+        self.status
+    }
+
+    /// Begins the group with this batch. On `Err` builder and batch are as they were.
+    pub fn begin(&mut self, log_batch: &mut LogBatch) -> Result<()>
+        requires open { log_batch.old.stage ≡ populating }
+        requires fresh { self.old.state ≡ None }
+        ensures marked { OnOk result (log_batch.new ≡ record log_batch.old {
+          items = log_batch.old.items ++ group_marker_item self.old.id Begin ∷ [];
+        }) }
+        ensures state { OnOk result (self.new ≡ record self.old { state = Some Begin }) }
+        ensures err { OnErr result (self.new ≡ self.old) }
+        ensures batch_err { OnErr result (log_batch.new ≡ log_batch.old) }
+        ensures memory { IfErr result (λ e. e ≡ Error.Memory) }
+    {
+        self.mark(AtomicGroupStatus::Begin, log_batch)
+    }
+
+    /// Goes on with the group in this batch. On `Err` builder and batch are as they were.
+    pub fn add(&mut self, log_batch: &mut LogBatch) -> Result<()>
+        requires open { log_batch.old.stage ≡ populating }
+        requires running { IsRunning self.old.state }
+        ensures marked { OnOk result (log_batch.new ≡ record log_batch.old {
+          items = log_batch.old.items ++ group_marker_item self.old.id Middle ∷ [];
+        }) }
+        ensures state { OnOk result (self.new ≡ record self.old { state = Some Middle }) }
+        ensures err { OnErr result (self.new ≡ self.old) }
+        ensures batch_err { OnErr result (log_batch.new ≡ log_batch.old) }
+        ensures memory { IfErr result (λ e. e ≡ Error.Memory) }
+    {
+        self.mark(AtomicGroupStatus::Middle, log_batch)
+    }
+
+    /// Ends the group with this batch; the builder is then of no more use. On `Err` builder and batch
+    /// are as they were.
+    pub fn end(&mut self, log_batch: &mut LogBatch) -> Result<()>
+        requires open { log_batch.old.stage ≡ populating }
+        requires running { IsRunning self.old.state }
+        ensures marked { OnOk result (log_batch.new ≡ record log_batch.old {
+          items = log_batch.old.items ++ group_marker_item self.old.id End ∷ [];
+        }) }
+        ensures state { OnOk result (self.new ≡ record self.old { state = Some End }) }
+        ensures err { OnErr result (self.new ≡ self.old) }
+        ensures batch_err { OnErr result (log_batch.new ≡ log_batch.old) }
+        ensures memory { IfErr result (λ e. e ≡ Error.Memory) }
+    {
+        self.mark(AtomicGroupStatus::End, log_batch)
+    }
+
+    /// Adds the group's mark with this status to an open batch.
+    fn mark(&mut self, status: AtomicGroupStatus, log_batch: &mut LogBatch) -> Result<()>
+        requires { log_batch.old.stage ≡ populating }
+        ensures marked { OnOk result (log_batch.new ≡ record log_batch.old {
+          items = log_batch.old.items ++ group_marker_item self.old.id status ∷ [];
+        }) }
+        ensures state { OnOk result (self.new ≡ record self.old { state = Some status }) }
+        ensures err { OnErr result (self.new ≡ self.old) }
+        ensures batch_err { OnErr result (log_batch.new ≡ log_batch.old) }
+        ensures memory { IfErr result (λ e. e ≡ Error.Memory) }
+    {
+        let alloc = log_batch.allocator();
+        let key = Vec::from_slice(alloc, &ATOMIC_GROUP_KEY)?;
+        let value = Vec::from_slice(alloc, &[status.to_u8()])?;
+        log_batch.put_unchecked(self.id, key, value)?;
+        self.status = Some(status);
+        Ok(())
+    }
+}
+
+/// What is added as a mark is read as the mark of its group with its status, and never refused.
+pub fn group_markers_are_read_again()
+    ensures is_mark { (id : ℕ) (status : Status) → IsGroupMarkerContent (group_marker_item id status).content (status_byte status) }
+    ensures read { (item : Item) (status : Status) (read : Option (ℕ × Status)) →
+        IsGroupMarkerContent item.content (status_byte status) → IsGroupMarkerRead item read →
+        read ≡ Some (item.raft_group_id, status) }
+    ensures accepted { (item : Item) (status : Status) (e : Refusal) →
+        IsGroupMarkerContent item.content (status_byte status) → IsGroupMarkerFault item e → ⊥ }
+{}

@@ -1,0 +1,37 @@
+//! How the entry bytes of a batch are compressed.
+
+ghost use Rattle.std.specs.Prelude.{◌≡◌, IfOk, IfErr};
+ghost use Rattle.raft_records.specs.LogBatch.{compression_byte};
+ghost use Rattle.raft_records.specs.Header.{IsCompressionFault};
+
+use raft_base::{Error, Result};
+use std::alloc::Global;
+
+/// How the entry bytes of a batch are compressed.
+#[derive(Clone, Copy, PartialEq, Eq, Debug)]
+pub enum CompressionType {
+    /// They stand as they are.
+    None = 0,
+}
+
+impl CompressionType {
+    /// The compression type that a byte stands for. Any other byte is `Corruption`.
+    pub fn from_u8(alloc: Global, byte: u8) -> Result<CompressionType>
+        ensures ok { IfOk result (λ compression_type. byte ≡ compression_byte compression_type) }
+        ensures fault { IfErr result (IsCompressionFault byte) }
+    {
+        match byte {
+            0 => Ok(CompressionType::None),
+            _ => Err(Error::Corruption(format!(in alloc;
+                "Unrecognized compression type: {byte}"
+            )?)),
+        }
+    }
+
+    /// The byte that stands for the compression type.
+    pub fn to_u8(self) -> u8
+        ensures { result ≡ compression_byte self }
+    {
+        self as u8
+    }
+}

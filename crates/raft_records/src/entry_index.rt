@@ -1,0 +1,279 @@
+//! Where the entries of a region's log stand.
+
+ghost use Rattle.std.specs.Prelude.{◌≡◌, ◌≢◌, ◌↔◌, ◌++◌, map, IsTrue, IfOk, IfErr, OnOk, OnErr};
+ghost use Rattle.raft_base.specs.Reading.{Reads, HasNoFront};
+ghost use Rattle.raft_records.specs.Grammar.{IsEntries, IsTail, AreTails, end_behind};
+ghost use Rattle.raft_records.specs.Faults.{IsEntriesFault, IsTailFault, IsTailsFault, IsEntriesRefusal};
+ghost use Rattle.raft_records.specs.Entries.{IsConsecutive, RunOn, AreWritable};
+ghost use Rattle.raft_base.specs.Varint.{varint};
+ghost use Rattle.raft_records.specs.ItemBatch.{placed_entry, raised_entry, CanRaise};
+ghost use Rattle.raft_records.specs.Sizes.{entries_size, saturated};
+ghost use Rattle.raft_records.specs.Spelling.{Keeps, tails_bytes, entries_bytes};
+
+use crate::CompressionType;
+use raft_base::codec::BytesSlice;
+use raft_base::{Error, FileBlockHandle, Result, codec};
+use std::alloc::{AllocError, Global};
+
+/// The most entries that room is made for before they are read.
+const MOST_ENTRIES_AT_ONCE: u64 = 1024;
+
+/// An entry of a region's log: its index, and the place of its bytes.
+#[derive(Clone, Copy, PartialEq, Eq, Debug)]
+pub struct EntryIndex {
+    pub index: u64,
+    /// The block of entry bytes that holds this entry's, once it has been written to a file.
+    pub entries: Option<FileBlockHandle>,
+    /// How that block is compressed.
+    pub compression_type: CompressionType,
+    /// Where this entry's bytes begin in the block.
+    pub entry_offset: u32,
+    /// How many bytes it has.
+    pub entry_len: u32,
+}
+
+impl Default for EntryIndex {
+    ghost use Rattle.std.specs.Prelude.{◌≡◌};
+    ghost use Rattle.raft_records.specs.Entries.{no_entry};
+
+    ghost is_default = { λ e. e ≡ no_entry };
+
+    /// Index 0, no bytes and no place.
+    fn default() -> EntryIndex {
+        EntryIndex {
+            index: 0,
+            entries: None,
+            compression_type: CompressionType::None,
+            entry_offset: 0,
+            entry_len: 0,
+        }
+    }
+}
+
+/// Whether the indexes rise by one from entry to entry and none is 2^64 - 1. It takes no memory.
+pub fn is_consecutive(entries: &[EntryIndex]) -> bool
+    ensures { IsTrue result ↔ IsConsecutive entries.now }
+{
+    let mut index = match entries.first() {
+        Some(first) => first.index,
+        None => return true,
+    };
+    for entry in entries {
+        if entry.index != index || index == u64::MAX {
+            return false;
+        }
+        index += 1;
+    }
+    true
+}
+
+/// Whether each entry's bytes begin where those of the one before it end, and end below 2^32.
+fn runs_on(entries: &[EntryIndex]) -> bool
+    ensures { IsTrue result ↔ RunOn entries.now }
+{
+    let mut offset = match entries.first() {
+        Some(first) => first.entry_offset,
+        None => return true,
+    };
+    for entry in entries {
+        if entry.entry_offset != offset || entry.entry_len > u32::MAX - offset {
+            return false;
+        }
+        offset += entry.entry_len;
+    }
+    true
+}
+
+/// The entries of one item: consecutive ones of one region.
+#[derive(Clone, PartialEq, Eq, Debug, Drop)]
+pub struct EntryIndexes(pub Vec<EntryIndex>);
+
+impl EntryIndexes {
+    /// The approximate length of the entries' bytes, held at `usize::MAX`.
+    pub(crate) fn approximate_size(&self) -> usize
+        ensures { result ≡ saturated (entries_size self.now.0.items) }
+    {
+        let tails = self.0.len().saturating_mul(8);
+        let first = if self.0.is_empty() { 0 } else { 8 };
+        tails.saturating_add(8 + first)
+    }
+
+    /// Gives each entry its place.
+    pub(crate) fn place(&mut self, block: FileBlockHandle, compression_type: CompressionType)
+        ensures { self.new.0.items ≡ map (placed_entry block compression_type) self.old.0.items }
+    {
+        for entry in self.0.iter_mut() {
+            entry.entries = Some(block);
+            entry.compression_type = compression_type;
+        }
+    }
+
+    /// Puts the entries' bytes `by` bytes further back.
+    pub(crate) fn raise(&mut self, by: u32)
+        requires { CanRaise by self.old.0.items }
+        ensures { self.new.0.items ≡ map (raised_entry by) self.old.0.items }
+    {
+        for entry in self.0.iter_mut() {
+            entry.entry_offset += by;
+        }
+    }
+
+    /// Whether the entries can be written: their indexes are consecutive and their bytes run on.
+    pub(crate) fn is_writable(&self) -> bool
+        ensures { IsTrue result ↔ AreWritable self.now.0.items }
+    {
+        is_consecutive(self.0.as_slice()) && runs_on(self.0.as_slice())
+    }
+
+    /// Appends the entries' bytes. A list that is not consecutive, an entry that doesn't begin where
+    /// the one before it ended, and a tail offset above 2^32 - 1 are `InvalidArgument`. On `Err` the
+    /// vector is as it was.
+    pub fn encode(&self, alloc: Global, buf: &mut Vec<u8>) -> Result<()>
+        ensures ok { OnOk result (buf.new.items ≡ buf.old.items ++ entries_bytes self.now.0.items) }
+        ensures accepted { OnOk result (AreWritable self.now.0.items) }
+        ensures err { OnErr result (buf.new.items ≡ buf.old.items) }
+        ensures fault { IfErr result (IsEntriesRefusal self.now.0.items) }
+    {
+        if !self.is_writable() {
+            return Err(Error::InvalidArgument(format!(in alloc;
+                "the entries are not consecutive or don't run on"
+            )?));
+        }
+        let len = buf.len();
+        let written = self.write(buf);
+        if written.is_err() {
+            buf.truncate(len);
+        }
+        Ok(written?)
+    }
+
+    /// Appends the entries' bytes. On `Err` some bytes may stand behind those of the vector.
+    pub(crate) fn write(&self, buf: &mut Vec<u8>) -> std::result::Result<(), AllocError>
+        ensures ok { OnOk result (buf.new.items ≡ buf.old.items ++ entries_bytes self.now.0.items) }
+        ensures err { OnErr result (Keeps buf.old.items buf.new.items) }
+    {
+        codec::append_var_u64(buf, self.0.len() as u64)?;
+        match self.0.first() {
+            Some(first) => append_run(buf, first.index, self.0.as_slice()),
+            None => Ok(()),
+        }
+    }
+
+    /// Reads the entries of an item that stands behind `entries_size` entry bytes, without a place.
+    /// `entries_size` becomes the end of their bytes. On `Err` it and the slice are as they were.
+    pub fn decode(
+        alloc: Global,
+        buf: &mut BytesSlice<'_>,
+        entries_size: &mut u32,
+    ) -> Result<EntryIndexes>
+        ensures ok { IfOk result (λ es. Reads (IsEntries entries_size.old) buf.old.now buf.new.now es.0.items) }
+        ensures size { IfOk result (λ es. entries_size.new ≡ end_behind entries_size.old es.0.items) }
+        ensures err { OnErr result (buf.new.now ≡ buf.old.now) }
+        ensures size_err { OnErr result (entries_size.new ≡ entries_size.old) }
+        ensures refused { IfErr result (λ e. e ≢ Error.Memory → HasNoFront (IsEntries entries_size.old) buf.old.now) }
+        ensures fault { IfErr result (IsEntriesFault entries_size.old buf.old.now) }
+    {
+        let (entries, end, rest) = EntryIndexes::front(alloc, *buf, *entries_size)?;
+        *entries_size = end;
+        *buf = rest;
+        Ok(entries)
+    }
+
+    /// The entries in front of `bytes`, the end of their bytes, and what is behind them.
+    pub(crate) fn front(
+        alloc: Global,
+        bytes: &[u8],
+        entries_size: u32,
+    ) -> Result<(EntryIndexes, u32, &[u8])>
+        ensures ok { IfOk result (λ read. Reads (IsEntries entries_size) bytes.now read.2.now read.0.0.items) }
+        ensures size { IfOk result (λ read. read.1 ≡ end_behind entries_size read.0.0.items) }
+        ensures refused { IfErr result (λ e. e ≢ Error.Memory → HasNoFront (IsEntries entries_size) bytes.now) }
+        ensures fault { IfErr result (IsEntriesFault entries_size bytes.now) }
+    {
+        let mut rest = bytes;
+        let count = codec::decode_var_u64(&mut rest)?;
+        if count == 0 {
+            return Ok((EntryIndexes(Vec::new(alloc)), entries_size, rest));
+        }
+        let first = codec::decode_var_u64(&mut rest)?;
+        let (entries, end, rest) = tails_front(alloc, rest, count, first, entries_size)?;
+        Ok((EntryIndexes(entries), end, rest))
+    }
+}
+
+/// Appends the first index and the tail offsets of entries.
+fn append_run(
+    buf: &mut Vec<u8>,
+    first: u64,
+    entries: &[EntryIndex],
+) -> std::result::Result<(), AllocError>
+    ensures ok { OnOk result (buf.new.items ≡ buf.old.items ++ (varint first ++ tails_bytes entries.now)) }
+    ensures err { OnErr result (Keeps buf.old.items buf.new.items) }
+{
+    codec::append_var_u64(buf, first)?;
+    for entry in entries {
+        codec::append_var_u64(
+            buf,
+            u64::from(entry.entry_offset) + u64::from(entry.entry_len),
+        )?;
+    }
+    Ok(())
+}
+
+/// The tail offsets of `count` entries from the index `first` on, behind `entries_size` entry bytes.
+fn tails_front(
+    alloc: Global,
+    bytes: &[u8],
+    count: u64,
+    first: u64,
+    entries_size: u32,
+) -> Result<(Vec<EntryIndex>, u32, &[u8])>
+    ensures ok { IfOk result (λ read.
+        Reads (AreTails count (first, entries_size)) bytes.now read.2.now read.0.items) }
+    ensures size { IfOk result (λ read. read.1 ≡ end_behind entries_size read.0.items) }
+    ensures refused { IfErr result (λ e. e ≢ Error.Memory →
+        HasNoFront (AreTails count (first, entries_size)) bytes.now) }
+    ensures fault { IfErr result (IsTailsFault count (first, entries_size) bytes.now) }
+{
+    // Each entry takes a byte at least; a long list grows as its entries are read.
+    let room = count.min(bytes.len() as u64).min(MOST_ENTRIES_AT_ONCE);
+    let mut entries = Vec::with_capacity(alloc, room as usize)?;
+    let mut rest = bytes;
+    let mut index = first;
+    let mut offset = entries_size;
+    for _ in 0..count {
+        let (entry, behind) = tail_front(alloc, rest, index, offset)?;
+        entries.push(entry)?;
+        rest = behind;
+        index += 1;
+        offset += entry.entry_len;
+    }
+    Ok((entries, offset, rest))
+}
+
+/// The tail offset of the entry `index`, whose bytes begin at `offset`.
+#[inline]
+fn tail_front(alloc: Global, bytes: &[u8], index: u64, offset: u32) -> Result<(EntryIndex, &[u8])>
+    ensures ok { IfOk result (λ read. Reads (IsTail (index, offset)) bytes.now read.1.now read.0) }
+    ensures refused { OnErr result (HasNoFront (IsTail (index, offset)) bytes.now) }
+    ensures fault { IfErr result (IsTailFault (index, offset) bytes.now) }
+{
+    if index == u64::MAX {
+        return Err(Error::Corruption(format!(in alloc; "an entry has no index below {index}")?));
+    }
+    let mut rest = bytes;
+    let tail = codec::decode_var_u64(&mut rest)?;
+    if tail < u64::from(offset) || tail > u64::from(u32::MAX) {
+        return Err(Error::Corruption(format!(in alloc;
+            "a tail offset of {tail} behind {offset}"
+        )?));
+    }
+    let entry = EntryIndex {
+        index,
+        entries: None,
+        compression_type: CompressionType::None,
+        entry_offset: offset,
+        entry_len: tail as u32 - offset,
+    };
+    Ok((entry, rest))
+}

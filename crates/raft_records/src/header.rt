@@ -1,0 +1,192 @@
+//! What stands around the items of a log batch: its header, and the block of its entry bytes.
+
+ghost use Rattle.std.specs.Prelude.{◌≡◌, ◌≢◌, ℕ, ◌+◌, ◌≤◌, ◌<◌, ◌^◌, List, ◌++◌, [], length, take, drop, IfOk, IfErr, OnOk, OnErr};
+ghost use Rattle.raft_base.specs.Reading.{Reads, HasNoFront};
+ghost use Rattle.raft_base.specs.Fixed.{IsBig};
+ghost use Rattle.raft_records.specs.Header.{IsHeader, IsHeaderFault, IsBlockOf, IsBlockFault};
+ghost use Rattle.raft_records.specs.LogBatch.{header_bytes, entry_block, item_offset, encoded, encoded_length, log_batch_bytes};
+ghost use Rattle.raft_records.specs.Buffer.{IsUnsealed, IsHeld, entry_bytes_in};
+ghost use Rattle.raft_records.specs.ItemBatch.{IsEncoded, batch_bytes, checksum_bytes};
+ghost use Rattle.raft_base.specs.Signature.{signature_of};
+ghost use Rattle.raft_records.specs.Spelling.{Keeps};
+ghost use Rattle.raft_records.specs.declared.compression_type.CompressionType.TheVariants as compressions;
+
+use crate::checksum::{CHECKSUM_LEN, verify_checksum};
+use crate::{CompressionType, LogItemBatch};
+use byteorder::{BigEndian, ByteOrder, LittleEndian};
+use raft_base::util::crc32;
+use raft_base::{Error, LogFileContext, Result, codec};
+use std::alloc::{AllocError, Global};
+
+/// How many bytes a header takes.
+pub(crate) const HEADER_LEN: usize = 16;
+
+/// The first length in bytes that a batch may not have.
+const LENGTH_LIMIT: u64 = 1 << 56;
+
+/// The header in front of `bytes`, as the place of the item batch, the compression type and the
+/// length of the batch, and what is behind it. Success takes no memory.
+pub(crate) fn header_front(
+    alloc: Global,
+    bytes: &[u8],
+) -> Result<((usize, CompressionType, usize), &[u8])>
+    ensures ok { IfOk result (λ read. Reads IsHeader bytes.now read.1.now read.0) }
+    ensures refused { OnErr result (HasNoFront IsHeader bytes.now) }
+    ensures fault { IfErr result (IsHeaderFault bytes.now) }
+{
+    let len = bytes.len();
+    if len < HEADER_LEN {
+        return Err(Error::Corruption(format!(in alloc; "Log batch header too short: {len}")?));
+    }
+    let (len_and_type, behind) = u64_front(bytes);
+    let (offset, rest) = u64_front(behind);
+    let compression_type = CompressionType::from_u8(alloc, (len_and_type % 256) as u8)?;
+    let len = len_and_type / 256;
+    if offset > len {
+        return Err(Error::Corruption(format!(in alloc;
+            "Log item offset exceeds log batch length"
+        )?));
+    }
+    if offset < HEADER_LEN as u64 {
+        return Err(Error::Corruption(format!(in alloc;
+            "Log item offset is smaller than log batch header length"
+        )?));
+    }
+    Ok(((offset as usize, compression_type, len as usize), rest))
+}
+
+/// The number in the first eight bytes, the highest first, and what is behind them.
+fn u64_front(bytes: &[u8]) -> (u64, &[u8])
+    requires { 8 ≤ length bytes.now }
+    ensures read { Reads (IsBig 8) bytes.now result.1.now result.0 }
+    ensures len { length bytes.now ≡ 8 + length result.1.now }
+{
+    let mut rest = bytes;
+    match codec::decode_u64(&mut rest) {
+        Ok(number) => (number, rest),
+        Err(_) => unreachable!(),
+    }
+}
+
+/// Writes the header of an uncompressed batch of `len` bytes, whose item batch begins at `offset`,
+/// over the first sixteen bytes.
+fn write_header(buf: &mut [u8], offset: usize, len: usize)
+    requires room { 16 ≤ length buf.old }
+    requires fits { len < 2 ^ 56 }
+    ensures { buf.new ≡ header_bytes offset compressions.None len ++ drop 16 buf.old }
+{
+    let compression_type = CompressionType::None.to_u8();
+    BigEndian::write_u64(buf, len as u64 * 256 + u64::from(compression_type));
+    BigEndian::write_u64(&mut buf[8..], offset as u64);
+}
+
+/// Makes the buffer hold sixteen bytes at least. What is behind them stays, also on `Err`.
+pub(crate) fn reserve_header(buf: &mut Vec<u8>) -> std::result::Result<(), AllocError>
+    ensures ok { OnOk result (16 ≤ length buf.new.items) }
+    ensures same { drop 16 buf.new.items ≡ drop 16 buf.old.items }
+{
+    if buf.len() < HEADER_LEN {
+        buf.clear();
+        buf.extend_from_slice(&[0; HEADER_LEN])?;
+    }
+    Ok(())
+}
+
+/// Appends the checksum of the entry bytes behind the header, if there are any.
+fn close_entry_block(buf: &mut Vec<u8>) -> std::result::Result<(), AllocError>
+    requires { 16 ≤ length buf.old.items }
+    ensures ok { OnOk result
+        (buf.new.items ≡ take 16 buf.old.items ++ entry_block (drop 16 buf.old.items)) }
+    ensures err { OnErr result (buf.new.items ≡ buf.old.items) }
+{
+    if buf.len() == HEADER_LEN {
+        return Ok(());
+    }
+    let mut seal = [0; CHECKSUM_LEN];
+    LittleEndian::write_u32(&mut seal, crc32(&buf[HEADER_LEN..]));
+    buf.extend_from_slice(&seal)
+}
+
+/// Where the item batch begins behind that many entry bytes.
+pub(crate) fn offset_behind(entries_size: u32) -> usize
+    ensures { (entry_bytes : List ℕ) → length entry_bytes ≡ entries_size → result ≡ item_offset entry_bytes }
+{
+    if entries_size == 0 {
+        HEADER_LEN
+    } else {
+        HEADER_LEN + entries_size as usize + CHECKSUM_LEN
+    }
+}
+
+/// The entry bytes in the block of `len` bytes in front of `bytes`; a block of length 0 holds none.
+pub(crate) fn block_front(
+    alloc: Global,
+    bytes: &[u8],
+    len: usize,
+    compression_type: CompressionType,
+) -> Result<Vec<u8>>
+    ensures ok { IfOk result (λ entries. IsBlockOf len bytes.now entries.items) }
+    ensures refused { IfErr result (λ e. e ≢ Error.Memory → (entries : List ℕ) → IsBlockOf len bytes.now entries → ⊥) }
+    ensures fault { IfErr result (IsBlockFault len bytes.now) }
+{
+    if len == 0 {
+        return Ok(Vec::new(alloc));
+    }
+    if bytes.len() < len {
+        return Err(Error::Corruption(format!(in alloc;
+            "an entry block of {len} bytes is cut short"
+        )?));
+    }
+    let (block, _) = bytes.split_at(len);
+    let content = verify_checksum(alloc, block, None)?;
+    match compression_type {
+        CompressionType::None => Ok(Vec::from_slice(alloc, content)?),
+    }
+}
+
+/// Writes the bytes of a batch around the entry bytes that stand behind the header's sixteen.
+/// `Full` where they pass the limit. On `Err` some bytes may stand behind those of the buffer.
+pub(crate) fn encode_behind(buf: &mut Vec<u8>, item_batch: &mut LogItemBatch) -> Result<()>
+    requires room { 16 ≤ length buf.old.items }
+    requires some { item_batch.old ≢ [] }
+    ensures ok { OnOk result (IsUnsealed item_batch.old (drop 16 buf.old.items) buf.new.items) }
+    ensures accepted { OnOk result (encoded_length item_batch.old (drop 16 buf.old.items) < 2 ^ 56) }
+    ensures same { item_batch.new ≡ item_batch.old }
+    ensures err { OnErr result (Keeps buf.old.items buf.new.items) }
+    ensures full { IfErr result (λ e. e ≢ Error.Memory →
+        (e ≡ Error.Full) × (2 ^ 56 ≤ encoded_length item_batch.old (drop 16 buf.old.items))) }
+{
+    close_entry_block(buf)?;
+    let offset = buf.len();
+    item_batch.encode(buf)?;
+    let len = buf.len();
+    if len as u64 >= LENGTH_LIMIT {
+        return Err(Error::Full);
+    }
+    write_header(buf.as_mut_slice(), offset, len);
+    Ok(())
+}
+
+/// Signs the bytes of a batch for a file.
+pub(crate) fn seal(item_batch: &LogItemBatch, buf: &mut Vec<u8>, context: &LogFileContext)
+    requires { IsHeld encoded item_batch.now (entry_bytes_in item_batch.now buf.old.items) buf.old.items }
+    ensures { buf.new.items ≡ log_batch_bytes (signature_of context.now) item_batch.now
+        (entry_bytes_in item_batch.now buf.old.items) }
+{
+    // A batch without items has no bytes.
+    if buf.is_empty() {
+        return;
+    }
+    let offset = offset_behind(item_batch.entries_size());
+    seal_behind(item_batch, buf.as_mut_slice(), offset, context);
+}
+
+/// Signs an item batch whose bytes stand from `offset` on.
+fn seal_behind(item_batch: &LogItemBatch, buf: &mut [u8], offset: usize, context: &LogFileContext)
+    requires within { offset ≤ length buf.old }
+    requires encoded { IsEncoded item_batch.now (drop offset buf.old) }
+    ensures { buf.new ≡ take offset buf.old ++ (batch_bytes item_batch.now
+        ++ checksum_bytes (signature_of context.now) (batch_bytes item_batch.now)) }
+{
+    item_batch.prepare_write(&mut buf[offset..], context);
+}

@@ -1,0 +1,227 @@
+//! Entries with their bytes in batches.
+
+ghost use Rattle.std.specs.Prelude.{◌≡◌, ◌≢◌, ◌↔◌, ◌+◌, ◌-◌, ◌^◌, ◌<◌, ◌≤◌, [], ◌∷◌, ◌++◌, map, length, IsTrue, IfOk, IfErr, OnOk, OnErr};
+ghost use Rattle.std.specs.List.{concat};
+ghost use Rattle.raft_records.specs.Entries.{IsConsecutive, entry_at, with_lengths};
+ghost use Rattle.raft_records.specs.Faults.{OneRefuses};
+ghost use Rattle.raft_records.specs.Item.{entries_item};
+ghost use Rattle.raft_records.specs.ItemBatch.{entry_bytes_of, laid};
+ghost use Rattle.raft_records.specs.LogBatch.{populating, with_entries, IsBytesFault, IsAddFault};
+ghost use Rattle.raft_records.specs.Spelling.{Keeps};
+
+use super::MOST_ENTRY_BYTES;
+use crate::header::{HEADER_LEN, reserve_header};
+use crate::{EntryIndex, LogBatch, LogItemBatch};
+use raft_base::{Error, Message, MessageExt, Result};
+
+/// The most bytes that the buffer of an open batch has.
+const MOST_OPEN_BYTES: usize = HEADER_LEN + MOST_ENTRY_BYTES as usize;
+
+impl LogBatch {
+    /// Adds entries of a region to an open batch, each as the bytes of its message. No entries add
+    /// nothing. `InvalidArgument` where their indexes are not consecutive, `Full` where the batch's
+    /// entry bytes would pass 2^31 - 1, `Message` where a message refuses to write itself. On `Err`
+    /// the batch is as it was.
+    pub fn add_entries<M: MessageExt>(&mut self, region_id: u64, entries: &[M::Entry]) -> Result<()>
+        requires { self.old.stage ≡ populating }
+        ensures ok { OnOk result (self.new ≡ with_entries self.old region_id
+            (map (λ e. entry_at (M.index_of e)) entries.now) (map M.Entry.bytes_of entries.now)) }
+        ensures consecutive { OnOk result (IsConsecutive (map (λ e. entry_at (M.index_of e)) entries.now)) }
+        ensures accepted { OnOk result (entries.now ≢ [] →
+            length self.old.entry_bytes + length (concat (map M.Entry.bytes_of entries.now)) < 2 ^ 31) }
+        ensures err { OnErr result (self.new ≡ self.old) }
+        ensures fault { IfErr result (IsAddFault (OneRefuses M.Entry.refuses entries.now)
+            (map (λ e. entry_at (M.index_of e)) entries.now)
+            (length self.old.entry_bytes + length (concat (map M.Entry.bytes_of entries.now)))) }
+    {
+        if entries.is_empty() {
+            return Ok(());
+        }
+        reserve_header(&mut self.buf)?;
+        let start = self.buf.len();
+        if let Err(e) = write_messages::<M>(
+            &mut self.buf,
+            &mut self.item_batch,
+            region_id,
+            entries,
+        ) {
+            self.buf.truncate(start);
+            return Err(e);
+        }
+        Ok(())
+    }
+
+    /// Adds entries of a region to an open batch, with the bytes of each. It asks as many byte strings
+    /// as indexes, and consecutive indexes. Each index gets the length of its bytes, and the offset at
+    /// which they stand among those of the batch; its other fields stay. Empty lists add nothing.
+    /// `Full` where the batch's entry bytes would pass 2^31 - 1. On `Err` the batch is as it was.
+    pub fn add_raw_entries(
+        &mut self,
+        region_id: u64,
+        entry_indexes: Vec<EntryIndex>,
+        entries: Vec<Vec<u8>>,
+    ) -> Result<()>
+        requires open { self.old.stage ≡ populating }
+        requires counts { length entry_indexes.items ≡ length entries.items }
+        requires consecutive { IsConsecutive entry_indexes.items }
+        ensures ok { OnOk result (self.new ≡ with_entries self.old region_id
+            entry_indexes.items (map (λ e. e.items) entries.items)) }
+        ensures accepted { OnOk result (entry_indexes.items ≢ [] →
+            length self.old.entry_bytes + length (concat (map (λ e. e.items) entries.items)) < 2 ^ 31) }
+        ensures err { OnErr result (self.new ≡ self.old) }
+        ensures full { IfErr result (λ e. e ≢ Error.Memory → (e ≡ Error.Full) ×
+            (2 ^ 31 ≤ length self.old.entry_bytes + length (concat (map (λ e. e.items) entries.items)))) }
+    {
+        if entry_indexes.is_empty() {
+            return Ok(());
+        }
+        reserve_header(&mut self.buf)?;
+        let start = self.buf.len();
+        if let Err(e) = write_strings(
+            &mut self.buf,
+            &mut self.item_batch,
+            region_id,
+            entry_indexes,
+            entries.as_slice(),
+        ) {
+            self.buf.truncate(start);
+            return Err(e);
+        }
+        Ok(())
+    }
+}
+
+/// Appends the bytes of entries, and adds their item to the items of the buffer's batch. On `Err` some
+/// bytes may stand behind those of the buffer.
+fn write_strings(
+    buf: &mut Vec<u8>,
+    item_batch: &mut LogItemBatch,
+    region_id: u64,
+    mut entry_indexes: Vec<EntryIndex>,
+    entries: &[Vec<u8>],
+) -> Result<()>
+    requires whole { length buf.old.items ≡ 16 + entry_bytes_of item_batch.old }
+    requires some { entry_indexes.items ≢ [] }
+    requires counts { length entry_indexes.items ≡ length entries.now }
+    requires consecutive { IsConsecutive entry_indexes.items }
+    ensures bytes { OnOk result (buf.new.items ≡ buf.old.items ++ concat (map (λ e. e.items) entries.now)) }
+    ensures items { OnOk result (item_batch.new ≡ item_batch.old
+        ++ entries_item region_id (laid (entry_bytes_of item_batch.old)
+        (with_lengths entry_indexes.items (map (λ e. e.items) entries.now))) ∷ []) }
+    ensures accepted { OnOk result (length buf.new.items < 16 + 2 ^ 31) }
+    ensures err { OnErr result (item_batch.new ≡ item_batch.old) }
+    ensures err_bytes { OnErr result (Keeps buf.old.items buf.new.items) }
+    ensures full { IfErr result (λ e. e ≢ Error.Memory → (e ≡ Error.Full) ×
+        (2 ^ 31 ≤ entry_bytes_of item_batch.old + length (concat (map (λ e. e.items) entries.now)))) }
+{
+    append_strings(buf, &mut entry_indexes, entries)?;
+    item_batch.add_entry_indexes(region_id, entry_indexes)
+}
+
+/// Appends the bytes of entries, and sets their lengths. `Full` where an open batch's buffer may not
+/// have so many. On `Err` some bytes may stand behind those of the buffer.
+fn append_strings(
+    buf: &mut Vec<u8>,
+    entry_indexes: &mut Vec<EntryIndex>,
+    entries: &[Vec<u8>],
+) -> Result<()>
+    requires room { 16 ≤ length buf.old.items }
+    requires counts { length entry_indexes.old.items ≡ length entries.now }
+    ensures bytes { OnOk result (buf.new.items ≡ buf.old.items ++ concat (map (λ e. e.items) entries.now)) }
+    ensures lengths { OnOk result (entry_indexes.new.items
+        ≡ with_lengths entry_indexes.old.items (map (λ e. e.items) entries.now)) }
+    ensures accepted { OnOk result (entries.now ≢ [] → length buf.new.items < 16 + 2 ^ 31) }
+    ensures err { OnErr result (Keeps buf.old.items buf.new.items) }
+    ensures full { IfErr result (λ e. e ≢ Error.Memory → (e ≡ Error.Full) ×
+        (2 ^ 31 ≤ length buf.old.items - 16 + length (concat (map (λ e. e.items) entries.now)))) }
+{
+    for (i, bytes) in entries.iter().enumerate() {
+        if buf.len() + bytes.len() > MOST_OPEN_BYTES {
+            return Err(Error::Full);
+        }
+        buf.extend_from_slice(bytes.as_slice())?;
+        entry_indexes[i].entry_len = bytes.len() as u32;
+    }
+    Ok(())
+}
+
+/// Appends the bytes of messages, and adds their item to the items of the buffer's batch. On `Err` some
+/// bytes may stand behind those of the buffer.
+fn write_messages<M: MessageExt>(
+    buf: &mut Vec<u8>,
+    item_batch: &mut LogItemBatch,
+    region_id: u64,
+    entries: &[M::Entry],
+) -> Result<()>
+    requires whole { length buf.old.items ≡ 16 + entry_bytes_of item_batch.old }
+    requires some { entries.now ≢ [] }
+    ensures bytes { OnOk result
+        (buf.new.items ≡ buf.old.items ++ concat (map M.Entry.bytes_of entries.now)) }
+    ensures items { OnOk result (item_batch.new ≡ item_batch.old
+        ++ entries_item region_id (laid (entry_bytes_of item_batch.old)
+        (with_lengths (map (λ e. entry_at (M.index_of e)) entries.now) (map M.Entry.bytes_of entries.now))) ∷ []) }
+    ensures consecutive { OnOk result (IsConsecutive (map (λ e. entry_at (M.index_of e)) entries.now)) }
+    ensures accepted { OnOk result (length buf.new.items < 16 + 2 ^ 31) }
+    ensures err { OnErr result (item_batch.new ≡ item_batch.old) }
+    ensures err_bytes { OnErr result (Keeps buf.old.items buf.new.items) }
+    ensures fault { IfErr result (IsAddFault (OneRefuses M.Entry.refuses entries.now)
+        (map (λ e. entry_at (M.index_of e)) entries.now)
+        (entry_bytes_of item_batch.old + length (concat (map M.Entry.bytes_of entries.now)))) }
+{
+    if !have_consecutive_indexes::<M>(entries) {
+        return Err(Error::InvalidArgument(format!(in *buf.allocator();
+            "the indexes of the entries are not consecutive"
+        )?));
+    }
+    let entry_indexes = append_messages::<M>(buf, entries)?;
+    item_batch.add_entry_indexes(region_id, entry_indexes)
+}
+
+/// Whether the indexes of messages rise by one and none is 2^64 - 1. No message is written for it.
+fn have_consecutive_indexes<M: MessageExt>(entries: &[M::Entry]) -> bool
+    ensures { IsTrue result ↔ IsConsecutive (map (λ e. entry_at (M.index_of e)) entries.now) }
+{
+    let mut index = match entries.first() {
+        Some(first) => M::index(first),
+        None => return true,
+    };
+    for entry in entries {
+        if M::index(entry) != index || index == u64::MAX {
+            return false;
+        }
+        index += 1;
+    }
+    true
+}
+
+/// Appends the bytes of messages, and answers their entries' indexes and lengths. `Full` where an open batch's
+/// buffer may not have so many. On `Err` some bytes may stand behind those of the buffer.
+fn append_messages<M: MessageExt>(
+    buf: &mut Vec<u8>,
+    entries: &[M::Entry],
+) -> Result<Vec<EntryIndex>>
+    requires { 16 ≤ length buf.old.items }
+    ensures bytes { OnOk result
+        (buf.new.items ≡ buf.old.items ++ concat (map M.Entry.bytes_of entries.now)) }
+    ensures lengths { IfOk result (λ es. es.items
+        ≡ with_lengths (map (λ e. entry_at (M.index_of e)) entries.now) (map M.Entry.bytes_of entries.now)) }
+    ensures accepted { OnOk result (entries.now ≢ [] → length buf.new.items < 16 + 2 ^ 31) }
+    ensures err { OnErr result (Keeps buf.old.items buf.new.items) }
+    ensures fault { IfErr result (IsBytesFault (OneRefuses M.Entry.refuses entries.now)
+        (length buf.old.items - 16 + length (concat (map M.Entry.bytes_of entries.now)))) }
+{
+    let mut entry_indexes = Vec::with_capacity(*buf.allocator(), entries.len())?;
+    for entry in entries {
+        let start = buf.len();
+        entry.write_to_vec(buf)?;
+        if buf.len() > MOST_OPEN_BYTES {
+            return Err(Error::Full);
+        }
+        entry_indexes.push(EntryIndex {
+            index: M::index(entry),
+            entry_len: (buf.len() - start) as u32,
+            ..EntryIndex::default()
+        })?;
+    }
+    Ok(entry_indexes)
+}

@@ -1,0 +1,274 @@
+//! One change of one region's records.
+
+ghost use Rattle.std.specs.Prelude.{◌≡◌, ◌≢◌, ◌↔◌, ◌++◌, IsTrue, IfOk, IfErr, OnOk, OnErr};
+ghost use Rattle.std.specs.Option.{option_map};
+ghost use Rattle.raft_base.specs.Reading.{Reads, HasNoFront};
+ghost use Rattle.raft_records.specs.Grammar.{IsItem, IsContent, behind_item, entry_bytes_with};
+ghost use Rattle.raft_records.specs.Item.{item_of, content_of, entries_item, command_item, pair_item};
+ghost use Rattle.raft_records.specs.Faults.{IsItemFault, IsContentFault, IsItemRefusal};
+ghost use Rattle.raft_records.specs.ItemBatch.{placed, raised, CanRaiseContent};
+ghost use Rattle.raft_records.specs.Range.{IsInRange};
+ghost use Rattle.raft_records.specs.Sizes.{item_size, saturated};
+ghost use Rattle.raft_records.specs.Spelling.{Keeps, item_bytes, content_bytes, IsWritable};
+
+use crate::{Command, CompressionType, EntryIndex, EntryIndexes, KeyValue, OpType};
+use raft_base::codec::BytesSlice;
+use raft_base::{Error, FileBlockHandle, Result, codec};
+use std::alloc::{AllocError, Global};
+use std::io;
+use std::io::ErrorKind;
+
+const TYPE_ENTRIES: u8 = 1;
+
+const TYPE_COMMAND: u8 = 2;
+
+const TYPE_KV: u8 = 3;
+
+/// A change of the records of the region `raft_group_id`.
+#[derive(Clone, PartialEq, Eq, Debug, Drop)]
+pub struct LogItem {
+    pub raft_group_id: u64,
+    pub content: LogItemContent,
+}
+
+/// What a log item changes.
+#[derive(Clone, PartialEq, Eq, Debug, Drop)]
+pub enum LogItemContent {
+    /// New entries.
+    EntryIndexes(EntryIndexes),
+    /// A change of the region's log as a whole.
+    Command(Command),
+    /// A change of one key.
+    Kv(KeyValue),
+}
+
+impl LogItem {
+    /// New entries of a region.
+    pub fn new_entry_indexes(raft_group_id: u64, entry_indexes: Vec<EntryIndex>) -> LogItem
+        ensures { item_of result ≡ entries_item raft_group_id entry_indexes.items }
+    {
+        LogItem {
+            raft_group_id,
+            content: LogItemContent::EntryIndexes(EntryIndexes(entry_indexes)),
+        }
+    }
+
+    /// A command on a region's log.
+    pub fn new_command(raft_group_id: u64, command: Command) -> LogItem
+        ensures { item_of result ≡ command_item raft_group_id command }
+    {
+        LogItem {
+            raft_group_id,
+            content: LogItemContent::Command(command),
+        }
+    }
+
+    /// A change of a region's key.
+    pub fn new_kv(
+        raft_group_id: u64,
+        op_type: OpType,
+        key: Vec<u8>,
+        value: Option<Vec<u8>>,
+    ) -> LogItem
+        ensures { item_of result
+            ≡ pair_item raft_group_id op_type key.items (option_map (λ v. v.items) value) }
+    {
+        LogItem {
+            raft_group_id,
+            content: LogItemContent::Kv(KeyValue::new(op_type, key, value)),
+        }
+    }
+
+    /// The approximate length of the item's bytes, held at `usize::MAX`.
+    pub(crate) fn approximate_size(&self) -> usize
+        ensures { result ≡ saturated (item_size (item_of self.now)) }
+    {
+        let content = match &self.content {
+            LogItemContent::EntryIndexes(entries) => entries.approximate_size(),
+            LogItemContent::Command(command) => command.approximate_size(),
+            LogItemContent::Kv(kv) => kv.approximate_size(),
+        };
+        content.saturating_add(8 + 1)
+    }
+
+    /// Gives the item's entries their place, its key value its file.
+    pub(crate) fn place(&mut self, block: FileBlockHandle, compression_type: CompressionType)
+        ensures { item_of self.new ≡ placed block compression_type (item_of self.old) }
+    {
+        match &mut self.content {
+            LogItemContent::EntryIndexes(entries) => entries.place(block, compression_type),
+            LogItemContent::Command(_) => {}
+            LogItemContent::Kv(kv) => kv.file_id = Some(block.id),
+        }
+    }
+
+    /// Puts the bytes of the item's entries `by` bytes further back.
+    pub(crate) fn raise(&mut self, by: u32)
+        requires { CanRaiseContent by (content_of self.old.content) }
+        ensures { item_of self.new ≡ raised by (item_of self.old) }
+    {
+        match &mut self.content {
+            LogItemContent::EntryIndexes(entries) => entries.raise(by),
+            LogItemContent::Command(_) | LogItemContent::Kv(_) => {}
+        }
+    }
+
+    /// The item's numbers are in the ranges of their types. This is a law: it computes nothing.
+    pub(crate) fn numbers_fit(&self)
+        ensures { IsInRange (item_of self.now) }
+    {
+        let _region = self.raft_group_id;
+        match &self.content {
+            LogItemContent::EntryIndexes(entries) => {
+                let _count = entries.0.len();
+            }
+            LogItemContent::Command(Command::Clean) => {}
+            LogItemContent::Command(Command::Compact { index }) => {
+                let _index = *index;
+            }
+            LogItemContent::Kv(kv) => kv.lengths_fit(),
+        }
+    }
+
+    /// Whether the item can be written: its entries are consecutive and their bytes run on, its
+    /// `Put` has a value.
+    fn is_writable(&self) -> bool
+        ensures { IsTrue result ↔ IsWritable (item_of self.now) }
+    {
+        match &self.content {
+            LogItemContent::EntryIndexes(entries) => entries.is_writable(),
+            LogItemContent::Command(_) => true,
+            LogItemContent::Kv(kv) => kv.is_writable(),
+        }
+    }
+
+    /// Appends the item's bytes. What its content can't write is `InvalidArgument`. On `Err` the
+    /// vector is as it was.
+    pub fn encode(&self, alloc: Global, buf: &mut Vec<u8>) -> Result<()>
+        ensures ok { OnOk result (buf.new.items ≡ buf.old.items ++ item_bytes (item_of self.now)) }
+        ensures accepted { OnOk result (IsWritable (item_of self.now)) }
+        ensures err { OnErr result (buf.new.items ≡ buf.old.items) }
+        ensures fault { IfErr result (IsItemRefusal (item_of self.now)) }
+    {
+        if !self.is_writable() {
+            return Err(Error::InvalidArgument(format!(in alloc; "an item can't be written")?));
+        }
+        let len = buf.len();
+        let written = self.write(buf);
+        if written.is_err() {
+            buf.truncate(len);
+        }
+        Ok(written?)
+    }
+
+    /// Appends the item's bytes. On `Err` some bytes may stand behind those of the vector.
+    pub(crate) fn write(&self, buf: &mut Vec<u8>) -> std::result::Result<(), AllocError>
+        ensures ok { OnOk result (buf.new.items ≡ buf.old.items ++ item_bytes (item_of self.now)) }
+        ensures err { OnErr result (Keeps buf.old.items buf.new.items) }
+    {
+        codec::append_var_u64(buf, self.raft_group_id)?;
+        self.content.write(buf)
+    }
+
+    /// Reads an item that stands behind `entries_size` entry bytes from the front, without places
+    /// and file. `entries_size` becomes the end of its entries' bytes. On `Err` it and the slice are
+    /// as they were.
+    pub fn decode(
+        alloc: Global,
+        buf: &mut BytesSlice<'_>,
+        entries_size: &mut u32,
+    ) -> Result<LogItem>
+        ensures ok { IfOk result (λ item.
+            Reads (IsItem entries_size.old) buf.old.now buf.new.now (item_of item)) }
+        ensures size { IfOk result (λ item.
+            entries_size.new ≡ behind_item entries_size.old (item_of item)) }
+        ensures err { OnErr result (buf.new.now ≡ buf.old.now) }
+        ensures size_err { OnErr result (entries_size.new ≡ entries_size.old) }
+        ensures refused { IfErr result (λ e. e ≢ Error.Memory →
+            HasNoFront (IsItem entries_size.old) buf.old.now) }
+        ensures fault { IfErr result (IsItemFault entries_size.old buf.old.now) }
+    {
+        let (item, end, rest) = LogItem::front(alloc, *buf, *entries_size)?;
+        *entries_size = end;
+        *buf = rest;
+        Ok(item)
+    }
+
+    /// The item in front of `bytes`, the end of its entries' bytes, and what is behind it.
+    pub(crate) fn front(
+        alloc: Global,
+        bytes: &[u8],
+        entries_size: u32,
+    ) -> Result<(LogItem, u32, &[u8])>
+        ensures ok { IfOk result (λ read.
+            Reads (IsItem entries_size) bytes.now read.2.now (item_of read.0)) }
+        ensures size { IfOk result (λ read. read.1 ≡ behind_item entries_size (item_of read.0)) }
+        ensures refused { IfErr result (λ e. e ≢ Error.Memory →
+            HasNoFront (IsItem entries_size) bytes.now) }
+        ensures fault { IfErr result (IsItemFault entries_size bytes.now) }
+    {
+        let mut rest = bytes;
+        let raft_group_id = codec::decode_var_u64(&mut rest)?;
+        let (content, end, rest) = LogItemContent::front(alloc, rest, entries_size)?;
+        let item = LogItem {
+            raft_group_id,
+            content,
+        };
+        Ok((item, end, rest))
+    }
+}
+
+impl LogItemContent {
+    /// Appends the type byte and the content's bytes. On `Err` some bytes may stand behind those of
+    /// the vector.
+    fn write(&self, buf: &mut Vec<u8>) -> std::result::Result<(), AllocError>
+        ensures ok { OnOk result (buf.new.items ≡ buf.old.items ++ content_bytes (content_of self.now)) }
+        ensures err { OnErr result (Keeps buf.old.items buf.new.items) }
+    {
+        match self {
+            LogItemContent::EntryIndexes(entries) => {
+                buf.push(TYPE_ENTRIES)?;
+                entries.write(buf)
+            }
+            LogItemContent::Command(command) => {
+                buf.push(TYPE_COMMAND)?;
+                command.write(buf)
+            }
+            LogItemContent::Kv(kv) => {
+                buf.push(TYPE_KV)?;
+                kv.write(buf)
+            }
+        }
+    }
+
+    /// The content in front of `bytes`, the end of its entries' bytes, and what is behind it.
+    fn front(alloc: Global, bytes: &[u8], entries_size: u32) -> Result<(LogItemContent, u32, &[u8])>
+        ensures ok { IfOk result (λ read.
+            Reads (IsContent entries_size) bytes.now read.2.now (content_of read.0)) }
+        ensures size { IfOk result (λ read.
+            read.1 ≡ entry_bytes_with entries_size (content_of read.0)) }
+        ensures refused { IfErr result (λ e. e ≢ Error.Memory →
+            HasNoFront (IsContent entries_size) bytes.now) }
+        ensures fault { IfErr result (IsContentFault entries_size bytes.now) }
+    {
+        let Some((kind, behind)) = bytes.split_first() else {
+            return Err(Error::Io(io::Error::new(ErrorKind::UnexpectedEof, "eof")));
+        };
+        let kind = *kind;
+        match kind {
+            TYPE_ENTRIES => {
+                let (entries, end, rest) = EntryIndexes::front(alloc, behind, entries_size)?;
+                Ok((LogItemContent::EntryIndexes(entries), end, rest))
+            }
+            TYPE_COMMAND => {
+                let (command, rest) = Command::front(alloc, behind)?;
+                Ok((LogItemContent::Command(command), entries_size, rest))
+            }
+            TYPE_KV => {
+                let (kv, rest) = KeyValue::front(alloc, behind)?;
+                Ok((LogItemContent::Kv(kv), entries_size, rest))
+            }
+            _ => Err(Error::Corruption(format!(in alloc; "Unrecognized log item type: {kind}")?)),
+        }
+    }
+}

@@ -1,0 +1,442 @@
+//! Batches of log items, without entry bytes.
+
+ghost use Rattle.std.specs.Prelude.{◌≡◌, ◌≢◌, ℕ, ◌+◌, ◌%◌, ◌^◌, ◌<◌, ◌≤◌, length, Option, List, [], ◌∷◌, ◌++◌, map, Some, None, IfOk, IfErr, OnOk, OnErr};
+ghost use Rattle.std.specs.Vec.Iter.{into_iter_items};
+ghost use Rattle.std.specs.Slice.Iter.{iter_rest};
+ghost use Rattle.raft_base.specs.declared.pipe_log.Version.TheVariants.{V2};
+ghost use Rattle.raft_base.specs.Reading.{Reads, HasNoFront, HasOneFront};
+ghost use Rattle.raft_base.specs.Signature.{signature_of, signature_in};
+ghost use Rattle.raft_records.specs.Grammar.{IsItem, behind_item};
+ghost use Rattle.raft_records.specs.Item.{Item, bare, content_of, item_of, entries_item, command_item, pair_item};
+ghost use Rattle.raft_records.specs.Entries.{IsConsecutive};
+ghost use Rattle.raft_records.specs.ItemBatch.{AreItems, IsItemBatch, IsDecoded, AreItemsFault, IsItemBatchFault, checksum_bytes, batch_bytes, placed, raised, laid, entry_lengths, entry_bytes_of, end_of_items, FitsBehind, IsEncoded, no_checksum, FitTogether, first_entry};
+ghost use Rattle.raft_records.specs.Faults.{IsMemoryOrMessage};
+ghost use Rattle.raft_records.specs.Spelling.{Keeps};
+ghost use Rattle.raft_records.specs.Sizes.{items_size, batch_size, saturated, AreSmall};
+ghost use Rattle.raft_records.specs.Range.{AreInRange};
+ghost use Rattle.raft_records.specs.Written.{ItemIsSpelled, BatchIsSpelled};
+ghost use Rattle.raft_records.specs.declared.key_value.OpType.TheVariants.{Put, Del};
+
+use crate::checksum::{CHECKSUM_LEN, sign, verify_checksum};
+use crate::{Command, CompressionType, EntryIndex, LogItem, LogItemContent, OpType};
+use byteorder::{ByteOrder, LittleEndian};
+use raft_base::codec::BytesSlice;
+use raft_base::util::crc32;
+use raft_base::{Error, FileBlockHandle, LogFileContext, Message, Result, codec};
+use std::alloc::{AllocError, Global};
+use std::marker::Model;
+use std::{mem, slice, vec};
+
+mod traits;
+
+/// The most items that room is made for before they are read.
+const MOST_ITEMS_AT_ONCE: u64 = 1024;
+
+/// Items in order, without the entries' bytes. The bytes of the entries of its items run on from the
+/// first item to the last.
+#[derive(Debug, Drop)]
+pub struct LogItemBatch {
+    items: Vec<LogItem>,
+    /// The approximate size of the items, held at `usize::MAX`.
+    item_size: usize,
+    /// How many bytes the entries have together.
+    entries_size: u32,
+    /// The CRC of the encoded items, where it is known.
+    checksum: Option<u32>,
+}
+
+impl Model for LogItemBatch {
+    ghost use Rattle.std.specs.Prelude.{List};
+    ghost use Rattle.raft_records.specs.Item.{Item};
+
+    ghost Value = { List Item };
+
+    ghost use Rattle.raft_records.specs.BatchModel.{items_in, IsWellFormed};
+
+    ghost view = { items_in };
+
+    ghost invariant = { IsWellFormed };
+}
+
+impl LogItemBatch {
+    /// A batch without items.
+    pub fn default(alloc: Global) -> LogItemBatch
+        ensures { result ≡ [] }
+    {
+        LogItemBatch {
+            items: Vec::new(alloc),
+            item_size: 0,
+            entries_size: 0,
+            checksum: None,
+        }
+    }
+
+    /// A batch without items, with room for `cap` of them.
+    pub fn with_capacity(alloc: Global, cap: usize) -> Result<LogItemBatch>
+        ensures ok { IfOk result (λ batch. batch ≡ []) }
+        ensures memory { IfErr result (λ e. e ≡ Error.Memory) }
+    {
+        Ok(LogItemBatch {
+            items: Vec::with_capacity(alloc, cap)?,
+            item_size: 0,
+            entries_size: 0,
+            checksum: None,
+        })
+    }
+
+    /// The items in order.
+    pub fn into_items(self) -> Vec<LogItem>
+        ensures { map item_of result.items ≡ self }
+    {
+        let LogItemBatch { items, .. } = self;
+        items
+    }
+
+    /// The items in order.
+    pub fn iter(&self) -> slice::Iter<'_, LogItem>
+        ensures { map item_of (iter_rest result) ≡ self.now }
+    {
+        self.items.iter()
+    }
+
+    /// What is written and signed of a batch is read again: its items fit together and their numbers
+    /// are in the ranges of their types. This is a law: it computes nothing.
+    pub fn is_read_again(&self)
+        ensures fit { FitTogether 0 self.now }
+        ensures in_range { AreInRange self.now }
+        ensures spelled { (signature : Option ℕ) →
+            IsItemBatch (batch_bytes self.now ++ checksum_bytes signature (batch_bytes self.now)) signature (map bare self.now) [] }
+    {
+        let _count = self.items.len();
+    }
+
+    /// How many bytes the entries of all items have together.
+    pub fn entries_size(&self) -> u32
+        ensures { result ≡ entry_bytes_of self.now }
+    {
+        self.entries_size
+    }
+
+    /// The approximate length of the batch's bytes, held at `usize::MAX`. It is at least their length
+    /// where all region ids and indexes are below 2^56, of bytes that a log batch can hold.
+    pub fn approximate_size(&self) -> usize
+        ensures size { result ≡ saturated (batch_size self.now) }
+        ensures covers { AreSmall self.now → length (batch_bytes self.now) < 2 ^ 56 →
+            length (batch_bytes self.now) + 4 ≤ result }
+    {
+        self.item_size.saturating_add(8 + CHECKSUM_LEN)
+    }
+
+    /// The first entry of the first item that has entries to list, if it has any.
+    pub fn entry_index(&self) -> Option<EntryIndex>
+        ensures { result ≡ first_entry self.now }
+    {
+        for item in &self.items {
+            if let LogItemContent::EntryIndexes(entries) = &item.content {
+                return entries.0.first().copied();
+            }
+        }
+        None
+    }
+
+    /// Adds entries of a region, whose bytes stand behind those of the batch: their offsets are set
+    /// so. It asks consecutive entries, and that the bytes of all entries stay below 2^32
+    /// (`entries_size` tells those of the batch). On `Err` the batch is as it was.
+    pub fn add_entry_indexes(
+        &mut self,
+        region_id: u64,
+        mut entry_indexes: Vec<EntryIndex>,
+    ) -> Result<()>
+        requires consecutive { IsConsecutive entry_indexes.items }
+        requires room { entry_bytes_of self.old + entry_lengths entry_indexes.items < 2 ^ 32 }
+        ensures ok { OnOk result (self.new ≡ self.old
+            ++ entries_item region_id (laid (entry_bytes_of self.old) entry_indexes.items) ∷ []) }
+        ensures err { OnErr result (self.new ≡ self.old) }
+        ensures memory { IfErr result (λ e. e ≡ Error.Memory) }
+    {
+        let start = self.entries_size();
+        let end = lay(&mut entry_indexes, start);
+        self.add(LogItem::new_entry_indexes(region_id, entry_indexes), end)
+    }
+
+    /// Adds a command on a region's log. On `Err` the batch is as it was.
+    pub fn add_command(&mut self, region_id: u64, command: Command) -> Result<()>
+        ensures ok { OnOk result (self.new ≡ self.old ++ command_item region_id command ∷ []) }
+        ensures err { OnErr result (self.new ≡ self.old) }
+        ensures memory { IfErr result (λ e. e ≡ Error.Memory) }
+    {
+        let entries_size = self.entries_size;
+        self.add(LogItem::new_command(region_id, command), entries_size)
+    }
+
+    /// Adds the removal of a region's key. On `Err` the batch is as it was.
+    pub fn delete(&mut self, region_id: u64, key: Vec<u8>) -> Result<()>
+        ensures ok { OnOk result (self.new ≡ self.old ++ pair_item region_id Del key.items None ∷ []) }
+        ensures err { OnErr result (self.new ≡ self.old) }
+        ensures memory { IfErr result (λ e. e ≡ Error.Memory) }
+    {
+        let entries_size = self.entries_size();
+        self.add(
+            LogItem::new_kv(region_id, OpType::Del, key, None),
+            entries_size,
+        )
+    }
+
+    /// Adds a value of a region's key. On `Err` the batch is as it was.
+    pub fn put(&mut self, region_id: u64, key: Vec<u8>, value: Vec<u8>) -> Result<()>
+        ensures ok { OnOk result (self.new ≡ self.old
+            ++ pair_item region_id Put key.items (Some value.items) ∷ []) }
+        ensures err { OnErr result (self.new ≡ self.old) }
+        ensures memory { IfErr result (λ e. e ≡ Error.Memory) }
+    {
+        let entries_size = self.entries_size();
+        self.add(
+            LogItem::new_kv(region_id, OpType::Put, key, Some(value)),
+            entries_size,
+        )
+    }
+
+    /// Adds a message as the value of a region's key. `Message` where the message refuses to write
+    /// itself. On `Err` the batch is as it was.
+    pub fn put_message<S: Message>(
+        &mut self,
+        alloc: Global,
+        region_id: u64,
+        key: Vec<u8>,
+        message: &S,
+    ) -> Result<()>
+        ensures ok { OnOk result (self.new ≡ self.old
+            ++ pair_item region_id Put key.items (Some (S.bytes_of message.now)) ∷ []) }
+        ensures err { OnErr result (self.new ≡ self.old) }
+        ensures fault { IfErr result (IsMemoryOrMessage (S.refuses message.now)) }
+    {
+        let mut value = Vec::new(alloc);
+        message.write_to_vec(&mut value)?;
+        self.put(region_id, key, value)
+    }
+
+    /// Moves the items of `rhs` behind those of the batch; their entries' bytes stand behind the
+    /// batch's, so that their offsets rise. It asks that the bytes of all entries stay below 2^32. On
+    /// `Err` both are as they were.
+    pub fn merge(&mut self, rhs: &mut LogItemBatch) -> Result<()>
+        requires { entry_bytes_of self.old + entry_bytes_of rhs.old < 2 ^ 32 }
+        ensures ok { OnOk result (self.new ≡ self.old ++ map (raised (entry_bytes_of self.old)) rhs.old) }
+        ensures emptied { OnOk result (rhs.new ≡ []) }
+        ensures err { OnErr result (self.new ≡ self.old) }
+        ensures rhs_err { OnErr result (rhs.new ≡ rhs.old) }
+        ensures memory { IfErr result (λ e. e ≡ Error.Memory) }
+    {
+        self.items.reserve(rhs.items.len())?;
+        raise_items(&mut rhs.items, self.entries_size, rhs.entries_size);
+        if self.items.append(&mut rhs.items).is_err() {
+            unreachable!()
+        }
+        self.item_size = self.item_size.saturating_add(rhs.item_size);
+        self.entries_size += rhs.entries_size;
+        self.checksum = None;
+        rhs.item_size = 0;
+        rhs.entries_size = 0;
+        rhs.checksum = None;
+        Ok(())
+    }
+
+    /// Hands out the items in order, and leaves the batch empty.
+    pub fn drain(&mut self) -> vec::IntoIter<LogItem>
+        ensures items { map item_of (into_iter_items result) ≡ self.old }
+        ensures emptied { self.new ≡ [] }
+    {
+        let alloc = *self.items.allocator();
+        let items = mem::replace(&mut self.items, Vec::new(alloc));
+        self.item_size = 0;
+        self.entries_size = 0;
+        self.checksum = None;
+        items.into_iter()
+    }
+
+    /// Gives every entry its place and every key value its file. It takes no memory.
+    pub(crate) fn place(&mut self, block: FileBlockHandle, compression_type: CompressionType)
+        ensures { self.new ≡ map (placed block compression_type) self.old }
+    {
+        place_items(&mut self.items, block, compression_type);
+    }
+
+    /// Appends the batch's bytes to the vector, four zero bytes in the place of the checksum. On
+    /// `Err` the vector is as it was.
+    pub fn encode(&mut self, buf: &mut Vec<u8>) -> Result<()>
+        ensures ok { OnOk result (buf.new.items ≡ buf.old.items ++ (batch_bytes self.old ++ no_checksum)) }
+        ensures err { OnErr result (buf.new.items ≡ buf.old.items) }
+        ensures same { self.new ≡ self.old }
+        ensures memory { IfErr result (λ e. e ≡ Error.Memory) }
+    {
+        let start = buf.len();
+        let written = write_items(buf, self.items.as_slice());
+        if written.is_err() {
+            buf.truncate(start);
+            return Ok(written?);
+        }
+        let end = buf.len() - CHECKSUM_LEN;
+        self.checksum = Some(crc32(&buf[start..end]));
+        Ok(())
+    }
+
+    /// Writes the checksum, signed for `context`, into the last four of the bytes that `encode` wrote.
+    /// It may be repeated for other contexts.
+    pub fn prepare_write(&self, buf: &mut [u8], context: &LogFileContext)
+        requires { IsEncoded self.now buf.old }
+        ensures { buf.new ≡ batch_bytes self.now
+            ++ checksum_bytes (signature_of context.now) (batch_bytes self.now) }
+    {
+        let end = buf.len() - CHECKSUM_LEN;
+        let checksum = match self.checksum {
+            Some(checksum) => checksum,
+            None => crc32(&buf[..end]),
+        };
+        LittleEndian::write_u32(&mut buf[end..], sign(checksum, context.get_signature()));
+    }
+
+    /// Reads the item batch that the whole slice is, in the file of `context`. Every entry gets the
+    /// place `entries` and the compression type, every key value the file of `entries`. The slice then
+    /// holds the bytes between the last item and the checksum, which are free. On `Err` it is as it
+    /// was.
+    pub fn decode(
+        alloc: Global,
+        buf: &mut BytesSlice<'_>,
+        entries: FileBlockHandle,
+        compression_type: CompressionType,
+        context: &LogFileContext,
+    ) -> Result<LogItemBatch>
+        ensures ok { IfOk result (λ batch.
+            IsDecoded buf.old.now (signature_of context.now) entries compression_type batch buf.new.now) }
+        ensures err { OnErr result (buf.new.now ≡ buf.old.now) }
+        ensures refused { IfErr result (λ e. e ≢ Error.Memory → (items : List Item) (rest : List ℕ) →
+            IsItemBatch buf.old.now (signature_of context.now) items rest → ⊥) }
+        ensures fault { IfErr result (IsItemBatchFault (signature_of context.now) buf.old.now) }
+    {
+        let content = verify_checksum(alloc, *buf, context.get_signature())?;
+        let mut behind = content;
+        let count = codec::decode_var_u64(&mut behind)?;
+        let (batch, rest) = items_front(alloc, behind, count, entries, compression_type)?;
+        *buf = rest;
+        Ok(batch)
+    }
+
+    /// Adds an item whose entries' bytes, if any, begin where those of the batch end, and end at
+    /// `entries_size`.
+    #[inline(always)]
+    fn add(&mut self, item: LogItem, entries_size: u32) -> Result<()>
+        requires fits { FitsBehind (entry_bytes_of self.old) (content_of item.content) }
+        requires end { entries_size ≡ behind_item (entry_bytes_of self.old) (item_of item) }
+        ensures ok { OnOk result (self.new ≡ self.old ++ item_of item ∷ []) }
+        ensures err { OnErr result (self.new ≡ self.old) }
+        ensures memory { IfErr result (λ e. e ≡ Error.Memory) }
+    {
+        item.numbers_fit();
+        let size = item.approximate_size();
+        self.items.push(item)?;
+        self.item_size = self.item_size.saturating_add(size);
+        self.entries_size = entries_size;
+        self.checksum = None;
+        Ok(())
+    }
+}
+
+/// What is written of an item is a spelling of it, and no spelling of an item begins another, so it is
+/// read again, whatever follows it. What is written and signed of a batch is an item batch of its
+/// items. Bytes are an item batch of one list of items, with one rest.
+pub fn items_are_read_again()
+    ensures item { ItemIsSpelled }
+    ensures one_front { (s : ℕ) → HasOneFront (IsItem s) }
+    ensures batch { BatchIsSpelled }
+    ensures one_batch { (bytes rest rest' : List ℕ) (signature : Option ℕ) (items items' : List Item) →
+        IsItemBatch bytes signature items rest → IsItemBatch bytes signature items' rest' →
+        (items ≡ items') × (rest ≡ rest') }
+{}
+
+/// Bytes that are an item batch in one file of version 2 are none in another file of version 2, unless
+/// the low 32 bits of the files' numbers agree; and then they are the same one.
+pub fn batches_belong_to_one_file()
+    ensures other_file { (bytes rest rest' : List ℕ) (seq seq' : ℕ) (items items' : List Item) →
+        IsItemBatch bytes (signature_in V2 seq) items rest →
+        IsItemBatch bytes (signature_in V2 seq') items' rest' → seq % 2 ^ 32 ≡ seq' % 2 ^ 32 }
+    ensures same_bits { (bytes rest : List ℕ) (seq seq' : ℕ) (items : List Item) →
+        seq % 2 ^ 32 ≡ seq' % 2 ^ 32 → IsItemBatch bytes (signature_in V2 seq) items rest →
+        IsItemBatch bytes (signature_in V2 seq') items rest }
+{}
+
+/// Appends the count, the items and four zero bytes. On `Err` some bytes may stand behind those of
+/// the vector.
+fn write_items(buf: &mut Vec<u8>, items: &[LogItem]) -> std::result::Result<(), AllocError>
+    ensures ok { OnOk result
+        (buf.new.items ≡ buf.old.items ++ (batch_bytes (map item_of items.now) ++ no_checksum)) }
+    ensures err { OnErr result (Keeps buf.old.items buf.new.items) }
+{
+    codec::append_var_u64(buf, items.len() as u64)?;
+    for item in items {
+        item.write(buf)?;
+    }
+    buf.extend_from_slice(&[0; CHECKSUM_LEN])?;
+    Ok(())
+}
+
+/// The `count` items in front of `bytes`, each in its place, and what is behind them.
+fn items_front(
+    alloc: Global,
+    bytes: &[u8],
+    count: u64,
+    block: FileBlockHandle,
+    compression_type: CompressionType,
+) -> Result<(LogItemBatch, &[u8])>
+    ensures ok { IfOk result (λ read. (items : List Item) ×
+        Reads (AreItems count) bytes.now read.1.now items × (read.0 ≡ map (placed block compression_type) items)) }
+    ensures refused { IfErr result (λ e. e ≢ Error.Memory → HasNoFront (AreItems count) bytes.now) }
+    ensures fault { IfErr result (AreItemsFault count bytes.now) }
+{
+    // Each item takes a byte at least; a long list grows as its items are read.
+    let room = count.min(bytes.len() as u64).min(MOST_ITEMS_AT_ONCE);
+    let mut batch = LogItemBatch::with_capacity(alloc, room as usize)?;
+    let mut rest = bytes;
+    for _ in 0..count {
+        let start = batch.entries_size();
+        let (mut item, end, behind) = LogItem::front(alloc, rest, start)?;
+        item.place(block, compression_type);
+        batch.add(item, end)?;
+        rest = behind;
+    }
+    Ok((batch, rest))
+}
+
+/// Gives each item its place.
+fn place_items(items: &mut Vec<LogItem>, block: FileBlockHandle, compression_type: CompressionType)
+    ensures { map item_of items.new.items
+        ≡ map (placed block compression_type) (map item_of items.old.items) }
+{
+    for item in items.iter_mut() {
+        item.place(block, compression_type);
+    }
+}
+
+/// Lays the bytes of entries one behind the other from `start` on, and answers where they end.
+fn lay(entries: &mut Vec<EntryIndex>, start: u32) -> u32
+    requires { start + entry_lengths entries.old.items < 2 ^ 32 }
+    ensures laid { entries.new.items ≡ laid start entries.old.items }
+    ensures end { result ≡ start + entry_lengths entries.old.items }
+{
+    let mut offset = start;
+    for entry in entries.iter_mut() {
+        entry.entry_offset = offset;
+        offset += entry.entry_len;
+    }
+    offset
+}
+
+/// Puts the bytes of all entries `by` bytes further back; `end` is where they end before.
+fn raise_items(items: &mut Vec<LogItem>, by: u32, end: u32)
+    requires fit { FitTogether 0 (map item_of items.old.items) }
+    requires end { end ≡ entry_bytes_of (map item_of items.old.items) }
+    requires room { by + end < 2 ^ 32 }
+    ensures { map item_of items.new.items ≡ map (raised by) (map item_of items.old.items) }
+{
+    for item in items.iter_mut() {
+        item.raise(by);
+    }
+}

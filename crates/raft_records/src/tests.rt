@@ -1,0 +1,363 @@
+//! Items and batches of items, as the Rust crate writes and reads them.
+
+ghost use Rattle.std.specs.Prelude.{◌≡◌};
+
+mod refusals;
+
+use super::*;
+use raft_base::{Error, FileBlockHandle, FileId, LogFileContext, LogQueue, Result, Version};
+use std::alloc::Global;
+
+/// Whether this is the first refusal of memory in a test; each is run with one refusal at most.
+pub(crate) fn is_only_refusal(error: &Error, refused: &mut bool) -> bool {
+    let is_first = !*refused;
+    *refused = true;
+    is_first && matches!(error, Error::Memory)
+}
+
+/// Whether these bytes were written, or nothing was for want of memory.
+fn is_written(written: Result<()>, buf: &Vec<u8>, bytes: &[u8], refused: &mut bool) -> bool {
+    match written {
+        Ok(()) => buf.as_slice() == bytes,
+        Err(e) => is_only_refusal(&e, refused) && buf.is_empty(),
+    }
+}
+
+#[test]
+fn commands(rt: HostRuntime) {
+    let mut refused = false;
+    for (command, bytes) in [
+        (Command::Clean, b"\x01".as_slice()),
+        (Command::Compact { index: 7 }, b"\x02\x07".as_slice()),
+        (Command::Compact { index: 300 }, b"\x02\xac\x02".as_slice()),
+        (
+            Command::Compact { index: u64::MAX },
+            b"\x02\xff\xff\xff\xff\xff\xff\xff\xff\xff\x01".as_slice(),
+        ),
+    ] {
+        let mut buf = Vec::new(rt.alloc());
+        let written = command.encode(&mut buf);
+        assert!(rt; is_written(written, &buf, bytes, &mut refused));
+        let mut rest = bytes;
+        let read = Command::decode(rt.alloc(), &mut rest);
+        assert!(rt; matches!(&read, Ok(same) if *same == command));
+    }
+}
+
+/// A change of one key.
+fn key_value(alloc: Global, op_type: OpType, key: &[u8], value: Option<&[u8]>) -> Result<KeyValue> {
+    let key = Vec::from_slice(alloc, key)?;
+    let value = match value {
+        Some(value) => Some(Vec::from_slice(alloc, value)?),
+        None => None,
+    };
+    Ok(KeyValue::new(op_type, key, value))
+}
+
+#[test]
+fn key_values(rt: HostRuntime) {
+    let mut refused = false;
+    let put = b"\x01\x03\x70\x75\x74\x05\x70\x75\x74\x5f\x76".as_slice();
+    let del = b"\x02\x03\x64\x65\x6c".as_slice();
+    let mut long_put = [0xff; 135];
+    long_put[..5].copy_from_slice(b"\x01\x01k\x82\x01");
+    for (op_type, key, value, bytes) in [
+        (OpType::Put, "put", Some(b"put_v".as_slice()), put),
+        (
+            OpType::Put,
+            "",
+            Some(b"".as_slice()),
+            b"\x01\x00\x00".as_slice(),
+        ),
+        (
+            OpType::Put,
+            "k",
+            Some([0xff; 130].as_slice()),
+            long_put.as_slice(),
+        ),
+        (OpType::Del, "del", None, del),
+        (OpType::Del, "del", Some(b"del_v".as_slice()), del),
+        (OpType::Del, "", None, b"\x02\x00".as_slice()),
+    ] {
+        let mut buf = Vec::new(rt.alloc());
+        let written = match key_value(rt.alloc(), op_type, key.as_bytes(), value) {
+            Ok(kv) => kv.encode(rt.alloc(), &mut buf),
+            Err(e) => Err(e),
+        };
+        assert!(rt; is_written(written, &buf, bytes, &mut refused));
+    }
+}
+
+/// Entries of these lengths, one behind the other, the first with this index.
+fn run_of(alloc: Global, first: u64, lengths: &[u32]) -> Result<EntryIndexes> {
+    let mut entries = Vec::new(alloc);
+    let mut index = first;
+    let mut entry_offset = 0u32;
+    for entry_len in lengths {
+        entries.push(EntryIndex {
+            index,
+            entry_offset,
+            entry_len: *entry_len,
+            ..EntryIndex::default()
+        })?;
+        index = index.wrapping_add(1);
+        entry_offset = entry_offset.saturating_add(*entry_len);
+    }
+    Ok(EntryIndexes(entries))
+}
+
+/// The first index and the lengths of entries, and their bytes.
+const ENTRIES: [(u64, &[u32], &[u8]); 7] = [
+    (0, &[], b"\x00"),
+    (10, &[1, 1, 1], b"\x03\x0a\x01\x02\x03"),
+    (10, &[2, 1], b"\x02\x0a\x02\x03"),
+    (7, &[0, 0, 5, 0], b"\x04\x07\x00\x00\x05\x05"),
+    (
+        300,
+        &[128, 16_384, 1],
+        b"\x03\xac\x02\x80\x01\x80\x81\x01\x81\x81\x01",
+    ),
+    (
+        18_446_744_073_709_551_614,
+        &[1],
+        b"\x01\xfe\xff\xff\xff\xff\xff\xff\xff\xff\x01\x01",
+    ),
+    (
+        1 << 56,
+        &[u32::MAX],
+        b"\x01\x80\x80\x80\x80\x80\x80\x80\x80\x01\xff\xff\xff\xff\x0f",
+    ),
+];
+
+#[test]
+fn entries_are_their_tail_offsets(rt: HostRuntime) {
+    let mut refused = false;
+    for (first, lengths, bytes) in ENTRIES {
+        let mut buf = Vec::new(rt.alloc());
+        let written = match run_of(rt.alloc(), first, lengths) {
+            Ok(entries) => entries.encode(rt.alloc(), &mut buf),
+            Err(e) => Err(e),
+        };
+        assert!(rt; is_written(written, &buf, bytes, &mut refused));
+    }
+}
+
+/// What is read in front of bytes.
+#[derive(Clone, Copy)]
+enum Read {
+    /// An item, behind which so many entry bytes and so many bytes are.
+    Item(u32, usize),
+    /// A type that none is known of, in the words of the refusal.
+    Unrecognized(&'static str),
+    Corruption,
+    Codec,
+    Io,
+}
+
+/// Whether this is read in front of the bytes, and an item is written as it was read.
+fn is_item_row(alloc: Global, bytes: &[u8], read: Read, refused: &mut bool) -> bool {
+    let mut rest = bytes;
+    let mut size = 0;
+    match LogItem::decode(alloc, &mut rest, &mut size) {
+        Ok(item) => {
+            let mut buf = Vec::new(alloc);
+            let written = item.encode(alloc, &mut buf);
+            let front = bytes.strip_suffix(rest).unwrap_or(bytes);
+            matches!(read, Read::Item(end, left) if size == end && rest.len() == left)
+                && is_written(written, &buf, front, refused)
+        }
+        Err(e) => match (read, &e) {
+            (Read::Unrecognized(text), Error::Corruption(found)) => found.as_str() == text,
+            (Read::Corruption, Error::Corruption(_)) => true,
+            (Read::Codec, Error::Codec(_)) => true,
+            (Read::Io, Error::Io(_)) => true,
+            _ => is_only_refusal(&e, refused),
+        },
+    }
+}
+
+/// Bytes, and what is read in front of them.
+const ITEMS: [(&[u8], Read); 31] = [
+    (b"", Read::Codec),
+    (b"\x01", Read::Io),
+    (b"\x01\x01", Read::Codec),
+    (b"\x01\x01\x02", Read::Codec),
+    (b"\x01\x01\x02\x01", Read::Codec),
+    (b"\x01\x02\x01", Read::Item(0, 0)),
+    (b"\x01\x02\x02", Read::Codec),
+    (
+        b"\x01\x02\x03",
+        Read::Unrecognized("Unrecognized command type: 3"),
+    ),
+    (b"\x01\x01\x02\x07", Read::Codec),
+    (b"\x01\x02", Read::Codec),
+    (
+        b"\x01\x02\x07",
+        Read::Unrecognized("Unrecognized command type: 7"),
+    ),
+    (b"\x01\x02\x02\x07", Read::Item(0, 0)),
+    (b"\x01\x03", Read::Codec),
+    (b"\x01\x03\x01", Read::Codec),
+    (b"\x01\x03\x01\x03put", Read::Codec),
+    (b"\x01\x03\x02\x00", Read::Item(0, 0)),
+    (b"\x01\x03\x02", Read::Codec),
+    (
+        b"\x01\x03\x00",
+        Read::Unrecognized("Unrecognized op type: 0"),
+    ),
+    (
+        b"\x01\x03\x03",
+        Read::Unrecognized("Unrecognized op type: 3"),
+    ),
+    (b"\x01\x03\x01\x03put\x05put_v", Read::Item(0, 0)),
+    (b"\x01\x03\x01\x05p", Read::Corruption),
+    (
+        b"\x01\x04",
+        Read::Unrecognized("Unrecognized log item type: 4"),
+    ),
+    (
+        b"\x01\x00",
+        Read::Unrecognized("Unrecognized log item type: 0"),
+    ),
+    (b"\x80\x01\x02\x01", Read::Item(0, 0)),
+    (b"\x01\x01\x03\x01", Read::Codec),
+    (b"\x01\x01\x00\x0a", Read::Item(0, 1)),
+    (b"\x01\x01\x02\x0a\x01\x05", Read::Item(5, 0)),
+    (b"\x01\x01\x03\x0a\x01\x02\x03", Read::Item(3, 0)),
+    (b"\x01\x01\x02\x05\x03\x02", Read::Corruption),
+    (
+        b"\x01\x01\x01\xfe\xff\xff\xff\xff\xff\xff\xff\xff\x01\x01",
+        Read::Item(1, 0),
+    ),
+    (
+        b"\x01\x01\x02\xfe\xff\xff\xff\xff\xff\xff\xff\xff\x01\x01\x01",
+        Read::Corruption,
+    ),
+];
+
+#[test]
+fn items(rt: HostRuntime) {
+    let mut refused = false;
+    for (bytes, read) in ITEMS {
+        assert!(rt;
+            is_item_row(rt.alloc(), bytes, read, &mut refused),
+            "at {bytes:?}"
+        );
+    }
+}
+
+/// The batch's bytes in a file of the append queue.
+fn sealed(alloc: Global, batch: &mut LogItemBatch, seq: u64, version: Version) -> Result<Vec<u8>> {
+    let context = LogFileContext::new(FileId::new(LogQueue::Append, seq), version);
+    let mut buf = Vec::new(alloc);
+    batch.encode(&mut buf)?;
+    batch.prepare_write(buf.as_mut_slice(), &context);
+    Ok(buf)
+}
+
+/// Whether these are the bytes, or there was no memory for them.
+fn is_sealed_so(sealed: Result<Vec<u8>>, bytes: &[u8], refused: &mut bool) -> bool {
+    match sealed {
+        Ok(buf) => buf.as_slice() == bytes,
+        Err(e) => is_only_refusal(&e, refused),
+    }
+}
+
+/// Whether these bytes are a batch without items in the file. It takes no memory to read one.
+fn is_empty_batch(alloc: Global, bytes: &[u8], seq: u64, version: Version) -> bool {
+    let context = LogFileContext::new(FileId::new(LogQueue::Append, seq), version);
+    let place = FileBlockHandle {
+        id: context.id,
+        offset: 0,
+        len: 0,
+    };
+    let mut rest = bytes;
+    match LogItemBatch::decode(alloc, &mut rest, place, CompressionType::None, &context) {
+        Ok(batch) => batch.into_items().is_empty() && rest.is_empty(),
+        Err(_refusal) => false,
+    }
+}
+
+#[test]
+fn empty_batch(rt: HostRuntime) {
+    let mut refused = false;
+    let mut batch = LogItemBatch::default(rt.alloc());
+    assert!(rt; batch.approximate_size() == 12);
+    for (seq, version, bytes) in [
+        (12, Version::V1, b"\x00\x8d\xef\x02\xd2"),
+        (12, Version::V2, b"\x00\x81\xef\x02\xd2"),
+        (13, Version::V2, b"\x00\x80\xef\x02\xd2"),
+        (0x1_0000_000c, Version::V2, b"\x00\x81\xef\x02\xd2"),
+        (u64::MAX, Version::V2, b"\x00\x72\x10\xfd\x2d"),
+    ] {
+        let written = sealed(rt.alloc(), &mut batch, seq, version);
+        assert!(rt; is_sealed_so(written, bytes, &mut refused));
+        assert!(rt; is_empty_batch(rt.alloc(), bytes, seq, version));
+        assert!(rt; !is_empty_batch(rt.alloc(), bytes, seq ^ 1, Version::V2));
+    }
+}
+
+/// A put and a delete, as one batch.
+fn put_and_delete(alloc: Global) -> Result<LogItemBatch> {
+    let mut batch = LogItemBatch::with_capacity(alloc, 2)?;
+    let key = Vec::from_slice(alloc, b"put")?;
+    batch.put(1, key, Vec::from_slice(alloc, b"put_v")?)?;
+    batch.delete(1, Vec::new(alloc))?;
+    Ok(batch)
+}
+
+/// An entry of one byte.
+fn entry(index: u64) -> EntryIndex
+    ensures index { result.index ≡ index }
+    ensures len { result.entry_len ≡ 1 }
+{
+    EntryIndex {
+        index,
+        entry_len: 1,
+        ..EntryIndex::default()
+    }
+}
+
+/// Three entries of region 7 and, in a batch that was merged into theirs, two of region 8.
+fn merged(alloc: Global) -> Result<LogItemBatch> {
+    let mut batch = LogItemBatch::default(alloc);
+    batch.add_entry_indexes(
+        7,
+        Vec::from_slice(alloc, &[entry(10), entry(11), entry(12)])?,
+    )?;
+    let mut behind = LogItemBatch::default(alloc);
+    behind.add_entry_indexes(8, Vec::from_slice(alloc, &[entry(1), entry(2)])?)?;
+    batch.merge(&mut behind)?;
+    Ok(batch)
+}
+
+/// The batch's approximate size, its bytes in the file 12, and how many items it hands out.
+fn drained(alloc: Global, built: Result<LogItemBatch>) -> Result<(usize, Vec<u8>, usize)> {
+    let mut batch = built?;
+    let bytes = sealed(alloc, &mut batch, 12, Version::V1)?;
+    Ok((batch.approximate_size(), bytes, batch.drain().count()))
+}
+
+#[test]
+fn built_batches(rt: HostRuntime) {
+    let mut refused = false;
+    for (built, size, bytes) in [
+        (
+            put_and_delete(rt.alloc()),
+            72,
+            b"\x02\x01\x03\x01\x03put\x05put_v\x01\x03\x02\x00\xf3\xf9\x46\xa8".as_slice(),
+        ),
+        (
+            merged(rt.alloc()),
+            102,
+            b"\x02\x07\x01\x03\x0a\x01\x02\x03\x08\x01\x02\x01\x04\x05\xdc\x30\x8b\x52".as_slice(),
+        ),
+    ] {
+        match drained(rt.alloc(), built) {
+            Ok((approximate, written, items)) => {
+                assert!(rt; approximate == size && written.as_slice() == bytes && items == 2);
+            }
+            Err(e) => assert!(rt; is_only_refusal(&e, &mut refused)),
+        }
+    }
+}

@@ -1,0 +1,156 @@
+-- Parts of a table's entries, as a fetch takes them.
+use Rattle.std.proofs.Common.{◌≡◌, ℕ, zero, suc, ◌+◌, ◌-◌, ◌<◌, ◌≤◌, ◌⊎◌, inl, inr, min, max, true, false, List, [], ◌∷◌, ◌++◌, length, get_or, take, drop, Option, Some, None, refl, sym, ap, ◌∙◌, subst, arith}
+use Rattle.std.specs.List.{prefix_len, slice_get, take_while}
+use Rattle.std.proofs.lemmas.List.{take_at, drop_at, length-take, length-drop, take-take, take_min, drop_min, drop-take, get_or-drop, get_or-take}
+use Rattle.std.proofs.lemmas.List.Sums.{sum_by_more}
+use Rattle.std.proofs.lemmas.Bool.{cases_lt}
+use Rattle.std.proofs.lemmas.Bool.Decides.{nat_tests}
+use Rattle.raft_base.specs.declared.pipe_log.LogQueue.TheVariants.{Append, Rewrite}
+use Rattle.raft_records.specs.declared.entry_index.EntryIndex.{EntryIndex}
+use Rattle.raft_table.specs.Entries.{IsSound, start_of, from, placed_in, entries_in}
+use Rattle.raft_table.specs.Fetches.{between, total_len, is_too_many, IsLimitCount, FetchesWithin, NotFound, Found, range_answer, appended_before, block_count, change_count, entry_seq, first_seq}
+use Rattle.raft_table.specs.Rewriting.{is_placed_before}
+use Rattle.raft_table.proofs.RunLemmas.{RisesFrom-take}
+use Rattle.raft_table.proofs.SoundLemmas.{sound_rising}
+use Rattle.raft_table.proofs.StartLemmas.{sound_end}
+use Rattle.raft_table.proofs.RewriteLemmas.{below_is, from_is}
+
+take_append : {X : Type 0} (n : ℕ) (xs ys : List X) → take n (xs ++ ys) ≡ take n xs ++ take (n - length xs) ys
+take_append n [] ys = none n
+  where
+    none : (n : ℕ) → take n ys ≡ take n [] ++ take (n - 0) ys
+    none zero = refl
+    none (suc n) = let e : suc n - 0 ≡ suc n = omega arith in rw e refl
+take_append zero (x ∷ xs) ys = let e : 0 - suc (length xs) ≡ 0 = omega arith in rw e refl
+take_append (suc n) (x ∷ xs) ys = let e : suc n - suc (length xs) ≡ n - length xs = omega arith in rw e (ap (λ zs. x ∷ zs) (take_append n xs ys))
+
+drop_append : {X : Type 0} (n : ℕ) (xs ys : List X) → drop n (xs ++ ys) ≡ drop n xs ++ drop (n - length xs) ys
+drop_append n [] ys = none n
+  where
+    none : (n : ℕ) → drop n ys ≡ drop n [] ++ drop (n - 0) ys
+    none zero = refl
+    none (suc n) = let e : suc n - 0 ≡ suc n = omega arith in rw e refl
+drop_append zero (x ∷ xs) ys = let e : 0 - suc (length xs) ≡ 0 = omega arith in rw e refl
+drop_append (suc n) (x ∷ xs) ys = let e : suc n - suc (length xs) ≡ n - length xs = omega arith in rw e (drop_append n xs ys)
+
+take_same : {X : Type 0} (a b : ℕ) (xs : List X) → min a (length xs) ≡ min b (length xs) → take a xs ≡ take b xs
+take_same a b xs h = sym (take_min a xs) ∙ ap (λ k. take k xs) h ∙ take_min b xs
+
+-- a part of a list, by where it begins and how long it is
+pub part_is : {X : Type 0} (a b : ℕ) (xs : List X) → a ≤ b → drop a (take b xs) ≡ take (b - a) (drop a xs)
+part_is a b xs h = ap (λ k. drop a (take k xs)) (let e : b ≡ a + (b - a) = omega arith in e) ∙ drop-take a (b - a) xs
+
+-- a part of two lists, one behind the other
+pub part_of_two : {X : Type 0} (a b : ℕ) (xs ys : List X) → a ≤ b → let m = length xs in drop a (take b (xs ++ ys)) ≡ take (min b m - min a m) (drop (min a m) xs) ++ take (max b m - m - (max a m - m)) (drop (max a m - m) ys)
+part_of_two a b xs ys h =
+    let m = length xs in
+    let lt = length-take b xs in
+    let ld = length-drop a xs in
+    let x : a - length (take b xs) ≡ max a m - m = omega arith in
+    let first : drop a (take b xs) ≡ take (min b m - min a m) (drop (min a m) xs) =
+    part_is a b xs h ∙ take_same (b - a) (min b m - min a m) (drop a xs) (omega arith) ∙ ap (take (min b m - min a m)) (sym (drop_min a xs)) in
+    let second : drop (a - length (take b xs)) (take (b - m) ys) ≡ take (max b m - m - (max a m - m)) (drop (max a m - m) ys) =
+    ap (λ k. drop k (take (b - m) ys)) x ∙ part_is (max a m - m) (b - m) ys (omega arith)
+    ∙ ap (λ k. take k (drop (max a m - m) ys)) (let e : b - m - (max a m - m) ≡ max b m - m - (max a m - m) = omega arith in e) in
+    ap (drop a) (take_append b xs ys) ∙ drop_append a (take b xs) (take (b - m) ys) ∙ rw (first, second) refl
+
+-- the total with one more length
+pub total_more : (xs : List EntryIndex) (n : ℕ) (d : EntryIndex) → n < length xs → total_len (suc n) xs ≡ total_len n xs + (get_or xs n d).entry_len
+total_more xs n d l = let e : n + 1 ≡ suc n = omega arith in rw e at (sum_by_more (λ y. y.entry_len) xs n d l)
+
+too_many : (limit n total len : ℕ) (xs : List EntryIndex) (d : EntryIndex) → n < length xs → total ≡ total_len n xs → len ≡ (get_or xs n d).entry_len → limit < total + len → 0 < total → is_too_many (Some limit) n xs ≡ true
+too_many limit n total len xs d l e f g h = let t = total_more xs n d l in grind (arith, nat_tests)
+
+few_enough : (limit n total len : ℕ) (xs : List EntryIndex) (d : EntryIndex) → n < length xs → total ≡ total_len n xs → len ≡ (get_or xs n d).entry_len → ((limit < total + len) × (total ≤ 0)) ⊎ (total + len ≤ limit) → is_too_many (Some limit) n xs ≡ false
+few_enough limit n total len xs d l e f (inl g) = let t = total_more xs n d l in grind (arith, nat_tests)
+few_enough limit n total len xs d l e f (inr g) = let t = total_more xs n d l in grind (arith, nat_tests)
+
+-- a loop over the lengths, where it stops and where it goes on
+pub limit_stops : (limit n total len : ℕ) (xs : List EntryIndex) (d : EntryIndex) → n < length xs → total ≡ total_len n xs → len ≡ (get_or xs n d).entry_len → limit < total + len → 0 < total → ((m : ℕ) → m < n → is_too_many (Some limit) m xs ≡ false) → IsLimitCount (Some limit) xs n
+limit_stops limit n total len xs d l e f g h k = record { there = omega arith; fit = k; stops = λ _. too_many limit n total len xs d l e f g h }
+
+pub limit_more : (limit n total len : ℕ) (xs : List EntryIndex) (d : EntryIndex) → n < length xs → total ≡ total_len n xs → len ≡ (get_or xs n d).entry_len → ((limit < total + len) × (total ≤ 0)) ⊎ (total + len ≤ limit) → ((m : ℕ) → m < n → is_too_many (Some limit) m xs ≡ false) → (total + len ≡ total_len (suc n) xs) × ((m : ℕ) → m < suc n → is_too_many (Some limit) m xs ≡ false)
+limit_more limit n total len xs d l e f g k =
+    let t = total_more xs n d l in (
+      omega arith,
+      λ m b. elim (cases_lt m n) [
+        | inl a ↦ k m a
+        | inr a ↦ subst (λ i. is_too_many (Some limit) i xs ≡ false) (let q : n ≡ m = omega arith in q) (few_enough limit n total len xs d l e f g)
+      ],
+    )
+
+pub part_at : (a b i : ℕ) (xs : List EntryIndex) (d : EntryIndex) → a ≤ i → i < b → get_or (drop a (take b xs)) (i - a) d ≡ get_or xs i d
+part_at a b i xs d h l =
+    get_or-drop a (take b xs) (i - a) d ∙ ap (λ k. get_or (take b xs) k d) (let e : a + (i - a) ≡ i = omega arith in e) ∙ get_or-take b xs i d l
+
+-- sound entries by queue
+pub rewritten_is : (es : List EntryIndex) → IsSound es → placed_in Rewrite es ≡ take (entries_in Rewrite es) es
+rewritten_is es h = sym (ap (take (entries_in Rewrite es)) h.in_front ∙ take_at (placed_in Rewrite es) (placed_in Append es) (entries_in Rewrite es) refl)
+
+pub appended_is : (es : List EntryIndex) → IsSound es → placed_in Append es ≡ drop (entries_in Rewrite es) es
+appended_is es h = sym (ap (drop (entries_in Rewrite es)) h.in_front ∙ drop_at (placed_in Rewrite es) (placed_in Append es) (entries_in Rewrite es) refl)
+
+slice_get_drop : {X : Type 0} (n : ℕ) (xs : List X) → slice_get (drop n xs) 0 ≡ slice_get xs n
+slice_get_drop zero [] = refl
+slice_get_drop zero (x ∷ xs) = refl
+slice_get_drop (suc n) [] = refl
+slice_get_drop (suc n) (x ∷ xs) = slice_get_drop n xs
+
+slice_get_take : {X : Type 0} (n : ℕ) (xs : List X) → 0 < n → slice_get (take n xs) 0 ≡ slice_get xs 0
+slice_get_take zero xs l = absurd (omega arith)
+slice_get_take (suc n) [] l = refl
+slice_get_take (suc n) (x ∷ xs) l = refl
+
+pub first_appended : (es : List EntryIndex) → IsSound es → first_seq Append es ≡ entry_seq (slice_get es (entries_in Rewrite es))
+first_appended es h = ap entry_seq (ap (λ xs. slice_get xs 0) (appended_is es h) ∙ slice_get_drop (entries_in Rewrite es) es)
+
+pub first_rewritten : (es : List EntryIndex) → IsSound es → 0 < entries_in Rewrite es → first_seq Rewrite es ≡ entry_seq (slice_get es 0)
+first_rewritten es h l = ap entry_seq (ap (λ xs. slice_get xs 0) (rewritten_is es h) ∙ slice_get_take (entries_in Rewrite es) es l)
+
+pub none_rewritten : (es : List EntryIndex) → IsSound es → entries_in Rewrite es ≡ 0 → first_seq Rewrite es ≡ None
+none_rewritten es h n = ap entry_seq (ap (λ xs. slice_get xs 0) (rewritten_is es h ∙ ap (λ k. take k es) n))
+
+-- the appended entries at or below a gate
+pub appended_before_is : (gate n r : ℕ) (es : List EntryIndex) → IsSound es → r ≡ entries_in Rewrite es → n ≡ prefix_len (is_placed_before gate) (drop r es) → appended_before gate es ≡ drop r (take (r + n) es)
+appended_before_is gate n r es h k e =
+    ap (take_while (is_placed_before gate)) (appended_is es h ∙ ap (λ i. drop i es) (sym k)) ∙ ap (λ i. take i (drop r es)) (sym e) ∙ sym (drop-take r n es)
+
+-- what a range answers, over entries that are sound
+pub range_behind : (begin end : ℕ) (es : List EntryIndex) → IsSound es → 0 < length es → begin < end → start_of es ≤ begin → start_of es + length es < end → range_answer begin end es ≡ NotFound
+range_behind begin end es h l a b c = let e = sound_end es h l in rw e (grind (arith, nat_tests))
+
+pub range_found : (begin end : ℕ) (es : List EntryIndex) → IsSound es → 0 < length es → begin < end → start_of es ≤ begin → end ≤ start_of es + length es → range_answer begin end es ≡ Found
+range_found begin end es h l a b c = let e = sound_end es h l in rw e (grind (arith, nat_tests))
+
+pub between_is : (begin end : ℕ) (es : List EntryIndex) → IsSound es → between begin end es ≡ drop (begin - start_of es) (take (end - start_of es) es)
+between_is begin end es h =
+    ap (from begin) (below_is end (start_of es) es (sound_rising es h))
+    ∙ from_is begin (start_of es) (take (end - start_of es) es) (RisesFrom-take (end - start_of es) (start_of es) es (sound_rising es h))
+
+-- so many of a part
+pub part_front : {X : Type 0} (a b n : ℕ) (xs : List X) → a ≤ b → n ≤ length (drop a (take b xs)) → drop a (take (a + n) xs) ≡ take n (drop a (take b xs))
+part_front a b n xs h l =
+    let p = part_is a b xs h in
+    let q = length-take (b - a) (drop a xs) in
+    let r = ap length p in
+    drop-take a n xs ∙ sym (ap (take n) p ∙ take-take n (b - a) (drop a xs) (omega arith))
+
+pub fetched_part : (limit : Option ℕ) (begin end n : ℕ) (es old new : List EntryIndex) → IsSound es → start_of es ≤ begin → begin ≤ end → IsLimitCount limit (drop (begin - start_of es) (take (end - start_of es) es)) n → new ≡ old ++ drop (begin - start_of es) (take (begin - start_of es + n) es) → FetchesWithin limit (between begin end es) old new
+fetched_part limit begin end n es old new h a b w e =
+    let p = between_is begin end es h in
+    record {
+      count = n;
+      within = rw p w;
+      appended = e ∙ ap (λ xs. old ++ xs) (part_front (begin - start_of es) (end - start_of es) n es (omega arith) w.there ∙ ap (take n) (sym p));
+    }
+
+-- stretches of blocks
+pub change_count_last : (es : List EntryIndex) (n : ℕ) → n + 1 ≡ length es → change_count (drop n es) ≡ 0
+change_count_last [] n e = absurd (omega arith)
+change_count_last (x ∷ []) zero e = refl
+change_count_last (x ∷ y ∷ es) zero e = absurd (omega arith)
+change_count_last (x ∷ es) (suc n) e = change_count_last es n (omega arith)
+
+pub block_count_is : (es : List EntryIndex) → 0 < length es → block_count es ≡ suc (change_count es)
+block_count_is [] l = absurd (omega arith)
+block_count_is (e ∷ es) l = refl

@@ -1,0 +1,71 @@
+-- What merged pairs hold at a key, and what the least of some numbers is.
+use Rattle.std.proofs.Common.{◌≡◌, ℕ, suc, ◌≤◌, true, false, cond, List, [], ◌∷◌, length, min, Option, Some, None, Contains, All, refl, sym, ap, subst, ◌∙◌, arith, inl, inr}
+use Rattle.std.specs.Ordering.{nat_cmp, eq_by_cmp}
+use Rattle.std.specs.Option.{option_or}
+use Rattle.std.specs.Cmp.Lexicographic.{slice_cmp, nat_list_cmp_total}
+use Rattle.std.specs.FinMap as finite
+use Rattle.std.specs.FinMap.{find, is_sorted}
+use lib.Dec.{T}
+use Rattle.std.proofs.lemmas.Bool.{cases_lt}
+use Rattle.std.proofs.lemmas.List.Elements.{All-cons}
+use Rattle.raft_table.specs.KeyValues.{Keys, Pair, least, lesser, overlaid, with_pairs}
+use Rattle.raft_table.proofs.Shown.{find-below, below_all-equal, first_of_both, second_of_both, equal}
+
+get-with_pairs : (es : List Pair) (keys : Keys) (q : List ℕ) → T (is_sorted (slice_cmp nat_cmp) es) → finite.get (with_pairs keys es) q ≡ option_or (find (slice_cmp nat_cmp) q es) (finite.get keys q)
+get-with_pairs [] keys q h = refl
+get-with_pairs (e ∷ es) keys q h =
+    let rest = get-with_pairs es (finite.insert keys e.0 e.1) q (second_of_both _ _ h) ∙ ap (option_or (find (slice_cmp nat_cmp) q es)) (finite.get-insert nat_list_cmp_total keys e.0 e.1 q) in
+    elim (eq_by_cmp (slice_cmp nat_cmp) q e.0) as (λ b. eq_by_cmp (slice_cmp nat_cmp) q e.0 ≡ b → finite.get (with_pairs keys (e ∷ es)) q ≡ option_or (find (slice_cmp nat_cmp) q es) (cond b (Some e.1) (finite.get keys q)) → finite.get (with_pairs keys (e ∷ es)) q ≡ option_or (cond b (Some e.1) (find (slice_cmp nat_cmp) q es)) (finite.get keys q)) [
+      | true ↦ λ t r. r ∙ ap (λ o. option_or o (Some e.1)) (find-below nat_list_cmp_total q es (below_all-equal nat_list_cmp_total q e.0 es (equal _ t) (first_of_both _ _ h)))
+      | false ↦ λ t r. r
+    ] refl rest
+
+-- the newer pairs win
+pub get-overlaid : (newer older : Keys) (q : List ℕ) → finite.get (overlaid newer older) q ≡ option_or (finite.get newer q) (finite.get older q)
+get-overlaid newer older q = get-with_pairs (finite.entries newer) older q (finite.entries_sorted newer) ∙ ap (λ o. option_or o (finite.get older q)) (sym (finite.get-entries newer q))
+
+pub least-none : (ns : List ℕ) → least ns ≡ None → ns ≡ []
+least-none [] e = refl
+least-none (n ∷ ns) e = go (least ns) e
+  where
+    go : (m : Option ℕ) → lesser (Some n) m ≡ None → n ∷ ns ≡ []
+    go None e = absurd cc
+    go (Some m) e = absurd cc
+
+all_above : (a b : ℕ) (ns : List ℕ) → a ≤ b → All (λ m. b ≤ m) ns → All (λ m. a ≤ m) ns
+all_above a b ns p h = λ k d l. omega (arith, h k d l)
+
+same_Some : (a b : ℕ) → Some a ≡ Some b → a ≡ b
+same_Some a b e = cc
+
+pub least-lowest : (ns : List ℕ) (n : ℕ) → least ns ≡ Some n → All (λ m. n ≤ m) ns
+least-lowest [] n e = absurd cc
+least-lowest (x ∷ xs) n e = go (least xs) refl e (least-lowest xs)
+  where
+    go : (m : Option ℕ) → least xs ≡ m → lesser (Some x) m ≡ Some n → ((k : ℕ) → least xs ≡ Some k → All (λ m. k ≤ m) xs) → All (λ m. n ≤ m) (x ∷ xs)
+    go None is e rest =
+        let same = same_Some x n e in
+        let none : length xs ≡ 0 = ap length (least-none xs is) in
+        All-cons (λ m. n ≤ m) x xs (omega arith) (λ k d l. absurd (omega arith))
+    go (Some m) is e rest =
+        let same = same_Some (min x m) n e in
+        All-cons (λ m. n ≤ m) x xs (omega arith) (all_above n m xs (omega arith) (rest m is))
+
+here : (x n : ℕ) (xs : List ℕ) → x ≡ n → Contains (x ∷ xs) n
+here x n xs e = (0, omega arith, e)
+
+later : (x n : ℕ) (xs : List ℕ) → Contains xs n → Contains (x ∷ xs) n
+later x n xs h = (suc h.0, omega (arith, h.1), h.2)
+
+pub least-found : (ns : List ℕ) (n : ℕ) → least ns ≡ Some n → Contains ns n
+least-found [] n e = absurd cc
+least-found (x ∷ xs) n e = go (least xs) refl e (least-found xs)
+  where
+    go : (m : Option ℕ) → least xs ≡ m → lesser (Some x) m ≡ Some n → ((k : ℕ) → least xs ≡ Some k → Contains xs k) → Contains (x ∷ xs) n
+    go None is e rest = here x n xs (same_Some x n e)
+    go (Some m) is e rest =
+        let same = same_Some (min x m) n e in
+        elim (cases_lt x m) [
+          | inl p ↦ here x n xs (omega arith)
+          | inr p ↦ later x n xs (subst (Contains xs) (omega arith) (rest m is))
+        ]

@@ -1,0 +1,124 @@
+-- What a rewriting leaves of sound entries: they are sound, and as many are in each queue as moved.
+use Rattle.std.proofs.Common.{◌≡◌, ℕ, suc, ◌+◌, ◌≤◌, min, Bool, true, false, List, [], ◌∷◌, ◌++◌, length, take, drop, Option, Some, None, refl, sym, ap, ◌∙◌, subst, arith}
+use Rattle.std.specs.List.{prefix_len}
+use Rattle.std.proofs.lemmas.List.{append_assoc, length-take-le, length-append, length-drop, drop-take, take-take}
+use Rattle.std.proofs.lemmas.List.Sums.{prefix_len-le-length}
+use Rattle.std.proofs.lemmas.Bool.Decides.{nat_tests}
+use Rattle.raft_base.specs.declared.pipe_log.LogQueue.{LogQueue}
+use Rattle.raft_base.specs.declared.pipe_log.LogQueue.TheVariants.{Append, Rewrite}
+use Rattle.raft_records.specs.declared.entry_index.EntryIndex.{EntryIndex}
+use Rattle.raft_table.specs.Entries.{RisesFrom, IsSound, RewrittenInFront, start_of, end_of, placed_in, is_placed_in, entries_in}
+use Rattle.raft_table.specs.Rewriting.{may_move, is_misplaced}
+use Rattle.raft_table.proofs.RunLemmas.{RisesFrom-take, RisesFrom-append, RisesFrom-drop, end_of-run, placed_in-append}
+use Rattle.raft_table.proofs.PlaceLemmas.{AllTest, AllTest-filter, AllTest-take, AllTest-drop, filter_all, entries_in-append, entries_in_one, placed_in_other}
+use Rattle.raft_table.proofs.SoundLemmas.{sound_rising, IsSound-take, IsSound-drop, cut_counts}
+use Rattle.raft_table.proofs.StartLemmas.{run_alone}
+
+pub AllTest-prefix : {X : Type 0} (p : X → Bool) (xs : List X) → AllTest true p (take (prefix_len p xs) xs)
+unfolding AllTest
+AllTest-prefix p [] = tt
+AllTest-prefix p (x ∷ xs) = at (p x) refl (AllTest-prefix p xs)
+  where
+    at : (b : Bool) → p x ≡ b → AllTest true p (take (prefix_len p xs) xs) → AllTest true p (take (prefix_len p (x ∷ xs)) (x ∷ xs))
+    at true e h = let k : 1 + prefix_len p xs ≡ suc (prefix_len p xs) = omega arith in rw (e, k) (e, h)
+    at false e h = rw e tt
+
+pub placed_in-take : (q : LogQueue) (n : ℕ) (es : List EntryIndex) → placed_in q es ≡ es → placed_in q (take n es) ≡ take n es
+unfolding placed_in
+placed_in-take q n es h =
+    filter_all (is_placed_in q) (take n es)
+    (AllTest-take true (is_placed_in q) n es (subst (AllTest true (is_placed_in q)) h (AllTest-filter (is_placed_in q) es)))
+
+pub placed_in-drop : (q : LogQueue) (n : ℕ) (es : List EntryIndex) → placed_in q es ≡ es → placed_in q (drop n es) ≡ drop n es
+unfolding placed_in
+placed_in-drop q n es h =
+    filter_all (is_placed_in q) (drop n es)
+    (AllTest-drop true (is_placed_in q) n es (subst (AllTest true (is_placed_in q)) h (AllTest-filter (is_placed_in q) es)))
+
+-- rewritten entries in front of what has them in front
+pub in_front_of : (a b : List EntryIndex) → placed_in Rewrite a ≡ a → RewrittenInFront b → RewrittenInFront (a ++ b)
+in_front_of a b h k =
+    let none : placed_in Append a ≡ [] = ap (placed_in Append) (sym h) ∙ placed_in_other Rewrite Append refl a in
+    ap (λ xs. a ++ xs) k ∙ sym (append_assoc a (placed_in Rewrite b) (placed_in Append b))
+    ∙ sym (rw (placed_in-append Rewrite a b, placed_in-append Append a b, none, h) refl)
+
+pub end_of-same : (s : ℕ) (a b : List EntryIndex) → RisesFrom s a → RisesFrom s b → length a ≡ length b → end_of a ≡ end_of b
+end_of-same s [] [] h k e = refl
+end_of-same s [] (y ∷ b) h k e = absurd (omega arith)
+end_of-same s (x ∷ a) [] h k e = absurd (omega arith)
+end_of-same s (x ∷ a) (y ∷ b) h k e =
+    end_of-run s (x ∷ a) h (omega arith) ∙ ap (λ n. s + n) e ∙ sym (end_of-run s (y ∷ b) k (omega arith))
+
+pub whole_test : (q : LogQueue) (xs : List EntryIndex) → AllTest true (is_placed_in q) xs → entries_in q xs ≡ length xs
+unfolding placed_in
+whole_test q xs h = ap length (filter_all (is_placed_in q) xs h)
+
+-- how many join the rewritten entries: those that move past a gate
+abbrev pub joined : Option ℕ → ℕ → ℕ
+joined (Some gate) m = m
+joined None m = 0
+
+-- with a gate the places begin right behind the rewritten entries; without one those that move are among them
+pub all_rewritten : (gate : Option ℕ) (at k : ℕ) (es : List EntryIndex) → IsSound es → at + k ≤ length es → is_misplaced gate at (entries_in Rewrite es) ≡ false → (m : ℕ) → m ≡ prefix_len (may_move gate) (drop at (take (at + k) es)) → (at ≤ entries_in Rewrite es) × (min (at + m) (entries_in Rewrite es) + joined gate m ≡ at + m)
+all_rewritten (Some gate) at k es h l t m e = (grind (arith, nat_tests), grind (arith, nat_tests))
+all_rewritten None at k es h l t m e =
+    let w : at ≤ entries_in Rewrite es = grind (arith, nat_tests) in
+    let xs = take k (drop at es) in
+    let c : drop at (take (at + k) es) ≡ xs = drop-take at k es in
+    let p : m ≡ prefix_len (is_placed_in Rewrite) xs = rw c at e in
+    let len : length xs ≡ k = length-take-le k (drop at es) (omega (arith, length-drop at es)) in
+    let mk : m ≤ k = omega (arith, prefix_len-le-length (is_placed_in Rewrite) xs) in
+    let front : drop at (take (at + m) es) ≡ take m xs = drop-take at m es ∙ sym (take-take m k (drop at es) mk) in
+    let passes : AllTest true (is_placed_in Rewrite) (take m xs) = rw p (AllTest-prefix (is_placed_in Rewrite) xs) in
+    let whole : entries_in Rewrite (take m xs) ≡ m = whole_test Rewrite (take m xs) passes ∙ length-take-le m xs (omega arith) in
+    let a = cut_counts at (take (at + m) es) (IsSound-take (at + m) es h) (omega (arith, length-take-le (at + m) es (omega arith))) in
+    let b = cut_counts (at + m) es h (omega arith) in
+    let d : entries_in Rewrite (drop at (take (at + m) es)) ≡ m = rw front whole in
+    let f : take at (take (at + m) es) ≡ take at es = take-take at (at + m) es (omega arith) in
+    let g = cut_counts at es h (omega arith) in
+    let i = ap (entries_in Rewrite) f in
+    (w, omega arith)
+
+pub record Moves (gate : Option ℕ) (at m : ℕ) (es places : List EntryIndex) : Type 0 where
+  pub within : m ≤ length places
+  pub sound : IsSound (take at es ++ take m places ++ drop (at + m) es)
+  pub rewritten : entries_in Rewrite (take at es ++ take m places ++ drop (at + m) es) ≡ entries_in Rewrite es + joined gate m
+  pub appended : entries_in Append (take at es ++ take m places ++ drop (at + m) es) + joined gate m ≡ entries_in Append es
+
+pub moves : (gate : Option ℕ) (at m : ℕ) (es places : List EntryIndex) → IsSound es → at + length places ≤ length es → RisesFrom (start_of es + at) places → placed_in Rewrite places ≡ places → is_misplaced gate at (entries_in Rewrite es) ≡ false → m ≡ prefix_len (may_move gate) (drop at (take (at + length places) es)) → Moves gate at m es places
+moves gate at m es places h l r q t e =
+    let k = length places in
+    let s = start_of es in
+    let sub : length (drop at (take (at + k) es)) ≡ k = rw (drop-take at k es) (length-take-le k (drop at es) (omega (arith, length-drop at es))) in
+    let mk : m ≤ k = omega (arith, prefix_len-le-length (may_move gate) (drop at (take (at + k) es))) in
+    let w = all_rewritten gate at k es h l t m e in
+    let ca = cut_counts at es h (omega arith) in
+    let cb = cut_counts (at + m) es h (omega arith) in
+    let front : placed_in Rewrite (take at es) ≡ take at es = (run_alone Rewrite (take at es) (IsSound-take at es h) (omega (arith, w.0))).placed in
+    let mid : placed_in Rewrite (take m places) ≡ take m places = placed_in-take Rewrite m places q in
+    let na : length (take at es) ≡ at = length-take-le at es (omega arith) in
+    let nb : length (take m places) ≡ m = length-take-le m places mk in
+    let ab = take at es ++ take m places in
+    let nab : length ab ≡ at + m = length-append (take at es) (take m places) ∙ omega arith in
+    let both : placed_in Rewrite ab ≡ ab = placed_in-append Rewrite (take at es) (take m places) ∙ rw (front, mid) refl in
+    let rise_ab : RisesFrom s ab = RisesFrom-append s (take at es) (take m places) (RisesFrom-take at s es (sound_rising es h)) (rw na (RisesFrom-take m (s + at) places r)) in
+    let rise : RisesFrom s (ab ++ drop (at + m) es) = RisesFrom-append s ab (drop (at + m) es) rise_ab (rw nab (RisesFrom-drop (at + m) s es (sound_rising es h) (omega arith))) in
+    let n : length (ab ++ drop (at + m) es) ≡ length es = length-append ab (drop (at + m) es) ∙ omega (arith, length-drop (at + m) es) in
+    let top = end_of-same s (ab ++ drop (at + m) es) es rise (sound_rising es h) n in
+    let bound = h.bounded in
+    let ra = entries_in-append Rewrite ab (drop (at + m) es) in
+    let rb = entries_in-append Append ab (drop (at + m) es) in
+    let ia = entries_in_one Rewrite Rewrite ab both in
+    let ib = entries_in_one Append Rewrite ab both in
+    let w0 = w.0 in
+    let w1 = w.1 in
+    record {
+      within = mk;
+      sound = record {
+        run = record { start = s; rising = rise };
+        in_front = in_front_of ab (drop (at + m) es) both (IsSound-drop (at + m) es h).in_front;
+        bounded = omega arith;
+      };
+      rewritten = omega arith;
+      appended = omega arith;
+    }

@@ -1,0 +1,128 @@
+-- Filters of runs: cutting a run at an index is taking or dropping its front.
+use Rattle.std.proofs.Common.{◌≡◌, ℕ, zero, suc, ◌+◌, ◌<◌, ◌≤◌, max, Bool, true, false, ltb, leb, List, [], ◌∷◌, ◌++◌, length, take, drop, filter, refl, ap, arith}
+use Rattle.std.proofs.lemmas.List.Elements.{filter-append}
+use Rattle.std.proofs.lemmas.Bool.Decides.{nat_tests}
+use Rattle.raft_base.specs.declared.pipe_log.LogQueue.{LogQueue}
+use Rattle.raft_records.specs.declared.entry_index.EntryIndex.{EntryIndex}
+use Rattle.raft_table.specs.Entries.{RisesFrom, IsRun, start_of, end_of, below, from, placed_in, is_placed_in}
+
+-- the order of two filters is free
+pub filter_comm : {X : Type 0} (p q : X → Bool) (xs : List X) → filter p (filter q xs) ≡ filter q (filter p xs)
+filter_comm p q [] = refl
+filter_comm p q (x ∷ xs) = at (p x) (q x) refl refl (filter_comm p q xs)
+  where
+    at : (a b : Bool) → p x ≡ a → q x ≡ b → filter p (filter q xs) ≡ filter q (filter p xs) → filter p (filter q (x ∷ xs)) ≡ filter q (filter p (x ∷ xs))
+    at true true e f h = rw (e, f, e) (ap (λ ys. x ∷ ys) h)
+    at true false e f h = rw (e, f) h
+    at false true e f h = rw (e, f, e) h
+    at false false e f h = rw (e, f) h
+
+pub below-append : (i : ℕ) (a b : List EntryIndex) → below i (a ++ b) ≡ below i a ++ below i b
+unfolding below
+below-append i a b = filter-append (λ e. ltb e.index i) a b
+
+pub from-append : (i : ℕ) (a b : List EntryIndex) → from i (a ++ b) ≡ from i a ++ from i b
+unfolding from
+from-append i a b = filter-append (λ e. leb i e.index) a b
+
+pub placed_in-append : (q : LogQueue) (a b : List EntryIndex) → placed_in q (a ++ b) ≡ placed_in q a ++ placed_in q b
+unfolding placed_in
+placed_in-append q a b = filter-append (is_placed_in q) a b
+
+pub below-placed_in : (i : ℕ) (q : LogQueue) (es : List EntryIndex) → below i (placed_in q es) ≡ placed_in q (below i es)
+unfolding below placed_in
+below-placed_in i q es = filter_comm (λ e. ltb e.index i) (is_placed_in q) es
+
+pub from-placed_in : (i : ℕ) (q : LogQueue) (es : List EntryIndex) → from i (placed_in q es) ≡ placed_in q (from i es)
+unfolding from placed_in
+from-placed_in i q es = filter_comm (λ e. leb i e.index) (is_placed_in q) es
+
+-- nothing of a run stands below its start
+pub below_start : (i s : ℕ) (es : List EntryIndex) → RisesFrom s es → i ≤ s → below i es ≡ []
+unfolding below
+below_start i s [] h le = refl
+below_start i s (e ∷ es) h le =
+    let t : ltb e.index i ≡ false = rw h.0 (grind (arith, nat_tests)) in
+    rw t (below_start i (suc s) es h.1 (omega arith))
+
+pub from_start : (i s : ℕ) (es : List EntryIndex) → RisesFrom s es → i ≤ s → from i es ≡ es
+unfolding from
+from_start i s [] h le = refl
+from_start i s (e ∷ es) h le =
+    let t : leb i e.index ≡ true = rw h.0 (grind (arith, nat_tests)) in
+    rw t (ap (λ ys. e ∷ ys) (from_start i (suc s) es h.1 (omega arith)))
+
+-- the entries below an index are the front of that many, and those from it on are what is behind
+pub below_take : (i n s : ℕ) (es : List EntryIndex) → i ≡ s + n → RisesFrom s es → below i es ≡ take n es
+unfolding below
+below_take i zero s es k h = below_start i s es h (omega arith)
+below_take i (suc n) s [] k h = refl
+below_take i (suc n) s (e ∷ es) k h =
+    let t : ltb e.index i ≡ true = rw h.0 (grind (arith, nat_tests)) in
+    rw t (ap (λ ys. e ∷ ys) (below_take i n (suc s) es (omega arith) h.1))
+
+pub from_drop : (i n s : ℕ) (es : List EntryIndex) → i ≡ s + n → RisesFrom s es → from i es ≡ drop n es
+unfolding from
+from_drop i zero s es k h = from_start i s es h (omega arith)
+from_drop i (suc n) s [] k h = refl
+from_drop i (suc n) s (e ∷ es) k h =
+    let t : leb i e.index ≡ false = rw h.0 (grind (arith, nat_tests)) in
+    rw t (from_drop i n (suc s) es (omega arith) h.1)
+
+-- where a run ends
+pub end_of-run : (s : ℕ) (es : List EntryIndex) → RisesFrom s es → 0 < length es → end_of es ≡ s + length es
+unfolding end_of
+end_of-run s [] h l = absurd (omega arith)
+end_of-run s (e ∷ []) h l = rw h.0 (omega arith)
+end_of-run s (e ∷ x ∷ es) h l =
+    let k = end_of-run (suc s) (x ∷ es) h.1 (omega arith) in
+    rw (h.0, k) (omega arith)
+
+pub RisesFrom-append : (s : ℕ) (a b : List EntryIndex) → RisesFrom s a → RisesFrom (s + length a) b → RisesFrom s (a ++ b)
+RisesFrom-append s [] b h k = let e : s + 0 ≡ s = omega arith in rw e at k
+RisesFrom-append s (x ∷ a) b h k =
+    let e : s + suc (length a) ≡ suc s + length a = omega arith in
+    (h.0, RisesFrom-append (suc s) a b h.1 (rw e at k))
+
+pub RisesFrom-take : (n s : ℕ) (es : List EntryIndex) → RisesFrom s es → RisesFrom s (take n es)
+RisesFrom-take zero s es h = tt
+RisesFrom-take (suc n) s [] h = tt
+RisesFrom-take (suc n) s (e ∷ es) h = (h.0, RisesFrom-take n (suc s) es h.1)
+
+pub RisesFrom-drop : (n s : ℕ) (es : List EntryIndex) → RisesFrom s es → n ≤ length es → RisesFrom (s + n) (drop n es)
+RisesFrom-drop zero s es h l = let e : s + 0 ≡ s = omega arith in rw e h
+RisesFrom-drop (suc n) s [] h l = absurd (omega arith)
+RisesFrom-drop (suc n) s (e ∷ es) h l =
+    let k : s + suc n ≡ suc s + n = omega arith in
+    rw k (RisesFrom-drop n (suc s) es h.1 (omega arith))
+
+pub IsRun-drop : (n s : ℕ) (es : List EntryIndex) → RisesFrom s es → IsRun (drop n es)
+IsRun-drop zero s es h = record { start = s; rising = h }
+IsRun-drop (suc n) s [] h = record { start = 0; rising = tt }
+IsRun-drop (suc n) s (e ∷ es) h = IsRun-drop n (suc s) es h.1
+
+-- a run without entries begins anywhere, another where its first entry stands
+pub RisesFrom-start : (s : ℕ) (es : List EntryIndex) → RisesFrom s es → RisesFrom (start_of es) es
+RisesFrom-start s [] h = tt
+RisesFrom-start s (e ∷ es) h = (refl, rw h.0 h.1)
+
+pub start-of_rising : (s : ℕ) (es : List EntryIndex) → RisesFrom s es → 0 < length es → start_of es ≡ s
+start-of_rising s [] h l = absurd (omega arith)
+start-of_rising s (e ∷ es) h l = h.0
+
+pub end_of-append : (a b : List EntryIndex) → end_of (a ++ b) ≡ max (end_of a) (end_of b)
+unfolding end_of
+end_of-append [] b = omega arith
+end_of-append (e ∷ a) b = rw (end_of-append a b) (omega arith)
+
+pub end_of-take : (n : ℕ) (es : List EntryIndex) → end_of (take n es) ≤ end_of es
+unfolding end_of
+end_of-take zero es = omega arith
+end_of-take (suc n) [] = omega arith
+end_of-take (suc n) (e ∷ es) = let h = end_of-take n es in omega arith
+
+pub end_of-drop : (n : ℕ) (es : List EntryIndex) → end_of (drop n es) ≤ end_of es
+unfolding end_of
+end_of-drop zero es = omega arith
+end_of-drop (suc n) [] = omega arith
+end_of-drop (suc n) (e ∷ es) = let h = end_of-drop n es in omega arith

@@ -1,0 +1,22 @@
+use Rattle.std.proofs.Common.{arith}
+use Rattle.std.proofs.lemmas.Result.{err_from_is_err_and}
+use Rattle.raft_base.specs.declared.pipe_log.LogQueue.TheVariants.{Append, Rewrite}
+use Rattle.raft_table.proofs.MergeLemmas.{joined_bound, merge_refused}
+use Rattle.raft_table.proofs.PlaceLemmas.{each_queue}
+use Rattle.raft_table.proofs.memtable.MemTable.join.Goals as goal
+
+pub returns-in_err-absorb-clause-refused : goal.returns-in_err-absorb-clause-refused
+returns-in_err-absorb-clause-refused c =
+    let p = err_from_is_err_and c.from_residual.result c.from_residual.ensures.1 in
+    rw (p.1, p.2) (merge_refused c.args.rule c.args.queue c.args.stats.now c.args.self.now c.args.rhs.now _ (rw (← c.self.view_is, ← c.rhs.view_is) c.in_err-absorb.ensures.refused))
+
+pub absorb_keys-requires-clause-room : goal.absorb_keys-requires-clause-room
+absorb_keys-requires-clause-room c =
+    let es = c.self.inside.entries in
+    let rs = c.rhs.inside.entries in
+    let mid = c.absorb.new.self in
+    let a = rw (← c.rhs.view_is) at c.if-not-has_room.ensures in
+    let b = rw (← c.rhs.view_is) at c.if-not-has_room-2.ensures in
+    each_queue _
+    (omega (arith, a, joined_bound c.args.rule Append es rs mid c.in_ok-absorb.ensures.ok, c.in_ok-absorb.ensures.recounted Append))
+    (omega (arith, b, joined_bound c.args.rule Rewrite es rs mid c.in_ok-absorb.ensures.ok, c.in_ok-absorb.ensures.recounted Rewrite))

@@ -1,0 +1,6 @@
+use Rattle.std.proofs.Common.{arith}
+use Rattle.raft_table.proofs.TableLemmas.{live_of_empty}
+use Rattle.raft_table.proofs.memtable.MemTable.new.Goals as goal
+
+pub returns-clause-counted : goal.returns-clause-counted
+returns-clause-counted c = λ counts q. rw (c.new.ensures, c.new-2.ensures) (omega (arith, live_of_empty q c.args.region_id))

@@ -1,0 +1,18 @@
+use Rattle.std.proofs.Common.{arith}
+use Rattle.raft_base.specs.declared.pipe_log.LogQueue.TheVariants.{Append}
+use Rattle.raft_table.proofs.TableLemmas.{pair_counted}
+use Rattle.raft_table.proofs.AloneLemmas.{key_moves}
+use Rattle.raft_table.proofs.memtable.MemTable.rewrite_key.Goals as goal
+
+pub delete-requires : goal.delete-requires
+delete-requires c =
+    let a = rw c.in-Append.is at (pair_counted c.self.inside.keys c.deref.result.now c.in-Some.file c.in-Some.ensures) in
+    omega (arith, rw (← c.self.view_is) at (c.requires Append), c.in_ok-add-in-Append.ensures.live Append)
+
+pub returns-in-Append-clause-file_alone : goal.returns-in-Append-clause-file_alone
+returns-in-Append-clause-file_alone c =
+    rw (← c.self.view_is, c.set_file.ensures.after, ← c.deref-in-Append.ensures.value) (key_moves _ c.self.inside.keys _)
+
+pub returns-clause-file_alone : goal.returns-clause-file_alone
+returns-clause-file_alone c =
+    rw (← c.self.view_is, c.set_file-in-Rewrite.ensures.after, ← c.deref-in-Rewrite.ensures.value) (key_moves _ c.self.inside.keys _)

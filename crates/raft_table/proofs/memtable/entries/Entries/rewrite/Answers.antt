@@ -1,0 +1,132 @@
+use Rattle.std.proofs.Common.{ℕ, arith, sym, subst, ◌≡◌, ◌+◌, ◌≤◌, ◌^◌, length, ap, ◌∙◌, Some, None, List, [], Option}
+use Rattle.std.proofs.lemmas.Result.{err_from_is_err_and, on_ok_weaker, IfErr-weaker}
+use Rattle.raft_base.specs.declared.errors.Error.{Error}
+use Rattle.raft_base.specs.declared.errors.Error.TheVariants as errors
+use Rattle.raft_base.specs.declared.pipe_log.LogQueue.TheVariants.{Rewrite}
+use Rattle.raft_records.specs.declared.entry_index.EntryIndex.{EntryIndex}
+use Rattle.raft_table.specs.Counts.{Counts, live, with_deleted}
+use Rattle.raft_table.specs.Start.{IsCorruption}
+use Rattle.raft_table.specs.Entries.{start_of}
+use Rattle.raft_table.specs.Rewriting.{rewritten, with_rewritten, IsRewriteRefused, MovesPlacesAlone}
+use Rattle.raft_table.proofs.SoundLemmas.{start_of_front, no_first}
+use Rattle.raft_table.proofs.RewriteLemmas.{RewritesAt, rewrites_at, rewritten_none, rewritten_apart, recounted_apart, recounted_is, run_end}
+use Rattle.raft_table.proofs.AloneLemmas.{none_moved, moved_alone}
+use Rattle.raft_table.proofs.memtable.entries.Entries.rewrite.Goals as goal
+
+pub returns-in_default-clause-ok : goal.returns-in_default-clause-ok
+returns-in_default-clause-ok c =
+    let e : c.args.run.now ≡ [] = no_first c.args.run.now c.in_default.ensures.value in
+    rw e (rewritten_none c.args.gate c.args.self.now)
+
+start_known : (c : goal.At-field_known-1-known-fits) → start_of c.args.run.now ≡ c.in-Some.head.now.index
+start_known c = start_of_front c.args.run.now c.in-Some.head.now c.in-Some.ensures.item.3.0 c.in-Some.ensures.item.1
+
+pub meeting-requires : goal.meeting-requires
+meeting-requires c =
+    let s = start_known c in
+    let e = run_end Rewrite c.args.run.now c.requires.run c.in-Some.ensures.item.3.0 in
+    let b = c.requires.run.bounded in
+    omega arith
+
+-- a refusal of the counts
+full_is : (n : ℕ) (counts : Counts) (gate : Option ℕ) (run es after : List EntryIndex) → rewritten gate run es ≡ Some after → 2 ^ 64 ≤ live Rewrite counts + n → IsRewriteRefused n counts (rewritten gate run es) errors.Full
+full_is n counts gate run es after e h = rw e h
+
+start_full : (c : goal.After-from_residual) → start_of c.args.run.now ≡ c.in-Some.head.now.index
+start_full c = start_of_front c.args.run.now c.in-Some.head.now c.in-Some.ensures.item.3.0 c.in-Some.ensures.item.1
+
+pub returns-in_err-add-clause-refused : goal.returns-in_err-add-clause-refused
+returns-in_err-add-clause-refused c =
+    let p = err_from_is_err_and c.from_residual.result c.from_residual.ensures.1 in
+    let f = c.in_err-add.ensures.full in
+    let e = rewritten_apart c.args.gate Rewrite c.args.run.now c.args.self.now c.meeting.ensures.sound c.requires.run c.in-Some.ensures.item.3.0 (rw (start_full c) c.in_default-meeting.ensures.meets) in
+    rw (p.1, p.2, f.0) (full_is (length c.args.run.now) c.args.stats.now c.args.gate c.args.run.now c.args.self.now c.args.self.now e f.1)
+
+pub delete-requires : goal.delete-requires
+delete-requires c = omega (arith, c.in_ok-add.ensures.live Rewrite)
+
+start_apart : (c : goal.After-delete) → start_of c.args.run.now ≡ c.in-Some.head.now.index
+start_apart c = start_of_front c.args.run.now c.in-Some.head.now c.in-Some.ensures.item.3.0 c.in-Some.ensures.item.1
+
+pub returns-in_default-meeting-clause-ok : goal.returns-in_default-meeting-clause-ok
+returns-in_default-meeting-clause-ok c =
+    rewritten_apart c.args.gate Rewrite c.args.run.now c.args.self.now c.meeting.ensures.sound c.requires.run c.in-Some.ensures.item.3.0 (rw (start_apart c) c.in_default-meeting.ensures.meets)
+
+pub returns-in_default-meeting-clause-counts : goal.returns-in_default-meeting-clause-counts
+returns-in_default-meeting-clause-counts c =
+    c.delete.ensures.after ∙ ap (with_deleted Rewrite (length c.args.run.now)) c.in_ok-add.ensures.ok
+    ∙ sym (recounted_apart c.args.gate Rewrite c.args.run.now c.args.self.now c.args.stats.now c.meeting.ensures.sound c.requires.run c.in-Some.ensures.item.3.0 (rw (start_apart c) c.in_default-meeting.ensures.meets))
+
+start_memory : (c : goal.After-from_residual-in_err-corruption) → start_of c.args.run.now ≡ c.in-Some.head.now.index
+start_memory c = start_of_front c.args.run.now c.in-Some.head.now c.in-Some.ensures.item.3.0 c.in-Some.ensures.item.1
+
+at_memory : (c : goal.After-from_residual-in_err-corruption) → RewritesAt c.args.gate c.args.run.now c.args.self.now c.in-Some-meeting.meeting.at c.in-Some-meeting.meeting.skipped c.in-Some-meeting.meeting.count
+at_memory c = rewrites_at c.args.gate c.args.run.now c.args.self.now c.in-Some-meeting.meeting c.meeting.ensures.sound c.requires.run c.in-Some.ensures.item.3.0 (rw (start_memory c) c.in-Some-meeting.ensures.meets)
+
+pub returns-in_err-corruption-clause-refused : goal.returns-in_err-corruption-clause-refused
+returns-in_err-corruption-clause-refused c =
+    let p = err_from_is_err_and c.from_residual-in_err-corruption.result c.from_residual-in_err-corruption.ensures.1 in
+    let m = c.in_err-corruption.ensures.err in
+    rw (p.1, p.2, m, (at_memory c).refused (sym c.if-is_misplaced.ensures)) tt
+
+corruption_is : (n : ℕ) (counts : Counts) (e : Error) → IsCorruption e → IsRewriteRefused n counts None e
+corruption_is n counts (errors.Corruption text) h = tt
+corruption_is n counts _ h = absurd h
+
+start_refused : (c : goal.In_ok-corruption) → start_of c.args.run.now ≡ c.in-Some.head.now.index
+start_refused c = start_of_front c.args.run.now c.in-Some.head.now c.in-Some.ensures.item.3.0 c.in-Some.ensures.item.1
+
+at_refused : (c : goal.In_ok-corruption) → RewritesAt c.args.gate c.args.run.now c.args.self.now c.in-Some-meeting.meeting.at c.in-Some-meeting.meeting.skipped c.in-Some-meeting.meeting.count
+at_refused c = rewrites_at c.args.gate c.args.run.now c.args.self.now c.in-Some-meeting.meeting c.meeting.ensures.sound c.requires.run c.in-Some.ensures.item.3.0 (rw (start_refused c) c.in-Some-meeting.ensures.meets)
+
+pub returns-then-is_misplaced-clause-refused : goal.returns-then-is_misplaced-clause-refused
+returns-then-is_misplaced-clause-refused c =
+    rw ((at_refused c).refused (sym c.if-is_misplaced.ensures))
+    (corruption_is (length c.args.run.now) c.args.stats.now c.in_ok-corruption.field-0 c.in_ok-corruption.ensures.ok)
+
+start_places : (c : goal.After-move_places-arg-2-1) → start_of c.args.run.now ≡ c.in-Some.head.now.index
+start_places c = start_of_front c.args.run.now c.in-Some.head.now c.in-Some.ensures.item.3.0 c.in-Some.ensures.item.1
+
+at_places : (c : goal.After-move_places-arg-2-1) → RewritesAt c.args.gate c.args.run.now c.args.self.now c.in-Some-meeting.meeting.at c.in-Some-meeting.meeting.skipped c.in-Some-meeting.meeting.count
+at_places c = rewrites_at c.args.gate c.args.run.now c.args.self.now c.in-Some-meeting.meeting c.meeting.ensures.sound c.requires.run c.in-Some.ensures.item.3.0 (rw (start_places c) c.in-Some-meeting.ensures.meets)
+
+pub move_places-requires-clause-rising : goal.move_places-requires-clause-rising
+move_places-requires-clause-rising c = (at_places c).rising
+
+pub move_places-requires-clause-placed : goal.move_places-requires-clause-placed
+move_places-requires-clause-placed c = (at_places c).placed
+
+start_moved : (c : goal.After-move_places) → start_of c.args.run.now ≡ c.in-Some.head.now.index
+start_moved c = start_of_front c.args.run.now c.in-Some.head.now c.in-Some.ensures.item.3.0 c.in-Some.ensures.item.1
+
+at_moved : (c : goal.After-move_places) → RewritesAt c.args.gate c.args.run.now c.args.self.now c.in-Some-meeting.meeting.at c.in-Some-meeting.meeting.skipped c.in-Some-meeting.meeting.count
+at_moved c = rewrites_at c.args.gate c.args.run.now c.args.self.now c.in-Some-meeting.meeting c.meeting.ensures.sound c.requires.run c.in-Some.ensures.item.3.0 (rw (start_moved c) c.in-Some-meeting.ensures.meets)
+
+pub returns-clause-ok : goal.returns-clause-ok
+returns-clause-ok c =
+    let f = at_moved c in
+    on_ok_weaker c.move_places.result (λ h. f.ok (sym c.if-is_misplaced.ensures) ∙ ap (λ es. Some es) (sym h.0)) c.move_places.ensures.ok
+
+pub returns-clause-counts : goal.returns-clause-counts
+returns-clause-counts c =
+    let f = at_moved c in
+    on_ok_weaker c.move_places.result (λ h. h.1 ∙ ap (λ m. with_rewritten c.args.gate (length c.args.run.now) m c.args.stats.now) (sym f.counts) ∙ sym (recounted_is c.args.gate c.args.run.now c.args.self.now c.args.stats.now c.in-Some.ensures.item.3.0)) c.move_places.ensures.ok
+
+pub returns-clause-refused : goal.returns-clause-refused
+returns-clause-refused c =
+    let f = at_moved c in
+    IfErr-weaker c.move_places.result (λ e. (e ≡ errors.Full) × (2 ^ 64 ≤ live Rewrite c.args.stats.now + length c.args.run.now)) (IsRewriteRefused (length c.args.run.now) c.args.stats.now (rewritten c.args.gate c.args.run.now c.args.self.now))
+    (λ e h. rw h.0 (full_is (length c.args.run.now) c.args.stats.now c.args.gate c.args.run.now c.args.self.now _ (f.ok (sym c.if-is_misplaced.ensures)) h.1)) c.move_places.ensures.full
+
+pub returns-in_default-clause-places_alone : goal.returns-in_default-clause-places_alone
+returns-in_default-clause-places_alone c = none_moved c.args.run.now c.args.self.now
+
+pub returns-in_default-meeting-clause-places_alone : goal.returns-in_default-meeting-clause-places_alone
+returns-in_default-meeting-clause-places_alone c = none_moved c.args.run.now c.args.self.now
+
+pub returns-clause-places_alone : goal.returns-clause-places_alone
+returns-clause-places_alone c =
+    let met = c.in-Some-meeting.meeting in
+    on_ok_weaker c.move_places.result
+    (λ h. subst (MovesPlacesAlone c.args.run.now c.args.self.now) (sym h.0) (moved_alone c.args.gate c.args.run.now c.args.self.now met.at met.skipped met.count c.meeting.ensures.sound (at_moved c)))
+    c.move_places.ensures.ok

@@ -1,0 +1,43 @@
+use Rattle.std.proofs.Common.{◌≡◌, ◌+◌, ◌-◌, Some, arith, sym, ◌∙◌}
+use Rattle.raft_base.specs.declared.pipe_log.LogQueue.{LogQueue}
+use Rattle.raft_base.specs.declared.pipe_log.LogQueue.TheVariants.{Rewrite}
+use Rattle.raft_table.specs.declared.memtable.key_values.KeyValues.TheInside.{Inside}
+use Rattle.raft_table.specs.KeyValueView.{keys_shown}
+use Rattle.raft_table.specs.KeyValues.{pair_count, file_count, file_at, with_put}
+use Rattle.raft_table.proofs.KeyValuesShown.{shown-insert, sound-changed, rewritten-le-len, file-shown, counted-shown}
+use Rattle.raft_table.proofs.KeyValueCounts.{pair_count-with_put}
+use Rattle.raft_table.proofs.memtable.key_values.KeyValues.insert.Goals as goal
+
+pub prove-unreachable-requires : goal.prove-unreachable-requires
+prove-unreachable-requires c = omega (arith, rewritten-le-len c.self.inside c.self.invariant)
+
+pub overflow_sub-self : goal.overflow_sub-self
+overflow_sub-self c =
+    let replaced = c.file_in-replaced.ensures ∙ sym (file-shown c.self.inside c.args.self.now c.args.key.items _ c.self.invariant c.self.view_is c.in_ok-insert.ensures.old) in
+    omega (arith, counted-shown c.self.inside c.args.self.now c.args.key.items _ c.self.invariant c.self.view_is replaced)
+
+abbrev after : goal.After-self-1 → Inside
+after c = record c.self.inside { pairs = c.insert.new.self; rewritten = c.self.inside.rewritten - c.rewritten.result + c.rewritten-2.result }
+
+replaced : (c : goal.After-self-1) → c.file_in-replaced.result ≡ file_at c.args.self.now c.args.key.items
+replaced c = c.file_in-replaced.ensures ∙ sym (file-shown c.self.inside c.args.self.now c.args.key.items _ c.self.invariant c.self.view_is c.in_ok-insert.ensures.old)
+
+put : (c : goal.After-self-1) → keys_shown (after c) ≡ with_put c.args.self.now c.args.key.items c.args.value.items c.args.file
+put c = shown-insert c.self.inside (after c) c.args.self.now c.args.key (record { value = c.args.value; file = c.args.file }) c.self.invariant c.self.view_is c.insert.ensures.ordered c.in_ok-insert.ensures.entries
+
+counts : (c : goal.After-self-1) (q : LogQueue) → pair_count q (with_put c.args.self.now c.args.key.items c.args.value.items c.args.file) + file_count q c.file_in-replaced.result ≡ pair_count q c.args.self.now + file_count q (Some c.args.file)
+counts c q = rw (replaced c) (pair_count-with_put q c.args.self.now c.args.key.items c.args.value.items c.args.file)
+
+pub invariant_of-self-2 : goal.invariant_of-self-2
+invariant_of-self-2 c =
+    let fits = counted-shown c.self.inside c.args.self.now c.args.key.items c.file_in-replaced.result c.self.invariant c.self.view_is (replaced c) in
+    sound-changed c.self.inside (after c) c.args.self.now _ _ _ c.self.invariant c.self.view_is c.insert.ensures.ordered (put c) (omega (arith, fits)) (counts c Rewrite)
+
+pub returns-clause-ok : goal.returns-clause-ok
+returns-clause-ok c = put c
+
+pub returns-clause-replaced : goal.returns-clause-replaced
+returns-clause-replaced c = replaced c
+
+pub returns-clause-counts : goal.returns-clause-counts
+returns-clause-counts c = λ q. rw (put c) (counts c q)

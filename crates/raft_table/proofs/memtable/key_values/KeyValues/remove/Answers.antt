@@ -1,0 +1,49 @@
+use Rattle.std.proofs.Common.{◌≡◌, ◌+◌, ◌-◌, Some, None, arith, sym, subst, ◌∙◌}
+use Rattle.raft_base.specs.declared.pipe_log.LogQueue.{LogQueue}
+use Rattle.raft_base.specs.declared.pipe_log.LogQueue.TheVariants.{Rewrite}
+use Rattle.raft_table.specs.declared.memtable.key_values.KeyValues.TheInside.{Inside}
+use Rattle.raft_table.specs.KeyValueView.{keys_shown}
+use Rattle.raft_table.specs.KeyValues.{pair_count, file_count, file_at}
+use Rattle.std.specs.FinMap as finite
+use Rattle.raft_table.proofs.KeyValuesShown.{shown-remove, sound-changed, file-shown, counted-shown}
+use Rattle.raft_table.proofs.KeyValueCounts.{pair_count-remove}
+use Rattle.raft_table.proofs.memtable.key_values.KeyValues.remove.Goals as goal
+
+pub returns-in_err-removed-clause-after : goal.returns-in_err-removed-clause-after
+returns-in_err-removed-clause-after c =
+    shown-remove c.self.inside (record c.self.inside { pairs = c.remove.new.self }) c.args.self.now c.args.key.now c.self.invariant c.self.view_is c.remove.ensures.ordered c.remove.ensures.entries
+
+pub returns-in_err-removed-clause-removed : goal.returns-in_err-removed-clause-removed
+returns-in_err-removed-clause-removed c =
+    c.from_residual.ensures ∙ sym (file-shown c.self.inside c.args.self.now c.args.key.now None c.self.invariant c.self.view_is (sym (c.in_err-removed.was) ∙ c.remove.ensures.value))
+
+pub overflow_sub-self : goal.overflow_sub-self
+overflow_sub-self c =
+    let removed = sym (file-shown c.self.inside c.args.self.now c.args.key.now (Some c.in_ok-removed.removed) c.self.invariant c.self.view_is (sym (c.in_ok-removed.was) ∙ c.remove.ensures.value)) in
+    omega (arith, counted-shown c.self.inside c.args.self.now c.args.key.now _ c.self.invariant c.self.view_is removed)
+
+abbrev after : goal.After-drop-removed → Inside
+after c = record c.self.inside { pairs = c.remove.new.self; rewritten = c.self.inside.rewritten - c.rewritten.result }
+
+removed : (c : goal.After-drop-removed) → Some c.in_ok-removed.removed.file ≡ file_at c.args.self.now c.args.key.now
+removed c = sym (file-shown c.self.inside c.args.self.now c.args.key.now (Some c.in_ok-removed.removed) c.self.invariant c.self.view_is (sym (c.in_ok-removed.was) ∙ c.remove.ensures.value))
+
+gone : (c : goal.After-drop-removed) → keys_shown (after c) ≡ finite.remove c.args.self.now c.args.key.now
+gone c = shown-remove c.self.inside (after c) c.args.self.now c.args.key.now c.self.invariant c.self.view_is c.remove.ensures.ordered c.remove.ensures.entries
+
+counts : (c : goal.After-drop-removed) (q : LogQueue) → pair_count q (finite.remove c.args.self.now c.args.key.now) + file_count q (Some c.in_ok-removed.removed.file) ≡ pair_count q c.args.self.now
+counts c q = subst (λ f. pair_count q (finite.remove c.args.self.now c.args.key.now) + file_count q f ≡ pair_count q c.args.self.now) (sym (removed c)) (pair_count-remove q c.args.self.now c.args.key.now)
+
+pub invariant_of-self-2 : goal.invariant_of-self-2
+invariant_of-self-2 c =
+    let fits = counted-shown c.self.inside c.args.self.now c.args.key.now (Some c.in_ok-removed.removed.file) c.self.invariant c.self.view_is (removed c) in
+    sound-changed c.self.inside (after c) c.args.self.now _ (file_count Rewrite (Some c.in_ok-removed.removed.file)) 0 c.self.invariant c.self.view_is c.remove.ensures.ordered (gone c) (omega (arith, fits)) (omega (arith, counts c Rewrite))
+
+pub returns-clause-after : goal.returns-clause-after
+returns-clause-after c = gone c
+
+pub returns-clause-removed : goal.returns-clause-removed
+returns-clause-removed c = removed c
+
+pub returns-clause-counts : goal.returns-clause-counts
+returns-clause-counts c = λ q. rw (gone c) (counts c q)

@@ -1,0 +1,14 @@
+use Rattle.std.proofs.Common.{filter, length, map, reverse}
+use Rattle.std.specs.Fn.{CalledAtTwo}
+use Rattle.std.specs.Option.{option_copied}
+use Rattle.raft_table.specs.Scan.{is_between, VisitsUntilFalse}
+use Rattle.raft_table.proofs.memtable.key_values.scan.visit_back.Given as goal
+
+-- what visits the pairs that are left has visited all
+abbrev pub invariant-loop-key : goal.invariant-loop-key
+invariant-loop-key g l =
+    goal.F-IsAlwaysCallable g l.f
+    × ((last : _) → VisitsUntilFalse (CalledAtTwo g.F.FnMut) l.f (reverse (map (λ e. (e.0.items, e.1.value.items)) (filter (λ e. is_between (option_copied l.start) (option_copied l.end) e.0.items) l.pairs))) last → VisitsUntilFalse (CalledAtTwo g.F.FnMut) l.fn.f (reverse (map (λ e. (e.0.items, e.1.value.items)) (filter (λ e. is_between (option_copied l.start) (option_copied l.end) e.0.items) l.initial.pairs))) last)
+
+abbrev pub decreases-loop-key : goal.decreases-loop-key
+decreases-loop-key g l = length l.pairs

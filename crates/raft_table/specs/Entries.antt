@@ -1,0 +1,85 @@
+-- Entries of a region's log, in order of index: the words of tables, steps and queries.
+use Rattle.std.specs.Prelude.{◌≡◌, ℕ, ◌+◌, ◌<◌, ◌≤◌, ◌^◌, suc, max, Bool, false, List, [], ◌∷◌, ◌++◌, length, filter, find, nat_lt, nat_le, ◌==◌, Option, Some, None, if◌then◌else◌}
+use Rattle.raft_base.specs.declared.pipe_log.LogQueue.{LogQueue}
+use Rattle.raft_base.specs.declared.pipe_log.LogQueue.TheVariants.{Append, Rewrite}
+use Rattle.raft_base.specs.declared.pipe_log.FileBlockHandle.{FileBlockHandle}
+use Rattle.raft_records.specs.declared.entry_index.EntryIndex.{EntryIndex}
+use Rattle.raft_table.specs.Counts.{Counts, live}
+use Rattle.raft_table.specs.Queues.{is_same}
+
+-- the indexes rise by one from this one
+abbrev pub RisesFrom : ℕ → List EntryIndex → Type 0
+RisesFrom start [] = Unit {0}
+RisesFrom start (e ∷ es) = (e.index ≡ start) × RisesFrom (suc start) es
+
+-- indexes without gaps
+pub record IsRun (es : List EntryIndex) : Type 0 where
+  pub start : ℕ
+  pub rising : RisesFrom start es
+
+-- the first index, 0 without entries
+abbrev pub start_of : List EntryIndex → ℕ
+start_of [] = 0
+start_of (e ∷ es) = e.index
+
+-- the greatest index plus one, 0 without entries
+unfoldable pub end_of : List EntryIndex → ℕ
+end_of [] = 0
+end_of (e ∷ es) = max (suc e.index) (end_of es)
+
+-- the entries below an index
+unfoldable pub below : ℕ → List EntryIndex → List EntryIndex
+below i es = filter (λ e. nat_lt e.index i) es
+
+-- the entries from an index on
+unfoldable pub from : ℕ → List EntryIndex → List EntryIndex
+from i es = filter (λ e. nat_le i e.index) es
+
+-- whether there is a place, and it is in this queue
+abbrev pub is_block_in : LogQueue → Option FileBlockHandle → Bool
+is_block_in queue None = false
+is_block_in queue (Some block) = is_same block.id.queue queue
+
+-- whether an entry's place is in this queue
+unfoldable pub is_placed_in : LogQueue → EntryIndex → Bool
+is_placed_in queue e = is_block_in queue e.entries
+
+-- the entries whose place is in a queue
+unfoldable pub placed_in : LogQueue → List EntryIndex → List EntryIndex
+placed_in queue es = filter (is_placed_in queue) es
+
+-- every entry has a place, and the rewritten stand in front of the appended
+abbrev pub RewrittenInFront : List EntryIndex → Type 0
+RewrittenInFront es = es ≡ placed_in Rewrite es ++ placed_in Append es
+
+-- a run without the index 2^64 - 1 whose places are all in one queue
+pub record IsRunIn (queue : LogQueue) (es : List EntryIndex) : Type 0 where
+  pub run : IsRun es
+  pub placed : placed_in queue es ≡ es
+  pub bounded : end_of es < 2 ^ 64
+
+-- what every table's entries are: one run without gaps, rewritten places in front
+pub record IsSound (es : List EntryIndex) : Type 0 where
+  pub run : IsRun es
+  pub in_front : RewrittenInFront es
+  pub bounded : end_of es < 2 ^ 64
+
+-- the entry with this index
+abbrev pub entry_at : ℕ → List EntryIndex → Option EntryIndex
+entry_at i es = find (λ e. e.index == i) es
+
+-- what stands behind a run: below its first index the old entries, from it on the run's
+abbrev pub StandsBehind : List EntryIndex → List EntryIndex → List EntryIndex → Type 0
+StandsBehind old run new = (i : ℕ) → entry_at i new ≡ (if nat_lt i (start_of run) then entry_at i old else entry_at i run)
+
+-- how many entries have their place in a queue
+abbrev pub entries_in : LogQueue → List EntryIndex → ℕ
+entries_in queue es = length (placed_in queue es)
+
+-- the live numbers count at least these entries
+abbrev pub AreCounted : List EntryIndex → Counts → Type 0
+AreCounted es counts = (q : LogQueue) → entries_in q es ≤ live q counts
+
+-- the live numbers changed by as much as the entries
+abbrev pub AreRecounted : List EntryIndex → List EntryIndex → Counts → Counts → Type 0
+AreRecounted before after old new = (q : LogQueue) → live q new + entries_in q before ≡ live q old + entries_in q after

@@ -1,0 +1,98 @@
+-- The key values of one region.
+use Rattle.std.specs.Prelude.{ℕ, Bool, ◌&&◌, List, [], ◌∷◌, Option, Some, None, length, filter, map, nat_le, min, option_map}
+use Rattle.std.specs.declared.alloc.Global.{Global}
+use Rattle.std.specs.declared.vec.Vec.{Vec}
+use Rattle.std.specs.Ordering.{nat_cmp}
+use Rattle.std.specs.Cmp.Lexicographic.{slice_cmp}
+use Rattle.std.specs.FinMap as finite
+use Rattle.raft_base.specs.declared.pipe_log.FileId.{FileId}
+use Rattle.raft_base.specs.declared.pipe_log.LogQueue.{LogQueue}
+use Rattle.raft_table.specs.Queues.{is_same, count_in}
+
+-- the value of a key, and the file that the pair was written to
+pub record Stored : Type 0 where
+  pub value : List ℕ
+  pub file : FileId
+
+-- what is stored under each key, the keys in the order of their bytes
+abbrev pub Keys : Type 0
+Keys = finite.FinMap (slice_cmp nat_cmp) Stored
+
+-- a pair in the order of the keys
+abbrev pub Pair : Type 0
+Pair = List ℕ × Stored
+
+-- the value of a key
+abbrev pub value_at : Keys → List ℕ → Option (List ℕ)
+value_at keys key = option_map (λ s. s.value) (finite.get keys key)
+
+-- the file of a key's pair
+abbrev pub file_at : Keys → List ℕ → Option FileId
+file_at keys key = option_map (λ s. s.file) (finite.get keys key)
+
+-- a key with its value put in a file
+abbrev pub with_put : Keys → List ℕ → List ℕ → FileId → Keys
+with_put keys key value file = finite.insert keys key (record { value = value; file = file })
+
+-- what is stored moved to another file, under the same key
+abbrev pub moved_to : FileId → Keys → List ℕ → Option Stored → Keys
+moved_to file keys key None = keys
+moved_to file keys key (Some s) = with_put keys key s.value file
+
+-- the pair of a key, if there is one, moved to another file
+abbrev pub with_moved : Keys → List ℕ → FileId → Keys
+with_moved keys key file = moved_to file keys key (finite.get keys key)
+
+-- the pairs whose file is in a queue
+abbrev pub pairs_in : LogQueue → Keys → List Pair
+pairs_in queue keys = filter (λ e. is_same queue e.1.file.queue) (finite.entries keys)
+
+-- how many pairs have their file in a queue
+abbrev pub pair_count : LogQueue → Keys → ℕ
+pair_count queue keys = length (pairs_in queue keys)
+
+-- what the pair of a file, if there is one, counts in a queue
+abbrev pub file_count : LogQueue → Option FileId → ℕ
+file_count queue None = 0
+file_count queue (Some file) = count_in queue file.queue 1
+
+-- the numbers of the files of the pairs in a queue
+abbrev pub files_in : LogQueue → Keys → List ℕ
+files_in queue keys = map (λ e. e.1.file.seq) (pairs_in queue keys)
+
+-- the lesser of two numbers, where both are there
+abbrev pub lesser : Option ℕ → Option ℕ → Option ℕ
+lesser None m = m
+lesser (Some n) None = Some n
+lesser (Some n) (Some m) = Some (min n m)
+
+-- the least of some numbers, if there are any
+abbrev pub least : List ℕ → Option ℕ
+least [] = None
+least (n ∷ ns) = lesser (Some n) (least ns)
+
+-- a key and its value
+abbrev pub key_value : Pair → List ℕ × List ℕ
+key_value e = (e.0, e.1.value)
+
+-- whether a file is in a queue, and at or below the gate, if there is one
+abbrev pub is_up_to : LogQueue → Option ℕ → FileId → Bool
+is_up_to queue None file = is_same queue file.queue
+is_up_to queue (Some gate) file = is_same queue file.queue && nat_le file.seq gate
+
+-- the keys and values of the pairs in a queue whose file is at or below the gate, in the order of the keys
+abbrev pub fetched : LogQueue → Option ℕ → Keys → List (List ℕ × List ℕ)
+fetched queue gate keys = map key_value (filter (λ e. is_up_to queue gate e.1.file) (finite.entries keys))
+
+-- vectors of keys and values, by their bytes
+abbrev pub pairs_shown : List (Vec ℕ Global × Vec ℕ Global) → List (List ℕ × List ℕ)
+pairs_shown pairs = map (λ p. (p.0.items, p.1.items)) pairs
+
+-- pairs put in turn
+abbrev pub with_pairs : Keys → List Pair → Keys
+with_pairs keys [] = keys
+with_pairs keys (e ∷ es) = with_pairs (finite.insert keys e.0 e.1) es
+
+-- the newer pairs put over the older ones
+abbrev pub overlaid : Keys → Keys → Keys
+overlaid newer older = with_pairs older (finite.entries newer)

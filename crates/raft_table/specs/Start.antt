@@ -1,0 +1,47 @@
+-- The start rule: what stays where a run is put, and when it is refused.
+use Rattle.std.specs.Prelude.{ℕ, ◌+◌, ◌≤◌, ◌^◌, Bool, false, ◌&&◌, ◌||◌, List, [], ◌∷◌, ◌++◌, nat_lt, Option, Some, None, if◌then◌else◌}
+use Rattle.raft_base.specs.declared.errors.Error.{Error}
+use Rattle.raft_base.specs.declared.errors.Error.TheVariants as errors
+use Rattle.raft_base.specs.declared.pipe_log.LogQueue.{LogQueue}
+use Rattle.raft_base.specs.declared.pipe_log.LogQueue.TheVariants.{Append, Rewrite}
+use Rattle.raft_records.specs.declared.entry_index.EntryIndex.{EntryIndex}
+use Rattle.raft_table.specs.Counts.{Counts, live}
+use Rattle.raft_table.specs.Entries.{end_of, below, entries_in}
+
+-- whether a start lies behind the end of some entries, so that indexes between are missing
+abbrev pub leaves_hole : ℕ → ℕ → Bool
+leaves_hole end start = nat_lt 0 end && nat_lt end start
+
+-- whether a start lies below the first of some entries
+abbrev pub starts_in_front : List EntryIndex → ℕ → Bool
+starts_in_front [] start = false
+starts_in_front (e ∷ es) start = nat_lt start e.index
+
+-- a new run: the entries below its start stay; none where it is refused, in front of all entries or behind a hole
+abbrev pub appended : List EntryIndex → List EntryIndex → Option (List EntryIndex)
+appended es [] = Some es
+appended es (e ∷ run) = if starts_in_front es e.index || leaves_hole (end_of es) e.index then None else Some (below e.index es ++ e ∷ run)
+
+-- a run that is read again: in the append queue none behind a hole, in the rewrite queue a hole drops all entries
+abbrev pub replayed : LogQueue → List EntryIndex → List EntryIndex → Option (List EntryIndex)
+replayed queue es [] = Some es
+replayed Append es (e ∷ run) = if leaves_hole (end_of es) e.index then None else Some (below e.index es ++ e ∷ run)
+replayed Rewrite es (e ∷ run) = Some (if leaves_hole (end_of es) e.index then e ∷ run else below e.index es ++ e ∷ run)
+
+-- a refusal of what breaks the rules of tables
+abbrev pub IsCorruption : Error → Type 0
+IsCorruption (errors.Corruption text) = Unit {0}
+IsCorruption _ = ⊥
+
+-- a refusal of what a caller hands in
+abbrev pub IsInvalidArgument : Error → Type 0
+IsInvalidArgument (errors.InvalidArgument text) = Unit {0}
+IsInvalidArgument _ = ⊥
+
+-- why a run with this outcome is refused: by the start rule, since the live number of its queue would pass 2^64 - 1, or for want of memory
+abbrev pub IsRunRefused : LogQueue → Counts → List EntryIndex → Option (List EntryIndex) → Error → Type 0
+IsRunRefused queue counts es None (errors.Corruption text) = Unit {0}
+IsRunRefused queue counts es None errors.Memory = Unit {0}
+IsRunRefused queue counts es (Some after) errors.Full = 2 ^ 64 + entries_in queue es ≤ live queue counts + entries_in queue after
+IsRunRefused queue counts es (Some after) errors.Memory = Unit {0}
+IsRunRefused queue counts es outcome _ = ⊥

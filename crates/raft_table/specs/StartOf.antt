@@ -1,0 +1,13 @@
+-- Where a run that starts at an index meets the entries.
+use Rattle.std.specs.Prelude.{◌≡◌, ℕ, ◌≤◌, true, false, List, [], length, take}
+use Rattle.raft_records.specs.declared.entry_index.EntryIndex.{EntryIndex}
+use Rattle.raft_table.specs.declared.memtable.entries.Start.{Start}
+use Rattle.raft_table.specs.declared.memtable.entries.Start.TheVariants as starts
+use Rattle.raft_table.specs.Entries.{end_of, below}
+use Rattle.raft_table.specs.Start.{leaves_hole, starts_in_front}
+
+-- a start that joins the entries, and how many stand below it; one in front of all; one behind a hole
+abbrev pub IsStart : List EntryIndex → ℕ → Start → Type 0
+IsStart es i (starts.Joins n) = (below i es ≡ take n es) × (n ≤ length es) × (leaves_hole (end_of es) i ≡ false) × (starts_in_front es i ≡ false)
+IsStart es i starts.InFront = (below i es ≡ []) × (leaves_hole (end_of es) i ≡ false) × (starts_in_front es i ≡ true)
+IsStart es i starts.BehindHole = (leaves_hole (end_of es) i ≡ true) × (starts_in_front es i ≡ false)

@@ -1,0 +1,155 @@
+//! How many records of all regions are live in each queue.
+
+ghost use Rattle.std.specs.Prelude.{◌≡◌, ◌+◌, ◌^◌, ◌<◌, ◌≤◌, IsOk, IfOk, OnOk, OnErr, IfErr};
+ghost use Rattle.raft_base.specs.declared.pipe_log.LogQueue.{LogQueue};
+ghost use Rattle.raft_table.specs.Queues.{count_in};
+ghost use Rattle.raft_table.specs.Counts.{live, with_added, with_deleted, without_deleted, after_refusal};
+
+use raft_records::{Error, LogQueue, Result};
+use std::marker::Model;
+
+/// The live records of all regions, counted by queue. A record is an entry or a key value.
+///
+/// Of the append queue one number goes up and down. Of the rewrite queue two numbers go up: how
+/// many records were written, and how many of those were deleted again.
+#[derive(Debug, Drop)]
+pub struct GlobalStats {
+    live_append_entries: usize,
+    rewrite_entries: usize,
+    deleted_rewrite_entries: usize,
+}
+
+impl Model for GlobalStats {
+    ghost use Rattle.std.specs.Prelude.{◌≤◌};
+    ghost use Rattle.raft_table.specs.Counts.{Counts};
+
+    ghost Value = { Counts };
+
+    ghost view = { λ s. record { append = s.live_append_entries; written = s.rewrite_entries; deleted = s.deleted_rewrite_entries } };
+
+    ghost invariant = { λ s. s.deleted_rewrite_entries ≤ s.rewrite_entries };
+}
+
+impl Default for GlobalStats {
+    ghost is_default = { λ s. s ≡ record { append = 0; written = 0; deleted = 0 } };
+
+    fn default() -> GlobalStats {
+        GlobalStats {
+            live_append_entries: 0,
+            rewrite_entries: 0,
+            deleted_rewrite_entries: 0,
+        }
+    }
+}
+
+impl GlobalStats {
+    /// Counts `count` more records of `queue`.
+    ///
+    /// Where the number written to the rewrite queue would pass 2^64 - 1, the deleted records are
+    /// first taken off it.
+    ///
+    /// # Errors
+    ///
+    /// `Full` where more than 2^64 - 1 records would be live in `queue`. No live number has then
+    /// changed.
+    pub fn add(&mut self, queue: LogQueue, count: usize) -> Result<()>
+        ensures ok { OnOk result (self.new ≡ with_added queue count self.old) }
+        ensures live { OnOk result ((q : LogQueue) → live q self.new ≡ live q self.old + count_in q queue count) }
+        ensures accepted { live queue self.old + count < 2 ^ 64 → IsOk result }
+
+        // The only refusal, and that it is right.
+        ensures full { IfErr result (λ e. (e ≡ Error.Full) × (2 ^ 64 ≤ live queue self.old + count)) }
+        ensures err { OnErr result (self.new ≡ after_refusal queue self.old) }
+        ensures err_live { OnErr result ((q : LogQueue) → live q self.new ≡ live q self.old) }
+    {
+        match queue {
+            LogQueue::Append => {
+                self.live_append_entries = sum(self.live_append_entries, count)?;
+            }
+            LogQueue::Rewrite => {
+                if usize::MAX - self.rewrite_entries < count {
+                    self.reset_rewrite_counters();
+                }
+                self.rewrite_entries = sum(self.rewrite_entries, count)?;
+            }
+        }
+        Ok(())
+    }
+
+    /// Takes `count` live records of `queue` off.
+    pub fn delete(&mut self, queue: LogQueue, count: usize)
+        requires { count ≤ live queue self.old }
+        ensures after { self.new ≡ with_deleted queue count self.old }
+        ensures live { (q : LogQueue) → live q self.new + count_in q queue count ≡ live q self.old }
+    {
+        match queue {
+            LogQueue::Append => self.live_append_entries -= count,
+            LogQueue::Rewrite => self.deleted_rewrite_entries += count,
+        }
+    }
+
+    /// How many records are live in `queue`.
+    pub fn live_entries(&self, queue: LogQueue) -> usize
+        ensures { result ≡ live queue self.now }
+    {
+        match queue {
+            LogQueue::Append => self.live_append_entries,
+            LogQueue::Rewrite => self.rewrite_entries - self.deleted_rewrite_entries,
+        }
+    }
+
+    /// How many records were written to the rewrite queue, those that were deleted again included.
+    pub fn rewrite_entries(&self) -> usize
+        ensures { result ≡ self.now.written }
+    {
+        self.rewrite_entries
+    }
+
+    /// How many of the records that were written to the rewrite queue were deleted again.
+    pub fn deleted_rewrite_entries(&self) -> usize
+        ensures { result ≡ self.now.deleted }
+    {
+        self.deleted_rewrite_entries
+    }
+
+    /// Takes the deleted records off both numbers of the rewrite queue.
+    pub fn reset_rewrite_counters(&mut self)
+        ensures after { self.new ≡ without_deleted self.old }
+        ensures live { (q : LogQueue) → live q self.new ≡ live q self.old }
+    {
+        self.rewrite_entries -= self.deleted_rewrite_entries;
+        self.deleted_rewrite_entries = 0;
+    }
+}
+
+/// The sum, or `Full` where it would pass 2^64 - 1.
+fn sum(a: usize, b: usize) -> Result<usize>
+    ensures ok { IfOk result (λ s. s ≡ a + b) }
+    ensures accepted { a + b < 2 ^ 64 → IsOk result }
+    ensures full { IfErr result (λ e. (e ≡ Error.Full) × (2 ^ 64 ≤ a + b)) }
+{
+    match a.checked_add(b) {
+        Some(s) => Ok(s),
+        None => Err(Error::Full),
+    }
+}
+
+#[cfg(test)]
+mod tests {
+    use super::*;
+    use std::test::Fail;
+
+    #[test]
+    fn deleted_records_make_room_once(rt: HostRuntime) -> std::result::Result<(), Fail> {
+        let mut stats = GlobalStats::default();
+        stats.add(LogQueue::Rewrite, usize::MAX)?;
+        stats.delete(LogQueue::Rewrite, 10);
+        stats.add(LogQueue::Rewrite, 4)?;
+        assert_eq!(rt; stats.rewrite_entries(), usize::MAX - 6);
+        assert_eq!(rt; stats.deleted_rewrite_entries(), 0);
+        stats.add(LogQueue::Append, usize::MAX)?;
+        assert!(rt; matches!(stats.add(LogQueue::Append, 1), Err(Error::Full)));
+        assert_eq!(rt; stats.live_entries(LogQueue::Append), usize::MAX);
+        Ok(())
+    }
+}

@@ -1,0 +1,9 @@
+//! The records of regions in memory, and how many of them are live.
+#![tactic(auto)]
+
+pub mod global_stats;
+pub mod memtable;
+
+pub use global_stats::GlobalStats;
+pub use memtable::{MemTable, TableChange, is_run};
+pub use raft_records::{EntryIndex, Error, FileBlockHandle, FileId, FileSeq, LogQueue, Result};

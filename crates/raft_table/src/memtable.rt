@@ -1,0 +1,352 @@
+//! The table of a region: where its entries stand, its key values, and its atomic group.
+
+ghost use Rattle.std.specs.Prelude.{◌≡◌, ◌≢◌, ◌+◌, ◌≤◌, ◌^◌, false, length, MatchOption, OnOk, OnErr, IfErr, IfOk, Some, [], option_map, MatchBool};
+ghost use Rattle.raft_base.specs.declared.pipe_log.LogQueue.{LogQueue};
+ghost use Rattle.raft_base.specs.declared.pipe_log.LogQueue.TheVariants.{Append, Rewrite};
+ghost use Rattle.raft_table.specs.Entries.{IsRunIn, IsSound, start_of, end_of, entry_at, entries_in};
+ghost use Rattle.raft_table.specs.Counts.{Counts, live};
+ghost use Rattle.raft_table.specs.KeyValues.{value_at, file_at, file_count};
+ghost use Rattle.raft_table.specs.Table.{empty_table, live_of, IsCounted, IsRecounted, after_append, after_replay, after_rewrite, after_rewrite_key, compacted, with_pair, without_key, with_atomic_group, with_entries, with_keys, with_rewritten_key, MovesKeyAlone, leaves_append, IsPutRefused, IsKeyRefused};
+ghost use Rattle.raft_table.specs.Rewriting.{rewritten, recounted, IsRewriteRefused, MovesPlacesAlone};
+ghost use Rattle.raft_table.specs.Start.{appended, replayed, IsRunRefused};
+
+mod change;
+mod entries;
+pub mod key_values;
+mod laws;
+mod merge;
+mod queries;
+#[cfg(test)]
+mod tests;
+
+use crate::global_stats::GlobalStats;
+pub use change::{TableChange, is_run};
+use entries::Entries;
+use key_values::KeyValues;
+pub use laws::entries_stand_by_index;
+use raft_records::{EntryIndex, Error, FileId, FileSeq, LogQueue, Result};
+use std::alloc::Global;
+use std::marker::Model;
+
+/// The table of a region.
+#[derive(Drop)]
+pub struct MemTable {
+    region_id: u64,
+    entries: Entries,
+    keys: KeyValues,
+    /// The first and the last file of the region's atomic group.
+    atomic_group: Option<(FileSeq, FileSeq)>,
+}
+
+impl Model for MemTable {
+    ghost use Rattle.raft_table.specs.Table.{Table};
+    ghost use Rattle.raft_table.specs.TableCode.{table_code};
+
+    ghost Value = { Table };
+
+    ghost coded = { table_code };
+
+    ghost use Rattle.raft_table.specs.TableView.{table_shown};
+
+    ghost view = { table_shown };
+}
+
+impl MemTable {
+    /// The table of the region `region_id`, without records.
+    pub fn new(alloc: Global, region_id: u64) -> MemTable
+        ensures empty { result ≡ empty_table region_id }
+        ensures counted { (counts : Counts) → IsCounted result counts }
+    {
+        MemTable {
+            region_id,
+            entries: Entries::new(alloc),
+            keys: KeyValues::new(alloc),
+            atomic_group: None,
+        }
+    }
+
+    /// A table's entries are one run without gaps, each has a place, and the rewritten ones stand in
+    /// front of the appended ones.
+    pub fn holds_one_run(&self)
+        ensures { IsSound self.now.entries }
+    {
+        self.entries.holds_one_run();
+    }
+
+    /// The region's number.
+    pub fn region_id(&self) -> u64
+        ensures { result ≡ self.now.region_id }
+    {
+        self.region_id
+    }
+
+    /// How many entries are rewritten.
+    pub fn rewrite_count(&self) -> usize
+        ensures { result ≡ entries_in Rewrite self.now.entries }
+    {
+        self.entries.rewrite_count()
+    }
+
+    /// The least index.
+    pub fn first_index(&self) -> Option<u64>
+        ensures { MatchOption result (self.now.entries ≡ [])
+            (λ i. (self.now.entries ≢ []) × (i ≡ start_of self.now.entries)) }
+    {
+        self.entries.first_index()
+    }
+
+    /// The greatest index.
+    pub fn last_index(&self) -> Option<u64>
+        ensures { MatchOption result (self.now.entries ≡ [])
+            (λ i. i + 1 ≡ end_of self.now.entries) }
+    {
+        self.entries.last_index()
+    }
+
+    /// The first and the last file of the region's atomic group, if one was applied.
+    pub fn atomic_group(&self) -> Option<(FileSeq, FileSeq)>
+        ensures { result ≡ self.now.atomic_group }
+    {
+        self.atomic_group
+    }
+
+    /// How many entries and key values have their place or file in `queue`.
+    pub fn records(&self, queue: LogQueue) -> u128
+        ensures { result ≡ live_of queue self.now }
+    {
+        self.entries.count_in(queue) as u128 + self.keys.count_in(queue) as u128
+    }
+
+    /// The place of the entry with this index.
+    pub fn get_entry(&self, index: u64) -> Option<EntryIndex>
+        ensures { result ≡ entry_at index self.now.entries }
+    {
+        self.entries.get(index)
+    }
+
+    /// The value of `key`.
+    pub fn get(&self, key: &[u8]) -> Option<&[u8]>
+        ensures { option_map (λ v. v.now) result ≡ value_at self.now.keys key.now }
+    {
+        self.keys.get(key)
+    }
+
+    /// Puts a new run of the append queue behind the entries below its start. All others go.
+    ///
+    /// # Errors
+    ///
+    /// `Corruption` where the run starts below all entries or leaves a hole behind them, `Full`
+    /// where more than 2^64 - 1 records would be live in the append queue. The table and the
+    /// counts are then as they were.
+    pub fn append(&mut self, run: Vec<EntryIndex>, stats: &mut GlobalStats) -> Result<()>
+        requires run { IsRunIn Append run.items }
+        requires counted { IsCounted self.old stats.old }
+        ensures ok { OnOk result (after_append self.old run.items ≡ Some self.new) }
+        ensures refused { IfErr result (IsRunRefused Append stats.old self.old.entries (appended self.old.entries run.items)) }
+        ensures err { OnErr result ((self.new ≡ self.old) × (stats.new ≡ stats.old)) }
+        ensures recounted { IsRecounted self.old self.new stats.old stats.new }
+    {
+        self.entries.append(run, stats)
+    }
+
+    /// Puts a run of the append queue that is read again behind the entries below its start. All
+    /// others go.
+    ///
+    /// # Errors
+    ///
+    /// `Corruption` where the run leaves a hole behind the entries, `Full` where more than
+    /// 2^64 - 1 records would be live in the append queue. The table and the counts are then as
+    /// they were.
+    pub fn replay_append(&mut self, run: Vec<EntryIndex>, stats: &mut GlobalStats) -> Result<()>
+        requires run { IsRunIn Append run.items }
+        requires counted { IsCounted self.old stats.old }
+        ensures ok { OnOk result (after_replay Append self.old run.items ≡ Some self.new) }
+        ensures refused { IfErr result (IsRunRefused Append stats.old self.old.entries (replayed Append self.old.entries run.items)) }
+        ensures err { OnErr result ((self.new ≡ self.old) × (stats.new ≡ stats.old)) }
+        ensures recounted { IsRecounted self.old self.new stats.old stats.new }
+    {
+        self.entries.replay_append(run, stats)
+    }
+
+    /// Puts a run of the rewrite queue that is read again behind the entries below its start, or
+    /// in place of all entries where it leaves a hole behind them. All others go.
+    ///
+    /// # Errors
+    ///
+    /// `Full` where more than 2^64 - 1 records would be live in the rewrite queue. The table and
+    /// the counts are then as they were.
+    pub fn replay_rewrite(&mut self, run: Vec<EntryIndex>, stats: &mut GlobalStats) -> Result<()>
+        requires run { IsRunIn Rewrite run.items }
+        requires rewritten { live_of Append self.old ≡ 0 }
+        requires counted { IsCounted self.old stats.old }
+        ensures ok { OnOk result (after_replay Rewrite self.old run.items ≡ Some self.new) }
+        ensures refused { IfErr result (IsRunRefused Rewrite stats.old self.old.entries (replayed Rewrite self.old.entries run.items)) }
+        ensures err { OnErr result ((self.new ≡ self.old) × (stats.new ≡ stats.old)) }
+        ensures recounted { IsRecounted self.old self.new stats.old stats.new }
+    {
+        self.entries.replay_rewrite(run, stats)
+    }
+
+    /// Gives the entries the places of a run of the rewrite queue, from the first that meet on
+    /// and as far as they may move: with a gate those in files at or below it, without one those
+    /// that are rewritten already. Indexes, keys and values stay. A run without entries changes
+    /// nothing.
+    ///
+    /// # Errors
+    ///
+    /// `Corruption` where more entries stand below the first that meets than are rewritten, and
+    /// with a gate also where fewer do; `Full` where the live number of the rewrite queue and the
+    /// run together would pass 2^64 - 1. The table and the live numbers are then as they were.
+    pub fn rewrite(
+        &mut self,
+        run: Vec<EntryIndex>,
+        gate: Option<FileSeq>,
+        stats: &mut GlobalStats,
+    ) -> Result<()>
+        requires run { IsRunIn Rewrite run.items }
+        requires counted { IsCounted self.old stats.old }
+        ensures ok { OnOk result (after_rewrite gate self.old run.items ≡ Some self.new) }
+        ensures places_alone { OnOk result (MovesPlacesAlone run.items self.old.entries self.new.entries) }
+        ensures others { OnOk result (self.new ≡ with_entries self.old self.new.entries) }
+        ensures counts { OnOk result (stats.new ≡ recounted gate run.items self.old.entries stats.old) }
+        ensures refused { IfErr result (IsRewriteRefused (length run.items) stats.old (rewritten gate run.items self.old.entries)) }
+        ensures err { OnErr result (self.new ≡ self.old) }
+        ensures err_counts { IfErr result (λ e. e ≢ Error.Full → stats.new ≡ stats.old) }
+        ensures recounted { IsRecounted self.old self.new stats.old stats.new }
+    {
+        self.entries.rewrite(&run, gate, stats)
+    }
+
+    /// Drops the entries below an index, and answers how many those were.
+    pub fn compact_to(&mut self, index: u64, stats: &mut GlobalStats) -> u64
+        requires { IsCounted self.old stats.old }
+        ensures compacted { self.new ≡ compacted index self.old }
+        ensures dropped { result + length self.new.entries ≡ length self.old.entries }
+        ensures recounted { IsRecounted self.old self.new stats.old stats.new }
+    {
+        self.entries.compact_to(index, stats)
+    }
+
+    /// Puts a key with its value, which were written to `file`, in place of the pair that the key
+    /// had.
+    ///
+    /// # Errors
+    ///
+    /// `Full` where more than 2^64 - 1 records would be live in the file's queue. The table and the
+    /// counts are then as they were.
+    pub fn put(
+        &mut self,
+        key: Vec<u8>,
+        value: Vec<u8>,
+        file: FileId,
+        stats: &mut GlobalStats,
+    ) -> Result<()>
+        requires { IsCounted self.old stats.old }
+        ensures ok { OnOk result (self.new ≡ with_pair self.old key.items value.items file) }
+        ensures refused { IfErr result (IsPutRefused file.queue stats.old (file_at self.old.keys key.items)) }
+        ensures err { OnErr result ((self.new ≡ self.old) × (stats.new ≡ stats.old)) }
+        ensures recounted { IsRecounted self.old self.new stats.old stats.new }
+    {
+        if stats.live_entries(file.queue) == usize::MAX && !self.has_pair_in(&key, file.queue) {
+            return Err(Error::Full);
+        }
+        if let Some(replaced) = self.keys.insert(key, value, file)? {
+            stats.delete(replaced.queue, 1);
+        }
+        stats.add(file.queue, 1)
+    }
+
+    /// Deletes a key and its value.
+    pub fn delete(&mut self, key: &[u8], stats: &mut GlobalStats)
+        requires { IsCounted self.old stats.old }
+        ensures deleted { self.new ≡ without_key self.old key.now }
+        ensures recounted { IsRecounted self.old self.new stats.old stats.new }
+    {
+        if let Some(file) = self.keys.remove(key) {
+            stats.delete(file.queue, 1);
+        }
+    }
+
+    /// Moves the pair of `key` to the file `seq` of the rewrite queue: one in the append queue
+    /// where there is a gate and its file is at or below it, one in the rewrite queue always.
+    ///
+    /// # Errors
+    ///
+    /// `Corruption` where the pair is in the rewrite queue in a file above `seq`, `Full` where the
+    /// live number of the rewrite queue and one more would pass 2^64 - 1. The table and the live
+    /// numbers are then as they were.
+    pub fn rewrite_key(
+        &mut self,
+        key: Vec<u8>,
+        gate: Option<FileSeq>,
+        seq: FileSeq,
+        stats: &mut GlobalStats,
+    ) -> Result<()>
+        requires { IsCounted self.old stats.old }
+        ensures ok { OnOk result (after_rewrite_key gate seq self.old key.items ≡ Some self.new) }
+        ensures file_alone { OnOk result (MovesKeyAlone key.items self.old.keys self.new.keys) }
+        ensures others { OnOk result (self.new ≡ with_keys self.old self.new.keys) }
+        ensures counts { OnOk result (stats.new ≡ with_rewritten_key (leaves_append gate (file_at self.old.keys key.items)) stats.old) }
+        ensures refused { IfErr result (IsKeyRefused stats.old (after_rewrite_key gate seq self.old key.items)) }
+        ensures err { OnErr result (self.new ≡ self.old) }
+        ensures err_counts { IfErr result (λ e. e ≢ Error.Full → stats.new ≡ stats.old) }
+        ensures recounted { IsRecounted self.old self.new stats.old stats.new }
+    {
+        let Some(file) = self.keys.file_of(&key) else {
+            return count_unmoved(stats);
+        };
+        match file.queue {
+            LogQueue::Append => {
+                if !gate.is_some_and(|gate| file.seq <= gate) {
+                    return count_unmoved(stats);
+                }
+                stats.add(LogQueue::Rewrite, 1)?;
+                self.keys
+                    .set_file(&key, FileId::new(LogQueue::Rewrite, seq));
+                stats.delete(LogQueue::Append, 1);
+                Ok(())
+            }
+            LogQueue::Rewrite => {
+                if seq < file.seq {
+                    return Err(
+                        self.entries
+                            .corruption("a key is rewritten to an older file")?,
+                    );
+                }
+                count_unmoved(stats)?;
+                self.keys
+                    .set_file(&key, FileId::new(LogQueue::Rewrite, seq));
+                Ok(())
+            }
+        }
+    }
+
+    /// Whether a key has a pair in `queue`.
+    fn has_pair_in(&self, key: &[u8], queue: LogQueue) -> bool
+        ensures { MatchBool result (file_count queue (file_at self.now.keys key.now) ≡ 1) (file_count queue (file_at self.now.keys key.now) ≡ 0) }
+    {
+        match self.keys.file_of(key) {
+            Some(file) => file.queue == queue,
+            None => false,
+        }
+    }
+
+    /// Sets the first and the last file of the region's atomic group in the rewrite queue.
+    pub fn apply_rewrite_atomic_group(&mut self, start: FileSeq, end: FileSeq)
+        requires { start ≤ end }
+        ensures { self.new ≡ with_atomic_group self.old start end }
+    {
+        self.atomic_group = Some((start, end));
+    }
+}
+
+/// Counts a record that was written to the rewrite queue without another place that it leaves.
+fn count_unmoved(stats: &mut GlobalStats) -> Result<()>
+    ensures ok { OnOk result (stats.new ≡ with_rewritten_key false stats.old) }
+    ensures live { (q : LogQueue) → live q stats.new ≡ live q stats.old }
+    ensures full { IfErr result (λ e. (e ≡ Error.Full) × (2 ^ 64 ≤ live Rewrite stats.old + 1)) }
+{
+    stats.add(LogQueue::Rewrite, 1)?;
+    stats.delete(LogQueue::Rewrite, 1);
+    Ok(())
+}

@@ -1,0 +1,162 @@
+//! The entries of a region, in order of index.
+
+ghost use Rattle.std.specs.Prelude.{◌≡◌, ◌≢◌, ◌+◌, [], length, MatchOption, IfOk, IfErr};
+ghost use Rattle.raft_table.specs.Start.{IsCorruption, IsInvalidArgument};
+ghost use Rattle.raft_table.specs.Entries.{IsSound, start_of, end_of, entry_at, entries_in, from, AreCounted, AreRecounted};
+ghost use Rattle.raft_base.specs.declared.pipe_log.LogQueue.TheVariants.{Rewrite};
+
+mod fetch;
+mod places;
+mod runs;
+
+use crate::global_stats::GlobalStats;
+use raft_records::{EntryIndex, Error, LogQueue, Result};
+use std::alloc::Global;
+use std::collections::VecDeque;
+use std::marker::Model;
+
+/// The entries of a region's table: one run of indexes, rewritten places in front of appended
+/// ones.
+#[derive(Drop)]
+pub struct Entries {
+    deque: VecDeque<EntryIndex>,
+    /// How many of them, from the front on, are rewritten.
+    rewritten: usize,
+}
+
+/// Where a run meets the entries of a table.
+#[derive(Clone, Copy)]
+enum Start {
+    /// It starts among them or right behind them: so many stand below its start.
+    Joins(usize),
+    /// It starts below all of them.
+    InFront,
+    /// It starts behind them, and indexes between are missing.
+    BehindHole,
+}
+
+/// Where the indexes of a run meet those of a table.
+#[derive(Clone, Copy)]
+struct Meeting {
+    /// How many of the table's entries stand below the first that meets.
+    at: usize,
+    /// How many of the run's stand below it.
+    skipped: usize,
+    /// How many meet.
+    count: usize,
+}
+
+impl Model for Entries {
+    ghost use Rattle.std.specs.Prelude.{◌≡◌, List, length};
+    ghost use Rattle.raft_records.specs.declared.entry_index.EntryIndex.{EntryIndex};
+    ghost use Rattle.raft_table.specs.Entries.{IsSound, entries_in};
+    ghost use Rattle.raft_base.specs.declared.pipe_log.LogQueue.TheVariants.{Rewrite};
+
+    ghost Value = { List EntryIndex };
+
+    ghost view = { λ a. a.deque.items };
+
+    ghost invariant = { λ a. IsSound a.deque.items × (a.rewritten ≡ entries_in Rewrite a.deque.items) };
+}
+
+impl Entries {
+    /// No entries.
+    pub fn new(alloc: Global) -> Entries
+        ensures { result ≡ [] }
+    {
+        Entries {
+            deque: VecDeque::new(alloc),
+            rewritten: 0,
+        }
+    }
+
+    /// The entries are one run without gaps, each has a place, and the rewritten ones stand in front
+    /// of the appended ones.
+    pub fn holds_one_run(&self)
+        ensures { IsSound self.now }
+    {
+        let _ = &self.deque;
+    }
+
+    /// The least index.
+    pub fn first_index(&self) -> Option<u64>
+        ensures { MatchOption result (self.now ≡ []) (λ i. (self.now ≢ []) × (i ≡ start_of self.now)) }
+    {
+        self.deque.front().map(|e| e.index)
+    }
+
+    /// The greatest index.
+    pub fn last_index(&self) -> Option<u64>
+        ensures { MatchOption result (self.now ≡ []) (λ i. i + 1 ≡ end_of self.now) }
+    {
+        let back = self.deque.back()?;
+        Some(back.index)
+    }
+
+    /// How many of them are in `queue`.
+    pub fn count_in(&self, queue: LogQueue) -> usize
+        ensures { result ≡ entries_in queue self.now }
+    {
+        match queue {
+            LogQueue::Append => self.deque.len() - self.rewritten,
+            LogQueue::Rewrite => self.rewritten,
+        }
+    }
+
+    /// A refusal with this text, or want of memory for it.
+    pub(crate) fn corruption(&self, text: &str) -> Result<Error>
+        ensures ok { IfOk result IsCorruption }
+        ensures err { IfErr result (λ e. e ≡ Error.Memory) }
+    {
+        Ok(Error::Corruption(String::from_str(*self.deque.allocator(), text)?))
+    }
+
+    /// A refusal of an argument with this text, or want of memory for it.
+    pub(crate) fn invalid(&self, text: &str) -> Result<Error>
+        ensures ok { IfOk result IsInvalidArgument }
+        ensures err { IfErr result (λ e. e ≡ Error.Memory) }
+    {
+        Ok(Error::InvalidArgument(String::from_str(*self.deque.allocator(), text)?))
+    }
+
+    /// How many of them are rewritten.
+    pub fn rewrite_count(&self) -> usize
+        ensures { result ≡ entries_in Rewrite self.now }
+    {
+        self.rewritten
+    }
+
+    /// The entry with this index.
+    pub fn get(&self, index: u64) -> Option<EntryIndex>
+        ensures { result ≡ entry_at index self.now }
+    {
+        let first = self.deque.front()?.index;
+        if index < first {
+            return None;
+        }
+        self.deque.get((index - first) as usize).copied()
+    }
+
+    /// Drops the entries below an index, and answers how many those were.
+    pub fn compact_to(&mut self, index: u64, stats: &mut GlobalStats) -> u64
+        requires { AreCounted self.old stats.old }
+        ensures entries { self.new ≡ from index self.old }
+        ensures dropped { result + length self.new ≡ length self.old }
+        ensures recounted { AreRecounted self.old self.new stats.old stats.new }
+    {
+        let Some(front) = self.deque.front() else {
+            return 0;
+        };
+        let first = front.index;
+        if index <= first {
+            return 0;
+        }
+        let count = (index - first).min(self.deque.len() as u64) as usize;
+        drop(self.deque.drain(..count));
+        let rewritten = self.rewritten.min(count);
+        self.rewritten -= rewritten;
+        stats.delete(LogQueue::Rewrite, rewritten);
+        stats.delete(LogQueue::Append, count - rewritten);
+        count as u64
+    }
+}

@@ -1,0 +1,228 @@
+//! Runs that are put behind a table's entries.
+
+ghost use Rattle.std.specs.Prelude.{◌≡◌, ◌+◌, ◌≤◌, ◌^◌, [], ◌++◌, length, take, OnOk, OnErr, IfErr, Some};
+ghost use Rattle.raft_table.specs.Counts.{live};
+ghost use Rattle.raft_table.specs.Queues.{count_in, of_queue, other};
+ghost use Rattle.raft_table.specs.Entries.{IsSound, IsRunIn, placed_in, entries_in, AreCounted, AreRecounted};
+ghost use Rattle.raft_table.specs.Start.{appended, replayed, IsRunRefused};
+ghost use Rattle.raft_table.specs.StartOf.{IsStart};
+ghost use Rattle.raft_base.specs.declared.pipe_log.LogQueue.{LogQueue};
+ghost use Rattle.raft_base.specs.declared.pipe_log.LogQueue.TheVariants.{Append, Rewrite};
+
+use crate::global_stats::GlobalStats;
+use crate::memtable::entries::{Entries, Start};
+use raft_records::{EntryIndex, Error, LogQueue, Result};
+use std::collections::VecDeque;
+
+impl Entries {
+    /// Puts a new run of the append queue behind the entries below its start. All others go.
+    ///
+    /// # Errors
+    ///
+    /// `Corruption` where the run starts below all entries or leaves a hole behind them, `Full`
+    /// where more than 2^64 - 1 records would be live in the append queue.
+    pub fn append(&mut self, run: Vec<EntryIndex>, stats: &mut GlobalStats) -> Result<()>
+        requires run { IsRunIn Append run.items }
+        requires counted { AreCounted self.old stats.old }
+        ensures ok { OnOk result (appended self.old run.items ≡ Some self.new) }
+        ensures refused { IfErr result (IsRunRefused Append stats.old self.old (appended self.old run.items)) }
+        ensures err { OnErr result ((self.new ≡ self.old) × (stats.new ≡ stats.old)) }
+        ensures recounted { AreRecounted self.old self.new stats.old stats.new }
+    {
+        let Some(first) = run.first() else {
+            return Ok(());
+        };
+        match self.start(first.index) {
+            Start::Joins(keep) => {
+                let mut run = VecDeque::from_vec(run);
+                self.put_behind(keep, &mut run, LogQueue::Append, stats)
+            }
+            Start::InFront => Err(self.corruption("a run starts below the first entry")?),
+            Start::BehindHole => Err(self.corruption("a run leaves a hole behind the last entry")?),
+        }
+    }
+
+    /// Puts a run of the append queue that is read again behind the entries below its start. All
+    /// others go.
+    ///
+    /// # Errors
+    ///
+    /// `Corruption` where the run leaves a hole behind the entries, `Full` where more than
+    /// 2^64 - 1 records would be live in the append queue.
+    pub fn replay_append(&mut self, run: Vec<EntryIndex>, stats: &mut GlobalStats) -> Result<()>
+        requires run { IsRunIn Append run.items }
+        requires counted { AreCounted self.old stats.old }
+        ensures ok { OnOk result (replayed Append self.old run.items ≡ Some self.new) }
+        ensures refused { IfErr result (IsRunRefused Append stats.old self.old (replayed Append self.old run.items)) }
+        ensures err { OnErr result ((self.new ≡ self.old) × (stats.new ≡ stats.old)) }
+        ensures recounted { AreRecounted self.old self.new stats.old stats.new }
+    {
+        let mut run = VecDeque::from_vec(run);
+        self.replay(LogQueue::Append, &mut run, LogQueue::Append, stats)
+    }
+
+    /// Puts a run of the rewrite queue that is read again behind the entries below its start, or
+    /// in place of all entries where it leaves a hole behind them. All others go.
+    ///
+    /// # Errors
+    ///
+    /// `Full` where more than 2^64 - 1 records would be live in the rewrite queue.
+    pub fn replay_rewrite(&mut self, run: Vec<EntryIndex>, stats: &mut GlobalStats) -> Result<()>
+        requires run { IsRunIn Rewrite run.items }
+        requires rewritten { entries_in Append self.old ≡ 0 }
+        requires counted { AreCounted self.old stats.old }
+        ensures ok { OnOk result (replayed Rewrite self.old run.items ≡ Some self.new) }
+        ensures refused { IfErr result (IsRunRefused Rewrite stats.old self.old (replayed Rewrite self.old run.items)) }
+        ensures err { OnErr result ((self.new ≡ self.old) × (stats.new ≡ stats.old)) }
+        ensures recounted { AreRecounted self.old self.new stats.old stats.new }
+    {
+        let mut run = VecDeque::from_vec(run);
+        self.replay(LogQueue::Rewrite, &mut run, LogQueue::Rewrite, stats)
+    }
+
+    /// Moves all entries of `rhs`, which are in one queue, behind the entries below their start, by
+    /// the start rule of the replays into `rule`. All others go, and `rhs` is left empty.
+    ///
+    /// # Errors
+    ///
+    /// `Corruption` where that rule refuses them, `Full` where more than 2^64 - 1 records would be
+    /// live in their queue.
+    pub fn absorb(
+        &mut self,
+        rule: LogQueue,
+        rhs: &mut Entries,
+        queue: LogQueue,
+        stats: &mut GlobalStats,
+    ) -> Result<()>
+        requires alone { entries_in (other queue) rhs.old ≡ 0 }
+        requires rewritten { queue ≡ Rewrite → entries_in Append self.old ≡ 0 }
+        requires counted { AreCounted self.old stats.old }
+        ensures ok { OnOk result (replayed rule self.old rhs.old ≡ Some self.new) }
+        ensures emptied { OnOk result (rhs.new ≡ []) }
+        ensures refused { IfErr result (IsRunRefused queue stats.old self.old (replayed rule self.old rhs.old)) }
+        ensures err { OnErr result ((self.new ≡ self.old) × (rhs.new ≡ rhs.old) × (stats.new ≡ stats.old)) }
+        ensures recounted { AreRecounted self.old self.new stats.old stats.new }
+    {
+        self.replay(rule, &mut rhs.deque, queue, stats)?;
+        rhs.rewritten = 0;
+        Ok(())
+    }
+
+    /// Moves a run of `queue` behind the entries below its start, by the start rule of the replays
+    /// into `rule`.
+    fn replay(
+        &mut self,
+        rule: LogQueue,
+        run: &mut VecDeque<EntryIndex>,
+        queue: LogQueue,
+        stats: &mut GlobalStats,
+    ) -> Result<()>
+        requires run { IsRunIn queue run.old.items }
+        requires rewritten { queue ≡ Rewrite → entries_in Append self.old ≡ 0 }
+        requires counted { AreCounted self.old stats.old }
+        ensures ok { OnOk result (replayed rule self.old run.old.items ≡ Some self.new) }
+        ensures emptied { OnOk result (run.new.items ≡ []) }
+        ensures refused { IfErr result (IsRunRefused queue stats.old self.old (replayed rule self.old run.old.items)) }
+        ensures err { OnErr result ((self.new ≡ self.old) × (run.new.items ≡ run.old.items) × (stats.new ≡ stats.old)) }
+        ensures recounted { AreRecounted self.old self.new stats.old stats.new }
+    {
+        let Some(front) = run.front() else {
+            return Ok(());
+        };
+        match self.start(front.index) {
+            Start::Joins(keep) => self.put_behind(keep, run, queue, stats),
+            Start::InFront => self.put_behind(0, run, queue, stats),
+            Start::BehindHole => match rule {
+                LogQueue::Append => {
+                    Err(self.corruption("a run leaves a hole behind the last entry")?)
+                }
+                LogQueue::Rewrite => self.put_behind(0, run, queue, stats),
+            },
+        }
+    }
+
+    /// Keeps the first `keep` entries and moves a run of one queue behind them.
+    fn put_behind(
+        &mut self,
+        keep: usize,
+        run: &mut VecDeque<EntryIndex>,
+        queue: LogQueue,
+        stats: &mut GlobalStats,
+    ) -> Result<()>
+        requires keep { keep ≤ length self.old }
+        requires sound { IsSound (take keep self.old ++ run.old.items) }
+        requires queue { placed_in queue run.old.items ≡ run.old.items }
+        requires counted { AreCounted self.old stats.old }
+        ensures ok { OnOk result ((self.new ≡ take keep self.old ++ run.old.items) × (run.new.items ≡ [])) }
+        ensures err { OnErr result ((self.new ≡ self.old) × (run.new.items ≡ run.old.items) × (stats.new ≡ stats.old)) }
+        ensures recounted { AreRecounted self.old self.new stats.old stats.new }
+        ensures refused { IfErr result (IsRunRefused queue stats.old self.old (Some (take keep self.old ++ run.old.items))) }
+    {
+        let dropped = self.deque.len() - keep;
+        let rewritten = self.rewritten.min(keep);
+        self.deque.reserve(run.len().saturating_sub(dropped))?;
+        exchange(
+            stats,
+            self.rewritten - rewritten,
+            dropped - (self.rewritten - rewritten),
+            queue,
+            run.len(),
+        )?;
+        self.deque.truncate(keep);
+        self.rewritten = match queue {
+            LogQueue::Append => rewritten,
+            LogQueue::Rewrite => rewritten + run.len(),
+        };
+        if self.deque.append(run).is_err() {
+            unreachable!()
+        }
+        Ok(())
+    }
+
+    /// Where a run that starts at `index` meets the entries.
+    fn start(&self, index: u64) -> Start
+        ensures meets { IsStart self.now index result }
+        ensures sound { IsSound self.now }
+    {
+        let Some(front) = self.deque.front() else {
+            return Start::Joins(0);
+        };
+        let first = front.index;
+        if index < first {
+            return Start::InFront;
+        }
+        let below = index - first;
+        if below > self.deque.len() as u64 {
+            return Start::BehindHole;
+        }
+        Start::Joins(below as usize)
+    }
+}
+
+/// Counts `added` live records of `queue` in place of those that are gone from either queue.
+fn exchange(
+    stats: &mut GlobalStats,
+    rewritten: usize,
+    appended: usize,
+    queue: LogQueue,
+    added: usize,
+) -> Result<()>
+    requires rewritten { rewritten ≤ live Rewrite stats.old }
+    requires appended { appended ≤ live Append stats.old }
+    ensures ok { OnOk result ((q : LogQueue) →
+        live q stats.new + of_queue q appended rewritten ≡ live q stats.old + count_in q queue added) }
+    ensures err { OnErr result (stats.new ≡ stats.old) }
+    ensures full { IfErr result (λ e. (e ≡ Error.Full)
+        × (2 ^ 64 + of_queue queue appended rewritten ≤ live queue stats.old + added)) }
+{
+    let gone = match queue {
+        LogQueue::Append => appended,
+        LogQueue::Rewrite => rewritten,
+    };
+    if added > usize::MAX - (stats.live_entries(queue) - gone) {
+        return Err(Error::Full);
+    }
+    stats.delete(LogQueue::Append, appended);
+    stats.delete(LogQueue::Rewrite, rewritten);
+    stats.add(queue, added)
+}

@@ -1,0 +1,410 @@
+//! The key values of one region.
+
+ghost use Rattle.std.specs.Prelude.{◌≡◌, ℕ, ◌+◌, ◌≤◌, List, [], ◌∷◌, ◌++◌, ◌↔◌, IsTrue, OnOk, OnErr, IfOk, IfSome, IfNone, All, Contains, filter, length, map, take};
+ghost use Rattle.std.specs.Option.{option_copied, option_map, option_or};
+ghost use Rattle.std.specs.Fn.{CalledAtTwo};
+ghost use Rattle.std.specs.FinMap as finite;
+ghost use Rattle.raft_base.specs.declared.pipe_log.LogQueue.{LogQueue};
+ghost use Rattle.raft_table.specs.Scan.{VisitsUntilFalse, scanned};
+ghost use Rattle.raft_table.specs.KeyValues.{Keys, pair_count, file_count, value_at, file_at, with_put, with_moved, files_in, least, lesser, is_up_to, fetched, pairs_shown, overlaid};
+
+mod scan;
+
+use raft_records::{FileId, FileSeq, LogQueue};
+use scan::{divided, is_forward, sought, visit, visit_back};
+use std::alloc::{AllocError, Global};
+use std::collections::BTreeMap;
+use std::marker::Model;
+
+/// A value, and the file that it was written to with its key.
+#[derive(Debug, Drop)]
+struct StoredValue {
+    value: Vec<u8>,
+    file: FileId,
+}
+
+/// The key values of one region, the keys in the order of their bytes.
+#[derive(Debug, Drop)]
+pub struct KeyValues {
+    pairs: BTreeMap<Vec<u8>, StoredValue>,
+    /// How many of the pairs have their file in the rewrite queue.
+    rewritten: usize,
+    alloc: Global,
+}
+
+impl Model for KeyValues {
+    ghost use Rattle.raft_table.specs.KeyValues.{Keys};
+    ghost use Rattle.raft_table.specs.KeyValueCode.{keys_code};
+
+    ghost Value = { Keys };
+
+    ghost coded = { keys_code };
+
+    ghost use Rattle.raft_table.specs.KeyValueView.{keys_shown, IsSound};
+
+    ghost view = { keys_shown };
+
+    ghost invariant = { IsSound };
+}
+
+impl KeyValues {
+    /// No pairs.
+    pub fn new(alloc: Global) -> KeyValues
+        ensures { result ≡ finite.empty }
+    {
+        KeyValues {
+            pairs: BTreeMap::new(alloc),
+            rewritten: 0,
+            alloc,
+        }
+    }
+
+    /// How many pairs there are.
+    pub fn len(&self) -> usize
+        ensures { result ≡ finite.len self.now }
+    {
+        self.pairs.len()
+    }
+
+    /// Whether there are no pairs.
+    pub fn is_empty(&self) -> bool
+        ensures { IsTrue result ↔ (self.now ≡ finite.empty) }
+    {
+        self.pairs.is_empty()
+    }
+
+    /// How many pairs have their file in `queue`.
+    pub fn count_in(&self, queue: LogQueue) -> usize
+        ensures { result ≡ pair_count queue self.now }
+    {
+        match queue {
+            LogQueue::Append => self.pairs.len() - self.rewritten,
+            LogQueue::Rewrite => self.rewritten,
+        }
+    }
+
+    /// The value of `key`.
+    pub fn get(&self, key: &[u8]) -> Option<&[u8]>
+        ensures { option_map (λ v. v.now) result ≡ value_at self.now key.now }
+    {
+        match self.pairs.get(key) {
+            Some(pair) => Some(pair.value.as_slice()),
+            None => None,
+        }
+    }
+
+    /// The file that the pair of `key` was written to.
+    pub fn file_of(&self, key: &[u8]) -> Option<FileId>
+        ensures { result ≡ file_at self.now key.now }
+    {
+        match self.pairs.get(key) {
+            Some(pair) => Some(pair.file),
+            None => None,
+        }
+    }
+
+    /// Puts a key with its value, which were written to `file`. Answers the file of the pair that
+    /// it replaces.
+    ///
+    /// # Errors
+    ///
+    /// Where there is no memory for one more pair. The pairs are then as they were.
+    pub fn insert(
+        &mut self,
+        key: Vec<u8>,
+        value: Vec<u8>,
+        file: FileId,
+    ) -> Result<Option<FileId>, AllocError>
+        ensures ok { OnOk result (self.new ≡ with_put self.old key.items value.items file) }
+        ensures replaced { IfOk result (λ replaced. replaced ≡ file_at self.old key.items) }
+        ensures counts { IfOk result (λ replaced. (queue : LogQueue) → pair_count queue self.new + file_count queue replaced ≡ pair_count queue self.old + file_count queue (Some file)) }
+        ensures err { OnErr result (self.new ≡ self.old) }
+    {
+        prove!(self.rewritten <= self.pairs.len());
+        let replaced = file_in(self.pairs.insert(key, StoredValue { value, file })?);
+        self.rewritten = self.rewritten - rewritten(replaced) + rewritten(Some(file));
+        Ok(replaced)
+    }
+
+    /// Takes the pair of `key` away, and answers its file.
+    pub fn remove(&mut self, key: &[u8]) -> Option<FileId>
+        ensures after { self.new ≡ finite.remove self.old key.now }
+        ensures removed { result ≡ file_at self.old key.now }
+        ensures counts { (queue : LogQueue) → pair_count queue self.new + file_count queue result ≡ pair_count queue self.old }
+    {
+        let removed = self.pairs.remove(key)?;
+        self.rewritten -= rewritten(Some(removed.file));
+        Some(removed.file)
+    }
+
+    /// Moves the pair of `key`, if there is one, to `file`. Answers the file that it was in.
+    pub fn set_file(&mut self, key: &[u8], file: FileId) -> Option<FileId>
+        ensures after { self.new ≡ with_moved self.old key.now file }
+        ensures moved { result ≡ file_at self.old key.now }
+        ensures counts { (queue : LogQueue) → pair_count queue self.new + file_count queue result ≡ pair_count queue self.old + file_count queue (option_map (λ _. file) result) }
+    {
+        prove!(self.rewritten <= self.pairs.len());
+        let pair = self.pairs.get_mut(key)?;
+        let left = pair.file;
+        pair.file = file;
+        self.rewritten = self.rewritten - rewritten(Some(left)) + rewritten(Some(file));
+        Some(left)
+    }
+
+    /// The least number among the files of the pairs in `queue`.
+    pub fn least_file_in(&self, queue: LogQueue) -> Option<FileSeq>
+        ensures { result ≡ least (files_in queue self.now) }
+    {
+        let mut least: Option<FileSeq> = None;
+        for pair in self.pairs.values() {
+            if pair.file.queue == queue {
+                least = lesser(least, pair.file.seq);
+            }
+        }
+        least
+    }
+
+    /// Appends the pairs in `queue` whose file is at or below `gate`, if there is one, in the
+    /// order of their keys.
+    ///
+    /// # Errors
+    ///
+    /// Where there is no memory for them. The vector is then as it was.
+    pub fn fetch(
+        &self,
+        queue: LogQueue,
+        gate: Option<FileSeq>,
+        vec: &mut Vec<(Vec<u8>, Vec<u8>)>,
+    ) -> Result<(), AllocError>
+        ensures ok { OnOk result (pairs_shown vec.new.items ≡ pairs_shown vec.old.items ++ fetched queue gate self.now) }
+        ensures err { OnErr result (vec.new.items ≡ vec.old.items) }
+    {
+        let len = vec.len();
+        let pushed = push_fetched(&self.pairs, queue, gate, vec);
+        if pushed.is_err() {
+            vec.truncate(len);
+        }
+        pushed
+    }
+
+    /// Calls `f` at the keys from `start` on and below `end` with their values, in the order of
+    /// the keys or, where `reverse`, from the last one back, until it answers false. A bound that
+    /// is `None` leaves its side open; where `start` is above `end` nothing is visited.
+    pub fn scan<F: FnMut(&[u8], &[u8]) -> bool>(
+        &self,
+        start: Option<&[u8]>,
+        end: Option<&[u8]>,
+        reverse: bool,
+        f: F,
+    )
+        requires { F.IsAlwaysCallable f }
+        ensures { (last : F) × VisitsUntilFalse (CalledAtTwo F.FnMut) f (scanned (option_copied start.entry) (option_copied end.entry) reverse self.now) last }
+    {
+        if !is_forward(start, end) {
+            return;
+        }
+        let (first, start) = divided(self.alloc, start);
+        let (past, end) = divided(self.alloc, end);
+        let pairs = sought(&self.pairs, &first, &past);
+        if reverse {
+            visit_back(pairs, start, end, f);
+        } else {
+            visit(pairs, start, end, f);
+        }
+    }
+
+    /// Puts the pairs of `rhs` over these, and leaves `rhs` empty.
+    ///
+    /// # Errors
+    ///
+    /// Where there is no memory for all of them. Some of them have then been put, and the others
+    /// are left in `rhs`, but for one that may be lost.
+    pub fn absorb(&mut self, rhs: &mut KeyValues) -> Result<(), AllocError>
+        ensures ok { OnOk result (self.new ≡ overlaid rhs.old self.old) }
+        ensures emptied { OnOk result (rhs.new ≡ finite.empty) }
+        ensures bounded { (queue : LogQueue) → pair_count queue self.new ≤ pair_count queue self.old + pair_count queue rhs.old }
+    {
+        while let Some((key, pair)) = rhs.take_first() {
+            self.insert(key, pair.value, pair.file)?;
+        }
+        Ok(())
+    }
+
+    /// Takes the first pair away.
+    fn take_first(&mut self) -> Option<(Vec<u8>, StoredValue)>
+        ensures first { IfSome result (λ p. finite.entries self.old ≡ (p.0.items, record { value = p.1.value.items; file = p.1.file }) ∷ finite.entries self.new) }
+        ensures none { IfNone result (self.old ≡ finite.empty) }
+        ensures unchanged { IfNone result (self.new ≡ self.old) }
+    {
+        let (key, pair) = self.pairs.pop_first()?;
+        self.rewritten -= rewritten(Some(pair.file));
+        Some((key, pair))
+    }
+}
+
+/// Pushes clones of the pairs in `queue` whose file is at or below the gate, until one finds no
+/// memory.
+fn push_fetched(
+    pairs: &BTreeMap<Vec<u8>, StoredValue>,
+    queue: LogQueue,
+    gate: Option<FileSeq>,
+    vec: &mut Vec<(Vec<u8>, Vec<u8>)>,
+) -> Result<(), AllocError>
+    ensures ok { OnOk result (pairs_shown vec.new.items ≡ pairs_shown vec.old.items ++ map (λ e. (e.0.items, e.1.value.items)) (filter (λ e. is_up_to queue gate e.1.file) pairs.now.entries)) }
+    ensures kept { take (length vec.old.items) vec.new.items ≡ vec.old.items }
+{
+    for (key, pair) in pairs {
+        if is_up_to(pair.file, queue, gate) {
+            vec.push((copied(key)?, copied(&pair.value)?))?;
+        }
+    }
+    Ok(())
+}
+
+/// The same bytes once more.
+fn copied(bytes: &Vec<u8>) -> Result<Vec<u8>, AllocError>
+    ensures { IfOk result (λ copy. copy.items ≡ bytes.now.items) }
+{
+    bytes.clone()
+}
+
+/// The lesser of two numbers, where both are there.
+fn lesser(a: Option<FileSeq>, b: FileSeq) -> Option<FileSeq>
+    ensures { result ≡ lesser a (Some b) }
+{
+    match a {
+        Some(a) => Some(a.min(b)),
+        None => Some(b),
+    }
+}
+
+/// Whether a file is in `queue`, and at or below the gate, if there is one.
+fn is_up_to(file: FileId, queue: LogQueue, gate: Option<FileSeq>) -> bool
+    ensures { result ≡ is_up_to queue gate file }
+{
+    file.queue == queue
+        && match gate {
+            Some(gate) => file.seq <= gate,
+            None => true,
+        }
+}
+
+/// The file that a pair was in.
+fn file_in(pair: Option<StoredValue>) -> Option<FileId>
+    ensures { result ≡ option_map (λ s. s.file) pair }
+{
+    pair.map(|pair| pair.file)
+}
+
+/// What a pair of that file counts in the rewrite queue.
+fn rewritten(file: Option<FileId>) -> usize
+    ensures { result ≡ file_count LogQueue.Rewrite file }
+{
+    match file {
+        Some(file) if file.queue == LogQueue::Rewrite => 1,
+        _ => 0,
+    }
+}
+
+/// The least of some numbers is one of them, and none of them is below it.
+pub fn least_is_lowest()
+    ensures none { (ns : List ℕ) → least ns ≡ None → ns ≡ [] }
+    ensures found { (ns : List ℕ) (n : ℕ) → least ns ≡ Some n → Contains ns n }
+    ensures lowest { (ns : List ℕ) (n : ℕ) → least ns ≡ Some n → All (λ m. n ≤ m) ns }
+{}
+
+/// Of two sets of pairs put over one another, a key has what the newer ones hold there or, where
+/// they hold nothing, what the older ones do.
+pub fn newer_pairs_win()
+    ensures { (newer older : Keys) (key : List ℕ) → finite.get (overlaid newer older) key ≡ option_or (finite.get newer key) (finite.get older key) }
+{}
+
+#[cfg(test)]
+mod tests {
+    use super::*;
+    use std::test::Fail;
+
+    /// Puts each key with its value, and the file's number with both.
+    fn put(
+        pairs: &mut KeyValues,
+        alloc: Global,
+        file: FileId,
+        all: &[(&[u8], &[u8])],
+    ) -> Result<(), AllocError> {
+        for (key, value) in all {
+            pairs.insert(
+                Vec::from_slice(alloc, *key)?,
+                Vec::from_slice(alloc, *value)?,
+                file,
+            )?;
+        }
+        Ok(())
+    }
+
+    // What is seen is the decimal number of the keys' digits, one behind the other.
+    #[test]
+    fn scans_end_at_bounds_and_when_told(rt: HostRuntime) -> Result<(), Fail> {
+        let mut pairs = KeyValues::new(rt.alloc());
+        let file = FileId::new(LogQueue::Append, 1);
+        put(
+            &mut pairs,
+            rt.alloc(),
+            file,
+            &[(b"2", b"b"), (b"3", b"c"), (b"1", b"a")],
+        )?;
+        let one: Option<&[u8]> = Some(b"1");
+        let two: Option<&[u8]> = Some(b"2");
+        for (start, end, reverse, limit, want) in [
+            (None, None, false, 1000, 123),
+            (None, None, true, 1000, 321),
+            (None, None, false, 10, 12),
+            (None, None, true, 10, 32),
+            (two, None, false, 1000, 23),
+            (two, None, true, 1000, 32),
+            (None, two, false, 1000, 1),
+            (one, two, true, 1000, 1),
+            (two, two, false, 1000, 0),
+            (two, one, false, 1000, 0),
+        ] {
+            let mut seen = 0u64;
+            pairs.scan(start, end, reverse, |key, _| {
+                let digit = key.first().map_or(0, |b| u64::from(*b & 15));
+                seen = seen.wrapping_mul(10).wrapping_add(digit);
+                seen < limit
+            });
+            assert_eq!(rt; seen, want);
+        }
+        Ok(())
+    }
+
+    #[test]
+    fn newer_pairs_replace_older_ones(rt: HostRuntime) -> Result<(), Fail> {
+        let mut older = KeyValues::new(rt.alloc());
+        let mut newer = KeyValues::new(rt.alloc());
+        put(
+            &mut older,
+            rt.alloc(),
+            FileId::new(LogQueue::Rewrite, 7),
+            &[(b"j", b"1"), (b"k", b"2")],
+        )?;
+        put(
+            &mut newer,
+            rt.alloc(),
+            FileId::new(LogQueue::Append, 9),
+            &[(b"k", b"3"), (b"l", b"4")],
+        )?;
+        older.absorb(&mut newer)?;
+        assert!(rt; newer.is_empty());
+        assert_eq!(rt; older.get(b"k"), Some(b"3".as_slice()));
+        assert_eq!(rt; older.count_in(LogQueue::Rewrite), 1);
+        assert_eq!(rt; older.least_file_in(LogQueue::Append), Some(9));
+        let mut vec = Vec::new(rt.alloc());
+        older.fetch(LogQueue::Append, Some(9), &mut vec)?;
+        assert_eq!(rt; vec.len(), 2);
+        let moved = older.set_file(b"l", FileId::new(LogQueue::Rewrite, 50));
+        assert_eq!(rt; moved, Some(FileId::new(LogQueue::Append, 9)));
+        assert_eq!(rt; older.remove(b"j"), Some(FileId::new(LogQueue::Rewrite, 7)));
+        assert_eq!(rt; older.len(), 2);
+        Ok(())
+    }
+}

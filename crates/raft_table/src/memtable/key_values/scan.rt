@@ -1,0 +1,112 @@
+//! Walks over the key values between two keys.
+
+ghost use Rattle.std.specs.Prelude.{◌≡◌, IsTrue, filter, map, reverse};
+ghost use Rattle.std.specs.Option.{option_copied, option_map};
+ghost use Rattle.std.specs.Fn.{CalledAtTwo};
+ghost use Rattle.raft_table.specs.Scan.{is_from, is_below, is_between, is_forward, IsDivided, VisitsUntilFalse};
+
+use super::StoredValue;
+use std::alloc::{AllocError, Global};
+use std::collections::BTreeMap;
+use std::collections::btree_map::Range;
+
+/// A bound as a key to seek or, where that finds no memory, as a test of each pair.
+pub(super) fn divided(alloc: Global, bound: Option<&[u8]>) -> (Option<Vec<u8>>, Option<&[u8]>)
+    ensures { IsDivided (option_copied bound.entry) (option_map (λ k. k.items) result.0) (option_copied result.1) }
+{
+    let Some(key) = bound else {
+        return (None, None);
+    };
+    match Vec::from_slice(alloc, key) {
+        Ok(sought) => (Some(sought), None),
+        Err(AllocError) => (None, bound),
+    }
+}
+
+/// The pairs from one key on and below the other.
+pub(super) fn sought<'a>(
+    pairs: &'a BTreeMap<Vec<u8>, StoredValue>,
+    start: &Option<Vec<u8>>,
+    end: &Option<Vec<u8>>,
+) -> Range<'a, Vec<u8>, StoredValue>
+    requires { IsTrue (is_forward (option_map (λ k. k.items) start.now) (option_map (λ k. k.items) end.now)) }
+    ensures { result ≡ filter (λ e. is_between (option_map (λ k. k.items) start.now) (option_map (λ k. k.items) end.now) e.0.items) pairs.now.entries }
+{
+    match (start, end) {
+        (Some(start), Some(end)) => pairs.range(start..end),
+        (Some(start), None) => pairs.range(start..),
+        (None, Some(end)) => pairs.range(..end),
+        (None, None) => pairs.range(..),
+    }
+}
+
+/// Whether `start` isn't above `end`.
+pub(super) fn is_forward(start: Option<&[u8]>, end: Option<&[u8]>) -> bool
+    ensures { result ≡ is_forward (option_copied start.entry) (option_copied end.entry) }
+{
+    match (start, end) {
+        (Some(start), Some(end)) => start.cmp(end).is_le(),
+        _ => true,
+    }
+}
+
+/// Calls `f` at the pairs between the bounds in turn, until it answers false.
+pub(super) fn visit<F: FnMut(&[u8], &[u8]) -> bool>(
+    mut pairs: Range<'_, Vec<u8>, StoredValue>,
+    start: Option<&[u8]>,
+    end: Option<&[u8]>,
+    mut f: F,
+)
+    requires { F.IsAlwaysCallable f }
+    ensures { (last : F) × VisitsUntilFalse (CalledAtTwo F.FnMut) f (map (λ e. (e.0.items, e.1.value.items)) (filter (λ e. is_between (option_copied start.entry) (option_copied end.entry) e.0.items) pairs.entry)) last }
+{
+    while let Some((key, pair)) = pairs.next() {
+        if is_between(key.as_slice(), start, end) && !f(key.as_slice(), pair.value.as_slice()) {
+            return;
+        }
+    }
+}
+
+/// Calls `f` at the pairs between the bounds from the last one back, until it answers false.
+pub(super) fn visit_back<F: FnMut(&[u8], &[u8]) -> bool>(
+    mut pairs: Range<'_, Vec<u8>, StoredValue>,
+    start: Option<&[u8]>,
+    end: Option<&[u8]>,
+    mut f: F,
+)
+    requires { F.IsAlwaysCallable f }
+    ensures { (last : F) × VisitsUntilFalse (CalledAtTwo F.FnMut) f (reverse (map (λ e. (e.0.items, e.1.value.items)) (filter (λ e. is_between (option_copied start.entry) (option_copied end.entry) e.0.items) pairs.entry))) last }
+{
+    while let Some((key, pair)) = pairs.next_back() {
+        if is_between(key.as_slice(), start, end) && !f(key.as_slice(), pair.value.as_slice()) {
+            return;
+        }
+    }
+}
+
+/// Whether a key is at or above `start` and below `end`, where these are there.
+fn is_between(key: &[u8], start: Option<&[u8]>, end: Option<&[u8]>) -> bool
+    ensures { result ≡ is_between (option_copied start.entry) (option_copied end.entry) key.now }
+{
+    is_from(key, start) && is_below(key, end)
+}
+
+/// Whether a key is at or above `start`, if it is there.
+fn is_from(key: &[u8], start: Option<&[u8]>) -> bool
+    ensures { result ≡ is_from (option_copied start.entry) key.now }
+{
+    match start {
+        Some(start) => start.cmp(key).is_le(),
+        None => true,
+    }
+}
+
+/// Whether a key is below `end`, if it is there.
+fn is_below(key: &[u8], end: Option<&[u8]>) -> bool
+    ensures { result ≡ is_below (option_copied end.entry) key.now }
+{
+    match end {
+        Some(end) => key.cmp(end).is_lt(),
+        None => true,
+    }
+}

@@ -1,0 +1,188 @@
+//! Merges of two tables of one region.
+
+ghost use Rattle.std.specs.Prelude.{◌≡◌, ◌≢◌, ◌+◌, ◌<◌, ◌≤◌, ◌^◌, [], OnOk, IfErr, Some, MatchBool};
+ghost use Rattle.std.specs.FinMap as finite;
+ghost use Rattle.raft_base.specs.declared.pipe_log.LogQueue.{LogQueue};
+ghost use Rattle.raft_base.specs.declared.pipe_log.LogQueue.TheVariants.{Append, Rewrite};
+ghost use Rattle.raft_table.specs.Counts.{live};
+ghost use Rattle.raft_table.specs.Entries.{entries_in};
+ghost use Rattle.raft_table.specs.KeyValues.{overlaid, pair_count};
+ghost use Rattle.raft_table.specs.Merge.{joint_queue, append_rule, after_join, after_newer, after_appended, IsMergeRefused};
+ghost use Rattle.raft_table.specs.Queues.{count_in, other};
+ghost use Rattle.raft_table.specs.Table.{empty_table, live_of, IsCounted, IsRecounted};
+
+use crate::global_stats::GlobalStats;
+use crate::memtable::MemTable;
+use crate::memtable::key_values::KeyValues;
+use raft_records::{Error, LogQueue, Result};
+
+impl MemTable {
+    /// Moves the records of the newer table `rhs` of the same region, which the counts don't hold,
+    /// into this one: its run by the start rule of the replays into its queue, then its pairs over
+    /// the own ones, and its atomic group, if it has one, in place of the own. `rhs` is left empty.
+    ///
+    /// # Errors
+    ///
+    /// `InvalidArgument` where the two tables have records in both queues, `Corruption` where the
+    /// run leaves a hole in the append queue, `Full` where the live number of a queue and the
+    /// records of `rhs` there would pass 2^64 - 1. Both tables and the counts are then as they
+    /// were; after `Memory` the counts still agree with this table.
+    pub fn merge_newer_neighbor(
+        &mut self,
+        rhs: &mut MemTable,
+        stats: &mut GlobalStats,
+    ) -> Result<()>
+        requires region { self.old.region_id ≡ rhs.old.region_id }
+        requires counted { IsCounted self.old stats.old }
+        ensures ok { OnOk result (after_newer self.old rhs.old (joint_queue self.old rhs.old) ≡ Some self.new) }
+        ensures emptied { OnOk result (rhs.new ≡ empty_table rhs.old.region_id) }
+        ensures refused { IfErr result (IsMergeRefused stats.old self.old rhs.old (joint_queue self.old rhs.old)) }
+        ensures err { IfErr result (λ e. e ≢ Error.Memory →
+            (self.new ≡ self.old) × (rhs.new ≡ rhs.old) × (stats.new ≡ stats.old)) }
+        ensures recounted { IsRecounted self.old self.new stats.old stats.new }
+    {
+        let Some(queue) = self.joint_queue(rhs) else {
+            return Err(
+                self.entries
+                    .invalid("tables of two queues are no neighbors")?,
+            );
+        };
+        self.join(queue, rhs, queue, stats)?;
+        if let Some(atomic_group) = rhs.atomic_group.take() {
+            self.atomic_group = Some(atomic_group);
+        }
+        Ok(())
+    }
+
+    /// Moves the records of `rhs`, an appended table of the same region, which the counts don't
+    /// hold, into this rewritten one: its run by the start rule of `replay_append`, but a hole drops
+    /// the old entries, then its pairs over the own ones. `rhs` is left empty.
+    ///
+    /// # Errors
+    ///
+    /// `InvalidArgument` where this table isn't rewritten alone, or `rhs` isn't appended alone or
+    /// has an atomic group; `Full` where the live number of a queue and the records of `rhs` there
+    /// would pass 2^64 - 1. Both tables and the counts are then as they were; after `Memory` the
+    /// counts still agree with this table.
+    pub fn merge_append_table(&mut self, rhs: &mut MemTable, stats: &mut GlobalStats) -> Result<()>
+        requires region { self.old.region_id ≡ rhs.old.region_id }
+        requires counted { IsCounted self.old stats.old }
+        ensures ok { OnOk result (after_appended self.old rhs.old (append_rule self.old rhs.old) ≡ Some self.new) }
+        ensures emptied { OnOk result (rhs.new ≡ empty_table rhs.old.region_id) }
+        ensures refused { IfErr result (IsMergeRefused stats.old self.old rhs.old (append_rule self.old rhs.old)) }
+        ensures err { IfErr result (λ e. e ≢ Error.Memory →
+            (self.new ≡ self.old) × (rhs.new ≡ rhs.old) × (stats.new ≡ stats.old)) }
+        ensures recounted { IsRecounted self.old self.new stats.old stats.new }
+    {
+        let Some(rule) = self.append_rule(rhs) else {
+            return Err(
+                self.entries
+                    .invalid("a rewritten and an appended table are asked")?,
+            );
+        };
+        self.join(rule, rhs, LogQueue::Append, stats)
+    }
+
+    /// The one queue of the records of two tables, if there is one.
+    fn joint_queue(&self, rhs: &MemTable) -> Option<LogQueue>
+        ensures { result ≡ joint_queue self.now rhs.now }
+    {
+        if self.records(LogQueue::Rewrite) > 0 || rhs.records(LogQueue::Rewrite) > 0 {
+            if self.records(LogQueue::Append) > 0 || rhs.records(LogQueue::Append) > 0 {
+                return None;
+            }
+            return Some(LogQueue::Rewrite);
+        }
+        Some(LogQueue::Append)
+    }
+
+    /// The start rule by which an append table joins this one, if it may.
+    fn append_rule(&self, rhs: &MemTable) -> Option<LogQueue>
+        ensures { result ≡ append_rule self.now rhs.now }
+    {
+        if self.records(LogQueue::Append) > 0
+            || rhs.records(LogQueue::Rewrite) > 0
+            || rhs.atomic_group.is_some()
+        {
+            return None;
+        }
+        Some(LogQueue::Rewrite)
+    }
+
+    /// Moves the entries and pairs of `rhs`, which are in one queue, into this table: its run by a
+    /// start rule, its pairs over the own ones.
+    fn join(
+        &mut self,
+        rule: LogQueue,
+        rhs: &mut MemTable,
+        queue: LogQueue,
+        stats: &mut GlobalStats,
+    ) -> Result<()>
+        requires alone { live_of (other queue) rhs.old ≡ 0 }
+        requires rewritten { queue ≡ Rewrite → live_of Append self.old ≡ 0 }
+        requires counted { IsCounted self.old stats.old }
+        ensures ok { OnOk result (after_join rule self.old rhs.old ≡ Some self.new) }
+        ensures emptied { OnOk result (rhs.new ≡ record rhs.old { entries = []; keys = finite.empty }) }
+        ensures refused { IfErr result (IsMergeRefused stats.old self.old rhs.old (Some rule)) }
+        ensures err { IfErr result (λ e. e ≢ Error.Memory →
+            (self.new ≡ self.old) × (rhs.new ≡ rhs.old) × (stats.new ≡ stats.old)) }
+        ensures recounted { IsRecounted self.old self.new stats.old stats.new }
+    {
+        if !has_room(stats, rhs, LogQueue::Append) || !has_room(stats, rhs, LogQueue::Rewrite) {
+            return Err(Error::Full);
+        }
+        self.entries.absorb(rule, &mut rhs.entries, queue, stats)?;
+        absorb_keys(&mut self.keys, &mut rhs.keys, stats)
+    }
+}
+
+/// Whether the records of a table can be counted in `queue` beside those that are live there.
+fn has_room(stats: &GlobalStats, table: &MemTable, queue: LogQueue) -> bool
+    ensures { MatchBool result (live queue stats.now + live_of queue table.now < 2 ^ 64)
+        (2 ^ 64 ≤ live queue stats.now + live_of queue table.now) }
+{
+    table.records(queue) <= (usize::MAX - stats.live_entries(queue)) as u128
+}
+
+/// Puts newer pairs over older ones, and counts them.
+fn absorb_keys(keys: &mut KeyValues, newer: &mut KeyValues, stats: &mut GlobalStats) -> Result<()>
+    requires room { (q : LogQueue) → live q stats.old + pair_count q newer.old < 2 ^ 64 }
+    requires counted { (q : LogQueue) → pair_count q keys.old ≤ live q stats.old }
+    ensures ok { OnOk result (keys.new ≡ overlaid newer.old keys.old) }
+    ensures emptied { OnOk result (newer.new ≡ finite.empty) }
+    ensures memory { IfErr result (λ e. e ≡ Error.Memory) }
+    ensures recounted { (q : LogQueue) →
+        live q stats.new + pair_count q keys.old ≡ live q stats.old + pair_count q keys.new }
+{
+    let appended = keys.count_in(LogQueue::Append);
+    let rewritten = keys.count_in(LogQueue::Rewrite);
+    let absorbed = keys.absorb(newer);
+    recount(
+        stats,
+        LogQueue::Append,
+        appended,
+        keys.count_in(LogQueue::Append),
+    );
+    recount(
+        stats,
+        LogQueue::Rewrite,
+        rewritten,
+        keys.count_in(LogQueue::Rewrite),
+    );
+    absorbed?;
+    Ok(())
+}
+
+/// Counts `after` records of `queue` in place of `before`.
+fn recount(stats: &mut GlobalStats, queue: LogQueue, before: usize, after: usize)
+    requires counted { before ≤ live queue stats.old }
+    requires room { live queue stats.old + after < 2 ^ 64 + before }
+    ensures { (q : LogQueue) →
+        live q stats.new + count_in q queue before ≡ live q stats.old + count_in q queue after }
+{
+    if after <= before {
+        stats.delete(queue, before - after);
+    } else if stats.add(queue, after - before).is_err() {
+        unreachable!()
+    }
+}

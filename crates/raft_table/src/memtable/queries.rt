@@ -1,0 +1,157 @@
+//! What a table answers of its records.
+
+ghost use Rattle.std.specs.Prelude.{◌≡◌, ◌+◌, ◌-◌, ◌<◌, ◌++◌, IsOk, OnOk, OnErr, IfErr, Some, None};
+ghost use Rattle.std.specs.Fn.{CalledAtTwo};
+ghost use Rattle.std.specs.List.{slice_get};
+ghost use Rattle.std.specs.Option.{option_copied};
+ghost use Rattle.raft_base.specs.declared.pipe_log.LogQueue.TheVariants.{Append, Rewrite};
+ghost use Rattle.raft_table.specs.Entries.{placed_in};
+ghost use Rattle.raft_table.specs.Fetches.{Fetches, IsFetchRefused, range_answer, appended_before, block_count, entry_seq, is_some_before};
+ghost use Rattle.raft_table.specs.KeyValues.{pairs_shown, fetched, lesser};
+ghost use Rattle.raft_table.specs.Scan.{VisitsUntilFalse, scanned};
+ghost use Rattle.raft_table.specs.Least.{least_of, lowered};
+
+use crate::memtable::MemTable;
+use raft_records::{EntryIndex, Error, FileId, FileSeq, LogQueue, Result};
+
+impl MemTable {
+    /// How many stretches of neighbouring entries in one block of a file there are.
+    pub fn block_count(&self) -> usize
+        ensures { result ≡ block_count self.now.entries }
+    {
+        self.entries.block_count()
+    }
+
+    /// Appends the entries from `begin` on and below `end`, in order, to `vec`. With a maximal size
+    /// it stops before the first one with which the total of lengths passes that size and exceeds
+    /// the entry's own length.
+    ///
+    /// # Errors
+    ///
+    /// Where the range isn't empty: `EntryNotFound` without entries, `EntryCompacted` where it
+    /// begins below the first entry, `EntryNotFound` where it ends behind the last. The vector is
+    /// then as it was.
+    pub fn fetch_entries_to(
+        &self,
+        begin: u64,
+        end: u64,
+        max_size: Option<usize>,
+        vec: &mut Vec<EntryIndex>,
+    ) -> Result<()>
+        ensures ok { OnOk result (Fetches max_size begin end self.now.entries vec.old.items vec.new.items (range_answer begin end self.now.entries)) }
+        ensures refused { IfErr result (IsFetchRefused (range_answer begin end self.now.entries)) }
+        ensures err { OnErr result (vec.new.items ≡ vec.old.items) }
+    {
+        self.entries.fetch_to(begin, end, max_size, vec)
+    }
+
+    /// Appends the appended entries from the first on while their file is at or below `gate` to
+    /// `vec`, which stays as it was where there is no memory.
+    pub fn fetch_entry_indexes_before(&self, gate: FileSeq, vec: &mut Vec<EntryIndex>) -> Result<()>
+        ensures ok { OnOk result (vec.new.items ≡ vec.old.items ++ appended_before gate self.now.entries) }
+        ensures err { OnErr result (vec.new.items ≡ vec.old.items) }
+        ensures memory { IfErr result (λ e. e ≡ Error.Memory) }
+    {
+        self.entries.fetch_before(gate, vec)
+    }
+
+    /// Appends the rewritten entries to `vec`, which stays as it was where there is no memory.
+    pub fn fetch_rewritten_entry_indexes(&self, vec: &mut Vec<EntryIndex>) -> Result<()>
+        ensures ok { OnOk result (vec.new.items ≡ vec.old.items ++ placed_in Rewrite self.now.entries) }
+        ensures err { OnErr result (vec.new.items ≡ vec.old.items) }
+        ensures memory { IfErr result (λ e. e ≡ Error.Memory) }
+    {
+        self.entries.fetch_rewritten(vec)
+    }
+
+    /// Appends the keys and values of the appended pairs whose file is at or below `gate` to `vec`,
+    /// in the order of the keys. The vector stays as it was where there is no memory.
+    pub fn fetch_kvs_before(&self, gate: FileSeq, vec: &mut Vec<(Vec<u8>, Vec<u8>)>) -> Result<()>
+        ensures ok { OnOk result (pairs_shown vec.new.items
+            ≡ pairs_shown vec.old.items ++ fetched Append (Some gate) self.now.keys) }
+        ensures err { OnErr result (vec.new.items ≡ vec.old.items) }
+        ensures memory { IfErr result (λ e. e ≡ Error.Memory) }
+    {
+        self.keys.fetch(LogQueue::Append, Some(gate), vec)?;
+        Ok(())
+    }
+
+    /// Appends the keys and values of the rewritten pairs to `vec`, in the order of the keys. The
+    /// vector stays as it was where there is no memory.
+    pub fn fetch_rewritten_kvs(&self, vec: &mut Vec<(Vec<u8>, Vec<u8>)>) -> Result<()>
+        ensures ok { OnOk result (pairs_shown vec.new.items
+            ≡ pairs_shown vec.old.items ++ fetched Rewrite None self.now.keys) }
+        ensures err { OnErr result (vec.new.items ≡ vec.old.items) }
+        ensures memory { IfErr result (λ e. e ≡ Error.Memory) }
+    {
+        self.keys.fetch(LogQueue::Rewrite, None, vec)?;
+        Ok(())
+    }
+
+    /// Calls `f` at the keys from `start` on and below `end` with their values, in the order of the
+    /// keys or, where `reverse`, from the last one back, until it answers false. A bound that is
+    /// `None` leaves its side open; where `start` is above `end` nothing is visited.
+    pub fn scan<F: FnMut(&[u8], &[u8]) -> bool>(
+        &self,
+        start: Option<&[u8]>,
+        end: Option<&[u8]>,
+        reverse: bool,
+        f: F,
+    ) -> Result<()>
+        requires { F.IsAlwaysCallable f }
+        ensures ok { IsOk result }
+        ensures visits { (last : F) × VisitsUntilFalse (CalledAtTwo F.FnMut) f (scanned (option_copied start.entry) (option_copied end.entry) reverse self.now.keys) last }
+    {
+        self.keys.scan(start, end, reverse, f);
+        Ok(())
+    }
+
+    /// The least of the file of the first entry in `queue` and the files of the pairs in it. In the
+    /// rewrite queue one at or below the last file of the region's atomic group is lowered to at
+    /// most the group's first.
+    pub fn min_file_seq(&self, queue: LogQueue) -> Option<FileSeq>
+        ensures { result ≡ least_of queue self.now }
+    {
+        let least = lesser(
+            self.entries.first_seq_in(queue),
+            self.keys.least_file_in(queue),
+        );
+        match queue {
+            LogQueue::Append => least,
+            LogQueue::Rewrite => lowered(self.atomic_group, least),
+        }
+    }
+
+    /// Whether there are `count` entries, and the file number of the last of them is at or below
+    /// the gate's, whatever its queue.
+    pub fn has_at_least_some_entries_before(&self, gate: FileId, count: usize) -> bool
+        requires { 0 < count }
+        ensures { result ≡ is_some_before gate.seq (entry_seq (slice_get self.now.entries (count - 1))) }
+    {
+        match self.entries.seq_at(count - 1) {
+            Some(seq) => seq <= gate.seq,
+            None => false,
+        }
+    }
+}
+
+/// The lesser of two file numbers, where both are there.
+fn lesser(a: Option<FileSeq>, b: Option<FileSeq>) -> Option<FileSeq>
+    ensures { result ≡ lesser a b }
+{
+    match (a, b) {
+        (Some(a), Some(b)) => Some(a.min(b)),
+        (Some(a), None) => Some(a),
+        (None, b) => b,
+    }
+}
+
+/// A file number at or below the last of an atomic group, lowered to at most the first.
+fn lowered(atomic_group: Option<(FileSeq, FileSeq)>, seq: Option<FileSeq>) -> Option<FileSeq>
+    ensures { result ≡ lowered atomic_group seq }
+{
+    match (atomic_group, seq) {
+        (Some((start, end)), Some(seq)) => Some(if seq <= end { seq.min(start) } else { seq }),
+        (_, seq) => seq,
+    }
+}

@@ -11,6 +11,7 @@ pub mod MergeLemmas
 pub mod MovesLemmas
 pub mod PlaceLemmas
 pub mod PlacesLemmas
+pub mod ReadRunLemmas
 pub mod RewriteLemmas
 pub mod RunLemmas
 pub mod ScanLemmas

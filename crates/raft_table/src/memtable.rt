@@ -16,6 +16,7 @@ pub mod key_values;
 mod laws;
 mod merge;
 mod queries;
+mod read_runs;
 #[cfg(test)]
 mod tests;
 
@@ -25,6 +26,7 @@ use entries::Entries;
 use key_values::KeyValues;
 pub use laws::entries_stand_by_index;
 use raft_records::{EntryIndex, Error, FileId, FileSeq, LogQueue, Result};
+pub use read_runs::read_entries_are_runs;
 use std::alloc::Global;
 use std::marker::Model;
 

@@ -12,6 +12,7 @@ pub mod MovesLemmas
 pub mod PlaceLemmas
 pub mod PlacesLemmas
 pub mod RewriteLemmas
+pub mod RunCounts
 pub mod RunLemmas
 pub mod ScanLemmas
 pub mod Shown

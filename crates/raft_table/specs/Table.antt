@@ -37,6 +37,14 @@ IsCounted t counts = (q : LogQueue) → live_of q t ≤ live q counts
 abbrev pub IsRecounted : Table → Table → Counts → Counts → Type 0
 IsRecounted before after old new = (q : LogQueue) → live q new + live_of q before ≡ live q old + live_of q after
 
+-- a table's records counted
+abbrev pub with_table_added : Table → Counts → Counts
+with_table_added t counts = with_added Rewrite (live_of Rewrite t) (with_added Append (live_of Append t) counts)
+
+-- a table's records no longer counted
+abbrev pub with_table_deleted : Table → Counts → Counts
+with_table_deleted t counts = with_deleted Rewrite (live_of Rewrite t) (with_deleted Append (live_of Append t) counts)
+
 -- a table with other entries
 abbrev pub with_entries : Table → List EntryIndex → Table
 with_entries t es = record t { entries = es }

@@ -16,6 +16,7 @@ pub mod key_values;
 mod laws;
 mod merge;
 mod queries;
+mod table_laws;
 #[cfg(test)]
 mod tests;
 
@@ -27,6 +28,7 @@ pub use laws::entries_stand_by_index;
 use raft_records::{EntryIndex, Error, FileId, FileSeq, LogQueue, Result};
 use std::alloc::Global;
 use std::marker::Model;
+pub use table_laws::full_runs_pass_the_limit;
 
 /// The table of a region.
 #[derive(Drop)]
@@ -145,6 +147,7 @@ impl MemTable {
         ensures refused { IfErr result (IsRunRefused Append stats.old self.old.entries (appended self.old.entries run.items)) }
         ensures err { OnErr result ((self.new ≡ self.old) × (stats.new ≡ stats.old)) }
         ensures recounted { IsRecounted self.old self.new stats.old stats.new }
+        ensures region { self.new.region_id ≡ self.old.region_id }
     {
         self.entries.append(run, stats)
     }
@@ -164,6 +167,7 @@ impl MemTable {
         ensures refused { IfErr result (IsRunRefused Append stats.old self.old.entries (replayed Append self.old.entries run.items)) }
         ensures err { OnErr result ((self.new ≡ self.old) × (stats.new ≡ stats.old)) }
         ensures recounted { IsRecounted self.old self.new stats.old stats.new }
+        ensures region { self.new.region_id ≡ self.old.region_id }
     {
         self.entries.replay_append(run, stats)
     }
@@ -183,6 +187,7 @@ impl MemTable {
         ensures refused { IfErr result (IsRunRefused Rewrite stats.old self.old.entries (replayed Rewrite self.old.entries run.items)) }
         ensures err { OnErr result ((self.new ≡ self.old) × (stats.new ≡ stats.old)) }
         ensures recounted { IsRecounted self.old self.new stats.old stats.new }
+        ensures region { self.new.region_id ≡ self.old.region_id }
     {
         self.entries.replay_rewrite(run, stats)
     }
@@ -213,6 +218,7 @@ impl MemTable {
         ensures err { OnErr result (self.new ≡ self.old) }
         ensures err_counts { IfErr result (λ e. e ≢ Error.Full → stats.new ≡ stats.old) }
         ensures recounted { IsRecounted self.old self.new stats.old stats.new }
+        ensures region { self.new.region_id ≡ self.old.region_id }
     {
         self.entries.rewrite(&run, gate, stats)
     }
@@ -223,6 +229,7 @@ impl MemTable {
         ensures compacted { self.new ≡ compacted index self.old }
         ensures dropped { result + length self.new.entries ≡ length self.old.entries }
         ensures recounted { IsRecounted self.old self.new stats.old stats.new }
+        ensures region { self.new.region_id ≡ self.old.region_id }
     {
         self.entries.compact_to(index, stats)
     }
@@ -246,6 +253,7 @@ impl MemTable {
         ensures refused { IfErr result (IsPutRefused file.queue stats.old (file_at self.old.keys key.items)) }
         ensures err { OnErr result ((self.new ≡ self.old) × (stats.new ≡ stats.old)) }
         ensures recounted { IsRecounted self.old self.new stats.old stats.new }
+        ensures region { self.new.region_id ≡ self.old.region_id }
     {
         if stats.live_entries(file.queue) == usize::MAX && !self.has_pair_in(&key, file.queue) {
             return Err(Error::Full);
@@ -261,6 +269,7 @@ impl MemTable {
         requires { IsCounted self.old stats.old }
         ensures deleted { self.new ≡ without_key self.old key.now }
         ensures recounted { IsRecounted self.old self.new stats.old stats.new }
+        ensures region { self.new.region_id ≡ self.old.region_id }
     {
         if let Some(file) = self.keys.remove(key) {
             stats.delete(file.queue, 1);
@@ -291,6 +300,7 @@ impl MemTable {
         ensures err { OnErr result (self.new ≡ self.old) }
         ensures err_counts { IfErr result (λ e. e ≢ Error.Full → stats.new ≡ stats.old) }
         ensures recounted { IsRecounted self.old self.new stats.old stats.new }
+        ensures region { self.new.region_id ≡ self.old.region_id }
     {
         let Some(file) = self.keys.file_of(&key) else {
             return count_unmoved(stats);
@@ -334,7 +344,8 @@ impl MemTable {
     /// Sets the first and the last file of the region's atomic group in the rewrite queue.
     pub fn apply_rewrite_atomic_group(&mut self, start: FileSeq, end: FileSeq)
         requires { start ≤ end }
-        ensures { self.new ≡ with_atomic_group self.old start end }
+        ensures group { self.new ≡ with_atomic_group self.old start end }
+        ensures region { self.new.region_id ≡ self.old.region_id }
     {
         self.atomic_group = Some((start, end));
     }

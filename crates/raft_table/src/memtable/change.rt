@@ -60,6 +60,7 @@ impl MemTable {
         ensures refused { IfErr result (IsChangeRefused self.old stats.old change) }
         ensures err { OnErr result (self.new ≡ self.old) }
         ensures recounted { IsRecounted self.old self.new stats.old stats.new }
+        ensures region { self.new.region_id ≡ self.old.region_id }
     {
         match change {
             TableChange::Keep => Ok(0),

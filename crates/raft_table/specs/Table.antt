@@ -110,6 +110,11 @@ pub record MovesKeyAlone (key : List ℕ) (before after : Keys) : Type 0 where
   pub values : (k : List ℕ) → value_at after k ≡ value_at before k
   pub files : (k : List ℕ) → k ≢ key → file_at after k ≡ file_at before k
 
+-- the counts without the pair of a file, if there is one
+abbrev pub with_pair_deleted : Option FileId → Counts → Counts
+with_pair_deleted None counts = counts
+with_pair_deleted (Some file) counts = with_deleted file.queue 1 counts
+
 -- the counts after a rewriting of one key: one more is written, and one fewer live in the append queue where its pair left it, else one more deleted
 abbrev pub with_rewritten_key : Bool → Counts → Counts
 with_rewritten_key true counts = with_deleted Append 1 (with_added Rewrite 1 counts)

@@ -78,6 +78,13 @@ impl GlobalStats {
         Ok(())
     }
 
+    /// Whether `count` more records can be live in `queue`.
+    pub fn can_add(&self, queue: LogQueue, count: usize) -> bool
+        ensures { MatchBool result (live queue self.now + count < 2 ^ 64) (2 ^ 64 ≤ live queue self.now + count) }
+    {
+        count <= usize::MAX - self.live_entries(queue)
+    }
+
     /// Takes `count` live records of `queue` off.
     pub fn delete(&mut self, queue: LogQueue, count: usize)
         requires { count ≤ live queue self.old }

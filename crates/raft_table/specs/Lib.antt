@@ -13,6 +13,7 @@ pub mod Rewriting
 pub mod Scan
 pub mod Start
 pub mod StartOf
+pub mod Steps
 pub mod Table
 pub mod TableCode
 pub mod TableView

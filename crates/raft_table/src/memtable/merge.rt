@@ -113,7 +113,7 @@ impl MemTable {
 
     /// Moves the entries and pairs of `rhs`, which are in one queue, into this table: its run by a
     /// start rule, its pairs over the own ones.
-    fn join(
+    pub(super) fn join(
         &mut self,
         rule: LogQueue,
         rhs: &mut MemTable,

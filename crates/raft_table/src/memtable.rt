@@ -11,19 +11,23 @@ ghost use Rattle.raft_table.specs.Rewriting.{rewritten, recounted, IsRewriteRefu
 ghost use Rattle.raft_table.specs.Start.{appended, replayed, IsRunRefused};
 
 mod change;
+mod deleted_keys;
 mod entries;
 pub mod key_values;
 mod laws;
+mod mark;
 mod merge;
 mod queries;
+mod region;
 #[cfg(test)]
 mod tests;
+mod under;
 
 use crate::global_stats::GlobalStats;
 pub use change::{TableChange, is_run};
 use entries::Entries;
 use key_values::KeyValues;
-pub use laws::entries_stand_by_index;
+pub use laws::{entries_stand_by_index, marks_stand_for_steps, overlays_by_marks};
 use raft_records::{EntryIndex, Error, FileId, FileSeq, LogQueue, Result};
 use std::alloc::Global;
 use std::marker::Model;

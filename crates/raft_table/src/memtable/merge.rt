@@ -111,7 +111,7 @@ impl MemTable {
 
     /// Moves the entries and pairs of `rhs`, which are in one queue, into this table: its run by a
     /// start rule, its pairs over the own ones.
-    fn join(
+    pub(super) fn join(
         &mut self,
         rule: LogQueue,
         rhs: &mut MemTable,
@@ -137,7 +137,7 @@ impl MemTable {
 }
 
 /// Whether the records of a table can be counted in `queue` beside those that are live there.
-fn has_room(stats: &GlobalStats, table: &MemTable, queue: LogQueue) -> bool
+pub(super) fn has_room(stats: &GlobalStats, table: &MemTable, queue: LogQueue) -> bool
     ensures { MatchBool result (live queue stats.now + live_of queue table.now < 2 ^ 64)
         (2 ^ 64 ≤ live queue stats.now + live_of queue table.now) }
 {

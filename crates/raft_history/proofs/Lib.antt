@@ -7,6 +7,9 @@ pub mod MarkerLemmas
 pub mod MoreLemmas
 pub mod NamedLemmas
 pub mod ShiftLemmas
+pub mod SoundLemmas
+pub mod StepListLemmas
 pub mod StretchLemmas
+pub mod StretchOfHistory
 pub mod UniqueLemmas
 pub mod UnmarkedLemmas

@@ -99,6 +99,11 @@ abbrev pub FilesFrom : LogQueue → ℕ → List Event → Type 0
 FilesFrom queue seq [] = Unit {0}
 FilesFrom queue seq (e ∷ h) = (e.file.queue ≡ queue) × (seq ≤ e.file.seq) × FilesFrom queue e.file.seq h
 
+-- the number of the last file, or this one
+abbrev pub last_from : ℕ → List Event → ℕ
+last_from seq [] = seq
+last_from seq (e ∷ h) = last_from e.file.seq h
+
 -- a history of this queue that can be read: files in order, items as their files ask, markers with a status, and no region's step refused
 pub record IsSoundIn (queue : LogQueue) (h : List Event) : Type 0 where
   pub files : FilesFrom queue 0 h

@@ -2,3 +2,4 @@
 #![tactic(auto)]
 
 pub mod effects;
+pub mod histories;

@@ -14,14 +14,15 @@ use Rattle.raft_records.specs.declared.key_value.OpType.TheVariants as operation
 use Rattle.raft_records.specs.Item.{Item, Content, entries, command, pair}
 use Rattle.raft_table.specs.Steps.{Step, Run, Compact, Put, Del, AtomicGroup, Clean, IsStep, AreSteps}
 use Rattle.raft_table.proofs.MarkEntries.{same_some}
-use Rattle.raft_history.specs.RegionSteps.{RegionStep, is_on, names, steps_on, is_reserved, put_step, pair_step, step_of, with_step, steps_of_items}
 use Rattle.raft_history.specs.Batches.{Event, GroupMarker, Batch, marker_in, batch_of, batches}
-use Rattle.raft_history.specs.WaitingGroup.{Placed, placed_from, markers_of, open_stretch, region_steps_of}
+use Rattle.raft_history.specs.Contexts.{FileRange, files_of, joined_files, follows}
 use Rattle.raft_history.specs.Effects.{Effect, ended, completed_as, completed_by, completed, effects_behind, effects, whole_steps, steps_by, steps_in, all_steps, steps_of, BatchesApart}
 use Rattle.raft_history.specs.Histories.{IsInFile, AreInFile, AreInFiles, AllHaveStatus, FilesFrom, last_from, cleaned_in_batch, cleaned_in}
+use Rattle.raft_history.specs.RegionSteps.{RegionStep, is_on, names, steps_on, is_reserved, put_step, pair_step, step_of, with_step, steps_of_items}
+use Rattle.raft_history.specs.WaitingGroup.{Placed, placed_from, markers_of, open_stretch, region_steps_of}
 use Rattle.raft_history.proofs.EffectLemmas.{each-append, each_left, each_right, each_markers, each_open, all_steps-append}
-use Rattle.raft_history.proofs.UnmarkedLemmas.{plain_apart}
 use Rattle.raft_history.proofs.StepListLemmas.{steps-append}
+use Rattle.raft_history.proofs.UnmarkedLemmas.{plain_apart}
 
 -- ---- good steps
 
@@ -141,6 +142,27 @@ files-back q n (e ∷ h) k a = files-back q e.file.seq h k a.2
 last-append : (n : ℕ) (h k : List Event) → last_from n (h ++ k) ≡ last_from (last_from n h) k
 last-append n [] k = refl
 last-append n (e ∷ h) k = last-append e.file.seq h k
+
+pub files_of-append : (h k : List Event) → files_of (h ++ k) ≡ joined_files (files_of h) (files_of k)
+files_of-append [] k = refl
+files_of-append (e ∷ h) [] = ap (λ l. Some record { queue = e.file.queue; first = e.file.seq; last = l }) (last-append e.file.seq h [])
+files_of-append (e ∷ h) (f ∷ k) = ap (λ l. Some record { queue = e.file.queue; first = e.file.seq; last = l }) (last-append e.file.seq h (f ∷ k))
+
+le_test : (a b : ℕ) → nat_le a b ≡ true → a ≤ b
+le_test a b e = grind (arith, nat_tests)
+
+test_le : (a b : ℕ) → a ≤ b → nat_le a b ≡ true
+test_le a b e = grind (arith, nat_tests)
+
+pub files_follow : (q : LogQueue) (h k : List Event) → FilesFrom q 0 h → FilesFrom q 0 k → follows (files_of h) (files_of k) ≡ true → FilesFrom q 0 (h ++ k)
+files_follow q [] k a b f = b
+files_follow q (e ∷ h) [] a b f = files-append q 0 (e ∷ h) [] a tt
+files_follow q (e ∷ h) (d ∷ k) a b f = files-append q 0 (e ∷ h) (d ∷ k) a (b.0, le_test _ _ f, b.2)
+
+pub follow_files : (q : LogQueue) (h k : List Event) → FilesFrom q 0 (h ++ k) → follows (files_of h) (files_of k) ≡ true
+follow_files q [] k a = refl
+follow_files q (e ∷ h) [] a = refl
+follow_files q (e ∷ h) (d ∷ k) a = test_le _ _ (files-back q 0 (e ∷ h) (d ∷ k) a).1
 
 pub cleaned-append : (q : LogQueue) (h k : List Event) → cleaned_in q (h ++ k) ≡ cleaned_in q h ++ cleaned_in q k
 cleaned-append q [] k = refl

@@ -9,15 +9,16 @@ use Rattle.raft_table.specs.Steps.{Step, after, AreSteps}
 use Rattle.raft_table.specs.Table.{Table}
 use Rattle.raft_table.proofs.LaterSteps.{accepted_alone, steps_rewritten}
 use Rattle.raft_table.proofs.MarkLaws.{after-append}
-use Rattle.raft_history.specs.RegionSteps.{steps_on, steps_of_items}
 use Rattle.raft_history.specs.Batches.{Event, Batch, batches}
 use Rattle.raft_history.specs.Effects.{effects, effects_behind, all_steps, steps_of, BatchesApart}
-use Rattle.raft_history.specs.WaitingGroup.{placed_from}
 use Rattle.raft_history.specs.Histories.{records_in, size_of, IsSmall, AreInFiles, AllHaveStatus, FilesFrom, last_from, IsSoundIn, Sound, Apart, AreOfQueue, IsOfQueue}
+use Rattle.raft_history.specs.RegionSteps.{steps_on, steps_of_items}
+use Rattle.raft_history.specs.WaitingGroup.{placed_from}
 use Rattle.raft_history.proofs.EffectLemmas.{all_steps-append}
-use Rattle.raft_history.proofs.JoinedLemmas.{effects-append, apart_front as batches_apart_front, apart_back as batches_apart_back}
+use Rattle.raft_history.proofs.JoinedLemmas.{effects-append}
 use Rattle.raft_history.proofs.SoundLemmas.{batches-append, files-back, steps_good, unmarked}
 use Rattle.raft_history.proofs.UnmarkedLemmas.{plain_steps}
+use Rattle.raft_history.proofs.JoinedLemmas as joined
 
 -- ---- sizes
 
@@ -57,10 +58,10 @@ of_both q h k a b = record { each = both_of_queue q h k a.each b.each }
 -- ---- apart effects
 
 pub apart_front : (h k : List Event) → Apart (h ++ k) → Apart h
-apart_front h k a = record { apart = batches_apart_front (batches h) (batches k) (subst BatchesApart (batches-append h k) a.apart) }
+apart_front h k a = record { apart = joined.apart_front (batches h) (batches k) (subst BatchesApart (batches-append h k) a.apart) }
 
 pub apart_back : (h k : List Event) → Apart (h ++ k) → Apart k
-apart_back h k a = record { apart = batches_apart_back (batches h) (batches k) (subst BatchesApart (batches-append h k) a.apart) }
+apart_back h k a = record { apart = joined.apart_back (batches h) (batches k) (subst BatchesApart (batches-append h k) a.apart) }
 
 -- ---- soundness
 

@@ -14,9 +14,9 @@ use Rattle.raft_records.specs.Item.{Item, Content, entries, command, pair}
 use Rattle.raft_table.specs.Entries.{IsRunIn}
 use Rattle.raft_table.specs.Steps.{Step, Run, Put, Del, after}
 use Rattle.raft_table.specs.Table.{Table}
-use Rattle.raft_history.specs.RegionSteps.{RegionStep, Tables, steps_of_items, is_reserved, cleaned_by_steps}
 use Rattle.raft_history.specs.Batches.{Event, batches}
 use Rattle.raft_history.specs.Effects.{steps_of, BatchesApart}
+use Rattle.raft_history.specs.RegionSteps.{RegionStep, Tables, steps_of_items, is_reserved, cleaned_by_steps}
 
 -- ---- how many records a history names
 
@@ -127,6 +127,14 @@ AreOfQueue queue (e ∷ h) = (e.file.queue ≡ queue) × AreOfQueue queue h
 
 pub record IsOfQueue (queue : LogQueue) (h : List Event) : Type 0 where
   pub each : AreOfQueue queue h
+
+-- ---- what replays ask for
+
+-- a step as a replay into a table of this queue asks for it
+abbrev pub IsStepOfQueue : LogQueue → Step → Type 0
+IsStepOfQueue queue (Run run) = IsRunIn queue run
+IsStepOfQueue queue (Put key value file) = file.queue ≡ queue
+IsStepOfQueue queue _ = Unit {0}
 
 -- ---- one reading
 

@@ -21,8 +21,8 @@ import tempfile
 ROOT = os.path.dirname(os.path.dirname(os.path.realpath(__file__)))
 RT = shlex.split(os.environ.get("RT", "rt"))
 FUNCTION = re.compile(r"( *)(?:pub(?:\([a-z]+\))? )?(?:final )?(?:const )?(?:unsafe )?fn (\w+)")
-VERDICT = re.compile(r"fn (\S+): no proof: (.*)")
-WAITS = re.compile(r"it calls `[^`]*`(?:, `[^`]*`)*, which (?:is|are) not proved")
+VERDICT = re.compile(r"^fn (\S+): (?:no proof|not proved)(.*)", re.M)
+WAITS = re.compile(r"it (?:calls|waits for)[^;]*")
 UNREAD = re.compile(r"(?:\./)?(src/\S+):(\d+):\d+: error")
 
 
@@ -83,8 +83,8 @@ class Crate:
         self.name, self.folder, self.texts = name, folder, sources(folder)
 
     def check(self, edits):
-        """Checks the crate with these wrong bodies in it. Answers whether the prover was reached, the functions that were refused for their own
-        body, and what the check printed."""
+        """Checks the crate with these wrong bodies in it. Answers whether the crate is proved, or None where the check did not reach the prover,
+        the functions that were refused for their own body, and what the check printed."""
         texts = dict(self.texts)
         for edit in edits:
             edit.apply(texts)
@@ -95,10 +95,10 @@ class Crate:
             write(f"{self.folder}/{file}", text)
         own = set()
         for name, why in VERDICT.findall(ran.stdout):
-            if re.sub(r"[\s;,]|and", "", WAITS.sub("", why)):
+            if not WAITS.search(why) or WAITS.sub("", why).strip(" ;:"):
                 own.add(tuple(name.split("::")))
-        reached = ran.returncode == 0 or bool(re.search(r"^logic=not-proved", ran.stdout, re.M))
-        return reached, own, ran.stdout
+        is_refused = ran.returncode == 1 and re.search(r"^logic=not-proved", ran.stdout, re.M)
+        return False if is_refused else True if ran.returncode == 0 else None, own, ran.stdout
 
     def is_refused(self, edit, own):
         """Whether one of the functions that the edit changes was refused for its own body."""
@@ -152,26 +152,21 @@ def say(text):
 
 def tried(crate, edits):
     """Tries the edits, and answers a line for each that is not refused."""
-    faults, alone = [], []
+    alone = []
     for number, these in enumerate(rounds(crate, edits), 1):
+        if len(these) == 1:
+            alone += these
+            continue
         say(f"{crate.name}: check {number}, {len(these)} wrong bodies")
-        reached, own, said = crate.check(these)
-        single = len(these) == 1
-        for edit in these:
-            if reached and (crate.is_refused(edit, own) or single and own):
-                continue
-            if not single:
-                alone.append(edit)
-            elif reached:
-                faults.append(f"{crate.name}/{edit.name}: NOT REFUSED")
-            else:
-                faults.append(f"{crate.name}/{edit.name}: the check did not reach the prover: {first_error(said)}")
+        _, own, _ = crate.check(these)
+        alone += [it for it in these if not crate.is_refused(it, own)]
+    faults = []
     for edit in alone:
         say(f"{crate.name}: {edit.name} by itself")
-        reached, own, said = crate.check([edit])
-        if not reached:
+        is_proved, _, said = crate.check([edit])
+        if is_proved is None:
             faults.append(f"{crate.name}/{edit.name}: the check did not reach the prover: {first_error(said)}")
-        elif not own:
+        elif is_proved:
             faults.append(f"{crate.name}/{edit.name}: NOT REFUSED")
     return faults
 

@@ -163,14 +163,19 @@ def say(text):
 
 def tried(crate, edits):
     """Tries the edits, and answers a line for each that is not refused."""
-    alone = []
-    for number, these in enumerate(rounds(crate, edits), 1):
+    alone, rest = [], list(rounds(crate, edits))
+    while rest:
+        these = rest.pop(0)
         if len(these) == 1:
             alone += these
             continue
-        say(f"{crate.name}: check {number}, {len(these)} wrong bodies")
-        _, refused, _ = crate.check(these)
-        alone += [it for it in these if not crate.is_refused(it, refused)]
+        say(f"{crate.name}: {len(these)} wrong bodies in a check")
+        is_proved, refused, _ = crate.check(these)
+        if is_proved is None:
+            half = len(these) // 2
+            rest = [these[:half], these[half:], *rest]
+        else:
+            alone += [it for it in these if not crate.is_refused(it, refused)]
     faults = []
     for edit in alone:
         say(f"{crate.name}: {edit.name} by itself")

@@ -18,7 +18,7 @@ example:
 
 # Proves `raftlog` and the crates below it, builds it, and says where it lies.
 raftlog:
-	@cd crates/raftlog && $(RT) run -- batch append 12 1 < stdin > /dev/null
+	@set -o pipefail; cd crates/raftlog && $(RT) run -- batch append 12 1 < stdin 2>&1 > /dev/null | grep --line-buffered -v '^statements '
 	@echo "raftlog is proved and built: crates/raftlog/out/raftlog"
 
 # Proves every crate from nothing, runs the tests and the programs, and tries the wrong bodies of must-fail/.

@@ -14,7 +14,7 @@ ghost use Rattle.raft_table.specs.Start.{appended, replayed, IsRunRefused};
 mod change;
 mod deleted_keys;
 mod entries;
-pub mod key_values;
+mod key_values;
 mod laws;
 mod mark;
 mod merge;
@@ -33,7 +33,10 @@ pub use laws::{entries_stand_by_index, marks_stand_for_steps, overlays_by_marks}
 use raft_records::{EntryIndex, Error, FileId, FileSeq, LogQueue, Result};
 use std::alloc::Global;
 use std::marker::Model;
-pub use table_laws::full_runs_pass_the_limit;
+pub use table_laws::{
+    fetches_answer_ranges, full_runs_pass_the_limit, least_is_lowest, newer_pairs_win,
+    rewriting_stands_by_index, scans_visit_pairs, tables_add_up,
+};
 
 /// The table of a region.
 #[derive(Drop)]

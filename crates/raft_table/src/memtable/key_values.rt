@@ -166,7 +166,7 @@ impl KeyValues {
         let mut least: Option<FileSeq> = None;
         for pair in self.pairs.values() {
             if pair.file.queue == queue {
-                least = lesser(least, pair.file.seq);
+                least = lesser(least, Some(pair.file.seq));
             }
         }
         least
@@ -195,9 +195,7 @@ impl KeyValues {
         pushed
     }
 
-    /// Calls `f` at the keys from `start` on and below `end` with their values, in the order of
-    /// the keys or, where `reverse`, from the last one back, until it answers false. A bound that
-    /// is `None` leaves its side open; where `start` is above `end` nothing is visited.
+    /// As [`MemTable::scan`](crate::MemTable::scan).
     pub fn scan<F: FnMut(&[u8], &[u8]) -> bool>(
         &self,
         start: Option<&[u8]>,
@@ -276,13 +274,14 @@ fn copied(bytes: &Vec<u8>) -> Result<Vec<u8>, AllocError>
     bytes.clone()
 }
 
-/// The lesser of two numbers, where both are there.
-fn lesser(a: Option<FileSeq>, b: FileSeq) -> Option<FileSeq>
-    ensures { result ≡ lesser a (Some b) }
+/// The lesser of two file numbers, where both are there.
+pub(super) fn lesser(a: Option<FileSeq>, b: Option<FileSeq>) -> Option<FileSeq>
+    ensures { result ≡ lesser a b }
 {
-    match a {
-        Some(a) => Some(a.min(b)),
-        None => Some(b),
+    match (a, b) {
+        (Some(a), Some(b)) => Some(a.min(b)),
+        (Some(a), None) => Some(a),
+        (None, b) => b,
     }
 }
 
@@ -313,19 +312,6 @@ fn rewritten(file: Option<FileId>) -> usize
         _ => 0,
     }
 }
-
-/// The least of some numbers is one of them, and none of them is below it.
-pub fn least_is_lowest()
-    ensures none { (ns : List ℕ) → least ns ≡ None → ns ≡ [] }
-    ensures found { (ns : List ℕ) (n : ℕ) → least ns ≡ Some n → Contains ns n }
-    ensures lowest { (ns : List ℕ) (n : ℕ) → least ns ≡ Some n → All (λ m. n ≤ m) ns }
-{}
-
-/// Of two sets of pairs put over one another, a key has what the newer ones hold there or, where
-/// they hold nothing, what the older ones do.
-pub fn newer_pairs_win()
-    ensures { (newer older : Keys) (key : List ℕ) → finite.get (overlaid newer older) key ≡ option_or (finite.get newer key) (finite.get older key) }
-{}
 
 #[cfg(test)]
 mod tests {

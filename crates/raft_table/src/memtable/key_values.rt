@@ -316,6 +316,7 @@ fn rewritten(file: Option<FileId>) -> usize
 #[cfg(test)]
 mod tests {
     use super::*;
+    use std::process::Abort;
     use std::test::Fail;
 
     /// Puts each key with its value, and the file's number with both.
@@ -335,14 +336,21 @@ mod tests {
         Ok(())
     }
 
-    // What is seen is the decimal number of the keys' digits, one behind the other.
     #[test]
     fn scans_end_at_bounds_and_when_told(rt: HostRuntime) -> Result<(), Fail> {
-        let mut pairs = KeyValues::new(rt.alloc());
+        if scan_digits(&rt, rt.alloc()).is_err() {
+            scan_digits(&rt, rt.alloc())?;
+        }
+        Ok(())
+    }
+
+    // What is seen is the decimal number of the keys' digits, one behind the other.
+    fn scan_digits(rt: &impl Abort, alloc: Global) -> Result<(), AllocError> {
+        let mut pairs = KeyValues::new(alloc);
         let file = FileId::new(LogQueue::Append, 1);
         put(
             &mut pairs,
-            rt.alloc(),
+            alloc,
             file,
             &[(b"2", b"b"), (b"3", b"c"), (b"1", b"a")],
         )?;
@@ -373,17 +381,24 @@ mod tests {
 
     #[test]
     fn newer_pairs_replace_older_ones(rt: HostRuntime) -> Result<(), Fail> {
-        let mut older = KeyValues::new(rt.alloc());
-        let mut newer = KeyValues::new(rt.alloc());
+        if absorb_pairs(&rt, rt.alloc()).is_err() {
+            absorb_pairs(&rt, rt.alloc())?;
+        }
+        Ok(())
+    }
+
+    fn absorb_pairs(rt: &impl Abort, alloc: Global) -> Result<(), AllocError> {
+        let mut older = KeyValues::new(alloc);
+        let mut newer = KeyValues::new(alloc);
         put(
             &mut older,
-            rt.alloc(),
+            alloc,
             FileId::new(LogQueue::Rewrite, 7),
             &[(b"j", b"1"), (b"k", b"2")],
         )?;
         put(
             &mut newer,
-            rt.alloc(),
+            alloc,
             FileId::new(LogQueue::Append, 9),
             &[(b"k", b"3"), (b"l", b"4")],
         )?;
@@ -392,7 +407,7 @@ mod tests {
         assert_eq!(rt; older.get(b"k"), Some(b"3".as_slice()));
         assert_eq!(rt; older.count_in(LogQueue::Rewrite), 1);
         assert_eq!(rt; older.least_file_in(LogQueue::Append), Some(9));
-        let mut vec = Vec::new(rt.alloc());
+        let mut vec = Vec::new(alloc);
         older.fetch(LogQueue::Append, Some(9), &mut vec)?;
         assert_eq!(rt; vec.len(), 2);
         let moved = older.set_file(b"l", FileId::new(LogQueue::Rewrite, 50));

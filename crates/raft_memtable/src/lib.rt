@@ -1,6 +1,10 @@
 //! The tables of all regions, and the contexts that rebuild them from log files.
 #![tactic(auto)]
 
+pub mod waiting_group;
+pub mod waiting_groups;
+pub mod waiting_items;
+
 pub use raft_table::{
     EntryIndex, Error, FileBlockHandle, FileId, FileSeq, GlobalStats, LogQueue, MemTable, Result,
     TableChange, global_stats, is_run, memtable,

@@ -1,0 +1,3 @@
+mod WaitingGroupLemmas
+mod WaitingItemLemmas
+mod WaitingSeen

@@ -1,0 +1,5 @@
+pub mod WaitingGroupsCode
+pub mod WaitingGroupsView
+pub mod WaitingItems
+pub mod WaitingItemsView
+pub mod WaitingShown

@@ -1,0 +1,147 @@
+-- The map of groups: what it has at a group, of joined_group histories and of one more batch.
+use Rattle.std.proofs.Common.{◌≡◌, ℕ, suc, Bool, true, false, cond, ◌||◌, eqb, ltb, List, [], ◌∷◌, ◌++◌, Option, Some, None, refl, sym, ap, ◌∙◌, arith}
+use lib.Dec.{T}
+use Rattle.std.proofs.lemmas.Bool.{eqb-true, eq-eqb}
+use Rattle.std.proofs.lemmas.Bool.Decides.{nat_tests}
+use Rattle.std.specs.declared.cmp.Ordering.TheVariants.{Less, Equal, Greater}
+use Rattle.std.specs.Prelude.{filter, flat_map, map, is_some}
+use Rattle.std.specs.List.{AllByRecursion, list_any, IsDistinct, cons_option}
+use Rattle.std.specs.Option.{unwrap_or}
+use Rattle.std.specs.Ordering.{nat_cmp, eq_by_cmp, is_lt}
+use Rattle.std.specs.Cmp.{nat_cmp_total, unsigned_tied}
+use Rattle.std.specs.FinMap as finite
+use Rattle.std.specs.FinMap.Entries.{find, below_all, is_sorted}
+use Rattle.raft_history.specs.Batches.{GroupMarker, Batch}
+use Rattle.raft_history.specs.WaitingGroup.{placed_from, is_of, markers_of, open_stretch, front_of, WaitingGroup, unmarked, whole_group}
+use Rattle.raft_history.specs.Effects.{steps_of, BatchesApart, group_in, wholes, steps_of_wholes, ListsGroups, IsListed}
+use Rattle.raft_history.specs.WaitingGroups.{entry_by, groups_in, known, whole_with, whole_groups}
+use Rattle.raft_table.proofs.Shown.{first_of_both, second_of_both}
+use Rattle.raft_history.proofs.EffectLemmas.{each_weaker}
+use Rattle.raft_history.proofs.JoinedLemmas.{steps-append}
+
+pub tied : (a b : ℕ) → eq_by_cmp nat_cmp a b ≡ eqb a b
+tied a b = unsigned_tied a b
+
+abbrev pub has_marker : ℕ → List Batch → Bool
+has_marker g h = list_any (λ b. is_of g b.marker) h
+
+find-entries : (g : ℕ) (all h : List Batch) → find nat_cmp g (flat_map (λ b. entry_by all b.marker) h) ≡ cond (has_marker g h) (Some (group_in g all)) None
+find-entries g all [] = refl
+find-entries g all (b ∷ bs) = go b.marker (find-entries g all bs)
+  where
+    go : (m : Option GroupMarker) → find nat_cmp g (flat_map (λ b. entry_by all b.marker) bs) ≡ cond (has_marker g bs) (Some (group_in g all)) None → find nat_cmp g (entry_by all m ++ flat_map (λ b. entry_by all b.marker) bs) ≡ cond (is_of g m || has_marker g bs) (Some (group_in g all)) None
+    go None ih = ih
+    go (Some m) ih = rw (tied g m.group) (at (eqb g m.group) refl)
+      where
+        at : (t : Bool) → eqb g m.group ≡ t → cond t (Some (group_in m.group all)) (find nat_cmp g (flat_map (λ b. entry_by all b.marker) bs)) ≡ cond (t || has_marker g bs) (Some (group_in g all)) None
+        at true e = ap (λ x. Some (group_in x all)) (sym (eqb-true g m.group e))
+        at false e = ih
+
+pub get-groups_in : (g : ℕ) (h : List Batch) → finite.get (groups_in h) g ≡ cond (has_marker g h) (Some (group_in g h)) None
+unfolding groups_in
+get-groups_in g h = finite.get-from_entries nat_cmp_total (flat_map (λ b. entry_by h b.marker) h) g ∙ find-entries g h h
+
+-- a group that isn't marked
+no_markers : (g n : ℕ) (h : List Batch) → has_marker g h ≡ false → markers_of g (placed_from n h) ≡ []
+unfolding markers_of
+no_markers g n [] e = refl
+no_markers g n (b ∷ bs) e = go (is_of g b.marker) e (no_markers g (suc n) bs)
+  where
+    go : (t : Bool) → (t || has_marker g bs) ≡ false → (has_marker g bs ≡ false → filter (λ p. is_of g p.batch.marker) (placed_from (suc n) bs) ≡ []) → cond t (record { number = n; batch = b } ∷ filter (λ p. is_of g p.batch.marker) (placed_from (suc n) bs)) (filter (λ p. is_of g p.batch.marker) (placed_from (suc n) bs)) ≡ []
+    go true e ih = cc
+    go false e ih = ih e
+
+pub group_in-unmarked : (g : ℕ) (h : List Batch) → has_marker g h ≡ false → group_in g h ≡ unmarked
+unfolding open_stretch front_of
+group_in-unmarked g h e = rw (no_markers g 0 h e) refl
+
+pub known-groups_in : (g : ℕ) (h : List Batch) → known (groups_in h) g ≡ group_in g h
+known-groups_in g h = ap (λ o. unwrap_or o unmarked) (get-groups_in g h) ∙ go (has_marker g h) refl
+  where
+    go : (t : Bool) → has_marker g h ≡ t → unwrap_or (cond t (Some (group_in g h)) None) unmarked ≡ group_in g h
+    go true e = refl
+    go false e = sym (group_in-unmarked g h e)
+
+-- entries in order
+each_found : {X : Type 0} (es : List (ℕ × X)) → T (is_sorted nat_cmp es) → AllByRecursion (λ e. find nat_cmp e.0 es ≡ Some e.1) es
+each_found [] h = tt
+each_found {X} (e ∷ es) h = (rw (tied e.0 e.0, eq-eqb e.0 e.0 refl) refl, later es (first_of_both _ _ h) (each_found es (second_of_both _ _ h)))
+  where
+    apart : (a b : ℕ) → T (is_lt (nat_cmp a b)) → eqb b a ≡ false
+    apart a b t = go (ltb a b) refl (eqb a b) refl t
+      where
+        go : (l : Bool) → ltb a b ≡ l → (q : Bool) → eqb a b ≡ q → T (is_lt (cond l Less (cond q Equal Greater))) → eqb b a ≡ false
+        go true x q y t = grind (arith, nat_tests)
+        go false x true y t = absurd t
+        go false x false y t = absurd t
+
+    later : (fs : List (ℕ × X)) → T (below_all nat_cmp e.0 fs) → AllByRecursion (λ x. find nat_cmp x.0 es ≡ Some x.1) fs → AllByRecursion (λ x. find nat_cmp x.0 (e ∷ es) ≡ Some x.1) fs
+    later [] b k = tt
+    later (f ∷ fs) b k = (rw (tied f.0 e.0, apart e.0 f.0 (first_of_both _ _ b)) k.0, later fs (second_of_both _ _ b) k.1)
+
+-- each entry has what is known of its group
+pub each_known : (h : List Batch) → AllByRecursion (λ e. (has_marker e.0 h ≡ true) × (e.1 ≡ group_in e.0 h)) (finite.entries (groups_in h))
+each_known h = go (finite.entries (groups_in h)) (each_weaker (λ e. find nat_cmp e.0 (finite.entries (groups_in h)) ≡ Some e.1) (λ e. finite.get (groups_in h) e.0 ≡ Some e.1) (λ e k. finite.get-entries (groups_in h) e.0 ∙ k) (finite.entries (groups_in h)) (each_found (finite.entries (groups_in h)) (finite.entries_sorted (groups_in h))))
+  where
+    is : (g : ℕ) (x : WaitingGroup) (t : Bool) → has_marker g h ≡ t → cond t (Some (group_in g h)) None ≡ Some x → (has_marker g h ≡ true) × (x ≡ group_in g h)
+    is g x true e k = (e, cc)
+    is g x false e k = cc
+
+    go : (es : List (ℕ × WaitingGroup)) → AllByRecursion (λ e. finite.get (groups_in h) e.0 ≡ Some e.1) es → AllByRecursion (λ e. (has_marker e.0 h ≡ true) × (e.1 ≡ group_in e.0 h)) es
+    go [] k = tt
+    go (e ∷ es) k = (is e.0 e.1 (has_marker e.0 h) refl (sym (get-groups_in e.0 h) ∙ k.0), go es k.1)
+
+abbrev keys_of : {X : Type 0} → List (ℕ × X) → List ℕ
+keys_of es = map (λ e. e.0) es
+
+-- the groups' ids are distinct, and they are those of all markers
+pub keys_distinct : {X : Type 0} (es : List (ℕ × X)) → T (is_sorted nat_cmp es) → IsDistinct eqb (map (λ e. e.0) es)
+unfolding IsDistinct
+keys_distinct [] h = tt
+keys_distinct {X} (e ∷ es) h = (first es (first_of_both _ _ h), keys_distinct es (second_of_both _ _ h))
+  where
+    apart : (a b : ℕ) → T (is_lt (nat_cmp a b)) → eqb a b ≡ false
+    apart a b t = go (ltb a b) refl (eqb a b) refl t
+      where
+        go : (l : Bool) → ltb a b ≡ l → (q : Bool) → eqb a b ≡ q → T (is_lt (cond l Less (cond q Equal Greater))) → eqb a b ≡ false
+        go true x q y t = grind (arith, nat_tests)
+        go false x true y t = absurd t
+        go false x false y t = absurd t
+
+    first : (fs : List (ℕ × X)) → T (below_all nat_cmp e.0 fs) → AllByRecursion (λ y. eqb e.0 y ≡ false) (map (λ x. x.0) fs)
+    first [] b = tt
+    first (f ∷ fs) b = (apart e.0 f.0 (first_of_both _ _ b), first fs (second_of_both _ _ b))
+
+ids_of : List Batch → List ℕ
+ids_of h = finite.keys (groups_in h)
+
+lists_marked : (g : ℕ) (h : List Batch) → has_marker g h ≡ true → list_any (λ x. eqb x g) (finite.keys (groups_in h)) ≡ true
+lists_marked g h e = ap (λ (t : ℕ → Bool). list_any t (finite.keys (groups_in h))) (λ j x. turn x j) ∙ sym (finite.contains_key-keys (groups_in h) g) ∙ ap is_some (get-groups_in g h) ∙ ap (λ b. is_some (cond b (Some (group_in g h)) None)) e
+  where
+    turn : (x : ℕ) → eqb x g ≡ eq_by_cmp nat_cmp g x
+    turn x = flip x g ∙ sym (tied g x)
+      where
+        flip : (a b : ℕ) → eqb a b ≡ eqb b a
+        flip a b = grind (arith, nat_tests)
+
+lists_groups : (h all : List Batch) → ((g : ℕ) → has_marker g h ≡ true → has_marker g all ≡ true) → ListsGroups (finite.keys (groups_in all)) h
+lists_groups [] all sub = tt
+lists_groups (b ∷ bs) all sub = (go b.marker (λ g e. sub g (rw e refl)), lists_groups bs all (λ g e. sub g (or_right (is_of g b.marker) (has_marker g bs) e)))
+  where
+    or_right : (x y : Bool) → y ≡ true → (x || y) ≡ true
+    or_right true y e = refl
+    or_right false y e = e
+
+    go : (m : Option GroupMarker) → ((g : ℕ) → is_of g m ≡ true → has_marker g all ≡ true) → IsListed (finite.keys (groups_in all)) m
+    go None f = tt
+    go (Some m) f = lists_marked m.group all (f m.group (eq-eqb m.group m.group refl))
+
+same_wholes : (h k : List Batch) (es : List (ℕ × WaitingGroup)) → AllByRecursion (λ e. (has_marker e.0 k ≡ true) × (e.1 ≡ group_in e.0 k)) es → wholes (map (λ e. e.0) es) h k ≡ whole_with (groups_in h) es
+same_wholes h k [] e = refl
+same_wholes h k (x ∷ es) e = rw (known-groups_in x.0 h, e.0.1) (ap (cons_option (whole_group (group_in x.0 h) (group_in x.0 k))) (same_wholes h k es e.1))
+
+-- the steps of joined_group histories, from what is known of their groups
+pub steps_across : (r : ℕ) (h k : List Batch) → BatchesApart (h ++ k) → steps_of r (h ++ k) ≡ steps_of r h ++ (steps_of_wholes r (whole_groups (groups_in h) (groups_in k)) ++ steps_of r k)
+steps_across r h k apart =
+    steps-append r (finite.keys (groups_in k)) h k (keys_distinct (finite.entries (groups_in k)) (finite.entries_sorted (groups_in k))) (lists_groups k k (λ g e. e)) apart
+    ∙ ap (λ l. steps_of r h ++ (steps_of_wholes r l ++ steps_of r k)) (same_wholes h k (finite.entries (groups_in k)) (each_known k))

@@ -1,0 +1,12 @@
+pub mod CutLemmas
+pub mod DifferLemmas
+pub mod EffectLemmas
+pub mod JoinedLemmas
+pub mod KnownLemmas
+pub mod MarkerLemmas
+pub mod MoreLemmas
+pub mod NamedLemmas
+pub mod ShiftLemmas
+pub mod StretchLemmas
+pub mod UniqueLemmas
+pub mod UnmarkedLemmas

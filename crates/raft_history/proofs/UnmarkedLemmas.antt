@@ -1,0 +1,83 @@
+-- Which regions are named, histories without markers, and that the groups of one cut name different regions.
+use Rattle.std.proofs.Common.{◌≡◌, ℕ, suc, Bool, true, false, cond, ◌↔◌, ◌||◌, List, [], ◌∷◌, ◌++◌, None, refl, sym, ap, subst, ◌∙◌, inl, inr}
+use Rattle.std.specs.Prelude.{filter, flat_map, map}
+use Rattle.std.specs.List.{AllByRecursion, list_any}
+use Rattle.raft_history.specs.RegionSteps.{RegionStep, is_on, names, steps_on}
+use Rattle.raft_history.specs.Batches.{Batch}
+use Rattle.raft_history.specs.WaitingGroup.{Placed, placed_from, region_steps_of}
+use Rattle.raft_table.specs.Steps.{Step}
+use Rattle.raft_history.specs.Effects.{Effect, completed_by, effects_behind, effects, whole_steps, region_steps_in, steps_by, steps_in, all_steps, steps_of, AreApart, EachApart, BatchesApart, is_named}
+use Rattle.raft_history.proofs.EffectLemmas.{steps_in-none}
+
+-- what is named has steps
+pub steps_on-some : (r : ℕ) (is : List RegionStep) → steps_on r is ≡ [] → names r is ≡ false
+unfolding steps_on names
+steps_on-some r [] h = refl
+steps_on-some r (i ∷ is) h = go (is_on r i) h (steps_on-some r is)
+  where
+    go : (b : Bool) → map (λ i. i.step) (cond b (i ∷ filter (is_on r) is) (filter (is_on r) is)) ≡ [] → (map (λ i. i.step) (filter (is_on r) is) ≡ [] → list_any (is_on r) is ≡ false) → (b || list_any (is_on r) is) ≡ false
+    go true h ih = cc
+    go false h ih = ih h
+
+head_none : (xs ys : List Step) → xs ++ ys ≡ [] → xs ≡ []
+head_none [] ys e = refl
+head_none (x ∷ xs) ys e = cc
+
+tail_none : (xs ys : List Step) → xs ++ ys ≡ [] → ys ≡ []
+tail_none [] ys e = e
+tail_none (x ∷ xs) ys e = cc
+
+steps_in-some : (r : ℕ) (e : Effect) → steps_in r e ≡ [] → names r (region_steps_in e) ≡ false
+unfolding whole_steps
+steps_in-some r e h = go e.earlier h
+  where
+    go : (l : List Placed) → steps_by r l e.last ≡ [] → names r (region_steps_of l ++ e.last.batch.steps) ≡ false
+    go [] h = steps_on-some r e.last.batch.steps h
+    go (q ∷ qs) h = steps_on-some r (region_steps_of (q ∷ qs) ++ e.last.batch.steps) (head_none _ _ h)
+
+pub unnamed_steps : (r : ℕ) (es : List Effect) → list_any (λ e. names r (region_steps_in e)) es ≡ false → all_steps r es ≡ []
+unfolding all_steps
+unnamed_steps r [] h = refl
+unnamed_steps r (e ∷ es) h = go (names r (region_steps_in e)) refl h (unnamed_steps r es)
+  where
+    go : (b : Bool) → names r (region_steps_in e) ≡ b → (b || list_any (λ e. names r (region_steps_in e)) es) ≡ false → (list_any (λ e. names r (region_steps_in e)) es ≡ false → flat_map (steps_in r) es ≡ []) → steps_in r e ++ flat_map (steps_in r) es ≡ []
+    go true k h ih = cc
+    go false k h ih = rw (steps_in-none r e k) (ih h)
+
+pub no_steps_unnamed : (r : ℕ) (es : List Effect) → all_steps r es ≡ [] → list_any (λ e. names r (region_steps_in e)) es ≡ false
+unfolding all_steps
+no_steps_unnamed r [] h = refl
+no_steps_unnamed r (e ∷ es) h = rw (steps_in-some r e (head_none _ _ h)) (no_steps_unnamed r es (tail_none (steps_in r e) (flat_map (steps_in r) es) h))
+
+-- without markers (as in the append queue) each batch is an effect, and the effects are apart
+alone : (olds : List Placed) (h : List Batch) (n : ℕ) → AllByRecursion (λ b. b.marker ≡ None) h → effects_behind olds (placed_from n h) ≡ map (λ p. record { earlier = []; last = p }) (placed_from n h)
+unfolding effects_behind
+alone olds [] n k = refl
+alone olds (b ∷ bs) n k = ap (λ m. completed_by m olds record { number = n; batch = b } ++ effects_behind (olds ++ record { number = n; batch = b } ∷ []) (placed_from (suc n) bs)) k.0
+    ∙ ap (λ l. record { earlier = []; last = record { number = n; batch = b } } ∷ l) (alone (olds ++ record { number = n; batch = b } ∷ []) bs (suc n) k.1)
+
+singles_apart : (ps : List Placed) → EachApart (map (λ p. record { earlier = []; last = p }) ps)
+singles_apart [] = tt
+singles_apart (p ∷ ps) = (each p ps, singles_apart ps)
+  where
+    none : (p q : Placed) → AreApart record { earlier = []; last = p } record { earlier = []; last = q }
+    none p q meets (inl g) r a b = g refl
+    none p q meets (inr g) r a b = g refl
+
+    each : (p : Placed) (qs : List Placed) → AllByRecursion (AreApart record { earlier = []; last = p }) (map (λ p. record { earlier = []; last = p }) qs)
+    each p [] = tt
+    each p (q ∷ qs) = (none p q, each p qs)
+
+pub plain_apart : (h : List Batch) → AllByRecursion (λ b. b.marker ≡ None) h → BatchesApart h
+plain_apart h k = record { each = subst EachApart (sym (alone [] h 0 k)) (singles_apart (placed_from 0 h)) }
+
+pub plain_steps : (r : ℕ) (h : List Batch) → AllByRecursion (λ b. b.marker ≡ None) h → steps_of r h ≡ flat_map (λ b. steps_on r b.steps) h
+unfolding all_steps
+plain_steps r h k = ap (all_steps r) (alone [] h 0 k) ∙ go 0 h
+  where
+    go : (n : ℕ) (h : List Batch) → flat_map (steps_in r) (map (λ p. record { earlier = []; last = p }) (placed_from n h)) ≡ flat_map (λ b. steps_on r b.steps) h
+    go n [] = refl
+    go n (b ∷ bs) = ap (λ l. steps_on r b.steps ++ l) (go (suc n) bs)
+
+pub named-steps : (r : ℕ) (h : List Batch) → (is_named r h ≡ false) ↔ (steps_of r h ≡ [])
+named-steps r h = (unnamed_steps r (effects h), no_steps_unnamed r (effects h))

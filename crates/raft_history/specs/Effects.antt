@@ -1,0 +1,118 @@
+-- The effects of a history of the rewrite queue, their steps on a region, and when they stand apart.
+use Rattle.std.specs.Prelude.{◌≡◌, ◌⊎◌, ℕ, ◌≤◌, Bool, true, cond, eqb, List, [], ◌∷◌, ◌++◌, map, filter, flat_map, filter_map, Option, Some, None}
+use Rattle.std.specs.List.{AllByRecursion, list_any}
+use Rattle.raft_table.specs.Steps.{Step, AtomicGroup}
+use Rattle.raft_records.specs.declared.atomic_group.AtomicGroupStatus.{AtomicGroupStatus}
+use Rattle.raft_records.specs.declared.atomic_group.AtomicGroupStatus.TheVariants.{Begin, Middle, End}
+use Rattle.raft_history.specs.RegionSteps.{RegionStep, names, steps_on}
+use Rattle.raft_history.specs.Batches.{GroupMarker, Batch}
+use Rattle.raft_history.specs.WaitingGroup.{Placed, placed_from, markers_of, open_stretch, region_steps_of, WaitingGroup, group_of, WholeGroup, whole_group}
+
+-- The batches of one effect: the last, and those before it. An unmarked batch has none before it, a group's End has its Begin and Middles.
+pub record Effect : Type 0 where
+  pub earlier : List Placed
+  pub last : Placed
+
+-- what an End completes behind the open stretch of its group
+abbrev pub ended : List Placed → Placed → List Effect
+ended [] p = []
+ended (q ∷ qs) p = record { earlier = q ∷ qs; last = p } ∷ []
+
+abbrev pub completed_as : AtomicGroupStatus → List Placed → Placed → List Effect
+completed_as Begin stretch p = []
+completed_as Middle stretch p = []
+completed_as End stretch p = ended stretch p
+
+-- what a batch completes behind those before it
+abbrev pub completed_by : Option GroupMarker → List Placed → Placed → List Effect
+completed_by None before p = record { earlier = []; last = p } ∷ []
+completed_by (Some m) before p = completed_as m.status (open_stretch (markers_of m.group before)) p
+
+abbrev pub completed : List Placed → Placed → List Effect
+completed before p = completed_by p.batch.marker before p
+
+-- what the batches complete, one after another, behind those before them
+unfoldable pub effects_behind : List Placed → List Placed → List Effect
+effects_behind before [] = []
+effects_behind before (p ∷ ps) = completed before p ++ effects_behind (before ++ p ∷ []) ps
+
+abbrev pub effects : List Batch → List Effect
+effects h = effects_behind [] (placed_from 0 h)
+
+-- a group's steps on a region: those of its steps, and its span, where it names the region
+unfoldable pub whole_steps : ℕ → WholeGroup → List Step
+whole_steps r w = steps_on r w.steps ++ cond (names r w.steps) (AtomicGroup w.start w.end ∷ []) []
+
+abbrev pub region_steps_in : Effect → List RegionStep
+region_steps_in e = region_steps_of e.earlier ++ e.last.batch.steps
+
+abbrev pub steps_by : ℕ → List Placed → Placed → List Step
+steps_by r [] last = steps_on r last.batch.steps
+steps_by r (q ∷ qs) last = whole_steps r record { steps = region_steps_of (q ∷ qs) ++ last.batch.steps; start = q.batch.file; end = last.batch.file }
+
+abbrev pub steps_in : ℕ → Effect → List Step
+steps_in r e = steps_by r e.earlier e.last
+
+-- the steps on a region in the effects, in order
+unfoldable pub all_steps : ℕ → List Effect → List Step
+all_steps r es = flat_map (steps_in r) es
+
+abbrev pub steps_of : ℕ → List Batch → List Step
+steps_of r h = all_steps r (effects h)
+
+-- whether an effect names the region
+abbrev pub is_named : ℕ → List Batch → Bool
+is_named r h = list_any (λ e. names r (region_steps_in e)) (effects h)
+
+-- the extent of an effect
+abbrev pub first_by : List Placed → Placed → ℕ
+first_by [] last = last.number
+first_by (q ∷ qs) last = q.number
+
+abbrev pub first_in : Effect → ℕ
+first_in e = first_by e.earlier e.last
+
+abbrev pub last_in : Effect → ℕ
+last_in e = e.last.number
+
+abbrev pub IsGroup : Effect → Type 0
+IsGroup e = e.earlier ≡ [] → ⊥
+
+abbrev pub Names : ℕ → Effect → Type 0
+Names r e = names r (region_steps_in e) ≡ true
+
+-- the extents of two effects meet
+pub record Meets (e f : Effect) : Type 0 where
+  pub before : first_in e ≤ last_in f
+  pub behind : first_in f ≤ last_in e
+
+-- two effects whose extents meet, one of them a group, name no common region
+abbrev pub AreApart : Effect → Effect → Type 0
+AreApart e f = Meets e f → IsGroup e ⊎ IsGroup f → (r : ℕ) → Names r e → Names r f → ⊥
+
+-- any two
+abbrev pub EachApart : List Effect → Type 0
+EachApart [] = Unit {0}
+EachApart (e ∷ es) = AllByRecursion (AreApart e) es × EachApart es
+
+pub record BatchesApart (h : List Batch) : Type 0 where
+  pub each : EachApart (effects h)
+
+-- what is known of a group from a history
+abbrev pub group_in : ℕ → List Batch → WaitingGroup
+group_in g h = group_of g (placed_from 0 h)
+
+-- the groups that become whole_group where two histories are joined_group, of the ids in the list
+abbrev pub wholes : List ℕ → List Batch → List Batch → List WholeGroup
+wholes ids older newer = filter_map (λ g. whole_group (group_in g older) (group_in g newer)) ids
+
+unfoldable pub steps_of_wholes : ℕ → List WholeGroup → List Step
+steps_of_wholes r ws = flat_map (whole_steps r) ws
+
+-- the list has the group of each marker
+abbrev pub IsListed : List ℕ → Option GroupMarker → Type 0
+IsListed ids None = Unit {0}
+IsListed ids (Some m) = list_any (λ g. eqb g m.group) ids ≡ true
+
+abbrev pub ListsGroups : List ℕ → List Batch → Type 0
+ListsGroups ids h = AllByRecursion (λ b. IsListed ids b.marker) h

@@ -1,0 +1,140 @@
+-- Histories: batches of one queue in the order of their files, when they can be read, and what one reading gives.
+use Rattle.std.specs.Prelude.{◌≡◌, ℕ, ◌+◌, ◌<◌, ◌≤◌, ◌^◌, false, List, [], ◌∷◌, length, flat_map, Option, Some, None}
+use Rattle.std.specs.List.{AllByRecursion}
+use Rattle.std.specs.FinMap as finite
+use Rattle.raft_base.specs.declared.pipe_log.FileBlockHandle.{FileBlockHandle}
+use Rattle.raft_base.specs.declared.pipe_log.FileId.{FileId}
+use Rattle.raft_base.specs.declared.pipe_log.LogQueue.{LogQueue}
+use Rattle.raft_base.specs.declared.pipe_log.LogQueue.TheVariants.{Append, Rewrite}
+use Rattle.raft_records.specs.declared.entry_index.EntryIndex.{EntryIndex}
+use Rattle.raft_records.specs.declared.key_value.OpType.{OpType}
+use Rattle.raft_records.specs.declared.key_value.OpType.TheVariants as operations
+use Rattle.raft_records.specs.Group.{IsGroupMarkerContent}
+use Rattle.raft_records.specs.Item.{Item, Content, entries, command, pair}
+use Rattle.raft_table.specs.Entries.{IsRunIn}
+use Rattle.raft_table.specs.Steps.{Step, Run, Put, Del, after}
+use Rattle.raft_table.specs.Table.{Table}
+use Rattle.raft_history.specs.RegionSteps.{RegionStep, Tables, steps_of_items, is_reserved, cleaned_by_steps}
+use Rattle.raft_history.specs.Batches.{Event, batches}
+use Rattle.raft_history.specs.Effects.{steps_of, BatchesApart}
+
+-- ---- how many records a history names
+
+-- the entries and key values that a step names
+abbrev pub records_of : Step → ℕ
+records_of (Run run) = length run
+records_of (Put key value file) = 1
+records_of (Del key) = 1
+records_of _ = 0
+
+-- those of steps together
+abbrev pub records_in : List RegionStep → ℕ
+records_in [] = 0
+records_in (s ∷ steps) = records_of s.step + records_in steps
+
+-- those of a history
+abbrev pub size_of : List Event → ℕ
+size_of [] = 0
+size_of (e ∷ h) = records_in (steps_of_items e.items) + size_of h
+
+-- fewer than 2^63 entries and key values
+pub record IsSmall (h : List Event) : Type 0 where
+  pub few : size_of h < 2 ^ 63
+
+-- ---- sound histories
+
+-- a place in this file
+abbrev pub IsBlockIn : FileId → Option FileBlockHandle → Type 0
+IsBlockIn file None = ⊥
+IsBlockIn file (Some block) = block.id ≡ file
+
+-- every entry's place is in this file
+abbrev pub AreBlocksIn : FileId → List EntryIndex → Type 0
+AreBlocksIn file [] = Unit {0}
+AreBlocksIn file (e ∷ es) = IsBlockIn file e.entries × AreBlocksIn file es
+
+-- a put has a value, and this file
+abbrev pub IsPutIn : FileId → Option (List ℕ) → Option FileId → Type 0
+IsPutIn file (Some value) (Some id) = id ≡ file
+IsPutIn file (Some value) None = ⊥
+IsPutIn file None id = ⊥
+
+-- a change of a key that is not reserved, as it may stand in a batch of this file
+abbrev pub IsPairIn : FileId → OpType → Option (List ℕ) → Option FileId → Type 0
+IsPairIn file operations.Put value id = IsPutIn file value id
+IsPairIn file operations.Del value id = Unit {0}
+
+-- a content as it may stand in a batch of this file: entries are a run whose places are all there, and so is the file of a put that isn't skipped
+abbrev pub IsInFile : FileId → Content → Type 0
+IsInFile file (entries es) = IsRunIn file.queue es × AreBlocksIn file es
+IsInFile file (command c) = Unit {0}
+IsInFile file (pair p) = is_reserved p.key ≡ false → IsPairIn file p.op_type p.value p.file_id
+
+-- the same of each item of a batch
+abbrev pub AreInFile : FileId → List Item → Type 0
+AreInFile file [] = Unit {0}
+AreInFile file (item ∷ items) = IsInFile file item.content × AreInFile file items
+
+-- and of each batch
+abbrev pub AreInFiles : List Event → Type 0
+AreInFiles [] = Unit {0}
+AreInFiles (e ∷ h) = AreInFile e.file e.items × AreInFiles h
+
+-- an item that is a group marker has the byte of a status
+abbrev pub HasStatus : Item → Type 0
+HasStatus item = (byte : ℕ) → IsGroupMarkerContent item.content byte → byte ≤ 2
+
+-- the same of each item of a batch of the rewrite queue; the append queue ignores markers
+abbrev pub HaveStatus : LogQueue → List Item → Type 0
+HaveStatus Append items = Unit {0}
+HaveStatus Rewrite items = AllByRecursion HasStatus items
+
+-- and of each batch
+abbrev pub AllHaveStatus : List Event → Type 0
+AllHaveStatus [] = Unit {0}
+AllHaveStatus (e ∷ h) = HaveStatus e.file.queue e.items × AllHaveStatus h
+
+-- the files are of one queue, and their numbers never go down from this one
+abbrev pub FilesFrom : LogQueue → ℕ → List Event → Type 0
+FilesFrom queue seq [] = Unit {0}
+FilesFrom queue seq (e ∷ h) = (e.file.queue ≡ queue) × (seq ≤ e.file.seq) × FilesFrom queue e.file.seq h
+
+-- a history of this queue that can be read: files in order, items as their files ask, markers with a status, and no region's step refused
+pub record IsSoundIn (queue : LogQueue) (h : List Event) : Type 0 where
+  pub files : FilesFrom queue 0 h
+  pub items : AreInFiles h
+  pub markers : AllHaveStatus h
+  pub accepted : (r : ℕ) → (t : Option Table) × (after queue r None (steps_of r (batches h)) ≡ Some t)
+
+-- a history that can be read
+pub record Sound (h : List Event) : Type 0 where
+  pub queue : LogQueue
+  pub sound : IsSoundIn queue h
+
+-- any two effects of the history whose extents meet, one of them a group, name no common region
+pub record Apart (h : List Event) : Type 0 where
+  pub apart : BatchesApart (batches h)
+
+-- every batch is of this queue
+abbrev pub AreOfQueue : LogQueue → List Event → Type 0
+AreOfQueue queue [] = Unit {0}
+AreOfQueue queue (e ∷ h) = (e.file.queue ≡ queue) × AreOfQueue queue h
+
+pub record IsOfQueue (queue : LogQueue) (h : List Event) : Type 0 where
+  pub each : AreOfQueue queue h
+
+-- ---- one reading
+
+-- the regions that a batch cleans, in the append queue
+abbrev pub cleaned_in_batch : LogQueue → List Item → List ℕ
+cleaned_in_batch Append items = cleaned_by_steps (steps_of_items items)
+cleaned_in_batch Rewrite items = []
+
+-- the regions that a history cleans, in order; none in the rewrite queue
+abbrev pub cleaned_in : LogQueue → List Event → List ℕ
+cleaned_in queue h = flat_map (λ e. cleaned_in_batch queue e.items) h
+
+-- the tables are those that reading all batches in order gives: each region's steps in the effects, from an absent table; and the cleaned regions are those of the history
+pub record IsOneReading (queue : LogQueue) (h : List Event) (tables : Tables) (cleaned : List ℕ) : Type 0 where
+  pub tables_read : (r : ℕ) → after queue r None (steps_of r (batches h)) ≡ Some (finite.get tables r)
+  pub regions_cleaned : cleaned ≡ cleaned_in queue h

@@ -1,0 +1,50 @@
+-- What an effect is, in the words of the markers alone.
+use Rattle.std.specs.Prelude.{◌≡◌, ◌⊎◌, ℕ, suc, ◌≤◌, List, [], ◌∷◌, ◌++◌, Some, None}
+use Rattle.std.specs.List.{AllByRecursion}
+use Rattle.raft_records.specs.declared.atomic_group.AtomicGroupStatus.{AtomicGroupStatus}
+use Rattle.raft_records.specs.declared.atomic_group.AtomicGroupStatus.TheVariants.{Begin, Middle, End}
+use Rattle.raft_history.specs.Batches.{Batch}
+use Rattle.raft_history.specs.WaitingGroup.{Placed, placed_from, markers_of}
+use Rattle.raft_history.specs.Effects.{Effect, last_in}
+
+-- x stands in the list
+pub record IsIn {X : Type 0} (x : X) (xs : List X) : Type 0 where
+  pub before : List X
+  pub behind : List X
+  pub split : xs ≡ before ++ x ∷ behind
+
+-- a marker of the group with that status
+abbrev pub IsMarkerOf : ℕ → AtomicGroupStatus → Placed → Type 0
+IsMarkerOf g s p = p.batch.marker ≡ Some record { group = g; status = s }
+
+-- among the group's markers, neighbours: a Begin, Middles, and an End
+pub record IsStretch (h : List Batch) (g : ℕ) (e : Effect) : Type 0 where
+  pub before : List Placed
+  pub begin : Placed
+  pub middles : List Placed
+  pub behind : List Placed
+  pub neighbours : markers_of g (placed_from 0 h) ≡ before ++ begin ∷ (middles ++ e.last ∷ behind)
+  pub begins : IsMarkerOf g Begin begin
+  pub goes_on : AllByRecursion (IsMarkerOf g Middle) middles
+  pub ends : IsMarkerOf g End e.last
+  pub earlier : e.earlier ≡ begin ∷ middles
+
+-- an unmarked batch
+pub record IsAlone (h : List Batch) (e : Effect) : Type 0 where
+  pub stands : IsIn e.last (placed_from 0 h)
+  pub unmarked : e.last.batch.marker ≡ None
+  pub none : e.earlier ≡ []
+
+abbrev pub IsEffect : List Batch → Effect → Type 0
+IsEffect h e = IsAlone h e ⊎ ((g : ℕ) × IsStretch h g e)
+
+-- in the order of their last batches
+abbrev pub RiseFrom : ℕ → List Effect → Type 0
+RiseFrom n [] = Unit {0}
+RiseFrom n (e ∷ es) = (n ≤ last_in e) × RiseFrom (suc (last_in e)) es
+
+-- the list has each effect of the history once, and nothing else, in the order of their last batches
+pub record AreEffects (h : List Batch) (es : List Effect) : Type 0 where
+  pub only : AllByRecursion (IsEffect h) es
+  pub every : (e : Effect) → IsEffect h e → IsIn e es
+  pub rise : RiseFrom 0 es

@@ -1,0 +1,142 @@
+-- Batches, the markers of a group among them, and what is known of a group from its markers alone.
+use Rattle.std.specs.Prelude.{ℕ, suc, Bool, true, false, cond, ◌&&◌, eqb, List, [], ◌∷◌, ◌++◌, filter, flat_map, Option, Some, None}
+use Rattle.raft_records.specs.declared.atomic_group.AtomicGroupStatus.{AtomicGroupStatus}
+use Rattle.raft_records.specs.declared.atomic_group.AtomicGroupStatus.TheVariants.{Begin, Middle, End}
+use Rattle.raft_history.specs.RegionSteps.{RegionStep}
+use Rattle.raft_history.specs.Batches.{GroupMarker, Batch}
+
+-- a batch with its number in the history
+pub record Placed : Type 0 where
+  pub number : ℕ
+  pub batch : Batch
+
+abbrev pub placed_from : ℕ → List Batch → List Placed
+placed_from n [] = []
+placed_from n (b ∷ bs) = record { number = n; batch = b } ∷ placed_from (suc n) bs
+
+abbrev pub is_of : ℕ → Option GroupMarker → Bool
+is_of g None = false
+is_of g (Some m) = eqb g m.group
+
+-- the markers of a group: its batches, in order
+unfoldable pub markers_of : ℕ → List Placed → List Placed
+markers_of g ps = filter (λ p. is_of g p.batch.marker) ps
+
+abbrev pub begins_by : AtomicGroupStatus → Bool
+begins_by Begin = true
+begins_by Middle = false
+begins_by End = false
+
+abbrev pub goes_on_by : AtomicGroupStatus → Bool
+goes_on_by Begin = false
+goes_on_by Middle = true
+goes_on_by End = false
+
+abbrev pub begins : Option GroupMarker → Bool
+begins None = false
+begins (Some m) = begins_by m.status
+
+abbrev pub goes_on : Option GroupMarker → Bool
+goes_on None = false
+goes_on (Some m) = goes_on_by m.status
+
+-- Middles alone
+unfoldable pub are_middles : List Placed → Bool
+are_middles [] = true
+are_middles (p ∷ ps) = goes_on p.batch.marker && are_middles ps
+
+-- behind these markers of one group: the last Begin and the Middles behind it, where nothing else follows it; else nothing
+unfoldable pub open_stretch : List Placed → List Placed
+open_stretch [] = []
+open_stretch (p ∷ ps) = cond (begins p.batch.marker && are_middles ps) (p ∷ ps) (open_stretch ps)
+
+abbrev pub region_steps_of : List Placed → List RegionStep
+region_steps_of ps = flat_map (λ p. p.batch.steps) ps
+
+-- what stands before a group's first Begin, up to the first End. (Of markers of a group, each batch has one.)
+pub data GroupFront : Type 0 where
+  Open : List RegionStep → GroupFront
+  Ended : List RegionStep → ℕ → GroupFront
+  Cut : GroupFront
+
+abbrev pub led_by : List RegionStep → GroupFront → GroupFront
+led_by is (Open js) = Open (is ++ js)
+led_by is (Ended js f) = Ended (is ++ js) f
+led_by is Cut = Cut
+
+abbrev pub front_by : AtomicGroupStatus → List RegionStep → ℕ → GroupFront → GroupFront
+front_by Begin is f rest = Cut
+front_by Middle is f rest = led_by is rest
+front_by End is f rest = Ended is f
+
+abbrev pub front_behind : Option GroupMarker → List RegionStep → ℕ → GroupFront → GroupFront
+front_behind None is f rest = Cut
+front_behind (Some m) is f rest = front_by m.status is f rest
+
+unfoldable pub front_of : List Placed → GroupFront
+front_of [] = Open []
+front_of (p ∷ ps) = front_behind p.batch.marker p.batch.steps p.batch.file (front_of ps)
+
+-- an open stretch: the file of its Begin, and its steps
+pub record OpenStretch : Type 0 where
+  pub file : ℕ
+  pub steps : List RegionStep
+
+abbrev pub stretch_of : List Placed → Option OpenStretch
+stretch_of [] = None
+stretch_of (p ∷ ps) = Some record { file = p.batch.file; steps = region_steps_of (p ∷ ps) }
+
+-- what a context holds of a group
+pub record WaitingGroup : Type 0 where
+  pub front : GroupFront
+  pub stretch : Option OpenStretch
+
+abbrev pub group_at : List Placed → WaitingGroup
+group_at ms = record { front = front_of ms; stretch = stretch_of (open_stretch ms) }
+
+abbrev pub group_of : ℕ → List Placed → WaitingGroup
+group_of g ps = group_at (markers_of g ps)
+
+-- a group whose stretch is whole_group: its steps, and the files of its Begin and End
+pub record WholeGroup : Type 0 where
+  pub steps : List RegionStep
+  pub start : ℕ
+  pub end : ℕ
+
+-- the older stretch, where the newer segment goes on with it
+abbrev pub carried : Option OpenStretch → List RegionStep → Option OpenStretch
+carried None is = None
+carried (Some s) is = Some record { file = s.file; steps = s.steps ++ is }
+
+-- what is known of a group from an older and a newer segment
+abbrev pub joined_group_by : GroupFront → GroupFront → WaitingGroup → WaitingGroup → WaitingGroup
+joined_group_by (Open is) front older newer = record { front = led_by is front; stretch = newer.stretch }
+joined_group_by front (Open is) older newer = record { front = front; stretch = carried older.stretch is }
+joined_group_by front _ older newer = record { front = front; stretch = newer.stretch }
+
+abbrev pub joined_group : WaitingGroup → WaitingGroup → WaitingGroup
+joined_group older newer = joined_group_by older.front newer.front older newer
+
+-- the stretch that begins in the older segment and ends in the newer one
+abbrev pub whole_of : Option OpenStretch → GroupFront → Option WholeGroup
+whole_of None front = None
+whole_of (Some s) (Open is) = None
+whole_of (Some s) (Ended is f) = Some record { steps = s.steps ++ is; start = s.file; end = f }
+whole_of (Some s) Cut = None
+
+-- (with an open front there is no open stretch)
+abbrev pub whole_group_by : GroupFront → Option OpenStretch → GroupFront → Option WholeGroup
+whole_group_by (Open is) s front = None
+whole_group_by _ s front = whole_of s front
+
+abbrev pub whole_group : WaitingGroup → WaitingGroup → Option WholeGroup
+whole_group older newer = whole_group_by older.front older.stretch newer.front
+
+-- of no marker, and of one
+abbrev pub unmarked : WaitingGroup
+unmarked = record { front = Open []; stretch = None }
+
+abbrev pub one_marker : AtomicGroupStatus → List RegionStep → ℕ → WaitingGroup
+one_marker Begin is f = record { front = Cut; stretch = Some record { file = f; steps = is } }
+one_marker Middle is f = record { front = Open is; stretch = None }
+one_marker End is f = record { front = Ended is f; stretch = None }

@@ -1,0 +1,4 @@
+//! Histories of log batches: what they do to the tables of all regions, and the laws of reading them in pieces.
+#![tactic(auto)]
+
+pub mod effects;

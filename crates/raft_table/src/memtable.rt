@@ -19,6 +19,7 @@ mod laws;
 mod mark;
 mod merge;
 mod queries;
+mod read_runs;
 mod region;
 mod table_laws;
 #[cfg(test)]
@@ -31,6 +32,7 @@ use entries::Entries;
 use key_values::KeyValues;
 pub use laws::{entries_stand_by_index, marks_stand_for_steps, overlays_by_marks};
 use raft_records::{EntryIndex, Error, FileId, FileSeq, LogQueue, Result};
+pub use read_runs::read_entries_are_runs;
 use std::alloc::Global;
 use std::marker::Model;
 pub use table_laws::full_runs_pass_the_limit;

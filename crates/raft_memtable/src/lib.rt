@@ -5,7 +5,13 @@ pub mod waiting_group;
 pub mod waiting_groups;
 pub mod waiting_items;
 
+pub mod accessor;
+pub mod item_writes;
+pub mod region_tables;
+
+pub use accessor::{MemTableAccessor, slot_of};
 pub use raft_table::{
     EntryIndex, Error, FileBlockHandle, FileId, FileSeq, GlobalStats, LogQueue, MemTable, Result,
     TableChange, global_stats, is_run, memtable,
 };
+pub use region_tables::RegionTables;

@@ -102,18 +102,18 @@ parts q c d h k m a b apart = record {
 both_files : (q : LogQueue) (c d : Context) (h k : List Event) → Merges q c d h k → follows c.files d.files ≡ true → FilesFrom q 0 (h ++ k)
 both_files q c d h k m f = files_follow q h k (m.older.stands q m.older_suits).sound.files (m.newer.stands q m.newer_suits).sound.files (ap (λ p. follows p (files_of k)) (sym m.older.files) ∙ ap (follows c.files) (sym m.newer.files) ∙ f)
 
-append_merged : (c d : Context) (h k : List Event) (rs : MarkedRegions) → Merges Append c d h k → follows c.files d.files ≡ true → merged_regions Append c d ≡ Some rs → AreExact Append rs (batches (h ++ k))
+append_merged : (c d : Context) (h k : List Event) (rs : MarkedRegions) → Merges Append c d h k → follows c.files d.files ≡ true → AreMerged Append c d rs → AreExact Append rs (batches (h ++ k))
 append_merged c d h k rs m f e = regions_merged Append c d h k rs
-    (parts Append c d h k m ((m.older.stands Append m.older_suits).append refl) ((m.newer.stands Append m.newer_suits).append refl) (append_apart 0 (h ++ k) (both_files Append c d h k m f))) (merged_are Append c d rs e)
+    (parts Append c d h k m ((m.older.stands Append m.older_suits).append refl) ((m.newer.stands Append m.newer_suits).append refl) (append_apart 0 (h ++ k) (both_files Append c d h k m f))) e
 
-stands_in : (q : LogQueue) (c d : Context) (h k : List Event) (rs : MarkedRegions) → Merges q c d h k → follows c.files d.files ≡ true → merged_regions q c d ≡ Some rs → StandsIn q (merged_with c d rs) (h ++ k)
+stands_in : (q : LogQueue) (c d : Context) (h k : List Event) (rs : MarkedRegions) → Merges q c d h k → follows c.files d.files ≡ true → AreMerged q c d rs → StandsIn q (merged_with c d rs) (h ++ k)
 stands_in q c d h k rs m f e = record {
   sound = record { files = both_files q c d h k m f; items = in_files-append h k (m.older.stands q m.older_suits).sound.items (m.newer.stands q m.newer_suits).sound.items; markers = status-append h k (m.older.stands q m.older_suits).sound.markers (m.newer.stands q m.newer_suits).sound.markers; accepted = accepted q m e };
   cleaned = ap (λ l. l ++ d.cleaned) (m.older.stands q m.older_suits).cleaned ∙ ap (λ l. cleaned_in q h ++ l) (m.newer.stands q m.newer_suits).cleaned ∙ sym (cleaned-append q h k);
-  append = λ a. append_merged c d h k rs (subst (λ q. Merges q c d h k) a m) f (subst (λ q. merged_regions q c d ≡ Some rs) a e);
+  append = λ a. append_merged c d h k rs (subst (λ q. Merges q c d h k) a m) f (subst (λ q. AreMerged q c d rs) a e);
 }
   where
-    accepted : (q : LogQueue) → Merges q c d h k → merged_regions q c d ≡ Some rs → (r : ℕ) → (t : Option Table) × (after q r None (steps_of r (batches (h ++ k))) ≡ Some t)
+    accepted : (q : LogQueue) → Merges q c d h k → AreMerged q c d rs → (r : ℕ) → (t : Option Table) × (after q r None (steps_of r (batches (h ++ k))) ≡ Some t)
     accepted Append m e = exact_accepted Append rs (batches (h ++ k)) (append_merged c d h k rs m f e)
     accepted Rewrite m e = λ r. rewrite_after r None (steps_of r (batches (h ++ k)))
 
@@ -124,7 +124,7 @@ blank_parts q p c h st none = (empty, subst (λ h. AreExact p c.regions (batches
     empty : h ≡ []
     empty = no_batch h (sym st.files ∙ none)
 
-blank_stands : (q p : LogQueue) (c d : Context) (h k : List Event) (rs : MarkedRegions) → Merges q c d h k → merged_regions q c d ≡ Some rs → c.files ≡ None → d.files ≡ None → StandsIn p (merged_with c d rs) (h ++ k) × AreExact p rs (batches (h ++ k))
+blank_stands : (q p : LogQueue) (c d : Context) (h k : List Event) (rs : MarkedRegions) → Merges q c d h k → AreMerged q c d rs → c.files ≡ None → d.files ≡ None → StandsIn p (merged_with c d rs) (h ++ k) × AreExact p rs (batches (h ++ k))
 blank_stands q p c d h k rs m e a b = subst (λ l. StandsIn p (merged_with c d rs) l × AreExact p rs (batches l)) (sym both) (
   record {
     sound = record { files = tt; items = tt; markers = tt; accepted = exact_accepted p rs [] blank };
@@ -144,53 +144,55 @@ blank_stands q p c d h k rs m e a b = subst (λ l. StandsIn p (merged_with c d r
     both = ap (λ l. l ++ k) x.0 ∙ y.0
 
     blank : AreExact p rs []
-    blank = blank_exact q p rs (subst (λ l. AreExact q rs (batches l)) both (regions_merged q c d h k rs (parts q c d h k m x.1 y.1 (subst (λ l. BatchesApart (batches l)) (sym both) (append_apart 0 [] tt))) (merged_are q c d rs e)))
+    blank = blank_exact q p rs (subst (λ l. AreExact q rs (batches l)) both (regions_merged q c d h k rs (parts q c d h k m x.1 y.1 (subst (λ l. BatchesApart (batches l)) (sym both) (append_apart 0 [] tt))) e))
 
-pub merged_some : (q : LogQueue) (c d e : Context) → merged q c d ≡ Some e → (follows c.files d.files ≡ true) × ((rs : MarkedRegions) × (merged_regions q c d ≡ Some rs) × (merged_with c d rs ≡ e))
-merged_some q c d e is = go (follows c.files d.files) (merged_regions q c d) refl refl is
-  where
-    go : (b : Bool) (o : Option MarkedRegions) → follows c.files d.files ≡ b → merged_regions q c d ≡ o → cond b (option_map (merged_with c d) o) None ≡ Some e → (follows c.files d.files ≡ true) × ((rs : MarkedRegions) × (merged_regions q c d ≡ Some rs) × (merged_with c d rs ≡ e))
-    go false o f r is = absurd cc
-    go true None f r is = absurd cc
-    go true (Some rs) f r is = (f, (rs, r, some_is is))
-
-pub merged_stands : (q : LogQueue) (c d e : Context) (h k : List Event) → Merges q c d h k → merged q c d ≡ Some e → StandsFor e (h ++ k)
-merged_stands q c d e h k m is = subst (λ e. StandsFor e (h ++ k)) s.1.2 record {
+-- the merged regions with all else
+pub regions_stand : (q : LogQueue) (c d : Context) (h k : List Event) (rs : MarkedRegions) → Merges q c d h k → follows c.files d.files ≡ true → AreMerged q c d rs → StandsFor (merged_with c d rs) (h ++ k)
+regions_stand q c d h k rs m f is = record {
   files = ap (λ p. joined_files p d.files) m.older.files ∙ ap (joined_files (files_of h)) m.newer.files ∙ sym (files_of-append h k);
   groups = ap (λ g. joined_groups g d.groups) m.older.groups ∙ ap (joined_groups (groups_in (batches h))) m.newer.groups ∙ sym (groups_in-append (batches h) (batches k)) ∙ ap groups_in (sym (batches-append h k));
-  few = subst (IsBounded (merged_with c d s.1.0)) (sym (size-append h k)) (merged_bounded q c d s.1.0 (size_of h) (size_of k) m.older.few m.newer.few s.1.1);
+  few = subst (IsBounded (merged_with c d rs)) (sym (size-append h k)) (merged_bounded q c d rs (size_of h) (size_of k) m.older.few m.newer.few is);
   stands = λ p u. by p (both_none q p c.files d.files m.older_suits m.newer_suits u);
 }
   where
-    s : (follows c.files d.files ≡ true) × ((rs : MarkedRegions) × (merged_regions q c d ≡ Some rs) × (merged_with c d rs ≡ e))
-    s = merged_some q c d e is
+    by : (p : LogQueue) → ((c.files ≡ None) × (d.files ≡ None)) ⊎ (q ≡ p) → StandsIn p (merged_with c d rs) (h ++ k)
+    by p (inl n) = (blank_stands q p c d h k rs m is n.0 n.1).0
+    by p (inr same) = subst (λ p. StandsIn p (merged_with c d rs) (h ++ k)) same (stands_in q c d h k rs m f is)
 
-    by : (p : LogQueue) → ((c.files ≡ None) × (d.files ≡ None)) ⊎ (q ≡ p) → StandsIn p (merged_with c d s.1.0) (h ++ k)
-    by p (inl n) = (blank_stands q p c d h k s.1.0 m s.1.1 n.0 n.1).0
-    by p (inr same) = subst (λ p. StandsIn p (merged_with c d s.1.0) (h ++ k)) same (stands_in q c d h k s.1.0 m s.0 s.1.1)
-
-pub merged_exact : (q : LogQueue) (c d e : Context) (h k : List Event) → Merges q c d h k → IsExactFor c h → IsExactFor d k → BatchesApart (batches (h ++ k)) → merged q c d ≡ Some e → IsExactFor e (h ++ k)
-merged_exact q c d e h k m a b apart is = record {
-  stands = merged_stands q c d e h k m is;
-  regions = λ p u. subst (λ e. Suits p e.files → AreExact p e.regions (batches (h ++ k))) s.1.2 (λ u. by p (both_none q p c.files d.files m.older_suits m.newer_suits u)) u;
+pub regions_exact : (q : LogQueue) (c d : Context) (h k : List Event) (rs : MarkedRegions) → Merges q c d h k → IsExactFor c h → IsExactFor d k → BatchesApart (batches (h ++ k)) → follows c.files d.files ≡ true → AreMerged q c d rs → IsExactFor (merged_with c d rs) (h ++ k)
+regions_exact q c d h k rs m a b apart f is = record {
+  stands = regions_stand q c d h k rs m f is;
+  regions = λ p u. by p (both_none q p c.files d.files m.older_suits m.newer_suits u);
 }
   where
-    s : (follows c.files d.files ≡ true) × ((rs : MarkedRegions) × (merged_regions q c d ≡ Some rs) × (merged_with c d rs ≡ e))
-    s = merged_some q c d e is
+    by : (p : LogQueue) → ((c.files ≡ None) × (d.files ≡ None)) ⊎ (q ≡ p) → AreExact p rs (batches (h ++ k))
+    by p (inl n) = (blank_stands q p c d h k rs m is n.0 n.1).1
+    by p (inr same) = subst (λ p. AreExact p rs (batches (h ++ k))) same (regions_merged q c d h k rs (parts q c d h k m (a.regions q m.older_suits) (b.regions q m.newer_suits) apart) is)
 
-    by : (p : LogQueue) → ((c.files ≡ None) × (d.files ≡ None)) ⊎ (q ≡ p) → AreExact p s.1.0 (batches (h ++ k))
-    by p (inl n) = (blank_stands q p c d h k s.1.0 m s.1.1 n.0 n.1).1
-    by p (inr same) = subst (λ p. AreExact p s.1.0 (batches (h ++ k))) same (regions_merged q c d h k s.1.0 (parts q c d h k m (a.regions q m.older_suits) (b.regions q m.newer_suits) apart) (merged_are q c d s.1.0 s.1.1))
+merged_some : (q : LogQueue) (c d e : Context) → merged q c d ≡ Some e → (follows c.files d.files ≡ true) × ((rs : MarkedRegions) × AreMerged q c d rs × (merged_with c d rs ≡ e))
+merged_some q c d e is = go (follows c.files d.files) (merged_regions q c d) refl refl is
+  where
+    go : (b : Bool) (o : Option MarkedRegions) → follows c.files d.files ≡ b → merged_regions q c d ≡ o → cond b (option_map (merged_with c d) o) None ≡ Some e → (follows c.files d.files ≡ true) × ((rs : MarkedRegions) × AreMerged q c d rs × (merged_with c d rs ≡ e))
+    go false o f r is = absurd cc
+    go true None f r is = absurd cc
+    go true (Some rs) f r is = (f, (rs, merged_are q c d rs r, some_is is))
+
+pub merged_stands : (q : LogQueue) (c d e : Context) (h k : List Event) → Merges q c d h k → merged q c d ≡ Some e → StandsFor e (h ++ k)
+merged_stands q c d e h k m is = let s = merged_some q c d e is in subst (λ e. StandsFor e (h ++ k)) s.1.2 (regions_stand q c d h k s.1.0 m s.0 s.1.1)
+
+pub merged_exact : (q : LogQueue) (c d e : Context) (h k : List Event) → Merges q c d h k → IsExactFor c h → IsExactFor d k → BatchesApart (batches (h ++ k)) → merged q c d ≡ Some e → IsExactFor e (h ++ k)
+merged_exact q c d e h k m a b apart is = let s = merged_some q c d e is in subst (λ e. IsExactFor e (h ++ k)) s.1.2 (regions_exact q c d h k s.1.0 m a b apart s.0 s.1.1)
 
 no_both : {X : Type 0} {o : Option X} {x : X} → o ≡ None → o ≡ Some x → ⊥
 no_both a b = cc
 
-pub merge_refused : (q : LogQueue) (c d : Context) (h k : List Event) → Merges q c d h k → merged q c d ≡ None → Sound (h ++ k) → ⊥
-merge_refused q c d h k m is sound = go (follows c.files d.files) (merged_regions q c d) refl refl is
-  where
-    in_order : follows c.files d.files ≡ true
-    in_order = ap (λ p. follows p d.files) m.older.files ∙ ap (follows (files_of h)) m.newer.files ∙ follow_files sound.queue h k sound.sound.files
+-- where the files are out of order, or a region refuses, no sound history has both
+in_order : (q : LogQueue) (c d : Context) (h k : List Event) → Merges q c d h k → Sound (h ++ k) → follows c.files d.files ≡ true
+in_order q c d h k m sound = ap (λ p. follows p d.files) m.older.files ∙ ap (follows (files_of h)) m.newer.files ∙ follow_files sound.queue h k sound.sound.files
 
+pub regions_unsound : (q : LogQueue) (c d : Context) (h k : List Event) → Merges q c d h k → AreRefused q c d → Sound (h ++ k) → ⊥
+regions_unsound q c d h k m refused sound = by_queue q m refused suits
+  where
     suits : Suits q (files_of (h ++ k))
     suits = subst (Suits q) (ap (λ p. joined_files p d.files) m.older.files ∙ ap (joined_files (files_of h)) m.newer.files ∙ sym (files_of-append h k)) (joined c.files d.files m.older_suits m.newer_suits)
       where
@@ -201,7 +203,7 @@ merge_refused q c d h k m is sound = go (follows c.files d.files) (merged_region
 
     by_append : Merges Append c d h k → AreRefused Append c d → Suits Append (files_of (h ++ k)) → ⊥
     by_append m ref u =
-        let f = regions_refused Append c d h k (parts Append c d h k m ((m.older.stands Append m.older_suits).append refl) ((m.newer.stands Append m.newer_suits).append refl) (append_apart 0 (h ++ k) (both_files Append c d h k m in_order))) ref in
+        let f = regions_refused Append c d h k (parts Append c d h k m ((m.older.stands Append m.older_suits).append refl) ((m.newer.stands Append m.newer_suits).append refl) (append_apart 0 (h ++ k) (both_files Append c d h k m (in_order Append c d h k m sound)))) ref in
         at f.0 f.1 (sound_queue Append sound.queue (h ++ k) sound.sound.files u)
       where
         at : (r : ℕ) → after Append r None (steps_of r (batches (h ++ k))) ≡ None → ((h ++ k) ≡ []) ⊎ (sound.queue ≡ Append) → ⊥
@@ -212,9 +214,15 @@ merge_refused q c d h k m is sound = go (follows c.files d.files) (merged_region
     by_queue Append m ref u = by_append m ref u
     by_queue Rewrite m ref u = rewrite_refused c d ref
 
+pub files_unsound : (q : LogQueue) (c d : Context) (h k : List Event) → Merges q c d h k → follows c.files d.files ≡ false → Sound (h ++ k) → ⊥
+files_unsound q c d h k m f sound = false≢true (sym f ∙ in_order q c d h k m sound)
+
+pub merge_refused : (q : LogQueue) (c d : Context) (h k : List Event) → Merges q c d h k → merged q c d ≡ None → Sound (h ++ k) → ⊥
+merge_refused q c d h k m is sound = go (follows c.files d.files) (merged_regions q c d) refl refl is
+  where
     go : (b : Bool) (o : Option MarkedRegions) → follows c.files d.files ≡ b → merged_regions q c d ≡ o → cond b (option_map (merged_with c d) o) None ≡ None → ⊥
-    go false o f r is = false≢true (sym f ∙ in_order)
-    go true None f r is = by_queue q m (merged_refused q c d r) suits
+    go false o f r is = files_unsound q c d h k m f sound
+    go true None f r is = regions_unsound q c d h k m (merged_refused q c d r) sound
     go true (Some rs) f r is = cc
 
 -- in the rewrite queue files alone refuse a merge

@@ -3,10 +3,12 @@ pub mod ContextLaws
 pub mod CutLemmas
 pub mod DifferLemmas
 pub mod EffectLemmas
+pub mod IncompleteLemmas
 pub mod JoinLemmas
 pub mod JoinedLemmas
 pub mod KeptLaws
 pub mod KnownLemmas
+pub mod LastWords
 pub mod MapLemmas
 pub mod MarkerLemmas
 pub mod MergeLaws

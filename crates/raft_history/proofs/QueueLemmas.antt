@@ -13,7 +13,7 @@ use Rattle.raft_history.specs.Contexts.{completed_steps, region_steps_or}
 use Rattle.raft_history.specs.Effects.{group_in}
 use Rattle.raft_history.specs.Histories.{IsInFile, AreInFile, AreInFiles, FilesFrom, IsPutIn, IsPairIn, IsStepOfQueue}
 use Rattle.raft_history.specs.MarkedRegions.{named_regions, on_each, region_steps_of_whole, region_steps_of_wholes}
-use Rattle.raft_history.specs.RegionSteps.{RegionStep, is_reserved, put_step, pair_step, step_of, with_step, steps_of_items}
+use Rattle.raft_history.specs.RegionSteps.{RegionStep, put_step, pair_step, step_of, with_step, steps_of_items}
 use Rattle.raft_history.specs.WaitingGroup.{Placed, placed_from, markers_of, open_stretch, region_steps_of, GroupFront, Open, Ended, Cut, led_by, front_by, front_behind, front_of, OpenStretch, stretch_of, WaitingGroup, group_at, WholeGroup, whole_of, whole_group_by, whole_group, one_marker}
 use Rattle.raft_history.specs.WaitingGroups.{WaitingGroups, groups_in, known, whole_with, whole_groups, front_steps, stretch_steps}
 use Rattle.raft_history.proofs.EffectLemmas.{each-append, each_left, each_markers, each_open, each_weaker}
@@ -21,6 +21,7 @@ use Rattle.raft_history.proofs.KnownLemmas.{known-groups_in, each_known}
 use Rattle.raft_records.specs.declared.command.Command.TheVariants as commands
 use Rattle.raft_records.specs.declared.key_value.OpType.{OpType}
 use Rattle.raft_records.specs.declared.key_value.OpType.TheVariants as operations
+use Rattle.raft_records.specs.Group.{is_reserved}
 use Rattle.raft_records.specs.Item.{Item, Content, entries, command, pair}
 use Rattle.raft_table.proofs.MarkEntries.{same_some}
 

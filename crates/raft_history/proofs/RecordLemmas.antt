@@ -23,20 +23,20 @@ use Rattle.raft_table.specs.KeyValues.{Keys, Stored, Pair, with_pairs, overlaid}
 use Rattle.raft_table.specs.Marks.{Mark, part, older_entries, entries_over, keys_over, atomic_group_over, table_over, is_meeting_refused, is_missed, is_there_over, applied, joined, mark_of}
 use Rattle.raft_table.specs.Start.{replayed, leaves_hole}
 use Rattle.raft_table.specs.Steps.{Step, Run, Compact, Put, Del, AtomicGroup, Clean, stepped, is_there_after, there_if, after_step, table_of}
-use Rattle.raft_table.specs.Table.{Table, empty_table, with_entries}
+use Rattle.raft_table.specs.Table.{Table, empty_table, table_with_entries}
 use Rattle.raft_records.specs.declared.atomic_group.AtomicGroupStatus.{AtomicGroupStatus}
 use Rattle.raft_records.specs.declared.atomic_group.AtomicGroupStatus.TheVariants.{Begin, Middle, End}
 use Rattle.raft_history.specs.Batches.{GroupMarker, Event, batch_of}
-use Rattle.raft_history.specs.Contexts.{Context, merged_regions, merged_with, merged, completed_steps, region_steps_or, taken_with, taken_in, IsBounded}
+use Rattle.raft_history.specs.Contexts.{Context, merged_regions, merged_with, merged, completed_steps, region_steps_or, taken_with, taken_in, IsBounded, AreMerged}
 use Rattle.raft_history.specs.Histories.{records_of, records_in, size_of}
-use Rattle.raft_history.specs.MarkedRegions.{MarkedRegions, MarkedRegion, region_in, with_region, stepped_region, regions_after, named_regions, on_each, region_steps_of_whole, region_steps_of_wholes, joined_region, joined_each, joined_regions}
+use Rattle.raft_history.specs.MarkedRegions.{MarkedRegions, MarkedRegion, region_in, with_region, stepped_region, regions_after, named_regions, on_each, region_steps_of_whole, region_steps_of_wholes, joined_region, joined_each, joined_regions, Marks, joined_marked}
 use Rattle.raft_history.specs.Records.{total, records_or, records_in_wholes, waiting_records, table_records, all_records}
 use Rattle.raft_history.specs.RegionSteps.{RegionStep, Tables, with_table, steps_of_items}
 use Rattle.raft_history.specs.WaitingGroup.{joined_group, WaitingGroup, WholeGroup, whole_group, one_marker}
 use Rattle.raft_history.specs.WaitingGroups.{WaitingGroups, known, groups_after, whole_groups, held_steps}
 use Rattle.raft_history.proofs.KnownLemmas.{tied, keys_distinct}
 use Rattle.raft_history.proofs.MapLemmas.{get_left}
-use Rattle.raft_history.proofs.TotalLemmas.{found, total-insert, total-remove}
+use Rattle.raft_history.proofs.TotalLemmas.{found, total-insert, total-remove, total-both}
 use Rattle.raft_history.proofs.WaitingLemmas.{records-append, joined_weight, waiting_known, merged_waiting}
 
 some_is : {X : Type 0} {x y : X} → Some x ≡ Some y → x ≡ y
@@ -119,9 +119,9 @@ from_shorter : (i : ℕ) (es : List EntryIndex) → length (from i es) ≤ lengt
 unfolding from
 from_shorter i es = filtered (λ e. nat_le i e.index) es
 
-part_shorter : (lo : ℕ) (cut : Option ℕ) (es : List EntryIndex) → length (part lo cut es) ≤ length es
+part_shorter : (floor : ℕ) (cut : Option ℕ) (es : List EntryIndex) → length (part floor cut es) ≤ length es
 unfolding part
-part_shorter lo cut es = filtered _ es
+part_shorter floor cut es = filtered _ es
 
 run_records : (q : LogQueue) (es run after : List EntryIndex) → replayed q es run ≡ Some after → length after ≤ length es + length run
 run_records q es [] after e = omega (arith, ap length (some_is e))
@@ -147,7 +147,7 @@ step_records q r o w s e = there_records (is_there_after s) (stepped q (table_of
     by : (s : Step) (x : Table) → stepped q (table_of r o) s ≡ Some x → table_records x ≤ recs o + records_of s
     by (Run run) x e = go (replayed q (table_of r o).entries run) refl e
       where
-        go : (y : Option (List EntryIndex)) → replayed q (table_of r o).entries run ≡ y → option_map (with_entries (table_of r o)) y ≡ Some x → table_records x ≤ recs o + length run
+        go : (y : Option (List EntryIndex)) → replayed q (table_of r o).entries run ≡ y → option_map (table_with_entries (table_of r o)) y ≡ Some x → table_records x ≤ recs o + length run
         go None p e = absurd cc
         go (Some a) p e = omega (arith, ap table_records (some_is e), run_records q (table_of r o).entries run a p, of_table r o)
     by (Compact i) x e = omega (arith, ap table_records (some_is e), from_shorter i (table_of r o).entries, of_table r o)
@@ -157,12 +157,12 @@ step_records q r o w s e = there_records (is_there_after s) (stepped q (table_of
     by Clean x e = omega (arith, ap table_records (some_is e), empty_records (table_of r o).region_id)
 
 older_shorter : (q : LogQueue) (m : Mark) (es : List EntryIndex) → length (older_entries q m es) ≤ length es
-older_shorter Append m es = part_shorter m.lo m.cut es
+older_shorter Append m es = part_shorter m.floor m.cut es
 older_shorter Rewrite m es = go (is_missed m es)
   where
-    go : (b : Bool) → length (cond b [] (part m.lo m.cut es)) ≤ length es
+    go : (b : Bool) → length (cond b [] (part m.floor m.cut es)) ≤ length es
     go true = omega arith
-    go false = part_shorter m.lo m.cut es
+    go false = part_shorter m.floor m.cut es
 
 over_records : (q : LogQueue) (m : Mark) (t o x : Table) → table_over q m t o ≡ Some x → table_records x ≤ table_records o + table_records t
 over_records q m t o x e = go (is_meeting_refused q m o.entries) m.cleaned refl e
@@ -193,28 +193,17 @@ read_records q rs new (i ∷ is) e = go (after_step q i.region (finite.get rs.ta
     go None k e ih = absurd cc
     go (Some t) k e ih = omega (arith, ih (put t) e, with_records rs.tables i.region t, step_records q i.region (finite.get rs.tables i.region) t i.step k)
 
-abbrev Agrees : Tables → Tables → List (ℕ × Mark) → Type 0
-Agrees left newer es = AllByRecursion (λ (e : ℕ × Mark). finite.get left e.0 ≡ finite.get newer e.0) es
-
-agrees_on : (left newer : Tables) (k : ℕ) (es : List (ℕ × Mark)) → AllByRecursion (λ y. eqb k y ≡ false) (map (λ (e : ℕ × Mark). e.0) es) → Agrees left newer es → Agrees (finite.remove left k) newer es
-agrees_on left newer k [] d h = tt
-agrees_on left newer k (e ∷ es) d h = (get_left left k e.0 (tied e.0 k ∙ flip e.0 k d.0) ∙ h.0, agrees_on left newer k es d.1 h.1)
+-- two neighbours, joined region by region
+joined_records : (q : LogQueue) (mid : MarkedRegions) (marks : Marks) (tables : Tables) (new : MarkedRegions) → ((r : ℕ) → joined_marked q r (finite.get marks r) (finite.get tables r) (region_in mid r) ≡ Some (region_in new r)) → all_records new.tables ≤ all_records mid.tables + all_records tables
+joined_records q mid marks tables new h = total-both table_records new.tables mid.tables tables (λ r. at r (finite.get marks r) (h r))
   where
-    flip : (a b : ℕ) → eqb b a ≡ false → eqb a b ≡ false
-    flip a b e = grind (arith, nat_tests)
-
-each_records : (q : LogQueue) (newer left : Tables) (rs new : MarkedRegions) (es : List (ℕ × Mark)) → IsDistinct eqb (map (λ (e : ℕ × Mark). e.0) es) → Agrees left newer es → joined_each q newer rs es ≡ Some new → all_records new.tables ≤ all_records rs.tables + all_records left
-unfolding IsDistinct
-each_records q newer left rs new [] one h e = omega (arith, ap (λ (n : MarkedRegions). all_records n.tables) (some_is e))
-each_records q newer left rs new (x ∷ es) one h e = go (applied q x.0 x.1 (finite.get newer x.0) (finite.get rs.tables x.0)) refl e (λ y e. each_records q newer (finite.remove left x.0) (with_region rs x.0 y) new es one.1 (agrees_on left newer x.0 es one.0 h.1) e)
-  where
-    put : Option Table → MarkedRegion
-    put t = record { mark = joined q x.0 (region_in rs x.0).mark (region_in rs x.0).table x.1; table = t }
-
-    go : (o : Option (Option Table)) → applied q x.0 x.1 (finite.get newer x.0) (finite.get rs.tables x.0) ≡ o → option_and_then (λ y. joined_each q newer (with_region rs x.0 y) es) (option_map put o) ≡ Some new
-        → ((y : MarkedRegion) → joined_each q newer (with_region rs x.0 y) es ≡ Some new → all_records new.tables ≤ all_records (with_table rs.tables x.0 y.table) + all_records (finite.remove left x.0)) → all_records new.tables ≤ all_records rs.tables + all_records left
-    go None k e ih = absurd cc
-    go (Some t) k e ih = omega (arith, ih (put t) e, with_records rs.tables x.0 t, join_records q x.0 x.1 (finite.get newer x.0) (finite.get rs.tables x.0) t k, total-remove table_records left x.0, ap recs h.0)
+    at : (r : ℕ) (o : Option Mark) → joined_marked q r o (finite.get tables r) (region_in mid r) ≡ Some (region_in new r) → recs (finite.get new.tables r) ≤ recs (finite.get mid.tables r) + recs (finite.get tables r)
+    at r None e = omega (arith, ap (λ (x : MarkedRegion). recs x.table) (some_is e))
+    at r (Some m) e = go (applied q r m (finite.get tables r) (finite.get mid.tables r)) refl e
+      where
+        go : (o : Option (Option Table)) → applied q r m (finite.get tables r) (finite.get mid.tables r) ≡ o → option_map {U = MarkedRegion} (λ t. record { mark = joined q r (region_in mid r).mark (finite.get mid.tables r) m; table = t }) o ≡ Some (region_in new r) → recs (finite.get new.tables r) ≤ recs (finite.get mid.tables r) + recs (finite.get tables r)
+        go None k e = absurd cc
+        go (Some w) k e = omega (arith, join_records q r m (finite.get tables r) (finite.get mid.tables r) w k, ap (λ (x : MarkedRegion). recs x.table) (some_is e))
 
 spans-records : (rs : List ℕ) (start end : ℕ) → records_in (on_each rs (AtomicGroup start end)) ≡ 0
 spans-records [] s e = refl
@@ -229,24 +218,16 @@ wholes-records (w ∷ ws) = omega (arith, records-append (region_steps_of_whole 
 
 -- ---- contexts
 
-agrees_all : (m : Tables) (es : List (ℕ × Mark)) → Agrees m m es
-agrees_all m [] = tt
-agrees_all m (e ∷ es) = (refl, agrees_all m es)
-
-pub merged_bounded : (q : LogQueue) (c d : Context) (rs : MarkedRegions) (n m : ℕ) → IsBounded c n → IsBounded d m → merged_regions q c d ≡ Some rs → IsBounded (merged_with c d rs) (n + m)
-merged_bounded q c d rs n m a b e = go (regions_after q c.regions (region_steps_of_wholes (whole_groups c.groups d.groups))) refl e
-  where
-    go : (o : Option MarkedRegions) → regions_after q c.regions (region_steps_of_wholes (whole_groups c.groups d.groups)) ≡ o → option_and_then (λ middle. joined_regions q middle d.regions) o ≡ Some rs → IsBounded (merged_with c d rs) (n + m)
-    go None k e = absurd cc
-    go (Some mid) k e = omega (
-      arith,
-      a,
-      b,
-      read_records q c.regions mid (region_steps_of_wholes (whole_groups c.groups d.groups)) k,
-      wholes-records (whole_groups c.groups d.groups),
-      merged_waiting c.groups d.groups,
-      each_records q d.regions.tables d.regions.tables mid rs (finite.entries d.regions.marks) (keys_distinct (finite.entries d.regions.marks) (finite.entries_sorted d.regions.marks)) (agrees_all d.regions.tables (finite.entries d.regions.marks)) e,
-    )
+pub merged_bounded : (q : LogQueue) (c d : Context) (rs : MarkedRegions) (n m : ℕ) → IsBounded c n → IsBounded d m → AreMerged q c d rs → IsBounded (merged_with c d rs) (n + m)
+merged_bounded q c d rs n m a b is = omega (
+  arith,
+  a,
+  b,
+  read_records q c.regions is.middle (region_steps_of_wholes (whole_groups c.groups d.groups)) is.wholes,
+  wholes-records (whole_groups c.groups d.groups),
+  merged_waiting c.groups d.groups,
+  joined_records q is.middle d.regions.marks d.regions.tables rs is.regions,
+)
 
 one_weight : (s : AtomicGroupStatus) (is : List RegionStep) (f : ℕ) → records_in (held_steps (one_marker s is f)) ≡ records_in is
 one_weight Begin is f = refl

@@ -11,6 +11,7 @@ use Rattle.raft_records.specs.declared.atomic_group.AtomicGroupStatus.TheVariant
 use Rattle.raft_records.specs.declared.command.Command.TheVariants as commands
 use Rattle.raft_records.specs.declared.key_value.OpType.{OpType}
 use Rattle.raft_records.specs.declared.key_value.OpType.TheVariants as operations
+use Rattle.raft_records.specs.Group.{is_reserved}
 use Rattle.raft_records.specs.Item.{Item, Content, entries, command, pair}
 use Rattle.raft_table.specs.Steps.{Step, Run, Compact, Put, Del, AtomicGroup, Clean, IsStep, AreSteps}
 use Rattle.raft_table.proofs.MarkEntries.{same_some}
@@ -18,7 +19,7 @@ use Rattle.raft_history.specs.Batches.{Event, GroupMarker, Batch, marker_in, bat
 use Rattle.raft_history.specs.Contexts.{FileRange, files_of, joined_files, follows}
 use Rattle.raft_history.specs.Effects.{Effect, ended, completed_as, completed_by, completed, effects_behind, effects, whole_steps, steps_by, steps_in, all_steps, steps_of, BatchesApart}
 use Rattle.raft_history.specs.Histories.{IsInFile, AreInFile, AreInFiles, AllHaveStatus, FilesFrom, last_from, cleaned_in_batch, cleaned_in}
-use Rattle.raft_history.specs.RegionSteps.{RegionStep, is_on, names, steps_on, is_reserved, put_step, pair_step, step_of, with_step, steps_of_items}
+use Rattle.raft_history.specs.RegionSteps.{RegionStep, is_on, names, steps_on, put_step, pair_step, step_of, with_step, steps_of_items}
 use Rattle.raft_history.specs.WaitingGroup.{Placed, placed_from, markers_of, open_stretch, region_steps_of}
 use Rattle.raft_history.proofs.EffectLemmas.{each-append, each_left, each_right, each_markers, each_open, all_steps-append}
 use Rattle.raft_history.proofs.StepListLemmas.{steps-append}

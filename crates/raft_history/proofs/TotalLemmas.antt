@@ -82,3 +82,28 @@ module _ {X Y : Type 0} (f : X → ℕ) (g : Y → ℕ) where
   pub total-at_most : (m : finite.FinMap nat_cmp X) (n : finite.FinMap nat_cmp Y) → ((r : ℕ) → IsMet (finite.get m r) (finite.get n r)) → total f m ≤ total g n
   unfolding total
   total-at_most m n h = at-most (finite.entries m) (finite.entries_sorted m) n (λ r x k. h r x (finite.get-entries m r ∙ k))
+
+-- where each value of a map is no more than those of two others together, so are all
+module _ {X : Type 0} (f : X → ℕ) where
+  of-both : (es : List (ℕ × X)) → T (is_sorted nat_cmp es) → (a b : finite.FinMap nat_cmp X) → ((r : ℕ) → found f (find nat_cmp r es) ≤ found f (finite.get a r) + found f (finite.get b r)) → total_of f es ≤ total f a + total f b
+  of-both [] s a b h = omega arith
+  of-both (e ∷ es) s a b h =
+      omega (
+        arith,
+        h e.0,
+        ap (λ t. found f (cond t (Some e.1) (find nat_cmp e.0 es))) (tied e.0 e.0 ∙ eqb_self e.0),
+        total-remove f a e.0,
+        total-remove f b e.0,
+        of-both es (second_of_both _ _ s) (finite.remove a e.0) (finite.remove b e.0) (λ r. rest r (by_region r e.0)),
+      )
+    where
+      rest : (r : ℕ) → (r ≡ e.0) ⊎ IsOther r e.0 → found f (find nat_cmp r es) ≤ found f (finite.get (finite.remove a e.0) r) + found f (finite.get (finite.remove b e.0) r)
+      rest r (inl p) = omega (arith, ap (found f) (ap (λ r. find nat_cmp r es) p ∙ find-below nat_cmp_total e.0 es (first_of_both _ _ s)))
+      rest r (inr o) = omega (arith, h r, ap (λ t. found f (cond t (Some e.1) (find nat_cmp r es))) o.1, ap (found f) (get_left a e.0 r o.1), ap (found f) (get_left b e.0 r o.1))
+
+  total-is : (m : finite.FinMap nat_cmp X) → total f m ≡ total_of f (finite.entries m)
+  unfolding total
+  total-is m = refl
+
+  pub total-both : (m a b : finite.FinMap nat_cmp X) → ((r : ℕ) → found f (finite.get m r) ≤ found f (finite.get a r) + found f (finite.get b r)) → total f m ≤ total f a + total f b
+  total-both m a b h = omega (arith, total-is m, of-both (finite.entries m) (finite.entries_sorted m) a b (λ r. omega (arith, h r, ap (found f) (finite.get-entries m r))))

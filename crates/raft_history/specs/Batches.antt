@@ -1,14 +1,13 @@
 -- Batches that were written to files, and the group markers in them.
-use Rattle.std.specs.Prelude.{ℕ, List, [], ◌∷◌, map, Option, Some, None, if◌then◌else◌, eqb}
+use Rattle.std.specs.Prelude.{ℕ, List, map, Option, Some, None}
+use Rattle.std.specs.Option.{option_map}
 use Rattle.raft_base.specs.declared.pipe_log.FileId.{FileId}
 use Rattle.raft_base.specs.declared.pipe_log.LogQueue.{LogQueue}
 use Rattle.raft_base.specs.declared.pipe_log.LogQueue.TheVariants.{Append, Rewrite}
 use Rattle.raft_records.specs.declared.atomic_group.AtomicGroupStatus.{AtomicGroupStatus}
-use Rattle.raft_records.specs.declared.atomic_group.AtomicGroupStatus.TheVariants.{Begin, Middle, End}
-use Rattle.raft_records.specs.declared.key_value.OpType.{OpType}
-use Rattle.raft_records.specs.declared.key_value.OpType.TheVariants as operations
-use Rattle.raft_records.specs.Item.{Item, Content, entries, command, pair}
-use Rattle.raft_history.specs.RegionSteps.{RegionStep, steps_of_items, is_reserved}
+use Rattle.raft_records.specs.Group.{first_marker}
+use Rattle.raft_records.specs.Item.{Item}
+use Rattle.raft_history.specs.RegionSteps.{RegionStep, steps_of_items}
 
 -- a batch of items that was written to a file
 pub record Event : Type 0 where
@@ -17,50 +16,15 @@ pub record Event : Type 0 where
 
 -- ---- group markers
 
--- a marker of a group
+-- the group and the status of a marker
 pub record GroupMarker : Type 0 where
   pub group : ℕ
   pub status : AtomicGroupStatus
 
--- the status that a byte stands for
-abbrev pub status_of_byte : ℕ → Option AtomicGroupStatus
-status_of_byte byte = if eqb byte 0 then Some Begin else (if eqb byte 1 then Some Middle else (if eqb byte 2 then Some End else None))
-
--- the status that a marker's value stands for: it is one byte
-abbrev pub status_of_value : Option (List ℕ) → Option AtomicGroupStatus
-status_of_value (Some (byte ∷ [])) = status_of_byte byte
-status_of_value _ = None
-
--- a marker of the group, if there is a status
-abbrev pub marker_with : ℕ → Option AtomicGroupStatus → Option GroupMarker
-marker_with group None = None
-marker_with group (Some status) = Some (record { group = group; status = status })
-
--- the marker that a change of a key is: a put of the reserved key
-abbrev pub marker_of_pair : ℕ → OpType → List ℕ → Option (List ℕ) → Option GroupMarker
-marker_of_pair group operations.Put key value = if is_reserved key then marker_with group (status_of_value value) else None
-marker_of_pair group operations.Del key value = None
-
--- the marker that a content is, the group's id in the place of a region's
-abbrev pub marker_of_content : ℕ → Content → Option GroupMarker
-marker_of_content group (pair p) = marker_of_pair group p.op_type p.key p.value
-marker_of_content group (entries es) = None
-marker_of_content group (command c) = None
-
--- the first of two markers that is there
-abbrev pub earlier_marker : Option GroupMarker → Option GroupMarker → Option GroupMarker
-earlier_marker None later = later
-earlier_marker (Some m) later = Some m
-
--- the first marker among items: it decides
-abbrev pub first_marker : List Item → Option GroupMarker
-first_marker [] = None
-first_marker (item ∷ items) = earlier_marker (marker_of_content item.raft_group_id item.content) (first_marker items)
-
--- the marker of a batch; the append queue ignores markers
+-- the marker of a batch: its first one decides; the append queue ignores markers
 abbrev pub marker_in : LogQueue → List Item → Option GroupMarker
 marker_in Append items = None
-marker_in Rewrite items = first_marker items
+marker_in Rewrite items = option_map (λ m. record { group = m.0; status = m.1 }) (first_marker items)
 
 -- ---- what is read of a batch
 

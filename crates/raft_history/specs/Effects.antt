@@ -1,12 +1,12 @@
 -- The effects of a history of the rewrite queue, their steps on a region, and when they stand apart.
-use Rattle.std.specs.Prelude.{◌≡◌, ◌⊎◌, ℕ, ◌≤◌, Bool, true, cond, eqb, List, [], ◌∷◌, ◌++◌, map, filter, flat_map, filter_map, Option, Some, None}
+use Rattle.std.specs.Prelude.{◌≡◌, ◌⊎◌, ℕ, ◌≤◌, Bool, true, false, not, cond, eqb, List, [], ◌∷◌, ◌++◌, map, filter, flat_map, filter_map, Option, Some, None}
 use Rattle.std.specs.List.{AllByRecursion, list_any}
 use Rattle.raft_table.specs.Steps.{Step, AtomicGroup}
 use Rattle.raft_records.specs.declared.atomic_group.AtomicGroupStatus.{AtomicGroupStatus}
 use Rattle.raft_records.specs.declared.atomic_group.AtomicGroupStatus.TheVariants.{Begin, Middle, End}
 use Rattle.raft_history.specs.Batches.{GroupMarker, Batch}
 use Rattle.raft_history.specs.RegionSteps.{RegionStep, names, steps_on}
-use Rattle.raft_history.specs.WaitingGroup.{Placed, placed_from, markers_of, open_stretch, region_steps_of, WaitingGroup, group_of, WholeGroup, whole_group}
+use Rattle.raft_history.specs.WaitingGroup.{Placed, placed_from, is_of, markers_of, open_stretch, region_steps_of, WaitingGroup, group_of, WholeGroup, whole_group}
 
 -- The batches of one effect: the last, and those before it. An unmarked batch has none before it, a group's End has its Begin and Middles.
 pub record Effect : Type 0 where
@@ -116,3 +116,13 @@ IsListed ids (Some m) = list_any (λ g. eqb g m.group) ids ≡ true
 
 abbrev pub ListsGroups : List ℕ → List Batch → Type 0
 ListsGroups ids h = AllByRecursion (λ b. IsListed ids b.marker) h
+
+-- ---- groups that are not whole
+
+-- no effect of the history ends with a marker of the group
+abbrev pub EndsNoEffect : ℕ → List Batch → Type 0
+EndsNoEffect g h = AllByRecursion (λ (e : Effect). is_of g e.last.batch.marker ≡ false) (effects h)
+
+-- the history without the batches of the group
+unfoldable pub without_group : ℕ → List Batch → List Batch
+without_group g h = filter (λ b. not (is_of g b.marker)) h

@@ -9,14 +9,14 @@ use Rattle.raft_base.specs.declared.pipe_log.LogQueue.TheVariants.{Append, Rewri
 use Rattle.raft_records.specs.declared.entry_index.EntryIndex.{EntryIndex}
 use Rattle.raft_records.specs.declared.key_value.OpType.{OpType}
 use Rattle.raft_records.specs.declared.key_value.OpType.TheVariants as operations
-use Rattle.raft_records.specs.Group.{IsGroupMarkerContent}
+use Rattle.raft_records.specs.Group.{is_reserved, IsGroupMarkerContent}
 use Rattle.raft_records.specs.Item.{Item, Content, entries, command, pair}
 use Rattle.raft_table.specs.Entries.{IsRunIn}
 use Rattle.raft_table.specs.Steps.{Step, Run, Put, Del, after}
 use Rattle.raft_table.specs.Table.{Table}
 use Rattle.raft_history.specs.Batches.{Event, batches}
 use Rattle.raft_history.specs.Effects.{steps_of, BatchesApart}
-use Rattle.raft_history.specs.RegionSteps.{RegionStep, Tables, steps_of_items, is_reserved, cleaned_by_steps}
+use Rattle.raft_history.specs.RegionSteps.{RegionStep, Tables, steps_of_items, cleaned_by_steps}
 
 -- ---- how many records a history names
 

@@ -1,6 +1,6 @@
 //! Laws of contexts, which hold what was read of a stretch of a history.
 
-ghost use Rattle.std.specs.Prelude.{◌≡◌, ◌+◌, ◌≤◌, ℕ, List, [], ◌∷◌, ◌++◌, Some, None, true};
+ghost use Rattle.std.specs.Prelude.{◌≡◌, ◌+◌, ◌≤◌, ℕ, List, [], ◌∷◌, ◌++◌, Some, None, true, false};
 ghost use Rattle.std.specs.FinMap as finite;
 ghost use Rattle.std.specs.List.{AllByRecursion};
 ghost use Rattle.raft_base.specs.declared.pipe_log.LogQueue.{LogQueue};
@@ -10,8 +10,8 @@ ghost use Rattle.raft_history.specs.Batches.{Event, batches};
 ghost use Rattle.raft_history.specs.Histories.{Sound, Apart, AreInFile, AreInFiles, HaveStatus, FilesFrom, IsStepOfQueue, IsOneReading};
 ghost use Rattle.raft_history.specs.WaitingGroups.{WaitingGroups, groups_in, joined_groups, whole_groups};
 ghost use Rattle.raft_history.specs.Records.{waiting_records, records_in_wholes};
-ghost use Rattle.raft_history.specs.MarkedRegions.{region_steps_of_wholes};
-ghost use Rattle.raft_history.specs.Contexts.{Context, StandsFor, IsExactFor, Suits, files_of, follows, new_context, merged, taken_in};
+ghost use Rattle.raft_history.specs.MarkedRegions.{MarkedRegions, region_steps_of_wholes};
+ghost use Rattle.raft_history.specs.Contexts.{Context, StandsFor, IsExactFor, Suits, files_of, follows, new_context, merged, taken_in, merged_with, AreMerged, AreRefused};
 ghost use Rattle.raft_history.specs.Kept.{kept_of, kept_by, IsAtMost};
 
 /// A new context stands exactly for the empty history.
@@ -39,6 +39,18 @@ pub fn merges_stand_for_both()
     ensures exact { (q : LogQueue) (c d e : Context) (h k : List Event) → Suits q c.files → Suits q d.files → IsExactFor c h → IsExactFor d k → Apart (h ++ k) → merged q c d ≡ Some e → IsExactFor e (h ++ k) }
     ensures refused { (q : LogQueue) (c d : Context) (h k : List Event) → Suits q c.files → Suits q d.files → StandsFor c h → StandsFor d k → merged q c d ≡ None → Sound (h ++ k) → ⊥ }
     ensures rewrite { (c d : Context) → follows c.files d.files ≡ true → merged Rewrite c d ≡ None → ⊥ }
+{}
+
+/// The same, said of the merged regions one by one, in no order: they may be joined into the older
+/// context or the newer one.
+pub fn regions_merge_one_by_one()
+    ensures stands { (q : LogQueue) (c d : Context) (h k : List Event) (regions : MarkedRegions) → Suits q c.files → Suits q d.files → StandsFor c h → StandsFor d k
+        → follows c.files d.files ≡ true → AreMerged q c d regions → StandsFor (merged_with c d regions) (h ++ k) }
+    ensures exact { (q : LogQueue) (c d : Context) (h k : List Event) (regions : MarkedRegions) → Suits q c.files → Suits q d.files → IsExactFor c h → IsExactFor d k → Apart (h ++ k)
+        → follows c.files d.files ≡ true → AreMerged q c d regions → IsExactFor (merged_with c d regions) (h ++ k) }
+    ensures refused { (q : LogQueue) (c d : Context) (h k : List Event) → Suits q c.files → Suits q d.files → StandsFor c h → StandsFor d k → AreRefused q c d → Sound (h ++ k) → ⊥ }
+    ensures files { (q : LogQueue) (c d : Context) (h k : List Event) → Suits q c.files → Suits q d.files → StandsFor c h → StandsFor d k → follows c.files d.files ≡ false → Sound (h ++ k) → ⊥ }
+    ensures rewrite { (c d : Context) → AreRefused Rewrite c d → ⊥ }
 {}
 
 /// An exact context has what one reading of its history gives.

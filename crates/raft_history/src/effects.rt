@@ -5,7 +5,7 @@ ghost use Rattle.std.specs.List.{AllByRecursion, list_any};
 ghost use Rattle.raft_history.specs.RegionSteps.{names, steps_on};
 ghost use Rattle.raft_history.specs.WaitingGroup.{WholeGroup, whole_group};
 ghost use Rattle.raft_history.specs.Batches.{Batch};
-ghost use Rattle.raft_history.specs.Effects.{Effect, BatchesApart, effects, steps_of, steps_of_wholes, group_in, is_named};
+ghost use Rattle.raft_history.specs.Effects.{Effect, BatchesApart, effects, steps_of, steps_of_wholes, group_in, is_named, EndsNoEffect, without_group};
 ghost use Rattle.raft_history.specs.Stretches.{AreEffects};
 ghost use Rattle.raft_history.specs.WaitingGroups.{groups_in, joined_groups, whole_groups, groups_after, steps_by_batch, names_by_batch, known};
 
@@ -54,4 +54,9 @@ pub fn named_regions_have_steps()
     ensures across { (r : ℕ) (h k : List Batch) → BatchesApart (h ++ k)
         → is_named r (h ++ k) ≡ (is_named r h || (list_any (λ w. names r w.steps) (whole_groups (groups_in h) (groups_in k)) || is_named r k)) }
     ensures more { (r : ℕ) (h : List Batch) (b : Batch) → is_named r (h ++ b ∷ []) ≡ (is_named r h || names_by_batch r (groups_in h) b b.marker) }
+{}
+
+/// A group that is not whole changes nothing: without its batches every region has the same steps.
+pub fn incomplete_groups_change_nothing()
+    ensures { (g : ℕ) (h : List Batch) → EndsNoEffect g h → (r : ℕ) → steps_of r (without_group g h) ≡ steps_of r h }
 {}

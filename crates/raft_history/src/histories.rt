@@ -1,12 +1,15 @@
 //! Laws of histories.
 
-ghost use Rattle.std.specs.Prelude.{◌≡◌, ℕ, List, ◌++◌, Some, None};
+ghost use Rattle.std.specs.Prelude.{◌≡◌, ℕ, List, ◌++◌, Some, None, flat_map};
 ghost use Rattle.std.specs.FinMap as finite;
 ghost use Rattle.raft_base.specs.declared.pipe_log.LogQueue.{LogQueue};
-ghost use Rattle.raft_table.specs.Steps.{after};
-ghost use Rattle.raft_history.specs.RegionSteps.{RegionStep, Tables, steps_on, reading};
+ghost use Rattle.raft_base.specs.declared.pipe_log.LogQueue.TheVariants.{Append};
+ghost use Rattle.raft_table.specs.Entries.{entry_with_index};
+ghost use Rattle.raft_table.specs.LastWord.{last_entry, last_pair};
+ghost use Rattle.raft_table.specs.Steps.{after, table_of};
+ghost use Rattle.raft_history.specs.RegionSteps.{RegionStep, Tables, steps_on, steps_of_items, reading};
 ghost use Rattle.raft_history.specs.Batches.{Event};
-ghost use Rattle.raft_history.specs.Histories.{IsSmall, Sound, Apart, IsOfQueue};
+ghost use Rattle.raft_history.specs.Histories.{IsSmall, Sound, IsSoundIn, Apart, IsOfQueue, IsOneReading};
 
 /// What holds of two histories, one behind the other, holds of each: so it holds of every stretch of
 /// a history.
@@ -24,4 +27,15 @@ pub fn regions_are_read_apart()
         → (r : ℕ) → after queue r (finite.get before r) (steps_on r steps) ≡ Some (finite.get after_all r) }
     ensures refused { (queue : LogQueue) (before : Tables) (steps : List RegionStep) → reading queue before steps ≡ None
         → (r : ℕ) × (after queue r (finite.get before r) (steps_on r steps) ≡ None) }
+{}
+
+/// The last word, in one reading of a sound history of the append queue: the entry at an index of a
+/// region is that of the last step on it that speaks of the index, and the value and the file of a key
+/// are those of the last step that speaks of the key. The steps on a region are those of its items, in
+/// order.
+pub fn last_words_stand()
+    ensures entries { (h : List Event) (tables : Tables) (cleaned : List ℕ) → IsSoundIn Append h → IsOneReading Append h tables cleaned
+        → (r i : ℕ) → entry_with_index i (table_of r (finite.get tables r)).entries ≡ last_entry i (flat_map (λ e. steps_on r (steps_of_items e.items)) h) }
+    ensures keys { (h : List Event) (tables : Tables) (cleaned : List ℕ) → IsSoundIn Append h → IsOneReading Append h tables cleaned
+        → (r : ℕ) (key : List ℕ) → finite.get (table_of r (finite.get tables r)).keys key ≡ last_pair key (flat_map (λ e. steps_on r (steps_of_items e.items)) h) }
 {}

@@ -1,1 +1,14 @@
 pub mod ReplayMachine
+pub mod WaitingGroupsCode
+pub mod WaitingGroupsView
+pub mod WaitingItems
+pub mod WaitingItemsView
+pub mod WaitingShown
+pub mod Accessor
+pub mod AccessorCalls
+pub mod AccessorCode
+pub mod AccessorView
+pub mod ItemWrites
+pub mod RegionTablesView
+pub mod Updates
+pub mod Writes

@@ -1,10 +1,18 @@
 //! The tables of all regions, and the contexts that rebuild them from log files.
 #![tactic(auto)]
 
+pub mod accessor;
+pub mod item_writes;
+pub mod region_tables;
 pub mod replay_machine;
+pub mod waiting_group;
+pub mod waiting_groups;
+pub mod waiting_items;
 
+pub use accessor::{MemTableAccessor, slot_of};
 pub use raft_table::{
     EntryIndex, Error, FileBlockHandle, FileId, FileSeq, GlobalStats, LogQueue, MemTable, Result,
     TableChange, global_stats, is_run, memtable,
 };
+pub use region_tables::RegionTables;
 pub use replay_machine::ReplayMachine;

@@ -32,8 +32,8 @@ below_zero (e ∷ es) = rw (none e.index) (below_zero es)
     none : (i : ℕ) → ltb i 0 ≡ false
     none i = grind (arith, nat_tests)
 
-pub part-cut : (lo cut : ℕ) (es : List EntryIndex) → below cut (from lo es) ≡ part lo (Some cut) es
-part-cut lo cut es = ap (below cut) (sym (part-from lo es)) ∙ sym (part-below cut (part lo None es)) ∙ part-part 0 (Some cut) lo None es ∙ ap (λ l. part l (Some cut) es) (omega arith)
+pub part-cut : (floor cut : ℕ) (es : List EntryIndex) → below cut (from floor es) ≡ part floor (Some cut) es
+part-cut floor cut es = ap (below cut) (sym (part-from floor es)) ∙ sym (part-below cut (part floor None es)) ∙ part-part 0 (Some cut) floor None es ∙ ap (λ l. part l (Some cut) es) (omega arith)
 
 length-filter-le : {X : Type 0} (p : X → Bool) (xs : List X) → length (filter p xs) ≤ length xs
 length-filter-le p [] = omega arith
@@ -44,9 +44,9 @@ length-filter-le p (x ∷ xs) = go (p x) (length-filter-le p xs)
     go false h = omega arith
 
 -- a part has at most the entries of all
-pub part-fewer : (q : LogQueue) (lo : ℕ) (cut : Option ℕ) (es : List EntryIndex) → entry_count q (part lo cut es) ≤ entry_count q es
+pub part-fewer : (q : LogQueue) (floor : ℕ) (cut : Option ℕ) (es : List EntryIndex) → entry_count q (part floor cut es) ≤ entry_count q es
 unfolding part placed_in
-part-fewer q lo cut es = subst (λ n. n ≤ entry_count q es) (ap length (filter_comm _ (is_placed_in q) es)) (length-filter-le _ (filter (is_placed_in q) es))
+part-fewer q floor cut es = subst (λ n. n ≤ entry_count q es) (ap length (filter_comm _ (is_placed_in q) es)) (length-filter-le _ (filter (is_placed_in q) es))
 
 pub none-fewer : (q : LogQueue) (es : List EntryIndex) → entry_count q [] ≤ entry_count q es
 unfolding placed_in
@@ -70,9 +70,9 @@ unfolding end_of from
 end_none i es e = rw e refl
 
 -- a part, or nothing
-pub kept-fewer : (q : LogQueue) (gone : Bool) (lo : ℕ) (cut : Option ℕ) (es xs : List EntryIndex) → xs ≡ cond gone [] (part lo cut es) → entry_count q xs ≤ entry_count q es
-kept-fewer q true lo cut es xs e = subst (λ x. entry_count q x ≤ entry_count q es) (sym e) (none-fewer q es)
-kept-fewer q false lo cut es xs e = subst (λ x. entry_count q x ≤ entry_count q es) (sym e) (part-fewer q lo cut es)
+pub kept-fewer : (q : LogQueue) (gone : Bool) (floor : ℕ) (cut : Option ℕ) (es xs : List EntryIndex) → xs ≡ cond gone [] (part floor cut es) → entry_count q xs ≤ entry_count q es
+kept-fewer q true floor cut es xs e = subst (λ x. entry_count q x ≤ entry_count q es) (sym e) (none-fewer q es)
+kept-fewer q false floor cut es xs e = subst (λ x. entry_count q x ≤ entry_count q es) (sym e) (part-fewer q floor cut es)
 
 pub pair_count-empty : (q : LogQueue) (keys : Keys) → keys ≡ finite.empty → pair_count q keys ≡ 0
 pair_count-empty q keys e = rw (e, entries-empty) refl

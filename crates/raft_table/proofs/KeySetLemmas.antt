@@ -50,6 +50,15 @@ insert-swap s k j = same_set _ _ (λ q.
     ∙ or_swap (eq_by_cmp (slice_cmp nat_cmp) q j) (eq_by_cmp (slice_cmp nat_cmp) q k) (finset.contains s q)
     ∙ sym (contains-insert (finset.insert s j) k q ∙ ap (λ x. eq_by_cmp (slice_cmp nat_cmp) q k || x) (contains-insert s j q)))
 
+pub union-swap : (s t : KeySet) → finset.union s t ≡ finset.union t s
+union-swap s t = same_set _ _ (λ q. finset.contains-union nat_list_cmp_total s t q ∙ swap (finset.contains s q) (finset.contains t q) ∙ sym (finset.contains-union nat_list_cmp_total t s q))
+  where
+    swap : (a b : Bool) → (a || b) ≡ (b || a)
+    swap true true = refl
+    swap true false = refl
+    swap false true = refl
+    swap false false = refl
+
 pub set_of-insert_entry : (k : Vec ℕ Global) (es : List (Vec ℕ Global × Unit {0})) → set_of (insert_entry key_cmp es k tt) ≡ finset.insert (set_of es) k.items
 set_of-insert_entry k [] = refl
 set_of-insert_entry k (e ∷ es) = go (key_cmp k e.0) refl (set_of-insert_entry k es)

@@ -144,10 +144,10 @@ deleted_count m ss h = go m.cleaned refl
 pub exact_join : (x : ℕ) (m n : Mark) (t : List EntryIndex) (ss rs : List Step) → FitsMark m t → IsExactMark m ss → IsExactMark n rs → IsExactMark (joined_at Append x m n) (ss ++ rs)
 exact_join x m n t ss rs fits h k = by_cleaned m.cleaned refl
   where
-    live_parts : (j : Mark) → m.cleaned ≡ false → j.cleaned ≡ n.cleaned → j.lo ≡ max m.lo n.lo → j.cut ≡ least_of m.cut n.cut → j.deleted ≡ joined_deleted m n → IsExactMark j (ss ++ rs)
+    live_parts : (j : Mark) → m.cleaned ≡ false → j.cleaned ≡ n.cleaned → j.floor ≡ max m.floor n.floor → j.cut ≡ least_of m.cut n.cut → j.deleted ≡ joined_deleted m n → IsExactMark j (ss ++ rs)
     live_parts j e c l u d = record {
       holds = holds_join m n j ss rs h.holds k.holds (c ∙ sym (pick m.cleaned true n.cleaned e)) (d ∙ sym (pick m.cleaned m.deleted (joined_deleted m n) e));
-      greatest = λ z. l ∙ ap (max m.lo) (k.greatest (sym c ∙ z)) ∙ ap (λ y. max y (greatest_compaction rs)) (h.greatest e) ∙ sym (greatest-append ss rs);
+      greatest = λ z. l ∙ ap (max m.floor) (k.greatest (sym c ∙ z)) ∙ ap (λ y. max y (greatest_compaction rs)) (h.greatest e) ∙ sym (greatest-append ss rs);
       least = λ z. u ∙ ap (least_of m.cut) (k.least (sym c ∙ z)) ∙ ap (λ y. least_of y (least_start rs)) (h.least e) ∙ sym (least-append ss rs);
     }
       where
@@ -155,7 +155,7 @@ exact_join x m n t ss rs fits h k = by_cleaned m.cleaned refl
         pick true x y z = absurd (false≢true (sym z))
         pick false x y z = refl
 
-    by_run : (y z : Option ℕ) → m.cleaned ≡ false → m.cut ≡ z → FitsCut y z m.lo t → IsExactMark (joined_live y z Append x m n) (ss ++ rs)
+    by_run : (y z : Option ℕ) → m.cleaned ≡ false → m.cut ≡ z → FitsCut y z m.floor t → IsExactMark (joined_live y z Append x m n) (ss ++ rs)
     by_run None None e u f = live_parts _ e refl refl refl refl
     by_run None (Some c) e u f = absurd f
     by_run (Some r) None e u f = absurd f
@@ -186,7 +186,7 @@ joined_fresh q x m = go q m.cleaned m.reach m.cut refl refl refl
   where
     go : (q : LogQueue) (b : Bool) (y z : Option ℕ) → m.cleaned ≡ b → m.reach ≡ y → m.cut ≡ z → ◌≡◌ {A = Mark} (cond b m (joined_live y z q x m fresh)) m
     go q true y z e f g = refl
-    go q false None z e f g = λ i. record { cleaned = sym e i; reach = sym f i; lo0 = m.lo0; lo = omega_max m.lo i; cut = same_cut m.cut i; deleted = union_empty m.deleted i }
+    go q false None z e f g = λ i. record { cleaned = sym e i; reach = sym f i; reach_floor = m.reach_floor; floor = omega_max m.floor i; cut = same_cut m.cut i; deleted = union_empty m.deleted i }
     go q false (Some r) None e f g = refl
-    go Append false (Some r) (Some c) e f g = λ i. record { cleaned = sym e i; reach = m.reach; lo0 = m.lo0; lo = omega_max m.lo i; cut = sym g i; deleted = union_empty m.deleted i }
-    go Rewrite false (Some r) (Some c) e f g = λ i. record { cleaned = sym e i; reach = m.reach; lo0 = m.lo0; lo = omega_max m.lo i; cut = sym g i; deleted = union_empty m.deleted i }
+    go Append false (Some r) (Some c) e f g = λ i. record { cleaned = sym e i; reach = m.reach; reach_floor = m.reach_floor; floor = omega_max m.floor i; cut = sym g i; deleted = union_empty m.deleted i }
+    go Rewrite false (Some r) (Some c) e f g = λ i. record { cleaned = sym e i; reach = m.reach; reach_floor = m.reach_floor; floor = omega_max m.floor i; cut = sym g i; deleted = union_empty m.deleted i }

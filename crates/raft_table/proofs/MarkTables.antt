@@ -70,7 +70,7 @@ join_there false false t false o = refl
 pub joined_parts : (q : LogQueue) (x : ℕ) (m n : Mark) (t : List EntryIndex) → FitsMark m t → ((joined_at q x m n).cleaned ≡ cond m.cleaned true n.cleaned) × ((joined_at q x m n).deleted ≡ cond m.cleaned m.deleted (joined_deleted m n))
 joined_parts q x m n t fits = by_cleaned m.cleaned refl
   where
-    by_run : (y z : Option ℕ) → FitsCut y z m.lo t → ((joined_live y z q x m n).cleaned ≡ n.cleaned) × ((joined_live y z q x m n).deleted ≡ joined_deleted m n)
+    by_run : (y z : Option ℕ) → FitsCut y z m.floor t → ((joined_live y z q x m n).cleaned ≡ n.cleaned) × ((joined_live y z q x m n).deleted ≡ joined_deleted m n)
     by_run None None h = (refl, refl)
     by_run None (Some c) h = absurd h
     by_run (Some r) None h = absurd h
@@ -224,9 +224,9 @@ run_over Append e run o = rw (meets e.index o, part-below) refl
 run_over Rewrite e run o = rw (meets e.index o, part-below) (ap (λ x. Some x) (either_behind (leaves_hole (end_of o) e.index) (below e.index o) (e ∷ run)))
 
 -- a mark without a run, of a region that wasn't cleaned
-kept_over : (q : LogQueue) (lo : ℕ) (deleted : KeySet) (o : List EntryIndex) → entries_over q (record fresh { lo = lo; deleted = deleted }) [] o ≡ Some (from lo o)
-kept_over Append lo deleted o = ap (λ x. Some x) (append-nil (part lo None o) ∙ part-from lo o)
-kept_over Rewrite lo deleted o = ap (λ x. Some x) (append-nil (part lo None o) ∙ part-from lo o)
+kept_over : (q : LogQueue) (floor : ℕ) (deleted : KeySet) (o : List EntryIndex) → entries_over q (record fresh { floor = floor; deleted = deleted }) [] o ≡ Some (from floor o)
+kept_over Append floor deleted o = ap (λ x. Some x) (append-nil (part floor None o) ∙ part-from floor o)
+kept_over Rewrite floor deleted o = ap (λ x. Some x) (append-nil (part floor None o) ∙ part-from floor o)
 
 untouched : (q : LogQueue) (deleted : KeySet) (o : List EntryIndex) → entries_over q (record fresh { deleted = deleted }) [] o ≡ Some o
 untouched q deleted o = kept_over q 0 deleted o ∙ ap (λ x. Some x) (from_whole o)

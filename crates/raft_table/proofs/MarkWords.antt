@@ -31,25 +31,25 @@ filter-all : {X : Type 0} (p : X → Bool) → ((x : X) → p x ≡ true) → (x
 filter-all p every [] = refl
 filter-all p every (x ∷ xs) = rw (every x) (ap (λ l. x ∷ l) (filter-all p every xs))
 
-pub part-append : (lo : ℕ) (cut : Option ℕ) (xs ys : List EntryIndex) → part lo cut (xs ++ ys) ≡ part lo cut xs ++ part lo cut ys
+pub part-append : (floor : ℕ) (cut : Option ℕ) (xs ys : List EntryIndex) → part floor cut (xs ++ ys) ≡ part floor cut xs ++ part floor cut ys
 unfolding part
-part-append lo cut xs ys = filter-append (λ e. leb lo e.index && is_under cut e.index) xs ys
+part-append floor cut xs ys = filter-append (λ e. leb floor e.index && is_under cut e.index) xs ys
 
-pub part-nil : (lo : ℕ) (cut : Option ℕ) → part lo cut [] ≡ []
+pub part-nil : (floor : ℕ) (cut : Option ℕ) → part floor cut [] ≡ []
 unfolding part
-part-nil lo cut = refl
+part-nil floor cut = refl
 
-pub part-empty : (lo c : ℕ) (es : List EntryIndex) → c ≤ lo → part lo (Some c) es ≡ []
+pub part-empty : (floor c : ℕ) (es : List EntryIndex) → c ≤ floor → part floor (Some c) es ≡ []
 unfolding part
-part-empty lo c es h = filter-none _ (λ e. grind (arith, nat_tests)) es
+part-empty floor c es h = filter-none _ (λ e. grind (arith, nat_tests)) es
 
 pub part-whole : (es : List EntryIndex) → part 0 None es ≡ es
 unfolding part
 part-whole es = filter-all _ (λ e. grind (arith, nat_tests)) es
 
-pub part-from : (lo : ℕ) (es : List EntryIndex) → part lo None es ≡ from lo es
+pub part-from : (floor : ℕ) (es : List EntryIndex) → part floor None es ≡ from floor es
 unfolding part from
-part-from lo es = same_filter _ _ (λ e. and_true (leb lo e.index)) es
+part-from floor es = same_filter _ _ (λ e. and_true (leb floor e.index)) es
   where
     and_true : (b : Bool) → (b && true) ≡ b
     and_true true = refl
@@ -59,16 +59,16 @@ pub part-below : (i : ℕ) (es : List EntryIndex) → part 0 (Some i) es ≡ bel
 unfolding part below
 part-below i es = same_filter _ _ (λ e. grind (arith, nat_tests)) es
 
-both_parts : (l lo k : ℕ) (d cut : Option ℕ) → ((leb lo k && is_under cut k) && (leb l k && is_under d k)) ≡ (leb (max lo l) k && is_under (least_of cut d) k)
-both_parts l lo k d cut = grind (arith, nat_tests)
+both_parts : (l floor k : ℕ) (d cut : Option ℕ) → ((leb floor k && is_under cut k) && (leb l k && is_under d k)) ≡ (leb (max floor l) k && is_under (least_of cut d) k)
+both_parts l floor k d cut = grind (arith, nat_tests)
 
-pub part-part : (l : ℕ) (d : Option ℕ) (lo : ℕ) (cut : Option ℕ) (es : List EntryIndex) → part l d (part lo cut es) ≡ part (max lo l) (least_of cut d) es
+pub part-part : (l : ℕ) (d : Option ℕ) (floor : ℕ) (cut : Option ℕ) (es : List EntryIndex) → part l d (part floor cut es) ≡ part (max floor l) (least_of cut d) es
 unfolding part
-part-part l d lo cut es = filter-filter _ _ _ (λ e. both_parts l lo e.index d cut) es
+part-part l d floor cut es = filter-filter _ _ _ (λ e. both_parts l floor e.index d cut) es
 
 -- a part of what an older mark leaves
-pub part-both : (l : ℕ) (d : Option ℕ) (lo : ℕ) (cut : Option ℕ) (o t u : List EntryIndex) → part l d (part lo cut o ++ t) ++ u ≡ part (max lo l) (least_of cut d) o ++ (part l d t ++ u)
-part-both l d lo cut o t u = rw (part-append, part-part) (append_assoc (part (max lo l) (least_of cut d) o) (part l d t) u)
+pub part-both : (l : ℕ) (d : Option ℕ) (floor : ℕ) (cut : Option ℕ) (o t u : List EntryIndex) → part l d (part floor cut o ++ t) ++ u ≡ part (max floor l) (least_of cut d) o ++ (part l d t ++ u)
+part-both l d floor cut o t u = rw (part-append, part-part) (append_assoc (part (max floor l) (least_of cut d) o) (part l d t) u)
 
 pub end_of-nil : end_of [] ≡ 0
 unfolding end_of
@@ -88,13 +88,13 @@ unfolding end_of
 end_of-cond true e es = refl
 end_of-cond false e es = refl
 
-pub end_of-part : (lo c : ℕ) (es : List EntryIndex) → end_of (part lo (Some c) es) ≤ c
+pub end_of-part : (floor c : ℕ) (es : List EntryIndex) → end_of (part floor (Some c) es) ≤ c
 unfolding end_of part
-end_of-part lo c [] = omega arith
-end_of-part lo c (e ∷ es) = go (leb lo e.index && ltb e.index c) refl (end_of-part lo c es)
+end_of-part floor c [] = omega arith
+end_of-part floor c (e ∷ es) = go (leb floor e.index && ltb e.index c) refl (end_of-part floor c es)
   where
-    go : (b : Bool) → (leb lo e.index && ltb e.index c) ≡ b → end_of (filter (λ e. leb lo e.index && ltb e.index c) es) ≤ c → end_of (cond b (e ∷ filter (λ e. leb lo e.index && ltb e.index c) es) (filter (λ e. leb lo e.index && ltb e.index c) es)) ≤ c
-    go true is h = let k : e.index < c = ltb-true e.index c (and_parts (leb lo e.index) (ltb e.index c) is).1 in omega arith
+    go : (b : Bool) → (leb floor e.index && ltb e.index c) ≡ b → end_of (filter (λ e. leb floor e.index && ltb e.index c) es) ≤ c → end_of (cond b (e ∷ filter (λ e. leb floor e.index && ltb e.index c) es) (filter (λ e. leb floor e.index && ltb e.index c) es)) ≤ c
+    go true is h = let k : e.index < c = ltb-true e.index c (and_parts (leb floor e.index) (ltb e.index c) is).1 in omega arith
     go false is h = h
 
 pub end_of-from : (i : ℕ) (es : List EntryIndex) → end_of (from i es) ≡ cond (ltb i (end_of es)) (end_of es) 0
@@ -106,13 +106,13 @@ end_of-from i (e ∷ es) = end_of-cond (leb i e.index) e (from i es) ∙ one i e
     one i k n m h = grind (arith, nat_tests)
 
 -- older entries below a cut don't end behind own ones that reach it
-pub end_of-both : (lo c : ℕ) (t o : List EntryIndex) → (c ≤ lo) ⊎ (c < end_of t) → end_of (part lo (Some c) o ++ t) ≡ end_of t
-end_of-both lo c t o (inl h) = rw (part-empty lo c o h) refl
-end_of-both lo c t o (inr h) = omega (arith, end_of-append (part lo (Some c) o) t, end_of-part lo c o)
+pub end_of-both : (floor c : ℕ) (t o : List EntryIndex) → (c ≤ floor) ⊎ (c < end_of t) → end_of (part floor (Some c) o ++ t) ≡ end_of t
+end_of-both floor c t o (inl h) = rw (part-empty floor c o h) refl
+end_of-both floor c t o (inr h) = omega (arith, end_of-append (part floor (Some c) o) t, end_of-part floor c o)
 
 -- what a first run meets of what an older mark leaves: without a run of that mark the older entries, else its own
-pub met_first : (l lo : ℕ) (o : List EntryIndex) → end_of (from l (part lo None o ++ [])) ≡ end_of (from (max lo l) o)
-met_first l lo o = ap end_of (ap (from l) (append-nil (part lo None o)) ∙ sym (part-from l (part lo None o)) ∙ part-part l None lo None o ∙ part-from (max lo l) o)
+pub met_first : (l floor : ℕ) (o : List EntryIndex) → end_of (from l (part floor None o ++ [])) ≡ end_of (from (max floor l) o)
+met_first l floor o = ap end_of (ap (from l) (append-nil (part floor None o)) ∙ sym (part-from l (part floor None o)) ∙ part-part l None floor None o ∙ part-from (max floor l) o)
 
-pub met_later : (l lo c : ℕ) (o t : List EntryIndex) → (c ≤ lo) ⊎ (c < end_of t) → end_of (from l (part lo (Some c) o ++ t)) ≡ end_of (from l t)
-met_later l lo c o t h = end_of-from l (part lo (Some c) o ++ t) ∙ ap (λ x. cond (ltb l x) x 0) (end_of-both lo c t o h) ∙ sym (end_of-from l t)
+pub met_later : (l floor c : ℕ) (o t : List EntryIndex) → (c ≤ floor) ⊎ (c < end_of t) → end_of (from l (part floor (Some c) o ++ t)) ≡ end_of (from l t)
+met_later l floor c o t h = end_of-from l (part floor (Some c) o ++ t) ∙ ap (λ x. cond (ltb l x) x 0) (end_of-both floor c t o h) ∙ sym (end_of-from l t)

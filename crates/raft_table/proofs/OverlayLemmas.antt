@@ -34,7 +34,7 @@ overlay_exact m ss a r h = go m.cleaned refl
     clean b e = sym h.holds.cleaned ∙ e
 
     go : (b : Bool) → m.cleaned ≡ b
-        → ◌≡◌ {A = Table} (record r { entries = cond m.cleaned a.entries (rewritten_part m.lo m.cut r.entries ++ a.entries); keys = cond m.cleaned a.keys (overlaid a.keys (without m.deleted r.keys)); atomic_group = cond m.cleaned a.atomic_group r.atomic_group }) (overlay ss a r)
+        → ◌≡◌ {A = Table} (record r { entries = cond m.cleaned a.entries (rewritten_part m.floor m.cut r.entries ++ a.entries); keys = cond m.cleaned a.keys (overlaid a.keys (without m.deleted r.keys)); atomic_group = cond m.cleaned a.atomic_group r.atomic_group }) (overlay ss a r)
     go true e = rw (e, clean true e) refl
     go false e =
         let d : m.deleted ≡ deleted_of finset.empty ss = sym (h.holds.deleted e finset.empty ∙ empty_union m.deleted) in
@@ -48,7 +48,7 @@ over_rewritten m a r none run =
     let es = entries m.cleaned in
     rw (replayed_run Rewrite left.entries a.entries (subst IsRun es run), ← es, ← keys m.cleaned, ← atomic_group m.cleaned) refl
   where
-    entries : (b : Bool) → cond b a.entries (rewritten_part m.lo m.cut r.entries ++ a.entries) ≡ cond b [] (rewritten_part m.lo m.cut r.entries) ++ a.entries
+    entries : (b : Bool) → cond b a.entries (rewritten_part m.floor m.cut r.entries ++ a.entries) ≡ cond b [] (rewritten_part m.floor m.cut r.entries) ++ a.entries
     entries true = refl
     entries false = refl
 
@@ -76,10 +76,10 @@ filled-length e s zero = refl
 filled-length e s (suc n) = omega (arith, filled-length e (suc s) n)
 
 -- below a cut that the front reaches stands nothing of what is behind it
-part-behind : (lo c s : ℕ) (es : List EntryIndex) → RisesFrom s es → c ≤ s → part lo (Some c) es ≡ []
+part-behind : (floor c s : ℕ) (es : List EntryIndex) → RisesFrom s es → c ≤ s → part floor (Some c) es ≡ []
 unfolding part
-part-behind lo c s [] h l = refl
-part-behind lo c s (e ∷ es) h l = rw (gone (leb lo e.index) e.index c (omega (arith, h.0))) (part-behind lo c (suc s) es h.1 (omega arith))
+part-behind floor c s [] h l = refl
+part-behind floor c s (e ∷ es) h l = rw (gone (leb floor e.index) e.index c (omega (arith, h.0))) (part-behind floor c (suc s) es h.1 (omega arith))
   where
     gone : (b : Bool) (i c : ℕ) → c ≤ i → (b && ltb i c) ≡ false
     gone b i c l = grind (arith, nat_tests)
@@ -89,7 +89,7 @@ either_there true b e = refl
 either_there false b e = e
 
 -- steps that a table isn't refused for leave a run of it
-live_run : (id : ℕ) (m : Mark) (a : Option Table) (ss : List Step) (o : Table) → AreSteps ss → Stands Append id m a ss → IsTableOf id o → m.cleaned ≡ false → is_missed m o.entries ≡ false → IsRun (part m.lo m.cut o.entries ++ (table_of id a).entries)
+live_run : (id : ℕ) (m : Mark) (a : Option Table) (ss : List Step) (o : Table) → AreSteps ss → Stands Append id m a ss → IsTableOf id o → m.cleaned ≡ false → is_missed m o.entries ≡ false → IsRun (part m.floor m.cut o.entries ++ (table_of id a).entries)
 live_run id m a ss o good h r e miss =
     (subst (λ b. IsTableOf id (table_of id (some_there b x))) there (table_after Append id (Some o) (some_there (is_there_over m a (Some o)) x) ss good r (h.every (Some o) r ∙ applied-some Append id m a (Some o) x over))).run
   where
@@ -97,10 +97,10 @@ live_run id m a ss o good h r e miss =
     own = (table_of id a).entries
 
     x : Table
-    x = record o { entries = part m.lo m.cut o.entries ++ own; keys = keys_over m (table_of id a).keys o.keys; atomic_group = atomic_group_over m (table_of id a).atomic_group o.atomic_group }
+    x = record o { entries = part m.floor m.cut o.entries ++ own; keys = keys_over m (table_of id a).keys o.keys; atomic_group = atomic_group_over m (table_of id a).atomic_group o.atomic_group }
 
-    entries : entries_over Append m own o.entries ≡ Some (part m.lo m.cut o.entries ++ own)
-    entries = ap (λ b. cond b None (Some (cond m.cleaned own (part m.lo m.cut o.entries ++ own)))) miss ∙ ap (λ es. Some es) (pick_false m.cleaned own (part m.lo m.cut o.entries ++ own) e)
+    entries : entries_over Append m own o.entries ≡ Some (part m.floor m.cut o.entries ++ own)
+    entries = ap (λ b. cond b None (Some (cond m.cleaned own (part m.floor m.cut o.entries ++ own)))) miss ∙ ap (λ es. Some es) (pick_false m.cleaned own (part m.floor m.cut o.entries ++ own) e)
 
     over : table_over Append m (table_of id a) o ≡ Some x
     over = ap (option_map (λ es. record o { entries = es; keys = keys_over m (table_of id a).keys o.keys; atomic_group = atomic_group_over m (table_of id a).atomic_group o.atomic_group })) entries
@@ -110,8 +110,8 @@ live_run id m a ss o good h r e miss =
 
 -- the rewritten entries below the cut, with others behind them that reach a run's start
 reaching : (id : ℕ) (m : Mark) (a : Option Table) (ss : List Step) (r : Table) (start c : ℕ) → AreSteps ss → Stands Append id m a ss → IsTableOf id r → m.cleaned ≡ false → m.reach ≡ Some start → m.cut ≡ Some c → c ≤ end_of r.entries
-    → (es : List EntryIndex) → r.entries ≡ es → IsRun (part m.lo (Some c) es ++ (table_of id a).entries)
-reaching id m a ss r start c good h k e is_r is_c l [] same = subst (λ xs. IsRun (xs ++ (table_of id a).entries)) (sym (part-nil m.lo (Some c))) h.own_table.run
+    → (es : List EntryIndex) → r.entries ≡ es → IsRun (part m.floor (Some c) es ++ (table_of id a).entries)
+reaching id m a ss r start c good h k e is_r is_c l [] same = subst (λ xs. IsRun (xs ++ (table_of id a).entries)) (sym (part-nil m.floor (Some c))) h.own_table.run
 reaching id m a ss r start c good h k e is_r is_c l (x ∷ es) same =
     subst (λ xs. IsRun (xs ++ (table_of id a).entries)) kept (rw is_c at (live_run id m a ss (table_with_entries r longer) good h longer_table e missed))
   where
@@ -146,13 +146,13 @@ reaching id m a ss r start c good h k e is_r is_c l (x ∷ es) same =
     ]
 
     missed : is_missed m longer ≡ false
-    missed = ap (λ s. misses s (end_of (from m.lo0 longer))) is_r ∙ ap (λ n. misses (Some start) n) (end_of-from m.lo0 longer) ∙ met (end_of longer) reaches
+    missed = ap (λ s. misses s (end_of (from m.reach_floor longer))) is_r ∙ ap (λ n. misses (Some start) n) (end_of-from m.reach_floor longer) ∙ met (end_of longer) reaches
       where
-        met : (n : ℕ) → start ≤ n → misses (Some start) (cond (ltb m.lo0 n) n 0) ≡ false
+        met : (n : ℕ) → start ≤ n → misses (Some start) (cond (ltb m.reach_floor n) n 0) ≡ false
         met n l = grind (arith, nat_tests)
 
-    kept : part m.lo (Some c) longer ≡ part m.lo (Some c) (x ∷ es)
-    kept = part-append m.lo (Some c) (x ∷ es) more ∙ ap (λ xs. part m.lo (Some c) (x ∷ es) ++ xs) (part-behind m.lo c top more (filled-rises x top (start - top)) (subst (λ xs. c ≤ end_of xs) same l)) ∙ append-nil (part m.lo (Some c) (x ∷ es))
+    kept : part m.floor (Some c) longer ≡ part m.floor (Some c) (x ∷ es)
+    kept = part-append m.floor (Some c) (x ∷ es) more ∙ ap (λ xs. part m.floor (Some c) (x ∷ es) ++ xs) (part-behind m.floor c top more (filled-rises x top (start - top)) (subst (λ xs. c ≤ end_of xs) same l)) ∙ append-nil (part m.floor (Some c) (x ∷ es))
 
 -- an overlay is a run
 pub overlay_run : (id : ℕ) (m : Mark) (a : Option Table) (ss : List Step) (r : Table) → AreSteps ss → Stands Append id m a ss → IsTableOf id r → IsRun (overlay_under m (table_of id a) r).entries
@@ -161,16 +161,16 @@ overlay_run id m a ss r good h k = by_cleaned m.cleaned refl
     own : List EntryIndex
     own = (table_of id a).entries
 
-    by_end : (start c : ℕ) → m.reach ≡ Some start → m.cut ≡ Some c → m.cleaned ≡ false → (b : Bool) → ltb (end_of r.entries) c ≡ b → IsRun (cond b [] (part m.lo (Some c) r.entries) ++ own)
+    by_end : (start c : ℕ) → m.reach ≡ Some start → m.cut ≡ Some c → m.cleaned ≡ false → (b : Bool) → ltb (end_of r.entries) c ≡ b → IsRun (cond b [] (part m.floor (Some c) r.entries) ++ own)
     by_end start c is_r is_c e true t = h.own_table.run
     by_end start c is_r is_c e false t = reaching id m a ss r start c good h k e is_r is_c (ltb-false (end_of r.entries) c t) r.entries refl
 
-    by_run : (y z : Option ℕ) → m.reach ≡ y → m.cut ≡ z → m.cleaned ≡ false → FitsCut y z m.lo own → IsRun (rewritten_part m.lo z r.entries ++ own)
-    by_run None None is_r is_c e f = subst (λ xs. IsRun (part m.lo None r.entries ++ xs)) (sym f) (subst IsRun (sym (append-nil (part m.lo None r.entries) ∙ part-from m.lo r.entries)) (run_from m.lo r.entries k.run))
+    by_run : (y z : Option ℕ) → m.reach ≡ y → m.cut ≡ z → m.cleaned ≡ false → FitsCut y z m.floor own → IsRun (rewritten_part m.floor z r.entries ++ own)
+    by_run None None is_r is_c e f = subst (λ xs. IsRun (part m.floor None r.entries ++ xs)) (sym f) (subst IsRun (sym (append-nil (part m.floor None r.entries) ∙ part-from m.floor r.entries)) (run_from m.floor r.entries k.run))
     by_run None (Some c) is_r is_c e f = absurd f
     by_run (Some start) None is_r is_c e f = absurd f
     by_run (Some start) (Some c) is_r is_c e f = by_end start c is_r is_c e (ltb (end_of r.entries) c) refl
 
-    by_cleaned : (b : Bool) → m.cleaned ≡ b → IsRun (cond b own (rewritten_part m.lo m.cut r.entries ++ own))
+    by_cleaned : (b : Bool) → m.cleaned ≡ b → IsRun (cond b own (rewritten_part m.floor m.cut r.entries ++ own))
     by_cleaned true e = h.own_table.run
     by_cleaned false e = by_run m.reach m.cut refl refl e (h.fits e)

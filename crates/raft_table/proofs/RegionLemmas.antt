@@ -65,8 +65,8 @@ pub run_stands : (q : LogQueue) (id : ℕ) (m j : Mark) (t : Option Table) (w : 
     → j ≡ joined_at q end m (record fresh { reach = Some start; cut = Some start }) → Stands q id j (Some w) (ss ++ Run run ∷ [])
 run_stands q id m j t w ss run end start good r h is l s e k =
     let n = run_mark run start l s in
-    let lo0 : (mark_of (Run run)).lo0 ≡ 0 = ap (λ (m : Mark). m.lo0) n in
-    let top : met (mark_of (Run run)) (table_of id t) ≡ end = ap (λ i. end_of (from i (table_of id t).entries)) lo0 ∙ ap end_of (from_whole (table_of id t).entries) ∙ sym e in
+    let reach_floor : (mark_of (Run run)).reach_floor ≡ 0 = ap (λ (m : Mark). m.reach_floor) n in
+    let top : met (mark_of (Run run)) (table_of id t) ≡ end = ap (λ i. end_of (from i (table_of id t).entries)) reach_floor ∙ ap end_of (from_whole (table_of id t).entries) ∙ sym e in
     step_stands q id m j t w ss (Run run) good r h refl is (k ∙ ap (λ x. joined_at q x m (record fresh { reach = Some start; cut = Some start })) (sym top) ∙ ap (joined_at q (met (mark_of (Run run)) (table_of id t)) m) (sym n))
 
 -- a run without entries

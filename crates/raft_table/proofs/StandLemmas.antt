@@ -5,7 +5,7 @@ use Rattle.std.proofs.lemmas.Bool.Decides.{nat_tests}
 use Rattle.raft_base.specs.declared.pipe_log.LogQueue.{LogQueue}
 use Rattle.raft_base.specs.declared.pipe_log.LogQueue.TheVariants.{Append, Rewrite}
 use Rattle.raft_records.specs.declared.entry_index.EntryIndex.{EntryIndex}
-use Rattle.raft_table.specs.Entries.{IsRunIn, start_of, end_of, below, from, entry_with_index, StandsBehind}
+use Rattle.raft_table.specs.Entries.{IsRun, IsRunIn, start_of, end_of, below, from, entry_with_index, StandsBehind}
 use Rattle.raft_table.specs.Start.{leaves_hole, appended, replayed}
 use Rattle.raft_table.proofs.RunLemmas.{RisesFrom-start}
 use Rattle.raft_table.proofs.LookupLemmas.{entry_at_low}
@@ -50,18 +50,21 @@ entry_with_index-from i f (x ∷ es) = at (eqb x.index i) (leb f x.index) (ltb i
     at false false v e g k h = rw (g, e) h
 
 -- a run behind the entries below its start
-pub behind_stands : (q : LogQueue) (es run : List EntryIndex) → IsRunIn q run → StandsBehind es run (below (start_of run) es ++ run)
-behind_stands q es run r = λ i. at i (ltb i (start_of run)) refl
+pub run_stands : (es run : List EntryIndex) → IsRun run → StandsBehind es run (below (start_of run) es ++ run)
+run_stands es run r = λ i. at i (ltb i (start_of run)) refl
   where
     at : (i : ℕ) (t : Bool) → ltb i (start_of run) ≡ t → entry_with_index i (below (start_of run) es ++ run) ≡ cond (ltb i (start_of run)) (entry_with_index i es) (entry_with_index i run)
     at i true e =
-        let low : entry_with_index i run ≡ None = entry_at_low i (start_of run) run (grind (arith, nat_tests)) (RisesFrom-start r.run.start run r.run.rising) in
+        let low : entry_with_index i run ≡ None = entry_at_low i (start_of run) run (grind (arith, nat_tests)) (RisesFrom-start r.start run r.rising) in
         entry_with_index-append i (below (start_of run) es) run ∙ rw (entry_with_index-below i (start_of run) es, low, e) (none_behind (entry_with_index i es))
       where
         none_behind : {X : Type 0} (o : Option X) → option_or o None ≡ o
         none_behind None = refl
         none_behind (Some x) = refl
     at i false e = entry_with_index-append i (below (start_of run) es) run ∙ rw (entry_with_index-below i (start_of run) es, e) refl
+
+pub behind_stands : (q : LogQueue) (es run : List EntryIndex) → IsRunIn q run → StandsBehind es run (below (start_of run) es ++ run)
+behind_stands q es run r = run_stands es run r.run
 
 pub accepted : {X : Type 0} (b : Bool) (x after : X) → cond b None (Some x) ≡ Some after → (b ≡ false) × (x ≡ after)
 accepted true x after e = absurd cc

@@ -19,10 +19,10 @@ run_added q x start m = go m.cleaned m.reach m.cut
     go false (Some r) None = refl
     go false (Some r) (Some c) = rw (union_empty m.deleted) refl
 
-pub compaction_added : (q : LogQueue) (x i : ℕ) (m : Mark) → let n : Mark = record fresh { lo = i } in record (joined_at Append 0 m n) { deleted = m.deleted } ≡ joined_at q x m n
+pub compaction_added : (q : LogQueue) (x i : ℕ) (m : Mark) → let n : Mark = record fresh { floor = i } in record (joined_at Append 0 m n) { deleted = m.deleted } ≡ joined_at q x m n
 compaction_added q x i m = go q m.cleaned m.reach m.cut
   where
-    go : (q : LogQueue) (b : Bool) (y z : Option ℕ) → let n : Mark = record fresh { lo = i } in
+    go : (q : LogQueue) (b : Bool) (y z : Option ℕ) → let n : Mark = record fresh { floor = i } in
         ◌≡◌ {A = Mark} (record (cond b m (joined_live y z Append 0 m n)) { deleted = m.deleted }) (cond b m (joined_live y z q x m n))
     go q true y z = refl
     go q false None z = rw (union_empty m.deleted) refl

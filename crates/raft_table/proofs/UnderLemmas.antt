@@ -1,5 +1,6 @@
 -- A table put over what a mark leaves of an older one.
 use Rattle.std.proofs.Common.{◌≡◌, ◌⊎◌, ℕ, ◌+◌, ◌-◌, ◌<◌, ◌≤◌, ◌^◌, min, max, Bool, true, false, cond, not, ◌&&◌, ltb, leb, List, [], ◌∷◌, ◌++◌, length, Option, Some, None, refl, sym, ap, subst, ◌∙◌, inl, inr, arith}
+use Rattle.std.specs.Prelude.{IsTrue, MatchBool, ◌↔◌}
 use Rattle.std.specs.Option.{option_map, option_or}
 use Rattle.std.specs.Ordering.{nat_cmp}
 use Rattle.std.specs.Cmp.Lexicographic.{slice_cmp}
@@ -20,10 +21,10 @@ use Rattle.raft_table.specs.MarkMerge.{left_by, IsFaultUnder}
 use Rattle.raft_table.specs.Marks.{Mark, part, is_missed, older_entries, is_meeting_refused, entries_over, keys_over, atomic_group_over, table_over}
 use Rattle.raft_table.specs.Merge.{after_join, newer_atomic_group, with_newer_atomic_group, IsTableMergeFault}
 use Rattle.raft_table.specs.Start.{leaves_hole, replayed}
-use Rattle.raft_table.specs.Table.{Table, live_of}
+use Rattle.raft_table.specs.Table.{Table, empty_table, live_of}
 use Rattle.raft_table.proofs.KeyValueLaws.{get-overlaid}
 use Rattle.raft_table.proofs.RunLemmas.{below_take, end_of-run, RisesFrom-append}
-use Rattle.raft_table.proofs.MarkWords.{end_of-nil}
+use Rattle.raft_table.proofs.MarkWords.{end_of-nil, nil_of_end}
 use Rattle.raft_table.proofs.MarkEntries.{same_some}
 use Rattle.raft_table.proofs.MarkTables.{own_span, same_keys}
 
@@ -67,7 +68,7 @@ left_entries : (q : LogQueue) (m : Mark) (own older : Table) → is_meeting_refu
 left_entries q m own older e = rw e (ap (λ x. Some x) (go m.cleaned q e))
   where
     go : (b : Bool) (q : LogQueue) → is_meeting_refused q m older.entries ≡ false
-        → cond b own.entries (older_entries q m older.entries ++ own.entries) ≡ cond b [] (cond (is_missed m older.entries) [] (part m.lo m.cut older.entries)) ++ own.entries
+        → cond b own.entries (older_entries q m older.entries ++ own.entries) ≡ cond b [] (cond (is_missed m older.entries) [] (part m.floor m.cut older.entries)) ++ own.entries
     go true q e = refl
     go false Append e = rw e refl
     go false Rewrite e = refl
@@ -105,3 +106,11 @@ join_memory q counts left own w (errors.Corruption text) r is room = absurd cc
 join_memory q counts left own w errors.Full r is room = absurd (let full = r.1 in let low = room r.0 in omega arith)
 join_memory q counts left own w errors.Memory r is room = refl
 join_memory q counts left own w _ r is room = absurd r
+
+-- a table without entries, pairs and atomic group is the empty one
+pub blank : (t : Table) (b : Bool) → end_of t.entries ≡ 0 → (IsTrue b ↔ (t.keys ≡ finite.empty)) → t.atomic_group ≡ None → MatchBool b (t ≡ empty_table t.region_id) (Unit {0})
+blank t false e k g = tt
+blank t true e k g =
+    ap (λ (es : List EntryIndex). record { region_id = t.region_id; entries = es; keys = t.keys; atomic_group = t.atomic_group }) (nil_of_end t.entries e)
+    ∙ ap (λ (ks : Keys). record { region_id = t.region_id; entries = []; keys = ks; atomic_group = t.atomic_group }) (k.0 refl)
+    ∙ ap (λ (g : Option (ℕ × ℕ)). record { region_id = t.region_id; entries = []; keys = finite.empty; atomic_group = g }) g

@@ -4,4 +4,4 @@ use Rattle.raft_table.specs.Marks.{Mark}
 
 -- the fields as they are
 abbrev pub mark_shown : Inside → Mark
-mark_shown a = record { cleaned = a.cleaned; reach = a.reach; lo0 = a.lo0; lo = a.lo; cut = a.cut; deleted = a.deleted }
+mark_shown a = record { cleaned = a.cleaned; reach = a.reach; reach_floor = a.reach_floor; floor = a.floor; cut = a.cut; deleted = a.deleted }

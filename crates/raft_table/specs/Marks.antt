@@ -16,8 +16,8 @@ use Rattle.raft_table.specs.Table.{Table, empty_table, table_with_entries, with_
 pub record Mark : Type 0 where
   pub cleaned : Bool
   pub reach : Option ℕ
-  pub lo0 : ℕ
-  pub lo : ℕ
+  pub reach_floor : ℕ
+  pub floor : ℕ
   pub cut : Option ℕ
   pub deleted : KeySet
 
@@ -28,7 +28,7 @@ is_under (Some cut) i = nat_lt i cut
 
 -- the entries from an index on, and below a bound, if there is one
 unfoldable pub part : ℕ → Option ℕ → List EntryIndex → List EntryIndex
-part lo cut es = filter (λ e. nat_le lo e.index && is_under cut e.index) es
+part floor cut es = filter (λ e. nat_le floor e.index && is_under cut e.index) es
 
 -- whether the first run, if there is one, leaves a hole behind entries with this end
 abbrev pub misses : Option ℕ → ℕ → Bool
@@ -37,12 +37,12 @@ misses (Some start) end = leaves_hole end start
 
 -- whether the first run leaves a hole behind the older entries that it meets
 abbrev pub is_missed : Mark → List EntryIndex → Bool
-is_missed m older = misses m.reach (end_of (from m.lo0 older))
+is_missed m older = misses m.reach (end_of (from m.reach_floor older))
 
 -- the older entries that stay
 abbrev pub older_entries : LogQueue → Mark → List EntryIndex → List EntryIndex
-older_entries Append m older = part m.lo m.cut older
-older_entries Rewrite m older = if is_missed m older then [] else part m.lo m.cut older
+older_entries Append m older = part m.floor m.cut older
+older_entries Rewrite m older = if is_missed m older then [] else part m.floor m.cut older
 
 -- whether the meeting of the first run is refused
 abbrev pub is_meeting_refused : LogQueue → Mark → List EntryIndex → Bool
@@ -76,13 +76,13 @@ applied queue id m own older = there_if (is_there_over m own older) (table_over 
 
 -- what the laws need beside the meaning: without a run there are no own entries; behind one nothing older stands at or above the cut, and the own entries reach it
 abbrev pub FitsCut : Option ℕ → Option ℕ → ℕ → List EntryIndex → Type 0
-FitsCut None None lo own = own ≡ []
-FitsCut None (Some cut) lo own = ⊥
-FitsCut (Some reach) None lo own = ⊥
-FitsCut (Some reach) (Some cut) lo own = (cut ≤ lo) ⊎ (cut < end_of own)
+FitsCut None None floor own = own ≡ []
+FitsCut None (Some cut) floor own = ⊥
+FitsCut (Some reach) None floor own = ⊥
+FitsCut (Some reach) (Some cut) floor own = (cut ≤ floor) ⊎ (cut < end_of own)
 
 abbrev pub FitsMark : Mark → List EntryIndex → Type 0
-FitsMark m own = m.cleaned ≡ false → FitsCut m.reach m.cut m.lo own
+FitsMark m own = m.cleaned ≡ false → FitsCut m.reach m.cut m.floor own
 
 -- the mark and the own table stand for the steps: over every older table the steps give what the mark says, or both are refused
 pub record Stands (queue : LogQueue) (id : ℕ) (m : Mark) (own : Option Table) (ss : List Step) : Type 0 where
@@ -102,16 +102,16 @@ joined_deleted m n = if n.cleaned then n.deleted else finset.union m.deleted n.d
 
 -- the older mark has no run
 abbrev pub joined_first : Mark → Mark → Mark
-joined_first m n = record { cleaned = n.cleaned; reach = n.reach; lo0 = if is_some n.reach then max m.lo n.lo0 else m.lo0; lo = max m.lo n.lo; cut = least_of m.cut n.cut; deleted = joined_deleted m n }
+joined_first m n = record { cleaned = n.cleaned; reach = n.reach; reach_floor = if is_some n.reach then max m.floor n.reach_floor else m.reach_floor; floor = max m.floor n.floor; cut = least_of m.cut n.cut; deleted = joined_deleted m n }
 
 -- where the older entries begin that stay: in the rewrite queue a hole drops all below the cut
-abbrev pub joined_lo : LogQueue → Bool → ℕ → ℕ → ℕ
-joined_lo Append missed lo cut = lo
-joined_lo Rewrite missed lo cut = if missed then max lo cut else lo
+abbrev pub joined_floor : LogQueue → Bool → ℕ → ℕ → ℕ
+joined_floor Append missed floor cut = floor
+joined_floor Rewrite missed floor cut = if missed then max floor cut else floor
 
 -- the older mark has a run and the cut c; the part of its table that the newer first run meets ends at x
 abbrev pub joined_later : LogQueue → ℕ → ℕ → Mark → Mark → Mark
-joined_later queue c x m n = record { cleaned = n.cleaned; reach = m.reach; lo0 = m.lo0; lo = joined_lo queue (misses n.reach x) (max m.lo n.lo) c; cut = least_of (Some c) n.cut; deleted = joined_deleted m n }
+joined_later queue c x m n = record { cleaned = n.cleaned; reach = m.reach; reach_floor = m.reach_floor; floor = joined_floor queue (misses n.reach x) (max m.floor n.floor) c; cut = least_of (Some c) n.cut; deleted = joined_deleted m n }
 
 abbrev pub joined_live : Option ℕ → Option ℕ → LogQueue → ℕ → Mark → Mark → Mark
 joined_live None cut queue x m n = joined_first m n
@@ -124,7 +124,7 @@ joined_at queue x m n = if m.cleaned then m else joined_live m.reach m.cut queue
 
 -- where the part of an older table ends that the first run of a mark meets
 abbrev pub met : Mark → Table → ℕ
-met n older = end_of (from n.lo0 older.entries)
+met n older = end_of (from n.reach_floor older.entries)
 
 -- the older mark m with its own table, and the newer mark n
 abbrev pub joined : LogQueue → ℕ → Mark → Option Table → Mark → Mark
@@ -136,13 +136,13 @@ is_settled m = m.cleaned || is_some m.reach && not (is_some m.cut)
 
 -- the mark of no step
 abbrev pub fresh : Mark
-fresh = record { cleaned = false; reach = None; lo0 = 0; lo = 0; cut = None; deleted = finset.empty }
+fresh = record { cleaned = false; reach = None; reach_floor = 0; floor = 0; cut = None; deleted = finset.empty }
 
 -- the mark and the own table of one step
 abbrev pub mark_of : Step → Mark
 mark_of (Run []) = fresh
 mark_of (Run (e ∷ run)) = record fresh { reach = Some e.index; cut = Some e.index }
-mark_of (Compact i) = record fresh { lo = i }
+mark_of (Compact i) = record fresh { floor = i }
 mark_of (Del key) = record fresh { deleted = finset.insert finset.empty key }
 mark_of Clean = record fresh { cleaned = true }
 mark_of _ = fresh

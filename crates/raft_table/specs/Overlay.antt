@@ -45,7 +45,7 @@ is_short (Some cut) end = nat_lt end cut
 
 -- the rewritten entries that stay: those from the greatest compaction on and below the least start, if there is one, and only where they reach it
 abbrev pub rewritten_part : ℕ → Option ℕ → List EntryIndex → List EntryIndex
-rewritten_part lo cut es = if is_short cut (end_of es) then [] else part lo cut es
+rewritten_part floor cut es = if is_short cut (end_of es) then [] else part floor cut es
 
 -- an appended table over a rewritten one
 abbrev pub overlay : List Step → Table → Table → Table
@@ -58,7 +58,7 @@ overlay ss appended rewritten = record rewritten {
 -- the same told by a mark
 abbrev pub overlay_under : Mark → Table → Table → Table
 overlay_under m appended rewritten = record rewritten {
-  entries = if m.cleaned then appended.entries else rewritten_part m.lo m.cut rewritten.entries ++ appended.entries;
+  entries = if m.cleaned then appended.entries else rewritten_part m.floor m.cut rewritten.entries ++ appended.entries;
   keys = if m.cleaned then appended.keys else overlaid appended.keys (without m.deleted rewritten.keys);
   atomic_group = if m.cleaned then appended.atomic_group else rewritten.atomic_group;
 }
@@ -87,5 +87,5 @@ pub record HoldsDeleted (m : Mark) (ss : List Step) : Type 0 where
 -- what an overlay reads of a mark of the append queue
 pub record IsExactMark (m : Mark) (ss : List Step) : Type 0 where
   pub holds : HoldsDeleted m ss
-  pub greatest : m.cleaned ≡ false → m.lo ≡ greatest_compaction ss
+  pub greatest : m.cleaned ≡ false → m.floor ≡ greatest_compaction ss
   pub least : m.cleaned ≡ false → m.cut ≡ least_start ss

@@ -30,7 +30,9 @@ use crate::global_stats::GlobalStats;
 pub use change::{TableChange, is_run};
 use entries::Entries;
 use key_values::KeyValues;
-pub use laws::{entries_stand_by_index, marks_stand_for_steps, overlays_by_marks};
+pub use laws::{
+    entries_stand_by_index, last_words_stand, marks_stand_for_steps, overlays_by_marks,
+};
 use raft_records::{EntryIndex, Error, FileId, FileSeq, LogQueue, Result};
 pub use read_runs::read_entries_are_runs;
 use std::alloc::Global;

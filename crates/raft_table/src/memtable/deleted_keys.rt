@@ -11,6 +11,7 @@ use crate::memtable::key_values::KeyValues;
 use std::alloc::{AllocError, Global};
 use std::collections::BTreeMap;
 use std::marker::Model;
+use std::mem;
 
 /// The keys that were deleted, in the order of their bytes.
 #[derive(Debug, Drop)]
@@ -69,12 +70,26 @@ impl DeletedKeys {
         Ok(())
     }
 
-    /// Puts the keys of `rhs` too, and leaves `rhs` empty.
+    /// Puts the keys of `rhs` too: those of the smaller set are moved to the larger one. Leaves `rhs`
+    /// empty.
     ///
     /// # Errors
     ///
     /// Where there is no memory for all of them.
     pub fn absorb(&mut self, rhs: &mut DeletedKeys) -> Result<(), AllocError>
+        ensures { OnOk result (self.new ≡ finset.union self.old rhs.old) }
+    {
+        if self.len() < rhs.len() {
+            mem::swap(self, rhs);
+            self.take_each(rhs)?;
+            return Ok(());
+        }
+        self.take_each(rhs)?;
+        Ok(())
+    }
+
+    /// Takes over one key of `rhs` after another.
+    fn take_each(&mut self, rhs: &mut DeletedKeys) -> Result<(), AllocError>
         ensures { OnOk result (self.new ≡ finset.union self.old rhs.old) }
     {
         while let Some(key) = rhs.take_first() {

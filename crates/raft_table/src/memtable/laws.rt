@@ -6,6 +6,8 @@ ghost use Rattle.raft_base.specs.declared.pipe_log.LogQueue.{LogQueue};
 ghost use Rattle.raft_base.specs.declared.pipe_log.LogQueue.TheVariants.{Append, Rewrite};
 ghost use Rattle.raft_records.specs.declared.entry_index.EntryIndex.{EntryIndex};
 ghost use Rattle.raft_table.specs.Entries.{IsRun, IsRunIn, StandsBehind, start_of, end_of, entry_with_index, from};
+ghost use Rattle.std.specs.FinMap as finite;
+ghost use Rattle.raft_table.specs.LastWord.{last_entry, last_pair};
 ghost use Rattle.raft_table.specs.Marks.{Mark, Stands, applied, joined, mark_of, own_of};
 ghost use Rattle.raft_table.specs.Overlay.{HoldsDeleted, IsExactMark, deleted_of, overlay, overlay_under};
 ghost use Rattle.raft_table.specs.Steps.{Step, IsStep, AreSteps, IsTableOf, table_of, after};
@@ -21,6 +23,15 @@ pub fn entries_stand_by_index()
     ensures rewritten { (queue : LogQueue) (es run after : List EntryIndex) → IsRunIn queue run → 0 < length run → leaves_hole (end_of es) (start_of run) ≡ false → replayed Rewrite es run ≡ Some after → StandsBehind es run after }
     ensures hole { (es run after : List EntryIndex) → leaves_hole (end_of es) (start_of run) ≡ true → replayed Rewrite es run ≡ Some after → after ≡ run }
     ensures compacted { (index i : ℕ) (es : List EntryIndex) → entry_with_index i (from index es) ≡ (if nat_lt i index then None else entry_with_index i es) }
+{}
+
+/// In the append queue the entry at an index is that of the last of a region's steps that speaks of the
+/// index: a run that starts at or below it, a compaction above it, or a clean. In both queues the value
+/// and the file of a key are those of the last step that speaks of the key: a `Put` or a `Del` of it,
+/// or a clean.
+pub fn last_words_stand()
+    ensures entries { (id i : ℕ) (t : Option Table) (ss : List Step) → AreSteps ss → after Append id None ss ≡ Some t → entry_with_index i (table_of id t).entries ≡ last_entry i ss }
+    ensures keys { (q : LogQueue) (id : ℕ) (key : List ℕ) (t : Option Table) (ss : List Step) → after q id None ss ≡ Some t → finite.get (table_of id t).keys key ≡ last_pair key ss }
 {}
 
 /// A mark and an own table stand for the steps on a region: those of one step for it; those of two

@@ -7,7 +7,7 @@ ghost use Rattle.raft_records.specs.declared.entry_index.EntryIndex.{EntryIndex}
 ghost use Rattle.raft_table.specs.Counts.{live};
 ghost use Rattle.raft_table.specs.Entries.{IsRun, end_of, from};
 ghost use Rattle.raft_table.specs.KeySets.{without};
-ghost use Rattle.raft_table.specs.Marks.{fresh, is_settled, mark_of, least_of, misses, met, joined_at, joined_deleted, joined_lo};
+ghost use Rattle.raft_table.specs.Marks.{fresh, is_settled, mark_of, least_of, misses, met, joined_at, joined_deleted, joined_floor};
 ghost use Rattle.raft_base.specs.declared.pipe_log.LogQueue.{LogQueue};
 ghost use Rattle.raft_table.specs.Steps.{Compact, Del, Clean};
 ghost use Rattle.raft_table.specs.Table.{empty_table, live_of, IsCounted, IsRecounted, table_with_keys};
@@ -29,9 +29,9 @@ pub struct Mark {
     /// The start of the first run before any clean.
     reach: Option<u64>,
     /// The greatest compaction before that run.
-    lo0: u64,
+    reach_floor: u64,
     /// Where older entries begin that stay.
-    lo: u64,
+    floor: u64,
     /// Where they end.
     cut: Option<u64>,
     /// Keys that were deleted.
@@ -59,8 +59,8 @@ impl Mark {
         Mark {
             cleaned: false,
             reach: None,
-            lo0: 0,
-            lo: 0,
+            reach_floor: 0,
+            floor: 0,
             cut: None,
             deleted: DeletedKeys::new(alloc),
         }
@@ -74,17 +74,17 @@ impl Mark {
     }
 
     /// The greatest compaction before the first run.
-    pub fn reach_low(&self) -> u64
-        ensures { result ≡ self.now.lo0 }
+    pub fn reach_floor(&self) -> u64
+        ensures { result ≡ self.now.reach_floor }
     {
-        self.lo0
+        self.reach_floor
     }
 
     /// Where older entries begin that stay.
-    pub fn low(&self) -> u64
-        ensures { result ≡ self.now.lo }
+    pub fn floor(&self) -> u64
+        ensures { result ≡ self.now.floor }
     {
-        self.lo
+        self.floor
     }
 
     /// Where they end.
@@ -122,17 +122,17 @@ impl Mark {
             return Ok(());
         }
         self.join_deleted(newer)?;
-        let lo = self.lo.max(newer.lo);
+        let floor = self.floor.max(newer.floor);
         match (self.reach, self.cut) {
             (Some(_), Some(cut)) => {
-                self.lo = joined_lo(queue, misses(newer.reach, met), lo, cut);
+                self.floor = joined_floor(queue, misses(newer.reach, met), floor, cut);
             }
             (_, _) => {
                 self.reach = newer.reach;
                 if self.reach.is_some() {
-                    self.lo0 = self.lo.max(newer.lo0);
+                    self.reach_floor = self.floor.max(newer.reach_floor);
                 }
-                self.lo = lo;
+                self.floor = floor;
             }
         }
         self.cut = least_of(self.cut, newer.cut);
@@ -194,23 +194,23 @@ impl Mark {
     }
 
     /// Joins the numbers of one step.
-    fn add(&mut self, queue: LogQueue, end: u64, reach: Option<u64>, lo: u64)
-        ensures { self.new ≡ record (joined_at queue end self.old (record fresh { reach = reach; lo = lo; cut = reach })) { deleted = self.old.deleted } }
+    fn add(&mut self, queue: LogQueue, end: u64, reach: Option<u64>, floor: u64)
+        ensures { self.new ≡ record (joined_at queue end self.old (record fresh { reach = reach; floor = floor; cut = reach })) { deleted = self.old.deleted } }
     {
         if self.is_settled() {
             return;
         }
-        let joined = self.lo.max(lo);
+        let joined = self.floor.max(floor);
         match (self.reach, self.cut) {
             (Some(_), Some(cut)) => {
-                self.lo = joined_lo(queue, misses(reach, end), joined, cut);
+                self.floor = joined_floor(queue, misses(reach, end), joined, cut);
             }
             (_, _) => {
                 self.reach = reach;
                 if reach.is_some() {
-                    self.lo0 = self.lo;
+                    self.reach_floor = self.floor;
                 }
-                self.lo = joined;
+                self.floor = joined;
             }
         }
         self.cut = least_of(self.cut, reach);
@@ -253,11 +253,11 @@ fn misses(reach: Option<u64>, end: u64) -> bool
 }
 
 /// Where older entries begin that stay behind a run with this cut.
-fn joined_lo(queue: LogQueue, missed: bool, lo: u64, cut: u64) -> u64
-    ensures { result ≡ joined_lo queue missed lo cut }
+fn joined_floor(queue: LogQueue, missed: bool, floor: u64, cut: u64) -> u64
+    ensures { result ≡ joined_floor queue missed floor cut }
 {
     match queue {
-        LogQueue::Append => lo,
-        LogQueue::Rewrite => { if missed { lo.max(cut) } else { lo } }
+        LogQueue::Append => floor,
+        LogQueue::Rewrite => { if missed { floor.max(cut) } else { floor } }
     }
 }

@@ -1,9 +1,10 @@
 //! Merges of two tables of one region under the newer one's mark.
 
-ghost use Rattle.std.specs.Prelude.{◌≡◌, ◌≢◌, ◌+◌, ◌≤◌, false, [], List, if◌then◌else◌, OnOk, IfErr, Some, None};
+ghost use Rattle.std.specs.Prelude.{◌≡◌, ◌≢◌, ◌+◌, ◌≤◌, false, [], List, if◌then◌else◌, MatchBool, OnOk, OnErr, IfErr, Some, None, ◌^◌};
 ghost use Rattle.std.specs.FinMap as finite;
 ghost use Rattle.raft_base.specs.declared.pipe_log.LogQueue.{LogQueue};
 ghost use Rattle.raft_records.specs.declared.entry_index.EntryIndex.{EntryIndex};
+ghost use Rattle.raft_table.specs.Counts.{live};
 ghost use Rattle.raft_table.specs.Entries.{IsRun, IsRunIn, end_of, from};
 ghost use Rattle.raft_table.specs.KeySets.{without};
 ghost use Rattle.raft_table.specs.KeyValues.{pair_count};
@@ -21,13 +22,14 @@ use crate::memtable::MemTable;
 use crate::memtable::deleted_keys::DeletedKeys;
 use crate::memtable::mark::Mark;
 use raft_records::{EntryIndex, Error, LogQueue, Result};
+use std::mem;
 
 impl MemTable {
     /// Where the part of this table ends that the first run of a newer mark meets.
     pub fn met(&self, mark: &Mark) -> u64
         ensures { result ≡ met mark.now self.now }
     {
-        self.entries.end_from(mark.reach_low())
+        self.entries.end_from(mark.reach_floor())
     }
 
     /// Puts the newer table `rhs` of the same region, which the counts don't hold, over this one as
@@ -99,6 +101,34 @@ impl MemTable {
         }
         self.drop_older(self.is_short(mark), mark, stats);
         self.join(LogQueue::Rewrite, rhs, LogQueue::Append, stats)?;
+        Ok(())
+    }
+
+    /// Whether there are no records and no atomic group.
+    fn is_blank(&self) -> bool
+        ensures { MatchBool result (self.now ≡ empty_table self.now.region_id) (Unit {0}) }
+    {
+        match (self.entries.end(), self.atomic_group) {
+            (0, None) => self.keys.is_empty(),
+            _ => false,
+        }
+    }
+
+    /// Becomes the table `rhs` of the same region, whose records it counts, and leaves it empty.
+    ///
+    /// # Errors
+    ///
+    /// `Full`. Nothing has then changed.
+    fn take_whole(&mut self, rhs: &mut MemTable, stats: &mut GlobalStats) -> Result<()>
+        requires blank { self.old ≡ empty_table rhs.old.region_id }
+        ensures ok { OnOk result (self.new ≡ rhs.old) }
+        ensures emptied { OnOk result (rhs.new ≡ empty_table rhs.old.region_id) }
+        ensures refused { IfErr result (λ e. (e ≡ Error.Full) × ((q : LogQueue) × (2 ^ 64 ≤ live q stats.old + live_of q rhs.old))) }
+        ensures err { OnErr result ((self.new ≡ self.old) × (rhs.new ≡ rhs.old) × (stats.new ≡ stats.old)) }
+        ensures recounted { IsRecounted self.old self.new stats.old stats.new }
+    {
+        stats.add_table(rhs)?;
+        mem::swap(self, rhs);
         Ok(())
     }
 
@@ -203,14 +233,14 @@ impl MemTable {
     /// Drops the entries off a mark's bounds, or all of them.
     fn drop_entries(&mut self, gone: bool, mark: &Mark, stats: &mut GlobalStats)
         requires counted { IsCounted self.old stats.old }
-        ensures left { self.new ≡ table_with_entries self.old (if gone then [] else part mark.now.lo mark.now.cut self.old.entries) }
+        ensures left { self.new ≡ table_with_entries self.old (if gone then [] else part mark.now.floor mark.now.cut self.old.entries) }
         ensures recounted { IsRecounted self.old self.new stats.old stats.new }
     {
         if gone {
             self.entries.keep_below(0, stats);
             return;
         }
-        self.entries.keep_part(mark.low(), mark.cut(), stats);
+        self.entries.keep_part(mark.floor(), mark.cut(), stats);
     }
 
     /// Drops all key values.

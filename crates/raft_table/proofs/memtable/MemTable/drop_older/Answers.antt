@@ -21,7 +21,7 @@ pub returns-clause-fewer : goal.returns-clause-fewer
 returns-clause-fewer c = λ q.
     omega (
       arith,
-      kept-fewer q c.args.gone c.args.mark.now.lo c.args.mark.now.cut c.args.self.now.entries c.drop_deleted.new.self.entries (ap (λ (t : Table). t.entries) c.drop_deleted.ensures.dropped ∙ ap (λ (t : Table). t.entries) c.drop_entries.ensures.left),
+      kept-fewer q c.args.gone c.args.mark.now.floor c.args.mark.now.cut c.args.self.now.entries c.drop_deleted.new.self.entries (ap (λ (t : Table). t.entries) c.drop_deleted.ensures.dropped ∙ ap (λ (t : Table). t.entries) c.drop_entries.ensures.left),
       c.drop_deleted.ensures.fewer q,
       ap (λ (t : Table). pair_count q t.keys) c.drop_entries.ensures.left,
     )

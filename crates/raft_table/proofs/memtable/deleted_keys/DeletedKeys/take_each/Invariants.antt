@@ -1,6 +1,6 @@
 use Rattle.std.proofs.Common.{◌≡◌}
 use Rattle.std.specs.FinSet as finset
-use Rattle.raft_table.proofs.memtable.deleted_keys.DeletedKeys.absorb.Given as goal
+use Rattle.raft_table.proofs.memtable.deleted_keys.DeletedKeys.take_each.Given as goal
 
 abbrev pub invariant-loop-key : goal.invariant-loop-key
 invariant-loop-key l = finset.union l.self l.rhs ≡ finset.union l.initial.self l.initial.rhs

@@ -1,0 +1,5 @@
+use Rattle.raft_history.proofs.LastWords.{entry_stands, pair_stands}
+use Rattle.raft_history.proofs.histories.last_words_stand.Goals as goal
+
+pub returns : goal.returns
+returns c = record { entries = entry_stands; keys = pair_stands }

@@ -1,0 +1,10 @@
+mod WaitingGroupLemmas
+mod WaitingItemLemmas
+mod WaitingSeen
+mod AccessorLemmas
+mod LiveLemmas
+mod MapLemmas
+mod RegionTablesLemmas
+mod SlotLemmas
+mod UpdateLemmas
+mod WriteLemmas

@@ -1,0 +1,79 @@
+-- The code of the map of waiting groups, by which its values are told apart.
+use Rattle.std.specs.Prelude.{ℕ, List, Option, Some, None, Result, Ok, Err, refl, ◌≡◌}
+use Rattle.std.specs.Coded.{Coded, code_by, coded×, coded_list, coded_option, coded_result, coded_ℕ}
+use Rattle.std.specs.FinMap as finite
+use Rattle.raft_base.specs.contracts.pipe_log.FileId as file
+use Rattle.raft_base.specs.declared.pipe_log.FileId.{FileId}
+use Rattle.raft_records.specs.contracts.entry_index.EntryIndex as entry
+use Rattle.raft_records.specs.declared.entry_index.EntryIndex.{EntryIndex}
+use Rattle.raft_table.specs.Steps.{Step, Run, Compact, Put, Del, AtomicGroup, Clean}
+use Rattle.raft_history.specs.RegionSteps.{RegionStep}
+use Rattle.raft_history.specs.WaitingGroup.{GroupFront, Open, Ended, Cut, OpenStretch, WaitingGroup}
+use Rattle.raft_history.specs.WaitingGroups.{WaitingGroups}
+
+-- a step as what it holds, told apart by where that stands
+abbrev pub StepParts : Type 0
+StepParts = Result (List EntryIndex) (Result ℕ (Result (List ℕ × (List ℕ × FileId)) (Result (List ℕ) (Option (ℕ × ℕ)))))
+
+abbrev pub step_parts : Step → StepParts
+step_parts (Run run) = Ok run
+step_parts (Compact i) = Err (Ok i)
+step_parts (Put key value file) = Err (Err (Ok (key, (value, file))))
+step_parts (Del key) = Err (Err (Err (Ok key)))
+step_parts (AtomicGroup start end) = Err (Err (Err (Err (Some (start, end)))))
+step_parts Clean = Err (Err (Err (Err None)))
+
+abbrev pub step_from : StepParts → Step
+step_from (Ok run) = Run run
+step_from (Err (Ok i)) = Compact i
+step_from (Err (Err (Ok p))) = Put p.0 p.1.0 p.1.1
+step_from (Err (Err (Err (Ok key)))) = Del key
+step_from (Err (Err (Err (Err (Some p))))) = AtomicGroup p.0 p.1
+step_from (Err (Err (Err (Err None)))) = Clean
+
+pub step_again : (s : Step) → step_from (step_parts s) ≡ s
+step_again (Run run) = refl
+step_again (Compact i) = refl
+step_again (Put key value file) = refl
+step_again (Del key) = refl
+step_again (AtomicGroup start end) = refl
+step_again Clean = refl
+
+abbrev pub step_code : Coded Step
+step_code =
+    code_by StepParts (coded_result (coded_list entry.the_row.coded) (coded_result coded_ℕ (coded_result (coded× (coded_list coded_ℕ) (coded× (coded_list coded_ℕ) file.the_row.coded)) (coded_result (coded_list coded_ℕ) (coded_option (coded× coded_ℕ coded_ℕ))))))
+    step_parts step_from step_again
+
+abbrev pub region_step_code : Coded RegionStep
+region_step_code = code_by (ℕ × Step) (coded× coded_ℕ step_code) (λ s. (s.region, s.step)) (λ p. record { region = p.0; step = p.1 }) (λ _. refl)
+
+-- a front as its steps, and the file of its End
+abbrev pub front_parts : GroupFront → Option (List RegionStep × Option ℕ)
+front_parts (Open steps) = Some (steps, None)
+front_parts (Ended steps f) = Some (steps, Some f)
+front_parts Cut = None
+
+abbrev pub front_ending : List RegionStep → Option ℕ → GroupFront
+front_ending steps None = Open steps
+front_ending steps (Some f) = Ended steps f
+
+abbrev pub front_from : Option (List RegionStep × Option ℕ) → GroupFront
+front_from None = Cut
+front_from (Some p) = front_ending p.0 p.1
+
+pub front_again : (f : GroupFront) → front_from (front_parts f) ≡ f
+front_again (Open steps) = refl
+front_again (Ended steps f) = refl
+front_again Cut = refl
+
+abbrev pub front_code : Coded GroupFront
+front_code = code_by (Option (List RegionStep × Option ℕ)) (coded_option (coded× (coded_list region_step_code) (coded_option coded_ℕ))) front_parts front_from front_again
+
+abbrev pub stretch_code : Coded OpenStretch
+stretch_code = code_by (ℕ × List RegionStep) (coded× coded_ℕ (coded_list region_step_code)) (λ s. (s.file, s.steps)) (λ p. record { file = p.0; steps = p.1 }) (λ _. refl)
+
+abbrev pub group_code : Coded WaitingGroup
+group_code = code_by (GroupFront × Option OpenStretch) (coded× front_code (coded_option stretch_code)) (λ g. (g.front, g.stretch)) (λ p. record { front = p.0; stretch = p.1 }) (λ _. refl)
+
+abbrev pub groups_code : Coded WaitingGroups
+groups_code = finite.code coded_ℕ group_code

@@ -1,0 +1,214 @@
+//! What is known of one group from a stretch of a history.
+
+ghost use Rattle.std.specs.Prelude.{◌≡◌, ◌<◌, ◌^◌, length, IfOk};
+ghost use Rattle.std.specs.Option.{option_map};
+ghost use Rattle.raft_history.specs.WaitingGroup.{Ended, joined_group, whole_group, whole_of, one_marker, led_by, carried, unmarked};
+ghost use Rattle.raft_history.specs.WaitingGroups.{held_steps, front_steps, stretch_steps};
+ghost use Rattle.raft_memtable.specs.WaitingShown.{front_shown, stretch_shown, group_shown, whole_shown};
+
+use crate::waiting_items::WaitingItems;
+use raft_records::{AtomicGroupStatus, FileSeq};
+use std::alloc::{AllocError, Global};
+
+/// What stands before the first `Begin` of a group: what ends a stretch that began earlier.
+#[derive(Debug, Drop)]
+pub enum GroupFront {
+    /// No `Begin` and no `End` has come; the items so far.
+    Open(WaitingItems),
+    /// An `End` came first; the items up to it, and its file.
+    Ended(WaitingItems, FileSeq),
+    /// A `Begin` came first.
+    Cut,
+}
+
+/// A stretch that has begun and not ended: the file of its `Begin`, and its items.
+#[derive(Debug, Drop)]
+pub struct OpenStretch {
+    pub file: FileSeq,
+    pub items: WaitingItems,
+}
+
+/// What is known of a group.
+#[derive(Debug, Drop)]
+pub struct WaitingGroup {
+    pub front: GroupFront,
+    pub stretch: Option<OpenStretch>,
+}
+
+/// A group that is whole: its items, and the files of its `Begin` and its `End`.
+#[derive(Debug, Drop)]
+pub struct WholeGroup {
+    pub items: WaitingItems,
+    pub start: FileSeq,
+    pub end: FileSeq,
+}
+
+impl GroupFront {
+    /// How many items there are.
+    fn len(&self) -> usize
+        ensures { result ≡ length (front_steps (front_shown self.now)) }
+    {
+        match self {
+            GroupFront::Open(items) => items.len(),
+            GroupFront::Ended(items, _) => items.len(),
+            GroupFront::Cut => 0,
+        }
+    }
+
+    /// The front with items that stand before it.
+    fn led_by(self, items: WaitingItems) -> Result<GroupFront, AllocError>
+        ensures { IfOk result (λ r. front_shown r ≡ led_by items (front_shown self)) }
+    {
+        let mut items = items;
+        match self {
+            GroupFront::Open(more) => {
+                items.append(more)?;
+                Ok(GroupFront::Open(items))
+            }
+            GroupFront::Ended(more, file) => {
+                items.append(more)?;
+                Ok(GroupFront::Ended(items, file))
+            }
+            GroupFront::Cut => Ok(GroupFront::Cut),
+        }
+    }
+}
+
+impl WaitingGroup {
+    /// What is known of a group without a marker.
+    pub fn unmarked(alloc: Global) -> WaitingGroup
+        ensures { group_shown result ≡ unmarked }
+    {
+        WaitingGroup {
+            front: GroupFront::Open(WaitingItems::new(alloc)),
+            stretch: None,
+        }
+    }
+
+    /// What is known of a group from one batch with its marker.
+    pub fn marked(status: AtomicGroupStatus, items: WaitingItems, file: FileSeq) -> WaitingGroup
+        ensures { group_shown result ≡ one_marker status items file }
+    {
+        match status {
+            AtomicGroupStatus::Begin => WaitingGroup {
+                front: GroupFront::Cut,
+                stretch: Some(OpenStretch { file, items }),
+            },
+            AtomicGroupStatus::Middle => WaitingGroup {
+                front: GroupFront::Open(items),
+                stretch: None,
+            },
+            AtomicGroupStatus::End => WaitingGroup {
+                front: GroupFront::Ended(items, file),
+                stretch: None,
+            },
+        }
+    }
+
+    /// How many items wait.
+    pub fn len(&self) -> u128
+        ensures items { result ≡ length (held_steps (group_shown self.now)) }
+        ensures bound { result < 2 ^ 65 }
+    {
+        let behind = match &self.stretch {
+            Some(open) => open.items.len(),
+            None => 0,
+        };
+        self.front.len() as u128 + behind as u128
+    }
+
+    /// What is known of the group from this stretch of a history and a newer one behind it, and the
+    /// group, if the two make it whole.
+    ///
+    /// # Errors
+    ///
+    /// Where there is no memory to put the newer items behind the older ones.
+    pub fn join(self, newer: WaitingGroup) -> Result<(WaitingGroup, Option<WholeGroup>), AllocError>
+        ensures known { IfOk result (λ r. group_shown r.0 ≡ joined_group (group_shown self) (group_shown newer)) }
+        ensures whole { IfOk result (λ r. option_map whole_shown r.1 ≡ whole_group (group_shown self) (group_shown newer)) }
+    {
+        let WaitingGroup {
+            front: older_front,
+            stretch: older_stretch,
+        } = self;
+        let WaitingGroup {
+            front: newer_front,
+            stretch: newer_stretch,
+        } = newer;
+        match (older_front, newer_front) {
+            (GroupFront::Open(items), newer_front) => {
+                let front = newer_front.led_by(items)?;
+                Ok((
+                    WaitingGroup {
+                        front,
+                        stretch: newer_stretch,
+                    },
+                    None,
+                ))
+            }
+            (front, GroupFront::Open(items)) => {
+                let stretch = going_on(older_stretch, items)?;
+                Ok((WaitingGroup { front, stretch }, None))
+            }
+            (front, GroupFront::Ended(items, end)) => {
+                let whole = ended(older_stretch, items, end)?;
+                Ok((
+                    WaitingGroup {
+                        front,
+                        stretch: newer_stretch,
+                    },
+                    whole,
+                ))
+            }
+            (front, GroupFront::Cut) => {
+                Ok((
+                    WaitingGroup {
+                        front,
+                        stretch: newer_stretch,
+                    },
+                    None,
+                ))
+            }
+        }
+    }
+}
+
+/// A stretch, if one is open, with more items.
+fn going_on(
+    stretch: Option<OpenStretch>,
+    items: WaitingItems,
+) -> Result<Option<OpenStretch>, AllocError>
+    ensures { IfOk result (λ r. stretch_shown r ≡ carried (stretch_shown stretch) items) }
+{
+    match stretch {
+        Some(open) => {
+            let mut open = open;
+            open.items.append(items)?;
+            Ok(Some(open))
+        }
+        None => Ok(None),
+    }
+}
+
+/// The group that an `End` makes whole, if a stretch is open.
+fn ended(
+    stretch: Option<OpenStretch>,
+    items: WaitingItems,
+    end: FileSeq,
+) -> Result<Option<WholeGroup>, AllocError>
+    ensures { IfOk result (λ r. option_map whole_shown r ≡ whole_of (stretch_shown stretch) (Ended items end)) }
+{
+    match stretch {
+        Some(open) => {
+            let mut all = open.items;
+            all.append(items)?;
+            let whole = WholeGroup {
+                items: all,
+                start: open.file,
+                end,
+            };
+            Ok(Some(whole))
+        }
+        None => Ok(None),
+    }
+}

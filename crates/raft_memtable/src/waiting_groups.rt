@@ -1,0 +1,169 @@
+//! Groups that wait until they are whole.
+
+ghost use Rattle.std.specs.Prelude.{◌≡◌, ◌+◌, ◌<◌, ◌^◌, length, ℕ, List, [], ◌∷◌, ◌++◌, IfOk, IfSome, IfNone, OnOk, map, option_to_list};
+ghost use Rattle.std.specs.Option.{option_map};
+ghost use Rattle.std.specs.FinMap as finite;
+ghost use Rattle.std.specs.Ordering.{nat_cmp};
+ghost use Rattle.std.specs.BTreeMap.{IsOrdered, is_at};
+ghost use Rattle.std.specs.Map.{remove_entry};
+ghost use Rattle.raft_history.specs.Batches.{Batch, marked_batch};
+ghost use Rattle.raft_history.specs.Effects.{BatchesApart, steps_of, steps_of_wholes};
+ghost use Rattle.raft_history.specs.WaitingGroup.{joined_group, whole_group, one_marker};
+ghost use Rattle.raft_history.specs.WaitingGroups.{groups_in, waiting_steps, steps_or, known, joined_groups, whole_groups};
+ghost use Rattle.raft_memtable.specs.WaitingShown.{seen_entries, group_shown, whole_shown};
+
+use crate::waiting_group::{WaitingGroup, WholeGroup};
+use crate::waiting_items::WaitingItems;
+use raft_records::{AtomicGroupStatus, FileSeq};
+use std::alloc::{AllocError, Global};
+use std::collections::BTreeMap;
+use std::marker::Model;
+
+/// What is known of the groups that have a marker.
+#[derive(Debug, Drop)]
+pub struct WaitingGroups {
+    groups: BTreeMap<u64, WaitingGroup>,
+    alloc: Global,
+}
+
+impl Model for WaitingGroups {
+    ghost use Rattle.raft_history.specs.WaitingGroups.{WaitingGroups};
+    ghost use Rattle.raft_memtable.specs.WaitingGroupsCode.{groups_code};
+
+    ghost Value = { WaitingGroups };
+
+    ghost coded = { groups_code };
+
+    ghost use Rattle.raft_memtable.specs.WaitingGroupsView.{groups_seen, IsSound};
+
+    ghost view = { groups_seen };
+
+    ghost invariant = { IsSound };
+}
+
+impl WaitingGroups {
+    /// No group has a marker.
+    pub fn new(alloc: Global) -> WaitingGroups
+        ensures { result ≡ finite.empty }
+    {
+        WaitingGroups {
+            groups: BTreeMap::new(alloc),
+            alloc,
+        }
+    }
+
+    /// How many groups have a marker.
+    pub fn len(&self) -> usize
+        ensures { result ≡ finite.len self.now }
+    {
+        self.groups.len()
+    }
+
+    /// How many items wait.
+    pub fn waiting_items(&self) -> u128
+        ensures { result ≡ waiting_steps self.now }
+    {
+        let mut count: u128 = 0;
+        for group in self.groups.values() {
+            count += group.len();
+        }
+        count
+    }
+
+    /// Takes in one more batch, with a marker of the group `id`. Answers the group if the batch makes
+    /// it whole.
+    ///
+    /// # Errors
+    ///
+    /// Where there is no memory. The group may then be forgotten.
+    pub fn take_in(
+        &mut self,
+        id: u64,
+        status: AtomicGroupStatus,
+        items: WaitingItems,
+        file: FileSeq,
+    ) -> Result<Option<WholeGroup>, AllocError>
+        ensures known { OnOk result (self.new ≡ finite.insert self.old id (joined_group (known self.old id) (one_marker status items file))) }
+        ensures whole { IfOk result (λ w. option_map whole_shown w ≡ whole_group (known self.old id) (one_marker status items file)) }
+        ensures stands { (h : List Batch) → self.old ≡ groups_in h → OnOk result (self.new ≡ groups_in (h ++ marked_batch items id status file ∷ [])) }
+        ensures steps { (h : List Batch) (r : ℕ) → self.old ≡ groups_in h → IfOk result (λ w. steps_of r (h ++ marked_batch items id status file ∷ []) ≡ steps_of r h ++ steps_or r (option_map whole_shown w)) }
+    {
+        let whole = self.join_one(id, WaitingGroup::marked(status, items, file))?;
+        Ok(whole)
+    }
+
+    /// Joins what is known of the groups of a newer stretch of a history. Answers the groups that the
+    /// two make whole.
+    ///
+    /// # Errors
+    ///
+    /// Where there is no memory. Groups may then be forgotten.
+    pub fn join(&mut self, newer: WaitingGroups) -> Result<Vec<WholeGroup>, AllocError>
+        ensures known { OnOk result (self.new ≡ joined_groups self.old newer) }
+        ensures wholes { IfOk result (λ w. map whole_shown w.items ≡ whole_groups self.old newer) }
+        ensures stands { (h k : List Batch) → self.old ≡ groups_in h → newer ≡ groups_in k → OnOk result (self.new ≡ groups_in (h ++ k)) }
+        ensures steps { (h k : List Batch) (r : ℕ) → self.old ≡ groups_in h → newer ≡ groups_in k → BatchesApart (h ++ k)
+            → IfOk result (λ w. steps_of r (h ++ k) ≡ steps_of r h ++ (steps_of_wholes r (map whole_shown w.items) ++ steps_of r k)) }
+    {
+        let wholes = self.join_each(newer)?;
+        Ok(wholes)
+    }
+
+    /// Joins one group of the newer stretch after another.
+    fn join_each(&mut self, newer: WaitingGroups) -> Result<Vec<WholeGroup>, AllocError>
+        ensures known { OnOk result (self.new ≡ joined_groups self.old newer) }
+        ensures wholes { IfOk result (λ w. map whole_shown w.items ≡ whole_groups self.old newer) }
+    {
+        let mut rest = newer;
+        let mut wholes = Vec::new(self.alloc);
+        while let Some((id, group)) = rest.take_first() {
+            let whole = self.join_one(id, group)?;
+            push_some(&mut wholes, whole)?;
+        }
+        Ok(wholes)
+    }
+
+    /// Joins what is known of one group with what is known of it from a newer stretch.
+    fn join_one(&mut self, id: u64, newer: WaitingGroup) -> Result<Option<WholeGroup>, AllocError>
+        ensures known { OnOk result (self.new ≡ finite.insert self.old id (joined_group (known self.old id) (group_shown newer))) }
+        ensures whole { IfOk result (λ w. option_map whole_shown w ≡ whole_group (known self.old id) (group_shown newer)) }
+    {
+        let older = take_out(&mut self.groups, self.alloc, id);
+        let (group, whole) = older.join(newer)?;
+        self.groups.insert(id, group)?;
+        Ok(whole)
+    }
+
+    /// The first group, and what is known of it, leaves.
+    fn take_first(&mut self) -> Option<(u64, WaitingGroup)>
+        ensures first { IfSome result (λ p. finite.entries self.old ≡ (p.0, group_shown p.1) ∷ finite.entries self.new) }
+        ensures none { IfNone result (finite.entries self.old ≡ []) }
+        ensures unchanged { IfNone result (self.new ≡ self.old) }
+    {
+        let (id, group) = self.groups.pop_first()?;
+        Some((id, group))
+    }
+}
+
+/// Takes out what is known of a group.
+fn take_out(groups: &mut BTreeMap<u64, WaitingGroup>, alloc: Global, id: u64) -> WaitingGroup
+    requires { IsOrdered nat_cmp groups.old }
+    ensures known { group_shown result ≡ known (seen_entries groups.old.entries) id }
+    ensures rest { groups.new.entries ≡ remove_entry (is_at (nat_cmp id)) groups.old.entries }
+    ensures ordered { IsOrdered nat_cmp groups.new }
+{
+    match groups.remove(&id) {
+        Some(group) => group,
+        None => WaitingGroup::unmarked(alloc),
+    }
+}
+
+/// Pushes a group, if there is one.
+fn push_some(wholes: &mut Vec<WholeGroup>, whole: Option<WholeGroup>) -> Result<(), AllocError>
+    ensures { OnOk result (map whole_shown wholes.new.items ≡ map whole_shown wholes.old.items ++ option_to_list (option_map whole_shown whole)) }
+{
+    if let Some(whole) = whole {
+        wholes.push(whole)?;
+    }
+    Ok(())
+}

@@ -1,0 +1,101 @@
+//! Items of groups that are not whole yet.
+
+ghost use Rattle.std.specs.Prelude.{◌≡◌, ◌++◌, [], length, map, is_some, OnOk};
+ghost use Rattle.raft_records.specs.Item.{item_of, pair, pair_of};
+ghost use Rattle.raft_history.specs.RegionSteps.{step_of, steps_of_items};
+ghost use Rattle.raft_memtable.specs.WaitingItems.{has_step};
+
+use raft_records::{KeyValue, LogItem, LogItemContent, OpType, is_reserved};
+use std::alloc::{AllocError, Global};
+use std::marker::Model;
+
+/// Items that wait for the end of their group. Each of them changes a table: the others, as the
+/// group's own markers, are dropped when they come in.
+#[derive(Debug, Drop)]
+pub struct WaitingItems {
+    items: Vec<LogItem>,
+}
+
+impl Model for WaitingItems {
+    ghost use Rattle.std.specs.Prelude.{List};
+    ghost use Rattle.raft_history.specs.RegionSteps.{RegionStep};
+
+    ghost Value = { List RegionStep };
+
+    ghost use Rattle.raft_memtable.specs.WaitingItemsView.{steps_in, EachHasStep};
+
+    ghost view = { steps_in };
+
+    ghost invariant = { EachHasStep };
+}
+
+impl WaitingItems {
+    /// No items.
+    pub fn new(alloc: Global) -> WaitingItems
+        ensures { result ≡ [] }
+    {
+        WaitingItems {
+            items: Vec::new(alloc),
+        }
+    }
+
+    /// The items that change a table, in order.
+    pub fn of_items(items: Vec<LogItem>) -> WaitingItems
+        ensures { result ≡ steps_of_items (map item_of items.items) }
+    {
+        let mut items = items;
+        items.retain(|item| has_step(item));
+        WaitingItems { items }
+    }
+
+    /// How many items there are.
+    pub fn len(&self) -> usize
+        ensures { result ≡ length self.now }
+    {
+        self.items.len()
+    }
+
+    /// Moves the items of `more` behind these.
+    ///
+    /// # Errors
+    ///
+    /// Where there is no memory for them.
+    pub fn append(&mut self, more: WaitingItems) -> Result<(), AllocError>
+        ensures { OnOk result (self.new ≡ self.old ++ more) }
+    {
+        let mut more = more.items;
+        self.items.append(&mut more)?;
+        Ok(())
+    }
+
+    /// The items, in order.
+    pub fn into_items(self) -> Vec<LogItem>
+        ensures { steps_of_items (map item_of result.items) ≡ self }
+    {
+        self.items
+    }
+}
+
+/// Whether an item changes a table: it isn't of the reserved key, and if it is a `Put`, it has a value
+/// and a file.
+fn has_step(item: &LogItem) -> bool
+    ensures { result ≡ has_step item.now }
+{
+    match &item.content {
+        LogItemContent::EntryIndexes(_) | LogItemContent::Command(_) => true,
+        LogItemContent::Kv(kv) => changes_key(kv),
+    }
+}
+
+/// Whether a change of a key changes a table.
+fn changes_key(kv: &KeyValue) -> bool
+    ensures { result ≡ is_some (step_of (pair (pair_of kv.now))) }
+{
+    if is_reserved(kv.key.as_slice()) {
+        return false;
+    }
+    match kv.op_type {
+        OpType::Put => kv.value.is_some() && kv.file_id.is_some(),
+        OpType::Del => true,
+    }
+}

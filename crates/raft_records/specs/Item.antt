@@ -53,11 +53,15 @@ abbrev pub written_value : OpType → Option (List ℕ) → Option (List ℕ)
 written_value Put value = value
 written_value Del value = None
 
+-- a change of a key without what its bytes don't hold
+abbrev pub bare_pair : Pair → Pair
+bare_pair p = record { op_type = p.op_type; key = p.key; value = written_value p.op_type p.value; file_id = None }
+
 -- a content without what its bytes don't hold
 abbrev pub bare_content : Content → Content
 bare_content (entries es) = entries (map bare_entry es)
 bare_content (command c) = command c
-bare_content (pair p) = pair (record { op_type = p.op_type; key = p.key; value = written_value p.op_type p.value; file_id = None })
+bare_content (pair p) = pair (bare_pair p)
 
 -- an item without what its bytes don't hold: places, compression types, files, and a Del's value
 abbrev pub bare : Item → Item

@@ -132,8 +132,8 @@ impl EntryIndexes {
         }
     }
 
-    /// Puts the entries' bytes `by` bytes further back.
-    pub(crate) fn raise(&mut self, by: u32)
+    /// Raises the entries' offsets: their bytes stand `by` bytes further back.
+    pub(crate) fn raise_offsets(&mut self, by: u32)
         requires { CanRaise by self.old.0.items }
         ensures { self.new.0.items ≡ map (raised_entry by) self.old.0.items }
     {
@@ -152,14 +152,14 @@ impl EntryIndexes {
     /// Appends the entries' bytes. A list that is not consecutive, an entry that doesn't begin where
     /// the one before it ended, and a tail offset above 2^32 - 1 are `InvalidArgument`. On `Err` the
     /// vector is as it was.
-    pub fn encode(&self, alloc: Global, buf: &mut Vec<u8>) -> Result<()>
+    pub fn encode(&self, buf: &mut Vec<u8>) -> Result<()>
         ensures ok { OnOk result (buf.new.items ≡ buf.old.items ++ entries_bytes self.now.0.items) }
         ensures accepted { OnOk result (AreWritable self.now.0.items) }
         ensures err { OnErr result (buf.new.items ≡ buf.old.items) }
         ensures fault { IfErr result (IsEntriesRefusal self.now.0.items) }
     {
         if !self.is_writable() {
-            return Err(Error::InvalidArgument(format!(in alloc;
+            return Err(Error::InvalidArgument(format!(in *buf.allocator();
                 "the entries are not consecutive or don't run on"
             )?));
         }

@@ -41,6 +41,7 @@ impl FilePart {
         ensures ok { IfOk result (λ part. part
             ≡ record { id = id; version = version; offset = offset; bytes = bytes.items }) }
         ensures accepted { OnOk result (offset + length bytes.items < 2 ^ 64) }
+        ensures refused { OnErr result (2 ^ 64 ≤ offset + length bytes.items) }
         ensures fault { IfErr result (IsPartRefusal (offset + length bytes.items)) }
     {
         if bytes.len() as u64 > u64::MAX - offset {

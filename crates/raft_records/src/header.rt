@@ -126,6 +126,7 @@ pub(crate) fn parse_block(
     compression_type: CompressionType,
 ) -> Result<Vec<u8>>
     ensures ok { IfOk result (λ entries. IsBlockOf len bytes.now entries.items) }
+    ensures some { OnErr result (0 < len) }
     ensures refused { IfErr result (λ e. e ≢ Error.Memory → (entries : List ℕ) → IsBlockOf len bytes.now entries → ⊥) }
     ensures fault { IfErr result (IsBlockFault len bytes.now) }
 {
@@ -153,7 +154,7 @@ pub(crate) fn encode_behind(buf: &mut Vec<u8>, item_batch: &mut LogItemBatch) ->
     ensures accepted { OnOk result (encoded_length item_batch.old (drop 16 buf.old.items) < 2 ^ 56) }
     ensures same { item_batch.new ≡ item_batch.old }
     ensures err { OnErr result (Keeps buf.old.items buf.new.items) }
-    ensures full { IfErr result (λ e. e ≢ Error.Memory →
+    ensures fault { IfErr result (λ e. e ≢ Error.Memory →
         (e ≡ Error.Full) × (2 ^ 56 ≤ encoded_length item_batch.old (drop 16 buf.old.items))) }
 {
     close_entry_block(buf)?;

@@ -4,7 +4,7 @@ use Rattle.std.proofs.lemmas.List.Edits.{map_over_more}
 use Rattle.raft_records.specs.ItemBatch.{raised_entry}
 use Rattle.raft_records.specs.Entries.{no_entry}
 use Rattle.raft_records.proofs.LayLemmas.{raise_fits}
-use Rattle.raft_records.proofs.entry_index.EntryIndexes.raise.Goals as goal
+use Rattle.raft_records.proofs.entry_index.EntryIndexes.raise_offsets.Goals as goal
 
 pub overflow_add-entry : goal.overflow_add-entry
 overflow_add-entry c =

@@ -1,6 +1,6 @@
 use Rattle.std.proofs.Common.{◌≡◌, ◌++◌, map, take, drop}
 use Rattle.raft_records.specs.ItemBatch.{raised_entry}
-use Rattle.raft_records.proofs.entry_index.EntryIndexes.raise.Given as goal
+use Rattle.raft_records.proofs.entry_index.EntryIndexes.raise_offsets.Given as goal
 
 -- the entries so far are raised
 abbrev pub invariant-loop-entry : goal.invariant-loop-entry

@@ -1,7 +1,7 @@
 use Rattle.raft_records.proofs.BatchLemmas.{one_batch}
 use Rattle.raft_records.proofs.ContentLemmas.{item_one_front}
 use Rattle.raft_records.proofs.WrittenLemmas.{item_spelled, batch_spelled}
-use Rattle.raft_records.proofs.log_item_batch.items_are_read_again.Goals as goal
+use Rattle.raft_records.proofs.laws.items_are_read_again.Goals as goal
 
 pub returns-clause-item : goal.returns-clause-item
 returns-clause-item c = item_spelled

@@ -1,5 +1,5 @@
 use Rattle.raft_records.proofs.EqualLemmas.{items_compared, exactly}
-use Rattle.raft_records.proofs.log_item_batch.traits.LogItemBatchPartialEq.eq.Goals as goal
+use Rattle.raft_records.proofs.log_item_batch.LogItemBatchPartialEq.eq.Goals as goal
 
 pub returns-clause-tested : goal.returns-clause-tested
 returns-clause-tested c =

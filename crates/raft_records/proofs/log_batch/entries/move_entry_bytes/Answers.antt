@@ -1,7 +1,7 @@
 use Rattle.std.proofs.Common.{◌≡◌, ◌<◌, ◌≤◌, ◌∙◌, ◌++◌, List, ℕ, length, drop, ap, arith}
 use Rattle.raft_records.proofs.JoinLemmas.{appended, taken_over}
-use Rattle.raft_records.proofs.log_batch.merge.move_entry_bytes.Goals as goal
-use Rattle.raft_records.proofs.log_batch.merge.move_entry_bytes.Goals.{then-len-le-HEADER_LEN, else-len-le-HEADER_LEN}
+use Rattle.raft_records.proofs.log_batch.entries.move_entry_bytes.Goals as goal
+use Rattle.raft_records.proofs.log_batch.entries.move_entry_bytes.Goals.{then-len-le-HEADER_LEN, else-len-le-HEADER_LEN}
 
 pub returns-clause-joined : goal.returns-clause-joined
 returns-clause-joined c =

@@ -1,7 +1,7 @@
 use Rattle.std.proofs.Common.{ℕ, ◌%◌, ◌^◌, Some, subst, arith}
 use Rattle.raft_records.specs.ItemBatch.{IsItemBatch}
 use Rattle.raft_records.proofs.BatchLemmas.{one_file}
-use Rattle.raft_records.proofs.log_item_batch.batches_belong_to_one_file.Goals as goal
+use Rattle.raft_records.proofs.laws.batches_belong_to_one_file.Goals as goal
 
 pub returns-clause-other_file : goal.returns-clause-other_file
 returns-clause-other_file c =

@@ -1,7 +1,7 @@
 use Rattle.std.proofs.Common.{◌∙◌, sym, subst}
 use Rattle.raft_records.specs.ItemBatch.{IsKeptBeside}
 use Rattle.raft_records.proofs.CloneLemmas.{items_clone}
-use Rattle.raft_records.proofs.log_item_batch.traits.LogItemBatchClone.clone.Goals as goal
+use Rattle.raft_records.proofs.log_item_batch.LogItemBatchClone.clone.Goals as goal
 
 pub invariant_of-result : goal.invariant_of-result
 invariant_of-result c =

@@ -12,7 +12,7 @@ use Rattle.raft_records.specs.declared.key_value.OpType.{OpType}
 use Rattle.raft_records.specs.declared.key_value.OpType.TheVariants.{Put, Del}
 use Rattle.raft_records.specs.Item.{Item, Content, entries, command, pair, bare_entry, bare_content, bare, written_value}
 use Rattle.raft_records.specs.Entries.{IsConsecutiveFrom, IsConsecutive, Tile}
-use Rattle.raft_records.specs.Grammar.{op_type_byte, IsCommand, IsByteString, IsPairOf, tail_of, IsTail, behind_entry, IsRun, IsEntries, IsContent, IsItem, end_behind, behind_item}
+use Rattle.raft_records.specs.Grammar.{op_type_byte, IsCommand, IsByteString, IsPairOf, tail_of, IsTail, behind_entry, AreIndexAndTails, IsEntries, IsContent, IsItem, end_behind, behind_item}
 use Rattle.raft_records.specs.Spelling.{command_bytes, byte_string, value_bytes, pair_bytes, tails_bytes, run_bytes, entries_bytes, content_bytes, item_bytes, IsWritableWith}
 use Rattle.raft_records.specs.ItemBatch.{FitsBehind, FitTogether, AreItems, IsItemBatch, batch_bytes, checksum_bytes}
 use Rattle.raft_records.specs.Range.{HasIndex, HasLength, IsContentInRange, IsInRange, AreInRange}
@@ -47,7 +47,7 @@ tails_spelled i s (e ∷ es) h t =
       split = refl;
     }
 
-run_spelled : (s : ℕ) (es : List EntryIndex) → IsConsecutive es → Tile s es → IsRun s (length es) (run_bytes es) (map bare_entry es)
+run_spelled : (s : ℕ) (es : List EntryIndex) → IsConsecutive es → Tile s es → AreIndexAndTails s (length es) (run_bytes es) (map bare_entry es)
 run_spelled s [] h t = (refl, refl)
 run_spelled s (e ∷ es) h t =
     let index_fits : e.index < 2 ^ 64 - 1 = h.1 in
@@ -61,8 +61,8 @@ run_spelled s (e ∷ es) h t =
 
 pub entries_spelled : (s : ℕ) (es : List EntryIndex) → length es < 2 ^ 64 → IsConsecutive es → Tile s es → IsEntries s (entries_bytes es) (map bare_entry es)
 entries_spelled s es lt h t =
-    let counted : IsPair IsVarint (IsRun s) (entries_bytes es) (length es) (map bare_entry es) = record { first = varint (length es); second = run_bytes es; first_spells = varint_spells (length es) lt; second_spells = run_spelled s es h t; split = refl } in
-    subst (λ (n : ℕ). IsPair IsVarint (IsRun s) (entries_bytes es) n (map bare_entry es)) (sym (length-map es bare_entry)) counted
+    let counted : IsPair IsVarint (AreIndexAndTails s) (entries_bytes es) (length es) (map bare_entry es) = record { first = varint (length es); second = run_bytes es; first_spells = varint_spells (length es) lt; second_spells = run_spelled s es h t; split = refl } in
+    subst (λ (n : ℕ). IsPair IsVarint (AreIndexAndTails s) (entries_bytes es) n (map bare_entry es)) (sym (length-map es bare_entry)) counted
 
 content_spelled : (s : ℕ) (c : Content) → FitsBehind s c → IsContentInRange c → IsContent s (content_bytes c) (bare_content c)
 content_spelled s (entries es) f r = (entries_bytes es, refl, entries_spelled s es r f.0 f.1)

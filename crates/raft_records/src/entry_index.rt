@@ -212,7 +212,8 @@ impl EntryIndexes {
         place: Placement,
     ) -> Result<(EntryIndexes, u32, &[u8])>
         ensures ok { IfOk result (λ read. (es : List EntryIndex) ×
-            Reads (IsEntries entries_size) bytes.now read.2.now es × (read.0.0.items ≡ map (entry_in place) es)) }
+            Reads (IsEntries entries_size) bytes.now read.2.now es
+            × (read.0.0.items ≡ map (entry_in place) es)) }
         ensures size { IfOk result (λ read. read.1 ≡ end_behind entries_size read.0.0.items) }
         ensures refused { IfErr result (λ e. e ≢ Error.Memory → HasNoFront (IsEntries entries_size) bytes.now) }
         ensures fault { IfErr result (IsEntriesFault entries_size bytes.now) }
@@ -256,7 +257,8 @@ fn parse_tails(
     place: Placement,
 ) -> Result<(Vec<EntryIndex>, u32, &[u8])>
     ensures ok { IfOk result (λ read. (es : List EntryIndex) ×
-        Reads (AreTails count (first, entries_size)) bytes.now read.2.now es × (read.0.items ≡ map (entry_in place) es)) }
+        Reads (AreTails count (first, entries_size)) bytes.now read.2.now es
+        × (read.0.items ≡ map (entry_in place) es)) }
     ensures size { IfOk result (λ read. read.1 ≡ end_behind entries_size read.0.items) }
     ensures refused { IfErr result (λ e. e ≢ Error.Memory →
         HasNoFront (AreTails count (first, entries_size)) bytes.now) }

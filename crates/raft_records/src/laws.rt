@@ -9,12 +9,12 @@ ghost use Rattle.raft_records.specs.declared.compression_type.CompressionType.{C
 ghost use Rattle.raft_records.specs.declared.command.Command.{Command};
 ghost use Rattle.raft_records.specs.declared.entry_index.EntryIndex.{EntryIndex};
 ghost use Rattle.raft_records.specs.FilePart.{Part, part_signature, IsNext};
-ghost use Rattle.raft_records.specs.Item.{Item, bare, Pair, bare_entry, bare_pair, entries, command, pair};
+ghost use Rattle.raft_records.specs.Item.{Item, bare, Pair, bare_entry, bare_pair, entries, command, pair, AreInBytes};
 ghost use Rattle.raft_records.specs.ItemBatch.{placed, IsItemBatch};
 ghost use Rattle.raft_records.specs.LogBatch.{IsBatchOf, IsLogBatch, IsReadable, encoded_length, entry_place, log_batch_bytes};
 ghost use Rattle.raft_records.specs.Header.{IsHeader, IsBlockOf};
 ghost use Rattle.raft_records.specs.Range.{AreInRange, IsContentInRange};
-ghost use Rattle.raft_records.specs.Parts.{IsFramed, HasParts, LogBatchIsSpelled, AreInBytes};
+ghost use Rattle.raft_records.specs.Parts.{IsFramed, HasParts, LogBatchIsSpelled};
 ghost use Rattle.raft_records.specs.Grammar.{IsCommand, IsEntries, IsItem, IsKeyValue};
 ghost use Rattle.raft_records.specs.Entries.{IsConsecutive, Tile};
 ghost use Rattle.raft_records.specs.Spelling.{IsWritablePair, command_bytes, entries_bytes, pair_bytes};
@@ -88,18 +88,19 @@ pub fn log_batches_belong_to_one_file()
 {}
 
 /// A written batch that stands in a part of the file that it is signed for, at the offset of the block
-/// that it was written to, is never refused there: `next_batch` answers its items with the places that
-/// `finish_write` gives them, without what bytes don't hold, and where the bytes end.
+/// that it was written to, is never refused there: `next_batch` answers exactly the items that
+/// `finish_write` leaves, and where the bytes end. What is asked of the items holds of every batch, as
+/// its `is_read_again` tells.
 pub fn written_batches_are_next()
     ensures next { (part : Part) (at : ℕ) (block : FileBlockHandle) (items : List Item) (entry_bytes rest : List ℕ)
         (answer : Option (List Item × ℕ)) →
-        IsBatchOf items entry_bytes → AreInRange items → items ≢ [] →
+        IsBatchOf items entry_bytes → AreInRange items → AreInBytes items → items ≢ [] →
         encoded_length items entry_bytes < 2 ^ 56 →
         block.id ≡ part.id → block.offset ≡ part.offset + at →
         drop at part.bytes ≡ log_batch_bytes (part_signature part) items entry_bytes ++ rest →
         IsNext part at answer →
         answer ≡ Some (
-          map (placed (entry_place block entry_bytes) compressions.None) (map bare items),
+          map (placed (entry_place block entry_bytes) compressions.None) items,
           at + encoded_length items entry_bytes,
         ) }
     ensures accepted { (part : Part) (at : ℕ) (items : List Item) (entry_bytes rest : List ℕ) →

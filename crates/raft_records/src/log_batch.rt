@@ -4,7 +4,7 @@ ghost use Rattle.std.specs.Prelude.{◌≡◌, ◌≢◌, ℕ, ◌+◌, ◌-◌,
 ghost use Rattle.raft_base.specs.Reading.{Reads, HasNoFront};
 ghost use Rattle.raft_base.specs.Signature.{signature_of};
 ghost use Rattle.std.specs.Vec.Iter.{into_iter_items};
-ghost use Rattle.raft_records.specs.Item.{Item, bare, command_item, item_of, pair_item};
+ghost use Rattle.raft_records.specs.Item.{Item, bare, command_item, item_of, pair_item, AreInBytes};
 ghost use Rattle.raft_records.specs.LogBatch.{Stage, populating, encoded, sealed, IsSealedStage, empty_batch, IsBatchOf, encoded_length, log_batch_bytes, IsLogBatch, approximate_length, entry_place};
 ghost use Rattle.raft_records.specs.Sizes.{AreSmall};
 ghost use Rattle.raft_records.specs.Range.{AreInRange};
@@ -14,9 +14,10 @@ ghost use Rattle.raft_records.specs.Group.{reserved_key, IsKeyRefusal, IsMessage
 ghost use Rattle.raft_records.specs.ItemBatch.{placed};
 ghost use Rattle.raft_records.specs.declared.compression_type.CompressionType.TheVariants as compressions;
 
-use crate::checksum::CHECKSUM_LEN;
+use crate::checksum::LOG_BATCH_CHECKSUM_LEN;
 use crate::header::{
-    HEADER_LEN, encode_behind, offset_behind, parse_block, parse_header, reserve_header, seal,
+    LOG_BATCH_HEADER_LEN, encode_behind, offset_behind, parse_block, parse_header, reserve_header,
+    seal,
 };
 use crate::laws::log_batches_are_read_again;
 use crate::{Command, CompressionType, LogItem, LogItemBatch, is_reserved};
@@ -29,10 +30,10 @@ use std::vec;
 mod entries;
 
 /// The most bytes that the entries of a batch have together.
-const MOST_ENTRY_BYTES: u64 = (1 << 31) - 1;
+const MAX_LOG_ENTRIES_SIZE_PER_BATCH: u64 = (1 << 31) - 1;
 
 /// The room in bytes that an emptied batch keeps at most for the bytes of later items.
-const MOST_ROOM_KEPT: usize = 8 * 1024 * 1024;
+const MAX_LOG_BATCH_BUFFER_CAP: usize = 8 * 1024 * 1024;
 
 /// What the buffer of a batch holds.
 #[derive(Clone, Copy, PartialEq, Eq, Debug)]
@@ -151,7 +152,7 @@ impl LogBatch {
             BufState::Open => {
                 let entry_bytes = self.item_batch.entries_size() as usize;
                 let items = self.item_batch.approximate_size();
-                items.saturating_add(HEADER_LEN + entry_bytes + CHECKSUM_LEN)
+                items.saturating_add(LOG_BATCH_HEADER_LEN + entry_bytes + LOG_BATCH_CHECKSUM_LEN)
             }
             BufState::Encoded | BufState::Sealed(_) => self.buf.len(),
         }
@@ -163,7 +164,7 @@ impl LogBatch {
         ensures emptied { self.new ≡ empty_batch }
     {
         self.buf.clear();
-        self.buf.shrink_to(MOST_ROOM_KEPT);
+        self.buf.shrink_to(MAX_LOG_BATCH_BUFFER_CAP);
         self.state = BufState::Open;
         self.item_batch.drain()
     }
@@ -230,12 +231,14 @@ impl LogBatch {
     }
 
     /// What is written and signed of a batch is read again: the entries of its items tile its entry
-    /// bytes, which are 2^31 - 1 at most, its items' numbers are in the ranges of their types, its bytes
-    /// are fewer than 2^56 once they are made, and, where it has items, they are a log batch of these
-    /// items and entry bytes. This is a law: it computes nothing.
+    /// bytes, which are 2^31 - 1 at most, its items' numbers are in the ranges of their types, bytes hold
+    /// all of its items but places and files, its bytes are fewer than 2^56 once they are made, and, where
+    /// it has items, they are a log batch of these items and entry bytes. This is a law: it computes
+    /// nothing.
     pub fn is_read_again(&self)
         ensures tiled { IsBatchOf self.now.items self.now.entry_bytes }
         ensures in_range { AreInRange self.now.items }
+        ensures in_bytes { AreInBytes self.now.items }
         ensures short { self.now.stage ≢ populating →
             encoded_length self.now.items self.now.entry_bytes < 2 ^ 56 }
         ensures spelled { (signature : Option ℕ) → self.now.items ≢ [] →
@@ -378,8 +381,8 @@ impl LogBatch {
     {
         let entry_place = FileBlockHandle {
             id: block.id,
-            offset: block.offset + HEADER_LEN as u64,
-            len: offset_behind(self.item_batch.entries_size()) - HEADER_LEN,
+            offset: block.offset + LOG_BATCH_HEADER_LEN as u64,
+            len: offset_behind(self.item_batch.entries_size()) - LOG_BATCH_HEADER_LEN,
         };
         self.item_batch.place(entry_place, CompressionType::None);
     }
@@ -463,11 +466,11 @@ impl LogBatch {
     fn entry_bytes(&self) -> &[u8]
         ensures { result.now ≡ self.now.entry_bytes }
     {
-        let end = HEADER_LEN + self.item_batch.entries_size() as usize;
+        let end = LOG_BATCH_HEADER_LEN + self.item_batch.entries_size() as usize;
         if self.buf.len() < end {
             &[]
         } else {
-            &self.buf[HEADER_LEN..end]
+            &self.buf[LOG_BATCH_HEADER_LEN..end]
         }
     }
 }

@@ -255,7 +255,8 @@ impl LogItemContent {
         place: Placement,
     ) -> Result<(LogItemContent, u32, &[u8])>
         ensures ok { IfOk result (λ read. (content : Content) ×
-            Reads (IsContent entries_size) bytes.now read.2.now content × (content_of read.0 ≡ content_in place content)) }
+            Reads (IsContent entries_size) bytes.now read.2.now content
+            × (content_of read.0 ≡ content_in place content)) }
         ensures size { IfOk result (λ read.
             read.1 ≡ entry_bytes_with entries_size (content_of read.0)) }
         ensures refused { IfErr result (λ e. e ≢ Error.Memory →

@@ -8,7 +8,7 @@ ghost use Rattle.raft_base.specs.Reading.{Reads, HasNoFront, HasOneFront};
 ghost use Rattle.raft_base.specs.Signature.{signature_of, signature_in};
 ghost use Rattle.raft_records.specs.Grammar.{IsCommand, IsEntries, IsItem, IsKeyValue, behind_item};
 ghost use Rattle.raft_records.specs.InFile.{AreInFile};
-ghost use Rattle.raft_records.specs.Item.{Item, Pair, bare, bare_entry, bare_pair, entries, command, pair, content_of, item_of, entries_item, command_item, pair_item};
+ghost use Rattle.raft_records.specs.Item.{Item, Pair, bare, bare_entry, bare_pair, entries, command, pair, content_of, item_of, entries_item, command_item, pair_item, AreInBytes, IsInBytes};
 ghost use Rattle.raft_records.specs.Entries.{IsConsecutive, Tile};
 ghost use Rattle.raft_records.specs.ItemBatch.{AreItems, IsItemBatch, IsDecoded, AreItemsFault, IsItemBatchFault, checksum_bytes, batch_bytes, placed, raised, laid, entry_lengths, entry_bytes_of, end_of_items, FitsBehind, IsEncoded, no_checksum, FitTogether, first_entry};
 ghost use Rattle.raft_records.specs.Faults.{IsMemoryOrMessage};
@@ -18,7 +18,7 @@ ghost use Rattle.raft_records.specs.Range.{IsContentInRange, AreInRange};
 ghost use Rattle.raft_records.specs.Written.{ItemIsSpelled, BatchIsSpelled};
 ghost use Rattle.raft_records.specs.declared.key_value.OpType.TheVariants.{Put, Del};
 
-use crate::checksum::{CHECKSUM_LEN, sign, verify_checksum};
+use crate::checksum::{LOG_BATCH_CHECKSUM_LEN, sign, verify_checksum};
 use crate::entry_index::Placement;
 use crate::{Command, CompressionType, EntryIndex, LogItem, LogItemContent, OpType};
 use byteorder::{ByteOrder, LittleEndian};
@@ -97,13 +97,16 @@ impl LogItemBatch {
         self.items.iter()
     }
 
-    /// What is written and signed of a batch is read again: its items fit together and their numbers
-    /// are in the ranges of their types. This is a law: it computes nothing.
+    /// What is written and signed of a batch is read again: its items fit together, their numbers are
+    /// in the ranges of their types, and bytes hold all of them but places and files. This is a law: it
+    /// computes nothing.
     pub fn is_read_again(&self)
         ensures fit { FitTogether 0 self.now }
         ensures in_range { AreInRange self.now }
+        ensures in_bytes { AreInBytes self.now }
         ensures spelled { (signature : Option ℕ) →
-            IsItemBatch (batch_bytes self.now ++ checksum_bytes signature (batch_bytes self.now)) signature (map bare self.now) [] }
+            IsItemBatch (batch_bytes self.now ++ checksum_bytes signature (batch_bytes self.now))
+            signature (map bare self.now) [] }
     {
         let _count = self.items.len();
     }
@@ -122,7 +125,7 @@ impl LogItemBatch {
         ensures covers { AreSmall self.now → length (batch_bytes self.now) < 2 ^ 56 →
             length (batch_bytes self.now) + 4 ≤ result }
     {
-        self.item_size.saturating_add(8 + CHECKSUM_LEN)
+        self.item_size.saturating_add(8 + LOG_BATCH_CHECKSUM_LEN)
     }
 
     /// The first entry of the first item that has entries to list, if it has any.
@@ -275,7 +278,7 @@ impl LogItemBatch {
             buf.truncate(start);
             return Ok(written?);
         }
-        let end = buf.len() - CHECKSUM_LEN;
+        let end = buf.len() - LOG_BATCH_CHECKSUM_LEN;
         self.checksum = Some(crc32(&buf[start..end]));
         Ok(())
     }
@@ -287,7 +290,7 @@ impl LogItemBatch {
         ensures { buf.new ≡ batch_bytes self.now
             ++ checksum_bytes (signature_of context.now) (batch_bytes self.now) }
     {
-        let end = buf.len() - CHECKSUM_LEN;
+        let end = buf.len() - LOG_BATCH_CHECKSUM_LEN;
         let checksum = match self.checksum {
             Some(checksum) => checksum,
             None => crc32(&buf[..end]),
@@ -326,6 +329,7 @@ impl LogItemBatch {
     #[inline(always)]
     fn add(&mut self, item: LogItem, entries_size: u32) -> Result<()>
         requires fits { FitsBehind (entry_bytes_of self.old) (content_of item.content) }
+        requires in_bytes { IsInBytes (content_of item.content) }
         requires end { entries_size ≡ behind_item (entry_bytes_of self.old) (item_of item) }
         ensures ok { OnOk result (self.new ≡ self.old ++ item_of item ∷ []) }
         ensures err { OnErr result (self.new ≡ self.old) }
@@ -404,7 +408,7 @@ fn write_items(buf: &mut Vec<u8>, items: &[LogItem]) -> std::result::Result<(), 
     for item in items {
         item.write(buf)?;
     }
-    buf.extend_from_slice(&[0; CHECKSUM_LEN])?;
+    buf.extend_from_slice(&[0; LOG_BATCH_CHECKSUM_LEN])?;
     Ok(())
 }
 

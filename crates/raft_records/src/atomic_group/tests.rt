@@ -84,7 +84,7 @@ fn group_begins(rt: HostRuntime) {
     }
 }
 
-/// The batches of a group, and the items that mark them.
+/// The batches of a group, and the group markers in them.
 fn marked_batches(alloc: Global) -> Result<[(LogBatch, &'static [u8]); 3]> {
     let mut builder = AtomicGroupBuilder::with_id(9);
     let mut first = LogBatch::default(alloc);

@@ -2,22 +2,22 @@
 
 ghost use Rattle.std.specs.Prelude.{◌≡◌, ◌≢◌, ◌↔◌, ◌+◌, ◌-◌, ◌^◌, ◌<◌, ◌≤◌, [], ◌∷◌, ◌++◌, map, length, IsTrue, IfOk, IfErr, OnOk, OnErr, drop, vec_len, vec_capacity};
 ghost use Rattle.std.specs.List.{concat};
-ghost use Rattle.raft_records.specs.Entries.{IsConsecutive, entry_at, with_lengths};
+ghost use Rattle.raft_records.specs.Entries.{IsConsecutive, entry_with_index, with_lengths};
 ghost use Rattle.raft_records.specs.Faults.{OneRefuses};
 ghost use Rattle.raft_records.specs.Item.{entries_item};
 ghost use Rattle.raft_records.specs.ItemBatch.{entry_bytes_of, laid};
-ghost use Rattle.raft_records.specs.LogBatch.{populating, with_entries, IsBytesFault, IsAddFault, empty_batch, joined};
+ghost use Rattle.raft_records.specs.LogBatch.{populating, with_entries_added, IsBytesFault, IsAddFault, empty_batch, joined};
 ghost use Rattle.raft_records.specs.Spelling.{Keeps};
 
-use super::{MOST_ENTRY_BYTES, MOST_ROOM_KEPT};
-use crate::header::{HEADER_LEN, reserve_header};
+use super::{MAX_LOG_BATCH_BUFFER_CAP, MAX_LOG_ENTRIES_SIZE_PER_BATCH};
+use crate::header::{LOG_BATCH_HEADER_LEN, reserve_header};
 use crate::{EntryIndex, LogBatch, LogItemBatch};
 use raft_base::{Error, Message, MessageExt, Result};
 use std::alloc::AllocError;
 use std::mem;
 
 /// The most bytes that the buffer of an open batch has.
-const MOST_OPEN_BYTES: usize = HEADER_LEN + MOST_ENTRY_BYTES as usize;
+const MOST_OPEN_BYTES: usize = LOG_BATCH_HEADER_LEN + MAX_LOG_ENTRIES_SIZE_PER_BATCH as usize;
 
 impl LogBatch {
     /// Adds entries of a region to an open batch, each as the bytes of its message. No entries add
@@ -26,15 +26,15 @@ impl LogBatch {
     /// the batch is as it was.
     pub fn add_entries<M: MessageExt>(&mut self, region_id: u64, entries: &[M::Entry]) -> Result<()>
         requires { self.old.stage ≡ populating }
-        ensures ok { OnOk result (self.new ≡ with_entries self.old region_id
-            (map (λ e. entry_at (M.index_of e)) entries.now) (map M.Entry.bytes_of entries.now)) }
-        ensures consecutive { OnOk result (IsConsecutive (map (λ e. entry_at (M.index_of e)) entries.now)) }
+        ensures ok { OnOk result (self.new ≡ with_entries_added self.old region_id
+            (map (λ e. entry_with_index (M.index_of e)) entries.now) (map M.Entry.bytes_of entries.now)) }
+        ensures consecutive { OnOk result (IsConsecutive (map (λ e. entry_with_index (M.index_of e)) entries.now)) }
         ensures accepted { OnOk result (entries.now ≢ [] →
             length self.old.entry_bytes + length (concat (map M.Entry.bytes_of entries.now)) < 2 ^ 31) }
         ensures err { OnErr result (self.new ≡ self.old) }
         ensures refused { OnErr result (entries.now ≢ []) }
         ensures fault { IfErr result (IsAddFault (OneRefuses M.Entry.refuses entries.now)
-            (map (λ e. entry_at (M.index_of e)) entries.now)
+            (map (λ e. entry_with_index (M.index_of e)) entries.now)
             (length self.old.entry_bytes + length (concat (map M.Entry.bytes_of entries.now)))) }
     {
         if entries.is_empty() {
@@ -67,7 +67,7 @@ impl LogBatch {
         requires open { self.old.stage ≡ populating }
         requires counts { length entry_indexes.items ≡ length entries.items }
         requires consecutive { IsConsecutive entry_indexes.items }
-        ensures ok { OnOk result (self.new ≡ with_entries self.old region_id
+        ensures ok { OnOk result (self.new ≡ with_entries_added self.old region_id
             entry_indexes.items (map (λ e. e.items) entries.items)) }
         ensures accepted { OnOk result (entry_indexes.items ≢ [] →
             length self.old.entry_bytes + length (concat (map (λ e. e.items) entries.items)) < 2 ^ 31) }
@@ -114,7 +114,7 @@ impl LogBatch {
         if rhs.is_empty() {
             return Ok(());
         }
-        if own + others > MOST_ENTRY_BYTES {
+        if own + others > MAX_LOG_ENTRIES_SIZE_PER_BATCH {
             return Err(Error::Full);
         }
         reserve_behind(&mut self.buf, rhs.buf.len())?;
@@ -192,13 +192,14 @@ fn write_messages<M: MessageExt>(
         (buf.new.items ≡ buf.old.items ++ concat (map M.Entry.bytes_of entries.now)) }
     ensures items { OnOk result (item_batch.new ≡ item_batch.old
         ++ entries_item region_id (laid (entry_bytes_of item_batch.old)
-        (with_lengths (map (λ e. entry_at (M.index_of e)) entries.now) (map M.Entry.bytes_of entries.now))) ∷ []) }
-    ensures consecutive { OnOk result (IsConsecutive (map (λ e. entry_at (M.index_of e)) entries.now)) }
+        (with_lengths (map (λ e. entry_with_index (M.index_of e)) entries.now)
+        (map M.Entry.bytes_of entries.now))) ∷ []) }
+    ensures consecutive { OnOk result (IsConsecutive (map (λ e. entry_with_index (M.index_of e)) entries.now)) }
     ensures accepted { OnOk result (length buf.new.items < 16 + 2 ^ 31) }
     ensures err { OnErr result (item_batch.new ≡ item_batch.old) }
     ensures err_bytes { OnErr result (Keeps buf.old.items buf.new.items) }
     ensures fault { IfErr result (IsAddFault (OneRefuses M.Entry.refuses entries.now)
-        (map (λ e. entry_at (M.index_of e)) entries.now)
+        (map (λ e. entry_with_index (M.index_of e)) entries.now)
         (entry_bytes_of item_batch.old + length (concat (map M.Entry.bytes_of entries.now)))) }
 {
     if !have_consecutive_indexes::<M>(entries) {
@@ -212,7 +213,7 @@ fn write_messages<M: MessageExt>(
 
 /// Whether the indexes of messages rise by one and none is 2^64 - 1. No message is written for it.
 fn have_consecutive_indexes<M: MessageExt>(entries: &[M::Entry]) -> bool
-    ensures { IsTrue result ↔ IsConsecutive (map (λ e. entry_at (M.index_of e)) entries.now) }
+    ensures { IsTrue result ↔ IsConsecutive (map (λ e. entry_with_index (M.index_of e)) entries.now) }
 {
     let mut index = match entries.first() {
         Some(first) => M::index(first),
@@ -237,7 +238,7 @@ fn append_messages<M: MessageExt>(
     ensures bytes { OnOk result
         (buf.new.items ≡ buf.old.items ++ concat (map M.Entry.bytes_of entries.now)) }
     ensures lengths { IfOk result (λ es. es.items
-        ≡ with_lengths (map (λ e. entry_at (M.index_of e)) entries.now) (map M.Entry.bytes_of entries.now)) }
+        ≡ with_lengths (map (λ e. entry_with_index (M.index_of e)) entries.now) (map M.Entry.bytes_of entries.now)) }
     ensures accepted { OnOk result (entries.now ≢ [] → length buf.new.items < 16 + 2 ^ 31) }
     ensures err { OnErr result (Keeps buf.old.items buf.new.items) }
     ensures fault { IfErr result (IsBytesFault (OneRefuses M.Entry.refuses entries.now)
@@ -265,8 +266,8 @@ fn reserve_behind(buf: &mut Vec<u8>, len: usize) -> std::result::Result<(), Allo
     ensures room { OnOk result (16 < length buf.old.items →
         length buf.old.items + (len - 16) ≤ vec_capacity buf.new) }
 {
-    if buf.len() > HEADER_LEN {
-        buf.reserve(len.saturating_sub(HEADER_LEN))?;
+    if buf.len() > LOG_BATCH_HEADER_LEN {
+        buf.reserve(len.saturating_sub(LOG_BATCH_HEADER_LEN))?;
     }
     Ok(())
 }
@@ -279,13 +280,13 @@ fn move_entry_bytes(buf: &mut Vec<u8>, others: &mut Vec<u8>)
     ensures joined { drop 16 buf.new.items ≡ drop 16 buf.old.items ++ drop 16 others.old.items }
     ensures emptied { others.new.items ≡ [] }
 {
-    if buf.len() <= HEADER_LEN {
+    if buf.len() <= LOG_BATCH_HEADER_LEN {
         mem::swap(buf, others);
     } else {
         append_entry_bytes(buf, others.as_slice());
     }
     others.clear();
-    others.shrink_to(MOST_ROOM_KEPT);
+    others.shrink_to(MAX_LOG_BATCH_BUFFER_CAP);
 }
 
 /// Appends the entry bytes of `others`, for which there is room.
@@ -293,7 +294,11 @@ fn append_entry_bytes(buf: &mut Vec<u8>, others: &[u8])
     requires { length buf.old.items + (length others.now - 16) ≤ vec_capacity buf.old }
     ensures { buf.new.items ≡ buf.old.items ++ drop 16 others.now }
 {
-    if others.len() > HEADER_LEN && buf.extend_from_slice(&others[HEADER_LEN..]).is_err() {
+    if others.len() > LOG_BATCH_HEADER_LEN
+        && buf
+            .extend_from_slice(&others[LOG_BATCH_HEADER_LEN..])
+            .is_err()
+    {
         unreachable!();
     }
 }

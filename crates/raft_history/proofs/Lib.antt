@@ -15,6 +15,7 @@ pub mod NamedLemmas
 pub mod NewLaws
 pub mod QueueLemmas
 pub mod ReadLemmas
+pub mod ReadingLemmas
 pub mod RecordLemmas
 pub mod ShiftLemmas
 pub mod SoundLemmas

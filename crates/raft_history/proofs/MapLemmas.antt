@@ -41,11 +41,11 @@ module _ {X : Type 0} where
   pub get_left : (m : finite.FinMap nat_cmp X) (id q : ℕ) → eq_by_cmp nat_cmp q id ≡ false → finite.get (finite.remove m id) q ≡ finite.get m q
   get_left m id q f = finite.get-remove nat_cmp_total m id q ∙ ap (λ b. cond b None (finite.get m q)) f
 
-with_own : (m : Tables) (r : ℕ) (t : Option Table) → finite.get (with_table m r t) r ≡ t
+pub with_own : (m : Tables) (r : ℕ) (t : Option Table) → finite.get (with_table m r t) r ≡ t
 with_own m r None = get_gone m r
 with_own m r (Some t) = get_own m r t
 
-with_other : (m : Tables) (r q : ℕ) (t : Option Table) → eq_by_cmp nat_cmp q r ≡ false → finite.get (with_table m r t) q ≡ finite.get m q
+pub with_other : (m : Tables) (r q : ℕ) (t : Option Table) → eq_by_cmp nat_cmp q r ≡ false → finite.get (with_table m r t) q ≡ finite.get m q
 with_other m r q None f = get_left m r q f
 with_other m r q (Some t) f = get_other m r q t f
 

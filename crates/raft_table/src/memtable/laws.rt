@@ -17,8 +17,8 @@ ghost use Rattle.raft_table.specs.Start.{appended, replayed, leaves_hole};
 /// rewrite queue, where it stands alone; after a compaction the old entries from its index on.
 pub fn entries_stand_by_index()
     ensures appended { (es run after : List EntryIndex) → IsRunIn Append run → 0 < length run → appended es run ≡ Some after → StandsBehind es run after }
-    ensures replayed { (es run after : List EntryIndex) → IsRunIn Append run → 0 < length run → replayed Append es run ≡ Some after → StandsBehind es run after }
-    ensures rewritten { (es run after : List EntryIndex) → IsRunIn Rewrite run → 0 < length run → leaves_hole (end_of es) (start_of run) ≡ false → replayed Rewrite es run ≡ Some after → StandsBehind es run after }
+    ensures replayed { (queue : LogQueue) (es run after : List EntryIndex) → IsRunIn queue run → 0 < length run → replayed Append es run ≡ Some after → StandsBehind es run after }
+    ensures rewritten { (queue : LogQueue) (es run after : List EntryIndex) → IsRunIn queue run → 0 < length run → leaves_hole (end_of es) (start_of run) ≡ false → replayed Rewrite es run ≡ Some after → StandsBehind es run after }
     ensures hole { (es run after : List EntryIndex) → leaves_hole (end_of es) (start_of run) ≡ true → replayed Rewrite es run ≡ Some after → after ≡ run }
     ensures compacted { (index i : ℕ) (es : List EntryIndex) → entry_at i (from index es) ≡ (if nat_lt i index then None else entry_at i es) }
 {}

@@ -22,14 +22,15 @@ use Rattle.raft_records.specs.declared.entry_index.EntryIndex.{EntryIndex}
 use Rattle.raft_records.specs.declared.key_value.OpType.{OpType}
 use Rattle.raft_records.specs.declared.key_value.OpType.TheVariants.{Put, Del}
 use Rattle.raft_records.specs.declared.log_item.LogItem.{LogItem}
-use Rattle.raft_records.specs.Item.{Item, Content, entries, command, pair, item_of, content_of}
+use Rattle.raft_records.specs.Item.{Item, Content, entries, command, pair, item_of, content_of, IsInBytes}
 use Rattle.raft_records.specs.Entries.{IsConsecutiveFrom, IsConsecutive, Tile}
-use Rattle.raft_records.specs.Grammar.{tail_of, IsTail, behind_entry, IsRun, IsPairOf, IsContent, IsItem, end_behind, behind_item}
+use Rattle.raft_records.specs.Grammar.{tail_of, IsTail, behind_entry, AreIndexAndTails, IsPairOf, IsContent, IsItem, end_behind, behind_item}
 use Rattle.raft_records.specs.Spelling.{IsWritableWith, tails_bytes, entries_bytes, item_bytes}
-use Rattle.raft_records.specs.ItemBatch.{FitsBehind, FitTogether, end_of_items, placed_entry, placed, IsKeptBeside, AreItems, IsCounted, signed, checksum_bytes, IsItemBatch, IsSealed, AreItemsFault, batch_bytes, first_entry, first_entry_or}
+use Rattle.raft_records.specs.ItemBatch.{FitsBehind, FitTogether, end_of_items, placed_entry, placed, IsKeptBeside, AreItems, IsCountAndItems, signed, checksum_bytes, IsItemBatch, HasSeal, AreItemsFault, batch_bytes, first_entry, first_entry_or}
 use Rattle.raft_records.specs.Range.{IsInRange}
 use Rattle.raft_records.specs.Faults.{IsItemFault}
 use Rattle.raft_records.proofs.ContentLemmas.{item_one_front}
+use Rattle.raft_records.proofs.InBytesLemmas.{in_bytes_append, in_bytes_placed}
 use Rattle.raft_records.proofs.RangeLemmas.{range_append, range_placed}
 use Rattle.raft_records.proofs.SealLemmas.{four, content_is}
 use Rattle.raft_records.specs.Sizes.{item_size, items_size, saturated}
@@ -48,11 +49,11 @@ pub size_push : (xs : List Item) (x : Item) → items_size (xs ++ x ∷ []) ≡ 
 size_push [] x = omega arith
 size_push (y ∷ ys) x = omega (arith, size_push ys x)
 
-pub kept_push : (xs : List Item) (x : Item) (size entry_bytes size' : ℕ) (checksum : Option ℕ) → IsKeptBeside xs size entry_bytes checksum → FitsBehind (end_of_items 0 xs) x.content → IsInRange x → size' ≡ saturated (size + saturated (item_size x)) → IsKeptBeside (xs ++ x ∷ []) size' (behind_item (end_of_items 0 xs) x) None
-kept_push xs x size entry_bytes size' checksum k f r e =
+pub kept_push : (xs : List Item) (x : Item) (size entry_bytes size' : ℕ) (checksum : Option ℕ) → IsKeptBeside xs size entry_bytes checksum → FitsBehind (end_of_items 0 xs) x.content → IsInRange x → IsInBytes x.content → size' ≡ saturated (size + saturated (item_size x)) → IsKeptBeside (xs ++ x ∷ []) size' (behind_item (end_of_items 0 xs) x) None
+kept_push xs x size entry_bytes size' checksum k f r b e =
     let before : size ≡ saturated (items_size xs) = k.size in
     let pushed : items_size (xs ++ x ∷ []) ≡ items_size xs + item_size x = size_push xs x in
-    record { fit = fit_push 0 xs x k.fit f; in_range = range_append xs (x ∷ []) k.in_range (r, tt); entry_bytes = sym (end_push 0 xs x); size = omega arith; checksum = λ crc some. absurd cc }
+    record { fit = fit_push 0 xs x k.fit f; in_range = range_append xs (x ∷ []) k.in_range (r, tt); in_bytes = in_bytes_append xs (x ∷ []) k.in_bytes (b, tt); entry_bytes = sym (end_push 0 xs x); size = omega arith; checksum = λ crc some. absurd cc }
 
 -- ---- places
 
@@ -98,7 +99,7 @@ tails_fit next bytes (e ∷ es) q =
     let tail_fits : tail_of e < 2 ^ 32 = t.tail_fits in
     ((index, omega arith, rest.0), (begins, omega arith, subst (λ (o : ℕ). Tile (o + e.entry_len) es) begins rest.1))
 
-run_fits : (s n : ℕ) (bytes : List ℕ) (es : List EntryIndex) → IsRun s n bytes es → IsConsecutive es × Tile s es
+run_fits : (s n : ℕ) (bytes : List ℕ) (es : List EntryIndex) → AreIndexAndTails s n bytes es → IsConsecutive es × Tile s es
 run_fits s n bytes [] r = (tt, tt)
 run_fits s n bytes (e ∷ es) r = tails_fit (e.index, s) r.second (e ∷ es) r.second_spells.tails
 
@@ -148,12 +149,12 @@ items_one_front n a b more rest xs ys p q e = sequence_one_front behind_item IsI
 
 -- ---- the whole batch
 
-pub counted_read : (n : ℕ) (content mid rest : List ℕ) (xs : List Item) → Reads IsVarint content mid n → Reads (AreItems n) mid rest xs → Reads IsCounted content rest xs
+pub counted_read : (n : ℕ) (content mid rest : List ℕ) (xs : List Item) → Reads IsVarint content mid n → Reads (AreItems n) mid rest xs → Reads IsCountAndItems content rest xs
 counted_read n content mid rest xs r t =
     let both = reads_pair IsVarint AreItems n xs r t in
     record { front = both.front; spells = subst (λ (k : ℕ). IsPair IsVarint AreItems both.front k xs) (sym t.spells.count) both.spells; split = both.split }
 
-pub batch_read : (signature : Option ℕ) (bytes content rest : List ℕ) (xs : List Item) → IsSealed signature bytes content → Reads IsCounted content rest xs → IsItemBatch bytes signature xs rest
+pub batch_read : (signature : Option ℕ) (bytes content rest : List ℕ) (xs : List Item) → HasSeal signature bytes content → Reads IsCountAndItems content rest xs → IsItemBatch bytes signature xs rest
 batch_read signature bytes content rest xs s r =
     record {
       front = r.front;
@@ -162,22 +163,22 @@ batch_read signature bytes content rest xs s r =
     }
 
 -- the content of an item batch is its count, its items and its rest
-pub batch_content : (signature : Option ℕ) (bytes content rest : List ℕ) (xs : List Item) → IsSealed signature bytes content → (b : IsItemBatch bytes signature xs rest) → content ≡ b.front ++ rest
+pub batch_content : (signature : Option ℕ) (bytes content rest : List ℕ) (xs : List Item) → HasSeal signature bytes content → (b : IsItemBatch bytes signature xs rest) → content ≡ b.front ++ rest
 batch_content signature bytes content rest xs s b =
     (content_is signature bytes (b.front ++ rest) content (checksum_bytes signature (b.front ++ rest)) b.split (four (signed signature (crc32_of (b.front ++ rest)))) s).0
 
-counted_some : (front : List ℕ) (xs : List Item) → IsCounted front xs → 0 < length front
+counted_some : (front : List ℕ) (xs : List Item) → IsCountAndItems front xs → 0 < length front
 counted_some front xs p = omega (arith, ap length p.split, length-append p.first p.second, varint_some p.first (length xs) p.first_spells)
 
-pub no_seal : (signature : Option ℕ) (bytes : List ℕ) → ((content : List ℕ) → IsSealed signature bytes content → ⊥) → (xs : List Item) (rest : List ℕ) → IsItemBatch bytes signature xs rest → ⊥
+pub no_seal : (signature : Option ℕ) (bytes : List ℕ) → ((content : List ℕ) → HasSeal signature bytes content → ⊥) → (xs : List Item) (rest : List ℕ) → IsItemBatch bytes signature xs rest → ⊥
 no_seal signature bytes none xs rest b =
     none (b.front ++ rest) (record { some = omega (arith, length-append b.front rest, counted_some b.front xs b.counted); split = b.split })
 
-pub no_items_count : (signature : Option ℕ) (bytes content : List ℕ) → IsSealed signature bytes content → HasNoFront IsVarint content → (xs : List Item) (rest : List ℕ) → IsItemBatch bytes signature xs rest → ⊥
+pub no_items_count : (signature : Option ℕ) (bytes content : List ℕ) → HasSeal signature bytes content → HasNoFront IsVarint content → (xs : List Item) (rest : List ℕ) → IsItemBatch bytes signature xs rest → ⊥
 no_items_count signature bytes content s none xs rest b =
     no_first IsVarint AreItems none b.front rest (length xs) xs b.counted (batch_content signature bytes content rest xs s b)
 
-pub no_items : (signature : Option ℕ) (n : ℕ) (bytes content mid : List ℕ) → IsSealed signature bytes content → Reads IsVarint content mid n → HasNoFront (AreItems n) mid → (xs : List Item) (rest : List ℕ) → IsItemBatch bytes signature xs rest → ⊥
+pub no_items : (signature : Option ℕ) (n : ℕ) (bytes content mid : List ℕ) → HasSeal signature bytes content → Reads IsVarint content mid n → HasNoFront (AreItems n) mid → (xs : List Item) (rest : List ℕ) → IsItemBatch bytes signature xs rest → ⊥
 no_items signature n bytes content mid s r none xs rest b =
     no_second IsVarint AreItems varint_one_front r none b.front rest (length xs) xs b.counted (batch_content signature bytes content rest xs s b)
 
@@ -258,6 +259,7 @@ placed_kept block c xs size bytes crc k =
     record {
       fit = fit_placed block c 0 xs k.fit;
       in_range = range_placed block c xs k.in_range;
+      in_bytes = in_bytes_placed block c xs k.in_bytes;
       size = k.size ∙ ap saturated (sym (sizes_placed block c xs));
       entry_bytes = k.entry_bytes ∙ sym (end_of_placed block c 0 xs);
       checksum = λ n some. k.checksum n some ∙ ap crc32_of (sym (batch_placed block c xs));
@@ -273,7 +275,7 @@ first_entry_step xs i x lt at =
 
 pub one_batch : (bytes rest rest' : List ℕ) (signature : Option ℕ) (xs ys : List Item) → IsItemBatch bytes signature xs rest → IsItemBatch bytes signature ys rest' → (xs ≡ ys) × (rest ≡ rest')
 one_batch bytes rest rest' signature xs ys b d =
-    let sealed : IsSealed signature bytes (d.front ++ rest') = record { some = omega (arith, length-append d.front rest', counted_some d.front ys d.counted); split = d.split } in
+    let sealed : HasSeal signature bytes (d.front ++ rest') = record { some = omega (arith, length-append d.front rest', counted_some d.front ys d.counted); split = d.split } in
     let same : d.front ++ rest' ≡ b.front ++ rest = batch_content signature bytes (d.front ++ rest') rest xs sealed b in
     let one = pair_one_front IsVarint AreItems varint_one_front items_one_front b.front d.front rest rest' (length xs) (length ys) xs ys b.counted d.counted (sym same) in
     (one.2, append_cancel_left d.front rest rest' (ap (λ (t : List ℕ). t ++ rest) (sym one.0) ∙ sym same))
@@ -290,7 +292,7 @@ signed_one crc s t e =
 pub one_file : (bytes rest rest' : List ℕ) (s t : ℕ) (xs ys : List Item) → s < 2 ^ 32 → t < 2 ^ 32 → IsItemBatch bytes (Some s) xs rest → IsItemBatch bytes (Some t) ys rest' → s ≡ t
 one_file bytes rest rest' s t xs ys sf tf b d =
     let content = b.front ++ rest in
-    let sealed : IsSealed (Some t) bytes (d.front ++ rest') = record { some = omega (arith, length-append d.front rest', counted_some d.front ys d.counted); split = d.split } in
+    let sealed : HasSeal (Some t) bytes (d.front ++ rest') = record { some = omega (arith, length-append d.front rest', counted_some d.front ys d.counted); split = d.split } in
     let is = content_is (Some t) bytes content (d.front ++ rest') (checksum_bytes (Some s) content) b.split (four (signed (Some s) (crc32_of content))) sealed in
     let crcs : crc32_of (d.front ++ rest') ≡ crc32_of content = ap crc32_of is.0 in
     let seals : little_bytes 4 (bit_xor (crc32_of content) t) ≡ little_bytes 4 (bit_xor (crc32_of content) s) = ap (λ (n : ℕ). little_bytes 4 (bit_xor n t)) (sym crcs) ∙ is.1 in

@@ -10,7 +10,7 @@ use Rattle.raft_base.proofs.SequenceLemmas.{reads_more, state_after-push, stuck,
 use Rattle.raft_records.specs.declared.compression_type.CompressionType.TheVariants as compressions
 use Rattle.raft_records.specs.declared.entry_index.EntryIndex.{EntryIndex}
 use Rattle.raft_records.specs.Entries.{IsConsecutiveFrom, IsConsecutive, Tile, RunOn}
-use Rattle.raft_records.specs.Grammar.{tail_of, IsTail, behind_entry, AreTails, IsRun, IsEntries, end_behind}
+use Rattle.raft_records.specs.Grammar.{tail_of, IsTail, behind_entry, AreTails, AreIndexAndTails, IsEntries, end_behind}
 use Rattle.raft_records.specs.Faults.{IsTailFault, IsTailsFault, IsEntriesFault}
 
 -- ---- one tail offset
@@ -102,22 +102,22 @@ tails_one_front n next a b more rest xs ys p q e = sequence_one_front behind_ent
 
 -- ---- behind the count
 
-pub run_read : (s count first : ℕ) (bytes mid rest : List ℕ) (es : List EntryIndex) → 0 < count → Reads IsVarint bytes mid first → Reads (AreTails count (first, s)) mid rest es → Reads (IsRun s count) bytes rest es
+pub run_read : (s count first : ℕ) (bytes mid rest : List ℕ) (es : List EntryIndex) → 0 < count → Reads IsVarint bytes mid first → Reads (AreTails count (first, s)) mid rest es → Reads (AreIndexAndTails s count) bytes rest es
 run_read s count first bytes mid rest [] some r t = let len : 0 ≡ count = t.spells.count in absurd (omega arith)
 run_read s count first bytes mid rest (e ∷ es) some r t =
     let index : e.index ≡ first = t.spells.tails.first_spells.index in
     let both = reads_pair IsVarint (λ first. AreTails count (first, s)) first (e ∷ es) r t in
     record { front = both.front; spells = subst (λ (i : ℕ). IsPair IsVarint (λ first. AreTails count (first, s)) both.front i (e ∷ es)) (sym index) both.spells; split = both.split }
 
-pub no_first_index : (s count : ℕ) (bytes : List ℕ) → 0 < count → HasNoFront IsVarint bytes → HasNoFront (IsRun s count) bytes
+pub no_first_index : (s count : ℕ) (bytes : List ℕ) → 0 < count → HasNoFront IsVarint bytes → HasNoFront (AreIndexAndTails s count) bytes
 no_first_index s count bytes some none front rest [] p e = let zero_is : count ≡ 0 = p.1 in absurd (omega arith)
 no_first_index s count bytes some none front rest (x ∷ xs) p e = no_first IsVarint (λ first. AreTails count (first, s)) none front rest x.index (x ∷ xs) p e
 
-pub no_tails : (s count first : ℕ) (bytes mid : List ℕ) → 0 < count → Reads IsVarint bytes mid first → HasNoFront (AreTails count (first, s)) mid → HasNoFront (IsRun s count) bytes
+pub no_tails : (s count first : ℕ) (bytes mid : List ℕ) → 0 < count → Reads IsVarint bytes mid first → HasNoFront (AreTails count (first, s)) mid → HasNoFront (AreIndexAndTails s count) bytes
 no_tails s count first bytes mid some r none front rest [] p e = let zero_is : count ≡ 0 = p.1 in absurd (omega arith)
 no_tails s count first bytes mid some r none front rest (x ∷ xs) p e = no_second IsVarint (λ first. AreTails count (first, s)) varint_one_front r none front rest x.index (x ∷ xs) p e
 
-run_one_front : (s n : ℕ) → HasOneFront (IsRun s n)
+run_one_front : (s n : ℕ) → HasOneFront (AreIndexAndTails s n)
 run_one_front s n a b more rest [] [] p q e = (p.0 ∙ sym q.0, refl)
 run_one_front s n a b more rest [] (y ∷ ys) p q e = let zero_is : n ≡ 0 = p.1 in let len : suc (length ys) ≡ n = q.second_spells.count in absurd (omega arith)
 run_one_front s n a b more rest (x ∷ xs) [] p q e = let zero_is : n ≡ 0 = q.1 in let len : suc (length xs) ≡ n = p.second_spells.count in absurd (omega arith)
@@ -125,23 +125,23 @@ run_one_front s n a b more rest (x ∷ xs) (y ∷ ys) p q e =
     let same = pair_one_front IsVarint (λ first. AreTails n (first, s)) varint_one_front (λ first. tails_one_front n (first, s)) a b more rest x.index y.index (x ∷ xs) (y ∷ ys) p q e in
     (same.0, same.2)
 
-run_length : (s n : ℕ) (bytes : List ℕ) (es : List EntryIndex) → IsRun s n bytes es → n ≡ length es
+run_length : (s n : ℕ) (bytes : List ℕ) (es : List EntryIndex) → AreIndexAndTails s n bytes es → n ≡ length es
 run_length s n bytes [] p = p.1
 run_length s n bytes (e ∷ es) p = sym p.second_spells.count
 
-pub entries_read : (s count : ℕ) (bytes mid rest : List ℕ) (es : List EntryIndex) → Reads IsVarint bytes mid count → Reads (IsRun s count) mid rest es → Reads (IsEntries s) bytes rest es
+pub entries_read : (s count : ℕ) (bytes mid rest : List ℕ) (es : List EntryIndex) → Reads IsVarint bytes mid count → Reads (AreIndexAndTails s count) mid rest es → Reads (IsEntries s) bytes rest es
 entries_read s count bytes mid rest es r t =
-    let both = reads_pair IsVarint (IsRun s) count es r t in
-    record { front = both.front; spells = subst (λ (n : ℕ). IsPair IsVarint (IsRun s) both.front n es) (run_length s count t.front es t.spells) both.spells; split = both.split }
+    let both = reads_pair IsVarint (AreIndexAndTails s) count es r t in
+    record { front = both.front; spells = subst (λ (n : ℕ). IsPair IsVarint (AreIndexAndTails s) both.front n es) (run_length s count t.front es t.spells) both.spells; split = both.split }
 
-pub empty_run : (s : ℕ) (rest : List ℕ) → Reads (IsRun s 0) rest rest []
+pub empty_run : (s : ℕ) (rest : List ℕ) → Reads (AreIndexAndTails s 0) rest rest []
 empty_run s rest = record { front = []; spells = (refl, refl); split = refl }
 
 pub no_count : (s : ℕ) (bytes : List ℕ) → HasNoFront IsVarint bytes → HasNoFront (IsEntries s) bytes
-no_count s bytes none front rest es p e = no_first IsVarint (IsRun s) none front rest (length es) es p e
+no_count s bytes none front rest es p e = no_first IsVarint (AreIndexAndTails s) none front rest (length es) es p e
 
-pub no_run : (s count : ℕ) (bytes mid : List ℕ) → Reads IsVarint bytes mid count → HasNoFront (IsRun s count) mid → HasNoFront (IsEntries s) bytes
-no_run s count bytes mid r none front rest es p e = no_second IsVarint (IsRun s) varint_one_front r none front rest (length es) es p e
+pub no_run : (s count : ℕ) (bytes mid : List ℕ) → Reads IsVarint bytes mid count → HasNoFront (AreIndexAndTails s count) mid → HasNoFront (IsEntries s) bytes
+no_run s count bytes mid r none front rest es p e = no_second IsVarint (AreIndexAndTails s) varint_one_front r none front rest (length es) es p e
 
 -- a fault behind the count and the first index
 pub entries_fault : (s count first : ℕ) (bytes mid tails : List ℕ) (fault : Error) → 0 < count → Reads IsVarint bytes mid count → Reads IsVarint mid tails first → IsTailsFault count (first, s) tails fault → IsEntriesFault s bytes fault
@@ -157,7 +157,7 @@ entries_fault s count first bytes mid tails fault some r t f =
 
 pub entries_one_front : (s : ℕ) → HasOneFront (IsEntries s)
 entries_one_front s a b more rest x y p q e =
-    let same = pair_one_front IsVarint (IsRun s) varint_one_front (run_one_front s) a b more rest (length x) (length y) x y p q e in
+    let same = pair_one_front IsVarint (AreIndexAndTails s) varint_one_front (run_one_front s) a b more rest (length x) (length y) x y p q e in
     (same.0, same.2)
 
 -- ---- consecutive indexes

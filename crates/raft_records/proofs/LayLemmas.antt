@@ -7,6 +7,7 @@ use Rattle.raft_records.specs.Entries.{IsConsecutiveFrom, IsConsecutive, Tile}
 use Rattle.raft_records.specs.Grammar.{tail_of, end_behind, behind_item}
 use Rattle.raft_records.specs.ItemBatch.{FitsBehind, FitTogether, end_of_items, entry_bytes_of, laid, entry_lengths, raised_entry, raised_content, raised, CanRaise, CanRaiseContent, IsKeptBeside}
 use Rattle.raft_records.specs.Sizes.{item_size, items_size, saturated}
+use Rattle.raft_records.proofs.InBytesLemmas.{in_bytes_append, in_bytes_raised}
 use Rattle.raft_records.proofs.RangeLemmas.{range_append, range_raised}
 
 -- ---- laid
@@ -192,6 +193,7 @@ merged_kept xs ys size size' bytes bytes' total crc crc' k l lt sum =
     record {
       fit = fit_append 0 xs (map (raised bytes) ys) k.fit (subst (λ (o : ℕ). FitTogether o (map (raised bytes) ys)) start fit);
       in_range = range_append xs (map (raised bytes) ys) k.in_range (range_raised bytes ys l.in_range);
+      in_bytes = in_bytes_append xs (map (raised bytes) ys) k.in_bytes (in_bytes_raised bytes ys l.in_bytes);
       size = omega arith;
       entry_bytes = sym (end_append 0 xs (map (raised bytes) ys) ∙ ap (λ (o : ℕ). end_of_items o (map (raised bytes) ys)) (sym start) ∙ raised_items_end 0 bytes ys ∙ omega arith);
       checksum = λ c some. absurd cc;

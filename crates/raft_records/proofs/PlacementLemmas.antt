@@ -13,7 +13,7 @@ use Rattle.raft_records.specs.declared.entry_index.Placement.{Placement}
 use Rattle.raft_records.specs.declared.key_value.OpType.{OpType}
 use Rattle.raft_records.specs.declared.key_value.OpType.TheVariants.{Put, Del}
 use Rattle.raft_records.specs.Item.{Item, Content, Pair, entries, command, pair, bare_entry}
-use Rattle.raft_records.specs.Grammar.{tail_of, IsTail, behind_entry, AreTails, IsRun, IsEntries, IsPairOf, IsContent, IsItem, end_behind}
+use Rattle.raft_records.specs.Grammar.{tail_of, IsTail, behind_entry, AreTails, AreIndexAndTails, IsEntries, IsPairOf, IsContent, IsItem, end_behind}
 use Rattle.raft_records.specs.ItemBatch.{placed}
 use Rattle.raft_records.specs.Placement.{entry_between, file_in, entry_in, content_in, item_in}
 use Rattle.raft_records.proofs.EntryLemmas.{AreReadSoFar, one_more_read, end_read, all_read}
@@ -43,7 +43,7 @@ tails_unplaced next bytes (e ∷ es) q =
 pub entries_unplaced : (s : ℕ) (bytes : List ℕ) (es : List EntryIndex) → IsEntries s bytes es → map (entry_in unplaced) es ≡ es
 entries_unplaced s bytes es p = go (length es) es p.second_spells
   where
-    go : (n : ℕ) (xs : List EntryIndex) → IsRun s n p.second xs → map (entry_in unplaced) xs ≡ xs
+    go : (n : ℕ) (xs : List EntryIndex) → AreIndexAndTails s n p.second xs → map (entry_in unplaced) xs ≡ xs
     go n [] r = refl
     go n (x ∷ xs) r = tails_unplaced (x.index, s) r.second (x ∷ xs) r.second_spells.tails
 

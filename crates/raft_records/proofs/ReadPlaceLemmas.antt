@@ -3,9 +3,8 @@ use Rattle.std.proofs.Common.{◌≡◌, List, [], ◌∷◌, map, Some, refl, a
 use Rattle.raft_base.specs.declared.pipe_log.FileBlockHandle.{FileBlockHandle}
 use Rattle.raft_records.specs.declared.compression_type.CompressionType.{CompressionType}
 use Rattle.raft_records.specs.declared.entry_index.EntryIndex.{EntryIndex}
-use Rattle.raft_records.specs.Item.{Item, Content, entries, command, pair, bare_entry, bare_content, bare}
+use Rattle.raft_records.specs.Item.{Item, Content, entries, command, pair, bare_entry, bare_content, bare, IsInBytes, AreInBytes}
 use Rattle.raft_records.specs.ItemBatch.{placed_entry, placed_content, placed}
-use Rattle.raft_records.specs.Parts.{IsInBytes, AreInBytes}
 
 entries_read : (block : FileBlockHandle) (c : CompressionType) (es : List EntryIndex) → map (placed_entry block c) (map bare_entry es) ≡ map (placed_entry block c) es
 entries_read block c [] = refl

@@ -8,7 +8,7 @@ use Rattle.raft_base.specs.Reading.{Reads}
 use Rattle.raft_base.specs.Fixed.{IsLittle}
 use Rattle.raft_base.specs.Checksum.{crc32_of}
 use Rattle.raft_base.proofs.FixedLemmas.{IsReadAgain-little_bytes}
-use Rattle.raft_records.specs.ItemBatch.{signed, checksum_bytes, IsSealed}
+use Rattle.raft_records.specs.ItemBatch.{signed, checksum_bytes, HasSeal}
 use Rattle.raft_records.proofs.ItemLemmas.{same_length}
 
 pub four : (n : ℕ) → length (little_bytes 4 n) ≡ 4
@@ -26,24 +26,24 @@ pub signed_twice : (signature : Option ℕ) (n : ℕ) → signed signature (sign
 signed_twice None n = refl
 signed_twice (Some s) n = xor_assoc n s s ∙ ap (bit_xor n) (xor_self s) ∙ xor_zero_r n
 
-pub too_short : (signature : Option ℕ) (bytes content : List ℕ) → length bytes ≤ 4 → IsSealed signature bytes content → ⊥
+pub too_short : (signature : Option ℕ) (bytes content : List ℕ) → length bytes ≤ 4 → HasSeal signature bytes content → ⊥
 too_short signature bytes content le s =
     let some : 0 < length content = s.some in
     absurd (omega (arith, ap length s.split, length-append content (checksum_bytes signature content), four (signed signature (crc32_of content))))
 
-pub sealed_by : (signature : Option ℕ) (bytes content seal : List ℕ) (found actual : ℕ) → 0 < length content → bytes ≡ content ++ seal → seal ≡ little_bytes 4 found → actual ≡ crc32_of content → found ≡ signed signature actual → IsSealed signature bytes content
+pub sealed_by : (signature : Option ℕ) (bytes content seal : List ℕ) (found actual : ℕ) → 0 < length content → bytes ≡ content ++ seal → seal ≡ little_bytes 4 found → actual ≡ crc32_of content → found ≡ signed signature actual → HasSeal signature bytes content
 sealed_by signature bytes content seal found actual some split read crc same =
     record { some = some; split = split ∙ ap (λ (t : List ℕ). content ++ t) (read ∙ ap (little_bytes 4) (same ∙ ap (signed signature) crc)) }
 
 -- bytes have one content before a checksum
-pub content_is : (signature : Option ℕ) (bytes content c seal : List ℕ) → bytes ≡ content ++ seal → length seal ≡ 4 → IsSealed signature bytes c → (c ≡ content) × (checksum_bytes signature c ≡ seal)
+pub content_is : (signature : Option ℕ) (bytes content c seal : List ℕ) → bytes ≡ content ++ seal → length seal ≡ 4 → HasSeal signature bytes c → (c ≡ content) × (checksum_bytes signature c ≡ seal)
 content_is signature bytes content c seal split len s =
     let e : c ++ checksum_bytes signature c ≡ content ++ seal = sym s.split ∙ split in
     let lens : length c ≡ length content = omega (arith, ap length e, length-append c (checksum_bytes signature c), length-append content seal, four (signed signature (crc32_of c))) in
     let same = same_length c content (checksum_bytes signature c) seal lens e in
     (same, append_cancel_left content (checksum_bytes signature c) seal (ap (λ (t : List ℕ). t ++ checksum_bytes signature c) (sym same) ∙ e))
 
-pub not_sealed : (signature : Option ℕ) (bytes content seal : List ℕ) (found actual written : ℕ) → found < 2 ^ 32 → written < 2 ^ 32 → bytes ≡ content ++ seal → seal ≡ little_bytes 4 found → actual ≡ crc32_of content → written ≡ signed signature actual → found ≢ written → (c : List ℕ) → IsSealed signature bytes c → ⊥
+pub not_sealed : (signature : Option ℕ) (bytes content seal : List ℕ) (found actual written : ℕ) → found < 2 ^ 32 → written < 2 ^ 32 → bytes ≡ content ++ seal → seal ≡ little_bytes 4 found → actual ≡ crc32_of content → written ≡ signed signature actual → found ≢ written → (c : List ℕ) → HasSeal signature bytes c → ⊥
 not_sealed signature bytes content seal found actual written found_fits written_fits split read crc signs differs c s =
     let is = content_is signature bytes content c seal split (ap length read ∙ four found) s in
     let number : written ≡ signed signature (crc32_of c) = signs ∙ ap (signed signature) (crc ∙ ap crc32_of (sym is.0)) in

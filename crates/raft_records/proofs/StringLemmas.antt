@@ -5,24 +5,24 @@ use Rattle.std.proofs.lemmas.List.{length-append, length-drop, length-map, lengt
 use Rattle.raft_records.specs.declared.entry_index.EntryIndex.{EntryIndex}
 use Rattle.raft_records.specs.Item.{Item, entries_item}
 use Rattle.raft_records.specs.ItemBatch.{entry_bytes_of, entry_lengths, laid}
-use Rattle.raft_records.specs.LogBatch.{Stage, Batch, populating, with_entries}
+use Rattle.raft_records.specs.LogBatch.{Stage, Batch, populating, with_entries_added}
 use Rattle.raft_records.specs.Buffer.{entry_bytes_in, IsHeld}
 use Rattle.raft_records.proofs.BatchLemmas.{end_push}
 use Rattle.raft_records.proofs.LayLemmas.{end_of_laid}
 use Rattle.raft_records.proofs.BufferLemmas.{open_entries, held_open, cut_to}
 use Rattle.raft_records.proofs.StageLemmas.{batch_with, open_held, entries_are, reheld}
-use Rattle.raft_records.specs.Entries.{entry_at, with_lengths, IsConsecutiveFrom, IsConsecutive}
+use Rattle.raft_records.specs.Entries.{entry_with_index, with_lengths, IsConsecutiveFrom, IsConsecutive}
 use Rattle.raft_records.specs.Spelling.{Keeps}
 
 -- an entry with its length
 abbrev pub sized : ℕ → List ℕ → EntryIndex
-sized index bytes = record (entry_at index) { entry_len = length bytes }
+sized index bytes = record (entry_with_index index) { entry_len = length bytes }
 
 -- the first i of these messages are written behind the bytes that were there
 pub record IsWriting {X : Type 0} (bytes_of : X → List ℕ) (index_of : X → ℕ) (xs : List X) (i : ℕ) (start buf : List ℕ) (done : List EntryIndex) : Type 0 where
   pub keeps : Keeps start buf
   pub bytes : buf ++ concat (map bytes_of (drop i xs)) ≡ start ++ concat (map bytes_of xs)
-  pub lengths : done ++ with_lengths (map (λ x. entry_at (index_of x)) (drop i xs)) (map bytes_of (drop i xs)) ≡ with_lengths (map (λ x. entry_at (index_of x)) xs) (map bytes_of xs)
+  pub lengths : done ++ with_lengths (map (λ x. entry_with_index (index_of x)) (drop i xs)) (map bytes_of (drop i xs)) ≡ with_lengths (map (λ x. entry_with_index (index_of x)) xs) (map bytes_of xs)
   pub small : 0 < i → length buf < 16 + 2 ^ 31
 
 pub keeps_more : (start buf more new : List ℕ) → Keeps start buf → new ≡ buf ++ more → Keeps start new
@@ -39,11 +39,11 @@ pub written_more : {X : Type 0} (bytes_of : X → List ℕ) (index_of : X → �
 written_more {X} bytes_of index_of xs i start buf new done more x w lt at e fits pushed =
     let next = next_is xs i x lt at in
     let rest = concat (map bytes_of (drop (i + 1) xs)) in
-    let behind = with_lengths (map (λ y. entry_at (index_of y)) (drop (i + 1) xs)) (map bytes_of (drop (i + 1) xs)) in
+    let behind = with_lengths (map (λ y. entry_with_index (index_of y)) (drop (i + 1) xs)) (map bytes_of (drop (i + 1) xs)) in
     record {
       keeps = keeps_more start buf (bytes_of x) new w.keeps e;
       bytes = ap (λ (t : List ℕ). t ++ rest) e ∙ append_assoc buf (bytes_of x) rest ∙ ap (λ (ys : List X). buf ++ concat (map bytes_of ys)) (sym next) ∙ w.bytes;
-      lengths = ap (λ (t : List EntryIndex). t ++ behind) pushed ∙ append_assoc done (sized (index_of x) (bytes_of x) ∷ []) behind ∙ ap (λ (ys : List X). done ++ with_lengths (map (λ y. entry_at (index_of y)) ys) (map bytes_of ys)) (sym next) ∙ w.lengths;
+      lengths = ap (λ (t : List EntryIndex). t ++ behind) pushed ∙ append_assoc done (sized (index_of x) (bytes_of x) ∷ []) behind ∙ ap (λ (ys : List X). done ++ with_lengths (map (λ y. entry_with_index (index_of y)) ys) (map bytes_of ys)) (sym next) ∙ w.lengths;
       small = λ some. fits;
     }
 
@@ -55,11 +55,11 @@ written_past bytes_of index_of xs i start buf new done x w lt at e room past =
     omega (arith, room, past, ap length e, whole, length-append buf (bytes_of x), length-append buf (bytes_of x ++ rest), length-append (bytes_of x) rest, length-append start (concat (map bytes_of xs)))
 
 -- all of them are written
-pub written_all : {X : Type 0} (bytes_of : X → List ℕ) (index_of : X → ℕ) (xs : List X) (i : ℕ) (start buf : List ℕ) (done : List EntryIndex) → IsWriting bytes_of index_of xs i start buf done → length xs ≤ i → (buf ≡ start ++ concat (map bytes_of xs)) × (done ≡ with_lengths (map (λ x. entry_at (index_of x)) xs) (map bytes_of xs))
+pub written_all : {X : Type 0} (bytes_of : X → List ℕ) (index_of : X → ℕ) (xs : List X) (i : ℕ) (start buf : List ℕ) (done : List EntryIndex) → IsWriting bytes_of index_of xs i start buf done → length xs ≤ i → (buf ≡ start ++ concat (map bytes_of xs)) × (done ≡ with_lengths (map (λ x. entry_with_index (index_of x)) xs) (map bytes_of xs))
 written_all {X} bytes_of index_of xs i start buf done w le =
     let none = drop_all i xs le in (
       sym (append-nil buf) ∙ ap (λ (ys : List X). buf ++ concat (map bytes_of ys)) (sym none) ∙ w.bytes,
-      sym (append-nil done) ∙ ap (λ (ys : List X). done ++ with_lengths (map (λ x. entry_at (index_of x)) ys) (map bytes_of ys)) (sym none) ∙ w.lengths,
+      sym (append-nil done) ∙ ap (λ (ys : List X). done ++ with_lengths (map (λ x. entry_with_index (index_of x)) ys) (map bytes_of ys)) (sym none) ∙ w.lengths,
     )
 
 -- ---- lengths
@@ -99,13 +99,13 @@ added_held stage items new region es strings buf mid bytes e h room same counts 
       open_entries (entry_bytes_of new) bytes len ∙ behind ∙ ap (λ (t : List ℕ). t ++ concat strings) (sym (entries_are stage items buf e h)),
     )
 
-pub added_view : (now : Batch) (stage : Stage) (items new : List Item) (region : ℕ) (es : List EntryIndex) (strings : List (List ℕ)) (old bytes : List ℕ) → batch_with items old stage ≡ now → length old ≡ entry_bytes_of items → es ≢ [] → new ≡ items ++ entries_item region (laid (entry_bytes_of items) (with_lengths es strings)) ∷ [] → bytes ≡ old ++ concat strings → batch_with new bytes stage ≡ with_entries now region es strings
+pub added_view : (now : Batch) (stage : Stage) (items new : List Item) (region : ℕ) (es : List EntryIndex) (strings : List (List ℕ)) (old bytes : List ℕ) → batch_with items old stage ≡ now → length old ≡ entry_bytes_of items → es ≢ [] → new ≡ items ++ entries_item region (laid (entry_bytes_of items) (with_lengths es strings)) ∷ [] → bytes ≡ old ++ concat strings → batch_with new bytes stage ≡ with_entries_added now region es strings
 added_view now stage items new region [] strings old bytes view whole some added written = absurd (some refl)
 added_view now stage items new region (e ∷ es) strings old bytes view whole some added written =
     ap (λ (xs : List Item). batch_with xs bytes stage) added
     ∙ ap (λ (t : List ℕ). batch_with (items ++ entries_item region (laid (entry_bytes_of items) (with_lengths (e ∷ es) strings)) ∷ []) t stage) written
     ∙ ap (λ (n : ℕ). batch_with (items ++ entries_item region (laid n (with_lengths (e ∷ es) strings)) ∷ []) (old ++ concat strings) stage) (sym whole)
-    ∙ ap (λ (b : Batch). with_entries b region (e ∷ es) strings) view
+    ∙ ap (λ (b : Batch). with_entries_added b region (e ∷ es) strings) view
 
 -- room for the header was made
 pub reserved_len : (stage : Stage) (items : List Item) (old new : List ℕ) → stage ≡ populating → IsHeld stage items (entry_bytes_in items old) old → 16 ≤ length new → drop 16 new ≡ drop 16 old → length new ≡ 16 + entry_bytes_of items
@@ -117,8 +117,8 @@ on_err (Ok x) p = tt
 on_err (Err e) p = p
 
 -- messages with as many indexes
-pub same_counts : {X : Type 0} (bytes_of : X → List ℕ) (index_of : X → ℕ) (xs : List X) → length (map (λ x. entry_at (index_of x)) xs) ≡ length (map bytes_of xs)
-same_counts bytes_of index_of xs = length-map xs (λ x. entry_at (index_of x)) ∙ sym (length-map xs bytes_of)
+pub same_counts : {X : Type 0} (bytes_of : X → List ℕ) (index_of : X → ℕ) (xs : List X) → length (map (λ x. entry_with_index (index_of x)) xs) ≡ length (map bytes_of xs)
+same_counts bytes_of index_of xs = length-map xs (λ x. entry_with_index (index_of x)) ∙ sym (length-map xs bytes_of)
 
 pub map_some : {X : Type 0} {Y : Type 0} (f : X → Y) (xs : List X) → xs ≢ [] → map f xs ≢ []
 map_some f [] some e = some refl

@@ -12,19 +12,19 @@ use Rattle.raft_records.specs.declared.key_value.OpType.{OpType}
 use Rattle.raft_records.specs.declared.key_value.OpType.TheVariants.{Put, Del}
 use Rattle.raft_records.specs.Item.{Item, Content, entries, command, pair, bare_entry, bare_content, bare, written_value}
 use Rattle.raft_records.specs.Entries.{IsConsecutiveFrom, IsConsecutive, Tile}
-use Rattle.raft_records.specs.Grammar.{op_type_byte, IsCommand, IsByteString, IsPairOf, tail_of, IsTail, behind_entry, IsRun, IsEntries, IsContent, IsItem, end_behind, behind_item}
+use Rattle.raft_records.specs.Grammar.{op_type_byte, IsCommand, IsByteString, IsPairOf, tail_of, IsTail, behind_entry, AreIndexAndTails, IsEntries, IsContent, IsItem, end_behind, behind_item}
 use Rattle.raft_records.specs.Spelling.{command_bytes, byte_string, value_bytes, pair_bytes, tails_bytes, run_bytes, entries_bytes, content_bytes, item_bytes, IsWritableWith}
 use Rattle.raft_records.specs.ItemBatch.{FitsBehind, FitTogether, AreItems, IsItemBatch, batch_bytes, checksum_bytes}
 use Rattle.raft_records.specs.Range.{HasIndex, HasLength, IsContentInRange, IsInRange, AreInRange}
 
-command_spelled : (c : Command) → HasIndex c → IsCommand (command_bytes c) c
+pub command_spelled : (c : Command) → HasIndex c → IsCommand (command_bytes c) c
 command_spelled Clean h = refl
 command_spelled (Compact index) h = (varint index, refl, varint_spells index h)
 
 text_spelled : (text : List ℕ) → length text < 2 ^ 64 → IsByteString (byte_string text) text
 text_spelled text lt = record { first = varint (length text); second = text; first_spells = varint_spells (length text) lt; second_spells = (refl, refl); split = refl }
 
-pair_spelled : (o : OpType) (key : List ℕ) (v : Option (List ℕ)) → IsWritableWith o v → length key < 2 ^ 64 → HasLength v → IsPairOf o (written_value o v) None key (op_type_byte o ∷ byte_string key ++ value_bytes o v)
+pub pair_spelled : (o : OpType) (key : List ℕ) (v : Option (List ℕ)) → IsWritableWith o v → length key < 2 ^ 64 → HasLength v → IsPairOf o (written_value o v) None key (op_type_byte o ∷ byte_string key ++ value_bytes o v)
 pair_spelled Put key (Some value) w k l =
     (byte_string key ++ byte_string value, refl, record { first = byte_string key; second = byte_string value; first_spells = text_spelled key k; second_spells = text_spelled value l; split = refl })
 pair_spelled Put key None w k l = absurd w
@@ -47,7 +47,7 @@ tails_spelled i s (e ∷ es) h t =
       split = refl;
     }
 
-run_spelled : (s : ℕ) (es : List EntryIndex) → IsConsecutive es → Tile s es → IsRun s (length es) (run_bytes es) (map bare_entry es)
+run_spelled : (s : ℕ) (es : List EntryIndex) → IsConsecutive es → Tile s es → AreIndexAndTails s (length es) (run_bytes es) (map bare_entry es)
 run_spelled s [] h t = (refl, refl)
 run_spelled s (e ∷ es) h t =
     let index_fits : e.index < 2 ^ 64 - 1 = h.1 in
@@ -59,10 +59,10 @@ run_spelled s (e ∷ es) h t =
       split = refl;
     }
 
-entries_spelled : (s : ℕ) (es : List EntryIndex) → length es < 2 ^ 64 → IsConsecutive es → Tile s es → IsEntries s (entries_bytes es) (map bare_entry es)
+pub entries_spelled : (s : ℕ) (es : List EntryIndex) → length es < 2 ^ 64 → IsConsecutive es → Tile s es → IsEntries s (entries_bytes es) (map bare_entry es)
 entries_spelled s es lt h t =
-    let counted : IsPair IsVarint (IsRun s) (entries_bytes es) (length es) (map bare_entry es) = record { first = varint (length es); second = run_bytes es; first_spells = varint_spells (length es) lt; second_spells = run_spelled s es h t; split = refl } in
-    subst (λ (n : ℕ). IsPair IsVarint (IsRun s) (entries_bytes es) n (map bare_entry es)) (sym (length-map es bare_entry)) counted
+    let counted : IsPair IsVarint (AreIndexAndTails s) (entries_bytes es) (length es) (map bare_entry es) = record { first = varint (length es); second = run_bytes es; first_spells = varint_spells (length es) lt; second_spells = run_spelled s es h t; split = refl } in
+    subst (λ (n : ℕ). IsPair IsVarint (AreIndexAndTails s) (entries_bytes es) n (map bare_entry es)) (sym (length-map es bare_entry)) counted
 
 content_spelled : (s : ℕ) (c : Content) → FitsBehind s c → IsContentInRange c → IsContent s (content_bytes c) (bare_content c)
 content_spelled s (entries es) f r = (entries_bytes es, refl, entries_spelled s es r f.0 f.1)

@@ -8,8 +8,8 @@ abbrev pub no_entry : EntryIndex
 no_entry = record { index = 0; entries = None; compression_type = compressions.None; entry_offset = 0; entry_len = 0 }
 
 -- this index, without bytes and without a place
-abbrev pub entry_at : ℕ → EntryIndex
-entry_at index = record no_entry { index = index }
+abbrev pub entry_with_index : ℕ → EntryIndex
+entry_with_index index = record no_entry { index = index }
 
 -- entries with the lengths of these byte strings
 abbrev pub with_lengths : List EntryIndex → List (List ℕ) → List EntryIndex

@@ -84,12 +84,12 @@ abbrev pub IsTailsFault : ℕ → ℕ × ℕ → List ℕ → Error → Type 0
 IsTailsFault count next bytes e = IsMemory e ⊎ IsSequenceFault behind_entry IsTail IsTailFault count next bytes e
 
 -- behind the count, which is not 0: no first index, or a fault in the tail offsets
-abbrev pub IsRunFault : ℕ → ℕ → List ℕ → Error → Type 0
-IsRunFault s n bytes e = (0 < n) × (IsNumberFault bytes e ⊎ IsFaultBehind IsVarint (λ first. IsTailsFault n (first, s)) bytes e)
+abbrev pub AreIndexAndTailsFault : ℕ → ℕ → List ℕ → Error → Type 0
+AreIndexAndTailsFault s n bytes e = (0 < n) × (IsNumberFault bytes e ⊎ IsFaultBehind IsVarint (λ first. IsTailsFault n (first, s)) bytes e)
 
 -- no entries: no count, or a fault behind it
 abbrev pub IsEntriesFault : ℕ → List ℕ → Error → Type 0
-IsEntriesFault s bytes e = IsNumberFault bytes e ⊎ IsFaultBehind IsVarint (IsRunFault s) bytes e
+IsEntriesFault s bytes e = IsNumberFault bytes e ⊎ IsFaultBehind IsVarint (AreIndexAndTailsFault s) bytes e
 
 -- entries that are not consecutive, or whose bytes don't run on, are not written
 abbrev pub IsEntriesRefusal : List EntryIndex → Error → Type 0

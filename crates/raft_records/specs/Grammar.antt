@@ -74,13 +74,13 @@ pub record AreTails (n : ℕ) (next : ℕ × ℕ) (bytes : List ℕ) (es : List 
   pub count : length es ≡ n
 
 -- n entries behind s entry bytes: the first index and the tail offsets; nothing where there are none
-abbrev pub IsRun : ℕ → ℕ → List ℕ → List EntryIndex → Type 0
-IsRun s n bytes [] = (bytes ≡ []) × (n ≡ 0)
-IsRun s n bytes (e ∷ es) = IsPair IsVarint (λ first. AreTails n (first, s)) bytes e.index (e ∷ es)
+abbrev pub AreIndexAndTails : ℕ → ℕ → List ℕ → List EntryIndex → Type 0
+AreIndexAndTails s n bytes [] = (bytes ≡ []) × (n ≡ 0)
+AreIndexAndTails s n bytes (e ∷ es) = IsPair IsVarint (λ first. AreTails n (first, s)) bytes e.index (e ∷ es)
 
 -- the count of entries and the entries, read after s entry bytes
 abbrev pub IsEntries : ℕ → List ℕ → List EntryIndex → Type 0
-IsEntries s bytes es = IsPair IsVarint (IsRun s) bytes (length es) es
+IsEntries s bytes es = IsPair IsVarint (AreIndexAndTails s) bytes (length es) es
 
 -- a type byte and what it says
 abbrev pub IsContent : ℕ → List ℕ → Content → Type 0

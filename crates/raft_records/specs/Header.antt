@@ -5,7 +5,7 @@ use Rattle.byteorder.specs.Endian.{big_bytes}
 use Rattle.raft_base.specs.declared.errors.Error.{Error}
 use Rattle.raft_records.specs.declared.compression_type.CompressionType.{CompressionType}
 use Rattle.raft_records.specs.Faults.{IsMemory, IsCorruption, IsAnyCorruption}
-use Rattle.raft_records.specs.ItemBatch.{IsSealed, IsSealFault}
+use Rattle.raft_records.specs.ItemBatch.{HasSeal, IsSealFault}
 use Rattle.raft_records.specs.LogBatch.{header_bytes}
 
 -- a header's bytes: the place of the item batch, the compression of the entries, and the length of the batch
@@ -43,7 +43,7 @@ IsHeaderFault bytes e =
 -- the entry bytes that a block of this length, in front of the bytes, holds; a block of length 0 holds none
 abbrev pub IsBlockOf : ℕ → List ℕ → List ℕ → Type 0
 IsBlockOf len bytes entry_bytes =
-    ((len ≡ 0) × (entry_bytes ≡ [])) ⊎ ((0 < len) × (len ≤ length bytes) × IsSealed None (take len bytes) entry_bytes)
+    ((len ≡ 0) × (entry_bytes ≡ [])) ⊎ ((0 < len) × (len ≤ length bytes) × HasSeal None (take len bytes) entry_bytes)
 
 -- the bytes are shorter than the block, or the block doesn't end in its checksum, or there is no memory for its bytes
 abbrev pub IsBlockFault : ℕ → List ℕ → Error → Type 0

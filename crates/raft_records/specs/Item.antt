@@ -1,5 +1,5 @@
 -- Log items as plain values: what they hold, without where it lies in memory.
-use Rattle.std.specs.Prelude.{ℕ, List, map, Option, None}
+use Rattle.std.specs.Prelude.{◌≡◌, ℕ, List, [], ◌∷◌, map, Option, None}
 use Rattle.std.specs.Option.{option_map}
 use Rattle.raft_base.specs.declared.pipe_log.FileId.{FileId}
 use Rattle.raft_records.specs.declared.compression_type.CompressionType.TheVariants as compressions
@@ -53,11 +53,15 @@ abbrev pub written_value : OpType → Option (List ℕ) → Option (List ℕ)
 written_value Put value = value
 written_value Del value = None
 
+-- a change of a key without what its bytes don't hold
+abbrev pub bare_pair : Pair → Pair
+bare_pair p = record { op_type = p.op_type; key = p.key; value = written_value p.op_type p.value; file_id = None }
+
 -- a content without what its bytes don't hold
 abbrev pub bare_content : Content → Content
 bare_content (entries es) = entries (map bare_entry es)
 bare_content (command c) = command c
-bare_content (pair p) = pair (record { op_type = p.op_type; key = p.key; value = written_value p.op_type p.value; file_id = None })
+bare_content (pair p) = pair (bare_pair p)
 
 -- an item without what its bytes don't hold: places, compression types, files, and a Del's value
 abbrev pub bare : Item → Item
@@ -74,3 +78,14 @@ command_item region c = record { raft_group_id = region; content = command c }
 -- a change of a key of a region, whose file is not known
 abbrev pub pair_item : ℕ → OpType → List ℕ → Option (List ℕ) → Item
 pair_item region op_type key value = record { raft_group_id = region; content = pair (record { op_type = op_type; key = key; value = value; file_id = None }) }
+
+-- bytes hold all of a content but its places and files: no Del has a value
+abbrev pub IsInBytes : Content → Type 0
+IsInBytes (entries es) = Unit {0}
+IsInBytes (command c) = Unit {0}
+IsInBytes (pair p) = written_value p.op_type p.value ≡ p.value
+
+-- the same of each item
+abbrev pub AreInBytes : List Item → Type 0
+AreInBytes [] = Unit {0}
+AreInBytes (item ∷ items) = IsInBytes item.content × AreInBytes items

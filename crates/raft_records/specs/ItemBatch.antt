@@ -10,7 +10,7 @@ use Rattle.raft_base.specs.Checksum.{crc32_of}
 use Rattle.raft_base.specs.Varint.{IsVarint, varint}
 use Rattle.raft_records.specs.declared.compression_type.CompressionType.{CompressionType}
 use Rattle.raft_records.specs.declared.entry_index.EntryIndex.{EntryIndex}
-use Rattle.raft_records.specs.Item.{Item, Content, entries, command, pair}
+use Rattle.raft_records.specs.Item.{Item, Content, entries, command, pair, AreInBytes}
 use Rattle.raft_records.specs.Entries.{IsConsecutive, Tile}
 use Rattle.raft_records.specs.Grammar.{IsItem, behind_item}
 use Rattle.raft_records.specs.Spelling.{item_bytes, IsWritablePair}
@@ -26,8 +26,8 @@ pub record AreItems (n : ℕ) (bytes : List ℕ) (items : List Item) : Type 0 wh
   pub count : length items ≡ n
 
 -- the count of items and the items
-abbrev pub IsCounted : List ℕ → List Item → Type 0
-IsCounted bytes items = IsPair IsVarint AreItems bytes (length items) items
+abbrev pub IsCountAndItems : List ℕ → List Item → Type 0
+IsCountAndItems bytes items = IsPair IsVarint AreItems bytes (length items) items
 
 -- a CRC as it is written: xored with the file's signature where there is one
 abbrev pub signed : Option ℕ → ℕ → ℕ
@@ -41,7 +41,7 @@ checksum_bytes signature bytes = little_bytes 4 (signed signature (crc32_of byte
 -- an item batch: the count and the items, a rest that is free, and the signed CRC of all before it
 pub record IsItemBatch (bytes : List ℕ) (signature : Option ℕ) (items : List Item) (rest : List ℕ) : Type 0 where
   pub front : List ℕ
-  pub counted : IsCounted front items
+  pub counted : IsCountAndItems front items
   pub split : bytes ≡ (front ++ rest) ++ checksum_bytes signature (front ++ rest)
 
 -- what an encoder writes before the checksum: count and items in shortest spelling
@@ -173,7 +173,7 @@ IsSealFault signature bytes e =
     ((length bytes ≤ 4) × IsCorruption (codes "Content too short " ++ decimal (length bytes)) e) ⊎ IsChecksumFault signature bytes e
 
 -- bytes that end in the checksum of those before it, of which there is one at least
-pub record IsSealed (signature : Option ℕ) (bytes content : List ℕ) : Type 0 where
+pub record HasSeal (signature : Option ℕ) (bytes content : List ℕ) : Type 0 where
   pub some : 0 < length content
   pub split : bytes ≡ content ++ checksum_bytes signature content
 
@@ -185,12 +185,13 @@ AreItemsFault n bytes e = IsMemory e ⊎ IsSequenceFault behind_item IsItem IsIt
 abbrev pub IsItemBatchFault : Option ℕ → List ℕ → Error → Type 0
 IsItemBatchFault signature bytes e =
     IsSealFault signature bytes e
-    ⊎ ((content : List ℕ) × IsSealed signature bytes content × (IsNumberFault content e ⊎ IsFaultBehind IsVarint AreItemsFault content e))
+    ⊎ ((content : List ℕ) × HasSeal signature bytes content × (IsNumberFault content e ⊎ IsFaultBehind IsVarint AreItemsFault content e))
 
--- the items fit together, their numbers are in range, and what is kept beside them is theirs
+-- the items fit together, their numbers are in range, bytes hold them, and what is kept beside them is theirs
 pub record IsKeptBeside (items : List Item) (item_bytes entries_size : ℕ) (crc : Option ℕ) : Type 0 where
   pub fit : FitTogether 0 items
   pub in_range : AreInRange items
+  pub in_bytes : AreInBytes items
   pub size : item_bytes ≡ saturated (items_size items)
   pub entry_bytes : entries_size ≡ entry_bytes_of items
   pub checksum : (c : ℕ) → crc ≡ Some c → c ≡ crc32_of (batch_bytes items)

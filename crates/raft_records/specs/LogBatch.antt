@@ -53,9 +53,9 @@ joined b more =
     record b { items = b.items ++ map (raised (length b.entry_bytes)) more.items; entry_bytes = b.entry_bytes ++ more.entry_bytes }
 
 -- a batch and these entries of a region, whose bytes are these strings and stand behind the batch's own; no entries add nothing
-abbrev pub with_entries : Batch → ℕ → List EntryIndex → List (List ℕ) → Batch
-with_entries b region [] strings = b
-with_entries b region (e ∷ es) strings =
+abbrev pub with_entries_added : Batch → ℕ → List EntryIndex → List (List ℕ) → Batch
+with_entries_added b region [] strings = b
+with_entries_added b region (e ∷ es) strings =
     record b { items = b.items ++ entries_item region (laid (length b.entry_bytes) (with_lengths (e ∷ es) strings)) ∷ []; entry_bytes = b.entry_bytes ++ concat strings }
 
 -- why the bytes of entries are not taken: they would pass the limit, a message refused to write itself with one of these codes, or there is no memory

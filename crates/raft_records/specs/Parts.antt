@@ -1,8 +1,8 @@
 -- Log batches as they are read, part by part, and what is promised of that.
-use Rattle.std.specs.Prelude.{◌≡◌, ◌≢◌, ℕ, ◌-◌, ◌^◌, ◌<◌, List, [], ◌∷◌, length, map, drop, Option}
+use Rattle.std.specs.Prelude.{◌≡◌, ◌≢◌, ℕ, ◌-◌, ◌^◌, ◌<◌, List, [], length, map, drop, Option}
 use Rattle.raft_base.specs.Reading.{Reads}
 use Rattle.raft_records.specs.declared.compression_type.CompressionType.{CompressionType}
-use Rattle.raft_records.specs.Item.{Item, Content, entries, command, pair, bare, written_value}
+use Rattle.raft_records.specs.Item.{Item, bare}
 use Rattle.raft_records.specs.Range.{AreInRange}
 use Rattle.raft_records.specs.ItemBatch.{IsItemBatch}
 use Rattle.raft_records.specs.LogBatch.{IsBatchOf, encoded_length, log_batch_bytes, IsLogBatch}
@@ -25,14 +25,3 @@ pub record HasParts (bytes : List ℕ) (signature : Option ℕ) (items : List It
 abbrev pub LogBatchIsSpelled : Type 0
 LogBatchIsSpelled =
     (signature : Option ℕ) (items : List Item) (entry_bytes : List ℕ) → IsBatchOf items entry_bytes → AreInRange items → items ≢ [] → encoded_length items entry_bytes < 2 ^ 56 → IsLogBatch (log_batch_bytes signature items entry_bytes) signature (map bare items) entry_bytes
-
--- bytes hold all of a content but its places and files: no Del has a value
-abbrev pub IsInBytes : Content → Type 0
-IsInBytes (entries es) = Unit {0}
-IsInBytes (command c) = Unit {0}
-IsInBytes (pair p) = written_value p.op_type p.value ≡ p.value
-
--- the same of each item
-abbrev pub AreInBytes : List Item → Type 0
-AreInBytes [] = Unit {0}
-AreInBytes (item ∷ items) = IsInBytes item.content × AreInBytes items

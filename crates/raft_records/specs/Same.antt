@@ -13,19 +13,19 @@ use Rattle.raft_records.specs.Item.{Item, Content, entries, command, pair, Pair}
 use Rattle.raft_records.specs.LogBatch.{Batch, step_of}
 
 -- the entries of a content, where it has entries
-abbrev pub entries_in : Content → Option (List EntryIndex)
-entries_in (entries es) = Some es
-entries_in _ = None
+abbrev pub entries_part : Content → Option (List EntryIndex)
+entries_part (entries es) = Some es
+entries_part _ = None
 
 -- the command of a content, where it has one
-abbrev pub command_in : Content → Option Command
-command_in (command c) = Some c
-command_in _ = None
+abbrev pub command_part : Content → Option Command
+command_part (command c) = Some c
+command_part _ = None
 
 -- the change of a key of a content, where it has one
-abbrev pub pair_in : Content → Option Pair
-pair_in (pair p) = Some p
-pair_in _ = None
+abbrev pub pair_part : Content → Option Pair
+pair_part (pair p) = Some p
+pair_part _ = None
 
 -- op type, key, value and file are the same
 abbrev pub same_pair : Pair → Pair → Bool
@@ -35,7 +35,7 @@ same_pair =
 -- they have the same of each kind
 abbrev pub same_content : Content → Content → Bool
 same_content =
-    eq_of_both (on entries_in (option_eq (pointwise entry_indexes.it))) (eq_of_both (on command_in (option_eq commands.it)) (on pair_in (option_eq same_pair)))
+    eq_of_both (on entries_part (option_eq (pointwise entry_indexes.it))) (eq_of_both (on command_part (option_eq commands.it)) (on pair_part (option_eq same_pair)))
 
 -- region and content are the same
 abbrev pub same_item : Item → Item → Bool

@@ -132,7 +132,7 @@ impl AtomicGroupBuilder {
     pub fn begin(&mut self, log_batch: &mut LogBatch) -> Result<()>
         requires open { log_batch.old.stage ≡ populating }
         requires fresh { self.old.state ≡ None }
-        ensures marked { OnOk result (log_batch.new ≡ record log_batch.old {
+        ensures ok { OnOk result (log_batch.new ≡ record log_batch.old {
           items = log_batch.old.items ++ group_marker_item self.old.id Begin ∷ [];
         }) }
         ensures state { OnOk result (self.new ≡ record self.old { state = Some Begin }) }
@@ -140,14 +140,14 @@ impl AtomicGroupBuilder {
         ensures batch_err { OnErr result (log_batch.new ≡ log_batch.old) }
         ensures memory { IfErr result (λ e. e ≡ Error.Memory) }
     {
-        self.mark(AtomicGroupStatus::Begin, log_batch)
+        self.add_marker(AtomicGroupStatus::Begin, log_batch)
     }
 
     /// Goes on with the group in this batch. On `Err` builder and batch are as they were.
     pub fn add(&mut self, log_batch: &mut LogBatch) -> Result<()>
         requires open { log_batch.old.stage ≡ populating }
         requires running { IsRunning self.old.state }
-        ensures marked { OnOk result (log_batch.new ≡ record log_batch.old {
+        ensures ok { OnOk result (log_batch.new ≡ record log_batch.old {
           items = log_batch.old.items ++ group_marker_item self.old.id Middle ∷ [];
         }) }
         ensures state { OnOk result (self.new ≡ record self.old { state = Some Middle }) }
@@ -155,7 +155,7 @@ impl AtomicGroupBuilder {
         ensures batch_err { OnErr result (log_batch.new ≡ log_batch.old) }
         ensures memory { IfErr result (λ e. e ≡ Error.Memory) }
     {
-        self.mark(AtomicGroupStatus::Middle, log_batch)
+        self.add_marker(AtomicGroupStatus::Middle, log_batch)
     }
 
     /// Ends the group with this batch; the builder is then of no more use. On `Err` builder and batch
@@ -163,7 +163,7 @@ impl AtomicGroupBuilder {
     pub fn end(&mut self, log_batch: &mut LogBatch) -> Result<()>
         requires open { log_batch.old.stage ≡ populating }
         requires running { IsRunning self.old.state }
-        ensures marked { OnOk result (log_batch.new ≡ record log_batch.old {
+        ensures ok { OnOk result (log_batch.new ≡ record log_batch.old {
           items = log_batch.old.items ++ group_marker_item self.old.id End ∷ [];
         }) }
         ensures state { OnOk result (self.new ≡ record self.old { state = Some End }) }
@@ -171,13 +171,13 @@ impl AtomicGroupBuilder {
         ensures batch_err { OnErr result (log_batch.new ≡ log_batch.old) }
         ensures memory { IfErr result (λ e. e ≡ Error.Memory) }
     {
-        self.mark(AtomicGroupStatus::End, log_batch)
+        self.add_marker(AtomicGroupStatus::End, log_batch)
     }
 
     /// Adds the group's marker with this status to an open batch.
-    fn mark(&mut self, status: AtomicGroupStatus, log_batch: &mut LogBatch) -> Result<()>
+    fn add_marker(&mut self, status: AtomicGroupStatus, log_batch: &mut LogBatch) -> Result<()>
         requires { log_batch.old.stage ≡ populating }
-        ensures marked { OnOk result (log_batch.new ≡ record log_batch.old {
+        ensures ok { OnOk result (log_batch.new ≡ record log_batch.old {
           items = log_batch.old.items ++ group_marker_item self.old.id status ∷ [];
         }) }
         ensures state { OnOk result (self.new ≡ record self.old { state = Some status }) }
@@ -197,12 +197,14 @@ impl AtomicGroupBuilder {
 /// What is added as a group marker is read as the marker of its group with its status, and never
 /// refused. What is read is a function of the item; the reserved key is told by a test.
 pub fn group_markers_are_read_again()
-    ensures is_marker { (id : ℕ) (status : Status) → IsGroupMarkerContent (group_marker_item id status).content (status_byte status) }
+    ensures is_marker { (id : ℕ) (status : Status) →
+        IsGroupMarkerContent (group_marker_item id status).content (status_byte status) }
     ensures read { (item : Item) (status : Status) (read : Option (ℕ × Status)) →
         IsGroupMarkerContent item.content (status_byte status) → IsGroupMarkerRead item read →
         read ≡ Some (item.raft_group_id, status) }
     ensures accepted { (item : Item) (status : Status) (e : Refusal) →
         IsGroupMarkerContent item.content (status_byte status) → IsGroupMarkerFault item e → ⊥ }
-    ensures value { (item : Item) (read : Option (ℕ × Status)) → IsGroupMarkerRead item read → marker_of item ≡ read }
+    ensures value { (item : Item) (read : Option (ℕ × Status)) →
+        IsGroupMarkerRead item read → marker_of item ≡ read }
     ensures reserved { (key : List ℕ) → IsTrue (is_reserved key) ↔ (key ≡ reserved_key) }
 {}

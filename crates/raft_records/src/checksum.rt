@@ -2,27 +2,27 @@
 
 ghost use Rattle.std.specs.Prelude.{◌≡◌, ◌≢◌, List, ℕ, length, IfOk, IfErr};
 ghost use Rattle.byteorder.specs.Endian.{little_bytes};
-ghost use Rattle.raft_records.specs.ItemBatch.{signed, IsSealed, IsSealFault};
+ghost use Rattle.raft_records.specs.ItemBatch.{signed, HasSeal, IsSealFault};
 
 use raft_base::util::crc32;
 use raft_base::{Error, Result, codec};
 use std::alloc::Global;
 
 /// How many bytes a checksum takes.
-pub(crate) const CHECKSUM_LEN: usize = 4;
+pub(crate) const LOG_BATCH_CHECKSUM_LEN: usize = 4;
 
 /// What stands before the checksum at the end of `bytes`, which is that of all before it, xored with
 /// the signature if there is one. `Corruption` where it isn't, or where nothing stands before it.
 pub(crate) fn verify_checksum(alloc: Global, bytes: &[u8], signature: Option<u32>) -> Result<&[u8]>
-    ensures ok { IfOk result (λ content. IsSealed signature bytes.now content.now) }
-    ensures refused { IfErr result (λ e. (content : List ℕ) → IsSealed signature bytes.now content → ⊥) }
+    ensures ok { IfOk result (λ content. HasSeal signature bytes.now content.now) }
+    ensures refused { IfErr result (λ e. (content : List ℕ) → HasSeal signature bytes.now content → ⊥) }
     ensures fault { IfErr result (IsSealFault signature bytes.now) }
 {
     let len = bytes.len();
-    if len <= CHECKSUM_LEN {
+    if len <= LOG_BATCH_CHECKSUM_LEN {
         return Err(Error::Corruption(format!(in alloc; "Content too short {len}")?));
     }
-    let (content, seal) = bytes.split_at(len - CHECKSUM_LEN);
+    let (content, seal) = bytes.split_at(len - LOG_BATCH_CHECKSUM_LEN);
     let found = checksum_of(seal);
     let actual = crc32(content);
     if found != sign(actual, signature) {
@@ -36,7 +36,7 @@ pub(crate) fn verify_checksum(alloc: Global, bytes: &[u8], signature: Option<u32
 
 /// The checksum that these four bytes are.
 fn checksum_of(seal: &[u8]) -> u32
-    requires { length seal.now ≡ CHECKSUM_LEN }
+    requires { length seal.now ≡ LOG_BATCH_CHECKSUM_LEN }
     ensures { seal.now ≡ little_bytes 4 result }
 {
     let mut rest = seal;

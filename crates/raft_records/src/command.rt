@@ -11,9 +11,9 @@ use raft_base::codec::BytesSlice;
 use raft_base::{Error, Result, codec};
 use std::alloc::{AllocError, Global};
 
-const CLEAN: u8 = 1;
+const CMD_CLEAN: u8 = 1;
 
-const COMPACT: u8 = 2;
+const CMD_COMPACT: u8 = 2;
 
 /// What is done to a region's log.
 #[derive(Clone, PartialEq, Eq, Debug, Drop)]
@@ -50,10 +50,10 @@ impl Command {
         ensures err { OnErr result (buf.new.items ≡ buf.old.items) }
     {
         match self {
-            Command::Clean => Ok(buf.push(CLEAN)?),
+            Command::Clean => Ok(buf.push(CMD_CLEAN)?),
             Command::Compact { index } => {
                 let len = buf.len();
-                buf.push(COMPACT)?;
+                buf.push(CMD_COMPACT)?;
                 let written = codec::append_var_u64(buf, *index);
                 if written.is_err() {
                     buf.truncate(len);
@@ -87,8 +87,8 @@ impl Command {
         };
         let kind = *kind;
         match kind {
-            CLEAN => Ok((Command::Clean, behind)),
-            COMPACT => {
+            CMD_CLEAN => Ok((Command::Clean, behind)),
+            CMD_COMPACT => {
                 let (index, rest) = codec::parse_var_u64(behind)?;
                 Ok((Command::Compact { index }, rest))
             }

@@ -132,8 +132,8 @@ impl EntryIndexes {
         }
     }
 
-    /// Puts the entries' bytes `by` bytes further back.
-    pub(crate) fn raise(&mut self, by: u32)
+    /// Raises the entries' offsets: their bytes stand `by` bytes further back.
+    pub(crate) fn raise_offsets(&mut self, by: u32)
         requires { CanRaise by self.old.0.items }
         ensures { self.new.0.items ≡ map (raised_entry by) self.old.0.items }
     {
@@ -152,14 +152,14 @@ impl EntryIndexes {
     /// Appends the entries' bytes. A list that is not consecutive, an entry that doesn't begin where
     /// the one before it ended, and a tail offset above 2^32 - 1 are `InvalidArgument`. On `Err` the
     /// vector is as it was.
-    pub fn encode(&self, alloc: Global, buf: &mut Vec<u8>) -> Result<()>
+    pub fn encode(&self, buf: &mut Vec<u8>) -> Result<()>
         ensures ok { OnOk result (buf.new.items ≡ buf.old.items ++ entries_bytes self.now.0.items) }
         ensures accepted { OnOk result (AreWritable self.now.0.items) }
         ensures err { OnErr result (buf.new.items ≡ buf.old.items) }
         ensures fault { IfErr result (IsEntriesRefusal self.now.0.items) }
     {
         if !self.is_writable() {
-            return Err(Error::InvalidArgument(format!(in alloc;
+            return Err(Error::InvalidArgument(format!(in *buf.allocator();
                 "the entries are not consecutive or don't run on"
             )?));
         }
@@ -212,7 +212,8 @@ impl EntryIndexes {
         place: Placement,
     ) -> Result<(EntryIndexes, u32, &[u8])>
         ensures ok { IfOk result (λ read. (es : List EntryIndex) ×
-            Reads (IsEntries entries_size) bytes.now read.2.now es × (read.0.0.items ≡ map (entry_in place) es)) }
+            Reads (IsEntries entries_size) bytes.now read.2.now es
+            × (read.0.0.items ≡ map (entry_in place) es)) }
         ensures size { IfOk result (λ read. read.1 ≡ end_behind entries_size read.0.0.items) }
         ensures refused { IfErr result (λ e. e ≢ Error.Memory → HasNoFront (IsEntries entries_size) bytes.now) }
         ensures fault { IfErr result (IsEntriesFault entries_size bytes.now) }
@@ -256,7 +257,8 @@ fn parse_tails(
     place: Placement,
 ) -> Result<(Vec<EntryIndex>, u32, &[u8])>
     ensures ok { IfOk result (λ read. (es : List EntryIndex) ×
-        Reads (AreTails count (first, entries_size)) bytes.now read.2.now es × (read.0.items ≡ map (entry_in place) es)) }
+        Reads (AreTails count (first, entries_size)) bytes.now read.2.now es
+        × (read.0.items ≡ map (entry_in place) es)) }
     ensures size { IfOk result (λ read. read.1 ≡ end_behind entries_size read.0.items) }
     ensures refused { IfErr result (λ e. e ≢ Error.Memory →
         HasNoFront (AreTails count (first, entries_size)) bytes.now) }

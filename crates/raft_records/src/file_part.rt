@@ -7,7 +7,7 @@ ghost use Rattle.raft_records.specs.InFile.{AreInFile};
 ghost use Rattle.raft_records.specs.LogBatch.{IsReadable};
 
 use crate::LogItemBatch;
-use crate::header::{HEADER_LEN, parse_header};
+use crate::header::{LOG_BATCH_HEADER_LEN, parse_header};
 use raft_base::{Error, FileBlockHandle, FileId, LogFileContext, Result, Version};
 use std::marker::Model;
 
@@ -41,6 +41,7 @@ impl FilePart {
         ensures ok { IfOk result (λ part. part
             ≡ record { id = id; version = version; offset = offset; bytes = bytes.items }) }
         ensures accepted { OnOk result (offset + length bytes.items < 2 ^ 64) }
+        ensures refused { OnErr result (2 ^ 64 ≤ offset + length bytes.items) }
         ensures fault { IfErr result (IsPartRefusal (offset + length bytes.items)) }
     {
         if bytes.len() as u64 > u64::MAX - offset {
@@ -111,8 +112,8 @@ pub fn next_batch(part: &FilePart, at: usize) -> Result<Option<(LogItemBatch, us
     }
     let place = FileBlockHandle {
         id: part.id,
-        offset: part.offset + at as u64 + HEADER_LEN as u64,
-        len: offset - HEADER_LEN,
+        offset: part.offset + at as u64 + LOG_BATCH_HEADER_LEN as u64,
+        len: offset - LOG_BATCH_HEADER_LEN,
     };
     let context = LogFileContext::new(part.id, part.version);
     let (bytes, _) = rest.split_at(len);

@@ -11,7 +11,7 @@ ghost use Rattle.raft_base.specs.Signature.{signature_of};
 ghost use Rattle.raft_records.specs.Spelling.{Keeps};
 ghost use Rattle.raft_records.specs.declared.compression_type.CompressionType.TheVariants as compressions;
 
-use crate::checksum::{CHECKSUM_LEN, verify_checksum};
+use crate::checksum::{LOG_BATCH_CHECKSUM_LEN, verify_checksum};
 use crate::{CompressionType, LogItemBatch};
 use byteorder::{BigEndian, ByteOrder, LittleEndian};
 use raft_base::util::crc32;
@@ -19,7 +19,7 @@ use raft_base::{Error, LogFileContext, Result, codec};
 use std::alloc::{AllocError, Global};
 
 /// How many bytes a header takes.
-pub(crate) const HEADER_LEN: usize = 16;
+pub(crate) const LOG_BATCH_HEADER_LEN: usize = 16;
 
 /// The first length in bytes that a batch may not have.
 const LENGTH_LIMIT: u64 = 1 << 56;
@@ -35,7 +35,7 @@ pub(crate) fn parse_header(
     ensures fault { IfErr result (IsHeaderFault bytes.now) }
 {
     let len = bytes.len();
-    if len < HEADER_LEN {
+    if len < LOG_BATCH_HEADER_LEN {
         return Err(Error::Corruption(format!(in alloc; "Log batch header too short: {len}")?));
     }
     let (len_and_type, behind) = parse_u64(bytes);
@@ -47,7 +47,7 @@ pub(crate) fn parse_header(
             "Log item offset exceeds log batch length"
         )?));
     }
-    if offset < HEADER_LEN as u64 {
+    if offset < LOG_BATCH_HEADER_LEN as u64 {
         return Err(Error::Corruption(format!(in alloc;
             "Log item offset is smaller than log batch header length"
         )?));
@@ -85,9 +85,9 @@ pub(crate) fn reserve_header(buf: &mut Vec<u8>) -> std::result::Result<(), Alloc
     ensures ok { OnOk result (16 ≤ length buf.new.items) }
     ensures same { drop 16 buf.new.items ≡ drop 16 buf.old.items }
 {
-    if buf.len() < HEADER_LEN {
+    if buf.len() < LOG_BATCH_HEADER_LEN {
         buf.clear();
-        buf.extend_from_slice(&[0; HEADER_LEN])?;
+        buf.extend_from_slice(&[0; LOG_BATCH_HEADER_LEN])?;
     }
     Ok(())
 }
@@ -99,11 +99,11 @@ fn close_entry_block(buf: &mut Vec<u8>) -> std::result::Result<(), AllocError>
         (buf.new.items ≡ take 16 buf.old.items ++ entry_block (drop 16 buf.old.items)) }
     ensures err { OnErr result (buf.new.items ≡ buf.old.items) }
 {
-    if buf.len() == HEADER_LEN {
+    if buf.len() == LOG_BATCH_HEADER_LEN {
         return Ok(());
     }
-    let mut seal = [0; CHECKSUM_LEN];
-    LittleEndian::write_u32(&mut seal, crc32(&buf[HEADER_LEN..]));
+    let mut seal = [0; LOG_BATCH_CHECKSUM_LEN];
+    LittleEndian::write_u32(&mut seal, crc32(&buf[LOG_BATCH_HEADER_LEN..]));
     buf.extend_from_slice(&seal)
 }
 
@@ -112,9 +112,9 @@ pub(crate) fn offset_behind(entries_size: u32) -> usize
     ensures { (entry_bytes : List ℕ) → length entry_bytes ≡ entries_size → result ≡ item_offset entry_bytes }
 {
     if entries_size == 0 {
-        HEADER_LEN
+        LOG_BATCH_HEADER_LEN
     } else {
-        HEADER_LEN + entries_size as usize + CHECKSUM_LEN
+        LOG_BATCH_HEADER_LEN + entries_size as usize + LOG_BATCH_CHECKSUM_LEN
     }
 }
 
@@ -126,6 +126,7 @@ pub(crate) fn parse_block(
     compression_type: CompressionType,
 ) -> Result<Vec<u8>>
     ensures ok { IfOk result (λ entries. IsBlockOf len bytes.now entries.items) }
+    ensures some { OnErr result (0 < len) }
     ensures refused { IfErr result (λ e. e ≢ Error.Memory → (entries : List ℕ) → IsBlockOf len bytes.now entries → ⊥) }
     ensures fault { IfErr result (IsBlockFault len bytes.now) }
 {
@@ -153,7 +154,7 @@ pub(crate) fn encode_behind(buf: &mut Vec<u8>, item_batch: &mut LogItemBatch) ->
     ensures accepted { OnOk result (encoded_length item_batch.old (drop 16 buf.old.items) < 2 ^ 56) }
     ensures same { item_batch.new ≡ item_batch.old }
     ensures err { OnErr result (Keeps buf.old.items buf.new.items) }
-    ensures full { IfErr result (λ e. e ≢ Error.Memory →
+    ensures fault { IfErr result (λ e. e ≢ Error.Memory →
         (e ≡ Error.Full) × (2 ^ 56 ≤ encoded_length item_batch.old (drop 16 buf.old.items))) }
 {
     close_entry_block(buf)?;

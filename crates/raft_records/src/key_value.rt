@@ -107,14 +107,14 @@ impl KeyValue {
 
     /// Appends the change's bytes; the value of a `Del` is not written. A `Put` without a value is
     /// `InvalidArgument`. On `Err` the vector is as it was.
-    pub fn encode(&self, alloc: Global, buf: &mut Vec<u8>) -> Result<()>
+    pub fn encode(&self, buf: &mut Vec<u8>) -> Result<()>
         ensures ok { OnOk result (buf.new.items ≡ buf.old.items ++ pair_bytes (pair_of self.now)) }
         ensures accepted { OnOk result (IsWritablePair (pair_of self.now)) }
         ensures err { OnErr result (buf.new.items ≡ buf.old.items) }
         ensures fault { IfErr result (IsPairRefusal (pair_of self.now)) }
     {
         if !self.is_writable() {
-            return Err(Error::InvalidArgument(format!(in alloc; "a put has no value")?));
+            return Err(Error::InvalidArgument(format!(in *buf.allocator(); "a put has no value")?));
         }
         let len = buf.len();
         let written = self.write(buf);

@@ -1,19 +1,62 @@
 //! Laws of log batches: what their bytes are read as. Each is a function with an empty body.
 
-ghost use Rattle.std.specs.Prelude.{◌≡◌, ◌≢◌, ◌↔◌, ℕ, ◌+◌, ◌%◌, ◌^◌, ◌<◌, List, [], ◌++◌, map, drop, Option, Some};
+ghost use Rattle.std.specs.Prelude.{◌≡◌, ◌≢◌, ◌↔◌, ℕ, ◌+◌, ◌%◌, ◌^◌, ◌<◌, List, [], ◌++◌, map, drop, Option, Some, None};
 ghost use Rattle.raft_base.specs.declared.pipe_log.Version.TheVariants.{V2};
 ghost use Rattle.raft_base.specs.Reading.{HasNoFront, HasOneFront};
 ghost use Rattle.raft_base.specs.Signature.{signature_in};
 ghost use Rattle.raft_base.specs.declared.pipe_log.FileBlockHandle.{FileBlockHandle};
 ghost use Rattle.raft_records.specs.declared.compression_type.CompressionType.{CompressionType};
-ghost use Rattle.raft_records.specs.declared.compression_type.CompressionType.TheVariants as compressions;
+ghost use Rattle.raft_records.specs.declared.command.Command.{Command};
+ghost use Rattle.raft_records.specs.declared.entry_index.EntryIndex.{EntryIndex};
 ghost use Rattle.raft_records.specs.FilePart.{Part, part_signature, IsNext};
-ghost use Rattle.raft_records.specs.Item.{Item, bare};
-ghost use Rattle.raft_records.specs.ItemBatch.{placed};
+ghost use Rattle.raft_records.specs.Item.{Item, bare, Pair, bare_entry, bare_pair, entries, command, pair, AreInBytes};
+ghost use Rattle.raft_records.specs.ItemBatch.{placed, IsItemBatch};
 ghost use Rattle.raft_records.specs.LogBatch.{IsBatchOf, IsLogBatch, IsReadable, encoded_length, entry_place, log_batch_bytes};
 ghost use Rattle.raft_records.specs.Header.{IsHeader, IsBlockOf};
-ghost use Rattle.raft_records.specs.Range.{AreInRange};
-ghost use Rattle.raft_records.specs.Parts.{IsFramed, HasParts, LogBatchIsSpelled, AreInBytes};
+ghost use Rattle.raft_records.specs.Range.{AreInRange, IsContentInRange};
+ghost use Rattle.raft_records.specs.Parts.{IsFramed, HasParts, LogBatchIsSpelled};
+ghost use Rattle.raft_records.specs.Grammar.{IsCommand, IsEntries, IsItem, IsKeyValue};
+ghost use Rattle.raft_records.specs.Entries.{IsConsecutive, Tile};
+ghost use Rattle.raft_records.specs.Spelling.{IsWritablePair, command_bytes, entries_bytes, pair_bytes};
+ghost use Rattle.raft_records.specs.Written.{ItemIsSpelled, BatchIsSpelled};
+ghost use Rattle.raft_records.specs.declared.compression_type.CompressionType.TheVariants as compressions;
+
+/// What is written of an item is a spelling of it, and no spelling of an item begins another, so it is
+/// read again, whatever follows it. What is written and signed of a batch is an item batch of its
+/// items. Bytes are an item batch of one list of items, with one rest.
+pub fn items_are_read_again()
+    ensures item { ItemIsSpelled }
+    ensures one_front { (s : ℕ) → HasOneFront (IsItem s) }
+    ensures batch { BatchIsSpelled }
+    ensures one_batch { (bytes rest rest' : List ℕ) (signature : Option ℕ) (items items' : List Item) →
+        IsItemBatch bytes signature items rest → IsItemBatch bytes signature items' rest' →
+        (items ≡ items') × (rest ≡ rest') }
+{}
+
+/// What is written of an item's content is a spelling of it, and no spelling begins another, so it is
+/// read again by itself: commands, key values without what bytes don't hold, and entries behind any
+/// entry bytes.
+pub fn contents_are_read_again()
+    ensures command { (c : Command) → IsContentInRange (command c) → IsCommand (command_bytes c) c }
+    ensures one_command { HasOneFront IsCommand }
+    ensures key_value { (p : Pair) → IsWritablePair p → IsContentInRange (pair p) →
+        IsKeyValue (pair_bytes p) (bare_pair p) }
+    ensures one_key_value { HasOneFront IsKeyValue }
+    ensures entries { (s : ℕ) (es : List EntryIndex) → IsConsecutive es → Tile s es →
+        IsContentInRange (entries es) → IsEntries s (entries_bytes es) (map bare_entry es) }
+    ensures one_entries { (s : ℕ) → HasOneFront (IsEntries s) }
+{}
+
+/// Bytes that are an item batch in one file of version 2 are none in another file of version 2, unless
+/// the low 32 bits of the files' numbers agree; and then they are the same one.
+pub fn batches_belong_to_one_file()
+    ensures other_file { (bytes rest rest' : List ℕ) (seq seq' : ℕ) (items items' : List Item) →
+        IsItemBatch bytes (signature_in V2 seq) items rest →
+        IsItemBatch bytes (signature_in V2 seq') items' rest' → seq % 2 ^ 32 ≡ seq' % 2 ^ 32 }
+    ensures same_bits { (bytes rest : List ℕ) (seq seq' : ℕ) (items : List Item) →
+        seq % 2 ^ 32 ≡ seq' % 2 ^ 32 → IsItemBatch bytes (signature_in V2 seq) items rest →
+        IsItemBatch bytes (signature_in V2 seq') items rest }
+{}
 
 /// What is written and signed of a batch is a log batch of its items and entry bytes. Bytes are a log
 /// batch exactly where a header, an entry block and an item batch are read of them, and each of these
@@ -45,18 +88,19 @@ pub fn log_batches_belong_to_one_file()
 {}
 
 /// A written batch that stands in a part of the file that it is signed for, at the offset of the block
-/// that it was written to, is never refused there: `next_batch` answers its items with the places that
-/// `finish_write` gives them, without what bytes don't hold, and where the bytes end.
+/// that it was written to, is never refused there: `next_batch` answers exactly the items that
+/// `finish_write` leaves, and where the bytes end. What is asked of the items holds of every batch, as
+/// its `is_read_again` tells.
 pub fn written_batches_are_next()
     ensures next { (part : Part) (at : ℕ) (block : FileBlockHandle) (items : List Item) (entry_bytes rest : List ℕ)
         (answer : Option (List Item × ℕ)) →
-        IsBatchOf items entry_bytes → AreInRange items → items ≢ [] →
+        IsBatchOf items entry_bytes → AreInRange items → AreInBytes items → items ≢ [] →
         encoded_length items entry_bytes < 2 ^ 56 →
         block.id ≡ part.id → block.offset ≡ part.offset + at →
         drop at part.bytes ≡ log_batch_bytes (part_signature part) items entry_bytes ++ rest →
         IsNext part at answer →
         answer ≡ Some (
-          map (placed (entry_place block entry_bytes) compressions.None) (map bare items),
+          map (placed (entry_place block entry_bytes) compressions.None) items,
           at + encoded_length items entry_bytes,
         ) }
     ensures accepted { (part : Part) (at : ℕ) (items : List Item) (entry_bytes rest : List ℕ) →

@@ -27,7 +27,7 @@ pub use key_value::{KeyValue, OpType};
 pub use log_batch::LogBatch;
 pub use log_item::{LogItem, LogItemContent};
 pub use log_item_batch::LogItemBatch;
-pub use print::print_batch;
+pub use print::{batch_text, print_batch};
 pub use raft_base::{
     B, Error, Factory, FileBlockHandle, FileId, FileSeq, GIB, KIB, LogFileContext, LogQueue, MIB,
     Message, MessageError, MessageExt, PIB, PipeLog, ReactiveBytes, ReadableSize, Result,

@@ -1,36 +1,39 @@
 //! Batches of log items with the bytes of their entries.
 
-ghost use Rattle.std.specs.Prelude.{◌≡◌, ◌≢◌, ℕ, ◌+◌, ◌-◌, ◌^◌, ◌<◌, ◌≤◌, ◌↔◌, List, [], ◌∷◌, ◌++◌, map, length, take, drop, IfOk, IfErr, OnOk, OnErr, IsTrue, Option};
+ghost use Rattle.std.specs.Prelude.{◌≡◌, ◌≢◌, ℕ, ◌+◌, ◌-◌, ◌^◌, ◌<◌, ◌≤◌, ◌↔◌, List, [], ◌∷◌, ◌++◌, map, length, take, drop, IfOk, IfErr, OnOk, OnErr, IsTrue, Option, Some, None};
 ghost use Rattle.raft_base.specs.Reading.{Reads, HasNoFront};
 ghost use Rattle.raft_base.specs.Signature.{signature_of};
 ghost use Rattle.std.specs.Vec.Iter.{into_iter_items};
-ghost use Rattle.raft_records.specs.Item.{Item, bare, command_item, item_of};
-ghost use Rattle.raft_records.specs.LogBatch.{Stage, populating, encoded, sealed, IsSealedStage, empty_batch, IsBatchOf, encoded_length, log_batch_bytes, IsLogBatch, approximate_length};
+ghost use Rattle.raft_records.specs.Item.{Item, bare, command_item, item_of, pair_item, AreInBytes};
+ghost use Rattle.raft_records.specs.LogBatch.{Stage, populating, encoded, sealed, IsSealedStage, empty_batch, IsBatchOf, encoded_length, log_batch_bytes, IsLogBatch, approximate_length, entry_place};
 ghost use Rattle.raft_records.specs.Sizes.{AreSmall};
 ghost use Rattle.raft_records.specs.Range.{AreInRange};
 ghost use Rattle.raft_records.specs.Header.{IsHeader, IsHeaderFault, IsBlockOf, IsBlockFault};
+ghost use Rattle.raft_records.specs.declared.key_value.OpType.TheVariants.{Put, Del};
+ghost use Rattle.raft_records.specs.Group.{reserved_key, IsKeyRefusal, IsMessageRefusal};
+ghost use Rattle.raft_records.specs.ItemBatch.{placed};
+ghost use Rattle.raft_records.specs.declared.compression_type.CompressionType.TheVariants as compressions;
 
-use crate::checksum::CHECKSUM_LEN;
-use crate::header::{HEADER_LEN, encode_behind, parse_block, parse_header, reserve_header, seal};
+use crate::checksum::LOG_BATCH_CHECKSUM_LEN;
+use crate::header::{
+    LOG_BATCH_HEADER_LEN, encode_behind, offset_behind, parse_block, parse_header, reserve_header,
+    seal,
+};
 use crate::laws::log_batches_are_read_again;
-use crate::{Command, CompressionType, LogItem, LogItemBatch};
+use crate::{Command, CompressionType, LogItem, LogItemBatch, is_reserved};
 use raft_base::codec::BytesSlice;
-use raft_base::{Error, FileBlockHandle, LogFileContext, Result};
-use std::alloc::Global;
+use raft_base::{Error, FileBlockHandle, LogFileContext, Message, ReactiveBytes, Result};
+use std::alloc::{AllocError, Global};
 use std::marker::Model;
 use std::vec;
 
 mod entries;
-mod key_values;
-mod merge;
-mod traits;
-mod write;
 
 /// The most bytes that the entries of a batch have together.
-const MOST_ENTRY_BYTES: u64 = (1 << 31) - 1;
+const MAX_LOG_ENTRIES_SIZE_PER_BATCH: u64 = (1 << 31) - 1;
 
 /// The room in bytes that an emptied batch keeps at most for the bytes of later items.
-const MOST_ROOM_KEPT: usize = 8 * 1024 * 1024;
+const MAX_LOG_BATCH_BUFFER_CAP: usize = 8 * 1024 * 1024;
 
 /// What the buffer of a batch holds.
 #[derive(Clone, Copy, PartialEq, Eq, Debug)]
@@ -41,6 +44,24 @@ enum BufState {
     Encoded,
     /// The batch's bytes, with this signature.
     Sealed(Option<u32>),
+}
+
+impl BufState {
+    ghost use Rattle.std.specs.Prelude.{◌≡◌, ◌↔◌, IsTrue};
+    ghost use Rattle.raft_records.specs.LogBatch.{step_of};
+    ghost use Rattle.raft_records.specs.LogBatchModel.{stage_of};
+
+    /// Whether both are states of the same step.
+    fn is_same_step(self, other: BufState) -> bool
+        ensures { IsTrue result ↔ (step_of (stage_of self) ≡ step_of (stage_of other)) }
+    {
+        match (self, other) {
+            (BufState::Open, BufState::Open)
+            | (BufState::Encoded, BufState::Encoded)
+            | (BufState::Sealed(_), BufState::Sealed(_)) => true,
+            _ => false,
+        }
+    }
 }
 
 /// Log items and the bytes of their entries. While it is open items are added; then its bytes are
@@ -79,6 +100,7 @@ impl LogBatch {
     /// An open batch without items, with room for `cap` of them.
     pub fn with_capacity(alloc: Global, cap: usize) -> Result<LogBatch>
         ensures ok { IfOk result (λ batch. batch ≡ empty_batch) }
+        ensures refused { OnErr result (0 < cap) }
         ensures memory { IfErr result (λ e. e ≡ Error.Memory) }
     {
         Ok(LogBatch {
@@ -130,7 +152,7 @@ impl LogBatch {
             BufState::Open => {
                 let entry_bytes = self.item_batch.entries_size() as usize;
                 let items = self.item_batch.approximate_size();
-                items.saturating_add(HEADER_LEN + entry_bytes + CHECKSUM_LEN)
+                items.saturating_add(LOG_BATCH_HEADER_LEN + entry_bytes + LOG_BATCH_CHECKSUM_LEN)
             }
             BufState::Encoded | BufState::Sealed(_) => self.buf.len(),
         }
@@ -142,7 +164,7 @@ impl LogBatch {
         ensures emptied { self.new ≡ empty_batch }
     {
         self.buf.clear();
-        self.buf.shrink_to(MOST_ROOM_KEPT);
+        self.buf.shrink_to(MAX_LOG_BATCH_BUFFER_CAP);
         self.state = BufState::Open;
         self.item_batch.drain()
     }
@@ -166,7 +188,8 @@ impl LogBatch {
         ensures len { IfOk result (λ len. len ≡ encoded_length self.old.items self.old.entry_bytes) }
         ensures accepted { OnOk result (encoded_length self.old.items self.old.entry_bytes < 2 ^ 56) }
         ensures err { OnErr result (self.new ≡ self.old) }
-        ensures full { IfErr result (λ e. e ≢ Error.Memory →
+        ensures refused { OnErr result (self.old.items ≢ []) }
+        ensures fault { IfErr result (λ e. e ≢ Error.Memory →
             (e ≡ Error.Full) × (2 ^ 56 ≤ encoded_length self.old.items self.old.entry_bytes)) }
     {
         if self.is_empty() {
@@ -208,12 +231,14 @@ impl LogBatch {
     }
 
     /// What is written and signed of a batch is read again: the entries of its items tile its entry
-    /// bytes, which are 2^31 - 1 at most, its items' numbers are in the ranges of their types, its bytes
-    /// are fewer than 2^56 once they are made, and, where it has items, they are a log batch of these
-    /// items and entry bytes. This is a law: it computes nothing.
+    /// bytes, which are 2^31 - 1 at most, its items' numbers are in the ranges of their types, bytes hold
+    /// all of its items but places and files, its bytes are fewer than 2^56 once they are made, and, where
+    /// it has items, they are a log batch of these items and entry bytes. This is a law: it computes
+    /// nothing.
     pub fn is_read_again(&self)
         ensures tiled { IsBatchOf self.now.items self.now.entry_bytes }
         ensures in_range { AreInRange self.now.items }
+        ensures in_bytes { AreInBytes self.now.items }
         ensures short { self.now.stage ≢ populating →
             encoded_length self.now.items self.now.entry_bytes < 2 ^ 56 }
         ensures spelled { (signature : Option ℕ) → self.now.items ≢ [] →
@@ -251,11 +276,202 @@ impl LogBatch {
         compression_type: CompressionType,
     ) -> Result<Vec<u8>>
         ensures ok { IfOk result (λ entries. IsBlockOf place.len buf.now entries.items) }
+        ensures some { OnErr result (0 < place.len) }
         ensures refused { IfErr result (λ e. e ≢ Error.Memory →
             (entries : List ℕ) → IsBlockOf place.len buf.now entries → ⊥) }
         ensures fault { IfErr result (IsBlockFault place.len buf.now) }
     {
         parse_block(alloc, buf, place.len, compression_type)
+    }
+}
+
+impl LogBatch {
+    /// Adds the removal of a region's key to an open batch. On `Err` the batch is as it was.
+    pub fn delete(&mut self, region_id: u64, key: Vec<u8>) -> Result<()>
+        requires { self.old.stage ≡ populating }
+        ensures ok { OnOk result (self.new
+            ≡ record self.old { items = self.old.items ++ pair_item region_id Del key.items None ∷ [] }) }
+        ensures err { OnErr result (self.new ≡ self.old) }
+        ensures memory { IfErr result (λ e. e ≡ Error.Memory) }
+    {
+        self.item_batch.delete(region_id, key)
+    }
+
+    /// Adds a value of a region's key to an open batch. The key of the group markers is
+    /// `InvalidArgument`. On `Err` the batch is as it was.
+    pub fn put(&mut self, region_id: u64, key: Vec<u8>, value: Vec<u8>) -> Result<()>
+        requires { self.old.stage ≡ populating }
+        ensures ok { OnOk result (self.new ≡ record self.old {
+          items = self.old.items ++ pair_item region_id Put key.items (Some value.items) ∷ [];
+        }) }
+        ensures accepted { OnOk result (key.items ≢ reserved_key) }
+        ensures err { OnErr result (self.new ≡ self.old) }
+        ensures fault { IfErr result (IsKeyRefusal key.items) }
+    {
+        refuse_reserved(&key)?;
+        self.put_unchecked(region_id, key, value)
+    }
+
+    /// Adds a message as the value of a region's key to an open batch. `Message` where the message
+    /// refuses to write itself; the key of the group markers is `InvalidArgument`. On `Err`
+    /// the batch is as it was.
+    pub fn put_message<S: Message>(
+        &mut self,
+        region_id: u64,
+        key: Vec<u8>,
+        message: &S,
+    ) -> Result<()>
+        requires { self.old.stage ≡ populating }
+        ensures ok { OnOk result (self.new ≡ record self.old {
+          items = self.old.items ++ pair_item region_id Put key.items (Some (S.bytes_of message.now)) ∷ [];
+        }) }
+        ensures accepted { OnOk result (key.items ≢ reserved_key) }
+        ensures err { OnErr result (self.new ≡ self.old) }
+        ensures fault { IfErr result (IsMessageRefusal (S.refuses message.now) key.items) }
+    {
+        refuse_reserved(&key)?;
+        self.item_batch.put_message(region_id, key, message)
+    }
+
+    /// Adds a value of a region's key to an open batch, whatever the key. On `Err` the batch is as it
+    /// was.
+    pub(crate) fn put_unchecked(
+        &mut self,
+        region_id: u64,
+        key: Vec<u8>,
+        value: Vec<u8>,
+    ) -> Result<()>
+        requires { self.old.stage ≡ populating }
+        ensures ok { OnOk result (self.new ≡ record self.old {
+          items = self.old.items ++ pair_item region_id Put key.items (Some value.items) ∷ [];
+        }) }
+        ensures err { OnErr result (self.new ≡ self.old) }
+        ensures memory { IfErr result (λ e. e ≡ Error.Memory) }
+    {
+        self.item_batch.put(region_id, key, value)
+    }
+}
+
+/// Refuses the key of the group markers.
+fn refuse_reserved(key: &Vec<u8>) -> Result<()>
+    ensures accepted { OnOk result (key.now.items ≢ reserved_key) }
+    ensures fault { IfErr result (IsKeyRefusal key.now.items) }
+{
+    if is_reserved(key.as_slice()) {
+        return Err(Error::InvalidArgument(format!(in *key.allocator();
+            "the key {key:?} is kept for group markers"
+        )?));
+    }
+    Ok(())
+}
+
+impl LogBatch {
+    /// Gives every entry of a sealed batch the place of the entry bytes with their checksum in the
+    /// block that the batch was written to, of length 0 where there are no entry bytes, and every key
+    /// value its file. It asks that the block begins at 2^64 - 17 at most. The batch's bytes stay as
+    /// they are, and it takes no memory.
+    pub fn finish_write(&mut self, block: FileBlockHandle)
+        requires sealed { IsSealedStage self.old.stage }
+        requires offset { block.offset ≤ 2 ^ 64 - 17 }
+        ensures placed { self.new ≡ record self.old {
+          items = map (placed (entry_place block self.old.entry_bytes) compressions.None) self.old.items;
+        } }
+        ensures bytes { (signature : Option ℕ) → log_batch_bytes signature self.new.items self.new.entry_bytes
+            ≡ log_batch_bytes signature self.old.items self.old.entry_bytes }
+    {
+        let entry_place = FileBlockHandle {
+            id: block.id,
+            offset: block.offset + LOG_BATCH_HEADER_LEN as u64,
+            len: offset_behind(self.item_batch.entries_size()) - LOG_BATCH_HEADER_LEN,
+        };
+        self.item_batch.place(entry_place, CompressionType::None);
+    }
+}
+
+/// A batch is ready once it is no longer open. Its bytes are signed for the file that they are asked
+/// for.
+impl ReactiveBytes for LogBatch {
+    ghost use Rattle.std.specs.Prelude.{◌≢◌};
+    ghost use Rattle.raft_base.specs.Signature.{signature_of};
+    ghost use Rattle.raft_records.specs.LogBatch.{populating, log_batch_bytes};
+
+    ghost is_ready = { λ batch. batch.stage ≢ populating };
+
+    ghost bytes_in = { λ batch context. log_batch_bytes (signature_of context) batch.items batch.entry_bytes };
+
+    fn ready(&self) -> bool {
+        !self.is_open()
+    }
+
+    fn as_bytes(&mut self, context: &LogFileContext) -> &[u8] {
+        self.prepare_write(context);
+        self.encoded_bytes()
+    }
+}
+
+impl PartialEq for LogBatch {
+    ghost use Rattle.std.specs.Prelude.{◌≡◌, ◌↔◌, IsTrue};
+    ghost use Rattle.std.specs.Cmp.{partial_equiv_from_equiv};
+    ghost use Rattle.raft_records.specs.LogBatch.{AreEqual};
+    ghost use Rattle.raft_records.specs.Same.{same_batch};
+    ghost use Rattle.raft_records.specs.SameLaws.{same_batch_is_equivalence};
+
+    ghost eq = { same_batch };
+
+    ghost laws = { partial_equiv_from_equiv same_batch_is_equivalence };
+
+    /// Whether both have the same items and entry bytes and are both open, both encoded or both
+    /// sealed, for whichever files.
+    fn eq(&self, other: &LogBatch) -> bool
+        ensures tested { result ≡ same_batch self.now other.now }
+        ensures exact { IsTrue result ↔ AreEqual self.now other.now }
+    {
+        self.state.is_same_step(other.state)
+            && self.item_batch == other.item_batch
+            && self.entry_bytes() == other.entry_bytes()
+    }
+}
+
+impl Eq for LogBatch {
+    ghost use Rattle.raft_records.specs.SameLaws.{same_batch_is_equivalence};
+
+    ghost laws = { same_batch_is_equivalence };
+}
+
+impl Clone for LogBatch {
+    ghost use Rattle.std.specs.Prelude.{◌≡◌};
+
+    ghost is_clone = { λ batch copy. copy ≡ batch };
+
+    /// A batch of the same items and entry bytes at the same stage. There may be no memory for it.
+    fn clone(&self) -> std::result::Result<LogBatch, AllocError> {
+        Ok(LogBatch {
+            item_batch: <LogItemBatch as Clone>::clone(&self.item_batch)?,
+            state: self.state,
+            buf: self.buf.clone()?,
+        })
+    }
+}
+
+impl LogBatch {
+    /// A batch of the same items and entry bytes at the same stage. There may be no memory for it.
+    pub fn clone(&self) -> Result<LogBatch>
+        ensures ok { IfOk result (λ copy. copy ≡ self.now) }
+        ensures memory { IfErr result (λ e. e ≡ Error.Memory) }
+    {
+        Ok(<LogBatch as Clone>::clone(self)?)
+    }
+
+    /// The bytes of the entries.
+    fn entry_bytes(&self) -> &[u8]
+        ensures { result.now ≡ self.now.entry_bytes }
+    {
+        let end = LOG_BATCH_HEADER_LEN + self.item_batch.entries_size() as usize;
+        if self.buf.len() < end {
+            &[]
+        } else {
+            &self.buf[LOG_BATCH_HEADER_LEN..end]
+        }
     }
 }
 

@@ -104,13 +104,13 @@ impl LogItem {
         }
     }
 
-    /// Puts the bytes of the item's entries `by` bytes further back.
-    pub(crate) fn raise(&mut self, by: u32)
+    /// Raises the offsets of the item's entries: their bytes stand `by` bytes further back.
+    pub(crate) fn raise_offsets(&mut self, by: u32)
         requires { CanRaiseContent by (content_of self.old.content) }
         ensures { item_of self.new ≡ raised by (item_of self.old) }
     {
         match &mut self.content {
-            LogItemContent::EntryIndexes(entries) => entries.raise(by),
+            LogItemContent::EntryIndexes(entries) => entries.raise_offsets(by),
             LogItemContent::Command(_) | LogItemContent::Kv(_) => {}
         }
     }
@@ -146,14 +146,16 @@ impl LogItem {
 
     /// Appends the item's bytes. What its content can't write is `InvalidArgument`. On `Err` the
     /// vector is as it was.
-    pub fn encode(&self, alloc: Global, buf: &mut Vec<u8>) -> Result<()>
+    pub fn encode(&self, buf: &mut Vec<u8>) -> Result<()>
         ensures ok { OnOk result (buf.new.items ≡ buf.old.items ++ item_bytes (item_of self.now)) }
         ensures accepted { OnOk result (IsWritable (item_of self.now)) }
         ensures err { OnErr result (buf.new.items ≡ buf.old.items) }
         ensures fault { IfErr result (IsItemRefusal (item_of self.now)) }
     {
         if !self.is_writable() {
-            return Err(Error::InvalidArgument(format!(in alloc; "an item can't be written")?));
+            return Err(Error::InvalidArgument(format!(in *buf.allocator();
+                "an item can't be written"
+            )?));
         }
         let len = buf.len();
         let written = self.write(buf);
@@ -253,7 +255,8 @@ impl LogItemContent {
         place: Placement,
     ) -> Result<(LogItemContent, u32, &[u8])>
         ensures ok { IfOk result (λ read. (content : Content) ×
-            Reads (IsContent entries_size) bytes.now read.2.now content × (content_of read.0 ≡ content_in place content)) }
+            Reads (IsContent entries_size) bytes.now read.2.now content
+            × (content_of read.0 ≡ content_in place content)) }
         ensures size { IfOk result (λ read.
             read.1 ≡ entry_bytes_with entries_size (content_of read.0)) }
         ensures refused { IfErr result (λ e. e ≢ Error.Memory →

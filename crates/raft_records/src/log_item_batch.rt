@@ -1,24 +1,24 @@
 //! Batches of log items, without entry bytes.
 
-ghost use Rattle.std.specs.Prelude.{◌≡◌, ◌≢◌, ℕ, ◌+◌, ◌%◌, ◌^◌, ◌<◌, ◌≤◌, length, Option, List, [], ◌∷◌, ◌++◌, map, Some, None, IfOk, IfErr, OnOk, OnErr};
+ghost use Rattle.std.specs.Prelude.{◌≡◌, ◌≢◌, ℕ, ◌+◌, ◌%◌, ◌^◌, ◌<◌, ◌≤◌, length, Option, List, [], ◌∷◌, ◌++◌, map, Some, None, IfOk, IfErr, OnOk, OnErr, ◌↔◌, IsTrue};
 ghost use Rattle.std.specs.Vec.Iter.{into_iter_items};
 ghost use Rattle.std.specs.Slice.Iter.{iter_rest};
 ghost use Rattle.raft_base.specs.declared.pipe_log.Version.TheVariants.{V2};
 ghost use Rattle.raft_base.specs.Reading.{Reads, HasNoFront, HasOneFront};
 ghost use Rattle.raft_base.specs.Signature.{signature_of, signature_in};
-ghost use Rattle.raft_records.specs.Grammar.{IsItem, behind_item};
+ghost use Rattle.raft_records.specs.Grammar.{IsCommand, IsEntries, IsItem, IsKeyValue, behind_item};
 ghost use Rattle.raft_records.specs.InFile.{AreInFile};
-ghost use Rattle.raft_records.specs.Item.{Item, bare, content_of, item_of, entries_item, command_item, pair_item};
-ghost use Rattle.raft_records.specs.Entries.{IsConsecutive};
+ghost use Rattle.raft_records.specs.Item.{Item, Pair, bare, bare_entry, bare_pair, entries, command, pair, content_of, item_of, entries_item, command_item, pair_item, AreInBytes, IsInBytes};
+ghost use Rattle.raft_records.specs.Entries.{IsConsecutive, Tile};
 ghost use Rattle.raft_records.specs.ItemBatch.{AreItems, IsItemBatch, IsDecoded, AreItemsFault, IsItemBatchFault, checksum_bytes, batch_bytes, placed, raised, laid, entry_lengths, entry_bytes_of, end_of_items, FitsBehind, IsEncoded, no_checksum, FitTogether, first_entry};
 ghost use Rattle.raft_records.specs.Faults.{IsMemoryOrMessage};
-ghost use Rattle.raft_records.specs.Spelling.{Keeps};
+ghost use Rattle.raft_records.specs.Spelling.{Keeps, IsWritablePair, command_bytes, entries_bytes, pair_bytes};
 ghost use Rattle.raft_records.specs.Sizes.{items_size, batch_size, saturated, AreSmall};
-ghost use Rattle.raft_records.specs.Range.{AreInRange};
+ghost use Rattle.raft_records.specs.Range.{IsContentInRange, AreInRange};
 ghost use Rattle.raft_records.specs.Written.{ItemIsSpelled, BatchIsSpelled};
 ghost use Rattle.raft_records.specs.declared.key_value.OpType.TheVariants.{Put, Del};
 
-use crate::checksum::{CHECKSUM_LEN, sign, verify_checksum};
+use crate::checksum::{LOG_BATCH_CHECKSUM_LEN, sign, verify_checksum};
 use crate::entry_index::Placement;
 use crate::{Command, CompressionType, EntryIndex, LogItem, LogItemContent, OpType};
 use byteorder::{ByteOrder, LittleEndian};
@@ -28,8 +28,6 @@ use raft_base::{Error, FileBlockHandle, LogFileContext, Message, Result, codec};
 use std::alloc::{AllocError, Global};
 use std::marker::Model;
 use std::{mem, slice, vec};
-
-mod traits;
 
 /// Items in order, without the entries' bytes. The bytes of the entries of its items run on from the
 /// first item to the last.
@@ -73,6 +71,7 @@ impl LogItemBatch {
     /// A batch without items, with room for `cap` of them.
     pub fn with_capacity(alloc: Global, cap: usize) -> Result<LogItemBatch>
         ensures ok { IfOk result (λ batch. batch ≡ []) }
+        ensures refused { OnErr result (0 < cap) }
         ensures memory { IfErr result (λ e. e ≡ Error.Memory) }
     {
         Ok(LogItemBatch {
@@ -98,13 +97,16 @@ impl LogItemBatch {
         self.items.iter()
     }
 
-    /// What is written and signed of a batch is read again: its items fit together and their numbers
-    /// are in the ranges of their types. This is a law: it computes nothing.
+    /// What is written and signed of a batch is read again: its items fit together, their numbers are
+    /// in the ranges of their types, and bytes hold all of them but places and files. This is a law: it
+    /// computes nothing.
     pub fn is_read_again(&self)
         ensures fit { FitTogether 0 self.now }
         ensures in_range { AreInRange self.now }
+        ensures in_bytes { AreInBytes self.now }
         ensures spelled { (signature : Option ℕ) →
-            IsItemBatch (batch_bytes self.now ++ checksum_bytes signature (batch_bytes self.now)) signature (map bare self.now) [] }
+            IsItemBatch (batch_bytes self.now ++ checksum_bytes signature (batch_bytes self.now))
+            signature (map bare self.now) [] }
     {
         let _count = self.items.len();
     }
@@ -123,7 +125,7 @@ impl LogItemBatch {
         ensures covers { AreSmall self.now → length (batch_bytes self.now) < 2 ^ 56 →
             length (batch_bytes self.now) + 4 ≤ result }
     {
-        self.item_size.saturating_add(8 + CHECKSUM_LEN)
+        self.item_size.saturating_add(8 + LOG_BATCH_CHECKSUM_LEN)
     }
 
     /// The first entry of the first item that has entries to list, if it has any.
@@ -154,7 +156,7 @@ impl LogItemBatch {
         ensures memory { IfErr result (λ e. e ≡ Error.Memory) }
     {
         let start = self.entries_size();
-        let end = lay(&mut entry_indexes, start);
+        let end = set_offsets(&mut entry_indexes, start);
         self.add(LogItem::new_entry_indexes(region_id, entry_indexes), end)
     }
 
@@ -199,7 +201,6 @@ impl LogItemBatch {
     /// itself. On `Err` the batch is as it was.
     pub fn put_message<S: Message>(
         &mut self,
-        alloc: Global,
         region_id: u64,
         key: Vec<u8>,
         message: &S,
@@ -209,7 +210,7 @@ impl LogItemBatch {
         ensures err { OnErr result (self.new ≡ self.old) }
         ensures fault { IfErr result (IsMemoryOrMessage (S.refuses message.now)) }
     {
-        let mut value = Vec::new(alloc);
+        let mut value = Vec::new(*self.items.allocator());
         message.write_to_vec(&mut value)?;
         self.put(region_id, key, value)
     }
@@ -223,10 +224,14 @@ impl LogItemBatch {
         ensures emptied { OnOk result (rhs.new ≡ []) }
         ensures err { OnErr result (self.new ≡ self.old) }
         ensures rhs_err { OnErr result (rhs.new ≡ rhs.old) }
+        ensures refused { OnErr result (rhs.old ≢ []) }
         ensures memory { IfErr result (λ e. e ≡ Error.Memory) }
     {
+        if rhs.items.is_empty() {
+            return Ok(());
+        }
         self.items.reserve(rhs.items.len())?;
-        raise_items(&mut rhs.items, self.entries_size, rhs.entries_size);
+        raise_item_offsets(&mut rhs.items, self.entries_size);
         if self.items.append(&mut rhs.items).is_err() {
             unreachable!()
         }
@@ -273,7 +278,7 @@ impl LogItemBatch {
             buf.truncate(start);
             return Ok(written?);
         }
-        let end = buf.len() - CHECKSUM_LEN;
+        let end = buf.len() - LOG_BATCH_CHECKSUM_LEN;
         self.checksum = Some(crc32(&buf[start..end]));
         Ok(())
     }
@@ -285,7 +290,7 @@ impl LogItemBatch {
         ensures { buf.new ≡ batch_bytes self.now
             ++ checksum_bytes (signature_of context.now) (batch_bytes self.now) }
     {
-        let end = buf.len() - CHECKSUM_LEN;
+        let end = buf.len() - LOG_BATCH_CHECKSUM_LEN;
         let checksum = match self.checksum {
             Some(checksum) => checksum,
             None => crc32(&buf[..end]),
@@ -324,6 +329,7 @@ impl LogItemBatch {
     #[inline(always)]
     fn add(&mut self, item: LogItem, entries_size: u32) -> Result<()>
         requires fits { FitsBehind (entry_bytes_of self.old) (content_of item.content) }
+        requires in_bytes { IsInBytes (content_of item.content) }
         requires end { entries_size ≡ behind_item (entry_bytes_of self.old) (item_of item) }
         ensures ok { OnOk result (self.new ≡ self.old ++ item_of item ∷ []) }
         ensures err { OnErr result (self.new ≡ self.old) }
@@ -339,28 +345,57 @@ impl LogItemBatch {
     }
 }
 
-/// What is written of an item is a spelling of it, and no spelling of an item begins another, so it is
-/// read again, whatever follows it. What is written and signed of a batch is an item batch of its
-/// items. Bytes are an item batch of one list of items, with one rest.
-pub fn items_are_read_again()
-    ensures item { ItemIsSpelled }
-    ensures one_front { (s : ℕ) → HasOneFront (IsItem s) }
-    ensures batch { BatchIsSpelled }
-    ensures one_batch { (bytes rest rest' : List ℕ) (signature : Option ℕ) (items items' : List Item) →
-        IsItemBatch bytes signature items rest → IsItemBatch bytes signature items' rest' →
-        (items ≡ items') × (rest ≡ rest') }
-{}
+impl PartialEq for LogItemBatch {
+    ghost use Rattle.std.specs.Prelude.{◌≡◌, ◌↔◌, IsTrue};
+    ghost use Rattle.std.specs.Cmp.{partial_equiv_from_equiv};
+    ghost use Rattle.raft_records.specs.Same.{same_items};
+    ghost use Rattle.raft_records.specs.SameLaws.{same_items_is_equivalence};
 
-/// Bytes that are an item batch in one file of version 2 are none in another file of version 2, unless
-/// the low 32 bits of the files' numbers agree; and then they are the same one.
-pub fn batches_belong_to_one_file()
-    ensures other_file { (bytes rest rest' : List ℕ) (seq seq' : ℕ) (items items' : List Item) →
-        IsItemBatch bytes (signature_in V2 seq) items rest →
-        IsItemBatch bytes (signature_in V2 seq') items' rest' → seq % 2 ^ 32 ≡ seq' % 2 ^ 32 }
-    ensures same_bits { (bytes rest : List ℕ) (seq seq' : ℕ) (items : List Item) →
-        seq % 2 ^ 32 ≡ seq' % 2 ^ 32 → IsItemBatch bytes (signature_in V2 seq) items rest →
-        IsItemBatch bytes (signature_in V2 seq') items rest }
-{}
+    ghost eq = { same_items };
+
+    ghost laws = { partial_equiv_from_equiv same_items_is_equivalence };
+
+    /// Whether the items are the same, in order.
+    fn eq(&self, other: &LogItemBatch) -> bool
+        ensures tested { result ≡ same_items self.now other.now }
+        ensures exact { IsTrue result ↔ (self.now ≡ other.now) }
+    {
+        self.items.as_slice() == other.items.as_slice()
+    }
+}
+
+impl Eq for LogItemBatch {
+    ghost use Rattle.raft_records.specs.SameLaws.{same_items_is_equivalence};
+
+    ghost laws = { same_items_is_equivalence };
+}
+
+impl Clone for LogItemBatch {
+    ghost use Rattle.std.specs.Prelude.{◌≡◌};
+
+    ghost is_clone = { λ batch copy. copy ≡ batch };
+
+    /// A batch of the same items. There may be no memory for it.
+    fn clone(&self) -> std::result::Result<LogItemBatch, AllocError> {
+        let items = self.items.clone()?;
+        Ok(LogItemBatch {
+            items,
+            item_size: self.item_size,
+            entries_size: self.entries_size,
+            checksum: self.checksum,
+        })
+    }
+}
+
+impl LogItemBatch {
+    /// A batch of the same items. There may be no memory for it.
+    pub fn clone(&self) -> Result<LogItemBatch>
+        ensures ok { IfOk result (λ copy. copy ≡ self.now) }
+        ensures memory { IfErr result (λ e. e ≡ Error.Memory) }
+    {
+        Ok(<LogItemBatch as Clone>::clone(self)?)
+    }
+}
 
 /// Appends the count, the items and four zero bytes. On `Err` some bytes may stand behind those of
 /// the vector.
@@ -373,7 +408,7 @@ fn write_items(buf: &mut Vec<u8>, items: &[LogItem]) -> std::result::Result<(), 
     for item in items {
         item.write(buf)?;
     }
-    buf.extend_from_slice(&[0; CHECKSUM_LEN])?;
+    buf.extend_from_slice(&[0; LOG_BATCH_CHECKSUM_LEN])?;
     Ok(())
 }
 
@@ -417,8 +452,9 @@ fn place_items(items: &mut Vec<LogItem>, block: FileBlockHandle, compression_typ
     }
 }
 
-/// Lays the bytes of entries one behind the other from `start` on, and answers where they end.
-fn lay(entries: &mut Vec<EntryIndex>, start: u32) -> u32
+/// Sets the offsets of entries so that their bytes stand one behind the other from `start` on, and
+/// answers where they end.
+fn set_offsets(entries: &mut Vec<EntryIndex>, start: u32) -> u32
     requires { start + entry_lengths entries.old.items < 2 ^ 32 }
     ensures laid { entries.new.items ≡ laid start entries.old.items }
     ensures end { result ≡ start + entry_lengths entries.old.items }
@@ -431,14 +467,13 @@ fn lay(entries: &mut Vec<EntryIndex>, start: u32) -> u32
     offset
 }
 
-/// Puts the bytes of all entries `by` bytes further back; `end` is where they end before.
-fn raise_items(items: &mut Vec<LogItem>, by: u32, end: u32)
+/// Raises the offsets of all entries: their bytes stand `by` bytes further back.
+fn raise_item_offsets(items: &mut Vec<LogItem>, by: u32)
     requires fit { FitTogether 0 (map item_of items.old.items) }
-    requires end { end ≡ entry_bytes_of (map item_of items.old.items) }
-    requires room { by + end < 2 ^ 32 }
+    requires room { by + entry_bytes_of (map item_of items.old.items) < 2 ^ 32 }
     ensures { map item_of items.new.items ≡ map (raised by) (map item_of items.old.items) }
 {
     for item in items.iter_mut() {
-        item.raise(by);
+        item.raise_offsets(by);
     }
 }

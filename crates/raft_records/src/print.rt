@@ -42,8 +42,9 @@ pub fn print_batch<R: Read, W: Write>(
     Ok(())
 }
 
-/// The text of the item batch that the whole slice is.
-fn batch_text(alloc: Global, bytes: &[u8], context: &LogFileContext) -> Result<String>
+/// The text of the item batch that the whole slice is, in the file of `context`: a line for each item,
+/// and a last one with the number of items and of the bytes that are left unread behind them.
+pub fn batch_text(alloc: Global, bytes: &[u8], context: &LogFileContext) -> Result<String>
     ensures ok { IfOk result (λ text.
         IsTextOf bytes.now (signature_of context.now) (string_bytes text)) }
     ensures refused { IfErr result (λ e. e ≢ Error.Memory →
@@ -182,3 +183,6 @@ fn append_counts(
 {
     writeln!(text, "items {items} rest {rest}")
 }
+
+#[cfg(test)]
+mod tests;

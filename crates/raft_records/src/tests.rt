@@ -7,25 +7,19 @@ mod refusals;
 use super::*;
 use raft_base::{Error, FileBlockHandle, FileId, LogFileContext, LogQueue, Result, Version};
 use std::alloc::Global;
-
-/// Whether this is the first refusal of memory in a test; each is run with one refusal at most.
-pub(crate) fn is_only_refusal(error: &Error, refused: &mut bool) -> bool {
-    let is_first = !*refused;
-    *refused = true;
-    is_first && matches!(error, Error::Memory)
-}
-
-/// Whether these bytes were written, or nothing was for want of memory.
-fn is_written(written: Result<()>, buf: &Vec<u8>, bytes: &[u8], refused: &mut bool) -> bool {
-    match written {
-        Ok(()) => buf.as_slice() == bytes,
-        Err(e) => is_only_refusal(&e, refused) && buf.is_empty(),
-    }
-}
+use std::process::Abort;
 
 #[test]
 fn commands(rt: HostRuntime) {
-    let mut refused = false;
+    let answer = match commands_are_their_bytes(&rt, rt.alloc()) {
+        Err(Error::Memory) => commands_are_their_bytes(&rt, rt.alloc()),
+        answer => answer,
+    };
+    assert!(rt; answer.is_ok());
+}
+
+/// Commands are written as these bytes, and read of them.
+fn commands_are_their_bytes(rt: &impl Abort, alloc: Global) -> Result<()> {
     for (command, bytes) in [
         (Command::Clean, b"\x01".as_slice()),
         (Command::Compact { index: 7 }, b"\x02\x07".as_slice()),
@@ -35,13 +29,14 @@ fn commands(rt: HostRuntime) {
             b"\x02\xff\xff\xff\xff\xff\xff\xff\xff\xff\x01".as_slice(),
         ),
     ] {
-        let mut buf = Vec::new(rt.alloc());
-        let written = command.encode(&mut buf);
-        assert!(rt; is_written(written, &buf, bytes, &mut refused));
+        let mut buf = Vec::new(alloc);
+        command.encode(&mut buf)?;
+        assert!(rt; buf.as_slice() == bytes);
         let mut rest = bytes;
-        let read = Command::decode(rt.alloc(), &mut rest);
-        assert!(rt; matches!(&read, Ok(same) if *same == command));
+        let read = Command::decode(alloc, &mut rest)?;
+        assert!(rt; read == command && rest.is_empty());
     }
+    Ok(())
 }
 
 /// A change of one key.
@@ -56,7 +51,15 @@ fn key_value(alloc: Global, op_type: OpType, key: &[u8], value: Option<&[u8]>) -
 
 #[test]
 fn key_values(rt: HostRuntime) {
-    let mut refused = false;
+    let answer = match key_values_are_their_bytes(&rt, rt.alloc()) {
+        Err(Error::Memory) => key_values_are_their_bytes(&rt, rt.alloc()),
+        answer => answer,
+    };
+    assert!(rt; answer.is_ok());
+}
+
+/// Key values are written as these bytes and read of them, a `Del` without its value.
+fn key_values_are_their_bytes(rt: &impl Abort, alloc: Global) -> Result<()> {
     let put = b"\x01\x03\x70\x75\x74\x05\x70\x75\x74\x5f\x76".as_slice();
     let del = b"\x02\x03\x64\x65\x6c".as_slice();
     let mut long_put = [0xff; 135];
@@ -79,13 +82,15 @@ fn key_values(rt: HostRuntime) {
         (OpType::Del, "del", Some(b"del_v".as_slice()), del),
         (OpType::Del, "", None, b"\x02\x00".as_slice()),
     ] {
-        let mut buf = Vec::new(rt.alloc());
-        let written = match key_value(rt.alloc(), op_type, key.as_bytes(), value) {
-            Ok(kv) => kv.encode(rt.alloc(), &mut buf),
-            Err(e) => Err(e),
-        };
-        assert!(rt; is_written(written, &buf, bytes, &mut refused));
+        let mut buf = Vec::new(alloc);
+        key_value(alloc, op_type, key.as_bytes(), value)?.encode(&mut buf)?;
+        assert!(rt; buf.as_slice() == bytes);
+        let mut rest = bytes;
+        let read = KeyValue::decode(alloc, &mut rest)?;
+        let written = if op_type == OpType::Put { value } else { None };
+        assert!(rt; read == key_value(alloc, op_type, key.as_bytes(), written)?);
     }
+    Ok(())
 }
 
 /// Entries of these lengths, one behind the other, the first with this index.
@@ -130,16 +135,27 @@ const ENTRIES: [(u64, &[u32], &[u8]); 7] = [
 ];
 
 #[test]
-fn entries_are_their_tail_offsets(rt: HostRuntime) {
-    let mut refused = false;
+fn entries(rt: HostRuntime) {
+    let answer = match entries_are_their_tail_offsets(&rt, rt.alloc()) {
+        Err(Error::Memory) => entries_are_their_tail_offsets(&rt, rt.alloc()),
+        answer => answer,
+    };
+    assert!(rt; answer.is_ok());
+}
+
+/// Entries are written as these bytes, and read of them.
+fn entries_are_their_tail_offsets(rt: &impl Abort, alloc: Global) -> Result<()> {
     for (first, lengths, bytes) in ENTRIES {
-        let mut buf = Vec::new(rt.alloc());
-        let written = match run_of(rt.alloc(), first, lengths) {
-            Ok(entries) => entries.encode(rt.alloc(), &mut buf),
-            Err(e) => Err(e),
-        };
-        assert!(rt; is_written(written, &buf, bytes, &mut refused));
+        let run = run_of(alloc, first, lengths)?;
+        let mut buf = Vec::new(alloc);
+        run.encode(&mut buf)?;
+        assert!(rt; buf.as_slice() == bytes);
+        let mut rest = bytes;
+        let mut size = 0;
+        let read = EntryIndexes::decode(alloc, &mut rest, &mut size)?;
+        assert!(rt; read == run && rest.is_empty());
     }
+    Ok(())
 }
 
 /// What is read in front of bytes.
@@ -155,24 +171,26 @@ enum Read {
 }
 
 /// Whether this is read in front of the bytes, and an item is written as it was read.
-fn is_item_row(alloc: Global, bytes: &[u8], read: Read, refused: &mut bool) -> bool {
+fn is_item_row(alloc: Global, bytes: &[u8], read: Read) -> Result<bool> {
     let mut rest = bytes;
     let mut size = 0;
     match LogItem::decode(alloc, &mut rest, &mut size) {
         Ok(item) => {
             let mut buf = Vec::new(alloc);
-            let written = item.encode(alloc, &mut buf);
+            item.encode(&mut buf)?;
             let front = bytes.strip_suffix(rest).unwrap_or(bytes);
-            matches!(read, Read::Item(end, left) if size == end && rest.len() == left)
-                && is_written(written, &buf, front, refused)
+            let read_so =
+                matches!(read, Read::Item(end, left) if size == end && rest.len() == left);
+            Ok(read_so && buf.as_slice() == front)
         }
-        Err(e) => match (read, &e) {
+        Err(Error::Memory) => Err(Error::Memory),
+        Err(e) => Ok(match (read, &e) {
             (Read::Unrecognized(text), Error::Corruption(found)) => found.as_str() == text,
             (Read::Corruption, Error::Corruption(_)) => true,
             (Read::Codec, Error::Codec(_)) => true,
             (Read::Io, Error::Io(_)) => true,
-            _ => is_only_refusal(&e, refused),
-        },
+            _ => false,
+        }),
     }
 }
 
@@ -237,13 +255,18 @@ const ITEMS: [(&[u8], Read); 31] = [
 
 #[test]
 fn items(rt: HostRuntime) {
-    let mut refused = false;
+    let answer = match items_are_read_as_in_the_rows(&rt, rt.alloc()) {
+        Err(Error::Memory) => items_are_read_as_in_the_rows(&rt, rt.alloc()),
+        answer => answer,
+    };
+    assert!(rt; answer.is_ok());
+}
+
+fn items_are_read_as_in_the_rows(rt: &impl Abort, alloc: Global) -> Result<()> {
     for (bytes, read) in ITEMS {
-        assert!(rt;
-            is_item_row(rt.alloc(), bytes, read, &mut refused),
-            "at {bytes:?}"
-        );
+        assert!(rt; is_item_row(alloc, bytes, read)?, "at {bytes:?}");
     }
+    Ok(())
 }
 
 /// The batch's bytes in a file of the append queue.
@@ -255,16 +278,8 @@ fn sealed(alloc: Global, batch: &mut LogItemBatch, seq: u64, version: Version) -
     Ok(buf)
 }
 
-/// Whether these are the bytes, or there was no memory for them.
-fn is_sealed_so(sealed: Result<Vec<u8>>, bytes: &[u8], refused: &mut bool) -> bool {
-    match sealed {
-        Ok(buf) => buf.as_slice() == bytes,
-        Err(e) => is_only_refusal(&e, refused),
-    }
-}
-
-/// Whether these bytes are a batch without items in the file. It takes no memory to read one.
-fn is_empty_batch(alloc: Global, bytes: &[u8], seq: u64, version: Version) -> bool {
+/// Whether these bytes are a batch without items in the file; `Corruption` is an answer.
+fn is_empty_batch(alloc: Global, bytes: &[u8], seq: u64, version: Version) -> Result<bool> {
     let context = LogFileContext::new(FileId::new(LogQueue::Append, seq), version);
     let place = FileBlockHandle {
         id: context.id,
@@ -273,16 +288,25 @@ fn is_empty_batch(alloc: Global, bytes: &[u8], seq: u64, version: Version) -> bo
     };
     let mut rest = bytes;
     match LogItemBatch::decode(alloc, &mut rest, place, CompressionType::None, &context) {
-        Ok(batch) => batch.into_items().is_empty() && rest.is_empty(),
-        Err(_refusal) => false,
+        Ok(batch) => Ok(batch.into_items().is_empty() && rest.is_empty()),
+        Err(Error::Corruption(_)) => Ok(false),
+        Err(e) => Err(e),
     }
 }
 
 #[test]
 fn empty_batch(rt: HostRuntime) {
-    let mut refused = false;
-    let mut batch = LogItemBatch::default(rt.alloc());
-    assert!(rt; batch.approximate_size() == 12);
+    let answer = match empty_batch_is_signed(&rt, rt.alloc()) {
+        Err(Error::Memory) => empty_batch_is_signed(&rt, rt.alloc()),
+        answer => answer,
+    };
+    assert!(rt; answer.is_ok());
+}
+
+/// A batch without items is these bytes in these files, and is read in them alone.
+fn empty_batch_is_signed(rt: &impl Abort, alloc: Global) -> Result<()> {
+    let mut batch = LogItemBatch::default(alloc);
+    assert!(rt; batch.approximate_size() == 12 && batch.entry_index().is_none());
     for (seq, version, bytes) in [
         (12, Version::V1, b"\x00\x8d\xef\x02\xd2"),
         (12, Version::V2, b"\x00\x81\xef\x02\xd2"),
@@ -290,11 +314,12 @@ fn empty_batch(rt: HostRuntime) {
         (0x1_0000_000c, Version::V2, b"\x00\x81\xef\x02\xd2"),
         (u64::MAX, Version::V2, b"\x00\x72\x10\xfd\x2d"),
     ] {
-        let written = sealed(rt.alloc(), &mut batch, seq, version);
-        assert!(rt; is_sealed_so(written, bytes, &mut refused));
-        assert!(rt; is_empty_batch(rt.alloc(), bytes, seq, version));
-        assert!(rt; !is_empty_batch(rt.alloc(), bytes, seq ^ 1, Version::V2));
+        let written = sealed(alloc, &mut batch, seq, version)?;
+        assert!(rt; written.as_slice() == bytes.as_slice());
+        assert!(rt; is_empty_batch(alloc, bytes, seq, version)?);
+        assert!(rt; !is_empty_batch(alloc, bytes, seq ^ 1, Version::V2)?);
     }
+    Ok(())
 }
 
 /// A put and a delete, as one batch.
@@ -331,33 +356,52 @@ fn merged(alloc: Global) -> Result<LogItemBatch> {
     Ok(batch)
 }
 
-/// The batch's approximate size, its bytes in the file 12, and how many items it hands out.
-fn drained(alloc: Global, built: Result<LogItemBatch>) -> Result<(usize, Vec<u8>, usize)> {
-    let mut batch = built?;
-    let bytes = sealed(alloc, &mut batch, 12, Version::V1)?;
-    Ok((batch.approximate_size(), bytes, batch.drain().count()))
+/// What is seen of a batch before and after its items are handed out.
+#[derive(Drop)]
+struct Seen {
+    approximate_size: usize,
+    /// The index of the first entry, if the batch has any.
+    first_index: Option<u64>,
+    /// In the file 12.
+    bytes: Vec<u8>,
+    /// How many items are handed out.
+    items: usize,
+}
+
+/// What is seen of a batch.
+fn look_at(alloc: Global, mut batch: LogItemBatch) -> Result<Seen> {
+    Ok(Seen {
+        approximate_size: batch.approximate_size(),
+        first_index: batch.entry_index().map(|entry| entry.index),
+        bytes: sealed(alloc, &mut batch, 12, Version::V1)?,
+        items: batch.drain().count(),
+    })
 }
 
 #[test]
 fn built_batches(rt: HostRuntime) {
-    let mut refused = false;
-    for (built, size, bytes) in [
-        (
-            put_and_delete(rt.alloc()),
-            72,
-            b"\x02\x01\x03\x01\x03put\x05put_v\x01\x03\x02\x00\xf3\xf9\x46\xa8".as_slice(),
-        ),
-        (
-            merged(rt.alloc()),
-            102,
-            b"\x02\x07\x01\x03\x0a\x01\x02\x03\x08\x01\x02\x01\x04\x05\xdc\x30\x8b\x52".as_slice(),
-        ),
-    ] {
-        match drained(rt.alloc(), built) {
-            Ok((approximate, written, items)) => {
-                assert!(rt; approximate == size && written.as_slice() == bytes && items == 2);
-            }
-            Err(e) => assert!(rt; is_only_refusal(&e, &mut refused)),
-        }
-    }
+    let answer = match batches_are_as_built(&rt, rt.alloc()) {
+        Err(Error::Memory) => batches_are_as_built(&rt, rt.alloc()),
+        answer => answer,
+    };
+    assert!(rt; answer.is_ok());
+}
+
+/// Two batches have these sizes, first entries and bytes, and two items each.
+fn batches_are_as_built(rt: &impl Abort, alloc: Global) -> Result<()> {
+    let put = look_at(alloc, put_and_delete(alloc)?)?;
+    assert!(rt; put.approximate_size == 72 && put.first_index.is_none() && put.items == 2);
+    assert!(rt;
+        put.bytes.as_slice()
+            == b"\x02\x01\x03\x01\x03put\x05put_v\x01\x03\x02\x00\xf3\xf9\x46\xa8".as_slice()
+    );
+    let merged = look_at(alloc, merged(alloc)?)?;
+    assert!(rt;
+        merged.approximate_size == 102 && merged.first_index == Some(10) && merged.items == 2
+    );
+    assert!(rt;
+        merged.bytes.as_slice()
+            == b"\x02\x07\x01\x03\x0a\x01\x02\x03\x08\x01\x02\x01\x04\x05\xdc\x30\x8b\x52".as_slice()
+    );
+    Ok(())
 }

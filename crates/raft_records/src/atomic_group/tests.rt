@@ -35,7 +35,7 @@ struct FirstBatch {
     /// In the file 12.
     bytes: Vec<u8>,
     /// What its first item is read as.
-    mark: Option<(u64, AtomicGroupStatus)>,
+    marker: Option<(u64, AtomicGroupStatus)>,
 }
 
 /// The batch in which a group begins that hasn't begun.
@@ -49,7 +49,7 @@ fn first_batch(alloc: Global, builder: &mut AtomicGroupBuilder) -> Result<FirstB
     batch.prepare_write(&file(12));
     let header = header_of(alloc, &batch);
     let bytes = Vec::from_slice(alloc, batch.encoded_bytes())?;
-    let mark = match batch.drain().next() {
+    let marker = match batch.drain().next() {
         Some(item) => AtomicGroupStatus::parse(alloc, &item)?,
         None => None,
     };
@@ -57,14 +57,19 @@ fn first_batch(alloc: Global, builder: &mut AtomicGroupBuilder) -> Result<FirstB
         approximate_size,
         header,
         bytes,
-        mark,
+        marker,
     })
 }
 
 #[test]
 fn group_begins(rt: HostRuntime) {
     let mut builder = AtomicGroupBuilder::with_id(9);
-    match first_batch(rt.alloc(), &mut builder) {
+    let mut answer = first_batch(rt.alloc(), &mut builder);
+    if matches!(answer, Err(Error::Memory)) {
+        builder = AtomicGroupBuilder::with_id(9);
+        answer = first_batch(rt.alloc(), &mut builder);
+    }
+    match answer {
         Ok(batch) => {
             assert_eq!(rt; batch.approximate_size, 62);
             assert_eq!(rt; batch.header, (16, CompressionType::None, 30));
@@ -72,14 +77,14 @@ fn group_begins(rt: HostRuntime) {
                 batch.bytes.as_slice(),
                 b"\x00\x00\x00\x00\x00\x00\x1e\x00\x00\x00\x00\x00\x00\x00\x00\x10\x01\x09\x03\x01\x03\x5f\x5f\x01\x01\x00\x7e\xd7\x73\x3f".as_slice()
             );
-            assert_eq!(rt; batch.mark, Some((9, AtomicGroupStatus::Begin)));
+            assert_eq!(rt; batch.marker, Some((9, AtomicGroupStatus::Begin)));
             assert_eq!(rt; builder.state(), Some(AtomicGroupStatus::Begin));
         }
-        Err(e) => assert!(rt; matches!(&e, Error::Memory)),
+        Err(_refusal) => assert!(rt; false),
     }
 }
 
-/// The batches of a group, and the items that mark them.
+/// The batches of a group, and the group markers in them.
 fn marked_batches(alloc: Global) -> Result<[(LogBatch, &'static [u8]); 3]> {
     let mut builder = AtomicGroupBuilder::with_id(9);
     let mut first = LogBatch::default(alloc);
@@ -105,17 +110,22 @@ fn is_only_item(mut batch: LogBatch, item: &[u8]) -> Result<bool> {
     Ok(len == 30 && batch.encoded_bytes().get(17..26) == Some(item))
 }
 
-#[test]
-fn batches_of_a_group_have_its_marks(rt: HostRuntime) {
-    match marked_batches(rt.alloc()) {
-        Ok(batches) => {
-            for (batch, item) in batches {
-                let is_marked = is_only_item(batch, item);
-                assert!(rt; matches!(is_marked, Ok(true) | Err(Error::Memory)));
-            }
-        }
-        Err(e) => assert!(rt; matches!(&e, Error::Memory)),
+/// Whether each batch of a group has its marker as its only item.
+fn are_marked(alloc: Global) -> Result<bool> {
+    let mut marked = true;
+    for (batch, item) in marked_batches(alloc)? {
+        marked &= is_only_item(batch, item)?;
     }
+    Ok(marked)
+}
+
+#[test]
+fn batches_of_a_group_have_its_markers(rt: HostRuntime) {
+    let answer = match are_marked(rt.alloc()) {
+        Err(Error::Memory) => are_marked(rt.alloc()),
+        answer => answer,
+    };
+    assert!(rt; matches!(answer, Ok(true)));
 }
 
 /// Whether clones are equal to what they are made of, until an item is added to them.
@@ -135,8 +145,9 @@ fn clones_are_equal(alloc: Global) -> Result<bool> {
 
 #[test]
 fn clones(rt: HostRuntime) {
-    match clones_are_equal(rt.alloc()) {
-        Ok(equal) => assert!(rt; equal),
-        Err(e) => assert!(rt; matches!(&e, Error::Memory)),
-    }
+    let answer = match clones_are_equal(rt.alloc()) {
+        Err(Error::Memory) => clones_are_equal(rt.alloc()),
+        answer => answer,
+    };
+    assert!(rt; matches!(answer, Ok(true)));
 }

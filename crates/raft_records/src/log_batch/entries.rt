@@ -1,21 +1,23 @@
-//! Entries with their bytes in batches.
+//! Entries with their bytes in batches, and batches put together.
 
-ghost use Rattle.std.specs.Prelude.{◌≡◌, ◌≢◌, ◌↔◌, ◌+◌, ◌-◌, ◌^◌, ◌<◌, ◌≤◌, [], ◌∷◌, ◌++◌, map, length, IsTrue, IfOk, IfErr, OnOk, OnErr};
+ghost use Rattle.std.specs.Prelude.{◌≡◌, ◌≢◌, ◌↔◌, ◌+◌, ◌-◌, ◌^◌, ◌<◌, ◌≤◌, [], ◌∷◌, ◌++◌, map, length, IsTrue, IfOk, IfErr, OnOk, OnErr, drop, vec_len, vec_capacity};
 ghost use Rattle.std.specs.List.{concat};
-ghost use Rattle.raft_records.specs.Entries.{IsConsecutive, entry_at, with_lengths};
+ghost use Rattle.raft_records.specs.Entries.{IsConsecutive, entry_with_index, with_lengths};
 ghost use Rattle.raft_records.specs.Faults.{OneRefuses};
 ghost use Rattle.raft_records.specs.Item.{entries_item};
 ghost use Rattle.raft_records.specs.ItemBatch.{entry_bytes_of, laid};
-ghost use Rattle.raft_records.specs.LogBatch.{populating, with_entries, IsBytesFault, IsAddFault};
+ghost use Rattle.raft_records.specs.LogBatch.{populating, with_entries_added, IsBytesFault, IsAddFault, empty_batch, joined};
 ghost use Rattle.raft_records.specs.Spelling.{Keeps};
 
-use super::MOST_ENTRY_BYTES;
-use crate::header::{HEADER_LEN, reserve_header};
+use super::{MAX_LOG_BATCH_BUFFER_CAP, MAX_LOG_ENTRIES_SIZE_PER_BATCH};
+use crate::header::{LOG_BATCH_HEADER_LEN, reserve_header};
 use crate::{EntryIndex, LogBatch, LogItemBatch};
 use raft_base::{Error, Message, MessageExt, Result};
+use std::alloc::AllocError;
+use std::mem;
 
 /// The most bytes that the buffer of an open batch has.
-const MOST_OPEN_BYTES: usize = HEADER_LEN + MOST_ENTRY_BYTES as usize;
+const MOST_OPEN_BYTES: usize = LOG_BATCH_HEADER_LEN + MAX_LOG_ENTRIES_SIZE_PER_BATCH as usize;
 
 impl LogBatch {
     /// Adds entries of a region to an open batch, each as the bytes of its message. No entries add
@@ -24,14 +26,15 @@ impl LogBatch {
     /// the batch is as it was.
     pub fn add_entries<M: MessageExt>(&mut self, region_id: u64, entries: &[M::Entry]) -> Result<()>
         requires { self.old.stage ≡ populating }
-        ensures ok { OnOk result (self.new ≡ with_entries self.old region_id
-            (map (λ e. entry_at (M.index_of e)) entries.now) (map M.Entry.bytes_of entries.now)) }
-        ensures consecutive { OnOk result (IsConsecutive (map (λ e. entry_at (M.index_of e)) entries.now)) }
+        ensures ok { OnOk result (self.new ≡ with_entries_added self.old region_id
+            (map (λ e. entry_with_index (M.index_of e)) entries.now) (map M.Entry.bytes_of entries.now)) }
+        ensures consecutive { OnOk result (IsConsecutive (map (λ e. entry_with_index (M.index_of e)) entries.now)) }
         ensures accepted { OnOk result (entries.now ≢ [] →
             length self.old.entry_bytes + length (concat (map M.Entry.bytes_of entries.now)) < 2 ^ 31) }
         ensures err { OnErr result (self.new ≡ self.old) }
+        ensures refused { OnErr result (entries.now ≢ []) }
         ensures fault { IfErr result (IsAddFault (OneRefuses M.Entry.refuses entries.now)
-            (map (λ e. entry_at (M.index_of e)) entries.now)
+            (map (λ e. entry_with_index (M.index_of e)) entries.now)
             (length self.old.entry_bytes + length (concat (map M.Entry.bytes_of entries.now)))) }
     {
         if entries.is_empty() {
@@ -64,12 +67,13 @@ impl LogBatch {
         requires open { self.old.stage ≡ populating }
         requires counts { length entry_indexes.items ≡ length entries.items }
         requires consecutive { IsConsecutive entry_indexes.items }
-        ensures ok { OnOk result (self.new ≡ with_entries self.old region_id
+        ensures ok { OnOk result (self.new ≡ with_entries_added self.old region_id
             entry_indexes.items (map (λ e. e.items) entries.items)) }
         ensures accepted { OnOk result (entry_indexes.items ≢ [] →
             length self.old.entry_bytes + length (concat (map (λ e. e.items) entries.items)) < 2 ^ 31) }
         ensures err { OnErr result (self.new ≡ self.old) }
-        ensures full { IfErr result (λ e. e ≢ Error.Memory → (e ≡ Error.Full) ×
+        ensures refused { OnErr result (entry_indexes.items ≢ []) }
+        ensures fault { IfErr result (λ e. e ≢ Error.Memory → (e ≡ Error.Full) ×
             (2 ^ 31 ≤ length self.old.entry_bytes + length (concat (map (λ e. e.items) entries.items)))) }
     {
         if entry_indexes.is_empty() {
@@ -87,6 +91,35 @@ impl LogBatch {
             self.buf.truncate(start);
             return Err(e);
         }
+        Ok(())
+    }
+
+    /// Moves all items of `rhs` behind those of the batch, and their entry bytes behind its own; both
+    /// are open, and `rhs` is left empty. `Full` where the entry bytes would pass 2^31 - 1. On `Err`
+    /// both are as they were.
+    pub fn merge(&mut self, rhs: &mut LogBatch) -> Result<()>
+        requires open { self.old.stage ≡ populating }
+        requires rhs_open { rhs.old.stage ≡ populating }
+        ensures ok { OnOk result (self.new ≡ joined self.old rhs.old) }
+        ensures emptied { OnOk result (rhs.new ≡ empty_batch) }
+        ensures accepted { OnOk result (length self.old.entry_bytes + length rhs.old.entry_bytes < 2 ^ 31) }
+        ensures err { OnErr result (self.new ≡ self.old) }
+        ensures rhs_err { OnErr result (rhs.new ≡ rhs.old) }
+        ensures refused { OnErr result (rhs.old.items ≢ []) }
+        ensures fault { IfErr result (λ e. e ≢ Error.Memory →
+            (e ≡ Error.Full) × (2 ^ 31 ≤ length self.old.entry_bytes + length rhs.old.entry_bytes)) }
+    {
+        let own = u64::from(self.item_batch.entries_size());
+        let others = u64::from(rhs.item_batch.entries_size());
+        if rhs.is_empty() {
+            return Ok(());
+        }
+        if own + others > MAX_LOG_ENTRIES_SIZE_PER_BATCH {
+            return Err(Error::Full);
+        }
+        reserve_behind(&mut self.buf, rhs.buf.len())?;
+        self.item_batch.merge(&mut rhs.item_batch)?;
+        move_entry_bytes(&mut self.buf, &mut rhs.buf);
         Ok(())
     }
 }
@@ -111,7 +144,7 @@ fn write_strings(
     ensures accepted { OnOk result (length buf.new.items < 16 + 2 ^ 31) }
     ensures err { OnErr result (item_batch.new ≡ item_batch.old) }
     ensures err_bytes { OnErr result (Keeps buf.old.items buf.new.items) }
-    ensures full { IfErr result (λ e. e ≢ Error.Memory → (e ≡ Error.Full) ×
+    ensures fault { IfErr result (λ e. e ≢ Error.Memory → (e ≡ Error.Full) ×
         (2 ^ 31 ≤ entry_bytes_of item_batch.old + length (concat (map (λ e. e.items) entries.now)))) }
 {
     append_strings(buf, &mut entry_indexes, entries)?;
@@ -132,7 +165,7 @@ fn append_strings(
         ≡ with_lengths entry_indexes.old.items (map (λ e. e.items) entries.now)) }
     ensures accepted { OnOk result (entries.now ≢ [] → length buf.new.items < 16 + 2 ^ 31) }
     ensures err { OnErr result (Keeps buf.old.items buf.new.items) }
-    ensures full { IfErr result (λ e. e ≢ Error.Memory → (e ≡ Error.Full) ×
+    ensures fault { IfErr result (λ e. e ≢ Error.Memory → (e ≡ Error.Full) ×
         (2 ^ 31 ≤ length buf.old.items - 16 + length (concat (map (λ e. e.items) entries.now)))) }
 {
     for (i, bytes) in entries.iter().enumerate() {
@@ -159,13 +192,14 @@ fn write_messages<M: MessageExt>(
         (buf.new.items ≡ buf.old.items ++ concat (map M.Entry.bytes_of entries.now)) }
     ensures items { OnOk result (item_batch.new ≡ item_batch.old
         ++ entries_item region_id (laid (entry_bytes_of item_batch.old)
-        (with_lengths (map (λ e. entry_at (M.index_of e)) entries.now) (map M.Entry.bytes_of entries.now))) ∷ []) }
-    ensures consecutive { OnOk result (IsConsecutive (map (λ e. entry_at (M.index_of e)) entries.now)) }
+        (with_lengths (map (λ e. entry_with_index (M.index_of e)) entries.now)
+        (map M.Entry.bytes_of entries.now))) ∷ []) }
+    ensures consecutive { OnOk result (IsConsecutive (map (λ e. entry_with_index (M.index_of e)) entries.now)) }
     ensures accepted { OnOk result (length buf.new.items < 16 + 2 ^ 31) }
     ensures err { OnErr result (item_batch.new ≡ item_batch.old) }
     ensures err_bytes { OnErr result (Keeps buf.old.items buf.new.items) }
     ensures fault { IfErr result (IsAddFault (OneRefuses M.Entry.refuses entries.now)
-        (map (λ e. entry_at (M.index_of e)) entries.now)
+        (map (λ e. entry_with_index (M.index_of e)) entries.now)
         (entry_bytes_of item_batch.old + length (concat (map M.Entry.bytes_of entries.now)))) }
 {
     if !have_consecutive_indexes::<M>(entries) {
@@ -179,7 +213,7 @@ fn write_messages<M: MessageExt>(
 
 /// Whether the indexes of messages rise by one and none is 2^64 - 1. No message is written for it.
 fn have_consecutive_indexes<M: MessageExt>(entries: &[M::Entry]) -> bool
-    ensures { IsTrue result ↔ IsConsecutive (map (λ e. entry_at (M.index_of e)) entries.now) }
+    ensures { IsTrue result ↔ IsConsecutive (map (λ e. entry_with_index (M.index_of e)) entries.now) }
 {
     let mut index = match entries.first() {
         Some(first) => M::index(first),
@@ -204,7 +238,7 @@ fn append_messages<M: MessageExt>(
     ensures bytes { OnOk result
         (buf.new.items ≡ buf.old.items ++ concat (map M.Entry.bytes_of entries.now)) }
     ensures lengths { IfOk result (λ es. es.items
-        ≡ with_lengths (map (λ e. entry_at (M.index_of e)) entries.now) (map M.Entry.bytes_of entries.now)) }
+        ≡ with_lengths (map (λ e. entry_with_index (M.index_of e)) entries.now) (map M.Entry.bytes_of entries.now)) }
     ensures accepted { OnOk result (entries.now ≢ [] → length buf.new.items < 16 + 2 ^ 31) }
     ensures err { OnErr result (Keeps buf.old.items buf.new.items) }
     ensures fault { IfErr result (IsBytesFault (OneRefuses M.Entry.refuses entries.now)
@@ -224,4 +258,47 @@ fn append_messages<M: MessageExt>(
         })?;
     }
     Ok(entry_indexes)
+}
+
+/// Makes room behind the entry bytes, if there are any, for those of a buffer of `len` bytes.
+fn reserve_behind(buf: &mut Vec<u8>, len: usize) -> std::result::Result<(), AllocError>
+    ensures same { buf.new.items ≡ buf.old.items }
+    ensures room { OnOk result (16 < length buf.old.items →
+        length buf.old.items + (len - 16) ≤ vec_capacity buf.new) }
+{
+    if buf.len() > LOG_BATCH_HEADER_LEN {
+        buf.reserve(len.saturating_sub(LOG_BATCH_HEADER_LEN))?;
+    }
+    Ok(())
+}
+
+/// Moves the entry bytes of `others` behind those of `buf`, which has room for them if it has any, and
+/// leaves `others` empty.
+fn move_entry_bytes(buf: &mut Vec<u8>, others: &mut Vec<u8>)
+    requires { 16 < length buf.old.items →
+        length buf.old.items + (length others.old.items - 16) ≤ vec_capacity buf.old }
+    ensures joined { drop 16 buf.new.items ≡ drop 16 buf.old.items ++ drop 16 others.old.items }
+    ensures emptied { others.new.items ≡ [] }
+{
+    if buf.len() <= LOG_BATCH_HEADER_LEN {
+        mem::swap(buf, others);
+    } else {
+        append_entry_bytes(buf, others.as_slice());
+    }
+    others.clear();
+    others.shrink_to(MAX_LOG_BATCH_BUFFER_CAP);
+}
+
+/// Appends the entry bytes of `others`, for which there is room.
+fn append_entry_bytes(buf: &mut Vec<u8>, others: &[u8])
+    requires { length buf.old.items + (length others.now - 16) ≤ vec_capacity buf.old }
+    ensures { buf.new.items ≡ buf.old.items ++ drop 16 others.now }
+{
+    if others.len() > LOG_BATCH_HEADER_LEN
+        && buf
+            .extend_from_slice(&others[LOG_BATCH_HEADER_LEN..])
+            .is_err()
+    {
+        unreachable!();
+    }
 }

@@ -5,7 +5,6 @@ ghost use Rattle.raft_records.specs.LogBatch.{populating};
 
 mod rows;
 
-use crate::tests::is_only_refusal;
 use crate::{
     Command, CompressionType, EntryIndex, LogBatch, LogItem, LogItemBatch, LogItemContent,
 };
@@ -15,6 +14,7 @@ use raft_base::{
 };
 use rows::Row;
 use std::alloc::Global;
+use std::process::Abort;
 
 /// A line of a log, which refuses to write itself where it has no text.
 #[derive(Clone, Copy, PartialEq, Eq, Debug)]
@@ -214,30 +214,31 @@ fn is_made(alloc: Global, batch: &mut LogBatch, row: &Row) -> Result<bool> {
 }
 
 #[test]
-fn batches_are_made_and_read_as_in_the_rows(rt: HostRuntime) {
-    let mut refused = false;
+fn rows_of_batches(rt: HostRuntime) {
+    let answer = match batches_are_made_and_read_as_in_the_rows(&rt, rt.alloc()) {
+        Err(Error::Memory) => batches_are_made_and_read_as_in_the_rows(&rt, rt.alloc()),
+        answer => answer,
+    };
+    assert!(rt; answer.is_ok());
+}
+
+fn batches_are_made_and_read_as_in_the_rows(rt: &impl Abort, alloc: Global) -> Result<()> {
     let lines = [line_of(10, b"ab"), line_of(11, b"c")];
-    for (built, row) in [
-        (Ok(LogBatch::default(rt.alloc())), rows::EMPTY),
-        (with_command(rt.alloc(), 1, Command::Clean), rows::CLEAN),
+    for (mut batch, row) in [
+        (LogBatch::default(alloc), rows::EMPTY),
+        (with_command(alloc, 1, Command::Clean)?, rows::CLEAN),
         (
-            with_command(rt.alloc(), 300, Command::Compact { index: 1 << 40 }),
+            with_command(alloc, 300, Command::Compact { index: 1 << 40 })?,
             rows::COMPACT,
         ),
-        (with_key_values(rt.alloc()), rows::KEY_VALUES),
-        (with_lines(rt.alloc(), 7, &lines), rows::LINES),
-        (merged(rt.alloc()), rows::MERGED),
-        (with_one_of_each(rt.alloc()), rows::ONE_OF_EACH),
+        (with_key_values(alloc)?, rows::KEY_VALUES),
+        (with_lines(alloc, 7, &lines)?, rows::LINES),
+        (merged(alloc)?, rows::MERGED),
+        (with_one_of_each(alloc)?, rows::ONE_OF_EACH),
     ] {
-        let made = match built {
-            Ok(mut batch) => is_made(rt.alloc(), &mut batch, &row),
-            Err(e) => Err(e),
-        };
-        match made {
-            Ok(same) => assert!(rt; same, "{}", row.size),
-            Err(e) => assert!(rt; is_only_refusal(&e, &mut refused)),
-        }
+        assert!(rt; is_made(alloc, &mut batch, &row)?, "{}", row.size);
     }
+    Ok(())
 }
 
 /// Which refusal a call answers, if any.
@@ -249,14 +250,14 @@ enum Refusal {
     Other,
 }
 
-/// What comes of a call that is refused for its argument, unless there is no memory.
-fn refusal_of(called: Result<()>, refused: &mut bool, wanted: Refusal) -> Refusal {
+/// What comes of a call, if it isn't refused for want of memory.
+fn refusal_of(called: Result<()>) -> Result<Refusal> {
     match called {
-        Ok(()) => Refusal::None,
-        Err(Error::InvalidArgument(_)) => Refusal::InvalidArgument,
-        Err(Error::Message(MessageError::Refused(7))) => Refusal::Message,
-        Err(e) if is_only_refusal(&e, refused) => wanted,
-        Err(_) => Refusal::Other,
+        Ok(()) => Ok(Refusal::None),
+        Err(Error::InvalidArgument(_)) => Ok(Refusal::InvalidArgument),
+        Err(Error::Message(MessageError::Refused(7))) => Ok(Refusal::Message),
+        Err(Error::Memory) => Err(Error::Memory),
+        Err(_) => Ok(Refusal::Other),
     }
 }
 
@@ -295,7 +296,15 @@ fn attempt(alloc: Global, batch: &mut LogBatch, number: usize) -> Result<()> {
 
 #[test]
 fn refused_additions(rt: HostRuntime) {
-    let mut refused = false;
+    let answer = match refused_additions_leave_the_batch(&rt, rt.alloc()) {
+        Err(Error::Memory) => refused_additions_leave_the_batch(&rt, rt.alloc()),
+        answer => answer,
+    };
+    assert!(rt; answer.is_ok());
+}
+
+/// What each call is refused for, if it is, and the batch's approximate size behind it.
+fn refused_additions_leave_the_batch(rt: &impl Abort, alloc: Global) -> Result<()> {
     for (number, refusal, size) in [
         (0, Refusal::InvalidArgument, 0),
         (1, Refusal::InvalidArgument, 0),
@@ -307,17 +316,15 @@ fn refused_additions(rt: HostRuntime) {
         (7, Refusal::None, 61),
         (8, Refusal::None, 61),
     ] {
-        let mut batch = LogBatch::default(rt.alloc());
-        let called = attempt(rt.alloc(), &mut batch, number);
-        let memory = matches!(&called, Err(Error::Memory));
-        let found = refusal_of(called, &mut refused, refusal);
-        assert!(rt; found == refusal, "of call {number}");
-        let left = if memory { 0 } else { size };
+        let mut batch = LogBatch::default(alloc);
+        let called = attempt(alloc, &mut batch, number);
+        assert!(rt; refusal_of(called)? == refusal, "of call {number}");
         assert!(rt;
-            batch.is_open() && batch.approximate_size() == left,
+            batch.is_open() && batch.approximate_size() == size,
             "after {number}"
         );
     }
+    Ok(())
 }
 
 /// Whether the items of a log batch are read from its bytes in a file, behind these entry bytes.
@@ -357,10 +364,40 @@ fn is_read_where_signed(alloc: Global) -> Result<bool> {
 
 #[test]
 fn one_batch_signed_for_three_files(rt: HostRuntime) {
-    match is_read_where_signed(rt.alloc()) {
-        Ok(same) => assert!(rt; same),
-        Err(e) => assert!(rt; matches!(e, Error::Memory)),
+    let answer = match is_read_where_signed(rt.alloc()) {
+        Err(Error::Memory) => is_read_where_signed(rt.alloc()),
+        answer => answer,
+    };
+    assert!(rt; matches!(answer, Ok(true)));
+}
+
+/// Whether a batch whose bytes are asked for is then as its clone that was signed for the same file.
+fn is_only_signed(alloc: Global) -> Result<bool> {
+    let mut batch = with_one_of_each(alloc)?;
+    batch.finish_populate()?;
+    let mut signed = batch.clone()?;
+    if signed.is_open() || !batch.ready() {
+        return Ok(false);
     }
+    signed.prepare_write(&context(12, Version::V2));
+    let len = batch.as_bytes(&context(12, Version::V2)).len();
+    if !batch.is_sealed() || !signed.is_sealed() {
+        return Ok(false);
+    }
+    Ok(
+        batch == signed
+            && batch.encoded_bytes() == signed.encoded_bytes()
+            && batch.encoded_bytes().len() == len,
+    )
+}
+
+#[test]
+fn asked_bytes_leave_the_batch(rt: HostRuntime) {
+    let answer = match is_only_signed(rt.alloc()) {
+        Err(Error::Memory) => is_only_signed(rt.alloc()),
+        answer => answer,
+    };
+    assert!(rt; matches!(answer, Ok(true)));
 }
 
 /// Whether this item's entries are in the block, and its key value is in the block's file.
@@ -385,9 +422,19 @@ fn is_placed(item: &LogItem, block: FileBlockHandle) -> bool {
     }
 }
 
-/// How many items of a batch get their places in the file 12, where it was written at 64, and whether
-/// it is empty once they are handed out.
-fn written_and_drained(alloc: Global) -> Result<(usize, bool)> {
+/// What is left of a batch that was written in the file 12 at 64, once its items are handed out.
+#[derive(Drop)]
+struct Drained {
+    /// How many of the items have their places there.
+    placed: usize,
+    /// Whether the batch is open and empty.
+    is_empty: bool,
+    /// How many bytes it has with a command.
+    len_with_command: usize,
+}
+
+/// A batch is written, and its items are handed out.
+fn written_and_drained(alloc: Global) -> Result<Drained> {
     let mut batch = with_one_of_each(alloc)?;
     let len = batch.finish_populate()?;
     let id = FileId::new(LogQueue::Append, 12);
@@ -402,21 +449,31 @@ fn written_and_drained(alloc: Global) -> Result<(usize, bool)> {
         offset: 80,
         len: 7,
     };
-    let mut items = 0usize;
+    let mut placed = 0usize;
     for item in batch.drain() {
         if is_placed(&item, place) {
-            items = items.saturating_add(1);
+            placed = placed.saturating_add(1);
         }
     }
     let is_empty = batch.is_open() && batch.is_empty() && batch.approximate_size() == 0;
     batch.add_command(1, Command::Clean)?;
-    Ok((items, is_empty && batch.finish_populate()? == 24))
+    Ok(Drained {
+        placed,
+        is_empty,
+        len_with_command: batch.finish_populate()?,
+    })
 }
 
 #[test]
 fn places_after_a_write(rt: HostRuntime) {
-    match written_and_drained(rt.alloc()) {
-        Ok((items, is_empty)) => assert!(rt; items == 6 && is_empty),
-        Err(e) => assert!(rt; matches!(e, Error::Memory)),
-    }
+    let answer = match written_and_drained(rt.alloc()) {
+        Err(Error::Memory) => written_and_drained(rt.alloc()),
+        answer => answer,
+    };
+    let drained = answer.unwrap_or(Drained {
+        placed: 0,
+        is_empty: false,
+        len_with_command: 0,
+    });
+    assert!(rt; drained.placed == 6 && drained.is_empty && drained.len_with_command == 24);
 }

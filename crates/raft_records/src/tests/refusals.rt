@@ -1,10 +1,10 @@
 //! What is no header, no entry block and no item batch. The words for it are those of raft-engine
 //! 0.4.2, and but for compression type 1, which it knows, and a few more faults, so are the rows.
 
-use crate::tests::is_only_refusal;
 use crate::{CompressionType, LogBatch, LogItemBatch};
 use raft_base::{Error, FileBlockHandle, FileId, LogFileContext, LogQueue, Result, Version};
 use std::alloc::Global;
+use std::process::Abort;
 
 /// Bytes that begin with no header, and why they are refused. More than one thing is wrong in the
 /// last three rows.
@@ -167,32 +167,36 @@ const ITEM_BATCHES: [(&[u8], Version, u64, Option<&str>); 18] = [
     ),
 ];
 
-/// Whether the bytes are refused as corrupt with this text, unless there is no memory for it.
-fn is_corrupt<T: Drop>(answer: Result<T>, text: &str, refused: &mut bool) -> bool {
+/// Whether the bytes are refused as corrupt with this text.
+fn is_corrupt<T: Drop>(answer: Result<T>, text: &str) -> Result<bool> {
     match answer {
-        Ok(_read) => false,
-        Err(Error::Corruption(found)) => found.as_str() == text,
-        Err(e) => is_only_refusal(&e, refused),
+        Ok(_read) => Ok(false),
+        Err(Error::Corruption(found)) => Ok(found.as_str() == text),
+        Err(e) => Err(e),
     }
 }
 
 #[test]
-fn bytes_without_a_header_are_refused_and_left(rt: HostRuntime) {
-    let mut refused = false;
-    for (bytes, text) in NO_HEADERS {
-        let mut buf = bytes;
-        let read = LogBatch::decode_header(rt.alloc(), &mut buf);
-        assert!(rt; is_corrupt(read, text, &mut refused), "at {bytes:?}");
-        assert!(rt; buf == bytes);
-    }
-}
-
-#[test]
-fn headers_need_no_batch_behind_them(rt: HostRuntime) {
+fn headers(rt: HostRuntime) {
+    let answer = match bytes_without_a_header_are_refused_and_left(&rt, rt.alloc()) {
+        Err(Error::Memory) => bytes_without_a_header_are_refused_and_left(&rt, rt.alloc()),
+        answer => answer,
+    };
+    assert!(rt; answer.is_ok());
     let mut buf = HEADER.as_slice();
     let read = LogBatch::decode_header(rt.alloc(), &mut buf);
     assert!(rt; matches!(read, Ok((16, CompressionType::None, 24))));
     assert!(rt; buf.is_empty());
+}
+
+fn bytes_without_a_header_are_refused_and_left(rt: &impl Abort, alloc: Global) -> Result<()> {
+    for (bytes, text) in NO_HEADERS {
+        let mut buf = bytes;
+        let read = LogBatch::decode_header(alloc, &mut buf);
+        assert!(rt; is_corrupt(read, text)?, "at {bytes:?}");
+        assert!(rt; buf == bytes);
+    }
+    Ok(())
 }
 
 /// The entry bytes in the block of this length in front of bytes.
@@ -205,43 +209,33 @@ fn block(alloc: Global, bytes: &[u8], len: usize) -> Result<Vec<u8>> {
     LogBatch::decode_entries_block(alloc, bytes, place, CompressionType::None)
 }
 
-/// Whether these are the entry bytes, unless there is no memory for them.
-fn is_block(answer: Result<Vec<u8>>, entry_bytes: &[u8], refused: &mut bool) -> bool {
-    match answer {
-        Ok(read) => read.as_slice() == entry_bytes,
-        Err(e) => is_only_refusal(&e, refused),
-    }
+#[test]
+fn entry_blocks(rt: HostRuntime) {
+    let answer = match entry_blocks_end_in_their_checksum(&rt, rt.alloc()) {
+        Err(Error::Memory) => entry_blocks_end_in_their_checksum(&rt, rt.alloc()),
+        answer => answer,
+    };
+    assert!(rt; answer.is_ok());
 }
 
-#[test]
-fn entry_blocks_end_in_their_checksum(rt: HostRuntime) {
-    let mut refused = false;
+/// Blocks are read or refused as in the rows, and corrupt where they are cut short.
+fn entry_blocks_end_in_their_checksum(rt: &impl Abort, alloc: Global) -> Result<()> {
     for (bytes, len, wanted) in BLOCKS {
-        let read = block(rt.alloc(), bytes, len);
+        let read = block(alloc, bytes, len);
         let same = match wanted {
-            Ok(entry_bytes) => is_block(read, entry_bytes, &mut refused),
-            Err(text) => is_corrupt(read, text, &mut refused),
+            Ok(entry_bytes) => read?.as_slice() == entry_bytes,
+            Err(text) => is_corrupt(read, text)?,
         };
         assert!(rt; same, "{len} bytes of {bytes:?}");
     }
-}
-
-/// Whether the bytes are refused as corrupt, unless there is no memory for the text.
-fn is_cut_short(answer: Result<Vec<u8>>, refused: &mut bool) -> bool {
-    match answer {
-        Ok(_read) => false,
-        Err(Error::Corruption(_)) => true,
-        Err(e) => is_only_refusal(&e, refused),
-    }
-}
-
-#[test]
-fn entry_blocks_cut_short_are_corrupt(rt: HostRuntime) {
-    let mut refused = false;
     for len in [8, 16, usize::MAX] {
-        let read = block(rt.alloc(), b"abc\xc2\x41\x24\x35", len);
-        assert!(rt; is_cut_short(read, &mut refused), "{len} bytes of 7");
+        match block(alloc, b"abc\xc2\x41\x24\x35", len) {
+            Ok(_read) => assert!(rt; false, "{len} bytes of 7"),
+            Err(Error::Corruption(_)) => {}
+            Err(e) => return Err(e),
+        }
     }
+    Ok(())
 }
 
 /// The item batch that bytes of the append queue are.
@@ -255,24 +249,42 @@ fn item_batch(alloc: Global, buf: &mut &[u8], version: Version, seq: u64) -> Res
     LogItemBatch::decode(alloc, buf, place, CompressionType::None, &context)
 }
 
-/// Whether the bytes are refused for this reason; without one, whether they have no items.
-fn is_told(answer: Result<LogItemBatch>, reason: Option<&str>, refused: &mut bool) -> bool {
-    match reason {
-        Some(text) => is_corrupt(answer, text, refused),
-        None => match answer {
-            Ok(batch) => batch.into_items().is_empty(),
-            Err(_refusal) => false,
-        },
-    }
+#[test]
+fn item_batches(rt: HostRuntime) {
+    let answer = match item_batches_are_read_in_their_file_alone(&rt, rt.alloc()) {
+        Err(Error::Memory) => item_batches_are_read_in_their_file_alone(&rt, rt.alloc()),
+        answer => answer,
+    };
+    assert!(rt; answer.is_ok());
 }
 
-#[test]
-fn item_batches_are_read_in_their_file_alone(rt: HostRuntime) {
-    let mut refused = false;
+fn item_batches_are_read_in_their_file_alone(rt: &impl Abort, alloc: Global) -> Result<()> {
     for (bytes, version, seq, reason) in ITEM_BATCHES {
         let mut buf = bytes;
-        let read = item_batch(rt.alloc(), &mut buf, version, seq);
-        assert!(rt; is_told(read, reason, &mut refused), "at {bytes:?}");
-        assert!(rt; reason.is_none() || buf == bytes);
+        let read = item_batch(alloc, &mut buf, version, seq);
+        let told = match reason {
+            Some(text) => is_corrupt(read, text)? && buf == bytes,
+            None => read?.into_items().is_empty(),
+        };
+        assert!(rt; told, "at {bytes:?}");
+    }
+    Ok(())
+}
+
+/// A sealed batch of the file 12 of version 1 that says it has 2^40 items, and has none.
+const COUNT_WITHOUT_ITEMS: &[u8] = b"\x80\x80\x80\x80\x80\x20\xd1\x10\x15\x12";
+
+/// The same of an entries item: 2^40 entries from index 1 on, and none of them.
+const COUNT_WITHOUT_ENTRIES: &[u8] = b"\x01\x01\x01\x80\x80\x80\x80\x80\x20\x01\xa2\xe0\x36\x1e";
+
+#[test]
+fn counts_make_no_room(rt: HostRuntime) {
+    for bytes in [COUNT_WITHOUT_ITEMS, COUNT_WITHOUT_ENTRIES] {
+        let mut buf = bytes;
+        let mut read = item_batch(rt.alloc(), &mut buf, Version::V1, 12);
+        if matches!(read, Err(Error::Memory)) {
+            read = item_batch(rt.alloc(), &mut buf, Version::V1, 12);
+        }
+        assert!(rt; matches!(read, Err(Error::Codec(_))), "at {bytes:?}");
     }
 }

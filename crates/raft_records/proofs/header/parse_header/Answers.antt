@@ -6,12 +6,12 @@ use Rattle.raft_records.proofs.header.parse_header.Goals as goal
 pub returns-in_err-format-clause-refused : goal.returns-in_err-format-clause-refused
 returns-in_err-format-clause-refused c =
     let p = err_from_is_err_and c.from_residual.result c.from_residual.ensures.1 in
-    rw (p.1) (too_short_for_header c.args.bytes.now c.if-len-lt-HEADER_LEN.true)
+    rw (p.1) (too_short_for_header c.args.bytes.now c.if-len-lt-LOG_BATCH_HEADER_LEN.true)
 
-pub returns-then-len-lt-HEADER_LEN-clause-refused :
-    goal.returns-then-len-lt-HEADER_LEN-clause-refused
-returns-then-len-lt-HEADER_LEN-clause-refused c =
-    too_short_for_header c.args.bytes.now c.if-len-lt-HEADER_LEN.true
+pub returns-then-len-lt-LOG_BATCH_HEADER_LEN-clause-refused :
+    goal.returns-then-len-lt-LOG_BATCH_HEADER_LEN-clause-refused
+returns-then-len-lt-LOG_BATCH_HEADER_LEN-clause-refused c =
+    too_short_for_header c.args.bytes.now c.if-len-lt-LOG_BATCH_HEADER_LEN.true
 
 pub returns-in_err-compression_type-clause-refused :
     goal.returns-in_err-compression_type-clause-refused

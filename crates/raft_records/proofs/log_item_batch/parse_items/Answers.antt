@@ -1,10 +1,11 @@
 use Rattle.std.proofs.Common.{◌++◌, ◌∷◌, [], ◌-◌, map, ap, ◌∙◌, sym, subst, arith}
 use Rattle.std.proofs.lemmas.List.{map-append, length_push}
 use Rattle.std.proofs.lemmas.Result.{err_from_is_err_and}
-use Rattle.raft_records.specs.Item.{item_of}
+use Rattle.raft_records.specs.Item.{item_of, IsInBytes}
 use Rattle.raft_records.specs.Grammar.{behind_item}
 use Rattle.raft_records.specs.ItemBatch.{FitsBehind, placed, entry_bytes_of}
 use Rattle.raft_records.proofs.BatchLemmas.{one_more_item, no_more_items, item_fault, item_fits, fits_placed, end_of_placed}
+use Rattle.raft_records.proofs.InBytesLemmas.{item_in_bytes, content_in_bytes_placed}
 use Rattle.raft_records.proofs.PlacementLemmas.{item_placed}
 use Rattle.raft_records.proofs.log_item_batch.parse_items.Goals as goal
 
@@ -26,6 +27,12 @@ add-requires-clause-fits c =
     let is = read.2 ∙ item_placed c.args.block c.args.compression_type read.0 in
     let fits = fits_placed c.args.block c.args.compression_type c.entries_size-start.result read.0.content (item_fits c.entries_size-start.result read.1.front read.0 read.1.spells) in
     subst (λ s. FitsBehind s (item_of c.in_ok-item.item).content) c.entries_size-start.ensures (subst (λ x. FitsBehind c.entries_size-start.result x.content) (sym is) fits)
+
+pub add-requires-clause-in_bytes : goal.add-requires-clause-in_bytes
+add-requires-clause-in_bytes c =
+    let read = c.in_ok-item.ensures.ok in
+    let is = read.2 ∙ item_placed c.args.block c.args.compression_type read.0 in
+    subst (λ x. IsInBytes x.content) (sym is) (content_in_bytes_placed c.args.block c.args.compression_type read.0.content (item_in_bytes c.entries_size-start.result read.1.front read.0 read.1.spells))
 
 pub add-requires-clause-end : goal.add-requires-clause-end
 add-requires-clause-end c =

@@ -26,12 +26,12 @@ lengths c =
     let are : drop 16 c.reserve_header.new.buf.items ≡ entry_bytes_in c.self.inside.item_batch c.self.inside.buf.items = c.reserve_header.ensures.same ∙ sym (entries_are (stage_of c.self.inside.state) c.self.inside.item_batch c.self.inside.buf.items open_stage c.self.invariant) in
     ap (encoded_length c.self.inside.item_batch) are ∙ ap (λ (b : Batch). encoded_length b.items b.entry_bytes) c.self.view_is
 
-pub returns-in-Err-clause-full : goal.returns-in-Err-clause-full
-returns-in-Err-clause-full c =
+pub returns-in-Err-clause-fault : goal.returns-in-Err-clause-fault
+returns-in-Err-clause-fault c =
     let open_stage : stage_of c.self.inside.state ≡ populating = rw (← c.self.view_is) at c.requires in
     let are : drop 16 c.reserve_header.new.buf.items ≡ entry_bytes_in c.self.inside.item_batch c.self.inside.buf.items = c.reserve_header.ensures.same ∙ sym (entries_are (stage_of c.self.inside.state) c.self.inside.item_batch c.self.inside.buf.items open_stage c.self.invariant) in
     let same : encoded_length c.self.inside.item_batch (drop 16 c.reserve_header.new.buf.items) ≡ encoded_length c.args.self.now.items c.args.self.now.entry_bytes = ap (encoded_length c.self.inside.item_batch) are ∙ ap (λ (b : Batch). encoded_length b.items b.entry_bytes) c.self.view_is in
-    λ ne. ((c.in-Err.ensures.full ne).0, subst (λ (n : ℕ). 2 ^ 56 ≤ n) same (c.in-Err.ensures.full ne).1)
+    λ ne. ((c.in-Err.ensures.fault ne).0, subst (λ (n : ℕ). 2 ^ 56 ≤ n) same (c.in-Err.ensures.fault ne).1)
 
 -- the batch's bytes stand in the buffer, and its entry bytes are the same
 encoding : (c : goal.After-len) → IsHeld encoded c.self.inside.item_batch (entry_bytes_in c.self.inside.item_batch c.encode_behind.new.buf.items) c.encode_behind.new.buf.items × (entry_bytes_in c.self.inside.item_batch c.encode_behind.new.buf.items ≡ entry_bytes_in c.self.inside.item_batch c.self.inside.buf.items)

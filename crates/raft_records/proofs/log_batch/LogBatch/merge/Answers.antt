@@ -12,7 +12,7 @@ held c =
     let open_stage : stage_of c.self.inside.state ≡ populating = rw (← c.self.view_is) at c.requires.open in
     let rhs_open : stage_of c.rhs.inside.state ≡ populating = rw (← c.rhs.view_is) at c.requires.rhs_open in
     let bytes = rw c.reserve_behind.ensures.same at c.move_entry_bytes.ensures.joined in
-    let fits : entry_bytes_of c.self.inside.item_batch + entry_bytes_of c.rhs.inside.item_batch < 2 ^ 31 = omega (arith, c.entries_size.ensures, c.from-own.ensures, c.entries_size-2.ensures, c.from-others.ensures, c.if-own-others-gt-MOST_ENTRY_BYTES.false) in
+    let fits : entry_bytes_of c.self.inside.item_batch + entry_bytes_of c.rhs.inside.item_batch < 2 ^ 31 = omega (arith, c.entries_size.ensures, c.from-own.ensures, c.entries_size-2.ensures, c.from-others.ensures, c.if-own-others-gt-MAX_LOG_ENTRIES_SIZE_PER_BATCH.false) in
     joined_held (stage_of c.self.inside.state) (stage_of c.rhs.inside.state) c.self.inside.item_batch c.rhs.inside.item_batch c.merge.new.self c.self.inside.buf.items c.rhs.inside.buf.items c.move_entry_bytes.new.buf.items open_stage rhs_open c.self.invariant c.rhs.invariant fits c.in_ok-merge.ensures.ok bytes
 
 pub invariant_of-self-2 : goal.invariant_of-self-2

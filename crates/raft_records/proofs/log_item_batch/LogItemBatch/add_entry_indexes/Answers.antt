@@ -1,5 +1,5 @@
 use Rattle.std.proofs.Common.{◌≡◌, ap, sym, subst, ◌∙◌, arith}
-use Rattle.raft_records.specs.Item.{Item, entries_item, item_of}
+use Rattle.raft_records.specs.Item.{Item, IsInBytes, entries_item, item_of}
 use Rattle.raft_records.specs.Grammar.{behind_item}
 use Rattle.raft_records.specs.ItemBatch.{FitsBehind, laid, entry_bytes_of}
 use Rattle.raft_records.proofs.LayLemmas.{laid_fits, end_of_laid}
@@ -7,7 +7,7 @@ use Rattle.raft_records.proofs.log_item_batch.LogItemBatch.add_entry_indexes.Goa
 
 -- the item that is added
 made : (c : goal.After-new_entry_indexes) → item_of c.new_entry_indexes.result ≡ entries_item c.args.region_id (laid (entry_bytes_of c.args.self.now) c.args.entry_indexes.items)
-made c = c.new_entry_indexes.ensures ∙ ap (entries_item c.args.region_id) (c.lay-end.ensures.laid ∙ ap (λ s. laid s c.args.entry_indexes.items) c.entries_size-start.ensures)
+made c = c.new_entry_indexes.ensures ∙ ap (entries_item c.args.region_id) (c.set_offsets-end.ensures.laid ∙ ap (λ s. laid s c.args.entry_indexes.items) c.entries_size-start.ensures)
 
 pub add-requires-clause-fits : goal.add-requires-clause-fits
 add-requires-clause-fits c =
@@ -15,4 +15,7 @@ add-requires-clause-fits c =
 
 pub add-requires-clause-end : goal.add-requires-clause-end
 add-requires-clause-end c =
-    omega (arith, c.lay-end.ensures.end, c.entries_size-start.ensures, end_of_laid (entry_bytes_of c.args.self.now) c.args.entry_indexes.items, ap (behind_item (entry_bytes_of c.args.self.now)) (made c))
+    omega (arith, c.set_offsets-end.ensures.end, c.entries_size-start.ensures, end_of_laid (entry_bytes_of c.args.self.now) c.args.entry_indexes.items, ap (behind_item (entry_bytes_of c.args.self.now)) (made c))
+
+pub add-requires-clause-in_bytes : goal.add-requires-clause-in_bytes
+add-requires-clause-in_bytes c = subst (λ (x : Item). IsInBytes x.content) (sym (made c)) tt

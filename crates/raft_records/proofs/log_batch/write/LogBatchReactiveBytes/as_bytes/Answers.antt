@@ -1,9 +1,0 @@
-use Rattle.std.proofs.Common.{◌∙◌, ap}
-use Rattle.raft_base.specs.Signature.{signature_of}
-use Rattle.raft_records.specs.LogBatch.{Batch, log_batch_bytes}
-use Rattle.raft_records.proofs.log_batch.write.LogBatchReactiveBytes.as_bytes.Goals as goal
-
-pub returns : goal.returns
-returns c =
-    let signature = signature_of c.args.context.now in
-    c.encoded_bytes.ensures.bytes signature (ap (λ (b : Batch). b.stage) c.prepare_write.ensures) ∙ ap (λ (b : Batch). log_batch_bytes signature b.items b.entry_bytes) c.prepare_write.ensures

@@ -1,8 +1,0 @@
-use Rattle.std.proofs.Common.{◌≡◌, ◌+◌, ◌++◌, take, drop}
-use Rattle.raft_records.specs.ItemBatch.{laid, entry_lengths}
-use Rattle.raft_records.proofs.log_item_batch.lay.Given as goal
-
--- the entries so far are laid, and end at the offset
-abbrev pub invariant-loop-entry : goal.invariant-loop-entry
-invariant-loop-entry l =
-    (l.entry-items ≡ laid l.start (take l.entry-index l.fn.entries.items) ++ drop l.entry-index l.fn.entries.items) × (l.offset ≡ l.start + entry_lengths (take l.entry-index l.fn.entries.items))

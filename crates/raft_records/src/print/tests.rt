@@ -1,0 +1,44 @@
+//! A long text, whole.
+
+use super::{batch_text, print_batch};
+use crate::LogItemBatch;
+use raft_base::{Error, FileId, LogFileContext, LogQueue, Result, Version};
+use std::alloc::Global;
+
+/// The text of a batch that puts a value of 100,000 bytes, if that is what is printed.
+fn long_text(alloc: Global) -> Result<Option<String>> {
+    let context = LogFileContext::new(FileId::new(LogQueue::Append, 0), Version::V1);
+    let mut value = Vec::new(alloc);
+    value.resize(100_000, 0xab)?;
+    let mut batch = LogItemBatch::default(alloc);
+    batch.put(1, Vec::from_slice(alloc, b"k")?, value)?;
+    let mut bytes = Vec::new(alloc);
+    batch.encode(&mut bytes)?;
+    batch.prepare_write(bytes.as_mut_slice(), &context);
+    let text = batch_text(alloc, bytes.as_slice(), &context)?;
+    let mut input = bytes.as_slice();
+    let mut printed = Vec::new(alloc);
+    print_batch(alloc, &mut input, &mut printed, &context)?;
+    Ok(if printed.as_slice() == text.as_bytes() {
+        Some(text)
+    } else {
+        None
+    })
+}
+
+#[test]
+fn long_batches_are_printed(rt: HostRuntime) {
+    // Want of memory inside a reader or a writer is an io error.
+    let answer = match long_text(rt.alloc()) {
+        Err(Error::Memory | Error::Io(_)) => long_text(rt.alloc()),
+        answer => answer,
+    };
+    match answer {
+        Ok(Some(text)) => {
+            assert!(rt; text.len() == 200_025);
+            assert!(rt; text.as_str().starts_with("1 put 6b abab"));
+            assert!(rt; text.as_str().ends_with("ab\nitems 1 rest 0\n"));
+        }
+        _ => assert!(rt; false),
+    }
+}

@@ -1,3 +1,4 @@
+pub mod ReplayMachine
 pub mod WaitingGroupsCode
 pub mod WaitingGroupsView
 pub mod WaitingItems

@@ -1,6 +1,7 @@
 //! The tables of all regions, and the contexts that rebuild them from log files.
 #![tactic(auto)]
 
+pub mod replay_machine;
 pub mod waiting_group;
 pub mod waiting_groups;
 pub mod waiting_items;
@@ -9,3 +10,4 @@ pub use raft_table::{
     EntryIndex, Error, FileBlockHandle, FileId, FileSeq, GlobalStats, LogQueue, MemTable, Result,
     TableChange, global_stats, is_run, memtable,
 };
+pub use replay_machine::ReplayMachine;

@@ -15,6 +15,7 @@ pub mod LengthLemmas
 pub mod LineLemmas
 pub mod PartLemmas
 pub mod PlaceLemmas
+pub mod PlacementLemmas
 pub mod PrintLemmas
 pub mod RangeLemmas
 pub mod ReadPlaceLemmas

@@ -14,6 +14,7 @@ pub mod Lines
 pub mod LogBatch
 pub mod LogBatchModel
 pub mod Parts
+pub mod Placement
 pub mod Range
 pub mod Requests
 pub mod Same

@@ -71,13 +71,13 @@ impl Command {
         ensures refused { OnErr result (HasNoFront IsCommand buf.old.now) }
         ensures fault { IfErr result (IsCommandFault buf.old.now) }
     {
-        let (command, rest) = Command::front(alloc, *buf)?;
+        let (command, rest) = Command::parse(alloc, *buf)?;
         *buf = rest;
         Ok(command)
     }
 
     /// The command in front of `bytes`, and what is behind it.
-    pub(crate) fn front(alloc: Global, bytes: &[u8]) -> Result<(Command, &[u8])>
+    pub(crate) fn parse(alloc: Global, bytes: &[u8]) -> Result<(Command, &[u8])>
         ensures ok { IfOk result (λ read. Reads IsCommand bytes.now read.1.now read.0) }
         ensures refused { OnErr result (HasNoFront IsCommand bytes.now) }
         ensures fault { IfErr result (IsCommandFault bytes.now) }
@@ -89,8 +89,7 @@ impl Command {
         match kind {
             CLEAN => Ok((Command::Clean, behind)),
             COMPACT => {
-                let mut rest = behind;
-                let index = codec::decode_var_u64(&mut rest)?;
+                let (index, rest) = codec::parse_var_u64(behind)?;
                 Ok((Command::Compact { index }, rest))
             }
             _ => Err(Error::Corruption(format!(in alloc; "Unrecognized command type: {kind}")?)),

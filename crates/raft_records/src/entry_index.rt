@@ -1,22 +1,20 @@
 //! Where the entries of a region's log stand.
 
-ghost use Rattle.std.specs.Prelude.{◌≡◌, ◌≢◌, ◌↔◌, ◌++◌, map, IsTrue, IfOk, IfErr, OnOk, OnErr};
+ghost use Rattle.std.specs.Prelude.{◌≡◌, ◌≢◌, ◌↔◌, ◌-◌, ◌^◌, ◌<◌, ◌≤◌, List, ◌++◌, map, IsTrue, IfOk, IfErr, OnOk, OnErr};
 ghost use Rattle.raft_base.specs.Reading.{Reads, HasNoFront};
 ghost use Rattle.raft_records.specs.Grammar.{IsEntries, IsTail, AreTails, end_behind};
 ghost use Rattle.raft_records.specs.Faults.{IsEntriesFault, IsTailFault, IsTailsFault, IsEntriesRefusal};
 ghost use Rattle.raft_records.specs.Entries.{IsConsecutive, RunOn, AreWritable};
 ghost use Rattle.raft_base.specs.Varint.{varint};
 ghost use Rattle.raft_records.specs.ItemBatch.{placed_entry, raised_entry, CanRaise};
+ghost use Rattle.raft_records.specs.Placement.{entry_between, file_in, entry_in};
 ghost use Rattle.raft_records.specs.Sizes.{entries_size, saturated};
 ghost use Rattle.raft_records.specs.Spelling.{Keeps, tails_bytes, entries_bytes};
 
 use crate::CompressionType;
 use raft_base::codec::BytesSlice;
-use raft_base::{Error, FileBlockHandle, Result, codec};
+use raft_base::{Error, FileBlockHandle, FileId, Result, codec};
 use std::alloc::{AllocError, Global};
-
-/// The most entries that room is made for before they are read.
-const MOST_ENTRIES_AT_ONCE: u64 = 1024;
 
 /// An entry of a region's log: its index, and the place of its bytes.
 #[derive(Clone, Copy, PartialEq, Eq, Debug)]
@@ -46,6 +44,32 @@ impl Default for EntryIndex {
             compression_type: CompressionType::None,
             entry_offset: 0,
             entry_len: 0,
+        }
+    }
+}
+
+/// Where entries that are read are placed.
+#[derive(Clone, Copy)]
+pub(crate) struct Placement {
+    /// Their block, whose file is also that of key values.
+    pub(crate) block: Option<FileBlockHandle>,
+    pub(crate) compression_type: CompressionType,
+}
+
+/// No place.
+pub(crate) const UNPLACED: Placement = Placement {
+    block: None,
+    compression_type: CompressionType::None,
+};
+
+impl Placement {
+    /// The file, if there is a block.
+    pub(crate) fn file_id(self) -> Option<FileId>
+        ensures { result ≡ file_in self.block }
+    {
+        match self.block {
+            Some(block) => Some(block.id),
+            None => None,
         }
     }
 }
@@ -173,30 +197,32 @@ impl EntryIndexes {
         ensures refused { IfErr result (λ e. e ≢ Error.Memory → HasNoFront (IsEntries entries_size.old) buf.old.now) }
         ensures fault { IfErr result (IsEntriesFault entries_size.old buf.old.now) }
     {
-        let (entries, end, rest) = EntryIndexes::front(alloc, *buf, *entries_size)?;
+        let (entries, end, rest) = EntryIndexes::parse(alloc, *buf, *entries_size, UNPLACED)?;
         *entries_size = end;
         *buf = rest;
         Ok(entries)
     }
 
-    /// The entries in front of `bytes`, the end of their bytes, and what is behind them.
-    pub(crate) fn front(
+    /// The entries in front of `bytes`, each in this place, the end of their bytes, and what is behind
+    /// them.
+    pub(crate) fn parse(
         alloc: Global,
         bytes: &[u8],
         entries_size: u32,
+        place: Placement,
     ) -> Result<(EntryIndexes, u32, &[u8])>
-        ensures ok { IfOk result (λ read. Reads (IsEntries entries_size) bytes.now read.2.now read.0.0.items) }
+        ensures ok { IfOk result (λ read. (es : List EntryIndex) ×
+            Reads (IsEntries entries_size) bytes.now read.2.now es × (read.0.0.items ≡ map (entry_in place) es)) }
         ensures size { IfOk result (λ read. read.1 ≡ end_behind entries_size read.0.0.items) }
         ensures refused { IfErr result (λ e. e ≢ Error.Memory → HasNoFront (IsEntries entries_size) bytes.now) }
         ensures fault { IfErr result (IsEntriesFault entries_size bytes.now) }
     {
-        let mut rest = bytes;
-        let count = codec::decode_var_u64(&mut rest)?;
+        let (count, behind) = codec::parse_var_u64(bytes)?;
         if count == 0 {
-            return Ok((EntryIndexes(Vec::new(alloc)), entries_size, rest));
+            return Ok((EntryIndexes(Vec::new(alloc)), entries_size, behind));
         }
-        let first = codec::decode_var_u64(&mut rest)?;
-        let (entries, end, rest) = tails_front(alloc, rest, count, first, entries_size)?;
+        let (first, tails) = codec::parse_var_u64(behind)?;
+        let (entries, end, rest) = parse_tails(alloc, tails, count, first, entries_size, place)?;
         Ok((EntryIndexes(entries), end, rest))
     }
 }
@@ -221,59 +247,61 @@ fn append_run(
 }
 
 /// The tail offsets of `count` entries from the index `first` on, behind `entries_size` entry bytes.
-fn tails_front(
+fn parse_tails(
     alloc: Global,
     bytes: &[u8],
     count: u64,
     first: u64,
     entries_size: u32,
+    place: Placement,
 ) -> Result<(Vec<EntryIndex>, u32, &[u8])>
-    ensures ok { IfOk result (λ read.
-        Reads (AreTails count (first, entries_size)) bytes.now read.2.now read.0.items) }
+    ensures ok { IfOk result (λ read. (es : List EntryIndex) ×
+        Reads (AreTails count (first, entries_size)) bytes.now read.2.now es × (read.0.items ≡ map (entry_in place) es)) }
     ensures size { IfOk result (λ read. read.1 ≡ end_behind entries_size read.0.items) }
     ensures refused { IfErr result (λ e. e ≢ Error.Memory →
         HasNoFront (AreTails count (first, entries_size)) bytes.now) }
     ensures fault { IfErr result (IsTailsFault count (first, entries_size) bytes.now) }
 {
-    // Each entry takes a byte at least; a long list grows as its entries are read.
-    let room = count.min(bytes.len() as u64).min(MOST_ENTRIES_AT_ONCE);
+    // Each entry takes a byte at least, so no count makes more room than bytes are there.
+    let room = count.min(bytes.len() as u64);
     let mut entries = Vec::with_capacity(alloc, room as usize)?;
     let mut rest = bytes;
     let mut index = first;
     let mut offset = entries_size;
     for _ in 0..count {
-        let (entry, behind) = tail_front(alloc, rest, index, offset)?;
-        entries.push(entry)?;
+        let (tail, behind) = parse_tail(alloc, rest, index, offset)?;
+        entries.push(EntryIndex {
+            index,
+            entries: place.block,
+            compression_type: place.compression_type,
+            entry_offset: offset,
+            entry_len: tail - offset,
+        })?;
         rest = behind;
         index += 1;
-        offset += entry.entry_len;
+        offset = tail;
     }
     Ok((entries, offset, rest))
 }
 
-/// The tail offset of the entry `index`, whose bytes begin at `offset`.
-#[inline]
-fn tail_front(alloc: Global, bytes: &[u8], index: u64, offset: u32) -> Result<(EntryIndex, &[u8])>
-    ensures ok { IfOk result (λ read. Reads (IsTail (index, offset)) bytes.now read.1.now read.0) }
+/// The tail offset of the entry `index`, whose bytes begin at `offset`, and what is behind it.
+#[inline(always)]
+fn parse_tail(alloc: Global, bytes: &[u8], index: u64, offset: u32) -> Result<(u32, &[u8])>
+    ensures ok { IfOk result (λ read.
+        Reads (IsTail (index, offset)) bytes.now read.1.now (entry_between index offset read.0)) }
+    ensures ends { IfOk result (λ read. offset ≤ read.0) }
+    ensures counted { OnOk result (index < 2 ^ 64 - 1) }
     ensures refused { OnErr result (HasNoFront (IsTail (index, offset)) bytes.now) }
     ensures fault { IfErr result (IsTailFault (index, offset) bytes.now) }
 {
     if index == u64::MAX {
         return Err(Error::Corruption(format!(in alloc; "an entry has no index below {index}")?));
     }
-    let mut rest = bytes;
-    let tail = codec::decode_var_u64(&mut rest)?;
+    let (tail, rest) = codec::parse_var_u64(bytes)?;
     if tail < u64::from(offset) || tail > u64::from(u32::MAX) {
         return Err(Error::Corruption(format!(in alloc;
             "a tail offset of {tail} behind {offset}"
         )?));
     }
-    let entry = EntryIndex {
-        index,
-        entries: None,
-        compression_type: CompressionType::None,
-        entry_offset: offset,
-        entry_len: tail as u32 - offset,
-    };
-    Ok((entry, rest))
+    Ok((tail as u32, rest))
 }

@@ -7,7 +7,7 @@ ghost use Rattle.raft_records.specs.InFile.{AreInFile};
 ghost use Rattle.raft_records.specs.LogBatch.{IsReadable};
 
 use crate::LogItemBatch;
-use crate::header::{HEADER_LEN, header_front};
+use crate::header::{HEADER_LEN, parse_header};
 use raft_base::{Error, FileBlockHandle, FileId, LogFileContext, Result, Version};
 use std::marker::Model;
 
@@ -103,7 +103,7 @@ pub fn next_batch(part: &FilePart, at: usize) -> Result<Option<(LogItemBatch, us
     }
     let alloc = *part.bytes.allocator();
     let (_, rest) = part.bytes().split_at(at);
-    let ((offset, compression_type, len), _) = header_front(alloc, rest)?;
+    let ((offset, compression_type, len), _) = parse_header(alloc, rest)?;
     if len > rest.len() {
         return Err(Error::Corruption(format!(in alloc;
             "a log batch of {len} bytes is cut short"

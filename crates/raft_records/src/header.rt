@@ -26,7 +26,7 @@ const LENGTH_LIMIT: u64 = 1 << 56;
 
 /// The header in front of `bytes`, as the place of the item batch, the compression type and the
 /// length of the batch, and what is behind it. Success takes no memory.
-pub(crate) fn header_front(
+pub(crate) fn parse_header(
     alloc: Global,
     bytes: &[u8],
 ) -> Result<((usize, CompressionType, usize), &[u8])>
@@ -38,8 +38,8 @@ pub(crate) fn header_front(
     if len < HEADER_LEN {
         return Err(Error::Corruption(format!(in alloc; "Log batch header too short: {len}")?));
     }
-    let (len_and_type, behind) = u64_front(bytes);
-    let (offset, rest) = u64_front(behind);
+    let (len_and_type, behind) = parse_u64(bytes);
+    let (offset, rest) = parse_u64(behind);
     let compression_type = CompressionType::from_u8(alloc, (len_and_type % 256) as u8)?;
     let len = len_and_type / 256;
     if offset > len {
@@ -56,7 +56,7 @@ pub(crate) fn header_front(
 }
 
 /// The number in the first eight bytes, the highest first, and what is behind them.
-fn u64_front(bytes: &[u8]) -> (u64, &[u8])
+fn parse_u64(bytes: &[u8]) -> (u64, &[u8])
     requires { 8 ≤ length bytes.now }
     ensures read { Reads (IsBig 8) bytes.now result.1.now result.0 }
     ensures len { length bytes.now ≡ 8 + length result.1.now }
@@ -119,7 +119,7 @@ pub(crate) fn offset_behind(entries_size: u32) -> usize
 }
 
 /// The entry bytes in the block of `len` bytes in front of `bytes`; a block of length 0 holds none.
-pub(crate) fn block_front(
+pub(crate) fn parse_block(
     alloc: Global,
     bytes: &[u8],
     len: usize,

@@ -144,13 +144,13 @@ impl KeyValue {
         ensures refused { IfErr result (λ e. e ≢ Error.Memory → HasNoFront IsKeyValue buf.old.now) }
         ensures fault { IfErr result (IsKeyValueFault buf.old.now) }
     {
-        let (kv, rest) = KeyValue::front(alloc, *buf)?;
+        let (kv, rest) = KeyValue::parse(alloc, *buf)?;
         *buf = rest;
         Ok(kv)
     }
 
     /// The change in front of `bytes`, and what is behind it.
-    pub(crate) fn front(alloc: Global, bytes: &[u8]) -> Result<(KeyValue, &[u8])>
+    pub(crate) fn parse(alloc: Global, bytes: &[u8]) -> Result<(KeyValue, &[u8])>
         ensures ok { IfOk result (λ read. Reads IsKeyValue bytes.now read.1.now (pair_of read.0)) }
         ensures refused { IfErr result (λ e. e ≢ Error.Memory → HasNoFront IsKeyValue bytes.now) }
         ensures fault { IfErr result (IsKeyValueFault bytes.now) }
@@ -159,31 +159,31 @@ impl KeyValue {
             return Err(Error::Codec(codec::Error::unexpected_eof()));
         };
         match OpType::from_u8(alloc, *byte)? {
-            OpType::Put => KeyValue::put_front(alloc, behind),
-            OpType::Del => KeyValue::del_front(alloc, behind),
+            OpType::Put => KeyValue::parse_put(alloc, behind),
+            OpType::Del => KeyValue::parse_del(alloc, behind),
         }
     }
 
     /// A `Put` behind its op type byte.
-    fn put_front(alloc: Global, bytes: &[u8]) -> Result<(KeyValue, &[u8])>
+    fn parse_put(alloc: Global, bytes: &[u8]) -> Result<(KeyValue, &[u8])>
         ensures ok { IfOk result (λ read. IsPutRead bytes.now read.1.now (pair_of read.0)) }
         ensures refused { IfErr result (λ e. e ≢ Error.Memory → HasNoFront IsKeyAndValue bytes.now) }
         ensures fault { IfErr result (IsPutFault bytes.now) }
     {
-        let (key, behind) = byte_string_front(alloc, bytes)?;
-        let (value, rest) = byte_string_front(alloc, behind)?;
+        let (key, behind) = parse_byte_string(alloc, bytes)?;
+        let (value, rest) = parse_byte_string(alloc, behind)?;
         let key = Vec::from_slice(alloc, key)?;
         let value = Vec::from_slice(alloc, value)?;
         Ok((KeyValue::new(OpType::Put, key, Some(value)), rest))
     }
 
     /// A `Del` behind its op type byte.
-    fn del_front(alloc: Global, bytes: &[u8]) -> Result<(KeyValue, &[u8])>
+    fn parse_del(alloc: Global, bytes: &[u8]) -> Result<(KeyValue, &[u8])>
         ensures ok { IfOk result (λ read. IsDelRead bytes.now read.1.now (pair_of read.0)) }
         ensures refused { IfErr result (λ e. e ≢ Error.Memory → HasNoFront IsByteString bytes.now) }
         ensures fault { IfErr result (IsDelFault bytes.now) }
     {
-        let (key, rest) = byte_string_front(alloc, bytes)?;
+        let (key, rest) = parse_byte_string(alloc, bytes)?;
         let key = Vec::from_slice(alloc, key)?;
         Ok((KeyValue::new(OpType::Del, key, None), rest))
     }
@@ -199,13 +199,12 @@ fn append_byte_string(buf: &mut Vec<u8>, text: &[u8]) -> std::result::Result<(),
 }
 
 /// The byte string in front of `bytes`, which stands behind its length, and what is behind it.
-fn byte_string_front(alloc: Global, bytes: &[u8]) -> Result<(&[u8], &[u8])>
+fn parse_byte_string(alloc: Global, bytes: &[u8]) -> Result<(&[u8], &[u8])>
     ensures ok { IfOk result (λ read. Reads IsByteString bytes.now read.1.now read.0.now) }
     ensures refused { OnErr result (HasNoFront IsByteString bytes.now) }
     ensures fault { IfErr result (IsByteStringFault bytes.now) }
 {
-    let mut rest = bytes;
-    let len = codec::decode_var_u64(&mut rest)?;
+    let (len, rest) = codec::parse_var_u64(bytes)?;
     if len > rest.len() as u64 {
         let left = rest.len();
         return Err(Error::Corruption(format!(in alloc;

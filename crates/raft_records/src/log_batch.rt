@@ -11,7 +11,7 @@ ghost use Rattle.raft_records.specs.Range.{AreInRange};
 ghost use Rattle.raft_records.specs.Header.{IsHeader, IsHeaderFault, IsBlockOf, IsBlockFault};
 
 use crate::checksum::CHECKSUM_LEN;
-use crate::header::{HEADER_LEN, block_front, encode_behind, header_front, reserve_header, seal};
+use crate::header::{HEADER_LEN, encode_behind, parse_block, parse_header, reserve_header, seal};
 use crate::laws::log_batches_are_read_again;
 use crate::{Command, CompressionType, LogItem, LogItemBatch};
 use raft_base::codec::BytesSlice;
@@ -237,7 +237,7 @@ impl LogBatch {
         ensures refused { OnErr result (HasNoFront IsHeader buf.old.now) }
         ensures fault { IfErr result (IsHeaderFault buf.old.now) }
     {
-        let (header, rest) = header_front(alloc, *buf)?;
+        let (header, rest) = parse_header(alloc, *buf)?;
         *buf = rest;
         Ok(header)
     }
@@ -255,7 +255,7 @@ impl LogBatch {
             (entries : List ℕ) → IsBlockOf place.len buf.now entries → ⊥) }
         ensures fault { IfErr result (IsBlockFault place.len buf.now) }
     {
-        block_front(alloc, buf, place.len, compression_type)
+        parse_block(alloc, buf, place.len, compression_type)
     }
 }
 

@@ -4,13 +4,15 @@ ghost use Rattle.std.specs.Prelude.{◌≡◌, ◌≢◌, ◌↔◌, ◌++◌, I
 ghost use Rattle.std.specs.Option.{option_map};
 ghost use Rattle.raft_base.specs.Reading.{Reads, HasNoFront};
 ghost use Rattle.raft_records.specs.Grammar.{IsItem, IsContent, behind_item, entry_bytes_with};
-ghost use Rattle.raft_records.specs.Item.{item_of, content_of, entries_item, command_item, pair_item};
+ghost use Rattle.raft_records.specs.Item.{Item, Content, item_of, content_of, entries_item, command_item, pair_item};
 ghost use Rattle.raft_records.specs.Faults.{IsItemFault, IsContentFault, IsItemRefusal};
 ghost use Rattle.raft_records.specs.ItemBatch.{placed, raised, CanRaiseContent};
+ghost use Rattle.raft_records.specs.Placement.{content_in, item_in};
 ghost use Rattle.raft_records.specs.Range.{IsInRange};
 ghost use Rattle.raft_records.specs.Sizes.{item_size, saturated};
 ghost use Rattle.raft_records.specs.Spelling.{Keeps, item_bytes, content_bytes, IsWritable};
 
+use crate::entry_index::{Placement, UNPLACED};
 use crate::{Command, CompressionType, EntryIndex, EntryIndexes, KeyValue, OpType};
 use raft_base::codec::BytesSlice;
 use raft_base::{Error, FileBlockHandle, Result, codec};
@@ -188,28 +190,29 @@ impl LogItem {
             HasNoFront (IsItem entries_size.old) buf.old.now) }
         ensures fault { IfErr result (IsItemFault entries_size.old buf.old.now) }
     {
-        let (item, end, rest) = LogItem::front(alloc, *buf, *entries_size)?;
+        let (item, end, rest) = LogItem::parse(alloc, *buf, *entries_size, UNPLACED)?;
         *entries_size = end;
         *buf = rest;
         Ok(item)
     }
 
-    /// The item in front of `bytes`, the end of its entries' bytes, and what is behind it.
-    pub(crate) fn front(
+    /// The item in front of `bytes`, in this place, the end of its entries' bytes, and what is behind
+    /// it.
+    pub(crate) fn parse(
         alloc: Global,
         bytes: &[u8],
         entries_size: u32,
+        place: Placement,
     ) -> Result<(LogItem, u32, &[u8])>
-        ensures ok { IfOk result (λ read.
-            Reads (IsItem entries_size) bytes.now read.2.now (item_of read.0)) }
+        ensures ok { IfOk result (λ read. (item : Item) ×
+            Reads (IsItem entries_size) bytes.now read.2.now item × (item_of read.0 ≡ item_in place item)) }
         ensures size { IfOk result (λ read. read.1 ≡ behind_item entries_size (item_of read.0)) }
         ensures refused { IfErr result (λ e. e ≢ Error.Memory →
             HasNoFront (IsItem entries_size) bytes.now) }
         ensures fault { IfErr result (IsItemFault entries_size bytes.now) }
     {
-        let mut rest = bytes;
-        let raft_group_id = codec::decode_var_u64(&mut rest)?;
-        let (content, end, rest) = LogItemContent::front(alloc, rest, entries_size)?;
+        let (raft_group_id, behind) = codec::parse_var_u64(bytes)?;
+        let (content, end, rest) = LogItemContent::parse(alloc, behind, entries_size, place)?;
         let item = LogItem {
             raft_group_id,
             content,
@@ -241,10 +244,16 @@ impl LogItemContent {
         }
     }
 
-    /// The content in front of `bytes`, the end of its entries' bytes, and what is behind it.
-    fn front(alloc: Global, bytes: &[u8], entries_size: u32) -> Result<(LogItemContent, u32, &[u8])>
-        ensures ok { IfOk result (λ read.
-            Reads (IsContent entries_size) bytes.now read.2.now (content_of read.0)) }
+    /// The content in front of `bytes`, in this place, the end of its entries' bytes, and what is
+    /// behind it.
+    fn parse(
+        alloc: Global,
+        bytes: &[u8],
+        entries_size: u32,
+        place: Placement,
+    ) -> Result<(LogItemContent, u32, &[u8])>
+        ensures ok { IfOk result (λ read. (content : Content) ×
+            Reads (IsContent entries_size) bytes.now read.2.now content × (content_of read.0 ≡ content_in place content)) }
         ensures size { IfOk result (λ read.
             read.1 ≡ entry_bytes_with entries_size (content_of read.0)) }
         ensures refused { IfErr result (λ e. e ≢ Error.Memory →
@@ -257,15 +266,16 @@ impl LogItemContent {
         let kind = *kind;
         match kind {
             TYPE_ENTRIES => {
-                let (entries, end, rest) = EntryIndexes::front(alloc, behind, entries_size)?;
+                let (entries, end, rest) = EntryIndexes::parse(alloc, behind, entries_size, place)?;
                 Ok((LogItemContent::EntryIndexes(entries), end, rest))
             }
             TYPE_COMMAND => {
-                let (command, rest) = Command::front(alloc, behind)?;
+                let (command, rest) = Command::parse(alloc, behind)?;
                 Ok((LogItemContent::Command(command), entries_size, rest))
             }
             TYPE_KV => {
-                let (kv, rest) = KeyValue::front(alloc, behind)?;
+                let (mut kv, rest) = KeyValue::parse(alloc, behind)?;
+                kv.file_id = place.file_id();
                 Ok((LogItemContent::Kv(kv), entries_size, rest))
             }
             _ => Err(Error::Corruption(format!(in alloc; "Unrecognized log item type: {kind}")?)),

@@ -19,6 +19,7 @@ ghost use Rattle.raft_records.specs.Written.{ItemIsSpelled, BatchIsSpelled};
 ghost use Rattle.raft_records.specs.declared.key_value.OpType.TheVariants.{Put, Del};
 
 use crate::checksum::{CHECKSUM_LEN, sign, verify_checksum};
+use crate::entry_index::Placement;
 use crate::{Command, CompressionType, EntryIndex, LogItem, LogItemContent, OpType};
 use byteorder::{ByteOrder, LittleEndian};
 use raft_base::codec::BytesSlice;
@@ -29,9 +30,6 @@ use std::marker::Model;
 use std::{mem, slice, vec};
 
 mod traits;
-
-/// The most items that room is made for before they are read.
-const MOST_ITEMS_AT_ONCE: u64 = 1024;
 
 /// Items in order, without the entries' bytes. The bytes of the entries of its items run on from the
 /// first item to the last.
@@ -315,9 +313,8 @@ impl LogItemBatch {
         ensures fault { IfErr result (IsItemBatchFault (signature_of context.now) buf.old.now) }
     {
         let content = verify_checksum(alloc, *buf, context.get_signature())?;
-        let mut behind = content;
-        let count = codec::decode_var_u64(&mut behind)?;
-        let (batch, rest) = items_front(alloc, behind, count, entries, compression_type)?;
+        let (count, behind) = codec::parse_var_u64(content)?;
+        let (batch, rest) = parse_items(alloc, behind, count, entries, compression_type)?;
         *buf = rest;
         Ok(batch)
     }
@@ -381,7 +378,7 @@ fn write_items(buf: &mut Vec<u8>, items: &[LogItem]) -> std::result::Result<(), 
 }
 
 /// The `count` items in front of `bytes`, each in its place, and what is behind them.
-fn items_front(
+fn parse_items(
     alloc: Global,
     bytes: &[u8],
     count: u64,
@@ -393,14 +390,17 @@ fn items_front(
     ensures refused { IfErr result (λ e. e ≢ Error.Memory → HasNoFront (AreItems count) bytes.now) }
     ensures fault { IfErr result (AreItemsFault count bytes.now) }
 {
-    // Each item takes a byte at least; a long list grows as its items are read.
-    let room = count.min(bytes.len() as u64).min(MOST_ITEMS_AT_ONCE);
+    // Each item takes three bytes at least, so no count makes more room than bytes are there.
+    let room = count.min(bytes.len() as u64 / 3);
+    let place = Placement {
+        block: Some(block),
+        compression_type,
+    };
     let mut batch = LogItemBatch::with_capacity(alloc, room as usize)?;
     let mut rest = bytes;
     for _ in 0..count {
         let start = batch.entries_size();
-        let (mut item, end, behind) = LogItem::front(alloc, rest, start)?;
-        item.place(block, compression_type);
+        let (item, end, behind) = LogItem::parse(alloc, rest, start, place)?;
         batch.add(item, end)?;
         rest = behind;
     }

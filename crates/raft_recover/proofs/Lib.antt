@@ -1,2 +1,5 @@
 pub mod DrawingLemmas
+pub mod MergeLemmas
+pub mod MidwayLemmas
+pub mod SegmentLemmas
 pub mod WeightLemmas

@@ -1,5 +1,9 @@
 pub mod Draws
 pub mod Drawing
+pub mod Merges
+pub mod Plans
+pub mod Replays
+pub mod Segments
 pub mod TicketModel
 pub mod TicketSeatModel
 pub mod Weights

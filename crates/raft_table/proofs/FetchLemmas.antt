@@ -7,8 +7,8 @@ use Rattle.std.proofs.lemmas.Bool.{cases_lt}
 use Rattle.std.proofs.lemmas.Bool.Decides.{nat_tests}
 use Rattle.raft_base.specs.declared.pipe_log.LogQueue.TheVariants.{Append, Rewrite}
 use Rattle.raft_records.specs.declared.entry_index.EntryIndex.{EntryIndex}
-use Rattle.raft_table.specs.Entries.{IsSound, start_of, from, placed_in, entries_in}
-use Rattle.raft_table.specs.Fetches.{between, total_len, is_too_many, IsLimitCount, FetchesWithin, NotFound, Found, range_answer, appended_before, block_count, change_count, entry_seq, first_seq}
+use Rattle.raft_table.specs.Entries.{IsSound, start_of, from, between, placed_in, entries_in}
+use Rattle.raft_table.specs.Fetches.{total_len, is_too_many, IsLimitCount, FetchesWithin, NotFound, Found, range_answer, appended_before, block_count, change_count, entry_seq, first_seq}
 use Rattle.raft_table.specs.Rewriting.{is_placed_before}
 use Rattle.raft_table.proofs.RunLemmas.{RisesFrom-take}
 use Rattle.raft_table.proofs.SoundLemmas.{sound_rising}
@@ -123,6 +123,7 @@ pub range_found : (begin end : ℕ) (es : List EntryIndex) → IsSound es → 0 
 range_found begin end es h l a b c = let e = sound_end es h l in rw e (grind (arith, nat_tests))
 
 pub between_is : (begin end : ℕ) (es : List EntryIndex) → IsSound es → between begin end es ≡ drop (begin - start_of es) (take (end - start_of es) es)
+unfolding between
 between_is begin end es h =
     ap (from begin) (below_is end (start_of es) es (sound_rising es h))
     ∙ from_is begin (start_of es) (take (end - start_of es) es) (RisesFrom-take (end - start_of es) (start_of es) es (sound_rising es h))

@@ -10,7 +10,7 @@ use Rattle.raft_table.specs.Start.{leaves_hole, appended, replayed}
 use Rattle.raft_table.proofs.RunLemmas.{RisesFrom-start}
 use Rattle.raft_table.proofs.LookupLemmas.{entry_at_low}
 
-entry_at-append : (i : ℕ) (a b : List EntryIndex) → entry_at i (a ++ b) ≡ option_or (entry_at i a) (entry_at i b)
+pub entry_at-append : (i : ℕ) (a b : List EntryIndex) → entry_at i (a ++ b) ≡ option_or (entry_at i a) (entry_at i b)
 entry_at-append i [] b = refl
 entry_at-append i (x ∷ a) b = at (eqb x.index i) refl (entry_at-append i a b)
   where
@@ -23,7 +23,7 @@ either : (o : Option EntryIndex) (t : Bool) → o ≡ cond t o o
 either o true = refl
 either o false = refl
 
-entry_at-below : (i f : ℕ) (es : List EntryIndex) → entry_at i (below f es) ≡ cond (ltb i f) (entry_at i es) None
+pub entry_at-below : (i f : ℕ) (es : List EntryIndex) → entry_at i (below f es) ≡ cond (ltb i f) (entry_at i es) None
 unfolding below
 entry_at-below i f [] = either None (ltb i f)
 entry_at-below i f (x ∷ es) = at (eqb x.index i) (ltb x.index f) (ltb i f) refl refl refl (entry_at-below i f es)
@@ -66,7 +66,7 @@ run_stands es run r = λ i. at i (ltb i (start_of run)) refl
 pub behind_stands : (q : LogQueue) (es run : List EntryIndex) → IsRunIn q run → StandsBehind es run (below (start_of run) es ++ run)
 behind_stands q es run r = run_stands es run r.run
 
-accepted : {X : Type 0} (b : Bool) (x after : X) → cond b None (Some x) ≡ Some after → (b ≡ false) × (x ≡ after)
+pub accepted : {X : Type 0} (b : Bool) (x after : X) → cond b None (Some x) ≡ Some after → (b ≡ false) × (x ≡ after)
 accepted true x after e = absurd cc
 accepted false x after e = (refl, cc)
 
@@ -76,16 +76,16 @@ appended_stands es (x ∷ run) after r l e =
     let h = accepted _ (below x.index es ++ x ∷ run) after e in
     subst (StandsBehind es (x ∷ run)) h.1 (behind_stands Append es (x ∷ run) r)
 
-pub replayed_stands : (es run after : List EntryIndex) → IsRunIn Append run → 0 < length run → replayed Append es run ≡ Some after → StandsBehind es run after
-replayed_stands es [] after r l e = absurd (omega arith)
-replayed_stands es (x ∷ run) after r l e =
+pub replayed_stands : (q : LogQueue) (es run after : List EntryIndex) → IsRunIn q run → 0 < length run → replayed Append es run ≡ Some after → StandsBehind es run after
+replayed_stands q es [] after r l e = absurd (omega arith)
+replayed_stands q es (x ∷ run) after r l e =
     let h = accepted _ (below x.index es ++ x ∷ run) after e in
-    subst (StandsBehind es (x ∷ run)) h.1 (behind_stands Append es (x ∷ run) r)
+    subst (StandsBehind es (x ∷ run)) h.1 (behind_stands q es (x ∷ run) r)
 
 same_some : {X : Type 0} (x y : X) → Some x ≡ Some y → x ≡ y
 same_some x y e = cc
 
-pub rewritten_stands : (es run after : List EntryIndex) → IsRunIn Rewrite run → 0 < length run → leaves_hole (end_of es) (start_of run) ≡ false → replayed Rewrite es run ≡ Some after → StandsBehind es run after
-rewritten_stands es [] after r l n e = absurd (omega arith)
-rewritten_stands es (x ∷ run) after r l n e =
-    subst (StandsBehind es (x ∷ run)) (same_some _ after (rw n at e)) (behind_stands Rewrite es (x ∷ run) r)
+pub rewritten_stands : (q : LogQueue) (es run after : List EntryIndex) → IsRunIn q run → 0 < length run → leaves_hole (end_of es) (start_of run) ≡ false → replayed Rewrite es run ≡ Some after → StandsBehind es run after
+rewritten_stands q es [] after r l n e = absurd (omega arith)
+rewritten_stands q es (x ∷ run) after r l n e =
+    subst (StandsBehind es (x ∷ run)) (same_some _ after (rw n at e)) (behind_stands q es (x ∷ run) r)

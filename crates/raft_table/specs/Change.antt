@@ -8,10 +8,10 @@ use Rattle.raft_records.specs.declared.entry_index.EntryIndex.{EntryIndex}
 use Rattle.raft_table.specs.declared.memtable.change.TableChange.{TableChange}
 use Rattle.raft_table.specs.declared.memtable.change.TableChange.TheVariants as changes
 use Rattle.raft_table.specs.Counts.{Counts, with_added}
-use Rattle.raft_table.specs.Entries.{IsRunIn}
+use Rattle.raft_table.specs.Entries.{IsRunIn, below}
 use Rattle.raft_table.specs.KeyValues.{file_at}
 use Rattle.raft_table.specs.Rewriting.{rewritten, recounted, IsRewriteRefused}
-use Rattle.raft_table.specs.Start.{appended, IsRunRefused}
+use Rattle.raft_table.specs.Start.{appended, counts_with_run, counts_without, IsRunRefused}
 use Rattle.raft_table.specs.Table.{Table, after_append, after_rewrite, after_rewrite_key, compacted, with_pair, without_key, with_pair_deleted, with_rewritten_key, leaves_append, IsPutRefused, IsKeyRefused}
 
 -- the table after a change; none where it is refused
@@ -47,10 +47,10 @@ IsAnswer (changes.RewriteKey key gate seq) old new n = n ≡ 0
 -- what a change makes of the counts
 abbrev pub AreCountedAfter : TableChange → Table → Counts → Counts → Type 0
 AreCountedAfter changes.Keep t old new = new ≡ old
-AreCountedAfter (changes.Append run) t old new = Unit {0}
+AreCountedAfter (changes.Append run) t old new = new ≡ counts_with_run Append t.entries run.items old
 AreCountedAfter (changes.Put key value file) t old new = new ≡ with_added file.queue 1 (with_pair_deleted (file_at t.keys key.items) old)
 AreCountedAfter (changes.Delete key) t old new = new ≡ with_pair_deleted (file_at t.keys key.items) old
-AreCountedAfter (changes.Compact index) t old new = Unit {0}
+AreCountedAfter (changes.Compact index) t old new = new ≡ counts_without (below index t.entries) old
 AreCountedAfter (changes.Rewrite run gate) t old new = new ≡ recounted gate run.items t.entries old
 AreCountedAfter (changes.RewriteKey key gate seq) t old new = new ≡ with_rewritten_key (leaves_append gate (file_at t.keys key.items)) old
 

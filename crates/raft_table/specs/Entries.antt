@@ -35,6 +35,10 @@ below i es = filter (λ e. nat_lt e.index i) es
 unfoldable pub from : ℕ → List EntryIndex → List EntryIndex
 from i es = filter (λ e. nat_le i e.index) es
 
+-- the entries from one index on and below another
+unfoldable pub between : ℕ → ℕ → List EntryIndex → List EntryIndex
+between begin end es = from begin (below end es)
+
 -- whether there is a place, and it is in this queue
 abbrev pub is_block_in : LogQueue → Option FileBlockHandle → Bool
 is_block_in queue None = false

@@ -7,13 +7,9 @@ use Rattle.raft_base.specs.declared.pipe_log.FileBlockHandle.{FileBlockHandle}
 use Rattle.raft_base.specs.declared.pipe_log.LogQueue.{LogQueue}
 use Rattle.raft_base.specs.declared.pipe_log.LogQueue.TheVariants.{Append}
 use Rattle.raft_records.specs.declared.entry_index.EntryIndex.{EntryIndex}
-use Rattle.raft_table.specs.Entries.{start_of, end_of, below, from, placed_in}
+use Rattle.raft_table.specs.Entries.{start_of, end_of, between, placed_in}
 use Rattle.raft_table.specs.Queues.{is_same}
 use Rattle.raft_table.specs.Rewriting.{is_placed_before}
-
--- the entries from one index on and below another
-abbrev pub between : ℕ → ℕ → List EntryIndex → List EntryIndex
-between begin end es = from begin (below end es)
 
 -- the total of the lengths of the first n entries
 abbrev pub total_len : ℕ → List EntryIndex → ℕ

@@ -1,12 +1,12 @@
 -- Merges of two tables of one region.
-use Rattle.std.specs.Prelude.{◌≡◌, ℕ, ◌+◌, ◌≤◌, ◌^◌, Bool, ◌||◌, Option, Some, None, nat_lt, is_some, option_map, if◌then◌else◌}
+use Rattle.std.specs.Prelude.{◌≡◌, ℕ, ◌+◌, ◌-◌, ◌≤◌, ◌^◌, Bool, ◌||◌, Option, Some, None, nat_lt, nat_le, is_some, option_map, if◌then◌else◌}
 use Rattle.raft_base.specs.declared.errors.Error.{Error}
 use Rattle.raft_base.specs.declared.errors.Error.TheVariants as errors
 use Rattle.raft_base.specs.declared.pipe_log.LogQueue.{LogQueue}
 use Rattle.raft_base.specs.declared.pipe_log.LogQueue.TheVariants.{Append, Rewrite}
-use Rattle.raft_table.specs.Counts.{Counts, live}
-use Rattle.raft_table.specs.KeyValues.{overlaid}
-use Rattle.raft_table.specs.Start.{replayed}
+use Rattle.raft_table.specs.Counts.{Counts, live, with_added, with_deleted}
+use Rattle.raft_table.specs.KeyValues.{Keys, overlaid, pair_count}
+use Rattle.raft_table.specs.Start.{replayed, counts_with_run}
 use Rattle.raft_table.specs.Table.{Table, live_of}
 
 -- a table with the run of a newer one, by the start rule of the replays into a queue, and its pairs over the own ones; none where that rule refuses the run
@@ -43,6 +43,21 @@ append_rule older newer = if nat_lt 0 (live_of Append older) || nat_lt 0 (live_o
 abbrev pub after_appended : Table → Table → Option LogQueue → Option Table
 after_appended older newer None = None
 after_appended older newer (Some rule) = after_join rule older newer
+
+-- the counts with so many records of a queue in place of others
+abbrev pub counts_with_others : LogQueue → ℕ → ℕ → Counts → Counts
+counts_with_others queue before after counts = if nat_le after before then with_deleted queue (before - after) counts else with_added queue (after - before) counts
+
+-- the counts with pairs in place of others
+abbrev pub counts_with_keys : Keys → Keys → Counts → Counts
+counts_with_keys before after counts =
+    counts_with_others Rewrite (pair_count Rewrite before) (pair_count Rewrite after) (counts_with_others Append (pair_count Append before) (pair_count Append after) counts)
+
+-- the counts after a merge of a newer table's records, which are in one queue
+abbrev pub counts_after_merge : Option LogQueue → Table → Table → Counts → Counts
+counts_after_merge None older newer counts = counts
+counts_after_merge (Some queue) older newer counts =
+    counts_with_keys older.keys (overlaid newer.keys older.keys) (counts_with_run queue older.entries newer.entries counts)
 
 -- why a merge by this start rule is refused: there is none, it refuses the run, the live number of a queue and the newer records there would pass 2^64 - 1, or want of memory
 abbrev pub IsMergeRefused : Counts → Table → Table → Option LogQueue → Error → Type 0

@@ -1,12 +1,12 @@
 -- The start rule: what stays where a run is put, and when it is refused.
-use Rattle.std.specs.Prelude.{ℕ, ◌+◌, ◌≤◌, ◌^◌, Bool, false, ◌&&◌, ◌||◌, List, [], ◌∷◌, ◌++◌, nat_lt, Option, Some, None, if◌then◌else◌}
+use Rattle.std.specs.Prelude.{ℕ, ◌+◌, ◌≤◌, ◌^◌, Bool, false, ◌&&◌, ◌||◌, List, [], ◌∷◌, ◌++◌, length, nat_lt, Option, Some, None, if◌then◌else◌}
 use Rattle.raft_base.specs.declared.errors.Error.{Error}
 use Rattle.raft_base.specs.declared.errors.Error.TheVariants as errors
 use Rattle.raft_base.specs.declared.pipe_log.LogQueue.{LogQueue}
 use Rattle.raft_base.specs.declared.pipe_log.LogQueue.TheVariants.{Append, Rewrite}
 use Rattle.raft_records.specs.declared.entry_index.EntryIndex.{EntryIndex}
-use Rattle.raft_table.specs.Counts.{Counts, live}
-use Rattle.raft_table.specs.Entries.{end_of, below, entries_in}
+use Rattle.raft_table.specs.Counts.{Counts, live, with_added, with_deleted}
+use Rattle.raft_table.specs.Entries.{end_of, below, from, entries_in}
 
 -- whether a start lies behind the end of some entries, so that indexes between are missing
 abbrev pub leaves_hole : ℕ → ℕ → Bool
@@ -27,6 +27,20 @@ abbrev pub replayed : LogQueue → List EntryIndex → List EntryIndex → Optio
 replayed queue es [] = Some es
 replayed Append es (e ∷ run) = if leaves_hole (end_of es) e.index then None else Some (below e.index es ++ e ∷ run)
 replayed Rewrite es (e ∷ run) = Some (if leaves_hole (end_of es) e.index then e ∷ run else below e.index es ++ e ∷ run)
+
+-- the entries that a run takes away: those from its first index on, and all behind a hole
+abbrev pub replaced_by : List EntryIndex → List EntryIndex → List EntryIndex
+replaced_by es [] = []
+replaced_by es (e ∷ run) = if leaves_hole (end_of es) e.index then es else from e.index es
+
+-- the counts without some entries
+abbrev pub counts_without : List EntryIndex → Counts → Counts
+counts_without es counts = with_deleted Rewrite (entries_in Rewrite es) (with_deleted Append (entries_in Append es) counts)
+
+-- the counts with the entries of a run of a queue in place of those that it takes away; one without entries changes nothing
+abbrev pub counts_with_run : LogQueue → List EntryIndex → List EntryIndex → Counts → Counts
+counts_with_run queue es [] counts = counts
+counts_with_run queue es (e ∷ run) counts = with_added queue (length (e ∷ run)) (counts_without (replaced_by es (e ∷ run)) counts)
 
 -- a refusal of what breaks the rules of tables
 abbrev pub IsCorruption : Error → Type 0

@@ -3,18 +3,18 @@
 ghost use Rattle.std.specs.Prelude.{◌≡◌, ◌≢◌, ◌+◌, ◌≤◌, ◌^◌, false, length, MatchOption, OnOk, OnErr, IfErr, IfOk, Some, [], option_map, MatchBool};
 ghost use Rattle.raft_base.specs.declared.pipe_log.LogQueue.{LogQueue};
 ghost use Rattle.raft_base.specs.declared.pipe_log.LogQueue.TheVariants.{Append, Rewrite};
-ghost use Rattle.raft_table.specs.Entries.{IsRunIn, IsSound, start_of, end_of, entry_at, entries_in};
+ghost use Rattle.raft_table.specs.Entries.{IsRunIn, IsSound, start_of, end_of, entry_at, entries_in, below};
 ghost use Rattle.raft_table.specs.Counts.{Counts, live, with_added};
 ghost use Rattle.raft_table.specs.KeyValues.{value_at, file_at, file_count};
 ghost use Rattle.raft_table.specs.Table.{empty_table, live_of, IsCounted, IsRecounted, after_append, after_replay, after_rewrite, after_rewrite_key, compacted, with_pair, without_key, with_atomic_group, with_entries, with_keys, with_pair_deleted, with_rewritten_key, MovesKeyAlone, leaves_append, IsPutRefused, IsKeyRefused};
 ghost use Rattle.raft_table.specs.Rewriting.{rewritten, recounted, IsRewriteRefused, MovesPlacesAlone};
 ghost use Rattle.raft_table.specs.Queues.{count_in};
-ghost use Rattle.raft_table.specs.Start.{appended, replayed, IsRunRefused};
+ghost use Rattle.raft_table.specs.Start.{appended, replayed, counts_with_run, counts_without, IsRunRefused};
 
 mod change;
 mod deleted_keys;
 mod entries;
-pub mod key_values;
+mod key_values;
 mod laws;
 mod mark;
 mod merge;
@@ -28,16 +28,22 @@ mod under;
 
 use crate::global_stats::GlobalStats;
 pub use change::{TableChange, is_run};
+pub use deleted_keys::DeletedKeys;
 use entries::Entries;
 use key_values::KeyValues;
 pub use laws::{
     entries_stand_by_index, last_words_stand, marks_stand_for_steps, overlays_by_marks,
 };
+pub use mark::Mark;
 use raft_records::{EntryIndex, Error, FileId, FileSeq, LogQueue, Result};
 pub use read_runs::read_entries_are_runs;
+pub use region::{join_cleaned, join_region, replay_clean, replay_delete, replay_run};
 use std::alloc::Global;
 use std::marker::Model;
-pub use table_laws::full_runs_pass_the_limit;
+pub use table_laws::{
+    fetches_answer_ranges, full_runs_pass_the_limit, least_is_lowest, newer_pairs_win,
+    rewriting_stands_by_index, scans_visit_pairs, tables_add_up,
+};
 
 /// The table of a region.
 #[derive(Drop)]
@@ -155,6 +161,7 @@ impl MemTable {
         ensures ok { OnOk result (after_append self.old run.items ≡ Some self.new) }
         ensures refused { IfErr result (IsRunRefused Append stats.old self.old.entries (appended self.old.entries run.items)) }
         ensures err { OnErr result ((self.new ≡ self.old) × (stats.new ≡ stats.old)) }
+        ensures counts { OnOk result (stats.new ≡ counts_with_run Append self.old.entries run.items stats.old) }
         ensures recounted { IsRecounted self.old self.new stats.old stats.new }
         ensures region { self.new.region_id ≡ self.old.region_id }
     {
@@ -175,6 +182,7 @@ impl MemTable {
         ensures ok { OnOk result (after_replay Append self.old run.items ≡ Some self.new) }
         ensures refused { IfErr result (IsRunRefused Append stats.old self.old.entries (replayed Append self.old.entries run.items)) }
         ensures err { OnErr result ((self.new ≡ self.old) × (stats.new ≡ stats.old)) }
+        ensures counts { OnOk result (stats.new ≡ counts_with_run Append self.old.entries run.items stats.old) }
         ensures recounted { IsRecounted self.old self.new stats.old stats.new }
         ensures region { self.new.region_id ≡ self.old.region_id }
     {
@@ -195,6 +203,7 @@ impl MemTable {
         ensures ok { OnOk result (after_replay Rewrite self.old run.items ≡ Some self.new) }
         ensures refused { IfErr result (IsRunRefused Rewrite stats.old self.old.entries (replayed Rewrite self.old.entries run.items)) }
         ensures err { OnErr result ((self.new ≡ self.old) × (stats.new ≡ stats.old)) }
+        ensures counts { OnOk result (stats.new ≡ counts_with_run Rewrite self.old.entries run.items stats.old) }
         ensures recounted { IsRecounted self.old self.new stats.old stats.new }
         ensures region { self.new.region_id ≡ self.old.region_id }
     {
@@ -237,6 +246,7 @@ impl MemTable {
         requires { IsCounted self.old stats.old }
         ensures compacted { self.new ≡ compacted index self.old }
         ensures dropped { result + length self.new.entries ≡ length self.old.entries }
+        ensures counts { stats.new ≡ counts_without (below index self.old.entries) stats.old }
         ensures recounted { IsRecounted self.old self.new stats.old stats.new }
         ensures region { self.new.region_id ≡ self.old.region_id }
     {

@@ -1,7 +1,7 @@
 //! The entries of a region, in order of index.
 
 ghost use Rattle.std.specs.Prelude.{◌≡◌, ◌≢◌, ◌+◌, [], length, MatchOption, IfOk, IfErr};
-ghost use Rattle.raft_table.specs.Start.{IsCorruption, IsInvalidArgument};
+ghost use Rattle.raft_table.specs.Start.{counts_without, IsCorruption, IsInvalidArgument};
 ghost use Rattle.raft_table.specs.Entries.{IsSound, start_of, end_of, entry_at, entries_in, below, from, AreCounted, AreRecounted};
 ghost use Rattle.raft_table.specs.Marks.{part};
 ghost use Rattle.raft_base.specs.declared.pipe_log.LogQueue.TheVariants.{Rewrite};
@@ -143,6 +143,7 @@ impl Entries {
         requires { AreCounted self.old stats.old }
         ensures entries { self.new ≡ from index self.old }
         ensures dropped { result + length self.new ≡ length self.old }
+        ensures counts { stats.new ≡ counts_without (below index self.old) stats.old }
         ensures recounted { AreRecounted self.old self.new stats.old stats.new }
     {
         let Some(front) = self.deque.front() else {

@@ -7,7 +7,7 @@ ghost use Rattle.raft_base.specs.declared.pipe_log.LogQueue.TheVariants.{Append,
 ghost use Rattle.raft_table.specs.Counts.{live};
 ghost use Rattle.raft_table.specs.Entries.{entries_in};
 ghost use Rattle.raft_table.specs.KeyValues.{overlaid, pair_count};
-ghost use Rattle.raft_table.specs.Merge.{joint_queue, append_rule, after_join, after_newer, after_appended, IsMergeRefused};
+ghost use Rattle.raft_table.specs.Merge.{counts_after_merge, counts_with_keys, counts_with_others, joint_queue, append_rule, after_join, after_newer, after_appended, IsMergeRefused};
 ghost use Rattle.raft_table.specs.Queues.{count_in, other};
 ghost use Rattle.raft_table.specs.Table.{empty_table, live_of, IsCounted, IsRecounted};
 
@@ -39,6 +39,8 @@ impl MemTable {
         ensures refused { IfErr result (IsMergeRefused stats.old self.old rhs.old (joint_queue self.old rhs.old)) }
         ensures err { IfErr result (λ e. e ≢ Error.Memory →
             (self.new ≡ self.old) × (rhs.new ≡ rhs.old) × (stats.new ≡ stats.old)) }
+        ensures counts { OnOk result (stats.new
+            ≡ counts_after_merge (joint_queue self.old rhs.old) self.old rhs.old stats.old) }
         ensures recounted { IsRecounted self.old self.new stats.old stats.new }
         ensures regions { (self.new.region_id ≡ self.old.region_id) × (rhs.new.region_id ≡ rhs.old.region_id) }
     {
@@ -73,6 +75,7 @@ impl MemTable {
         ensures refused { IfErr result (IsMergeRefused stats.old self.old rhs.old (append_rule self.old rhs.old)) }
         ensures err { IfErr result (λ e. e ≢ Error.Memory →
             (self.new ≡ self.old) × (rhs.new ≡ rhs.old) × (stats.new ≡ stats.old)) }
+        ensures counts { OnOk result (stats.new ≡ counts_after_merge (Some Append) self.old rhs.old stats.old) }
         ensures recounted { IsRecounted self.old self.new stats.old stats.new }
         ensures regions { (self.new.region_id ≡ self.old.region_id) × (rhs.new.region_id ≡ rhs.old.region_id) }
     {
@@ -128,6 +131,7 @@ impl MemTable {
         ensures refused { IfErr result (IsMergeRefused stats.old self.old rhs.old (Some rule)) }
         ensures err { IfErr result (λ e. e ≢ Error.Memory →
             (self.new ≡ self.old) × (rhs.new ≡ rhs.old) × (stats.new ≡ stats.old)) }
+        ensures counts { OnOk result (stats.new ≡ counts_after_merge (Some queue) self.old rhs.old stats.old) }
         ensures recounted { IsRecounted self.old self.new stats.old stats.new }
         ensures regions { (self.new.region_id ≡ self.old.region_id) × (rhs.new.region_id ≡ rhs.old.region_id) }
     {
@@ -146,6 +150,7 @@ fn absorb_keys(keys: &mut KeyValues, newer: &mut KeyValues, stats: &mut GlobalSt
     ensures ok { OnOk result (keys.new ≡ overlaid newer.old keys.old) }
     ensures emptied { OnOk result (newer.new ≡ finite.empty) }
     ensures memory { IfErr result (λ e. e ≡ Error.Memory) }
+    ensures counts { stats.new ≡ counts_with_keys keys.old keys.new stats.old }
     ensures recounted { (q : LogQueue) →
         live q stats.new + pair_count q keys.old ≡ live q stats.old + pair_count q keys.new }
 {
@@ -172,7 +177,8 @@ fn absorb_keys(keys: &mut KeyValues, newer: &mut KeyValues, stats: &mut GlobalSt
 fn recount(stats: &mut GlobalStats, queue: LogQueue, before: usize, after: usize)
     requires counted { before ≤ live queue stats.old }
     requires room { live queue stats.old + after < 2 ^ 64 + before }
-    ensures { (q : LogQueue) →
+    ensures counts { stats.new ≡ counts_with_others queue before after stats.old }
+    ensures live { (q : LogQueue) →
         live q stats.new + count_in q queue before ≡ live q stats.old + count_in q queue after }
 {
     if after <= before {

@@ -7,11 +7,12 @@ ghost use Rattle.std.specs.Option.{option_copied};
 ghost use Rattle.raft_base.specs.declared.pipe_log.LogQueue.TheVariants.{Append, Rewrite};
 ghost use Rattle.raft_table.specs.Entries.{placed_in};
 ghost use Rattle.raft_table.specs.Fetches.{Fetches, IsFetchRefused, range_answer, appended_before, block_count, entry_seq, is_some_before};
-ghost use Rattle.raft_table.specs.KeyValues.{pairs_shown, fetched, lesser};
+ghost use Rattle.raft_table.specs.KeyValues.{pairs_shown, fetched};
 ghost use Rattle.raft_table.specs.Scan.{VisitsUntilFalse, scanned};
 ghost use Rattle.raft_table.specs.Least.{least_of, lowered};
 
 use crate::memtable::MemTable;
+use crate::memtable::key_values::lesser;
 use raft_records::{EntryIndex, Error, FileId, FileSeq, LogQueue, Result};
 
 impl MemTable {
@@ -132,17 +133,6 @@ impl MemTable {
             Some(seq) => seq <= gate.seq,
             None => false,
         }
-    }
-}
-
-/// The lesser of two file numbers, where both are there.
-fn lesser(a: Option<FileSeq>, b: Option<FileSeq>) -> Option<FileSeq>
-    ensures { result ≡ lesser a b }
-{
-    match (a, b) {
-        (Some(a), Some(b)) => Some(a.min(b)),
-        (Some(a), None) => Some(a),
-        (None, b) => b,
     }
 }
 

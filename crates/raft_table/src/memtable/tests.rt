@@ -3,6 +3,7 @@
 mod queries;
 mod store;
 
+use crate::global_stats::GlobalStats;
 use raft_records::{Error, FileSeq, LogQueue, Result};
 use std::alloc::Global;
 use std::process::Abort;
@@ -10,7 +11,7 @@ use store::Answer::{Corruption, Done, Dropped, Full, InvalidArgument};
 use store::Call::{
     Append, Compact, Count, Delete, Group, Put, ReplayAppend, ReplayRewrite, Rewrite, RewriteKey,
 };
-use store::{Answer, Call, LogStore, Shape, answered};
+use store::{Answer, Call, Counted, Indexes, Least, LogStore, Shape, answered};
 
 /// What the calls of a row answer, one behind the other, and the store after each.
 type Row = (Call, Answer, Shape);
@@ -27,81 +28,226 @@ fn follow(rt: &impl Abort, alloc: Global, rows: &[Row]) {
 }
 
 const APPENDS: [Row; 4] = [
-    (Append(10, 20, 1), Done, [10, 20, 10, 0, 0, 1, 0]),
-    (Append(20, 30, 2), Done, [10, 30, 20, 0, 0, 1, 0]),
-    (Append(25, 35, 3), Done, [10, 35, 25, 0, 0, 1, 0]),
-    (Append(10, 40, 4), Done, [10, 40, 30, 0, 0, 4, 0]),
+    (
+        Append(10, 20, 1),
+        Done,
+        Shape(Indexes(10, 20), Counted(10, 0, 0), Least(1, 0)),
+    ),
+    (
+        Append(20, 30, 2),
+        Done,
+        Shape(Indexes(10, 30), Counted(20, 0, 0), Least(1, 0)),
+    ),
+    (
+        Append(25, 35, 3),
+        Done,
+        Shape(Indexes(10, 35), Counted(25, 0, 0), Least(1, 0)),
+    ),
+    (
+        Append(10, 40, 4),
+        Done,
+        Shape(Indexes(10, 40), Counted(30, 0, 0), Least(4, 0)),
+    ),
 ];
 
 const STARTS: [Row; 10] = [
-    (Append(10, 20, 1), Done, [10, 20, 10, 0, 0, 1, 0]),
-    (Append(21, 22, 2), Corruption, [10, 20, 10, 0, 0, 1, 0]),
-    (Append(9, 22, 2), Corruption, [10, 20, 10, 0, 0, 1, 0]),
-    (Append(9, 9, 2), Done, [10, 20, 10, 0, 0, 1, 0]),
+    (
+        Append(10, 20, 1),
+        Done,
+        Shape(Indexes(10, 20), Counted(10, 0, 0), Least(1, 0)),
+    ),
+    (
+        Append(21, 22, 2),
+        Corruption,
+        Shape(Indexes(10, 20), Counted(10, 0, 0), Least(1, 0)),
+    ),
+    (
+        Append(9, 22, 2),
+        Corruption,
+        Shape(Indexes(10, 20), Counted(10, 0, 0), Least(1, 0)),
+    ),
+    (
+        Append(9, 9, 2),
+        Done,
+        Shape(Indexes(10, 20), Counted(10, 0, 0), Least(1, 0)),
+    ),
     (
         ReplayAppend(21, 22, 2),
         Corruption,
-        [10, 20, 10, 0, 0, 1, 0],
+        Shape(Indexes(10, 20), Counted(10, 0, 0), Least(1, 0)),
     ),
-    (ReplayAppend(5, 8, 2), Done, [5, 8, 3, 0, 0, 2, 0]),
-    (Compact(9), Dropped(3), [0, 0, 0, 0, 0, 0, 0]),
-    (ReplayRewrite(10, 20, 3), Done, [10, 20, 0, 10, 0, 0, 3]),
-    (ReplayRewrite(25, 30, 4), Done, [25, 30, 0, 15, 10, 0, 4]),
-    (ReplayRewrite(20, 26, 5), Done, [20, 26, 0, 21, 15, 0, 5]),
+    (
+        ReplayAppend(5, 8, 2),
+        Done,
+        Shape(Indexes(5, 8), Counted(3, 0, 0), Least(2, 0)),
+    ),
+    (
+        Compact(9),
+        Dropped(3),
+        Shape(Indexes(0, 0), Counted(0, 0, 0), Least(0, 0)),
+    ),
+    (
+        ReplayRewrite(10, 20, 3),
+        Done,
+        Shape(Indexes(10, 20), Counted(0, 10, 0), Least(0, 3)),
+    ),
+    (
+        ReplayRewrite(25, 30, 4),
+        Done,
+        Shape(Indexes(25, 30), Counted(0, 15, 10), Least(0, 4)),
+    ),
+    (
+        ReplayRewrite(20, 26, 5),
+        Done,
+        Shape(Indexes(20, 26), Counted(0, 21, 15), Least(0, 5)),
+    ),
 ];
 
 const COMPACTIONS: [Row; 5] = [
-    (Append(0, 25, 1), Done, [0, 25, 25, 0, 0, 1, 0]),
-    (Compact(5), Dropped(5), [5, 25, 20, 0, 0, 1, 0]),
-    (Compact(20), Dropped(15), [20, 25, 5, 0, 0, 1, 0]),
-    (Compact(20), Done, [20, 25, 5, 0, 0, 1, 0]),
-    (Compact(0), Done, [20, 25, 5, 0, 0, 1, 0]),
+    (
+        Append(0, 25, 1),
+        Done,
+        Shape(Indexes(0, 25), Counted(25, 0, 0), Least(1, 0)),
+    ),
+    (
+        Compact(5),
+        Dropped(5),
+        Shape(Indexes(5, 25), Counted(20, 0, 0), Least(1, 0)),
+    ),
+    (
+        Compact(20),
+        Dropped(15),
+        Shape(Indexes(20, 25), Counted(5, 0, 0), Least(1, 0)),
+    ),
+    (
+        Compact(20),
+        Done,
+        Shape(Indexes(20, 25), Counted(5, 0, 0), Least(1, 0)),
+    ),
+    (
+        Compact(0),
+        Done,
+        Shape(Indexes(20, 25), Counted(5, 0, 0), Least(1, 0)),
+    ),
 ];
 
-const REWRITINGS: [Row; 8] = [
-    (Append(0, 10, 1), Done, [0, 10, 10, 0, 0, 1, 0]),
-    (Append(10, 20, 2), Done, [0, 20, 20, 0, 0, 1, 0]),
-    (Rewrite(0, 15, 50, Some(1)), Done, [0, 20, 10, 15, 5, 2, 50]),
-    (Rewrite(5, 10, 51, None), Done, [0, 20, 10, 20, 10, 2, 50]),
+const REWRITINGS: [Row; 9] = [
+    (
+        Append(0, 10, 1),
+        Done,
+        Shape(Indexes(0, 10), Counted(10, 0, 0), Least(1, 0)),
+    ),
+    (
+        Append(10, 20, 2),
+        Done,
+        Shape(Indexes(0, 20), Counted(20, 0, 0), Least(1, 0)),
+    ),
+    (
+        Rewrite(0, 15, 50, Some(1)),
+        Done,
+        Shape(Indexes(0, 20), Counted(10, 15, 5), Least(2, 50)),
+    ),
+    (
+        Rewrite(5, 10, 51, None),
+        Done,
+        Shape(Indexes(0, 20), Counted(10, 20, 10), Least(2, 50)),
+    ),
     (
         Rewrite(12, 13, 52, Some(9)),
         Corruption,
-        [0, 20, 10, 20, 10, 2, 50],
+        Shape(Indexes(0, 20), Counted(10, 20, 10), Least(2, 50)),
     ),
     (
         Rewrite(3, 12, 52, Some(9)),
         Corruption,
-        [0, 20, 10, 20, 10, 2, 50],
+        Shape(Indexes(0, 20), Counted(10, 20, 10), Least(2, 50)),
     ),
     (
         Rewrite(20, 25, 53, Some(9)),
         Done,
-        [0, 20, 10, 25, 15, 2, 50],
+        Shape(Indexes(0, 20), Counted(10, 25, 15), Least(2, 50)),
     ),
     (
         Rewrite(10, 20, 54, Some(2)),
         Done,
-        [0, 20, 0, 35, 15, 0, 50],
+        Shape(Indexes(0, 20), Counted(0, 35, 15), Least(0, 50)),
+    ),
+    (
+        Compact(12),
+        Dropped(12),
+        Shape(Indexes(12, 20), Counted(0, 35, 27), Least(0, 54)),
     ),
 ];
 
 const KEYS: [Row; 9] = [
-    (Put(LogQueue::Append, 2), Done, [0, 0, 1, 0, 0, 2, 0]),
-    (RewriteKey(Some(1), 50), Done, [0, 0, 1, 1, 1, 2, 0]),
-    (RewriteKey(Some(2), 50), Done, [0, 0, 0, 2, 1, 0, 50]),
-    (RewriteKey(None, 40), Corruption, [0, 0, 0, 2, 1, 0, 50]),
-    (RewriteKey(None, 51), Done, [0, 0, 0, 3, 2, 0, 51]),
-    (Delete, Done, [0, 0, 0, 3, 3, 0, 0]),
-    (RewriteKey(None, 52), Done, [0, 0, 0, 4, 4, 0, 0]),
-    (Put(LogQueue::Rewrite, 60), Done, [0, 0, 0, 5, 4, 0, 60]),
-    (Put(LogQueue::Append, 3), Done, [0, 0, 1, 5, 5, 3, 0]),
+    (
+        Put(LogQueue::Append, 2),
+        Done,
+        Shape(Indexes(0, 0), Counted(1, 0, 0), Least(2, 0)),
+    ),
+    (
+        RewriteKey(Some(1), 50),
+        Done,
+        Shape(Indexes(0, 0), Counted(1, 1, 1), Least(2, 0)),
+    ),
+    (
+        RewriteKey(Some(2), 50),
+        Done,
+        Shape(Indexes(0, 0), Counted(0, 2, 1), Least(0, 50)),
+    ),
+    (
+        RewriteKey(None, 40),
+        Corruption,
+        Shape(Indexes(0, 0), Counted(0, 2, 1), Least(0, 50)),
+    ),
+    (
+        RewriteKey(None, 51),
+        Done,
+        Shape(Indexes(0, 0), Counted(0, 3, 2), Least(0, 51)),
+    ),
+    (
+        Delete,
+        Done,
+        Shape(Indexes(0, 0), Counted(0, 3, 3), Least(0, 0)),
+    ),
+    (
+        RewriteKey(None, 52),
+        Done,
+        Shape(Indexes(0, 0), Counted(0, 4, 4), Least(0, 0)),
+    ),
+    (
+        Put(LogQueue::Rewrite, 60),
+        Done,
+        Shape(Indexes(0, 0), Counted(0, 5, 4), Least(0, 60)),
+    ),
+    (
+        Put(LogQueue::Append, 3),
+        Done,
+        Shape(Indexes(0, 0), Counted(1, 5, 5), Least(3, 0)),
+    ),
 ];
 
 const GROUPS: [Row; 4] = [
-    (Group(3, 7), Done, [0, 0, 0, 0, 0, 0, 0]),
-    (Put(LogQueue::Rewrite, 5), Done, [0, 0, 0, 1, 0, 0, 3]),
-    (Put(LogQueue::Rewrite, 8), Done, [0, 0, 0, 2, 1, 0, 8]),
-    (Put(LogQueue::Rewrite, 2), Done, [0, 0, 0, 3, 2, 0, 2]),
+    (
+        Group(3, 7),
+        Done,
+        Shape(Indexes(0, 0), Counted(0, 0, 0), Least(0, 0)),
+    ),
+    (
+        Put(LogQueue::Rewrite, 5),
+        Done,
+        Shape(Indexes(0, 0), Counted(0, 1, 0), Least(0, 3)),
+    ),
+    (
+        Put(LogQueue::Rewrite, 8),
+        Done,
+        Shape(Indexes(0, 0), Counted(0, 2, 1), Least(0, 8)),
+    ),
+    (
+        Put(LogQueue::Rewrite, 2),
+        Done,
+        Shape(Indexes(0, 0), Counted(0, 3, 2), Least(0, 2)),
+    ),
 ];
 
 const MAX: u64 = u64::MAX;
@@ -110,20 +256,48 @@ const COUNTED: [Row; 9] = [
     (
         Count(LogQueue::Append, MAX - 10),
         Done,
-        [0, 0, MAX - 10, 0, 0, 0, 0],
+        Shape(Indexes(0, 0), Counted(MAX - 10, 0, 0), Least(0, 0)),
     ),
-    (Append(0, 10, 1), Done, [0, 10, MAX, 0, 0, 1, 0]),
-    (Append(10, 11, 2), Full, [0, 10, MAX, 0, 0, 1, 0]),
-    (ReplayAppend(9, 11, 2), Full, [0, 10, MAX, 0, 0, 1, 0]),
-    (Put(LogQueue::Append, 2), Full, [0, 10, MAX, 0, 0, 1, 0]),
+    (
+        Append(0, 10, 1),
+        Done,
+        Shape(Indexes(0, 10), Counted(MAX, 0, 0), Least(1, 0)),
+    ),
+    (
+        Append(10, 11, 2),
+        Full,
+        Shape(Indexes(0, 10), Counted(MAX, 0, 0), Least(1, 0)),
+    ),
+    (
+        ReplayAppend(9, 11, 2),
+        Full,
+        Shape(Indexes(0, 10), Counted(MAX, 0, 0), Least(1, 0)),
+    ),
+    (
+        Put(LogQueue::Append, 2),
+        Full,
+        Shape(Indexes(0, 10), Counted(MAX, 0, 0), Least(1, 0)),
+    ),
     (
         Count(LogQueue::Rewrite, MAX),
         Done,
-        [0, 10, MAX, MAX, 0, 1, 0],
+        Shape(Indexes(0, 10), Counted(MAX, MAX, 0), Least(1, 0)),
     ),
-    (Rewrite(0, 5, 50, Some(9)), Full, [0, 10, MAX, MAX, 0, 1, 0]),
-    (RewriteKey(None, 50), Full, [0, 10, MAX, MAX, 0, 1, 0]),
-    (Append(3, 9, 2), Done, [0, 9, MAX - 1, MAX, 0, 1, 0]),
+    (
+        Rewrite(0, 5, 50, Some(9)),
+        Full,
+        Shape(Indexes(0, 10), Counted(MAX, MAX, 0), Least(1, 0)),
+    ),
+    (
+        RewriteKey(None, 50),
+        Full,
+        Shape(Indexes(0, 10), Counted(MAX, MAX, 0), Least(1, 0)),
+    ),
+    (
+        Append(3, 9, 2),
+        Done,
+        Shape(Indexes(0, 9), Counted(MAX - 1, MAX, 0), Least(1, 0)),
+    ),
 ];
 
 #[test]
@@ -147,63 +321,63 @@ const MERGES: [MergeRow; 9] = [
         Append(15, 18, 2),
         false,
         Done,
-        [10, 18, 8, 0, 0, 1, 0],
+        Shape(Indexes(10, 18), Counted(8, 0, 0), Least(1, 0)),
     ),
     (
         Append(10, 20, 1),
         Append(25, 30, 2),
         false,
         Corruption,
-        [10, 20, 10, 0, 0, 1, 0],
+        Shape(Indexes(10, 20), Counted(10, 0, 0), Least(1, 0)),
     ),
     (
         ReplayRewrite(10, 20, 1),
         ReplayRewrite(25, 30, 2),
         false,
         Done,
-        [25, 30, 0, 15, 10, 0, 2],
+        Shape(Indexes(25, 30), Counted(0, 15, 10), Least(0, 2)),
     ),
     (
         Append(10, 20, 1),
         ReplayRewrite(20, 30, 2),
         false,
         InvalidArgument,
-        [10, 20, 10, 0, 0, 1, 0],
+        Shape(Indexes(10, 20), Counted(10, 0, 0), Least(1, 0)),
     ),
     (
         Put(LogQueue::Rewrite, 5),
         Group(1, 9),
         false,
         Done,
-        [0, 0, 0, 1, 0, 0, 1],
+        Shape(Indexes(0, 0), Counted(0, 1, 0), Least(0, 1)),
     ),
     (
         Count(LogQueue::Append, MAX),
         Append(0, 1, 1),
         false,
         Full,
-        [0, 0, MAX, 0, 0, 0, 0],
+        Shape(Indexes(0, 0), Counted(MAX, 0, 0), Least(0, 0)),
     ),
     (
         ReplayRewrite(10, 20, 1),
         Append(25, 30, 2),
         true,
         Done,
-        [25, 30, 5, 10, 10, 2, 0],
+        Shape(Indexes(25, 30), Counted(5, 10, 10), Least(2, 0)),
     ),
     (
         Put(LogQueue::Rewrite, 1),
         Put(LogQueue::Append, 2),
         true,
         Done,
-        [0, 0, 1, 1, 1, 2, 0],
+        Shape(Indexes(0, 0), Counted(1, 1, 1), Least(2, 0)),
     ),
     (
         Append(10, 20, 1),
         Append(20, 30, 2),
         true,
         InvalidArgument,
-        [10, 20, 10, 0, 0, 1, 0],
+        Shape(Indexes(10, 20), Counted(10, 0, 0), Least(1, 0)),
     ),
 ];
 
@@ -233,4 +407,30 @@ fn tables_merge(rt: HostRuntime) -> Result<()> {
         assert_eq!(rt; store.shape(), *shape, "{older:?} {newer:?}");
     }
     Ok(())
+}
+
+/// A table of both queues, counted among all, and twice where there is no room.
+fn count(rt: &impl Abort, alloc: Global) -> Result<()> {
+    let mut store = LogStore::new(alloc);
+    store.direct(Append(0, 10, 1))?;
+    store.direct(Put(LogQueue::Rewrite, 5))?;
+    let mut stats = GlobalStats::default();
+    stats.add_table(&store.table)?;
+    assert_eq!(rt; stats.live_entries(LogQueue::Append), 10);
+    assert_eq!(rt; stats.rewrite_entries(), 1);
+    stats.delete_table(&store.table);
+    assert_eq!(rt; stats.live_entries(LogQueue::Append), 0);
+    assert_eq!(rt; stats.deleted_rewrite_entries(), 1);
+    stats.add(LogQueue::Append, usize::MAX - 9)?;
+    assert!(rt; matches!(stats.add_table(&store.table), Err(Error::Full)));
+    assert_eq!(rt; stats.rewrite_entries(), 1);
+    Ok(())
+}
+
+#[test]
+fn tables_are_counted_on_and_off(rt: HostRuntime) -> Result<()> {
+    match count(&rt, rt.alloc()) {
+        Err(Error::Memory) => count(&rt, rt.alloc()),
+        counted => counted,
+    }
 }

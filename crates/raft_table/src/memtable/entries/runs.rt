@@ -1,10 +1,10 @@
 //! Runs that are put behind a table's entries.
 
-ghost use Rattle.std.specs.Prelude.{◌≡◌, ◌+◌, ◌≤◌, ◌^◌, [], ◌++◌, length, take, OnOk, OnErr, IfErr, Some};
-ghost use Rattle.raft_table.specs.Counts.{live};
+ghost use Rattle.std.specs.Prelude.{◌≡◌, ◌+◌, ◌≤◌, ◌^◌, [], ◌++◌, length, take, drop, OnOk, OnErr, IfErr, Some};
+ghost use Rattle.raft_table.specs.Counts.{live, with_added, with_deleted};
 ghost use Rattle.raft_table.specs.Queues.{count_in, of_queue, other};
 ghost use Rattle.raft_table.specs.Entries.{IsSound, IsRunIn, placed_in, entries_in, AreCounted, AreRecounted};
-ghost use Rattle.raft_table.specs.Start.{appended, replayed, IsRunRefused};
+ghost use Rattle.raft_table.specs.Start.{appended, replayed, counts_with_run, counts_without, IsRunRefused};
 ghost use Rattle.raft_table.specs.StartOf.{IsStart};
 ghost use Rattle.raft_base.specs.declared.pipe_log.LogQueue.{LogQueue};
 ghost use Rattle.raft_base.specs.declared.pipe_log.LogQueue.TheVariants.{Append, Rewrite};
@@ -27,6 +27,7 @@ impl Entries {
         ensures ok { OnOk result (appended self.old run.items ≡ Some self.new) }
         ensures refused { IfErr result (IsRunRefused Append stats.old self.old (appended self.old run.items)) }
         ensures err { OnErr result ((self.new ≡ self.old) × (stats.new ≡ stats.old)) }
+        ensures counts { OnOk result (stats.new ≡ counts_with_run Append self.old run.items stats.old) }
         ensures recounted { AreRecounted self.old self.new stats.old stats.new }
     {
         let Some(first) = run.first() else {
@@ -55,6 +56,7 @@ impl Entries {
         ensures ok { OnOk result (replayed Append self.old run.items ≡ Some self.new) }
         ensures refused { IfErr result (IsRunRefused Append stats.old self.old (replayed Append self.old run.items)) }
         ensures err { OnErr result ((self.new ≡ self.old) × (stats.new ≡ stats.old)) }
+        ensures counts { OnOk result (stats.new ≡ counts_with_run Append self.old run.items stats.old) }
         ensures recounted { AreRecounted self.old self.new stats.old stats.new }
     {
         let mut run = VecDeque::from_vec(run);
@@ -74,6 +76,7 @@ impl Entries {
         ensures ok { OnOk result (replayed Rewrite self.old run.items ≡ Some self.new) }
         ensures refused { IfErr result (IsRunRefused Rewrite stats.old self.old (replayed Rewrite self.old run.items)) }
         ensures err { OnErr result ((self.new ≡ self.old) × (stats.new ≡ stats.old)) }
+        ensures counts { OnOk result (stats.new ≡ counts_with_run Rewrite self.old run.items stats.old) }
         ensures recounted { AreRecounted self.old self.new stats.old stats.new }
     {
         let mut run = VecDeque::from_vec(run);
@@ -101,6 +104,7 @@ impl Entries {
         ensures emptied { OnOk result (rhs.new ≡ []) }
         ensures refused { IfErr result (IsRunRefused queue stats.old self.old (replayed rule self.old rhs.old)) }
         ensures err { OnErr result ((self.new ≡ self.old) × (rhs.new ≡ rhs.old) × (stats.new ≡ stats.old)) }
+        ensures counts { OnOk result (stats.new ≡ counts_with_run queue self.old rhs.old stats.old) }
         ensures recounted { AreRecounted self.old self.new stats.old stats.new }
     {
         self.replay(rule, &mut rhs.deque, queue, stats)?;
@@ -124,6 +128,7 @@ impl Entries {
         ensures emptied { OnOk result (run.new.items ≡ []) }
         ensures refused { IfErr result (IsRunRefused queue stats.old self.old (replayed rule self.old run.old.items)) }
         ensures err { OnErr result ((self.new ≡ self.old) × (run.new.items ≡ run.old.items) × (stats.new ≡ stats.old)) }
+        ensures counts { OnOk result (stats.new ≡ counts_with_run queue self.old run.old.items stats.old) }
         ensures recounted { AreRecounted self.old self.new stats.old stats.new }
     {
         let Some(front) = run.front() else {
@@ -155,6 +160,8 @@ impl Entries {
         requires counted { AreCounted self.old stats.old }
         ensures ok { OnOk result ((self.new ≡ take keep self.old ++ run.old.items) × (run.new.items ≡ [])) }
         ensures err { OnErr result ((self.new ≡ self.old) × (run.new.items ≡ run.old.items) × (stats.new ≡ stats.old)) }
+        ensures counts { OnOk result (stats.new
+            ≡ with_added queue (length run.old.items) (counts_without (drop keep self.old) stats.old)) }
         ensures recounted { AreRecounted self.old self.new stats.old stats.new }
         ensures refused { IfErr result (IsRunRefused queue stats.old self.old (Some (take keep self.old ++ run.old.items))) }
     {
@@ -211,6 +218,8 @@ fn exchange(
     requires appended { appended ≤ live Append stats.old }
     ensures ok { OnOk result ((q : LogQueue) →
         live q stats.new + of_queue q appended rewritten ≡ live q stats.old + count_in q queue added) }
+    ensures counts { OnOk result (stats.new
+        ≡ with_added queue added (with_deleted Rewrite rewritten (with_deleted Append appended stats.old))) }
     ensures err { OnErr result (stats.new ≡ stats.old) }
     ensures full { IfErr result (λ e. (e ≡ Error.Full)
         × (2 ^ 64 + of_queue queue appended rewritten ≤ live queue stats.old + added)) }

@@ -50,9 +50,22 @@ pub enum Answer {
     Other,
 }
 
-/// The first index and the one behind the last; how many records are live in the append queue, were
-/// written to the rewrite queue and deleted from it; the least file of either queue. 0 where there is none.
-pub type Shape = [u64; 7];
+/// The first index and the one behind the last, 0 without entries.
+#[derive(Clone, Copy, PartialEq, Eq, Debug)]
+pub struct Indexes(pub u64, pub u64);
+
+/// How many records are live in the append queue, were written to the rewrite queue, and were deleted
+/// from it.
+#[derive(Clone, Copy, PartialEq, Eq, Debug)]
+pub struct Counted(pub u64, pub u64, pub u64);
+
+/// The least file of the append queue and that of the rewrite queue, 0 where there is none.
+#[derive(Clone, Copy, PartialEq, Eq, Debug)]
+pub struct Least(pub FileSeq, pub FileSeq);
+
+/// What is seen of a store.
+#[derive(Clone, Copy, PartialEq, Eq, Debug)]
+pub struct Shape(pub Indexes, pub Counted, pub Least);
 
 /// What a call answered, but for the number of a compaction that drops nothing.
 pub fn answered(given: Result<u64>) -> Answer {
@@ -66,6 +79,14 @@ pub fn answered(given: Result<u64>) -> Answer {
         Err(Error::EntryCompacted) => Answer::Compacted,
         Err(Error::Memory) => Answer::Memory,
         Err(_) => Answer::Other,
+    }
+}
+
+/// What a call answered, with want of memory handed on.
+pub fn told(given: Result<u64>) -> Result<Answer> {
+    match given {
+        Err(Error::Memory) => Err(Error::Memory),
+        given => Ok(answered(given)),
     }
 }
 
@@ -217,14 +238,20 @@ impl LogStore {
 
     pub fn shape(&self) -> Shape {
         let last = self.table.last_index();
-        [
-            self.table.first_index().unwrap_or(0),
-            last.map_or(0, |last| last.saturating_add(1)),
-            self.stats.live_entries(LogQueue::Append) as u64,
-            self.stats.rewrite_entries() as u64,
-            self.stats.deleted_rewrite_entries() as u64,
-            self.table.min_file_seq(LogQueue::Append).unwrap_or(0),
-            self.table.min_file_seq(LogQueue::Rewrite).unwrap_or(0),
-        ]
+        Shape(
+            Indexes(
+                self.table.first_index().unwrap_or(0),
+                last.map_or(0, |last| last.saturating_add(1)),
+            ),
+            Counted(
+                self.stats.live_entries(LogQueue::Append) as u64,
+                self.stats.rewrite_entries() as u64,
+                self.stats.deleted_rewrite_entries() as u64,
+            ),
+            Least(
+                self.table.min_file_seq(LogQueue::Append).unwrap_or(0),
+                self.table.min_file_seq(LogQueue::Rewrite).unwrap_or(0),
+            ),
+        )
     }
 }

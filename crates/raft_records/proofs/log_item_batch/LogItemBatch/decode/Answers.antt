@@ -16,13 +16,13 @@ pub returns-in_err-batch-clause-refused : goal.returns-in_err-batch-clause-refus
 returns-in_err-batch-clause-refused c =
     let p = err_from_is_err_and c.from_residual-in_err-batch.result c.from_residual-in_err-batch.ensures.1 in
     let sealed = subst (λ s. IsSealed s c.args.buf.now.now c.in_ok-content.content.now) c.get_signature.ensures c.in_ok-content.ensures.ok in
-    rw (p.1, p.2) (λ ne. no_items (signature_of c.args.context.now) c.in_ok-count.count c.args.buf.now.now c.in_ok-content.content.now c.decode_var_u64.new.buf.now sealed c.in_ok-count.ensures.ok (c.in_err-batch.ensures.refused ne))
+    rw (p.1, p.2) (λ ne. no_items (signature_of c.args.context.now) c.in_ok-count.count c.args.buf.now.now c.in_ok-content.content.now c.in_ok-count.behind.now sealed c.in_ok-count.ensures.ok (c.in_err-batch.ensures.refused ne))
 
 pub returns-clause-ok : goal.returns-clause-ok
 returns-clause-ok c =
     let sealed = subst (λ s. IsSealed s c.args.buf.now.now c.in_ok-content.content.now) c.get_signature.ensures c.in_ok-content.ensures.ok in
     let items = c.in_ok-batch.ensures.ok.0 in
-    let counted = counted_read c.in_ok-count.count c.in_ok-content.content.now c.decode_var_u64.new.buf.now c.in_ok-batch.rest.now items c.in_ok-count.ensures.ok c.in_ok-batch.ensures.ok.1 in
+    let counted = counted_read c.in_ok-count.count c.in_ok-content.content.now c.in_ok-count.behind.now c.in_ok-batch.rest.now items c.in_ok-count.ensures.ok c.in_ok-batch.ensures.ok.1 in
     record {
       read = items;
       batch = batch_read (signature_of c.args.context.now) c.args.buf.now.now c.in_ok-content.content.now c.in_ok-batch.rest.now items sealed counted;

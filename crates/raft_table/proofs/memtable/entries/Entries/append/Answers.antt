@@ -1,8 +1,11 @@
 use Rattle.std.proofs.Common.{◌≡◌, ◌<◌, length}
 use Rattle.raft_base.specs.declared.pipe_log.LogQueue.TheVariants.{Append}
 use Rattle.raft_table.specs.Entries.{start_of}
+use Rattle.raft_table.specs.StartOf.{IsStart}
+use Rattle.raft_table.specs.declared.memtable.entries.Start.TheVariants.{Joins}
 use Rattle.raft_table.proofs.SoundLemmas.{start_of_front}
 use Rattle.raft_table.proofs.StartLemmas.{sound_joined}
+use Rattle.raft_table.proofs.GoneLemmas.{counts_joined, on_ok}
 use Rattle.raft_table.proofs.memtable.entries.Entries.append.Goals as goal
 
 pub put_behind-requires-clause-sound : goal.put_behind-requires-clause-sound
@@ -13,3 +16,14 @@ put_behind-requires-clause-sound c =
     let s : start_of run ≡ c.in-Some.first.now.index = start_of_front run c.in-Some.first.now l (rw (← h) c.in-Some.ensures.item.1) in
     rw c.from_vec-run.ensures.items
     (sound_joined Append c.in-Joins.keep c.args.self.now run c.start.ensures.sound tt c.requires.run l (rw s c.in-Joins.ensures.meets))
+
+pub returns-in-Joins-clause-counts : goal.returns-in-Joins-clause-counts
+returns-in-Joins-clause-counts c =
+    let run = c.args.run.items in
+    let h : c.deref.result.now ≡ run = c.deref.ensures.value in
+    let l : 0 < length run = rw (← h) c.in-Some.ensures.item.3.0 in
+    let s : start_of run ≡ c.in-Some.first.now.index = start_of_front run c.in-Some.first.now l (rw (← h) c.in-Some.ensures.item.1) in
+    let m : IsStart c.args.self.now (start_of run) (Joins c.in-Joins.keep) = rw s c.in-Joins.ensures.meets in
+    on_ok c.put_behind.result
+    (λ w. counts_joined Append c.args.self.now run c.in-Joins.keep c.args.stats.now c.put_behind.new.stats c.start.ensures.sound l m.2 m.0 m.1 (rw c.from_vec-run.ensures.items at w))
+    c.put_behind.ensures.counts

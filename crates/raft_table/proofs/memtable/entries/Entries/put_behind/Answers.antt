@@ -9,6 +9,7 @@ use Rattle.raft_table.specs.Queues.{count_in, of_queue}
 use Rattle.raft_table.specs.Entries.{entries_in, placed_in}
 use Rattle.raft_table.proofs.PlaceLemmas.{each_queue, entries_in-append, entries_in_one}
 use Rattle.raft_table.proofs.SoundLemmas.{CutCounts, cut_counts}
+use Rattle.raft_table.proofs.GoneLemmas.{same_exchange}
 use Rattle.raft_table.proofs.memtable.entries.Entries.put_behind.Goals as goal
 use Rattle.raft_table.proofs.memtable.entries.Entries.put_behind.Goals.{in-Append, in-Rewrite}
 
@@ -65,3 +66,12 @@ returns-in_err-exchange-clause-refused c =
     (full_is c.args.queue c.args.stats.now es (take c.args.keep es) c.args.run.now.items a r c.len-3.result full.1
     (each_queue (λ q. of_queue q a r + entries_in q (take c.args.keep es) ≡ entries_in q es) (omega arith) (omega arith) c.args.queue)
     (omega (arith, c.args.run.now.ok)) c.requires.queue)
+
+pub returns-clause-counts : goal.returns-clause-counts
+returns-clause-counts c =
+    let k = counts c in
+    let r = c.self.invariant.1 in
+    let d = c.self.inside.deque.ok in
+    rw (← c.self.view_is)
+    (same_exchange c.args.queue c.args.stats.now c.exchange.new.stats _ _ _ _ _ _ c.in_ok-exchange.ensures.counts (omega (arith, c.args.run.now.ok))
+    (omega (arith, k.rewritten, k.rewritten_behind, r, d)) (omega (arith, k.rewritten, k.both, k.rewritten_behind, k.appended_behind, k.all, r, d)))

@@ -1,0 +1,8 @@
+use Rattle.std.proofs.Common.{◌≡◌, ℕ, ◌∷◌, subst}
+use Rattle.raft_records.proofs.ItemLemmas.{compact_read}
+use Rattle.raft_records.proofs.command.Command.parse.Goals as goal
+
+pub returns-in_ok-index-in-2-clause-ok : goal.returns-in_ok-index-in-2-clause-ok
+returns-in_ok-index-in-2-clause-ok c =
+    let split : c.args.bytes.now ≡ 2 ∷ c.in-Some.behind.now = subst (λ (k : ℕ). c.args.bytes.now ≡ k ∷ c.in-Some.behind.now) c.in-2.is c.in-Some.ensures.cases.0 in
+    compact_read c.args.bytes.now c.in-Some.behind.now c.in_ok-index-in-2.rest.now c.in_ok-index-in-2.index split c.in_ok-index-in-2.ensures.ok

@@ -1,0 +1,7 @@
+use Rattle.raft_records.proofs.PlacementLemmas.{ArePlacedSoFar}
+use Rattle.raft_records.proofs.entry_index.parse_tails.Given as goal
+
+-- one entry for each turn, in its place, and behind them come the index and the offset
+abbrev pub invariant-loop : goal.invariant-loop
+invariant-loop l =
+    ArePlacedSoFar l.place l.first l.entries_size l.bytes l.rest l.entries.items l.index l.offset l.counter

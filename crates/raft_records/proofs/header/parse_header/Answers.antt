@@ -1,0 +1,66 @@
+use Rattle.std.proofs.Common.{inl, inr}
+use Rattle.std.proofs.lemmas.Result.{err_from_is_err_and}
+use Rattle.raft_records.proofs.HeaderLemmas.{header_read, too_short_for_header, unknown_type, offset_past_end, offset_in_header, type_ok, words_fault}
+use Rattle.raft_records.proofs.header.parse_header.Goals as goal
+
+pub returns-in_err-format-clause-refused : goal.returns-in_err-format-clause-refused
+returns-in_err-format-clause-refused c =
+    let p = err_from_is_err_and c.from_residual.result c.from_residual.ensures.1 in
+    rw (p.1) (too_short_for_header c.args.bytes.now c.if-len-lt-HEADER_LEN.true)
+
+pub returns-then-len-lt-HEADER_LEN-clause-refused :
+    goal.returns-then-len-lt-HEADER_LEN-clause-refused
+returns-then-len-lt-HEADER_LEN-clause-refused c =
+    too_short_for_header c.args.bytes.now c.if-len-lt-HEADER_LEN.true
+
+pub returns-in_err-compression_type-clause-refused :
+    goal.returns-in_err-compression_type-clause-refused
+returns-in_err-compression_type-clause-refused c =
+    let p = err_from_is_err_and c.from_residual-in_err-compression_type.result c.from_residual-in_err-compression_type.ensures.1 in
+    rw (p.1) (unknown_type _ _ _ _ _ c.parse_u64-len_and_type.ensures.read c.parse_u64-offset.ensures.read c.in_err-compression_type.ensures.fault.0)
+
+pub returns-in_err-compression_type-clause-fault :
+    goal.returns-in_err-compression_type-clause-fault
+returns-in_err-compression_type-clause-fault c =
+    let p = err_from_is_err_and c.from_residual-in_err-compression_type.result c.from_residual-in_err-compression_type.ensures.1 in
+    rw (p.1, p.2) (inr (words_fault _ _ _ _ _ _ c.parse_u64-len_and_type.ensures.read c.parse_u64-offset.ensures.read (inl c.in_err-compression_type.ensures.fault)))
+
+pub returns-in_err-format-2-clause-refused : goal.returns-in_err-format-2-clause-refused
+returns-in_err-format-2-clause-refused c =
+    let p = err_from_is_err_and c.from_residual-in_err-format-2.result c.from_residual-in_err-format-2.ensures.1 in
+    rw (p.1) (offset_past_end _ _ _ _ _ c.parse_u64-len_and_type.ensures.read c.parse_u64-offset.ensures.read c.if-offset-len.true)
+
+pub returns-in_err-format-2-clause-fault : goal.returns-in_err-format-2-clause-fault
+returns-in_err-format-2-clause-fault c =
+    let p = err_from_is_err_and c.from_residual-in_err-format-2.result c.from_residual-in_err-format-2.ensures.1 in
+    rw (p.1, p.2) (inr (words_fault _ _ _ _ _ _ c.parse_u64-len_and_type.ensures.read c.parse_u64-offset.ensures.read (inr (type_ok _ _ c.in_ok-compression_type.ensures.ok, inl (c.if-offset-len.true, tt)))))
+
+pub returns-then-offset-len-clause-refused : goal.returns-then-offset-len-clause-refused
+returns-then-offset-len-clause-refused c =
+    offset_past_end _ _ _ _ _ c.parse_u64-len_and_type.ensures.read c.parse_u64-offset.ensures.read c.if-offset-len.true
+
+pub returns-then-offset-len-clause-fault : goal.returns-then-offset-len-clause-fault
+returns-then-offset-len-clause-fault c =
+    inr (words_fault _ _ _ _ _ _ c.parse_u64-len_and_type.ensures.read c.parse_u64-offset.ensures.read (inr (type_ok _ _ c.in_ok-compression_type.ensures.ok, inl (c.if-offset-len.true, c.in_ok-format-2.ensures.ok))))
+
+pub returns-in_err-format-3-clause-refused : goal.returns-in_err-format-3-clause-refused
+returns-in_err-format-3-clause-refused c =
+    let p = err_from_is_err_and c.from_residual-in_err-format-3.result c.from_residual-in_err-format-3.ensures.1 in
+    rw (p.1) (offset_in_header _ _ _ _ _ c.parse_u64-len_and_type.ensures.read c.parse_u64-offset.ensures.read c.if-offset.true)
+
+pub returns-in_err-format-3-clause-fault : goal.returns-in_err-format-3-clause-fault
+returns-in_err-format-3-clause-fault c =
+    let p = err_from_is_err_and c.from_residual-in_err-format-3.result c.from_residual-in_err-format-3.ensures.1 in
+    rw (p.1, p.2) (inr (words_fault _ _ _ _ _ _ c.parse_u64-len_and_type.ensures.read c.parse_u64-offset.ensures.read (inr (type_ok _ _ c.in_ok-compression_type.ensures.ok, inr (c.if-offset-len.false, c.if-offset.true, tt)))))
+
+pub returns-then-offset-clause-refused : goal.returns-then-offset-clause-refused
+returns-then-offset-clause-refused c =
+    offset_in_header _ _ _ _ _ c.parse_u64-len_and_type.ensures.read c.parse_u64-offset.ensures.read c.if-offset.true
+
+pub returns-then-offset-clause-fault : goal.returns-then-offset-clause-fault
+returns-then-offset-clause-fault c =
+    inr (words_fault _ _ _ _ _ _ c.parse_u64-len_and_type.ensures.read c.parse_u64-offset.ensures.read (inr (type_ok _ _ c.in_ok-compression_type.ensures.ok, inr (c.if-offset-len.false, c.if-offset.true, c.in_ok-format-3.ensures.ok))))
+
+pub returns-clause-ok : goal.returns-clause-ok
+returns-clause-ok c =
+    header_read c.args.bytes.now c.parse_u64-len_and_type.result.1.now c.parse_u64-offset.result.1.now c.parse_u64-len_and_type.result.0 c.parse_u64-offset.result.0 c.in_ok-compression_type.compression_type c.parse_u64-len_and_type.ensures.read c.parse_u64-offset.ensures.read c.in_ok-compression_type.ensures.ok c.if-offset-len.false c.if-offset.false

@@ -1,0 +1,100 @@
+-- What a scan visits: each pair between the bounds, once, in order.
+use Rattle.std.proofs.Common.{◌≡◌, ℕ, zero, suc, ◌+◌, ◌<◌, Bool, true, false, cond, List, [], ◌∷◌, length, filter, map, get_or, All, Contains, Option, Some, None, refl, sym, ap, subst, ◌∙◌, arith}
+use lib.Dec.{T}
+use Rattle.std.specs.declared.cmp.Ordering.{Ordering}
+use Rattle.std.specs.declared.cmp.Ordering.TheVariants.{Less}
+use Rattle.std.specs.Ordering.{nat_cmp, eq_by_cmp, is_eq}
+use Rattle.std.specs.Option.{option_map}
+use Rattle.std.specs.Cmp.{IsTotalOrder, eq_by_cmp_equiv}
+use Rattle.std.specs.Cmp.Lexicographic.{slice_cmp, nat_list_cmp_total}
+use Rattle.std.specs.List.{AllByRecursion}
+use Rattle.std.specs.List.Sorted.{IsStrictlySortedBy}
+use Rattle.std.specs.FinMap as finite
+use Rattle.std.specs.FinMap.{IsAntisymmetric, find, is_sorted, nat_cmp-IsAntisymmetric, slice_cmp-IsAntisymmetric}
+use Rattle.std.specs.FinMap.Entries.{below_all, is_sorted-where_key}
+use Rattle.std.proofs.lemmas.List.Elements.{All-nil, All-cons, All-map}
+use Rattle.raft_table.specs.KeyValues.{Keys, Stored, Pair, value_at, key_value}
+use Rattle.raft_table.specs.Scan.{is_between, scanned}
+use Rattle.raft_table.proofs.Shown.{first_of_both, second_of_both, equal, less}
+
+module _ {A V : Type 0} {R : A → A → Ordering} (o : IsTotalOrder R) where
+  below_at : (x : A) (es : List (A × V)) (e : A × V) (k : ℕ) → T (below_all R x es) → k < length es → get_or es k e ≡ e → R x e.0 ≡ Less
+  below_at x [] e k h l s = absurd (omega arith)
+  below_at x (y ∷ es) e zero h l s = subst (λ (z : A × V). R x z.0 ≡ Less) s (less (R x y.0) (first_of_both _ _ h))
+  below_at x (y ∷ es) e (suc k) h l s = below_at x es e k (second_of_both _ _ h) (omega arith) s
+
+  -- an entry's own key finds it
+  own_found : (es : List (A × V)) (e : A × V) (k : ℕ) → T (is_sorted R es) → k < length es → get_or es k e ≡ e → find R e.0 es ≡ Some e.1
+  own_found [] e k h l s = absurd (omega arith)
+  own_found (x ∷ es) e zero h l s =
+      subst (λ (z : A × V). find R z.0 (x ∷ es) ≡ Some z.1) s (ap (λ b. cond b (Some x.1) (find R x.0 es)) ((eq_by_cmp_equiv o).refl x.0))
+  own_found (x ∷ es) e (suc k) h l s =
+      let apart : eq_by_cmp R e.0 x.0 ≡ false = (eq_by_cmp_equiv o).symm e.0 x.0 ∙ ap is_eq (below_at x.0 es e k (first_of_both _ _ h) (omega arith) s) in
+      ap (λ b. cond b (Some x.1) (find R e.0 es)) apart ∙ own_found es e k (second_of_both _ _ h) (omega arith) s
+
+some_same : {X : Type 0} (x y : X) → Some x ≡ Some y → x ≡ y
+some_same x y e = cc
+
+-- what a key finds is there
+found_there : {A V : Type 0} {R : A → A → Ordering} → IsAntisymmetric R → (q : A) (v : V) (es : List (A × V)) → find R q es ≡ Some v → Contains es (q, v)
+found_there same q v [] e = absurd cc
+found_there {A} {V} {R} same q v (x ∷ es) e = at (eq_by_cmp R q x.0) refl e (found_there same q v es)
+  where
+    at : (b : Bool) → eq_by_cmp R q x.0 ≡ b → cond b (Some x.1) (find R q es) ≡ Some v → (find R q es ≡ Some v → Contains es (q, v)) → Contains (x ∷ es) (q, v)
+    at true t e rest = (0, omega arith, ap (λ k. (k, x.1)) (sym (same q x.0 (equal _ t))) ∙ ap (λ w. (q, w)) (some_same x.1 v e))
+    at false t e rest = let h = rest e in (suc h.0, omega (arith, h.1), h.2)
+
+all_kept : {X : Type 0} (p : X → Bool) (P : X → Type 0) (xs : List X) → ((x : X) → Contains xs x → p x ≡ true → P x) → All P (filter p xs)
+all_kept p P [] h = All-nil P
+all_kept p P (x ∷ xs) h =
+    let rest = all_kept p P xs (λ y c. h y (suc c.0, omega (arith, c.1), c.2)) in
+    elim (p x) as (λ b. p x ≡ b → All P (cond b (x ∷ filter p xs) (filter p xs))) [
+      | true ↦ λ t. All-cons P x (filter p xs) (h x (0, omega arith, refl) t) rest
+      | false ↦ λ t. rest
+    ] refl
+
+kept_there : {X : Type 0} (p : X → Bool) (xs : List X) (x : X) (k : ℕ) → k < length xs → get_or xs k x ≡ x → p x ≡ true → Contains (filter p xs) x
+kept_there p [] x k l s e = absurd (omega arith)
+kept_there p (y ∷ xs) x zero l s e = rw (ap p s ∙ e) (0, omega arith, s)
+kept_there p (y ∷ xs) x (suc k) l s e =
+    let rest = kept_there p xs x k (omega arith) s e in
+    elim (p y) as (λ b. Contains (cond b (y ∷ filter p xs) (filter p xs)) x) [
+      | true ↦ (suc rest.0, omega (arith, rest.1), rest.2)
+      | false ↦ rest
+    ]
+
+mapped_there : {X Y : Type 0} (f : X → Y) (xs : List X) (x : X) (k : ℕ) → k < length xs → get_or xs k x ≡ x → Contains (map f xs) (f x)
+mapped_there f [] x k l s = absurd (omega arith)
+mapped_there f (y ∷ xs) x zero l s = (0, omega arith, ap f s)
+mapped_there f (y ∷ xs) x (suc k) l s = let rest = mapped_there f xs x k (omega arith) s in (suc rest.0, omega (arith, rest.1), rest.2)
+
+-- the keys of entries in order rise
+rising_keys : (es : List Pair) → T (is_sorted (slice_cmp nat_cmp) es) → IsStrictlySortedBy (slice_cmp nat_cmp) (map (λ p. p.0) (map key_value es))
+unfolding IsStrictlySortedBy
+rising_keys [] h = tt
+rising_keys (e ∷ es) h = (below es (first_of_both _ _ h), rising_keys es (second_of_both _ _ h))
+  where
+    below : (xs : List Pair) → T (below_all (slice_cmp nat_cmp) e.0 xs) → AllByRecursion (λ y. slice_cmp nat_cmp e.0 y ≡ Less) (map (λ p. p.0) (map key_value xs))
+    below [] h = tt
+    below (x ∷ xs) h = (less _ (first_of_both _ _ h), below xs (second_of_both _ _ h))
+
+pub visited_are_pairs : (start end : Option (List ℕ)) (keys : Keys) → All (λ p. (value_at keys p.0 ≡ Some p.1) × (is_between start end p.0 ≡ true)) (scanned start end false keys)
+visited_are_pairs start end keys =
+    All-map (λ p. (value_at keys p.0 ≡ Some p.1) × (is_between start end p.0 ≡ true)) key_value (filter (λ e. is_between start end e.0) (finite.entries keys))
+    (all_kept (λ e. is_between start end e.0) (λ e. (value_at keys e.0 ≡ Some e.1.value) × (is_between start end e.0 ≡ true)) (finite.entries keys) (λ e c t. (is e c, t)))
+  where
+    is : (e : Pair) → Contains (finite.entries keys) e → value_at keys e.0 ≡ Some e.1.value
+    is e c = ap (option_map (λ s. s.value)) (finite.get-entries keys e.0 ∙ own_found nat_list_cmp_total (finite.entries keys) e c.0 (finite.entries_sorted keys) c.1 c.2)
+
+pub pairs_are_visited : (start end : Option (List ℕ)) (keys : Keys) (key value : List ℕ) → value_at keys key ≡ Some value → is_between start end key ≡ true → Contains (scanned start end false keys) (key, value)
+pairs_are_visited start end keys key value h t = at (finite.get keys key) refl h
+  where
+    at : (o : Option Stored) → finite.get keys key ≡ o → option_map (λ s. s.value) o ≡ Some value → Contains (scanned start end false keys) (key, value)
+    at None is e = absurd cc
+    at (Some s) is e =
+        let there = found_there (slice_cmp-IsAntisymmetric nat_cmp-IsAntisymmetric) key s (finite.entries keys) (sym (finite.get-entries keys key) ∙ is) in
+        let kept = kept_there (λ e. is_between start end e.0) (finite.entries keys) (key, s) there.0 there.1 there.2 t in
+        subst (λ v. Contains (scanned start end false keys) (key, v)) (some_same s.value value e) (mapped_there key_value _ (key, s) kept.0 kept.1 kept.2)
+
+pub visits_rise : (start end : Option (List ℕ)) (keys : Keys) → IsStrictlySortedBy (slice_cmp nat_cmp) (map (λ p. p.0) (scanned start end false keys))
+visits_rise start end keys = rising_keys _ (is_sorted-where_key (slice_cmp nat_cmp) (is_between start end) (finite.entries keys) (finite.entries_sorted keys))

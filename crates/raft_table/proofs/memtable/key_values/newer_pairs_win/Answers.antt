@@ -1,5 +1,0 @@
-use Rattle.raft_table.proofs.KeyValueLaws.{get-overlaid}
-use Rattle.raft_table.proofs.memtable.key_values.newer_pairs_win.Goals as goal
-
-pub returns : goal.returns
-returns c = get-overlaid

@@ -22,57 +22,72 @@ pub fn new_contexts_stand_exactly()
 /// A context that stands for a history stands for it and one batch more after taking the batch in,
 /// exactly if it did before. The batch is refused only where no sound history goes on with it.
 pub fn batches_are_taken_in()
-    ensures stands { (c d : Context) (h : List Event) (e : Event) → Suits e.file.queue c.files → follows c.files (files_of (e ∷ [])) ≡ true → AreInFile e.file e.items → HaveStatus e.file.queue e.items
+    ensures stands { (c d : Context) (h : List Event) (e : Event) → Suits e.file.queue c.files
+        → follows c.files (files_of (e ∷ [])) ≡ true → AreInFile e.file e.items → HaveStatus e.file.queue e.items
         → StandsFor c h → taken_in c e ≡ Some d → StandsFor d (h ++ e ∷ []) }
-    ensures exact { (c d : Context) (h : List Event) (e : Event) → Suits e.file.queue c.files → follows c.files (files_of (e ∷ [])) ≡ true → AreInFile e.file e.items → HaveStatus e.file.queue e.items
+    ensures exact { (c d : Context) (h : List Event) (e : Event) → Suits e.file.queue c.files
+        → follows c.files (files_of (e ∷ [])) ≡ true → AreInFile e.file e.items → HaveStatus e.file.queue e.items
         → IsExactFor c h → taken_in c e ≡ Some d → IsExactFor d (h ++ e ∷ []) }
-    ensures refused { (c : Context) (h : List Event) (e : Event) → Suits e.file.queue c.files → follows c.files (files_of (e ∷ [])) ≡ true → AreInFile e.file e.items → HaveStatus e.file.queue e.items
+    ensures refused { (c : Context) (h : List Event) (e : Event) → Suits e.file.queue c.files
+        → follows c.files (files_of (e ∷ [])) ≡ true → AreInFile e.file e.items → HaveStatus e.file.queue e.items
         → StandsFor c h → taken_in c e ≡ None → Sound (h ++ e ∷ []) → ⊥ }
-    ensures next { (c : Context) (h : List Event) (e : Event) → StandsFor c h → Sound (h ++ e ∷ []) → Suits e.file.queue c.files × (follows c.files (files_of (e ∷ [])) ≡ true) × AreInFile e.file e.items × HaveStatus e.file.queue e.items }
+    ensures next { (c : Context) (h : List Event) (e : Event) → StandsFor c h → Sound (h ++ e ∷ [])
+        → Suits e.file.queue c.files × (follows c.files (files_of (e ∷ [])) ≡ true) × AreInFile e.file e.items × HaveStatus e.file.queue e.items }
 {}
 
 /// Contexts of two neighbouring histories, merged, stand for both, one behind the other; exactly, if
 /// both did and the effects of that history are apart. They are refused only where it isn't sound,
 /// in the rewrite queue by its files alone.
 pub fn merges_stand_for_both()
-    ensures stands { (q : LogQueue) (c d e : Context) (h k : List Event) → Suits q c.files → Suits q d.files → StandsFor c h → StandsFor d k → merged q c d ≡ Some e → StandsFor e (h ++ k) }
-    ensures exact { (q : LogQueue) (c d e : Context) (h k : List Event) → Suits q c.files → Suits q d.files → IsExactFor c h → IsExactFor d k → Apart (h ++ k) → merged q c d ≡ Some e → IsExactFor e (h ++ k) }
-    ensures refused { (q : LogQueue) (c d : Context) (h k : List Event) → Suits q c.files → Suits q d.files → StandsFor c h → StandsFor d k → merged q c d ≡ None → Sound (h ++ k) → ⊥ }
+    ensures stands { (q : LogQueue) (c d e : Context) (h k : List Event) → Suits q c.files → Suits q d.files
+        → StandsFor c h → StandsFor d k → merged q c d ≡ Some e → StandsFor e (h ++ k) }
+    ensures exact { (q : LogQueue) (c d e : Context) (h k : List Event) → Suits q c.files → Suits q d.files
+        → IsExactFor c h → IsExactFor d k → Apart (h ++ k) → merged q c d ≡ Some e → IsExactFor e (h ++ k) }
+    ensures refused { (q : LogQueue) (c d : Context) (h k : List Event) → Suits q c.files → Suits q d.files
+        → StandsFor c h → StandsFor d k → merged q c d ≡ None → Sound (h ++ k) → ⊥ }
     ensures rewrite { (c d : Context) → follows c.files d.files ≡ true → merged Rewrite c d ≡ None → ⊥ }
 {}
 
 /// The same, said of the merged regions one by one, in no order: they may be joined into the older
 /// context or the newer one.
 pub fn regions_merge_one_by_one()
-    ensures stands { (q : LogQueue) (c d : Context) (h k : List Event) (regions : MarkedRegions) → Suits q c.files → Suits q d.files → StandsFor c h → StandsFor d k
+    ensures stands { (q : LogQueue) (c d : Context) (h k : List Event) (regions : MarkedRegions) → Suits q c.files
+        → Suits q d.files → StandsFor c h → StandsFor d k
         → follows c.files d.files ≡ true → AreMerged q c d regions → StandsFor (merged_with c d regions) (h ++ k) }
-    ensures exact { (q : LogQueue) (c d : Context) (h k : List Event) (regions : MarkedRegions) → Suits q c.files → Suits q d.files → IsExactFor c h → IsExactFor d k → Apart (h ++ k)
+    ensures exact { (q : LogQueue) (c d : Context) (h k : List Event) (regions : MarkedRegions) → Suits q c.files
+        → Suits q d.files → IsExactFor c h → IsExactFor d k → Apart (h ++ k)
         → follows c.files d.files ≡ true → AreMerged q c d regions → IsExactFor (merged_with c d regions) (h ++ k) }
-    ensures refused { (q : LogQueue) (c d : Context) (h k : List Event) → Suits q c.files → Suits q d.files → StandsFor c h → StandsFor d k → AreRefused q c d → Sound (h ++ k) → ⊥ }
-    ensures files { (q : LogQueue) (c d : Context) (h k : List Event) → Suits q c.files → Suits q d.files → StandsFor c h → StandsFor d k → follows c.files d.files ≡ false → Sound (h ++ k) → ⊥ }
+    ensures refused { (q : LogQueue) (c d : Context) (h k : List Event) → Suits q c.files → Suits q d.files
+        → StandsFor c h → StandsFor d k → AreRefused q c d → Sound (h ++ k) → ⊥ }
+    ensures files { (q : LogQueue) (c d : Context) (h k : List Event) → Suits q c.files → Suits q d.files
+        → StandsFor c h → StandsFor d k → follows c.files d.files ≡ false → Sound (h ++ k) → ⊥ }
     ensures rewrite { (c d : Context) → AreRefused Rewrite c d → ⊥ }
 {}
 
 /// An exact context has what one reading of its history gives.
 pub fn exact_contexts_are_one_reading()
-    ensures { (q : LogQueue) (c : Context) (h : List Event) → IsExactFor c h → Suits q c.files → IsOneReading q h c.regions.tables c.cleaned }
+    ensures { (q : LogQueue) (c : Context) (h : List Event) → IsExactFor c h → Suits q c.files
+        → IsOneReading q h c.regions.tables c.cleaned }
 {}
 
 /// An exact context holds at most what its history may hold, number by number.
 pub fn exact_contexts_keep_little()
-    ensures { (q : LogQueue) (c : Context) (h : List Event) (tables : Tables) (cleaned : List ℕ) → IsExactFor c h → Suits q c.files → IsOneReading q h tables cleaned → IsAtMost (kept_of c) (kept_by q h tables) }
+    ensures { (q : LogQueue) (c : Context) (h : List Event) (tables : Tables) (cleaned : List ℕ) → IsExactFor c h
+        → Suits q c.files → IsOneReading q h tables cleaned → IsAtMost (kept_of c) (kept_by q h tables) }
 {}
 
 /// Contexts that are exact for one history hold the same: so merges of exact contexts are associative
 /// in meaning.
 pub fn exact_contexts_agree()
-    ensures { (c d : Context) (h : List Event) → IsExactFor c h → IsExactFor d h → (c.regions.tables ≡ d.regions.tables) × (c.groups ≡ d.groups) × (c.cleaned ≡ d.cleaned) × (c.files ≡ d.files) }
+    ensures { (c d : Context) (h : List Event) → IsExactFor c h → IsExactFor d h
+        → (c.regions.tables ≡ d.regions.tables) × (c.groups ≡ d.groups) × (c.cleaned ≡ d.cleaned) × (c.files ≡ d.files) }
 {}
 
 /// What waits after two neighbours were joined, and what became whole between them, is no more than
 /// waited in both.
 pub fn waiting_records_stay_few()
-    ensures { (older newer : WaitingGroups) → waiting_records (joined_groups older newer) + records_in_wholes (whole_groups older newer) ≤ waiting_records older + waiting_records newer }
+    ensures { (older newer : WaitingGroups)
+        → waiting_records (joined_groups older newer) + records_in_wholes (whole_groups older newer) ≤ waiting_records older + waiting_records newer }
 {}
 
 /// The steps that become whole where two histories of a queue meet are such as replays into it ask

@@ -29,13 +29,15 @@ pub fn groups_join()
 pub fn steps_join()
     ensures across { (r : ℕ) (h k : List Batch) → BatchesApart (h ++ k) →
         steps_of r (h ++ k) ≡ steps_of r h ++ (steps_of_wholes r (whole_groups (groups_in h) (groups_in k)) ++ steps_of r k) }
-    ensures more { (r : ℕ) (h : List Batch) (b : Batch) → steps_of r (h ++ b ∷ []) ≡ steps_of r h ++ steps_by_batch r (groups_in h) b b.marker }
+    ensures more { (r : ℕ) (h : List Batch) (b : Batch)
+        → steps_of r (h ++ b ∷ []) ≡ steps_of r h ++ steps_by_batch r (groups_in h) b b.marker }
 {}
 
 /// Groups that become whole between two histories name different regions, where the effects of both,
 /// one behind the other, are apart.
 pub fn wholes_name_different_regions()
-    ensures { (h k : List Batch) → BatchesApart (h ++ k) → (g l : ℕ) → g ≢ l → (w v : WholeGroup) → whole_group (group_in g h) (group_in g k) ≡ Some w → whole_group (group_in l h) (group_in l k) ≡ Some v
+    ensures { (h k : List Batch) → BatchesApart (h ++ k) → (g l : ℕ) → g ≢ l → (w v : WholeGroup)
+        → whole_group (group_in g h) (group_in g k) ≡ Some w → whole_group (group_in l h) (group_in l k) ≡ Some v
         → (r : ℕ) → names r w.steps ≡ true → names r v.steps ≡ true → ⊥ }
 {}
 
@@ -43,7 +45,8 @@ pub fn wholes_name_different_regions()
 /// apart.
 pub fn unmarked_batches_are_effects()
     ensures apart { (h : List Batch) → AllByRecursion (λ b. b.marker ≡ None) h → BatchesApart h }
-    ensures steps { (r : ℕ) (h : List Batch) → AllByRecursion (λ b. b.marker ≡ None) h → steps_of r h ≡ flat_map (λ b. steps_on r b.steps) h }
+    ensures steps { (r : ℕ) (h : List Batch) → AllByRecursion (λ b. b.marker ≡ None) h
+        → steps_of r h ≡ flat_map (λ b. steps_on r b.steps) h }
 {}
 
 /// A region has steps in the effects exactly where one of them names it; and the regions that two
@@ -53,7 +56,8 @@ pub fn named_regions_have_steps()
     ensures steps { (r : ℕ) (h : List Batch) → (is_named r h ≡ false) ↔ (steps_of r h ≡ []) }
     ensures across { (r : ℕ) (h k : List Batch) → BatchesApart (h ++ k)
         → is_named r (h ++ k) ≡ (is_named r h || (list_any (λ w. names r w.steps) (whole_groups (groups_in h) (groups_in k)) || is_named r k)) }
-    ensures more { (r : ℕ) (h : List Batch) (b : Batch) → is_named r (h ++ b ∷ []) ≡ (is_named r h || names_by_batch r (groups_in h) b b.marker) }
+    ensures more { (r : ℕ) (h : List Batch) (b : Batch)
+        → is_named r (h ++ b ∷ []) ≡ (is_named r h || names_by_batch r (groups_in h) b b.marker) }
 {}
 
 /// A group that is not whole changes nothing: without its batches every region has the same steps.

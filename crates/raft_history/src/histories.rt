@@ -17,13 +17,15 @@ pub fn stretches_keep_what_histories_are()
     ensures small { (h k : List Event) → IsSmall (h ++ k) → IsSmall h × IsSmall k }
     ensures sound { (h k : List Event) → Sound (h ++ k) → Sound h × Sound k }
     ensures apart { (h k : List Event) → Apart (h ++ k) → Apart h × Apart k }
-    ensures of_queue { (queue : LogQueue) (h k : List Event) → IsOfQueue queue (h ++ k) → IsOfQueue queue h × IsOfQueue queue k }
+    ensures of_queue { (queue : LogQueue) (h k : List Event) → IsOfQueue queue (h ++ k)
+        → IsOfQueue queue h × IsOfQueue queue k }
 {}
 
 /// Steps on the tables of all regions give each region the table of its own steps, in order; and
 /// where they are refused, some region's own steps are.
 pub fn regions_are_read_apart()
-    ensures by_region { (queue : LogQueue) (before after_all : Tables) (steps : List RegionStep) → reading queue before steps ≡ Some after_all
+    ensures by_region { (queue : LogQueue) (before after_all : Tables) (steps : List RegionStep)
+        → reading queue before steps ≡ Some after_all
         → (r : ℕ) → after queue r (finite.get before r) (steps_on r steps) ≡ Some (finite.get after_all r) }
     ensures refused { (queue : LogQueue) (before : Tables) (steps : List RegionStep) → reading queue before steps ≡ None
         → (r : ℕ) × (after queue r (finite.get before r) (steps_on r steps) ≡ None) }
@@ -34,8 +36,12 @@ pub fn regions_are_read_apart()
 /// are those of the last step that speaks of the key. The steps on a region are those of its items, in
 /// order.
 pub fn last_words_stand()
-    ensures entries { (h : List Event) (tables : Tables) (cleaned : List ℕ) → IsSoundIn Append h → IsOneReading Append h tables cleaned
-        → (r i : ℕ) → entry_with_index i (table_of r (finite.get tables r)).entries ≡ last_entry i (flat_map (λ e. steps_on r (steps_of_items e.items)) h) }
-    ensures keys { (h : List Event) (tables : Tables) (cleaned : List ℕ) → IsSoundIn Append h → IsOneReading Append h tables cleaned
-        → (r : ℕ) (key : List ℕ) → finite.get (table_of r (finite.get tables r)).keys key ≡ last_pair key (flat_map (λ e. steps_on r (steps_of_items e.items)) h) }
+    ensures entries { (h : List Event) (tables : Tables) (cleaned : List ℕ) → IsSoundIn Append h
+        → IsOneReading Append h tables cleaned
+        → (r i : ℕ)
+        → entry_at i (table_of r (finite.get tables r)).entries ≡ last_entry i (flat_map (λ e. steps_on r (steps_of_items e.items)) h) }
+    ensures keys { (h : List Event) (tables : Tables) (cleaned : List ℕ) → IsSoundIn Append h
+        → IsOneReading Append h tables cleaned
+        → (r : ℕ) (key : List ℕ)
+        → finite.get (table_of r (finite.get tables r)).keys key ≡ last_pair key (flat_map (λ e. steps_on r (steps_of_items e.items)) h) }
 {}

@@ -3,7 +3,7 @@
 ghost use Rattle.std.specs.Prelude.{◌≡◌, ◌<◌, ◌^◌, length, IfOk};
 ghost use Rattle.std.specs.Option.{option_map};
 ghost use Rattle.raft_history.specs.WaitingGroup.{Ended, joined_group, whole_group, whole_of, one_marker, led_by, carried, unmarked};
-ghost use Rattle.raft_history.specs.WaitingGroups.{held_steps, front_steps, stretch_steps};
+ghost use Rattle.raft_history.specs.WaitingGroups.{held_steps, front_steps};
 ghost use Rattle.raft_memtable.specs.WaitingShown.{front_shown, stretch_shown, group_shown, whole_shown};
 
 use crate::waiting_items::WaitingItems;

@@ -1,6 +1,6 @@
 //! Groups that wait until they are whole.
 
-ghost use Rattle.std.specs.Prelude.{◌≡◌, ◌+◌, ◌<◌, ◌^◌, length, ℕ, List, [], ◌∷◌, ◌++◌, IfOk, IfSome, IfNone, OnOk, map, option_to_list};
+ghost use Rattle.std.specs.Prelude.{◌≡◌, ◌+◌, ◌<◌, ℕ, List, [], ◌∷◌, ◌++◌, IfOk, IfSome, IfNone, OnOk, map, option_to_list};
 ghost use Rattle.std.specs.Option.{option_map};
 ghost use Rattle.std.specs.FinMap as finite;
 ghost use Rattle.std.specs.Ordering.{nat_cmp};
@@ -85,8 +85,10 @@ impl WaitingGroups {
     ) -> Result<Option<WholeGroup>, AllocError>
         ensures known { OnOk result (self.new ≡ finite.insert self.old id (joined_group (known self.old id) (one_marker status items file))) }
         ensures whole { IfOk result (λ w. option_map whole_shown w ≡ whole_group (known self.old id) (one_marker status items file)) }
-        ensures stands { (h : List Batch) → self.old ≡ groups_in h → OnOk result (self.new ≡ groups_in (h ++ marked_batch items id status file ∷ [])) }
-        ensures steps { (h : List Batch) (r : ℕ) → self.old ≡ groups_in h → IfOk result (λ w. steps_of r (h ++ marked_batch items id status file ∷ []) ≡ steps_of r h ++ steps_or r (option_map whole_shown w)) }
+        ensures stands { (h : List Batch) → self.old ≡ groups_in h
+            → OnOk result (self.new ≡ groups_in (h ++ marked_batch items id status file ∷ [])) }
+        ensures steps { (h : List Batch) (r : ℕ) → self.old ≡ groups_in h
+            → IfOk result (λ w. steps_of r (h ++ marked_batch items id status file ∷ []) ≡ steps_of r h ++ steps_or r (option_map whole_shown w)) }
     {
         let whole = self.join_one(id, WaitingGroup::marked(status, items, file))?;
         Ok(whole)
@@ -101,8 +103,10 @@ impl WaitingGroups {
     pub fn join(&mut self, newer: WaitingGroups) -> Result<Vec<WholeGroup>, AllocError>
         ensures known { OnOk result (self.new ≡ joined_groups self.old newer) }
         ensures wholes { IfOk result (λ w. map whole_shown w.items ≡ whole_groups self.old newer) }
-        ensures stands { (h k : List Batch) → self.old ≡ groups_in h → newer ≡ groups_in k → OnOk result (self.new ≡ groups_in (h ++ k)) }
-        ensures steps { (h k : List Batch) (r : ℕ) → self.old ≡ groups_in h → newer ≡ groups_in k → BatchesApart (h ++ k)
+        ensures stands { (h k : List Batch) → self.old ≡ groups_in h → newer ≡ groups_in k
+            → OnOk result (self.new ≡ groups_in (h ++ k)) }
+        ensures steps { (h k : List Batch) (r : ℕ) → self.old ≡ groups_in h → newer ≡ groups_in k
+            → BatchesApart (h ++ k)
             → IfOk result (λ w. steps_of r (h ++ k) ≡ steps_of r h ++ (steps_of_wholes r (map whole_shown w.items) ++ steps_of r k)) }
     {
         let wholes = self.join_each(newer)?;

@@ -28,13 +28,16 @@ mod under;
 
 use crate::global_stats::GlobalStats;
 pub use change::{TableChange, is_run};
+pub use deleted_keys::DeletedKeys;
 use entries::Entries;
 use key_values::KeyValues;
 pub use laws::{
     entries_stand_by_index, last_words_stand, marks_stand_for_steps, overlays_by_marks,
 };
+pub use mark::Mark;
 use raft_records::{EntryIndex, Error, FileId, FileSeq, LogQueue, Result};
 pub use read_runs::read_entries_are_runs;
+pub use region::{join_cleaned, join_region, replay_clean, replay_delete, replay_run};
 use std::alloc::Global;
 use std::marker::Model;
 pub use table_laws::{

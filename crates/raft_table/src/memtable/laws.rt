@@ -18,11 +18,17 @@ ghost use Rattle.raft_table.specs.Start.{appended, replayed, leaves_hole};
 /// accepted, the old entries below its first index and its own from there on, but for a hole in the
 /// rewrite queue, where it stands alone; after a compaction the old entries from its index on.
 pub fn entries_stand_by_index()
-    ensures appended { (es run after : List EntryIndex) → IsRunIn Append run → 0 < length run → appended es run ≡ Some after → StandsBehind es run after }
-    ensures replayed { (queue : LogQueue) (es run after : List EntryIndex) → IsRunIn queue run → 0 < length run → replayed Append es run ≡ Some after → StandsBehind es run after }
-    ensures rewritten { (queue : LogQueue) (es run after : List EntryIndex) → IsRunIn queue run → 0 < length run → leaves_hole (end_of es) (start_of run) ≡ false → replayed Rewrite es run ≡ Some after → StandsBehind es run after }
-    ensures hole { (es run after : List EntryIndex) → leaves_hole (end_of es) (start_of run) ≡ true → replayed Rewrite es run ≡ Some after → after ≡ run }
-    ensures compacted { (index i : ℕ) (es : List EntryIndex) → entry_with_index i (from index es) ≡ (if nat_lt i index then None else entry_with_index i es) }
+    ensures appended { (es run after : List EntryIndex) → IsRunIn Append run → 0 < length run
+        → appended es run ≡ Some after → StandsBehind es run after }
+    ensures replayed { (queue : LogQueue) (es run after : List EntryIndex) → IsRunIn queue run → 0 < length run
+        → replayed Append es run ≡ Some after → StandsBehind es run after }
+    ensures rewritten { (queue : LogQueue) (es run after : List EntryIndex) → IsRunIn queue run → 0 < length run
+        → leaves_hole (end_of es) (start_of run) ≡ false → replayed Rewrite es run ≡ Some after
+        → StandsBehind es run after }
+    ensures hole { (es run after : List EntryIndex) → leaves_hole (end_of es) (start_of run) ≡ true
+        → replayed Rewrite es run ≡ Some after → after ≡ run }
+    ensures compacted { (index i : ℕ) (es : List EntryIndex)
+        → entry_at i (from index es) ≡ (if nat_lt i index then None else entry_at i es) }
 {}
 
 /// In the append queue the entry at an index is that of the last of a region's steps that speaks of the
@@ -30,8 +36,10 @@ pub fn entries_stand_by_index()
 /// and the file of a key are those of the last step that speaks of the key: a `Put` or a `Del` of it,
 /// or a clean.
 pub fn last_words_stand()
-    ensures entries { (id i : ℕ) (t : Option Table) (ss : List Step) → AreSteps ss → after Append id None ss ≡ Some t → entry_with_index i (table_of id t).entries ≡ last_entry i ss }
-    ensures keys { (q : LogQueue) (id : ℕ) (key : List ℕ) (t : Option Table) (ss : List Step) → after q id None ss ≡ Some t → finite.get (table_of id t).keys key ≡ last_pair key ss }
+    ensures entries { (id i : ℕ) (t : Option Table) (ss : List Step) → AreSteps ss → after Append id None ss ≡ Some t
+        → entry_at i (table_of id t).entries ≡ last_entry i ss }
+    ensures keys { (q : LogQueue) (id : ℕ) (key : List ℕ) (t : Option Table) (ss : List Step)
+        → after q id None ss ≡ Some t → finite.get (table_of id t).keys key ≡ last_pair key ss }
 {}
 
 /// A mark and an own table stand for the steps on a region: those of one step for it; those of two
@@ -39,18 +47,27 @@ pub fn last_words_stand()
 /// table is what one reading of the steps gives.
 pub fn marks_stand_for_steps()
     ensures one { (q : LogQueue) (id : ℕ) (s : Step) → IsStep s → Stands q id (mark_of s) (own_of id s) (s ∷ []) }
-    ensures joins { (q : LogQueue) (id : ℕ) (m n : Mark) (t u w : Option Table) (ss rs : List Step) → AreSteps ss → AreSteps rs → Stands q id m t ss → Stands q id n u rs → applied q id n u t ≡ Some w → Stands q id (joined q id m t n) w (ss ++ rs) }
-    ensures refused { (q : LogQueue) (id : ℕ) (m n : Mark) (t u : Option Table) (ss rs : List Step) → Stands q id m t ss → Stands q id n u rs → applied q id n u t ≡ None → after q id None (ss ++ rs) ≡ None }
-    ensures alone { (q : LogQueue) (id : ℕ) (m : Mark) (t : Option Table) (ss : List Step) → Stands q id m t ss → after q id None ss ≡ Some t }
-    ensures deleted { (q : LogQueue) (id : ℕ) (m n : Mark) (t : Option Table) (ss rs : List Step) → Stands q id m t ss → HoldsDeleted m ss → HoldsDeleted n rs → HoldsDeleted (joined q id m t n) (ss ++ rs) }
-    ensures few_deleted { (m : Mark) (ss : List Step) → HoldsDeleted m ss → finset.len m.deleted ≤ finset.len (deleted_of finset.empty ss) }
+    ensures joins { (q : LogQueue) (id : ℕ) (m n : Mark) (t u w : Option Table) (ss rs : List Step) → AreSteps ss
+        → AreSteps rs → Stands q id m t ss → Stands q id n u rs → applied q id n u t ≡ Some w
+        → Stands q id (joined q id m t n) w (ss ++ rs) }
+    ensures refused { (q : LogQueue) (id : ℕ) (m n : Mark) (t u : Option Table) (ss rs : List Step)
+        → Stands q id m t ss → Stands q id n u rs → applied q id n u t ≡ None → after q id None (ss ++ rs) ≡ None }
+    ensures alone { (q : LogQueue) (id : ℕ) (m : Mark) (t : Option Table) (ss : List Step) → Stands q id m t ss
+        → after q id None ss ≡ Some t }
+    ensures deleted { (q : LogQueue) (id : ℕ) (m n : Mark) (t : Option Table) (ss rs : List Step) → Stands q id m t ss
+        → HoldsDeleted m ss → HoldsDeleted n rs → HoldsDeleted (joined q id m t n) (ss ++ rs) }
+    ensures few_deleted { (m : Mark) (ss : List Step) → HoldsDeleted m ss
+        → finset.len m.deleted ≤ finset.len (deleted_of finset.empty ss) }
 {}
 
 /// In the append queue a mark that stands for steps holds what an overlay reads of them, so the
 /// overlay by the mark is that by the steps, and its entries are a run.
 pub fn overlays_by_marks()
     ensures one { (s : Step) → IsExactMark (mark_of s) (s ∷ []) }
-    ensures joins { (id : ℕ) (m n : Mark) (t : Option Table) (ss rs : List Step) → Stands Append id m t ss → IsExactMark m ss → IsExactMark n rs → IsExactMark (joined Append id m t n) (ss ++ rs) }
-    ensures overlay { (m : Mark) (ss : List Step) (a r : Table) → IsExactMark m ss → overlay_under m a r ≡ overlay ss a r }
-    ensures run { (id : ℕ) (m : Mark) (a : Option Table) (ss : List Step) (r : Table) → AreSteps ss → Stands Append id m a ss → IsTableOf id r → IsRun (overlay_under m (table_of id a) r).entries }
+    ensures joins { (id : ℕ) (m n : Mark) (t : Option Table) (ss rs : List Step) → Stands Append id m t ss
+        → IsExactMark m ss → IsExactMark n rs → IsExactMark (joined Append id m t n) (ss ++ rs) }
+    ensures overlay { (m : Mark) (ss : List Step) (a r : Table) → IsExactMark m ss
+        → overlay_under m a r ≡ overlay ss a r }
+    ensures run { (id : ℕ) (m : Mark) (a : Option Table) (ss : List Step) (r : Table) → AreSteps ss
+        → Stands Append id m a ss → IsTableOf id r → IsRun (overlay_under m (table_of id a) r).entries }
 {}

@@ -1,20 +1,12 @@
 //! Marks of regions, and tables merged under them.
 
-ghost use Rattle.std.specs.Prelude.{◌≡◌, ℕ, ◌≢◌, ◌+◌, ◌<◌, ◌≤◌, ◌^◌, [], OnOk, OnErr, IfErr, Some, None, min, nat_le};
+ghost use Rattle.std.specs.Prelude.{◌≡◌, ℕ, ◌<◌, OnOk, OnErr, IfErr, Some, None, min};
 ghost use Rattle.std.specs.FinMap as finite;
 ghost use Rattle.raft_base.specs.declared.pipe_log.LogQueue.TheVariants.{Append, Rewrite};
-ghost use Rattle.raft_records.specs.declared.entry_index.EntryIndex.{EntryIndex};
-ghost use Rattle.raft_table.specs.Counts.{live};
-ghost use Rattle.raft_table.specs.Entries.{IsRun, end_of, from};
-ghost use Rattle.raft_table.specs.KeySets.{without};
 ghost use Rattle.raft_table.specs.Marks.{fresh, is_settled, mark_of, least_of, misses, met, joined_at, joined_deleted, joined_floor};
 ghost use Rattle.raft_base.specs.declared.pipe_log.LogQueue.{LogQueue};
 ghost use Rattle.raft_table.specs.Steps.{Compact, Del, Clean};
-ghost use Rattle.raft_table.specs.Table.{empty_table, live_of, IsCounted, IsRecounted, table_with_keys};
-ghost use Rattle.std.specs.Prelude.{List};
 
-use crate::global_stats::GlobalStats;
-use crate::memtable::MemTable;
 use crate::memtable::deleted_keys::DeletedKeys;
 use raft_records::{Error, LogQueue, Result};
 use std::alloc::Global;
@@ -162,7 +154,8 @@ impl Mark {
     ///
     /// Where there is no memory for the key. The mark is then as it was.
     pub fn add_deleted(&mut self, key: Vec<u8>) -> Result<()>
-        ensures ok { OnOk result ((queue : LogQueue) (end : ℕ) → self.new ≡ joined_at queue end self.old (mark_of (Del key.items))) }
+        ensures ok { OnOk result ((queue : LogQueue) (end : ℕ)
+            → self.new ≡ joined_at queue end self.old (mark_of (Del key.items))) }
         ensures memory { IfErr result (λ e. e ≡ Error.Memory) }
         ensures err { OnErr result (self.new ≡ self.old) }
     {

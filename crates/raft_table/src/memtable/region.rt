@@ -32,7 +32,8 @@ pub fn join_region(
     requires own { live_of (other queue) rhs.old ≡ 0 }
     requires older { queue ≡ Rewrite → live_of Append table.old ≡ 0 }
     requires counted { IsCounted table.old stats.old }
-    ensures ok { (id : ℕ) (own : Option Table) (ss rs : List Step) → table_of id own ≡ table.old → AreSteps ss → AreSteps rs
+    ensures ok { (id : ℕ) (own : Option Table) (ss rs : List Step) → table_of id own ≡ table.old → AreSteps ss
+        → AreSteps rs
         → Stands queue id mark.old own ss → Stands queue id newer.old (Some rhs.old) rs
         → OnOk result (Stands queue id mark.new (Some table.new) (ss ++ rs)) }
     ensures refused { (id : ℕ) (own : Option Table) (ss rs : List Step) → table_of id own ≡ table.old → AreSteps rs
@@ -62,10 +63,12 @@ pub fn replay_run(
     requires run { IsRunIn queue run.items }
     requires older { queue ≡ Rewrite → live_of Append table.old ≡ 0 }
     requires counted { IsCounted table.old stats.old }
-    ensures ok { (id : ℕ) (own : Option Table) (ss : List Step) → table_of id own ≡ table.old → AreSteps ss → Stands queue id mark.old own ss
+    ensures ok { (id : ℕ) (own : Option Table) (ss : List Step) → table_of id own ≡ table.old → AreSteps ss
+        → Stands queue id mark.old own ss
         → OnOk result (Stands queue id mark.new (Some table.new) (ss ++ Run run.items ∷ [])) }
-    ensures refused { (id : ℕ) (own : Option Table) (ss : List Step) → table_of id own ≡ table.old → Stands queue id mark.old own ss
-        → IfErr result (λ e. IsCorruptionError e → after queue id None (ss ++ Run run.items ∷ []) ≡ None) }
+    ensures refused { (id : ℕ) (own : Option Table) (ss : List Step) → table_of id own ≡ table.old
+        → Stands queue id mark.old own ss
+        → IfErr result (λ e. IsCorruption e → after queue id None (ss ++ Run run.items ∷ []) ≡ None) }
     ensures recounted { IsRecounted table.old table.new stats.old stats.new }
     ensures region { table.new.region_id ≡ table.old.region_id }
 {
@@ -91,7 +94,8 @@ pub fn replay_delete(
     stats: &mut GlobalStats,
 ) -> Result<()>
     requires counted { IsCounted table.old stats.old }
-    ensures ok { (queue : LogQueue) (id : ℕ) (own : Option Table) (ss : List Step) → table_of id own ≡ table.old → AreSteps ss → Stands queue id mark.old own ss
+    ensures ok { (queue : LogQueue) (id : ℕ) (own : Option Table) (ss : List Step) → table_of id own ≡ table.old
+        → AreSteps ss → Stands queue id mark.old own ss
         → OnOk result (Stands queue id mark.new (Some table.new) (ss ++ Del key.items ∷ [])) }
     ensures memory { IfErr result (λ e. e ≡ Error.Memory) }
     ensures recounted { IsRecounted table.old table.new stats.old stats.new }
@@ -104,7 +108,8 @@ pub fn replay_delete(
 
 /// Replays the clean of a region, whose table goes.
 pub fn replay_clean(mark: &mut Mark)
-    ensures { (queue : LogQueue) (id : ℕ) (own : Option Table) (ss : List Step) → AreSteps ss → Stands queue id mark.old own ss
+    ensures { (queue : LogQueue) (id : ℕ) (own : Option Table) (ss : List Step) → AreSteps ss
+        → Stands queue id mark.old own ss
         → Stands queue id mark.new None (ss ++ Clean ∷ []) }
 {
     mark.add_clean();
@@ -122,7 +127,8 @@ pub fn join_cleaned(
     table: &MemTable,
     newer: &mut Mark,
 ) -> Result<()>
-    ensures ok { (id : ℕ) (own : Option Table) (ss rs : List Step) → table_of id own ≡ table.now → AreSteps ss → AreSteps rs → newer.old.cleaned ≡ true
+    ensures ok { (id : ℕ) (own : Option Table) (ss rs : List Step) → table_of id own ≡ table.now → AreSteps ss
+        → AreSteps rs → newer.old.cleaned ≡ true
         → Stands queue id mark.old own ss → Stands queue id newer.old None rs
         → OnOk result (Stands queue id mark.new None (ss ++ rs)) }
     ensures refused { (id : ℕ) (own : Option Table) (ss rs : List Step) → table_of id own ≡ table.now

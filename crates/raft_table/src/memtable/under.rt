@@ -1,15 +1,15 @@
 //! Merges of two tables of one region under the newer one's mark.
 
-ghost use Rattle.std.specs.Prelude.{◌≡◌, ◌≢◌, ◌+◌, ◌≤◌, false, [], List, if◌then◌else◌, MatchBool, OnOk, OnErr, IfErr, Some, None, ◌^◌};
+ghost use Rattle.std.specs.Prelude.{◌≡◌, ◌≢◌, ◌+◌, ◌≤◌, false, [], if◌then◌else◌, MatchBool, OnOk, OnErr, IfErr, Some, None, ◌^◌};
 ghost use Rattle.std.specs.FinMap as finite;
 ghost use Rattle.raft_base.specs.declared.pipe_log.LogQueue.{LogQueue};
 ghost use Rattle.raft_records.specs.declared.entry_index.EntryIndex.{EntryIndex};
 ghost use Rattle.raft_table.specs.Counts.{live};
-ghost use Rattle.raft_table.specs.Entries.{IsRun, IsRunIn, end_of, from};
+ghost use Rattle.raft_table.specs.Entries.{IsRun, IsRunIn, end_of};
 ghost use Rattle.raft_table.specs.KeySets.{without};
 ghost use Rattle.raft_table.specs.KeyValues.{pair_count};
-ghost use Rattle.raft_table.specs.MarkMerge.{IsMeetingFault, IsFaultUnder, IsRunOver, left_by};
-ghost use Rattle.raft_table.specs.Marks.{part, is_missed, is_meeting_refused, met, table_over, entries_over};
+ghost use Rattle.raft_table.specs.MarkMerge.{IsMeetingRefused, IsRefusedUnder, IsRunOver, left_by};
+ghost use Rattle.raft_table.specs.Marks.{part, is_missed, is_meeting_refused, met, table_over};
 ghost use Rattle.raft_table.specs.Merge.{newer_atomic_group};
 ghost use Rattle.raft_table.specs.Overlay.{is_short, overlay_under, IsOverlayFault};
 ghost use Rattle.raft_table.specs.Queues.{other};
@@ -52,8 +52,10 @@ impl MemTable {
         requires own { live_of (other queue) rhs.old ≡ 0 }
         requires older { queue ≡ Rewrite → live_of Append self.old ≡ 0 }
         requires counted { IsCounted self.old stats.old }
-        ensures ok { IsRunOver queue mark.now rhs.old self.old → OnOk result (table_over queue mark.now rhs.old self.old ≡ Some self.new) }
-        ensures fault { IsRunOver queue mark.now rhs.old self.old → IfErr result (IsFaultUnder queue stats.old mark.now rhs.old self.old) }
+        ensures ok { IsRunOver queue mark.now rhs.old self.old
+            → OnOk result (table_over queue mark.now rhs.old self.old ≡ Some self.new) }
+        ensures refused { IsRunOver queue mark.now rhs.old self.old
+            → IfErr result (IsRefusedUnder queue stats.old mark.now rhs.old self.old) }
         ensures err { IsRunOver queue mark.now rhs.old self.old → IfErr result (λ e. e ≢ Error.Memory →
             (self.new ≡ self.old) × (rhs.new ≡ rhs.old) × (stats.new ≡ stats.old)) }
         ensures emptied { OnOk result (rhs.new ≡ empty_table rhs.old.region_id) }
@@ -88,7 +90,8 @@ impl MemTable {
         requires appended { live_of Rewrite rhs.old ≡ 0 }
         requires atomic_group { rhs.old.atomic_group ≡ None }
         requires counted { IsCounted self.old stats.old }
-        ensures ok { IsRun (overlay_under mark.now rhs.old self.old).entries → OnOk result (self.new ≡ overlay_under mark.now rhs.old self.old) }
+        ensures ok { IsRun (overlay_under mark.now rhs.old self.old).entries
+            → OnOk result (self.new ≡ overlay_under mark.now rhs.old self.old) }
         ensures emptied { OnOk result (rhs.new ≡ empty_table rhs.old.region_id) }
         ensures fault { IfErr result (IsOverlayFault stats.old rhs.old) }
         ensures err { IfErr result (λ e. e ≢ Error.Memory →

@@ -39,7 +39,7 @@ pub fn last_words_stand()
     ensures entries { (h : List Event) (tables : Tables) (cleaned : List ℕ) → IsSoundIn Append h
         → IsOneReading Append h tables cleaned
         → (r i : ℕ)
-        → entry_at i (table_of r (finite.get tables r)).entries ≡ last_entry i (flat_map (λ e. steps_on r (steps_of_items e.items)) h) }
+        → entry_with_index i (table_of r (finite.get tables r)).entries ≡ last_entry i (flat_map (λ e. steps_on r (steps_of_items e.items)) h) }
     ensures keys { (h : List Event) (tables : Tables) (cleaned : List ℕ) → IsSoundIn Append h
         → IsOneReading Append h tables cleaned
         → (r : ℕ) (key : List ℕ)

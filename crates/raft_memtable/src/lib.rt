@@ -1,6 +1,9 @@
 //! The tables of all regions, and the contexts that rebuild them from log files.
 #![tactic(auto)]
 
+pub mod accessor;
+pub mod item_writes;
+pub mod region_tables;
 pub mod replay_machine;
 pub mod waiting_group;
 pub mod waiting_groups;

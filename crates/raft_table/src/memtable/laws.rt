@@ -28,7 +28,7 @@ pub fn entries_stand_by_index()
     ensures hole { (es run after : List EntryIndex) → leaves_hole (end_of es) (start_of run) ≡ true
         → replayed Rewrite es run ≡ Some after → after ≡ run }
     ensures compacted { (index i : ℕ) (es : List EntryIndex)
-        → entry_at i (from index es) ≡ (if nat_lt i index then None else entry_at i es) }
+        → entry_with_index i (from index es) ≡ (if nat_lt i index then None else entry_with_index i es) }
 {}
 
 /// In the append queue the entry at an index is that of the last of a region's steps that speaks of the
@@ -37,7 +37,7 @@ pub fn entries_stand_by_index()
 /// or a clean.
 pub fn last_words_stand()
     ensures entries { (id i : ℕ) (t : Option Table) (ss : List Step) → AreSteps ss → after Append id None ss ≡ Some t
-        → entry_at i (table_of id t).entries ≡ last_entry i ss }
+        → entry_with_index i (table_of id t).entries ≡ last_entry i ss }
     ensures keys { (q : LogQueue) (id : ℕ) (key : List ℕ) (t : Option Table) (ss : List Step)
         → after q id None ss ≡ Some t → finite.get (table_of id t).keys key ≡ last_pair key ss }
 {}

@@ -68,7 +68,7 @@ pub fn replay_run(
         → OnOk result (Stands queue id mark.new (Some table.new) (ss ++ Run run.items ∷ [])) }
     ensures refused { (id : ℕ) (own : Option Table) (ss : List Step) → table_of id own ≡ table.old
         → Stands queue id mark.old own ss
-        → IfErr result (λ e. IsCorruption e → after queue id None (ss ++ Run run.items ∷ []) ≡ None) }
+        → IfErr result (λ e. IsCorruptionError e → after queue id None (ss ++ Run run.items ∷ []) ≡ None) }
     ensures recounted { IsRecounted table.old table.new stats.old stats.new }
     ensures region { table.new.region_id ≡ table.old.region_id }
 {

@@ -8,7 +8,7 @@ ghost use Rattle.raft_table.specs.Counts.{live};
 ghost use Rattle.raft_table.specs.Entries.{IsRun, IsRunIn, end_of};
 ghost use Rattle.raft_table.specs.KeySets.{without};
 ghost use Rattle.raft_table.specs.KeyValues.{pair_count};
-ghost use Rattle.raft_table.specs.MarkMerge.{IsMeetingRefused, IsRefusedUnder, IsRunOver, left_by};
+ghost use Rattle.raft_table.specs.MarkMerge.{IsMeetingFault, IsFaultUnder, IsRunOver, left_by};
 ghost use Rattle.raft_table.specs.Marks.{part, is_missed, is_meeting_refused, met, table_over};
 ghost use Rattle.raft_table.specs.Merge.{newer_atomic_group};
 ghost use Rattle.raft_table.specs.Overlay.{is_short, overlay_under, IsOverlayFault};
@@ -55,7 +55,7 @@ impl MemTable {
         ensures ok { IsRunOver queue mark.now rhs.old self.old
             → OnOk result (table_over queue mark.now rhs.old self.old ≡ Some self.new) }
         ensures refused { IsRunOver queue mark.now rhs.old self.old
-            → IfErr result (IsRefusedUnder queue stats.old mark.now rhs.old self.old) }
+            → IfErr result (IsFaultUnder queue stats.old mark.now rhs.old self.old) }
         ensures err { IsRunOver queue mark.now rhs.old self.old → IfErr result (λ e. e ≢ Error.Memory →
             (self.new ≡ self.old) × (rhs.new ≡ rhs.old) × (stats.new ≡ stats.old)) }
         ensures emptied { OnOk result (rhs.new ≡ empty_table rhs.old.region_id) }

@@ -1,6 +1,7 @@
 mod AccessorLemmas
 mod LiveLemmas
 mod MapLemmas
+mod OrderLemmas
 mod RegionTablesLemmas
 mod SlotLemmas
 mod UpdateLemmas

@@ -4,6 +4,8 @@
 pub mod accessor;
 pub mod item_writes;
 pub mod region_tables;
+#[cfg(test)]
+mod tests;
 
 pub use accessor::{MemTableAccessor, slot_of};
 pub use raft_table::{

@@ -1,8 +1,8 @@
 -- All tables, in open order.
-use Rattle.std.proofs.Common.{◌≡◌, ◌≢◌, ◌<◌, ◌≤◌, ◌+◌, ℕ, suc, zero, Bool, true, false, cond, nat_eq, List, [], ◌∷◌, ◌++◌, length, drop, map, Option, Some, None, IsPermutation, refl, sym, ap, subst, ◌∙◌, arith, inl, inr, slice_index_or, append_assoc}
+use Rattle.std.proofs.Common.{◌≡◌, ◌≢◌, ◌<◌, ◌+◌, ℕ, suc, zero, true, false, cond, nat_eq, List, [], ◌∷◌, ◌++◌, length, drop, map, Some, None, IsPermutation, refl, sym, ap, subst, ◌∙◌, arith, inl, inr, slice_index_or, append_assoc}
 use lib.Dec.{T}
 use Rattle.std.specs.declared.cmp.Ordering.TheVariants.{Less, Equal, Greater}
-use Rattle.std.specs.Ordering.{nat_cmp, is_eq, eq_by_cmp}
+use Rattle.std.specs.Ordering.{nat_cmp, is_eq}
 use Rattle.std.specs.Cmp.{nat_cmp_total}
 use Rattle.std.specs.List.{AllByRecursion, IsDistinct}
 use Rattle.std.specs.FinMap as finite
@@ -14,9 +14,9 @@ use Rattle.std.proofs.lemmas.List.{map-append}
 use Rattle.std.proofs.lemmas.List.Sorted.{IsPermutation-refl, IsPermutation-trans, IsPermutation-cons, IsPermutation-append_comm, IsPermutation-append_left, IsPermutation-append_right, IsPermutation-map}
 use Rattle.raft_history.specs.RegionSteps.{Tables}
 use Rattle.raft_table.specs.Table.{Table}
-use Rattle.raft_table.proofs.Shown.{find-below, below_all-less, first_of_both, second_of_both}
+use Rattle.raft_table.proofs.Shown.{find-below, first_of_both, second_of_both}
 use Rattle.raft_memtable.specs.Accessor.{slot_of}
-use Rattle.raft_memtable.specs.AccessorView.{slot_entries, together, IsSlot, AreSlots}
+use Rattle.raft_memtable.specs.AccessorView.{slot_entries, together, AreSlots}
 use Rattle.raft_memtable.proofs.MapLemmas.{none_some, eq_self}
 use Rattle.raft_memtable.proofs.RegionTablesLemmas.{same_test}
 use Rattle.raft_memtable.proofs.SlotLemmas.{find-both, find-later, same_slot}

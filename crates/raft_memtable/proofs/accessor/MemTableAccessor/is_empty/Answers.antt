@@ -1,4 +1,4 @@
-use Rattle.std.proofs.Common.{◌≡◌, ◌<◌, ◌≤◌, Bool, true, false, not, refl, sym, ap, ◌∙◌, arith, rules}
+use Rattle.std.proofs.Common.{refl, sym, ap, ◌∙◌, arith}
 use Rattle.std.proofs.lemmas.Bool.{false≢true}
 use Rattle.raft_memtable.specs.Accessor.{Accessor}
 use Rattle.raft_memtable.proofs.SlotLemmas.{drop-entries, drop-none, together-empty, slot-empty}

@@ -1,4 +1,4 @@
-use Rattle.std.proofs.Common.{◌≡◌, ◌++◌, [], map, IsPermutation, refl, sym, ap, subst, ◌∙◌, append-nil}
+use Rattle.std.proofs.Common.{◌≡◌, ◌++◌, map, IsPermutation, sym, ap, subst, ◌∙◌, append-nil}
 use Rattle.std.specs.FinMap as finite
 use Rattle.raft_memtable.proofs.OrderLemmas.{values-permuted}
 use Rattle.raft_memtable.proofs.region_tables.RegionTables.push_tables.Goals as goal

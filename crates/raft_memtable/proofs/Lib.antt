@@ -4,6 +4,7 @@ mod WaitingSeen
 mod AccessorLemmas
 mod LiveLemmas
 mod MapLemmas
+mod OrderLemmas
 mod RegionTablesLemmas
 mod SlotLemmas
 mod UpdateLemmas

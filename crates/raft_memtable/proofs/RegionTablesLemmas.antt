@@ -1,5 +1,5 @@
 -- The fields of `RegionTables` against what contracts see of them.
-use Rattle.std.proofs.Common.{◌≡◌, ◌⊎◌, ℕ, Bool, true, false, cond, nat_eq, List, [], ◌∷◌, length, Option, Some, None, IsSome, refl, sym, ap, subst, ◌∙◌, inl, inr, arith, MutBor}
+use Rattle.std.proofs.Common.{◌≡◌, ℕ, true, false, cond, nat_eq, List, [], ◌∷◌, length, Option, Some, None, refl, sym, ap, subst, ◌∙◌, inl, inr, arith, MutBor}
 use Rattle.std.specs.Ordering.{nat_cmp, is_eq, eq_by_cmp}
 use Rattle.std.specs.Cmp.{nat_cmp_total}
 use Rattle.std.specs.Map.{lookup}
@@ -19,7 +19,7 @@ abbrev Es : Type 0
 Es = List (ℕ × Table)
 
 -- the two tests of numbers are one
-same_test : (q k : ℕ) → is_eq (nat_cmp q k) ≡ nat_eq q k
+pub same_test : (q k : ℕ) → is_eq (nat_cmp q k) ≡ nat_eq q k
 same_test q k = elim (by_id q k) [ inl p ↦ subst (λ k. is_eq (nat_cmp q k) ≡ nat_eq q k) p (eq_self q ∙ sym (self_same q)) | inr f ↦ f ∙ sym (other q k f) ]
   where
     other : (q k : ℕ) → eq_by_cmp nat_cmp q k ≡ false → nat_eq q k ≡ false

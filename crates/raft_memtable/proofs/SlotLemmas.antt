@@ -1,6 +1,6 @@
 -- Tables in slots against the one map of them.
-use Rattle.std.proofs.Common.{◌≡◌, ◌≢◌, ◌<◌, ◌≤◌, ◌+◌, ◌⊎◌, ℕ, suc, zero, Bool, true, false, cond, List, [], ◌∷◌, ◌++◌, length, drop, replicate, slice_index_or, slice_set, Option, Some, None, refl, sym, ap, subst, ◌∙◌, arith, inl, inr}
-use Rattle.std.specs.Ordering.{nat_cmp, eq_by_cmp, is_eq}
+use Rattle.std.proofs.Common.{◌≡◌, ◌≢◌, ◌<◌, ◌≤◌, ◌+◌, ◌⊎◌, ℕ, suc, zero, true, false, cond, List, [], ◌∷◌, ◌++◌, length, drop, replicate, slice_index_or, slice_set, Option, Some, None, refl, sym, ap, subst, ◌∙◌, arith, inl, inr}
+use Rattle.std.specs.Ordering.{nat_cmp, is_eq}
 use Rattle.std.specs.Option.{option_or}
 use Rattle.std.specs.Cmp.{nat_cmp_total}
 use Rattle.std.specs.FinMap as finite
@@ -15,9 +15,9 @@ use Rattle.raft_memtable.specs.AccessorView.{slot_entries, together, IsSlot, Are
 use Rattle.raft_memtable.proofs.LiveLemmas.{counted-with, live-none}
 use Rattle.raft_base.specs.declared.pipe_log.LogQueue.TheVariants.{Append, Rewrite}
 use Rattle.raft_table.specs.Counts.{live}
-use Rattle.raft_memtable.proofs.MapLemmas.{same, by_id, with_own, with_other, with_same}
+use Rattle.raft_memtable.proofs.MapLemmas.{same, by_id, with_own, with_other}
 
-find-both : (q : ℕ) (xs ys : List (ℕ × Table)) → find nat_cmp q (xs ++ ys) ≡ option_or (find nat_cmp q xs) (find nat_cmp q ys)
+pub find-both : (q : ℕ) (xs ys : List (ℕ × Table)) → find nat_cmp q (xs ++ ys) ≡ option_or (find nat_cmp q xs) (find nat_cmp q ys)
 find-both q [] ys = refl
 find-both q (x ∷ xs) ys =
     elim (is_eq (nat_cmp q x.0)) as (λ b. cond b (Some x.1) (find nat_cmp q (xs ++ ys)) ≡ option_or (cond b (Some x.1) (find nat_cmp q xs)) (find nat_cmp q ys)) [
@@ -30,7 +30,7 @@ or_none None = refl
 or_none (Some t) = refl
 
 -- in slots from k on no region of a lower slot is found
-find-later : (k : ℕ) (ms : List Tables) (q : ℕ) → AreSlots k ms → slot_of q < k → find nat_cmp q (slot_entries ms) ≡ None
+pub find-later : (k : ℕ) (ms : List Tables) (q : ℕ) → AreSlots k ms → slot_of q < k → find nat_cmp q (slot_entries ms) ≡ None
 find-later k [] q s lt = refl
 find-later k (m ∷ ms) q s lt =
     find-both q (finite.entries m) (slot_entries ms) ∙ ap (λ o. option_or o (find nat_cmp q (slot_entries ms))) (sym (finite.get-entries m q) ∙ s.0 q (λ e. omega (arith, e, lt))) ∙ find-later (suc k) ms q s.1 (omega (arith, lt))
@@ -80,7 +80,7 @@ length-set (n ∷ ms) (suc i) m = omega (arith, length-set ms i m)
 own-with : (k : ℕ) (m : Tables) (id : ℕ) (t : Option Table) → IsSlot k m → slot_of id ≡ k → IsSlot k (with_table m id t)
 own-with k m id t s e = λ q h. elim (by_id q id) [ inl p ↦ absurd (h (ap slot_of p ∙ e)) | inr f ↦ with_other m id q t f ∙ s q h ]
 
-same_slot : (i j : ℕ) → (i ≡ j) ⊎ (i ≢ j)
+pub same_slot : (i j : ℕ) → (i ≡ j) ⊎ (i ≢ j)
 same_slot i j = elim (cases_lt i j) [ inl p ↦ inr (λ e. omega (arith, p, e)) | inr p ↦ elim (cases_lt j i) [ inl r ↦ inr (λ e. omega (arith, r, e)) | inr r ↦ inl (omega (arith, p, r)) ] ]
 
 own-at : (ms : List Tables) (i : ℕ) (d : Tables) → AreSlots 0 ms → i < length ms → IsSlot i (slice_index_or ms i d)

@@ -1,5 +1,5 @@
 -- A region's table changed by a call, or made and changed.
-use Rattle.std.proofs.Common.{◌≡◌, ℕ, Option, Some, None, Result, Ok, Err, refl, sym, ap, subst, ◌∙◌, inl, inr}
+use Rattle.std.proofs.Common.{◌≡◌, ℕ, Some, Result, Ok, Err, refl, sym, ap, subst, ◌∙◌, inl, inr}
 use Rattle.std.specs.FinMap as finite
 use Rattle.std.specs.Result.{OnOk, OnErr}
 use Rattle.raft_base.specs.declared.errors.Error.{Error}
@@ -7,10 +7,10 @@ use Rattle.raft_base.specs.declared.errors.Error.TheVariants.{Memory}
 use Rattle.raft_table.specs.Counts.{Counts}
 use Rattle.raft_table.specs.Steps.{table_of}
 use Rattle.raft_table.specs.Table.{Table, IsRecounted}
-use Rattle.raft_history.specs.RegionSteps.{Tables, with_table}
+use Rattle.raft_history.specs.RegionSteps.{Tables}
 use Rattle.raft_memtable.specs.Accessor.{table_in}
 use Rattle.raft_memtable.specs.Updates.{Change, Changes, MayChange, IsUpdated}
-use Rattle.raft_memtable.proofs.MapLemmas.{get_own, insert_same, with_same, one_written, one_same}
+use Rattle.raft_memtable.proofs.MapLemmas.{get_own, insert_same, one_written, one_same}
 
 module _ {F R : Type 0} (g : Change F R) (f : F) (m : Tables) (id : ℕ) (counts : Counts) where
   -- the table was there

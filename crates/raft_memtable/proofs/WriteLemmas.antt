@@ -1,5 +1,5 @@
 -- One item written to its region's table.
-use Rattle.std.proofs.Common.{◌≡◌, ◌⊎◌, ◌≤◌, ◌^◌, ◌+◌, ℕ, Bool, true, false, cond, List, [], ◌∷◌, ◌++◌, length, append-nil, Option, Some, None, Result, Ok, Err, refl, sym, ap, subst, ◌∙◌, inl, inr, arith}
+use Rattle.std.proofs.Common.{◌≡◌, ◌⊎◌, ℕ, true, false, cond, List, [], ◌++◌, length, append-nil, Option, Some, None, Result, Ok, Err, refl, sym, ap, subst, ◌∙◌, inl, inr}
 use Rattle.std.specs.FinMap as finite
 use Rattle.std.specs.Option.{option_map, is_some}
 use Rattle.std.specs.declared.alloc.Global.{Global}
@@ -18,7 +18,6 @@ use Rattle.raft_records.specs.Group.{is_reserved}
 use Rattle.raft_records.specs.Item.{Item, Content, Pair, entries, command, pair, command_item}
 use Rattle.raft_history.specs.RegionSteps.{Tables, with_table}
 use Rattle.raft_table.specs.Counts.{Counts, live}
-use Rattle.raft_table.specs.Entries.{IsRunIn}
 use Rattle.raft_table.specs.Rewriting.{rewritten, IsRewriteFault}
 use Rattle.raft_table.specs.Start.{appended, replayed, IsTableRunFault}
 use Rattle.raft_table.specs.Steps.{table_of}

@@ -20,7 +20,7 @@ use Rattle.raft_table.specs.Entries.{IsRunIn}
 use Rattle.raft_table.specs.Queues.{other}
 use Rattle.raft_table.specs.Steps.{table_of}
 use Rattle.raft_table.specs.Table.{Table, after_append, after_replay, after_rewrite, after_rewrite_key, compacted, with_pair, without_key, live_of}
-use Rattle.raft_memtable.specs.Accessor.{Accessor, table_in, live_in_all}
+use Rattle.raft_memtable.specs.Accessor.{Accessor, live_in_all}
 
 -- how items are written: as new ones of the append queue, as read again from a queue, or by a rewriting with this gate to this file
 pub data Writing : Type 0 where

@@ -1,6 +1,6 @@
 //! The tables of all regions.
 
-ghost use Rattle.std.specs.Prelude.{◌≡◌, ◌≢◌, ◌≤◌, ◌<◌, ◌^◌, ◌+◌, ◌⊎◌, ◌↔◌, ℕ, List, [], ◌∷◌, ◌++◌, map, replicate, IsTrue, IsOk, OnOk, OnErr, IfOk, IfErr, IfSome, Some, None, option_map, if◌then◌else◌};
+ghost use Rattle.std.specs.Prelude.{◌≡◌, ◌≢◌, ◌≤◌, ◌<◌, ◌^◌, ◌+◌, ◌⊎◌, ◌↔◌, ℕ, List, [], ◌∷◌, ◌++◌, map, replicate, IsPermutation, IsTrue, IsOk, OnOk, OnErr, IfOk, IfErr, IfSome, Some, None, option_map, if◌then◌else◌};
 ghost use Rattle.std.specs.FinMap as finite;
 ghost use Rattle.std.specs.Iterator.{Drains, Yields, IsFinite};
 ghost use Rattle.raft_base.specs.declared.pipe_log.LogQueue.{LogQueue};
@@ -279,6 +279,34 @@ impl MemTableAccessor {
         let logs = clean_logs(*self.cleaned.allocator(), &self.cleaned)?;
         self.cleaned.clear();
         Ok(logs)
+    }
+
+    /// Whether there are no tables.
+    pub fn is_empty(&self) -> bool
+        ensures { IsTrue result ↔ (self.now.tables ≡ finite.empty) }
+    {
+        for slot in &self.slots {
+            if !slot.is_empty() {
+                return false;
+            }
+        }
+        true
+    }
+
+    /// All tables, in open order.
+    ///
+    /// # Errors
+    ///
+    /// `Memory`.
+    pub fn tables(&self) -> Result<Vec<&MemTable>>
+        ensures tables { IfOk result (λ tables. IsPermutation (map (λ t. t.now) tables.items) (finite.values self.now.tables)) }
+        ensures memory { IfErr result (λ e. e ≡ Error.Memory) }
+    {
+        let mut tables = Vec::new(*self.cleaned.allocator());
+        for slot in &self.slots {
+            slot.push_tables(&mut tables)?;
+        }
+        Ok(tables)
     }
 
     /// Lists a region as cleaned.

@@ -5,6 +5,8 @@ pub mod accessor;
 pub mod item_writes;
 pub mod region_tables;
 pub mod replay_machine;
+#[cfg(test)]
+mod tests;
 pub mod waiting_group;
 pub mod waiting_groups;
 pub mod waiting_items;

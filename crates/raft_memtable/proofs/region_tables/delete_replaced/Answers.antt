@@ -1,4 +1,4 @@
-use Rattle.std.proofs.Common.{◌≡◌, ◌+◌, arith}
+use Rattle.std.proofs.Common.{arith}
 use Rattle.raft_table.proofs.TableLemmas.{live_of_empty}
 use Rattle.raft_memtable.proofs.region_tables.delete_replaced.Goals as goal
 

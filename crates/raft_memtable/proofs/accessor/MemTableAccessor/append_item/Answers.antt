@@ -1,22 +1,13 @@
-use Rattle.std.proofs.Common.{◌≡◌, ◌≤◌, ◌⊎◌, ◌+◌, ◌^◌, Option, Some, None, Ok, Err, refl, sym, ap, subst, ◌∙◌, slice_index_or, slice_set, arith, inl, inr}
-use Rattle.std.specs.Result.{OnOk, OnErr, IfOk, IfErr}
-use Rattle.std.specs.FinMap as finite
-use Rattle.raft_base.specs.declared.errors.Error.TheVariants as errors
-use Rattle.raft_base.specs.declared.pipe_log.LogQueue.{LogQueue}
+use Rattle.std.proofs.Common.{refl, ap, subst, slice_set}
 use Rattle.raft_records.specs.Item.{item_of}
-use Rattle.raft_history.specs.RegionSteps.{Tables, with_table}
-use Rattle.raft_table.specs.Change.{after_change, IsAnswer, IsChangeFault}
-use Rattle.raft_table.specs.Counts.{live}
 use Rattle.raft_table.specs.Steps.{table_of}
-use Rattle.raft_table.specs.Table.{Table, with_atomic_group, live_of, IsCounted, IsRecounted}
-use Rattle.raft_memtable.specs.Accessor.{Accessor, table_in, live_in_all}
-use Rattle.raft_memtable.specs.AccessorView.{together, accessor_shown, IsKept}
-use Rattle.raft_memtable.specs.Writes.{Appending, Replaying, Rewriting}
+use Rattle.raft_table.specs.Table.{IsCounted}
+use Rattle.raft_memtable.specs.AccessorView.{together}
+use Rattle.raft_memtable.specs.Writes.{Appending}
 use Rattle.raft_memtable.specs.declared.accessor.MemTableAccessor.TheInside.{Inside}
-use Rattle.raft_memtable.proofs.AccessorLemmas.{InSlot, kept-in, tables-are, changed-in, written-in}
+use Rattle.raft_memtable.proofs.AccessorLemmas.{InSlot, kept-in, written-in}
 use Rattle.raft_memtable.proofs.LiveLemmas.{table-counted}
-use Rattle.raft_memtable.proofs.MapLemmas.{get_own}
-use Rattle.raft_memtable.proofs.SlotLemmas.{get-shown, IsChanged, shown-changed, kept-changed}
+use Rattle.raft_memtable.proofs.SlotLemmas.{get-shown}
 use Rattle.raft_memtable.proofs.accessor.MemTableAccessor.append_item.Goals as goal
 
 pub append_item-requires : goal.append_item-requires

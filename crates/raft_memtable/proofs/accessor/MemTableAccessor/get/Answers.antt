@@ -1,4 +1,4 @@
-use Rattle.std.proofs.Common.{◌≡◌, sym, ◌∙◌}
+use Rattle.std.proofs.Common.{sym, ◌∙◌}
 use Rattle.raft_memtable.proofs.SlotLemmas.{get-shown}
 use Rattle.raft_memtable.proofs.accessor.MemTableAccessor.get.Goals as goal
 

@@ -1,10 +1,10 @@
-use Rattle.std.proofs.Common.{◌≡◌, ◌∷◌, [], ◌++◌, List, map, refl, sym, ap, subst, ◌∙◌}
+use Rattle.std.proofs.Common.{◌∷◌, [], ◌++◌, map, sym, subst}
 use Rattle.std.proofs.iter.Next.{Yields-more}
 use Rattle.std.proofs.lemmas.List.{map-append}
 use Rattle.std.proofs.lemmas.Result.{err_from_is_err_and}
-use Rattle.raft_base.specs.declared.pipe_log.LogQueue.TheVariants.{Append, Rewrite}
+use Rattle.raft_base.specs.declared.pipe_log.LogQueue.TheVariants.{Rewrite}
 use Rattle.raft_records.specs.Item.{item_of}
-use Rattle.raft_memtable.specs.Writes.{Appending, Replaying, Rewriting, AreWritten}
+use Rattle.raft_memtable.specs.Writes.{Replaying, AreWritten}
 use Rattle.raft_memtable.proofs.AccessorLemmas.{written_append, refused_last}
 use Rattle.raft_memtable.proofs.accessor.MemTableAccessor.replay_rewrite_writes.Goals as goal
 

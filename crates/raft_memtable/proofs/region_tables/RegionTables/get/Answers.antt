@@ -1,7 +1,4 @@
-use Rattle.std.proofs.Common.{◌≡◌, Option, Some, None, refl, sym, ap, ◌∙◌}
-use Rattle.std.specs.Option.{option_map, IfSome}
-use Rattle.std.specs.FinMap as finite
-use Rattle.raft_table.specs.Table.{Table}
+use Rattle.std.proofs.Common.{sym, ◌∙◌}
 use Rattle.raft_memtable.proofs.RegionTablesLemmas.{get-shown}
 use Rattle.raft_memtable.proofs.region_tables.RegionTables.get.Goals as goal
 

@@ -1,10 +1,8 @@
-use Rattle.std.proofs.Common.{◌≡◌, ◌+◌, ◌≤◌, None, sym, ap, subst, ◌∙◌, arith}
+use Rattle.std.proofs.Common.{None, sym, ap, ◌∙◌, arith}
 use Rattle.raft_table.specs.Steps.{table_of}
 use Rattle.raft_table.specs.Table.{live_of}
 use Rattle.raft_table.proofs.TableLemmas.{live_of_empty}
-use Rattle.raft_memtable.specs.Accessor.{table_in}
-use Rattle.raft_memtable.proofs.RegionTablesLemmas.{get-shown, kept-with, shown-with}
-use Rattle.raft_memtable.specs.declared.region_tables.RegionTables.TheInside.{Inside}
+use Rattle.raft_memtable.proofs.RegionTablesLemmas.{get-shown, shown-with}
 use Rattle.raft_memtable.proofs.region_tables.RegionTables.remove.Goals as goal
 
 pub delete_replaced-requires : goal.delete_replaced-requires

@@ -1,17 +1,15 @@
 use Rattle.std.specs.Map.{lookup}
-use Rattle.std.proofs.Common.{rules, nat_eq, ◌≡◌, Ok, Err, Some, None, refl, sym, ap, subst, ◌∙◌}
+use Rattle.std.proofs.Common.{nat_eq, ◌≡◌, Ok, Some, None, refl, sym, ap, subst, ◌∙◌}
 use Rattle.std.specs.FinMap as finite
 use Rattle.std.proofs.lemmas.Result.{err_from_is_err_and}
 use Rattle.std.specs.Option.{is_some, option_copied_mut}
 use Rattle.raft_table.specs.Steps.{table_of}
-use Rattle.raft_table.specs.Table.{Table, empty_table}
-use Rattle.raft_history.specs.RegionSteps.{Tables}
+use Rattle.raft_table.specs.Table.{Table}
 use Rattle.raft_memtable.specs.Accessor.{table_in}
-use Rattle.raft_memtable.specs.RegionTablesView.{tables_shown, IsKept}
 use Rattle.raft_memtable.specs.Updates.{Changes}
 use Rattle.raft_memtable.specs.declared.region_tables.RegionTables.TheInside.{Inside}
 use Rattle.raft_memtable.proofs.MapLemmas.{some_is}
-use Rattle.raft_memtable.proofs.RegionTablesLemmas.{get-shown, kept-with, kept-same, shown-with, shown-same, there, absent, region-in}
+use Rattle.raft_memtable.proofs.RegionTablesLemmas.{kept-with, kept-same, shown-with, shown-same, there, absent, region-in}
 use Rattle.raft_memtable.proofs.UpdateLemmas.{updated, made, refused, no_memory}
 use Rattle.raft_memtable.proofs.region_tables.RegionTables.update.Given as given
 use Rattle.raft_memtable.proofs.region_tables.RegionTables.update.Goals as goal

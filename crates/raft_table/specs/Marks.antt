@@ -10,7 +10,7 @@ use Rattle.raft_table.specs.KeyValues.{Keys, overlaid}
 use Rattle.raft_table.specs.Merge.{newer_atomic_group}
 use Rattle.raft_table.specs.Start.{leaves_hole}
 use Rattle.raft_table.specs.Steps.{Step, Run, Compact, Put, Del, AtomicGroup, Clean, table_of, there_if, after, IsTableOf}
-use Rattle.raft_table.specs.Table.{Table, empty_table, with_entries, with_pair, with_atomic_group}
+use Rattle.raft_table.specs.Table.{Table, empty_table, table_with_entries, with_pair, with_atomic_group}
 
 -- whether the region was cleaned; the start of its first run and the greatest compaction before it; the greatest compaction; the least start of its runs; the deleted keys
 pub record Mark : Type 0 where
@@ -148,7 +148,7 @@ mark_of Clean = record fresh { cleaned = true }
 mark_of _ = fresh
 
 abbrev pub own_of : ℕ → Step → Option Table
-own_of id (Run run) = Some (with_entries (empty_table id) run)
+own_of id (Run run) = Some (table_with_entries (empty_table id) run)
 own_of id (Put key value file) = Some (with_pair (empty_table id) key value file)
 own_of id (AtomicGroup start end) = Some (with_atomic_group (empty_table id) start end)
 own_of id Clean = None

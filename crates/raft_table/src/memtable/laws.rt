@@ -5,7 +5,7 @@ ghost use Rattle.std.specs.FinSet as finset;
 ghost use Rattle.raft_base.specs.declared.pipe_log.LogQueue.{LogQueue};
 ghost use Rattle.raft_base.specs.declared.pipe_log.LogQueue.TheVariants.{Append, Rewrite};
 ghost use Rattle.raft_records.specs.declared.entry_index.EntryIndex.{EntryIndex};
-ghost use Rattle.raft_table.specs.Entries.{IsRun, IsRunIn, StandsBehind, start_of, end_of, entry_at, from};
+ghost use Rattle.raft_table.specs.Entries.{IsRun, IsRunIn, StandsBehind, start_of, end_of, entry_with_index, from};
 ghost use Rattle.raft_table.specs.Marks.{Mark, Stands, applied, joined, mark_of, own_of};
 ghost use Rattle.raft_table.specs.Overlay.{HoldsDeleted, IsExactMark, deleted_of, overlay, overlay_under};
 ghost use Rattle.raft_table.specs.Steps.{Step, IsStep, AreSteps, IsTableOf, table_of, after};
@@ -20,7 +20,7 @@ pub fn entries_stand_by_index()
     ensures replayed { (queue : LogQueue) (es run after : List EntryIndex) → IsRunIn queue run → 0 < length run → replayed Append es run ≡ Some after → StandsBehind es run after }
     ensures rewritten { (queue : LogQueue) (es run after : List EntryIndex) → IsRunIn queue run → 0 < length run → leaves_hole (end_of es) (start_of run) ≡ false → replayed Rewrite es run ≡ Some after → StandsBehind es run after }
     ensures hole { (es run after : List EntryIndex) → leaves_hole (end_of es) (start_of run) ≡ true → replayed Rewrite es run ≡ Some after → after ≡ run }
-    ensures compacted { (index i : ℕ) (es : List EntryIndex) → entry_at i (from index es) ≡ (if nat_lt i index then None else entry_at i es) }
+    ensures compacted { (index i : ℕ) (es : List EntryIndex) → entry_with_index i (from index es) ≡ (if nat_lt i index then None else entry_with_index i es) }
 {}
 
 /// A mark and an own table stand for the steps on a region: those of one step for it; those of two

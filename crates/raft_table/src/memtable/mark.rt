@@ -10,7 +10,7 @@ ghost use Rattle.raft_table.specs.KeySets.{without};
 ghost use Rattle.raft_table.specs.Marks.{fresh, is_settled, mark_of, least_of, misses, met, joined_at, joined_deleted, joined_lo};
 ghost use Rattle.raft_base.specs.declared.pipe_log.LogQueue.{LogQueue};
 ghost use Rattle.raft_table.specs.Steps.{Compact, Del, Clean};
-ghost use Rattle.raft_table.specs.Table.{empty_table, live_of, IsCounted, IsRecounted, with_keys};
+ghost use Rattle.raft_table.specs.Table.{empty_table, live_of, IsCounted, IsRecounted, table_with_keys};
 ghost use Rattle.std.specs.Prelude.{List};
 
 use crate::global_stats::GlobalStats;

@@ -2,7 +2,7 @@
 use Rattle.std.proofs.Common.{◌≡◌, ◌≢◌, ℕ, ◌+◌, ◌-◌, ◌^◌, ◌<◌, ◌≤◌, List, [], ◌∷◌, ◌++◌, map, length, take, drop, Option, Some, None, refl, sym, ap, ◌∙◌, subst, append_assoc, arith}
 use Rattle.raft_base.specs.declared.pipe_log.FileBlockHandle.{FileBlockHandle}
 use Rattle.raft_records.specs.declared.compression_type.CompressionType.TheVariants as compressions
-use Rattle.raft_records.specs.FilePart.{Part, part_signature, IsBatchAt, IsNext, entries_place}
+use Rattle.raft_records.specs.FilePart.{Part, part_signature, IsNext, entries_place}
 use Rattle.raft_records.specs.Range.{AreInRange}
 use Rattle.raft_records.proofs.BatchLemmas.{one_batch}
 use Rattle.raft_records.proofs.ItemLemmas.{same_length}

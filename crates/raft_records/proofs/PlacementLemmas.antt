@@ -1,22 +1,20 @@
 -- On items in the place that they are read for.
-use Rattle.std.proofs.Common.{◌≡◌, ℕ, ◌+◌, ◌-◌, ◌≤◌, List, [], ◌∷◌, ◌++◌, map, length, Option, Some, None, refl, sym, ap, ◌∙◌, subst, arith}
+use Rattle.std.proofs.Common.{◌≡◌, ℕ, ◌+◌, ◌≤◌, List, [], ◌∷◌, ◌++◌, map, length, Option, Some, None, refl, sym, ap, ◌∙◌, subst, arith}
 use Rattle.std.proofs.lemmas.List.{map-append, length_push}
-use Rattle.raft_base.specs.declared.errors.Error.{Error}
 use Rattle.raft_base.specs.declared.pipe_log.FileBlockHandle.{FileBlockHandle}
 use Rattle.raft_base.specs.declared.pipe_log.FileId.{FileId}
 use Rattle.raft_base.specs.Reading.{Reads, IsSequence}
-use Rattle.raft_base.specs.Varint.{IsVarint}
 use Rattle.raft_records.specs.declared.compression_type.CompressionType.{CompressionType}
 use Rattle.raft_records.specs.declared.compression_type.CompressionType.TheVariants as compressions
 use Rattle.raft_records.specs.declared.entry_index.EntryIndex.{EntryIndex}
 use Rattle.raft_records.specs.declared.entry_index.Placement.{Placement}
 use Rattle.raft_records.specs.declared.key_value.OpType.{OpType}
 use Rattle.raft_records.specs.declared.key_value.OpType.TheVariants.{Put, Del}
-use Rattle.raft_records.specs.Item.{Item, Content, Pair, entries, command, pair, bare_entry}
-use Rattle.raft_records.specs.Grammar.{tail_of, IsTail, behind_entry, AreTails, AreIndexAndTails, IsEntries, IsPairOf, IsContent, IsItem, end_behind}
+use Rattle.raft_records.specs.Item.{Item, Content, entries, command, pair, bare_entry}
+use Rattle.raft_records.specs.Grammar.{tail_of, IsTail, behind_entry, AreIndexAndTails, IsEntries, IsPairOf, IsContent, IsItem, end_behind}
 use Rattle.raft_records.specs.ItemBatch.{placed}
-use Rattle.raft_records.specs.Placement.{entry_between, file_in, entry_in, content_in, item_in}
-use Rattle.raft_records.proofs.EntryLemmas.{AreReadSoFar, one_more_read, end_read, all_read}
+use Rattle.raft_records.specs.Placement.{entry_between, entry_in, content_in, item_in}
+use Rattle.raft_records.proofs.EntryLemmas.{AreReadSoFar, one_more_read, end_read}
 
 abbrev pub unplaced : Placement
 unplaced = record { block = None; compression_type = compressions.None }

@@ -1,5 +1,5 @@
 -- Items in the place that they are read for. Private words: no public clause uses them.
-use Rattle.std.specs.Prelude.{ℕ, ◌-◌, List, map, Option, Some, None}
+use Rattle.std.specs.Prelude.{ℕ, ◌-◌, map, Option, Some, None}
 use Rattle.raft_base.specs.declared.pipe_log.FileBlockHandle.{FileBlockHandle}
 use Rattle.raft_base.specs.declared.pipe_log.FileId.{FileId}
 use Rattle.raft_records.specs.declared.compression_type.CompressionType.TheVariants as compressions

@@ -289,7 +289,7 @@ fn is_empty_batch(alloc: Global, bytes: &[u8], seq: u64, version: Version) -> Re
     let mut rest = bytes;
     match LogItemBatch::decode(alloc, &mut rest, place, CompressionType::None, &context) {
         Ok(batch) => Ok(batch.into_items().is_empty() && rest.is_empty()),
-        Err(Error::Corruption(_)) => Ok(false),
+        Err(Error::Corruption(_text)) => Ok(false),
         Err(e) => Err(e),
     }
 }

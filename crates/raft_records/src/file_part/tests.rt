@@ -52,7 +52,7 @@ fn place(part: &FilePart) -> Result<Option<FileBlockHandle>> {
 fn is_refused(alloc: Global, bytes: &[u8]) -> Result<bool> {
     match counted(&part(alloc, bytes)?, 0) {
         Ok(_read) => Ok(false),
-        Err(Error::Corruption(_)) => Ok(true),
+        Err(Error::Corruption(_text)) => Ok(true),
         Err(e) => Err(e),
     }
 }
@@ -128,7 +128,7 @@ fn parts_end_at_the_last_offset(rt: &impl Abort, alloc: Global) -> Result<()> {
         let bytes = Vec::from_slice(alloc, BATCHES)?;
         match FilePart::new(file(), Version::V2, offset, bytes) {
             Ok(_part) => assert!(rt; fits),
-            Err(Error::InvalidArgument(_)) => assert!(rt; !fits),
+            Err(Error::InvalidArgument(_text)) => assert!(rt; !fits),
             Err(e) => return Err(e),
         }
     }

@@ -254,7 +254,7 @@ enum Refusal {
 fn refusal_of(called: Result<()>) -> Result<Refusal> {
     match called {
         Ok(()) => Ok(Refusal::None),
-        Err(Error::InvalidArgument(_)) => Ok(Refusal::InvalidArgument),
+        Err(Error::InvalidArgument(_text)) => Ok(Refusal::InvalidArgument),
         Err(Error::Message(MessageError::Refused(7))) => Ok(Refusal::Message),
         Err(Error::Memory) => Err(Error::Memory),
         Err(_) => Ok(Refusal::Other),
@@ -340,7 +340,7 @@ fn is_read(alloc: Global, bytes: &[u8], seq: u64, entry_bytes: &[u8]) -> Result<
     let mut footer = &bytes[offset..];
     match LogItemBatch::decode(alloc, &mut footer, place, compression_type, &context) {
         Ok(items) => Ok(entries.as_slice() == entry_bytes && !items.into_items().is_empty()),
-        Err(Error::Corruption(_)) => Ok(false),
+        Err(Error::Corruption(_text)) => Ok(false),
         Err(e) => Err(e),
     }
 }

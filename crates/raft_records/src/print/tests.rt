@@ -29,16 +29,13 @@ fn long_text(alloc: Global) -> Result<Option<String>> {
 #[test]
 fn long_batches_are_printed(rt: HostRuntime) {
     // Want of memory inside a reader or a writer is an io error.
-    let answer = match long_text(rt.alloc()) {
-        Err(Error::Memory | Error::Io(_)) => long_text(rt.alloc()),
-        answer => answer,
-    };
-    match answer {
-        Ok(Some(text)) => {
-            assert!(rt; text.len() == 200_025);
-            assert!(rt; text.as_str().starts_with("1 put 6b abab"));
-            assert!(rt; text.as_str().ends_with("ab\nitems 1 rest 0\n"));
-        }
-        _ => assert!(rt; false),
+    let mut answer = long_text(rt.alloc());
+    if matches!(&answer, Err(Error::Memory | Error::Io(_))) {
+        answer = long_text(rt.alloc());
     }
+    assert!(rt;
+        matches!(&answer, Ok(Some(text)) if text.len() == 200_025
+        && text.as_str().starts_with("1 put 6b abab")
+        && text.as_str().ends_with("ab\nitems 1 rest 0\n"))
+    );
 }

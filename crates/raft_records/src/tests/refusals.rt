@@ -231,7 +231,7 @@ fn entry_blocks_end_in_their_checksum(rt: &impl Abort, alloc: Global) -> Result<
     for len in [8, 16, usize::MAX] {
         match block(alloc, b"abc\xc2\x41\x24\x35", len) {
             Ok(_read) => assert!(rt; false, "{len} bytes of 7"),
-            Err(Error::Corruption(_)) => {}
+            Err(Error::Corruption(_text)) => {}
             Err(e) => return Err(e),
         }
     }

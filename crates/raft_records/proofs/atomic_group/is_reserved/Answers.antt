@@ -1,4 +1,3 @@
-use Rattle.std.proofs.Common.{refl}
 use Rattle.raft_records.proofs.GroupLemmas.{reserved_by}
 use Rattle.raft_records.proofs.atomic_group.is_reserved.Goals as goal
 

@@ -1,6 +1,5 @@
 use Rattle.std.proofs.Common.{ap}
 use Rattle.std.proofs.lemmas.Result.{err_from_is_err_and}
-use Rattle.raft_records.specs.Item.{content_of}
 use Rattle.raft_records.proofs.ContentLemmas.{item_read, no_region, no_content}
 use Rattle.raft_records.proofs.log_item.LogItem.parse.Goals as goal
 

@@ -35,6 +35,7 @@ pub record IsAlone (h : List Batch) (e : Effect) : Type 0 where
   pub unmarked : e.last.batch.marker ≡ None
   pub none : e.earlier ≡ []
 
+-- one or the other
 abbrev pub IsEffect : List Batch → Effect → Type 0
 IsEffect h e = IsAlone h e ⊎ ((g : ℕ) × IsStretch h g e)
 

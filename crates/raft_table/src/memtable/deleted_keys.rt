@@ -26,11 +26,11 @@ impl Model for DeletedKeys {
 
     ghost coded = { key_set_code };
 
-    ghost use Rattle.raft_table.specs.KeySetView.{key_set_shown, IsInOrder};
+    ghost use Rattle.raft_table.specs.KeySetView.{key_set_shown, IsSound};
 
     ghost view = { key_set_shown };
 
-    ghost invariant = { IsInOrder };
+    ghost invariant = { IsSound };
 }
 
 impl DeletedKeys {

@@ -1,5 +1,9 @@
+pub mod CoverLemmas
 pub mod DrawingLemmas
+pub mod LineLemmas
+pub mod LiningLemmas
 pub mod MergeLemmas
 pub mod MidwayLemmas
 pub mod SegmentLemmas
 pub mod WeightLemmas
+pub mod WorkedLemmas

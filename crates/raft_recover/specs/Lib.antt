@@ -1,9 +1,14 @@
+pub mod Covers
 pub mod Draws
 pub mod Drawing
+pub mod Lines
 pub mod Merges
 pub mod Plans
+pub mod Recovery
 pub mod Replays
+pub mod Schedules
 pub mod Segments
 pub mod TicketModel
 pub mod TicketSeatModel
 pub mod Weights
+pub mod WorkedWords

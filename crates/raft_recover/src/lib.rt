@@ -2,14 +2,21 @@
 #![tactic(auto)]
 
 mod drawing;
+pub mod gate;
+mod piece;
 pub mod pieces;
 pub mod plan;
+pub mod scheduled;
 pub mod segment;
 pub mod ticket_seat;
 pub mod tickets;
+pub mod workers;
 
+pub use gate::{Gate, OpenGate};
 pub use pieces::merge_pieces;
 pub use plan::Plan;
+pub use scheduled::{piece_count, replay_scheduled};
 pub use segment::{Segment, replay_segment};
 pub use ticket_seat::TicketSeat;
 pub use tickets::Tickets;
+pub use workers::{MAX_WORKERS, replay_segments};

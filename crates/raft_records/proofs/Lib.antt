@@ -17,7 +17,6 @@ pub mod PlaceLemmas
 pub mod PrintLemmas
 pub mod RangeLemmas
 pub mod ReadPlaceLemmas
-pub mod RequestLemmas
 pub mod SealLemmas
 pub mod StageLemmas
 pub mod StringLemmas

@@ -14,7 +14,6 @@ pub mod LogBatch
 pub mod LogBatchModel
 pub mod Parts
 pub mod Range
-pub mod Requests
 pub mod Same
 pub mod SameLaws
 pub mod Sizes

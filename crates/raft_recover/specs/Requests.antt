@@ -1,8 +1,7 @@
 -- What the words of a command line ask for, and the words that name refusals.
-use Rattle.std.specs.Prelude.{◌≡◌, ℕ, ◌^◌, ◌<◌, List, [], ◌∷◌, codes, Option, IfSome}
-use Rattle.std.specs.Io.KnownBytes.{IsAtEnd}
+use Rattle.std.specs.Prelude.{◌≡◌, ℕ, ◌^◌, ◌<◌, List, [], ◌∷◌, ◌++◌, codes}
+use Rattle.std.specs.List.{AllByRecursion}
 use Rattle.std.specs.Str.Parse.{IsNumeral, digits_value}
-use Rattle.raft_base.specs.Signature.{signature_of}
 use Rattle.raft_base.specs.declared.errors.Error.{Error}
 use Rattle.raft_base.specs.declared.errors.Error.TheVariants as errors
 use Rattle.raft_base.specs.declared.pipe_log.LogFileContext.{LogFileContext}
@@ -10,7 +9,6 @@ use Rattle.raft_base.specs.declared.pipe_log.LogQueue.{LogQueue}
 use Rattle.raft_base.specs.declared.pipe_log.LogQueue.TheVariants.{Append, Rewrite}
 use Rattle.raft_base.specs.declared.pipe_log.Version.{Version}
 use Rattle.raft_base.specs.declared.pipe_log.Version.TheVariants.{V1, V2}
-use Rattle.raft_records.specs.Lines.{IsTextOf, Prints}
 
 -- the word for a queue
 abbrev pub queue_word : LogQueue → List ℕ
@@ -42,22 +40,40 @@ pub record AsksBatch (words : List (List ℕ)) (context : LogFileContext) : Type
   pub form : words ≡ codes "batch" ∷ queue ∷ seq ∷ version ∷ []
   pub file : NamesFile queue seq version context
 
--- no batch is asked for
-abbrev pub AsksNothing : List (List ℕ) → Type 0
-AsksNothing words = (context : LogFileContext) → AsksBatch words context → ⊥
+-- a file by its number and its path, with `=` between them; digits are no `=`, so it is the word's first
+pub record NamesPath (word : List ℕ) (seq : ℕ) (path : List ℕ) : Type 0 where
+  pub digits : List ℕ
+  pub number : IsNumberWord digits seq
+  pub form : word ≡ digits ++ (codes "=" ++ path)
 
--- the batch that was asked for was in the input, where that is known, and is printed
-pub record IsAnswered (words : List (List ℕ)) (input old new : Option (List ℕ)) : Type 0 where
-  pub context : LogFileContext
-  pub asked : AsksBatch words context
-  pub printed : IfSome input (λ bytes. Prints bytes (signature_of context) old new)
+-- a word that names a file by its number and its path
+pub record IsPathWord (word : List ℕ) : Type 0 where
+  pub seq : ℕ
+  pub path : List ℕ
+  pub named : NamesPath word seq path
 
--- the batch that was asked for was in the input, where that is known, and all was read
-pub record IsFound (words : List (List ℕ)) (input left : Option (List ℕ)) : Type 0 where
-  pub context : LogFileContext
-  pub asked : AsksBatch words context
-  pub all_read : IsAtEnd left
-  pub of_batch : IfSome input (λ bytes. (text : List ℕ) × IsTextOf bytes (signature_of context) text)
+-- a queue, the version of its files, a number of workers, and a word for each file
+pub record AskedRecovery : Type 0 where
+  pub queue : LogQueue
+  pub version : Version
+  pub workers : ℕ
+  pub files : List (List ℕ)
+
+-- `recover` and a recovery
+pub record AsksRecovery (words : List (List ℕ)) (recovery : AskedRecovery) : Type 0 where
+  pub queue : List ℕ
+  pub version : List ℕ
+  pub workers : List ℕ
+  pub form : words ≡ codes "recover" ∷ queue ∷ version ∷ workers ∷ recovery.files
+  pub queue_named : queue ≡ queue_word recovery.queue
+  pub version_named : version ≡ version_word recovery.version
+  pub workers_named : IsNumberWord workers recovery.workers
+  pub files_named : AllByRecursion IsPathWord recovery.files
+
+-- neither a batch nor a recovery is asked for
+pub record AsksNothing (words : List (List ℕ)) : Type 0 where
+  pub no_batch : (context : LogFileContext) → AsksBatch words context → ⊥
+  pub no_recovery : (recovery : AskedRecovery) → AsksRecovery words recovery → ⊥
 
 -- the word for a refusal
 abbrev pub refusal_word : Error → List ℕ

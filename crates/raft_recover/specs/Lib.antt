@@ -1,0 +1,3 @@
+pub mod RequestView
+pub mod Requests
+pub mod TableLines

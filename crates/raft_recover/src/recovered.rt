@@ -1,0 +1,66 @@
+//! The tables of all regions as text.
+
+ghost use Rattle.std.specs.Prelude.{◌≡◌, ◌++◌, OnOk, map, string_bytes};
+ghost use Rattle.std.specs.List.{flat_map};
+ghost use Rattle.raft_recover.specs.TableLines.{range_text, file_text, region_text, table_line, cleaned_text, cleaned_line, live_line};
+
+use raft_memtable::{FileSeq, GlobalStats, LogQueue, MemTable};
+use std::alloc::AllocError;
+
+/// Appends the line of a table.
+fn append_table(table: &MemTable, text: &mut String) -> Result<(), AllocError>
+    ensures { OnOk result (string_bytes text.new ≡ string_bytes text.old ++ table_line table.now) }
+{
+    write!(text, "{} entries ", table.region_id())?;
+    append_range(table, text)?;
+    write!(text, " keys {} append ", table.key_count())?;
+    append_file(table.min_file_seq(LogQueue::Append), text)?;
+    text.push_str(" rewrite ")?;
+    append_file(table.min_file_seq(LogQueue::Rewrite), text)?;
+    text.push('\n')
+}
+
+/// Appends the first index of a table and the one behind the last, `-` where it has no entries.
+fn append_range(table: &MemTable, text: &mut String) -> Result<(), AllocError>
+    ensures { OnOk result (string_bytes text.new ≡ string_bytes text.old ++ range_text table.now.entries) }
+{
+    table.holds_one_run();
+    let (Some(first), Some(last)) = (table.first_index(), table.last_index()) else {
+        return text.push('-');
+    };
+    let end = last + 1;
+    write!(text, "{first}..{end}")
+}
+
+/// Appends the number of a file, `-` where there is none.
+fn append_file(seq: Option<FileSeq>, text: &mut String) -> Result<(), AllocError>
+    ensures { OnOk result (string_bytes text.new ≡ string_bytes text.old ++ file_text seq) }
+{
+    match seq {
+        Some(seq) => write!(text, "{seq}"),
+        None => text.push('-'),
+    }
+}
+
+/// Appends the line of the cleaned regions.
+fn append_cleaned(regions: &[u64], text: &mut String) -> Result<(), AllocError>
+    ensures { OnOk result (string_bytes text.new ≡ string_bytes text.old ++ cleaned_line regions.now) }
+{
+    text.push_str("cleaned")?;
+    if regions.is_empty() {
+        text.push_str(" -")?;
+    }
+    for region in regions {
+        write!(text, " {region}")?;
+    }
+    text.push('\n')
+}
+
+/// Appends the line of the numbers of live records.
+fn append_live(stats: &GlobalStats, text: &mut String) -> Result<(), AllocError>
+    ensures { OnOk result (string_bytes text.new ≡ string_bytes text.old ++ live_line stats.now) }
+{
+    let append = stats.live_entries(LogQueue::Append);
+    let rewrite = stats.live_entries(LogQueue::Rewrite);
+    writeln!(text, "live {append} {rewrite}")
+}

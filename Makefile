@@ -1,20 +1,35 @@
 # The commands of this repository. `rt` is the toolchain's command.
 SHELL := /bin/bash
-.PHONY: bench demo test
+RT ?= rt
+export RT
+.PHONY: bench demo edits raftlog test wrong-bodies
 
-# Builds `raftlog` and prints an item batch with it: the records of region 1 go.
+# Runs `raftlog` on an item batch, which says that the records of region 1 go. Nothing is proved.
 demo:
-	@mkdir -p crates/raftlog/out
-	@cd crates/raftlog && rt run -- batch append 12 1 < stdin > out/demo.log 2>&1 || { cat out/demo.log; exit 1; }
+	@echo "raftlog, compiled with checks at run time and run without a proof (\`make raftlog\` proves it):"
 	@echo "\$$ printf '\x01\x01\x02\x01\x5a\x80\x0b\xdd' | raftlog batch append 12 1"
-	@printf '\x01\x01\x02\x01\x5a\x80\x0b\xdd' | crates/raftlog/out/raftlog batch append 12 1
+	@mkdir -p crates/raftlog/out
+	@cd crates/raftlog && $(RT) try -- batch append 12 1 < stdin 2> out/demo.log || { cat out/demo.log; exit 1; }
 
-# Proves every crate from nothing, runs the tests and the programs, and tries the must-fail edits.
+# Proves `raftlog` and the crates below it, builds it, and says where it lies.
+raftlog:
+	@cd crates/raftlog && $(RT) run -- batch append 12 1 < stdin > /dev/null
+	@echo "raftlog is proved and built: crates/raftlog/out/raftlog"
+
+# Proves every crate from nothing, runs the tests and the programs, and tries the wrong bodies of must-fail/.
 test:
-	@rt ci
+	@$(RT) ci
+
+# Tries the other wrong bodies, over a copy of the repository, and lists those that are not refused.
+wrong-bodies:
+	@tools/wrong_bodies.py
+
+# Looks whether each wrong body can still be applied. Nothing is proved.
+edits:
+	@tools/wrong_bodies.py --applies
 
 # Times checksums, numbers, batches and tables.
 bench:
 	@mkdir -p crates/raft_bench/out
-	@cd crates/raft_bench && rt run > out/bench.log 2>&1 || { cat out/bench.log; exit 1; }
+	@cd crates/raft_bench && $(RT) run > out/bench.log 2>&1 || { cat out/bench.log; exit 1; }
 	@crates/raft_bench/out/raft_bench crc32 varint batches memtable

@@ -186,6 +186,17 @@ unfolding batch_bytes
 batch_count_le xs =
     omega (arith, count_le xs, length-append (varint (length xs)) (flat_map item_bytes xs))
 
+-- as many bytes as the batch's length says
+pub log_batch_length : (signature : Option ℕ) (items : List Item) (es : List ℕ) → length (log_batch_bytes signature items es) ≡ encoded_length items es
+log_batch_length signature [] es = refl
+log_batch_length signature (x ∷ xs) es =
+    let items = x ∷ xs in
+    let head = header_bytes (item_offset es) compressions.None (encoded_length items es) in
+    let block = entry_block es in
+    let batch = batch_bytes items in
+    let seal = checksum_bytes signature batch in
+    omega (arith, length-append (head ++ (block ++ batch)) seal, length-append head (block ++ batch), length-append block batch, header_len (item_offset es) compressions.None (encoded_length items es), four (signed signature (crc32_of batch)))
+
 pub log_batch_spelled : (signature : Option ℕ) (items : List Item) (es : List ℕ) → IsBatchOf items es → AreInRange items → items ≢ [] → encoded_length items es < 2 ^ 56 → IsLogBatch (log_batch_bytes signature items es) signature (map bare items) es
 log_batch_spelled signature [] es b r some fits = absurd (some refl)
 log_batch_spelled signature (x ∷ xs) es b r some fits =

@@ -7,6 +7,7 @@ pub mod EqualLemmas
 pub mod FrameLemmas
 pub mod GroupLemmas
 pub mod HeaderLemmas
+pub mod InFileLemmas
 pub mod ItemLemmas
 pub mod JoinLemmas
 pub mod LayLemmas

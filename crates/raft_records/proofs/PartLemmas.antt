@@ -1,16 +1,22 @@
 -- On the batches that stand in a part of a file.
-use Rattle.std.proofs.Common.{◌≡◌, ℕ, ◌+◌, ◌-◌, ◌<◌, ◌≤◌, List, ◌++◌, length, take, drop, Option, refl, sym, ap, ◌∙◌, subst, append_assoc, arith}
-use Rattle.std.proofs.lemmas.List.{length-append, length-take-le, take-append-drop, take_at, drop-take, drop-drop}
+use Rattle.std.proofs.Common.{◌≡◌, ◌≢◌, ℕ, ◌+◌, ◌-◌, ◌^◌, ◌<◌, ◌≤◌, List, [], ◌∷◌, ◌++◌, map, length, take, drop, Option, Some, None, refl, sym, ap, ◌∙◌, subst, append_assoc, arith}
+use Rattle.raft_base.specs.declared.pipe_log.FileBlockHandle.{FileBlockHandle}
+use Rattle.raft_records.specs.declared.compression_type.CompressionType.TheVariants as compressions
+use Rattle.raft_records.specs.FilePart.{Part, part_signature, IsBatchAt, IsNext, entries_place}
+use Rattle.raft_records.specs.Range.{AreInRange}
+use Rattle.raft_records.proofs.BatchLemmas.{one_batch}
+use Rattle.raft_records.proofs.ItemLemmas.{same_length}
+use Rattle.std.proofs.lemmas.List.{length-append, length-drop, length-take-le, take-append-drop, take_at, drop-take, drop-drop}
 use Rattle.std.proofs.Math.Seq.{take-add}
 use Rattle.raft_base.specs.Reading.{Reads, HasNoFront}
 use Rattle.raft_records.specs.declared.compression_type.CompressionType.{CompressionType}
-use Rattle.raft_records.specs.Item.{Item}
-use Rattle.raft_records.specs.ItemBatch.{IsItemBatch}
-use Rattle.raft_records.specs.LogBatch.{IsReadable}
+use Rattle.raft_records.specs.Item.{Item, bare}
+use Rattle.raft_records.specs.ItemBatch.{IsItemBatch, placed}
+use Rattle.raft_records.specs.LogBatch.{IsBatchOf, IsReadable, entry_block, entry_place, item_offset, encoded_length, log_batch_bytes}
 use Rattle.raft_records.specs.Header.{IsHeader}
 use Rattle.raft_records.specs.Parts.{IsFramed}
 use Rattle.raft_records.proofs.BufferLemmas.{header_len}
-use Rattle.raft_records.proofs.FrameLemmas.{header_one, readable}
+use Rattle.raft_records.proofs.FrameLemmas.{header_one, readable, framed, log_batch_spelled, log_batch_length}
 
 -- where no header stands, no batch does
 pub no_header : (xs : List ℕ) (signature : Option ℕ) → HasNoFront IsHeader xs → HasNoFront (λ bytes. IsReadable bytes signature) xs
@@ -70,3 +76,45 @@ batch_stands xs ys signature place len compression items rest h whole b =
 -- behind a batch stands what is behind its bytes
 pub batch_split : (bytes : List ℕ) (at len : ℕ) → drop at bytes ≡ take len (drop at bytes) ++ drop (at + len) bytes
 batch_split bytes at len = sym (take-append-drop len (drop at bytes)) ∙ ap (λ (t : List ℕ). take len (drop at bytes) ++ t) (drop-drop len at bytes)
+
+-- ---- a written batch that stands in a part
+
+-- two batches in front of the same bytes are the same one
+one_front : (xs more rest front other : List ℕ) (signature : Option ℕ) (items items' : List Item) (place place' : ℕ) (f : IsFramed front signature items place) → (g : IsFramed other signature items' place') → xs ≡ front ++ more → xs ≡ other ++ rest → (front ≡ other) × (place ≡ place') × (f.compression ≡ g.compression) × (items ≡ items')
+one_front xs more rest front other signature items items' place place' f g e k =
+    let header = (header_one f.header.front g.header.front (drop 16 front ++ more) (drop 16 other ++ rest) (place, f.compression, length front) (place', g.compression, length other) f.header.spells g.header.spells (sym (append_assoc f.header.front (drop 16 front) more) ∙ ap (λ (t : List ℕ). t ++ more) (sym f.header.split) ∙ sym e ∙ k ∙ ap (λ (t : List ℕ). t ++ rest) g.header.split ∙ append_assoc g.header.front (drop 16 other) rest)).1 in
+    let at : place ≡ place' = ap (λ (t : ℕ × CompressionType × ℕ). t.0) header in
+    let long : length front ≡ length other = ap (λ (t : ℕ × CompressionType × ℕ). t.2) header in
+    let same : front ≡ other = same_length front other more rest long (sym e ∙ k) in
+    let footer : drop place front ≡ drop place' other = ap (λ (n : ℕ). drop n front) at ∙ ap (drop place') same in
+    (same, at, ap (λ (t : ℕ × CompressionType × ℕ). t.1) header, (one_batch (drop place' other) f.rest g.rest signature items items' (subst (λ (t : List ℕ). IsItemBatch t signature items f.rest) footer f.item_batch) g.item_batch).0)
+
+-- a written batch, part by part
+written_framed : (signature : Option ℕ) (items : List Item) (es : List ℕ) → IsBatchOf items es → AreInRange items → items ≢ [] → encoded_length items es < 2 ^ 56 → IsFramed (log_batch_bytes signature items es) signature (map bare items) (item_offset es)
+written_framed signature items es b r some fits = framed (log_batch_bytes signature items es) signature (map bare items) (entry_block es) (log_batch_spelled signature items es b r some fits)
+
+encoded_some : (items : List Item) (es : List ℕ) → items ≢ [] → 0 < encoded_length items es
+encoded_some [] es some = absurd (some refl)
+encoded_some (x ∷ xs) es some = omega arith
+
+one_type : (c : CompressionType) → c ≡ compressions.None
+one_type compressions.None = refl
+
+pub written_next : (part : Part) (at : ℕ) (block : FileBlockHandle) (items : List Item) (es rest : List ℕ) (answer : Option (List Item × ℕ)) → IsBatchOf items es → AreInRange items → items ≢ [] → encoded_length items es < 2 ^ 56 → block.id ≡ part.id → block.offset ≡ part.offset + at → drop at part.bytes ≡ log_batch_bytes (part_signature part) items es ++ rest → IsNext part at answer → answer ≡ Some (map (placed (entry_place block es) compressions.None) (map bare items), at + encoded_length items es)
+written_next part at block items es rest None b r some fits id offset stands n =
+    absurd (omega (arith, n, ap length stands, length-drop at part.bytes, length-append (log_batch_bytes (part_signature part) items es) rest, log_batch_length (part_signature part) items es, encoded_some items es some))
+written_next part at block items es rest (Some next) b r some fits id offset stands n =
+    let one = one_front (drop at part.bytes) (drop next.1 part.bytes) rest n.bytes (log_batch_bytes (part_signature part) items es) (part_signature part) n.read (map bare items) n.place (item_offset es) n.frame (written_framed (part_signature part) items es b r some fits) n.stands stands in
+    let long : length n.bytes ≡ encoded_length items es = ap length one.0 ∙ log_batch_length (part_signature part) items es in
+    let ends : next.1 ≡ at + encoded_length items es = n.ends ∙ ap (λ (k : ℕ). at + k) long in
+    let len : n.place - 16 ≡ length (entry_block es) = omega (arith, one.1) in
+    let begin : part.offset + at + 16 ≡ block.offset + 16 = omega (arith, offset) in
+    let place : entries_place part at n.place ≡ entry_place block es = λ i. record { id = sym id i; offset = begin i; len = len i } in
+    let moved : map (placed (entries_place part at n.place) n.frame.compression) n.read ≡ map (placed (entry_place block es) compressions.None) (map bare items) =
+    ap (λ p. map (placed p n.frame.compression) n.read) place ∙ ap (λ c. map (placed (entry_place block es) c) n.read) (one_type n.frame.compression) ∙ ap (map (placed (entry_place block es) compressions.None)) one.3 in
+    let items_are : next.0 ≡ map (placed (entry_place block es) compressions.None) (map bare items) = n.places ∙ moved in
+    λ i. Some (items_are i, ends i)
+
+pub written_accepted : (part : Part) (at : ℕ) (items : List Item) (es rest : List ℕ) → IsBatchOf items es → AreInRange items → items ≢ [] → encoded_length items es < 2 ^ 56 → drop at part.bytes ≡ log_batch_bytes (part_signature part) items es ++ rest → HasNoFront (λ bytes. IsReadable bytes (part_signature part)) (drop at part.bytes) → ⊥
+written_accepted part at items es rest b r some fits stands none =
+    none (log_batch_bytes (part_signature part) items es) rest (map bare items) (entry_block es, log_batch_spelled (part_signature part) items es b r some fits) stands

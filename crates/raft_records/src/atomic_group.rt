@@ -4,7 +4,7 @@ ghost use Rattle.std.specs.Prelude.{◌≡◌, ℕ, [], ◌∷◌, ◌++◌, Opt
 ghost use Rattle.raft_base.specs.declared.errors.Error.{Error as Refusal};
 ghost use Rattle.raft_records.specs.declared.atomic_group.AtomicGroupStatus.{AtomicGroupStatus as Status};
 ghost use Rattle.raft_records.specs.declared.atomic_group.AtomicGroupStatus.TheVariants.{Begin, Middle, End};
-ghost use Rattle.raft_records.specs.Group.{IsRunning, group_marker_item, status_byte, IsGroupMarkerContent, IsGroupMarkerRead, IsGroupMarkerFault, reserved_key, IsGroupMarker};
+ghost use Rattle.raft_records.specs.Group.{IsRunning, group_marker_item, status_byte, IsGroupMarkerContent, IsGroupMarkerRead, IsGroupMarkerFault, reserved_key, is_reserved, marker_of, IsGroupMarker};
 ghost use Rattle.raft_records.specs.Item.{Item, item_of, pair_of};
 ghost use Rattle.raft_records.specs.LogBatch.{populating};
 
@@ -13,7 +13,7 @@ use raft_base::{Error, Result};
 use std::alloc::Global;
 use std::marker::Model;
 
-/// The key of the marks of atomic groups. No value is put under it but theirs.
+/// The key of the group markers. No value is put under it but theirs.
 pub const ATOMIC_GROUP_KEY: [u8; 3] = [b'_', b'_', 1];
 
 /// Where in an atomic group a batch stands.
@@ -30,8 +30,8 @@ pub enum AtomicGroupStatus {
 impl AtomicGroupStatus {
     ghost use Rattle.raft_records.specs.Group.{status_byte, IsStatusFault};
 
-    /// The group that an item is a mark of, and the mark's status; nothing of an item that is no
-    /// mark. A mark whose byte stands for no status is `Corruption`.
+    /// The group whose marker an item is, and its status; nothing of an item that is no group marker.
+    /// A group marker whose byte stands for no status is `Corruption`.
     pub fn parse(alloc: Global, item: &LogItem) -> Result<Option<(u64, AtomicGroupStatus)>>
         ensures ok { IfOk result (IsGroupMarkerRead (item_of item.now)) }
         ensures fault { IfErr result (IsGroupMarkerFault (item_of item.now)) }
@@ -71,14 +71,15 @@ impl AtomicGroupStatus {
     }
 }
 
-/// Whether this key is kept for the marks of atomic groups.
-pub(crate) fn is_reserved(key: &[u8]) -> bool
-    ensures { IsTrue result ↔ (key.now ≡ reserved_key) }
+/// Whether this key is kept for the group markers. Key values under it never reach a table.
+pub fn is_reserved(key: &[u8]) -> bool
+    ensures meaning { IsTrue result ↔ (key.now ≡ reserved_key) }
+    ensures value { result ≡ is_reserved key.now }
 {
     key == ATOMIC_GROUP_KEY.as_slice()
 }
 
-/// The byte of a mark, if the change is one.
+/// The byte of a group marker, if the change is one.
 fn marker_byte(kv: &KeyValue) -> Option<u8>
     ensures some { IfSome result (IsGroupMarker (pair_of kv.now)) }
     ensures none { IfNone result ((byte : ℕ) → IsGroupMarker (pair_of kv.now) byte → ⊥) }
@@ -96,8 +97,8 @@ fn marker_byte(kv: &KeyValue) -> Option<u8>
 mod tests;
 
 /// Marks the batches of one group: the first with `Begin`, the last with `End`, those between them
-/// with `Middle`. Each call takes a batch of its own: of two marks in one batch only the first is
-/// read, so a group has two batches at least.
+/// with `Middle`. Each call takes a batch of its own: of two group markers in one batch only the first
+/// is read, so a group has two batches at least.
 #[derive(Debug, Drop)]
 pub struct AtomicGroupBuilder {
     id: u64,
@@ -120,7 +121,7 @@ impl AtomicGroupBuilder {
         AtomicGroupBuilder { id, status: None }
     }
 
-    /// The mark that was added last, if any was.
+    /// The status of the marker that was added last, if any was.
     pub fn state(&self) -> Option<AtomicGroupStatus>
         ensures { result ≡ self.now.state }
     {
@@ -173,7 +174,7 @@ impl AtomicGroupBuilder {
         self.mark(AtomicGroupStatus::End, log_batch)
     }
 
-    /// Adds the group's mark with this status to an open batch.
+    /// Adds the group's marker with this status to an open batch.
     fn mark(&mut self, status: AtomicGroupStatus, log_batch: &mut LogBatch) -> Result<()>
         requires { log_batch.old.stage ≡ populating }
         ensures marked { OnOk result (log_batch.new ≡ record log_batch.old {
@@ -193,12 +194,15 @@ impl AtomicGroupBuilder {
     }
 }
 
-/// What is added as a mark is read as the mark of its group with its status, and never refused.
+/// What is added as a group marker is read as the marker of its group with its status, and never
+/// refused. What is read is a function of the item; the reserved key is told by a test.
 pub fn group_markers_are_read_again()
-    ensures is_mark { (id : ℕ) (status : Status) → IsGroupMarkerContent (group_marker_item id status).content (status_byte status) }
+    ensures is_marker { (id : ℕ) (status : Status) → IsGroupMarkerContent (group_marker_item id status).content (status_byte status) }
     ensures read { (item : Item) (status : Status) (read : Option (ℕ × Status)) →
         IsGroupMarkerContent item.content (status_byte status) → IsGroupMarkerRead item read →
         read ≡ Some (item.raft_group_id, status) }
     ensures accepted { (item : Item) (status : Status) (e : Refusal) →
         IsGroupMarkerContent item.content (status_byte status) → IsGroupMarkerFault item e → ⊥ }
+    ensures value { (item : Item) (read : Option (ℕ × Status)) → IsGroupMarkerRead item read → marker_of item ≡ read }
+    ensures reserved { (key : List ℕ) → IsTrue (is_reserved key) ↔ (key ≡ reserved_key) }
 {}

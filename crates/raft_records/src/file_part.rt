@@ -1,8 +1,9 @@
 //! Parts of files, and the batches in them.
 
-ghost use Rattle.std.specs.Prelude.{◌≡◌, ◌≢◌, ℕ, ◌+◌, ◌^◌, ◌<◌, ◌≤◌, length, drop, IfOk, IfErr, OnOk, OnErr};
+ghost use Rattle.std.specs.Prelude.{◌≡◌, ◌≢◌, ℕ, ◌+◌, ◌^◌, ◌<◌, ◌≤◌, length, drop, IfOk, IfErr, IfSome, OnOk, OnErr};
 ghost use Rattle.raft_base.specs.Reading.{HasNoFront};
 ghost use Rattle.raft_records.specs.FilePart.{IsPartRefusal, IsNext, IsNextFault, part_signature};
+ghost use Rattle.raft_records.specs.InFile.{AreInFile};
 ghost use Rattle.raft_records.specs.LogBatch.{IsReadable};
 
 use crate::LogItemBatch;
@@ -85,11 +86,13 @@ impl FilePart {
 }
 
 /// The items of the log batch that stands at `at` in the part, each with its place in the file, and
-/// where the next batch begins; nothing at the part's end. It doesn't read the entry bytes. A batch
-/// that is longer than what is left is `Corruption`, as is whatever is no header.
+/// where the next batch begins; nothing at the part's end. The entries of an item are consecutive and
+/// lie in the part's file, as each key value does. It doesn't read the entry bytes. A batch that is
+/// longer than what is left is `Corruption`, as is whatever is no header.
 pub fn next_batch(part: &FilePart, at: usize) -> Result<Option<(LogItemBatch, usize)>>
     requires { at ≤ length part.now.bytes }
     ensures ok { IfOk result (IsNext part.now at) }
+    ensures in_file { IfOk result (λ next. IfSome next (λ batch. AreInFile part.now.id batch.0)) }
     ensures left { OnErr result (at < length part.now.bytes) }
     ensures refused { IfErr result (λ e. e ≢ Error.Memory →
         HasNoFront (λ bytes. IsReadable bytes (part_signature part.now)) (drop at part.now.bytes)) }

@@ -17,7 +17,7 @@ pub mod print;
 #[cfg(test)]
 mod tests;
 
-pub use atomic_group::{ATOMIC_GROUP_KEY, AtomicGroupBuilder, AtomicGroupStatus};
+pub use atomic_group::{ATOMIC_GROUP_KEY, AtomicGroupBuilder, AtomicGroupStatus, is_reserved};
 pub use command::Command;
 pub use compression_type::CompressionType;
 pub use entry_index::{EntryIndex, EntryIndexes, is_consecutive};

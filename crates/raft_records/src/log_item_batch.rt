@@ -7,6 +7,7 @@ ghost use Rattle.raft_base.specs.declared.pipe_log.Version.TheVariants.{V2};
 ghost use Rattle.raft_base.specs.Reading.{Reads, HasNoFront, HasOneFront};
 ghost use Rattle.raft_base.specs.Signature.{signature_of, signature_in};
 ghost use Rattle.raft_records.specs.Grammar.{IsItem, behind_item};
+ghost use Rattle.raft_records.specs.InFile.{AreInFile};
 ghost use Rattle.raft_records.specs.Item.{Item, bare, content_of, item_of, entries_item, command_item, pair_item};
 ghost use Rattle.raft_records.specs.Entries.{IsConsecutive};
 ghost use Rattle.raft_records.specs.ItemBatch.{AreItems, IsItemBatch, IsDecoded, AreItemsFault, IsItemBatchFault, checksum_bytes, batch_bytes, placed, raised, laid, entry_lengths, entry_bytes_of, end_of_items, FitsBehind, IsEncoded, no_checksum, FitTogether, first_entry};
@@ -297,7 +298,7 @@ impl LogItemBatch {
     /// Reads the item batch that the whole slice is, in the file of `context`. Every entry gets the
     /// place `entries` and the compression type, every key value the file of `entries`. The slice then
     /// holds the bytes between the last item and the checksum, which are free. On `Err` it is as it
-    /// was.
+    /// was. Entries are consecutive, and a `Put` has a value: nobody needs to test it again.
     pub fn decode(
         alloc: Global,
         buf: &mut BytesSlice<'_>,
@@ -307,6 +308,7 @@ impl LogItemBatch {
     ) -> Result<LogItemBatch>
         ensures ok { IfOk result (λ batch.
             IsDecoded buf.old.now (signature_of context.now) entries compression_type batch buf.new.now) }
+        ensures in_file { IfOk result (AreInFile entries.id) }
         ensures err { OnErr result (buf.new.now ≡ buf.old.now) }
         ensures refused { IfErr result (λ e. e ≢ Error.Memory → (items : List Item) (rest : List ℕ) →
             IsItemBatch buf.old.now (signature_of context.now) items rest → ⊥) }

@@ -1,5 +1,5 @@
 -- Changes of a table as values.
-use Rattle.std.specs.Prelude.{◌≡◌, ℕ, ◌+◌, List, length, Option, Some}
+use Rattle.std.specs.Prelude.{◌≡◌, ◌⊎◌, ℕ, ◌+◌, List, length, Option, Some}
 use Rattle.raft_base.specs.declared.errors.Error.{Error}
 use Rattle.raft_base.specs.declared.errors.Error.TheVariants as errors
 use Rattle.raft_base.specs.declared.pipe_log.LogQueue.{LogQueue}
@@ -7,12 +7,12 @@ use Rattle.raft_base.specs.declared.pipe_log.LogQueue.TheVariants.{Append, Rewri
 use Rattle.raft_records.specs.declared.entry_index.EntryIndex.{EntryIndex}
 use Rattle.raft_table.specs.declared.memtable.change.TableChange.{TableChange}
 use Rattle.raft_table.specs.declared.memtable.change.TableChange.TheVariants as changes
-use Rattle.raft_table.specs.Counts.{Counts}
+use Rattle.raft_table.specs.Counts.{Counts, with_added}
 use Rattle.raft_table.specs.Entries.{IsRunIn}
 use Rattle.raft_table.specs.KeyValues.{file_at}
-use Rattle.raft_table.specs.Rewriting.{rewritten, IsRewriteRefused}
+use Rattle.raft_table.specs.Rewriting.{rewritten, recounted, IsRewriteRefused}
 use Rattle.raft_table.specs.Start.{appended, IsRunRefused}
-use Rattle.raft_table.specs.Table.{Table, after_append, after_rewrite, after_rewrite_key, compacted, with_pair, without_key, IsPutRefused, IsKeyRefused}
+use Rattle.raft_table.specs.Table.{Table, after_append, after_rewrite, after_rewrite_key, compacted, with_pair, without_key, with_pair_deleted, with_rewritten_key, leaves_append, IsPutRefused, IsKeyRefused}
 
 -- the table after a change; none where it is refused
 abbrev pub after_change : Table → TableChange → Option Table
@@ -26,31 +26,46 @@ after_change t (changes.RewriteKey key gate seq) = after_rewrite_key gate seq t 
 
 -- what a change asks of its list of entries
 abbrev pub IsAllowed : TableChange → Type 0
+IsAllowed changes.Keep = Unit {0}
 IsAllowed (changes.Append run) = IsRunIn Append run.items
+IsAllowed (changes.Put key value file) = Unit {0}
+IsAllowed (changes.Delete key) = Unit {0}
+IsAllowed (changes.Compact index) = Unit {0}
 IsAllowed (changes.Rewrite run gate) = IsRunIn Rewrite run.items
-IsAllowed _ = Unit {0}
+IsAllowed (changes.RewriteKey key gate seq) = Unit {0}
 
 -- the number that a change answers: how many entries a compaction drops, else 0
 abbrev pub IsAnswer : TableChange → Table → Table → ℕ → Type 0
+IsAnswer changes.Keep old new n = n ≡ 0
+IsAnswer (changes.Append run) old new n = n ≡ 0
+IsAnswer (changes.Put key value file) old new n = n ≡ 0
+IsAnswer (changes.Delete key) old new n = n ≡ 0
 IsAnswer (changes.Compact index) old new n = n + length new.entries ≡ length old.entries
-IsAnswer _ old new n = n ≡ 0
+IsAnswer (changes.Rewrite run gate) old new n = n ≡ 0
+IsAnswer (changes.RewriteKey key gate seq) old new n = n ≡ 0
 
--- why the call of a change is refused
-abbrev pub IsCallRefused : Table → Counts → TableChange → Error → Type 0
-IsCallRefused t counts (changes.Append run) e = IsRunRefused Append counts t.entries (appended t.entries run.items) e
-IsCallRefused t counts (changes.Put key value file) e = IsPutRefused file.queue counts (file_at t.keys key.items) e
-IsCallRefused t counts (changes.Rewrite run gate) e = IsRewriteRefused (length run.items) counts (rewritten gate run.items t.entries) e
-IsCallRefused t counts (changes.RewriteKey key gate seq) e = IsKeyRefused counts (after_rewrite_key gate seq t key.items) e
-IsCallRefused t counts _ e = ⊥
+-- what a change makes of the counts
+abbrev pub AreCountedAfter : TableChange → Table → Counts → Counts → Type 0
+AreCountedAfter changes.Keep t old new = new ≡ old
+AreCountedAfter (changes.Append run) t old new = Unit {0}
+AreCountedAfter (changes.Put key value file) t old new = new ≡ with_added file.queue 1 (with_pair_deleted (file_at t.keys key.items) old)
+AreCountedAfter (changes.Delete key) t old new = new ≡ with_pair_deleted (file_at t.keys key.items) old
+AreCountedAfter (changes.Compact index) t old new = Unit {0}
+AreCountedAfter (changes.Rewrite run gate) t old new = new ≡ recounted gate run.items t.entries old
+AreCountedAfter (changes.RewriteKey key gate seq) t old new = new ≡ with_rewritten_key (leaves_append gate (file_at t.keys key.items)) old
 
--- why a list of entries is refused: it is no run of the queue, or for want of memory for that refusal's text
+-- why a list of entries is refused: it is no run of the queue, or that and want of memory for the refusal's text
 abbrev pub IsListRefused : LogQueue → List EntryIndex → Error → Type 0
 IsListRefused queue run (errors.InvalidArgument text) = IsRunIn queue run → ⊥
-IsListRefused queue run errors.Memory = Unit {0}
+IsListRefused queue run errors.Memory = IsRunIn queue run → ⊥
 IsListRefused queue run _ = ⊥
 
--- why a change is refused: its list, want of memory, or its call
+-- why a change is refused: its list is no run of its queue, or as its call is
 abbrev pub IsChangeRefused : Table → Counts → TableChange → Error → Type 0
-IsChangeRefused t counts change (errors.InvalidArgument text) = IsAllowed change → ⊥
-IsChangeRefused t counts change errors.Memory = Unit {0}
-IsChangeRefused t counts change e = IsCallRefused t counts change e
+IsChangeRefused t counts changes.Keep e = ⊥
+IsChangeRefused t counts (changes.Append run) e = IsListRefused Append run.items e ⊎ IsRunRefused Append counts t.entries (appended t.entries run.items) e
+IsChangeRefused t counts (changes.Put key value file) e = IsPutRefused file.queue counts (file_at t.keys key.items) e
+IsChangeRefused t counts (changes.Delete key) e = ⊥
+IsChangeRefused t counts (changes.Compact index) e = ⊥
+IsChangeRefused t counts (changes.Rewrite run gate) e = IsListRefused Rewrite run.items e ⊎ IsRewriteRefused (length run.items) counts (rewritten gate run.items t.entries) e
+IsChangeRefused t counts (changes.RewriteKey key gate seq) e = IsKeyRefused counts (after_rewrite_key gate seq t key.items) e

@@ -37,6 +37,14 @@ IsCounted t counts = (q : LogQueue) → live_of q t ≤ live q counts
 abbrev pub IsRecounted : Table → Table → Counts → Counts → Type 0
 IsRecounted before after old new = (q : LogQueue) → live q new + live_of q before ≡ live q old + live_of q after
 
+-- a table's records counted
+abbrev pub with_table_added : Table → Counts → Counts
+with_table_added t counts = with_added Rewrite (live_of Rewrite t) (with_added Append (live_of Append t) counts)
+
+-- a table's records no longer counted
+abbrev pub with_table_deleted : Table → Counts → Counts
+with_table_deleted t counts = with_deleted Rewrite (live_of Rewrite t) (with_deleted Append (live_of Append t) counts)
+
 -- a table with other entries
 abbrev pub with_entries : Table → List EntryIndex → Table
 with_entries t es = record t { entries = es }
@@ -101,6 +109,11 @@ after_rewrite_key gate seq t key = option_map (with_keys t) (rewritten_in gate s
 pub record MovesKeyAlone (key : List ℕ) (before after : Keys) : Type 0 where
   pub values : (k : List ℕ) → value_at after k ≡ value_at before k
   pub files : (k : List ℕ) → k ≢ key → file_at after k ≡ file_at before k
+
+-- the counts without the pair of a file, if there is one
+abbrev pub with_pair_deleted : Option FileId → Counts → Counts
+with_pair_deleted None counts = counts
+with_pair_deleted (Some file) counts = with_deleted file.queue 1 counts
 
 -- the counts after a rewriting of one key: one more is written, and one fewer live in the append queue where its pair left it, else one more deleted
 abbrev pub with_rewritten_key : Bool → Counts → Counts

@@ -1,10 +1,12 @@
 //! How many records of all regions are live in each queue.
 
-ghost use Rattle.std.specs.Prelude.{◌≡◌, ◌+◌, ◌^◌, ◌<◌, ◌≤◌, IsOk, IfOk, OnOk, OnErr, IfErr};
+ghost use Rattle.std.specs.Prelude.{◌≡◌, ◌+◌, ◌^◌, ◌<◌, ◌≤◌, IsOk, IfOk, OnOk, OnErr, IfErr, MatchBool};
 ghost use Rattle.raft_base.specs.declared.pipe_log.LogQueue.{LogQueue};
 ghost use Rattle.raft_table.specs.Queues.{count_in};
 ghost use Rattle.raft_table.specs.Counts.{live, with_added, with_deleted, without_deleted, after_refusal};
+ghost use Rattle.raft_table.specs.Table.{live_of, IsCounted, with_table_added, with_table_deleted};
 
+use crate::memtable::MemTable;
 use raft_records::{Error, LogQueue, Result};
 use std::marker::Model;
 
@@ -76,6 +78,13 @@ impl GlobalStats {
         Ok(())
     }
 
+    /// Whether `count` more records can be live in `queue`.
+    pub fn can_add(&self, queue: LogQueue, count: usize) -> bool
+        ensures { MatchBool result (live queue self.now + count < 2 ^ 64) (2 ^ 64 ≤ live queue self.now + count) }
+    {
+        count <= usize::MAX - self.live_entries(queue)
+    }
+
     /// Takes `count` live records of `queue` off.
     pub fn delete(&mut self, queue: LogQueue, count: usize)
         requires { count ≤ live queue self.old }
@@ -86,6 +95,67 @@ impl GlobalStats {
             LogQueue::Append => self.live_append_entries -= count,
             LogQueue::Rewrite => self.deleted_rewrite_entries += count,
         }
+    }
+
+    /// Counts all records of a table.
+    ///
+    /// # Errors
+    ///
+    /// `Full` where more than 2^64 - 1 records would be live in a queue. Nothing has then changed.
+    pub fn add_table(&mut self, table: &MemTable) -> Result<()>
+        ensures ok { OnOk result (self.new ≡ with_table_added table.now self.old) }
+        ensures live { OnOk result ((q : LogQueue) → live q self.new ≡ live q self.old + live_of q table.now) }
+        ensures accepted { ((q : LogQueue) → live q self.old + live_of q table.now < 2 ^ 64) → IsOk result }
+        ensures full { IfErr result (λ e. (e ≡ Error.Full) × ((q : LogQueue) × (2 ^ 64 ≤ live q self.old + live_of q table.now))) }
+        ensures err { OnErr result (self.new ≡ self.old) }
+    {
+        if !self.has_room(table, LogQueue::Append) || !self.has_room(table, LogQueue::Rewrite) {
+            return Err(Error::Full);
+        }
+        self.add_records(table, LogQueue::Append);
+        self.add_records(table, LogQueue::Rewrite);
+        Ok(())
+    }
+
+    /// Takes all records of a table off.
+    pub fn delete_table(&mut self, table: &MemTable)
+        requires { IsCounted table.now self.old }
+        ensures after { self.new ≡ with_table_deleted table.now self.old }
+        ensures live { (q : LogQueue) → live q self.new + live_of q table.now ≡ live q self.old }
+    {
+        self.delete_records(table, LogQueue::Append);
+        self.delete_records(table, LogQueue::Rewrite);
+    }
+
+    /// Whether the records of a table in `queue` can be counted beside those that are live there.
+    pub fn has_room(&self, table: &MemTable, queue: LogQueue) -> bool
+        ensures { MatchBool result (live queue self.now + live_of queue table.now < 2 ^ 64)
+            (2 ^ 64 ≤ live queue self.now + live_of queue table.now) }
+    {
+        table.records(queue) <= (usize::MAX - self.live_entries(queue)) as u128
+    }
+
+    /// Counts the records of a table in `queue`.
+    fn add_records(&mut self, table: &MemTable, queue: LogQueue)
+        requires { live queue self.old + live_of queue table.now < 2 ^ 64 }
+        ensures after { self.new ≡ with_added queue (live_of queue table.now) self.old }
+        ensures live { (q : LogQueue) → live q self.new ≡ live q self.old + count_in q queue (live_of queue table.now) }
+    {
+        if self.add(queue, table.records(queue) as usize).is_err() {
+            unreachable!()
+        }
+    }
+
+    /// Takes the records of a table in `queue` off.
+    fn delete_records(&mut self, table: &MemTable, queue: LogQueue)
+        requires { live_of queue table.now ≤ live queue self.old }
+        ensures after { self.new ≡ with_deleted queue (live_of queue table.now) self.old }
+        ensures live { (q : LogQueue) → live q self.new + count_in q queue (live_of queue table.now) ≡ live q self.old }
+    {
+        let live = self.live_entries(queue);
+        let count = table.records(queue);
+        prove!(count <= live as u128);
+        self.delete(queue, count as usize);
     }
 
     /// How many records are live in `queue`.

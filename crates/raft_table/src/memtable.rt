@@ -4,29 +4,38 @@ ghost use Rattle.std.specs.Prelude.{◌≡◌, ◌≢◌, ◌+◌, ◌≤◌, �
 ghost use Rattle.raft_base.specs.declared.pipe_log.LogQueue.{LogQueue};
 ghost use Rattle.raft_base.specs.declared.pipe_log.LogQueue.TheVariants.{Append, Rewrite};
 ghost use Rattle.raft_table.specs.Entries.{IsRunIn, IsSound, start_of, end_of, entry_at, entries_in};
-ghost use Rattle.raft_table.specs.Counts.{Counts, live};
+ghost use Rattle.raft_table.specs.Counts.{Counts, live, with_added};
 ghost use Rattle.raft_table.specs.KeyValues.{value_at, file_at, file_count};
-ghost use Rattle.raft_table.specs.Table.{empty_table, live_of, IsCounted, IsRecounted, after_append, after_replay, after_rewrite, after_rewrite_key, compacted, with_pair, without_key, with_atomic_group, with_entries, with_keys, with_rewritten_key, MovesKeyAlone, leaves_append, IsPutRefused, IsKeyRefused};
+ghost use Rattle.raft_table.specs.Table.{empty_table, live_of, IsCounted, IsRecounted, after_append, after_replay, after_rewrite, after_rewrite_key, compacted, with_pair, without_key, with_atomic_group, with_entries, with_keys, with_pair_deleted, with_rewritten_key, MovesKeyAlone, leaves_append, IsPutRefused, IsKeyRefused};
 ghost use Rattle.raft_table.specs.Rewriting.{rewritten, recounted, IsRewriteRefused, MovesPlacesAlone};
+ghost use Rattle.raft_table.specs.Queues.{count_in};
 ghost use Rattle.raft_table.specs.Start.{appended, replayed, IsRunRefused};
 
 mod change;
+mod deleted_keys;
 mod entries;
 pub mod key_values;
 mod laws;
+mod mark;
 mod merge;
 mod queries;
+mod read_runs;
+mod region;
+mod table_laws;
 #[cfg(test)]
 mod tests;
+mod under;
 
 use crate::global_stats::GlobalStats;
 pub use change::{TableChange, is_run};
 use entries::Entries;
 use key_values::KeyValues;
-pub use laws::entries_stand_by_index;
+pub use laws::{entries_stand_by_index, marks_stand_for_steps, overlays_by_marks};
 use raft_records::{EntryIndex, Error, FileId, FileSeq, LogQueue, Result};
+pub use read_runs::read_entries_are_runs;
 use std::alloc::Global;
 use std::marker::Model;
+pub use table_laws::full_runs_pass_the_limit;
 
 /// The table of a region.
 #[derive(Drop)]
@@ -145,6 +154,7 @@ impl MemTable {
         ensures refused { IfErr result (IsRunRefused Append stats.old self.old.entries (appended self.old.entries run.items)) }
         ensures err { OnErr result ((self.new ≡ self.old) × (stats.new ≡ stats.old)) }
         ensures recounted { IsRecounted self.old self.new stats.old stats.new }
+        ensures region { self.new.region_id ≡ self.old.region_id }
     {
         self.entries.append(run, stats)
     }
@@ -164,6 +174,7 @@ impl MemTable {
         ensures refused { IfErr result (IsRunRefused Append stats.old self.old.entries (replayed Append self.old.entries run.items)) }
         ensures err { OnErr result ((self.new ≡ self.old) × (stats.new ≡ stats.old)) }
         ensures recounted { IsRecounted self.old self.new stats.old stats.new }
+        ensures region { self.new.region_id ≡ self.old.region_id }
     {
         self.entries.replay_append(run, stats)
     }
@@ -183,6 +194,7 @@ impl MemTable {
         ensures refused { IfErr result (IsRunRefused Rewrite stats.old self.old.entries (replayed Rewrite self.old.entries run.items)) }
         ensures err { OnErr result ((self.new ≡ self.old) × (stats.new ≡ stats.old)) }
         ensures recounted { IsRecounted self.old self.new stats.old stats.new }
+        ensures region { self.new.region_id ≡ self.old.region_id }
     {
         self.entries.replay_rewrite(run, stats)
     }
@@ -213,6 +225,7 @@ impl MemTable {
         ensures err { OnErr result (self.new ≡ self.old) }
         ensures err_counts { IfErr result (λ e. e ≢ Error.Full → stats.new ≡ stats.old) }
         ensures recounted { IsRecounted self.old self.new stats.old stats.new }
+        ensures region { self.new.region_id ≡ self.old.region_id }
     {
         self.entries.rewrite(&run, gate, stats)
     }
@@ -223,6 +236,7 @@ impl MemTable {
         ensures compacted { self.new ≡ compacted index self.old }
         ensures dropped { result + length self.new.entries ≡ length self.old.entries }
         ensures recounted { IsRecounted self.old self.new stats.old stats.new }
+        ensures region { self.new.region_id ≡ self.old.region_id }
     {
         self.entries.compact_to(index, stats)
     }
@@ -243,9 +257,12 @@ impl MemTable {
     ) -> Result<()>
         requires { IsCounted self.old stats.old }
         ensures ok { OnOk result (self.new ≡ with_pair self.old key.items value.items file) }
+        ensures counts { OnOk result (stats.new
+            ≡ with_added file.queue 1 (with_pair_deleted (file_at self.old.keys key.items) stats.old)) }
         ensures refused { IfErr result (IsPutRefused file.queue stats.old (file_at self.old.keys key.items)) }
         ensures err { OnErr result ((self.new ≡ self.old) × (stats.new ≡ stats.old)) }
         ensures recounted { IsRecounted self.old self.new stats.old stats.new }
+        ensures region { self.new.region_id ≡ self.old.region_id }
     {
         if stats.live_entries(file.queue) == usize::MAX && !self.has_pair_in(&key, file.queue) {
             return Err(Error::Full);
@@ -260,7 +277,9 @@ impl MemTable {
     pub fn delete(&mut self, key: &[u8], stats: &mut GlobalStats)
         requires { IsCounted self.old stats.old }
         ensures deleted { self.new ≡ without_key self.old key.now }
+        ensures counts { stats.new ≡ with_pair_deleted (file_at self.old.keys key.now) stats.old }
         ensures recounted { IsRecounted self.old self.new stats.old stats.new }
+        ensures region { self.new.region_id ≡ self.old.region_id }
     {
         if let Some(file) = self.keys.remove(key) {
             stats.delete(file.queue, 1);
@@ -273,8 +292,8 @@ impl MemTable {
     /// # Errors
     ///
     /// `Corruption` where the pair is in the rewrite queue in a file above `seq`, `Full` where the
-    /// live number of the rewrite queue and one more would pass 2^64 - 1. The table and the live
-    /// numbers are then as they were.
+    /// live number of the rewrite queue and one more would pass 2^64 - 1. The table and the counts
+    /// are then as they were.
     pub fn rewrite_key(
         &mut self,
         key: Vec<u8>,
@@ -288,9 +307,9 @@ impl MemTable {
         ensures others { OnOk result (self.new ≡ with_keys self.old self.new.keys) }
         ensures counts { OnOk result (stats.new ≡ with_rewritten_key (leaves_append gate (file_at self.old.keys key.items)) stats.old) }
         ensures refused { IfErr result (IsKeyRefused stats.old (after_rewrite_key gate seq self.old key.items)) }
-        ensures err { OnErr result (self.new ≡ self.old) }
-        ensures err_counts { IfErr result (λ e. e ≢ Error.Full → stats.new ≡ stats.old) }
+        ensures err { OnErr result ((self.new ≡ self.old) × (stats.new ≡ stats.old)) }
         ensures recounted { IsRecounted self.old self.new stats.old stats.new }
+        ensures region { self.new.region_id ≡ self.old.region_id }
     {
         let Some(file) = self.keys.file_of(&key) else {
             return count_unmoved(stats);
@@ -300,7 +319,7 @@ impl MemTable {
                 if !gate.is_some_and(|gate| file.seq <= gate) {
                     return count_unmoved(stats);
                 }
-                stats.add(LogQueue::Rewrite, 1)?;
+                count_written(stats)?;
                 self.keys
                     .set_file(&key, FileId::new(LogQueue::Rewrite, seq));
                 stats.delete(LogQueue::Append, 1);
@@ -334,19 +353,34 @@ impl MemTable {
     /// Sets the first and the last file of the region's atomic group in the rewrite queue.
     pub fn apply_rewrite_atomic_group(&mut self, start: FileSeq, end: FileSeq)
         requires { start ≤ end }
-        ensures { self.new ≡ with_atomic_group self.old start end }
+        ensures group { self.new ≡ with_atomic_group self.old start end }
+        ensures region { self.new.region_id ≡ self.old.region_id }
     {
         self.atomic_group = Some((start, end));
     }
 }
 
+/// Counts a record that was written to the rewrite queue.
+fn count_written(stats: &mut GlobalStats) -> Result<()>
+    ensures ok { OnOk result (stats.new ≡ with_added Rewrite 1 stats.old) }
+    ensures live { OnOk result ((q : LogQueue) → live q stats.new ≡ live q stats.old + count_in q Rewrite 1) }
+    ensures err { OnErr result (stats.new ≡ stats.old) }
+    ensures full { IfErr result (λ e. (e ≡ Error.Full) × (2 ^ 64 ≤ live Rewrite stats.old + 1)) }
+{
+    if !stats.can_add(LogQueue::Rewrite, 1) {
+        return Err(Error::Full);
+    }
+    stats.add(LogQueue::Rewrite, 1)
+}
+
 /// Counts a record that was written to the rewrite queue without another place that it leaves.
 fn count_unmoved(stats: &mut GlobalStats) -> Result<()>
     ensures ok { OnOk result (stats.new ≡ with_rewritten_key false stats.old) }
-    ensures live { (q : LogQueue) → live q stats.new ≡ live q stats.old }
+    ensures live { OnOk result ((q : LogQueue) → live q stats.new ≡ live q stats.old) }
+    ensures err { OnErr result (stats.new ≡ stats.old) }
     ensures full { IfErr result (λ e. (e ≡ Error.Full) × (2 ^ 64 ≤ live Rewrite stats.old + 1)) }
 {
-    stats.add(LogQueue::Rewrite, 1)?;
+    count_written(stats)?;
     stats.delete(LogQueue::Rewrite, 1);
     Ok(())
 }

@@ -6,8 +6,7 @@ ghost use Rattle.raft_records.specs.Group.{reserved_key, IsKeyRefusal, IsMessage
 ghost use Rattle.raft_records.specs.Item.{pair_item};
 ghost use Rattle.raft_records.specs.LogBatch.{populating};
 
-use crate::LogBatch;
-use crate::atomic_group::is_reserved;
+use crate::{LogBatch, is_reserved};
 use raft_base::{Error, Message, Result};
 
 impl LogBatch {
@@ -22,7 +21,7 @@ impl LogBatch {
         self.item_batch.delete(region_id, key)
     }
 
-    /// Adds a value of a region's key to an open batch. The key of the marks of atomic groups is
+    /// Adds a value of a region's key to an open batch. The key of the group markers is
     /// `InvalidArgument`. On `Err` the batch is as it was.
     pub fn put(&mut self, region_id: u64, key: Vec<u8>, value: Vec<u8>) -> Result<()>
         requires { self.old.stage ≡ populating }
@@ -38,7 +37,7 @@ impl LogBatch {
     }
 
     /// Adds a message as the value of a region's key to an open batch. `Message` where the message
-    /// refuses to write itself; the key of the marks of atomic groups is `InvalidArgument`. On `Err`
+    /// refuses to write itself; the key of the group markers is `InvalidArgument`. On `Err`
     /// the batch is as it was.
     pub fn put_message<S: Message>(
         &mut self,
@@ -78,14 +77,14 @@ impl LogBatch {
     }
 }
 
-/// Refuses the key of the marks of atomic groups.
+/// Refuses the key of the group markers.
 fn refuse_reserved(key: &Vec<u8>) -> Result<()>
     ensures accepted { OnOk result (key.now.items ≢ reserved_key) }
     ensures fault { IfErr result (IsKeyRefusal key.now.items) }
 {
     if is_reserved(key.as_slice()) {
         return Err(Error::InvalidArgument(format!(in *key.allocator();
-            "the key {key:?} is kept for the marks of atomic groups"
+            "the key {key:?} is kept for group markers"
         )?));
     }
     Ok(())

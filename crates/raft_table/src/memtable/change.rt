@@ -3,7 +3,7 @@
 ghost use Rattle.std.specs.Prelude.{◌≡◌, ◌≢◌, OnOk, OnErr, IfOk, IfErr, MatchBool, Some};
 ghost use Rattle.raft_base.specs.declared.pipe_log.LogQueue.{LogQueue};
 ghost use Rattle.raft_table.specs.Counts.{live};
-ghost use Rattle.raft_table.specs.Change.{after_change, IsAllowed, IsAnswer, IsChangeRefused, IsListRefused};
+ghost use Rattle.raft_table.specs.Change.{after_change, AreCountedAfter, IsAllowed, IsAnswer, IsChangeRefused, IsListRefused};
 ghost use Rattle.raft_table.specs.Entries.{IsRunIn, is_placed_in};
 ghost use Rattle.raft_table.specs.Table.{IsCounted, IsRecounted};
 
@@ -57,9 +57,12 @@ impl MemTable {
         ensures ok { OnOk result (after_change self.old change ≡ Some self.new) }
         ensures allowed { OnOk result (IsAllowed change) }
         ensures answer { IfOk result (IsAnswer change self.old self.new) }
+        ensures counts { OnOk result (AreCountedAfter change self.old stats.old stats.new) }
         ensures refused { IfErr result (IsChangeRefused self.old stats.old change) }
         ensures err { OnErr result (self.new ≡ self.old) }
+        ensures err_counts { IfErr result (λ e. e ≢ Error.Full → stats.new ≡ stats.old) }
         ensures recounted { IsRecounted self.old self.new stats.old stats.new }
+        ensures region { self.new.region_id ≡ self.old.region_id }
     {
         match change {
             TableChange::Keep => Ok(0),

@@ -2,7 +2,8 @@
 
 ghost use Rattle.std.specs.Prelude.{◌≡◌, ◌≢◌, ◌+◌, [], length, MatchOption, IfOk, IfErr};
 ghost use Rattle.raft_table.specs.Start.{IsCorruption, IsInvalidArgument};
-ghost use Rattle.raft_table.specs.Entries.{IsSound, start_of, end_of, entry_at, entries_in, from, AreCounted, AreRecounted};
+ghost use Rattle.raft_table.specs.Entries.{IsSound, start_of, end_of, entry_at, entries_in, below, from, AreCounted, AreRecounted};
+ghost use Rattle.raft_table.specs.Marks.{part};
 ghost use Rattle.raft_base.specs.declared.pipe_log.LogQueue.TheVariants.{Rewrite};
 
 mod fetch;
@@ -158,5 +159,60 @@ impl Entries {
         stats.delete(LogQueue::Rewrite, rewritten);
         stats.delete(LogQueue::Append, count - rewritten);
         count as u64
+    }
+
+    /// Drops the entries at or above an index.
+    pub fn keep_below(&mut self, index: u64, stats: &mut GlobalStats)
+        requires { AreCounted self.old stats.old }
+        ensures entries { self.new ≡ below index self.old }
+        ensures recounted { AreRecounted self.old self.new stats.old stats.new }
+    {
+        let Some(front) = self.deque.front() else {
+            return;
+        };
+        let keep = index
+            .saturating_sub(front.index)
+            .min(self.deque.len() as u64) as usize;
+        let rewritten = self.rewritten.min(keep);
+        let dropped = self.deque.len() - keep;
+        stats.delete(LogQueue::Rewrite, self.rewritten - rewritten);
+        stats.delete(LogQueue::Append, dropped - (self.rewritten - rewritten));
+        self.deque.truncate(keep);
+        self.rewritten = rewritten;
+    }
+
+    /// Drops the entries below an index, and those at or above a bound, if there is one.
+    pub fn keep_part(&mut self, index: u64, cut: Option<u64>, stats: &mut GlobalStats)
+        requires { AreCounted self.old stats.old }
+        ensures entries { self.new ≡ part index cut self.old }
+        ensures recounted { AreRecounted self.old self.new stats.old stats.new }
+    {
+        self.compact_to(index, stats);
+        let Some(cut) = cut else {
+            return;
+        };
+        self.keep_below(cut, stats);
+    }
+
+    /// The greatest index plus one, 0 without entries.
+    pub fn end(&self) -> u64
+        ensures { result ≡ end_of self.now }
+    {
+        self.holds_one_run();
+        match self.last_index() {
+            Some(last) => last + 1,
+            None => 0,
+        }
+    }
+
+    /// The end of the entries from an index on: the greatest index plus one, 0 where there are none.
+    pub fn end_from(&self, index: u64) -> u64
+        ensures { result ≡ end_of (from index self.now) }
+    {
+        self.holds_one_run();
+        match self.last_index() {
+            Some(last) if last >= index => last + 1,
+            _ => 0,
+        }
     }
 }

@@ -73,6 +73,14 @@ impl KeyValues {
         self.pairs.is_empty()
     }
 
+    /// Takes all pairs away.
+    pub fn clear(&mut self)
+        ensures { self.new ≡ finite.empty }
+    {
+        self.pairs.clear();
+        self.rewritten = 0;
+    }
+
     /// How many pairs have their file in `queue`.
     pub fn count_in(&self, queue: LogQueue) -> usize
         ensures { result ≡ pair_count queue self.now }

@@ -1,10 +1,15 @@
 //! Laws of tables.
 
-ghost use Rattle.std.specs.Prelude.{◌≡◌, ◌<◌, ℕ, List, Some, None, nat_lt, length, false, true, if◌then◌else◌};
+ghost use Rattle.std.specs.Prelude.{◌≡◌, ◌<◌, ◌≤◌, ℕ, List, [], ◌∷◌, ◌++◌, Option, Some, None, nat_lt, length, false, true, if◌then◌else◌};
+ghost use Rattle.std.specs.FinSet as finset;
 ghost use Rattle.raft_base.specs.declared.pipe_log.LogQueue.{LogQueue};
 ghost use Rattle.raft_base.specs.declared.pipe_log.LogQueue.TheVariants.{Append, Rewrite};
 ghost use Rattle.raft_records.specs.declared.entry_index.EntryIndex.{EntryIndex};
-ghost use Rattle.raft_table.specs.Entries.{IsRunIn, StandsBehind, start_of, end_of, entry_at, from};
+ghost use Rattle.raft_table.specs.Entries.{IsRun, IsRunIn, StandsBehind, start_of, end_of, entry_at, from};
+ghost use Rattle.raft_table.specs.Marks.{Mark, Stands, applied, joined, mark_of, own_of};
+ghost use Rattle.raft_table.specs.Overlay.{HoldsDeleted, IsExactMark, deleted_of, overlay, overlay_under};
+ghost use Rattle.raft_table.specs.Steps.{Step, IsStep, AreSteps, IsTableOf, table_of, after};
+ghost use Rattle.raft_table.specs.Table.{Table};
 ghost use Rattle.raft_table.specs.Start.{appended, replayed, leaves_hole};
 
 /// What stands at an index, after each change of a table's entries but a rewriting: where a run is
@@ -16,4 +21,25 @@ pub fn entries_stand_by_index()
     ensures rewritten { (es run after : List EntryIndex) → IsRunIn Rewrite run → 0 < length run → leaves_hole (end_of es) (start_of run) ≡ false → replayed Rewrite es run ≡ Some after → StandsBehind es run after }
     ensures hole { (es run after : List EntryIndex) → leaves_hole (end_of es) (start_of run) ≡ true → replayed Rewrite es run ≡ Some after → after ≡ run }
     ensures compacted { (index i : ℕ) (es : List EntryIndex) → entry_at i (from index es) ≡ (if nat_lt i index then None else entry_at i es) }
+{}
+
+/// A mark and an own table stand for the steps on a region: those of one step for it; those of two
+/// neighbours, joined, for the steps of both, or one reading refuses where the join does; and the own
+/// table is what one reading of the steps gives.
+pub fn marks_stand_for_steps()
+    ensures one { (q : LogQueue) (id : ℕ) (s : Step) → IsStep s → Stands q id (mark_of s) (own_of id s) (s ∷ []) }
+    ensures joins { (q : LogQueue) (id : ℕ) (m n : Mark) (t u w : Option Table) (ss rs : List Step) → AreSteps ss → AreSteps rs → Stands q id m t ss → Stands q id n u rs → applied q id n u t ≡ Some w → Stands q id (joined q id m t n) w (ss ++ rs) }
+    ensures refused { (q : LogQueue) (id : ℕ) (m n : Mark) (t u : Option Table) (ss rs : List Step) → Stands q id m t ss → Stands q id n u rs → applied q id n u t ≡ None → after q id None (ss ++ rs) ≡ None }
+    ensures alone { (q : LogQueue) (id : ℕ) (m : Mark) (t : Option Table) (ss : List Step) → Stands q id m t ss → after q id None ss ≡ Some t }
+    ensures deleted { (q : LogQueue) (id : ℕ) (m n : Mark) (t : Option Table) (ss rs : List Step) → Stands q id m t ss → HoldsDeleted m ss → HoldsDeleted n rs → HoldsDeleted (joined q id m t n) (ss ++ rs) }
+    ensures few_deleted { (m : Mark) (ss : List Step) → HoldsDeleted m ss → finset.len m.deleted ≤ finset.len (deleted_of finset.empty ss) }
+{}
+
+/// In the append queue a mark that stands for steps holds what an overlay reads of them, so the
+/// overlay by the mark is that by the steps, and its entries are a run.
+pub fn overlays_by_marks()
+    ensures one { (s : Step) → IsExactMark (mark_of s) (s ∷ []) }
+    ensures joins { (id : ℕ) (m n : Mark) (t : Option Table) (ss rs : List Step) → Stands Append id m t ss → IsExactMark m ss → IsExactMark n rs → IsExactMark (joined Append id m t n) (ss ++ rs) }
+    ensures overlay { (m : Mark) (ss : List Step) (a r : Table) → IsExactMark m ss → overlay_under m a r ≡ overlay ss a r }
+    ensures run { (id : ℕ) (m : Mark) (a : Option Table) (ss : List Step) (r : Table) → AreSteps ss → Stands Append id m a ss → IsTableOf id r → IsRun (overlay_under m (table_of id a) r).entries }
 {}

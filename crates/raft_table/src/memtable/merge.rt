@@ -40,6 +40,7 @@ impl MemTable {
         ensures err { IfErr result (λ e. e ≢ Error.Memory →
             (self.new ≡ self.old) × (rhs.new ≡ rhs.old) × (stats.new ≡ stats.old)) }
         ensures recounted { IsRecounted self.old self.new stats.old stats.new }
+        ensures regions { (self.new.region_id ≡ self.old.region_id) × (rhs.new.region_id ≡ rhs.old.region_id) }
     {
         let Some(queue) = self.joint_queue(rhs) else {
             return Err(
@@ -73,6 +74,7 @@ impl MemTable {
         ensures err { IfErr result (λ e. e ≢ Error.Memory →
             (self.new ≡ self.old) × (rhs.new ≡ rhs.old) × (stats.new ≡ stats.old)) }
         ensures recounted { IsRecounted self.old self.new stats.old stats.new }
+        ensures regions { (self.new.region_id ≡ self.old.region_id) × (rhs.new.region_id ≡ rhs.old.region_id) }
     {
         let Some(rule) = self.append_rule(rhs) else {
             return Err(
@@ -111,7 +113,7 @@ impl MemTable {
 
     /// Moves the entries and pairs of `rhs`, which are in one queue, into this table: its run by a
     /// start rule, its pairs over the own ones.
-    fn join(
+    pub(super) fn join(
         &mut self,
         rule: LogQueue,
         rhs: &mut MemTable,
@@ -127,21 +129,14 @@ impl MemTable {
         ensures err { IfErr result (λ e. e ≢ Error.Memory →
             (self.new ≡ self.old) × (rhs.new ≡ rhs.old) × (stats.new ≡ stats.old)) }
         ensures recounted { IsRecounted self.old self.new stats.old stats.new }
+        ensures regions { (self.new.region_id ≡ self.old.region_id) × (rhs.new.region_id ≡ rhs.old.region_id) }
     {
-        if !has_room(stats, rhs, LogQueue::Append) || !has_room(stats, rhs, LogQueue::Rewrite) {
+        if !stats.has_room(rhs, LogQueue::Append) || !stats.has_room(rhs, LogQueue::Rewrite) {
             return Err(Error::Full);
         }
         self.entries.absorb(rule, &mut rhs.entries, queue, stats)?;
         absorb_keys(&mut self.keys, &mut rhs.keys, stats)
     }
-}
-
-/// Whether the records of a table can be counted in `queue` beside those that are live there.
-fn has_room(stats: &GlobalStats, table: &MemTable, queue: LogQueue) -> bool
-    ensures { MatchBool result (live queue stats.now + live_of queue table.now < 2 ^ 64)
-        (2 ^ 64 ≤ live queue stats.now + live_of queue table.now) }
-{
-    table.records(queue) <= (usize::MAX - stats.live_entries(queue)) as u128
 }
 
 /// Puts newer pairs over older ones, and counts them.

@@ -3,4 +3,4 @@ use Rattle.raft_base.specs.declared.pipe_log.LogQueue.TheVariants.{Rewrite}
 use Rattle.raft_table.proofs.memtable.count_unmoved.Goals as goal
 
 pub delete-requires : goal.delete-requires
-delete-requires c = omega (arith, c.in_ok-add.ensures.live Rewrite)
+delete-requires c = omega (arith, c.in_ok-count_written.ensures.live Rewrite)

@@ -3,6 +3,7 @@ use Rattle.std.proofs.lemmas.Result.{err_from_is_err_and}
 use Rattle.raft_base.specs.Signature.{signature_of}
 use Rattle.raft_records.specs.ItemBatch.{IsSealed}
 use Rattle.raft_records.proofs.BatchLemmas.{no_items_count, no_items, counted_read, batch_read}
+use Rattle.raft_records.proofs.InFileLemmas.{decoded_in_file}
 use Rattle.raft_records.proofs.log_item_batch.LogItemBatch.decode.Goals as goal
 
 pub returns-in_err-count-clause-refused : goal.returns-in_err-count-clause-refused
@@ -27,3 +28,7 @@ returns-clause-ok c =
       batch = batch_read (signature_of c.args.context.now) c.args.buf.now.now c.in_ok-content.content.now c.in_ok-batch.rest.now items sealed counted;
       places = c.in_ok-batch.ensures.ok.2;
     }
+
+pub returns-clause-in_file : goal.returns-clause-in_file
+returns-clause-in_file c =
+    decoded_in_file c.args.buf.now.now c.in_ok-batch.rest.now (signature_of c.args.context.now) c.args.entries c.args.compression_type c.in_ok-batch.batch (returns-clause-ok c)

@@ -7,7 +7,7 @@ use Rattle.raft_table.proofs.memtable.MemTable.rewrite_key.Goals as goal
 pub delete-requires : goal.delete-requires
 delete-requires c =
     let a = rw c.in-Append.is at (pair_counted c.self.inside.keys c.deref.result.now c.in-Some.file c.in-Some.ensures) in
-    omega (arith, rw (← c.self.view_is) at (c.requires Append), c.in_ok-add-in-Append.ensures.live Append)
+    omega (arith, rw (← c.self.view_is) at (c.requires Append), c.in_ok-count_written-in-Append.ensures.live Append)
 
 pub returns-in-Append-clause-file_alone : goal.returns-in-Append-clause-file_alone
 returns-in-Append-clause-file_alone c =

@@ -1,0 +1,4 @@
+mod LiveLemmas
+mod MapLemmas
+mod RegionTablesLemmas
+mod UpdateLemmas

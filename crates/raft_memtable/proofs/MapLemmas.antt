@@ -1,0 +1,94 @@
+-- Maps under numbers: one key written or taken away.
+use Rattle.std.proofs.Common.{◌≡◌, ◌⊎◌, ℕ, ◌==◌, Bool, true, false, cond, Option, Some, None, refl, sym, ap, subst, ◌∙◌, inl, inr}
+use Rattle.std.specs.declared.cmp.Ordering.TheVariants.{Equal}
+use Rattle.std.specs.Ordering.{nat_cmp, is_eq, eq_by_cmp}
+use Rattle.std.specs.Cmp.{nat_cmp_total, nat_cmp_is}
+use Rattle.std.specs.FinMap as finite
+use Rattle.std.specs.FinMap.{nat_cmp-IsAntisymmetric}
+use Rattle.raft_table.proofs.Shown.{equal}
+use Rattle.raft_table.specs.Table.{Table}
+use Rattle.raft_memtable.specs.Regions.{Tables, with_table}
+use Rattle.std.proofs.Math.Dec.{eqb_refl}
+use lib.Dec.{T}
+use Rattle.std.proofs.lemmas.Bool.{false≢true, eqb-true}
+
+pub eq_self : (n : ℕ) → eq_by_cmp nat_cmp n n ≡ true
+eq_self n = ap is_eq (sym (nat_cmp_is n n Equal refl))
+
+pub some_is : {X : Type 0} {x y : X} → Some x ≡ Some y → x ≡ y
+some_is e = cc
+
+-- a key is the given one, or another
+pub by_id : (q id : ℕ) → (q ≡ id) ⊎ (eq_by_cmp nat_cmp q id ≡ false)
+by_id q id = elim (eq_by_cmp nat_cmp q id) as (λ b. eq_by_cmp nat_cmp q id ≡ b → (q ≡ id) ⊎ (b ≡ false)) [ true ↦ λ e. inl (nat_cmp-IsAntisymmetric q id (equal _ e)) | false ↦ λ e. inr refl ] refl
+
+module _ {X : Type 0} where
+  pub same : (m n : finite.FinMap nat_cmp X) → ((q : ℕ) → finite.get m q ≡ finite.get n q) → m ≡ n
+  same m n h = finite.same_map nat_cmp_total nat_cmp-IsAntisymmetric m n h
+
+  pub get_own : (m : finite.FinMap nat_cmp X) (id : ℕ) (x : X) → finite.get (finite.insert m id x) id ≡ Some x
+  get_own m id x = finite.get-insert nat_cmp_total m id x id ∙ ap (λ b. cond b (Some x) (finite.get m id)) (eq_self id)
+
+  pub get_other : (m : finite.FinMap nat_cmp X) (id q : ℕ) (x : X) → eq_by_cmp nat_cmp q id ≡ false → finite.get (finite.insert m id x) q ≡ finite.get m q
+  get_other m id q x f = finite.get-insert nat_cmp_total m id x q ∙ ap (λ b. cond b (Some x) (finite.get m q)) f
+
+  pub get_gone : (m : finite.FinMap nat_cmp X) (id : ℕ) → finite.get (finite.remove m id) id ≡ None
+  get_gone m id = finite.get-remove nat_cmp_total m id id ∙ ap (λ b. cond b None (finite.get m id)) (eq_self id)
+
+  pub get_left : (m : finite.FinMap nat_cmp X) (id q : ℕ) → eq_by_cmp nat_cmp q id ≡ false → finite.get (finite.remove m id) q ≡ finite.get m q
+  get_left m id q f = finite.get-remove nat_cmp_total m id q ∙ ap (λ b. cond b None (finite.get m q)) f
+
+  -- what is there already written again
+  pub insert_same : (m : finite.FinMap nat_cmp X) (id : ℕ) (x : X) → finite.get m id ≡ Some x → finite.insert m id x ≡ m
+  insert_same m id x e = same _ _ (λ q. elim (by_id q id) [ inl p ↦ ap (finite.get (finite.insert m id x)) p ∙ get_own m id x ∙ sym (ap (finite.get m) p ∙ e) | inr f ↦ get_other m id q x f ])
+
+  pub insert_twice : (m : finite.FinMap nat_cmp X) (id : ℕ) (x y : X) → finite.insert (finite.insert m id x) id y ≡ finite.insert m id y
+  insert_twice m id x y =
+      same _ _ (λ q. elim (by_id q id) [
+        | inl p ↦ ap (finite.get (finite.insert (finite.insert m id x) id y)) p ∙ get_own _ id y ∙ sym (ap (finite.get (finite.insert m id y)) p ∙ get_own m id y)
+        | inr f ↦ get_other _ id q y f ∙ get_other m id q x f ∙ sym (get_other m id q y f)
+      ])
+
+  -- what was made is taken away again
+  pub remove_made : (m : finite.FinMap nat_cmp X) (id : ℕ) (x : X) → finite.get m id ≡ None → finite.remove (finite.insert m id x) id ≡ m
+  remove_made m id x e =
+      same _ _ (λ q. elim (by_id q id) [
+        | inl p ↦ ap (finite.get (finite.remove (finite.insert m id x) id)) p ∙ get_gone _ id ∙ sym (ap (finite.get m) p ∙ e)
+        | inr f ↦ get_left _ id q f ∙ get_other m id q x f
+      ])
+
+-- ---- tests of numbers
+
+pub not_same : (a b : ℕ) → eq_by_cmp nat_cmp b a ≡ false → (a == b) ≡ false
+not_same a b f = elim (a == b) as (λ t. (a == b) ≡ t → t ≡ false) [ true ↦ λ e. absurd (false≢true (sym f ∙ ap (eq_by_cmp nat_cmp b) (eqb-true a b e) ∙ eq_self b)) | false ↦ λ e. refl ] refl
+
+T_true : (b : Bool) → T b → b ≡ true
+T_true true h = refl
+T_true false h = absurd h
+
+eqb_self : (a : ℕ) → (a == a) ≡ true
+eqb_self a = T_true _ (eqb_refl a)
+
+pub self_same : (a : ℕ) → (a == a) ≡ true
+self_same a = elim (a == a) as (λ t. (a == a) ≡ t → t ≡ true) [ true ↦ λ e. refl | false ↦ λ e. absurd (false≢true (sym e ∙ eqb_self a)) ] refl
+
+-- ---- a table written, or taken away
+
+pub with_own : (m : Tables) (id : ℕ) (t : Option Table) → finite.get (with_table m id t) id ≡ t
+with_own m id None = get_gone m id
+with_own m id (Some t) = get_own m id t
+
+pub with_other : (m : Tables) (id q : ℕ) (t : Option Table) → eq_by_cmp nat_cmp q id ≡ false → finite.get (with_table m id t) q ≡ finite.get m q
+with_other m id q None f = get_left m id q f
+with_other m id q (Some t) f = get_other m id q t f
+
+pub with_same : (m : Tables) (id : ℕ) → with_table m id (finite.get m id) ≡ m
+with_same m id = same _ _ (λ q. elim (by_id q id) [ inl p ↦ subst (λ q. finite.get (with_table m id (finite.get m id)) q ≡ finite.get m q) (sym p) (with_own m id (finite.get m id)) | inr f ↦ with_other m id q (finite.get m id) f ])
+
+-- what is written at one region, or stays, is a change of that region
+pub one_written : (m n : Tables) (id : ℕ) (t : Table) → n ≡ finite.insert m id t → n ≡ with_table m id (finite.get n id)
+one_written m n id t e = e ∙ sym (ap (with_table m id) (ap (λ r. finite.get r id) e ∙ get_own m id t))
+
+pub one_same : (m n : Tables) (id : ℕ) → n ≡ m → n ≡ with_table m id (finite.get n id)
+one_same m n id e = e ∙ sym (ap (λ r. with_table m id (finite.get r id)) e ∙ with_same m id)
+

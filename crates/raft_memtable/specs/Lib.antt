@@ -1,0 +1,4 @@
+pub mod Regions
+pub mod RegionTablesView
+pub mod RegionsCode
+pub mod Updates

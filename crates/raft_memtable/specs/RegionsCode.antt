@@ -1,0 +1,16 @@
+-- The code of the regions.
+use Rattle.std.specs.Prelude.{ℕ, List, refl}
+use Rattle.std.specs.Coded.{Coded, code_by, coded×, coded_list, coded_ℕ}
+use Rattle.std.specs.FinMap as finite
+use Rattle.raft_table.specs.Counts.{Counts}
+use Rattle.raft_table.specs.TableCode.{table_code}
+use Rattle.raft_memtable.specs.Regions.{Tables, Regions}
+
+abbrev pub tables_code : Coded Tables
+tables_code = finite.code coded_ℕ table_code
+
+abbrev pub counts_code : Coded Counts
+counts_code = code_by (ℕ × (ℕ × ℕ)) (coded× coded_ℕ (coded× coded_ℕ coded_ℕ)) (λ c. (c.append, (c.written, c.deleted))) (λ p. record { append = p.0; written = p.1.0; deleted = p.1.1 }) (λ _. refl)
+
+abbrev pub regions_code : Coded Regions
+regions_code = code_by (Tables × (List ℕ × Counts)) (coded× tables_code (coded× (coded_list coded_ℕ) counts_code)) (λ r. (r.tables, (r.cleaned, r.counts))) (λ p. record { tables = p.0; cleaned = p.1.0; counts = p.1.1 }) (λ _. refl)

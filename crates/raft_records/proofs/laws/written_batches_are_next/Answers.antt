@@ -1,0 +1,8 @@
+use Rattle.raft_records.proofs.PartLemmas.{written_next, written_accepted}
+use Rattle.raft_records.proofs.laws.written_batches_are_next.Goals as goal
+
+pub returns-clause-next : goal.returns-clause-next
+returns-clause-next c = written_next
+
+pub returns-clause-accepted : goal.returns-clause-accepted
+returns-clause-accepted c = written_accepted

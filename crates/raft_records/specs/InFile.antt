@@ -1,0 +1,24 @@
+-- Items as they are read from a file.
+use Rattle.std.specs.Prelude.{◌≡◌, List, Option, Some, None}
+use Rattle.std.specs.List.{AllByRecursion}
+use Rattle.raft_base.specs.declared.pipe_log.FileBlockHandle.{FileBlockHandle}
+use Rattle.raft_base.specs.declared.pipe_log.FileId.{FileId}
+use Rattle.raft_records.specs.declared.entry_index.EntryIndex.{EntryIndex}
+use Rattle.raft_records.specs.Entries.{IsConsecutive}
+use Rattle.raft_records.specs.Item.{Item, Content, entries, command, pair}
+use Rattle.raft_records.specs.Spelling.{IsWritablePair}
+
+-- a place in this file
+abbrev pub IsBlockIn : FileId → Option FileBlockHandle → Type 0
+IsBlockIn file None = ⊥
+IsBlockIn file (Some block) = block.id ≡ file
+
+-- entries are consecutive and have their places in the file; a change of a key is of this file, and a Put has a value
+abbrev pub IsInFile : FileId → Content → Type 0
+IsInFile file (entries es) = IsConsecutive es × AllByRecursion (λ (e : EntryIndex). IsBlockIn file e.entries) es
+IsInFile file (command c) = Unit {0}
+IsInFile file (pair p) = IsWritablePair p × (p.file_id ≡ Some file)
+
+-- all items are so
+abbrev pub AreInFile : FileId → List Item → Type 0
+AreInFile file items = AllByRecursion (λ (item : Item). IsInFile file item.content) items

@@ -1,0 +1,78 @@
+-- What a cut of a table's entries leaves, and how many.
+use Rattle.std.proofs.Common.{◌≡◌, ℕ, ◌+◌, ◌-◌, ◌<◌, ◌≤◌, max, min, Bool, true, false, cond, ltb, List, [], ◌∷◌, length, take, Option, Some, None, refl, sym, ap, subst, ◌∙◌, inl, inr, arith}
+use Rattle.std.specs.Prelude.{filter}
+use Rattle.std.proofs.lemmas.Bool.{cases_lt}
+use Rattle.std.proofs.lemmas.Bool.Decides.{nat_tests}
+use Rattle.raft_base.specs.declared.pipe_log.LogQueue.{LogQueue}
+use Rattle.raft_records.specs.declared.entry_index.EntryIndex.{EntryIndex}
+use Rattle.raft_table.specs.Entries.{IsSound, start_of, end_of, below, from, is_placed_in, placed_in, entries_in}
+use Rattle.std.specs.FinMap as finite
+use Rattle.raft_table.specs.KeyValues.{Keys, pair_count}
+use Rattle.raft_table.specs.Marks.{part, is_under}
+use Rattle.raft_table.proofs.KeyValueReads.{entries-empty}
+use Rattle.raft_table.proofs.RunLemmas.{filter_comm, below_start}
+use Rattle.raft_table.proofs.SoundLemmas.{sound_rising, below_cut}
+use Rattle.raft_table.proofs.MarkWords.{end_of-from, part-part, part-from, part-below}
+
+-- so many in front are the entries below an index
+pub front_below : (i first n : ℕ) (es : List EntryIndex) → IsSound es → start_of es ≡ first → n ≡ min (i - first) (length es) → take n es ≡ below i es
+front_below i first n es h s e = elim (cases_lt i (start_of es)) [
+  | inl l ↦ ap (λ k. take k es) (none i first n (length es) (omega arith) e) ∙ sym (below_start i (start_of es) es (sound_rising es h) (omega arith))
+  | inr l ↦ below_cut i n es h l (rw s e)
+]
+  where
+    none : (i first n k : ℕ) → i < first → n ≡ min (i - first) k → n ≡ 0
+    none i first n k l e = omega arith
+
+pub below_zero : (es : List EntryIndex) → below 0 es ≡ []
+unfolding below
+below_zero [] = refl
+below_zero (e ∷ es) = rw (none e.index) (below_zero es)
+  where
+    none : (i : ℕ) → ltb i 0 ≡ false
+    none i = grind (arith, nat_tests)
+
+pub part-cut : (lo cut : ℕ) (es : List EntryIndex) → below cut (from lo es) ≡ part lo (Some cut) es
+part-cut lo cut es = ap (below cut) (sym (part-from lo es)) ∙ sym (part-below cut (part lo None es)) ∙ part-part 0 (Some cut) lo None es ∙ ap (λ l. part l (Some cut) es) (omega arith)
+
+length-filter-le : {X : Type 0} (p : X → Bool) (xs : List X) → length (filter p xs) ≤ length xs
+length-filter-le p [] = omega arith
+length-filter-le p (x ∷ xs) = go (p x) (length-filter-le p xs)
+  where
+    go : (b : Bool) → length (filter p xs) ≤ length xs → length (cond b (x ∷ filter p xs) (filter p xs)) ≤ length (x ∷ xs)
+    go true h = omega arith
+    go false h = omega arith
+
+-- a part has at most the entries of all
+pub part-fewer : (q : LogQueue) (lo : ℕ) (cut : Option ℕ) (es : List EntryIndex) → entries_in q (part lo cut es) ≤ entries_in q es
+unfolding part placed_in
+part-fewer q lo cut es = subst (λ n. n ≤ entries_in q es) (ap length (filter_comm _ (is_placed_in q) es)) (length-filter-le _ (filter (is_placed_in q) es))
+
+pub none-fewer : (q : LogQueue) (es : List EntryIndex) → entries_in q [] ≤ entries_in q es
+unfolding placed_in
+none-fewer q es = omega arith
+
+-- the end of the entries from an index on, told by the end of all
+pub end_above : (i last : ℕ) (es : List EntryIndex) → last + 1 ≡ end_of es → i ≤ last → last + 1 ≡ end_of (from i es)
+end_above i last es e l = sym (end_of-from i es ∙ go i (end_of es) last e l)
+  where
+    go : (i e last : ℕ) → last + 1 ≡ e → i ≤ last → cond (ltb i e) e 0 ≡ last + 1
+    go i e last h l = grind (arith, nat_tests)
+
+pub end_below : (i last : ℕ) (es : List EntryIndex) → last + 1 ≡ end_of es → last < i → 0 ≡ end_of (from i es)
+end_below i last es e l = sym (end_of-from i es ∙ go i (end_of es) last e l)
+  where
+    go : (i e last : ℕ) → last + 1 ≡ e → last < i → cond (ltb i e) e 0 ≡ 0
+    go i e last h l = grind (arith, nat_tests)
+
+pub end_none : (i : ℕ) (es : List EntryIndex) → es ≡ [] → 0 ≡ end_of (from i es)
+unfolding end_of from
+end_none i es e = rw e refl
+
+-- a part, or nothing
+pub kept-fewer : (q : LogQueue) (gone : Bool) (lo : ℕ) (cut : Option ℕ) (es xs : List EntryIndex) → xs ≡ cond gone [] (part lo cut es) → entries_in q xs ≤ entries_in q es
+kept-fewer q true lo cut es xs e = subst (λ x. entries_in q x ≤ entries_in q es) (sym e) (none-fewer q es)
+kept-fewer q false lo cut es xs e = subst (λ x. entries_in q x ≤ entries_in q es) (sym e) (part-fewer q lo cut es)
+
+pub pair_count-empty : (q : LogQueue) (keys : Keys) → keys ≡ finite.empty → pair_count q keys ≡ 0
+pair_count-empty q keys e = rw (e, entries-empty) refl

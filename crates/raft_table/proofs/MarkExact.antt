@@ -1,0 +1,192 @@
+-- What an overlay reads of a mark, of one step and of two neighbours.
+use Rattle.std.proofs.Common.{◌≡◌, ℕ, ◌≤◌, max, min, Bool, true, false, cond, ◌||◌, List, [], ◌∷◌, ◌++◌, Option, Some, None, refl, sym, ap, ◌∙◌, arith}
+use Rattle.std.specs.Ordering.{nat_cmp, eq_by_cmp}
+use Rattle.std.specs.Cmp.Lexicographic.{slice_cmp, nat_list_cmp_total}
+use Rattle.std.specs.FinSet as finset
+use Rattle.std.specs.FinSet.{slice_cmp-IsAntisymmetric, nat_cmp-IsAntisymmetric}
+use Rattle.std.proofs.lemmas.Bool.{false≢true}
+use Rattle.raft_base.specs.declared.pipe_log.LogQueue.{LogQueue}
+use Rattle.raft_base.specs.declared.pipe_log.LogQueue.TheVariants.{Append, Rewrite}
+use Rattle.raft_records.specs.declared.entry_index.EntryIndex.{EntryIndex}
+use Rattle.raft_table.specs.KeySets.{KeySet}
+use Rattle.raft_table.specs.Steps.{Step, Run, Compact, Put, Del, AtomicGroup, Clean}
+use Rattle.raft_table.specs.Marks.{Mark, least_of, FitsCut, FitsMark, joined_deleted, joined_live, joined_at, fresh, mark_of}
+use Rattle.raft_table.specs.Overlay.{has_clean, greatest_compaction, least_start, deleted_of, HoldsDeleted, IsExactMark}
+
+-- two sets with the same keys are the same
+pub same_set : (a b : KeySet) → ((q : List ℕ) → finset.contains a q ≡ finset.contains b q) → a ≡ b
+same_set a b h = finset.same_set nat_list_cmp_total (slice_cmp-IsAntisymmetric nat_cmp-IsAntisymmetric) a b h
+
+or_assoc : (x y z : Bool) → ((x || y) || z) ≡ (x || (y || z))
+or_assoc true y z = refl
+or_assoc false y z = refl
+
+or_none : (x : Bool) → (x || false) ≡ x
+or_none true = refl
+or_none false = refl
+
+or_comm : (x y : Bool) → (x || y) ≡ (y || x)
+or_comm true true = refl
+or_comm true false = refl
+or_comm false true = refl
+or_comm false false = refl
+
+pub union_assoc : (a b c : KeySet) → finset.union (finset.union a b) c ≡ finset.union a (finset.union b c)
+union_assoc a b c = same_set _ _ (λ q.
+    finset.contains-union nat_list_cmp_total (finset.union a b) c q ∙ ap (λ x. x || finset.contains c q) (finset.contains-union nat_list_cmp_total a b q)
+    ∙ or_assoc (finset.contains a q) (finset.contains b q) (finset.contains c q)
+    ∙ sym (finset.contains-union nat_list_cmp_total a (finset.union b c) q ∙ ap (λ x. finset.contains a q || x) (finset.contains-union nat_list_cmp_total b c q)))
+
+pub union_empty : (a : KeySet) → finset.union a finset.empty ≡ a
+union_empty a = same_set _ _ (λ q. finset.contains-union nat_list_cmp_total a finset.empty q ∙ ap (λ x. finset.contains a q || x) (finset.contains-empty (slice_cmp nat_cmp) q) ∙ or_none (finset.contains a q))
+
+pub empty_union : (a : KeySet) → finset.union finset.empty a ≡ a
+empty_union a = same_set _ _ (λ q. finset.contains-union nat_list_cmp_total finset.empty a q ∙ ap (λ x. x || finset.contains a q) (finset.contains-empty (slice_cmp nat_cmp) q))
+
+pub union_one : (a : KeySet) (key : List ℕ) → finset.insert a key ≡ finset.union a (finset.insert finset.empty key)
+union_one a key = same_set _ _ (λ q.
+    finset.contains-insert nat_list_cmp_total a key q
+    ∙ sym (finset.contains-union nat_list_cmp_total a (finset.insert finset.empty key) q
+    ∙ ap (λ x. finset.contains a q || x) (finset.contains-insert nat_list_cmp_total finset.empty key q ∙ ap (λ x. eq_by_cmp (slice_cmp nat_cmp) q key || x) (finset.contains-empty (slice_cmp nat_cmp) q) ∙ or_none (eq_by_cmp (slice_cmp nat_cmp) q key))
+    ∙ or_comm (finset.contains a q) (eq_by_cmp (slice_cmp nat_cmp) q key)))
+
+least_of_assoc : (a b c : Option ℕ) → least_of (least_of a b) c ≡ least_of a (least_of b c)
+least_of_assoc None b c = refl
+least_of_assoc (Some a) None c = refl
+least_of_assoc (Some a) (Some b) None = refl
+least_of_assoc (Some a) (Some b) (Some c) = ap (λ x. Some x) (omega arith)
+
+clean-append : (ss rs : List Step) → has_clean (ss ++ rs) ≡ (has_clean ss || has_clean rs)
+clean-append [] rs = refl
+clean-append (Run run ∷ ss) rs = clean-append ss rs
+clean-append (Compact i ∷ ss) rs = clean-append ss rs
+clean-append (Put k v f ∷ ss) rs = clean-append ss rs
+clean-append (Del k ∷ ss) rs = clean-append ss rs
+clean-append (AtomicGroup s e ∷ ss) rs = clean-append ss rs
+clean-append (Clean ∷ ss) rs = refl
+
+greatest-append : (ss rs : List Step) → greatest_compaction (ss ++ rs) ≡ max (greatest_compaction ss) (greatest_compaction rs)
+greatest-append [] rs = omega arith
+greatest-append (Run run ∷ ss) rs = greatest-append ss rs
+greatest-append (Compact i ∷ ss) rs = omega (arith, greatest-append ss rs)
+greatest-append (Put k v f ∷ ss) rs = greatest-append ss rs
+greatest-append (Del k ∷ ss) rs = greatest-append ss rs
+greatest-append (AtomicGroup s e ∷ ss) rs = greatest-append ss rs
+greatest-append (Clean ∷ ss) rs = greatest-append ss rs
+
+least-append : (ss rs : List Step) → least_start (ss ++ rs) ≡ least_of (least_start ss) (least_start rs)
+least-append [] rs = refl
+least-append (Run [] ∷ ss) rs = least-append ss rs
+least-append (Run (e ∷ run) ∷ ss) rs = ap (least_of (Some e.index)) (least-append ss rs) ∙ sym (least_of_assoc (Some e.index) (least_start ss) (least_start rs))
+least-append (Compact i ∷ ss) rs = least-append ss rs
+least-append (Put k v f ∷ ss) rs = least-append ss rs
+least-append (Del k ∷ ss) rs = least-append ss rs
+least-append (AtomicGroup s e ∷ ss) rs = least-append ss rs
+least-append (Clean ∷ ss) rs = least-append ss rs
+
+deleted-append : (d : KeySet) (ss rs : List Step) → deleted_of d (ss ++ rs) ≡ deleted_of (deleted_of d ss) rs
+deleted-append d [] rs = refl
+deleted-append d (Run run ∷ ss) rs = deleted-append d ss rs
+deleted-append d (Compact i ∷ ss) rs = deleted-append d ss rs
+deleted-append d (Put k v f ∷ ss) rs = deleted-append d ss rs
+deleted-append d (Del k ∷ ss) rs = deleted-append (finset.insert d k) ss rs
+deleted-append d (AtomicGroup s e ∷ ss) rs = deleted-append d ss rs
+deleted-append d (Clean ∷ ss) rs = deleted-append finset.empty ss rs
+
+same_deleted : (m : Mark) (ss : List Step) → m.cleaned ≡ has_clean ss → m.deleted ≡ finset.empty → ((d : KeySet) → deleted_of d ss ≡ d) → HoldsDeleted m ss
+same_deleted m ss c e h = record { cleaned = c; deleted = λ _ d. h d ∙ sym (ap (finset.union d) e ∙ union_empty d); none_deleted = λ _. e }
+
+pub holds_one : (s : Step) → HoldsDeleted (mark_of s) (s ∷ [])
+holds_one (Run []) = same_deleted _ _ refl refl (λ d. refl)
+holds_one (Run (x ∷ run)) = same_deleted _ _ refl refl (λ d. refl)
+holds_one (Compact i) = same_deleted _ _ refl refl (λ d. refl)
+holds_one (Put k v f) = same_deleted _ _ refl refl (λ d. refl)
+holds_one (Del k) = record { cleaned = refl; deleted = λ e d. union_one d k; none_deleted = λ e. absurd (false≢true e) }
+holds_one (AtomicGroup s e) = same_deleted _ _ refl refl (λ d. refl)
+holds_one Clean = record { cleaned = refl; deleted = λ e d. absurd (false≢true (sym e)); none_deleted = λ e. refl }
+
+pub exact_one : (s : Step) → IsExactMark (mark_of s) (s ∷ [])
+exact_one (Run []) = record { holds = holds_one (Run []); greatest = λ e. refl; least = λ e. refl }
+exact_one (Run (x ∷ run)) = record { holds = holds_one (Run (x ∷ run)); greatest = λ e. refl; least = λ e. refl }
+exact_one (Compact i) = record { holds = holds_one (Compact i); greatest = λ e. omega arith; least = λ e. refl }
+exact_one (Put k v f) = record { holds = holds_one (Put k v f); greatest = λ e. refl; least = λ e. refl }
+exact_one (Del k) = record { holds = holds_one (Del k); greatest = λ e. refl; least = λ e. refl }
+exact_one (AtomicGroup s e) = record { holds = holds_one (AtomicGroup s e); greatest = λ e. refl; least = λ e. refl }
+exact_one Clean = record { holds = holds_one Clean; greatest = λ e. absurd (false≢true (sym e)); least = λ e. absurd (false≢true (sym e)) }
+
+clash : {X : Type 0} {b : Bool} → b ≡ true → b ≡ false → X
+clash e f = absurd (false≢true (sym f ∙ e))
+
+-- in both queues, told by what the joined mark has of the two
+pub holds_join : (m n j : Mark) (ss rs : List Step) → HoldsDeleted m ss → HoldsDeleted n rs → j.cleaned ≡ cond m.cleaned true n.cleaned → j.deleted ≡ cond m.cleaned m.deleted (joined_deleted m n) → HoldsDeleted j (ss ++ rs)
+holds_join m n j ss rs h k c d = go m.cleaned n.cleaned refl refl c d
+  where
+    clean : (b : Bool) → m.cleaned ≡ b → (b || has_clean rs) ≡ has_clean (ss ++ rs)
+    clean b e = ap (λ x. x || has_clean rs) (sym e ∙ h.cleaned) ∙ sym (clean-append ss rs)
+
+    go : (a b : Bool) → m.cleaned ≡ a → n.cleaned ≡ b → j.cleaned ≡ cond a true b → j.deleted ≡ cond a m.deleted (cond b n.deleted (finset.union m.deleted n.deleted)) → HoldsDeleted j (ss ++ rs)
+    go true b e f c d = record { cleaned = c ∙ clean true e; deleted = λ z _. clash c z; none_deleted = λ _. d ∙ h.none_deleted e }
+    go false true e f c d = record { cleaned = c ∙ sym f ∙ k.cleaned ∙ clean false e; deleted = λ z _. clash c z; none_deleted = λ _. d ∙ k.none_deleted f }
+    go false false e f c d = record {
+      cleaned = c ∙ sym f ∙ k.cleaned ∙ clean false e;
+      deleted = λ _ x. deleted-append x ss rs ∙ k.deleted f (deleted_of x ss) ∙ ap (λ y. finset.union y n.deleted) (h.deleted e x) ∙ union_assoc x m.deleted n.deleted ∙ ap (finset.union x) (sym d);
+      none_deleted = λ z. clash z c;
+    }
+
+-- a mark holds at most the keys deleted since the last clean
+pub deleted_count : (m : Mark) (ss : List Step) → HoldsDeleted m ss → finset.len m.deleted ≤ finset.len (deleted_of finset.empty ss)
+deleted_count m ss h = go m.cleaned refl
+  where
+    go : (b : Bool) → m.cleaned ≡ b → finset.len m.deleted ≤ finset.len (deleted_of finset.empty ss)
+    go true e = omega (arith, ap finset.len (h.none_deleted e), finset.len-empty (slice_cmp nat_cmp))
+    go false e = omega (arith, ap finset.len (h.deleted e finset.empty ∙ empty_union m.deleted))
+
+pub exact_join : (x : ℕ) (m n : Mark) (t : List EntryIndex) (ss rs : List Step) → FitsMark m t → IsExactMark m ss → IsExactMark n rs → IsExactMark (joined_at Append x m n) (ss ++ rs)
+exact_join x m n t ss rs fits h k = by_cleaned m.cleaned refl
+  where
+    live_parts : (j : Mark) → m.cleaned ≡ false → j.cleaned ≡ n.cleaned → j.lo ≡ max m.lo n.lo → j.cut ≡ least_of m.cut n.cut → j.deleted ≡ joined_deleted m n → IsExactMark j (ss ++ rs)
+    live_parts j e c l u d = record {
+      holds = holds_join m n j ss rs h.holds k.holds (c ∙ sym (pick m.cleaned true n.cleaned e)) (d ∙ sym (pick m.cleaned m.deleted (joined_deleted m n) e));
+      greatest = λ z. l ∙ ap (max m.lo) (k.greatest (sym c ∙ z)) ∙ ap (λ y. max y (greatest_compaction rs)) (h.greatest e) ∙ sym (greatest-append ss rs);
+      least = λ z. u ∙ ap (least_of m.cut) (k.least (sym c ∙ z)) ∙ ap (λ y. least_of y (least_start rs)) (h.least e) ∙ sym (least-append ss rs);
+    }
+      where
+        pick : {X : Type 0} (b : Bool) (x y : X) → b ≡ false → cond b x y ≡ y
+        pick true x y z = absurd (false≢true (sym z))
+        pick false x y z = refl
+
+    by_run : (y z : Option ℕ) → m.cleaned ≡ false → m.cut ≡ z → FitsCut y z m.lo t → IsExactMark (joined_live y z Append x m n) (ss ++ rs)
+    by_run None None e u f = live_parts _ e refl refl refl refl
+    by_run None (Some c) e u f = absurd f
+    by_run (Some r) None e u f = absurd f
+    by_run (Some r) (Some c) e u f = live_parts _ e refl refl (ap (λ d. least_of d n.cut) (sym u)) refl
+
+    by_cleaned : (b : Bool) → m.cleaned ≡ b → IsExactMark (cond b m (joined_live m.reach m.cut Append x m n)) (ss ++ rs)
+    by_cleaned true e = record {
+      holds = holds_join m n m ss rs h.holds k.holds (e ∙ sym (chosen m.cleaned true n.cleaned e)) (sym (chosen m.cleaned m.deleted (joined_deleted m n) e));
+      greatest = λ z. clash e z;
+      least = λ z. clash e z;
+    }
+      where
+        chosen : {X : Type 0} (b : Bool) (x y : X) → b ≡ true → cond b x y ≡ x
+        chosen true x y z = refl
+        chosen false x y z = absurd (false≢true z)
+    by_cleaned false e = by_run m.reach m.cut e refl (fits e)
+
+omega_max : (i : ℕ) → max i 0 ≡ i
+omega_max i = omega arith
+
+same_cut : (c : Option ℕ) → least_of c None ≡ c
+same_cut None = refl
+same_cut (Some c) = refl
+
+-- a step without a run, a compaction, a deleted key or a clean changes no mark
+pub joined_fresh : (q : LogQueue) (x : ℕ) (m : Mark) → joined_at q x m fresh ≡ m
+joined_fresh q x m = go q m.cleaned m.reach m.cut refl refl refl
+  where
+    go : (q : LogQueue) (b : Bool) (y z : Option ℕ) → m.cleaned ≡ b → m.reach ≡ y → m.cut ≡ z → ◌≡◌ {A = Mark} (cond b m (joined_live y z q x m fresh)) m
+    go q true y z e f g = refl
+    go q false None z e f g = λ i. record { cleaned = sym e i; reach = sym f i; lo0 = m.lo0; lo = omega_max m.lo i; cut = same_cut m.cut i; deleted = union_empty m.deleted i }
+    go q false (Some r) None e f g = refl
+    go Append false (Some r) (Some c) e f g = λ i. record { cleaned = sym e i; reach = m.reach; lo0 = m.lo0; lo = omega_max m.lo i; cut = sym g i; deleted = union_empty m.deleted i }
+    go Rewrite false (Some r) (Some c) e f g = λ i. record { cleaned = sym e i; reach = m.reach; lo0 = m.lo0; lo = omega_max m.lo i; cut = sym g i; deleted = union_empty m.deleted i }

@@ -1,0 +1,99 @@
+-- A mark and a table stand for steps: none, one, and those of two neighbours.
+use Rattle.std.proofs.Common.{◌≡◌, ◌⊎◌, ℕ, ◌≤◌, max, min, Bool, true, false, cond, ◌||◌, List, [], ◌∷◌, ◌++◌, Option, Some, None, refl, sym, ap, subst, ◌∙◌, inl, inr, arith}
+use Rattle.std.specs.Prelude.{is_some}
+use Rattle.std.specs.Option.{option_and_then}
+use Rattle.std.proofs.lemmas.Bool.{false≢true}
+use Rattle.raft_base.specs.declared.pipe_log.LogQueue.{LogQueue}
+use Rattle.raft_records.specs.declared.entry_index.EntryIndex.{EntryIndex}
+use Rattle.raft_table.specs.Entries.{IsRun}
+use Rattle.raft_table.specs.Steps.{Step, Run, Compact, Put, Del, AtomicGroup, Clean, table_of, there_if, after_step, after, IsStep, AreSteps, IsTableOf}
+use Rattle.raft_table.specs.Table.{Table, empty_table}
+use Rattle.raft_table.specs.Marks.{Mark, entries_over, table_over, is_there_over, applied, FitsCut, FitsMark, Stands, joined, fresh, mark_of, own_of}
+use Rattle.raft_table.proofs.MarkWords.{end_of-first}
+use Rattle.raft_table.proofs.MarkEntries.{same_some, fits_join}
+use Rattle.raft_table.proofs.MarkTables.{table-applied, join_applied, one_step, applied_none, applied_fresh}
+use Rattle.raft_table.proofs.MarkRuns.{no_table, table_after}
+
+-- a table that isn't refused has own entries
+pub entries-over_table : (q : LogQueue) (m : Mark) (t o w : Table) → table_over q m t o ≡ Some w → entries_over q m t.entries o.entries ≡ Some w.entries
+entries-over_table q m t o w is = go (entries_over q m t.entries o.entries) refl
+  where
+    go : (x : Option (List EntryIndex)) → entries_over q m t.entries o.entries ≡ x → entries_over q m t.entries o.entries ≡ Some w.entries
+    go None e = absurd (no_some (rw e at is))
+      where
+        no_some : ◌≡◌ {A = Option Table} None (Some w) → ⊥
+        no_some h = cc
+    go (Some es) e = e ∙ ap (λ (t : Table). Some t.entries) (same_some _ w (rw e at is))
+
+pub after-append : (q : LogQueue) (id : ℕ) (o : Option Table) (ss rs : List Step) → after q id o (ss ++ rs) ≡ option_and_then (λ u. after q id u rs) (after q id o ss)
+after-append q id o [] rs = refl
+after-append q id o (s ∷ ss) rs = go (λ u. after-append q id u ss rs) (after_step q id o s)
+  where
+    go : ((u : Option Table) → after q id u (ss ++ rs) ≡ option_and_then (λ u. after q id u rs) (after q id u ss)) → (x : Option (Option Table)) → option_and_then (λ u. after q id u (ss ++ rs)) x ≡ option_and_then (λ u. after q id u rs) (option_and_then (λ u. after q id u ss) x)
+    go ih None = refl
+    go ih (Some u) = ih u
+
+one_after : (q : LogQueue) (id : ℕ) (o : Option Table) (s : Step) → after q id o (s ∷ []) ≡ after_step q id o s
+one_after q id o s = go (after_step q id o s)
+  where
+    go : (x : Option (Option Table)) → option_and_then (λ u. Some u) x ≡ x
+    go None = refl
+    go (Some u) = refl
+
+fits_one : (id : ℕ) (s : Step) → FitsMark (mark_of s) (table_of id (own_of id s)).entries
+fits_one id (Run []) e = refl
+fits_one id (Run (x ∷ run)) e = inr (end_of-first x run)
+fits_one id (Compact i) e = refl
+fits_one id (Put key value file) e = refl
+fits_one id (Del key) e = refl
+fits_one id (AtomicGroup start end) e = refl
+fits_one id Clean e = absurd (false≢true (sym e))
+
+table_one : (id : ℕ) (s : Step) → IsStep s → IsTableOf id (table_of id (own_of id s))
+table_one id (Run run) good = record { region = refl; run = good }
+table_one id (Compact i) good = no_table id
+table_one id (Put key value file) good = record { region = refl; run = (no_table id).run }
+table_one id (Del key) good = no_table id
+table_one id (AtomicGroup start end) good = record { region = refl; run = (no_table id).run }
+table_one id Clean good = no_table id
+
+pub stands_fresh : (q : LogQueue) (id : ℕ) → Stands q id fresh None []
+stands_fresh q id = record {
+  own_table = no_table id;
+  fits = λ e. refl;
+  every = λ o h. sym (applied_fresh q id o);
+}
+
+pub stands_one : (q : LogQueue) (id : ℕ) (s : Step) → IsStep s → Stands q id (mark_of s) (own_of id s) (s ∷ [])
+stands_one q id s good = record {
+  own_table = table_one id s good;
+  fits = fits_one id s;
+  every = λ o h. one_after q id o s ∙ sym (one_step q id s o h);
+}
+
+pub stands_join : (q : LogQueue) (id : ℕ) (m n : Mark) (t u w : Option Table) (ss rs : List Step) → AreSteps ss → AreSteps rs → Stands q id m t ss → Stands q id n u rs → applied q id n u t ≡ Some w → Stands q id (joined q id m t n) w (ss ++ rs)
+stands_join q id m n t u w ss rs good good' h k is = record {
+  own_table = table_after q id t w rs good' h.own_table (k.every t h.own_table ∙ is);
+  fits = fits_join q m n (table_of id t).entries (table_of id u).entries (table_of id w).entries h.fits k.fits (entries-over_table q n (table_of id u) (table_of id t) (table_of id w) (table-applied q id n u t w h.own_table is).0);
+  every = λ o r. after-append q id o ss rs ∙ inner o r (after q id o ss) refl ∙ (rw (h.every o r) (join_applied q id m n t u w o h.fits h.own_table r is));
+}
+  where
+    inner : (o : Option Table) → IsTableOf id (table_of id o) → (x : Option (Option Table)) → after q id o ss ≡ x → option_and_then (λ v. after q id v rs) x ≡ option_and_then (λ v. applied q id n u v) x
+    inner o r None e = refl
+    inner o r (Some v) e = k.every v (table_after q id o v ss good r e)
+
+-- one more step, over the table as it is
+pub stands_step : (q : LogQueue) (id : ℕ) (m : Mark) (t w : Option Table) (ss : List Step) (s : Step) → AreSteps ss → IsStep s → Stands q id m t ss → after_step q id t s ≡ Some w → Stands q id (joined q id m t (mark_of s)) w (ss ++ s ∷ [])
+stands_step q id m t w ss s good good' h is = stands_join q id m (mark_of s) t (own_of id s) w ss (s ∷ []) good (good', tt) h (stands_one q id s good') (one_step q id s t h.own_table ∙ is)
+
+-- the own table is what one reading of the steps gives
+pub stands_alone : (q : LogQueue) (id : ℕ) (m : Mark) (t : Option Table) (ss : List Step) → Stands q id m t ss → after q id None ss ≡ Some t
+stands_alone q id m t ss h = h.every None (no_table id) ∙ applied_none q id m t h.own_table.region
+
+-- a step that the own table refuses is refused in one reading
+pub refused_step : (q : LogQueue) (id : ℕ) (m : Mark) (t : Option Table) (ss : List Step) (s : Step) → Stands q id m t ss → after_step q id t s ≡ None → after q id None (ss ++ s ∷ []) ≡ None
+refused_step q id m t ss s h is = after-append q id None ss (s ∷ []) ∙ ap (option_and_then (λ u. after q id u (s ∷ []))) (stands_alone q id m t ss h) ∙ one_after q id t s ∙ is
+
+-- a meeting that is refused is refused in one reading
+pub refused_join : (q : LogQueue) (id : ℕ) (m n : Mark) (t u : Option Table) (ss rs : List Step) → Stands q id m t ss → Stands q id n u rs → applied q id n u t ≡ None → after q id None (ss ++ rs) ≡ None
+refused_join q id m n t u ss rs h k is = after-append q id None ss rs ∙ (rw (stands_alone q id m t ss h) (k.every t h.own_table ∙ is))

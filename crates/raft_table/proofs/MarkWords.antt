@@ -1,0 +1,118 @@
+-- Laws of the words of marks on lists of entries.
+use Rattle.std.proofs.Common.{◌≡◌, ◌⊎◌, ℕ, suc, ◌+◌, ◌<◌, ◌≤◌, max, min, Bool, true, false, cond, ◌&&◌, ltb, leb, List, [], ◌∷◌, ◌++◌, Option, Some, None, refl, sym, ap, ◌∙◌, inl, inr, append_assoc, arith}
+use Rattle.std.specs.Prelude.{filter}
+use Rattle.std.proofs.lemmas.List.{append-nil}
+use Rattle.std.proofs.lemmas.List.Elements.{filter-append}
+use Rattle.std.proofs.lemmas.Bool.{ltb-true, and_parts}
+use Rattle.std.proofs.lemmas.Bool.Decides.{nat_tests}
+use Rattle.raft_records.specs.declared.entry_index.EntryIndex.{EntryIndex}
+use Rattle.raft_table.specs.Entries.{end_of, below, from}
+use Rattle.raft_table.specs.Marks.{part, is_under, least_of}
+use Rattle.raft_table.proofs.RunLemmas.{end_of-append}
+
+-- two filters are one
+filter-filter : {X : Type 0} (p q r : X → Bool) → ((x : X) → (q x && p x) ≡ r x) → (xs : List X) → filter p (filter q xs) ≡ filter r xs
+filter-filter p q r same [] = refl
+filter-filter p q r same (x ∷ xs) = go (q x) (r x) (same x) (filter-filter p q r same xs)
+  where
+    go : (a c : Bool) → (a && p x) ≡ c → filter p (filter q xs) ≡ filter r xs → filter p (cond a (x ∷ filter q xs) (filter q xs)) ≡ cond c (x ∷ filter r xs) (filter r xs)
+    go true c e ih = cc
+    go false c e ih = cc
+
+same_filter : {X : Type 0} (p q : X → Bool) → ((x : X) → p x ≡ q x) → (xs : List X) → filter p xs ≡ filter q xs
+same_filter p q same [] = refl
+same_filter p q same (x ∷ xs) = rw (same x, same_filter p q same xs) refl
+
+filter-none : {X : Type 0} (p : X → Bool) → ((x : X) → p x ≡ false) → (xs : List X) → filter p xs ≡ []
+filter-none p none [] = refl
+filter-none p none (x ∷ xs) = rw (none x) (filter-none p none xs)
+
+filter-all : {X : Type 0} (p : X → Bool) → ((x : X) → p x ≡ true) → (xs : List X) → filter p xs ≡ xs
+filter-all p every [] = refl
+filter-all p every (x ∷ xs) = rw (every x) (ap (λ l. x ∷ l) (filter-all p every xs))
+
+pub part-append : (lo : ℕ) (cut : Option ℕ) (xs ys : List EntryIndex) → part lo cut (xs ++ ys) ≡ part lo cut xs ++ part lo cut ys
+unfolding part
+part-append lo cut xs ys = filter-append (λ e. leb lo e.index && is_under cut e.index) xs ys
+
+pub part-nil : (lo : ℕ) (cut : Option ℕ) → part lo cut [] ≡ []
+unfolding part
+part-nil lo cut = refl
+
+pub part-empty : (lo c : ℕ) (es : List EntryIndex) → c ≤ lo → part lo (Some c) es ≡ []
+unfolding part
+part-empty lo c es h = filter-none _ (λ e. grind (arith, nat_tests)) es
+
+pub part-whole : (es : List EntryIndex) → part 0 None es ≡ es
+unfolding part
+part-whole es = filter-all _ (λ e. grind (arith, nat_tests)) es
+
+pub part-from : (lo : ℕ) (es : List EntryIndex) → part lo None es ≡ from lo es
+unfolding part from
+part-from lo es = same_filter _ _ (λ e. and_true (leb lo e.index)) es
+  where
+    and_true : (b : Bool) → (b && true) ≡ b
+    and_true true = refl
+    and_true false = refl
+
+pub part-below : (i : ℕ) (es : List EntryIndex) → part 0 (Some i) es ≡ below i es
+unfolding part below
+part-below i es = same_filter _ _ (λ e. grind (arith, nat_tests)) es
+
+both_parts : (l lo k : ℕ) (d cut : Option ℕ) → ((leb lo k && is_under cut k) && (leb l k && is_under d k)) ≡ (leb (max lo l) k && is_under (least_of cut d) k)
+both_parts l lo k d cut = grind (arith, nat_tests)
+
+pub part-part : (l : ℕ) (d : Option ℕ) (lo : ℕ) (cut : Option ℕ) (es : List EntryIndex) → part l d (part lo cut es) ≡ part (max lo l) (least_of cut d) es
+unfolding part
+part-part l d lo cut es = filter-filter _ _ _ (λ e. both_parts l lo e.index d cut) es
+
+-- a part of what an older mark leaves
+pub part-both : (l : ℕ) (d : Option ℕ) (lo : ℕ) (cut : Option ℕ) (o t u : List EntryIndex) → part l d (part lo cut o ++ t) ++ u ≡ part (max lo l) (least_of cut d) o ++ (part l d t ++ u)
+part-both l d lo cut o t u = rw (part-append, part-part) (append_assoc (part (max lo l) (least_of cut d) o) (part l d t) u)
+
+pub end_of-nil : end_of [] ≡ 0
+unfolding end_of
+end_of-nil = refl
+
+pub nil_of_end : (es : List EntryIndex) → end_of es ≡ 0 → es ≡ []
+unfolding end_of
+nil_of_end [] h = refl
+nil_of_end (e ∷ es) h = absurd (omega arith)
+
+pub end_of-first : (e : EntryIndex) (es : List EntryIndex) → e.index < end_of (e ∷ es)
+unfolding end_of
+end_of-first e es = omega arith
+
+end_of-cond : (b : Bool) (e : EntryIndex) (es : List EntryIndex) → end_of (cond b (e ∷ es) es) ≡ cond b (max (suc e.index) (end_of es)) (end_of es)
+unfolding end_of
+end_of-cond true e es = refl
+end_of-cond false e es = refl
+
+pub end_of-part : (lo c : ℕ) (es : List EntryIndex) → end_of (part lo (Some c) es) ≤ c
+unfolding end_of part
+end_of-part lo c [] = omega arith
+end_of-part lo c (e ∷ es) = go (leb lo e.index && ltb e.index c) refl (end_of-part lo c es)
+  where
+    go : (b : Bool) → (leb lo e.index && ltb e.index c) ≡ b → end_of (filter (λ e. leb lo e.index && ltb e.index c) es) ≤ c → end_of (cond b (e ∷ filter (λ e. leb lo e.index && ltb e.index c) es) (filter (λ e. leb lo e.index && ltb e.index c) es)) ≤ c
+    go true is h = let k : e.index < c = ltb-true e.index c (and_parts (leb lo e.index) (ltb e.index c) is).1 in omega arith
+    go false is h = h
+
+pub end_of-from : (i : ℕ) (es : List EntryIndex) → end_of (from i es) ≡ cond (ltb i (end_of es)) (end_of es) 0
+unfolding end_of from
+end_of-from i [] = grind (arith, nat_tests)
+end_of-from i (e ∷ es) = end_of-cond (leb i e.index) e (from i es) ∙ one i e.index (end_of es) _ (end_of-from i es)
+  where
+    one : (i k n m : ℕ) → m ≡ cond (ltb i n) n 0 → cond (leb i k) (max (suc k) m) m ≡ cond (ltb i (max (suc k) n)) (max (suc k) n) 0
+    one i k n m h = grind (arith, nat_tests)
+
+-- older entries below a cut don't end behind own ones that reach it
+pub end_of-both : (lo c : ℕ) (t o : List EntryIndex) → (c ≤ lo) ⊎ (c < end_of t) → end_of (part lo (Some c) o ++ t) ≡ end_of t
+end_of-both lo c t o (inl h) = rw (part-empty lo c o h) refl
+end_of-both lo c t o (inr h) = omega (arith, end_of-append (part lo (Some c) o) t, end_of-part lo c o)
+
+-- what a first run meets of what an older mark leaves: without a run of that mark the older entries, else its own
+pub met_first : (l lo : ℕ) (o : List EntryIndex) → end_of (from l (part lo None o ++ [])) ≡ end_of (from (max lo l) o)
+met_first l lo o = ap end_of (ap (from l) (append-nil (part lo None o)) ∙ sym (part-from l (part lo None o)) ∙ part-part l None lo None o ∙ part-from (max lo l) o)
+
+pub met_later : (l lo c : ℕ) (o t : List EntryIndex) → (c ≤ lo) ⊎ (c < end_of t) → end_of (from l (part lo (Some c) o ++ t)) ≡ end_of (from l t)
+met_later l lo c o t h = end_of-from l (part lo (Some c) o ++ t) ∙ ap (λ x. cond (ltb l x) x 0) (end_of-both lo c t o h) ∙ sym (end_of-from l t)

@@ -1,0 +1,48 @@
+-- Entries that were read from a file are a run of the file's queue.
+use Rattle.std.proofs.Common.{◌≡◌, ℕ, suc, ◌+◌, ◌-◌, ◌<◌, ◌^◌, max, Bool, true, cond, List, [], ◌∷◌, filter, Option, Some, None, refl, ap, ◌∙◌, subst, arith}
+use Rattle.std.specs.List.{AllByRecursion}
+use Rattle.raft_base.specs.declared.pipe_log.FileBlockHandle.{FileBlockHandle}
+use Rattle.raft_base.specs.declared.pipe_log.FileId.{FileId}
+use Rattle.raft_base.specs.declared.pipe_log.LogQueue.{LogQueue}
+use Rattle.raft_base.specs.declared.pipe_log.LogQueue.TheVariants.{Append, Rewrite}
+use Rattle.raft_records.specs.declared.entry_index.EntryIndex.{EntryIndex}
+use Rattle.raft_records.specs.Entries.{IsConsecutiveFrom, IsConsecutive}
+use Rattle.raft_records.specs.InFile.{IsBlockIn, IsInFile}
+use Rattle.raft_records.specs.Item.{entries}
+use Rattle.raft_table.specs.Queues.{is_same}
+use Rattle.raft_table.specs.Entries.{RisesFrom, IsRun, IsRunIn, end_of, is_block_in, is_placed_in, placed_in}
+
+next_is : (i : ℕ) → i + 1 ≡ suc i
+next_is i = omega arith
+
+rising : (i : ℕ) (es : List EntryIndex) → IsConsecutiveFrom i es → RisesFrom i es
+rising i [] h = tt
+rising i (e ∷ es) h = (h.0, rising (suc i) es (subst (λ j. IsConsecutiveFrom j es) (next_is i) h.2))
+
+bounded : (i : ℕ) (es : List EntryIndex) → IsConsecutiveFrom i es → end_of es < 2 ^ 64
+unfolding end_of
+bounded i [] h = omega arith
+bounded i (e ∷ es) h = omega (arith, h.0, h.1, bounded (i + 1) es h.2)
+
+same_queue : (q : LogQueue) → is_same q q ≡ true
+same_queue Append = refl
+same_queue Rewrite = refl
+
+is_in_queue : (file : FileId) (place : Option FileBlockHandle) → IsBlockIn file place → is_block_in file.queue place ≡ true
+is_in_queue file None h = absurd h
+is_in_queue file (Some block) h = ap (λ (f : FileId). is_same f.queue file.queue) h ∙ same_queue file.queue
+
+in_queue : (file : FileId) (es : List EntryIndex) → AllByRecursion (λ (e : EntryIndex). IsBlockIn file e.entries) es → placed_in file.queue es ≡ es
+unfolding placed_in is_placed_in
+in_queue file [] h = refl
+in_queue file (e ∷ es) h = rw (is_in_queue file e.entries h.0) (ap (λ xs. e ∷ xs) (in_queue file es h.1))
+
+consecutive_run : (es : List EntryIndex) → IsConsecutive es → IsRun es × (end_of es < 2 ^ 64)
+unfolding end_of
+consecutive_run [] h = (record { start = 0; rising = tt }, omega arith)
+consecutive_run (e ∷ es) h = (record { start = e.index; rising = rising e.index (e ∷ es) h }, bounded e.index (e ∷ es) h)
+
+pub read_run : (file : FileId) (es : List EntryIndex) → IsInFile file (entries es) → IsRunIn file.queue es
+read_run file es h =
+    let run = consecutive_run es h.0 in
+    record { run = run.0; placed = in_queue file es h.1; bounded = run.1 }

@@ -1,0 +1,107 @@
+-- A table put over what a mark leaves of an older one.
+use Rattle.std.proofs.Common.{◌≡◌, ◌⊎◌, ℕ, ◌+◌, ◌-◌, ◌<◌, ◌≤◌, ◌^◌, min, max, Bool, true, false, cond, not, ◌&&◌, ltb, leb, List, [], ◌∷◌, ◌++◌, length, Option, Some, None, refl, sym, ap, subst, ◌∙◌, inl, inr, arith}
+use Rattle.std.specs.Option.{option_map, option_or}
+use Rattle.std.specs.Ordering.{nat_cmp}
+use Rattle.std.specs.Cmp.Lexicographic.{slice_cmp}
+use Rattle.std.specs.FinMap as finite
+use Rattle.std.proofs.lemmas.List.{append-nil, take_all}
+use Rattle.std.proofs.lemmas.Bool.{cases_lt, false≢true}
+use Rattle.std.proofs.lemmas.Bool.Decides.{nat_tests}
+use Rattle.raft_base.specs.declared.errors.Error.{Error}
+use Rattle.raft_base.specs.declared.errors.Error.TheVariants as errors
+use Rattle.raft_base.specs.declared.pipe_log.LogQueue.{LogQueue}
+use Rattle.raft_base.specs.declared.pipe_log.LogQueue.TheVariants.{Append, Rewrite}
+use Rattle.raft_records.specs.declared.entry_index.EntryIndex.{EntryIndex}
+use Rattle.raft_table.specs.Counts.{Counts, live}
+use Rattle.raft_table.specs.Entries.{RisesFrom, IsRun, end_of, below, from}
+use Rattle.raft_table.specs.KeySets.{KeySet, without}
+use Rattle.raft_table.specs.KeyValues.{Keys, Stored, overlaid}
+use Rattle.raft_table.specs.MarkMerge.{left_by, IsRefusedUnder}
+use Rattle.raft_table.specs.Marks.{Mark, part, is_missed, older_entries, is_meeting_refused, entries_over, keys_over, atomic_group_over, table_over}
+use Rattle.raft_table.specs.Merge.{after_join, newer_atomic_group, with_newer_atomic_group, IsMergeRefused}
+use Rattle.raft_table.specs.Start.{leaves_hole, replayed}
+use Rattle.raft_table.specs.Table.{Table, live_of}
+use Rattle.raft_table.proofs.KeyValueLaws.{get-overlaid}
+use Rattle.raft_table.proofs.RunLemmas.{below_take, end_of-run, RisesFrom-append}
+use Rattle.raft_table.proofs.MarkWords.{end_of-nil}
+use Rattle.raft_table.proofs.MarkEntries.{same_some}
+use Rattle.raft_table.proofs.MarkTables.{own_span, same_keys}
+
+-- two lists one behind the other that rise
+first_rises : (s : ℕ) (a b : List EntryIndex) → RisesFrom s (a ++ b) → RisesFrom s a
+first_rises s [] b h = tt
+first_rises s (x ∷ a) b h = (h.0, first_rises _ a b h.1)
+
+second_rises : (s : ℕ) (a b : List EntryIndex) → RisesFrom s (a ++ b) → RisesFrom (s + length a) b
+second_rises s [] b h = subst (λ n. RisesFrom n b) (omega arith) h
+second_rises s (x ∷ a) b h = subst (λ n. RisesFrom n b) (omega arith) (second_rises _ a b h.1)
+
+below_nil : (f : ℕ) → below f [] ≡ []
+unfolding below
+below_nil f = refl
+
+-- where both are one run, the start rule puts the second behind the first
+pub replayed_run : (q : LogQueue) (a b : List EntryIndex) → IsRun (a ++ b) → replayed q a b ≡ Some (a ++ b)
+replayed_run Append a [] r = ap (λ x. Some x) (sym (append-nil a))
+replayed_run Rewrite a [] r = ap (λ x. Some x) (sym (append-nil a))
+replayed_run q a (e ∷ b) r = go q (meets a r)
+  where
+    meets : (a : List EntryIndex) → IsRun (a ++ e ∷ b) → (leaves_hole (end_of a) e.index ≡ false) × (below e.index a ≡ a)
+    meets [] r = rw (end_of-nil, below_nil e.index) (refl, refl)
+    meets (x ∷ a) r =
+        let rises = first_rises r.start (x ∷ a) (e ∷ b) r.rising in
+        let behind : e.index ≡ r.start + length (x ∷ a) = (second_rises r.start (x ∷ a) (e ∷ b) r.rising).0 in
+        let top = end_of-run r.start (x ∷ a) rises (omega arith) in
+        (no_hole (end_of (x ∷ a)) e.index (omega arith), below_take e.index (length (x ∷ a)) r.start (x ∷ a) behind rises ∙ take_all (length (x ∷ a)) (x ∷ a) (omega arith))
+      where
+        no_hole : (n f : ℕ) → f ≤ n → leaves_hole n f ≡ false
+        no_hole n f h = grind (arith, nat_tests)
+
+    go : (q : LogQueue) → (leaves_hole (end_of a) e.index ≡ false) × (below e.index a ≡ a) → replayed q a (e ∷ b) ≡ Some (a ++ e ∷ b)
+    go Append h = rw (h.0, h.1) refl
+    go Rewrite h = rw (h.0, h.1) refl
+
+-- what is left, and the own entries behind it, are those over the older ones
+left_entries : (q : LogQueue) (m : Mark) (own older : Table) → is_meeting_refused q m older.entries ≡ false
+    → entries_over q m own.entries older.entries ≡ Some ((left_by (is_missed m older.entries) m older).entries ++ own.entries)
+left_entries q m own older e = rw e (ap (λ x. Some x) (go m.cleaned q e))
+  where
+    go : (b : Bool) (q : LogQueue) → is_meeting_refused q m older.entries ≡ false
+        → cond b own.entries (older_entries q m older.entries ++ own.entries) ≡ cond b [] (cond (is_missed m older.entries) [] (part m.lo m.cut older.entries)) ++ own.entries
+    go true q e = refl
+    go false Append e = rw e refl
+    go false Rewrite e = refl
+
+pub whole_keys : (t : Keys) → overlaid t finite.empty ≡ t
+whole_keys t = same_keys _ _ (λ q. get-overlaid t finite.empty q ∙ ap (option_or (finite.get t q)) (finite.get-empty {X = Stored} (slice_cmp nat_cmp) q) ∙ either (finite.get t q))
+  where
+    either : (x : Option Stored) → option_or x None ≡ x
+    either None = refl
+    either (Some s) = refl
+
+pub over_left : (q : LogQueue) (m : Mark) (own older : Table) → is_meeting_refused q m older.entries ≡ false → ((es : List EntryIndex) → entries_over q m own.entries older.entries ≡ Some es → IsRun es)
+    → let left = left_by (is_missed m older.entries) m older in
+    let es = left.entries ++ own.entries in
+    (after_join q left own ≡ Some (record left { entries = es; keys = overlaid own.keys left.keys }))
+    × (table_over q m own older ≡ Some (with_newer_atomic_group own (record left { entries = es; keys = overlaid own.keys left.keys })))
+over_left q m own older e run =
+    let left = left_by (is_missed m older.entries) m older in
+    let over = left_entries q m own older e in (
+      rw (replayed_run q left.entries own.entries (run _ over)) refl,
+      rw (over, keys m.cleaned, atomic_group m.cleaned) refl,
+    )
+  where
+    keys : (b : Bool) → cond b own.keys (overlaid own.keys (without m.deleted older.keys)) ≡ overlaid own.keys (cond b finite.empty (without m.deleted older.keys))
+    keys true = sym (whole_keys own.keys)
+    keys false = refl
+
+    atomic_group : (b : Bool) → cond b own.atomic_group (newer_atomic_group own.atomic_group older.atomic_group) ≡ newer_atomic_group own.atomic_group (cond b None older.atomic_group)
+    atomic_group true = sym (own_span false own.atomic_group)
+    atomic_group false = refl
+
+-- a join that the start rule accepts, and that is counted, fails for want of memory alone
+pub join_memory : (q : LogQueue) (counts : Counts) (left own w : Table) (e : Error) → IsMergeRefused counts left own (Some q) e → after_join q left own ≡ Some w → ((p : LogQueue) → live p counts + live_of p own < 2 ^ 64) → e ≡ errors.Memory
+join_memory q counts left own w (errors.Corruption text) r is room = absurd cc
+join_memory q counts left own w errors.Full r is room = absurd (let full = r.1 in let low = room r.0 in omega arith)
+join_memory q counts left own w errors.Memory r is room = refl
+join_memory q counts left own w _ r is room = absurd r

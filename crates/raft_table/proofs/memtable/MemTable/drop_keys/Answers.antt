@@ -1,0 +1,12 @@
+use Rattle.std.proofs.Common.{arith}
+use Rattle.raft_base.specs.declared.pipe_log.LogQueue.TheVariants.{Append, Rewrite}
+use Rattle.raft_table.proofs.PlaceLemmas.{each_queue}
+use Rattle.raft_table.proofs.CutLemmas.{pair_count-empty}
+use Rattle.raft_table.proofs.memtable.MemTable.drop_keys.Goals as goal
+
+pub returns-clause-recounted : goal.returns-clause-recounted
+returns-clause-recounted c =
+    rw (← c.self.view_is)
+    (each_queue _
+    (omega (arith, c.delete.ensures.live Append, c.delete-2.ensures.live Append, pair_count-empty Append _ c.clear.ensures))
+    (omega (arith, c.delete.ensures.live Rewrite, c.delete-2.ensures.live Rewrite, pair_count-empty Rewrite _ c.clear.ensures)))

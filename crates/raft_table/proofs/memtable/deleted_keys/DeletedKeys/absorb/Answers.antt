@@ -1,0 +1,14 @@
+use Rattle.std.proofs.Common.{ap, sym, ◌∙◌}
+use Rattle.std.specs.FinSet as finset
+use Rattle.raft_table.proofs.KeySetLemmas.{union-insert}
+use Rattle.raft_table.proofs.MarkExact.{union_empty}
+use Rattle.raft_table.proofs.memtable.deleted_keys.DeletedKeys.absorb.Goals as goal
+
+pub loop-key-preserved : goal.loop-key-preserved
+loop-key-preserved c =
+    ap (λ s. finset.union s c.take_first.new.self) c.in_ok-insert.ensures.ok
+    ∙ union-insert c.loop-key.self c.take_first.new.self c.in-Some.key.items
+    ∙ ap (finset.union c.loop-key.self) (sym c.in-Some.ensures.first) ∙ c.loop-key.invariant
+
+pub returns : goal.returns
+returns c = sym (union_empty c.loop-key.self) ∙ ap (finset.union c.loop-key.self) (sym c.in_default.ensures.none) ∙ c.loop-key.invariant

@@ -1,0 +1,7 @@
+use Rattle.std.proofs.Common.{ap, arith}
+use Rattle.std.specs.FinSet as finset
+use Rattle.raft_table.proofs.KeySetLemmas.{len-set_of}
+use Rattle.raft_table.proofs.memtable.deleted_keys.DeletedKeys.len.Goals as goal
+
+pub returns : goal.returns
+returns c = omega (arith, len-set_of c.self.inside.keys.entries c.self.invariant, ap finset.len c.self.view_is, c.len.ensures.len)

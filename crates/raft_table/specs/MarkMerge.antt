@@ -1,0 +1,37 @@
+-- Merges of two tables of one region under the newer one's mark.
+use Rattle.std.specs.Prelude.{◌≡◌, ℕ, ◌+◌, ◌≤◌, ◌^◌, Bool, true, List, [], Option, Some, None, if◌then◌else◌}
+use Rattle.std.specs.FinMap as finite
+use Rattle.raft_base.specs.declared.errors.Error.{Error}
+use Rattle.raft_base.specs.declared.errors.Error.TheVariants as errors
+use Rattle.raft_base.specs.declared.pipe_log.LogQueue.{LogQueue}
+use Rattle.raft_records.specs.declared.entry_index.EntryIndex.{EntryIndex}
+use Rattle.raft_table.specs.Entries.{IsRun}
+use Rattle.raft_table.specs.Counts.{Counts, live}
+use Rattle.raft_table.specs.Marks.{Mark, part, is_meeting_refused, entries_over}
+use Rattle.raft_table.specs.KeySets.{without}
+use Rattle.raft_table.specs.Table.{Table, live_of}
+
+-- why a meeting is refused: it is, or want of memory for the refusal's text
+abbrev pub IsMeetingRefused : Bool → Error → Type 0
+IsMeetingRefused refused (errors.Corruption text) = refused ≡ true
+IsMeetingRefused refused errors.Memory = Unit {0}
+IsMeetingRefused refused _ = ⊥
+
+-- why a table is refused over an older one: the meeting of its first run is, the live number of a queue and its records there would pass 2^64 - 1, or want of memory
+abbrev pub IsRefusedUnder : LogQueue → Counts → Mark → Table → Table → Error → Type 0
+IsRefusedUnder queue counts m own older (errors.Corruption text) = is_meeting_refused queue m older.entries ≡ true
+IsRefusedUnder queue counts m own older errors.Full = (q : LogQueue) × (2 ^ 64 ≤ live q counts + live_of q own)
+IsRefusedUnder queue counts m own older errors.Memory = Unit {0}
+IsRefusedUnder queue counts m own older _ = ⊥
+
+-- what the mark makes of both tables' entries is a run, as it is where it stands for steps
+abbrev pub IsRunOver : LogQueue → Mark → Table → Table → Type 0
+IsRunOver queue m own older = (es : List EntryIndex) → entries_over queue m own.entries older.entries ≡ Some es → IsRun es
+
+-- what a newer mark leaves of an older table, or of one whose entries are all gone
+abbrev pub left_by : Bool → Mark → Table → Table
+left_by gone m t = record t {
+  entries = if m.cleaned then [] else (if gone then [] else part m.lo m.cut t.entries);
+  keys = if m.cleaned then finite.empty else without m.deleted t.keys;
+  atomic_group = if m.cleaned then None else t.atomic_group;
+}

@@ -1,0 +1,113 @@
+//! A set of keys.
+
+ghost use Rattle.std.specs.Prelude.{◌≡◌, ◌<◌, ◌≤◌, OnOk, OnErr, IfSome, IfNone, map};
+ghost use Rattle.std.specs.FinMap as finite;
+ghost use Rattle.std.specs.FinSet as finset;
+ghost use Rattle.raft_base.specs.declared.pipe_log.LogQueue.{LogQueue};
+ghost use Rattle.raft_table.specs.KeySets.{without};
+ghost use Rattle.raft_table.specs.KeyValues.{pair_count};
+
+use crate::memtable::key_values::KeyValues;
+use std::alloc::{AllocError, Global};
+use std::collections::BTreeMap;
+use std::marker::Model;
+
+/// The keys that were deleted, in the order of their bytes.
+#[derive(Debug, Drop)]
+pub struct DeletedKeys {
+    keys: BTreeMap<Vec<u8>, ()>,
+}
+
+impl Model for DeletedKeys {
+    ghost use Rattle.raft_table.specs.KeySets.{KeySet, key_set_code};
+
+    ghost Value = { KeySet };
+
+    ghost coded = { key_set_code };
+
+    ghost use Rattle.raft_table.specs.KeySetView.{key_set_shown, IsSound};
+
+    ghost view = { key_set_shown };
+
+    ghost invariant = { IsSound };
+}
+
+impl DeletedKeys {
+    /// No keys.
+    pub fn new(alloc: Global) -> DeletedKeys
+        ensures { result ≡ finset.empty }
+    {
+        DeletedKeys {
+            keys: BTreeMap::new(alloc),
+        }
+    }
+
+    /// How many keys there are.
+    pub fn len(&self) -> usize
+        ensures { result ≡ finset.len self.now }
+    {
+        self.keys.len()
+    }
+
+    /// Takes all keys away.
+    pub fn clear(&mut self)
+        ensures { self.new ≡ finset.empty }
+    {
+        self.keys.clear();
+    }
+
+    /// Puts a key.
+    ///
+    /// # Errors
+    ///
+    /// Where there is no memory for it. The keys are then as they were.
+    pub fn insert(&mut self, key: Vec<u8>) -> Result<(), AllocError>
+        ensures ok { OnOk result (self.new ≡ finset.insert self.old key.items) }
+        ensures err { OnErr result (self.new ≡ self.old) }
+    {
+        self.keys.insert(key, ())?;
+        Ok(())
+    }
+
+    /// Puts the keys of `rhs` too, and leaves `rhs` empty.
+    ///
+    /// # Errors
+    ///
+    /// Where there is no memory for all of them.
+    pub fn absorb(&mut self, rhs: &mut DeletedKeys) -> Result<(), AllocError>
+        ensures { OnOk result (self.new ≡ finset.union self.old rhs.old) }
+    {
+        while let Some(key) = rhs.take_first() {
+            self.insert(key)?;
+        }
+        Ok(())
+    }
+
+    /// Takes the first key away.
+    fn take_first(&mut self) -> Option<Vec<u8>>
+        ensures first { IfSome result (λ k. self.old ≡ finset.insert self.new k.items) }
+        ensures fewer { IfSome result (λ k. finset.len self.new < finset.len self.old) }
+        ensures none { IfNone result (self.old ≡ finset.empty) }
+    {
+        let (key, _) = self.keys.pop_first()?;
+        Some(key)
+    }
+
+    /// Takes the pairs of these keys away.
+    pub fn delete_from(&self, keys: &mut KeyValues)
+        ensures after { keys.new ≡ without self.now keys.old }
+        ensures fewer { (q : LogQueue) → pair_count q keys.new ≤ pair_count q keys.old }
+    {
+        delete_all(&self.keys, keys);
+    }
+}
+
+/// Takes the pairs of all keys of a map away.
+fn delete_all(deleted: &BTreeMap<Vec<u8>, ()>, keys: &mut KeyValues)
+    ensures after { keys.new ≡ without (finset.from_list (map (λ e. e.0.items) deleted.now.entries)) keys.old }
+    ensures fewer { (q : LogQueue) → pair_count q keys.new ≤ pair_count q keys.old }
+{
+    for (key, _) in deleted {
+        keys.remove(key);
+    }
+}

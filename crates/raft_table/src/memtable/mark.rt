@@ -1,0 +1,263 @@
+//! Marks of regions, and tables merged under them.
+
+ghost use Rattle.std.specs.Prelude.{◌≡◌, ℕ, ◌≢◌, ◌+◌, ◌<◌, ◌≤◌, ◌^◌, [], OnOk, OnErr, IfErr, Some, None, min, nat_le};
+ghost use Rattle.std.specs.FinMap as finite;
+ghost use Rattle.raft_base.specs.declared.pipe_log.LogQueue.TheVariants.{Append, Rewrite};
+ghost use Rattle.raft_records.specs.declared.entry_index.EntryIndex.{EntryIndex};
+ghost use Rattle.raft_table.specs.Counts.{live};
+ghost use Rattle.raft_table.specs.Entries.{IsRun, end_of, from};
+ghost use Rattle.raft_table.specs.KeySets.{without};
+ghost use Rattle.raft_table.specs.Marks.{fresh, is_settled, mark_of, least_of, misses, met, joined_at, joined_deleted, joined_lo};
+ghost use Rattle.raft_base.specs.declared.pipe_log.LogQueue.{LogQueue};
+ghost use Rattle.raft_table.specs.Steps.{Compact, Del, Clean};
+ghost use Rattle.raft_table.specs.Table.{empty_table, live_of, IsCounted, IsRecounted, with_keys};
+ghost use Rattle.std.specs.Prelude.{List};
+
+use crate::global_stats::GlobalStats;
+use crate::memtable::MemTable;
+use crate::memtable::deleted_keys::DeletedKeys;
+use raft_records::{Error, LogQueue, Result};
+use std::alloc::Global;
+use std::marker::Model;
+use std::mem;
+
+/// What steps on a region do to every older table of it.
+#[derive(Debug, Drop)]
+pub struct Mark {
+    /// Whether the region was cleaned.
+    cleaned: bool,
+    /// The start of the first run before any clean.
+    reach: Option<u64>,
+    /// The greatest compaction before that run.
+    lo0: u64,
+    /// Where older entries begin that stay.
+    lo: u64,
+    /// Where they end.
+    cut: Option<u64>,
+    /// Keys that were deleted.
+    deleted: DeletedKeys,
+}
+
+impl Model for Mark {
+    ghost use Rattle.raft_table.specs.Marks.{Mark};
+    ghost use Rattle.raft_table.specs.MarkCode.{mark_code};
+
+    ghost Value = { Mark };
+
+    ghost coded = { mark_code };
+
+    ghost use Rattle.raft_table.specs.MarkView.{mark_shown};
+
+    ghost view = { mark_shown };
+}
+
+impl Mark {
+    /// The mark of no step.
+    pub fn new(alloc: Global) -> Mark
+        ensures { result ≡ fresh }
+    {
+        Mark {
+            cleaned: false,
+            reach: None,
+            lo0: 0,
+            lo: 0,
+            cut: None,
+            deleted: DeletedKeys::new(alloc),
+        }
+    }
+
+    /// Whether the region was cleaned.
+    pub fn is_cleaned(&self) -> bool
+        ensures { result ≡ self.now.cleaned }
+    {
+        self.cleaned
+    }
+
+    /// The greatest compaction before the first run.
+    pub fn reach_low(&self) -> u64
+        ensures { result ≡ self.now.lo0 }
+    {
+        self.lo0
+    }
+
+    /// Where older entries begin that stay.
+    pub fn low(&self) -> u64
+        ensures { result ≡ self.now.lo }
+    {
+        self.lo
+    }
+
+    /// Where they end.
+    pub fn cut(&self) -> Option<u64>
+        ensures { result ≡ self.now.cut }
+    {
+        self.cut
+    }
+
+    /// The deleted keys.
+    pub fn deleted(&self) -> &DeletedKeys
+        ensures { result.now ≡ self.now.deleted }
+    {
+        &self.deleted
+    }
+
+    /// Whether the first run leaves a hole behind entries that end at `end`.
+    pub fn misses(&self, end: u64) -> bool
+        ensures { result ≡ misses self.now.reach end }
+    {
+        misses(self.reach, end)
+    }
+
+    /// Joins the mark of newer steps, whose first run meets a part of the own table that ends at `met`.
+    /// `newer` is left without deleted keys.
+    ///
+    /// # Errors
+    ///
+    /// Where there is no memory for the newer deleted keys.
+    pub fn join(&mut self, queue: LogQueue, met: u64, newer: &mut Mark) -> Result<()>
+        ensures ok { OnOk result (self.new ≡ joined_at queue met self.old newer.old) }
+        ensures memory { IfErr result (λ e. e ≡ Error.Memory) }
+    {
+        if self.cleaned || self.reach.is_some() && self.cut.is_none() {
+            return Ok(());
+        }
+        self.join_deleted(newer)?;
+        let lo = self.lo.max(newer.lo);
+        match (self.reach, self.cut) {
+            (Some(_), Some(cut)) => {
+                self.lo = joined_lo(queue, misses(newer.reach, met), lo, cut);
+            }
+            (_, _) => {
+                self.reach = newer.reach;
+                if self.reach.is_some() {
+                    self.lo0 = self.lo.max(newer.lo0);
+                }
+                self.lo = lo;
+            }
+        }
+        self.cut = least_of(self.cut, newer.cut);
+        self.cleaned = newer.cleaned;
+        Ok(())
+    }
+}
+
+impl Mark {
+    /// Joins the mark of a run that starts at `start`, where the own entries end at `end`.
+    pub fn add_run(&mut self, queue: LogQueue, end: u64, start: u64)
+        ensures { self.new ≡ joined_at queue end self.old (record fresh { reach = Some start; cut = Some start }) }
+    {
+        self.add(queue, end, Some(start), 0);
+    }
+
+    /// Joins the mark of a compaction.
+    pub fn add_compaction(&mut self, index: u64)
+        ensures { (queue : LogQueue) (end : ℕ) → self.new ≡ joined_at queue end self.old (mark_of (Compact index)) }
+    {
+        self.add(LogQueue::Append, 0, None, index);
+    }
+
+    /// Joins the mark of a deleted key.
+    ///
+    /// # Errors
+    ///
+    /// Where there is no memory for the key. The mark is then as it was.
+    pub fn add_deleted(&mut self, key: Vec<u8>) -> Result<()>
+        ensures ok { OnOk result ((queue : LogQueue) (end : ℕ) → self.new ≡ joined_at queue end self.old (mark_of (Del key.items))) }
+        ensures memory { IfErr result (λ e. e ≡ Error.Memory) }
+        ensures err { OnErr result (self.new ≡ self.old) }
+    {
+        if self.is_settled() {
+            return Ok(());
+        }
+        self.deleted.insert(key)?;
+        self.add(LogQueue::Append, 0, None, 0);
+        Ok(())
+    }
+
+    /// Joins the mark of a clean.
+    pub fn add_clean(&mut self)
+        ensures { (queue : LogQueue) (end : ℕ) → self.new ≡ joined_at queue end self.old (mark_of Clean) }
+    {
+        if self.is_settled() {
+            return;
+        }
+        self.add(LogQueue::Append, 0, None, 0);
+        self.cleaned = true;
+        self.deleted.clear();
+    }
+
+    /// Whether newer steps change nothing: the region was cleaned (or no steps give such a mark).
+    fn is_settled(&self) -> bool
+        ensures { result ≡ is_settled self.now }
+    {
+        self.cleaned || self.reach.is_some() && self.cut.is_none()
+    }
+
+    /// Joins the numbers of one step.
+    fn add(&mut self, queue: LogQueue, end: u64, reach: Option<u64>, lo: u64)
+        ensures { self.new ≡ record (joined_at queue end self.old (record fresh { reach = reach; lo = lo; cut = reach })) { deleted = self.old.deleted } }
+    {
+        if self.is_settled() {
+            return;
+        }
+        let joined = self.lo.max(lo);
+        match (self.reach, self.cut) {
+            (Some(_), Some(cut)) => {
+                self.lo = joined_lo(queue, misses(reach, end), joined, cut);
+            }
+            (_, _) => {
+                self.reach = reach;
+                if reach.is_some() {
+                    self.lo0 = self.lo;
+                }
+                self.lo = joined;
+            }
+        }
+        self.cut = least_of(self.cut, reach);
+    }
+
+    /// Takes over the keys that the newer steps deleted.
+    fn join_deleted(&mut self, newer: &mut Mark) -> Result<()>
+        ensures ok { OnOk result (self.new ≡ record self.old { deleted = joined_deleted self.old newer.old }) }
+        ensures newer { OnOk result (newer.new ≡ record newer.old { deleted = newer.new.deleted }) }
+        ensures memory { IfErr result (λ e. e ≡ Error.Memory) }
+    {
+        if newer.cleaned {
+            mem::swap(&mut self.deleted, &mut newer.deleted);
+            return Ok(());
+        }
+        self.deleted.absorb(&mut newer.deleted)?;
+        Ok(())
+    }
+}
+
+/// The lesser of two bounds.
+fn least_of(a: Option<u64>, b: Option<u64>) -> Option<u64>
+    ensures { result ≡ least_of a b }
+{
+    match (a, b) {
+        (Some(a), Some(b)) => Some(a.min(b)),
+        (Some(a), None) => Some(a),
+        (None, b) => b,
+    }
+}
+
+/// Whether a first run leaves a hole behind entries that end at `end`.
+fn misses(reach: Option<u64>, end: u64) -> bool
+    ensures { result ≡ misses reach end }
+{
+    match reach {
+        Some(start) => end > 0 && end < start,
+        None => false,
+    }
+}
+
+/// Where older entries begin that stay behind a run with this cut.
+fn joined_lo(queue: LogQueue, missed: bool, lo: u64, cut: u64) -> u64
+    ensures { result ≡ joined_lo queue missed lo cut }
+{
+    match queue {
+        LogQueue::Append => lo,
+        LogQueue::Rewrite => { if missed { lo.max(cut) } else { lo } }
+    }
+}

@@ -1,0 +1,246 @@
+//! Merges of two tables of one region under the newer one's mark.
+
+ghost use Rattle.std.specs.Prelude.{◌≡◌, ◌≢◌, ◌+◌, ◌≤◌, false, [], List, if◌then◌else◌, OnOk, IfErr, Some, None};
+ghost use Rattle.std.specs.FinMap as finite;
+ghost use Rattle.raft_base.specs.declared.pipe_log.LogQueue.{LogQueue};
+ghost use Rattle.raft_records.specs.declared.entry_index.EntryIndex.{EntryIndex};
+ghost use Rattle.raft_table.specs.Entries.{IsRun, IsRunIn, end_of, from};
+ghost use Rattle.raft_table.specs.KeySets.{without};
+ghost use Rattle.raft_table.specs.KeyValues.{pair_count};
+ghost use Rattle.raft_table.specs.MarkMerge.{IsMeetingRefused, IsRefusedUnder, IsRunOver, left_by};
+ghost use Rattle.raft_table.specs.Marks.{part, is_missed, is_meeting_refused, met, table_over, entries_over};
+ghost use Rattle.raft_table.specs.Merge.{newer_atomic_group};
+ghost use Rattle.raft_table.specs.Overlay.{is_short, overlay_under, IsOverlayRefused};
+ghost use Rattle.raft_table.specs.Queues.{other};
+ghost use Rattle.raft_table.specs.Start.{replayed, IsRunRefused};
+ghost use Rattle.raft_table.specs.Table.{empty_table, after_replay, live_of, IsCounted, IsRecounted, with_entries, with_keys};
+ghost use Rattle.raft_base.specs.declared.pipe_log.LogQueue.TheVariants.{Append, Rewrite};
+
+use crate::global_stats::GlobalStats;
+use crate::memtable::MemTable;
+use crate::memtable::deleted_keys::DeletedKeys;
+use crate::memtable::mark::Mark;
+use raft_records::{EntryIndex, Error, LogQueue, Result};
+
+impl MemTable {
+    /// Where the part of this table ends that the first run of a newer mark meets.
+    pub fn met(&self, mark: &Mark) -> u64
+        ensures { result ≡ met mark.now self.now }
+    {
+        self.entries.end_from(mark.reach_low())
+    }
+
+    /// Puts the newer table `rhs` of the same region, which the counts don't hold, over this one as
+    /// its mark says. `rhs` is left empty.
+    ///
+    /// # Errors
+    ///
+    /// `Corruption` where the first run of the mark leaves a hole behind the older entries that it
+    /// meets in the append queue, `Full` where the live number of a queue and the records of `rhs`
+    /// there would pass 2^64 - 1. Both tables and the counts are then as they were; after `Memory`
+    /// the counts still agree with this table.
+    pub fn merge_under(
+        &mut self,
+        queue: LogQueue,
+        rhs: &mut MemTable,
+        mark: &Mark,
+        stats: &mut GlobalStats,
+    ) -> Result<()>
+        requires region { self.old.region_id ≡ rhs.old.region_id }
+        requires own { live_of (other queue) rhs.old ≡ 0 }
+        requires older { queue ≡ Rewrite → live_of Append self.old ≡ 0 }
+        requires counted { IsCounted self.old stats.old }
+        ensures ok { IsRunOver queue mark.now rhs.old self.old → OnOk result (table_over queue mark.now rhs.old self.old ≡ Some self.new) }
+        ensures refused { IsRunOver queue mark.now rhs.old self.old → IfErr result (IsRefusedUnder queue stats.old mark.now rhs.old self.old) }
+        ensures err { IsRunOver queue mark.now rhs.old self.old → IfErr result (λ e. e ≢ Error.Memory →
+            (self.new ≡ self.old) × (rhs.new ≡ rhs.old) × (stats.new ≡ stats.old)) }
+        ensures emptied { OnOk result (rhs.new ≡ empty_table rhs.old.region_id) }
+        ensures recounted { IsRecounted self.old self.new stats.old stats.new }
+        ensures regions { (self.new.region_id ≡ self.old.region_id) × (rhs.new.region_id ≡ rhs.old.region_id) }
+    {
+        if !stats.has_room(rhs, LogQueue::Append) || !stats.has_room(rhs, LogQueue::Rewrite) {
+            return Err(Error::Full);
+        }
+        self.check_meeting(queue, mark)?;
+        self.drop_older(self.is_missed(mark), mark, stats);
+        self.join(queue, rhs, queue, stats)?;
+        self.take_atomic_group(rhs);
+        Ok(())
+    }
+
+    /// Puts an appended table `rhs` of the same region, which the counts don't hold, over this
+    /// rewritten one as its mark says. `rhs` is left empty.
+    ///
+    /// # Errors
+    ///
+    /// `Full` where the live number of a queue and the records of `rhs` there would pass 2^64 - 1.
+    /// Both tables and the counts are then as they were; after `Memory` the counts still agree with
+    /// this table.
+    pub fn overlay(
+        &mut self,
+        rhs: &mut MemTable,
+        mark: &Mark,
+        stats: &mut GlobalStats,
+    ) -> Result<()>
+        requires region { self.old.region_id ≡ rhs.old.region_id }
+        requires appended { live_of Rewrite rhs.old ≡ 0 }
+        requires atomic_group { rhs.old.atomic_group ≡ None }
+        requires counted { IsCounted self.old stats.old }
+        ensures ok { IsRun (overlay_under mark.now rhs.old self.old).entries → OnOk result (self.new ≡ overlay_under mark.now rhs.old self.old) }
+        ensures emptied { OnOk result (rhs.new ≡ empty_table rhs.old.region_id) }
+        ensures refused { IfErr result (IsOverlayRefused stats.old rhs.old) }
+        ensures err { IfErr result (λ e. e ≢ Error.Memory →
+            (self.new ≡ self.old) × (rhs.new ≡ rhs.old) × (stats.new ≡ stats.old)) }
+        ensures recounted { IsRecounted self.old self.new stats.old stats.new }
+        ensures regions { (self.new.region_id ≡ self.old.region_id) × (rhs.new.region_id ≡ rhs.old.region_id) }
+    {
+        if !stats.has_room(rhs, LogQueue::Append) || !stats.has_room(rhs, LogQueue::Rewrite) {
+            return Err(Error::Full);
+        }
+        self.drop_older(self.is_short(mark), mark, stats);
+        self.join(LogQueue::Rewrite, rhs, LogQueue::Append, stats)?;
+        Ok(())
+    }
+
+    /// Whether the entries don't reach a mark's cut.
+    fn is_short(&self, mark: &Mark) -> bool
+        ensures { result ≡ is_short mark.now.cut (end_of self.now.entries) }
+    {
+        match mark.cut() {
+            Some(cut) => self.entries.end() < cut,
+            None => false,
+        }
+    }
+
+    /// Takes over the atomic group of a newer table, if it has one.
+    fn take_atomic_group(&mut self, rhs: &mut MemTable)
+        ensures atomic_group { self.new ≡ record self.old { atomic_group = newer_atomic_group rhs.old.atomic_group self.old.atomic_group } }
+        ensures emptied { rhs.new ≡ record rhs.old { atomic_group = None } }
+    {
+        if let Some(atomic_group) = rhs.atomic_group.take() {
+            self.atomic_group = Some(atomic_group);
+        }
+    }
+
+    /// The greatest index plus one, 0 without entries.
+    pub fn end(&self) -> u64
+        ensures { result ≡ end_of self.now.entries }
+    {
+        self.entries.end()
+    }
+
+    /// `replay_append` or `replay_rewrite`, by the queue.
+    pub fn replay_into(
+        &mut self,
+        queue: LogQueue,
+        run: Vec<EntryIndex>,
+        stats: &mut GlobalStats,
+    ) -> Result<()>
+        requires run { IsRunIn queue run.items }
+        requires older { queue ≡ Rewrite → live_of Append self.old ≡ 0 }
+        requires counted { IsCounted self.old stats.old }
+        ensures ok { OnOk result (after_replay queue self.old run.items ≡ Some self.new) }
+        ensures refused { IfErr result (IsRunRefused queue stats.old self.old.entries (replayed queue self.old.entries run.items)) }
+        ensures recounted { IsRecounted self.old self.new stats.old stats.new }
+        ensures region { self.new.region_id ≡ self.old.region_id }
+    {
+        match queue {
+            LogQueue::Append => self.replay_append(run, stats),
+            LogQueue::Rewrite => self.replay_rewrite(run, stats),
+        }
+    }
+
+    /// Whether the first run of a newer mark leaves a hole behind the entries that it meets.
+    fn is_missed(&self, mark: &Mark) -> bool
+        ensures { result ≡ is_missed mark.now self.now.entries }
+    {
+        mark.misses(self.met(mark))
+    }
+
+    /// Refuses a newer mark whose first run leaves a hole behind the entries that it meets.
+    pub fn check_meeting(&self, queue: LogQueue, mark: &Mark) -> Result<()>
+        ensures ok { OnOk result (is_meeting_refused queue mark.now self.now.entries ≡ false) }
+        ensures refused { IfErr result (IsMeetingRefused (is_meeting_refused queue mark.now self.now.entries)) }
+    {
+        if self.is_meeting_refused(queue, mark) {
+            return Err(
+                self.entries
+                    .corruption("a run leaves a hole behind older entries")?,
+            );
+        }
+        Ok(())
+    }
+
+    /// Whether the meeting of a newer mark's first run is refused.
+    fn is_meeting_refused(&self, queue: LogQueue, mark: &Mark) -> bool
+        ensures { result ≡ is_meeting_refused queue mark.now self.now.entries }
+    {
+        match queue {
+            LogQueue::Append => self.is_missed(mark),
+            LogQueue::Rewrite => false,
+        }
+    }
+
+    /// Drops what a newer mark drops: all where the region was cleaned, else the entries off its
+    /// bounds, or all of them where they are `gone`, and the deleted keys.
+    fn drop_older(&mut self, gone: bool, mark: &Mark, stats: &mut GlobalStats)
+        requires counted { IsCounted self.old stats.old }
+        ensures left { self.new ≡ left_by gone mark.now self.old }
+        ensures fewer { (q : LogQueue) → live_of q self.new ≤ live_of q self.old }
+        ensures recounted { IsRecounted self.old self.new stats.old stats.new }
+        ensures region { self.new.region_id ≡ self.old.region_id }
+    {
+        if mark.is_cleaned() {
+            self.entries.keep_below(0, stats);
+            self.drop_keys(stats);
+            self.atomic_group = None;
+            return;
+        }
+        self.drop_entries(gone, mark, stats);
+        self.drop_deleted(mark.deleted(), stats);
+    }
+
+    /// Drops the entries off a mark's bounds, or all of them.
+    fn drop_entries(&mut self, gone: bool, mark: &Mark, stats: &mut GlobalStats)
+        requires counted { IsCounted self.old stats.old }
+        ensures left { self.new ≡ with_entries self.old (if gone then [] else part mark.now.lo mark.now.cut self.old.entries) }
+        ensures recounted { IsRecounted self.old self.new stats.old stats.new }
+    {
+        if gone {
+            self.entries.keep_below(0, stats);
+            return;
+        }
+        self.entries.keep_part(mark.low(), mark.cut(), stats);
+    }
+
+    /// Drops all key values.
+    fn drop_keys(&mut self, stats: &mut GlobalStats)
+        requires counted { IsCounted self.old stats.old }
+        ensures dropped { self.new ≡ with_keys self.old finite.empty }
+        ensures recounted { IsRecounted self.old self.new stats.old stats.new }
+    {
+        stats.delete(LogQueue::Append, self.keys.count_in(LogQueue::Append));
+        stats.delete(LogQueue::Rewrite, self.keys.count_in(LogQueue::Rewrite));
+        self.keys.clear();
+    }
+
+    /// Deletes keys and their values.
+    fn drop_deleted(&mut self, deleted: &DeletedKeys, stats: &mut GlobalStats)
+        requires counted { IsCounted self.old stats.old }
+        ensures dropped { self.new ≡ with_keys self.old (without deleted.now self.old.keys) }
+        ensures fewer { (q : LogQueue) → pair_count q self.new.keys ≤ pair_count q self.old.keys }
+        ensures recounted { IsRecounted self.old self.new stats.old stats.new }
+    {
+        let appended = self.keys.count_in(LogQueue::Append);
+        let rewritten = self.keys.count_in(LogQueue::Rewrite);
+        deleted.delete_from(&mut self.keys);
+        stats.delete(
+            LogQueue::Append,
+            appended - self.keys.count_in(LogQueue::Append),
+        );
+        stats.delete(
+            LogQueue::Rewrite,
+            rewritten - self.keys.count_in(LogQueue::Rewrite),
+        );
+    }
+}

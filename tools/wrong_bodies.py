@@ -1,0 +1,252 @@
+#!/usr/bin/env python3
+"""Tries wrong bodies: edits of a crate's source that the prover has to refuse.
+
+    tools/wrong_bodies.py [--applies] [--folder NAME] [CRATE..]
+
+tries crates/CRATE/wrong-bodies/*.edit of the crates that are named, or of all, over a copy of the repository, and lists
+those that are not refused. --applies only looks whether each edit can be applied, in must-fail/ too, and proves nothing.
+--folder must-fail tries that folder's edits in the same way. RT names the toolchain's command, where it is not `rt`.
+
+Wrong bodies of different functions go into one check, since a function is proved from its own body and the contracts of
+what it calls. One that a check says nothing of, or one with a refused function below it, is tried once more by itself.
+"""
+import os
+import re
+import shlex
+import shutil
+import subprocess
+import sys
+import tempfile
+
+ROOT = os.path.dirname(os.path.dirname(os.path.realpath(__file__)))
+RT = shlex.split(os.environ.get("RT", "rt"))
+FUNCTION = re.compile(r"( *)(?:pub(?:\([a-z]+\))? )?(?:final )?(?:const )?(?:unsafe )?fn (\w+)")
+VERDICT = re.compile(r"fn (\S+): no proof: (.*)")
+WAITS = re.compile(r"it calls `[^`]*`(?:, `[^`]*`)*, which (?:is|are) not proved")
+UNREAD = re.compile(r"(?:\./)?(src/\S+):(\d+):\d+: error")
+
+
+class Edit:
+    """A wrong body: texts that stand once in a file of the crate, and what each is replaced by."""
+
+    def __init__(self, path):
+        self.path, self.name, self.pairs = path, os.path.basename(path).removesuffix(".edit"), []
+        file = old = None
+        with open(path, encoding="utf-8") as lines:
+            for line in lines.read().split("\n"):
+                if line.startswith("file: "):
+                    file = line.removeprefix("file: ").strip()
+                elif line.startswith("old: "):
+                    old = line.removeprefix("old: ")
+                elif line.startswith("new:"):
+                    self.pairs.append((file, old, line.removeprefix("new:").removeprefix(" ")))
+
+    def apply(self, texts):
+        """Puts the wrong body into the texts of the crate's files, and answers why it can't be, or None."""
+        made = dict(texts)
+        if not self.pairs:
+            return "it replaces nothing"
+        for file, old, new in self.pairs:
+            found = made.get(file, "").count(old) if old else 0
+            if found != 1:
+                return f"`{(old or '').strip()[:60]}` stands {found} times in {file}"
+            made[file] = made[file].replace(old, new)
+        texts.update(made)
+        return None
+
+    def functions(self, texts):
+        """The functions that it changes, as pairs of file and name; a change outside of functions has the name None."""
+        return {(file, enclosing(texts[file], texts[file].index(old))) for file, old, _ in self.pairs if old in texts.get(file, "")}
+
+
+def enclosing(text, at):
+    """The name of the function that this place of a file stands in, or None."""
+    lines, row = text.split("\n"), text.count("\n", 0, at)
+    for start in range(row, -1, -1):
+        head = FUNCTION.match(lines[start])
+        if head:
+            end = next((i for i in range(start, len(lines)) if lines[i].startswith(head[1] + "}")), len(lines))
+            return head[2] if row <= end else None
+    return None
+
+
+def module_of(file):
+    """The path of the module that a file of src/ holds."""
+    parts = file.removeprefix("src/").removesuffix(".rt").split("/")
+    return [] if parts == ["lib"] or parts == ["main"] else parts
+
+
+class Crate:
+    """A copy of a crate, in which wrong bodies are tried."""
+
+    def __init__(self, name, folder):
+        self.name, self.folder, self.texts = name, folder, sources(folder)
+
+    def check(self, edits):
+        """Checks the crate with these wrong bodies in it. Answers whether the prover was reached, the functions that were refused for their own
+        body, and what the check printed."""
+        texts = dict(self.texts)
+        for edit in edits:
+            edit.apply(texts)
+        for file, text in texts.items():
+            write(f"{self.folder}/{file}", text)
+        ran = subprocess.run([*RT, "check"], cwd=self.folder, stdin=subprocess.DEVNULL, stdout=subprocess.PIPE, stderr=subprocess.STDOUT, text=True, errors="replace")
+        for file, text in self.texts.items():
+            write(f"{self.folder}/{file}", text)
+        own = set()
+        for name, why in VERDICT.findall(ran.stdout):
+            if re.sub(r"[\s;,]|and", "", WAITS.sub("", why)):
+                own.add(tuple(name.split("::")))
+        reached = ran.returncode == 0 or bool(re.search(r"^logic=not-proved", ran.stdout, re.M))
+        return reached, own, ran.stdout
+
+    def is_refused(self, edit, own):
+        """Whether one of the functions that the edit changes was refused for its own body."""
+        for file, function in edit.functions(self.texts):
+            path = (self.name, *module_of(file))
+            if any(it[: len(path)] == path and it[-1] == function for it in own):
+                return True
+        return False
+
+
+def sources(folder):
+    texts = {}
+    for part in ("src", "specs", "proofs"):
+        for at, _, files in os.walk(f"{folder}/{part}"):
+            for name in files:
+                with open(f"{at}/{name}", encoding="utf-8") as file:
+                    texts[os.path.relpath(f"{at}/{name}", folder)] = file.read()
+    return texts
+
+
+def write(path, text):
+    with open(path, encoding="utf-8") as file:
+        if file.read() == text:
+            return
+    with open(path, "w", encoding="utf-8") as file:
+        file.write(text)
+
+
+def rounds(crate, edits):
+    """Divides the edits into rounds, so that no two of a round change one function, and those of a round can be applied together. An edit of
+    several functions, or of none, has a round to itself."""
+    rest = list(edits)
+    while rest:
+        taken, seen, texts = [], set(), dict(crate.texts)
+        for edit in list(rest):
+            functions = edit.functions(crate.texts)
+            is_single = len(functions) == 1 and all(name for _, name in functions)
+            if taken and not is_single or functions & seen or edit.apply(texts):
+                continue
+            taken.append(edit)
+            rest.remove(edit)
+            seen |= functions
+            if not is_single:
+                break
+        yield taken
+
+
+def say(text):
+    print(text, flush=True)
+
+
+def tried(crate, edits):
+    """Tries the edits, and answers a line for each that is not refused."""
+    faults, alone = [], []
+    for number, these in enumerate(rounds(crate, edits), 1):
+        say(f"{crate.name}: check {number}, {len(these)} wrong bodies")
+        reached, own, said = crate.check(these)
+        single = len(these) == 1
+        for edit in these:
+            if reached and (crate.is_refused(edit, own) or single and own):
+                continue
+            if not single:
+                alone.append(edit)
+            elif reached:
+                faults.append(f"{crate.name}/{edit.name}: NOT REFUSED")
+            else:
+                faults.append(f"{crate.name}/{edit.name}: the check did not reach the prover: {first_error(said)}")
+    for edit in alone:
+        say(f"{crate.name}: {edit.name} by itself")
+        reached, own, said = crate.check([edit])
+        if not reached:
+            faults.append(f"{crate.name}/{edit.name}: the check did not reach the prover: {first_error(said)}")
+        elif not own:
+            faults.append(f"{crate.name}/{edit.name}: NOT REFUSED")
+    return faults
+
+
+def first_error(said):
+    lines = said.split("\n")
+    return next((it for it in lines if UNREAD.match(it)), next((it for it in lines if "error" in it), lines[-1]))[:200]
+
+
+def edits_in(name, folder):
+    at = f"{ROOT}/crates/{name}/{folder}"
+    names = sorted(os.listdir(at)) if os.path.isdir(at) else []
+    return [Edit(f"{at}/{it}") for it in names if it.endswith(".edit")]
+
+
+def libraries():
+    """The crates of the repository, each with what it stands on."""
+    with open(f"{ROOT}/crates.txt", encoding="utf-8") as lines:
+        rows = [it.split("#")[0].partition(":") for it in lines if it.split("#")[0].strip()]
+    return {name.split()[0]: uses.split() for name, _, uses in rows}
+
+
+def with_lower(names):
+    """These crates and those of the repository that they stand on."""
+    uses, found, rest = libraries(), [], list(names)
+    while rest:
+        name = rest.pop()
+        if name in uses and name not in found:
+            found.append(name)
+            rest += uses[name]
+    return found
+
+
+def applies(names):
+    """Answers a line for each edit that can't be applied."""
+    faults, count = [], 0
+    for name in names:
+        texts = sources(f"{ROOT}/crates/{name}")
+        for folder in ("must-fail", "wrong-bodies"):
+            for edit in edits_in(name, folder):
+                count += 1
+                why = edit.apply(dict(texts))
+                if why:
+                    faults.append(f"{name}/{folder}/{edit.name}: {why}")
+    say(f"{count} wrong bodies, {len(faults)} of them can't be applied")
+    return faults
+
+
+def main(words):
+    folder = "wrong-bodies"
+    if "--folder" in words:
+        at = words.index("--folder")
+        folder = words[at + 1]
+        del words[at : at + 2]
+    only_looks = "--applies" in words
+    names = [it for it in words if it != "--applies"] or list(libraries())
+    faults = applies(names)
+    if not only_looks and not faults:
+        with tempfile.TemporaryDirectory(prefix="wrong-bodies-") as room:
+            copied = with_lower(names)
+            os.mkdir(f"{room}/crates")
+            for name in copied:
+                subprocess.run(["cp", "-a", "--reflink=auto", f"{ROOT}/crates/{name}", f"{room}/crates/"], check=True)
+            with open(f"{room}/crates.txt", "w", encoding="utf-8") as lines:
+                lines.writelines(f"{name}: {' '.join(libraries()[name])}\n" for name in copied)
+            shutil.copy(f"{ROOT}/HANDLES", room)
+            for name in names:
+                edits = edits_in(name, folder)
+                if edits:
+                    faults += tried(Crate(name, f"{room}/crates/{name}"), edits)
+        say(f"{len(faults)} wrong bodies not refused")
+    for it in faults:
+        say(it)
+    return 1 if faults else 0
+
+
+if __name__ == "__main__":
+    sys.exit(main(sys.argv[1:]))

@@ -2,7 +2,7 @@
 SHELL := /bin/bash
 RT ?= rt
 export RT
-.PHONY: bench demo edits raftlog test wrong-bodies
+.PHONY: bench compare demo edits example raftlog test wrong-bodies
 
 # Runs `raftlog` on an item batch, which says that the records of region 1 go. Nothing is proved.
 demo:
@@ -11,9 +11,14 @@ demo:
 	@mkdir -p crates/raftlog/out
 	@cd crates/raftlog && $(RT) try -- batch append 12 1 < stdin 2> out/demo.log || { cat out/demo.log; exit 1; }
 
+# Runs the example. Nothing is proved.
+example:
+	@mkdir -p crates/raft_example/out
+	@cd crates/raft_example && $(RT) try 2> out/example.log || { cat out/example.log; exit 1; }
+
 # Proves `raftlog` and the crates below it, builds it, and says where it lies.
 raftlog:
-	@cd crates/raftlog && $(RT) run -- batch append 12 1 < stdin > /dev/null
+	@set -o pipefail; cd crates/raftlog && $(RT) run -- batch append 12 1 < stdin 2>&1 > /dev/null | grep --line-buffered -v '^statements '
 	@echo "raftlog is proved and built: crates/raftlog/out/raftlog"
 
 # Proves every crate from nothing, runs the tests and the programs, and tries the wrong bodies of must-fail/.
@@ -33,3 +38,8 @@ bench:
 	@mkdir -p crates/raft_bench/out
 	@cd crates/raft_bench && $(RT) run > out/bench.log 2>&1 || { cat out/bench.log; exit 1; }
 	@crates/raft_bench/out/raft_bench crc32 varint batches memtable
+
+# Runs `raftlog recover` over a folder of cases, as `make compare CASES=folder`, and counts those that it answers otherwise
+# than they say. `make raftlog` builds it first.
+compare:
+	@tools/compare.py $(CASES)

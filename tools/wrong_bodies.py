@@ -21,8 +21,9 @@ import tempfile
 ROOT = os.path.dirname(os.path.dirname(os.path.realpath(__file__)))
 RT = shlex.split(os.environ.get("RT", "rt"))
 FUNCTION = re.compile(r"( *)(?:pub(?:\([a-z]+\))? )?(?:final )?(?:const )?(?:unsafe )?fn (\w+)")
-VERDICT = re.compile(r"fn (\S+): no proof: (.*)")
-WAITS = re.compile(r"it calls `[^`]*`(?:, `[^`]*`)*, which (?:is|are) not proved")
+VERDICT = re.compile(r"^fn (\S+): (.*)", re.M)
+WAITS = re.compile(r"it (?:calls|waits for)[^;]*")
+ANSWER = re.compile(r"^(?:so far: )?(?:\./)?proofs/(\S+)/\w+\.antt:\d+:\d+: error", re.M)
 UNREAD = re.compile(r"(?:\./)?(src/\S+):(\d+):\d+: error")
 
 
@@ -83,8 +84,8 @@ class Crate:
         self.name, self.folder, self.texts = name, folder, sources(folder)
 
     def check(self, edits):
-        """Checks the crate with these wrong bodies in it. Answers whether the prover was reached, the functions that were refused for their own
-        body, and what the check printed."""
+        """Checks the crate with these wrong bodies in it. Answers whether the crate is proved, or None where the check did not reach the prover,
+        for each function whether it was refused for its own body, and what the check printed."""
         texts = dict(self.texts)
         for edit in edits:
             edit.apply(texts)
@@ -93,20 +94,30 @@ class Crate:
         ran = subprocess.run([*RT, "check"], cwd=self.folder, stdin=subprocess.DEVNULL, stdout=subprocess.PIPE, stderr=subprocess.STDOUT, text=True, errors="replace")
         for file, text in self.texts.items():
             write(f"{self.folder}/{file}", text)
-        own = set()
-        for name, why in VERDICT.findall(ran.stdout):
-            if re.sub(r"[\s;,]|and", "", WAITS.sub("", why)):
-                own.add(tuple(name.split("::")))
-        reached = ran.returncode == 0 or bool(re.search(r"^logic=not-proved", ran.stdout, re.M))
-        return reached, own, ran.stdout
+        answered = {(self.name, *path.split("/")) for path in ANSWER.findall(ran.stdout)}
+        verdicts = {tuple(name.split("::")): verdict for name, verdict in VERDICT.findall(ran.stdout)}
+        refused = {name: is_own(verdict) or name in answered for name, verdict in verdicts.items()}
+        reached = ran.returncode == 0 or ran.returncode == 1 and re.search(r"^logic=not-proved", ran.stdout, re.M)
+        return ran.returncode == 0 if reached else None, refused, ran.stdout
 
-    def is_refused(self, edit, own):
-        """Whether one of the functions that the edit changes was refused for its own body."""
+    def is_refused(self, edit, refused):
+        """Whether a function that the edit changes is among those that were refused for their own body. A method is named below the module of its
+        type, which may be the one above that of its file."""
         for file, function in edit.functions(self.texts):
             path = (self.name, *module_of(file))
-            if any(it[: len(path)] == path and it[-1] == function for it in own):
+            for above in (path, path[:-1]):
+                named = [it for it in refused if it[: len(above)] == above and it[-1] == function]
+                if named:
+                    break
+            if any(refused[it] for it in named):
                 return True
         return False
+
+
+def is_own(verdict):
+    """Whether a function's verdict is that its own body is refused, and not just one below it."""
+    said = re.sub(r"^(?:no proof|not proved)", "", verdict)
+    return said != verdict and (not WAITS.search(said) or bool(WAITS.sub("", said).strip(" ;:")))
 
 
 def sources(folder):
@@ -152,26 +163,26 @@ def say(text):
 
 def tried(crate, edits):
     """Tries the edits, and answers a line for each that is not refused."""
-    faults, alone = [], []
-    for number, these in enumerate(rounds(crate, edits), 1):
-        say(f"{crate.name}: check {number}, {len(these)} wrong bodies")
-        reached, own, said = crate.check(these)
-        single = len(these) == 1
-        for edit in these:
-            if reached and (crate.is_refused(edit, own) or single and own):
-                continue
-            if not single:
-                alone.append(edit)
-            elif reached:
-                faults.append(f"{crate.name}/{edit.name}: NOT REFUSED")
-            else:
-                faults.append(f"{crate.name}/{edit.name}: the check did not reach the prover: {first_error(said)}")
+    alone, rest = [], list(rounds(crate, edits))
+    while rest:
+        these = rest.pop(0)
+        if len(these) == 1:
+            alone += these
+            continue
+        say(f"{crate.name}: {len(these)} wrong bodies in a check")
+        is_proved, refused, _ = crate.check(these)
+        if is_proved is None:
+            half = len(these) // 2
+            rest = [these[:half], these[half:], *rest]
+        else:
+            alone += [it for it in these if not crate.is_refused(it, refused)]
+    faults = []
     for edit in alone:
         say(f"{crate.name}: {edit.name} by itself")
-        reached, own, said = crate.check([edit])
-        if not reached:
+        is_proved, _, said = crate.check([edit])
+        if is_proved is None:
             faults.append(f"{crate.name}/{edit.name}: the check did not reach the prover: {first_error(said)}")
-        elif not own:
+        elif is_proved:
             faults.append(f"{crate.name}/{edit.name}: NOT REFUSED")
     return faults
 

@@ -1,1 +1,3 @@
-mod RequestLemmas
+pub mod DrawingLemmas
+pub mod RequestLemmas
+pub mod WeightLemmas

@@ -1,5 +1,11 @@
-//! Recovery: from the bytes of log files to the tables of all regions, and the program over it.
+//! Recovery of tables from log files, on any number of threads, and the program over it.
 #![tactic(auto)]
 
+mod drawing;
 mod recovered;
 mod request;
+pub mod ticket_seat;
+pub mod tickets;
+
+pub use ticket_seat::TicketSeat;
+pub use tickets::Tickets;

@@ -1,3 +1,4 @@
 pub mod DrawingLemmas
+pub mod OrderLemmas
 pub mod RequestLemmas
 pub mod WeightLemmas

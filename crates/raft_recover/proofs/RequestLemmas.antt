@@ -1,5 +1,5 @@
 -- What words ask for.
-use Rattle.std.proofs.Common.{◌≡◌, ◌≢◌, ℕ, zero, suc, ◌-◌, ◌<◌, ◌≤◌, List, [], ◌∷◌, length, get_or, take, drop, codes, Bool, true, false, not, Bor, Option, None, Some, IfNone, MatchOption, arith, refl, subst, ap, sym, ◌∙◌}
+use Rattle.std.proofs.Common.{◌≡◌, ◌≢◌, ℕ, zero, suc, ◌-◌, ◌<◌, ◌≤◌, List, [], ◌∷◌, ◌++◌, length, get_or, take, drop, codes, Bool, true, false, not, Bor, Option, None, Some, IfNone, MatchOption, arith, refl, subst, ap, sym, ◌∙◌}
 use Rattle.std.proofs.lemmas.List.{take_all}
 use Rattle.std.specs.Char.{digit_value}
 use Rattle.std.specs.Str.Parse.{AllDigits}
@@ -7,7 +7,7 @@ use Rattle.std.proofs.lemmas.Str.Pattern.{IsSplitOnceResult, split_after}
 use Rattle.std.specs.Str.{bytes_eq}
 use Rattle.std.proofs.lemmas.Slice.Eq.{bytes_eq-Decides}
 use Rattle.raft_base.specs.declared.pipe_log.LogFileContext.{LogFileContext}
-use Rattle.raft_recover.specs.Requests.{NamesFile, IsPathWord, AsksBatch}
+use Rattle.raft_recover.specs.Requests.{NamesFile, IsPathWord, AsksBatch, File, IsRead, AreRead}
 
 -- a list of four is its items
 pub four_items : {X : Type 0} (xs : List X) (a b c d : X) → 4 ≤ length xs → length xs < 5 → a ≡ get_or xs 0 a → b ≡ get_or xs 1 b → c ≡ get_or xs 2 c → d ≡ get_or xs 3 d → xs ≡ a ∷ b ∷ c ∷ d ∷ []
@@ -74,3 +74,10 @@ four_and_more (w ∷ x ∷ y ∷ z ∷ vs) a b c d low p q r s =
 -- words whose first is `recover`
 pub recover_first : (words rest : List (List ℕ)) (command a b c : List ℕ) → words ≡ command ∷ a ∷ b ∷ c ∷ rest → command ≡ codes "recover" → words ≡ codes "recover" ∷ a ∷ b ∷ c ∷ rest
 recover_first words rest command a b c split recover = rw (← recover) split
+
+-- one more word and its file
+pub read_more : (words : List (List ℕ)) (files : List File) (word : List ℕ) (file : File) → AreRead words files → IsRead word file → AreRead (words ++ word ∷ []) (files ++ file ∷ [])
+read_more [] [] word file r h = (h, tt)
+read_more [] (f ∷ files) word file r h = absurd r
+read_more (w ∷ words) [] word file r h = absurd r
+read_more (w ∷ words) (f ∷ files) word file r h = (r.0, read_more words files word file r.1 h)

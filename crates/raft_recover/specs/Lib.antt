@@ -2,6 +2,7 @@ pub mod Drawing
 pub mod Draws
 pub mod RequestView
 pub mod Requests
+pub mod Runs
 pub mod TableLines
 pub mod TicketModel
 pub mod TicketSeatModel

@@ -1,5 +1,6 @@
 -- Requests as the program holds them.
-use Rattle.std.specs.Prelude.{ℕ, List, map, string_bytes}
+use Rattle.std.specs.Prelude.{ℕ, List, map, string_bytes, Vec}
+use Rattle.std.specs.declared.alloc.Global.{Global}
 use Rattle.raft_recover.specs.declared.request.Recovery.{Recovery}
 use Rattle.raft_recover.specs.declared.request.Request.{Request}
 use Rattle.raft_recover.specs.declared.request.Request.TheVariants.{Batch, Recover}
@@ -13,3 +14,7 @@ asks_for r = record { queue = r.queue; version = r.version; workers = r.workers;
 abbrev pub IsAsked : List (List ℕ) → Request → Type 0
 IsAsked words (Batch context) = requests.AsksBatch words context
 IsAsked words (Recover recovery) = requests.AsksRecovery words (asks_for recovery)
+
+-- a file by its bytes
+abbrev pub file_shown : ℕ × Vec ℕ Global → requests.File
+file_shown file = (file.0, file.1.items)

@@ -3,7 +3,8 @@
 
 mod drawing;
 mod recovered;
-mod request;
+pub mod request;
+pub mod run;
 pub mod ticket_seat;
 pub mod tickets;
 

@@ -1,11 +1,33 @@
 //! The tables of all regions as text.
 
 ghost use Rattle.std.specs.Prelude.{◌≡◌, ◌++◌, OnOk, map, string_bytes};
+ghost use Rattle.std.specs.List.Sorted.{IsPermutation, IsNonDecreasingBy};
 ghost use Rattle.std.specs.List.{flat_map};
 ghost use Rattle.raft_recover.specs.TableLines.{range_text, file_text, region_text, table_line, cleaned_text, cleaned_line, live_line};
 
 use raft_memtable::{FileSeq, GlobalStats, LogQueue, MemTable};
 use std::alloc::AllocError;
+
+/// Sorts tables by their regions.
+fn sort_by_region(tables: &mut Vec<&MemTable>)
+    ensures moved { IsPermutation tables.old.items tables.new.items }
+    ensures rises { IsNonDecreasingBy (λ t. t.now.region_id) tables.new.items }
+{
+    tables.sort_unstable_by_key(|table: &&MemTable| -> u64
+        ensures { result ≡ table.now.now.region_id }
+    { table.region_id() });
+}
+
+/// Appends the lines of tables.
+fn append_tables(tables: &[&MemTable], text: &mut String) -> Result<(), AllocError>
+    ensures { OnOk result (string_bytes text.new
+        ≡ string_bytes text.old ++ flat_map table_line (map (λ t. t.now) tables.now)) }
+{
+    for table in tables {
+        append_table(table, text)?;
+    }
+    Ok(())
+}
 
 /// Appends the line of a table.
 fn append_table(table: &MemTable, text: &mut String) -> Result<(), AllocError>

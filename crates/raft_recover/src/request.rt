@@ -1,17 +1,19 @@
 //! What the words of a command line ask for.
 
-ghost use Rattle.std.specs.Prelude.{◌≡◌, ℕ, List, IfSome, IfNone, MatchBool, map, string_bytes};
+ghost use Rattle.std.specs.Prelude.{◌≡◌, ℕ, List, IfOk, IfSome, IfNone, MatchBool, map, string_bytes};
 ghost use Rattle.std.specs.List.{AllByRecursion};
 ghost use Rattle.raft_base.specs.declared.pipe_log.LogFileContext.{LogFileContext};
 ghost use Rattle.raft_base.specs.declared.pipe_log.LogQueue.{LogQueue};
 ghost use Rattle.raft_base.specs.declared.pipe_log.Version.{Version};
-ghost use Rattle.raft_recover.specs.Requests.{queue_word, version_word, IsNumberWord, NamesFile, NamesPath, IsPathWord, AskedRecovery, AsksBatch, AsksRecovery, AsksNothing};
-ghost use Rattle.raft_recover.specs.RequestView.{IsAsked, asks_for};
+ghost use Rattle.raft_recover.specs.Requests.{queue_word, version_word, IsNumberWord, NamesFile, NamesPath, IsPathWord, IsRead, AreRead, AskedRecovery, AsksBatch, AsksRecovery, AsksNothing};
+ghost use Rattle.raft_recover.specs.RequestView.{IsAsked, asks_for, file_shown};
 
-use raft_base::{FileId, FileSeq, LogFileContext, LogQueue, Version};
+use raft_base::{Error, FileId, FileSeq, LogFileContext, LogQueue, Result, Version};
+use std::fs;
+use std::rt::Files;
 
 /// What the words of a command line ask for.
-pub(crate) enum Request<'a> {
+pub enum Request<'a> {
     /// The lines of the item batch in the input, which is of this file.
     Batch(LogFileContext),
     /// The lines of the tables that files give.
@@ -20,17 +22,17 @@ pub(crate) enum Request<'a> {
 
 /// Files of a queue whose tables are asked for.
 #[derive(Clone, Copy)]
-pub(crate) struct Recovery<'a> {
-    pub(crate) queue: LogQueue,
-    pub(crate) version: Version,
-    pub(crate) workers: u64,
+pub struct Recovery<'a> {
+    pub queue: LogQueue,
+    pub version: Version,
+    pub workers: usize,
     /// A word for each file: its number, `=` and its path.
-    pub(crate) files: &'a [String],
+    pub files: &'a [String],
 }
 
 impl<'a> Request<'a> {
     /// What the words ask for, if it is something that the program does.
-    pub(crate) fn parse(words: &'a [String]) -> Option<Request<'a>>
+    pub fn parse(words: &'a [String]) -> Option<Request<'a>>
         ensures asked { IfSome result (IsAsked (map string_bytes words.now)) }
         ensures refused { IfNone result (AsksNothing (map string_bytes words.now)) }
     {
@@ -42,7 +44,7 @@ impl<'a> Request<'a> {
 }
 
 /// The file whose item batch the words ask for.
-fn batch_request(words: &[String]) -> Option<LogFileContext>
+pub(crate) fn batch_request(words: &[String]) -> Option<LogFileContext>
     ensures asked { IfSome result (AsksBatch (map string_bytes words.now)) }
     ensures refused { IfNone result ((context : LogFileContext) →
         AsksBatch (map string_bytes words.now) context → ⊥) }
@@ -82,7 +84,7 @@ fn recovery_request(words: &[String]) -> Option<Recovery<'_>>
     Some(Recovery {
         queue: queue_named(queue.as_str())?,
         version: version_named(version.as_str())?,
-        workers: number_named(workers.as_str())?,
+        workers: number_named(workers.as_str())? as usize,
         files,
     })
 }
@@ -101,12 +103,33 @@ fn name_paths(words: &[String]) -> bool
 }
 
 /// The number and the path of a file, on both sides of a word's first `=`.
-pub(crate) fn path_named(word: &str) -> Option<(FileSeq, &str)>
+pub fn path_named(word: &str) -> Option<(FileSeq, &str)>
     ensures named { IfSome result (λ file. NamesPath word.now file.0 file.1.now) }
     ensures refused { IfNone result (IsPathWord word.now → ⊥) }
 {
     let (seq, path) = word.split_once('=')?;
     Some((number_named(seq)?, path))
+}
+
+/// Reads the files that words name, one behind the other. A word that names no file is `InvalidArgument`.
+pub fn read_files<R: Files + AllocGlobal>(rt: &R, words: &[String]) -> Result<Vec<(FileSeq, Vec<u8>)>>
+    ensures { IfOk result (λ files. AreRead (map string_bytes words.now) (map file_shown files.items)) }
+{
+    let mut files = Vec::with_capacity(rt.alloc(), words.len())?;
+    for word in words {
+        files.push(read_file(rt, word.as_str())?)?;
+    }
+    Ok(files)
+}
+
+/// Reads the file that a word names.
+fn read_file<R: Files + AllocGlobal>(rt: &R, word: &str) -> Result<(FileSeq, Vec<u8>)>
+    ensures { IfOk result (λ file. IsRead word.now (file_shown file)) }
+{
+    let Some((seq, path)) = path_named(word) else {
+        return Err(Error::InvalidArgument(format!(in rt.alloc(); "no file is named: {word}")?));
+    };
+    Ok((seq, fs::read(rt, path)?))
 }
 
 /// The queue that a word names.

@@ -2,8 +2,7 @@
 use Rattle.std.specs.Prelude.{◌≡◌, ℕ, Bool, eqb, List, [], ◌∷◌, map, filter, flat_map, Option, Some, None, if◌then◌else◌}
 use Rattle.std.specs.List.{list_any}
 use Rattle.std.specs.Option.{option_and_then}
-use Rattle.std.specs.Ordering.{nat_cmp, eq_by_cmp}
-use Rattle.std.specs.Cmp.Lexicographic.{slice_cmp}
+use Rattle.std.specs.Ordering.{nat_cmp}
 use Rattle.std.specs.FinMap as finite
 use Rattle.raft_base.specs.declared.pipe_log.FileId.{FileId}
 use Rattle.raft_base.specs.declared.pipe_log.LogQueue.{LogQueue}
@@ -11,7 +10,7 @@ use Rattle.raft_records.specs.declared.command.Command.{Command}
 use Rattle.raft_records.specs.declared.command.Command.TheVariants as commands
 use Rattle.raft_records.specs.declared.key_value.OpType.{OpType}
 use Rattle.raft_records.specs.declared.key_value.OpType.TheVariants as operations
-use Rattle.raft_records.specs.Group.{reserved_key}
+pub use Rattle.raft_records.specs.Group.{is_reserved}
 use Rattle.raft_records.specs.Item.{Item, Content, entries, command, pair}
 use Rattle.raft_table.specs.Steps.{Step, Run, Compact, Put, Del, Clean, after_step}
 use Rattle.raft_table.specs.Table.{Table}
@@ -22,10 +21,6 @@ pub record RegionStep : Type 0 where
   pub step : Step
 
 -- ---- the steps of items
-
--- whether a key is that of the group markers
-unfoldable pub is_reserved : List ℕ → Bool
-is_reserved key = eq_by_cmp (slice_cmp nat_cmp) key reserved_key
 
 -- a put that has a value and a file
 abbrev pub put_step : List ℕ → Option (List ℕ) → Option FileId → Option Step

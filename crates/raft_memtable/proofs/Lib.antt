@@ -2,3 +2,4 @@ mod LiveLemmas
 mod MapLemmas
 mod RegionTablesLemmas
 mod UpdateLemmas
+mod WriteLemmas

@@ -14,7 +14,8 @@ use Rattle.raft_table.specs.Steps.{table_of}
 use Rattle.raft_table.specs.Table.{Table, live_of, empty_table, IsCounted, IsRecounted}
 use Rattle.raft_table.proofs.KeyValueCounts.{entries-remove}
 use Rattle.raft_table.proofs.Shown.{find-below, where_key-below, below_all-less, below_all-equal, first_of_both, second_of_both, equal}
-use Rattle.raft_memtable.specs.Regions.{Tables, table_in, with_table, live_in, live_of_all, live_in_all, AreCounted}
+use Rattle.raft_history.specs.RegionSteps.{Tables, with_table}
+use Rattle.raft_memtable.specs.Accessor.{table_in, live_in, live_of_all, live_in_all, AreCounted}
 
 live-put : (q : LogQueue) (k : ℕ) (t : Table) (es : List (ℕ × Table)) → T (is_sorted nat_cmp es) → live_of_all q (put nat_cmp k t es) + live_in q (find nat_cmp k es) ≡ live_of_all q es + live_of q t
 live-put q k t [] h = omega arith

@@ -7,7 +7,7 @@ use Rattle.std.specs.FinMap as finite
 use Rattle.std.specs.FinMap.{nat_cmp-IsAntisymmetric}
 use Rattle.raft_table.proofs.Shown.{equal}
 use Rattle.raft_table.specs.Table.{Table}
-use Rattle.raft_memtable.specs.Regions.{Tables, with_table}
+use Rattle.raft_history.specs.RegionSteps.{Tables, with_table}
 use Rattle.std.proofs.Math.Dec.{eqb_refl}
 use lib.Dec.{T}
 use Rattle.std.proofs.lemmas.Bool.{false≢true, eqb-true}
@@ -91,4 +91,3 @@ one_written m n id t e = e ∙ sym (ap (with_table m id) (ap (λ r. finite.get r
 
 pub one_same : (m n : Tables) (id : ℕ) → n ≡ m → n ≡ with_table m id (finite.get n id)
 one_same m n id e = e ∙ sym (ap (λ r. with_table m id (finite.get r id)) e ∙ with_same m id)
-

@@ -1,5 +1,5 @@
 -- The fields of `RegionTables` against what contracts see of them.
-use Rattle.std.proofs.Common.{◌≡◌, ◌⊎◌, ℕ, Bool, true, false, cond, nat_eq, List, [], ◌∷◌, length, Option, Some, None, IsSome, refl, sym, ap, subst, ◌∙◌, inl, inr, MutBor}
+use Rattle.std.proofs.Common.{◌≡◌, ◌⊎◌, ℕ, Bool, true, false, cond, nat_eq, List, [], ◌∷◌, length, Option, Some, None, IsSome, refl, sym, ap, subst, ◌∙◌, inl, inr, arith, MutBor}
 use Rattle.std.specs.Ordering.{nat_cmp, is_eq, eq_by_cmp}
 use Rattle.std.specs.Cmp.{nat_cmp_total}
 use Rattle.std.specs.Map.{lookup}
@@ -11,7 +11,8 @@ use Rattle.std.proofs.lemmas.Bool.{false≢true, eqb-true}
 use Rattle.raft_table.specs.Table.{Table}
 use Rattle.raft_memtable.specs.declared.region_tables.RegionTables.TheInside.{Inside}
 use Rattle.raft_memtable.specs.RegionTablesView.{tables_shown, IsKept}
-use Rattle.raft_memtable.specs.Regions.{Tables, table_in, with_table}
+use Rattle.raft_history.specs.RegionSteps.{Tables, with_table}
+use Rattle.raft_memtable.specs.Accessor.{table_in}
 use Rattle.raft_memtable.proofs.MapLemmas.{same, by_id, eq_self, not_same, self_same, with_own, with_other}
 
 abbrev Es : Type 0
@@ -65,3 +66,21 @@ absent a m k o is v e = get-shown a m k is ∙ sym v ∙ ap option_copied_mut e
 -- the table of a region, or an empty one in its place, has the region's number
 pub region-in : (a : Inside) (m : Tables) (k : ℕ) → IsKept a → tables_shown a ≡ m → (table_in m k).region_id ≡ k
 region-in a m k kept is = elim (finite.get m k) as (λ o. finite.get m k ≡ o → (table_of k o).region_id ≡ k) [ None ↦ λ e. refl | Some t ↦ λ e. kept k t (sym (get-shown a m k is) ∙ e) ] refl
+
+nothing : (es : Es) → ((q : ℕ) → lookup (nat_eq q) es ≡ None) → es ≡ []
+nothing [] h = refl
+nothing (e ∷ es) h = absurd (none_some (sym (h e.0) ∙ ap (λ b. cond b (Some e.1) (lookup (nat_eq e.0) es)) (self_same e.0)))
+  where
+    none_some : {X : Type 0} {x : X} → None ≡ Some x → ⊥
+    none_some e = cc
+
+no_length : (es : Es) → length es ≡ 0 → es ≡ []
+no_length [] e = refl
+no_length (x ∷ es) e = absurd (omega (arith, e))
+
+-- no tables are shown exactly where there are none
+pub empty-if : (a : Inside) (m : Tables) → tables_shown a ≡ m → length a.tables.entries ≡ 0 → m ≡ finite.empty
+empty-if a m is l = same _ _ (λ q. get-shown a m q is ∙ ap (lookup (nat_eq q)) (no_length _ l) ∙ sym (finite.get-empty nat_cmp q))
+
+pub if-empty : (a : Inside) (m : Tables) → tables_shown a ≡ m → m ≡ finite.empty → length a.tables.entries ≡ 0
+if-empty a m is e = ap length (nothing a.tables.entries (λ q. sym (get-shown a m q is) ∙ ap (λ n. finite.get n q) e ∙ finite.get-empty nat_cmp q))

@@ -1,5 +1,5 @@
 -- A region's table changed by a call, or made and changed.
-use Rattle.std.proofs.Common.{◌≡◌, ◌+◌, ℕ, Option, Some, None, Result, Ok, Err, refl, sym, ap, subst, ◌∙◌, inl, inr, arith}
+use Rattle.std.proofs.Common.{◌≡◌, ℕ, Option, Some, None, Result, Ok, Err, refl, sym, ap, subst, ◌∙◌, inl, inr}
 use Rattle.std.specs.FinMap as finite
 use Rattle.std.specs.Result.{OnOk, OnErr}
 use Rattle.raft_base.specs.declared.errors.Error.{Error}
@@ -7,8 +7,9 @@ use Rattle.raft_base.specs.declared.errors.Error.TheVariants.{Memory}
 use Rattle.raft_table.specs.Counts.{Counts}
 use Rattle.raft_table.specs.Steps.{table_of}
 use Rattle.raft_table.specs.Table.{Table, IsRecounted}
-use Rattle.raft_memtable.specs.Regions.{Tables, table_in, with_table}
-use Rattle.raft_memtable.specs.Updates.{Change, Changes, MayChange, IsChangedBy, IsUpdated}
+use Rattle.raft_history.specs.RegionSteps.{Tables, with_table}
+use Rattle.raft_memtable.specs.Accessor.{table_in}
+use Rattle.raft_memtable.specs.Updates.{Change, Changes, MayChange, IsUpdated}
 use Rattle.raft_memtable.proofs.MapLemmas.{get_own, insert_same, with_same, one_written, one_same}
 
 module _ {F R : Type 0} (g : Change F R) (f : F) (m : Tables) (id : ℕ) (counts : Counts) where
@@ -20,6 +21,7 @@ module _ {F R : Type 0} (g : Change F R) (f : F) (m : Tables) (id : ℕ) (counts
       record {
         changed = inl here;
         ok = elim r as (λ r. OnOk r (n ≡ finite.insert m id (table_in n id))) [ Ok a ↦ e ∙ ap (finite.insert m id) (sym now) | Err x ↦ tt ];
+        there = elim r as (λ r. OnOk r (finite.get n id ≡ Some (table_in n id))) [ Ok a ↦ ap (λ x. finite.get x id) e ∙ get_own m id new ∙ ap Some (sym now) | Err x ↦ tt ];
         err = elim r as (λ r. OnErr r (new ≡ table_in m id) → OnErr r (n ≡ m)) [ Ok a ↦ λ k. tt | Err x ↦ λ k. e ∙ insert_same m id new (is ∙ ap Some (sym (k ∙ ap (table_of id) is))) ] (may.kept r new after ch);
         one = one_written m n id new e;
         recounted = may.counted r (table_in n id) after here;
@@ -33,6 +35,7 @@ module _ {F R : Type 0} (g : Change F R) (f : F) (m : Tables) (id : ℕ) (counts
       record {
         changed = inl here;
         ok = e ∙ ap (finite.insert m id) (sym now);
+        there = ap (λ x. finite.get x id) e ∙ get_own m id new ∙ ap Some (sym now);
         err = tt;
         one = one_written m n id new e;
         recounted = may.counted (Ok a) (table_in n id) after here;
@@ -47,6 +50,7 @@ module _ {F R : Type 0} (g : Change F R) (f : F) (m : Tables) (id : ℕ) (counts
       record {
         changed = inl here;
         ok = tt;
+        there = tt;
         err = e;
         one = one_same m n id e;
         recounted = may.counted (Err x) (table_in n id) after here;
@@ -59,6 +63,7 @@ module _ {F R : Type 0} (g : Change F R) (f : F) (m : Tables) (id : ℕ) (counts
       record {
         changed = inr (refl, now, refl);
         ok = tt;
+        there = tt;
         err = e;
         one = one_same m n id e;
         recounted = λ q. subst (λ t. IsRecounted (table_in m id) t counts counts) (sym now) (λ q. refl) q;

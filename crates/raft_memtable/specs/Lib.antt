@@ -1,4 +1,6 @@
-pub mod Regions
+pub mod Accessor
+pub mod AccessorCode
+pub mod ItemWrites
 pub mod RegionTablesView
-pub mod RegionsCode
 pub mod Updates
+pub mod Writes

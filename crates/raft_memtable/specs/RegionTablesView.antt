@@ -4,7 +4,7 @@ use Rattle.std.specs.Map.{lookup}
 use Rattle.std.specs.FinMap as finite
 use Rattle.raft_table.specs.Table.{Table}
 use Rattle.raft_memtable.specs.declared.region_tables.RegionTables.TheInside.{Inside}
-use Rattle.raft_memtable.specs.Regions.{Tables}
+use Rattle.raft_history.specs.RegionSteps.{Tables}
 
 -- the tables as a map
 abbrev pub tables_shown : Inside → Tables

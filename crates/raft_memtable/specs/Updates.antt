@@ -1,14 +1,21 @@
 -- Changes of one table by a call that is handed in.
-use Rattle.std.specs.Prelude.{◌≡◌, ◌⊎◌, ℕ, Result, Err}
+use Rattle.std.specs.Prelude.{◌≡◌, ◌⊎◌, ◌<◌, ℕ, List, Option, Some, Result, Err, IfErr}
 use Rattle.std.specs.FinMap as finite
 use Rattle.std.specs.Fn.{Once}
 use Rattle.std.specs.Borrow.{MutBor}
 use Rattle.std.specs.Result.{OnOk, OnErr}
 use Rattle.raft_base.specs.declared.errors.Error.{Error}
 use Rattle.raft_base.specs.declared.errors.Error.TheVariants.{Memory}
+use Rattle.raft_base.specs.declared.errors.Error.TheVariants as errors
+use Rattle.raft_base.specs.declared.pipe_log.LogQueue.{LogQueue}
+use Rattle.raft_records.specs.declared.entry_index.EntryIndex.{EntryIndex}
 use Rattle.raft_table.specs.Counts.{Counts}
-use Rattle.raft_table.specs.Table.{Table, IsRecounted}
-use Rattle.raft_memtable.specs.Regions.{Tables, table_in, with_table}
+use Rattle.raft_table.specs.Entries.{IsRunIn}
+use Rattle.raft_table.specs.Queues.{other}
+use Rattle.raft_table.specs.Start.{replayed, IsRunRefused}
+use Rattle.raft_table.specs.Table.{Table, live_of, IsRecounted}
+use Rattle.raft_history.specs.RegionSteps.{Tables, with_table}
+use Rattle.raft_memtable.specs.Accessor.{table_in}
 
 -- a call that changes a table and the counts, and answers
 abbrev pub Change : Type 0 → Type 0 → Type 1
@@ -39,6 +46,28 @@ IsChangedBy g f old counts r new after = Changes g f old counts r new after ⊎ 
 pub record IsUpdated {F R : Type 0} (g : Change F R) (f : F) (old : Tables) (id : ℕ) (counts : Counts) (r : Result R Error) (new : Tables) (after : Counts) : Type 0 where
   pub changed : IsChangedBy g f (table_in old id) counts r (table_in new id) after
   pub ok : OnOk r (new ≡ finite.insert old id (table_in new id))
+  pub there : OnOk r (finite.get new id ≡ Some (table_in new id))
   pub err : OnErr r (new ≡ old)
   pub one : new ≡ with_table old id (finite.get new id)
   pub recounted : IsRecounted (table_in old id) (table_in new id) counts after
+
+-- a region's table becomes the outcome of a change, if there is one; where the change is refused nothing is changed, for this fault or for want of memory
+pub record IsTaken {R : Type 0} (outcome : Option Table) (IsFault : Error → Type 0) (old : Tables) (id : ℕ) (counts : Counts) (r : Result R Error) (new : Tables) (after : Counts) : Type 0 where
+  pub ok : OnOk r (outcome ≡ Some (table_in new id))
+  pub there : OnOk r (finite.get new id ≡ Some (table_in new id))
+  pub err : OnErr r (new ≡ old)
+  pub fault : IfErr r (λ e. (e ≡ Memory) ⊎ IsFault e)
+  pub one : new ≡ with_table old id (finite.get new id)
+  pub recounted : IsRecounted (table_in old id) (table_in new id) counts after
+
+-- why a run that is read again is refused: its table has records of the other queue, or by the start rule
+abbrev pub IsReplayFault : LogQueue → List EntryIndex → Table → Counts → Error → Type 0
+IsReplayFault queue run t counts (errors.InvalidArgument text) = 0 < live_of (other queue) t
+IsReplayFault queue run t counts errors.Memory = Unit {0}
+IsReplayFault queue run t counts e = IsRunRefused queue counts t.entries (replayed queue t.entries run) e
+
+-- why entries are refused: they are no run of the queue, or that and want of memory for the refusal's text
+abbrev pub IsNoRun : LogQueue → List EntryIndex → Error → Type 0
+IsNoRun queue run (errors.Corruption text) = IsRunIn queue run → ⊥
+IsNoRun queue run errors.Memory = IsRunIn queue run → ⊥
+IsNoRun queue run _ = ⊥

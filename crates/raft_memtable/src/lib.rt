@@ -1,6 +1,7 @@
 //! The tables of all regions, and the contexts that rebuild them from log files.
 #![tactic(auto)]
 
+pub mod item_writes;
 pub mod region_tables;
 
 pub use raft_table::{

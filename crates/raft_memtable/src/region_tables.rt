@@ -1,16 +1,17 @@
 //! The tables of some regions.
 
-ghost use Rattle.std.specs.Prelude.{◌≡◌, ◌≢◌, IsTrue, ◌≤◌, ◌<◌, ◌^◌, ℕ, ◌+◌, List, length, OnOk, OnErr, IfOk, IfErr, IfSome, Some, None, IsSome, option_map, is_some};
+ghost use Rattle.std.specs.Prelude.{◌≡◌, ◌≢◌, ◌≤◌, ◌<◌, ◌^◌, ◌+◌, ◌↔◌, ◌⊎◌, IsTrue, OnOk, OnErr, IfOk, IfErr, IfSome, Some, None, option_map};
 ghost use Rattle.std.specs.FinMap as finite;
-ghost use Rattle.std.specs.Ordering.{nat_cmp};
 ghost use Rattle.raft_base.specs.declared.pipe_log.LogQueue.{LogQueue};
+ghost use Rattle.raft_history.specs.RegionSteps.{Tables, with_table};
+ghost use Rattle.raft_table.specs.Change.{after_change, IsAnswer, IsChangeRefused};
 ghost use Rattle.raft_table.specs.Counts.{live};
 ghost use Rattle.raft_table.specs.Steps.{table_of};
-ghost use Rattle.raft_table.specs.Table.{Table, empty_table, live_of, with_pair, IsCounted, IsRecounted};
-ghost use Rattle.raft_memtable.specs.Regions.{Tables, table_in, with_table};
-ghost use Rattle.raft_memtable.specs.Updates.{MayChange, IsUpdated};
+ghost use Rattle.raft_table.specs.Table.{Table, empty_table, live_of, with_atomic_group, IsCounted, IsRecounted};
+ghost use Rattle.raft_memtable.specs.Accessor.{table_in};
+ghost use Rattle.raft_memtable.specs.Updates.{MayChange, IsUpdated, IsTaken};
 
-use raft_table::{Error, FileId, GlobalStats, LogQueue, MemTable, Result};
+use raft_table::{Error, FileSeq, GlobalStats, MemTable, Result, TableChange};
 use std::alloc::Global;
 use std::collections::HashMap;
 use std::marker::Model;
@@ -26,7 +27,7 @@ impl Model for RegionTables {
     ghost use Rattle.std.specs.FinMap as finite;
     ghost use Rattle.std.specs.Coded.{coded_ℕ};
     ghost use Rattle.raft_table.specs.TableCode.{table_code};
-    ghost use Rattle.raft_memtable.specs.Regions.{Tables};
+    ghost use Rattle.raft_history.specs.RegionSteps.{Tables};
 
     ghost Value = { Tables };
 
@@ -50,19 +51,130 @@ impl RegionTables {
         }
     }
 
-    /// Puts a key.
-    pub fn put(&mut self, id: u64, key: Vec<u8>, value: Vec<u8>, file: FileId, stats: &mut GlobalStats) -> Result<()>
+    /// The allocator that the tables were made with.
+    pub(crate) fn allocator(&self) -> Global {
+        self.alloc
+    }
+
+    /// Whether there are no tables.
+    pub fn is_empty(&self) -> bool
+        ensures { IsTrue result ↔ (self.now ≡ finite.empty) }
+    {
+        self.tables.is_empty()
+    }
+
+    /// The table of a region.
+    pub fn get(&self, id: u64) -> Option<&MemTable>
+        ensures value { option_map (λ t. t.now) result ≡ finite.get self.now id }
+        ensures own { IfSome result (λ t. t.now.region_id ≡ id) }
+    {
+        self.tables.get(&id)
+    }
+
+    /// Makes an empty table for a region that has none.
+    ///
+    /// # Errors
+    ///
+    /// `Memory`. The tables are then as they were.
+    pub fn make(&mut self, id: u64, stats: &mut GlobalStats) -> Result<()>
+        requires { IsCounted (table_in self.old id) stats.old }
+        ensures { IsTaken (Some (table_in self.old id)) (λ e. ⊥) self.old id stats.old result self.new stats.new }
+    {
+        self.update(id, stats, |_: &mut MemTable, _: &mut GlobalStats| Ok(()))
+    }
+
+    /// Does what a change says to a region's table, which is made where there is none. The number is
+    /// how many entries a compaction drops, else 0.
+    ///
+    /// # Errors
+    ///
+    /// Those of [`MemTable::change`]. The tables are then as they were.
+    pub fn change(&mut self, id: u64, change: TableChange, stats: &mut GlobalStats) -> Result<u64>
+        requires { IsCounted (table_in self.old id) stats.old }
+        ensures taken { IsTaken (after_change (table_in self.old id) change) (IsChangeRefused (table_in self.old id) stats.old change) self.old id stats.old result self.new stats.new }
+        ensures answer { IfOk result (IsAnswer change (table_in self.old id) (table_in self.new id)) }
+    {
+        self.update(
+            id,
+            stats,
+            move |table: &mut MemTable, stats: &mut GlobalStats| table.change(change, stats),
+        )
+    }
+
+    /// Sets the files of a region's atomic group; its table is made where there is none.
+    ///
+    /// # Errors
+    ///
+    /// `Memory`. The tables are then as they were.
+    pub fn apply_rewrite_atomic_group(
+        &mut self,
+        id: u64,
+        start: FileSeq,
+        end: FileSeq,
+        stats: &mut GlobalStats,
+    ) -> Result<()>
+        requires files { start ≤ end }
         requires counted { IsCounted (table_in self.old id) stats.old }
-        ensures ok { OnOk result (table_in self.new id ≡ with_pair (table_in self.old id) key.items value.items file) }
+        ensures { IsTaken (Some (with_atomic_group (table_in self.old id) start end)) (λ e. ⊥) self.old id stats.old result self.new stats.new }
+    {
+        self.update(
+            id,
+            stats,
+            move |table: &mut MemTable, _: &mut GlobalStats| {
+                table.apply_rewrite_atomic_group(start, end);
+                Ok(())
+            },
+        )
+    }
+
+    /// Puts a table under its region's number and counts its records. The table that stood there is
+    /// taken off the counts and handed back.
+    ///
+    /// # Errors
+    ///
+    /// `Full` where more than 2^64 - 1 records would be live in a queue beside the table that is
+    /// replaced, and `Memory`. The tables and the counts are then as they were.
+    pub fn insert(
+        &mut self,
+        id: u64,
+        table: MemTable,
+        stats: &mut GlobalStats,
+    ) -> Result<Option<MemTable>>
+        requires region { table.region_id ≡ id }
+        requires counted { IsCounted (table_in self.old id) stats.old }
+        ensures ok { OnOk result (self.new ≡ finite.insert self.old id table) }
+        ensures replaced { IfOk result (λ t. t ≡ finite.get self.old id) }
+        ensures err { OnErr result (self.new ≡ self.old) }
+        ensures fault { IfErr result (λ e. (e ≡ Error.Memory) ⊎ ((e ≡ Error.Full) × ((q : LogQueue) × (2 ^ 64 ≤ live q stats.old + live_of q table)))) }
         ensures one { self.new ≡ with_table self.old id (finite.get self.new id) }
         ensures recounted { IsRecounted (table_in self.old id) (table_in self.new id) stats.old stats.new }
     {
-        self.update(id, stats, move |table: &mut MemTable, stats: &mut GlobalStats| table.put(key, value, file, stats))
+        self.tables.reserve(1)?;
+        stats.add_table(&table)?;
+        match self.tables.insert(id, table) {
+            Ok(replaced) => {
+                delete_replaced(id, &replaced, stats);
+                Ok(replaced)
+            }
+            Err(_) => unreachable!(),
+        }
+    }
+
+    /// Takes a region's table away, and its records off the counts.
+    pub fn remove(&mut self, id: u64, stats: &mut GlobalStats) -> Option<MemTable>
+        requires { IsCounted (table_in self.old id) stats.old }
+        ensures taken { result ≡ finite.get self.old id }
+        ensures after { self.new ≡ finite.remove self.old id }
+        ensures recounted { IsRecounted (table_in self.old id) (empty_table id) stats.old stats.new }
+    {
+        let removed = self.tables.remove(&id);
+        delete_replaced(id, &removed, stats);
+        removed
     }
 
     /// Changes a region's table, which is made where there is none. It is looked up once.
     #[inline(always)]
-    pub fn update<R: Drop, F: FnOnce(&mut MemTable, &mut GlobalStats) -> Result<R>>(
+    pub(crate) fn update<R: Drop, F: FnOnce(&mut MemTable, &mut GlobalStats) -> Result<R>>(
         &mut self,
         id: u64,
         stats: &mut GlobalStats,
@@ -84,5 +196,15 @@ impl RegionTables {
             Ok(_) => Ok(answer),
             Err(_) => unreachable!(),
         }
+    }
+}
+
+/// Takes the records of a table that may have stood there off the counts.
+fn delete_replaced(id: u64, table: &Option<MemTable>, stats: &mut GlobalStats)
+    requires { (q : LogQueue) → live_of q (table_of id table.now) ≤ live q stats.old }
+    ensures { (q : LogQueue) → live q stats.new + live_of q (table_of id table.now) ≡ live q stats.old }
+{
+    if let Some(table) = table {
+        stats.delete_table(table);
     }
 }

@@ -1,10 +1,12 @@
-use Rattle.std.proofs.Common.{rules, ◌≡◌, Ok, Err, Some, None, refl, sym, ap, subst, ◌∙◌}
+use Rattle.std.specs.Map.{lookup}
+use Rattle.std.proofs.Common.{rules, nat_eq, ◌≡◌, Ok, Err, Some, None, refl, sym, ap, subst, ◌∙◌}
 use Rattle.std.specs.FinMap as finite
 use Rattle.std.proofs.lemmas.Result.{err_from_is_err_and}
 use Rattle.std.specs.Option.{is_some, option_copied_mut}
 use Rattle.raft_table.specs.Steps.{table_of}
 use Rattle.raft_table.specs.Table.{Table, empty_table}
-use Rattle.raft_memtable.specs.Regions.{Tables, table_in}
+use Rattle.raft_history.specs.RegionSteps.{Tables}
+use Rattle.raft_memtable.specs.Accessor.{table_in}
 use Rattle.raft_memtable.specs.RegionTablesView.{tables_shown, IsKept}
 use Rattle.raft_memtable.specs.Updates.{Changes}
 use Rattle.raft_memtable.specs.declared.region_tables.RegionTables.TheInside.{Inside}
@@ -43,7 +45,7 @@ returns-in-Some g c =
 pub returns-in_err-reserve : goal.returns-in_err-reserve
 returns-in_err-reserve g c =
     let p = err_from_is_err_and c.from_residual.result c.from_residual.ensures.1 in
-    rw (p.1, p.2) (no_memory g.F.FnOnce c.args.change c.args.self.now c.args.id c.args.stats.now _ (shown-same c.self.inside (record c.self.inside { tables = c.reserve.new.self }) c.args.self.now c.self.view_is c.reserve.ensures.entries.2))
+    rw (p.1, p.2) (no_memory g.F.FnOnce c.args.change c.args.self.now c.args.id c.args.stats.now _ (shown-same c.self.inside (record c.self.inside { tables = c.reserve.new.self }) c.args.self.now c.self.view_is (λ q. c.reserve.ensures.entries.2 q ∙ ap (λ m. lookup (nat_eq q) m.entries) c.get_mut.follows.holds-at-none)))
 
 pub change-requires-2 : goal.change-requires-2
 change-requires-2 g c = c.requires.may.pre _ _ (c.new-table.ensures.empty ∙ sym (ap (table_of c.args.id) (absent c.self.inside c.args.self.now c.args.id _ c.self.view_is c.get_mut.ensures.value c.in_default.is))) refl
@@ -54,7 +56,7 @@ returns-in_err-answer g c =
     let none : finite.get c.args.self.now c.args.id ≡ None = absent c.self.inside c.args.self.now c.args.id _ c.self.view_is c.get_mut.ensures.value c.in_default.is in
     let gave : Changes g.F.FnOnce c.args.change (table_in c.args.self.now c.args.id) c.args.stats.now c.change-2.result c.change-2.new.arg2 c.change-2.new.arg3 = record { table = _; stats = _; shows = (c.new-table.ensures.empty ∙ sym (ap (table_of c.args.id) none), refl); left = _; left_stats = _; met = c.change-2.ensures; leaves = (refl, refl) } in
     rw (p.1, p.2) (refused g.F.FnOnce c.args.change c.args.self.now c.args.id c.args.stats.now _ c.change-2.new.arg2 c.change-2.new.arg3 _ c.requires.may (subst (λ r. Changes g.F.FnOnce c.args.change (table_in c.args.self.now c.args.id) c.args.stats.now r c.change-2.new.arg2 c.change-2.new.arg3) c.in_err-answer.was gave)
-      (shown-same c.self.inside (record c.self.inside { tables = c.reserve.new.self }) c.args.self.now c.self.view_is c.reserve.ensures.entries.2))
+    (shown-same c.self.inside (record c.self.inside { tables = c.reserve.new.self }) c.args.self.now c.self.view_is (λ q. c.reserve.ensures.entries.2 q ∙ ap (λ m. lookup (nat_eq q) m.entries) c.get_mut.follows.holds-at-none)))
 
 made-by : (g : given.Over) (c : goal.Joined-this g) → Changes g.F.FnOnce c.args.change (table_in c.args.self.now c.args.id) c.args.stats.now (Ok c.in_ok-answer.answer) c.change-2.new.arg2 c.change-2.new.arg3
 made-by g c =
@@ -70,10 +72,10 @@ with_made g c = record c.self.inside { tables = c.insert.new.self }
 
 pub invariant_of-self-2 : goal.invariant_of-self-2
 invariant_of-self-2 g c =
-    kept-with (reserved g c) (with_made g c) c.args.id (Some c.change-2.new.arg2) (kept-same c.self.inside (reserved g c) c.self.invariant c.reserve.ensures.entries.2)
+    kept-with (reserved g c) (with_made g c) c.args.id (Some c.change-2.new.arg2) (kept-same c.self.inside (reserved g c) c.self.invariant (λ q. c.reserve.ensures.entries.2 q ∙ ap (λ m. lookup (nat_eq q) m.entries) c.get_mut.follows.holds-at-none))
     (λ u e. ap (λ (o : Table). o.region_id) (sym (some_is e)) ∙ c.requires.may.region _ _ _ (made-by g c) ∙ region-in c.self.inside c.args.self.now c.args.id c.self.invariant c.self.view_is) c.in-Ok.ensures.updates.0
 
 pub returns : goal.returns
 returns g c =
     made g.F.FnOnce c.args.change c.args.self.now c.args.id c.args.stats.now c.in_ok-answer.answer c.change-2.new.arg2 c.change-2.new.arg3 _ c.requires.may (made-by g c)
-    (shown-with (reserved g c) (with_made g c) c.args.self.now c.args.id (Some c.change-2.new.arg2) (shown-same c.self.inside (reserved g c) c.args.self.now c.self.view_is c.reserve.ensures.entries.2) c.in-Ok.ensures.updates.0)
+    (shown-with (reserved g c) (with_made g c) c.args.self.now c.args.id (Some c.change-2.new.arg2) (shown-same c.self.inside (reserved g c) c.args.self.now c.self.view_is (λ q. c.reserve.ensures.entries.2 q ∙ ap (λ m. lookup (nat_eq q) m.entries) c.get_mut.follows.holds-at-none)) c.in-Ok.ensures.updates.0)

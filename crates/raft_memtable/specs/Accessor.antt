@@ -1,19 +1,15 @@
 -- The tables of all regions.
-use Rattle.std.specs.Prelude.{◌≡◌, ◌≢◌, ℕ, suc, ◌+◌, ◌%◌, List, [], ◌∷◌, ◌++◌, Option, Some, None}
-use Rattle.std.specs.Ordering.{nat_cmp}
+use Rattle.std.specs.Prelude.{◌≡◌, ℕ, ◌+◌, ◌%◌, List, [], ◌∷◌, Option, Some, None}
 use Rattle.std.specs.FinMap as finite
 use Rattle.raft_base.specs.NumberHash.{hash_of}
 use Rattle.raft_base.specs.declared.pipe_log.LogQueue.{LogQueue}
+use Rattle.raft_history.specs.RegionSteps.{Tables}
 use Rattle.raft_table.specs.Counts.{Counts, live}
 use Rattle.raft_table.specs.Steps.{table_of}
 use Rattle.raft_table.specs.Table.{Table, live_of}
 
--- each region's table, where it has one
-abbrev pub Tables : Type 0
-Tables = finite.FinMap nat_cmp Table
-
 -- the tables of all regions, the regions that were cleaned in order, and the counts
-pub record Regions : Type 0 where
+pub record Accessor : Type 0 where
   pub tables : Tables
   pub cleaned : List ℕ
   pub counts : Counts
@@ -25,11 +21,6 @@ slot_of id = hash_of id % 128
 -- a region's table, an empty one where it has none
 abbrev pub table_in : Tables → ℕ → Table
 table_in tables id = table_of id (finite.get tables id)
-
--- the tables with this one for a region, or without one
-abbrev pub with_table : Tables → ℕ → Option Table → Tables
-with_table tables id None = finite.remove tables id
-with_table tables id (Some t) = finite.insert tables id t
 
 -- what a table that may be there has live in a queue
 abbrev pub live_in : LogQueue → Option Table → ℕ

@@ -1,10 +1,11 @@
--- The code of the regions.
+-- The code of accessors, by which values of their type are told apart.
 use Rattle.std.specs.Prelude.{ℕ, List, refl}
 use Rattle.std.specs.Coded.{Coded, code_by, coded×, coded_list, coded_ℕ}
 use Rattle.std.specs.FinMap as finite
 use Rattle.raft_table.specs.Counts.{Counts}
 use Rattle.raft_table.specs.TableCode.{table_code}
-use Rattle.raft_memtable.specs.Regions.{Tables, Regions}
+use Rattle.raft_memtable.specs.Accessor.{Accessor}
+use Rattle.raft_history.specs.RegionSteps.{Tables}
 
 abbrev pub tables_code : Coded Tables
 tables_code = finite.code coded_ℕ table_code
@@ -12,5 +13,5 @@ tables_code = finite.code coded_ℕ table_code
 abbrev pub counts_code : Coded Counts
 counts_code = code_by (ℕ × (ℕ × ℕ)) (coded× coded_ℕ (coded× coded_ℕ coded_ℕ)) (λ c. (c.append, (c.written, c.deleted))) (λ p. record { append = p.0; written = p.1.0; deleted = p.1.1 }) (λ _. refl)
 
-abbrev pub regions_code : Coded Regions
-regions_code = code_by (Tables × (List ℕ × Counts)) (coded× tables_code (coded× (coded_list coded_ℕ) counts_code)) (λ r. (r.tables, (r.cleaned, r.counts))) (λ p. record { tables = p.0; cleaned = p.1.0; counts = p.1.1 }) (λ _. refl)
+abbrev pub accessor_code : Coded Accessor
+accessor_code = code_by (Tables × (List ℕ × Counts)) (coded× tables_code (coded× (coded_list coded_ℕ) counts_code)) (λ r. (r.tables, (r.cleaned, r.counts))) (λ p. record { tables = p.0; cleaned = p.1.0; counts = p.1.1 }) (λ _. refl)

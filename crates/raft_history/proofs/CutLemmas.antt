@@ -7,13 +7,13 @@ use Rattle.std.specs.Prelude.{flat_map, filter_map}
 use Rattle.std.specs.List.{AllByRecursion, list_any, IsDistinct, cons_option}
 use Rattle.raft_records.specs.declared.atomic_group.AtomicGroupStatus.{AtomicGroupStatus}
 use Rattle.raft_records.specs.declared.atomic_group.AtomicGroupStatus.TheVariants.{Begin, Middle, End}
-use Rattle.raft_history.specs.RegionSteps.{RegionStep, names}
 use Rattle.raft_history.specs.Batches.{GroupMarker, Batch}
-use Rattle.raft_history.specs.WaitingGroup.{Placed, placed_from, is_of, markers_of, are_middles, open_stretch, region_steps_of, GroupFront, Open, Ended, Cut, led_by, front_by, front_of, OpenStretch, stretch_of, group_of, WholeGroup, whole_of, whole_group}
-use Rattle.raft_table.specs.Steps.{Step}
 use Rattle.raft_history.specs.Effects.{Effect, completed, effects_behind, whole_steps, region_steps_in, steps_by, steps_in, all_steps, first_in, last_in, IsGroup, Names, EachApart, steps_of_wholes, IsListed, ListsGroups}
-use Rattle.raft_history.proofs.MarkerLemmas.{markers_of-append, open_stretch-append, middles_open_none, front_with, front_of-append, FitsFront, fits_front, with_more, whole_is}
+use Rattle.raft_history.specs.RegionSteps.{RegionStep, names}
+use Rattle.raft_history.specs.WaitingGroup.{Placed, placed_from, is_of, markers_of, are_middles, open_stretch, region_steps_of, GroupFront, Open, Ended, Cut, led_by, front_by, front_of, OpenStretch, stretch_of, group_of, WholeGroup, whole_of, whole_group}
 use Rattle.raft_history.proofs.EffectLemmas.{each_weaker, each-append, each_left, each_right, placed_from-append, from_on, up_to, effects_behind-append, effects_behind-one, effects_behind-none, all_steps-append, all_steps-one, all_steps-none, steps_in-none, all_steps-unnamed, within, apart_left, apart_last, unnamed_between, by_push, each_markers, each_open}
+use Rattle.raft_history.proofs.MarkerLemmas.{markers_of-append, open_stretch-append, middles_open_none, front_with, front_of-append, FitsFront, fits_front, with_more, whole_is}
+use Rattle.raft_table.specs.Steps.{Step}
 
 -- the steps of a group that may be whole_group
 abbrev pub steps_or : ℕ → Option WholeGroup → List Step

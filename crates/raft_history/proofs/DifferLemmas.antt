@@ -5,13 +5,13 @@ use Rattle.std.proofs.lemmas.List.Concat.{flat_map-append}
 use Rattle.std.proofs.lemmas.Bool.{eqb-true}
 use Rattle.raft_records.specs.declared.atomic_group.AtomicGroupStatus.{AtomicGroupStatus}
 use Rattle.raft_records.specs.declared.atomic_group.AtomicGroupStatus.TheVariants.{Begin, Middle, End}
-use Rattle.raft_history.specs.RegionSteps.{RegionStep, names}
 use Rattle.raft_history.specs.Batches.{GroupMarker, Batch}
-use Rattle.raft_history.specs.WaitingGroup.{Placed, placed_from, is_of, markers_of, open_stretch, region_steps_of, GroupFront, Open, Ended, Cut, front_of, front_by, front_behind, led_by, stretch_of, WholeGroup, whole_group, whole_of}
 use Rattle.raft_history.specs.Effects.{Effect, effects, region_steps_in, first_in, last_in, IsGroup, AreApart, EachApart, BatchesApart, group_in}
+use Rattle.raft_history.specs.RegionSteps.{RegionStep, names}
 use Rattle.raft_history.specs.Stretches.{IsIn, IsMarkerOf}
-use Rattle.raft_history.proofs.MarkerLemmas.{markers_of-append, whole_is}
+use Rattle.raft_history.specs.WaitingGroup.{Placed, placed_from, is_of, markers_of, open_stretch, region_steps_of, GroupFront, Open, Ended, Cut, front_of, front_by, front_behind, led_by, stretch_of, WholeGroup, whole_group, whole_of}
 use Rattle.raft_history.proofs.EffectLemmas.{each-append, each_weaker, each_right, each_markers, placed_from-append, from_on, up_to}
+use Rattle.raft_history.proofs.MarkerLemmas.{markers_of-append, whole_is}
 use Rattle.raft_history.proofs.ShiftLemmas.{group_of-placed}
 use Rattle.raft_history.proofs.StretchLemmas.{HasMark, each_marked, IsOpen, open_is, every_stretch}
 

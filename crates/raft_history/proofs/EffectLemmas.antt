@@ -6,10 +6,10 @@ use Rattle.std.specs.Prelude.{filter, map}
 use Rattle.std.specs.List.{AllByRecursion, list_any}
 use Rattle.raft_records.specs.declared.atomic_group.AtomicGroupStatus.{AtomicGroupStatus}
 use Rattle.raft_records.specs.declared.atomic_group.AtomicGroupStatus.TheVariants.{Begin, Middle, End}
-use Rattle.raft_history.specs.RegionSteps.{RegionStep, is_on, names, steps_on}
 use Rattle.raft_history.specs.Batches.{GroupMarker, Batch}
-use Rattle.raft_history.specs.WaitingGroup.{Placed, placed_from, is_of, markers_of, begins, are_middles, open_stretch, region_steps_of, WholeGroup}
 use Rattle.raft_history.specs.Effects.{Effect, ended, completed_as, completed_by, completed, effects_behind, whole_steps, region_steps_in, steps_by, steps_in, all_steps, first_in, last_in, IsGroup, Names, AreApart, EachApart}
+use Rattle.raft_history.specs.RegionSteps.{RegionStep, is_on, names, steps_on}
+use Rattle.raft_history.specs.WaitingGroup.{begins, Placed, placed_from, is_of, markers_of, are_middles, open_stretch, region_steps_of, WholeGroup}
 
 -- what holds of each
 pub each-append : {X : Type 0} (P : X → Type 0) (xs ys : List X) → AllByRecursion P xs → AllByRecursion P ys → AllByRecursion P (xs ++ ys)

@@ -6,11 +6,11 @@ use Rattle.std.specs.List.{AllByRecursion, IsDistinct}
 use Rattle.raft_records.specs.declared.atomic_group.AtomicGroupStatus.{AtomicGroupStatus}
 use Rattle.raft_records.specs.declared.atomic_group.AtomicGroupStatus.TheVariants.{Begin, Middle, End}
 use Rattle.raft_history.specs.Batches.{GroupMarker, Batch}
-use Rattle.raft_history.specs.WaitingGroup.{Placed, placed_from, markers_of, are_middles, open_stretch, group_of, WholeGroup, whole_group, joined_group}
 use Rattle.raft_history.specs.Effects.{Effect, ended, completed_as, completed_by, completed, effects_behind, effects, all_steps, steps_of, AreApart, EachApart, BatchesApart, group_in, wholes, steps_of_wholes, ListsGroups}
-use Rattle.raft_history.proofs.MarkerLemmas.{markers_of-append, open_stretch-append, middles_open_none, group_of-append}
-use Rattle.raft_history.proofs.EffectLemmas.{each-append, each_left, each_right, placed_from-append, up_to, effects_behind-append, all_steps-append, apart_left, apart_right}
+use Rattle.raft_history.specs.WaitingGroup.{Placed, placed_from, markers_of, are_middles, open_stretch, group_of, WholeGroup, whole_group, joined_group}
 use Rattle.raft_history.proofs.CutLemmas.{given_wholes, behind_cut, wholes_at}
+use Rattle.raft_history.proofs.EffectLemmas.{each-append, each_left, each_right, placed_from-append, up_to, effects_behind-append, all_steps-append, apart_left, apart_right}
+use Rattle.raft_history.proofs.MarkerLemmas.{markers_of-append, open_stretch-append, middles_open_none, group_of-append}
 use Rattle.raft_history.proofs.ShiftLemmas.{group_of-placed, effects-placed, steps-placed, each_apart-moved}
 
 pub group_in-append : (g : ℕ) (h k : List Batch) → group_in g (h ++ k) ≡ joined_group (group_in g h) (group_in g k)
@@ -23,8 +23,8 @@ effects-append h k = ap (effects_behind []) (placed_from-append 0 h k) ∙ effec
 wholes-placed : (ids : List ℕ) (h k : List Batch) (n : ℕ) → wholes_at ids (placed_from 0 h) (placed_from n k) ≡ wholes ids h k
 wholes-placed ids h k n = ap (λ (f : ℕ → Option WholeGroup). filter_map f ids) (λ j g. whole_group (group_in g h) (group_of-placed n g k j))
 
-pub steps-append : (r : ℕ) (ids : List ℕ) (h k : List Batch) → IsDistinct eqb ids → ListsGroups ids k → BatchesApart (h ++ k) → steps_of r (h ++ k) ≡ steps_of r h ++ (steps_of_wholes r (wholes ids h k) ++ steps_of r k)
-steps-append r ids h k one listed apart =
+pub joined_steps : (r : ℕ) (ids : List ℕ) (h k : List Batch) → IsDistinct eqb ids → ListsGroups ids k → BatchesApart (h ++ k) → steps_of r (h ++ k) ≡ steps_of r h ++ (steps_of_wholes r (wholes ids h k) ++ steps_of r k)
+joined_steps r ids h k one listed apart =
     ap (all_steps r) (effects-append h k) ∙ all_steps-append r (effects h) (effects_behind (placed_from 0 h) (placed_from (length h) k))
     ∙ ap (λ l. steps_of r h ++ l) (behind_cut r (length h) ids (placed_from 0 h) (up_to 0 (length h) h (omega arith)) one k listed (apart_right (effects h) _ (subst EachApart (effects-append h k) apart.each))
     ∙ ap (λ l. l ++ all_steps r (effects_behind [] (placed_from (length h) k))) (sym (given_wholes r ids (placed_from 0 h) (placed_from (length h) k)) ∙ ap (steps_of_wholes r) (wholes-placed ids h k (length h)))

@@ -12,12 +12,12 @@ use Rattle.std.specs.Cmp.{nat_cmp_total, unsigned_tied}
 use Rattle.std.specs.FinMap as finite
 use Rattle.std.specs.FinMap.Entries.{find, below_all, is_sorted}
 use Rattle.raft_history.specs.Batches.{GroupMarker, Batch}
-use Rattle.raft_history.specs.WaitingGroup.{placed_from, is_of, markers_of, open_stretch, front_of, WaitingGroup, unmarked, whole_group}
 use Rattle.raft_history.specs.Effects.{steps_of, BatchesApart, group_in, wholes, steps_of_wholes, ListsGroups, IsListed}
+use Rattle.raft_history.specs.WaitingGroup.{unmarked, placed_from, is_of, markers_of, open_stretch, front_of, WaitingGroup, whole_group}
 use Rattle.raft_history.specs.WaitingGroups.{entry_by, groups_in, known, whole_with, whole_groups}
-use Rattle.raft_table.proofs.Shown.{first_of_both, second_of_both}
 use Rattle.raft_history.proofs.EffectLemmas.{each_weaker}
-use Rattle.raft_history.proofs.JoinedLemmas.{steps-append}
+use Rattle.raft_history.proofs.JoinedLemmas.{joined_steps}
+use Rattle.raft_table.proofs.Shown.{first_of_both, second_of_both}
 
 pub tied : (a b : ℕ) → eq_by_cmp nat_cmp a b ≡ eqb a b
 tied a b = unsigned_tied a b
@@ -143,5 +143,5 @@ same_wholes h k (x ∷ es) e = rw (known-groups_in x.0 h, e.0.1) (ap (cons_optio
 -- the steps of joined_group histories, from what is known of their groups
 pub steps_across : (r : ℕ) (h k : List Batch) → BatchesApart (h ++ k) → steps_of r (h ++ k) ≡ steps_of r h ++ (steps_of_wholes r (whole_groups (groups_in h) (groups_in k)) ++ steps_of r k)
 steps_across r h k apart =
-    steps-append r (finite.keys (groups_in k)) h k (keys_distinct (finite.entries (groups_in k)) (finite.entries_sorted (groups_in k))) (lists_groups k k (λ g e. e)) apart
+    joined_steps r (finite.keys (groups_in k)) h k (keys_distinct (finite.entries (groups_in k)) (finite.entries_sorted (groups_in k))) (lists_groups k k (λ g e. e)) apart
     ∙ ap (λ l. steps_of r h ++ (steps_of_wholes r l ++ steps_of r k)) (same_wholes h k (finite.entries (groups_in k)) (each_known k))

@@ -4,9 +4,9 @@ use Rattle.std.proofs.lemmas.List.Concat.{flat_map-append}
 use Rattle.std.proofs.lemmas.List.Elements.{filter-append}
 use Rattle.raft_records.specs.declared.atomic_group.AtomicGroupStatus.{AtomicGroupStatus}
 use Rattle.raft_records.specs.declared.atomic_group.AtomicGroupStatus.TheVariants.{Begin, Middle, End}
-use Rattle.raft_history.specs.RegionSteps.{RegionStep}
 use Rattle.raft_history.specs.Batches.{GroupMarker}
-use Rattle.raft_history.specs.WaitingGroup.{Placed, is_of, markers_of, begins_by, goes_on_by, begins, goes_on, are_middles, open_stretch, region_steps_of, GroupFront, Open, Ended, Cut, led_by, front_by, front_behind, front_of, stretch_of, WaitingGroup, group_at, group_of, carried, joined_group_by, joined_group, whole_of, whole_group_by}
+use Rattle.raft_history.specs.RegionSteps.{RegionStep}
+use Rattle.raft_history.specs.WaitingGroup.{begins, goes_on, Placed, is_of, markers_of, begins_by, goes_on_by, are_middles, open_stretch, region_steps_of, GroupFront, Open, Ended, Cut, led_by, front_by, front_behind, front_of, stretch_of, WaitingGroup, group_at, group_of, carried, joined_group_by, joined_group, whole_of, whole_group_by}
 
 pub markers_of-append : (g : ℕ) (ps qs : List Placed) → markers_of g (ps ++ qs) ≡ markers_of g ps ++ markers_of g qs
 unfolding markers_of

@@ -12,15 +12,15 @@ use Rattle.std.specs.FinMap.{nat_cmp-IsAntisymmetric, same_map}
 use Rattle.std.specs.FinMap.Entries.{find}
 use Rattle.raft_records.specs.declared.atomic_group.AtomicGroupStatus.{AtomicGroupStatus}
 use Rattle.raft_records.specs.declared.atomic_group.AtomicGroupStatus.TheVariants.{Begin, Middle, End}
-use Rattle.raft_history.specs.RegionSteps.{RegionStep}
 use Rattle.raft_history.specs.Batches.{GroupMarker, Batch}
-use Rattle.raft_history.specs.WaitingGroup.{Placed, placed_from, is_of, markers_of, open_stretch, are_middles, front_of, Open, Cut, WaitingGroup, unmarked, joined_group, whole_group, whole_of, OpenStretch, stretch_of, one_marker, group_of}
 use Rattle.raft_history.specs.Effects.{ended, completed_as, completed_by, effects_behind, effects, all_steps, steps_of, group_in}
+use Rattle.raft_history.specs.RegionSteps.{RegionStep}
+use Rattle.raft_history.specs.WaitingGroup.{unmarked, Placed, placed_from, is_of, markers_of, open_stretch, are_middles, front_of, Open, Cut, WaitingGroup, joined_group, whole_group, whole_of, OpenStretch, stretch_of, one_marker, group_of}
 use Rattle.raft_history.specs.WaitingGroups.{WaitingGroups, groups_in, known, joined_with, joined_groups, groups_after, steps_or, steps_by_batch}
-use Rattle.raft_history.proofs.KnownLemmas.{has_marker, get-groups_in, group_in-unmarked, known-groups_in, keys_distinct, tied}
-use Rattle.raft_history.proofs.MarkerLemmas.{whole_is}
 use Rattle.raft_history.proofs.EffectLemmas.{effects_behind-one, all_steps-append, all_steps-one, all_steps-none}
 use Rattle.raft_history.proofs.JoinedLemmas.{group_in-append, effects-append}
+use Rattle.raft_history.proofs.KnownLemmas.{has_marker, get-groups_in, group_in-unmarked, known-groups_in, keys_distinct, tied}
+use Rattle.raft_history.proofs.MarkerLemmas.{whole_is}
 
 -- what a join has at a group
 abbrev joined_at : Option WaitingGroup → Option WaitingGroup → Option WaitingGroup

@@ -2,16 +2,16 @@
 use Rattle.std.proofs.Common.{◌≡◌, ℕ, Bool, true, false, cond, ◌||◌, List, [], ◌∷◌, ◌++◌, Option, Some, None, refl, sym, ap, ◌∙◌}
 use Rattle.std.specs.Prelude.{flat_map}
 use Rattle.std.specs.List.{list_any}
-use Rattle.raft_history.specs.RegionSteps.{RegionStep, names, steps_on}
 use Rattle.raft_history.specs.Batches.{Batch, GroupMarker}
-use Rattle.raft_history.specs.WaitingGroup.{WholeGroup, whole_group, one_marker}
-use Rattle.raft_table.specs.Steps.{Step, AtomicGroup}
 use Rattle.raft_history.specs.Effects.{whole_steps, steps_of, steps_of_wholes, BatchesApart, is_named}
+use Rattle.raft_history.specs.RegionSteps.{RegionStep, names, steps_on}
+use Rattle.raft_history.specs.WaitingGroup.{WholeGroup, whole_group, one_marker}
 use Rattle.raft_history.specs.WaitingGroups.{WaitingGroups, groups_in, known, whole_groups, steps_or, steps_by_batch, names_by, names_by_batch}
+use Rattle.raft_history.proofs.EffectLemmas.{steps_on-none}
 use Rattle.raft_history.proofs.KnownLemmas.{steps_across}
 use Rattle.raft_history.proofs.MoreLemmas.{steps-one}
 use Rattle.raft_history.proofs.UnmarkedLemmas.{named-steps, steps_on-some}
-use Rattle.raft_history.proofs.EffectLemmas.{steps_on-none}
+use Rattle.raft_table.specs.Steps.{Step, AtomicGroup}
 
 abbrev pub has_steps : List Step → Bool
 has_steps [] = false

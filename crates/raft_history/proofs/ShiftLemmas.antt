@@ -6,9 +6,9 @@ use Rattle.std.specs.List.{AllByRecursion}
 use Rattle.raft_records.specs.declared.atomic_group.AtomicGroupStatus.{AtomicGroupStatus}
 use Rattle.raft_records.specs.declared.atomic_group.AtomicGroupStatus.TheVariants.{Begin, Middle, End}
 use Rattle.raft_history.specs.Batches.{GroupMarker, Batch}
-use Rattle.raft_history.specs.WaitingGroup.{Placed, placed_from, is_of, markers_of, begins, are_middles, open_stretch, region_steps_of, front_of, front_behind, stretch_of, group_of}
-use Rattle.raft_history.specs.RegionSteps.{names}
 use Rattle.raft_history.specs.Effects.{Effect, ended, completed_as, completed_by, completed, effects_behind, effects, region_steps_in, steps_by, steps_in, all_steps, first_by, first_in, IsGroup, AreApart, EachApart}
+use Rattle.raft_history.specs.RegionSteps.{names}
+use Rattle.raft_history.specs.WaitingGroup.{begins, Placed, placed_from, is_of, markers_of, are_middles, open_stretch, region_steps_of, front_of, front_behind, stretch_of, group_of}
 
 abbrev pub moved : ℕ → Placed → Placed
 moved k p = record { number = k + p.number; batch = p.batch }

@@ -6,11 +6,11 @@ use Rattle.std.specs.List.{AllByRecursion}
 use Rattle.raft_records.specs.declared.atomic_group.AtomicGroupStatus.{AtomicGroupStatus}
 use Rattle.raft_records.specs.declared.atomic_group.AtomicGroupStatus.TheVariants.{Begin, Middle, End}
 use Rattle.raft_history.specs.Batches.{GroupMarker, Batch}
-use Rattle.raft_history.specs.WaitingGroup.{Placed, placed_from, is_of, markers_of, begins, goes_on, begins_by, goes_on_by, are_middles, open_stretch}
 use Rattle.raft_history.specs.Effects.{Effect, ended, completed_as, completed_by, completed, effects_behind, effects}
 use Rattle.raft_history.specs.Stretches.{IsIn, IsMarkerOf, IsStretch, IsAlone, IsEffect, RiseFrom, AreEffects}
-use Rattle.raft_history.proofs.MarkerLemmas.{markers_of-append, open_stretch-append}
+use Rattle.raft_history.specs.WaitingGroup.{begins, goes_on, Placed, placed_from, is_of, markers_of, begins_by, goes_on_by, are_middles, open_stretch}
 use Rattle.raft_history.proofs.EffectLemmas.{each-append, effects_behind-append}
+use Rattle.raft_history.proofs.MarkerLemmas.{markers_of-append, open_stretch-append}
 
 -- what of markers of one group is a Begin and Middles
 abbrev pub HasMark : ℕ → Placed → Type 0

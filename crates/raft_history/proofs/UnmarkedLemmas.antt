@@ -2,12 +2,12 @@
 use Rattle.std.proofs.Common.{◌≡◌, ℕ, suc, Bool, true, false, cond, ◌↔◌, ◌||◌, List, [], ◌∷◌, ◌++◌, None, refl, sym, ap, subst, ◌∙◌, inl, inr}
 use Rattle.std.specs.Prelude.{filter, flat_map, map}
 use Rattle.std.specs.List.{AllByRecursion, list_any}
-use Rattle.raft_history.specs.RegionSteps.{RegionStep, is_on, names, steps_on}
 use Rattle.raft_history.specs.Batches.{Batch}
-use Rattle.raft_history.specs.WaitingGroup.{Placed, placed_from, region_steps_of}
-use Rattle.raft_table.specs.Steps.{Step}
 use Rattle.raft_history.specs.Effects.{Effect, completed_by, effects_behind, effects, whole_steps, region_steps_in, steps_by, steps_in, all_steps, steps_of, AreApart, EachApart, BatchesApart, is_named}
+use Rattle.raft_history.specs.RegionSteps.{RegionStep, is_on, names, steps_on}
+use Rattle.raft_history.specs.WaitingGroup.{Placed, placed_from, region_steps_of}
 use Rattle.raft_history.proofs.EffectLemmas.{steps_in-none}
+use Rattle.raft_table.specs.Steps.{Step}
 
 -- what is named has steps
 pub steps_on-some : (r : ℕ) (is : List RegionStep) → steps_on r is ≡ [] → names r is ≡ false

@@ -14,9 +14,9 @@ use Rattle.raft_records.specs.Item.{Item, Content, entries, command, pair}
 use Rattle.raft_table.specs.Entries.{IsRunIn}
 use Rattle.raft_table.specs.Steps.{Step, Run, Put, Del, after}
 use Rattle.raft_table.specs.Table.{Table}
-use Rattle.raft_history.specs.RegionSteps.{RegionStep, Tables, steps_of_items, is_reserved, cleaned_by_steps}
 use Rattle.raft_history.specs.Batches.{Event, batches}
 use Rattle.raft_history.specs.Effects.{steps_of, BatchesApart}
+use Rattle.raft_history.specs.RegionSteps.{RegionStep, Tables, steps_of_items, is_reserved, cleaned_by_steps}
 
 -- ---- how many records a history names
 
@@ -99,6 +99,11 @@ abbrev pub FilesFrom : LogQueue → ℕ → List Event → Type 0
 FilesFrom queue seq [] = Unit {0}
 FilesFrom queue seq (e ∷ h) = (e.file.queue ≡ queue) × (seq ≤ e.file.seq) × FilesFrom queue e.file.seq h
 
+-- the number of the last file, or this one
+abbrev pub last_from : ℕ → List Event → ℕ
+last_from seq [] = seq
+last_from seq (e ∷ h) = last_from e.file.seq h
+
 -- a history of this queue that can be read: files in order, items as their files ask, markers with a status, and no region's step refused
 pub record IsSoundIn (queue : LogQueue) (h : List Event) : Type 0 where
   pub files : FilesFrom queue 0 h
@@ -122,6 +127,14 @@ AreOfQueue queue (e ∷ h) = (e.file.queue ≡ queue) × AreOfQueue queue h
 
 pub record IsOfQueue (queue : LogQueue) (h : List Event) : Type 0 where
   pub each : AreOfQueue queue h
+
+-- ---- what replays ask for
+
+-- a step as a replay into a table of this queue asks for it
+abbrev pub IsStepOfQueue : LogQueue → Step → Type 0
+IsStepOfQueue queue (Run run) = IsRunIn queue run
+IsStepOfQueue queue (Put key value file) = file.queue ≡ queue
+IsStepOfQueue queue _ = Unit {0}
 
 -- ---- one reading
 

@@ -1,6 +1,10 @@
 pub mod Batches
+pub mod Contexts
 pub mod Effects
 pub mod Histories
+pub mod Kept
+pub mod MarkedRegions
+pub mod Records
 pub mod RegionSteps
 pub mod Stretches
 pub mod WaitingGroup

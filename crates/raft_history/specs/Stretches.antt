@@ -4,8 +4,8 @@ use Rattle.std.specs.List.{AllByRecursion}
 use Rattle.raft_records.specs.declared.atomic_group.AtomicGroupStatus.{AtomicGroupStatus}
 use Rattle.raft_records.specs.declared.atomic_group.AtomicGroupStatus.TheVariants.{Begin, Middle, End}
 use Rattle.raft_history.specs.Batches.{Batch}
-use Rattle.raft_history.specs.WaitingGroup.{Placed, placed_from, markers_of}
 use Rattle.raft_history.specs.Effects.{Effect, last_in}
+use Rattle.raft_history.specs.WaitingGroup.{Placed, placed_from, markers_of}
 
 -- x stands in the list
 pub record IsIn {X : Type 0} (x : X) (xs : List X) : Type 0 where

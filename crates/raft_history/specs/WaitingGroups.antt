@@ -5,10 +5,10 @@ use Rattle.std.specs.Ordering.{nat_cmp}
 use Rattle.std.specs.FinMap as finite
 use Rattle.std.specs.FinMap.{FinMap}
 use Rattle.raft_table.specs.Steps.{Step}
-use Rattle.raft_history.specs.RegionSteps.{RegionStep, steps_on, names}
 use Rattle.raft_history.specs.Batches.{GroupMarker, Batch}
-use Rattle.raft_history.specs.WaitingGroup.{GroupFront, Open, Ended, Cut, OpenStretch, WaitingGroup, unmarked, joined_group, WholeGroup, whole_group, one_marker}
 use Rattle.raft_history.specs.Effects.{whole_steps, group_in}
+use Rattle.raft_history.specs.RegionSteps.{RegionStep, steps_on, names}
+use Rattle.raft_history.specs.WaitingGroup.{unmarked, GroupFront, Open, Ended, Cut, OpenStretch, WaitingGroup, joined_group, WholeGroup, whole_group, one_marker}
 
 abbrev pub WaitingGroups : Type 0
 WaitingGroups = FinMap nat_cmp WaitingGroup

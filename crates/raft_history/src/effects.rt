@@ -1,10 +1,13 @@
 //! Laws of the effects of a history.
 
-ghost use Rattle.std.specs.Prelude.{◌≡◌, ℕ, List, [], ◌∷◌, ◌++◌};
+ghost use Rattle.std.specs.Prelude.{◌≡◌, ◌≢◌, ◌↔◌, ◌||◌, ℕ, List, [], ◌∷◌, ◌++◌, Some, None, true, false, flat_map};
+ghost use Rattle.std.specs.List.{AllByRecursion, list_any};
+ghost use Rattle.raft_history.specs.RegionSteps.{names, steps_on};
+ghost use Rattle.raft_history.specs.WaitingGroup.{WholeGroup, whole_group};
 ghost use Rattle.raft_history.specs.Batches.{Batch};
-ghost use Rattle.raft_history.specs.Effects.{Effect, BatchesApart, effects, steps_of, steps_of_wholes, group_in};
+ghost use Rattle.raft_history.specs.Effects.{Effect, BatchesApart, effects, steps_of, steps_of_wholes, group_in, is_named};
 ghost use Rattle.raft_history.specs.Stretches.{AreEffects};
-ghost use Rattle.raft_history.specs.WaitingGroups.{groups_in, joined_groups, whole_groups, groups_after, steps_by_batch, known};
+ghost use Rattle.raft_history.specs.WaitingGroups.{groups_in, joined_groups, whole_groups, groups_after, steps_by_batch, names_by_batch, known};
 
 /// The effects of a history are the batches without a marker and the stretches of each group's
 /// markers, in the order of their last batches.
@@ -27,4 +30,28 @@ pub fn steps_join()
     ensures across { (r : ℕ) (h k : List Batch) → BatchesApart (h ++ k) →
         steps_of r (h ++ k) ≡ steps_of r h ++ (steps_of_wholes r (whole_groups (groups_in h) (groups_in k)) ++ steps_of r k) }
     ensures more { (r : ℕ) (h : List Batch) (b : Batch) → steps_of r (h ++ b ∷ []) ≡ steps_of r h ++ steps_by_batch r (groups_in h) b b.marker }
+{}
+
+/// Groups that become whole between two histories name different regions, where the effects of both,
+/// one behind the other, are apart.
+pub fn wholes_name_different_regions()
+    ensures { (h k : List Batch) → BatchesApart (h ++ k) → (g l : ℕ) → g ≢ l → (w v : WholeGroup) → whole_group (group_in g h) (group_in g k) ≡ Some w → whole_group (group_in l h) (group_in l k) ≡ Some v
+        → (r : ℕ) → names r w.steps ≡ true → names r v.steps ≡ true → ⊥ }
+{}
+
+/// Where no batch has a marker, as in the append queue, each batch is an effect, and the effects are
+/// apart.
+pub fn unmarked_batches_are_effects()
+    ensures apart { (h : List Batch) → AllByRecursion (λ b. b.marker ≡ None) h → BatchesApart h }
+    ensures steps { (r : ℕ) (h : List Batch) → AllByRecursion (λ b. b.marker ≡ None) h → steps_of r h ≡ flat_map (λ b. steps_on r b.steps) h }
+{}
+
+/// A region has steps in the effects exactly where one of them names it; and the regions that two
+/// histories name, one behind the other, are those of the older, of the groups that become whole
+/// between them, and of the newer.
+pub fn named_regions_have_steps()
+    ensures steps { (r : ℕ) (h : List Batch) → (is_named r h ≡ false) ↔ (steps_of r h ≡ []) }
+    ensures across { (r : ℕ) (h k : List Batch) → BatchesApart (h ++ k)
+        → is_named r (h ++ k) ≡ (is_named r h || (list_any (λ w. names r w.steps) (whole_groups (groups_in h) (groups_in k)) || is_named r k)) }
+    ensures more { (r : ℕ) (h : List Batch) (b : Batch) → is_named r (h ++ b ∷ []) ≡ (is_named r h || names_by_batch r (groups_in h) b b.marker) }
 {}

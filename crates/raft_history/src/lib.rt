@@ -1,4 +1,6 @@
 //! Histories of log batches: what they do to the tables of all regions, and the laws of reading them in pieces.
 #![tactic(auto)]
 
+pub mod contexts;
 pub mod effects;
+pub mod histories;

@@ -3,9 +3,11 @@
 
 pub mod item_writes;
 pub mod region_tables;
+pub mod replay_machine;
 
 pub use raft_table::{
     EntryIndex, Error, FileBlockHandle, FileId, FileSeq, GlobalStats, LogQueue, MemTable, Result,
     TableChange, global_stats, is_run, memtable,
 };
 pub use region_tables::RegionTables;
+pub use replay_machine::ReplayMachine;

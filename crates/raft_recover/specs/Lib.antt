@@ -1,8 +1,12 @@
 pub mod Drawing
 pub mod Draws
+pub mod Merges
+pub mod Plans
+pub mod Replays
 pub mod RequestView
 pub mod Requests
 pub mod Runs
+pub mod Segments
 pub mod TableLines
 pub mod TicketModel
 pub mod TicketSeatModel

@@ -2,11 +2,17 @@
 #![tactic(auto)]
 
 mod drawing;
+pub mod pieces;
+pub mod plan;
 mod recovered;
 pub mod request;
 pub mod run;
+pub mod segment;
 pub mod ticket_seat;
 pub mod tickets;
 
+pub use pieces::merge_pieces;
+pub use plan::Plan;
+pub use segment::{Segment, replay_segment};
 pub use ticket_seat::TicketSeat;
 pub use tickets::Tickets;

@@ -42,7 +42,7 @@ run_behind (e ∷ es) run f r h n = elim (cases_lt r.start f) [
         let at : f ≡ r.start + length (take (f - r.start) (e ∷ es)) = omega arith in
         RisesFrom-append r.start (take (f - r.start) (e ∷ es)) run (RisesFrom-take (f - r.start) r.start (e ∷ es) r.rising) (subst (λ (x : ℕ). RisesFrom x run) at h)
 
-first_rising : (e : EntryIndex) (run : List EntryIndex) → IsRun (e ∷ run) → RisesFrom e.index (e ∷ run)
+pub first_rising : (e : EntryIndex) (run : List EntryIndex) → IsRun (e ∷ run) → RisesFrom e.index (e ∷ run)
 first_rising e run r = rw (r.rising.0) (refl, r.rising.1)
 
 pub run_replayed : (q : LogQueue) (es run after : List EntryIndex) → IsRun es → IsRun run → replayed q es run ≡ Some after → IsRun after

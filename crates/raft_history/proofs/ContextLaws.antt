@@ -1,0 +1,226 @@
+-- Merges of contexts that stand for histories.
+use Rattle.std.proofs.Common.{◌≡◌, ◌⊎◌, ℕ, Bool, true, false, cond, List, [], ◌∷◌, ◌++◌, Option, Some, None, refl, sym, ap, subst, ◌∙◌, inl, inr, append_assoc, append-nil}
+use Rattle.std.specs.Prelude.{is_some, option_map}
+use Rattle.std.specs.Option.{unwrap_or}
+use Rattle.std.specs.FinMap as finite
+use Rattle.std.proofs.lemmas.Bool.{false≢true}
+use Rattle.raft_base.specs.declared.pipe_log.LogQueue.{LogQueue}
+use Rattle.raft_base.specs.declared.pipe_log.LogQueue.TheVariants.{Append, Rewrite}
+use Rattle.raft_table.specs.Marks.{fresh}
+use Rattle.raft_table.specs.Steps.{Step, after}
+use Rattle.raft_table.specs.Table.{Table}
+use Rattle.raft_table.proofs.MarkLaws.{stands_alone}
+use Rattle.raft_history.specs.Batches.{Batch, Event, batch_of, batches}
+use Rattle.raft_history.specs.Contexts.{IsBounded, FileRange, files_of, Suits, joined_files, follows, Context, Holds, AreExact, StandsIn, StandsFor, IsExactFor, AreMerged, AreRefused, merged_regions, merged_with, merged, completed_steps, taken_with, taken_in}
+use Rattle.raft_history.specs.Effects.{BatchesApart, all_steps, steps_of, is_named}
+use Rattle.raft_history.specs.Histories.{size_of, AreInFile, AreInFiles, FilesFrom, IsSoundIn, Sound, cleaned_in_batch, cleaned_in}
+use Rattle.raft_history.specs.MarkedRegions.{MarkedRegions, region_in, regions_after}
+use Rattle.raft_history.specs.WaitingGroups.{WaitingGroups, groups_in, joined_groups, groups_after}
+use Rattle.raft_history.proofs.EffectLemmas.{all_steps-none, effects_behind-none}
+use Rattle.raft_history.proofs.JoinLemmas.{merged_are, merged_refused}
+use Rattle.raft_history.proofs.MergeLaws.{Parts, regions_merged, regions_refused, regions_taken, taken_refused, rewrite_after, rewrite_read, rewrite_refused}
+use Rattle.raft_history.proofs.MoreLemmas.{groups_in-append, groups_in-one}
+use Rattle.raft_history.proofs.ReadLemmas.{holds_none}
+use Rattle.raft_history.proofs.RecordLemmas.{merged_bounded}
+use Rattle.raft_history.proofs.SoundLemmas.{batches-append, in_files-append, status-append, files_follow, follow_files, files-back, files_of-append, cleaned-append, append_apart}
+use Rattle.raft_history.proofs.StretchOfHistory.{size-append}
+use Rattle.raft_history.proofs.UnmarkedLemmas.{named-steps}
+
+some_is : {X : Type 0} {x y : X} → Some x ≡ Some y → x ≡ y
+some_is e = cc
+
+-- ---- queues
+
+both_none : (q p : LogQueue) (a b : Option FileRange) → Suits q a → Suits q b → Suits p (joined_files a b) → ((a ≡ None) × (b ≡ None)) ⊎ (q ≡ p)
+both_none q p None None s t u = inl (refl, refl)
+both_none q p None (Some y) s t u = inr (sym t ∙ u)
+both_none q p (Some x) None s t u = inr (sym s ∙ u)
+both_none q p (Some x) (Some y) s t u = inr (sym s ∙ u)
+
+no_batch : (h : List Event) → files_of h ≡ None → h ≡ []
+no_batch [] e = refl
+no_batch (x ∷ h) e = absurd (no x e)
+  where
+    no' : {p : FileRange} → Some p ≡ None → ⊥
+    no' e = cc
+
+    no : (x : Event) → files_of (x ∷ h) ≡ None → ⊥
+    no x e = no' e
+
+sound_queue : (q s : LogQueue) (h : List Event) → FilesFrom s 0 h → Suits q (files_of h) → (h ≡ []) ⊎ (s ≡ q)
+sound_queue q s [] f u = inl refl
+sound_queue q s (e ∷ h) f u = inr (sym f.0 ∙ u)
+
+pub no_steps : (r : ℕ) → steps_of r [] ≡ []
+no_steps r = ap (all_steps r) (effects_behind-none []) ∙ all_steps-none r
+
+-- ---- exact regions are one reading
+
+pub exact_accepted : (q : LogQueue) (rs : MarkedRegions) (bs : List Batch) → AreExact q rs bs → (r : ℕ) → (t : Option Table) × (after q r None (steps_of r bs) ≡ Some t)
+exact_accepted q rs bs ex r = (finite.get rs.tables r, stands_alone q r (region_in rs r).mark (region_in rs r).table (steps_of r bs) (ex.each r).stands)
+
+pub exact_reading : (q : LogQueue) (rs : MarkedRegions) (bs : List Batch) → AreExact q rs bs → (r : ℕ) → after q r None (steps_of r bs) ≡ Some (finite.get rs.tables r)
+exact_reading q rs bs ex r = stands_alone q r (region_in rs r).mark (region_in rs r).table (steps_of r bs) (ex.each r).stands
+
+-- without a batch the queue doesn't matter
+blank_exact : (q p : LogQueue) (rs : MarkedRegions) → AreExact q rs [] → AreExact p rs []
+blank_exact q p rs ex = record {
+  each = λ r. subst (Holds p r (region_in rs r)) (sym (no_steps r)) (holds_none p r (region_in rs r) (ap (λ m. unwrap_or m fresh) (unmarked r)) (untabled r));
+  marked = ex.marked;
+}
+  where
+    none : {X : Type 0} (o : Option X) → is_some o ≡ false → o ≡ None
+    none None e = refl
+    none (Some x) e = cc
+
+    unmarked : (r : ℕ) → finite.get rs.marks r ≡ None
+    unmarked r = none _ (ex.marked r ∙ (named-steps r []).1 (no_steps r))
+
+    untabled : (r : ℕ) → finite.get rs.tables r ≡ None
+    untabled r = sym (some_is (ap (after q r None) (sym (no_steps r)) ∙ stands_alone q r (region_in rs r).mark (region_in rs r).table (steps_of r []) (ex.each r).stands))
+
+-- ---- a merge
+
+pub record Merges (q : LogQueue) (c d : Context) (h k : List Event) : Type 0 where
+  pub older_suits : Suits q c.files
+  pub newer_suits : Suits q d.files
+  pub older : StandsFor c h
+  pub newer : StandsFor d k
+
+parts : (q : LogQueue) (c d : Context) (h k : List Event) → Merges q c d h k → AreExact q c.regions (batches h) → AreExact q d.regions (batches k) → BatchesApart (batches (h ++ k)) → Parts q c d h k
+parts q c d h k m a b apart = record {
+  older_groups = m.older.groups;
+  newer_groups = m.newer.groups;
+  older_files = (m.older.stands q m.older_suits).sound.items;
+  newer_files = (m.newer.stands q m.newer_suits).sound.items;
+  both_files = in_files-append h k (m.older.stands q m.older_suits).sound.items (m.newer.stands q m.newer_suits).sound.items;
+  older = a;
+  newer = b;
+  apart = apart;
+}
+
+both_files : (q : LogQueue) (c d : Context) (h k : List Event) → Merges q c d h k → follows c.files d.files ≡ true → FilesFrom q 0 (h ++ k)
+both_files q c d h k m f = files_follow q h k (m.older.stands q m.older_suits).sound.files (m.newer.stands q m.newer_suits).sound.files (ap (λ p. follows p (files_of k)) (sym m.older.files) ∙ ap (follows c.files) (sym m.newer.files) ∙ f)
+
+append_merged : (c d : Context) (h k : List Event) (rs : MarkedRegions) → Merges Append c d h k → follows c.files d.files ≡ true → merged_regions Append c d ≡ Some rs → AreExact Append rs (batches (h ++ k))
+append_merged c d h k rs m f e = regions_merged Append c d h k rs
+    (parts Append c d h k m ((m.older.stands Append m.older_suits).append refl) ((m.newer.stands Append m.newer_suits).append refl) (append_apart 0 (h ++ k) (both_files Append c d h k m f))) (merged_are Append c d rs e)
+
+stands_in : (q : LogQueue) (c d : Context) (h k : List Event) (rs : MarkedRegions) → Merges q c d h k → follows c.files d.files ≡ true → merged_regions q c d ≡ Some rs → StandsIn q (merged_with c d rs) (h ++ k)
+stands_in q c d h k rs m f e = record {
+  sound = record { files = both_files q c d h k m f; items = in_files-append h k (m.older.stands q m.older_suits).sound.items (m.newer.stands q m.newer_suits).sound.items; markers = status-append h k (m.older.stands q m.older_suits).sound.markers (m.newer.stands q m.newer_suits).sound.markers; accepted = accepted q m e };
+  cleaned = ap (λ l. l ++ d.cleaned) (m.older.stands q m.older_suits).cleaned ∙ ap (λ l. cleaned_in q h ++ l) (m.newer.stands q m.newer_suits).cleaned ∙ sym (cleaned-append q h k);
+  append = λ a. append_merged c d h k rs (subst (λ q. Merges q c d h k) a m) f (subst (λ q. merged_regions q c d ≡ Some rs) a e);
+}
+  where
+    accepted : (q : LogQueue) → Merges q c d h k → merged_regions q c d ≡ Some rs → (r : ℕ) → (t : Option Table) × (after q r None (steps_of r (batches (h ++ k))) ≡ Some t)
+    accepted Append m e = exact_accepted Append rs (batches (h ++ k)) (append_merged c d h k rs m f e)
+    accepted Rewrite m e = λ r. rewrite_after r None (steps_of r (batches (h ++ k)))
+
+-- where neither has a batch, in the other queue
+blank_parts : (q p : LogQueue) (c : Context) (h : List Event) → StandsFor c h → c.files ≡ None → (h ≡ []) × AreExact p c.regions (batches h)
+blank_parts q p c h st none = (empty, subst (λ h. AreExact p c.regions (batches h)) (sym empty) (blank_exact Append p c.regions (subst (λ h. AreExact Append c.regions (batches h)) empty ((st.stands Append (subst (Suits Append) (sym none) tt)).append refl))))
+  where
+    empty : h ≡ []
+    empty = no_batch h (sym st.files ∙ none)
+
+blank_stands : (q p : LogQueue) (c d : Context) (h k : List Event) (rs : MarkedRegions) → Merges q c d h k → merged_regions q c d ≡ Some rs → c.files ≡ None → d.files ≡ None → StandsIn p (merged_with c d rs) (h ++ k) × AreExact p rs (batches (h ++ k))
+blank_stands q p c d h k rs m e a b = subst (λ l. StandsIn p (merged_with c d rs) l × AreExact p rs (batches l)) (sym both) (
+  record {
+    sound = record { files = tt; items = tt; markers = tt; accepted = exact_accepted p rs [] blank };
+    cleaned = ap (λ l. l ++ d.cleaned) (m.older.stands q m.older_suits).cleaned ∙ ap (λ l. cleaned_in q h ++ l) (m.newer.stands q m.newer_suits).cleaned ∙ sym (cleaned-append q h k) ∙ ap (cleaned_in q) both;
+    append = λ e. subst (λ p. AreExact p rs []) e blank;
+  },
+  blank,
+)
+  where
+    x : (h ≡ []) × AreExact q c.regions (batches h)
+    x = blank_parts q q c h m.older a
+
+    y : (k ≡ []) × AreExact q d.regions (batches k)
+    y = blank_parts q q d k m.newer b
+
+    both : h ++ k ≡ []
+    both = ap (λ l. l ++ k) x.0 ∙ y.0
+
+    blank : AreExact p rs []
+    blank = blank_exact q p rs (subst (λ l. AreExact q rs (batches l)) both (regions_merged q c d h k rs (parts q c d h k m x.1 y.1 (subst (λ l. BatchesApart (batches l)) (sym both) (append_apart 0 [] tt))) (merged_are q c d rs e)))
+
+pub merged_some : (q : LogQueue) (c d e : Context) → merged q c d ≡ Some e → (follows c.files d.files ≡ true) × ((rs : MarkedRegions) × (merged_regions q c d ≡ Some rs) × (merged_with c d rs ≡ e))
+merged_some q c d e is = go (follows c.files d.files) (merged_regions q c d) refl refl is
+  where
+    go : (b : Bool) (o : Option MarkedRegions) → follows c.files d.files ≡ b → merged_regions q c d ≡ o → cond b (option_map (merged_with c d) o) None ≡ Some e → (follows c.files d.files ≡ true) × ((rs : MarkedRegions) × (merged_regions q c d ≡ Some rs) × (merged_with c d rs ≡ e))
+    go false o f r is = absurd cc
+    go true None f r is = absurd cc
+    go true (Some rs) f r is = (f, (rs, r, some_is is))
+
+pub merged_stands : (q : LogQueue) (c d e : Context) (h k : List Event) → Merges q c d h k → merged q c d ≡ Some e → StandsFor e (h ++ k)
+merged_stands q c d e h k m is = subst (λ e. StandsFor e (h ++ k)) s.1.2 record {
+  files = ap (λ p. joined_files p d.files) m.older.files ∙ ap (joined_files (files_of h)) m.newer.files ∙ sym (files_of-append h k);
+  groups = ap (λ g. joined_groups g d.groups) m.older.groups ∙ ap (joined_groups (groups_in (batches h))) m.newer.groups ∙ sym (groups_in-append (batches h) (batches k)) ∙ ap groups_in (sym (batches-append h k));
+  few = subst (IsBounded (merged_with c d s.1.0)) (sym (size-append h k)) (merged_bounded q c d s.1.0 (size_of h) (size_of k) m.older.few m.newer.few s.1.1);
+  stands = λ p u. by p (both_none q p c.files d.files m.older_suits m.newer_suits u);
+}
+  where
+    s : (follows c.files d.files ≡ true) × ((rs : MarkedRegions) × (merged_regions q c d ≡ Some rs) × (merged_with c d rs ≡ e))
+    s = merged_some q c d e is
+
+    by : (p : LogQueue) → ((c.files ≡ None) × (d.files ≡ None)) ⊎ (q ≡ p) → StandsIn p (merged_with c d s.1.0) (h ++ k)
+    by p (inl n) = (blank_stands q p c d h k s.1.0 m s.1.1 n.0 n.1).0
+    by p (inr same) = subst (λ p. StandsIn p (merged_with c d s.1.0) (h ++ k)) same (stands_in q c d h k s.1.0 m s.0 s.1.1)
+
+pub merged_exact : (q : LogQueue) (c d e : Context) (h k : List Event) → Merges q c d h k → IsExactFor c h → IsExactFor d k → BatchesApart (batches (h ++ k)) → merged q c d ≡ Some e → IsExactFor e (h ++ k)
+merged_exact q c d e h k m a b apart is = record {
+  stands = merged_stands q c d e h k m is;
+  regions = λ p u. subst (λ e. Suits p e.files → AreExact p e.regions (batches (h ++ k))) s.1.2 (λ u. by p (both_none q p c.files d.files m.older_suits m.newer_suits u)) u;
+}
+  where
+    s : (follows c.files d.files ≡ true) × ((rs : MarkedRegions) × (merged_regions q c d ≡ Some rs) × (merged_with c d rs ≡ e))
+    s = merged_some q c d e is
+
+    by : (p : LogQueue) → ((c.files ≡ None) × (d.files ≡ None)) ⊎ (q ≡ p) → AreExact p s.1.0 (batches (h ++ k))
+    by p (inl n) = (blank_stands q p c d h k s.1.0 m s.1.1 n.0 n.1).1
+    by p (inr same) = subst (λ p. AreExact p s.1.0 (batches (h ++ k))) same (regions_merged q c d h k s.1.0 (parts q c d h k m (a.regions q m.older_suits) (b.regions q m.newer_suits) apart) (merged_are q c d s.1.0 s.1.1))
+
+no_both : {X : Type 0} {o : Option X} {x : X} → o ≡ None → o ≡ Some x → ⊥
+no_both a b = cc
+
+pub merge_refused : (q : LogQueue) (c d : Context) (h k : List Event) → Merges q c d h k → merged q c d ≡ None → Sound (h ++ k) → ⊥
+merge_refused q c d h k m is sound = go (follows c.files d.files) (merged_regions q c d) refl refl is
+  where
+    in_order : follows c.files d.files ≡ true
+    in_order = ap (λ p. follows p d.files) m.older.files ∙ ap (follows (files_of h)) m.newer.files ∙ follow_files sound.queue h k sound.sound.files
+
+    suits : Suits q (files_of (h ++ k))
+    suits = subst (Suits q) (ap (λ p. joined_files p d.files) m.older.files ∙ ap (joined_files (files_of h)) m.newer.files ∙ sym (files_of-append h k)) (joined c.files d.files m.older_suits m.newer_suits)
+      where
+        joined : (a b : Option FileRange) → Suits q a → Suits q b → Suits q (joined_files a b)
+        joined None b s t = t
+        joined (Some x) None s t = s
+        joined (Some x) (Some y) s t = s
+
+    by_append : Merges Append c d h k → AreRefused Append c d → Suits Append (files_of (h ++ k)) → ⊥
+    by_append m ref u =
+        let f = regions_refused Append c d h k (parts Append c d h k m ((m.older.stands Append m.older_suits).append refl) ((m.newer.stands Append m.newer_suits).append refl) (append_apart 0 (h ++ k) (both_files Append c d h k m in_order))) ref in
+        at f.0 f.1 (sound_queue Append sound.queue (h ++ k) sound.sound.files u)
+      where
+        at : (r : ℕ) → after Append r None (steps_of r (batches (h ++ k))) ≡ None → ((h ++ k) ≡ []) ⊎ (sound.queue ≡ Append) → ⊥
+        at r e (inl n) = no_both (sym (ap (λ l. after Append r None (steps_of r (batches l))) n ∙ ap (after Append r None) (no_steps r)) ∙ e) refl
+        at r e (inr p) = no_both (ap (λ q. after q r None (steps_of r (batches (h ++ k)))) p ∙ e) (sound.sound.accepted r).1
+
+    by_queue : (q : LogQueue) → Merges q c d h k → AreRefused q c d → Suits q (files_of (h ++ k)) → ⊥
+    by_queue Append m ref u = by_append m ref u
+    by_queue Rewrite m ref u = rewrite_refused c d ref
+
+    go : (b : Bool) (o : Option MarkedRegions) → follows c.files d.files ≡ b → merged_regions q c d ≡ o → cond b (option_map (merged_with c d) o) None ≡ None → ⊥
+    go false o f r is = false≢true (sym f ∙ in_order)
+    go true None f r is = by_queue q m (merged_refused q c d r) suits
+    go true (Some rs) f r is = cc
+
+-- in the rewrite queue files alone refuse a merge
+pub rewrite_merges : (c d : Context) → follows c.files d.files ≡ true → merged Rewrite c d ≡ None → ⊥
+rewrite_merges c d f is = go (merged_regions Rewrite c d) refl (ap (λ b. cond b (option_map (merged_with c d) (merged_regions Rewrite c d)) None) (sym f) ∙ is)
+  where
+    go : (o : Option MarkedRegions) → merged_regions Rewrite c d ≡ o → option_map (merged_with c d) o ≡ None → ⊥
+    go None e is = rewrite_refused c d (merged_refused Rewrite c d e)
+    go (Some rs) e is = cc

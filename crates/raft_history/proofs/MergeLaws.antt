@@ -1,0 +1,184 @@
+-- MarkedRegions that are exact for two histories give, merged, regions that are exact for both; and one more batch.
+use Rattle.std.proofs.Common.{◌≡◌, ◌⊎◌, ℕ, Bool, true, false, cond, eqb, ◌||◌, List, [], ◌∷◌, ◌++◌, Option, Some, None, refl, sym, ap, subst, ◌∙◌, inl, inr, append_assoc, append-nil}
+use Rattle.std.specs.Prelude.{is_some, option_map}
+use Rattle.std.specs.List.{list_any}
+use Rattle.std.specs.Option.{unwrap_or, option_and_then}
+use Rattle.std.specs.FinMap as finite
+use Rattle.raft_base.specs.declared.pipe_log.LogQueue.{LogQueue}
+use Rattle.raft_base.specs.declared.pipe_log.LogQueue.TheVariants.{Append, Rewrite}
+use Rattle.raft_records.specs.declared.entry_index.EntryIndex.{EntryIndex}
+use Rattle.raft_table.specs.Marks.{Mark, Stands, applied, joined, table_over, is_there_over, fresh, mark_of}
+use Rattle.raft_table.specs.Steps.{Step, Run, Compact, Put, Del, AtomicGroup, Clean, AreSteps, stepped, is_there_after, there_if, after_step, after, table_of}
+use Rattle.raft_table.specs.Start.{replayed}
+use Rattle.raft_table.specs.Table.{Table, with_entries}
+use Rattle.raft_table.proofs.MarkLaws.{refused_join, stands_alone}
+use Rattle.raft_history.specs.Batches.{GroupMarker, Batch, Event, batch_of, batches}
+use Rattle.raft_history.specs.Contexts.{Context, Holds, AreExact, AreMerged, AreRefused, region_steps_or, completed_steps}
+use Rattle.raft_history.specs.Effects.{BatchesApart, steps_of, steps_of_wholes, is_named}
+use Rattle.raft_history.specs.Histories.{AreInFiles}
+use Rattle.raft_history.specs.MarkedRegions.{MarkedRegions, MarkedRegion, region_in, with_region, stepped_region, regions_after, region_steps_of_wholes, joined_region, joined_marked}
+use Rattle.raft_history.specs.RegionSteps.{RegionStep, names, steps_on}
+use Rattle.raft_history.specs.WaitingGroup.{WholeGroup, whole_group, one_marker}
+use Rattle.raft_history.specs.WaitingGroups.{WaitingGroups, groups_in, known, whole_groups, steps_by_batch, steps_or, names_by_batch}
+use Rattle.raft_history.proofs.KnownLemmas.{steps_across}
+use Rattle.raft_history.proofs.MoreLemmas.{steps-one}
+use Rattle.raft_history.proofs.NamedLemmas.{has_steps, has_steps-own, has_steps-wholes, named_across, named-one, by_batch}
+use Rattle.raft_history.proofs.ReadLemmas.{own-whole_group, own-wholes, holds_joined, read_holds, read_refused, read_marked, refused_more}
+use Rattle.raft_history.proofs.SoundLemmas.{steps_good, batches-append}
+use Rattle.raft_history.proofs.StepListLemmas.{steps-append, steps_left, steps_right, own_none}
+use Rattle.raft_history.proofs.UnmarkedLemmas.{named-steps}
+
+some_is : {X : Type 0} {x y : X} → Some x ≡ Some y → x ≡ y
+some_is e = cc
+
+holds_marked : (q : LogQueue) (r : ℕ) (x y : MarkedRegion) (o : Option Mark) (t : Option Table) (ss rs : List Step) → AreSteps ss → AreSteps rs → Holds q r x ss → Holds q r record { mark = unwrap_or o fresh; table = t } rs → (o ≡ None → rs ≡ []) → joined_marked q r o t x ≡ Some y → Holds q r y (ss ++ rs)
+holds_marked q r x y None t ss rs good good' h k none e = subst (λ l. Holds q r y (ss ++ l)) (sym (none refl)) (subst (λ l. Holds q r y l) (sym (append-nil ss)) (subst (λ x. Holds q r x ss) (some_is e) h))
+holds_marked q r x y (Some m) t ss rs good good' h k none e = holds_joined q r x record { mark = m; table = t } y ss rs good good' h k e
+
+refused_marked : (q : LogQueue) (r : ℕ) (x : MarkedRegion) (o : Option Mark) (t : Option Table) (ss rs : List Step) → Holds q r x ss → Holds q r record { mark = unwrap_or o fresh; table = t } rs → joined_marked q r o t x ≡ None → after q r None (ss ++ rs) ≡ None
+refused_marked q r x None t ss rs h k e = absurd cc
+refused_marked q r x (Some m) t ss rs h k e = go (applied q r m t x.table) refl e
+  where
+    go : (o : Option (Option Table)) → applied q r m t x.table ≡ o → option_map {U = MarkedRegion} (λ t. record { mark = joined q r x.mark x.table m; table = t }) o ≡ None → after q r None (ss ++ rs) ≡ None
+    go None is e = refused_join q r x.mark m x.table t ss rs h.stands k.stands is
+    go (Some w) is e = absurd cc
+
+unnamed : (q : LogQueue) (rs : MarkedRegions) (bs : List Batch) → AreExact q rs bs → (r : ℕ) → finite.get rs.marks r ≡ None → steps_of r bs ≡ []
+unnamed q rs bs ex r e = (named-steps r bs).0 (sym (ex.marked r) ∙ ap is_some e)
+
+names_wholes : (r : ℕ) (ws : List WholeGroup) → names r (region_steps_of_wholes ws) ≡ list_any (λ w. names r w.steps) ws
+names_wholes r ws = sym (has_steps-own r (region_steps_of_wholes ws)) ∙ ap has_steps (own-wholes r ws) ∙ has_steps-wholes r ws
+
+or_assoc : (a b c : Bool) → ((a || b) || c) ≡ (a || (b || c))
+or_assoc true b c = refl
+or_assoc false b c = refl
+
+-- two contexts, by their regions and groups
+pub record Parts (q : LogQueue) (c d : Context) (h k : List Event) : Type 0 where
+  pub older_groups : c.groups ≡ groups_in (batches h)
+  pub newer_groups : d.groups ≡ groups_in (batches k)
+  pub older_files : AreInFiles h
+  pub newer_files : AreInFiles k
+  pub both_files : AreInFiles (h ++ k)
+  pub older : AreExact q c.regions (batches h)
+  pub newer : AreExact q d.regions (batches k)
+  pub apart : BatchesApart (batches (h ++ k))
+
+across : (q : LogQueue) (c d : Context) (h k : List Event) → Parts q c d h k → (r : ℕ) → steps_of r (batches (h ++ k)) ≡ steps_of r (batches h) ++ (steps_on r (region_steps_of_wholes (whole_groups c.groups d.groups)) ++ steps_of r (batches k))
+across q c d h k p r = ap (steps_of r) (batches-append h k) ∙ steps_across r (batches h) (batches k) (subst BatchesApart (batches-append h k) p.apart)
+    ∙ sym (ap (λ l. steps_of r (batches h) ++ (l ++ steps_of r (batches k))) (own-wholes r (whole_groups c.groups d.groups)
+    ∙ ap (λ g. steps_of_wholes r (whole_groups g d.groups)) p.older_groups ∙ ap (λ g. steps_of_wholes r (whole_groups (groups_in (batches h)) g)) p.newer_groups))
+
+wholes_good : (q : LogQueue) (c d : Context) (h k : List Event) → Parts q c d h k → (r : ℕ) → AreSteps (steps_on r (region_steps_of_wholes (whole_groups c.groups d.groups)))
+wholes_good q c d h k p r = steps_left _ _ (steps_right (steps_of r (batches h)) _ (subst AreSteps (across q c d h k p r) (steps_good r (h ++ k) p.both_files)))
+
+middle_holds : (q : LogQueue) (c d : Context) (h k : List Event) (mid : MarkedRegions) → Parts q c d h k → regions_after q c.regions (region_steps_of_wholes (whole_groups c.groups d.groups)) ≡ Some mid → (r : ℕ) → Holds q r (region_in mid r) (steps_of r (batches h) ++ steps_on r (region_steps_of_wholes (whole_groups c.groups d.groups)))
+middle_holds q c d h k mid p e r = read_holds q c.regions mid (region_steps_of_wholes (whole_groups c.groups d.groups)) (λ r. steps_of r (batches h)) (λ r. steps_good r h p.older_files) (wholes_good q c d h k p) p.older.each e r
+
+pub regions_merged : (q : LogQueue) (c d : Context) (h k : List Event) (new : MarkedRegions) → Parts q c d h k → AreMerged q c d new → AreExact q new (batches (h ++ k))
+regions_merged q c d h k new p m = record { each = each; marked = marked }
+  where
+    W : ℕ → List Step
+    W r = steps_on r (region_steps_of_wholes (whole_groups c.groups d.groups))
+
+    each : (r : ℕ) → Holds q r (region_in new r) (steps_of r (batches (h ++ k)))
+    each r = subst (Holds q r (region_in new r)) (append_assoc (steps_of r (batches h)) (W r) (steps_of r (batches k)) ∙ sym (across q c d h k p r))
+        (holds_marked q r (region_in m.middle r) (region_in new r) (finite.get d.regions.marks r) (finite.get d.regions.tables r) (steps_of r (batches h) ++ W r) (steps_of r (batches k))
+        (steps-append (steps_of r (batches h)) (W r) (steps_good r h p.older_files) (wholes_good q c d h k p r)) (steps_good r k p.newer_files)
+        (middle_holds q c d h k m.middle p m.wholes r) (p.newer.each r) (unnamed q d.regions (batches k) p.newer r) (m.regions r))
+
+    marked : (r : ℕ) → is_some (finite.get new.marks r) ≡ is_named r (batches (h ++ k))
+    marked r = m.marked r ∙ ap (λ b. b || is_some (finite.get d.regions.marks r)) (read_marked q c.regions m.middle (region_steps_of_wholes (whole_groups c.groups d.groups)) m.wholes r)
+        ∙ or_assoc (is_some (finite.get c.regions.marks r)) (names r (region_steps_of_wholes (whole_groups c.groups d.groups))) (is_some (finite.get d.regions.marks r))
+        ∙ ap (λ b. b || (names r (region_steps_of_wholes (whole_groups c.groups d.groups)) || is_some (finite.get d.regions.marks r))) (p.older.marked r)
+        ∙ ap (λ b. is_named r (batches h) || (names r (region_steps_of_wholes (whole_groups c.groups d.groups)) || b)) (p.newer.marked r)
+        ∙ ap (λ b. is_named r (batches h) || (b || is_named r (batches k))) (names_wholes r (whole_groups c.groups d.groups) ∙ ap (λ g. list_any (λ w. names r w.steps) (whole_groups g d.groups)) p.older_groups ∙ ap (λ g. list_any (λ w. names r w.steps) (whole_groups (groups_in (batches h)) g)) p.newer_groups)
+        ∙ sym (named_across r (batches h) (batches k) (subst BatchesApart (batches-append h k) p.apart)) ∙ ap (is_named r) (sym (batches-append h k))
+
+-- where the merge is refused, one reading refuses some region's steps
+pub regions_refused : (q : LogQueue) (c d : Context) (h k : List Event) → Parts q c d h k → AreRefused q c d → (r : ℕ) × (after q r None (steps_of r (batches (h ++ k))) ≡ None)
+regions_refused q c d h k p (inl e) = let f = read_refused q c.regions (region_steps_of_wholes (whole_groups c.groups d.groups)) (λ r. steps_of r (batches h)) (λ r. steps_good r h p.older_files) (wholes_good q c d h k p) p.older.each e in
+    (f.0, ap (after q f.0 None) (across q c d h k p f.0 ∙ sym (append_assoc (steps_of f.0 (batches h)) (steps_on f.0 (region_steps_of_wholes (whole_groups c.groups d.groups))) (steps_of f.0 (batches k)))) ∙ refused_more q f.0 (steps_of f.0 (batches h) ++ steps_on f.0 (region_steps_of_wholes (whole_groups c.groups d.groups))) (steps_of f.0 (batches k)) f.1)
+regions_refused q c d h k p (inr f) = let r = f.2.0 in (
+  r,
+  ap (after q r None) (across q c d h k p r ∙ sym (append_assoc (steps_of r (batches h)) (steps_on r (region_steps_of_wholes (whole_groups c.groups d.groups))) (steps_of r (batches k))))
+      ∙ refused_marked q r (region_in f.0 r) (finite.get d.regions.marks r) (finite.get d.regions.tables r) (steps_of r (batches h) ++ steps_on r (region_steps_of_wholes (whole_groups c.groups d.groups))) (steps_of r (batches k)) (middle_holds q c d h k f.0 p f.1 r) (p.newer.each r) f.2.1,
+)
+
+-- ---- one more batch
+
+own-completed : (r : ℕ) (g : WaitingGroups) (b : Batch) (m : Option GroupMarker) → steps_on r (completed_steps g b m) ≡ steps_by_batch r g b m
+own-completed r g b None = refl
+own-completed r g b (Some m) = go (whole_group (known g m.group) (one_marker m.status b.steps b.file))
+  where
+    go : (o : Option WholeGroup) → steps_on r (region_steps_or o) ≡ steps_or r o
+    go None = own_none r
+    go (Some w) = own-whole_group r w
+
+batches-one : (h : List Event) (e : Event) → batches (h ++ e ∷ []) ≡ batches h ++ batch_of e ∷ []
+batches-one h e = batches-append h (e ∷ [])
+
+abbrev steps_taken : WaitingGroups → Event → List RegionStep
+steps_taken g e = completed_steps g (batch_of e) (batch_of e).marker
+
+one_more : (g : WaitingGroups) (h : List Event) (e : Event) (r : ℕ) → g ≡ groups_in (batches h) → steps_of r (batches (h ++ e ∷ [])) ≡ steps_of r (batches h) ++ steps_on r (steps_taken g e)
+one_more g h e r is = ap (steps_of r) (batches-one h e) ∙ steps-one r (batches h) (batch_of e) ∙ ap (λ l. steps_of r (batches h) ++ l) (sym (ap (λ g. steps_on r (steps_taken g e)) is ∙ own-completed r (groups_in (batches h)) (batch_of e) (batch_of e).marker))
+
+taken_good : (g : WaitingGroups) (h : List Event) (e : Event) (r : ℕ) → g ≡ groups_in (batches h) → AreInFiles (h ++ e ∷ []) → AreSteps (steps_on r (steps_taken g e))
+taken_good g h e r is files = steps_right (steps_of r (batches h)) _ (subst AreSteps (one_more g h e r is) (steps_good r (h ++ e ∷ []) files))
+
+pub regions_taken : (q : LogQueue) (c : Context) (h : List Event) (e : Event) (new : MarkedRegions) → c.groups ≡ groups_in (batches h) → AreInFiles h → AreInFiles (h ++ e ∷ []) → AreExact q c.regions (batches h) → regions_after q c.regions (steps_taken c.groups e) ≡ Some new → AreExact q new (batches (h ++ e ∷ []))
+regions_taken q c h e new is files files' ex m = record {
+  each = λ r. subst (Holds q r (region_in new r)) (sym (one_more c.groups h e r is)) (read_holds q c.regions new (steps_taken c.groups e) (λ r. steps_of r (batches h)) (λ r. steps_good r h files) (λ r. taken_good c.groups h e r is files') ex.each m r);
+  marked = λ r. read_marked q c.regions new (steps_taken c.groups e) m r ∙ ap (λ b. b || names r (steps_taken c.groups e)) (ex.marked r)
+      ∙ ap (λ b. is_named r (batches h) || b) (sym (has_steps-own r (steps_taken c.groups e)) ∙ ap has_steps (own-completed r c.groups (batch_of e) (batch_of e).marker) ∙ by_batch r c.groups (batch_of e) (batch_of e).marker ∙ ap (λ g. names_by_batch r g (batch_of e) (batch_of e).marker) is)
+      ∙ sym (named-one r (batches h) (batch_of e)) ∙ ap (is_named r) (sym (batches-one h e));
+}
+
+pub taken_refused : (q : LogQueue) (c : Context) (h : List Event) (e : Event) → c.groups ≡ groups_in (batches h) → AreInFiles h → AreInFiles (h ++ e ∷ []) → AreExact q c.regions (batches h) → regions_after q c.regions (steps_taken c.groups e) ≡ None → (r : ℕ) × (after q r None (steps_of r (batches (h ++ e ∷ []))) ≡ None)
+taken_refused q c h e is files files' ex m = let f = read_refused q c.regions (steps_taken c.groups e) (λ r. steps_of r (batches h)) (λ r. steps_good r h files) (λ r. taken_good c.groups h e r is files') ex.each m in
+    (f.0, ap (after q f.0 None) (one_more c.groups h e f.0 is) ∙ f.1)
+
+-- ---- the rewrite queue refuses no step
+
+rewrite_step : (r : ℕ) (o : Option Table) (s : Step) → (u : Option Table) × (after_step Rewrite r o s ≡ Some u)
+rewrite_step r o (Run []) = (_, refl)
+rewrite_step r o (Run (e ∷ run)) = (_, refl)
+rewrite_step r o (Compact i) = (_, refl)
+rewrite_step r o (Put key value file) = (_, refl)
+rewrite_step r o (Del key) = (_, refl)
+rewrite_step r o (AtomicGroup s e) = (_, refl)
+rewrite_step r o Clean = (_, refl)
+
+pub rewrite_after : (r : ℕ) (o : Option Table) (ss : List Step) → (u : Option Table) × (after Rewrite r o ss ≡ Some u)
+rewrite_after r o [] = (o, refl)
+rewrite_after r o (s ∷ ss) = let f = rewrite_step r o s in let g = rewrite_after r f.0 ss in (g.0, ap (option_and_then (λ u. after Rewrite r u ss)) f.1 ∙ g.1)
+
+pub rewrite_read : (rs : MarkedRegions) (is : List RegionStep) → (new : MarkedRegions) × (regions_after Rewrite rs is ≡ Some new)
+rewrite_read rs [] = (rs, refl)
+rewrite_read rs (i ∷ is) = let f = rewrite_step i.region (region_in rs i.region).table i.step in
+    let x : MarkedRegion = record { mark = joined Rewrite i.region (region_in rs i.region).mark (region_in rs i.region).table (mark_of i.step); table = f.0 } in
+    let g = rewrite_read (with_region rs i.region x) is in
+    (g.0, ap (λ o. option_and_then (λ x. regions_after Rewrite (with_region rs i.region x) is) (option_map (λ t. record { mark = joined Rewrite i.region (region_in rs i.region).mark (region_in rs i.region).table (mark_of i.step); table = t }) o)) f.1 ∙ g.1)
+
+there_some : (b : Bool) (t : Table) → there_if b (Some t) ≡ None → ⊥
+there_some true t e = cc
+there_some false t e = cc
+
+rewrite_applied : (r : ℕ) (m : Mark) (t o : Option Table) → applied Rewrite r m t o ≡ None → ⊥
+rewrite_applied r m t o e = there_some (is_there_over m t o) _ e
+
+rewrite_marked : (r : ℕ) (o : Option Mark) (t : Option Table) (x : MarkedRegion) → joined_marked Rewrite r o t x ≡ None → ⊥
+rewrite_marked r None t x e = cc
+rewrite_marked r (Some m) t x e = go (applied Rewrite r m t x.table) refl e
+  where
+    go : (o : Option (Option Table)) → applied Rewrite r m t x.table ≡ o → option_map {U = MarkedRegion} (λ t. record { mark = joined Rewrite r x.mark x.table m; table = t }) o ≡ None → ⊥
+    go None is e = rewrite_applied r m t x.table is
+    go (Some w) is e = cc
+
+pub rewrite_refused : (c d : Context) → AreRefused Rewrite c d → ⊥
+rewrite_refused c d (inl e) = let f = rewrite_read c.regions (region_steps_of_wholes (whole_groups c.groups d.groups)) in no_both e f.1
+  where
+    no_both : {o : Option MarkedRegions} {n : MarkedRegions} → o ≡ None → o ≡ Some n → ⊥
+    no_both a b = cc
+rewrite_refused c d (inr f) = rewrite_marked f.2.0 (finite.get d.regions.marks f.2.0) (finite.get d.regions.tables f.2.0) (region_in f.0 f.2.0) f.2.1

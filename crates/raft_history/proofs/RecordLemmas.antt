@@ -1,0 +1,266 @@
+-- Tables and waiting groups have no more records than the history names.
+use Rattle.std.proofs.Common.{◌≡◌, ◌⊎◌, ℕ, ◌+◌, ◌-◌, ◌≤◌, Bool, true, false, cond, not, eqb, List, [], ◌∷◌, ◌++◌, length, filter, Option, Some, None, refl, sym, ap, subst, ◌∙◌, inl, inr, arith, append-nil}
+use lib.Dec.{T}
+use Rattle.std.specs.declared.cmp.Ordering.{Ordering}
+use Rattle.std.specs.declared.cmp.Ordering.TheVariants.{Less, Equal, Greater}
+use Rattle.std.proofs.lemmas.Bool.Decides.{nat_tests}
+use Rattle.std.specs.Prelude.{map, flat_map, option_map, nat_lt, nat_le}
+use Rattle.std.specs.List.{AllByRecursion, IsDistinct}
+use Rattle.std.specs.Option.{unwrap_or, option_and_then}
+use Rattle.std.specs.Ordering.{nat_cmp, eq_by_cmp}
+use Rattle.std.specs.Cmp.Lexicographic.{slice_cmp, nat_list_cmp_total}
+use Rattle.std.specs.FinMap as finite
+use Rattle.std.specs.FinMap.{is_sorted, slice_cmp-IsAntisymmetric, nat_cmp-IsAntisymmetric}
+use Rattle.std.specs.FinMap.Entries.{where_key, is_sorted-where_key, find-where_key}
+use Rattle.std.specs.FinSet as finset
+use Rattle.std.proofs.lemmas.List.{length-append}
+use Rattle.raft_base.specs.declared.pipe_log.LogQueue.{LogQueue}
+use Rattle.raft_base.specs.declared.pipe_log.LogQueue.TheVariants.{Append, Rewrite}
+use Rattle.raft_records.specs.declared.entry_index.EntryIndex.{EntryIndex}
+use Rattle.raft_table.specs.Entries.{below, from, end_of}
+use Rattle.raft_table.specs.KeySets.{KeySet, without}
+use Rattle.raft_table.specs.KeyValues.{Keys, Stored, Pair, with_pairs, overlaid}
+use Rattle.raft_table.specs.Marks.{Mark, part, older_entries, entries_over, keys_over, atomic_group_over, table_over, is_meeting_refused, is_missed, is_there_over, applied, joined, mark_of}
+use Rattle.raft_table.specs.Start.{replayed, leaves_hole}
+use Rattle.raft_table.specs.Steps.{Step, Run, Compact, Put, Del, AtomicGroup, Clean, stepped, is_there_after, there_if, after_step, table_of}
+use Rattle.raft_table.specs.Table.{Table, empty_table, with_entries}
+use Rattle.raft_records.specs.declared.atomic_group.AtomicGroupStatus.{AtomicGroupStatus}
+use Rattle.raft_records.specs.declared.atomic_group.AtomicGroupStatus.TheVariants.{Begin, Middle, End}
+use Rattle.raft_history.specs.Batches.{GroupMarker, Event, batch_of}
+use Rattle.raft_history.specs.Contexts.{Context, merged_regions, merged_with, merged, completed_steps, region_steps_or, taken_with, taken_in, IsBounded}
+use Rattle.raft_history.specs.Histories.{records_of, records_in, size_of}
+use Rattle.raft_history.specs.MarkedRegions.{MarkedRegions, MarkedRegion, region_in, with_region, stepped_region, regions_after, named_regions, on_each, region_steps_of_whole, region_steps_of_wholes, joined_region, joined_each, joined_regions}
+use Rattle.raft_history.specs.Records.{total, records_or, records_in_wholes, waiting_records, table_records, all_records}
+use Rattle.raft_history.specs.RegionSteps.{RegionStep, Tables, with_table, steps_of_items}
+use Rattle.raft_history.specs.WaitingGroup.{joined_group, WaitingGroup, WholeGroup, whole_group, one_marker}
+use Rattle.raft_history.specs.WaitingGroups.{WaitingGroups, known, groups_after, whole_groups, held_steps}
+use Rattle.raft_history.proofs.KnownLemmas.{tied, keys_distinct}
+use Rattle.raft_history.proofs.MapLemmas.{get_left}
+use Rattle.raft_history.proofs.TotalLemmas.{found, total-insert, total-remove}
+use Rattle.raft_history.proofs.WaitingLemmas.{records-append, joined_weight, waiting_known, merged_waiting}
+
+some_is : {X : Type 0} {x y : X} → Some x ≡ Some y → x ≡ y
+some_is e = cc
+
+-- ---- lists and keys
+
+filtered : {X : Type 0} (p : X → Bool) (xs : List X) → length (filter p xs) ≤ length xs
+filtered p [] = omega arith
+filtered p (x ∷ xs) = go (p x) (filtered p xs)
+  where
+    go : (b : Bool) → length (filter p xs) ≤ length xs → length (cond b (x ∷ filter p xs) (filter p xs)) ≤ length (x ∷ xs)
+    go true h = omega (arith, h)
+    go false h = omega (arith, h)
+
+where_shorter : {K X : Type 0} (R : K → K → Ordering) (p : K → Bool) (es : List (K × X)) → length (where_key R p es) ≤ length es
+where_shorter R p [] = omega arith
+where_shorter R p (e ∷ es) = go (p e.0) (where_shorter R p es)
+  where
+    go : (b : Bool) → length (where_key R p es) ≤ length es → length (cond b (e ∷ where_key R p es) (where_key R p es)) ≤ length (e ∷ es)
+    go true h = omega (arith, h)
+    go false h = omega (arith, h)
+
+len_without : (d : KeySet) (o : Keys) → finite.len (without d o) ≤ finite.len o
+unfolding without
+len_without d o = omega (arith, finite.len-entries (without d o), finite.len-entries o, ap length same, where_shorter (slice_cmp nat_cmp) p (finite.entries o))
+  where
+    p : List ℕ → Bool
+    p k = not (finset.contains d k)
+
+    alike : (q x : List ℕ) → slice_cmp nat_cmp q x ≡ Equal → p x ≡ p q
+    alike q x tie = ap not (finset.contains_tied nat_list_cmp_total d q x tie)
+
+    in_order : T (is_sorted (slice_cmp nat_cmp) (where_key (slice_cmp nat_cmp) p (finite.entries o)))
+    in_order = is_sorted-where_key (slice_cmp nat_cmp) p (finite.entries o) (finite.entries_sorted o)
+
+    same : finite.entries (without d o) ≡ where_key (slice_cmp nat_cmp) p (finite.entries o)
+    same = ap finite.entries (finite.same_map nat_list_cmp_total (slice_cmp-IsAntisymmetric nat_cmp-IsAntisymmetric) (without d o) (finite.from_sorted (where_key (slice_cmp nat_cmp) p (finite.entries o)))
+        (λ q. finite.get-retain_keys o p q (alike q) ∙ ap (λ v. cond (p q) v None) (finite.get-entries o q) ∙ sym (find-where_key (slice_cmp nat_cmp) p q (alike q) (finite.entries o)) ∙ sym (finite.get-from_sorted (slice_cmp nat_cmp) (where_key (slice_cmp nat_cmp) p (finite.entries o)) q in_order)))
+        ∙ finite.entries-from_sorted (slice_cmp nat_cmp) (where_key (slice_cmp nat_cmp) p (finite.entries o)) in_order
+
+more_or_same : (b : Bool) (n : ℕ) → cond b n (n + 1) ≤ n + 1
+more_or_same true n = omega arith
+more_or_same false n = omega arith
+
+less_or_same : (b : Bool) (n : ℕ) → cond b (n - 1) n ≤ n
+less_or_same true n = omega arith
+less_or_same false n = omega arith
+
+len_insert : {X : Type 0} (m : finite.FinMap (slice_cmp nat_cmp) X) (k : List ℕ) (x : X) → finite.len (finite.insert m k x) ≤ finite.len m + 1
+len_insert m k x = omega (arith, finite.len-insert nat_list_cmp_total m k x, more_or_same (finite.contains_key m k) (finite.len m))
+
+len_remove : {X : Type 0} (m : finite.FinMap (slice_cmp nat_cmp) X) (k : List ℕ) → finite.len (finite.remove m k) ≤ finite.len m
+len_remove m k = omega (arith, finite.len-remove nat_list_cmp_total m k, less_or_same (finite.contains_key m k) (finite.len m))
+
+len_pairs : (m : Keys) (es : List Pair) → finite.len (with_pairs m es) ≤ finite.len m + length es
+len_pairs m [] = omega arith
+len_pairs m (e ∷ es) = omega (arith, len_pairs (finite.insert m e.0 e.1) es, len_insert m e.0 e.1)
+
+len_overlaid : (own older : Keys) → finite.len (overlaid own older) ≤ finite.len older + finite.len own
+len_overlaid own older = omega (arith, len_pairs older (finite.entries own), finite.len-entries own)
+
+-- ---- one region
+
+abbrev recs : Option Table → ℕ
+recs o = found table_records o
+
+empty_records : (r : ℕ) → table_records (empty_table r) ≡ 0
+empty_records r = omega (arith, finite.len-empty (slice_cmp nat_cmp) Stored)
+
+of_table : (r : ℕ) (o : Option Table) → table_records (table_of r o) ≡ recs o
+of_table r None = empty_records r
+of_table r (Some t) = refl
+
+below_shorter : (i : ℕ) (es : List EntryIndex) → length (below i es) ≤ length es
+unfolding below
+below_shorter i es = filtered (λ e. nat_lt e.index i) es
+
+from_shorter : (i : ℕ) (es : List EntryIndex) → length (from i es) ≤ length es
+unfolding from
+from_shorter i es = filtered (λ e. nat_le i e.index) es
+
+part_shorter : (lo : ℕ) (cut : Option ℕ) (es : List EntryIndex) → length (part lo cut es) ≤ length es
+unfolding part
+part_shorter lo cut es = filtered _ es
+
+run_records : (q : LogQueue) (es run after : List EntryIndex) → replayed q es run ≡ Some after → length after ≤ length es + length run
+run_records q es [] after e = omega (arith, ap length (some_is e))
+run_records Append es (x ∷ run) after e = go (leaves_hole (end_of es) x.index) e
+  where
+    go : (b : Bool) → cond b None (Some (below x.index es ++ x ∷ run)) ≡ Some after → length after ≤ length es + length (x ∷ run)
+    go true e = absurd cc
+    go false e = omega (arith, ap length (some_is e), length-append (below x.index es) (x ∷ run), below_shorter x.index es)
+run_records Rewrite es (x ∷ run) after e = go (leaves_hole (end_of es) x.index) e
+  where
+    go : (b : Bool) → Some (cond b (x ∷ run) (below x.index es ++ x ∷ run)) ≡ Some after → length after ≤ length es + length (x ∷ run)
+    go true e = omega (arith, ap length (some_is e))
+    go false e = omega (arith, ap length (some_is e), length-append (below x.index es) (x ∷ run), below_shorter x.index es)
+
+there_records : (b : Bool) (o : Option Table) (w : Option Table) (n : ℕ) → there_if b o ≡ Some w → ((x : Table) → o ≡ Some x → table_records x ≤ n) → recs w ≤ n
+there_records b None w n e h = absurd cc
+there_records true (Some x) w n e h = omega (arith, h x refl, ap recs (some_is e))
+there_records false (Some x) w n e h = omega (arith, ap recs (some_is e))
+
+step_records : (q : LogQueue) (r : ℕ) (o w : Option Table) (s : Step) → after_step q r o s ≡ Some w → recs w ≤ recs o + records_of s
+step_records q r o w s e = there_records (is_there_after s) (stepped q (table_of r o) s) w (recs o + records_of s) e (by s)
+  where
+    by : (s : Step) (x : Table) → stepped q (table_of r o) s ≡ Some x → table_records x ≤ recs o + records_of s
+    by (Run run) x e = go (replayed q (table_of r o).entries run) refl e
+      where
+        go : (y : Option (List EntryIndex)) → replayed q (table_of r o).entries run ≡ y → option_map (with_entries (table_of r o)) y ≡ Some x → table_records x ≤ recs o + length run
+        go None p e = absurd cc
+        go (Some a) p e = omega (arith, ap table_records (some_is e), run_records q (table_of r o).entries run a p, of_table r o)
+    by (Compact i) x e = omega (arith, ap table_records (some_is e), from_shorter i (table_of r o).entries, of_table r o)
+    by (Put key value file) x e = omega (arith, ap table_records (some_is e), len_insert (table_of r o).keys key (record { value = value; file = file }), of_table r o)
+    by (Del key) x e = omega (arith, ap table_records (some_is e), len_remove (table_of r o).keys key, of_table r o)
+    by (AtomicGroup start end) x e = omega (arith, ap table_records (some_is e), of_table r o)
+    by Clean x e = omega (arith, ap table_records (some_is e), empty_records (table_of r o).region_id)
+
+older_shorter : (q : LogQueue) (m : Mark) (es : List EntryIndex) → length (older_entries q m es) ≤ length es
+older_shorter Append m es = part_shorter m.lo m.cut es
+older_shorter Rewrite m es = go (is_missed m es)
+  where
+    go : (b : Bool) → length (cond b [] (part m.lo m.cut es)) ≤ length es
+    go true = omega arith
+    go false = part_shorter m.lo m.cut es
+
+over_records : (q : LogQueue) (m : Mark) (t o x : Table) → table_over q m t o ≡ Some x → table_records x ≤ table_records o + table_records t
+over_records q m t o x e = go (is_meeting_refused q m o.entries) m.cleaned refl e
+  where
+    go : (b c : Bool) → m.cleaned ≡ c → option_map {U = Table} (λ es. record o { entries = es; keys = cond m.cleaned t.keys (overlaid t.keys (without m.deleted o.keys)); atomic_group = atomic_group_over m t.atomic_group o.atomic_group }) (cond b None (Some (cond c t.entries (older_entries q m o.entries ++ t.entries)))) ≡ Some x → table_records x ≤ table_records o + table_records t
+    go true c k e = absurd cc
+    go false true k e = omega (arith, ap table_records (some_is e), ap (λ c. finite.len (cond c t.keys (overlaid t.keys (without m.deleted o.keys)))) k)
+    go false false k e = omega (arith, ap table_records (some_is e), ap (λ c. finite.len (cond c t.keys (overlaid t.keys (without m.deleted o.keys)))) k, len_overlaid t.keys (without m.deleted o.keys), len_without m.deleted o.keys, length-append (older_entries q m o.entries) t.entries, older_shorter q m o.entries)
+
+join_records : (q : LogQueue) (r : ℕ) (m : Mark) (t o w : Option Table) → applied q r m t o ≡ Some w → recs w ≤ recs o + recs t
+join_records q r m t o w e = there_records (is_there_over m t o) (table_over q m (table_of r t) (table_of r o)) w (recs o + recs t) e (λ x k. omega (arith, over_records q m (table_of r t) (table_of r o) x k, of_table r t, of_table r o))
+
+-- ---- all regions
+
+with_records : (m : Tables) (r : ℕ) (t : Option Table) → all_records (with_table m r t) + recs (finite.get m r) ≡ all_records m + recs t
+with_records m r None = omega (arith, total-remove table_records m r)
+with_records m r (Some t) = total-insert table_records m r t
+
+read_records : (q : LogQueue) (rs new : MarkedRegions) (is : List RegionStep) → regions_after q rs is ≡ Some new → all_records new.tables ≤ all_records rs.tables + records_in is
+read_records q rs new [] e = omega (arith, ap (λ (n : MarkedRegions). all_records n.tables) (some_is e))
+read_records q rs new (i ∷ is) e = go (after_step q i.region (finite.get rs.tables i.region) i.step) refl e (λ x e. read_records q (with_region rs i.region x) new is e)
+  where
+    put : Option Table → MarkedRegion
+    put t = record { mark = joined q i.region (region_in rs i.region).mark (region_in rs i.region).table (mark_of i.step); table = t }
+
+    go : (o : Option (Option Table)) → after_step q i.region (finite.get rs.tables i.region) i.step ≡ o → option_and_then (λ x. regions_after q (with_region rs i.region x) is) (option_map put o) ≡ Some new
+        → ((x : MarkedRegion) → regions_after q (with_region rs i.region x) is ≡ Some new → all_records new.tables ≤ all_records (with_table rs.tables i.region x.table) + records_in is) → all_records new.tables ≤ all_records rs.tables + records_in (i ∷ is)
+    go None k e ih = absurd cc
+    go (Some t) k e ih = omega (arith, ih (put t) e, with_records rs.tables i.region t, step_records q i.region (finite.get rs.tables i.region) t i.step k)
+
+abbrev Agrees : Tables → Tables → List (ℕ × Mark) → Type 0
+Agrees left newer es = AllByRecursion (λ (e : ℕ × Mark). finite.get left e.0 ≡ finite.get newer e.0) es
+
+agrees_on : (left newer : Tables) (k : ℕ) (es : List (ℕ × Mark)) → AllByRecursion (λ y. eqb k y ≡ false) (map (λ (e : ℕ × Mark). e.0) es) → Agrees left newer es → Agrees (finite.remove left k) newer es
+agrees_on left newer k [] d h = tt
+agrees_on left newer k (e ∷ es) d h = (get_left left k e.0 (tied e.0 k ∙ flip e.0 k d.0) ∙ h.0, agrees_on left newer k es d.1 h.1)
+  where
+    flip : (a b : ℕ) → eqb b a ≡ false → eqb a b ≡ false
+    flip a b e = grind (arith, nat_tests)
+
+each_records : (q : LogQueue) (newer left : Tables) (rs new : MarkedRegions) (es : List (ℕ × Mark)) → IsDistinct eqb (map (λ (e : ℕ × Mark). e.0) es) → Agrees left newer es → joined_each q newer rs es ≡ Some new → all_records new.tables ≤ all_records rs.tables + all_records left
+unfolding IsDistinct
+each_records q newer left rs new [] one h e = omega (arith, ap (λ (n : MarkedRegions). all_records n.tables) (some_is e))
+each_records q newer left rs new (x ∷ es) one h e = go (applied q x.0 x.1 (finite.get newer x.0) (finite.get rs.tables x.0)) refl e (λ y e. each_records q newer (finite.remove left x.0) (with_region rs x.0 y) new es one.1 (agrees_on left newer x.0 es one.0 h.1) e)
+  where
+    put : Option Table → MarkedRegion
+    put t = record { mark = joined q x.0 (region_in rs x.0).mark (region_in rs x.0).table x.1; table = t }
+
+    go : (o : Option (Option Table)) → applied q x.0 x.1 (finite.get newer x.0) (finite.get rs.tables x.0) ≡ o → option_and_then (λ y. joined_each q newer (with_region rs x.0 y) es) (option_map put o) ≡ Some new
+        → ((y : MarkedRegion) → joined_each q newer (with_region rs x.0 y) es ≡ Some new → all_records new.tables ≤ all_records (with_table rs.tables x.0 y.table) + all_records (finite.remove left x.0)) → all_records new.tables ≤ all_records rs.tables + all_records left
+    go None k e ih = absurd cc
+    go (Some t) k e ih = omega (arith, ih (put t) e, with_records rs.tables x.0 t, join_records q x.0 x.1 (finite.get newer x.0) (finite.get rs.tables x.0) t k, total-remove table_records left x.0, ap recs h.0)
+
+spans-records : (rs : List ℕ) (start end : ℕ) → records_in (on_each rs (AtomicGroup start end)) ≡ 0
+spans-records [] s e = refl
+spans-records (r ∷ rs) s e = omega (arith, spans-records rs s e)
+
+whole_group-records : (w : WholeGroup) → records_in (region_steps_of_whole w) ≡ records_in w.steps
+whole_group-records w = omega (arith, records-append w.steps (on_each (named_regions w.steps) (AtomicGroup w.start w.end)), spans-records (named_regions w.steps) w.start w.end)
+
+wholes-records : (ws : List WholeGroup) → records_in (region_steps_of_wholes ws) ≡ records_in_wholes ws
+wholes-records [] = refl
+wholes-records (w ∷ ws) = omega (arith, records-append (region_steps_of_whole w) (region_steps_of_wholes ws), whole_group-records w, wholes-records ws)
+
+-- ---- contexts
+
+agrees_all : (m : Tables) (es : List (ℕ × Mark)) → Agrees m m es
+agrees_all m [] = tt
+agrees_all m (e ∷ es) = (refl, agrees_all m es)
+
+pub merged_bounded : (q : LogQueue) (c d : Context) (rs : MarkedRegions) (n m : ℕ) → IsBounded c n → IsBounded d m → merged_regions q c d ≡ Some rs → IsBounded (merged_with c d rs) (n + m)
+merged_bounded q c d rs n m a b e = go (regions_after q c.regions (region_steps_of_wholes (whole_groups c.groups d.groups))) refl e
+  where
+    go : (o : Option MarkedRegions) → regions_after q c.regions (region_steps_of_wholes (whole_groups c.groups d.groups)) ≡ o → option_and_then (λ middle. joined_regions q middle d.regions) o ≡ Some rs → IsBounded (merged_with c d rs) (n + m)
+    go None k e = absurd cc
+    go (Some mid) k e = omega (
+      arith,
+      a,
+      b,
+      read_records q c.regions mid (region_steps_of_wholes (whole_groups c.groups d.groups)) k,
+      wholes-records (whole_groups c.groups d.groups),
+      merged_waiting c.groups d.groups,
+      each_records q d.regions.tables d.regions.tables mid rs (finite.entries d.regions.marks) (keys_distinct (finite.entries d.regions.marks) (finite.entries_sorted d.regions.marks)) (agrees_all d.regions.tables (finite.entries d.regions.marks)) e,
+    )
+
+one_weight : (s : AtomicGroupStatus) (is : List RegionStep) (f : ℕ) → records_in (held_steps (one_marker s is f)) ≡ records_in is
+one_weight Begin is f = refl
+one_weight Middle is f = ap records_in (append-nil is)
+one_weight End is f = ap records_in (append-nil is)
+
+pub taken_bounded : (q : LogQueue) (c : Context) (e : Event) (rs : MarkedRegions) (n : ℕ) → IsBounded c n → regions_after q c.regions (completed_steps c.groups (batch_of e) (batch_of e).marker) ≡ Some rs → IsBounded (taken_with c e rs) (n + records_in (steps_of_items e.items))
+taken_bounded q c e rs n a k = go (batch_of e).marker (read_records q c.regions rs (completed_steps c.groups (batch_of e) (batch_of e).marker) k)
+  where
+    or_whole : (o : Option WholeGroup) → records_in (region_steps_or o) ≡ records_or o
+    or_whole None = refl
+    or_whole (Some w) = whole_group-records w
+
+    go : (m : Option GroupMarker) → all_records rs.tables ≤ all_records c.regions.tables + records_in (completed_steps c.groups (batch_of e) m) → all_records rs.tables + waiting_records (groups_after c.groups (batch_of e) m) ≤ n + records_in (steps_of_items e.items)
+    go None h = omega (arith, h, a)
+    go (Some m) h = let g : WaitingGroup = one_marker m.status (steps_of_items e.items) e.file.seq in
+        omega (arith, h, a, or_whole (whole_group (known c.groups m.group) g), total-insert (λ (g : WaitingGroup). records_in (held_steps g)) c.groups m.group (joined_group (known c.groups m.group) g), waiting_known c.groups m.group, joined_weight (known c.groups m.group) g, one_weight m.status (steps_of_items e.items) e.file.seq)

@@ -1,0 +1,5 @@
+use Rattle.raft_history.proofs.AgreeLaws.{agree}
+use Rattle.raft_history.proofs.contexts.exact_contexts_agree.Goals as goal
+
+pub returns : goal.returns
+returns c = agree

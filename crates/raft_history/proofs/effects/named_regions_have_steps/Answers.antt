@@ -1,0 +1,6 @@
+use Rattle.raft_history.proofs.UnmarkedLemmas.{named-steps}
+use Rattle.raft_history.proofs.NamedLemmas.{named_across, named-one}
+use Rattle.raft_history.proofs.effects.named_regions_have_steps.Goals as goal
+
+pub returns : goal.returns
+returns c = record { steps = named-steps; across = named_across; more = named-one }

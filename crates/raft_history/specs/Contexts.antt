@@ -1,0 +1,140 @@
+-- Contexts: what is held of a history of batches, when it stands for that history, and how two neighbours are merged.
+use Rattle.std.specs.Prelude.{◌≡◌, ◌⊎◌, ℕ, ◌+◌, ◌≤◌, Bool, true, ◌||◌, List, [], ◌∷◌, ◌++◌, Option, Some, None, is_some, option_map, nat_le, if◌then◌else◌}
+use Rattle.std.specs.Option.{option_and_then}
+use Rattle.std.specs.FinMap as finite
+use Rattle.raft_base.specs.declared.pipe_log.LogQueue.{LogQueue}
+use Rattle.raft_base.specs.declared.pipe_log.LogQueue.TheVariants.{Append}
+use Rattle.raft_table.specs.Marks.{Stands}
+use Rattle.raft_table.specs.Overlay.{HoldsDeleted, IsExactMark}
+use Rattle.raft_table.specs.Steps.{Step}
+use Rattle.raft_history.specs.Batches.{Event, GroupMarker, Batch, batch_of, batches}
+use Rattle.raft_history.specs.Effects.{steps_of, is_named}
+use Rattle.raft_history.specs.Histories.{IsSoundIn, size_of, last_from, cleaned_in_batch, cleaned_in}
+use Rattle.raft_history.specs.MarkedRegions.{MarkedRegions, no_regions, MarkedRegion, region_in, regions_after, region_steps_of_whole, region_steps_of_wholes, joined_marked, joined_regions}
+use Rattle.raft_history.specs.Records.{all_records, waiting_records}
+use Rattle.raft_history.specs.RegionSteps.{RegionStep}
+use Rattle.raft_history.specs.WaitingGroup.{WholeGroup, whole_group, one_marker}
+use Rattle.raft_history.specs.WaitingGroups.{WaitingGroups, groups_in, known, joined_groups, whole_groups, groups_after}
+
+-- ---- the files of a history
+
+-- the queue of a history's files, the first and the last of them
+pub record FileRange : Type 0 where
+  pub queue : LogQueue
+  pub first : ℕ
+  pub last : ℕ
+
+-- the files of a history that has a batch
+abbrev pub files_of : List Event → Option FileRange
+files_of [] = None
+files_of (e ∷ h) = Some (record { queue = e.file.queue; first = e.file.seq; last = last_from e.file.seq h })
+
+-- files that are of this queue, if there are any
+abbrev pub Suits : LogQueue → Option FileRange → Type 0
+Suits queue None = Unit {0}
+Suits queue (Some files) = files.queue ≡ queue
+
+-- the files of two neighbours
+abbrev pub joined_files : Option FileRange → Option FileRange → Option FileRange
+joined_files None newer = newer
+joined_files (Some older) None = Some older
+joined_files (Some older) (Some newer) = Some (record { queue = older.queue; first = older.first; last = newer.last })
+
+-- the newer neighbour's first file isn't below the older one's last
+abbrev pub follows : Option FileRange → Option FileRange → Bool
+follows None newer = true
+follows (Some older) None = true
+follows (Some older) (Some newer) = nat_le older.last newer.first
+
+-- ---- a context
+
+-- the marks and tables of regions, the groups that wait, the regions that were cleaned, and the files
+pub record Context : Type 0 where
+  pub regions : MarkedRegions
+  pub groups : WaitingGroups
+  pub cleaned : List ℕ
+  pub files : Option FileRange
+
+-- a context without a batch
+abbrev pub new_context : Context
+new_context = record { regions = no_regions; groups = finite.empty; cleaned = []; files = None }
+
+-- one region's mark and table stand for its steps; the mark has the keys that they delete, and in the append queue their greatest compaction and least start
+pub record Holds (queue : LogQueue) (r : ℕ) (x : MarkedRegion) (ss : List Step) : Type 0 where
+  pub stands : Stands queue r x.mark x.table ss
+  pub deleted : HoldsDeleted x.mark ss
+  pub exact : queue ≡ Append → IsExactMark x.mark ss
+
+-- every region's mark and table stand for its steps in the effects, and the regions that those name, and no others, have a mark
+pub record AreExact (queue : LogQueue) (rs : MarkedRegions) (bs : List Batch) : Type 0 where
+  pub each : (r : ℕ) → Holds queue r (region_in rs r) (steps_of r bs)
+  pub marked : (r : ℕ) → is_some (finite.get rs.marks r) ≡ is_named r bs
+
+-- of a history of this queue: it is sound, and its cleaned regions are the context's; in the append queue the regions are exact
+pub record StandsIn (queue : LogQueue) (c : Context) (h : List Event) : Type 0 where
+  pub sound : IsSoundIn queue h
+  pub cleaned : c.cleaned ≡ cleaned_in queue h
+  pub append : queue ≡ Append → AreExact Append c.regions (batches h)
+
+-- all tables and the groups that wait hold no more records than this
+abbrev pub IsBounded : Context → ℕ → Type 0
+IsBounded c count = all_records c.regions.tables + waiting_records c.groups ≤ count
+
+-- the context stands for the history: its files and its waiting groups are the history's, and it holds no more records than that names. (Without a batch both queues suit.)
+pub record StandsFor (c : Context) (h : List Event) : Type 0 where
+  pub files : c.files ≡ files_of h
+  pub groups : c.groups ≡ groups_in (batches h)
+  pub few : IsBounded c (size_of h)
+  pub stands : (queue : LogQueue) → Suits queue c.files → StandsIn queue c h
+
+-- and exactly
+pub record IsExactFor (c : Context) (h : List Event) : Type 0 where
+  pub stands : StandsFor c h
+  pub regions : (queue : LogQueue) → Suits queue c.files → AreExact queue c.regions (batches h)
+
+-- ---- a merge
+
+-- the regions of two neighbours: first the groups that become whole between them are taken in, then the newer regions are joined; none where one is refused
+abbrev pub merged_regions : LogQueue → Context → Context → Option MarkedRegions
+merged_regions queue c d = option_and_then (λ middle. joined_regions queue middle d.regions) (regions_after queue c.regions (region_steps_of_wholes (whole_groups c.groups d.groups)))
+
+-- two neighbours with these regions
+abbrev pub merged_with : Context → Context → MarkedRegions → Context
+merged_with c d rs = record { regions = rs; groups = joined_groups c.groups d.groups; cleaned = c.cleaned ++ d.cleaned; files = joined_files c.files d.files }
+
+-- two neighbours of one queue; none where the files or a region refuse
+abbrev pub merged : LogQueue → Context → Context → Option Context
+merged queue c d = if follows c.files d.files then option_map (merged_with c d) (merged_regions queue c d) else None
+
+-- the merged regions, each by itself, in no order
+pub record AreMerged (queue : LogQueue) (c d : Context) (new : MarkedRegions) : Type 0 where
+  pub middle : MarkedRegions
+  pub wholes : regions_after queue c.regions (region_steps_of_wholes (whole_groups c.groups d.groups)) ≡ Some middle
+  pub regions : (r : ℕ) → joined_marked queue r (finite.get d.regions.marks r) (finite.get d.regions.tables r) (region_in middle r) ≡ Some (region_in new r)
+  pub marked : (r : ℕ) → is_some (finite.get new.marks r) ≡ (is_some (finite.get middle.marks r) || is_some (finite.get d.regions.marks r))
+
+-- a step of a group that becomes whole is refused, or a region's join
+abbrev pub AreRefused : LogQueue → Context → Context → Type 0
+AreRefused queue c d =
+    (regions_after queue c.regions (region_steps_of_wholes (whole_groups c.groups d.groups)) ≡ None)
+    ⊎ ((middle : MarkedRegions) × (regions_after queue c.regions (region_steps_of_wholes (whole_groups c.groups d.groups)) ≡ Some middle) × ((r : ℕ) × (joined_marked queue r (finite.get d.regions.marks r) (finite.get d.regions.tables r) (region_in middle r) ≡ None)))
+
+-- ---- one more batch
+
+-- the steps of a group that may be whole
+abbrev pub region_steps_or : Option WholeGroup → List RegionStep
+region_steps_or None = []
+region_steps_or (Some w) = region_steps_of_whole w
+
+-- the steps that take effect with a batch: its own where it has no marker, else those of the group that it makes whole
+abbrev pub completed_steps : WaitingGroups → Batch → Option GroupMarker → List RegionStep
+completed_steps groups b None = b.steps
+completed_steps groups b (Some m) = region_steps_or (whole_group (known groups m.group) (one_marker m.status b.steps b.file))
+
+-- a context with one more batch and these regions
+abbrev pub taken_with : Context → Event → MarkedRegions → Context
+taken_with c e rs = record { regions = rs; groups = groups_after c.groups (batch_of e) (batch_of e).marker; cleaned = c.cleaned ++ cleaned_in_batch e.file.queue e.items; files = joined_files c.files (files_of (e ∷ [])) }
+
+-- a context with one more batch; none where a step is refused
+abbrev pub taken_in : Context → Event → Option Context
+taken_in c e = option_map (taken_with c e) (regions_after e.file.queue c.regions (completed_steps c.groups (batch_of e) (batch_of e).marker))

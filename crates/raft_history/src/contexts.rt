@@ -1,0 +1,71 @@
+//! Laws of contexts, which hold what was read of a stretch of a history.
+
+ghost use Rattle.std.specs.Prelude.{◌≡◌, ◌+◌, ◌≤◌, ℕ, List, [], ◌∷◌, ◌++◌, Some, None, true};
+ghost use Rattle.std.specs.FinMap as finite;
+ghost use Rattle.std.specs.List.{AllByRecursion};
+ghost use Rattle.raft_base.specs.declared.pipe_log.LogQueue.{LogQueue};
+ghost use Rattle.raft_base.specs.declared.pipe_log.LogQueue.TheVariants.{Rewrite};
+ghost use Rattle.raft_history.specs.RegionSteps.{RegionStep, Tables};
+ghost use Rattle.raft_history.specs.Batches.{Event, batches};
+ghost use Rattle.raft_history.specs.Histories.{Sound, Apart, AreInFile, AreInFiles, HaveStatus, FilesFrom, IsStepOfQueue, IsOneReading};
+ghost use Rattle.raft_history.specs.WaitingGroups.{WaitingGroups, groups_in, joined_groups, whole_groups};
+ghost use Rattle.raft_history.specs.Records.{waiting_records, records_in_wholes};
+ghost use Rattle.raft_history.specs.MarkedRegions.{region_steps_of_wholes};
+ghost use Rattle.raft_history.specs.Contexts.{Context, StandsFor, IsExactFor, Suits, files_of, follows, new_context, merged, taken_in};
+ghost use Rattle.raft_history.specs.Kept.{kept_of, kept_by, IsAtMost};
+
+/// A new context stands exactly for the empty history.
+pub fn new_contexts_stand_exactly()
+    ensures { IsExactFor new_context [] }
+{}
+
+/// A context that stands for a history stands for it and one batch more after taking the batch in,
+/// exactly if it did before. The batch is refused only where no sound history goes on with it.
+pub fn batches_are_taken_in()
+    ensures stands { (c d : Context) (h : List Event) (e : Event) → Suits e.file.queue c.files → follows c.files (files_of (e ∷ [])) ≡ true → AreInFile e.file e.items → HaveStatus e.file.queue e.items
+        → StandsFor c h → taken_in c e ≡ Some d → StandsFor d (h ++ e ∷ []) }
+    ensures exact { (c d : Context) (h : List Event) (e : Event) → Suits e.file.queue c.files → follows c.files (files_of (e ∷ [])) ≡ true → AreInFile e.file e.items → HaveStatus e.file.queue e.items
+        → IsExactFor c h → taken_in c e ≡ Some d → IsExactFor d (h ++ e ∷ []) }
+    ensures refused { (c : Context) (h : List Event) (e : Event) → Suits e.file.queue c.files → follows c.files (files_of (e ∷ [])) ≡ true → AreInFile e.file e.items → HaveStatus e.file.queue e.items
+        → StandsFor c h → taken_in c e ≡ None → Sound (h ++ e ∷ []) → ⊥ }
+    ensures next { (c : Context) (h : List Event) (e : Event) → StandsFor c h → Sound (h ++ e ∷ []) → Suits e.file.queue c.files × (follows c.files (files_of (e ∷ [])) ≡ true) × AreInFile e.file e.items × HaveStatus e.file.queue e.items }
+{}
+
+/// Contexts of two neighbouring histories, merged, stand for both, one behind the other; exactly, if
+/// both did and the effects of that history are apart. They are refused only where it isn't sound,
+/// in the rewrite queue by its files alone.
+pub fn merges_stand_for_both()
+    ensures stands { (q : LogQueue) (c d e : Context) (h k : List Event) → Suits q c.files → Suits q d.files → StandsFor c h → StandsFor d k → merged q c d ≡ Some e → StandsFor e (h ++ k) }
+    ensures exact { (q : LogQueue) (c d e : Context) (h k : List Event) → Suits q c.files → Suits q d.files → IsExactFor c h → IsExactFor d k → Apart (h ++ k) → merged q c d ≡ Some e → IsExactFor e (h ++ k) }
+    ensures refused { (q : LogQueue) (c d : Context) (h k : List Event) → Suits q c.files → Suits q d.files → StandsFor c h → StandsFor d k → merged q c d ≡ None → Sound (h ++ k) → ⊥ }
+    ensures rewrite { (c d : Context) → follows c.files d.files ≡ true → merged Rewrite c d ≡ None → ⊥ }
+{}
+
+/// An exact context has what one reading of its history gives.
+pub fn exact_contexts_are_one_reading()
+    ensures { (q : LogQueue) (c : Context) (h : List Event) → IsExactFor c h → Suits q c.files → IsOneReading q h c.regions.tables c.cleaned }
+{}
+
+/// An exact context holds at most what its history may hold, number by number.
+pub fn exact_contexts_keep_little()
+    ensures { (q : LogQueue) (c : Context) (h : List Event) (tables : Tables) (cleaned : List ℕ) → IsExactFor c h → Suits q c.files → IsOneReading q h tables cleaned → IsAtMost (kept_of c) (kept_by q h tables) }
+{}
+
+/// Contexts that are exact for one history hold the same: so merges of exact contexts are associative
+/// in meaning.
+pub fn exact_contexts_agree()
+    ensures { (c d : Context) (h : List Event) → IsExactFor c h → IsExactFor d h → (c.regions.tables ≡ d.regions.tables) × (c.groups ≡ d.groups) × (c.cleaned ≡ d.cleaned) × (c.files ≡ d.files) }
+{}
+
+/// What waits after two neighbours were joined, and what became whole between them, is no more than
+/// waited in both.
+pub fn waiting_records_stay_few()
+    ensures { (older newer : WaitingGroups) → waiting_records (joined_groups older newer) + records_in_wholes (whole_groups older newer) ≤ waiting_records older + waiting_records newer }
+{}
+
+/// The steps that become whole where two histories of a queue meet are such as replays into it ask
+/// for.
+pub fn wholes_are_of_the_queue()
+    ensures { (q : LogQueue) (h k : List Event) → FilesFrom q 0 h → AreInFiles h → FilesFrom q 0 k → AreInFiles k
+        → AllByRecursion (λ (s : RegionStep). IsStepOfQueue q s.step) (region_steps_of_wholes (whole_groups (groups_in (batches h)) (groups_in (batches k)))) }
+{}

@@ -1,0 +1,35 @@
+-- What is read of segments: the batches of their parts, in order.
+use Rattle.std.specs.Prelude.{◌≡◌, ℕ, List, [], ◌∷◌, ◌++◌, length, Vec}
+use Rattle.std.specs.Global.{Global}
+use Rattle.raft_records.specs.FilePart.{Part, IsBatchAt}
+use Rattle.raft_history.specs.Batches.{Event}
+
+-- one history read behind another
+pub record IsReadBehind (IsFirst IsRest : List Event → Type 0) (h : List Event) : Type 0 where
+  pub first : List Event
+  pub rest : List Event
+  pub first_reads : IsFirst first
+  pub rest_reads : IsRest rest
+  pub split : h ≡ first ++ rest
+
+-- the batches from a place of a part on, one behind the other up to its end, each written to the part's file
+abbrev pub ReadsFrom : Part → ℕ → List Event → Type 0
+ReadsFrom part at [] = at ≡ length part.bytes
+ReadsFrom part at (e ∷ h) = (e.file ≡ part.id) × ((next : ℕ) × IsBatchAt part at e.items next × ReadsFrom part next h)
+
+-- the batches of a part
+abbrev pub ReadsPart : Part → List Event → Type 0
+ReadsPart part h = ReadsFrom part 0 h
+
+-- what is read of each, in order
+abbrev pub ReadsEach : {A : Type 0} → (A → List Event → Type 0) → List A → List Event → Type 0
+ReadsEach Reads [] h = h ≡ []
+ReadsEach Reads (x ∷ xs) h = IsReadBehind (Reads x) (λ rest. ReadsEach Reads xs rest) h
+
+-- the batches of the parts of a segment
+abbrev pub ReadsParts : List Part → List Event → Type 0
+ReadsParts parts h = ReadsEach ReadsPart parts h
+
+-- the batches of segments
+abbrev pub ReadsSegments : List (Vec Part Global) → List Event → Type 0
+ReadsSegments segments h = ReadsEach (λ segment. ReadsParts segment.items) segments h

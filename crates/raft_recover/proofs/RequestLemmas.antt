@@ -1,6 +1,6 @@
 -- What words ask for.
-use Rattle.std.proofs.Common.{◌≡◌, ◌≢◌, ℕ, zero, suc, ◌-◌, ◌<◌, ◌≤◌, List, [], ◌∷◌, ◌++◌, length, get_or, take, drop, codes, Bool, true, false, not, Bor, Option, None, Some, IfNone, MatchOption, arith, refl, subst, ap, sym, ◌∙◌}
-use Rattle.std.proofs.lemmas.List.{take_all}
+use Rattle.std.proofs.Common.{◌≡◌, ◌≢◌, ℕ, zero, suc, ◌-◌, ◌<◌, ◌≤◌, List, [], ◌∷◌, ◌++◌, length, get_or, take, drop, codes, Bool, true, false, not, Bor, Option, None, Some, IfNone, MatchOption, arith, refl, subst, ap, sym, ◌∙◌, append_assoc}
+use Rattle.std.proofs.lemmas.List.{take_all, append-nil}
 use Rattle.std.specs.Char.{digit_value}
 use Rattle.std.specs.Str.Parse.{AllDigits}
 use Rattle.std.proofs.lemmas.Str.Pattern.{IsSplitOnceResult, split_after}
@@ -75,9 +75,12 @@ four_and_more (w ∷ x ∷ y ∷ z ∷ vs) a b c d low p q r s =
 pub recover_first : (words rest : List (List ℕ)) (command a b c : List ℕ) → words ≡ command ∷ a ∷ b ∷ c ∷ rest → command ≡ codes "recover" → words ≡ codes "recover" ∷ a ∷ b ∷ c ∷ rest
 recover_first words rest command a b c split recover = rw (← recover) split
 
--- one more word and its file
-pub read_more : (words : List (List ℕ)) (files : List File) (word : List ℕ) (file : File) → AreRead words files → IsRead word file → AreRead (words ++ word ∷ []) (files ++ file ∷ [])
-read_more [] [] word file r h = (h, tt)
-read_more [] (f ∷ files) word file r h = absurd r
-read_more (w ∷ words) [] word file r h = absurd r
-read_more (w ∷ words) (f ∷ files) word file r h = (r.0, read_more words files word file r.1 h)
+-- a word's file goes behind those so far
+pub one_more : (all words : List (List ℕ)) (word : List ℕ) (files shown : List File) (file : File) → ((rest : List File) → AreRead (word ∷ words) rest → AreRead all (files ++ rest)) → IsRead word file → shown ≡ files ++ file ∷ [] → (rest : List File) → AreRead words rest → AreRead all (shown ++ rest)
+one_more all words word files shown file before read same rest more =
+    let parted : shown ++ rest ≡ files ++ (file ∷ rest) = rw same (append_assoc files (file ∷ []) rest) in
+    subst (AreRead all) (sym parted) (before (file ∷ rest) (read, more))
+
+-- no more words are left
+pub all_read : (all : List (List ℕ)) (files : List File) → ((rest : List File) → AreRead [] rest → AreRead all (files ++ rest)) → AreRead all files
+all_read all files before = subst (AreRead all) (append-nil files) (before [] tt)

@@ -1,5 +1,6 @@
 pub mod Drawing
 pub mod Draws
+pub mod Files
 pub mod Merges
 pub mod Plans
 pub mod Replays

@@ -1,6 +1,6 @@
 -- Requests as the program holds them.
 use Rattle.std.specs.Prelude.{ℕ, List, map, string_bytes, Vec}
-use Rattle.std.specs.declared.alloc.Global.{Global}
+use Rattle.std.specs.Global.{Global}
 use Rattle.raft_recover.specs.declared.request.Recovery.{Recovery}
 use Rattle.raft_recover.specs.declared.request.Request.{Request}
 use Rattle.raft_recover.specs.declared.request.Request.TheVariants.{Batch, Recover}

@@ -4,6 +4,7 @@
 mod drawing;
 pub mod pieces;
 pub mod plan;
+pub mod recover;
 mod recovered;
 pub mod request;
 pub mod run;

@@ -1,9 +1,9 @@
-use Rattle.std.proofs.Common.{map, string_bytes, take}
-use Rattle.raft_recover.specs.Requests.{AreRead}
+use Rattle.std.proofs.Common.{List, ◌++◌, map, string_bytes, drop}
+use Rattle.raft_recover.specs.Requests.{File, AreRead}
 use Rattle.raft_recover.specs.RequestView.{file_shown}
 use Rattle.raft_recover.proofs.request.read_files.Given as goal
 
--- the words so far name the files so far
+-- whatever files the words name that are left, behind those so far they are files for all words
 abbrev pub invariant-loop-word : goal.invariant-loop-word
-invariant-loop-word l =
-    AreRead (map string_bytes (take l.word-index l.words)) (map file_shown l.files.items)
+invariant-loop-word g l =
+    (rest : List File) → AreRead (map string_bytes (drop l.word-index l.words)) rest → AreRead (map string_bytes l.words) (map file_shown l.files.items ++ rest)

@@ -1,7 +1,7 @@
 -- The values of a map under numbers, sorted by their numbers, stand in the map's order.
-use Rattle.std.proofs.Common.{◌≡◌, ℕ, zero, suc, ◌+◌, ◌<◌, ◌≤◌, Bool, true, false, cond, eqb, ltb, List, [], ◌∷◌, length, get_or, map, Option, Some, None, refl, sym, ap, ◌∙◌, arith}
+use Rattle.std.proofs.Common.{◌≡◌, ℕ, suc, ◌+◌, ◌<◌, ◌≤◌, Bool, true, false, cond, eqb, ltb, List, [], ◌∷◌, length, get_or, map, Some, refl, sym, ap, ◌∙◌, arith}
 use lib.Dec.{T}
-use Rattle.std.proofs.lemmas.Bool.{eq-eqb, eqb-true}
+use Rattle.std.proofs.lemmas.Bool.{eq-eqb}
 use Rattle.std.proofs.lemmas.Bool.Decides.{nat_tests}
 use Rattle.std.proofs.lemmas.List.Elements.{All-from_recursion, recursion_from_All}
 use Rattle.std.proofs.lemmas.List.Sorted.{IsPermutation-map, All-permutation, sum_by-IsPermutation}
@@ -126,7 +126,6 @@ module _ {X : Type 0} where
   each_found (e ∷ es) sorted = (rw (tied e.0 e.0, eq-eqb e.0 e.0 refl) refl, each_later e es es (first_of_both _ _ sorted) (each_found es (second_of_both _ _ sorted)))
 
   module _ (n : X → ℕ) (m : finite.FinMap nat_cmp X) where
-
     own_values : ((k : ℕ) (x : X) → finite.get m k ≡ Some x → n x ≡ k) → (es : List (ℕ × X)) → AllByRecursion (λ e. find nat_cmp e.0 (finite.entries m) ≡ Some e.1) es → AllByRecursion (λ x. finite.get m (n x) ≡ Some x) (map (λ e. e.1) es) × (map n (map (λ e. e.1) es) ≡ map (λ e. e.0) es)
     own_values numbered [] h = (tt, refl)
     own_values numbered (e ∷ es) h =

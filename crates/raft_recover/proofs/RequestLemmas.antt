@@ -1,5 +1,5 @@
 -- What words ask for.
-use Rattle.std.proofs.Common.{◌≡◌, ◌≢◌, ℕ, zero, suc, ◌-◌, ◌<◌, ◌≤◌, List, [], ◌∷◌, ◌++◌, length, get_or, take, drop, codes, Bool, true, false, not, Bor, Option, None, Some, IfNone, MatchOption, arith, refl, subst, ap, sym, ◌∙◌, append_assoc}
+use Rattle.std.proofs.Common.{◌≡◌, ◌≢◌, ℕ, zero, suc, ◌+◌, ◌-◌, ◌<◌, ◌≤◌, List, [], ◌∷◌, ◌++◌, length, get_or, take, drop, codes, Bool, true, false, not, Bor, Option, None, Some, IfNone, MatchOption, arith, refl, subst, ap, sym, ◌∙◌, append_assoc}
 use Rattle.std.proofs.lemmas.List.{take_all, append-nil}
 use Rattle.std.specs.Char.{digit_value}
 use Rattle.std.specs.Str.Parse.{AllDigits}
@@ -84,3 +84,18 @@ one_more all words word files shown file before read same rest more =
 -- no more words are left
 pub all_read : (all : List (List ℕ)) (files : List File) → ((rest : List File) → AreRead [] rest → AreRead all (files ++ rest)) → AreRead all files
 all_read all files before = subst (AreRead all) (append-nil files) (before [] tt)
+
+-- an item, and those behind it
+pub next_item : {X : Type 0} (xs : List X) (i : ℕ) (x : X) → i < length xs → x ≡ get_or xs i x → drop i xs ≡ x ∷ drop (i + 1) xs
+next_item [] i x low is = absurd (omega arith)
+next_item (y ∷ ys) zero x low is = ap (λ z. z ∷ ys) (sym is)
+next_item (y ∷ ys) (suc i) x low is =
+    let behind : suc i + 1 ≡ suc (i + 1) = omega arith in
+    rw behind (next_item ys i x (omega arith) is)
+
+-- nothing stands behind the last item
+pub none_left : {X : Type 0} (xs : List X) (i : ℕ) → length xs ≤ i → drop i xs ≡ []
+none_left [] zero past = refl
+none_left [] (suc i) past = refl
+none_left (x ∷ xs) zero past = absurd (omega arith)
+none_left (x ∷ xs) (suc i) past = none_left xs i (omega arith)

@@ -1,5 +1,5 @@
 -- What a run of the program prints.
-use Rattle.std.specs.Prelude.{◌≡◌, ℕ, List, Option, IfSome}
+use Rattle.std.specs.Prelude.{ℕ, List, Option, IfSome}
 use Rattle.std.specs.Io.KnownBytes.{IsAtEnd}
 use Rattle.raft_base.specs.Signature.{signature_of}
 use Rattle.raft_base.specs.declared.pipe_log.LogFileContext.{LogFileContext}

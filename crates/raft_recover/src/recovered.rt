@@ -13,9 +13,11 @@ fn sort_by_region(tables: &mut Vec<&MemTable>)
     ensures moved { IsPermutation tables.old.items tables.new.items }
     ensures rises { IsNonDecreasingBy (λ t. t.now.region_id) tables.new.items }
 {
-    tables.sort_unstable_by_key(|table: &&MemTable| -> u64
-        ensures { result ≡ table.now.now.region_id }
-    { table.region_id() });
+    tables.sort_unstable_by_key(
+        |table: &&MemTable| -> u64
+            ensures { result ≡ table.now.now.region_id }
+        { table.region_id() },
+    );
 }
 
 /// Appends the lines of tables.

@@ -112,7 +112,10 @@ pub fn path_named(word: &str) -> Option<(FileSeq, &str)>
 }
 
 /// Reads the files that words name, one behind the other. A word that names no file is `InvalidArgument`.
-pub fn read_files<R: Files + AllocGlobal>(rt: &R, words: &[String]) -> Result<Vec<(FileSeq, Vec<u8>)>>
+pub fn read_files<R: Files + AllocGlobal>(
+    rt: &R,
+    words: &[String],
+) -> Result<Vec<(FileSeq, Vec<u8>)>>
     ensures { IfOk result (λ files. AreRead (map string_bytes words.now) (map file_shown files.items)) }
 {
     let mut files = Vec::with_capacity(rt.alloc(), words.len())?;

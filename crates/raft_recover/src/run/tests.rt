@@ -116,10 +116,16 @@ fn run_on(rt: &HostRuntime, line: &str, input: &str) -> Option<Answer> {
 fn rows(rt: HostRuntime) {
     for (line, input, status, out, err) in ROWS {
         let mut answer = run_on(&rt, line, input);
-        if answer.as_ref().is_none_or(|answer| answer.found_no_memory()) {
+        if answer
+            .as_ref()
+            .is_none_or(|answer| answer.found_no_memory())
+        {
             answer = run_on(&rt, line, input);
         }
-        assert!(rt; answer.is_some_and(|answer| answer.is(status, out, err)), "{line}: {input}");
+        assert!(rt;
+            answer.is_some_and(|answer| answer.is(status, out, err)),
+            "{line}: {input}"
+        );
     }
 }
 
@@ -173,13 +179,7 @@ fn failing_streams(rt: HostRuntime) {
 
     let mut input = b"\x00\x8d\xef\x02\xd2".as_slice();
     assert_eq!(rt;
-        run(
-            &rt,
-            words.as_slice(),
-            &mut input,
-            &mut Closed,
-            &mut Closed
-        ),
+        run(&rt, words.as_slice(), &mut input, &mut Closed, &mut Closed),
         1
     );
     let none = &words.as_slice()[..0];

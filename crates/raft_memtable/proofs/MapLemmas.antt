@@ -18,6 +18,9 @@ eq_self n = ap is_eq (sym (nat_cmp_is n n Equal refl))
 pub some_is : {X : Type 0} {x y : X} → Some x ≡ Some y → x ≡ y
 some_is e = cc
 
+pub none_some : {X : Type 0} {x : X} → None ≡ Some x → ⊥
+none_some e = cc
+
 -- a key is the given one, or another
 pub by_id : (q id : ℕ) → (q ≡ id) ⊎ (eq_by_cmp nat_cmp q id ≡ false)
 by_id q id = elim (eq_by_cmp nat_cmp q id) as (λ b. eq_by_cmp nat_cmp q id ≡ b → (q ≡ id) ⊎ (b ≡ false)) [ true ↦ λ e. inl (nat_cmp-IsAntisymmetric q id (equal _ e)) | false ↦ λ e. inr refl ] refl

@@ -19,7 +19,7 @@ abbrev Es : Type 0
 Es = List (ℕ × Table)
 
 -- the two tests of numbers are one
-same_test : (q k : ℕ) → is_eq (nat_cmp q k) ≡ nat_eq q k
+pub same_test : (q k : ℕ) → is_eq (nat_cmp q k) ≡ nat_eq q k
 same_test q k = elim (by_id q k) [ inl p ↦ subst (λ k. is_eq (nat_cmp q k) ≡ nat_eq q k) p (eq_self q ∙ sym (self_same q)) | inr f ↦ f ∙ sym (other q k f) ]
   where
     other : (q k : ℕ) → eq_by_cmp nat_cmp q k ≡ false → nat_eq q k ≡ false

@@ -1,7 +1,9 @@
 -- One item written to its region's table.
 use Rattle.std.proofs.Common.{◌≡◌, ◌⊎◌, ◌≤◌, ◌^◌, ◌+◌, ℕ, Bool, true, false, cond, List, [], ◌∷◌, ◌++◌, length, append-nil, Option, Some, None, Result, Ok, Err, refl, sym, ap, subst, ◌∙◌, inl, inr, arith}
 use Rattle.std.specs.FinMap as finite
-use Rattle.std.specs.Option.{option_map}
+use Rattle.std.specs.Option.{option_map, is_some}
+use Rattle.std.specs.declared.alloc.Global.{Global}
+use Rattle.std.specs.declared.vec.Vec.{Vec}
 use Rattle.std.specs.Result.{OnOk, OnErr, IfErr}
 use Rattle.std.proofs.lemmas.Bool.{false≢true}
 use Rattle.raft_base.specs.declared.errors.Error.{Error}
@@ -9,27 +11,29 @@ use Rattle.raft_base.specs.declared.errors.Error.TheVariants as errors
 use Rattle.raft_base.specs.declared.pipe_log.LogQueue.{LogQueue}
 use Rattle.raft_base.specs.declared.pipe_log.LogQueue.TheVariants.{Append, Rewrite}
 use Rattle.raft_records.specs.declared.entry_index.EntryIndex.{EntryIndex}
+use Rattle.raft_base.specs.declared.pipe_log.FileId.{FileId}
+use Rattle.raft_records.specs.declared.command.Command.{Command}
 use Rattle.raft_records.specs.declared.command.Command.TheVariants as commands
 use Rattle.raft_records.specs.Group.{is_reserved}
-use Rattle.raft_records.specs.Item.{Item, Content, Pair, entries, command, pair}
+use Rattle.raft_records.specs.Item.{Item, Content, Pair, entries, command, pair, command_item}
 use Rattle.raft_history.specs.RegionSteps.{Tables, with_table}
 use Rattle.raft_table.specs.Counts.{Counts, live}
 use Rattle.raft_table.specs.Entries.{IsRunIn}
 use Rattle.raft_table.specs.Rewriting.{rewritten, IsRewriteRefused}
 use Rattle.raft_table.specs.Start.{appended, replayed, IsRunRefused}
 use Rattle.raft_table.specs.Steps.{table_of}
-use Rattle.raft_table.specs.Table.{Table, with_entries, IsRecounted}
+use Rattle.raft_table.specs.Table.{Table, empty_table, with_entries, IsPutRefused, IsKeyRefused, IsRecounted}
 use Rattle.raft_table.proofs.RunCounts.{append_full, replay_full}
 use Rattle.raft_memtable.specs.Accessor.{table_in}
-use Rattle.raft_memtable.specs.ItemWrites.{IsItemWritten}
-use Rattle.raft_memtable.specs.Updates.{IsTaken, IsReplayFault, IsNoRun}
-use Rattle.raft_memtable.specs.Writes.{Writing, Appending, Replaying, Rewriting, queue_of, after_content, listed_by, IsFor, IsContentFault}
-use Rattle.raft_memtable.proofs.MapLemmas.{one_same}
+use Rattle.raft_memtable.specs.ItemWrites.{IsItemWritten, pair_change}
+use Rattle.raft_memtable.specs.Updates.{IsTaken, IsReplayFault, IsRefusal}
+use Rattle.raft_memtable.specs.Writes.{Writing, Appending, Replaying, Rewriting, queue_of, after_content, after_rewrite_put, with_change, lists, listed_by, cleaned_by_content, IsFor, IsContentFault}
+use Rattle.raft_memtable.proofs.MapLemmas.{get_gone, one_same}
 
 -- what is done to the table is what the content asks for, and no region is listed
 pub written_by : (w : Writing) (item : Item) (outcome : Option Table) (IsFault : Error → Type 0) (old : Tables) (counts : Counts) (list : List ℕ) (r : Result Unit Error) (new : Tables) (after : Counts) → IsTaken outcome IsFault old item.raft_group_id counts r new after
-  → IsFor w item.content → listed_by w item ≡ [] → after_content w item.raft_group_id (finite.get old item.raft_group_id) item.content ≡ option_map Some outcome
-  → ((e : Error) → IsFault e → IsContentFault w item.raft_group_id (finite.get old item.raft_group_id) (live (queue_of w) counts) item.content e) → IsItemWritten w item old counts list r new after list
+    → IsFor w item.content → listed_by w item ≡ [] → after_content w item.raft_group_id (finite.get old item.raft_group_id) item.content ≡ option_map Some outcome
+    → ((e : Error) → IsFault e → IsContentFault w item.raft_group_id (finite.get old item.raft_group_id) (live (queue_of w) counts) item.content e) → IsItemWritten w item old counts list r new after list
 written_by w item outcome IsFault old counts list r new after h asked none is fault = record {
   asked = elim r as (λ r. OnOk r (IsFor w item.content)) [ Ok a ↦ asked | Err x ↦ tt ];
   ok = elim r as (λ r. OnOk r (outcome ≡ Some (table_in new item.raft_group_id)) → OnOk r (finite.get new item.raft_group_id ≡ Some (table_in new item.raft_group_id)) → OnOk r (after_content w item.raft_group_id (finite.get old item.raft_group_id) item.content ≡ Some (finite.get new item.raft_group_id))) [
@@ -107,8 +111,98 @@ by_rewrite gate seq id o rs p counts e is h = absurd h
 pub rewrite_fault : (gate : Option ℕ) (seq id : ℕ) (o : Option Table) (rs : List EntryIndex) (counts : Counts) (e : Error) → IsRewriteRefused (length rs) counts (rewritten gate rs (table_of id o).entries) e → IsContentFault (Rewriting gate seq) id o (live Rewrite counts) (entries rs) e
 rewrite_fault gate seq id o rs counts e h = by_rewrite gate seq id o rs _ counts e refl h
 
--- entries that are no run of the queue
-pub no_run : (w : Writing) (id : ℕ) (o : Option Table) (live : ℕ) (rs : List EntryIndex) (e : Error) → IsNoRun (queue_of w) rs e → IsContentFault w id o live (entries rs) e
-no_run w id o live rs (errors.Corruption text) h = inl h
-no_run w id o live rs errors.Memory h = tt
-no_run w id o live rs e h = absurd h
+-- what isn't as asked, or has no outcome
+pub no_outcome : (w : Writing) (id : ℕ) (o : Option Table) (live : ℕ) (content : Content) (e : Error) → IsRefusal e → (IsFor w content → ⊥) ⊎ (after_content w id o content ≡ None) → IsContentFault w id o live content e
+no_outcome w id o live content (errors.Corruption text) h k = k
+no_outcome w id o live content errors.Memory h k = tt
+no_outcome w id o live content e h k = absurd h
+
+-- ---- why changes of keys are refused
+
+put_at : (q : LogQueue) (id : ℕ) (o : Option Table) (p : Pair) (counts : Counts) (replaced : Option FileId) (e : Error) → IsPutRefused q counts replaced e → IsContentFault (Replaying q) id o (live q counts) (pair p) e
+put_at q id o p counts replaced errors.Full h = h.0
+put_at q id o p counts replaced errors.Memory h = tt
+put_at q id o p counts replaced e h = absurd h
+
+pub put_fault : (q : LogQueue) (id : ℕ) (o : Option Table) (p : Pair) (counts : Counts) (file : FileId) (replaced : Option FileId) (e : Error) → file.queue ≡ q → IsPutRefused file.queue counts replaced e → IsContentFault (Replaying q) id o (live q counts) (pair p) e
+put_fault q id o p counts file replaced e is h = put_at q id o p counts replaced e (subst (λ q. IsPutRefused q counts replaced e) is h)
+
+key_by : (gate : Option ℕ) (seq id : ℕ) (o : Option Table) (p : Pair) (counts : Counts) (t : Option Table) (e : Error) → after_content (Rewriting gate seq) id o (pair p) ≡ option_map Some t → IsKeyRefused counts t e → IsContentFault (Rewriting gate seq) id o (live Rewrite counts) (pair p) e
+key_by gate seq id o p counts None (errors.Corruption text) is h = inr is
+key_by gate seq id o p counts None errors.Memory is h = tt
+key_by gate seq id o p counts (Some u) errors.Full is h = h
+key_by gate seq id o p counts t e is h = absurd h
+
+pub key_fault : (gate : Option ℕ) (seq id : ℕ) (o : Option Table) (p : Pair) (counts : Counts) (t : Option Table) (e : Error) → after_content (Rewriting gate seq) id o (pair p) ≡ option_map Some t → IsKeyRefused counts t e → IsContentFault (Rewriting gate seq) id o (live Rewrite counts) (pair p) e
+key_fault gate seq id o p counts t e is h = key_by gate seq id o p counts t e is h
+
+-- a rewriting of a key without a value has no outcome
+pub no_value : (gate : Option ℕ) (seq : ℕ) (t : Table) (key : List ℕ) (v : Option (Vec ℕ Global)) → is_some v ≡ false → after_rewrite_put gate seq t key (option_map (λ v. v.items) v) ≡ None
+no_value gate seq t key None e = refl
+no_value gate seq t key (Some v) e = absurd (false≢true (sym e))
+
+-- the reserved key is skipped
+pub reserved_step : (w : Writing) (id : ℕ) (o : Option Table) (p : Pair) → is_reserved p.key ≡ true → after_content w id o (pair p) ≡ Some o
+reserved_step w id o p e = ap (λ b. cond b (Some o) (option_map Some (with_change w (table_of id o) p))) e
+
+pub change_step : (w : Writing) (id : ℕ) (o : Option Table) (p : Pair) → is_reserved p.key ≡ false → after_content w id o (pair p) ≡ option_map Some (with_change w (table_of id o) p)
+change_step w id o p e = ap (λ b. cond b (Some o) (option_map Some (with_change w (table_of id o) p))) e
+
+-- only a Clean is listed
+pub none_listed : (w : Writing) (item : Item) → cleaned_by_content item.raft_group_id item.content ≡ [] → listed_by w item ≡ []
+none_listed w item e = elim (lists w) as (λ b. cond b (cleaned_by_content item.raft_group_id item.content) [] ≡ []) [ true ↦ e | false ↦ refl ]
+
+-- ---- a Clean
+
+pub cleaned_by : (q : LogQueue) (id : ℕ) (old : Tables) (counts : Counts) (list : List ℕ) (new : Tables) (after : Counts) (listed : List ℕ) → new ≡ finite.remove old id → IsRecounted (table_in old id) (empty_table id) counts after
+    → listed ≡ list ++ listed_by (Replaying q) (command_item id commands.Clean) → IsItemWritten (Replaying q) (command_item id commands.Clean) old counts list (Ok tt) new after listed
+cleaned_by q id old counts list new after listed e r l =
+    let gone : finite.get new id ≡ None = ap (λ m. finite.get m id) e ∙ get_gone old id in
+    record {
+      asked = tt;
+      ok = ap Some (sym gone);
+      cleaned = l;
+      err = tt;
+      cleaned_err = tt;
+      fault = tt;
+      one = e ∙ ap (with_table old id) (sym gone);
+      recounted = subst (λ t. IsRecounted (table_in old id) t counts after) (ap (table_of id) (sym gone)) r;
+    }
+
+-- ---- new commands and changes of keys are as those that are read again
+
+command_as_new : (id : ℕ) (o : Option Table) (live : ℕ) (c : Command) (e : Error) → IsContentFault (Replaying Append) id o live (command c) e → IsContentFault Appending id o live (command c) e
+command_as_new id o live c (errors.Corruption text) h = h
+command_as_new id o live c errors.Full h = h
+command_as_new id o live c errors.Memory h = tt
+command_as_new id o live c e h = absurd h
+
+pair_as_new : (id : ℕ) (o : Option Table) (live : ℕ) (p : Pair) (e : Error) → IsContentFault (Replaying Append) id o live (pair p) e → IsContentFault Appending id o live (pair p) e
+pair_as_new id o live p (errors.Corruption text) h = h
+pair_as_new id o live p errors.Full h = h
+pair_as_new id o live p errors.Memory h = tt
+pair_as_new id o live p e h = absurd h
+
+pub new_command : (id : ℕ) (c : Command) (old : Tables) (counts : Counts) (list : List ℕ) (r : Result Unit Error) (new : Tables) (after : Counts) (listed : List ℕ) → IsItemWritten (Replaying Append) (command_item id c) old counts list r new after listed → IsItemWritten Appending (command_item id c) old counts list r new after listed
+new_command id c old counts list r new after listed h = record {
+  asked = elim r as (λ r. OnOk r Unit) [ Ok a ↦ tt | Err x ↦ tt ];
+  ok = h.ok;
+  cleaned = h.cleaned;
+  err = h.err;
+  cleaned_err = h.cleaned_err;
+  fault = elim r as (λ r. IfErr r (IsContentFault (Replaying Append) id (finite.get old id) (live Append counts) (command c)) → IfErr r (IsContentFault Appending id (finite.get old id) (live Append counts) (command c))) [ Ok a ↦ λ f. tt | Err x ↦ λ f. command_as_new id (finite.get old id) (live Append counts) c x f ] h.fault;
+  one = h.one;
+  recounted = h.recounted;
+}
+
+pub new_pair : (id : ℕ) (p : Pair) (old : Tables) (counts : Counts) (list : List ℕ) (r : Result Unit Error) (new : Tables) (after : Counts) (listed : List ℕ) → IsItemWritten (Replaying Append) (pair_change id p) old counts list r new after listed → IsItemWritten Appending (pair_change id p) old counts list r new after listed
+new_pair id p old counts list r new after listed h = record {
+  asked = h.asked;
+  ok = h.ok;
+  cleaned = h.cleaned;
+  err = h.err;
+  cleaned_err = h.cleaned_err;
+  fault = elim r as (λ r. IfErr r (IsContentFault (Replaying Append) id (finite.get old id) (live Append counts) (pair p)) → IfErr r (IsContentFault Appending id (finite.get old id) (live Append counts) (pair p))) [ Ok a ↦ λ f. tt | Err x ↦ λ f. pair_as_new id (finite.get old id) (live Append counts) p x f ] h.fault;
+  one = h.one;
+  recounted = h.recounted;
+}

@@ -3,12 +3,16 @@ use Rattle.std.specs.Prelude.{◌≡◌, ℕ, List, ◌++◌, Some, Result, IfEr
 use Rattle.std.specs.FinMap as finite
 use Rattle.std.specs.Result.{OnOk, OnErr}
 use Rattle.raft_base.specs.declared.errors.Error.{Error}
-use Rattle.raft_records.specs.Item.{Item}
+use Rattle.raft_records.specs.Item.{Item, Pair, pair}
 use Rattle.raft_table.specs.Counts.{Counts, live}
 use Rattle.raft_table.specs.Table.{IsRecounted}
 use Rattle.raft_history.specs.RegionSteps.{Tables, with_table}
 use Rattle.raft_memtable.specs.Accessor.{table_in}
 use Rattle.raft_memtable.specs.Writes.{Writing, queue_of, after_content, listed_by, IsFor, IsContentFault}
+
+-- the change of a key of a region
+abbrev pub pair_change : ℕ → Pair → Item
+pair_change id p = record { raft_group_id = id; content = pair p }
 
 -- an item is written to its region's table
 pub record IsItemWritten (w : Writing) (item : Item) (old : Tables) (counts : Counts) (list : List ℕ) (r : Result Unit Error) (new : Tables) (after : Counts) (listed : List ℕ) : Type 0 where

@@ -10,7 +10,6 @@ use Rattle.raft_base.specs.declared.errors.Error.TheVariants as errors
 use Rattle.raft_base.specs.declared.pipe_log.LogQueue.{LogQueue}
 use Rattle.raft_records.specs.declared.entry_index.EntryIndex.{EntryIndex}
 use Rattle.raft_table.specs.Counts.{Counts}
-use Rattle.raft_table.specs.Entries.{IsRunIn}
 use Rattle.raft_table.specs.Queues.{other}
 use Rattle.raft_table.specs.Start.{replayed, IsRunRefused}
 use Rattle.raft_table.specs.Table.{Table, live_of, IsRecounted}
@@ -66,8 +65,8 @@ IsReplayFault queue run t counts (errors.InvalidArgument text) = 0 < live_of (ot
 IsReplayFault queue run t counts errors.Memory = Unit {0}
 IsReplayFault queue run t counts e = IsRunRefused queue counts t.entries (replayed queue t.entries run) e
 
--- why entries are refused: they are no run of the queue, or that and want of memory for the refusal's text
-abbrev pub IsNoRun : LogQueue → List EntryIndex → Error → Type 0
-IsNoRun queue run (errors.Corruption text) = IsRunIn queue run → ⊥
-IsNoRun queue run errors.Memory = IsRunIn queue run → ⊥
-IsNoRun queue run _ = ⊥
+-- a refusal of an item, or want of memory for its text
+abbrev pub IsRefusal : Error → Type 0
+IsRefusal (errors.Corruption text) = Unit {0}
+IsRefusal errors.Memory = Unit {0}
+IsRefusal _ = ⊥

@@ -1,9 +1,10 @@
 //! Log items written to the tables of their regions.
 
-ghost use Rattle.std.specs.Prelude.{◌≡◌, ◌≢◌, ◌≤◌, ◌<◌, ◌⊎◌, ℕ, OnOk, OnErr, IfOk, IfErr, Some, None};
+ghost use Rattle.std.specs.Prelude.{◌≡◌, ◌≢◌, ◌≤◌, ◌<◌, ◌⊎◌, ℕ, List, length, Option, OnOk, OnErr, IfOk, IfErr, MatchBool, Some, None};
 ghost use Rattle.std.specs.FinMap as finite;
 ghost use Rattle.raft_base.specs.declared.pipe_log.LogQueue.TheVariants.{Append, Rewrite};
-ghost use Rattle.raft_records.specs.Item.{item_of};
+ghost use Rattle.raft_records.specs.Item.{Item, item_of, entries_item, command_item, pair, pair_of};
+ghost use Rattle.raft_records.specs.declared.command.Command.TheVariants.{Clean};
 ghost use Rattle.raft_table.specs.Counts.{Counts};
 ghost use Rattle.raft_table.specs.Entries.{IsRunIn};
 ghost use Rattle.raft_table.specs.KeyValues.{file_at};
@@ -12,10 +13,9 @@ ghost use Rattle.raft_table.specs.Rewriting.{rewritten, IsRewriteRefused};
 ghost use Rattle.raft_table.specs.Start.{appended, replayed, IsRunRefused};
 ghost use Rattle.raft_table.specs.Table.{Table, after_append, after_replay, after_rewrite, after_rewrite_key, compacted, with_pair, without_key, live_of, IsPutRefused, IsKeyRefused, IsCounted, IsRecounted};
 ghost use Rattle.raft_memtable.specs.Accessor.{table_in};
-ghost use Rattle.raft_memtable.specs.ItemWrites.{IsItemWritten};
-ghost use Rattle.raft_memtable.specs.Updates.{IsTaken, IsReplayFault, IsNoRun};
+ghost use Rattle.raft_memtable.specs.ItemWrites.{IsItemWritten, pair_change};
+ghost use Rattle.raft_memtable.specs.Updates.{IsTaken, IsReplayFault, IsRefusal};
 ghost use Rattle.raft_memtable.specs.Writes.{Appending, Replaying, Rewriting};
-ghost use Rattle.std.specs.Prelude.{length};
 
 use crate::region_tables::RegionTables;
 use raft_records::{Command, KeyValue, LogItem, LogItemContent, OpType, is_reserved};
@@ -25,6 +25,269 @@ use raft_table::{
 use std::alloc::Global;
 
 impl RegionTables {
+    /// Writes a new item of the append queue to its region's table, and lists the region where the
+    /// item cleans it.
+    ///
+    /// # Errors
+    ///
+    /// `Corruption` where the entries are no run of the append queue or the start rule of
+    /// [`MemTable::append`] refuses them, and where a `Put` has no value, no file or a file of the
+    /// rewrite queue; `Full` where more than 2^64 - 1 records would be live; `Memory`. Tables and
+    /// list are then as they were.
+    pub fn append_item(
+        &mut self,
+        item: LogItem,
+        stats: &mut GlobalStats,
+        cleaned: &mut Vec<u64>,
+    ) -> Result<()>
+        requires { IsCounted (table_in self.old item.raft_group_id) stats.old }
+        ensures { IsItemWritten Appending (item_of item) self.old stats.old cleaned.old.items result self.new stats.new cleaned.new.items }
+    {
+        let LogItem {
+            raft_group_id: id,
+            content,
+        } = item;
+        match content {
+            LogItemContent::EntryIndexes(entries) => self.append_entries(id, entries.0, stats),
+            LogItemContent::Command(command) => {
+                self.replay_command(LogQueue::Append, id, command, stats, cleaned)
+            }
+            LogItemContent::Kv(kv) => self.replay_pair(LogQueue::Append, id, kv, stats),
+        }
+    }
+
+    /// Writes an item of `queue` that is read again to its region's table. In the append queue it
+    /// lists the region where the item cleans it.
+    ///
+    /// # Errors
+    ///
+    /// `Corruption` where the entries are no run of `queue` or the start rule of its replay refuses
+    /// them, and where a `Put` has no value, no file or a file of the other queue; `InvalidArgument`
+    /// for entries where the table has records of the other queue; `Full` where more than 2^64 - 1
+    /// records would be live; `Memory`. Tables and list are then as they were.
+    pub fn replay_item(
+        &mut self,
+        queue: LogQueue,
+        item: LogItem,
+        stats: &mut GlobalStats,
+        cleaned: &mut Vec<u64>,
+    ) -> Result<()>
+        requires { IsCounted (table_in self.old item.raft_group_id) stats.old }
+        ensures { IsItemWritten (Replaying queue) (item_of item) self.old stats.old cleaned.old.items result self.new stats.new cleaned.new.items }
+    {
+        let LogItem {
+            raft_group_id: id,
+            content,
+        } = item;
+        match content {
+            LogItemContent::EntryIndexes(entries) => {
+                self.replay_entries(queue, id, entries.0, stats)
+            }
+            LogItemContent::Command(command) => {
+                self.replay_command(queue, id, command, stats, cleaned)
+            }
+            LogItemContent::Kv(kv) => self.replay_pair(queue, id, kv, stats),
+        }
+    }
+
+    /// Writes an item that was rewritten to the file `seq` of the rewrite queue to its region's
+    /// table: the places of its entries, or the file of its key. A `Clean` changes nothing.
+    ///
+    /// # Errors
+    ///
+    /// `Corruption` for a `Compact`, a deletion and a `Put` without a value, where the entries are no
+    /// run of the rewrite queue, and where the call of the table refuses what it is asked; `Full`
+    /// where more than 2^64 - 1 records would be live; `Memory`. The tables are then as they were.
+    pub fn rewrite_item(
+        &mut self,
+        item: LogItem,
+        gate: Option<FileSeq>,
+        seq: FileSeq,
+        stats: &mut GlobalStats,
+    ) -> Result<()>
+        requires { IsCounted (table_in self.old item.raft_group_id) stats.old }
+        ensures { (list : List ℕ) → IsItemWritten (Rewriting gate seq) (item_of item) self.old stats.old list result self.new stats.new list }
+    {
+        let LogItem {
+            raft_group_id: id,
+            content,
+        } = item;
+        match content {
+            LogItemContent::EntryIndexes(entries) => {
+                self.rewrite_entries(id, entries.0, gate, seq, stats)
+            }
+            LogItemContent::Command(command) => self.rewrite_command(id, command),
+            LogItemContent::Kv(kv) => self.rewrite_pair(id, kv, gate, seq, stats),
+        }
+    }
+
+    /// Puts new entries of the append queue.
+    fn append_entries(
+        &mut self,
+        id: u64,
+        run: Vec<EntryIndex>,
+        stats: &mut GlobalStats,
+    ) -> Result<()>
+        requires { IsCounted (table_in self.old id) stats.old }
+        ensures { (list : List ℕ) → IsItemWritten Appending (entries_item id run.items) self.old stats.old list result self.new stats.new list }
+    {
+        if !is_run(&run, LogQueue::Append) {
+            return Err(corruption(self.allocator(), "entries are no run of the append queue"));
+        }
+        self.append_run(id, run, stats)
+    }
+
+    /// Puts entries that are read again.
+    fn replay_entries(
+        &mut self,
+        queue: LogQueue,
+        id: u64,
+        run: Vec<EntryIndex>,
+        stats: &mut GlobalStats,
+    ) -> Result<()>
+        requires { IsCounted (table_in self.old id) stats.old }
+        ensures { (list : List ℕ) → IsItemWritten (Replaying queue) (entries_item id run.items) self.old stats.old list result self.new stats.new list }
+    {
+        if !is_run(&run, queue) {
+            return Err(corruption(self.allocator(), "entries are no run of their queue"));
+        }
+        self.replay_run(queue, id, run, stats)
+    }
+
+    /// Gives entries their rewritten places.
+    fn rewrite_entries(
+        &mut self,
+        id: u64,
+        run: Vec<EntryIndex>,
+        gate: Option<FileSeq>,
+        seq: FileSeq,
+        stats: &mut GlobalStats,
+    ) -> Result<()>
+        requires { IsCounted (table_in self.old id) stats.old }
+        ensures { (list : List ℕ) → IsItemWritten (Rewriting gate seq) (entries_item id run.items) self.old stats.old list result self.new stats.new list }
+    {
+        if !is_run(&run, LogQueue::Rewrite) {
+            return Err(corruption(self.allocator(), "entries are no run of the rewrite queue"));
+        }
+        self.rewrite_run(id, run, gate, stats)
+    }
+
+    /// Refuses a compaction that was rewritten. A `Clean` changes nothing.
+    fn rewrite_command(&self, id: u64, command: Command) -> Result<()>
+        ensures { (gate : Option ℕ) (seq : ℕ) (counts : Counts) (list : List ℕ) → IsItemWritten (Rewriting gate seq) (command_item id command) self.now counts list result self.now counts list }
+    {
+        match command {
+            Command::Clean => Ok(()),
+            Command::Compact { index: _ } => {
+                Err(corruption(self.allocator(), "a compaction is rewritten"))
+            }
+        }
+    }
+
+    /// Obeys a command.
+    fn replay_command(
+        &mut self,
+        queue: LogQueue,
+        id: u64,
+        command: Command,
+        stats: &mut GlobalStats,
+        cleaned: &mut Vec<u64>,
+    ) -> Result<()>
+        requires { IsCounted (table_in self.old id) stats.old }
+        ensures { IsItemWritten (Replaying queue) (command_item id command) self.old stats.old cleaned.old.items result self.new stats.new cleaned.new.items }
+    {
+        match command {
+            Command::Clean => self.clean(queue, id, stats, cleaned),
+            Command::Compact { index } => self.compact(id, index, stats),
+        }
+    }
+
+    /// Takes a region's table away, and lists the region in the append queue.
+    fn clean(
+        &mut self,
+        queue: LogQueue,
+        id: u64,
+        stats: &mut GlobalStats,
+        cleaned: &mut Vec<u64>,
+    ) -> Result<()>
+        requires { IsCounted (table_in self.old id) stats.old }
+        ensures { IsItemWritten (Replaying queue) (command_item id Clean) self.old stats.old cleaned.old.items result self.new stats.new cleaned.new.items }
+    {
+        match queue {
+            LogQueue::Append => {
+                cleaned.push(id)?;
+                self.remove(id, stats);
+                Ok(())
+            }
+            LogQueue::Rewrite => {
+                self.remove(id, stats);
+                Ok(())
+            }
+        }
+    }
+
+    /// Puts or deletes a key, unless it is reserved.
+    fn replay_pair(
+        &mut self,
+        queue: LogQueue,
+        id: u64,
+        kv: KeyValue,
+        stats: &mut GlobalStats,
+    ) -> Result<()>
+        requires { IsCounted (table_in self.old id) stats.old }
+        ensures { (list : List ℕ) → IsItemWritten (Replaying queue) (pair_change id (pair_of kv)) self.old stats.old list result self.new stats.new list }
+    {
+        if is_reserved(&kv.key) {
+            return Ok(());
+        }
+        let KeyValue {
+            op_type,
+            key,
+            value,
+            file_id,
+        } = kv;
+        match op_type {
+            OpType::Put => {
+                let Some(value) = value else {
+                    return Err(corruption(self.allocator(), "a key is put without value"));
+                };
+                let Some(file) = file_id else {
+                    return Err(corruption(self.allocator(), "a key is put without file"));
+                };
+                if !is_in(file, queue) {
+                    return Err(corruption(self.allocator(), "a key is put in the other queue"));
+                }
+                self.put(id, key, value, file, stats)
+            }
+            OpType::Del => self.delete(id, &key, stats),
+        }
+    }
+
+    /// Gives a key its rewritten file, unless it is reserved.
+    fn rewrite_pair(
+        &mut self,
+        id: u64,
+        kv: KeyValue,
+        gate: Option<FileSeq>,
+        seq: FileSeq,
+        stats: &mut GlobalStats,
+    ) -> Result<()>
+        requires { IsCounted (table_in self.old id) stats.old }
+        ensures { (list : List ℕ) → IsItemWritten (Rewriting gate seq) (pair_change id (pair_of kv)) self.old stats.old list result self.new stats.new list }
+    {
+        if is_reserved(&kv.key) {
+            return Ok(());
+        }
+        match kv.op_type {
+            OpType::Put => {
+                if kv.value.is_none() {
+                    return Err(corruption(self.allocator(), "a key is rewritten without value"));
+                }
+                self.rewrite_key(id, kv.key, gate, seq, stats)
+            }
+            OpType::Del => Err(corruption(self.allocator(), "a deletion is rewritten")),
+        }
+    }
     /// Puts a new run of the append queue.
     fn append_run(&mut self, id: u64, run: Vec<EntryIndex>, stats: &mut GlobalStats) -> Result<()>
         requires run { IsRunIn Append run.items }
@@ -191,13 +454,19 @@ pub(crate) fn replay_into(
     }
 }
 
-/// Refuses entries that are no run of `queue`.
-fn check_run(alloc: Global, run: &[EntryIndex], queue: LogQueue) -> Result<()>
-    ensures ok { OnOk result (IsRunIn queue run.now) }
-    ensures fault { IfErr result (IsNoRun queue run.now) }
+/// Whether a file is in `queue`.
+fn is_in(file: FileId, queue: LogQueue) -> bool
+    ensures { MatchBool result (file.queue ≡ queue) (file.queue ≡ queue → ⊥) }
 {
-    if is_run(run, queue) {
-        return Ok(());
+    file.queue == queue
+}
+
+/// A refusal of an item with this text, or want of memory for it.
+fn corruption(alloc: Global, text: &str) -> Error
+    ensures { IsRefusal result }
+{
+    match String::from_str(alloc, text) {
+        Ok(text) => Error::Corruption(text),
+        Err(_) => Error::Memory,
     }
-    Err(Error::Corruption(format!(in alloc; "entries that are no run of their queue")?))
 }

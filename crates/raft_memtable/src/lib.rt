@@ -1,10 +1,14 @@
 //! The tables of all regions, and the contexts that rebuild them from log files.
 #![tactic(auto)]
 
+pub mod accessor;
 pub mod item_writes;
 pub mod region_tables;
 pub mod replay_machine;
+#[cfg(test)]
+mod tests;
 
+pub use accessor::{MemTableAccessor, slot_of};
 pub use raft_table::{
     EntryIndex, Error, FileBlockHandle, FileId, FileSeq, GlobalStats, LogQueue, MemTable, Result,
     TableChange, global_stats, is_run, memtable,

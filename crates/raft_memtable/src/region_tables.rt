@@ -1,6 +1,6 @@
 //! The tables of some regions.
 
-ghost use Rattle.std.specs.Prelude.{◌≡◌, ◌≢◌, ◌≤◌, ◌<◌, ◌^◌, ◌+◌, ◌↔◌, ◌⊎◌, IsTrue, OnOk, OnErr, IfOk, IfErr, IfSome, Some, None, option_map};
+ghost use Rattle.std.specs.Prelude.{◌≡◌, ◌≢◌, ◌≤◌, ◌<◌, ◌^◌, ◌+◌, ◌↔◌, ◌⊎◌, List, ◌++◌, map, IsPermutation, IsTrue, OnOk, OnErr, IfOk, IfErr, IfSome, Some, None, option_map};
 ghost use Rattle.std.specs.FinMap as finite;
 ghost use Rattle.raft_base.specs.declared.pipe_log.LogQueue.{LogQueue};
 ghost use Rattle.raft_history.specs.RegionSteps.{Tables, with_table};
@@ -69,6 +69,17 @@ impl RegionTables {
         ensures own { IfSome result (λ t. t.now.region_id ≡ id) }
     {
         self.tables.get(&id)
+    }
+
+    /// Pushes all tables, in open order.
+    pub(crate) fn push_tables<'a>(&'a self, tables: &mut Vec<&'a MemTable>) -> Result<()>
+        ensures ok { OnOk result ((ts : List Table) × IsPermutation ts (finite.values self.now) × (map (λ t. t.now) tables.new.items ≡ map (λ t. t.now) tables.old.items ++ ts)) }
+        ensures memory { IfErr result (λ e. e ≡ Error.Memory) }
+    {
+        for table in self.tables.values() {
+            tables.push(table)?;
+        }
+        Ok(())
     }
 
     /// Makes an empty table for a region that has none.

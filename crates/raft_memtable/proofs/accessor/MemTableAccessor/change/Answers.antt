@@ -1,0 +1,40 @@
+use Rattle.std.proofs.Common.{◌≡◌, ◌≤◌, ◌⊎◌, ◌+◌, ◌^◌, Option, Some, None, Ok, Err, refl, sym, ap, subst, ◌∙◌, slice_index_or, slice_set, arith, inl, inr}
+use Rattle.std.specs.Result.{OnOk, OnErr, IfOk, IfErr}
+use Rattle.std.specs.FinMap as finite
+use Rattle.raft_base.specs.declared.errors.Error.TheVariants as errors
+use Rattle.raft_base.specs.declared.pipe_log.LogQueue.{LogQueue}
+use Rattle.raft_records.specs.Item.{item_of}
+use Rattle.raft_history.specs.RegionSteps.{Tables, with_table}
+use Rattle.raft_table.specs.Change.{after_change, IsAnswer, IsChangeRefused}
+use Rattle.raft_table.specs.Counts.{live}
+use Rattle.raft_table.specs.Steps.{table_of}
+use Rattle.raft_table.specs.Table.{Table, with_atomic_group, live_of, IsCounted, IsRecounted}
+use Rattle.raft_memtable.specs.Accessor.{Accessor, table_in, live_in_all}
+use Rattle.raft_memtable.specs.AccessorView.{together, accessor_shown, IsKept}
+use Rattle.raft_memtable.specs.Writes.{Appending, Replaying, Rewriting}
+use Rattle.raft_memtable.specs.declared.accessor.MemTableAccessor.TheInside.{Inside}
+use Rattle.raft_memtable.proofs.AccessorLemmas.{InSlot, kept-in, tables-are, changed-in, answers-in}
+use Rattle.raft_memtable.proofs.LiveLemmas.{table-counted}
+use Rattle.raft_memtable.proofs.MapLemmas.{get_own}
+use Rattle.raft_memtable.proofs.SlotLemmas.{get-shown, IsChanged, shown-changed, kept-changed}
+use Rattle.raft_memtable.proofs.accessor.MemTableAccessor.change.Goals as goal
+
+pub change-requires : goal.change-requires
+change-requires c =
+    subst (λ t. IsCounted t c.self.inside.stats) (ap (table_of c.args.id) (get-shown c.self.inside _ c.args.id c.slot_of.result _ c.self.invariant refl c.slot_of.ensures.value c.slot_of.ensures.bound))
+    (table-counted (together c.self.inside.slots) c.self.inside.stats c.args.id c.self.invariant.counted)
+
+abbrev after : goal.After-change → Inside
+after c = record c.self.inside { slots = slice_set c.self.inside.slots c.slot_of.result c.change.new.self; stats = c.change.new.stats }
+
+slotted : (c : goal.After-change) → InSlot c.self.inside (after c) c.args.id c.slot_of.result c.index-self-slot_of.result c.change.new.self c.change.new.stats
+slotted c = record { at = c.slot_of.ensures.value; bound = c.slot_of.ensures.bound; slots = refl; stats = refl; one = c.change.ensures.taken.one; recounted = c.change.ensures.taken.recounted }
+
+pub invariant_of-self : goal.invariant_of-self
+invariant_of-self c = kept-in c.self.inside (after c) c.args.id c.slot_of.result c.index-self-slot_of.result c.change.new.self c.change.new.stats c.self.invariant (slotted c)
+
+pub returns-clause-changed : goal.returns-clause-changed
+returns-clause-changed c = changed-in c.self.inside (after c) c.args.id c.slot_of.result c.index-self-slot_of.result c.change.new.self c.change.new.stats c.self.invariant (slotted c) c.args.self.now c.self.view_is (λ t. after_change t c.args.change) (λ t k. IsChangeRefused t k c.args.change) c.change.result c.change.ensures.taken refl
+
+pub returns-clause-answer : goal.returns-clause-answer
+returns-clause-answer c = answers-in c.self.inside (after c) c.args.id c.slot_of.result c.index-self-slot_of.result c.change.new.self c.change.new.stats c.self.invariant (slotted c) c.args.self.now c.self.view_is (IsAnswer c.args.change) c.change.result c.change.ensures.answer

@@ -1,0 +1,26 @@
+use Rattle.std.proofs.Common.{◌≡◌, ◌≢◌, Bool, true, false, List, [], ◌∷◌, ◌++◌, Option, Some, None, Ok, Err, refl, sym, ap, subst, ◌∙◌, inl, inr, append-nil, rules}
+use Rattle.std.specs.FinMap as finite
+use Rattle.std.specs.Option.{option_map}
+use Rattle.std.proofs.lemmas.Bool.{false≢true}
+use Rattle.std.proofs.lemmas.Result.{err_from_is_err_and}
+use Rattle.raft_base.specs.declared.errors.Error.TheVariants as errors
+use Rattle.raft_base.specs.declared.pipe_log.LogQueue.TheVariants.{Append, Rewrite}
+use Rattle.raft_records.specs.declared.command.Command.TheVariants as commands
+use Rattle.raft_records.specs.Group.{is_reserved}
+use Rattle.raft_records.specs.Item.{Item, entries, command, pair, pair_of, entries_item, command_item}
+use Rattle.raft_table.specs.Entries.{IsRunIn}
+use Rattle.raft_table.specs.Table.{after_append, after_replay}
+use Rattle.raft_memtable.specs.Accessor.{table_in}
+use Rattle.raft_memtable.specs.ItemWrites.{pair_change}
+use Rattle.raft_memtable.specs.Writes.{Appending, Replaying, Rewriting, with_change}
+use Rattle.raft_memtable.proofs.WriteLemmas.{written_by, refused_by, skipped_by, no_outcome, append_fault, replay_fault, none_listed, reserved_step, change_step, cleaned_by, new_pair}
+use Rattle.raft_memtable.proofs.region_tables.RegionTables.replay_entries.Goals as goal
+
+pub returns-then-not-is_run : goal.returns-then-not-is_run
+returns-then-not-is_run c = λ list.
+    refused_by (Replaying c.args.queue) (entries_item c.args.id c.args.run.items) c.args.self.now c.args.stats.now list c.corruption.result (no_outcome (Replaying c.args.queue) c.args.id (finite.get c.args.self.now c.args.id) _ (entries c.args.run.items) c.corruption.result c.corruption.ensures (inl (subst (λ es. IsRunIn c.args.queue es → ⊥) c.deref.ensures.value c.if-not-is_run.ensures)))
+
+pub returns : goal.returns
+returns c = λ list.
+    written_by (Replaying c.args.queue) (entries_item c.args.id c.args.run.items) (after_replay c.args.queue (table_in c.args.self.now c.args.id) c.args.run.items) _ c.args.self.now c.args.stats.now list c.replay_run.result c.replay_run.new.self c.replay_run.new.stats c.replay_run.ensures (subst (IsRunIn c.args.queue) c.deref.ensures.value c.if-not-is_run.ensures)
+    (none_listed (Replaying c.args.queue) (entries_item c.args.id c.args.run.items) refl) refl (λ e f. replay_fault c.args.queue c.args.id (finite.get c.args.self.now c.args.id) c.args.run.items c.args.stats.now e f)

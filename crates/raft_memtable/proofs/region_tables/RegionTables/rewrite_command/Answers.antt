@@ -1,0 +1,23 @@
+use Rattle.std.proofs.Common.{◌≡◌, ◌≢◌, Bool, true, false, List, [], ◌∷◌, ◌++◌, Option, Some, None, Ok, Err, refl, sym, ap, subst, ◌∙◌, inl, inr, append-nil, rules}
+use Rattle.std.specs.FinMap as finite
+use Rattle.std.specs.Option.{option_map}
+use Rattle.std.proofs.lemmas.Bool.{false≢true}
+use Rattle.std.proofs.lemmas.Result.{err_from_is_err_and}
+use Rattle.raft_base.specs.declared.errors.Error.TheVariants as errors
+use Rattle.raft_base.specs.declared.pipe_log.LogQueue.TheVariants.{Append, Rewrite}
+use Rattle.raft_records.specs.declared.command.Command.TheVariants as commands
+use Rattle.raft_records.specs.Group.{is_reserved}
+use Rattle.raft_records.specs.Item.{Item, entries, command, pair, pair_of, entries_item, command_item}
+use Rattle.raft_table.specs.Counts.{live}
+use Rattle.raft_table.specs.Table.{after_append, after_replay}
+use Rattle.raft_memtable.specs.Accessor.{table_in}
+use Rattle.raft_memtable.specs.ItemWrites.{pair_change}
+use Rattle.raft_memtable.specs.Writes.{Appending, Replaying, Rewriting, with_change}
+use Rattle.raft_memtable.proofs.WriteLemmas.{written_by, refused_by, skipped_by, no_outcome, append_fault, replay_fault, none_listed, reserved_step, change_step, cleaned_by, new_pair}
+use Rattle.raft_memtable.proofs.region_tables.RegionTables.rewrite_command.Goals as goal
+
+pub returns-in-Clean : goal.returns-in-Clean
+returns-in-Clean c = λ gate seq counts list. rw c.in-Clean.is (skipped_by (Rewriting gate seq) (command_item c.args.id commands.Clean) c.args.self.now counts list tt refl refl)
+
+pub returns-in-Compact : goal.returns-in-Compact
+returns-in-Compact c = λ gate seq counts list. rw c.in-Compact.is (refused_by (Rewriting gate seq) (command_item c.args.id _) c.args.self.now counts list _ (no_outcome (Rewriting gate seq) c.args.id (finite.get c.args.self.now c.args.id) (live Rewrite counts) (command (commands.Compact c.in-Compact.index)) _ c.corruption.ensures (inr refl)))

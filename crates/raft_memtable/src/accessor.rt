@@ -1,0 +1,377 @@
+//! The tables of all regions.
+
+ghost use Rattle.std.specs.Prelude.{◌≡◌, ◌≢◌, ◌≤◌, ◌<◌, ◌^◌, ◌+◌, ◌⊎◌, ◌↔◌, ℕ, List, [], ◌∷◌, ◌++◌, map, replicate, IsPermutation, IsTrue, IsOk, OnOk, OnErr, IfOk, IfErr, IfSome, Some, None, option_map, if◌then◌else◌};
+ghost use Rattle.std.specs.FinMap as finite;
+ghost use Rattle.std.specs.Iterator.{Drains, Yields, IsFinite};
+ghost use Rattle.raft_base.specs.declared.pipe_log.LogQueue.{LogQueue};
+ghost use Rattle.raft_base.specs.declared.pipe_log.LogQueue.TheVariants.{Append, Rewrite};
+ghost use Rattle.raft_records.specs.declared.log_item.LogItem.{LogItem};
+ghost use Rattle.raft_records.specs.Item.{Item, item_of, command_item};
+ghost use Rattle.raft_records.specs.LogBatch.{empty_batch};
+ghost use Rattle.raft_records.specs.declared.command.Command.TheVariants.{Clean};
+ghost use Rattle.raft_table.specs.Change.{after_change, IsAnswer, IsChangeRefused};
+ghost use Rattle.raft_table.specs.Table.{Table, with_atomic_group, live_of};
+ghost use Rattle.raft_memtable.specs.Accessor.{slot_of, table_in, live_in_all, AreCounted};
+ghost use Rattle.raft_memtable.specs.AccessorCalls.{IsTableChanged, IsWritten};
+ghost use Rattle.raft_memtable.specs.Writes.{Appending, Replaying, Rewriting, AreWritten, AreRefused};
+
+use crate::region_tables::RegionTables;
+use raft_records::{Command, LogBatch, LogItem, hash_u64};
+use raft_table::{Error, FileSeq, GlobalStats, LogQueue, MemTable, Result, TableChange};
+use std::alloc::Global;
+use std::marker::Model;
+
+/// The number of the slot that holds a region's table: the low 7 bits of the number's hash.
+#[tactic(auto, unfolding(crate::specs::Accessor::slot_of))]
+pub fn slot_of(id: u64) -> usize
+    ensures value { result ≡ slot_of id }
+    ensures bound { result < 128 }
+{
+    (hash_u64(id) % 128) as usize
+}
+
+/// The tables of all regions, how many of their records are live, and the regions that were cleaned.
+#[derive(Drop)]
+pub struct MemTableAccessor {
+    slots: [RegionTables; 128],
+    stats: GlobalStats,
+    cleaned: Vec<u64>,
+}
+
+impl Model for MemTableAccessor {
+    ghost use Rattle.raft_memtable.specs.Accessor.{Accessor};
+    ghost use Rattle.raft_memtable.specs.AccessorCode.{accessor_code};
+
+    ghost Value = { Accessor };
+
+    ghost coded = { accessor_code };
+
+    ghost use Rattle.raft_memtable.specs.AccessorView.{accessor_shown, IsKept};
+
+    ghost view = { accessor_shown };
+
+    ghost invariant = { IsKept };
+}
+
+impl MemTableAccessor {
+    /// No tables. It takes no memory and never fails.
+    pub fn new(alloc: Global) -> Result<MemTableAccessor>
+        ensures ok { IsOk result }
+        ensures tables { IfOk result (λ accessor. accessor.tables ≡ finite.empty) }
+        ensures cleaned { IfOk result (λ accessor. accessor.cleaned ≡ []) }
+        ensures counts { IfOk result (λ accessor. accessor.counts ≡ record { append = 0; written = 0; deleted = 0 }) }
+    {
+        Ok(MemTableAccessor::empty(alloc))
+    }
+
+    /// No tables.
+    pub(crate) fn empty(alloc: Global) -> MemTableAccessor
+        ensures tables { result.tables ≡ finite.empty }
+        ensures cleaned { result.cleaned ≡ [] }
+        ensures counts { result.counts ≡ record { append = 0; written = 0; deleted = 0 } }
+    {
+        MemTableAccessor {
+            slots: empty_slots(alloc),
+            stats: GlobalStats::default(),
+            cleaned: Vec::new(alloc),
+        }
+    }
+
+    /// How many records of all tables are live in each queue.
+    pub fn stats(&self) -> &GlobalStats
+        ensures { result.now ≡ self.now.counts }
+    {
+        &self.stats
+    }
+
+    /// The regions that were cleaned, in order.
+    pub fn cleaned_regions(&self) -> &[u64]
+        ensures { result.now ≡ self.now.cleaned }
+    {
+        self.cleaned.as_slice()
+    }
+
+    /// The live numbers are those of the tables. This is a law: it computes nothing.
+    pub fn counts_are_exact(&self)
+        ensures { AreCounted self.now.tables self.now.counts }
+    {
+        let _ = &self.stats;
+    }
+
+    /// The table of a region.
+    pub fn get(&self, id: u64) -> Option<&MemTable>
+        ensures value { option_map (λ t. t.now) result ≡ finite.get self.now.tables id }
+        ensures own { IfSome result (λ t. t.now.region_id ≡ id) }
+    {
+        self.slots[slot_of(id)].get(id)
+    }
+
+    /// Makes an empty table for a region that has none.
+    ///
+    /// # Errors
+    ///
+    /// `Memory`. The accessor is then as it was.
+    pub(crate) fn make(&mut self, id: u64) -> Result<()>
+        ensures { IsTableChanged (Some (table_in self.old.tables id)) (λ e. ⊥) id result self.old self.new }
+    {
+        self.slots[slot_of(id)].make(id, &mut self.stats)
+    }
+
+    /// Does what a change says to a region's table, which is made where there is none. The number is
+    /// how many entries a compaction drops, else 0.
+    ///
+    /// # Errors
+    ///
+    /// Those of [`MemTable::change`], and `Memory`. All tables are then as they were.
+    pub fn change(&mut self, id: u64, change: TableChange) -> Result<u64>
+        ensures changed { IsTableChanged (after_change (table_in self.old.tables id) change) (IsChangeRefused (table_in self.old.tables id) self.old.counts change) id result self.old self.new }
+        ensures answer { IfOk result (IsAnswer change (table_in self.old.tables id) (table_in self.new.tables id)) }
+    {
+        self.slots[slot_of(id)].change(id, change, &mut self.stats)
+    }
+
+    /// Sets the first and the last file of a region's atomic group; its table is made where there is
+    /// none.
+    ///
+    /// # Errors
+    ///
+    /// `Memory`. All tables are then as they were.
+    pub fn apply_rewrite_atomic_group(
+        &mut self,
+        id: u64,
+        start: FileSeq,
+        end: FileSeq,
+    ) -> Result<()>
+        requires { start ≤ end }
+        ensures { IsTableChanged (Some (with_atomic_group (table_in self.old.tables id) start end)) (λ e. ⊥) id result self.old self.new }
+    {
+        self.slots[slot_of(id)].apply_rewrite_atomic_group(id, start, end, &mut self.stats)
+    }
+
+    /// Puts a table under its region's number and counts its records. The table that stood there is
+    /// taken off the counts and handed back.
+    ///
+    /// # Errors
+    ///
+    /// `Full` where more than 2^64 - 1 records would be live in a queue beside the table that is
+    /// replaced, and `Memory`. All tables are then as they were.
+    pub fn insert(&mut self, id: u64, table: MemTable) -> Result<Option<MemTable>>
+        requires { table.region_id ≡ id }
+        ensures ok { OnOk result (self.new.tables ≡ finite.insert self.old.tables id table) }
+        ensures replaced { IfOk result (λ t. t ≡ finite.get self.old.tables id) }
+        ensures err { OnErr result (self.new.tables ≡ self.old.tables) }
+        ensures fault { IfErr result (λ e. (e ≡ Error.Memory) ⊎ ((e ≡ Error.Full) × ((q : LogQueue) × (2 ^ 64 ≤ live_in_all q self.old.tables + live_of q table)))) }
+        ensures cleaned { self.new.cleaned ≡ self.old.cleaned }
+    {
+        self.slots[slot_of(id)].insert(id, table, &mut self.stats)
+    }
+
+    /// Takes a region's table away, and lists the region where that is asked for, also where it has
+    /// no table.
+    ///
+    /// # Errors
+    ///
+    /// `Memory`, where the region is to be listed. The accessor is then as it was.
+    pub fn remove(&mut self, id: u64, record_tombstone: bool) -> Result<Option<MemTable>>
+        ensures tables { OnOk result (self.new.tables ≡ finite.remove self.old.tables id) }
+        ensures taken { IfOk result (λ t. t ≡ finite.get self.old.tables id) }
+        ensures cleaned { OnOk result (self.new.cleaned ≡ (if record_tombstone then self.old.cleaned ++ id ∷ [] else self.old.cleaned)) }
+        ensures err { OnErr result (self.new ≡ self.old) }
+        ensures fault { IfErr result (λ e. (e ≡ Error.Memory) × IsTrue record_tombstone) }
+    {
+        if record_tombstone {
+            self.list(id)?;
+        }
+        Ok(self.take(id))
+    }
+
+    /// Writes new items of the append queue to the tables, in order.
+    ///
+    /// # Errors
+    ///
+    /// Those of the first item that is refused. The items in front of it are written, and nothing else.
+    pub fn apply_append_writes<I: IntoIterator<Item = LogItem>>(&mut self, items: I) -> Result<()>
+        requires { (it : I.IntoIter) → I.into_iter_gives items it → I.IntoIter.can_next it × IsFinite (I.IntoIter.remaining it) }
+        ensures ok { OnOk result ((it : I.IntoIter) × (xs : List LogItem) × I.into_iter_gives items it × Drains I.IntoIter.next_gives it xs
+            × AreWritten Appending (map item_of xs) self.old self.new) }
+        ensures refused { IfErr result (λ e. (it : I.IntoIter) × (xs : List LogItem) × (u : I.IntoIter) × I.into_iter_gives items it × Yields I.IntoIter.next_gives it xs u
+            × AreRefused Appending (map item_of xs) self.old self.new e) }
+    {
+        for item in items {
+            self.append_item(item)?;
+        }
+        Ok(())
+    }
+
+    /// Writes items of the append queue that are read again to the tables, in order.
+    ///
+    /// # Errors
+    ///
+    /// Those of the first item that is refused. The items in front of it are written, and nothing else.
+    pub fn replay_append_writes<I: IntoIterator<Item = LogItem>>(&mut self, items: I) -> Result<()>
+        requires { (it : I.IntoIter) → I.into_iter_gives items it → I.IntoIter.can_next it × IsFinite (I.IntoIter.remaining it) }
+        ensures ok { OnOk result ((it : I.IntoIter) × (xs : List LogItem) × I.into_iter_gives items it × Drains I.IntoIter.next_gives it xs
+            × AreWritten (Replaying Append) (map item_of xs) self.old self.new) }
+        ensures refused { IfErr result (λ e. (it : I.IntoIter) × (xs : List LogItem) × (u : I.IntoIter) × I.into_iter_gives items it × Yields I.IntoIter.next_gives it xs u
+            × AreRefused (Replaying Append) (map item_of xs) self.old self.new e) }
+    {
+        for item in items {
+            self.replay_item(LogQueue::Append, item)?;
+        }
+        Ok(())
+    }
+
+    /// Writes items of the rewrite queue that are read again to the tables, in order.
+    ///
+    /// # Errors
+    ///
+    /// Those of the first item that is refused. The items in front of it are written, and nothing else.
+    pub fn replay_rewrite_writes<I: IntoIterator<Item = LogItem>>(&mut self, items: I) -> Result<()>
+        requires { (it : I.IntoIter) → I.into_iter_gives items it → I.IntoIter.can_next it × IsFinite (I.IntoIter.remaining it) }
+        ensures ok { OnOk result ((it : I.IntoIter) × (xs : List LogItem) × I.into_iter_gives items it × Drains I.IntoIter.next_gives it xs
+            × AreWritten (Replaying Rewrite) (map item_of xs) self.old self.new) }
+        ensures refused { IfErr result (λ e. (it : I.IntoIter) × (xs : List LogItem) × (u : I.IntoIter) × I.into_iter_gives items it × Yields I.IntoIter.next_gives it xs u
+            × AreRefused (Replaying Rewrite) (map item_of xs) self.old self.new e) }
+    {
+        for item in items {
+            self.replay_item(LogQueue::Rewrite, item)?;
+        }
+        Ok(())
+    }
+
+    /// Writes items that were rewritten to the file `new_file` of the rewrite queue to the tables, in
+    /// order: with a watermark the places that move are those in append files at or below it, without one
+    /// those that are rewritten already.
+    ///
+    /// # Errors
+    ///
+    /// Those of the first item that is refused. The items in front of it are written, and nothing else.
+    pub fn apply_rewrite_writes<I: IntoIterator<Item = LogItem>>(
+        &mut self,
+        items: I,
+        watermark: Option<FileSeq>,
+        new_file: FileSeq,
+    ) -> Result<()>
+        requires { (it : I.IntoIter) → I.into_iter_gives items it → I.IntoIter.can_next it × IsFinite (I.IntoIter.remaining it) }
+        ensures ok { OnOk result ((it : I.IntoIter) × (xs : List LogItem) × I.into_iter_gives items it × Drains I.IntoIter.next_gives it xs
+            × AreWritten (Rewriting watermark new_file) (map item_of xs) self.old self.new) }
+        ensures refused { IfErr result (λ e. (it : I.IntoIter) × (xs : List LogItem) × (u : I.IntoIter) × I.into_iter_gives items it × Yields I.IntoIter.next_gives it xs u
+            × AreRefused (Rewriting watermark new_file) (map item_of xs) self.old self.new e) }
+    {
+        for item in items {
+            self.rewrite_item(item, watermark, new_file)?;
+        }
+        Ok(())
+    }
+
+    /// Hands out the cleaned regions as a batch with a `Clean` for each, in order. The list is then
+    /// empty.
+    ///
+    /// # Errors
+    ///
+    /// `Memory`. The accessor is then as it was.
+    pub fn take_cleaned_region_logs(&mut self) -> Result<LogBatch>
+        ensures logs { IfOk result (λ logs. logs ≡ record empty_batch { items = map (λ id. command_item id Clean) self.old.cleaned }) }
+        ensures ok { OnOk result (self.new ≡ record self.old { cleaned = [] }) }
+        ensures err { OnErr result (self.new ≡ self.old) }
+        ensures memory { IfErr result (λ e. e ≡ Error.Memory) }
+    {
+        let logs = clean_logs(*self.cleaned.allocator(), &self.cleaned)?;
+        self.cleaned.clear();
+        Ok(logs)
+    }
+
+    /// Whether there are no tables.
+    pub fn is_empty(&self) -> bool
+        ensures { IsTrue result ↔ (self.now.tables ≡ finite.empty) }
+    {
+        for slot in &self.slots {
+            if !slot.is_empty() {
+                return false;
+            }
+        }
+        true
+    }
+
+    /// All tables, in open order.
+    ///
+    /// # Errors
+    ///
+    /// `Memory`.
+    pub fn tables(&self) -> Result<Vec<&MemTable>>
+        ensures tables { IfOk result (λ tables. IsPermutation (map (λ t. t.now) tables.items) (finite.values self.now.tables)) }
+        ensures memory { IfErr result (λ e. e ≡ Error.Memory) }
+    {
+        let mut tables = Vec::new(*self.cleaned.allocator());
+        for slot in &self.slots {
+            slot.push_tables(&mut tables)?;
+        }
+        Ok(tables)
+    }
+
+    /// Lists a region as cleaned.
+    fn list(&mut self, id: u64) -> Result<()>
+        ensures ok { OnOk result (self.new ≡ record self.old { cleaned = self.old.cleaned ++ id ∷ [] }) }
+        ensures err { OnErr result (self.new ≡ self.old) }
+        ensures memory { IfErr result (λ e. e ≡ Error.Memory) }
+    {
+        self.cleaned.push(id)?;
+        Ok(())
+    }
+
+    /// Takes a region's table away, and its records off the counts.
+    fn take(&mut self, id: u64) -> Option<MemTable>
+        ensures tables { self.new.tables ≡ finite.remove self.old.tables id }
+        ensures taken { result ≡ finite.get self.old.tables id }
+        ensures cleaned { self.new.cleaned ≡ self.old.cleaned }
+    {
+        self.slots[slot_of(id)].remove(id, &mut self.stats)
+    }
+
+    /// Writes a new item of the append queue.
+    fn append_item(&mut self, item: LogItem) -> Result<()>
+        ensures { IsWritten Appending (item_of item) result self.old self.new }
+    {
+        let id = item.raft_group_id;
+        self.slots[slot_of(id)].append_item(item, &mut self.stats, &mut self.cleaned)
+    }
+
+    /// Writes an item that is read again.
+    pub(crate) fn replay_item(&mut self, queue: LogQueue, item: LogItem) -> Result<()>
+        ensures { IsWritten (Replaying queue) (item_of item) result self.old self.new }
+    {
+        let id = item.raft_group_id;
+        self.slots[slot_of(id)].replay_item(queue, item, &mut self.stats, &mut self.cleaned)
+    }
+
+    /// Writes a rewritten item.
+    fn rewrite_item(&mut self, item: LogItem, gate: Option<FileSeq>, seq: FileSeq) -> Result<()>
+        ensures { IsWritten (Rewriting gate seq) (item_of item) result self.old self.new }
+    {
+        let id = item.raft_group_id;
+        self.slots[slot_of(id)].rewrite_item(item, gate, seq, &mut self.stats)
+    }
+}
+
+/// A batch with a `Clean` for each region, in order.
+fn clean_logs(alloc: Global, ids: &[u64]) -> Result<LogBatch>
+    ensures ok { IfOk result (λ logs. logs ≡ record empty_batch { items = map (λ id. command_item id Clean) ids.now }) }
+    ensures memory { IfErr result (λ e. e ≡ Error.Memory) }
+{
+    let mut logs = LogBatch::with_capacity(alloc, ids.len())?;
+    for id in ids {
+        logs.add_command(*id, Command::Clean)?;
+    }
+    Ok(logs)
+}
+
+/// Slots without tables.
+fn empty_slots(alloc: Global) -> [RegionTables; 128]
+    ensures { result ≡ replicate 128 finite.empty }
+{
+    std::array::from_fn(
+        |_: usize| -> RegionTables
+            ensures { result ≡ finite.empty }
+        { RegionTables::new(alloc) },
+    )
+}

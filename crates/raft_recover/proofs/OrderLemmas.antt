@@ -1,8 +1,9 @@
 -- The values of a map under numbers, sorted by their numbers, stand in the map's order.
-use Rattle.std.proofs.Common.{◌≡◌, ℕ, suc, ◌+◌, ◌<◌, ◌≤◌, Bool, true, false, cond, eqb, ltb, List, [], ◌∷◌, length, get_or, map, Some, refl, sym, ap, ◌∙◌, arith}
+use Rattle.std.proofs.Common.{◌≡◌, ℕ, zero, suc, ◌+◌, ◌<◌, ◌≤◌, Bool, true, false, cond, eqb, ltb, List, [], ◌∷◌, ◌++◌, length, get_or, map, Some, refl, sym, ap, subst, ◌∙◌, arith}
 use lib.Dec.{T}
 use Rattle.std.proofs.lemmas.Bool.{eq-eqb}
 use Rattle.std.proofs.lemmas.Bool.Decides.{nat_tests}
+use Rattle.std.proofs.lemmas.List.{length-map}
 use Rattle.std.proofs.lemmas.List.Elements.{All-from_recursion, recursion_from_All}
 use Rattle.std.proofs.lemmas.List.Sorted.{IsPermutation-map, All-permutation, sum_by-IsPermutation}
 use Rattle.std.proofs.lemmas.List.Sums.{sum_by-cons}
@@ -153,3 +154,23 @@ module _ {X : Type 0} where
         let rising : RisesFrom 0 (map n (map f bs)) = rw (map_twice f n bs) (rises_by (λ b. n (f b)) 0 bs rises (λ d some. omega arith)) in
         let same : map n (map f bs) ≡ finite.keys m = same_times 0 0 (map n (map f bs)) (finite.keys m) rising (sorted_rises (finite.entries m) (finite.entries_sorted m)) (λ k. sum_by-IsPermutation (here k) (map n (finite.values m)) (map n (map f bs)) numbers ∙ ap (times k) values.1) in
         same_by_number (map f bs) (finite.values m) own values.0 (same ∙ sym values.1)
+
+image_at : {A B : Type 0} (f : A → B) (xs : List A) (i : ℕ) (d : B) (e : A) → i < length xs → get_or (map f xs) i d ≡ f (get_or xs i e)
+image_at f [] i d e low = absurd (omega arith)
+image_at f (x ∷ xs) zero d e low = refl
+image_at f (x ∷ xs) (suc i) d e low = image_at f xs i d e (omega arith)
+
+-- what rises by a number of its images rises as images
+pub images_rise : {A B : Type 0} (f : A → B) (n : B → ℕ) (xs : List A) → IsNonDecreasingBy (λ x. n (f x)) xs → IsNonDecreasingBy n (map f xs)
+images_rise f n [] rises = λ i j d le low. absurd (omega (arith, low))
+images_rise f n (x ∷ xs) rises = λ i j d le low.
+    let bound : j < length (x ∷ xs) = subst (λ k. j < k) (length-map (x ∷ xs) f) low in
+    let first = image_at f (x ∷ xs) i d x (omega (arith, le, bound)) in
+    let second = image_at f (x ∷ xs) j d x bound in
+    rw (first, second) (rises i j x le bound)
+
+-- a text of three parts, one appended after another
+pub three_parts : (none one two three a b c : List ℕ) → none ≡ [] → one ≡ none ++ a → two ≡ one ++ b → three ≡ two ++ c → three ≡ (a ++ b) ++ c
+three_parts none one two three a b c start first second third =
+    let front : one ≡ a = first ∙ ap (λ xs. xs ++ a) start in
+    third ∙ ap (λ xs. xs ++ c) (second ∙ ap (λ xs. xs ++ b) front)

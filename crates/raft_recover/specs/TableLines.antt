@@ -1,10 +1,14 @@
 -- The tables of all regions as text: a line for each table, one of the cleaned regions, and one of the live numbers.
-use Rattle.std.specs.Prelude.{ℕ, List, [], ◌∷◌, ◌++◌, codes, Option, Some, None}
+use Rattle.std.specs.Prelude.{◌≡◌, ℕ, List, [], ◌∷◌, ◌++◌, codes, Option, Some, None}
 use Rattle.std.specs.FinMap as finite
 use Rattle.std.specs.Fmt.{decimal}
+use Rattle.std.specs.Io.KnownBytes.{Appends}
 use Rattle.std.specs.List.{flat_map}
+use Rattle.std.specs.List.Sorted.{IsPermutation, IsNonDecreasingBy}
 use Rattle.raft_base.specs.declared.pipe_log.LogQueue.TheVariants.{Append, Rewrite}
 use Rattle.raft_records.specs.declared.entry_index.EntryIndex.{EntryIndex}
+use Rattle.raft_history.specs.RegionSteps.{Tables}
+use Rattle.raft_memtable.specs.Accessor.{Accessor}
 use Rattle.raft_table.specs.Counts.{Counts, live}
 use Rattle.raft_table.specs.Entries.{start_of, end_of}
 use Rattle.raft_table.specs.Least.{least_of}
@@ -41,3 +45,20 @@ cleaned_line ids = codes "cleaned" ++ cleaned_text ids ++ codes "\n"
 -- the line of the numbers of live records, first of the append queue, then of the rewrite queue
 abbrev pub live_line : Counts → List ℕ
 live_line counts = codes "live " ++ decimal (live Append counts) ++ codes " " ++ decimal (live Rewrite counts) ++ codes "\n"
+
+-- all tables, by rising region
+pub record AreByRegion (tables : Tables) (ts : List Table) : Type 0 where
+  pub all : IsPermutation ts (finite.values tables)
+  pub rising : IsNonDecreasingBy (λ t. t.region_id) ts
+
+-- the lines of all tables by rising region, of the cleaned regions, and of the live numbers
+pub record IsTextOfTables (accessor : Accessor) (text : List ℕ) : Type 0 where
+  pub tables : List Table
+  pub by_region : AreByRegion accessor.tables tables
+  pub lines : text ≡ (flat_map table_line tables ++ cleaned_line accessor.cleaned) ++ live_line accessor.counts
+
+-- the text was written behind the old bytes, where those are known
+pub record PrintsTables (accessor : Accessor) (old new : Option (List ℕ)) : Type 0 where
+  pub text : List ℕ
+  pub of_tables : IsTextOfTables accessor text
+  pub written : Appends old new text

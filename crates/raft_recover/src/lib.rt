@@ -5,7 +5,7 @@ mod drawing;
 pub mod pieces;
 pub mod plan;
 pub mod recover;
-mod recovered;
+pub mod recovered;
 pub mod request;
 pub mod run;
 pub mod segment;
@@ -14,6 +14,7 @@ pub mod tickets;
 
 pub use pieces::merge_pieces;
 pub use plan::Plan;
+pub use recovered::print_recovered;
 pub use segment::{Segment, replay_segment};
 pub use ticket_seat::TicketSeat;
 pub use tickets::Tickets;

@@ -1,12 +1,45 @@
 //! The tables of all regions as text.
 
-ghost use Rattle.std.specs.Prelude.{◌≡◌, ◌++◌, OnOk, map, string_bytes};
+ghost use Rattle.std.specs.Prelude.{◌≡◌, ◌++◌, IfOk, IfErr, OnOk, map, string_bytes};
 ghost use Rattle.std.specs.List.Sorted.{IsPermutation, IsNonDecreasingBy};
+ghost use Rattle.std.specs.Io.KnownBytes.{Keeps};
 ghost use Rattle.std.specs.List.{flat_map};
-ghost use Rattle.raft_recover.specs.TableLines.{range_text, file_text, region_text, table_line, cleaned_text, cleaned_line, live_line};
+ghost use Rattle.raft_records.specs.Lines.{IsIoError};
+ghost use Rattle.raft_recover.specs.TableLines.{range_text, file_text, region_text, table_line, cleaned_text, cleaned_line, live_line, IsTextOfTables, PrintsTables};
 
-use raft_memtable::{FileSeq, GlobalStats, LogQueue, MemTable};
-use std::alloc::AllocError;
+use raft_memtable::{Error, FileSeq, GlobalStats, LogQueue, MemTable, MemTableAccessor, Result};
+use std::alloc::{AllocError, Global};
+use std::io::Write;
+
+/// Prints the tables of all regions, a line for each by rising region, then the cleaned regions and the numbers of live
+/// records. Where memory is short nothing is written. A failure of the writer is `Io`.
+pub fn print_recovered<W: Write>(
+    alloc: Global,
+    accessor: &MemTableAccessor,
+    writer: &mut W,
+) -> Result<()>
+    ensures ok { OnOk result (PrintsTables accessor.now (W.contents writer.old) (W.contents writer.new)) }
+    ensures silent { IfErr result (λ e. (IsIoError e → ⊥) → Keeps (W.contents writer.old) (W.contents writer.new)) }
+    ensures fault { IfErr result (λ e. (IsIoError e → ⊥) → e ≡ Error.Memory) }
+{
+    let text = recovered_text(alloc, accessor)?;
+    writer.write_all(text.as_bytes())?;
+    Ok(())
+}
+
+/// The text of the tables of all regions.
+pub fn recovered_text(alloc: Global, accessor: &MemTableAccessor) -> Result<String>
+    ensures ok { IfOk result (λ text. IsTextOfTables accessor.now (string_bytes text)) }
+    ensures memory { IfErr result (λ e. e ≡ Error.Memory) }
+{
+    let mut tables = accessor.tables()?;
+    sort_by_region(&mut tables);
+    let mut text = String::new(alloc);
+    append_tables(tables.as_slice(), &mut text)?;
+    append_cleaned(accessor.cleaned_regions(), &mut text)?;
+    append_live(accessor.stats(), &mut text)?;
+    Ok(text)
+}
 
 /// Sorts tables by their regions.
 fn sort_by_region(tables: &mut Vec<&MemTable>)
@@ -21,7 +54,7 @@ fn sort_by_region(tables: &mut Vec<&MemTable>)
 }
 
 /// Appends the lines of tables.
-fn append_tables(tables: &[&MemTable], text: &mut String) -> Result<(), AllocError>
+fn append_tables(tables: &[&MemTable], text: &mut String) -> std::result::Result<(), AllocError>
     ensures { OnOk result (string_bytes text.new
         ≡ string_bytes text.old ++ flat_map table_line (map (λ t. t.now) tables.now)) }
 {
@@ -32,7 +65,7 @@ fn append_tables(tables: &[&MemTable], text: &mut String) -> Result<(), AllocErr
 }
 
 /// Appends the line of a table.
-fn append_table(table: &MemTable, text: &mut String) -> Result<(), AllocError>
+fn append_table(table: &MemTable, text: &mut String) -> std::result::Result<(), AllocError>
     ensures { OnOk result (string_bytes text.new ≡ string_bytes text.old ++ table_line table.now) }
 {
     write!(text, "{} entries ", table.region_id())?;
@@ -45,7 +78,7 @@ fn append_table(table: &MemTable, text: &mut String) -> Result<(), AllocError>
 }
 
 /// Appends the first index of a table and the one behind the last, `-` where it has no entries.
-fn append_range(table: &MemTable, text: &mut String) -> Result<(), AllocError>
+fn append_range(table: &MemTable, text: &mut String) -> std::result::Result<(), AllocError>
     ensures { OnOk result (string_bytes text.new ≡ string_bytes text.old ++ range_text table.now.entries) }
 {
     table.holds_one_run();
@@ -57,7 +90,7 @@ fn append_range(table: &MemTable, text: &mut String) -> Result<(), AllocError>
 }
 
 /// Appends the number of a file, `-` where there is none.
-fn append_file(seq: Option<FileSeq>, text: &mut String) -> Result<(), AllocError>
+fn append_file(seq: Option<FileSeq>, text: &mut String) -> std::result::Result<(), AllocError>
     ensures { OnOk result (string_bytes text.new ≡ string_bytes text.old ++ file_text seq) }
 {
     match seq {
@@ -67,7 +100,7 @@ fn append_file(seq: Option<FileSeq>, text: &mut String) -> Result<(), AllocError
 }
 
 /// Appends the line of the cleaned regions.
-fn append_cleaned(regions: &[u64], text: &mut String) -> Result<(), AllocError>
+fn append_cleaned(regions: &[u64], text: &mut String) -> std::result::Result<(), AllocError>
     ensures { OnOk result (string_bytes text.new ≡ string_bytes text.old ++ cleaned_line regions.now) }
 {
     text.push_str("cleaned")?;
@@ -81,10 +114,13 @@ fn append_cleaned(regions: &[u64], text: &mut String) -> Result<(), AllocError>
 }
 
 /// Appends the line of the numbers of live records.
-fn append_live(stats: &GlobalStats, text: &mut String) -> Result<(), AllocError>
+fn append_live(stats: &GlobalStats, text: &mut String) -> std::result::Result<(), AllocError>
     ensures { OnOk result (string_bytes text.new ≡ string_bytes text.old ++ live_line stats.now) }
 {
     let append = stats.live_entries(LogQueue::Append);
     let rewrite = stats.live_entries(LogQueue::Rewrite);
     writeln!(text, "live {append} {rewrite}")
 }
+
+#[cfg(test)]
+mod tests;

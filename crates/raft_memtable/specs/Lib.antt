@@ -12,3 +12,4 @@ pub mod ItemWrites
 pub mod RegionTablesView
 pub mod Updates
 pub mod Writes
+pub mod ReplayMachine

@@ -2,6 +2,8 @@ pub mod CoverLemmas
 pub mod DrawingLemmas
 pub mod LineLemmas
 pub mod LiningLemmas
+pub mod OrderLemmas
+pub mod RequestLemmas
 pub mod MergeLemmas
 pub mod MidwayLemmas
 pub mod SegmentLemmas

@@ -1,4 +1,4 @@
-//! Recovery of tables from log files, on any number of threads.
+//! Recovery of tables from log files, on any number of threads, and the program over it.
 #![tactic(auto)]
 
 mod drawing;
@@ -7,6 +7,10 @@ mod piece;
 pub mod pieces;
 pub mod plan;
 pub mod scheduled;
+pub mod recover;
+pub mod recovered;
+pub mod request;
+pub mod run;
 pub mod segment;
 pub mod ticket_seat;
 pub mod tickets;
@@ -16,6 +20,7 @@ pub use gate::{Gate, OpenGate};
 pub use pieces::merge_pieces;
 pub use plan::Plan;
 pub use scheduled::{piece_count, replay_scheduled};
+pub use recovered::print_recovered;
 pub use segment::{Segment, replay_segment};
 pub use ticket_seat::TicketSeat;
 pub use tickets::Tickets;

@@ -1,7 +1,7 @@
 //! Whole runs: the status, what is printed, and what stands on the error stream.
 
 use super::*;
-use std::alloc::AllocError;
+use std::alloc::{AllocError, Global};
 use std::io;
 use std::io::ErrorKind;
 
@@ -100,31 +100,33 @@ fn words_of(alloc: Global, line: &str) -> Result<Vec<String>, AllocError> {
     Ok(words)
 }
 
-fn run_on(alloc: Global, line: &str, input: &str) -> Option<Answer> {
+fn run_on(rt: &HostRuntime, line: &str, input: &str) -> Option<Answer> {
+    let alloc = rt.alloc();
     let words = words_of(alloc, line).ok()?;
     let bytes = hex::decode(alloc, input).ok()?;
     let mut input = bytes.as_slice();
     let mut out = Vec::new(alloc);
     let mut err = Vec::with_capacity(alloc, 256).ok()?;
-    let status = run(alloc, words.as_slice(), &mut input, &mut out, &mut err);
+    let status = run(rt, words.as_slice(), &mut input, &mut out, &mut err);
     Some(Answer { status, out, err })
 }
 
-/// Where an allocation is refused, one row at most says so in place of its answer.
+/// Where an allocation is refused the row runs again, and has to find memory.
 #[test]
 fn rows(rt: HostRuntime) {
-    let mut refused = 0u32;
     for (line, input, status, out, err) in ROWS {
-        match run_on(rt.alloc(), line, input) {
-            Some(answer) if answer.is(status, out, err) => {}
-            Some(answer) => {
-                assert!(rt; answer.found_no_memory(), "{line}: {input}");
-                refused = refused.saturating_add(1);
-            }
-            None => refused = refused.saturating_add(1),
+        let mut answer = run_on(&rt, line, input);
+        if answer
+            .as_ref()
+            .is_none_or(|answer| answer.found_no_memory())
+        {
+            answer = run_on(&rt, line, input);
         }
+        assert!(rt;
+            answer.is_some_and(|answer| answer.is(status, out, err)),
+            "{line}: {input}"
+        );
     }
-    assert!(rt; refused <= 1);
 }
 
 /// A reader that gives a byte and then fails.
@@ -166,7 +168,7 @@ fn failing_streams(rt: HostRuntime) {
     };
     let mut out = Vec::new(alloc);
     let status = run(
-        alloc,
+        &rt,
         words.as_slice(),
         &mut Torn { read: false },
         &mut out,
@@ -177,15 +179,9 @@ fn failing_streams(rt: HostRuntime) {
 
     let mut input = b"\x00\x8d\xef\x02\xd2".as_slice();
     assert_eq!(rt;
-        run(
-            alloc,
-            words.as_slice(),
-            &mut input,
-            &mut Closed,
-            &mut Closed
-        ),
+        run(&rt, words.as_slice(), &mut input, &mut Closed, &mut Closed),
         1
     );
     let none = &words.as_slice()[..0];
-    assert_eq!(rt; run(alloc, none, &mut input, &mut Closed, &mut Closed), 2);
+    assert_eq!(rt; run(&rt, none, &mut input, &mut Closed, &mut Closed), 2);
 }

@@ -1,7 +1,7 @@
 use Rattle.std.proofs.Common.{◌≡◌, ◌∷◌, [], map, string_bytes, ap}
 use Rattle.std.proofs.lemmas.Option.{IfSome_then}
-use Rattle.raft_records.proofs.RequestLemmas.{four_items, none_then, same_text, asks_batch, asks_no_batch}
-use Rattle.raft_records.proofs.run.batch_request.Goals as goal
+use Rattle.raft_recover.proofs.RequestLemmas.{four_items, none_then, same_text, asks_batch, asks_no_batch}
+use Rattle.raft_recover.proofs.request.batch_request.Goals as goal
 
 four_words : (c : goal.After-file_named) → map string_bytes c.args.words.now ≡ c.as_str.result.now ∷ c.as_str-2.result.now ∷ c.as_str-3.result.now ∷ c.as_str-4.result.now ∷ []
 four_words c =

@@ -24,7 +24,7 @@ use Rattle.raft_table.specs.Marks.{Mark, part, older_entries, entries_over, keys
 use Rattle.raft_table.specs.MarkJoins.{joined, mark_of}
 use Rattle.raft_table.specs.Start.{replayed, leaves_hole}
 use Rattle.raft_table.specs.Steps.{Step, Run, Compact, Put, Del, AtomicGroup, Clean, stepped, is_there_after, there_if, after_step, table_of}
-use Rattle.raft_table.specs.Table.{Table, empty_table, with_entries}
+use Rattle.raft_table.specs.Table.{Table, empty_table, table_with_entries}
 use Rattle.raft_records.specs.declared.atomic_group.AtomicGroupStatus.{AtomicGroupStatus}
 use Rattle.raft_records.specs.declared.atomic_group.AtomicGroupStatus.TheVariants.{Begin, Middle, End}
 use Rattle.raft_history.specs.Batches.{GroupMarker, Event, batch_of}
@@ -148,7 +148,7 @@ step_records q r o w s e = there_records (is_there_after s) (stepped q (table_of
     by : (s : Step) (x : Table) → stepped q (table_of r o) s ≡ Some x → table_records x ≤ recs o + records_of s
     by (Run run) x e = go (replayed q (table_of r o).entries run) refl e
       where
-        go : (y : Option (List EntryIndex)) → replayed q (table_of r o).entries run ≡ y → option_map (with_entries (table_of r o)) y ≡ Some x → table_records x ≤ recs o + length run
+        go : (y : Option (List EntryIndex)) → replayed q (table_of r o).entries run ≡ y → option_map (table_with_entries (table_of r o)) y ≡ Some x → table_records x ≤ recs o + length run
         go None p e = absurd cc
         go (Some a) p e = omega (arith, ap table_records (some_is e), run_records q (table_of r o).entries run a p, of_table r o)
     by (Compact i) x e = omega (arith, ap table_records (some_is e), from_shorter i (table_of r o).entries, of_table r o)

@@ -6,7 +6,7 @@ ghost use Rattle.std.specs.Fn.{CalledAtTwo};
 ghost use Rattle.std.specs.FinMap as finite;
 ghost use Rattle.raft_base.specs.declared.pipe_log.LogQueue.{LogQueue};
 ghost use Rattle.raft_table.specs.Scan.{VisitsUntilFalse, scanned};
-ghost use Rattle.raft_table.specs.KeyValues.{Keys, pair_count, file_count, value_at, file_at, with_put, with_moved, files_in, least, lesser, is_up_to, fetched, pairs_shown, overlaid};
+ghost use Rattle.raft_table.specs.KeyValues.{Keys, pair_count, file_weight, value_at, file_at, with_put, with_moved, files_in, least, lesser, is_up_to, fetched, pairs_shown, overlaid};
 
 mod scan;
 
@@ -40,11 +40,11 @@ impl Model for KeyValues {
 
     ghost coded = { keys_code };
 
-    ghost use Rattle.raft_table.specs.KeyValueView.{keys_shown, IsSound};
+    ghost use Rattle.raft_table.specs.KeyValueView.{keys_shown, IsOrderedAndCounted};
 
     ghost view = { keys_shown };
 
-    ghost invariant = { IsSound };
+    ghost invariant = { IsOrderedAndCounted };
 }
 
 impl KeyValues {
@@ -125,7 +125,7 @@ impl KeyValues {
     ) -> Result<Option<FileId>, AllocError>
         ensures ok { OnOk result (self.new ≡ with_put self.old key.items value.items file) }
         ensures replaced { IfOk result (λ replaced. replaced ≡ file_at self.old key.items) }
-        ensures counts { IfOk result (λ replaced. (queue : LogQueue) → pair_count queue self.new + file_count queue replaced ≡ pair_count queue self.old + file_count queue (Some file)) }
+        ensures counts { IfOk result (λ replaced. (queue : LogQueue) → pair_count queue self.new + file_weight queue replaced ≡ pair_count queue self.old + file_weight queue (Some file)) }
         ensures err { OnErr result (self.new ≡ self.old) }
     {
         prove!(self.rewritten <= self.pairs.len());
@@ -138,7 +138,7 @@ impl KeyValues {
     pub fn remove(&mut self, key: &[u8]) -> Option<FileId>
         ensures after { self.new ≡ finite.remove self.old key.now }
         ensures removed { result ≡ file_at self.old key.now }
-        ensures counts { (queue : LogQueue) → pair_count queue self.new + file_count queue result ≡ pair_count queue self.old }
+        ensures counts { (queue : LogQueue) → pair_count queue self.new + file_weight queue result ≡ pair_count queue self.old }
     {
         let removed = self.pairs.remove(key)?;
         self.rewritten -= rewritten(Some(removed.file));
@@ -149,7 +149,7 @@ impl KeyValues {
     pub fn set_file(&mut self, key: &[u8], file: FileId) -> Option<FileId>
         ensures after { self.new ≡ with_moved self.old key.now file }
         ensures moved { result ≡ file_at self.old key.now }
-        ensures counts { (queue : LogQueue) → pair_count queue self.new + file_count queue result ≡ pair_count queue self.old + file_count queue (option_map (λ _. file) result) }
+        ensures counts { (queue : LogQueue) → pair_count queue self.new + file_weight queue result ≡ pair_count queue self.old + file_weight queue (option_map (λ _. file) result) }
     {
         prove!(self.rewritten <= self.pairs.len());
         let pair = self.pairs.get_mut(key)?;
@@ -305,7 +305,7 @@ fn file_in(pair: Option<StoredValue>) -> Option<FileId>
 
 /// What a pair of that file counts in the rewrite queue.
 fn rewritten(file: Option<FileId>) -> usize
-    ensures { result ≡ file_count LogQueue.Rewrite file }
+    ensures { result ≡ file_weight LogQueue.Rewrite file }
 {
     match file {
         Some(file) if file.queue == LogQueue::Rewrite => 1,

@@ -1,13 +1,13 @@
 -- How many records a table has, and what a fetch finds of its entries.
-use Rattle.std.proofs.Common.{◌≡◌, ℕ, zero, suc, ◌+◌, ◌-◌, ◌<◌, ◌≤◌, ◌⊎◌, inl, inr, Bool, true, false, cond, ltb, leb, ◌&&◌, List, [], ◌∷◌, ◌++◌, length, take, drop, Option, Some, None, refl, sym, ap, ◌∙◌, arith}
+use Rattle.std.proofs.Common.{◌≡◌, ℕ, zero, suc, ◌+◌, ◌-◌, ◌<◌, ◌≤◌, ◌⊎◌, inl, inr, Bool, true, false, cond, ltb, leb, ◌&&◌, List, ◌++◌, length, take, drop, Option, Some, None, refl, sym, ap, ◌∙◌, arith}
 use Rattle.std.specs.FinMap as finite
 use Rattle.std.proofs.lemmas.Bool.{cases_lt}
 use Rattle.std.proofs.lemmas.Bool.Decides.{nat_tests}
 use Rattle.std.proofs.lemmas.List.{length-append, length-take-le, length-drop, take_all}
 use Rattle.raft_base.specs.declared.pipe_log.LogQueue.TheVariants.{Append, Rewrite}
 use Rattle.raft_records.specs.declared.entry_index.EntryIndex.{EntryIndex}
-use Rattle.raft_table.specs.Entries.{RisesFrom, AreTableEntries, start_of, end_of, below, from, between, placed_in, entry_count, entry_with_index}
-use Rattle.raft_table.specs.Fetches.{RangeAnswer, Empty, NotFound, Compacted, Found, range_answer, total_len, is_too_many, IsLimitCount, FetchesWithin}
+use Rattle.raft_table.specs.Entries.{RisesFrom, AreTableEntries, start_of, end_of, below, between, placed_in, entry_count, entry_with_index}
+use Rattle.raft_table.specs.Fetches.{Empty, NotFound, Compacted, Found, range_answer, total_len, is_too_many, IsLimitCount, FetchesWithin}
 use Rattle.raft_table.specs.Table.{Table, live_of}
 use Rattle.raft_table.proofs.FetchLemmas.{between_is}
 use Rattle.raft_table.proofs.KeyValueCounts.{pair_count-both}

@@ -159,7 +159,8 @@ impl MemTable {
         requires run { IsRunIn Append run.items }
         requires counted { IsCounted self.old stats.old }
         ensures ok { OnOk result (after_append self.old run.items ≡ Some self.new) }
-        ensures fault { IfErr result (IsTableRunFault Append stats.old self.old.entries (appended self.old.entries run.items)) }
+        ensures fault { IfErr result (IsTableRunFault Append stats.old self.old.entries
+            (appended self.old.entries run.items)) }
         ensures err { OnErr result ((self.new ≡ self.old) × (stats.new ≡ stats.old)) }
         ensures counts { OnOk result (stats.new ≡ counts_with_run Append self.old.entries run.items stats.old) }
         ensures recounted { IsRecounted self.old self.new stats.old stats.new }
@@ -180,7 +181,8 @@ impl MemTable {
         requires run { IsRunIn Append run.items }
         requires counted { IsCounted self.old stats.old }
         ensures ok { OnOk result (after_replay Append self.old run.items ≡ Some self.new) }
-        ensures fault { IfErr result (IsTableRunFault Append stats.old self.old.entries (replayed Append self.old.entries run.items)) }
+        ensures fault { IfErr result (IsTableRunFault Append stats.old self.old.entries
+            (replayed Append self.old.entries run.items)) }
         ensures err { OnErr result ((self.new ≡ self.old) × (stats.new ≡ stats.old)) }
         ensures counts { OnOk result (stats.new ≡ counts_with_run Append self.old.entries run.items stats.old) }
         ensures recounted { IsRecounted self.old self.new stats.old stats.new }
@@ -201,7 +203,8 @@ impl MemTable {
         requires rewritten { live_of Append self.old ≡ 0 }
         requires counted { IsCounted self.old stats.old }
         ensures ok { OnOk result (after_replay Rewrite self.old run.items ≡ Some self.new) }
-        ensures fault { IfErr result (IsTableRunFault Rewrite stats.old self.old.entries (replayed Rewrite self.old.entries run.items)) }
+        ensures fault { IfErr result (IsTableRunFault Rewrite stats.old self.old.entries
+            (replayed Rewrite self.old.entries run.items)) }
         ensures err { OnErr result ((self.new ≡ self.old) × (stats.new ≡ stats.old)) }
         ensures counts { OnOk result (stats.new ≡ counts_with_run Rewrite self.old.entries run.items stats.old) }
         ensures recounted { IsRecounted self.old self.new stats.old stats.new }
@@ -232,7 +235,8 @@ impl MemTable {
         ensures places_alone { OnOk result (MovesPlacesAlone run.items self.old.entries self.new.entries) }
         ensures others { OnOk result (self.new ≡ table_with_entries self.old self.new.entries) }
         ensures counts { OnOk result (stats.new ≡ recounted gate run.items self.old.entries stats.old) }
-        ensures fault { IfErr result (IsRewriteFault (length run.items) stats.old (rewritten gate run.items self.old.entries)) }
+        ensures fault { IfErr result (IsRewriteFault (length run.items) stats.old
+            (rewritten gate run.items self.old.entries)) }
         ensures err { OnErr result (self.new ≡ self.old) }
         ensures err_counts { IfErr result (λ e. e ≢ Error.Full → stats.new ≡ stats.old) }
         ensures recounted { IsRecounted self.old self.new stats.old stats.new }
@@ -317,7 +321,8 @@ impl MemTable {
         ensures ok { OnOk result (after_rewrite_key gate seq self.old key.items ≡ Some self.new) }
         ensures file_alone { OnOk result (MovesKeyAlone key.items self.old.keys self.new.keys) }
         ensures others { OnOk result (self.new ≡ table_with_keys self.old self.new.keys) }
-        ensures counts { OnOk result (stats.new ≡ with_rewritten_key (leaves_append gate (file_at self.old.keys key.items)) stats.old) }
+        ensures counts { OnOk result (stats.new
+            ≡ with_rewritten_key (leaves_append gate (file_at self.old.keys key.items)) stats.old) }
         ensures fault { IfErr result (IsKeyRewriteFault stats.old (after_rewrite_key gate seq self.old key.items)) }
         ensures err { OnErr result ((self.new ≡ self.old) × (stats.new ≡ stats.old)) }
         ensures recounted { IsRecounted self.old self.new stats.old stats.new }
@@ -354,7 +359,8 @@ impl MemTable {
 
     /// Whether a key has a pair in `queue`.
     fn has_pair_in(&self, key: &[u8], queue: LogQueue) -> bool
-        ensures { MatchBool result (file_weight queue (file_at self.now.keys key.now) ≡ 1) (file_weight queue (file_at self.now.keys key.now) ≡ 0) }
+        ensures { MatchBool result (file_weight queue (file_at self.now.keys key.now)
+            ≡ 1) (file_weight queue (file_at self.now.keys key.now) ≡ 0) }
     {
         match self.keys.file_of(key) {
             Some(file) => file.queue == queue,

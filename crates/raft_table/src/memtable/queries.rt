@@ -47,7 +47,8 @@ impl MemTable {
         max_size: Option<usize>,
         vec: &mut Vec<EntryIndex>,
     ) -> Result<()>
-        ensures ok { OnOk result (Fetches max_size begin end self.now.entries vec.old.items vec.new.items (range_answer begin end self.now.entries)) }
+        ensures ok { OnOk result (Fetches max_size begin end self.now.entries vec.old.items vec.new.items
+            (range_answer begin end self.now.entries)) }
         ensures fault { IfErr result (IsFetchFault (range_answer begin end self.now.entries)) }
         ensures err { OnErr result (vec.new.items ≡ vec.old.items) }
     {
@@ -109,7 +110,9 @@ impl MemTable {
     ) -> Result<()>
         requires { F.IsAlwaysCallable f }
         ensures ok { IsOk result }
-        ensures visits { (last : F) × VisitsUntilFalse (CalledAtTwo F.FnMut) f (scanned (option_copied start.entry) (option_copied end.entry) reverse self.now.keys) last }
+        ensures visits { (last : F)
+            × VisitsUntilFalse (CalledAtTwo F.FnMut) f (scanned (option_copied start.entry)
+            (option_copied end.entry) reverse self.now.keys) last }
     {
         self.keys.scan(start, end, reverse, f);
         Ok(())

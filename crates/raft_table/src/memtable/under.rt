@@ -55,7 +55,7 @@ impl MemTable {
         requires counted { IsCounted self.old stats.old }
         ensures ok { IsRunOver queue mark.now rhs.old self.old
             → OnOk result (table_over queue mark.now rhs.old self.old ≡ Some self.new) }
-        ensures refused { IsRunOver queue mark.now rhs.old self.old
+        ensures fault { IsRunOver queue mark.now rhs.old self.old
             → IfErr result (IsFaultUnder queue stats.old mark.now rhs.old self.old) }
         ensures err { IsRunOver queue mark.now rhs.old self.old → IfErr result (λ e. e ≢ Error.Memory →
             (self.new ≡ self.old) × (rhs.new ≡ rhs.old) × (stats.new ≡ stats.old)) }

@@ -5,4 +5,5 @@ pub mod AccessorView
 pub mod ItemWrites
 pub mod RegionTablesView
 pub mod Updates
+pub mod Walks
 pub mod Writes

@@ -11,5 +11,6 @@ pub mod AccessorView
 pub mod ItemWrites
 pub mod RegionTablesView
 pub mod Updates
+pub mod Walks
 pub mod Writes
 pub mod ReplayMachine

@@ -11,7 +11,7 @@ use Rattle.raft_table.specs.Marks.{Mark, Stands, applied, table_over, is_there_o
 use Rattle.raft_table.specs.MarkJoins.{joined, fresh, mark_of}
 use Rattle.raft_table.specs.Steps.{Step, Run, Compact, Put, Del, AtomicGroup, Clean, AreSteps, stepped, is_there_after, there_if, after_step, after, table_of}
 use Rattle.raft_table.specs.Start.{replayed}
-use Rattle.raft_table.specs.Table.{Table, with_entries}
+use Rattle.raft_table.specs.Table.{Table, table_with_entries}
 use Rattle.raft_table.proofs.MarkLaws.{refused_join, stands_alone}
 use Rattle.raft_history.specs.Batches.{GroupMarker, Batch, Event, batch_of, batches}
 use Rattle.raft_history.specs.Contexts.{Context, Holds, AreExact, AreMerged, AreRefused, region_steps_or, completed_steps}

@@ -19,12 +19,12 @@ use Rattle.raft_base.specs.declared.pipe_log.LogQueue.TheVariants.{Append, Rewri
 use Rattle.raft_records.specs.declared.entry_index.EntryIndex.{EntryIndex}
 use Rattle.raft_table.specs.Entries.{below, from, end_of}
 use Rattle.raft_table.specs.KeySets.{KeySet, without}
-use Rattle.raft_table.specs.KeyValues.{Keys, Stored, Pair, with_pairs, overlaid}
+use Rattle.raft_table.specs.KeyValues.{Keys, Stored, StoredPair, with_pairs, overlaid}
 use Rattle.raft_table.specs.Marks.{Mark, part, older_entries, entries_over, keys_over, atomic_group_over, table_over, is_meeting_refused, is_missed, is_there_over, applied}
 use Rattle.raft_table.specs.MarkJoins.{joined, mark_of}
 use Rattle.raft_table.specs.Start.{replayed, leaves_hole}
 use Rattle.raft_table.specs.Steps.{Step, Run, Compact, Put, Del, AtomicGroup, Clean, stepped, is_there_after, there_if, after_step, table_of}
-use Rattle.raft_table.specs.Table.{Table, empty_table, with_entries}
+use Rattle.raft_table.specs.Table.{Table, empty_table, table_with_entries}
 use Rattle.raft_records.specs.declared.atomic_group.AtomicGroupStatus.{AtomicGroupStatus}
 use Rattle.raft_records.specs.declared.atomic_group.AtomicGroupStatus.TheVariants.{Begin, Middle, End}
 use Rattle.raft_history.specs.Batches.{GroupMarker, Event, batch_of}
@@ -93,7 +93,7 @@ len_insert m k x = omega (arith, finite.len-insert nat_list_cmp_total m k x, mor
 len_remove : {X : Type 0} (m : finite.FinMap (slice_cmp nat_cmp) X) (k : List ℕ) → finite.len (finite.remove m k) ≤ finite.len m
 len_remove m k = omega (arith, finite.len-remove nat_list_cmp_total m k, less_or_same (finite.contains_key m k) (finite.len m))
 
-len_pairs : (m : Keys) (es : List Pair) → finite.len (with_pairs m es) ≤ finite.len m + length es
+len_pairs : (m : Keys) (es : List StoredPair) → finite.len (with_pairs m es) ≤ finite.len m + length es
 len_pairs m [] = omega arith
 len_pairs m (e ∷ es) = omega (arith, len_pairs (finite.insert m e.0 e.1) es, len_insert m e.0 e.1)
 
@@ -148,7 +148,7 @@ step_records q r o w s e = there_records (is_there_after s) (stepped q (table_of
     by : (s : Step) (x : Table) → stepped q (table_of r o) s ≡ Some x → table_records x ≤ recs o + records_of s
     by (Run run) x e = go (replayed q (table_of r o).entries run) refl e
       where
-        go : (y : Option (List EntryIndex)) → replayed q (table_of r o).entries run ≡ y → option_map (with_entries (table_of r o)) y ≡ Some x → table_records x ≤ recs o + length run
+        go : (y : Option (List EntryIndex)) → replayed q (table_of r o).entries run ≡ y → option_map (table_with_entries (table_of r o)) y ≡ Some x → table_records x ≤ recs o + length run
         go None p e = absurd cc
         go (Some a) p e = omega (arith, ap table_records (some_is e), run_records q (table_of r o).entries run a p, of_table r o)
     by (Compact i) x e = omega (arith, ap table_records (some_is e), from_shorter i (table_of r o).entries, of_table r o)

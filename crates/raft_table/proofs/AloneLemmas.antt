@@ -9,7 +9,7 @@ use Rattle.std.proofs.lemmas.List.Elements.{All-append, All-take, All-drop, All-
 use Rattle.std.proofs.lemmas.List.Sums.{prefix_len-le-length}
 use Rattle.raft_base.specs.declared.pipe_log.FileId.{FileId}
 use Rattle.raft_records.specs.declared.entry_index.EntryIndex.{EntryIndex}
-use Rattle.raft_table.specs.Entries.{RisesFrom, IsSound, start_of}
+use Rattle.raft_table.specs.Entries.{RisesFrom, AreTableEntries, start_of}
 use Rattle.raft_table.specs.KeyValues.{Keys, Stored, value_at, file_at, with_put, with_moved, moved_to}
 use Rattle.raft_table.specs.Rewriting.{may_move, indexes_of, MovesPlacesAlone}
 use Rattle.raft_table.specs.Table.{MovesKeyAlone}
@@ -58,7 +58,7 @@ some_moved run es at skipped count m h r l k =
     }
 
 -- a rewriting that meets the entries so, and isn't refused
-pub moved_alone : (gate : Option ℕ) (run es : List EntryIndex) (at skipped count : ℕ) → IsSound es → RewritesAt gate run es at skipped count → MovesPlacesAlone run es (take at es ++ take (moves_of gate run es at skipped count) (places_of run skipped count) ++ drop (at + moves_of gate run es at skipped count) es)
+pub moved_alone : (gate : Option ℕ) (run es : List EntryIndex) (at skipped count : ℕ) → AreTableEntries es → RewritesAt gate run es at skipped count → MovesPlacesAlone run es (take at es ++ take (moves_of gate run es at skipped count) (places_of run skipped count) ++ drop (at + moves_of gate run es at skipped count) es)
 moved_alone gate run es at skipped count h f =
     let places = places_of run skipped count in
     let part = drop at (take (at + length places) es) in

@@ -5,7 +5,7 @@ use Rattle.std.proofs.lemmas.Bool.{cases_lt}
 use Rattle.std.proofs.lemmas.Bool.Decides.{nat_tests}
 use Rattle.raft_base.specs.declared.pipe_log.LogQueue.{LogQueue}
 use Rattle.raft_records.specs.declared.entry_index.EntryIndex.{EntryIndex}
-use Rattle.raft_table.specs.Entries.{IsSound, start_of, end_of, below, from, is_placed_in, placed_in, entries_in}
+use Rattle.raft_table.specs.Entries.{AreTableEntries, start_of, end_of, below, from, is_placed_in, placed_in, entry_count}
 use Rattle.std.specs.FinMap as finite
 use Rattle.raft_table.specs.KeyValues.{Keys, pair_count}
 use Rattle.raft_table.specs.Marks.{part, is_under}
@@ -15,7 +15,7 @@ use Rattle.raft_table.proofs.SoundLemmas.{sound_rising, below_cut}
 use Rattle.raft_table.proofs.MarkWords.{end_of-from, part-part, part-from, part-below}
 
 -- so many in front are the entries below an index
-pub front_below : (i first n : ℕ) (es : List EntryIndex) → IsSound es → start_of es ≡ first → n ≡ min (i - first) (length es) → take n es ≡ below i es
+pub front_below : (i first n : ℕ) (es : List EntryIndex) → AreTableEntries es → start_of es ≡ first → n ≡ min (i - first) (length es) → take n es ≡ below i es
 front_below i first n es h s e = elim (cases_lt i (start_of es)) [
   | inl l ↦ ap (λ k. take k es) (none i first n (length es) (omega arith) e) ∙ sym (below_start i (start_of es) es (sound_rising es h) (omega arith))
   | inr l ↦ below_cut i n es h l (rw s e)
@@ -44,11 +44,11 @@ length-filter-le p (x ∷ xs) = go (p x) (length-filter-le p xs)
     go false h = omega arith
 
 -- a part has at most the entries of all
-pub part-fewer : (q : LogQueue) (floor : ℕ) (cut : Option ℕ) (es : List EntryIndex) → entries_in q (part floor cut es) ≤ entries_in q es
+pub part-fewer : (q : LogQueue) (floor : ℕ) (cut : Option ℕ) (es : List EntryIndex) → entry_count q (part floor cut es) ≤ entry_count q es
 unfolding part placed_in
-part-fewer q floor cut es = subst (λ n. n ≤ entries_in q es) (ap length (filter_comm _ (is_placed_in q) es)) (length-filter-le _ (filter (is_placed_in q) es))
+part-fewer q floor cut es = subst (λ n. n ≤ entry_count q es) (ap length (filter_comm _ (is_placed_in q) es)) (length-filter-le _ (filter (is_placed_in q) es))
 
-pub none-fewer : (q : LogQueue) (es : List EntryIndex) → entries_in q [] ≤ entries_in q es
+pub none-fewer : (q : LogQueue) (es : List EntryIndex) → entry_count q [] ≤ entry_count q es
 unfolding placed_in
 none-fewer q es = omega arith
 
@@ -70,9 +70,9 @@ unfolding end_of from
 end_none i es e = rw e refl
 
 -- a part, or nothing
-pub kept-fewer : (q : LogQueue) (gone : Bool) (floor : ℕ) (cut : Option ℕ) (es xs : List EntryIndex) → xs ≡ cond gone [] (part floor cut es) → entries_in q xs ≤ entries_in q es
-kept-fewer q true floor cut es xs e = subst (λ x. entries_in q x ≤ entries_in q es) (sym e) (none-fewer q es)
-kept-fewer q false floor cut es xs e = subst (λ x. entries_in q x ≤ entries_in q es) (sym e) (part-fewer q floor cut es)
+pub kept-fewer : (q : LogQueue) (gone : Bool) (floor : ℕ) (cut : Option ℕ) (es xs : List EntryIndex) → xs ≡ cond gone [] (part floor cut es) → entry_count q xs ≤ entry_count q es
+kept-fewer q true floor cut es xs e = subst (λ x. entry_count q x ≤ entry_count q es) (sym e) (none-fewer q es)
+kept-fewer q false floor cut es xs e = subst (λ x. entry_count q x ≤ entry_count q es) (sym e) (part-fewer q floor cut es)
 
 pub pair_count-empty : (q : LogQueue) (keys : Keys) → keys ≡ finite.empty → pair_count q keys ≡ 0
 pair_count-empty q keys e = rw (e, entries-empty) refl

@@ -7,7 +7,7 @@ use Rattle.std.proofs.lemmas.Bool.{cases_lt}
 use Rattle.std.proofs.lemmas.Bool.Decides.{nat_tests}
 use Rattle.raft_base.specs.declared.pipe_log.LogQueue.TheVariants.{Append, Rewrite}
 use Rattle.raft_records.specs.declared.entry_index.EntryIndex.{EntryIndex}
-use Rattle.raft_table.specs.Entries.{IsSound, start_of, from, between, placed_in, entries_in}
+use Rattle.raft_table.specs.Entries.{AreTableEntries, start_of, from, between, placed_in, entry_count}
 use Rattle.raft_table.specs.Fetches.{total_len, is_too_many, IsLimitCount, FetchesWithin, NotFound, Found, range_answer, appended_before, block_count, change_count, entry_seq, first_seq}
 use Rattle.raft_table.specs.Rewriting.{is_placed_before}
 use Rattle.raft_table.proofs.RunLemmas.{RisesFrom-take}
@@ -84,11 +84,11 @@ part_at a b i xs d h l =
     get_or-drop a (take b xs) (i - a) d ∙ ap (λ k. get_or (take b xs) k d) (let e : a + (i - a) ≡ i = omega arith in e) ∙ get_or-take b xs i d l
 
 -- sound entries by queue
-pub rewritten_is : (es : List EntryIndex) → IsSound es → placed_in Rewrite es ≡ take (entries_in Rewrite es) es
-rewritten_is es h = sym (ap (take (entries_in Rewrite es)) h.in_front ∙ take_at (placed_in Rewrite es) (placed_in Append es) (entries_in Rewrite es) refl)
+pub rewritten_is : (es : List EntryIndex) → AreTableEntries es → placed_in Rewrite es ≡ take (entry_count Rewrite es) es
+rewritten_is es h = sym (ap (take (entry_count Rewrite es)) h.in_front ∙ take_at (placed_in Rewrite es) (placed_in Append es) (entry_count Rewrite es) refl)
 
-pub appended_is : (es : List EntryIndex) → IsSound es → placed_in Append es ≡ drop (entries_in Rewrite es) es
-appended_is es h = sym (ap (drop (entries_in Rewrite es)) h.in_front ∙ drop_at (placed_in Rewrite es) (placed_in Append es) (entries_in Rewrite es) refl)
+pub appended_is : (es : List EntryIndex) → AreTableEntries es → placed_in Append es ≡ drop (entry_count Rewrite es) es
+appended_is es h = sym (ap (drop (entry_count Rewrite es)) h.in_front ∙ drop_at (placed_in Rewrite es) (placed_in Append es) (entry_count Rewrite es) refl)
 
 slice_get_drop : {X : Type 0} (n : ℕ) (xs : List X) → slice_get (drop n xs) 0 ≡ slice_get xs n
 slice_get_drop zero [] = refl
@@ -101,28 +101,28 @@ slice_get_take zero xs l = absurd (omega arith)
 slice_get_take (suc n) [] l = refl
 slice_get_take (suc n) (x ∷ xs) l = refl
 
-pub first_appended : (es : List EntryIndex) → IsSound es → first_seq Append es ≡ entry_seq (slice_get es (entries_in Rewrite es))
-first_appended es h = ap entry_seq (ap (λ xs. slice_get xs 0) (appended_is es h) ∙ slice_get_drop (entries_in Rewrite es) es)
+pub first_appended : (es : List EntryIndex) → AreTableEntries es → first_seq Append es ≡ entry_seq (slice_get es (entry_count Rewrite es))
+first_appended es h = ap entry_seq (ap (λ xs. slice_get xs 0) (appended_is es h) ∙ slice_get_drop (entry_count Rewrite es) es)
 
-pub first_rewritten : (es : List EntryIndex) → IsSound es → 0 < entries_in Rewrite es → first_seq Rewrite es ≡ entry_seq (slice_get es 0)
-first_rewritten es h l = ap entry_seq (ap (λ xs. slice_get xs 0) (rewritten_is es h) ∙ slice_get_take (entries_in Rewrite es) es l)
+pub first_rewritten : (es : List EntryIndex) → AreTableEntries es → 0 < entry_count Rewrite es → first_seq Rewrite es ≡ entry_seq (slice_get es 0)
+first_rewritten es h l = ap entry_seq (ap (λ xs. slice_get xs 0) (rewritten_is es h) ∙ slice_get_take (entry_count Rewrite es) es l)
 
-pub none_rewritten : (es : List EntryIndex) → IsSound es → entries_in Rewrite es ≡ 0 → first_seq Rewrite es ≡ None
+pub none_rewritten : (es : List EntryIndex) → AreTableEntries es → entry_count Rewrite es ≡ 0 → first_seq Rewrite es ≡ None
 none_rewritten es h n = ap entry_seq (ap (λ xs. slice_get xs 0) (rewritten_is es h ∙ ap (λ k. take k es) n))
 
 -- the appended entries at or below a gate
-pub appended_before_is : (gate n r : ℕ) (es : List EntryIndex) → IsSound es → r ≡ entries_in Rewrite es → n ≡ prefix_len (is_placed_before gate) (drop r es) → appended_before gate es ≡ drop r (take (r + n) es)
+pub appended_before_is : (gate n r : ℕ) (es : List EntryIndex) → AreTableEntries es → r ≡ entry_count Rewrite es → n ≡ prefix_len (is_placed_before gate) (drop r es) → appended_before gate es ≡ drop r (take (r + n) es)
 appended_before_is gate n r es h k e =
     ap (take_while (is_placed_before gate)) (appended_is es h ∙ ap (λ i. drop i es) (sym k)) ∙ ap (λ i. take i (drop r es)) (sym e) ∙ sym (drop-take r n es)
 
 -- what a range answers, over entries that are sound
-pub range_behind : (begin end : ℕ) (es : List EntryIndex) → IsSound es → 0 < length es → begin < end → start_of es ≤ begin → start_of es + length es < end → range_answer begin end es ≡ NotFound
+pub range_behind : (begin end : ℕ) (es : List EntryIndex) → AreTableEntries es → 0 < length es → begin < end → start_of es ≤ begin → start_of es + length es < end → range_answer begin end es ≡ NotFound
 range_behind begin end es h l a b c = let e = sound_end es h l in rw e (grind (arith, nat_tests))
 
-pub range_found : (begin end : ℕ) (es : List EntryIndex) → IsSound es → 0 < length es → begin < end → start_of es ≤ begin → end ≤ start_of es + length es → range_answer begin end es ≡ Found
+pub range_found : (begin end : ℕ) (es : List EntryIndex) → AreTableEntries es → 0 < length es → begin < end → start_of es ≤ begin → end ≤ start_of es + length es → range_answer begin end es ≡ Found
 range_found begin end es h l a b c = let e = sound_end es h l in rw e (grind (arith, nat_tests))
 
-pub between_is : (begin end : ℕ) (es : List EntryIndex) → IsSound es → between begin end es ≡ drop (begin - start_of es) (take (end - start_of es) es)
+pub between_is : (begin end : ℕ) (es : List EntryIndex) → AreTableEntries es → between begin end es ≡ drop (begin - start_of es) (take (end - start_of es) es)
 unfolding between
 between_is begin end es h =
     ap (from begin) (below_is end (start_of es) es (sound_rising es h))
@@ -136,7 +136,7 @@ part_front a b n xs h l =
     let r = ap length p in
     drop-take a n xs ∙ sym (ap (take n) p ∙ take-take n (b - a) (drop a xs) (omega arith))
 
-pub fetched_part : (limit : Option ℕ) (begin end n : ℕ) (es old new : List EntryIndex) → IsSound es → start_of es ≤ begin → begin ≤ end → IsLimitCount limit (drop (begin - start_of es) (take (end - start_of es) es)) n → new ≡ old ++ drop (begin - start_of es) (take (begin - start_of es + n) es) → FetchesWithin limit (between begin end es) old new
+pub fetched_part : (limit : Option ℕ) (begin end n : ℕ) (es old new : List EntryIndex) → AreTableEntries es → start_of es ≤ begin → begin ≤ end → IsLimitCount limit (drop (begin - start_of es) (take (end - start_of es) es)) n → new ≡ old ++ drop (begin - start_of es) (take (begin - start_of es + n) es) → FetchesWithin limit (between begin end es) old new
 fetched_part limit begin end n es old new h a b w e =
     let p = between_is begin end es h in
     record {

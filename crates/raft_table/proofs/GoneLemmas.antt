@@ -1,5 +1,5 @@
 -- The counts after entries are gone.
-use Rattle.std.proofs.Common.{◌≡◌, ℕ, ◌+◌, ◌-◌, ◌<◌, ◌≤◌, min, true, false, cond, List, [], ◌∷◌, length, take, drop, refl, sym, ap, ◌∙◌, arith}
+use Rattle.std.proofs.Common.{◌≡◌, ℕ, ◌+◌, ◌-◌, ◌<◌, ◌≤◌, min, true, false, List, [], ◌∷◌, length, take, drop, refl, sym, ap, ◌∙◌, arith}
 use Rattle.std.specs.declared.result.Result.{Result}
 use Rattle.std.specs.declared.result.Result.TheVariants.{Ok, Err}
 use Rattle.std.specs.Result.{OnOk}
@@ -8,7 +8,7 @@ use Rattle.raft_base.specs.declared.pipe_log.LogQueue.{LogQueue}
 use Rattle.raft_base.specs.declared.pipe_log.LogQueue.TheVariants.{Append, Rewrite}
 use Rattle.raft_records.specs.declared.entry_index.EntryIndex.{EntryIndex}
 use Rattle.raft_table.specs.Counts.{Counts, with_added, with_deleted}
-use Rattle.raft_table.specs.Entries.{IsSound, start_of, end_of, below, from, placed_in, entries_in}
+use Rattle.raft_table.specs.Entries.{AreTableEntries, start_of, end_of, below, from, placed_in}
 use Rattle.raft_table.specs.Start.{leaves_hole, counts_without, counts_with_run}
 use Rattle.raft_table.proofs.SoundLemmas.{sound_rising}
 use Rattle.raft_table.proofs.RewriteLemmas.{below_is, from_is}
@@ -38,14 +38,14 @@ on_ok (Ok x) f h = f h
 on_ok (Err e) f h = h
 
 -- the entries from a start on are those behind the ones below it
-pub from_rest : (i n : ℕ) (es : List EntryIndex) → IsSound es → below i es ≡ take n es → n ≤ length es → from i es ≡ drop n es
+pub from_rest : (i n : ℕ) (es : List EntryIndex) → AreTableEntries es → below i es ≡ take n es → n ≤ length es → from i es ≡ drop n es
 from_rest i n es h e l =
     let t = ap length (sym (below_is i (start_of es) es (sound_rising es h)) ∙ e) in
     let m : min (i - start_of es) (length es) ≡ n = omega (arith, t, length-take (i - start_of es) es, length-take-le n es l) in
     from_is i (start_of es) es (sound_rising es h) ∙ sym (drop_min (i - start_of es) es) ∙ ap (λ j. drop j es) m
 
 -- the counts with a run that joins the entries, stands in front of them, or behind a hole
-pub counts_joined : (q : LogQueue) (es run : List EntryIndex) (n : ℕ) (c new : Counts) → IsSound es → 0 < length run → leaves_hole (end_of es) (start_of run) ≡ false → below (start_of run) es ≡ take n es → n ≤ length es → new ≡ with_added q (length run) (counts_without (drop n es) c) → new ≡ counts_with_run q es run c
+pub counts_joined : (q : LogQueue) (es run : List EntryIndex) (n : ℕ) (c new : Counts) → AreTableEntries es → 0 < length run → leaves_hole (end_of es) (start_of run) ≡ false → below (start_of run) es ≡ take n es → n ≤ length es → new ≡ with_added q (length run) (counts_without (drop n es) c) → new ≡ counts_with_run q es run c
 counts_joined q es [] n c new h l f e k w = absurd (omega arith)
 counts_joined q es (x ∷ run) n c new h l f e k w = rw (f, from_rest x.index n es h e k) w
 

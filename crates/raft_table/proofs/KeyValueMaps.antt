@@ -11,7 +11,7 @@ use Rattle.std.specs.Map.{keys_of, lookup, remove_entry, set_value}
 use Rattle.std.specs.FinMap as finite
 use Rattle.std.specs.FinMap.{nat_cmp-IsAntisymmetric, slice_cmp-IsAntisymmetric}
 use Rattle.raft_base.specs.declared.pipe_log.LogQueue.{LogQueue}
-use Rattle.raft_table.specs.KeyValues.{Stored, Keys, file_at, with_put, with_moved, moved_to, pair_count, file_count}
+use Rattle.raft_table.specs.KeyValues.{Stored, Keys, file_at, with_put, with_moved, moved_to, pair_count, file_weight}
 use Rattle.raft_table.proofs.Shown.{shown, by_key, is_sorted-shown, find-shown, shown-insert_entry, shown-remove_entry, shown-set_value}
 use Rattle.raft_table.proofs.KeyValueCounts.{entries-remove, pair_count-remove}
 
@@ -61,5 +61,5 @@ module _ {K X : Type 0} (key : K → List ℕ) (stored : X → Stored) where
       ∙ sym (ap (moved_to (stored x).file (map_of es) q) (get-map_of es q h ∙ ap (option_map stored) found))
 
 -- the pair of a key counts among those of its queue
-pub file_count-le : (q : LogQueue) (keys : Keys) (key : List ℕ) → file_count q (file_at keys key) ≤ pair_count q keys
-file_count-le q keys key = omega (arith, pair_count-remove q keys key)
+pub file_weight-le : (q : LogQueue) (keys : Keys) (key : List ℕ) → file_weight q (file_at keys key) ≤ pair_count q keys
+file_weight-le q keys key = omega (arith, pair_count-remove q keys key)

@@ -12,8 +12,8 @@ use Rattle.raft_base.specs.declared.pipe_log.LogQueue.{LogQueue}
 use Rattle.raft_table.specs.declared.memtable.key_values.KeyValues.TheInside.{Inside}
 use Rattle.raft_table.specs.declared.memtable.key_values.StoredValue.{StoredValue}
 use Rattle.raft_table.specs.Queues.{is_same, count_in}
-use Rattle.raft_table.specs.KeyValues.{Keys, Pair, Stored, pair_count, files_in, is_up_to, fetched, key_value, overlaid, with_pairs}
-use Rattle.raft_table.specs.KeyValueView.{keys_shown, stored_of, IsSound}
+use Rattle.raft_table.specs.KeyValues.{Keys, StoredPair, Stored, pair_count, files_in, is_up_to, fetched, key_value, overlaid, with_pairs}
+use Rattle.raft_table.specs.KeyValueView.{keys_shown, stored_of, IsOrderedAndCounted}
 use Rattle.raft_table.proofs.KeyValueMaps.{entries-map_of}
 use Rattle.raft_table.specs.Scan.{is_between, is_forward, IsDivided, scanned}
 use Rattle.raft_table.proofs.ScanLemmas.{none-between, sought-tested}
@@ -23,7 +23,7 @@ use Rattle.raft_table.proofs.KeyValuesShown.{key_cmp}
 abbrev pub Entry : Type 0
 Entry = Vec ℕ Global × StoredValue
 
-abbrev pub pair_of : Entry → Pair
+abbrev pub pair_of : Entry → StoredPair
 pair_of e = (e.0.items, stored_of e.1)
 
 abbrev pub bytes_of : Entry → List ℕ × List ℕ
@@ -42,12 +42,12 @@ files-list q (e ∷ es) =
     ]
 
 -- the files of a queue's pairs, over the stored values
-pub files-shown : (a : Inside) (keys : Keys) (q : LogQueue) → IsSound a → keys_shown a ≡ keys → files_in q keys ≡ map (λ s. s.file.seq) (filter (λ s. is_same q s.file.queue) (values a.pairs))
+pub files-shown : (a : Inside) (keys : Keys) (q : LogQueue) → IsOrderedAndCounted a → keys_shown a ≡ keys → files_in q keys ≡ map (λ s. s.file.seq) (filter (λ s. is_same q s.file.queue) (values a.pairs))
 files-shown a keys q sound is =
     ap (λ es. map (λ e. e.1.file.seq) (filter (λ e. is_same q e.1.file.queue) es)) (sym (ap finite.entries is) ∙ entries-shown a sound.ordered) ∙ files-list q a.pairs.entries
 
 -- the chosen keys and values, over the stored pairs
-chosen-list : (t : Pair → Bool) (es : List Entry) → map key_value (filter t (map pair_of es)) ≡ map bytes_of (filter (λ e. t (pair_of e)) es)
+chosen-list : (t : StoredPair → Bool) (es : List Entry) → map key_value (filter t (map pair_of es)) ≡ map bytes_of (filter (λ e. t (pair_of e)) es)
 chosen-list t [] = refl
 chosen-list t (e ∷ es) =
     elim (t (pair_of e)) as (λ b. map key_value (cond b (pair_of e ∷ filter t (map pair_of es)) (filter t (map pair_of es))) ≡ map bytes_of (cond b (e ∷ filter (λ e. t (pair_of e)) es) (filter (λ e. t (pair_of e)) es))) [
@@ -55,28 +55,28 @@ chosen-list t (e ∷ es) =
       | false ↦ chosen-list t es
     ]
 
-chosen-shown : (a : Inside) (keys : Keys) (t : Pair → Bool) → IsSound a → keys_shown a ≡ keys → map key_value (filter t (finite.entries keys)) ≡ map bytes_of (filter (λ e. t (pair_of e)) a.pairs.entries)
+chosen-shown : (a : Inside) (keys : Keys) (t : StoredPair → Bool) → IsOrderedAndCounted a → keys_shown a ≡ keys → map key_value (filter t (finite.entries keys)) ≡ map bytes_of (filter (λ e. t (pair_of e)) a.pairs.entries)
 chosen-shown a keys t sound is =
     ap (λ es. map key_value (filter t es)) (sym (ap finite.entries is) ∙ entries-shown a sound.ordered) ∙ chosen-list t a.pairs.entries
 
 -- the keys and values up to a gate, over the stored pairs
-pub fetched-shown : (a : Inside) (keys : Keys) (q : LogQueue) (gate : Option ℕ) → IsSound a → keys_shown a ≡ keys → fetched q gate keys ≡ map bytes_of (filter (λ e. is_up_to q gate e.1.file) a.pairs.entries)
+pub fetched-shown : (a : Inside) (keys : Keys) (q : LogQueue) (gate : Option ℕ) → IsOrderedAndCounted a → keys_shown a ≡ keys → fetched q gate keys ≡ map bytes_of (filter (λ e. is_up_to q gate e.1.file) a.pairs.entries)
 fetched-shown a keys q gate sound is = chosen-shown a keys (λ e. is_up_to q gate e.1.file) sound is
 
 -- no keys are scanned where the bounds are not in order
 pub scanned-backwards : (keys : Keys) (s e : Option (List ℕ)) (reversed : Bool) → is_forward s e ≡ false → scanned s e reversed keys ≡ []
 scanned-backwards keys s e reversed backwards =
-    let none : map key_value (filter (λ p. is_between s e p.0) (finite.entries keys)) ≡ [] = ap (map key_value) (none-between (λ (p : Pair). p.0) s e (finite.entries keys) backwards) in
+    let none : map key_value (filter (λ p. is_between s e p.0) (finite.entries keys)) ≡ [] = ap (map key_value) (none-between (λ (p : StoredPair). p.0) s e (finite.entries keys) backwards) in
     elim reversed as (λ r. (cond r (reverse (map key_value (filter (λ p. is_between s e p.0) (finite.entries keys)))) (map key_value (filter (λ p. is_between s e p.0) (finite.entries keys)))) ≡ []) [ true ↦ ap reverse none | false ↦ none ]
 
 -- what is scanned, over the stored pairs that are sought and then tested
-pub scanned-shown : (a : Inside) (keys : Keys) (s s' s'' e e' e'' : Option (List ℕ)) → IsSound a → keys_shown a ≡ keys → IsDivided s s' s'' → IsDivided e e' e'' →
+pub scanned-shown : (a : Inside) (keys : Keys) (s s' s'' e e' e'' : Option (List ℕ)) → IsOrderedAndCounted a → keys_shown a ≡ keys → IsDivided s s' s'' → IsDivided e e' e'' →
     map bytes_of (filter (λ p. is_between s'' e'' p.0.items) (filter (λ p. is_between s' e' p.0.items) a.pairs.entries)) ≡ scanned s e false keys
 scanned-shown a keys s s' s'' e e' e'' sound is p q =
     ap (map bytes_of) (sought-tested (λ (p : Entry). p.0.items) s s' s'' e e' e'' a.pairs.entries p q) ∙ sym (chosen-shown a keys (λ p. is_between s e p.0) sound is)
 
 -- the first pair, and the others
-pub first-shown : (a b : Inside) (keys : Keys) (k : Vec ℕ Global) (s : StoredValue) → IsSound a → keys_shown a ≡ keys → IsOrdered key_cmp b.pairs → a.pairs.entries ≡ (k, s) ∷ b.pairs.entries → finite.entries keys ≡ (k.items, stored_of s) ∷ finite.entries (keys_shown b)
+pub first-shown : (a b : Inside) (keys : Keys) (k : Vec ℕ Global) (s : StoredValue) → IsOrderedAndCounted a → keys_shown a ≡ keys → IsOrdered key_cmp b.pairs → a.pairs.entries ≡ (k, s) ∷ b.pairs.entries → finite.entries keys ≡ (k.items, stored_of s) ∷ finite.entries (keys_shown b)
 first-shown a b keys k s sound is ordered first =
     sym (ap finite.entries is) ∙ entries-shown a sound.ordered ∙ ap (map pair_of) first ∙ ap (λ es. (k.items, stored_of s) ∷ es) (sym (entries-shown b ordered))
 
@@ -96,7 +96,7 @@ entries-empty = no_length _ (sym (finite.len-entries _) ∙ finite.len-empty (sl
 pub overlaid-empty : (newer older : Keys) → newer ≡ finite.empty → overlaid newer older ≡ older
 overlaid-empty newer older e = ap (with_pairs older) (ap finite.entries e ∙ entries-empty)
 
-pub len-first : (keys rest : Keys) (e : Pair) → finite.entries keys ≡ e ∷ finite.entries rest → finite.len rest < finite.len keys
+pub len-first : (keys rest : Keys) (e : StoredPair) → finite.entries keys ≡ e ∷ finite.entries rest → finite.len rest < finite.len keys
 len-first keys rest e first = omega (arith, finite.len-entries keys, finite.len-entries rest, ap length first)
 
 -- where no first pair is, there is none

@@ -11,7 +11,7 @@ use Rattle.raft_table.specs.Entries.{RisesFrom, IsRun, end_of, below, from}
 use Rattle.raft_table.specs.Marks.{part}
 use Rattle.raft_table.specs.Start.{leaves_hole, replayed}
 use Rattle.raft_table.specs.Steps.{Step, Run, Compact, Put, Del, AtomicGroup, Clean, stepped, is_there_after, table_of, there_if, after_step, after, IsStep, AreSteps}
-use Rattle.raft_table.specs.Table.{Table, with_entries, with_pair, without_key, with_atomic_group}
+use Rattle.raft_table.specs.Table.{Table, table_with_entries, with_pair, without_key, with_atomic_group}
 use Rattle.raft_table.proofs.MarkEntries.{same_some, accepted}
 use Rattle.raft_table.proofs.MarkRuns.{first_rising}
 use Rattle.raft_table.proofs.MarkWords.{part-append, part-from, part-below, part-part, part-empty, end_of-from, nil_of_end}
@@ -53,16 +53,16 @@ none_from = refl
 step_later : (id : ℕ) (own older v : Option Table) (s : Step) → IsStep s → IsLater id own older → after_step Append id older s ≡ Some v → (u : Option Table) × (after_step Append id own s ≡ Some u) × IsLater id u v
 step_later id own older v (Run run) good later is = go (replayed Append (table_of id older).entries run) refl is
   where
-    go : (o : Option (List EntryIndex)) → replayed Append (table_of id older).entries run ≡ o → there_if true (option_map (with_entries (table_of id older)) o) ≡ Some v → (u : Option Table) × (after_step Append id own (Run run) ≡ Some u) × IsLater id u v
+    go : (o : Option (List EntryIndex)) → replayed Append (table_of id older).entries run ≡ o → there_if true (option_map (table_with_entries (table_of id older)) o) ≡ Some v → (u : Option Table) × (after_step Append id own (Run run) ≡ Some u) × IsLater id u v
     go None e k = absurd cc
     go (Some after) e k =
         let p = run_later later.0 (table_of id older).entries run after good e in (
-          Some (with_entries (table_of id own) p.0),
-          ap (λ es. there_if true (option_map (with_entries (table_of id own)) (replayed Append es run))) later.1 ∙ ap (λ o. there_if true (option_map (with_entries (table_of id own)) o)) p.1,
-          subst (IsLater id (Some (with_entries (table_of id own) p.0))) (same_some _ v k) p.2,
+          Some (table_with_entries (table_of id own) p.0),
+          ap (λ es. there_if true (option_map (table_with_entries (table_of id own)) (replayed Append es run))) later.1 ∙ ap (λ o. there_if true (option_map (table_with_entries (table_of id own)) o)) p.1,
+          subst (IsLater id (Some (table_with_entries (table_of id own) p.0))) (same_some _ v k) p.2,
         )
 step_later id own older v (Compact i) good later is =
-    (Some (with_entries (table_of id own) (from i (table_of id own).entries)), refl, subst (IsLater id (Some (with_entries (table_of id own) (from i (table_of id own).entries)))) (same_some _ v is) (later.0, ap (from i) later.1 ∙ swapped i later.0 (table_of id older).entries))
+    (Some (table_with_entries (table_of id own) (from i (table_of id own).entries)), refl, subst (IsLater id (Some (table_with_entries (table_of id own) (from i (table_of id own).entries)))) (same_some _ v is) (later.0, ap (from i) later.1 ∙ swapped i later.0 (table_of id older).entries))
   where
     as_part : (a b : ℕ) (es : List EntryIndex) → from a (from b es) ≡ part (max b a) None es
     as_part a b es = sym (part-from a (from b es)) ∙ ap (part a None) (sym (part-from b es)) ∙ part-part a None b None es

@@ -10,7 +10,7 @@ use Rattle.raft_records.specs.declared.entry_index.EntryIndex.{EntryIndex}
 use Rattle.raft_table.specs.Entries.{RisesFrom, IsRun, end_of, below, from}
 use Rattle.raft_table.specs.Start.{leaves_hole, replayed}
 use Rattle.raft_table.specs.Steps.{Step, Run, Compact, Put, Del, AtomicGroup, Clean, stepped, is_there_after, table_of, there_if, after_step, after, IsStep, AreSteps, IsTableOf}
-use Rattle.raft_table.specs.Table.{Table, empty_table, with_entries}
+use Rattle.raft_table.specs.Table.{Table, empty_table, table_with_entries}
 use Rattle.raft_table.proofs.RunLemmas.{below_start, below_take, from_start, from_drop, end_of-run, RisesFrom-append, RisesFrom-take, IsRun-drop}
 use Rattle.raft_table.proofs.MarkEntries.{same_some, accepted}
 
@@ -60,7 +60,7 @@ run_replayed Rewrite es (e ∷ run) after r h is = subst IsRun (same_some _ afte
 pub table_stepped : (q : LogQueue) (id : ℕ) (t u : Table) (s : Step) → IsStep s → IsTableOf id t → stepped q t s ≡ Some u → IsTableOf id u
 table_stepped q id t u (Run run) good h is = go (replayed q t.entries run) refl is
   where
-    go : (x : Option (List EntryIndex)) → replayed q t.entries run ≡ x → option_map (with_entries t) x ≡ Some u → IsTableOf id u
+    go : (x : Option (List EntryIndex)) → replayed q t.entries run ≡ x → option_map (table_with_entries t) x ≡ Some u → IsTableOf id u
     go None e k = absurd cc
     go (Some es) e k = subst (IsTableOf id) (same_some _ u k) (record { region = h.region; run = run_replayed q t.entries run es h.run good e })
 table_stepped q id t u (Compact i) good h is = subst (IsTableOf id) (same_some _ u is) (record { region = h.region; run = run_from i t.entries h.run })

@@ -7,11 +7,11 @@ use Rattle.std.proofs.lemmas.Bool.Decides.{nat_tests}
 use Rattle.raft_base.specs.declared.pipe_log.LogQueue.{LogQueue}
 use Rattle.raft_base.specs.declared.pipe_log.LogQueue.TheVariants.{Append, Rewrite}
 use Rattle.raft_records.specs.declared.entry_index.EntryIndex.{EntryIndex}
-use Rattle.raft_table.specs.Entries.{RisesFrom, IsSound, RewrittenInFront, start_of, end_of, placed_in, is_placed_in, entries_in}
+use Rattle.raft_table.specs.Entries.{RisesFrom, AreTableEntries, RewrittenInFront, start_of, end_of, placed_in, is_placed_in, entry_count}
 use Rattle.raft_table.specs.Rewriting.{may_move, is_misplaced}
 use Rattle.raft_table.proofs.RunLemmas.{RisesFrom-take, RisesFrom-append, RisesFrom-drop, end_of-run, placed_in-append}
-use Rattle.raft_table.proofs.PlaceLemmas.{AllTest, AllTest-filter, AllTest-take, AllTest-drop, filter_all, entries_in-append, entries_in_one, placed_in_other}
-use Rattle.raft_table.proofs.SoundLemmas.{sound_rising, IsSound-take, IsSound-drop, cut_counts}
+use Rattle.raft_table.proofs.PlaceLemmas.{AllTest, AllTest-filter, AllTest-take, AllTest-drop, filter_all, entry_count-append, entries_in_one, placed_in_other}
+use Rattle.raft_table.proofs.SoundLemmas.{sound_rising, AreTableEntries-take, AreTableEntries-drop, cut_counts}
 use Rattle.raft_table.proofs.StartLemmas.{run_alone}
 
 pub AllTest-prefix : {X : Type 0} (p : X → Bool) (xs : List X) → AllTest true p (take (prefix_len p xs) xs)
@@ -49,7 +49,7 @@ end_of-same s (x ∷ a) [] h k e = absurd (omega arith)
 end_of-same s (x ∷ a) (y ∷ b) h k e =
     end_of-run s (x ∷ a) h (omega arith) ∙ ap (λ n. s + n) e ∙ sym (end_of-run s (y ∷ b) k (omega arith))
 
-pub whole_test : (q : LogQueue) (xs : List EntryIndex) → AllTest true (is_placed_in q) xs → entries_in q xs ≡ length xs
+pub whole_test : (q : LogQueue) (xs : List EntryIndex) → AllTest true (is_placed_in q) xs → entry_count q xs ≡ length xs
 unfolding placed_in
 whole_test q xs h = ap length (filter_all (is_placed_in q) xs h)
 
@@ -59,10 +59,10 @@ joined (Some gate) m = m
 joined None m = 0
 
 -- with a gate the places begin right behind the rewritten entries; without one those that move are among them
-pub all_rewritten : (gate : Option ℕ) (at k : ℕ) (es : List EntryIndex) → IsSound es → at + k ≤ length es → is_misplaced gate at (entries_in Rewrite es) ≡ false → (m : ℕ) → m ≡ prefix_len (may_move gate) (drop at (take (at + k) es)) → (at ≤ entries_in Rewrite es) × (min (at + m) (entries_in Rewrite es) + joined gate m ≡ at + m)
+pub all_rewritten : (gate : Option ℕ) (at k : ℕ) (es : List EntryIndex) → AreTableEntries es → at + k ≤ length es → is_misplaced gate at (entry_count Rewrite es) ≡ false → (m : ℕ) → m ≡ prefix_len (may_move gate) (drop at (take (at + k) es)) → (at ≤ entry_count Rewrite es) × (min (at + m) (entry_count Rewrite es) + joined gate m ≡ at + m)
 all_rewritten (Some gate) at k es h l t m e = (grind (arith, nat_tests), grind (arith, nat_tests))
 all_rewritten None at k es h l t m e =
-    let w : at ≤ entries_in Rewrite es = grind (arith, nat_tests) in
+    let w : at ≤ entry_count Rewrite es = grind (arith, nat_tests) in
     let xs = take k (drop at es) in
     let c : drop at (take (at + k) es) ≡ xs = drop-take at k es in
     let p : m ≡ prefix_len (is_placed_in Rewrite) xs = rw c at e in
@@ -70,22 +70,22 @@ all_rewritten None at k es h l t m e =
     let mk : m ≤ k = omega (arith, prefix_len-le-length (is_placed_in Rewrite) xs) in
     let front : drop at (take (at + m) es) ≡ take m xs = drop-take at m es ∙ sym (take-take m k (drop at es) mk) in
     let passes : AllTest true (is_placed_in Rewrite) (take m xs) = rw p (AllTest-prefix (is_placed_in Rewrite) xs) in
-    let whole : entries_in Rewrite (take m xs) ≡ m = whole_test Rewrite (take m xs) passes ∙ length-take-le m xs (omega arith) in
-    let a = cut_counts at (take (at + m) es) (IsSound-take (at + m) es h) (omega (arith, length-take-le (at + m) es (omega arith))) in
+    let whole : entry_count Rewrite (take m xs) ≡ m = whole_test Rewrite (take m xs) passes ∙ length-take-le m xs (omega arith) in
+    let a = cut_counts at (take (at + m) es) (AreTableEntries-take (at + m) es h) (omega (arith, length-take-le (at + m) es (omega arith))) in
     let b = cut_counts (at + m) es h (omega arith) in
-    let d : entries_in Rewrite (drop at (take (at + m) es)) ≡ m = rw front whole in
+    let d : entry_count Rewrite (drop at (take (at + m) es)) ≡ m = rw front whole in
     let f : take at (take (at + m) es) ≡ take at es = take-take at (at + m) es (omega arith) in
     let g = cut_counts at es h (omega arith) in
-    let i = ap (entries_in Rewrite) f in
+    let i = ap (entry_count Rewrite) f in
     (w, omega arith)
 
 pub record Moves (gate : Option ℕ) (at m : ℕ) (es places : List EntryIndex) : Type 0 where
   pub within : m ≤ length places
-  pub sound : IsSound (take at es ++ take m places ++ drop (at + m) es)
-  pub rewritten : entries_in Rewrite (take at es ++ take m places ++ drop (at + m) es) ≡ entries_in Rewrite es + joined gate m
-  pub appended : entries_in Append (take at es ++ take m places ++ drop (at + m) es) + joined gate m ≡ entries_in Append es
+  pub sound : AreTableEntries (take at es ++ take m places ++ drop (at + m) es)
+  pub rewritten : entry_count Rewrite (take at es ++ take m places ++ drop (at + m) es) ≡ entry_count Rewrite es + joined gate m
+  pub appended : entry_count Append (take at es ++ take m places ++ drop (at + m) es) + joined gate m ≡ entry_count Append es
 
-pub moves : (gate : Option ℕ) (at m : ℕ) (es places : List EntryIndex) → IsSound es → at + length places ≤ length es → RisesFrom (start_of es + at) places → placed_in Rewrite places ≡ places → is_misplaced gate at (entries_in Rewrite es) ≡ false → m ≡ prefix_len (may_move gate) (drop at (take (at + length places) es)) → Moves gate at m es places
+pub moves : (gate : Option ℕ) (at m : ℕ) (es places : List EntryIndex) → AreTableEntries es → at + length places ≤ length es → RisesFrom (start_of es + at) places → placed_in Rewrite places ≡ places → is_misplaced gate at (entry_count Rewrite es) ≡ false → m ≡ prefix_len (may_move gate) (drop at (take (at + length places) es)) → Moves gate at m es places
 moves gate at m es places h l r q t e =
     let k = length places in
     let s = start_of es in
@@ -94,7 +94,7 @@ moves gate at m es places h l r q t e =
     let w = all_rewritten gate at k es h l t m e in
     let ca = cut_counts at es h (omega arith) in
     let cb = cut_counts (at + m) es h (omega arith) in
-    let front : placed_in Rewrite (take at es) ≡ take at es = (run_alone Rewrite (take at es) (IsSound-take at es h) (omega (arith, w.0))).placed in
+    let front : placed_in Rewrite (take at es) ≡ take at es = (run_alone Rewrite (take at es) (AreTableEntries-take at es h) (omega (arith, w.0))).placed in
     let mid : placed_in Rewrite (take m places) ≡ take m places = placed_in-take Rewrite m places q in
     let na : length (take at es) ≡ at = length-take-le at es (omega arith) in
     let nb : length (take m places) ≡ m = length-take-le m places mk in
@@ -106,8 +106,8 @@ moves gate at m es places h l r q t e =
     let n : length (ab ++ drop (at + m) es) ≡ length es = length-append ab (drop (at + m) es) ∙ omega (arith, length-drop (at + m) es) in
     let top = end_of-same s (ab ++ drop (at + m) es) es rise (sound_rising es h) n in
     let bound = h.bounded in
-    let ra = entries_in-append Rewrite ab (drop (at + m) es) in
-    let rb = entries_in-append Append ab (drop (at + m) es) in
+    let ra = entry_count-append Rewrite ab (drop (at + m) es) in
+    let rb = entry_count-append Append ab (drop (at + m) es) in
     let ia = entries_in_one Rewrite Rewrite ab both in
     let ib = entries_in_one Append Rewrite ab both in
     let w0 = w.0 in
@@ -116,7 +116,7 @@ moves gate at m es places h l r q t e =
       within = mk;
       sound = record {
         run = record { start = s; rising = rise };
-        in_front = in_front_of ab (drop (at + m) es) both (IsSound-drop (at + m) es h).in_front;
+        in_front = in_front_of ab (drop (at + m) es) both (AreTableEntries-drop (at + m) es h).in_front;
         bounded = omega arith;
       };
       rewritten = omega arith;

@@ -17,7 +17,7 @@ use Rattle.raft_table.specs.Marks.{Mark, part, misses, is_missed, entries_over, 
 use Rattle.raft_table.specs.Merge.{after_join}
 use Rattle.raft_table.specs.Overlay.{has_clean, greatest_compaction, least_start, deleted_of, is_short, rewritten_part, overlay, overlay_under, IsExactMark}
 use Rattle.raft_table.specs.Steps.{Step, table_of, after, AreSteps, IsTableOf}
-use Rattle.raft_table.specs.Table.{Table, empty_table, with_entries}
+use Rattle.raft_table.specs.Table.{Table, empty_table, table_with_entries}
 use Rattle.raft_table.proofs.RunLemmas.{end_of-run, end_of-append, RisesFrom-append}
 use Rattle.raft_table.proofs.MarkWords.{part-append, part-nil, part-from, end_of-from}
 use Rattle.raft_table.proofs.MarkEntries.{same_some, pick_true, pick_false}
@@ -113,7 +113,7 @@ reaching : (id : ℕ) (m : Mark) (a : Option Table) (ss : List Step) (r : Table)
     → (es : List EntryIndex) → r.entries ≡ es → IsRun (part m.floor (Some c) es ++ (table_of id a).entries)
 reaching id m a ss r start c good h k e is_r is_c l [] same = subst (λ xs. IsRun (xs ++ (table_of id a).entries)) (sym (part-nil m.floor (Some c))) h.own_table.run
 reaching id m a ss r start c good h k e is_r is_c l (x ∷ es) same =
-    subst (λ xs. IsRun (xs ++ (table_of id a).entries)) kept (rw is_c at (live_run id m a ss (with_entries r longer) good h longer_table e missed))
+    subst (λ xs. IsRun (xs ++ (table_of id a).entries)) kept (rw is_c at (live_run id m a ss (table_with_entries r longer) good h longer_table e missed))
   where
     run : IsRun (x ∷ es)
     run = subst IsRun same k.run
@@ -130,7 +130,7 @@ reaching id m a ss r start c good h k e is_r is_c l (x ∷ es) same =
     longer : List EntryIndex
     longer = (x ∷ es) ++ more
 
-    longer_table : IsTableOf id (with_entries r longer)
+    longer_table : IsTableOf id (table_with_entries r longer)
     longer_table = record { region = k.region; run = record { start = run.start; rising = RisesFrom-append run.start (x ∷ es) more run.rising (subst (λ n. RisesFrom n more) top_is (filled-rises x top (start - top))) } }
 
     end_more : (n : ℕ) → (n ≡ 0) ⊎ (end_of (filled x top n) ≡ top + n)

@@ -5,7 +5,7 @@ use Rattle.raft_base.specs.declared.pipe_log.LogQueue.{LogQueue}
 use Rattle.raft_base.specs.declared.pipe_log.LogQueue.TheVariants.{Append, Rewrite}
 use Rattle.raft_base.specs.declared.pipe_log.FileBlockHandle.{FileBlockHandle}
 use Rattle.raft_records.specs.declared.entry_index.EntryIndex.{EntryIndex}
-use Rattle.raft_table.specs.Entries.{placed_in, is_placed_in, is_block_in, entries_in, RewrittenInFront}
+use Rattle.raft_table.specs.Entries.{placed_in, is_placed_in, is_block_in, entry_count, RewrittenInFront}
 use Rattle.raft_table.specs.Queues.{is_same, count_in}
 use Rattle.raft_table.proofs.RunLemmas.{placed_in-append}
 
@@ -88,26 +88,26 @@ placed_in_other q r d es =
     (AllTest-weaker true false (is_placed_in q) (is_placed_in r) (placed_apart q r d) (placed_in q es) (AllTest-filter (is_placed_in q) es))
 
 -- a cut keeps the rewritten entries in front
-pub entries_in_front : (n : ℕ) (es : List EntryIndex) → RewrittenInFront es → entries_in Rewrite (take n es) ≡ min n (entries_in Rewrite es)
+pub entries_in_front : (n : ℕ) (es : List EntryIndex) → RewrittenInFront es → entry_count Rewrite (take n es) ≡ min n (entry_count Rewrite es)
 unfolding placed_in
 entries_in_front n es h =
-    ap (λ xs. entries_in Rewrite (take n xs)) h
+    ap (λ xs. entry_count Rewrite (take n xs)) h
     ∙ count_front (is_placed_in Rewrite) n (placed_in Rewrite es) (placed_in Append es)
     (AllTest-filter (is_placed_in Rewrite) es)
     (AllTest-weaker true false (is_placed_in Append) (is_placed_in Rewrite) (placed_apart Append Rewrite refl) (placed_in Append es) (AllTest-filter (is_placed_in Append) es))
 
-pub entries_in-append : (q : LogQueue) (a b : List EntryIndex) → entries_in q (a ++ b) ≡ entries_in q a + entries_in q b
-entries_in-append q a b = ap length (placed_in-append q a b) ∙ length-append (placed_in q a) (placed_in q b)
+pub entry_count-append : (q : LogQueue) (a b : List EntryIndex) → entry_count q (a ++ b) ≡ entry_count q a + entry_count q b
+entry_count-append q a b = ap length (placed_in-append q a b) ∙ length-append (placed_in q a) (placed_in q b)
 
-pub entries_in-cut : (q : LogQueue) (n : ℕ) (es : List EntryIndex) → entries_in q (take n es) + entries_in q (drop n es) ≡ entries_in q es
-entries_in-cut q n es = sym (entries_in-append q (take n es) (drop n es)) ∙ ap (entries_in q) (take-append-drop n es)
+pub entry_count-cut : (q : LogQueue) (n : ℕ) (es : List EntryIndex) → entry_count q (take n es) + entry_count q (drop n es) ≡ entry_count q es
+entry_count-cut q n es = sym (entry_count-append q (take n es) (drop n es)) ∙ ap (entry_count q) (take-append-drop n es)
 
 -- each entry is in one queue
-pub entries_in_both : (es : List EntryIndex) → RewrittenInFront es → entries_in Rewrite es + entries_in Append es ≡ length es
+pub entries_in_both : (es : List EntryIndex) → RewrittenInFront es → entry_count Rewrite es + entry_count Append es ≡ length es
 entries_in_both es h = sym (ap length h ∙ length-append (placed_in Rewrite es) (placed_in Append es))
 
 -- how many of one queue's entries are in a queue
-pub entries_in_one : (q r : LogQueue) (es : List EntryIndex) → placed_in r es ≡ es → entries_in q es ≡ count_in q r (length es)
+pub entries_in_one : (q r : LogQueue) (es : List EntryIndex) → placed_in r es ≡ es → entry_count q es ≡ count_in q r (length es)
 entries_in_one Append Append es h = ap length h
 entries_in_one Append Rewrite es h = ap length (sym (ap (placed_in Append) h) ∙ placed_in_other Rewrite Append refl es)
 entries_in_one Rewrite Append es h = ap length (sym (ap (placed_in Rewrite) h) ∙ placed_in_other Append Rewrite refl es)

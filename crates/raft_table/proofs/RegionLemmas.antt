@@ -9,12 +9,12 @@ use Rattle.raft_base.specs.declared.pipe_log.LogQueue.{LogQueue}
 use Rattle.raft_records.specs.declared.entry_index.EntryIndex.{EntryIndex}
 use Rattle.raft_table.specs.Counts.{Counts}
 use Rattle.raft_table.specs.Entries.{IsRun, start_of, end_of, from}
-use Rattle.raft_table.specs.MarkMerge.{IsRunOver, IsRefusedUnder, IsMeetingRefused}
+use Rattle.raft_table.specs.MarkMerge.{IsRunOver, IsFaultUnder, IsMeetingFault}
 use Rattle.raft_table.specs.Marks.{Mark, is_meeting_refused, entries_over, keys_over, atomic_group_over, table_over, is_there_over, applied, Stands}
 use Rattle.raft_table.specs.MarkJoins.{joined_at, met, fresh, mark_of}
-use Rattle.raft_table.specs.Start.{replayed, IsRunRefused, IsCorruption}
+use Rattle.raft_table.specs.Start.{replayed, IsTableRunFault, IsCorruptionError}
 use Rattle.raft_table.specs.Steps.{Step, Run, Del, Clean, stepped, is_there_after, table_of, there_if, after, IsStep, AreSteps, IsTableOf}
-use Rattle.raft_table.specs.Table.{Table, with_entries, without_key, after_replay}
+use Rattle.raft_table.specs.Table.{Table, table_with_entries, without_key, after_replay}
 use Rattle.raft_table.proofs.MarkExact.{joined_fresh}
 use Rattle.raft_table.proofs.MarkLaws.{stands_join, refused_join, stands_step, refused_step}
 use Rattle.raft_table.proofs.MarkRuns.{table_after, empty_run}
@@ -40,7 +40,7 @@ pub join_stands : (q : LogQueue) (id : ℕ) (m n j : Mark) (t : Option Table) (u
 join_stands q id m n j t u w ss rs good good' h k e is =
     subst (λ j. Stands q id j (Some w) (ss ++ rs)) (sym is) (stands_join q id m n t (Some u) (Some w) ss rs good good' h k (applied_own q id n u w t e))
 
-pub join_refused : (q : LogQueue) (id : ℕ) (m n : Mark) (t : Option Table) (u : Table) (ss rs : List Step) (counts : Counts) (e : Error) → Stands q id m t ss → Stands q id n (Some u) rs → IsRefusedUnder q counts n u (table_of id t) e → IsCorruption e → after q id None (ss ++ rs) ≡ None
+pub join_refused : (q : LogQueue) (id : ℕ) (m n : Mark) (t : Option Table) (u : Table) (ss rs : List Step) (counts : Counts) (e : Error) → Stands q id m t ss → Stands q id n (Some u) rs → IsFaultUnder q counts n u (table_of id t) e → IsCorruptionError e → after q id None (ss ++ rs) ≡ None
 join_refused q id m n t u ss rs counts (errors.Corruption text) h k r c = refused_join q id m n t (Some u) ss rs h k (rw r refl)
 join_refused q id m n t u ss rs counts _ h k r c = absurd c
 
@@ -49,10 +49,10 @@ pub step_stands : (q : LogQueue) (id : ℕ) (m j : Mark) (t : Option Table) (w :
 step_stands q id m j t w ss s good good' h there e is =
     subst (λ j. Stands q id j (Some w) (ss ++ s ∷ [])) (sym is) (stands_step q id m t (Some w) ss s good good' h (rw (there, e) refl))
 
-pub run_refused : (q : LogQueue) (id : ℕ) (m : Mark) (t : Option Table) (ss : List Step) (run : List EntryIndex) (counts : Counts) (e : Error) → Stands q id m t ss → IsRunRefused q counts (table_of id t).entries (replayed q (table_of id t).entries run) e → IsCorruption e → after q id None (ss ++ Run run ∷ []) ≡ None
+pub run_refused : (q : LogQueue) (id : ℕ) (m : Mark) (t : Option Table) (ss : List Step) (run : List EntryIndex) (counts : Counts) (e : Error) → Stands q id m t ss → IsTableRunFault q counts (table_of id t).entries (replayed q (table_of id t).entries run) e → IsCorruptionError e → after q id None (ss ++ Run run ∷ []) ≡ None
 run_refused q id m t ss run counts e h r c = refused_step q id m t ss (Run run) h (go (replayed q (table_of id t).entries run) e r c)
   where
-    go : (o : Option (List EntryIndex)) (e : Error) → IsRunRefused q counts (table_of id t).entries o e → IsCorruption e → there_if true (option_map (with_entries (table_of id t)) o) ≡ None
+    go : (o : Option (List EntryIndex)) (e : Error) → IsTableRunFault q counts (table_of id t).entries o e → IsCorruptionError e → there_if true (option_map (table_with_entries (table_of id t)) o) ≡ None
     go None e r c = refl
     go (Some es) (errors.Corruption text) r c = absurd r
     go (Some es) _ r c = absurd c
@@ -90,6 +90,6 @@ cleaned_stands q id m n j t ss rs good good' h k e ok is =
     gone true e = rw ok refl
     gone false e = absurd (false≢true e)
 
-pub cleaned_refused : (q : LogQueue) (id : ℕ) (m n : Mark) (t : Option Table) (ss rs : List Step) (e : Error) → Stands q id m t ss → Stands q id n None rs → IsMeetingRefused (is_meeting_refused q n (table_of id t).entries) e → IsCorruption e → after q id None (ss ++ rs) ≡ None
+pub cleaned_refused : (q : LogQueue) (id : ℕ) (m n : Mark) (t : Option Table) (ss rs : List Step) (e : Error) → Stands q id m t ss → Stands q id n None rs → IsMeetingFault (is_meeting_refused q n (table_of id t).entries) e → IsCorruptionError e → after q id None (ss ++ rs) ≡ None
 cleaned_refused q id m n t ss rs (errors.Corruption text) h k r c = refused_join q id m n t None ss rs h k (rw r refl)
 cleaned_refused q id m n t ss rs _ h k r c = absurd c

@@ -6,8 +6,8 @@ use Rattle.raft_base.specs.declared.pipe_log.LogQueue.{LogQueue}
 use Rattle.raft_base.specs.declared.pipe_log.LogQueue.TheVariants.{Append, Rewrite}
 use Rattle.raft_records.specs.declared.entry_index.EntryIndex.{EntryIndex}
 use Rattle.raft_table.specs.Counts.{Counts, live}
-use Rattle.raft_table.specs.Entries.{below, placed_in, is_placed_in, entries_in, end_of}
-use Rattle.raft_table.specs.Start.{appended, replayed, leaves_hole, starts_in_front, IsRunRefused}
+use Rattle.raft_table.specs.Entries.{below, placed_in, is_placed_in, entry_count, end_of}
+use Rattle.raft_table.specs.Start.{appended, replayed, leaves_hole, starts_in_front, IsTableRunFault}
 use Rattle.raft_table.proofs.RunLemmas.{placed_in-append}
 
 filter-le : {X : Type 0} (p : X → Bool) (xs : List X) → length (filter p xs) ≤ length xs
@@ -33,52 +33,52 @@ filter-fewer p r (x ∷ xs) =
     ]
 
 -- no more entries are in a queue than there are
-pub entries_in-le : (q : LogQueue) (es : List EntryIndex) → entries_in q es ≤ length es
+pub entry_count-le : (q : LogQueue) (es : List EntryIndex) → entry_count q es ≤ length es
 unfolding placed_in
-entries_in-le q es = filter-le (is_placed_in q) es
+entry_count-le q es = filter-le (is_placed_in q) es
 
 -- nor are more of those below an index
-pub entries_in-below : (q : LogQueue) (i : ℕ) (es : List EntryIndex) → entries_in q (below i es) ≤ entries_in q es
+pub entry_count-below : (q : LogQueue) (i : ℕ) (es : List EntryIndex) → entry_count q (below i es) ≤ entry_count q es
 unfolding placed_in below
-entries_in-below q i es = filter-fewer (is_placed_in q) _ es
+entry_count-below q i es = filter-fewer (is_placed_in q) _ es
 
-behind-in : (q : LogQueue) (i : ℕ) (es run : List EntryIndex) → entries_in q (below i es ++ run) ≤ entries_in q es + entries_in q run
+behind-in : (q : LogQueue) (i : ℕ) (es run : List EntryIndex) → entry_count q (below i es ++ run) ≤ entry_count q es + entry_count q run
 behind-in q i es run =
-    omega (arith, ap length (placed_in-append q (below i es) run), length-append (placed_in q (below i es)) (placed_in q run), entries_in-below q i es)
+    omega (arith, ap length (placed_in-append q (below i es) run), length-append (placed_in q (below i es)) (placed_in q run), entry_count-below q i es)
 
 some_is : {X : Type 0} {x y : X} → Some x ≡ Some y → x ≡ y
 some_is e = cc
 
 -- a table with a new run has no more entries in a queue than both together
-pub appended-in : (q : LogQueue) (es run after : List EntryIndex) → appended es run ≡ Some after → entries_in q after ≤ entries_in q es + entries_in q run
-appended-in q es [] after e = subst (λ x. entries_in q x ≤ entries_in q es + entries_in q []) (some_is e) (omega arith)
+pub appended-in : (q : LogQueue) (es run after : List EntryIndex) → appended es run ≡ Some after → entry_count q after ≤ entry_count q es + entry_count q run
+appended-in q es [] after e = subst (λ x. entry_count q x ≤ entry_count q es + entry_count q []) (some_is e) (omega arith)
 appended-in q es (r ∷ run) after e =
-    elim (starts_in_front es r.index || leaves_hole (end_of es) r.index) as (λ b. cond b None (Some (below r.index es ++ r ∷ run)) ≡ Some after → entries_in q after ≤ entries_in q es + entries_in q (r ∷ run)) [
+    elim (starts_in_front es r.index || leaves_hole (end_of es) r.index) as (λ b. cond b None (Some (below r.index es ++ r ∷ run)) ≡ Some after → entry_count q after ≤ entry_count q es + entry_count q (r ∷ run)) [
       | true ↦ λ e. absurd cc
-      | false ↦ λ e. subst (λ x. entries_in q x ≤ entries_in q es + entries_in q (r ∷ run)) (some_is e) (behind-in q r.index es (r ∷ run))
+      | false ↦ λ e. subst (λ x. entry_count q x ≤ entry_count q es + entry_count q (r ∷ run)) (some_is e) (behind-in q r.index es (r ∷ run))
     ] e
 
 -- nor has one with a run that is read again
-pub replayed-in : (rule q : LogQueue) (es run after : List EntryIndex) → replayed rule es run ≡ Some after → entries_in q after ≤ entries_in q es + entries_in q run
-replayed-in rule q es [] after e = subst (λ x. entries_in q x ≤ entries_in q es + entries_in q []) (some_is e) (omega arith)
+pub replayed-in : (rule q : LogQueue) (es run after : List EntryIndex) → replayed rule es run ≡ Some after → entry_count q after ≤ entry_count q es + entry_count q run
+replayed-in rule q es [] after e = subst (λ x. entry_count q x ≤ entry_count q es + entry_count q []) (some_is e) (omega arith)
 replayed-in Append q es (r ∷ run) after e =
-    elim (leaves_hole (end_of es) r.index) as (λ b. cond b None (Some (below r.index es ++ r ∷ run)) ≡ Some after → entries_in q after ≤ entries_in q es + entries_in q (r ∷ run)) [
+    elim (leaves_hole (end_of es) r.index) as (λ b. cond b None (Some (below r.index es ++ r ∷ run)) ≡ Some after → entry_count q after ≤ entry_count q es + entry_count q (r ∷ run)) [
       | true ↦ λ e. absurd cc
-      | false ↦ λ e. subst (λ x. entries_in q x ≤ entries_in q es + entries_in q (r ∷ run)) (some_is e) (behind-in q r.index es (r ∷ run))
+      | false ↦ λ e. subst (λ x. entry_count q x ≤ entry_count q es + entry_count q (r ∷ run)) (some_is e) (behind-in q r.index es (r ∷ run))
     ] e
 replayed-in Rewrite q es (r ∷ run) after e =
-    elim (leaves_hole (end_of es) r.index) as (λ b. Some (cond b (r ∷ run) (below r.index es ++ r ∷ run)) ≡ Some after → entries_in q after ≤ entries_in q es + entries_in q (r ∷ run)) [
-      | true ↦ λ e. subst (λ x. entries_in q x ≤ entries_in q es + entries_in q (r ∷ run)) (some_is e) (omega arith)
-      | false ↦ λ e. subst (λ x. entries_in q x ≤ entries_in q es + entries_in q (r ∷ run)) (some_is e) (behind-in q r.index es (r ∷ run))
+    elim (leaves_hole (end_of es) r.index) as (λ b. Some (cond b (r ∷ run) (below r.index es ++ r ∷ run)) ≡ Some after → entry_count q after ≤ entry_count q es + entry_count q (r ∷ run)) [
+      | true ↦ λ e. subst (λ x. entry_count q x ≤ entry_count q es + entry_count q (r ∷ run)) (some_is e) (omega arith)
+      | false ↦ λ e. subst (λ x. entry_count q x ≤ entry_count q es + entry_count q (r ∷ run)) (some_is e) (behind-in q r.index es (r ∷ run))
     ] e
 
 -- where a run with an outcome is refused as `Full`, the live number of its queue and the run's length reach 2^64
-full_by : (q : LogQueue) (counts : Counts) (es run : List EntryIndex) (outcome : Option (List EntryIndex)) → ((after : List EntryIndex) → outcome ≡ Some after → entries_in q after ≤ entries_in q es + entries_in q run) → IsRunRefused q counts es outcome errors.Full → 2 ^ 64 ≤ live q counts + length run
+full_by : (q : LogQueue) (counts : Counts) (es run : List EntryIndex) (outcome : Option (List EntryIndex)) → ((after : List EntryIndex) → outcome ≡ Some after → entry_count q after ≤ entry_count q es + entry_count q run) → IsTableRunFault q counts es outcome errors.Full → 2 ^ 64 ≤ live q counts + length run
 full_by q counts es run None h f = absurd f
-full_by q counts es run (Some after) h f = omega (arith, h after refl, f, entries_in-le q run)
+full_by q counts es run (Some after) h f = omega (arith, h after refl, f, entry_count-le q run)
 
-pub append_full : (q : LogQueue) (counts : Counts) (es run : List EntryIndex) → IsRunRefused q counts es (appended es run) errors.Full → 2 ^ 64 ≤ live q counts + length run
+pub append_full : (q : LogQueue) (counts : Counts) (es run : List EntryIndex) → IsTableRunFault q counts es (appended es run) errors.Full → 2 ^ 64 ≤ live q counts + length run
 append_full q counts es run f = full_by q counts es run (appended es run) (λ after e. appended-in q es run after e) f
 
-pub replay_full : (rule q : LogQueue) (counts : Counts) (es run : List EntryIndex) → IsRunRefused q counts es (replayed rule es run) errors.Full → 2 ^ 64 ≤ live q counts + length run
+pub replay_full : (rule q : LogQueue) (counts : Counts) (es run : List EntryIndex) → IsTableRunFault q counts es (replayed rule es run) errors.Full → 2 ^ 64 ≤ live q counts + length run
 replay_full rule q counts es run f = full_by q counts es run (replayed rule es run) (λ after e. replayed-in rule q es run after e) f

@@ -1,38 +1,38 @@
 -- How many records a table has, and what a fetch finds of its entries.
-use Rattle.std.proofs.Common.{◌≡◌, ℕ, zero, suc, ◌+◌, ◌-◌, ◌<◌, ◌≤◌, ◌⊎◌, inl, inr, Bool, true, false, cond, ltb, leb, ◌&&◌, List, [], ◌∷◌, ◌++◌, length, take, drop, Option, Some, None, refl, sym, ap, ◌∙◌, arith}
+use Rattle.std.proofs.Common.{◌≡◌, ℕ, zero, suc, ◌+◌, ◌-◌, ◌<◌, ◌≤◌, ◌⊎◌, inl, inr, Bool, true, false, cond, ltb, leb, ◌&&◌, List, ◌++◌, length, take, drop, Option, Some, None, refl, sym, ap, ◌∙◌, arith}
 use Rattle.std.specs.FinMap as finite
 use Rattle.std.proofs.lemmas.Bool.{cases_lt}
 use Rattle.std.proofs.lemmas.Bool.Decides.{nat_tests}
 use Rattle.std.proofs.lemmas.List.{length-append, length-take-le, length-drop, take_all}
 use Rattle.raft_base.specs.declared.pipe_log.LogQueue.TheVariants.{Append, Rewrite}
 use Rattle.raft_records.specs.declared.entry_index.EntryIndex.{EntryIndex}
-use Rattle.raft_table.specs.Entries.{RisesFrom, IsSound, start_of, end_of, below, from, between, placed_in, entries_in, entry_at}
-use Rattle.raft_table.specs.Fetches.{RangeAnswer, Empty, NotFound, Compacted, Found, range_answer, total_len, is_too_many, IsLimitCount, FetchesWithin}
+use Rattle.raft_table.specs.Entries.{RisesFrom, AreTableEntries, start_of, end_of, below, between, placed_in, entry_count, entry_with_index}
+use Rattle.raft_table.specs.Fetches.{Empty, NotFound, Compacted, Found, range_answer, total_len, is_too_many, IsLimitCount, FetchesWithin}
 use Rattle.raft_table.specs.Table.{Table, live_of}
 use Rattle.raft_table.proofs.FetchLemmas.{between_is}
 use Rattle.raft_table.proofs.KeyValueCounts.{pair_count-both}
 use Rattle.raft_table.proofs.RunLemmas.{RisesFrom-take, RisesFrom-drop}
 use Rattle.raft_table.proofs.SoundLemmas.{sound_rising}
-use Rattle.raft_table.proofs.StandLemmas.{entry_at-below, entry_at-from}
+use Rattle.raft_table.proofs.StandLemmas.{entry_with_index-below, entry_with_index-from}
 use Rattle.raft_table.proofs.StartLemmas.{sound_end}
 
-pub length_by_ends : (es : List EntryIndex) → IsSound es → 0 < length es → start_of es + length es ≡ end_of es
+pub length_by_ends : (es : List EntryIndex) → AreTableEntries es → 0 < length es → start_of es + length es ≡ end_of es
 length_by_ends es h l = sym (sound_end es h l)
 
-pub entries_of_both : (es : List EntryIndex) → IsSound es → entries_in Append es + entries_in Rewrite es ≡ length es
+pub entries_of_both : (es : List EntryIndex) → AreTableEntries es → entry_count Append es + entry_count Rewrite es ≡ length es
 entries_of_both es h = omega (arith, ap length h.in_front, length-append (placed_in Rewrite es) (placed_in Append es))
 
-pub records_of_both : (t : Table) → IsSound t.entries → live_of Append t + live_of Rewrite t ≡ length t.entries + finite.len t.keys
+pub records_of_both : (t : Table) → AreTableEntries t.entries → live_of Append t + live_of Rewrite t ≡ length t.entries + finite.len t.keys
 records_of_both t h = omega (arith, entries_of_both t.entries h, pair_count-both t.keys)
 
 -- ---- ranges
 
-pub between_by_index : (begin end i : ℕ) (es : List EntryIndex) → entry_at i (between begin end es) ≡ cond (leb begin i && ltb i end) (entry_at i es) None
+pub between_by_index : (begin end i : ℕ) (es : List EntryIndex) → entry_with_index i (between begin end es) ≡ cond (leb begin i && ltb i end) (entry_with_index i es) None
 unfolding between
 between_by_index begin end i es =
-    entry_at-from i begin (below end es) ∙ ap (cond (ltb i begin) None) (entry_at-below i end es) ∙ at (ltb i begin) (leb begin i) (ltb i end) refl refl
+    entry_with_index-from i begin (below end es) ∙ ap (cond (ltb i begin) None) (entry_with_index-below i end es) ∙ at (ltb i begin) (leb begin i) (ltb i end) refl refl
   where
-    at : (a b c : Bool) → ltb i begin ≡ a → leb begin i ≡ b → cond a None (cond c (entry_at i es) None) ≡ cond (b && c) (entry_at i es) None
+    at : (a b c : Bool) → ltb i begin ≡ a → leb begin i ≡ b → cond a None (cond c (entry_with_index i es) None) ≡ cond (b && c) (entry_with_index i es) None
     at true true c e f = absurd (grind (arith, nat_tests))
     at true false c e f = refl
     at false true c e f = refl
@@ -46,7 +46,7 @@ answers_found false false false true e = absurd cc
 answers_found false false false false e = (refl, refl, refl, refl)
 
 -- a range that is found: all of it stands
-pub found_is_whole : (begin end : ℕ) (es : List EntryIndex) → IsSound es → range_answer begin end es ≡ Found → RisesFrom begin (between begin end es) × (begin + length (between begin end es) ≡ end)
+pub found_is_whole : (begin end : ℕ) (es : List EntryIndex) → AreTableEntries es → range_answer begin end es ≡ Found → RisesFrom begin (between begin end es) × (begin + length (between begin end es) ≡ end)
 found_is_whole begin end es h f =
     let s = start_of es in
     let t = answers_found _ _ _ _ f in

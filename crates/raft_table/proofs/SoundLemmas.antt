@@ -5,11 +5,11 @@ use Rattle.std.proofs.lemmas.Bool.{false≢true}
 use Rattle.std.proofs.lemmas.List.{take_min, drop_min, length-take-le}
 use Rattle.raft_base.specs.declared.pipe_log.LogQueue.TheVariants.{Append, Rewrite}
 use Rattle.raft_records.specs.declared.entry_index.EntryIndex.{EntryIndex}
-use Rattle.raft_table.specs.Entries.{RisesFrom, IsSound, RewrittenInFront, start_of, end_of, below, from, placed_in, entries_in}
+use Rattle.raft_table.specs.Entries.{RisesFrom, AreTableEntries, RewrittenInFront, start_of, end_of, below, from, placed_in, entry_count}
 use Rattle.raft_table.proofs.RunLemmas.{below-append, from-append, below-placed_in, from-placed_in, below_take, from_drop, RisesFrom-take, RisesFrom-start, IsRun-drop, end_of-take, end_of-drop}
-use Rattle.raft_table.proofs.PlaceLemmas.{entries_in_front, entries_in_both, entries_in-cut}
+use Rattle.raft_table.proofs.PlaceLemmas.{entries_in_front, entries_in_both, entry_count-cut}
 
-pub sound_rising : (es : List EntryIndex) → IsSound es → RisesFrom (start_of es) es
+pub sound_rising : (es : List EntryIndex) → AreTableEntries es → RisesFrom (start_of es) es
 sound_rising es h = RisesFrom-start h.run.start es h.run.rising
 
 pub RewrittenInFront-below : (i : ℕ) (es : List EntryIndex) → RewrittenInFront es → RewrittenInFront (below i es)
@@ -24,8 +24,8 @@ RewrittenInFront-from i es h =
     ∙ ap (λ xs. xs ++ from i (placed_in Append es)) (from-placed_in i Rewrite es)
     ∙ ap (λ xs. placed_in Rewrite (from i es) ++ xs) (from-placed_in i Append es)
 
-pub IsSound-take : (n : ℕ) (es : List EntryIndex) → IsSound es → IsSound (take n es)
-IsSound-take n es h =
+pub AreTableEntries-take : (n : ℕ) (es : List EntryIndex) → AreTableEntries es → AreTableEntries (take n es)
+AreTableEntries-take n es h =
     let s = h.run.start in
     let e : below (s + n) es ≡ take n es = below_take (s + n) n s es refl h.run.rising in
     let top = end_of-take n es in
@@ -36,8 +36,8 @@ IsSound-take n es h =
       bounded = omega arith;
     }
 
-pub IsSound-drop : (n : ℕ) (es : List EntryIndex) → IsSound es → IsSound (drop n es)
-IsSound-drop n es h =
+pub AreTableEntries-drop : (n : ℕ) (es : List EntryIndex) → AreTableEntries es → AreTableEntries (drop n es)
+AreTableEntries-drop n es h =
     let s = h.run.start in
     let e : from (s + n) es ≡ drop n es = from_drop (s + n) n s es refl h.run.rising in
     let top = end_of-drop n es in
@@ -54,30 +54,30 @@ start_of_front [] e l h = absurd (omega arith)
 start_of_front (x ∷ es) e l h = ap (λ y. y.index) (sym h)
 
 -- the entries from an index above the start on are what is behind that many, and those below it that many
-pub from_cut : (i n : ℕ) (es : List EntryIndex) → IsSound es → start_of es ≤ i → n ≡ min (i - start_of es) (length es) → drop n es ≡ from i es
+pub from_cut : (i n : ℕ) (es : List EntryIndex) → AreTableEntries es → start_of es ≤ i → n ≡ min (i - start_of es) (length es) → drop n es ≡ from i es
 from_cut i n es h le e =
     ap (λ k. drop k es) e ∙ drop_min (i - start_of es) es
     ∙ sym (from_drop i (i - start_of es) (start_of es) es (omega arith) (sound_rising es h))
 
-pub below_cut : (i n : ℕ) (es : List EntryIndex) → IsSound es → start_of es ≤ i → n ≡ min (i - start_of es) (length es) → take n es ≡ below i es
+pub below_cut : (i n : ℕ) (es : List EntryIndex) → AreTableEntries es → start_of es ≤ i → n ≡ min (i - start_of es) (length es) → take n es ≡ below i es
 below_cut i n es h le e =
     ap (λ k. take k es) e ∙ take_min (i - start_of es) es
     ∙ sym (below_take i (i - start_of es) (start_of es) es (omega arith) (sound_rising es h))
 
 -- how many of a cut front are in each queue
 pub record CutCounts (n : ℕ) (es : List EntryIndex) : Type 0 where
-  pub rewritten : entries_in Rewrite (take n es) ≡ min n (entries_in Rewrite es)
-  pub both : entries_in Rewrite (take n es) + entries_in Append (take n es) ≡ n
-  pub rewritten_behind : entries_in Rewrite (take n es) + entries_in Rewrite (drop n es) ≡ entries_in Rewrite es
-  pub appended_behind : entries_in Append (take n es) + entries_in Append (drop n es) ≡ entries_in Append es
-  pub all : entries_in Rewrite es + entries_in Append es ≡ length es
+  pub rewritten : entry_count Rewrite (take n es) ≡ min n (entry_count Rewrite es)
+  pub both : entry_count Rewrite (take n es) + entry_count Append (take n es) ≡ n
+  pub rewritten_behind : entry_count Rewrite (take n es) + entry_count Rewrite (drop n es) ≡ entry_count Rewrite es
+  pub appended_behind : entry_count Append (take n es) + entry_count Append (drop n es) ≡ entry_count Append es
+  pub all : entry_count Rewrite es + entry_count Append es ≡ length es
 
-pub cut_counts : (n : ℕ) (es : List EntryIndex) → IsSound es → n ≤ length es → CutCounts n es
+pub cut_counts : (n : ℕ) (es : List EntryIndex) → AreTableEntries es → n ≤ length es → CutCounts n es
 cut_counts n es h le = record {
   rewritten = entries_in_front n es h.in_front;
-  both = entries_in_both (take n es) (IsSound-take n es h).in_front ∙ length-take-le n es le;
-  rewritten_behind = entries_in-cut Rewrite n es;
-  appended_behind = entries_in-cut Append n es;
+  both = entries_in_both (take n es) (AreTableEntries-take n es h).in_front ∙ length-take-le n es le;
+  rewritten_behind = entry_count-cut Rewrite n es;
+  appended_behind = entry_count-cut Append n es;
   all = entries_in_both es h.in_front;
 }
 
@@ -86,9 +86,9 @@ pub no_front : (es : List EntryIndex) (n : ℕ) → n ≡ length es → (0 < n �
 no_front [] n e h = refl
 no_front (x ∷ es) n e h = absurd (false≢true (h (omega arith)))
 
-pub IsSound-nil : IsSound []
+pub AreTableEntries-nil : AreTableEntries []
 unfolding placed_in end_of
-IsSound-nil = record { run = record { start = 0; rising = tt }; in_front = refl; bounded = lit< tt }
+AreTableEntries-nil = record { run = record { start = 0; rising = tt }; in_front = refl; bounded = lit< tt }
 
 pub no_first : (es : List EntryIndex) → None ≡ slice_get es 0 → es ≡ []
 no_first [] h = refl

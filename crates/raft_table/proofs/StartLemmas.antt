@@ -6,16 +6,16 @@ use Rattle.raft_base.specs.declared.pipe_log.LogQueue.{LogQueue}
 use Rattle.raft_base.specs.declared.pipe_log.LogQueue.TheVariants.{Append, Rewrite}
 use Rattle.raft_records.specs.declared.entry_index.EntryIndex.{EntryIndex}
 use Rattle.raft_table.specs.declared.memtable.entries.Start.TheVariants.{Joins, InFront, BehindHole}
-use Rattle.raft_table.specs.Entries.{RisesFrom, IsRunIn, IsSound, RewrittenInFront, start_of, end_of, below, placed_in, entries_in}
+use Rattle.raft_table.specs.Entries.{RisesFrom, IsRunIn, AreTableEntries, RewrittenInFront, start_of, end_of, below, placed_in, entry_count}
 use Rattle.raft_table.specs.Start.{leaves_hole, starts_in_front}
 use Rattle.raft_table.specs.StartOf.{IsStart}
 use Rattle.raft_table.specs.Queues.{other}
 use Rattle.raft_table.proofs.RunLemmas.{below_take, below_start, end_of-run, end_of-take, end_of-append, RisesFrom-take, RisesFrom-start, RisesFrom-append, placed_in-append}
-use Rattle.raft_table.proofs.PlaceLemmas.{placed_in_other, entries_in-cut}
-use Rattle.raft_table.proofs.SoundLemmas.{sound_rising, IsSound-take}
+use Rattle.raft_table.proofs.PlaceLemmas.{placed_in_other, entry_count-cut}
+use Rattle.raft_table.proofs.SoundLemmas.{sound_rising, AreTableEntries-take}
 
 -- the end of a sound list that has entries
-pub sound_end : (es : List EntryIndex) → IsSound es → 0 < length es → end_of es ≡ start_of es + length es
+pub sound_end : (es : List EntryIndex) → AreTableEntries es → 0 < length es → end_of es ≡ start_of es + length es
 sound_end es h l = end_of-run (start_of es) es (sound_rising es h) l
 
 pub front_test : (es : List EntryIndex) (i : ℕ) → 0 < length es → starts_in_front es i ≡ ltb i (start_of es)
@@ -26,17 +26,17 @@ pub start_none : (i : ℕ) → IsStart [] i (Joins 0)
 unfolding below end_of
 start_none i = (refl, omega arith, refl, refl)
 
-pub start_in_front : (i : ℕ) (es : List EntryIndex) → IsSound es → 0 < length es → i < start_of es → IsStart es i InFront
+pub start_in_front : (i : ℕ) (es : List EntryIndex) → AreTableEntries es → 0 < length es → i < start_of es → IsStart es i InFront
 start_in_front i es h l k =
     let e = sound_end es h l in
     (below_start i (start_of es) es (sound_rising es h) (omega arith), rw e (grind (arith, nat_tests)), front_test es i l ∙ grind (arith, nat_tests))
 
-pub start_behind : (i : ℕ) (es : List EntryIndex) → IsSound es → 0 < length es → start_of es + length es < i → IsStart es i BehindHole
+pub start_behind : (i : ℕ) (es : List EntryIndex) → AreTableEntries es → 0 < length es → start_of es + length es < i → IsStart es i BehindHole
 start_behind i es h l k =
     let e = sound_end es h l in
     (rw e (grind (arith, nat_tests)), front_test es i l ∙ grind (arith, nat_tests))
 
-pub start_joins : (i n : ℕ) (es : List EntryIndex) → IsSound es → 0 < length es → i ≡ start_of es + n → n ≤ length es → IsStart es i (Joins n)
+pub start_joins : (i n : ℕ) (es : List EntryIndex) → AreTableEntries es → 0 < length es → i ≡ start_of es + n → n ≤ length es → IsStart es i (Joins n)
 start_joins i n es h l k m =
     let e = sound_end es h l in
     (below_take i n (start_of es) es k (sound_rising es h), m, rw e (grind (arith, nat_tests)), front_test es i l ∙ grind (arith, nat_tests))
@@ -55,7 +55,7 @@ in_front_rewritten a run h n k =
     sym (rw (placed_in-append Rewrite a run, placed_in-append Append a run, none, n, k, whole) (append-nil (a ++ run)))
 
 -- a run in front of nothing is sound by itself
-pub sound_run : (q : LogQueue) (run : List EntryIndex) → IsRunIn q run → IsSound run
+pub sound_run : (q : LogQueue) (run : List EntryIndex) → IsRunIn q run → AreTableEntries run
 sound_run Append run r = record {
   run = r.run;
   in_front = sym (rw (ap (placed_in Rewrite) (sym r.placed) ∙ placed_in_other Append Rewrite refl run) r.placed);
@@ -70,16 +70,16 @@ sound_run Rewrite run r = record {
 -- no appended entries among those that a run of the rewrite queue joins
 abbrev pub MayJoin : LogQueue → List EntryIndex → Type 0
 MayJoin Append es = Unit {0}
-MayJoin Rewrite es = entries_in Append es ≡ 0
+MayJoin Rewrite es = entry_count Append es ≡ 0
 
-pub in_front_joined : (q : LogQueue) (n : ℕ) (es run : List EntryIndex) → IsSound es → MayJoin q es → placed_in q run ≡ run → RewrittenInFront (take n es ++ run)
-in_front_joined Append n es run h m k = in_front_appended (take n es) run (IsSound-take n es h).in_front k
+pub in_front_joined : (q : LogQueue) (n : ℕ) (es run : List EntryIndex) → AreTableEntries es → MayJoin q es → placed_in q run ≡ run → RewrittenInFront (take n es ++ run)
+in_front_joined Append n es run h m k = in_front_appended (take n es) run (AreTableEntries-take n es h).in_front k
 in_front_joined Rewrite n es run h m k =
-    let c = entries_in-cut Append n es in
-    in_front_rewritten (take n es) run (IsSound-take n es h).in_front (nil_from_length _ (omega arith)) k
+    let c = entry_count-cut Append n es in
+    in_front_rewritten (take n es) run (AreTableEntries-take n es h).in_front (nil_from_length _ (omega arith)) k
 
 -- where the front of the entries ends that stands below a start among them
-pub start_place : (i n : ℕ) (es : List EntryIndex) → IsSound es → 0 < n → IsStart es i (Joins n) → i ≡ start_of es + n
+pub start_place : (i n : ℕ) (es : List EntryIndex) → AreTableEntries es → 0 < n → IsStart es i (Joins n) → i ≡ start_of es + n
 start_place i n es h p s =
     let l : 0 < length es = let k = s.1 in omega arith in
     let e = sound_end es h l in
@@ -89,7 +89,7 @@ start_place i n es h p s =
     omega (arith, t, length-take-le n es s.1, length-take-le (i - start_of es) es (omega arith))
 
 -- what is joined is sound
-pub sound_joined : (q : LogQueue) (n : ℕ) (es run : List EntryIndex) → IsSound es → MayJoin q es → IsRunIn q run → 0 < length run → IsStart es (start_of run) (Joins n) → IsSound (take n es ++ run)
+pub sound_joined : (q : LogQueue) (n : ℕ) (es run : List EntryIndex) → AreTableEntries es → MayJoin q es → IsRunIn q run → 0 < length run → IsStart es (start_of run) (Joins n) → AreTableEntries (take n es ++ run)
 sound_joined q zero es run h m r l s = sound_run q run r
 sound_joined q (suc n) es run h m r l s =
     let k = suc n in
@@ -110,7 +110,7 @@ sound_joined q (suc n) es run h m r l s =
     }
 
 -- a sound list with nothing in the other queue is a run of its queue
-pub run_alone : (q : LogQueue) (es : List EntryIndex) → IsSound es → entries_in (other q) es ≡ 0 → IsRunIn q es
+pub run_alone : (q : LogQueue) (es : List EntryIndex) → AreTableEntries es → entry_count (other q) es ≡ 0 → IsRunIn q es
 run_alone Append es h n = record {
   run = h.run;
   placed = sym (h.in_front ∙ ap (λ xs. xs ++ placed_in Append es) (nil_from_length (placed_in Rewrite es) n));
@@ -122,6 +122,6 @@ run_alone Rewrite es h n = record {
   bounded = h.bounded;
 }
 
-pub may_join : (q : LogQueue) (es : List EntryIndex) → (q ≡ Rewrite → entries_in Append es ≡ 0) → MayJoin q es
+pub may_join : (q : LogQueue) (es : List EntryIndex) → (q ≡ Rewrite → entry_count Append es ≡ 0) → MayJoin q es
 may_join Append es h = tt
 may_join Rewrite es h = h refl

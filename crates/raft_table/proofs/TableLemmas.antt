@@ -3,13 +3,13 @@ use Rattle.std.proofs.Common.{◌≡◌, ℕ, ◌≤◌, List, Some, refl, sym, 
 use Rattle.raft_base.specs.declared.pipe_log.FileId.{FileId}
 use Rattle.raft_base.specs.declared.pipe_log.LogQueue.{LogQueue}
 use Rattle.raft_base.specs.declared.pipe_log.LogQueue.TheVariants.{Append, Rewrite}
-use Rattle.raft_table.specs.KeyValues.{Keys, file_at, file_count, pair_count}
+use Rattle.raft_table.specs.KeyValues.{Keys, file_at, file_weight, pair_count}
 use Rattle.raft_table.specs.Counts.{Counts}
 use Rattle.raft_table.specs.Entries.{placed_in}
 use Rattle.raft_table.specs.Table.{Table, empty_table, live_of, IsCounted, IsRecounted}
 use Rattle.raft_table.specs.Queues.{count_in}
 use Rattle.raft_table.proofs.KeyValueReads.{entries-empty}
-use Rattle.raft_table.proofs.KeyValueMaps.{file_count-le}
+use Rattle.raft_table.proofs.KeyValueMaps.{file_weight-le}
 
 -- a record of a queue counts there
 pub count_in_own : (q : LogQueue) (n : ℕ) → count_in q q n ≡ n
@@ -19,8 +19,8 @@ count_in_own Rewrite n = refl
 -- a key's pair counts in its file's queue
 pub pair_counted : (keys : Keys) (key : List ℕ) (file : FileId) → Some file ≡ file_at keys key → 1 ≤ pair_count file.queue keys
 pair_counted keys key file h =
-    let a = file_count-le file.queue keys key in
-    let e : file_count file.queue (file_at keys key) ≡ 1 = ap (file_count file.queue) (sym h) ∙ count_in_own file.queue 1 in
+    let a = file_weight-le file.queue keys key in
+    let e : file_weight file.queue (file_at keys key) ≡ 1 = ap (file_weight file.queue) (sym h) ∙ count_in_own file.queue 1 in
     omega arith
 
 -- an empty table has no records

@@ -17,9 +17,9 @@ use Rattle.raft_table.specs.Counts.{Counts, live}
 use Rattle.raft_table.specs.Entries.{RisesFrom, IsRun, end_of, below, from}
 use Rattle.raft_table.specs.KeySets.{KeySet, without}
 use Rattle.raft_table.specs.KeyValues.{Keys, Stored, overlaid}
-use Rattle.raft_table.specs.MarkMerge.{left_by, IsRefusedUnder}
+use Rattle.raft_table.specs.MarkMerge.{left_by, IsFaultUnder}
 use Rattle.raft_table.specs.Marks.{Mark, part, is_missed, older_entries, is_meeting_refused, entries_over, keys_over, atomic_group_over, table_over}
-use Rattle.raft_table.specs.Merge.{after_join, newer_atomic_group, with_newer_atomic_group, IsMergeRefused}
+use Rattle.raft_table.specs.Merge.{after_join, newer_atomic_group, with_newer_atomic_group, IsTableMergeFault}
 use Rattle.raft_table.specs.Start.{leaves_hole, replayed}
 use Rattle.raft_table.specs.Table.{Table, empty_table, live_of}
 use Rattle.raft_table.proofs.KeyValueLaws.{get-overlaid}
@@ -101,7 +101,7 @@ over_left q m own older e run =
     atomic_group false = refl
 
 -- a join that the start rule accepts, and that is counted, fails for want of memory alone
-pub join_memory : (q : LogQueue) (counts : Counts) (left own w : Table) (e : Error) → IsMergeRefused counts left own (Some q) e → after_join q left own ≡ Some w → ((p : LogQueue) → live p counts + live_of p own < 2 ^ 64) → e ≡ errors.Memory
+pub join_memory : (q : LogQueue) (counts : Counts) (left own w : Table) (e : Error) → IsTableMergeFault counts left own (Some q) e → after_join q left own ≡ Some w → ((p : LogQueue) → live p counts + live_of p own < 2 ^ 64) → e ≡ errors.Memory
 join_memory q counts left own w (errors.Corruption text) r is room = absurd cc
 join_memory q counts left own w errors.Full r is room = absurd (let full = r.1 in let low = room r.0 in omega arith)
 join_memory q counts left own w errors.Memory r is room = refl

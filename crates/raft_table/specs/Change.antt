@@ -10,9 +10,9 @@ use Rattle.raft_table.specs.declared.memtable.change.TableChange.TheVariants as 
 use Rattle.raft_table.specs.Counts.{Counts, with_added}
 use Rattle.raft_table.specs.Entries.{IsRunIn, below}
 use Rattle.raft_table.specs.KeyValues.{file_at}
-use Rattle.raft_table.specs.Rewriting.{rewritten, recounted, IsRewriteRefused}
-use Rattle.raft_table.specs.Start.{appended, counts_with_run, counts_without, IsRunRefused}
-use Rattle.raft_table.specs.Table.{Table, after_append, after_rewrite, after_rewrite_key, compacted, with_pair, without_key, with_pair_deleted, with_rewritten_key, leaves_append, IsPutRefused, IsKeyRefused}
+use Rattle.raft_table.specs.Rewriting.{rewritten, recounted, IsRewriteFault}
+use Rattle.raft_table.specs.Start.{appended, counts_with_run, counts_without, IsTableRunFault}
+use Rattle.raft_table.specs.Table.{Table, after_append, after_rewrite, after_rewrite_key, compacted, with_pair, without_key, with_pair_deleted, with_rewritten_key, leaves_append, IsTablePutFault, IsKeyRewriteFault}
 
 -- the table after a change; none where it is refused
 abbrev pub after_change : Table → TableChange → Option Table
@@ -55,17 +55,17 @@ AreCountedAfter (changes.Rewrite run gate) t old new = new ≡ recounted gate ru
 AreCountedAfter (changes.RewriteKey key gate seq) t old new = new ≡ with_rewritten_key (leaves_append gate (file_at t.keys key.items)) old
 
 -- why a list of entries is refused: it is no run of the queue, or that and want of memory for the refusal's text
-abbrev pub IsListRefused : LogQueue → List EntryIndex → Error → Type 0
-IsListRefused queue run (errors.InvalidArgument text) = IsRunIn queue run → ⊥
-IsListRefused queue run errors.Memory = IsRunIn queue run → ⊥
-IsListRefused queue run _ = ⊥
+abbrev pub IsListFault : LogQueue → List EntryIndex → Error → Type 0
+IsListFault queue run (errors.InvalidArgument text) = IsRunIn queue run → ⊥
+IsListFault queue run errors.Memory = IsRunIn queue run → ⊥
+IsListFault queue run _ = ⊥
 
 -- why a change is refused: its list is no run of its queue, or as its call is
-abbrev pub IsChangeRefused : Table → Counts → TableChange → Error → Type 0
-IsChangeRefused t counts changes.Keep e = ⊥
-IsChangeRefused t counts (changes.Append run) e = IsListRefused Append run.items e ⊎ IsRunRefused Append counts t.entries (appended t.entries run.items) e
-IsChangeRefused t counts (changes.Put key value file) e = IsPutRefused file.queue counts (file_at t.keys key.items) e
-IsChangeRefused t counts (changes.Delete key) e = ⊥
-IsChangeRefused t counts (changes.Compact index) e = ⊥
-IsChangeRefused t counts (changes.Rewrite run gate) e = IsListRefused Rewrite run.items e ⊎ IsRewriteRefused (length run.items) counts (rewritten gate run.items t.entries) e
-IsChangeRefused t counts (changes.RewriteKey key gate seq) e = IsKeyRefused counts (after_rewrite_key gate seq t key.items) e
+abbrev pub IsChangeFault : Table → Counts → TableChange → Error → Type 0
+IsChangeFault t counts changes.Keep e = ⊥
+IsChangeFault t counts (changes.Append run) e = IsListFault Append run.items e ⊎ IsTableRunFault Append counts t.entries (appended t.entries run.items) e
+IsChangeFault t counts (changes.Put key value file) e = IsTablePutFault file.queue counts (file_at t.keys key.items) e
+IsChangeFault t counts (changes.Delete key) e = ⊥
+IsChangeFault t counts (changes.Compact index) e = ⊥
+IsChangeFault t counts (changes.Rewrite run gate) e = IsListFault Rewrite run.items e ⊎ IsRewriteFault (length run.items) counts (rewritten gate run.items t.entries) e
+IsChangeFault t counts (changes.RewriteKey key gate seq) e = IsKeyRewriteFault counts (after_rewrite_key gate seq t key.items) e

@@ -63,27 +63,27 @@ pub record IsRunIn (queue : LogQueue) (es : List EntryIndex) : Type 0 where
   pub bounded : end_of es < 2 ^ 64
 
 -- what every table's entries are: one run without gaps, rewritten places in front
-pub record IsSound (es : List EntryIndex) : Type 0 where
+pub record AreTableEntries (es : List EntryIndex) : Type 0 where
   pub run : IsRun es
   pub in_front : RewrittenInFront es
   pub bounded : end_of es < 2 ^ 64
 
 -- the entry with this index
-abbrev pub entry_at : ℕ → List EntryIndex → Option EntryIndex
-entry_at i es = find (λ e. e.index == i) es
+abbrev pub entry_with_index : ℕ → List EntryIndex → Option EntryIndex
+entry_with_index i es = find (λ e. e.index == i) es
 
 -- what stands behind a run: below its first index the old entries, from it on the run's
 abbrev pub StandsBehind : List EntryIndex → List EntryIndex → List EntryIndex → Type 0
-StandsBehind old run new = (i : ℕ) → entry_at i new ≡ (if nat_lt i (start_of run) then entry_at i old else entry_at i run)
+StandsBehind old run new = (i : ℕ) → entry_with_index i new ≡ (if nat_lt i (start_of run) then entry_with_index i old else entry_with_index i run)
 
 -- how many entries have their place in a queue
-abbrev pub entries_in : LogQueue → List EntryIndex → ℕ
-entries_in queue es = length (placed_in queue es)
+abbrev pub entry_count : LogQueue → List EntryIndex → ℕ
+entry_count queue es = length (placed_in queue es)
 
 -- the live numbers count at least these entries
 abbrev pub AreCounted : List EntryIndex → Counts → Type 0
-AreCounted es counts = (q : LogQueue) → entries_in q es ≤ live q counts
+AreCounted es counts = (q : LogQueue) → entry_count q es ≤ live q counts
 
 -- the live numbers changed by as much as the entries
 abbrev pub AreRecounted : List EntryIndex → List EntryIndex → Counts → Counts → Type 0
-AreRecounted before after old new = (q : LogQueue) → live q new + entries_in q before ≡ live q old + entries_in q after
+AreRecounted before after old new = (q : LogQueue) → live q new + entry_count q before ≡ live q old + entry_count q after

@@ -51,11 +51,11 @@ Fetches limit begin end es old new Found = FetchesWithin limit (between begin en
 Fetches limit begin end es old new _ = ⊥
 
 -- why a fetch is refused
-abbrev pub IsFetchRefused : RangeAnswer → Error → Type 0
-IsFetchRefused NotFound errors.EntryNotFound = Unit {0}
-IsFetchRefused Compacted errors.EntryCompacted = Unit {0}
-IsFetchRefused Found errors.Memory = Unit {0}
-IsFetchRefused _ _ = ⊥
+abbrev pub IsFetchFault : RangeAnswer → Error → Type 0
+IsFetchFault NotFound errors.EntryNotFound = Unit {0}
+IsFetchFault Compacted errors.EntryCompacted = Unit {0}
+IsFetchFault Found errors.Memory = Unit {0}
+IsFetchFault _ _ = ⊥
 
 -- the appended entries from the first on while their file is at or below a gate
 abbrev pub appended_before : ℕ → List EntryIndex → List EntryIndex

@@ -12,5 +12,5 @@ abbrev pub key_set_shown : Inside → KeySet
 key_set_shown a = finset.from_list (map (λ e. e.0.items) a.keys.entries)
 
 -- the keys are in order
-abbrev pub IsSound : Inside → Type 0
-IsSound a = IsOrdered (λ x y. slice_cmp nat_cmp x.items y.items) a.keys
+abbrev pub IsInOrder : Inside → Type 0
+IsInOrder a = IsOrdered (λ x y. slice_cmp nat_cmp x.items y.items) a.keys

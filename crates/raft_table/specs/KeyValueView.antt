@@ -18,6 +18,6 @@ abbrev pub keys_shown : Inside → Keys
 keys_shown a = finite.from_sorted (map (λ e. (e.0.items, stored_of e.1)) a.pairs.entries)
 
 -- the keys are in order, and the rewritten pairs are counted
-pub record IsSound (a : Inside) : Type 0 where
+pub record IsOrderedAndCounted (a : Inside) : Type 0 where
   pub ordered : IsOrdered (λ x y. slice_cmp nat_cmp x.items y.items) a.pairs
   pub counted : a.rewritten ≡ pair_count Rewrite (keys_shown a)

@@ -19,8 +19,8 @@ abbrev pub Keys : Type 0
 Keys = finite.FinMap (slice_cmp nat_cmp) Stored
 
 -- a pair in the order of the keys
-abbrev pub Pair : Type 0
-Pair = List ℕ × Stored
+abbrev pub StoredPair : Type 0
+StoredPair = List ℕ × Stored
 
 -- the value of a key
 abbrev pub value_at : Keys → List ℕ → Option (List ℕ)
@@ -44,7 +44,7 @@ abbrev pub with_moved : Keys → List ℕ → FileId → Keys
 with_moved keys key file = moved_to file keys key (finite.get keys key)
 
 -- the pairs whose file is in a queue
-abbrev pub pairs_in : LogQueue → Keys → List Pair
+abbrev pub pairs_in : LogQueue → Keys → List StoredPair
 pairs_in queue keys = filter (λ e. is_same queue e.1.file.queue) (finite.entries keys)
 
 -- how many pairs have their file in a queue
@@ -52,9 +52,9 @@ abbrev pub pair_count : LogQueue → Keys → ℕ
 pair_count queue keys = length (pairs_in queue keys)
 
 -- what the pair of a file, if there is one, counts in a queue
-abbrev pub file_count : LogQueue → Option FileId → ℕ
-file_count queue None = 0
-file_count queue (Some file) = count_in queue file.queue 1
+abbrev pub file_weight : LogQueue → Option FileId → ℕ
+file_weight queue None = 0
+file_weight queue (Some file) = count_in queue file.queue 1
 
 -- the numbers of the files of the pairs in a queue
 abbrev pub files_in : LogQueue → Keys → List ℕ
@@ -72,7 +72,7 @@ least [] = None
 least (n ∷ ns) = lesser (Some n) (least ns)
 
 -- a key and its value
-abbrev pub key_value : Pair → List ℕ × List ℕ
+abbrev pub key_value : StoredPair → List ℕ × List ℕ
 key_value e = (e.0, e.1.value)
 
 -- whether a file is in a queue, and at or below the gate, if there is one
@@ -89,7 +89,7 @@ abbrev pub pairs_shown : List (Vec ℕ Global × Vec ℕ Global) → List (List 
 pairs_shown pairs = map (λ p. (p.0.items, p.1.items)) pairs
 
 -- pairs put in turn
-abbrev pub with_pairs : Keys → List Pair → Keys
+abbrev pub with_pairs : Keys → List StoredPair → Keys
 with_pairs keys [] = keys
 with_pairs keys (e ∷ es) = with_pairs (finite.insert keys e.0 e.1) es
 

@@ -7,7 +7,7 @@ use Rattle.raft_table.specs.Entries.{end_of, from}
 use Rattle.raft_table.specs.KeySets.{KeySet}
 use Rattle.raft_table.specs.Marks.{Mark, misses}
 use Rattle.raft_table.specs.Steps.{Step, Run, Compact, Put, Del, AtomicGroup, Clean, table_of}
-use Rattle.raft_table.specs.Table.{Table, empty_table, with_entries, with_pair, with_atomic_group}
+use Rattle.raft_table.specs.Table.{Table, empty_table, table_with_entries, with_pair, with_atomic_group}
 
 -- the lesser of two bounds
 abbrev pub least_of : Option ℕ → Option ℕ → Option ℕ
@@ -69,7 +69,7 @@ mark_of _ = fresh
 
 -- the own table of one step
 abbrev pub own_of : ℕ → Step → Option Table
-own_of id (Run run) = Some (with_entries (empty_table id) run)
+own_of id (Run run) = Some (table_with_entries (empty_table id) run)
 own_of id (Put key value file) = Some (with_pair (empty_table id) key value file)
 own_of id (AtomicGroup start end) = Some (with_atomic_group (empty_table id) start end)
 own_of id Clean = None

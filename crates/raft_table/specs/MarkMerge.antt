@@ -12,17 +12,17 @@ use Rattle.raft_table.specs.KeySets.{without}
 use Rattle.raft_table.specs.Table.{Table, live_of}
 
 -- why a meeting is refused: it is, or want of memory for the refusal's text
-abbrev pub IsMeetingRefused : Bool → Error → Type 0
-IsMeetingRefused refused (errors.Corruption text) = refused ≡ true
-IsMeetingRefused refused errors.Memory = Unit {0}
-IsMeetingRefused refused _ = ⊥
+abbrev pub IsMeetingFault : Bool → Error → Type 0
+IsMeetingFault refused (errors.Corruption text) = refused ≡ true
+IsMeetingFault refused errors.Memory = Unit {0}
+IsMeetingFault refused _ = ⊥
 
 -- why a table is refused over an older one: the meeting of its first run is, the live number of a queue and its records there would pass 2^64 - 1, or want of memory
-abbrev pub IsRefusedUnder : LogQueue → Counts → Mark → Table → Table → Error → Type 0
-IsRefusedUnder queue counts m own older (errors.Corruption text) = is_meeting_refused queue m older.entries ≡ true
-IsRefusedUnder queue counts m own older errors.Full = (q : LogQueue) × (2 ^ 64 ≤ live q counts + live_of q own)
-IsRefusedUnder queue counts m own older errors.Memory = Unit {0}
-IsRefusedUnder queue counts m own older _ = ⊥
+abbrev pub IsFaultUnder : LogQueue → Counts → Mark → Table → Table → Error → Type 0
+IsFaultUnder queue counts m own older (errors.Corruption text) = is_meeting_refused queue m older.entries ≡ true
+IsFaultUnder queue counts m own older errors.Full = (q : LogQueue) × (2 ^ 64 ≤ live q counts + live_of q own)
+IsFaultUnder queue counts m own older errors.Memory = Unit {0}
+IsFaultUnder queue counts m own older _ = ⊥
 
 -- what the mark makes of both tables' entries is a run, as it is where it stands for steps
 abbrev pub IsRunOver : LogQueue → Mark → Table → Table → Type 0

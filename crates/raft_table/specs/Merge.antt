@@ -60,10 +60,10 @@ counts_after_merge (Some queue) older newer counts =
     counts_with_keys older.keys (overlaid newer.keys older.keys) (counts_with_run queue older.entries newer.entries counts)
 
 -- why a merge by this start rule is refused: there is none, it refuses the run, the live number of a queue and the newer records there would pass 2^64 - 1, or want of memory
-abbrev pub IsMergeRefused : Counts → Table → Table → Option LogQueue → Error → Type 0
-IsMergeRefused counts older newer None (errors.InvalidArgument text) = Unit {0}
-IsMergeRefused counts older newer None errors.Memory = Unit {0}
-IsMergeRefused counts older newer (Some rule) (errors.Corruption text) = after_join rule older newer ≡ None
-IsMergeRefused counts older newer (Some rule) errors.Full = (q : LogQueue) × (2 ^ 64 ≤ live q counts + live_of q newer)
-IsMergeRefused counts older newer (Some rule) errors.Memory = Unit {0}
-IsMergeRefused counts older newer rule _ = ⊥
+abbrev pub IsTableMergeFault : Counts → Table → Table → Option LogQueue → Error → Type 0
+IsTableMergeFault counts older newer None (errors.InvalidArgument text) = Unit {0}
+IsTableMergeFault counts older newer None errors.Memory = Unit {0}
+IsTableMergeFault counts older newer (Some rule) (errors.Corruption text) = after_join rule older newer ≡ None
+IsTableMergeFault counts older newer (Some rule) errors.Full = (q : LogQueue) × (2 ^ 64 ≤ live q counts + live_of q newer)
+IsTableMergeFault counts older newer (Some rule) errors.Memory = Unit {0}
+IsTableMergeFault counts older newer rule _ = ⊥

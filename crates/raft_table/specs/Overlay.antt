@@ -65,10 +65,10 @@ overlay_under m appended rewritten = record rewritten {
 }
 
 -- why an overlay is refused: the live number of a queue and the appended records there would pass 2^64 - 1, or want of memory
-abbrev pub IsOverlayRefused : Counts → Table → Error → Type 0
-IsOverlayRefused counts appended errors.Full = (q : LogQueue) × (2 ^ 64 ≤ live q counts + live_of q appended)
-IsOverlayRefused counts appended errors.Memory = Unit {0}
-IsOverlayRefused counts appended _ = ⊥
+abbrev pub IsOverlayFault : Counts → Table → Error → Type 0
+IsOverlayFault counts appended errors.Full = (q : LogQueue) × (2 ^ 64 ≤ live q counts + live_of q appended)
+IsOverlayFault counts appended errors.Memory = Unit {0}
+IsOverlayFault counts appended _ = ⊥
 
 -- both of which may be absent
 abbrev pub kept_if : Bool → Table → Option Table

@@ -7,7 +7,7 @@ use Rattle.raft_base.specs.declared.pipe_log.FileBlockHandle.{FileBlockHandle}
 use Rattle.raft_base.specs.declared.pipe_log.LogQueue.TheVariants.{Append, Rewrite}
 use Rattle.raft_records.specs.declared.entry_index.EntryIndex.{EntryIndex}
 use Rattle.raft_table.specs.Counts.{Counts, live, with_added, with_deleted}
-use Rattle.raft_table.specs.Entries.{start_of, end_of, below, from, is_placed_in, entries_in}
+use Rattle.raft_table.specs.Entries.{start_of, end_of, below, from, is_placed_in, entry_count}
 
 -- whether there is a place, in a file numbered at or below a gate
 abbrev pub is_block_before : ℕ → Option FileBlockHandle → Bool
@@ -42,7 +42,7 @@ with_places run i n es = below i es ++ take n (from i run) ++ from (i + n) es
 -- the entries after a rewriting that meets those given last; none where it is refused
 abbrev pub rewritten_from : Option ℕ → List EntryIndex → List EntryIndex → List EntryIndex → Option (List EntryIndex)
 rewritten_from gate run es [] = Some es
-rewritten_from gate run es (e ∷ met) = if is_misplaced gate (length (below e.index es)) (entries_in Rewrite es) then None else Some (with_places run e.index (moved_count gate run es) es)
+rewritten_from gate run es (e ∷ met) = if is_misplaced gate (length (below e.index es)) (entry_count Rewrite es) then None else Some (with_places run e.index (moved_count gate run es) es)
 
 -- the entries after a rewriting to the places of a run of the rewrite queue; none where it is refused
 abbrev pub rewritten : Option ℕ → List EntryIndex → List EntryIndex → Option (List EntryIndex)
@@ -59,11 +59,11 @@ recounted gate [] es counts = counts
 recounted gate (e ∷ run) es counts = with_rewritten gate (length (e ∷ run)) (moved_count gate (e ∷ run) es) counts
 
 -- why a rewriting by n entries with this outcome is refused: as misplaced, since the live number with all of them would pass 2^64 - 1, or for want of memory for the refusal's text
-abbrev pub IsRewriteRefused : ℕ → Counts → Option (List EntryIndex) → Error → Type 0
-IsRewriteRefused n counts None (errors.Corruption text) = Unit {0}
-IsRewriteRefused n counts None errors.Memory = Unit {0}
-IsRewriteRefused n counts (Some after) errors.Full = 2 ^ 64 ≤ live Rewrite counts + n
-IsRewriteRefused n counts outcome _ = ⊥
+abbrev pub IsRewriteFault : ℕ → Counts → Option (List EntryIndex) → Error → Type 0
+IsRewriteFault n counts None (errors.Corruption text) = Unit {0}
+IsRewriteFault n counts None errors.Memory = Unit {0}
+IsRewriteFault n counts (Some after) errors.Full = 2 ^ 64 ≤ live Rewrite counts + n
+IsRewriteFault n counts outcome _ = ⊥
 
 -- the indexes of entries, in order
 abbrev pub indexes_of : List EntryIndex → List ℕ

@@ -6,7 +6,7 @@ use Rattle.raft_base.specs.declared.pipe_log.LogQueue.{LogQueue}
 use Rattle.raft_base.specs.declared.pipe_log.LogQueue.TheVariants.{Append, Rewrite}
 use Rattle.raft_records.specs.declared.entry_index.EntryIndex.{EntryIndex}
 use Rattle.raft_table.specs.Counts.{Counts, live, with_added, with_deleted}
-use Rattle.raft_table.specs.Entries.{end_of, below, from, entries_in}
+use Rattle.raft_table.specs.Entries.{end_of, below, from, entry_count}
 
 -- whether a start lies behind the end of some entries, so that indexes between are missing
 abbrev pub leaves_hole : ℕ → ℕ → Bool
@@ -35,7 +35,7 @@ replaced_by es (e ∷ run) = if leaves_hole (end_of es) e.index then es else fro
 
 -- the counts without some entries
 abbrev pub counts_without : List EntryIndex → Counts → Counts
-counts_without es counts = with_deleted Rewrite (entries_in Rewrite es) (with_deleted Append (entries_in Append es) counts)
+counts_without es counts = with_deleted Rewrite (entry_count Rewrite es) (with_deleted Append (entry_count Append es) counts)
 
 -- the counts with the entries of a run of a queue in place of those that it takes away; one without entries changes nothing
 abbrev pub counts_with_run : LogQueue → List EntryIndex → List EntryIndex → Counts → Counts
@@ -43,9 +43,9 @@ counts_with_run queue es [] counts = counts
 counts_with_run queue es (e ∷ run) counts = with_added queue (length (e ∷ run)) (counts_without (replaced_by es (e ∷ run)) counts)
 
 -- a refusal of what breaks the rules of tables
-abbrev pub IsCorruption : Error → Type 0
-IsCorruption (errors.Corruption text) = Unit {0}
-IsCorruption _ = ⊥
+abbrev pub IsCorruptionError : Error → Type 0
+IsCorruptionError (errors.Corruption text) = Unit {0}
+IsCorruptionError _ = ⊥
 
 -- a refusal of what a caller hands in
 abbrev pub IsInvalidArgument : Error → Type 0
@@ -53,9 +53,9 @@ IsInvalidArgument (errors.InvalidArgument text) = Unit {0}
 IsInvalidArgument _ = ⊥
 
 -- why a run with this outcome is refused: by the start rule, since the live number of its queue would pass 2^64 - 1, or for want of memory
-abbrev pub IsRunRefused : LogQueue → Counts → List EntryIndex → Option (List EntryIndex) → Error → Type 0
-IsRunRefused queue counts es None (errors.Corruption text) = Unit {0}
-IsRunRefused queue counts es None errors.Memory = Unit {0}
-IsRunRefused queue counts es (Some after) errors.Full = 2 ^ 64 + entries_in queue es ≤ live queue counts + entries_in queue after
-IsRunRefused queue counts es (Some after) errors.Memory = Unit {0}
-IsRunRefused queue counts es outcome _ = ⊥
+abbrev pub IsTableRunFault : LogQueue → Counts → List EntryIndex → Option (List EntryIndex) → Error → Type 0
+IsTableRunFault queue counts es None (errors.Corruption text) = Unit {0}
+IsTableRunFault queue counts es None errors.Memory = Unit {0}
+IsTableRunFault queue counts es (Some after) errors.Full = 2 ^ 64 + entry_count queue es ≤ live queue counts + entry_count queue after
+IsTableRunFault queue counts es (Some after) errors.Memory = Unit {0}
+IsTableRunFault queue counts es outcome _ = ⊥

@@ -8,8 +8,8 @@ use Rattle.raft_base.specs.declared.pipe_log.LogQueue.{LogQueue}
 use Rattle.raft_base.specs.declared.pipe_log.LogQueue.TheVariants.{Append, Rewrite}
 use Rattle.raft_records.specs.declared.entry_index.EntryIndex.{EntryIndex}
 use Rattle.raft_table.specs.Counts.{Counts, live, with_added, with_deleted}
-use Rattle.raft_table.specs.Entries.{entries_in, from}
-use Rattle.raft_table.specs.KeyValues.{Keys, value_at, file_at, with_put, with_moved, pair_count, file_count}
+use Rattle.raft_table.specs.Entries.{entry_count, from}
+use Rattle.raft_table.specs.KeyValues.{Keys, value_at, file_at, with_put, with_moved, pair_count, file_weight}
 use Rattle.raft_table.specs.Queues.{is_same}
 use Rattle.raft_table.specs.Rewriting.{rewritten}
 use Rattle.raft_table.specs.Start.{appended, replayed}
@@ -27,7 +27,7 @@ empty_table id = record { region_id = id; entries = []; keys = finite.empty; ato
 
 -- how many entries and key values of a table have their place or file in a queue
 abbrev pub live_of : LogQueue → Table → ℕ
-live_of queue t = entries_in queue t.entries + pair_count queue t.keys
+live_of queue t = entry_count queue t.entries + pair_count queue t.keys
 
 -- the live numbers count at least a table's records
 abbrev pub IsCounted : Table → Counts → Type 0
@@ -46,36 +46,36 @@ abbrev pub with_table_deleted : Table → Counts → Counts
 with_table_deleted t counts = with_deleted Rewrite (live_of Rewrite t) (with_deleted Append (live_of Append t) counts)
 
 -- a table with other entries
-abbrev pub with_entries : Table → List EntryIndex → Table
-with_entries t es = record t { entries = es }
+abbrev pub table_with_entries : Table → List EntryIndex → Table
+table_with_entries t es = record t { entries = es }
 
 -- a table with other key values
-abbrev pub with_keys : Table → Keys → Table
-with_keys t keys = record t { keys = keys }
+abbrev pub table_with_keys : Table → Keys → Table
+table_with_keys t keys = record t { keys = keys }
 
 -- a new run of the append queue; none where the start rule refuses it
 abbrev pub after_append : Table → List EntryIndex → Option Table
-after_append t run = option_map (with_entries t) (appended t.entries run)
+after_append t run = option_map (table_with_entries t) (appended t.entries run)
 
 -- a run that is read again; none where the start rule refuses it
 abbrev pub after_replay : LogQueue → Table → List EntryIndex → Option Table
-after_replay queue t run = option_map (with_entries t) (replayed queue t.entries run)
+after_replay queue t run = option_map (table_with_entries t) (replayed queue t.entries run)
 
 -- places rewritten to those of a run; none where that is refused
 abbrev pub after_rewrite : Option ℕ → Table → List EntryIndex → Option Table
-after_rewrite gate t run = option_map (with_entries t) (rewritten gate run t.entries)
+after_rewrite gate t run = option_map (table_with_entries t) (rewritten gate run t.entries)
 
 -- the entries below an index are gone
 abbrev pub compacted : ℕ → Table → Table
-compacted i t = with_entries t (from i t.entries)
+compacted i t = table_with_entries t (from i t.entries)
 
 -- one key put
 abbrev pub with_pair : Table → List ℕ → List ℕ → FileId → Table
-with_pair t key value file = with_keys t (with_put t.keys key value file)
+with_pair t key value file = table_with_keys t (with_put t.keys key value file)
 
 -- one key deleted
 abbrev pub without_key : Table → List ℕ → Table
-without_key t key = with_keys t (finite.remove t.keys key)
+without_key t key = table_with_keys t (finite.remove t.keys key)
 
 -- an atomic group of the rewrite queue, from its first file to its last
 abbrev pub with_atomic_group : Table → ℕ → ℕ → Table
@@ -103,7 +103,7 @@ rewritten_in gate seq keys key (Some file) = rewritten_pair gate seq keys key fi
 
 -- one key's pair rewritten to a file of the rewrite queue; none where it is refused
 abbrev pub after_rewrite_key : Option ℕ → ℕ → Table → List ℕ → Option Table
-after_rewrite_key gate seq t key = option_map (with_keys t) (rewritten_in gate seq t.keys key (file_at t.keys key))
+after_rewrite_key gate seq t key = option_map (table_with_keys t) (rewritten_in gate seq t.keys key (file_at t.keys key))
 
 -- a rewriting of one key changes its pair's file alone: every key has the value that it had, and every other key its file
 pub record MovesKeyAlone (key : List ℕ) (before after : Keys) : Type 0 where
@@ -121,14 +121,14 @@ with_rewritten_key true counts = with_deleted Append 1 (with_added Rewrite 1 cou
 with_rewritten_key false counts = with_deleted Rewrite 1 (with_added Rewrite 1 counts)
 
 -- why a key put in a queue is refused, told by the file of the pair that it would replace: its live number would pass 2^64 - 1, or want of memory
-abbrev pub IsPutRefused : LogQueue → Counts → Option FileId → Error → Type 0
-IsPutRefused queue counts replaced errors.Full = (2 ^ 64 ≤ live queue counts + 1) × (file_count queue replaced ≡ 0)
-IsPutRefused queue counts replaced errors.Memory = Unit {0}
-IsPutRefused queue counts replaced _ = ⊥
+abbrev pub IsTablePutFault : LogQueue → Counts → Option FileId → Error → Type 0
+IsTablePutFault queue counts replaced errors.Full = (2 ^ 64 ≤ live queue counts + 1) × (file_weight queue replaced ≡ 0)
+IsTablePutFault queue counts replaced errors.Memory = Unit {0}
+IsTablePutFault queue counts replaced _ = ⊥
 
 -- why a rewriting of one key with this outcome is refused: its pair is in a later file, since the live number with one more would pass 2^64 - 1, or for want of memory for the refusal's text
-abbrev pub IsKeyRefused : Counts → Option Table → Error → Type 0
-IsKeyRefused counts None (errors.Corruption text) = Unit {0}
-IsKeyRefused counts None errors.Memory = Unit {0}
-IsKeyRefused counts (Some after) errors.Full = 2 ^ 64 ≤ live Rewrite counts + 1
-IsKeyRefused counts outcome _ = ⊥
+abbrev pub IsKeyRewriteFault : Counts → Option Table → Error → Type 0
+IsKeyRewriteFault counts None (errors.Corruption text) = Unit {0}
+IsKeyRewriteFault counts None errors.Memory = Unit {0}
+IsKeyRewriteFault counts (Some after) errors.Full = 2 ^ 64 ≤ live Rewrite counts + 1
+IsKeyRewriteFault counts outcome _ = ⊥

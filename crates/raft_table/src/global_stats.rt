@@ -106,7 +106,8 @@ impl GlobalStats {
         ensures ok { OnOk result (self.new ≡ with_table_added table.now self.old) }
         ensures live { OnOk result ((q : LogQueue) → live q self.new ≡ live q self.old + live_of q table.now) }
         ensures accepted { ((q : LogQueue) → live q self.old + live_of q table.now < 2 ^ 64) → IsOk result }
-        ensures full { IfErr result (λ e. (e ≡ Error.Full) × ((q : LogQueue) × (2 ^ 64 ≤ live q self.old + live_of q table.now))) }
+        ensures full { IfErr result (λ e. (e ≡ Error.Full) × ((q : LogQueue)
+            × (2 ^ 64 ≤ live q self.old + live_of q table.now))) }
         ensures err { OnErr result (self.new ≡ self.old) }
     {
         if !self.has_room(table, LogQueue::Append) || !self.has_room(table, LogQueue::Rewrite) {

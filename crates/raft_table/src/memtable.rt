@@ -3,13 +3,13 @@
 ghost use Rattle.std.specs.Prelude.{◌≡◌, ◌≢◌, ◌+◌, ◌≤◌, ◌^◌, false, length, MatchOption, OnOk, OnErr, IfErr, IfOk, Some, [], option_map, MatchBool};
 ghost use Rattle.raft_base.specs.declared.pipe_log.LogQueue.{LogQueue};
 ghost use Rattle.raft_base.specs.declared.pipe_log.LogQueue.TheVariants.{Append, Rewrite};
-ghost use Rattle.raft_table.specs.Entries.{IsRunIn, IsSound, start_of, end_of, entry_at, entries_in, below};
+ghost use Rattle.raft_table.specs.Entries.{IsRunIn, AreTableEntries, start_of, end_of, entry_with_index, entry_count, below};
 ghost use Rattle.raft_table.specs.Counts.{Counts, live, with_added};
-ghost use Rattle.raft_table.specs.KeyValues.{value_at, file_at, file_count};
-ghost use Rattle.raft_table.specs.Table.{empty_table, live_of, IsCounted, IsRecounted, after_append, after_replay, after_rewrite, after_rewrite_key, compacted, with_pair, without_key, with_atomic_group, with_entries, with_keys, with_pair_deleted, with_rewritten_key, MovesKeyAlone, leaves_append, IsPutRefused, IsKeyRefused};
-ghost use Rattle.raft_table.specs.Rewriting.{rewritten, recounted, IsRewriteRefused, MovesPlacesAlone};
+ghost use Rattle.raft_table.specs.KeyValues.{value_at, file_at, file_weight};
+ghost use Rattle.raft_table.specs.Table.{empty_table, live_of, IsCounted, IsRecounted, after_append, after_replay, after_rewrite, after_rewrite_key, compacted, with_pair, without_key, with_atomic_group, table_with_entries, table_with_keys, with_pair_deleted, with_rewritten_key, MovesKeyAlone, leaves_append, IsTablePutFault, IsKeyRewriteFault};
+ghost use Rattle.raft_table.specs.Rewriting.{rewritten, recounted, IsRewriteFault, MovesPlacesAlone};
 ghost use Rattle.raft_table.specs.Queues.{count_in};
-ghost use Rattle.raft_table.specs.Start.{appended, replayed, counts_with_run, counts_without, IsRunRefused};
+ghost use Rattle.raft_table.specs.Start.{appended, replayed, counts_with_run, counts_without, IsTableRunFault};
 
 mod change;
 mod deleted_keys;
@@ -85,7 +85,7 @@ impl MemTable {
     /// A table's entries are one run without gaps, each has a place, and the rewritten ones stand in
     /// front of the appended ones.
     pub fn holds_one_run(&self)
-        ensures { IsSound self.now.entries }
+        ensures { AreTableEntries self.now.entries }
     {
         self.entries.holds_one_run();
     }
@@ -99,7 +99,7 @@ impl MemTable {
 
     /// How many entries are rewritten.
     pub fn rewrite_count(&self) -> usize
-        ensures { result ≡ entries_in Rewrite self.now.entries }
+        ensures { result ≡ entry_count Rewrite self.now.entries }
     {
         self.entries.rewrite_count()
     }
@@ -136,7 +136,7 @@ impl MemTable {
 
     /// The place of the entry with this index.
     pub fn get_entry(&self, index: u64) -> Option<EntryIndex>
-        ensures { result ≡ entry_at index self.now.entries }
+        ensures { result ≡ entry_with_index index self.now.entries }
     {
         self.entries.get(index)
     }
@@ -159,7 +159,8 @@ impl MemTable {
         requires run { IsRunIn Append run.items }
         requires counted { IsCounted self.old stats.old }
         ensures ok { OnOk result (after_append self.old run.items ≡ Some self.new) }
-        ensures refused { IfErr result (IsRunRefused Append stats.old self.old.entries (appended self.old.entries run.items)) }
+        ensures fault { IfErr result (IsTableRunFault Append stats.old self.old.entries
+            (appended self.old.entries run.items)) }
         ensures err { OnErr result ((self.new ≡ self.old) × (stats.new ≡ stats.old)) }
         ensures counts { OnOk result (stats.new ≡ counts_with_run Append self.old.entries run.items stats.old) }
         ensures recounted { IsRecounted self.old self.new stats.old stats.new }
@@ -180,7 +181,8 @@ impl MemTable {
         requires run { IsRunIn Append run.items }
         requires counted { IsCounted self.old stats.old }
         ensures ok { OnOk result (after_replay Append self.old run.items ≡ Some self.new) }
-        ensures refused { IfErr result (IsRunRefused Append stats.old self.old.entries (replayed Append self.old.entries run.items)) }
+        ensures fault { IfErr result (IsTableRunFault Append stats.old self.old.entries
+            (replayed Append self.old.entries run.items)) }
         ensures err { OnErr result ((self.new ≡ self.old) × (stats.new ≡ stats.old)) }
         ensures counts { OnOk result (stats.new ≡ counts_with_run Append self.old.entries run.items stats.old) }
         ensures recounted { IsRecounted self.old self.new stats.old stats.new }
@@ -201,7 +203,8 @@ impl MemTable {
         requires rewritten { live_of Append self.old ≡ 0 }
         requires counted { IsCounted self.old stats.old }
         ensures ok { OnOk result (after_replay Rewrite self.old run.items ≡ Some self.new) }
-        ensures refused { IfErr result (IsRunRefused Rewrite stats.old self.old.entries (replayed Rewrite self.old.entries run.items)) }
+        ensures fault { IfErr result (IsTableRunFault Rewrite stats.old self.old.entries
+            (replayed Rewrite self.old.entries run.items)) }
         ensures err { OnErr result ((self.new ≡ self.old) × (stats.new ≡ stats.old)) }
         ensures counts { OnOk result (stats.new ≡ counts_with_run Rewrite self.old.entries run.items stats.old) }
         ensures recounted { IsRecounted self.old self.new stats.old stats.new }
@@ -230,9 +233,10 @@ impl MemTable {
         requires counted { IsCounted self.old stats.old }
         ensures ok { OnOk result (after_rewrite gate self.old run.items ≡ Some self.new) }
         ensures places_alone { OnOk result (MovesPlacesAlone run.items self.old.entries self.new.entries) }
-        ensures others { OnOk result (self.new ≡ with_entries self.old self.new.entries) }
+        ensures others { OnOk result (self.new ≡ table_with_entries self.old self.new.entries) }
         ensures counts { OnOk result (stats.new ≡ recounted gate run.items self.old.entries stats.old) }
-        ensures refused { IfErr result (IsRewriteRefused (length run.items) stats.old (rewritten gate run.items self.old.entries)) }
+        ensures fault { IfErr result (IsRewriteFault (length run.items) stats.old
+            (rewritten gate run.items self.old.entries)) }
         ensures err { OnErr result (self.new ≡ self.old) }
         ensures err_counts { IfErr result (λ e. e ≢ Error.Full → stats.new ≡ stats.old) }
         ensures recounted { IsRecounted self.old self.new stats.old stats.new }
@@ -271,7 +275,7 @@ impl MemTable {
         ensures ok { OnOk result (self.new ≡ with_pair self.old key.items value.items file) }
         ensures counts { OnOk result (stats.new
             ≡ with_added file.queue 1 (with_pair_deleted (file_at self.old.keys key.items) stats.old)) }
-        ensures refused { IfErr result (IsPutRefused file.queue stats.old (file_at self.old.keys key.items)) }
+        ensures fault { IfErr result (IsTablePutFault file.queue stats.old (file_at self.old.keys key.items)) }
         ensures err { OnErr result ((self.new ≡ self.old) × (stats.new ≡ stats.old)) }
         ensures recounted { IsRecounted self.old self.new stats.old stats.new }
         ensures region { self.new.region_id ≡ self.old.region_id }
@@ -316,9 +320,10 @@ impl MemTable {
         requires { IsCounted self.old stats.old }
         ensures ok { OnOk result (after_rewrite_key gate seq self.old key.items ≡ Some self.new) }
         ensures file_alone { OnOk result (MovesKeyAlone key.items self.old.keys self.new.keys) }
-        ensures others { OnOk result (self.new ≡ with_keys self.old self.new.keys) }
-        ensures counts { OnOk result (stats.new ≡ with_rewritten_key (leaves_append gate (file_at self.old.keys key.items)) stats.old) }
-        ensures refused { IfErr result (IsKeyRefused stats.old (after_rewrite_key gate seq self.old key.items)) }
+        ensures others { OnOk result (self.new ≡ table_with_keys self.old self.new.keys) }
+        ensures counts { OnOk result (stats.new
+            ≡ with_rewritten_key (leaves_append gate (file_at self.old.keys key.items)) stats.old) }
+        ensures fault { IfErr result (IsKeyRewriteFault stats.old (after_rewrite_key gate seq self.old key.items)) }
         ensures err { OnErr result ((self.new ≡ self.old) × (stats.new ≡ stats.old)) }
         ensures recounted { IsRecounted self.old self.new stats.old stats.new }
         ensures region { self.new.region_id ≡ self.old.region_id }
@@ -354,7 +359,8 @@ impl MemTable {
 
     /// Whether a key has a pair in `queue`.
     fn has_pair_in(&self, key: &[u8], queue: LogQueue) -> bool
-        ensures { MatchBool result (file_count queue (file_at self.now.keys key.now) ≡ 1) (file_count queue (file_at self.now.keys key.now) ≡ 0) }
+        ensures { MatchBool result (file_weight queue (file_at self.now.keys key.now)
+            ≡ 1) (file_weight queue (file_at self.now.keys key.now) ≡ 0) }
     {
         match self.keys.file_of(key) {
             Some(file) => file.queue == queue,

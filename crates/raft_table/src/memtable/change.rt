@@ -3,7 +3,7 @@
 ghost use Rattle.std.specs.Prelude.{◌≡◌, ◌≢◌, OnOk, OnErr, IfOk, IfErr, MatchBool, Some};
 ghost use Rattle.raft_base.specs.declared.pipe_log.LogQueue.{LogQueue};
 ghost use Rattle.raft_table.specs.Counts.{live};
-ghost use Rattle.raft_table.specs.Change.{after_change, AreCountedAfter, IsAllowed, IsAnswer, IsChangeRefused, IsListRefused};
+ghost use Rattle.raft_table.specs.Change.{after_change, AreCountedAfter, IsAllowed, IsAnswer, IsChangeFault, IsListFault};
 ghost use Rattle.raft_table.specs.Entries.{IsRunIn, is_placed_in};
 ghost use Rattle.raft_table.specs.Table.{IsCounted, IsRecounted};
 
@@ -58,7 +58,7 @@ impl MemTable {
         ensures allowed { OnOk result (IsAllowed change) }
         ensures answer { IfOk result (IsAnswer change self.old self.new) }
         ensures counts { OnOk result (AreCountedAfter change self.old stats.old stats.new) }
-        ensures refused { IfErr result (IsChangeRefused self.old stats.old change) }
+        ensures fault { IfErr result (IsChangeFault self.old stats.old change) }
         ensures err { OnErr result (self.new ≡ self.old) }
         ensures err_counts { IfErr result (λ e. e ≢ Error.Full → stats.new ≡ stats.old) }
         ensures recounted { IsRecounted self.old self.new stats.old stats.new }
@@ -99,7 +99,7 @@ impl MemTable {
     /// Refuses a list that is no run of `queue`.
     fn check_run(&self, run: &[EntryIndex], queue: LogQueue) -> Result<()>
         ensures ok { OnOk result (IsRunIn queue run.now) }
-        ensures refused { IfErr result (IsListRefused queue run.now) }
+        ensures fault { IfErr result (IsListFault queue run.now) }
     {
         if is_run(run, queue) {
             return Ok(());

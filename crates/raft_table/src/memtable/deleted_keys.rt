@@ -26,11 +26,11 @@ impl Model for DeletedKeys {
 
     ghost coded = { key_set_code };
 
-    ghost use Rattle.raft_table.specs.KeySetView.{key_set_shown, IsSound};
+    ghost use Rattle.raft_table.specs.KeySetView.{key_set_shown, IsInOrder};
 
     ghost view = { key_set_shown };
 
-    ghost invariant = { IsSound };
+    ghost invariant = { IsInOrder };
 }
 
 impl DeletedKeys {

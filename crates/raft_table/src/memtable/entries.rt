@@ -1,8 +1,8 @@
 //! The entries of a region, in order of index.
 
 ghost use Rattle.std.specs.Prelude.{◌≡◌, ◌≢◌, ◌+◌, [], length, MatchOption, IfOk, IfErr};
-ghost use Rattle.raft_table.specs.Start.{counts_without, IsCorruption, IsInvalidArgument};
-ghost use Rattle.raft_table.specs.Entries.{IsSound, start_of, end_of, entry_at, entries_in, below, from, AreCounted, AreRecounted};
+ghost use Rattle.raft_table.specs.Start.{counts_without, IsCorruptionError, IsInvalidArgument};
+ghost use Rattle.raft_table.specs.Entries.{AreTableEntries, start_of, end_of, entry_with_index, entry_count, below, from, AreCounted, AreRecounted};
 ghost use Rattle.raft_table.specs.Marks.{part};
 ghost use Rattle.raft_base.specs.declared.pipe_log.LogQueue.TheVariants.{Rewrite};
 
@@ -50,14 +50,14 @@ struct Meeting {
 impl Model for Entries {
     ghost use Rattle.std.specs.Prelude.{◌≡◌, List, length};
     ghost use Rattle.raft_records.specs.declared.entry_index.EntryIndex.{EntryIndex};
-    ghost use Rattle.raft_table.specs.Entries.{IsSound, entries_in};
+    ghost use Rattle.raft_table.specs.Entries.{AreTableEntries, entry_count};
     ghost use Rattle.raft_base.specs.declared.pipe_log.LogQueue.TheVariants.{Rewrite};
 
     ghost Value = { List EntryIndex };
 
     ghost view = { λ a. a.deque.items };
 
-    ghost invariant = { λ a. IsSound a.deque.items × (a.rewritten ≡ entries_in Rewrite a.deque.items) };
+    ghost invariant = { λ a. AreTableEntries a.deque.items × (a.rewritten ≡ entry_count Rewrite a.deque.items) };
 }
 
 impl Entries {
@@ -74,7 +74,7 @@ impl Entries {
     /// The entries are one run without gaps, each has a place, and the rewritten ones stand in front
     /// of the appended ones.
     pub fn holds_one_run(&self)
-        ensures { IsSound self.now }
+        ensures { AreTableEntries self.now }
     {
         let _ = &self.deque;
     }
@@ -96,7 +96,7 @@ impl Entries {
 
     /// How many of them are in `queue`.
     pub fn count_in(&self, queue: LogQueue) -> usize
-        ensures { result ≡ entries_in queue self.now }
+        ensures { result ≡ entry_count queue self.now }
     {
         match queue {
             LogQueue::Append => self.deque.len() - self.rewritten,
@@ -106,7 +106,7 @@ impl Entries {
 
     /// A refusal with this text, or want of memory for it.
     pub(crate) fn corruption(&self, text: &str) -> Result<Error>
-        ensures ok { IfOk result IsCorruption }
+        ensures ok { IfOk result IsCorruptionError }
         ensures err { IfErr result (λ e. e ≡ Error.Memory) }
     {
         Ok(Error::Corruption(String::from_str(*self.deque.allocator(), text)?))
@@ -122,14 +122,14 @@ impl Entries {
 
     /// How many of them are rewritten.
     pub fn rewrite_count(&self) -> usize
-        ensures { result ≡ entries_in Rewrite self.now }
+        ensures { result ≡ entry_count Rewrite self.now }
     {
         self.rewritten
     }
 
     /// The entry with this index.
     pub fn get(&self, index: u64) -> Option<EntryIndex>
-        ensures { result ≡ entry_at index self.now }
+        ensures { result ≡ entry_with_index index self.now }
     {
         let first = self.deque.front()?.index;
         if index < first {

@@ -6,7 +6,7 @@ ghost use Rattle.std.specs.Fn.{CalledAtTwo};
 ghost use Rattle.std.specs.FinMap as finite;
 ghost use Rattle.raft_base.specs.declared.pipe_log.LogQueue.{LogQueue};
 ghost use Rattle.raft_table.specs.Scan.{VisitsUntilFalse, scanned};
-ghost use Rattle.raft_table.specs.KeyValues.{Keys, pair_count, file_count, value_at, file_at, with_put, with_moved, files_in, least, lesser, is_up_to, fetched, pairs_shown, overlaid};
+ghost use Rattle.raft_table.specs.KeyValues.{Keys, pair_count, file_weight, value_at, file_at, with_put, with_moved, files_in, least, lesser, is_up_to, fetched, pairs_shown, overlaid};
 
 mod scan;
 
@@ -40,11 +40,11 @@ impl Model for KeyValues {
 
     ghost coded = { keys_code };
 
-    ghost use Rattle.raft_table.specs.KeyValueView.{keys_shown, IsSound};
+    ghost use Rattle.raft_table.specs.KeyValueView.{keys_shown, IsOrderedAndCounted};
 
     ghost view = { keys_shown };
 
-    ghost invariant = { IsSound };
+    ghost invariant = { IsOrderedAndCounted };
 }
 
 impl KeyValues {
@@ -125,7 +125,9 @@ impl KeyValues {
     ) -> Result<Option<FileId>, AllocError>
         ensures ok { OnOk result (self.new ≡ with_put self.old key.items value.items file) }
         ensures replaced { IfOk result (λ replaced. replaced ≡ file_at self.old key.items) }
-        ensures counts { IfOk result (λ replaced. (queue : LogQueue) → pair_count queue self.new + file_count queue replaced ≡ pair_count queue self.old + file_count queue (Some file)) }
+        ensures counts { IfOk result (λ replaced. (queue : LogQueue)
+            → pair_count queue self.new + file_weight queue replaced
+            ≡ pair_count queue self.old + file_weight queue (Some file)) }
         ensures err { OnErr result (self.new ≡ self.old) }
     {
         prove!(self.rewritten <= self.pairs.len());
@@ -138,7 +140,8 @@ impl KeyValues {
     pub fn remove(&mut self, key: &[u8]) -> Option<FileId>
         ensures after { self.new ≡ finite.remove self.old key.now }
         ensures removed { result ≡ file_at self.old key.now }
-        ensures counts { (queue : LogQueue) → pair_count queue self.new + file_count queue result ≡ pair_count queue self.old }
+        ensures counts { (queue : LogQueue)
+            → pair_count queue self.new + file_weight queue result ≡ pair_count queue self.old }
     {
         let removed = self.pairs.remove(key)?;
         self.rewritten -= rewritten(Some(removed.file));
@@ -149,7 +152,9 @@ impl KeyValues {
     pub fn set_file(&mut self, key: &[u8], file: FileId) -> Option<FileId>
         ensures after { self.new ≡ with_moved self.old key.now file }
         ensures moved { result ≡ file_at self.old key.now }
-        ensures counts { (queue : LogQueue) → pair_count queue self.new + file_count queue result ≡ pair_count queue self.old + file_count queue (option_map (λ _. file) result) }
+        ensures counts { (queue : LogQueue)
+            → pair_count queue self.new + file_weight queue result
+            ≡ pair_count queue self.old + file_weight queue (option_map (λ _. file) result) }
     {
         prove!(self.rewritten <= self.pairs.len());
         let pair = self.pairs.get_mut(key)?;
@@ -184,7 +189,8 @@ impl KeyValues {
         gate: Option<FileSeq>,
         vec: &mut Vec<(Vec<u8>, Vec<u8>)>,
     ) -> Result<(), AllocError>
-        ensures ok { OnOk result (pairs_shown vec.new.items ≡ pairs_shown vec.old.items ++ fetched queue gate self.now) }
+        ensures ok { OnOk result (pairs_shown vec.new.items
+            ≡ pairs_shown vec.old.items ++ fetched queue gate self.now) }
         ensures err { OnErr result (vec.new.items ≡ vec.old.items) }
     {
         let len = vec.len();
@@ -204,7 +210,9 @@ impl KeyValues {
         f: F,
     )
         requires { F.IsAlwaysCallable f }
-        ensures { (last : F) × VisitsUntilFalse (CalledAtTwo F.FnMut) f (scanned (option_copied start.entry) (option_copied end.entry) reverse self.now) last }
+        ensures { (last : F)
+            × VisitsUntilFalse (CalledAtTwo F.FnMut) f (scanned (option_copied start.entry)
+            (option_copied end.entry) reverse self.now) last }
     {
         if !is_forward(start, end) {
             return;
@@ -228,7 +236,8 @@ impl KeyValues {
     pub fn absorb(&mut self, rhs: &mut KeyValues) -> Result<(), AllocError>
         ensures ok { OnOk result (self.new ≡ overlaid rhs.old self.old) }
         ensures emptied { OnOk result (rhs.new ≡ finite.empty) }
-        ensures bounded { (queue : LogQueue) → pair_count queue self.new ≤ pair_count queue self.old + pair_count queue rhs.old }
+        ensures bounded { (queue : LogQueue)
+            → pair_count queue self.new ≤ pair_count queue self.old + pair_count queue rhs.old }
     {
         while let Some((key, pair)) = rhs.take_first() {
             self.insert(key, pair.value, pair.file)?;
@@ -238,7 +247,8 @@ impl KeyValues {
 
     /// Takes the first pair away.
     fn take_first(&mut self) -> Option<(Vec<u8>, StoredValue)>
-        ensures first { IfSome result (λ p. finite.entries self.old ≡ (p.0.items, record { value = p.1.value.items; file = p.1.file }) ∷ finite.entries self.new) }
+        ensures first { IfSome result (λ p. finite.entries self.old
+            ≡ (p.0.items, record { value = p.1.value.items; file = p.1.file }) ∷ finite.entries self.new) }
         ensures none { IfNone result (self.old ≡ finite.empty) }
         ensures unchanged { IfNone result (self.new ≡ self.old) }
     {
@@ -256,7 +266,9 @@ fn push_fetched(
     gate: Option<FileSeq>,
     vec: &mut Vec<(Vec<u8>, Vec<u8>)>,
 ) -> Result<(), AllocError>
-    ensures ok { OnOk result (pairs_shown vec.new.items ≡ pairs_shown vec.old.items ++ map (λ e. (e.0.items, e.1.value.items)) (filter (λ e. is_up_to queue gate e.1.file) pairs.now.entries)) }
+    ensures ok { OnOk result (pairs_shown vec.new.items
+        ≡ pairs_shown vec.old.items ++ map (λ e. (e.0.items, e.1.value.items)) (filter
+        (λ e. is_up_to queue gate e.1.file) pairs.now.entries)) }
     ensures kept { take (length vec.old.items) vec.new.items ≡ vec.old.items }
 {
     for (key, pair) in pairs {
@@ -305,7 +317,7 @@ fn file_in(pair: Option<StoredValue>) -> Option<FileId>
 
 /// What a pair of that file counts in the rewrite queue.
 fn rewritten(file: Option<FileId>) -> usize
-    ensures { result ≡ file_count LogQueue.Rewrite file }
+    ensures { result ≡ file_weight LogQueue.Rewrite file }
 {
     match file {
         Some(file) if file.queue == LogQueue::Rewrite => 1,

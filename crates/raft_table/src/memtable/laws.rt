@@ -5,7 +5,7 @@ ghost use Rattle.std.specs.FinSet as finset;
 ghost use Rattle.raft_base.specs.declared.pipe_log.LogQueue.{LogQueue};
 ghost use Rattle.raft_base.specs.declared.pipe_log.LogQueue.TheVariants.{Append, Rewrite};
 ghost use Rattle.raft_records.specs.declared.entry_index.EntryIndex.{EntryIndex};
-ghost use Rattle.raft_table.specs.Entries.{IsRun, IsRunIn, StandsBehind, start_of, end_of, entry_at, from};
+ghost use Rattle.raft_table.specs.Entries.{IsRun, IsRunIn, StandsBehind, start_of, end_of, entry_with_index, from};
 ghost use Rattle.std.specs.FinMap as finite;
 ghost use Rattle.raft_table.specs.LastWord.{last_entry, last_pair};
 ghost use Rattle.raft_table.specs.Marks.{Mark, Stands, applied};
@@ -29,7 +29,7 @@ pub fn entries_stand_by_index()
     ensures hole { (es run after : List EntryIndex) → leaves_hole (end_of es) (start_of run) ≡ true
         → replayed Rewrite es run ≡ Some after → after ≡ run }
     ensures compacted { (index i : ℕ) (es : List EntryIndex)
-        → entry_at i (from index es) ≡ (if nat_lt i index then None else entry_at i es) }
+        → entry_with_index i (from index es) ≡ (if nat_lt i index then None else entry_with_index i es) }
 {}
 
 /// In the append queue the entry at an index is that of the last of a region's steps that speaks of the
@@ -38,7 +38,7 @@ pub fn entries_stand_by_index()
 /// or a clean.
 pub fn last_words_stand()
     ensures entries { (id i : ℕ) (t : Option Table) (ss : List Step) → AreSteps ss → after Append id None ss ≡ Some t
-        → entry_at i (table_of id t).entries ≡ last_entry i ss }
+        → entry_with_index i (table_of id t).entries ≡ last_entry i ss }
     ensures keys { (q : LogQueue) (id : ℕ) (key : List ℕ) (t : Option Table) (ss : List Step)
         → after q id None ss ≡ Some t → finite.get (table_of id t).keys key ≡ last_pair key ss }
 {}

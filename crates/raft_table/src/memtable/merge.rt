@@ -5,9 +5,9 @@ ghost use Rattle.std.specs.FinMap as finite;
 ghost use Rattle.raft_base.specs.declared.pipe_log.LogQueue.{LogQueue};
 ghost use Rattle.raft_base.specs.declared.pipe_log.LogQueue.TheVariants.{Append, Rewrite};
 ghost use Rattle.raft_table.specs.Counts.{live};
-ghost use Rattle.raft_table.specs.Entries.{entries_in};
+ghost use Rattle.raft_table.specs.Entries.{entry_count};
 ghost use Rattle.raft_table.specs.KeyValues.{overlaid, pair_count};
-ghost use Rattle.raft_table.specs.Merge.{counts_after_merge, counts_with_keys, counts_with_others, joint_queue, append_rule, after_join, after_newer, after_appended, IsMergeRefused};
+ghost use Rattle.raft_table.specs.Merge.{counts_after_merge, counts_with_keys, counts_with_others, joint_queue, append_rule, after_join, after_newer, after_appended, IsTableMergeFault};
 ghost use Rattle.raft_table.specs.Queues.{count_in, other};
 ghost use Rattle.raft_table.specs.Table.{empty_table, live_of, IsCounted, IsRecounted};
 
@@ -36,7 +36,7 @@ impl MemTable {
         requires counted { IsCounted self.old stats.old }
         ensures ok { OnOk result (after_newer self.old rhs.old (joint_queue self.old rhs.old) ≡ Some self.new) }
         ensures emptied { OnOk result (rhs.new ≡ empty_table rhs.old.region_id) }
-        ensures refused { IfErr result (IsMergeRefused stats.old self.old rhs.old (joint_queue self.old rhs.old)) }
+        ensures fault { IfErr result (IsTableMergeFault stats.old self.old rhs.old (joint_queue self.old rhs.old)) }
         ensures err { IfErr result (λ e. e ≢ Error.Memory →
             (self.new ≡ self.old) × (rhs.new ≡ rhs.old) × (stats.new ≡ stats.old)) }
         ensures counts { OnOk result (stats.new
@@ -72,7 +72,7 @@ impl MemTable {
         requires counted { IsCounted self.old stats.old }
         ensures ok { OnOk result (after_appended self.old rhs.old (append_rule self.old rhs.old) ≡ Some self.new) }
         ensures emptied { OnOk result (rhs.new ≡ empty_table rhs.old.region_id) }
-        ensures refused { IfErr result (IsMergeRefused stats.old self.old rhs.old (append_rule self.old rhs.old)) }
+        ensures fault { IfErr result (IsTableMergeFault stats.old self.old rhs.old (append_rule self.old rhs.old)) }
         ensures err { IfErr result (λ e. e ≢ Error.Memory →
             (self.new ≡ self.old) × (rhs.new ≡ rhs.old) × (stats.new ≡ stats.old)) }
         ensures counts { OnOk result (stats.new ≡ counts_after_merge (Some Append) self.old rhs.old stats.old) }
@@ -128,7 +128,7 @@ impl MemTable {
         requires counted { IsCounted self.old stats.old }
         ensures ok { OnOk result (after_join rule self.old rhs.old ≡ Some self.new) }
         ensures emptied { OnOk result (rhs.new ≡ record rhs.old { entries = []; keys = finite.empty }) }
-        ensures refused { IfErr result (IsMergeRefused stats.old self.old rhs.old (Some rule)) }
+        ensures fault { IfErr result (IsTableMergeFault stats.old self.old rhs.old (Some rule)) }
         ensures err { IfErr result (λ e. e ≢ Error.Memory →
             (self.new ≡ self.old) × (rhs.new ≡ rhs.old) × (stats.new ≡ stats.old)) }
         ensures counts { OnOk result (stats.new ≡ counts_after_merge (Some queue) self.old rhs.old stats.old) }

@@ -6,7 +6,7 @@ ghost use Rattle.std.specs.List.{slice_get};
 ghost use Rattle.std.specs.Option.{option_copied};
 ghost use Rattle.raft_base.specs.declared.pipe_log.LogQueue.TheVariants.{Append, Rewrite};
 ghost use Rattle.raft_table.specs.Entries.{placed_in};
-ghost use Rattle.raft_table.specs.Fetches.{Fetches, IsFetchRefused, range_answer, appended_before, block_count, entry_seq, is_some_before};
+ghost use Rattle.raft_table.specs.Fetches.{Fetches, IsFetchFault, range_answer, appended_before, block_count, entry_seq, is_some_before};
 ghost use Rattle.raft_table.specs.KeyValues.{pairs_shown, fetched};
 ghost use Rattle.raft_table.specs.Scan.{VisitsUntilFalse, scanned};
 ghost use Rattle.raft_table.specs.Least.{least_of, lowered};
@@ -39,8 +39,9 @@ impl MemTable {
         max_size: Option<usize>,
         vec: &mut Vec<EntryIndex>,
     ) -> Result<()>
-        ensures ok { OnOk result (Fetches max_size begin end self.now.entries vec.old.items vec.new.items (range_answer begin end self.now.entries)) }
-        ensures refused { IfErr result (IsFetchRefused (range_answer begin end self.now.entries)) }
+        ensures ok { OnOk result (Fetches max_size begin end self.now.entries vec.old.items vec.new.items
+            (range_answer begin end self.now.entries)) }
+        ensures fault { IfErr result (IsFetchFault (range_answer begin end self.now.entries)) }
         ensures err { OnErr result (vec.new.items ≡ vec.old.items) }
     {
         self.entries.fetch_to(begin, end, max_size, vec)
@@ -101,7 +102,9 @@ impl MemTable {
     ) -> Result<()>
         requires { F.IsAlwaysCallable f }
         ensures ok { IsOk result }
-        ensures visits { (last : F) × VisitsUntilFalse (CalledAtTwo F.FnMut) f (scanned (option_copied start.entry) (option_copied end.entry) reverse self.now.keys) last }
+        ensures visits { (last : F)
+            × VisitsUntilFalse (CalledAtTwo F.FnMut) f (scanned (option_copied start.entry)
+            (option_copied end.entry) reverse self.now.keys) last }
     {
         self.keys.scan(start, end, reverse, f);
         Ok(())

@@ -6,7 +6,7 @@ ghost use Rattle.raft_base.specs.declared.pipe_log.LogQueue.TheVariants.{Append,
 ghost use Rattle.raft_table.specs.Entries.{IsRunIn};
 ghost use Rattle.raft_table.specs.Marks.{Stands};
 ghost use Rattle.raft_table.specs.Queues.{other};
-ghost use Rattle.raft_table.specs.Start.{IsCorruption};
+ghost use Rattle.raft_table.specs.Start.{IsCorruptionError};
 ghost use Rattle.raft_table.specs.Steps.{Step, Run, Del, Clean, AreSteps, table_of, after};
 ghost use Rattle.raft_table.specs.Table.{Table, live_of, IsCounted, IsRecounted};
 
@@ -38,7 +38,7 @@ pub fn join_region(
         → OnOk result (Stands queue id mark.new (Some table.new) (ss ++ rs)) }
     ensures refused { (id : ℕ) (own : Option Table) (ss rs : List Step) → table_of id own ≡ table.old → AreSteps rs
         → Stands queue id mark.old own ss → Stands queue id newer.old (Some rhs.old) rs
-        → IfErr result (λ e. IsCorruption e → after queue id None (ss ++ rs) ≡ None) }
+        → IfErr result (λ e. IsCorruptionError e → after queue id None (ss ++ rs) ≡ None) }
     ensures recounted { IsRecounted table.old table.new stats.old stats.new }
     ensures regions { (table.new.region_id ≡ table.old.region_id) × (rhs.new.region_id ≡ rhs.old.region_id) }
 {
@@ -68,7 +68,7 @@ pub fn replay_run(
         → OnOk result (Stands queue id mark.new (Some table.new) (ss ++ Run run.items ∷ [])) }
     ensures refused { (id : ℕ) (own : Option Table) (ss : List Step) → table_of id own ≡ table.old
         → Stands queue id mark.old own ss
-        → IfErr result (λ e. IsCorruption e → after queue id None (ss ++ Run run.items ∷ []) ≡ None) }
+        → IfErr result (λ e. IsCorruptionError e → after queue id None (ss ++ Run run.items ∷ []) ≡ None) }
     ensures recounted { IsRecounted table.old table.new stats.old stats.new }
     ensures region { table.new.region_id ≡ table.old.region_id }
 {
@@ -133,7 +133,7 @@ pub fn join_cleaned(
         → OnOk result (Stands queue id mark.new None (ss ++ rs)) }
     ensures refused { (id : ℕ) (own : Option Table) (ss rs : List Step) → table_of id own ≡ table.now
         → Stands queue id mark.old own ss → Stands queue id newer.old None rs
-        → IfErr result (λ e. IsCorruption e → after queue id None (ss ++ rs) ≡ None) }
+        → IfErr result (λ e. IsCorruptionError e → after queue id None (ss ++ rs) ≡ None) }
 {
     table.check_meeting(queue, newer)?;
     mark.join(queue, table.met(newer), newer)?;

@@ -11,13 +11,13 @@ ghost use Rattle.raft_base.specs.declared.pipe_log.LogQueue.{LogQueue};
 ghost use Rattle.raft_records.specs.declared.entry_index.EntryIndex.{EntryIndex};
 ghost use Rattle.raft_table.specs.Counts.{Counts, live};
 ghost use Rattle.raft_base.specs.declared.pipe_log.LogQueue.TheVariants.{Append, Rewrite};
-ghost use Rattle.raft_table.specs.Entries.{RisesFrom, IsRunIn, IsSound, start_of, end_of, between, entries_in, entry_at};
+ghost use Rattle.raft_table.specs.Entries.{RisesFrom, IsRunIn, AreTableEntries, start_of, end_of, between, entry_count, entry_with_index};
 ghost use Rattle.raft_table.specs.Fetches.{Found, range_answer, total_len, IsLimitCount, FetchesWithin};
 ghost use Rattle.raft_table.specs.KeyValues.{Keys, value_at, least, overlaid};
 ghost use Rattle.raft_table.specs.Rewriting.{meeting, moved_count, rewritten};
 ghost use Rattle.raft_table.specs.Scan.{is_between, scanned};
 ghost use Rattle.raft_table.specs.Table.{Table, live_of};
-ghost use Rattle.raft_table.specs.Start.{appended, replayed, IsRunRefused};
+ghost use Rattle.raft_table.specs.Start.{appended, replayed, IsTableRunFault};
 
 use raft_records::Error;
 
@@ -25,17 +25,21 @@ use raft_records::Error;
 /// pass 2^64 - 1.
 #[tactic(auto, using(crate::proofs::RunCounts::append_full, crate::proofs::RunCounts::replay_full))]
 pub fn full_runs_pass_the_limit()
-    ensures append { (q : LogQueue) (counts : Counts) (es run : List EntryIndex) → IsRunRefused q counts es (appended es run) Error.Full → 2 ^ 64 ≤ live q counts + length run }
-    ensures replay { (rule q : LogQueue) (counts : Counts) (es run : List EntryIndex) → IsRunRefused q counts es (replayed rule es run) Error.Full → 2 ^ 64 ≤ live q counts + length run }
+    ensures append { (q : LogQueue) (counts : Counts) (es run : List EntryIndex)
+        → IsTableRunFault q counts es (appended es run) Error.Full → 2 ^ 64 ≤ live q counts + length run }
+    ensures replay { (rule q : LogQueue) (counts : Counts) (es run : List EntryIndex)
+        → IsTableRunFault q counts es (replayed rule es run) Error.Full → 2 ^ 64 ≤ live q counts + length run }
 {}
 
 /// A table has as many entries as its end is above its first index, and in both queues together as
 /// many records as entries and key values.
 #[tactic(auto, using(crate::proofs::SizeLemmas::length_by_ends, crate::proofs::SizeLemmas::entries_of_both, crate::proofs::SizeLemmas::records_of_both))]
 pub fn tables_add_up()
-    ensures length { (es : List EntryIndex) → IsSound es → 0 < length es → start_of es + length es ≡ end_of es }
-    ensures entries { (es : List EntryIndex) → IsSound es → entries_in Append es + entries_in Rewrite es ≡ length es }
-    ensures records { (t : Table) → IsSound t.entries → live_of Append t + live_of Rewrite t ≡ length t.entries + finite.len t.keys }
+    ensures length { (es : List EntryIndex) → AreTableEntries es → 0 < length es → start_of es + length es ≡ end_of es }
+    ensures entries { (es : List EntryIndex) → AreTableEntries es
+        → entry_count Append es + entry_count Rewrite es ≡ length es }
+    ensures records { (t : Table) → AreTableEntries t.entries
+        → live_of Append t + live_of Rewrite t ≡ length t.entries + finite.len t.keys }
 {}
 
 /// A range that is found has every index from its begin to below its end once, in order. Without a
@@ -43,31 +47,44 @@ pub fn tables_add_up()
 /// lengths of at most the limit together, but for entries in front without bytes.
 #[tactic(auto, using(crate::proofs::SizeLemmas::between_by_index, crate::proofs::SizeLemmas::found_is_whole, crate::proofs::SizeLemmas::unlimited_is_all, crate::proofs::SizeLemmas::first_is_fetched, crate::proofs::SizeLemmas::limit_is_kept, crate::proofs::SizeLemmas::one_limit_count))]
 pub fn fetches_answer_ranges()
-    ensures between { (begin end i : ℕ) (es : List EntryIndex) → entry_at i (between begin end es) ≡ (if nat_le begin i && nat_lt i end then entry_at i es else None) }
-    ensures whole { (begin end : ℕ) (es : List EntryIndex) → IsSound es → range_answer begin end es ≡ Found → RisesFrom begin (between begin end es) × (begin + length (between begin end es) ≡ end) }
+    ensures between { (begin end i : ℕ) (es : List EntryIndex)
+        → entry_with_index i (between begin end es)
+        ≡ (if nat_le begin i && nat_lt i end then entry_with_index i es else None) }
+    ensures whole { (begin end : ℕ) (es : List EntryIndex) → AreTableEntries es → range_answer begin end es ≡ Found
+        → RisesFrom begin (between begin end es) × (begin + length (between begin end es) ≡ end) }
     ensures unlimited { (es old new : List EntryIndex) → FetchesWithin None es old new → new ≡ old ++ es }
-    ensures first { (limit : Option ℕ) (es : List EntryIndex) (n : ℕ) → IsLimitCount limit es n → 0 < length es → 0 < n }
-    ensures limited { (limit n : ℕ) (es : List EntryIndex) → IsLimitCount (Some limit) es (suc n) → (total_len (suc n) es ≤ limit) ⊎ (total_len n es ≡ 0) }
-    ensures one { (limit : Option ℕ) (es : List EntryIndex) (m n : ℕ) → IsLimitCount limit es m → IsLimitCount limit es n → m ≡ n }
+    ensures first { (limit : Option ℕ) (es : List EntryIndex) (n : ℕ) → IsLimitCount limit es n → 0 < length es
+        → 0 < n }
+    ensures limited { (limit n : ℕ) (es : List EntryIndex) → IsLimitCount (Some limit) es (suc n)
+        → (total_len (suc n) es ≤ limit) ⊎ (total_len n es ≡ 0) }
+    ensures one { (limit : Option ℕ) (es : List EntryIndex) (m n : ℕ) → IsLimitCount limit es m
+        → IsLimitCount limit es n → m ≡ n }
 {}
 
 /// A scan visits exactly the pairs whose key is at or above the first bound and below the second, in
 /// the order of the keys, or in the reversed order.
 #[tactic(auto, using(crate::proofs::VisitLemmas::visited_are_pairs, crate::proofs::VisitLemmas::pairs_are_visited, crate::proofs::VisitLemmas::visits_rise))]
 pub fn scans_visit_pairs()
-    ensures visited { (start end : Option (List ℕ)) (keys : Keys) → All (λ p. (value_at keys p.0 ≡ Some p.1) × (is_between start end p.0 ≡ true)) (scanned start end false keys) }
-    ensures pairs { (start end : Option (List ℕ)) (keys : Keys) (key value : List ℕ) → value_at keys key ≡ Some value → is_between start end key ≡ true → Contains (scanned start end false keys) (key, value) }
-    ensures order { (start end : Option (List ℕ)) (keys : Keys) → IsStrictlySortedBy (slice_cmp nat_cmp) (map (λ p. p.0) (scanned start end false keys)) }
-    ensures reversed { (start end : Option (List ℕ)) (keys : Keys) → scanned start end true keys ≡ reverse (scanned start end false keys) }
+    ensures visited { (start end : Option (List ℕ)) (keys : Keys) → All (λ p. (value_at keys p.0 ≡ Some p.1)
+        × (is_between start end p.0 ≡ true)) (scanned start end false keys) }
+    ensures pairs { (start end : Option (List ℕ)) (keys : Keys) (key value : List ℕ)
+        → value_at keys key ≡ Some value → is_between start end key ≡ true
+        → Contains (scanned start end false keys) (key, value) }
+    ensures order { (start end : Option (List ℕ)) (keys : Keys)
+        → IsStrictlySortedBy (slice_cmp nat_cmp) (map (λ p. p.0) (scanned start end false keys)) }
+    ensures reversed { (start end : Option (List ℕ)) (keys : Keys)
+        → scanned start end true keys ≡ reverse (scanned start end false keys) }
 {}
 
 /// What stands at an index after a rewriting: the run's places from the first entry that meets on, as
 /// many as move, and the old ones elsewhere.
 #[tactic(auto, using(crate::proofs::MovedLemmas::moved_by_index, crate::proofs::MovedLemmas::unmoved))]
 pub fn rewriting_stands_by_index()
-    ensures moved { (gate : Option ℕ) (run es after met : List EntryIndex) (e : EntryIndex) (i : ℕ) → IsRunIn Rewrite run → IsSound es → meeting run es ≡ e ∷ met → rewritten gate run es ≡ Some after
-        → entry_at i after ≡ (if nat_le e.index i && nat_lt i (e.index + moved_count gate run es) then entry_at i run else entry_at i es) }
-    ensures apart { (gate : Option ℕ) (run es : List EntryIndex) → meeting run es ≡ [] → rewritten gate run es ≡ Some es }
+    ensures moved { (gate : Option ℕ) (run es after met : List EntryIndex) (e : EntryIndex) (i : ℕ)
+        → IsRunIn Rewrite run → AreTableEntries es → meeting run es ≡ e ∷ met → rewritten gate run es ≡ Some after
+        → entry_with_index i after ≡ (if nat_le e.index i && nat_lt i (e.index + moved_count gate run es) then entry_with_index i run else entry_with_index i es) }
+    ensures apart { (gate : Option ℕ) (run es : List EntryIndex) → meeting run es ≡ []
+        → rewritten gate run es ≡ Some es }
 {}
 
 /// The least of some numbers is one of them, and none of them is below it.
@@ -80,5 +97,6 @@ pub fn least_is_lowest()
 /// Of two sets of pairs put over one another, a key has what the newer ones hold there or, where
 /// they hold nothing, what the older ones do.
 pub fn newer_pairs_win()
-    ensures { (newer older : Keys) (key : List ℕ) → finite.get (overlaid newer older) key ≡ option_or (finite.get newer key) (finite.get older key) }
+    ensures { (newer older : Keys) (key : List ℕ)
+        → finite.get (overlaid newer older) key ≡ option_or (finite.get newer key) (finite.get older key) }
 {}

@@ -8,14 +8,14 @@ ghost use Rattle.raft_table.specs.Counts.{live};
 ghost use Rattle.raft_table.specs.Entries.{IsRun, IsRunIn, end_of};
 ghost use Rattle.raft_table.specs.KeySets.{without};
 ghost use Rattle.raft_table.specs.KeyValues.{pair_count};
-ghost use Rattle.raft_table.specs.MarkMerge.{IsMeetingRefused, IsRefusedUnder, IsRunOver, left_by};
+ghost use Rattle.raft_table.specs.MarkMerge.{IsMeetingFault, IsFaultUnder, IsRunOver, left_by};
 ghost use Rattle.raft_table.specs.Marks.{part, is_missed, is_meeting_refused, table_over};
 ghost use Rattle.raft_table.specs.MarkJoins.{met};
 ghost use Rattle.raft_table.specs.Merge.{newer_atomic_group};
-ghost use Rattle.raft_table.specs.Overlay.{is_short, overlay_under, IsOverlayRefused};
+ghost use Rattle.raft_table.specs.Overlay.{is_short, overlay_under, IsOverlayFault};
 ghost use Rattle.raft_table.specs.Queues.{other};
-ghost use Rattle.raft_table.specs.Start.{replayed, IsRunRefused};
-ghost use Rattle.raft_table.specs.Table.{empty_table, after_replay, live_of, IsCounted, IsRecounted, with_entries, with_keys};
+ghost use Rattle.raft_table.specs.Start.{replayed, IsTableRunFault};
+ghost use Rattle.raft_table.specs.Table.{empty_table, after_replay, live_of, IsCounted, IsRecounted, table_with_entries, table_with_keys};
 ghost use Rattle.raft_base.specs.declared.pipe_log.LogQueue.TheVariants.{Append, Rewrite};
 
 use crate::global_stats::GlobalStats;
@@ -55,8 +55,8 @@ impl MemTable {
         requires counted { IsCounted self.old stats.old }
         ensures ok { IsRunOver queue mark.now rhs.old self.old
             → OnOk result (table_over queue mark.now rhs.old self.old ≡ Some self.new) }
-        ensures refused { IsRunOver queue mark.now rhs.old self.old
-            → IfErr result (IsRefusedUnder queue stats.old mark.now rhs.old self.old) }
+        ensures fault { IsRunOver queue mark.now rhs.old self.old
+            → IfErr result (IsFaultUnder queue stats.old mark.now rhs.old self.old) }
         ensures err { IsRunOver queue mark.now rhs.old self.old → IfErr result (λ e. e ≢ Error.Memory →
             (self.new ≡ self.old) × (rhs.new ≡ rhs.old) × (stats.new ≡ stats.old)) }
         ensures emptied { OnOk result (rhs.new ≡ empty_table rhs.old.region_id) }
@@ -94,7 +94,7 @@ impl MemTable {
         ensures ok { IsRun (overlay_under mark.now rhs.old self.old).entries
             → OnOk result (self.new ≡ overlay_under mark.now rhs.old self.old) }
         ensures emptied { OnOk result (rhs.new ≡ empty_table rhs.old.region_id) }
-        ensures refused { IfErr result (IsOverlayRefused stats.old rhs.old) }
+        ensures fault { IfErr result (IsOverlayFault stats.old rhs.old) }
         ensures err { IfErr result (λ e. e ≢ Error.Memory →
             (self.new ≡ self.old) × (rhs.new ≡ rhs.old) × (stats.new ≡ stats.old)) }
         ensures recounted { IsRecounted self.old self.new stats.old stats.new }
@@ -127,7 +127,7 @@ impl MemTable {
         requires blank { self.old ≡ empty_table rhs.old.region_id }
         ensures ok { OnOk result (self.new ≡ rhs.old) }
         ensures emptied { OnOk result (rhs.new ≡ empty_table rhs.old.region_id) }
-        ensures refused { IfErr result (λ e. (e ≡ Error.Full) × ((q : LogQueue) × (2 ^ 64 ≤ live q stats.old + live_of q rhs.old))) }
+        ensures fault { IfErr result (λ e. (e ≡ Error.Full) × ((q : LogQueue) × (2 ^ 64 ≤ live q stats.old + live_of q rhs.old))) }
         ensures err { OnErr result ((self.new ≡ self.old) × (rhs.new ≡ rhs.old) × (stats.new ≡ stats.old)) }
         ensures recounted { IsRecounted self.old self.new stats.old stats.new }
     {
@@ -174,7 +174,7 @@ impl MemTable {
         requires older { queue ≡ Rewrite → live_of Append self.old ≡ 0 }
         requires counted { IsCounted self.old stats.old }
         ensures ok { OnOk result (after_replay queue self.old run.items ≡ Some self.new) }
-        ensures refused { IfErr result (IsRunRefused queue stats.old self.old.entries (replayed queue self.old.entries run.items)) }
+        ensures fault { IfErr result (IsTableRunFault queue stats.old self.old.entries (replayed queue self.old.entries run.items)) }
         ensures recounted { IsRecounted self.old self.new stats.old stats.new }
         ensures region { self.new.region_id ≡ self.old.region_id }
     {
@@ -194,7 +194,7 @@ impl MemTable {
     /// Refuses a newer mark whose first run leaves a hole behind the entries that it meets.
     pub fn check_meeting(&self, queue: LogQueue, mark: &Mark) -> Result<()>
         ensures ok { OnOk result (is_meeting_refused queue mark.now self.now.entries ≡ false) }
-        ensures refused { IfErr result (IsMeetingRefused (is_meeting_refused queue mark.now self.now.entries)) }
+        ensures fault { IfErr result (IsMeetingFault (is_meeting_refused queue mark.now self.now.entries)) }
     {
         if self.is_meeting_refused(queue, mark) {
             return Err(
@@ -237,7 +237,7 @@ impl MemTable {
     /// Drops the entries off a mark's bounds, or all of them.
     fn drop_entries(&mut self, gone: bool, mark: &Mark, stats: &mut GlobalStats)
         requires counted { IsCounted self.old stats.old }
-        ensures left { self.new ≡ with_entries self.old (if gone then [] else part mark.now.floor mark.now.cut self.old.entries) }
+        ensures left { self.new ≡ table_with_entries self.old (if gone then [] else part mark.now.floor mark.now.cut self.old.entries) }
         ensures recounted { IsRecounted self.old self.new stats.old stats.new }
     {
         if gone {
@@ -250,7 +250,7 @@ impl MemTable {
     /// Drops all key values.
     fn drop_keys(&mut self, stats: &mut GlobalStats)
         requires counted { IsCounted self.old stats.old }
-        ensures dropped { self.new ≡ with_keys self.old finite.empty }
+        ensures dropped { self.new ≡ table_with_keys self.old finite.empty }
         ensures recounted { IsRecounted self.old self.new stats.old stats.new }
     {
         stats.delete(LogQueue::Append, self.keys.count_in(LogQueue::Append));
@@ -261,7 +261,7 @@ impl MemTable {
     /// Deletes keys and their values.
     fn drop_deleted(&mut self, deleted: &DeletedKeys, stats: &mut GlobalStats)
         requires counted { IsCounted self.old stats.old }
-        ensures dropped { self.new ≡ with_keys self.old (without deleted.now self.old.keys) }
+        ensures dropped { self.new ≡ table_with_keys self.old (without deleted.now self.old.keys) }
         ensures fewer { (q : LogQueue) → pair_count q self.new.keys ≤ pair_count q self.old.keys }
         ensures recounted { IsRecounted self.old self.new stats.old stats.new }
     {

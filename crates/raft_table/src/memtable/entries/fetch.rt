@@ -5,7 +5,7 @@ ghost use Rattle.std.specs.List.{prefix_len, slice_get};
 ghost use Rattle.std.specs.VecDeque.{deque_len};
 ghost use Rattle.raft_base.specs.declared.pipe_log.LogQueue.TheVariants.{Append, Rewrite};
 ghost use Rattle.raft_table.specs.Entries.{placed_in};
-ghost use Rattle.raft_table.specs.Fetches.{Fetches, IsFetchRefused, IsLimitCount, range_answer, appended_before, block_count, change_count, is_same_place, entry_seq, first_seq};
+ghost use Rattle.raft_table.specs.Fetches.{Fetches, IsFetchFault, IsLimitCount, range_answer, appended_before, block_count, change_count, is_same_place, entry_seq, first_seq};
 ghost use Rattle.raft_table.specs.Rewriting.{is_placed_before, may_move};
 
 use crate::memtable::entries::Entries;
@@ -31,7 +31,7 @@ impl Entries {
         vec: &mut Vec<EntryIndex>,
     ) -> Result<()>
         ensures ok { OnOk result (Fetches limit begin end self.now vec.old.items vec.new.items (range_answer begin end self.now)) }
-        ensures refused { IfErr result (IsFetchRefused (range_answer begin end self.now)) }
+        ensures fault { IfErr result (IsFetchFault (range_answer begin end self.now)) }
         ensures err { OnErr result (vec.new.items ≡ vec.old.items) }
     {
         if end <= begin {

@@ -4,9 +4,9 @@ ghost use Rattle.std.specs.Prelude.{◌≡◌, ◌≢◌, ◌+◌, ◌<◌, ◌�
 ghost use Rattle.std.specs.List.{prefix_len};
 ghost use Rattle.std.specs.VecDeque.{deque_len};
 ghost use Rattle.raft_table.specs.Counts.{live};
-ghost use Rattle.raft_table.specs.Entries.{IsSound, IsRunIn, RisesFrom, start_of, placed_in, entries_in, AreCounted, AreRecounted};
+ghost use Rattle.raft_table.specs.Entries.{AreTableEntries, IsRunIn, RisesFrom, start_of, placed_in, entry_count, AreCounted, AreRecounted};
 ghost use Rattle.raft_table.specs.Meetings.{IsMeeting, AreApart};
-ghost use Rattle.raft_table.specs.Rewriting.{may_move, is_misplaced, with_rewritten, rewritten, recounted, IsRewriteRefused, MovesPlacesAlone};
+ghost use Rattle.raft_table.specs.Rewriting.{may_move, is_misplaced, with_rewritten, rewritten, recounted, IsRewriteFault, MovesPlacesAlone};
 ghost use Rattle.raft_base.specs.declared.pipe_log.LogQueue.{LogQueue};
 ghost use Rattle.raft_base.specs.declared.pipe_log.LogQueue.TheVariants.{Append, Rewrite};
 
@@ -36,7 +36,7 @@ impl Entries {
         ensures ok { OnOk result (rewritten gate run.now self.old ≡ Some self.new) }
         ensures places_alone { OnOk result (MovesPlacesAlone run.now self.old self.new) }
         ensures counts { OnOk result (stats.new ≡ recounted gate run.now self.old stats.old) }
-        ensures refused { IfErr result (IsRewriteRefused (length run.now) stats.old (rewritten gate run.now self.old)) }
+        ensures fault { IfErr result (IsRewriteFault (length run.now) stats.old (rewritten gate run.now self.old)) }
         ensures err { OnErr result (self.new ≡ self.old) }
         ensures err_counts { IfErr result (λ e. e ≢ Error.Full → stats.new ≡ stats.old) }
         ensures recounted { AreRecounted self.old self.new stats.old stats.new }
@@ -62,7 +62,7 @@ impl Entries {
         ensures meets { MatchOption result
             (AreApart (start_of self.now) (length self.now) start len)
             (IsMeeting (start_of self.now) (length self.now) start len) }
-        ensures sound { IsSound self.now }
+        ensures sound { AreTableEntries self.now }
     {
         let first = self.deque.front()?.index;
         let end = first + self.deque.len() as u64;
@@ -80,7 +80,7 @@ impl Entries {
 
     /// Whether so many entries below a run are no place for it.
     fn is_misplaced(&self, at: usize, gate: Option<FileSeq>) -> bool
-        ensures { result ≡ is_misplaced gate at (entries_in Rewrite self.now) }
+        ensures { result ≡ is_misplaced gate at (entry_count Rewrite self.now) }
     {
         self.rewritten < at || gate.is_some() && at < self.rewritten
     }
@@ -98,7 +98,7 @@ impl Entries {
         requires within { at + length places.now ≤ length self.old }
         requires rising { RisesFrom (start_of self.old + at) places.now }
         requires placed { placed_in Rewrite places.now ≡ places.now }
-        requires well_placed { is_misplaced gate at (entries_in Rewrite self.old) ≡ false }
+        requires well_placed { is_misplaced gate at (entry_count Rewrite self.old) ≡ false }
         requires written { length places.now ≤ written }
         requires counted { AreCounted self.old stats.old }
         ensures ok { let m = prefix_len (may_move gate) (drop at (take (at + length places.now) self.old)) in

@@ -3,8 +3,8 @@
 ghost use Rattle.std.specs.Prelude.{◌≡◌, ◌+◌, ◌≤◌, ◌^◌, [], ◌++◌, length, take, drop, OnOk, OnErr, IfErr, Some};
 ghost use Rattle.raft_table.specs.Counts.{live, with_added, with_deleted};
 ghost use Rattle.raft_table.specs.Queues.{count_in, of_queue, other};
-ghost use Rattle.raft_table.specs.Entries.{IsSound, IsRunIn, placed_in, entries_in, AreCounted, AreRecounted};
-ghost use Rattle.raft_table.specs.Start.{appended, replayed, counts_with_run, counts_without, IsRunRefused};
+ghost use Rattle.raft_table.specs.Entries.{AreTableEntries, IsRunIn, placed_in, entry_count, AreCounted, AreRecounted};
+ghost use Rattle.raft_table.specs.Start.{appended, replayed, counts_with_run, counts_without, IsTableRunFault};
 ghost use Rattle.raft_table.specs.StartOf.{IsStart};
 ghost use Rattle.raft_base.specs.declared.pipe_log.LogQueue.{LogQueue};
 ghost use Rattle.raft_base.specs.declared.pipe_log.LogQueue.TheVariants.{Append, Rewrite};
@@ -25,7 +25,7 @@ impl Entries {
         requires run { IsRunIn Append run.items }
         requires counted { AreCounted self.old stats.old }
         ensures ok { OnOk result (appended self.old run.items ≡ Some self.new) }
-        ensures refused { IfErr result (IsRunRefused Append stats.old self.old (appended self.old run.items)) }
+        ensures fault { IfErr result (IsTableRunFault Append stats.old self.old (appended self.old run.items)) }
         ensures err { OnErr result ((self.new ≡ self.old) × (stats.new ≡ stats.old)) }
         ensures counts { OnOk result (stats.new ≡ counts_with_run Append self.old run.items stats.old) }
         ensures recounted { AreRecounted self.old self.new stats.old stats.new }
@@ -54,7 +54,7 @@ impl Entries {
         requires run { IsRunIn Append run.items }
         requires counted { AreCounted self.old stats.old }
         ensures ok { OnOk result (replayed Append self.old run.items ≡ Some self.new) }
-        ensures refused { IfErr result (IsRunRefused Append stats.old self.old (replayed Append self.old run.items)) }
+        ensures fault { IfErr result (IsTableRunFault Append stats.old self.old (replayed Append self.old run.items)) }
         ensures err { OnErr result ((self.new ≡ self.old) × (stats.new ≡ stats.old)) }
         ensures counts { OnOk result (stats.new ≡ counts_with_run Append self.old run.items stats.old) }
         ensures recounted { AreRecounted self.old self.new stats.old stats.new }
@@ -71,10 +71,10 @@ impl Entries {
     /// `Full` where more than 2^64 - 1 records would be live in the rewrite queue.
     pub fn replay_rewrite(&mut self, run: Vec<EntryIndex>, stats: &mut GlobalStats) -> Result<()>
         requires run { IsRunIn Rewrite run.items }
-        requires rewritten { entries_in Append self.old ≡ 0 }
+        requires rewritten { entry_count Append self.old ≡ 0 }
         requires counted { AreCounted self.old stats.old }
         ensures ok { OnOk result (replayed Rewrite self.old run.items ≡ Some self.new) }
-        ensures refused { IfErr result (IsRunRefused Rewrite stats.old self.old (replayed Rewrite self.old run.items)) }
+        ensures fault { IfErr result (IsTableRunFault Rewrite stats.old self.old (replayed Rewrite self.old run.items)) }
         ensures err { OnErr result ((self.new ≡ self.old) × (stats.new ≡ stats.old)) }
         ensures counts { OnOk result (stats.new ≡ counts_with_run Rewrite self.old run.items stats.old) }
         ensures recounted { AreRecounted self.old self.new stats.old stats.new }
@@ -97,12 +97,12 @@ impl Entries {
         queue: LogQueue,
         stats: &mut GlobalStats,
     ) -> Result<()>
-        requires alone { entries_in (other queue) rhs.old ≡ 0 }
-        requires rewritten { queue ≡ Rewrite → entries_in Append self.old ≡ 0 }
+        requires alone { entry_count (other queue) rhs.old ≡ 0 }
+        requires rewritten { queue ≡ Rewrite → entry_count Append self.old ≡ 0 }
         requires counted { AreCounted self.old stats.old }
         ensures ok { OnOk result (replayed rule self.old rhs.old ≡ Some self.new) }
         ensures emptied { OnOk result (rhs.new ≡ []) }
-        ensures refused { IfErr result (IsRunRefused queue stats.old self.old (replayed rule self.old rhs.old)) }
+        ensures fault { IfErr result (IsTableRunFault queue stats.old self.old (replayed rule self.old rhs.old)) }
         ensures err { OnErr result ((self.new ≡ self.old) × (rhs.new ≡ rhs.old) × (stats.new ≡ stats.old)) }
         ensures counts { OnOk result (stats.new ≡ counts_with_run queue self.old rhs.old stats.old) }
         ensures recounted { AreRecounted self.old self.new stats.old stats.new }
@@ -122,11 +122,11 @@ impl Entries {
         stats: &mut GlobalStats,
     ) -> Result<()>
         requires run { IsRunIn queue run.old.items }
-        requires rewritten { queue ≡ Rewrite → entries_in Append self.old ≡ 0 }
+        requires rewritten { queue ≡ Rewrite → entry_count Append self.old ≡ 0 }
         requires counted { AreCounted self.old stats.old }
         ensures ok { OnOk result (replayed rule self.old run.old.items ≡ Some self.new) }
         ensures emptied { OnOk result (run.new.items ≡ []) }
-        ensures refused { IfErr result (IsRunRefused queue stats.old self.old (replayed rule self.old run.old.items)) }
+        ensures fault { IfErr result (IsTableRunFault queue stats.old self.old (replayed rule self.old run.old.items)) }
         ensures err { OnErr result ((self.new ≡ self.old) × (run.new.items ≡ run.old.items) × (stats.new ≡ stats.old)) }
         ensures counts { OnOk result (stats.new ≡ counts_with_run queue self.old run.old.items stats.old) }
         ensures recounted { AreRecounted self.old self.new stats.old stats.new }
@@ -155,7 +155,7 @@ impl Entries {
         stats: &mut GlobalStats,
     ) -> Result<()>
         requires keep { keep ≤ length self.old }
-        requires sound { IsSound (take keep self.old ++ run.old.items) }
+        requires sound { AreTableEntries (take keep self.old ++ run.old.items) }
         requires queue { placed_in queue run.old.items ≡ run.old.items }
         requires counted { AreCounted self.old stats.old }
         ensures ok { OnOk result ((self.new ≡ take keep self.old ++ run.old.items) × (run.new.items ≡ [])) }
@@ -163,7 +163,7 @@ impl Entries {
         ensures counts { OnOk result (stats.new
             ≡ with_added queue (length run.old.items) (counts_without (drop keep self.old) stats.old)) }
         ensures recounted { AreRecounted self.old self.new stats.old stats.new }
-        ensures refused { IfErr result (IsRunRefused queue stats.old self.old (Some (take keep self.old ++ run.old.items))) }
+        ensures fault { IfErr result (IsTableRunFault queue stats.old self.old (Some (take keep self.old ++ run.old.items))) }
     {
         let dropped = self.deque.len() - keep;
         let rewritten = self.rewritten.min(keep);
@@ -189,7 +189,7 @@ impl Entries {
     /// Where a run that starts at `index` meets the entries.
     fn start(&self, index: u64) -> Start
         ensures meets { IsStart self.now index result }
-        ensures sound { IsSound self.now }
+        ensures sound { AreTableEntries self.now }
     {
         let Some(front) = self.deque.front() else {
             return Start::Joins(0);

@@ -5,10 +5,10 @@ use Rattle.raft_table.proofs.MergeLemmas.{joined_bound, merge_refused}
 use Rattle.raft_table.proofs.PlaceLemmas.{each_queue}
 use Rattle.raft_table.proofs.memtable.MemTable.join.Goals as goal
 
-pub returns-in_err-absorb-clause-refused : goal.returns-in_err-absorb-clause-refused
-returns-in_err-absorb-clause-refused c =
+pub returns-in_err-absorb-clause-fault : goal.returns-in_err-absorb-clause-fault
+returns-in_err-absorb-clause-fault c =
     let p = err_from_is_err_and c.from_residual.result c.from_residual.ensures.1 in
-    rw (p.1, p.2) (merge_refused c.args.rule c.args.queue c.args.stats.now c.args.self.now c.args.rhs.now _ (rw (← c.self.view_is, ← c.rhs.view_is) c.in_err-absorb.ensures.refused))
+    rw (p.1, p.2) (merge_refused c.args.rule c.args.queue c.args.stats.now c.args.self.now c.args.rhs.now _ (rw (← c.self.view_is, ← c.rhs.view_is) c.in_err-absorb.ensures.fault))
 
 pub absorb_keys-requires-clause-room : goal.absorb_keys-requires-clause-room
 absorb_keys-requires-clause-room c =

@@ -12,8 +12,8 @@ use Rattle.raft_table.proofs.MarkEntries.{same_some}
 use Rattle.raft_table.proofs.UnderLemmas.{over_left, join_memory}
 use Rattle.raft_table.proofs.memtable.MemTable.merge_under.Goals as goal
 
-pub returns-in_err-join-clause-refused : goal.returns-in_err-join-clause-refused
-returns-in_err-join-clause-refused c = λ run.
+pub returns-in_err-join-clause-fault : goal.returns-in_err-join-clause-fault
+returns-in_err-join-clause-fault c = λ run.
     let p = err_from_is_err_and c.from_residual-in_err-join.result c.from_residual-in_err-join.ensures.1 in
     let ok = c.in_ok-check_meeting.ensures.ok in
     let left = c.drop_older.ensures.left ∙ ap (λ g. left_by g c.args.mark.now c.args.self.now) c.is_missed.ensures in
@@ -21,7 +21,7 @@ returns-in_err-join-clause-refused c = λ run.
     let room : (q : LogQueue) → live q c.drop_older.new.stats + live_of q c.args.rhs.now < 2 ^ 64 = each_queue _
     (omega (arith, c.if-not-has_room.ensures, c.drop_older.ensures.fewer Append, c.drop_older.ensures.recounted Append))
     (omega (arith, c.if-not-has_room-2.ensures, c.drop_older.ensures.fewer Rewrite, c.drop_older.ensures.recounted Rewrite)) in
-    let memory = join_memory c.args.queue c.drop_older.new.stats c.drop_older.new.self c.args.rhs.now _ _ c.in_err-join.ensures.refused (ap (λ (t : Table). after_join c.args.queue t c.args.rhs.now) left ∙ over.0) room in
+    let memory = join_memory c.args.queue c.drop_older.new.stats c.drop_older.new.self c.args.rhs.now _ _ c.in_err-join.ensures.fault (ap (λ (t : Table). after_join c.args.queue t c.args.rhs.now) left ∙ over.0) room in
     rw (p.1, p.2, memory) tt
 
 pub returns-in_err-join-clause-err : goal.returns-in_err-join-clause-err
@@ -33,7 +33,7 @@ returns-in_err-join-clause-err c = λ run.
     let room : (q : LogQueue) → live q c.drop_older.new.stats + live_of q c.args.rhs.now < 2 ^ 64 = each_queue _
     (omega (arith, c.if-not-has_room.ensures, c.drop_older.ensures.fewer Append, c.drop_older.ensures.recounted Append))
     (omega (arith, c.if-not-has_room-2.ensures, c.drop_older.ensures.fewer Rewrite, c.drop_older.ensures.recounted Rewrite)) in
-    let memory = join_memory c.args.queue c.drop_older.new.stats c.drop_older.new.self c.args.rhs.now _ _ c.in_err-join.ensures.refused (ap (λ (t : Table). after_join c.args.queue t c.args.rhs.now) left ∙ over.0) room in
+    let memory = join_memory c.args.queue c.drop_older.new.stats c.drop_older.new.self c.args.rhs.now _ _ c.in_err-join.ensures.fault (ap (λ (t : Table). after_join c.args.queue t c.args.rhs.now) left ∙ over.0) room in
     rw (p.1, p.2, memory) (λ n. absurd (n refl))
 
 pub returns-clause-ok : goal.returns-clause-ok

@@ -1,4 +1,4 @@
-use Rattle.raft_table.proofs.StandLemmas.{appended_stands, replayed_stands, rewritten_stands, entry_at-from}
+use Rattle.raft_table.proofs.StandLemmas.{appended_stands, replayed_stands, rewritten_stands, entry_with_index-from}
 use Rattle.raft_table.proofs.memtable.laws.entries_stand_by_index.Goals as goal
 
 pub returns-clause-appended : goal.returns-clause-appended
@@ -11,4 +11,4 @@ pub returns-clause-rewritten : goal.returns-clause-rewritten
 returns-clause-rewritten c = rewritten_stands
 
 pub returns-clause-compacted : goal.returns-clause-compacted
-returns-clause-compacted c = λ index i es. entry_at-from i index es
+returns-clause-compacted c = λ index i es. entry_with_index-from i index es

@@ -12,7 +12,7 @@ returns-clause-ok c = λ id own ss rs is good good' e h k.
 pub returns-in_err-check_meeting-clause-refused : goal.returns-in_err-check_meeting-clause-refused
 returns-in_err-check_meeting-clause-refused c = λ id own ss rs is h k.
     let p = err_from_is_err_and c.from_residual.result c.from_residual.ensures.1 in
-    rw (p.1, p.2) (λ e. cleaned_refused c.args.queue id c.args.mark.now c.args.newer.now own ss rs _ h k (rw is c.in_err-check_meeting.ensures.refused) e)
+    rw (p.1, p.2) (λ e. cleaned_refused c.args.queue id c.args.mark.now c.args.newer.now own ss rs _ h k (rw is c.in_err-check_meeting.ensures.fault) e)
 
 pub returns-in_err-join-clause-refused : goal.returns-in_err-join-clause-refused
 returns-in_err-join-clause-refused c = λ id own ss rs is h k.

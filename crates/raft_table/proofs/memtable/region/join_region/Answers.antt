@@ -2,7 +2,7 @@ use Rattle.std.proofs.Common.{ap, ◌∙◌, ◌≡◌, Some, sym, subst, rules}
 use Rattle.std.proofs.lemmas.Result.{err_from_is_err_and}
 use Rattle.raft_table.specs.Marks.{table_over}
 use Rattle.raft_table.specs.MarkJoins.{joined_at, met}
-use Rattle.raft_table.specs.MarkMerge.{IsRunOver, IsRefusedUnder}
+use Rattle.raft_table.specs.MarkMerge.{IsRunOver, IsFaultUnder}
 use Rattle.raft_table.specs.Table.{Table}
 use Rattle.raft_table.proofs.RegionLemmas.{stands_run, join_stands, join_refused}
 use Rattle.raft_table.proofs.memtable.region.join_region.Goals as goal
@@ -12,7 +12,7 @@ returns-in_err-merge_under-clause-refused c = λ id own ss rs is good h k.
     let p = err_from_is_err_and c.from_residual.result c.from_residual.ensures.1 in
     let run = subst (IsRunOver c.args.queue c.args.newer.now c.args.rhs.now) is (stands_run c.args.queue id c.args.newer.now (Some c.args.rhs.now) own rs good h.own_table k) in
     rw (p.1, p.2) (λ e. join_refused c.args.queue id c.args.mark.now c.args.newer.now own c.args.rhs.now ss rs c.args.stats.now _ h k
-    (rw is (c.in_err-merge_under.ensures.refused run)) e)
+    (rw is (c.in_err-merge_under.ensures.fault run)) e)
 
 pub returns-in_err-join-clause-refused : goal.returns-in_err-join-clause-refused
 returns-in_err-join-clause-refused c = λ id own ss rs is good h k.

@@ -16,7 +16,7 @@ returns-in_default-clause-ok c = λ id own ss is good h.
 pub returns-in_err-replay_into-clause-refused : goal.returns-in_err-replay_into-clause-refused
 returns-in_err-replay_into-clause-refused c = λ id own ss is h.
     let p = err_from_is_err_and c.from_residual.result c.from_residual.ensures.1 in
-    rw (p.1, p.2) (λ e. run_refused c.args.queue id c.args.mark.now own ss c.args.run.items c.args.stats.now _ h (rw is c.in_err-replay_into.ensures.refused) e)
+    rw (p.1, p.2) (λ e. run_refused c.args.queue id c.args.mark.now own ss c.args.run.items c.args.stats.now _ h (rw is c.in_err-replay_into.ensures.fault) e)
 
 pub returns-clause-ok : goal.returns-clause-ok
 returns-clause-ok c = λ id own ss is good h.

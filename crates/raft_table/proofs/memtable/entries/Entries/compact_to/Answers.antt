@@ -3,7 +3,7 @@ use Rattle.raft_base.specs.declared.pipe_log.LogQueue.TheVariants.{Append, Rewri
 use Rattle.raft_table.specs.Entries.{below, from, start_of}
 use Rattle.raft_table.proofs.RunLemmas.{below_start, from_start}
 use Rattle.raft_table.proofs.PlaceLemmas.{each_queue}
-use Rattle.raft_table.proofs.SoundLemmas.{no_front, start_of_front, sound_rising, from_cut, below_cut, IsSound-drop, CutCounts, cut_counts}
+use Rattle.raft_table.proofs.SoundLemmas.{no_front, start_of_front, sound_rising, from_cut, below_cut, AreTableEntries-drop, CutCounts, cut_counts}
 use Rattle.raft_table.proofs.GoneLemmas.{none_below, same_deleted}
 use Rattle.raft_table.proofs.memtable.entries.Entries.compact_to.Goals as goal
 
@@ -33,7 +33,7 @@ pub invariant_of-self : goal.invariant_of-self
 invariant_of-self c =
     let k = counts c in
     let r = c.self.invariant.1 in
-    rw (cut c) (IsSound-drop c.min-count.result c.self.inside.deque.items c.self.invariant.0, omega arith)
+    rw (cut c) (AreTableEntries-drop c.min-count.result c.self.inside.deque.items c.self.invariant.0, omega arith)
 
 pub returns-clause-entries : goal.returns-clause-entries
 returns-clause-entries c =

@@ -2,7 +2,7 @@ use Rattle.std.proofs.Common.{arith, refl, sym, ◌≡◌, ◌∙◌, take}
 use Rattle.raft_base.specs.declared.pipe_log.LogQueue.TheVariants.{Append, Rewrite}
 use Rattle.raft_table.specs.Entries.{below, start_of}
 use Rattle.raft_table.proofs.PlaceLemmas.{each_queue}
-use Rattle.raft_table.proofs.SoundLemmas.{no_front, start_of_front, IsSound-take, CutCounts, cut_counts}
+use Rattle.raft_table.proofs.SoundLemmas.{no_front, start_of_front, AreTableEntries-take, CutCounts, cut_counts}
 use Rattle.raft_table.proofs.CutLemmas.{front_below}
 use Rattle.raft_table.proofs.memtable.entries.Entries.keep_below.Goals as goal
 
@@ -15,7 +15,7 @@ pub invariant_of-self : goal.invariant_of-self
 invariant_of-self c =
     let k = cut_counts c.min-keep.result c.self.inside.deque.items c.self.invariant.0 (omega (arith, c.self.inside.deque.ok)) in
     let r = c.self.invariant.1 in
-    rw (c.truncate.ensures.items) (IsSound-take c.min-keep.result c.self.inside.deque.items c.self.invariant.0, omega arith)
+    rw (c.truncate.ensures.items) (AreTableEntries-take c.min-keep.result c.self.inside.deque.items c.self.invariant.0, omega arith)
 
 pub returns-clause-entries : goal.returns-clause-entries
 returns-clause-entries c =

@@ -6,8 +6,8 @@ use Rattle.raft_base.specs.declared.pipe_log.LogQueue.TheVariants.{Append, Rewri
 use Rattle.raft_records.specs.declared.entry_index.EntryIndex.{EntryIndex}
 use Rattle.raft_table.specs.Counts.{Counts, live}
 use Rattle.raft_table.specs.Queues.{count_in, of_queue}
-use Rattle.raft_table.specs.Entries.{entries_in, placed_in}
-use Rattle.raft_table.proofs.PlaceLemmas.{each_queue, entries_in-append, entries_in_one}
+use Rattle.raft_table.specs.Entries.{entry_count, placed_in}
+use Rattle.raft_table.proofs.PlaceLemmas.{each_queue, entry_count-append, entries_in_one}
 use Rattle.raft_table.proofs.SoundLemmas.{CutCounts, cut_counts}
 use Rattle.raft_table.proofs.GoneLemmas.{same_exchange}
 use Rattle.raft_table.proofs.memtable.entries.Entries.put_behind.Goals as goal
@@ -20,11 +20,11 @@ counts : (c : goal.Else-is_err) → CutCounts c.args.keep c.self.inside.deque.it
 counts c = cut_counts c.args.keep c.self.inside.deque.items c.self.invariant.0 (rw c.self.view_is c.requires.keep)
 
 -- how many there are in a queue once the run is behind
-in_queue : (c : goal.Else-is_err) (q : LogQueue) → entries_in q c.append.new.self.items ≡ entries_in q (take c.args.keep c.self.inside.deque.items) + count_in q c.args.queue (length c.args.run.now.items)
+in_queue : (c : goal.Else-is_err) (q : LogQueue) → entry_count q c.append.new.self.items ≡ entry_count q (take c.args.keep c.self.inside.deque.items) + count_in q c.args.queue (length c.args.run.now.items)
 in_queue c q =
-    ap (entries_in q) (joined c)
-    ∙ entries_in-append q (take c.args.keep c.self.inside.deque.items) c.args.run.now.items
-    ∙ ap (λ n. entries_in q (take c.args.keep c.self.inside.deque.items) + n) (entries_in_one q c.args.queue c.args.run.now.items c.requires.queue)
+    ap (entry_count q) (joined c)
+    ∙ entry_count-append q (take c.args.keep c.self.inside.deque.items) c.args.run.now.items
+    ∙ ap (λ n. entry_count q (take c.args.keep c.self.inside.deque.items) + n) (entries_in_one q c.args.queue c.args.run.now.items c.requires.queue)
 
 pub invariant_of-self-2 : goal.invariant_of-self-2
 invariant_of-self-2 c =
@@ -49,11 +49,11 @@ returns-clause-recounted c =
     (omega (arith, in_queue c Rewrite, rw e at (c.in_ok-exchange.ensures.ok Rewrite))))
 
 -- a count that does not fit, told of the entries
-full_is : (q : LogQueue) (counts : Counts) (es front run : List EntryIndex) (a r n : ℕ) → 2 ^ 64 + of_queue q a r ≤ live q counts + n → of_queue q a r + entries_in q front ≡ entries_in q es → n ≡ length run → placed_in q run ≡ run → 2 ^ 64 + entries_in q es ≤ live q counts + entries_in q (front ++ run)
-full_is q counts es front run a r n h e l k = omega (arith, entries_in-append q front run, ap length k)
+full_is : (q : LogQueue) (counts : Counts) (es front run : List EntryIndex) (a r n : ℕ) → 2 ^ 64 + of_queue q a r ≤ live q counts + n → of_queue q a r + entry_count q front ≡ entry_count q es → n ≡ length run → placed_in q run ≡ run → 2 ^ 64 + entry_count q es ≤ live q counts + entry_count q (front ++ run)
+full_is q counts es front run a r n h e l k = omega (arith, entry_count-append q front run, ap length k)
 
-pub returns-in_err-exchange-clause-refused : goal.returns-in_err-exchange-clause-refused
-returns-in_err-exchange-clause-refused c =
+pub returns-in_err-exchange-clause-fault : goal.returns-in_err-exchange-clause-fault
+returns-in_err-exchange-clause-fault c =
     let p = err_from_is_err_and c.from_residual-in_err-exchange.result c.from_residual-in_err-exchange.ensures.1 in
     let full = c.in_err-exchange.ensures.full in
     let es = c.self.inside.deque.items in
@@ -64,7 +64,7 @@ returns-in_err-exchange-clause-refused c =
     let a = c.len.result - c.args.keep - r in
     rw (p.1, p.2, full.0, ← c.self.view_is)
     (full_is c.args.queue c.args.stats.now es (take c.args.keep es) c.args.run.now.items a r c.len-3.result full.1
-    (each_queue (λ q. of_queue q a r + entries_in q (take c.args.keep es) ≡ entries_in q es) (omega arith) (omega arith) c.args.queue)
+    (each_queue (λ q. of_queue q a r + entry_count q (take c.args.keep es) ≡ entry_count q es) (omega arith) (omega arith) c.args.queue)
     (omega (arith, c.args.run.now.ok)) c.requires.queue)
 
 pub returns-clause-counts : goal.returns-clause-counts

@@ -5,9 +5,9 @@ use Rattle.raft_base.specs.declared.errors.Error.TheVariants as errors
 use Rattle.raft_base.specs.declared.pipe_log.LogQueue.TheVariants.{Rewrite}
 use Rattle.raft_records.specs.declared.entry_index.EntryIndex.{EntryIndex}
 use Rattle.raft_table.specs.Counts.{Counts, live, with_deleted}
-use Rattle.raft_table.specs.Start.{IsCorruption}
+use Rattle.raft_table.specs.Start.{IsCorruptionError}
 use Rattle.raft_table.specs.Entries.{start_of}
-use Rattle.raft_table.specs.Rewriting.{rewritten, with_rewritten, IsRewriteRefused, MovesPlacesAlone}
+use Rattle.raft_table.specs.Rewriting.{rewritten, with_rewritten, IsRewriteFault, MovesPlacesAlone}
 use Rattle.raft_table.proofs.SoundLemmas.{start_of_front, no_first}
 use Rattle.raft_table.proofs.RewriteLemmas.{RewritesAt, rewrites_at, rewritten_none, rewritten_apart, recounted_apart, recounted_is, run_end}
 use Rattle.raft_table.proofs.AloneLemmas.{none_moved, moved_alone}
@@ -29,14 +29,14 @@ meeting-requires c =
     omega arith
 
 -- a refusal of the counts
-full_is : (n : ℕ) (counts : Counts) (gate : Option ℕ) (run es after : List EntryIndex) → rewritten gate run es ≡ Some after → 2 ^ 64 ≤ live Rewrite counts + n → IsRewriteRefused n counts (rewritten gate run es) errors.Full
+full_is : (n : ℕ) (counts : Counts) (gate : Option ℕ) (run es after : List EntryIndex) → rewritten gate run es ≡ Some after → 2 ^ 64 ≤ live Rewrite counts + n → IsRewriteFault n counts (rewritten gate run es) errors.Full
 full_is n counts gate run es after e h = rw e h
 
 start_full : (c : goal.After-from_residual) → start_of c.args.run.now ≡ c.in-Some.head.now.index
 start_full c = start_of_front c.args.run.now c.in-Some.head.now c.in-Some.ensures.item.3.0 c.in-Some.ensures.item.1
 
-pub returns-in_err-add-clause-refused : goal.returns-in_err-add-clause-refused
-returns-in_err-add-clause-refused c =
+pub returns-in_err-add-clause-fault : goal.returns-in_err-add-clause-fault
+returns-in_err-add-clause-fault c =
     let p = err_from_is_err_and c.from_residual.result c.from_residual.ensures.1 in
     let f = c.in_err-add.ensures.full in
     let e = rewritten_apart c.args.gate Rewrite c.args.run.now c.args.self.now c.meeting.ensures.sound c.requires.run c.in-Some.ensures.item.3.0 (rw (start_full c) c.in_default-meeting.ensures.meets) in
@@ -63,13 +63,13 @@ start_memory c = start_of_front c.args.run.now c.in-Some.head.now c.in-Some.ensu
 at_memory : (c : goal.After-from_residual-in_err-corruption) → RewritesAt c.args.gate c.args.run.now c.args.self.now c.in-Some-meeting.meeting.at c.in-Some-meeting.meeting.skipped c.in-Some-meeting.meeting.count
 at_memory c = rewrites_at c.args.gate c.args.run.now c.args.self.now c.in-Some-meeting.meeting c.meeting.ensures.sound c.requires.run c.in-Some.ensures.item.3.0 (rw (start_memory c) c.in-Some-meeting.ensures.meets)
 
-pub returns-in_err-corruption-clause-refused : goal.returns-in_err-corruption-clause-refused
-returns-in_err-corruption-clause-refused c =
+pub returns-in_err-corruption-clause-fault : goal.returns-in_err-corruption-clause-fault
+returns-in_err-corruption-clause-fault c =
     let p = err_from_is_err_and c.from_residual-in_err-corruption.result c.from_residual-in_err-corruption.ensures.1 in
     let m = c.in_err-corruption.ensures.err in
     rw (p.1, p.2, m, (at_memory c).refused (sym c.if-is_misplaced.ensures)) tt
 
-corruption_is : (n : ℕ) (counts : Counts) (e : Error) → IsCorruption e → IsRewriteRefused n counts None e
+corruption_is : (n : ℕ) (counts : Counts) (e : Error) → IsCorruptionError e → IsRewriteFault n counts None e
 corruption_is n counts (errors.Corruption text) h = tt
 corruption_is n counts _ h = absurd h
 
@@ -79,8 +79,8 @@ start_refused c = start_of_front c.args.run.now c.in-Some.head.now c.in-Some.ens
 at_refused : (c : goal.In_ok-corruption) → RewritesAt c.args.gate c.args.run.now c.args.self.now c.in-Some-meeting.meeting.at c.in-Some-meeting.meeting.skipped c.in-Some-meeting.meeting.count
 at_refused c = rewrites_at c.args.gate c.args.run.now c.args.self.now c.in-Some-meeting.meeting c.meeting.ensures.sound c.requires.run c.in-Some.ensures.item.3.0 (rw (start_refused c) c.in-Some-meeting.ensures.meets)
 
-pub returns-then-is_misplaced-clause-refused : goal.returns-then-is_misplaced-clause-refused
-returns-then-is_misplaced-clause-refused c =
+pub returns-then-is_misplaced-clause-fault : goal.returns-then-is_misplaced-clause-fault
+returns-then-is_misplaced-clause-fault c =
     rw ((at_refused c).refused (sym c.if-is_misplaced.ensures))
     (corruption_is (length c.args.run.now) c.args.stats.now c.in_ok-corruption.field-0 c.in_ok-corruption.ensures.ok)
 
@@ -112,10 +112,10 @@ returns-clause-counts c =
     let f = at_moved c in
     on_ok_weaker c.move_places.result (λ h. h.1 ∙ ap (λ m. with_rewritten c.args.gate (length c.args.run.now) m c.args.stats.now) (sym f.counts) ∙ sym (recounted_is c.args.gate c.args.run.now c.args.self.now c.args.stats.now c.in-Some.ensures.item.3.0)) c.move_places.ensures.ok
 
-pub returns-clause-refused : goal.returns-clause-refused
-returns-clause-refused c =
+pub returns-clause-fault : goal.returns-clause-fault
+returns-clause-fault c =
     let f = at_moved c in
-    IfErr-weaker c.move_places.result (λ e. (e ≡ errors.Full) × (2 ^ 64 ≤ live Rewrite c.args.stats.now + length c.args.run.now)) (IsRewriteRefused (length c.args.run.now) c.args.stats.now (rewritten c.args.gate c.args.run.now c.args.self.now))
+    IfErr-weaker c.move_places.result (λ e. (e ≡ errors.Full) × (2 ^ 64 ≤ live Rewrite c.args.stats.now + length c.args.run.now)) (IsRewriteFault (length c.args.run.now) c.args.stats.now (rewritten c.args.gate c.args.run.now c.args.self.now))
     (λ e h. rw h.0 (full_is (length c.args.run.now) c.args.stats.now c.args.gate c.args.run.now c.args.self.now _ (f.ok (sym c.if-is_misplaced.ensures)) h.1)) c.move_places.ensures.full
 
 pub returns-in_default-clause-places_alone : goal.returns-in_default-clause-places_alone

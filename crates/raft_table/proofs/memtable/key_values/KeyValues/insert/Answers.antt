@@ -3,7 +3,7 @@ use Rattle.raft_base.specs.declared.pipe_log.LogQueue.{LogQueue}
 use Rattle.raft_base.specs.declared.pipe_log.LogQueue.TheVariants.{Rewrite}
 use Rattle.raft_table.specs.declared.memtable.key_values.KeyValues.TheInside.{Inside}
 use Rattle.raft_table.specs.KeyValueView.{keys_shown}
-use Rattle.raft_table.specs.KeyValues.{pair_count, file_count, file_at, with_put}
+use Rattle.raft_table.specs.KeyValues.{pair_count, file_weight, file_at, with_put}
 use Rattle.raft_table.proofs.KeyValuesShown.{shown-insert, sound-changed, rewritten-le-len, file-shown, counted-shown}
 use Rattle.raft_table.proofs.KeyValueCounts.{pair_count-with_put}
 use Rattle.raft_table.proofs.memtable.key_values.KeyValues.insert.Goals as goal
@@ -25,7 +25,7 @@ replaced c = c.file_in-replaced.ensures ∙ sym (file-shown c.self.inside c.args
 put : (c : goal.After-self-1) → keys_shown (after c) ≡ with_put c.args.self.now c.args.key.items c.args.value.items c.args.file
 put c = shown-insert c.self.inside (after c) c.args.self.now c.args.key (record { value = c.args.value; file = c.args.file }) c.self.invariant c.self.view_is c.insert.ensures.ordered c.in_ok-insert.ensures.entries
 
-counts : (c : goal.After-self-1) (q : LogQueue) → pair_count q (with_put c.args.self.now c.args.key.items c.args.value.items c.args.file) + file_count q c.file_in-replaced.result ≡ pair_count q c.args.self.now + file_count q (Some c.args.file)
+counts : (c : goal.After-self-1) (q : LogQueue) → pair_count q (with_put c.args.self.now c.args.key.items c.args.value.items c.args.file) + file_weight q c.file_in-replaced.result ≡ pair_count q c.args.self.now + file_weight q (Some c.args.file)
 counts c q = rw (replaced c) (pair_count-with_put q c.args.self.now c.args.key.items c.args.value.items c.args.file)
 
 pub invariant_of-self-2 : goal.invariant_of-self-2

@@ -3,7 +3,7 @@ use Rattle.raft_base.specs.declared.pipe_log.LogQueue.{LogQueue}
 use Rattle.raft_base.specs.declared.pipe_log.LogQueue.TheVariants.{Rewrite}
 use Rattle.raft_table.specs.declared.memtable.key_values.KeyValues.TheInside.{Inside}
 use Rattle.raft_table.specs.KeyValueView.{keys_shown}
-use Rattle.raft_table.specs.KeyValues.{pair_count, file_count, file_at}
+use Rattle.raft_table.specs.KeyValues.{pair_count, file_weight, file_at}
 use Rattle.std.specs.FinMap as finite
 use Rattle.raft_table.proofs.KeyValuesShown.{shown-remove, sound-changed, file-shown, counted-shown}
 use Rattle.raft_table.proofs.KeyValueCounts.{pair_count-remove}
@@ -31,13 +31,13 @@ removed c = sym (file-shown c.self.inside c.args.self.now c.args.key.now (Some c
 gone : (c : goal.After-drop-removed) → keys_shown (after c) ≡ finite.remove c.args.self.now c.args.key.now
 gone c = shown-remove c.self.inside (after c) c.args.self.now c.args.key.now c.self.invariant c.self.view_is c.remove.ensures.ordered c.remove.ensures.entries
 
-counts : (c : goal.After-drop-removed) (q : LogQueue) → pair_count q (finite.remove c.args.self.now c.args.key.now) + file_count q (Some c.in_ok-removed.removed.file) ≡ pair_count q c.args.self.now
-counts c q = subst (λ f. pair_count q (finite.remove c.args.self.now c.args.key.now) + file_count q f ≡ pair_count q c.args.self.now) (sym (removed c)) (pair_count-remove q c.args.self.now c.args.key.now)
+counts : (c : goal.After-drop-removed) (q : LogQueue) → pair_count q (finite.remove c.args.self.now c.args.key.now) + file_weight q (Some c.in_ok-removed.removed.file) ≡ pair_count q c.args.self.now
+counts c q = subst (λ f. pair_count q (finite.remove c.args.self.now c.args.key.now) + file_weight q f ≡ pair_count q c.args.self.now) (sym (removed c)) (pair_count-remove q c.args.self.now c.args.key.now)
 
 pub invariant_of-self-2 : goal.invariant_of-self-2
 invariant_of-self-2 c =
     let fits = counted-shown c.self.inside c.args.self.now c.args.key.now (Some c.in_ok-removed.removed.file) c.self.invariant c.self.view_is (removed c) in
-    sound-changed c.self.inside (after c) c.args.self.now _ (file_count Rewrite (Some c.in_ok-removed.removed.file)) 0 c.self.invariant c.self.view_is c.remove.ensures.ordered (gone c) (omega (arith, fits)) (omega (arith, counts c Rewrite))
+    sound-changed c.self.inside (after c) c.args.self.now _ (file_weight Rewrite (Some c.in_ok-removed.removed.file)) 0 c.self.invariant c.self.view_is c.remove.ensures.ordered (gone c) (omega (arith, fits)) (omega (arith, counts c Rewrite))
 
 pub returns-clause-after : goal.returns-clause-after
 returns-clause-after c = gone c

@@ -3,7 +3,7 @@ use Rattle.raft_base.specs.declared.pipe_log.LogQueue.{LogQueue}
 use Rattle.raft_base.specs.declared.pipe_log.LogQueue.TheVariants.{Rewrite}
 use Rattle.raft_table.specs.declared.memtable.key_values.KeyValues.TheInside.{Inside}
 use Rattle.raft_table.specs.KeyValueView.{keys_shown}
-use Rattle.raft_table.specs.KeyValues.{pair_count, file_count, file_at, with_moved}
+use Rattle.raft_table.specs.KeyValues.{pair_count, file_weight, file_at, with_moved}
 use Rattle.std.specs.Option.{option_map}
 use Rattle.std.specs.Option.{option_copied_mut}
 use Rattle.std.specs.BTreeMap.{IsOrdered}
@@ -46,15 +46,15 @@ moved c =
     shown-set_file c.self.inside (after c) c.args.self.now c.args.key.now c.in_ok-pair.pair.now (record { value = c.in_ok-pair.pair.now.value; file = c.args.file }) c.self.invariant c.self.view_is
     (ordered c) (sym (found c)) (c.get_mut.follows.holds (record { value = c.in_ok-pair.pair.now.value; file = c.args.file })).0 refl
 
-counts : (c : goal.After-self-3-1) (q : LogQueue) → pair_count q (with_moved c.args.self.now c.args.key.now c.args.file) + file_count q (Some c.in_ok-pair.pair.now.file) ≡ pair_count q c.args.self.now + file_count q (Some c.args.file)
+counts : (c : goal.After-self-3-1) (q : LogQueue) → pair_count q (with_moved c.args.self.now c.args.key.now c.args.file) + file_weight q (Some c.in_ok-pair.pair.now.file) ≡ pair_count q c.args.self.now + file_weight q (Some c.args.file)
 counts c q =
-    subst (λ f. pair_count q (with_moved c.args.self.now c.args.key.now c.args.file) + file_count q f ≡ pair_count q c.args.self.now + file_count q (option_map (λ _. c.args.file) f)) (sym (left c))
+    subst (λ f. pair_count q (with_moved c.args.self.now c.args.key.now c.args.file) + file_weight q f ≡ pair_count q c.args.self.now + file_weight q (option_map (λ _. c.args.file) f)) (sym (left c))
     (pair_count-with_moved q c.args.self.now c.args.key.now c.args.file)
 
 pub invariant_of-self-2 : goal.invariant_of-self-2
 invariant_of-self-2 c =
     let fits = counted-shown c.self.inside c.args.self.now c.args.key.now (Some c.in_ok-pair.pair.now.file) c.self.invariant c.self.view_is (left c) in
-    sound-changed c.self.inside (after c) c.args.self.now _ (file_count Rewrite (Some c.in_ok-pair.pair.now.file)) (file_count Rewrite (Some c.args.file)) c.self.invariant c.self.view_is (ordered c) (moved c) (omega (arith, fits)) (counts c Rewrite)
+    sound-changed c.self.inside (after c) c.args.self.now _ (file_weight Rewrite (Some c.in_ok-pair.pair.now.file)) (file_weight Rewrite (Some c.args.file)) c.self.invariant c.self.view_is (ordered c) (moved c) (omega (arith, fits)) (counts c Rewrite)
 
 pub returns-clause-after : goal.returns-clause-after
 returns-clause-after c = moved c

@@ -4,6 +4,7 @@ ghost use Rattle.std.specs.Prelude.{◌≡◌, ◌+◌, ◌≤◌, ◌<◌, [], 
 ghost use Rattle.raft_table.specs.Blocks.{shown};
 ghost use Rattle.raft_table.specs.BlockWords.{cut_last, cut_first};
 ghost use Rattle.raft_table.specs.Entries.{end_of, below, from, AreCounted, AreRecounted};
+ghost use Rattle.raft_table.specs.Start.{counts_without};
 ghost use Rattle.raft_table.specs.Marks.{part};
 
 use crate::global_stats::GlobalStats;
@@ -19,6 +20,7 @@ impl Entries {
         requires { AreCounted self.old stats.old }
         ensures entries { self.new ≡ from index self.old }
         ensures dropped { result + length self.new ≡ length self.old }
+        ensures counts { stats.new ≡ counts_without (below index self.old) stats.old }
         ensures recounted { AreRecounted self.old self.new stats.old stats.new }
     {
         if self.len == 0 {

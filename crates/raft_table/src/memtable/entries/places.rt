@@ -103,7 +103,7 @@ impl Entries {
         ensures ok { let m = prefix_len (may_move gate) (drop at (take (at + length places.now) self.old)) in
             OnOk result ((self.new ≡ take at self.old ++ take m places.now ++ drop (at + m) self.old)
             × (stats.new ≡ with_rewritten gate written m stats.old)) }
-        ensures refused { IfErr result (λ e. (e ≡ Error.Memory) ⊎ ((e ≡ Error.Full) × (2 ^ 64 ≤ live Rewrite stats.old + written))) }
+        ensures fault { IfErr result (λ e. (e ≡ Error.Memory) ⊎ ((e ≡ Error.Full) × (2 ^ 64 ≤ live Rewrite stats.old + written))) }
         ensures err { OnErr result ((self.new ≡ self.old) × (stats.new ≡ stats.old)) }
         ensures recounted { AreRecounted self.old self.new stats.old stats.new }
     {

@@ -1,10 +1,3 @@
-<<<<<<< /work/wt/tmpb/crates/raft_table/proofs/memtable/entries/Entries/append/Answers.antt
-use Rattle.std.proofs.Common.{◌≡◌, ◌<◌, length}
-use Rattle.raft_base.specs.declared.pipe_log.LogQueue.TheVariants.{Append}
-use Rattle.raft_table.specs.Entries.{start_of}
-use Rattle.raft_table.specs.StartOf.{IsStart}
-use Rattle.raft_table.specs.declared.memtable.entries.Start.TheVariants.{Joins}
-=======
 use Rattle.std.proofs.Common.{ℕ, suc, ◌≡◌, ◌≢◌, ◌+◌, ◌-◌, ◌<◌, ◌≤◌, ◌^◌, inl, inr, min, max, List, [], ◌∷◌, ◌++◌, length, take, drop, get_or, set, arith, refl, sym, ap, subst, ◌∙◌, Some, None, Option}
 use Rattle.std.specs.Prelude.{map}
 use Rattle.std.proofs.lemmas.List.{nil_from_length, append-nil, append_assoc, length-append, length-map, length-take-le, length-take, length-drop, take_all, drop_all, take-map, drop-map, map-append, map-set, get_or-map, get_or_default, take-append-drop}
@@ -19,7 +12,8 @@ use Rattle.raft_table.proofs.BlockLemmas.{length-expanded, length-starts, rises_
 use Rattle.raft_table.proofs.BlockSearch.{at_start, index_some, index_first, index_rises, at_place, entry_at_place, place_within}
 use Rattle.raft_table.proofs.BlockKept.{IsPushed, pushed_fits, kept_push, IsKeptAs, kept_join, sound_fits}
 use Rattle.raft_table.proofs.BlockCuts.{found, index_of, kept_length, kept_front, front_of, KeptFacts, kept_facts, kept_nil, kept_drop, kept_take, IsFront, front_at}
->>>>>>> /tmp/t3/crates/raft_table/proofs/memtable/entries/Entries/append/Answers.antt
+use Rattle.raft_table.specs.StartOf.{IsStart}
+use Rattle.raft_table.specs.declared.memtable.entries.Start.TheVariants.{Joins}
 use Rattle.raft_table.proofs.SoundLemmas.{start_of_front}
 use Rattle.raft_table.proofs.StartLemmas.{sound_joined}
 use Rattle.raft_table.proofs.GoneLemmas.{counts_joined, on_ok}
@@ -42,5 +36,5 @@ returns-in-Joins-clause-counts c =
     let s : start_of run ≡ c.in-Some.first.now.index = start_of_front run c.in-Some.first.now l (rw (← h) c.in-Some.ensures.item.1) in
     let m : IsStart c.args.self.now (start_of run) (Joins c.in-Joins.keep) = rw s c.in-Joins.ensures.meets in
     on_ok c.put_behind.result
-    (λ w. counts_joined Append c.args.self.now run c.in-Joins.keep c.args.stats.now c.put_behind.new.stats c.start.ensures.sound l m.2 m.0 m.1 (rw c.from_vec-run.ensures.items at w))
+    (λ w. counts_joined Append c.args.self.now run c.in-Joins.keep c.args.stats.now c.put_behind.new.stats c.start.ensures.sound l m.2 m.0 m.1 (rw (c.in_ok-run-in-Joins.ensures.ok, c.deref-in-Joins.ensures.value) at w))
     c.put_behind.ensures.counts

@@ -16,13 +16,7 @@ use Rattle.raft_base.specs.declared.pipe_log.LogQueue.{LogQueue}
 use Rattle.raft_records.specs.declared.entry_index.EntryIndex.{EntryIndex}
 use Rattle.raft_table.specs.Counts.{Counts, live}
 use Rattle.raft_table.specs.Queues.{count_in, of_queue}
-<<<<<<< /work/wt/tmpb/crates/raft_table/proofs/memtable/entries/Entries/put_behind/Answers.antt
-use Rattle.raft_table.specs.Entries.{entry_count, placed_in}
-use Rattle.raft_table.proofs.PlaceLemmas.{each_queue, entry_count-append, entries_in_one}
-use Rattle.raft_table.proofs.SoundLemmas.{CutCounts, cut_counts}
 use Rattle.raft_table.proofs.GoneLemmas.{same_exchange}
-=======
->>>>>>> /tmp/t3/crates/raft_table/proofs/memtable/entries/Entries/put_behind/Answers.antt
 use Rattle.raft_table.proofs.memtable.entries.Entries.put_behind.Goals as goal
 
 pub overflow_sub-dropped : goal.overflow_sub-dropped
@@ -53,31 +47,6 @@ exchange-requires-clause-appended c =
 full_is : (q : LogQueue) (counts : Counts) (es front run : List EntryIndex) (a r n : ℕ) → 2 ^ 64 + of_queue q a r ≤ live q counts + n → of_queue q a r + entry_count q front ≡ entry_count q es → n ≡ length run → placed_in q run ≡ run → 2 ^ 64 + entry_count q es ≤ live q counts + entry_count q (front ++ run)
 full_is q counts es front run a r n h e l k = omega (arith, entry_count-append q front run, ap length k)
 
-<<<<<<< /work/wt/tmpb/crates/raft_table/proofs/memtable/entries/Entries/put_behind/Answers.antt
-pub returns-in_err-exchange-clause-fault : goal.returns-in_err-exchange-clause-fault
-returns-in_err-exchange-clause-fault c =
-    let p = err_from_is_err_and c.from_residual-in_err-exchange.result c.from_residual-in_err-exchange.ensures.1 in
-    let full = c.in_err-exchange.ensures.full in
-    let es = c.self.inside.deque.items in
-    let k = cut_counts c.args.keep es c.self.invariant.0 (rw c.self.view_is c.requires.keep) in
-    let i = c.self.invariant.1 in
-    let d = c.self.inside.deque.ok in
-    let r = c.self.inside.rewritten - c.min-rewritten.result in
-    let a = c.len.result - c.args.keep - r in
-    rw (p.1, p.2, full.0, ← c.self.view_is)
-    (full_is c.args.queue c.args.stats.now es (take c.args.keep es) c.args.run.now.items a r c.len-3.result full.1
-    (each_queue (λ q. of_queue q a r + entry_count q (take c.args.keep es) ≡ entry_count q es) (omega arith) (omega arith) c.args.queue)
-    (omega (arith, c.args.run.now.ok)) c.requires.queue)
-
-pub returns-clause-counts : goal.returns-clause-counts
-returns-clause-counts c =
-    let k = counts c in
-    let r = c.self.invariant.1 in
-    let d = c.self.inside.deque.ok in
-    rw (← c.self.view_is)
-    (same_exchange c.args.queue c.args.stats.now c.exchange.new.stats _ _ _ _ _ _ c.in_ok-exchange.ensures.counts (omega (arith, c.args.run.now.ok))
-    (omega (arith, k.rewritten, k.rewritten_behind, r, d)) (omega (arith, k.rewritten, k.both, k.rewritten_behind, k.appended_behind, k.all, r, d)))
-=======
 pub returns-then-not-has_room-clause-fault : goal.returns-then-not-has_room-clause-fault
 returns-then-not-has_room-clause-fault c =
     let l = (kept_facts c.self.invariant).length in
@@ -106,9 +75,20 @@ returns-clause-recounted c =
     let r = c.self.invariant.rewritten in
     let m : c.run.inside.len ≡ length c.args.run.now = sym (rw (← c.run.view_is) (kept_facts c.run.invariant).length) in
     let i = in_queue c in
-    let x = rw m at c.exchange.ensures in
+    let x = rw m at c.exchange.ensures.live in
     rw (← c.self.view_is)
     (each_queue _
     (omega (arith, rw (← c.self.view_is) at (i Append), x Append))
     (omega (arith, rw (← c.self.view_is) at (i Rewrite), x Rewrite)))
->>>>>>> /tmp/t3/crates/raft_table/proofs/memtable/entries/Entries/put_behind/Answers.antt
+
+pub returns-clause-counts : goal.returns-clause-counts
+returns-clause-counts c =
+    let l = (kept_facts c.self.invariant).length in
+    let b = (kept_facts c.self.invariant).both in
+    let h = rw (← c.self.view_is) at c.requires.keep in
+    let k = cut_counts c.args.keep (expanded c.self.inside.first (shown c.self.inside.blocks.items)) c.self.invariant.sound h in
+    let r = c.self.invariant.rewritten in
+    let m : c.run.inside.len ≡ length c.args.run.now = sym (rw (← c.run.view_is) (kept_facts c.run.invariant).length) in
+    rw (← c.self.view_is)
+    (same_exchange c.args.queue c.args.stats.now c.exchange.new.stats _ _ _ _ _ _ c.exchange.ensures.counts m
+    (omega (arith, k.rewritten, k.rewritten_behind, r, l, b)) (omega (arith, k.rewritten, k.both, k.rewritten_behind, k.appended_behind, k.all, r, l, b)))

@@ -8,7 +8,7 @@ use Rattle.std.proofs.lemmas.Bool.Decides.{nat_tests}
 use Rattle.raft_base.specs.declared.pipe_log.LogQueue.TheVariants.{Append, Rewrite}
 use Rattle.raft_records.specs.declared.entry_index.EntryIndex.{EntryIndex}
 use Rattle.raft_table.specs.Entries.{AreTableEntries, start_of, from, between, placed_in, entry_count}
-use Rattle.raft_table.specs.Fetches.{total_len, is_too_many, IsLimitCount, FetchesWithin, NotFound, Found, range_answer, appended_before, block_count, change_count, entry_seq, first_seq}
+use Rattle.raft_table.specs.Fetches.{total_len, is_too_many, IsLimitCount, FetchesWithin, NotFound, Compacted, Found, range_answer, appended_before, block_count, change_count, entry_seq, first_seq}
 use Rattle.raft_table.specs.Rewriting.{is_placed_before}
 use Rattle.raft_table.proofs.RunLemmas.{RisesFrom-take}
 use Rattle.raft_table.proofs.SoundLemmas.{sound_rising}
@@ -90,7 +90,7 @@ rewritten_is es h = sym (ap (take (entry_count Rewrite es)) h.in_front ∙ take_
 pub appended_is : (es : List EntryIndex) → AreTableEntries es → placed_in Append es ≡ drop (entry_count Rewrite es) es
 appended_is es h = sym (ap (drop (entry_count Rewrite es)) h.in_front ∙ drop_at (placed_in Rewrite es) (placed_in Append es) (entry_count Rewrite es) refl)
 
-slice_get_drop : {X : Type 0} (n : ℕ) (xs : List X) → slice_get (drop n xs) 0 ≡ slice_get xs n
+pub slice_get_drop : {X : Type 0} (n : ℕ) (xs : List X) → slice_get (drop n xs) 0 ≡ slice_get xs n
 slice_get_drop zero [] = refl
 slice_get_drop zero (x ∷ xs) = refl
 slice_get_drop (suc n) [] = refl
@@ -116,6 +116,12 @@ appended_before_is gate n r es h k e =
     ap (take_while (is_placed_before gate)) (appended_is es h ∙ ap (λ i. drop i es) (sym k)) ∙ ap (λ i. take i (drop r es)) (sym e) ∙ sym (drop-take r n es)
 
 -- what a range answers, over entries that are sound
+pub range_none : (begin end : ℕ) → begin < end → range_answer begin end [] ≡ NotFound
+range_none begin end l = grind (arith, nat_tests)
+
+pub range_below : (begin end : ℕ) (es : List EntryIndex) → 0 < length es → begin < end → begin < start_of es → range_answer begin end es ≡ Compacted
+range_below begin end es l a b = grind (arith, nat_tests)
+
 pub range_behind : (begin end : ℕ) (es : List EntryIndex) → AreTableEntries es → 0 < length es → begin < end → start_of es ≤ begin → start_of es + length es < end → range_answer begin end es ≡ NotFound
 range_behind begin end es h l a b c = let e = sound_end es h l in rw e (grind (arith, nat_tests))
 

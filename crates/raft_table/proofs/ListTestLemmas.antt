@@ -35,7 +35,7 @@ all_run q i next es a b l e n h k =
     let f = end_of-run (start_of es) es r l in
     record { run = record { start = start_of es; rising = r }; placed = rw t at k; bounded = omega arith }
 
-at_test : {X : Type 0} (p : X → Bool) (i : ℕ) (es : List X) (d : X) → i < length es → AllTest true p es → p (get_or es i d) ≡ true
+pub at_test : {X : Type 0} (p : X → Bool) (i : ℕ) (es : List X) (d : X) → i < length es → AllTest true p es → p (get_or es i d) ≡ true
 unfolding AllTest
 at_test p i [] d l h = absurd (omega arith)
 at_test p zero (x ∷ es) d l h = h.0

@@ -1,14 +1,14 @@
 -- What a rewriting leaves of sound entries: they are sound, and as many are in each queue as moved.
 use Rattle.std.proofs.Common.{◌≡◌, ℕ, suc, ◌+◌, ◌≤◌, min, Bool, true, false, List, [], ◌∷◌, ◌++◌, length, take, drop, Option, Some, None, refl, sym, ap, ◌∙◌, subst, arith}
 use Rattle.std.specs.List.{prefix_len}
-use Rattle.std.proofs.lemmas.List.{append_assoc, length-take-le, length-append, length-drop, drop-take, take-take}
+use Rattle.std.proofs.lemmas.List.{append_assoc, length-take-le, length-append, length-drop, drop-take, take-take, take_at, drop_at}
 use Rattle.std.proofs.lemmas.List.Sums.{prefix_len-le-length}
 use Rattle.std.proofs.lemmas.Bool.Decides.{nat_tests}
 use Rattle.raft_base.specs.declared.pipe_log.LogQueue.{LogQueue}
 use Rattle.raft_base.specs.declared.pipe_log.LogQueue.TheVariants.{Append, Rewrite}
 use Rattle.raft_records.specs.declared.entry_index.EntryIndex.{EntryIndex}
 use Rattle.raft_table.specs.Entries.{RisesFrom, AreTableEntries, RewrittenInFront, start_of, end_of, placed_in, is_placed_in, entry_count}
-use Rattle.raft_table.specs.Rewriting.{may_move, is_misplaced}
+use Rattle.raft_table.specs.Rewriting.{may_move, is_misplaced, newly_rewritten}
 use Rattle.raft_table.proofs.RunLemmas.{RisesFrom-take, RisesFrom-append, RisesFrom-drop, end_of-run, placed_in-append}
 use Rattle.raft_table.proofs.PlaceLemmas.{AllTest, AllTest-filter, AllTest-take, AllTest-drop, filter_all, entry_count-append, entries_in_one, placed_in_other}
 use Rattle.raft_table.proofs.SoundLemmas.{sound_rising, AreTableEntries-take, AreTableEntries-drop, cut_counts}
@@ -53,13 +53,8 @@ pub whole_test : (q : LogQueue) (xs : List EntryIndex) → AllTest true (is_plac
 unfolding placed_in
 whole_test q xs h = ap length (filter_all (is_placed_in q) xs h)
 
--- how many join the rewritten entries: those that move past a gate
-abbrev pub joined : Option ℕ → ℕ → ℕ
-joined (Some gate) m = m
-joined None m = 0
-
 -- with a gate the places begin right behind the rewritten entries; without one those that move are among them
-pub all_rewritten : (gate : Option ℕ) (at k : ℕ) (es : List EntryIndex) → AreTableEntries es → at + k ≤ length es → is_misplaced gate at (entry_count Rewrite es) ≡ false → (m : ℕ) → m ≡ prefix_len (may_move gate) (drop at (take (at + k) es)) → (at ≤ entry_count Rewrite es) × (min (at + m) (entry_count Rewrite es) + joined gate m ≡ at + m)
+pub all_rewritten : (gate : Option ℕ) (at k : ℕ) (es : List EntryIndex) → AreTableEntries es → at + k ≤ length es → is_misplaced gate at (entry_count Rewrite es) ≡ false → (m : ℕ) → m ≡ prefix_len (may_move gate) (drop at (take (at + k) es)) → (at ≤ entry_count Rewrite es) × (min (at + m) (entry_count Rewrite es) + newly_rewritten gate m ≡ at + m)
 all_rewritten (Some gate) at k es h l t m e = (grind (arith, nat_tests), grind (arith, nat_tests))
 all_rewritten None at k es h l t m e =
     let w : at ≤ entry_count Rewrite es = grind (arith, nat_tests) in
@@ -82,8 +77,8 @@ all_rewritten None at k es h l t m e =
 pub record Moves (gate : Option ℕ) (at m : ℕ) (es places : List EntryIndex) : Type 0 where
   pub within : m ≤ length places
   pub sound : AreTableEntries (take at es ++ take m places ++ drop (at + m) es)
-  pub rewritten : entry_count Rewrite (take at es ++ take m places ++ drop (at + m) es) ≡ entry_count Rewrite es + joined gate m
-  pub appended : entry_count Append (take at es ++ take m places ++ drop (at + m) es) + joined gate m ≡ entry_count Append es
+  pub rewritten : entry_count Rewrite (take at es ++ take m places ++ drop (at + m) es) ≡ entry_count Rewrite es + newly_rewritten gate m
+  pub appended : entry_count Append (take at es ++ take m places ++ drop (at + m) es) + newly_rewritten gate m ≡ entry_count Append es
 
 pub moves : (gate : Option ℕ) (at m : ℕ) (es places : List EntryIndex) → AreTableEntries es → at + length places ≤ length es → RisesFrom (start_of es + at) places → placed_in Rewrite places ≡ places → is_misplaced gate at (entry_count Rewrite es) ≡ false → m ≡ prefix_len (may_move gate) (drop at (take (at + length places) es)) → Moves gate at m es places
 moves gate at m es places h l r q t e =
@@ -122,3 +117,12 @@ moves gate at m es places h l r q t e =
       rewritten = omega arith;
       appended = omega arith;
     }
+
+-- what stands between others is sound
+pub middle_sound : (a b c : List EntryIndex) → AreTableEntries (a ++ b ++ c) → AreTableEntries b
+middle_sound a b c h =
+    let n = length (a ++ b) in
+    subst AreTableEntries (drop_at a b (length a) refl) (AreTableEntries-drop (length a) (a ++ b) (subst AreTableEntries (take_at (a ++ b) c n refl) (AreTableEntries-take n (a ++ b ++ c) h)))
+
+pub behind_sound : (a b c : List EntryIndex) → AreTableEntries (a ++ b ++ c) → AreTableEntries (b ++ c)
+behind_sound a b c h = subst AreTableEntries (drop_at a (b ++ c) (length a) refl) (AreTableEntries-drop (length a) (a ++ (b ++ c)) (subst AreTableEntries (append_assoc a b c) h))

@@ -53,16 +53,22 @@ abbrev pub with_rewritten : Option ℕ → ℕ → ℕ → Counts → Counts
 with_rewritten (Some gate) n m counts = with_deleted Rewrite (n - m) (with_deleted Append m (with_added Rewrite n counts))
 with_rewritten None n m counts = with_deleted Rewrite n (with_added Rewrite n counts)
 
+-- how many join the rewritten entries: those that move past a gate
+abbrev pub newly_rewritten : Option ℕ → ℕ → ℕ
+newly_rewritten (Some gate) m = m
+newly_rewritten None m = 0
+
 -- the counts after a rewriting to the places of a run; one without entries changes nothing
 abbrev pub recounted : Option ℕ → List EntryIndex → List EntryIndex → Counts → Counts
 recounted gate [] es counts = counts
 recounted gate (e ∷ run) es counts = with_rewritten gate (length (e ∷ run)) (moved_count gate (e ∷ run) es) counts
 
--- why a rewriting by n entries with this outcome is refused: as misplaced, since the live number with all of them would pass 2^64 - 1, or for want of memory for the refusal's text
+-- why a rewriting by n entries with this outcome is refused: as misplaced, since the live number with all of them would pass 2^64 - 1, or for want of memory
 abbrev pub IsRewriteFault : ℕ → Counts → Option (List EntryIndex) → Error → Type 0
 IsRewriteFault n counts None (errors.Corruption text) = Unit {0}
 IsRewriteFault n counts None errors.Memory = Unit {0}
 IsRewriteFault n counts (Some after) errors.Full = 2 ^ 64 ≤ live Rewrite counts + n
+IsRewriteFault n counts (Some after) errors.Memory = Unit {0}
 IsRewriteFault n counts outcome _ = ⊥
 
 -- the indexes of entries, in order

@@ -5,5 +5,5 @@ pub mod global_stats;
 pub mod memtable;
 
 pub use global_stats::GlobalStats;
-pub use memtable::{DeletedKeys, Mark, MemTable, TableChange, is_run};
+pub use memtable::{Block, DeletedKeys, Mark, MemTable, TableChange, is_run};
 pub use raft_records::{EntryIndex, Error, FileBlockHandle, FileId, FileSeq, LogQueue, Result};

@@ -4,6 +4,7 @@ ghost use Rattle.std.specs.Prelude.{◌≡◌, ◌≢◌, ◌+◌, ◌≤◌, �
 ghost use Rattle.raft_base.specs.declared.pipe_log.LogQueue.{LogQueue};
 ghost use Rattle.raft_base.specs.declared.pipe_log.LogQueue.TheVariants.{Append, Rewrite};
 ghost use Rattle.raft_table.specs.Entries.{IsRunIn, AreTableEntries, start_of, end_of, entry_with_index, entry_count, below};
+ghost use Rattle.raft_table.specs.Blocks.{shown, expanded, AreStretches};
 ghost use Rattle.raft_table.specs.Counts.{Counts, live, with_added};
 ghost use Rattle.raft_table.specs.KeyValues.{value_at, file_at, file_weight};
 ghost use Rattle.raft_table.specs.Table.{empty_table, live_of, IsCounted, IsRecounted, after_append, after_replay, after_rewrite, after_rewrite_key, compacted, with_pair, without_key, with_atomic_group, table_with_entries, table_with_keys, with_pair_deleted, with_rewritten_key, MovesKeyAlone, leaves_append, IsTablePutFault, IsKeyRewriteFault};
@@ -11,6 +12,7 @@ ghost use Rattle.raft_table.specs.Rewriting.{rewritten, recounted, IsRewriteFaul
 ghost use Rattle.raft_table.specs.Queues.{count_in};
 ghost use Rattle.raft_table.specs.Start.{appended, replayed, counts_with_run, counts_without, IsTableRunFault};
 
+mod block;
 mod change;
 mod deleted_keys;
 mod entries;
@@ -27,6 +29,7 @@ mod tests;
 mod under;
 
 use crate::global_stats::GlobalStats;
+pub use block::Block;
 pub use change::{TableChange, is_run};
 pub use deleted_keys::DeletedKeys;
 use entries::Entries;
@@ -39,6 +42,7 @@ use raft_records::{EntryIndex, Error, FileId, FileSeq, LogQueue, Result};
 pub use read_runs::read_entries_are_runs;
 pub use region::{join_cleaned, join_region, replay_clean, replay_delete, replay_run};
 use std::alloc::Global;
+use std::collections::VecDeque;
 use std::marker::Model;
 pub use table_laws::{
     fetches_answer_ranges, full_runs_pass_the_limit, least_is_lowest, newer_pairs_win,
@@ -118,6 +122,15 @@ impl MemTable {
             (λ i. i + 1 ≡ end_of self.now.entries) }
     {
         self.entries.last_index()
+    }
+
+    /// The blocks in which the entries are kept, in order: each has entries, and neighbours stand in
+    /// different blocks of the files.
+    pub fn blocks(&self) -> &VecDeque<Block>
+        ensures entries { expanded (start_of self.now.entries) (shown result.now.items) ≡ self.now.entries }
+        ensures stretches { AreStretches (shown result.now.items) }
+    {
+        self.entries.blocks()
     }
 
     /// The first and the last file of the region's atomic group, if one was applied.
@@ -222,7 +235,7 @@ impl MemTable {
     ///
     /// `Corruption` where more entries stand below the first that meets than are rewritten, and
     /// with a gate also where fewer do; `Full` where the live number of the rewrite queue and the
-    /// run together would pass 2^64 - 1. The table and the live numbers are then as they were.
+    /// run together would pass 2^64 - 1. The table and the counts are then as they were.
     pub fn rewrite(
         &mut self,
         run: Vec<EntryIndex>,
@@ -237,8 +250,7 @@ impl MemTable {
         ensures counts { OnOk result (stats.new ≡ recounted gate run.items self.old.entries stats.old) }
         ensures fault { IfErr result (IsRewriteFault (length run.items) stats.old
             (rewritten gate run.items self.old.entries)) }
-        ensures err { OnErr result (self.new ≡ self.old) }
-        ensures err_counts { IfErr result (λ e. e ≢ Error.Full → stats.new ≡ stats.old) }
+        ensures err { OnErr result ((self.new ≡ self.old) × (stats.new ≡ stats.old)) }
         ensures recounted { IsRecounted self.old self.new stats.old stats.new }
         ensures region { self.new.region_id ≡ self.old.region_id }
     {

@@ -59,8 +59,7 @@ impl MemTable {
         ensures answer { IfOk result (IsAnswer change self.old self.new) }
         ensures counts { OnOk result (AreCountedAfter change self.old stats.old stats.new) }
         ensures fault { IfErr result (IsChangeFault self.old stats.old change) }
-        ensures err { OnErr result (self.new ≡ self.old) }
-        ensures err_counts { IfErr result (λ e. e ≢ Error.Full → stats.new ≡ stats.old) }
+        ensures err { OnErr result ((self.new ≡ self.old) × (stats.new ≡ stats.old)) }
         ensures recounted { IsRecounted self.old self.new stats.old stats.new }
         ensures region { self.new.region_id ≡ self.old.region_id }
     {

@@ -1,17 +1,22 @@
 //! The entries of a region, in order of index.
 
-ghost use Rattle.std.specs.Prelude.{◌≡◌, ◌≢◌, ◌+◌, [], length, MatchOption, IfOk, IfErr};
+ghost use Rattle.std.specs.Prelude.{◌≡◌, ◌≢◌, ◌+◌, ◌<◌, ◌≤◌, [], length, take, drop, MatchOption, IfOk, IfErr};
+ghost use Rattle.raft_table.specs.Blocks.{shown, expanded, AreStretches};
 ghost use Rattle.raft_table.specs.Start.{counts_without, IsCorruptionError, IsInvalidArgument};
 ghost use Rattle.raft_table.specs.Entries.{AreTableEntries, start_of, end_of, entry_with_index, entry_count, below, from, AreCounted, AreRecounted};
-ghost use Rattle.raft_table.specs.Marks.{part};
 ghost use Rattle.raft_base.specs.declared.pipe_log.LogQueue.TheVariants.{Rewrite};
 
+mod cuts;
 mod fetch;
+mod joins;
+mod lists;
 mod places;
 mod runs;
 
 use crate::global_stats::GlobalStats;
-use raft_records::{EntryIndex, Error, LogQueue, Result};
+use crate::memtable::block::Block;
+use crate::memtable::entries::lists::find;
+use raft_records::{CompressionType, EntryIndex, Error, LogQueue, Result};
 use std::alloc::Global;
 use std::collections::VecDeque;
 use std::marker::Model;
@@ -20,8 +25,13 @@ use std::marker::Model;
 /// ones.
 #[derive(Drop)]
 pub struct Entries {
-    deque: VecDeque<EntryIndex>,
-    /// How many of them, from the front on, are rewritten.
+    /// The index of the first entry.
+    first: u64,
+    len: usize,
+    blocks: VecDeque<Block>,
+    /// The index of each block's first entry.
+    starts: VecDeque<u64>,
+    /// How many entries, from the front on, are rewritten.
     rewritten: usize,
 }
 
@@ -48,16 +58,16 @@ struct Meeting {
 }
 
 impl Model for Entries {
-    ghost use Rattle.std.specs.Prelude.{◌≡◌, List, length};
+    ghost use Rattle.std.specs.Prelude.{List};
     ghost use Rattle.raft_records.specs.declared.entry_index.EntryIndex.{EntryIndex};
-    ghost use Rattle.raft_table.specs.Entries.{AreTableEntries, entry_count};
-    ghost use Rattle.raft_base.specs.declared.pipe_log.LogQueue.TheVariants.{Rewrite};
+    ghost use Rattle.raft_table.specs.Blocks.{shown, expanded};
+    ghost use Rattle.raft_table.specs.BlockWords.{AreKept};
 
     ghost Value = { List EntryIndex };
 
-    ghost view = { λ a. a.deque.items };
+    ghost view = { λ a. expanded a.first (shown a.blocks.items) };
 
-    ghost invariant = { λ a. AreTableEntries a.deque.items × (a.rewritten ≡ entry_count Rewrite a.deque.items) };
+    ghost invariant = { λ a. AreKept a.first a.len (shown a.blocks.items) a.starts.items a.rewritten };
 }
 
 impl Entries {
@@ -66,7 +76,10 @@ impl Entries {
         ensures { result ≡ [] }
     {
         Entries {
-            deque: VecDeque::new(alloc),
+            first: 0,
+            len: 0,
+            blocks: VecDeque::new(alloc),
+            starts: VecDeque::new(alloc),
             rewritten: 0,
         }
     }
@@ -76,22 +89,35 @@ impl Entries {
     pub fn holds_one_run(&self)
         ensures { AreTableEntries self.now }
     {
-        let _ = &self.deque;
+        let _ = &self.blocks;
+    }
+
+    /// The blocks that are kept.
+    pub fn blocks(&self) -> &VecDeque<Block>
+        ensures entries { expanded (start_of self.now) (shown result.now.items) ≡ self.now }
+        ensures stretches { AreStretches (shown result.now.items) }
+    {
+        &self.blocks
     }
 
     /// The least index.
     pub fn first_index(&self) -> Option<u64>
         ensures { MatchOption result (self.now ≡ []) (λ i. (self.now ≢ []) × (i ≡ start_of self.now)) }
     {
-        self.deque.front().map(|e| e.index)
+        if self.len == 0 {
+            return None;
+        }
+        Some(self.first)
     }
 
     /// The greatest index.
     pub fn last_index(&self) -> Option<u64>
         ensures { MatchOption result (self.now ≡ []) (λ i. i + 1 ≡ end_of self.now) }
     {
-        let back = self.deque.back()?;
-        Some(back.index)
+        if self.len == 0 {
+            return None;
+        }
+        Some(self.first + (self.len - 1) as u64)
     }
 
     /// How many of them are in `queue`.
@@ -99,7 +125,7 @@ impl Entries {
         ensures { result ≡ entry_count queue self.now }
     {
         match queue {
-            LogQueue::Append => self.deque.len() - self.rewritten,
+            LogQueue::Append => self.len - self.rewritten,
             LogQueue::Rewrite => self.rewritten,
         }
     }
@@ -109,7 +135,7 @@ impl Entries {
         ensures ok { IfOk result IsCorruptionError }
         ensures err { IfErr result (λ e. e ≡ Error.Memory) }
     {
-        Ok(Error::Corruption(String::from_str(*self.deque.allocator(), text)?))
+        Ok(Error::Corruption(String::from_str(*self.blocks.allocator(), text)?))
     }
 
     /// A refusal of an argument with this text, or want of memory for it.
@@ -117,7 +143,7 @@ impl Entries {
         ensures ok { IfOk result IsInvalidArgument }
         ensures err { IfErr result (λ e. e ≡ Error.Memory) }
     {
-        Ok(Error::InvalidArgument(String::from_str(*self.deque.allocator(), text)?))
+        Ok(Error::InvalidArgument(String::from_str(*self.blocks.allocator(), text)?))
     }
 
     /// How many of them are rewritten.
@@ -131,89 +157,21 @@ impl Entries {
     pub fn get(&self, index: u64) -> Option<EntryIndex>
         ensures { result ≡ entry_with_index index self.now }
     {
-        let first = self.deque.front()?.index;
-        if index < first {
+        if index < self.first {
             return None;
         }
-        self.deque.get((index - first) as usize).copied()
-    }
-
-    /// Drops the entries below an index, and answers how many those were.
-    pub fn compact_to(&mut self, index: u64, stats: &mut GlobalStats) -> u64
-        requires { AreCounted self.old stats.old }
-        ensures entries { self.new ≡ from index self.old }
-        ensures dropped { result + length self.new ≡ length self.old }
-        ensures counts { stats.new ≡ counts_without (below index self.old) stats.old }
-        ensures recounted { AreRecounted self.old self.new stats.old stats.new }
-    {
-        let Some(front) = self.deque.front() else {
-            return 0;
-        };
-        let first = front.index;
-        if index <= first {
-            return 0;
+        if index - self.first >= self.len as u64 {
+            return None;
         }
-        let count = (index - first).min(self.deque.len() as u64) as usize;
-        drop(self.deque.drain(..count));
-        let rewritten = self.rewritten.min(count);
-        self.rewritten -= rewritten;
-        stats.delete(LogQueue::Rewrite, rewritten);
-        stats.delete(LogQueue::Append, count - rewritten);
-        count as u64
-    }
-
-    /// Drops the entries at or above an index.
-    pub fn keep_below(&mut self, index: u64, stats: &mut GlobalStats)
-        requires { AreCounted self.old stats.old }
-        ensures entries { self.new ≡ below index self.old }
-        ensures recounted { AreRecounted self.old self.new stats.old stats.new }
-    {
-        let Some(front) = self.deque.front() else {
-            return;
-        };
-        let keep = index
-            .saturating_sub(front.index)
-            .min(self.deque.len() as u64) as usize;
-        let rewritten = self.rewritten.min(keep);
-        let dropped = self.deque.len() - keep;
-        stats.delete(LogQueue::Rewrite, self.rewritten - rewritten);
-        stats.delete(LogQueue::Append, dropped - (self.rewritten - rewritten));
-        self.deque.truncate(keep);
-        self.rewritten = rewritten;
-    }
-
-    /// Drops the entries below an index, and those at or above a bound, if there is one.
-    pub fn keep_part(&mut self, index: u64, cut: Option<u64>, stats: &mut GlobalStats)
-        requires { AreCounted self.old stats.old }
-        ensures entries { self.new ≡ part index cut self.old }
-        ensures recounted { AreRecounted self.old self.new stats.old stats.new }
-    {
-        self.compact_to(index, stats);
-        let Some(cut) = cut else {
-            return;
-        };
-        self.keep_below(cut, stats);
-    }
-
-    /// The greatest index plus one, 0 without entries.
-    pub fn end(&self) -> u64
-        ensures { result ≡ end_of self.now }
-    {
-        self.holds_one_run();
-        match self.last_index() {
-            Some(last) => last + 1,
-            None => 0,
-        }
-    }
-
-    /// The end of the entries from an index on: the greatest index plus one, 0 where there are none.
-    pub fn end_from(&self, index: u64) -> u64
-        ensures { result ≡ end_of (from index self.now) }
-    {
-        self.holds_one_run();
-        match self.last_index() {
-            Some(last) if last >= index => last + 1,
-            _ => 0,
-        }
+        let (whole, at) = find(&self.starts, index);
+        let block = &self.blocks[whole];
+        let span = block.spans[at];
+        Some(EntryIndex {
+            index,
+            entries: Some(block.handle),
+            compression_type: CompressionType::None,
+            entry_offset: span.0,
+            entry_len: span.1,
+        })
     }
 }

@@ -1,5 +1,6 @@
 //! Calls of a table through the log store of a Raft node, and what is left of the store.
 
+mod blocks;
 mod queries;
 mod store;
 

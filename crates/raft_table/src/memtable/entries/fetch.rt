@@ -1,17 +1,15 @@
 //! Entries handed out of a table.
 
-ghost use Rattle.std.specs.Prelude.{◌≡◌, ◌+◌, ◌-◌, ◌≤◌, ◌++◌, take, drop, length, OnOk, OnErr, IfErr};
+ghost use Rattle.std.specs.Prelude.{◌≡◌, ◌+◌, ◌-◌, ◌≤◌, ◌<◌, ◌^◌, ◌++◌, take, drop, slice_index_or, length, OnOk, OnErr, IfErr};
 ghost use Rattle.std.specs.List.{prefix_len, slice_get};
-ghost use Rattle.std.specs.VecDeque.{deque_len};
 ghost use Rattle.raft_base.specs.declared.pipe_log.LogQueue.TheVariants.{Append, Rewrite};
 ghost use Rattle.raft_table.specs.Entries.{placed_in};
-ghost use Rattle.raft_table.specs.Fetches.{Fetches, IsFetchFault, IsLimitCount, range_answer, appended_before, block_count, change_count, is_same_place, entry_seq, first_seq};
-ghost use Rattle.raft_table.specs.Rewriting.{is_placed_before, may_move};
+ghost use Rattle.raft_table.specs.Fetches.{Fetches, IsFetchFault, IsLimitCount, range_answer, appended_before, block_count, entry_seq, first_seq};
+ghost use Rattle.raft_table.specs.Rewriting.{may_move};
 
 use crate::memtable::entries::Entries;
-use crate::memtable::entries::places::movable;
-use raft_records::{EntryIndex, Error, FileSeq, LogQueue, Result};
-use std::collections::VecDeque;
+use crate::memtable::entries::lists::find;
+use raft_records::{CompressionType, EntryIndex, Error, FileSeq, LogQueue, Result};
 
 impl Entries {
     /// Appends the entries from `begin` on and below `end`, in order, to `vec`. With a limit it
@@ -37,19 +35,18 @@ impl Entries {
         if end <= begin {
             return Ok(());
         }
-        let Some(front) = self.deque.front() else {
+        if self.len == 0 {
             return Err(Error::EntryNotFound);
-        };
-        let first = front.index;
-        if begin < first {
+        }
+        if begin < self.first {
             return Err(Error::EntryCompacted);
         }
-        if end - first > self.deque.len() as u64 {
+        if end - self.first > self.len as u64 {
             return Err(Error::EntryNotFound);
         }
-        let start = (begin - first) as usize;
-        let count = count_within(&self.deque, start, (end - first) as usize, limit);
-        extend(vec, &self.deque, start, start + count)
+        let start = (begin - self.first) as usize;
+        let count = self.count_within(start, (end - self.first) as usize, limit);
+        self.extend(vec, start, start + count)
     }
 
     /// Appends the rewritten entries to `vec`, which stays as it was where there is no memory.
@@ -58,7 +55,7 @@ impl Entries {
         ensures err { OnErr result (vec.new.items ≡ vec.old.items) }
         ensures memory { IfErr result (λ e. e ≡ Error.Memory) }
     {
-        extend(vec, &self.deque, 0, self.rewritten)
+        self.extend(vec, 0, self.rewritten)
     }
 
     /// Appends the appended entries from the first on while their file is at or below `gate` to
@@ -69,15 +66,19 @@ impl Entries {
         ensures memory { IfErr result (λ e. e ≡ Error.Memory) }
     {
         let start = self.rewritten;
-        let count = movable(&self.deque, start, self.deque.len(), Some(gate));
-        extend(vec, &self.deque, start, start + count)
+        let count = self.movable(start, self.len, Some(gate));
+        self.extend(vec, start, start + count)
     }
 
     /// The file number of the entry behind the first `place` ones.
     pub fn seq_at(&self, place: usize) -> Option<FileSeq>
         ensures { result ≡ entry_seq (slice_get self.now place) }
     {
-        Some(self.deque.get(place)?.entries?.id.seq)
+        if place >= self.len {
+            return None;
+        }
+        let (whole, _) = find(&self.starts, self.first + place as u64);
+        Some(self.blocks[whole].handle.id.seq)
     }
 
     /// The file number of the first entry in `queue`.
@@ -95,80 +96,90 @@ impl Entries {
     pub fn block_count(&self) -> usize
         ensures { result ≡ block_count self.now }
     {
-        let len = self.deque.len();
-        if len == 0 {
-            return 0;
+        self.blocks.len()
+    }
+
+    /// The entry behind the first `place` ones.
+    pub(super) fn entry(&self, place: usize) -> EntryIndex
+        requires { place < length self.now }
+        ensures { result ≡ slice_index_or self.now place result }
+    {
+        let index = self.first + place as u64;
+        let (whole, at) = find(&self.starts, index);
+        let block = &self.blocks[whole];
+        let span = block.spans[at];
+        EntryIndex {
+            index,
+            entries: Some(block.handle),
+            compression_type: CompressionType::None,
+            entry_offset: span.0,
+            entry_len: span.1,
         }
-        let mut count = 1;
-        for i in 1..len {
-            if !is_same_place(&self.deque[i - 1], &self.deque[i]) {
-                count += 1;
+    }
+
+    /// How many entries behind the first `at`, among the first `end`, may move, up to the first
+    /// that may not.
+    pub(super) fn movable(&self, at: usize, end: usize, gate: Option<FileSeq>) -> usize
+        requires order { at ≤ end }
+        requires within { end ≤ length self.now }
+        ensures { result ≡ prefix_len (may_move gate) (drop at (take end self.now)) }
+    {
+        for i in at..end {
+            if !is_movable(&self.entry(i), gate) {
+                return i - at;
             }
         }
-        count
+        end - at
     }
-}
 
-/// Whether two entries stand in the same block of a file.
-fn is_same_place(a: &EntryIndex, b: &EntryIndex) -> bool
-    ensures { result ≡ is_same_place a.now.entries b.now.entries }
-{
-    match (a.entries, b.entries) {
-        (Some(a), Some(b)) => {
-            a.id.queue == b.id.queue
-                && a.id.seq == b.id.seq
-                && a.offset == b.offset
-                && a.len == b.len
+    /// How many entries behind the first `start`, among the first `end`, a limit on the total of
+    /// their lengths lets through.
+    fn count_within(&self, start: usize, end: usize, limit: Option<usize>) -> usize
+        requires order { start ≤ end }
+        requires within { end ≤ length self.now }
+        ensures { IsLimitCount limit (drop start (take end self.now)) result }
+    {
+        let Some(limit) = limit else {
+            return end - start;
+        };
+        let mut total = 0u128;
+        for i in start..end {
+            let sum = total + u128::from(self.entry(i).entry_len);
+            if sum > limit as u128 && total > 0 {
+                return i - start;
+            }
+            total = sum;
         }
-        (None, None) => true,
-        _ => false,
+        end - start
+    }
+
+    /// Appends the entries behind the first `start`, among the first `end`, to a vector, which
+    /// stays as it was where there is no memory.
+    pub(super) fn extend(&self, vec: &mut Vec<EntryIndex>, start: usize, end: usize) -> Result<()>
+        requires order { start ≤ end }
+        requires within { end ≤ length self.now }
+        ensures ok { OnOk result (vec.new.items ≡ vec.old.items ++ drop start (take end self.now)) }
+        ensures err { OnErr result (vec.new.items ≡ vec.old.items) }
+        ensures memory { IfErr result (λ e. e ≡ Error.Memory) }
+    {
+        vec.reserve(end - start)?;
+        for i in start..end {
+            vec.push_reserved(self.entry(i));
+        }
+        Ok(())
     }
 }
 
-/// How many entries from `start` on and below `end` a limit on the total of their lengths lets
-/// through.
-fn count_within(
-    deque: &VecDeque<EntryIndex>,
-    start: usize,
-    end: usize,
-    limit: Option<usize>,
-) -> usize
-    requires order { start ≤ end }
-    requires within { end ≤ deque_len deque.now }
-    ensures { IsLimitCount limit (drop start (take end deque.now.items)) result }
+/// Whether the place of an entry may move.
+#[tactic(auto, unfolding(crate::specs::Entries::is_placed_in, crate::specs::Rewriting::is_placed_before))]
+fn is_movable(entry: &EntryIndex, gate: Option<FileSeq>) -> bool
+    ensures { result ≡ may_move gate entry.now }
 {
-    let Some(limit) = limit else {
-        return end - start;
+    let Some(block) = entry.entries else {
+        return false;
     };
-    let mut total = 0u128;
-    for i in start..end {
-        let sum = total + u128::from(deque[i].entry_len);
-        if sum > limit as u128 && total > 0 {
-            return i - start;
-        }
-        total = sum;
+    match gate {
+        Some(gate) => block.id.seq <= gate,
+        None => matches!(block.id.queue, LogQueue::Rewrite),
     }
-    end - start
-}
-
-/// Appends the entries from `start` on and below `end` to a vector, which stays as it was where
-/// there is no memory.
-fn extend(
-    vec: &mut Vec<EntryIndex>,
-    deque: &VecDeque<EntryIndex>,
-    start: usize,
-    end: usize,
-) -> Result<()>
-    requires order { start ≤ end }
-    requires within { end ≤ deque_len deque.now }
-    ensures ok { OnOk result (vec.new.items ≡ vec.old.items ++ drop start (take end deque.now.items)) }
-    ensures err { OnErr result (vec.new.items ≡ vec.old.items) }
-    ensures memory { IfErr result (λ e. e ≡ Error.Memory) }
-{
-    let (front, back) = deque.as_slices();
-    let middle = front.len();
-    vec.reserve(end - start)?;
-    vec.extend_from_slice(&front[start.min(middle)..end.min(middle)])?;
-    vec.extend_from_slice(&back[start.max(middle) - middle..end.max(middle) - middle])?;
-    Ok(())
 }

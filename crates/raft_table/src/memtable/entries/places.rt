@@ -1,19 +1,18 @@
 //! Places that move to the rewrite queue, or within it.
 
-ghost use Rattle.std.specs.Prelude.{◌≡◌, ◌≢◌, ◌+◌, ◌<◌, ◌≤◌, ◌^◌, ◌++◌, length, take, drop, MatchOption, OnOk, OnErr, IfErr, false};
+ghost use Rattle.std.specs.Prelude.{◌≡◌, ◌≢◌, ◌⊎◌, ◌+◌, ◌<◌, ◌≤◌, ◌^◌, ◌++◌, length, take, drop, MatchOption, OnOk, OnErr, IfErr, false};
 ghost use Rattle.std.specs.List.{prefix_len};
-ghost use Rattle.std.specs.VecDeque.{deque_len};
-ghost use Rattle.raft_table.specs.Counts.{live};
+ghost use Rattle.raft_table.specs.Counts.{live, with_added, with_deleted};
 ghost use Rattle.raft_table.specs.Entries.{AreTableEntries, IsRunIn, RisesFrom, start_of, placed_in, entry_count, AreCounted, AreRecounted};
+ghost use Rattle.raft_table.specs.Queues.{count_in};
 ghost use Rattle.raft_table.specs.Meetings.{IsMeeting, AreApart};
-ghost use Rattle.raft_table.specs.Rewriting.{may_move, is_misplaced, with_rewritten, rewritten, recounted, IsRewriteFault, MovesPlacesAlone};
+ghost use Rattle.raft_table.specs.Rewriting.{may_move, is_misplaced, newly_rewritten, with_rewritten, rewritten, recounted, IsRewriteFault, MovesPlacesAlone};
 ghost use Rattle.raft_base.specs.declared.pipe_log.LogQueue.{LogQueue};
 ghost use Rattle.raft_base.specs.declared.pipe_log.LogQueue.TheVariants.{Append, Rewrite};
 
 use crate::global_stats::GlobalStats;
 use crate::memtable::entries::{Entries, Meeting};
 use raft_records::{EntryIndex, Error, FileSeq, LogQueue, Result};
-use std::collections::VecDeque;
 
 impl Entries {
     /// Gives the entries the places of a run of the rewrite queue, from the first that meet on
@@ -37,17 +36,14 @@ impl Entries {
         ensures places_alone { OnOk result (MovesPlacesAlone run.now self.old self.new) }
         ensures counts { OnOk result (stats.new ≡ recounted gate run.now self.old stats.old) }
         ensures fault { IfErr result (IsRewriteFault (length run.now) stats.old (rewritten gate run.now self.old)) }
-        ensures err { OnErr result (self.new ≡ self.old) }
-        ensures err_counts { IfErr result (λ e. e ≢ Error.Full → stats.new ≡ stats.old) }
+        ensures err { OnErr result ((self.new ≡ self.old) × (stats.new ≡ stats.old)) }
         ensures recounted { AreRecounted self.old self.new stats.old stats.new }
     {
         let Some(head) = run.first() else {
             return Ok(());
         };
         let Some(meeting) = self.meeting(head.index, run.len()) else {
-            stats.add(LogQueue::Rewrite, run.len())?;
-            stats.delete(LogQueue::Rewrite, run.len());
-            return Ok(());
+            return count_unmoved(run.len(), stats);
         };
         if self.is_misplaced(meeting.at, gate) {
             return Err(self.corruption("a rewriting starts off the rewritten entries")?);
@@ -64,8 +60,11 @@ impl Entries {
             (IsMeeting (start_of self.now) (length self.now) start len) }
         ensures sound { AreTableEntries self.now }
     {
-        let first = self.deque.front()?.index;
-        let end = first + self.deque.len() as u64;
+        if self.len == 0 {
+            return None;
+        }
+        let first = self.first;
+        let end = first + self.len as u64;
         let from = first.max(start);
         let to = end.min(start + len as u64);
         if to <= from {
@@ -104,67 +103,80 @@ impl Entries {
         ensures ok { let m = prefix_len (may_move gate) (drop at (take (at + length places.now) self.old)) in
             OnOk result ((self.new ≡ take at self.old ++ take m places.now ++ drop (at + m) self.old)
             × (stats.new ≡ with_rewritten gate written m stats.old)) }
-        ensures full { IfErr result (λ e. (e ≡ Error.Full) × (2 ^ 64 ≤ live Rewrite stats.old + written)) }
-        ensures err { OnErr result (self.new ≡ self.old) }
+        ensures fault { IfErr result (λ e. (e ≡ Error.Memory) ⊎ ((e ≡ Error.Full) × (2 ^ 64 ≤ live Rewrite stats.old + written))) }
+        ensures err { OnErr result ((self.new ≡ self.old) × (stats.new ≡ stats.old)) }
         ensures recounted { AreRecounted self.old self.new stats.old stats.new }
     {
-        stats.add(LogQueue::Rewrite, written)?;
-        let moved = movable(&self.deque, at, at + places.len(), gate);
-        copy_places(&mut self.deque, at, &places[..moved]);
-        match gate {
-            Some(_) => {
-                self.rewritten += moved;
-                stats.delete(LogQueue::Append, moved);
-                stats.delete(LogQueue::Rewrite, written - moved);
-                Ok(())
-            }
-            None => {
-                stats.delete(LogQueue::Rewrite, written);
-                Ok(())
-            }
+        if !stats.can_add(LogQueue::Rewrite, written) {
+            return Err(Error::Full);
         }
+        self.holds_one_run();
+        let moved = self.movable(at, at + places.len(), gate);
+        self.set_places(at, &places[..moved])?;
+        count_moved(gate, written, moved, stats);
+        Ok(())
+    }
+
+    /// Gives the entries behind the first `at` these places.
+    fn set_places(&mut self, at: usize, places: &[EntryIndex]) -> Result<()>
+        requires within { at + length places.now ≤ length self.old }
+        requires sound { AreTableEntries (take at self.old ++ places.now ++ drop (at + length places.now) self.old) }
+        ensures ok { OnOk result (self.new ≡ take at self.old ++ places.now ++ drop (at + length places.now) self.old) }
+        ensures err { OnErr result (self.new ≡ self.old) }
+        ensures memory { IfErr result (λ e. e ≡ Error.Memory) }
+    {
+        if places.is_empty() {
+            return Ok(());
+        }
+        let alloc = *self.blocks.allocator();
+        let mut run = Vec::from_slice(alloc, places)?;
+        self.extend(&mut run, at + places.len(), self.len)?;
+        let mut run = Entries::from_run(alloc, &run)?;
+        self.put_run(at, &mut run)
     }
 }
 
-/// How many entries from `at` on and below `end` may move, up to the first that may not.
-pub(super) fn movable(
-    deque: &VecDeque<EntryIndex>,
-    at: usize,
-    end: usize,
-    gate: Option<FileSeq>,
-) -> usize
-    requires order { at ≤ end }
-    requires within { end ≤ deque_len deque.now }
-    ensures { result ≡ prefix_len (may_move gate) (drop at (take end deque.now.items)) }
+/// Counts a rewriting by `written` entries that moved so many places.
+fn count_moved(gate: Option<FileSeq>, written: usize, moved: usize, stats: &mut GlobalStats)
+    requires room { live Rewrite stats.old + written < 2 ^ 64 }
+    requires moved { moved ≤ written }
+    requires appended { newly_rewritten gate moved ≤ live Append stats.old }
+    ensures counts { stats.new ≡ with_rewritten gate written moved stats.old }
+    ensures appended { live Append stats.new + newly_rewritten gate moved ≡ live Append stats.old }
+    ensures rewritten { live Rewrite stats.new ≡ live Rewrite stats.old + newly_rewritten gate moved }
 {
-    for i in at..end {
-        if !is_movable(&deque[i], gate) {
-            return i - at;
-        }
-    }
-    end - at
-}
-
-/// Whether the place of an entry may move.
-#[tactic(auto, unfolding(crate::specs::Entries::is_placed_in, crate::specs::Rewriting::is_placed_before))]
-fn is_movable(entry: &EntryIndex, gate: Option<FileSeq>) -> bool
-    ensures { result ≡ may_move gate entry.now }
-{
-    let Some(block) = entry.entries else {
-        return false;
-    };
+    add_written(stats, written);
     match gate {
-        Some(gate) => block.id.seq <= gate,
-        None => matches!(block.id.queue, LogQueue::Rewrite),
+        Some(_) => {
+            stats.delete(LogQueue::Append, moved);
+            stats.delete(LogQueue::Rewrite, written - moved);
+        }
+        None => stats.delete(LogQueue::Rewrite, written),
     }
 }
 
-/// Gives the entries from `at` on the values of `places`.
-fn copy_places(deque: &mut VecDeque<EntryIndex>, at: usize, places: &[EntryIndex])
-    requires { at + length places.now ≤ deque_len deque.old }
-    ensures items { deque.new.items ≡ take at deque.old.items ++ places.now ++ drop (at + length places.now) deque.old.items }
+/// Counts a rewriting by `written` entries that moves no place.
+fn count_unmoved(written: usize, stats: &mut GlobalStats) -> Result<()>
+    ensures ok { OnOk result (stats.new ≡ with_deleted Rewrite written (with_added Rewrite written stats.old)) }
+    ensures live { OnOk result ((q : LogQueue) → live q stats.new ≡ live q stats.old) }
+    ensures full { IfErr result (λ e. (e ≡ Error.Full) × (2 ^ 64 ≤ live Rewrite stats.old + written)) }
+    ensures err { OnErr result (stats.new ≡ stats.old) }
 {
-    for (i, place) in places.iter().enumerate() {
-        deque[at + i] = *place;
+    if !stats.can_add(LogQueue::Rewrite, written) {
+        return Err(Error::Full);
+    }
+    add_written(stats, written);
+    stats.delete(LogQueue::Rewrite, written);
+    Ok(())
+}
+
+/// Counts so many records that were written to the rewrite queue.
+fn add_written(stats: &mut GlobalStats, written: usize)
+    requires { live Rewrite stats.old + written < 2 ^ 64 }
+    ensures after { stats.new ≡ with_added Rewrite written stats.old }
+    ensures live { (q : LogQueue) → live q stats.new ≡ live q stats.old + count_in q Rewrite written }
+{
+    if stats.add(LogQueue::Rewrite, written).is_err() {
+        unreachable!()
     }
 }

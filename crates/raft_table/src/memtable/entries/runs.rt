@@ -1,6 +1,6 @@
 //! Runs that are put behind a table's entries.
 
-ghost use Rattle.std.specs.Prelude.{◌≡◌, ◌+◌, ◌≤◌, ◌^◌, [], ◌++◌, length, take, drop, OnOk, OnErr, IfErr, Some};
+ghost use Rattle.std.specs.Prelude.{◌≡◌, ◌+◌, ◌≤◌, ◌<◌, ◌^◌, [], ◌++◌, length, take, drop, OnOk, OnErr, IfOk, IfErr, MatchBool, Some};
 ghost use Rattle.raft_table.specs.Counts.{live, with_added, with_deleted};
 ghost use Rattle.raft_table.specs.Queues.{count_in, of_queue, other};
 ghost use Rattle.raft_table.specs.Entries.{AreTableEntries, IsRunIn, placed_in, entry_count, AreCounted, AreRecounted};
@@ -12,7 +12,6 @@ ghost use Rattle.raft_base.specs.declared.pipe_log.LogQueue.TheVariants.{Append,
 use crate::global_stats::GlobalStats;
 use crate::memtable::entries::{Entries, Start};
 use raft_records::{EntryIndex, Error, LogQueue, Result};
-use std::collections::VecDeque;
 
 impl Entries {
     /// Puts a new run of the append queue behind the entries below its start. All others go.
@@ -35,7 +34,7 @@ impl Entries {
         };
         match self.start(first.index) {
             Start::Joins(keep) => {
-                let mut run = VecDeque::from_vec(run);
+                let mut run = self.run_of(&run, LogQueue::Append)?;
                 self.put_behind(keep, &mut run, LogQueue::Append, stats)
             }
             Start::InFront => Err(self.corruption("a run starts below the first entry")?),
@@ -59,7 +58,7 @@ impl Entries {
         ensures counts { OnOk result (stats.new ≡ counts_with_run Append self.old run.items stats.old) }
         ensures recounted { AreRecounted self.old self.new stats.old stats.new }
     {
-        let mut run = VecDeque::from_vec(run);
+        let mut run = self.run_of(&run, LogQueue::Append)?;
         self.replay(LogQueue::Append, &mut run, LogQueue::Append, stats)
     }
 
@@ -79,7 +78,7 @@ impl Entries {
         ensures counts { OnOk result (stats.new ≡ counts_with_run Rewrite self.old run.items stats.old) }
         ensures recounted { AreRecounted self.old self.new stats.old stats.new }
     {
-        let mut run = VecDeque::from_vec(run);
+        let mut run = self.run_of(&run, LogQueue::Rewrite)?;
         self.replay(LogQueue::Rewrite, &mut run, LogQueue::Rewrite, stats)
     }
 
@@ -107,9 +106,17 @@ impl Entries {
         ensures counts { OnOk result (stats.new ≡ counts_with_run queue self.old rhs.old stats.old) }
         ensures recounted { AreRecounted self.old self.new stats.old stats.new }
     {
-        self.replay(rule, &mut rhs.deque, queue, stats)?;
-        rhs.rewritten = 0;
-        Ok(())
+        rhs.holds_one_run();
+        self.replay(rule, rhs, queue, stats)
+    }
+
+    /// A run of `queue` as entries.
+    fn run_of(&self, run: &[EntryIndex], queue: LogQueue) -> Result<Entries>
+        requires { IsRunIn queue run.now }
+        ensures ok { IfOk result (λ entries. entries ≡ run.now) }
+        ensures memory { IfErr result (λ e. e ≡ Error.Memory) }
+    {
+        Entries::from_run(*self.blocks.allocator(), run)
     }
 
     /// Moves a run of `queue` behind the entries below its start, by the start rule of the replays
@@ -117,24 +124,24 @@ impl Entries {
     fn replay(
         &mut self,
         rule: LogQueue,
-        run: &mut VecDeque<EntryIndex>,
+        run: &mut Entries,
         queue: LogQueue,
         stats: &mut GlobalStats,
     ) -> Result<()>
-        requires run { IsRunIn queue run.old.items }
+        requires run { IsRunIn queue run.old }
         requires rewritten { queue ≡ Rewrite → entry_count Append self.old ≡ 0 }
         requires counted { AreCounted self.old stats.old }
-        ensures ok { OnOk result (replayed rule self.old run.old.items ≡ Some self.new) }
-        ensures emptied { OnOk result (run.new.items ≡ []) }
-        ensures fault { IfErr result (IsTableRunFault queue stats.old self.old (replayed rule self.old run.old.items)) }
-        ensures err { OnErr result ((self.new ≡ self.old) × (run.new.items ≡ run.old.items) × (stats.new ≡ stats.old)) }
-        ensures counts { OnOk result (stats.new ≡ counts_with_run queue self.old run.old.items stats.old) }
+        ensures ok { OnOk result (replayed rule self.old run.old ≡ Some self.new) }
+        ensures emptied { OnOk result (run.new ≡ []) }
+        ensures fault { IfErr result (IsTableRunFault queue stats.old self.old (replayed rule self.old run.old)) }
+        ensures err { OnErr result ((self.new ≡ self.old) × (run.new ≡ run.old) × (stats.new ≡ stats.old)) }
+        ensures counts { OnOk result (stats.new ≡ counts_with_run queue self.old run.old stats.old) }
         ensures recounted { AreRecounted self.old self.new stats.old stats.new }
     {
-        let Some(front) = run.front() else {
+        let Some(first) = run.first_index() else {
             return Ok(());
         };
-        match self.start(front.index) {
+        match self.start(first) {
             Start::Joins(keep) => self.put_behind(keep, run, queue, stats),
             Start::InFront => self.put_behind(0, run, queue, stats),
             Start::BehindHole => match rule {
@@ -150,39 +157,31 @@ impl Entries {
     fn put_behind(
         &mut self,
         keep: usize,
-        run: &mut VecDeque<EntryIndex>,
+        run: &mut Entries,
         queue: LogQueue,
         stats: &mut GlobalStats,
     ) -> Result<()>
         requires keep { keep ≤ length self.old }
-        requires sound { AreTableEntries (take keep self.old ++ run.old.items) }
-        requires queue { placed_in queue run.old.items ≡ run.old.items }
+        requires filled { 0 < length run.old }
+        requires sound { AreTableEntries (take keep self.old ++ run.old) }
+        requires queue { placed_in queue run.old ≡ run.old }
         requires counted { AreCounted self.old stats.old }
-        ensures ok { OnOk result ((self.new ≡ take keep self.old ++ run.old.items) × (run.new.items ≡ [])) }
-        ensures err { OnErr result ((self.new ≡ self.old) × (run.new.items ≡ run.old.items) × (stats.new ≡ stats.old)) }
+        ensures ok { OnOk result ((self.new ≡ take keep self.old ++ run.old) × (run.new ≡ [])) }
+        ensures err { OnErr result ((self.new ≡ self.old) × (run.new ≡ run.old) × (stats.new ≡ stats.old)) }
         ensures counts { OnOk result (stats.new
-            ≡ with_added queue (length run.old.items) (counts_without (drop keep self.old) stats.old)) }
+            ≡ with_added queue (length run.old) (counts_without (drop keep self.old) stats.old)) }
         ensures recounted { AreRecounted self.old self.new stats.old stats.new }
-        ensures fault { IfErr result (IsTableRunFault queue stats.old self.old (Some (take keep self.old ++ run.old.items))) }
+        ensures fault { IfErr result (IsTableRunFault queue stats.old self.old (Some (take keep self.old ++ run.old))) }
     {
-        let dropped = self.deque.len() - keep;
-        let rewritten = self.rewritten.min(keep);
-        self.deque.reserve(run.len().saturating_sub(dropped))?;
-        exchange(
-            stats,
-            self.rewritten - rewritten,
-            dropped - (self.rewritten - rewritten),
-            queue,
-            run.len(),
-        )?;
-        self.deque.truncate(keep);
-        self.rewritten = match queue {
-            LogQueue::Append => rewritten,
-            LogQueue::Rewrite => rewritten + run.len(),
-        };
-        if self.deque.append(run).is_err() {
-            unreachable!()
+        let dropped = self.len - keep;
+        let rewritten = self.rewritten - self.rewritten.min(keep);
+        let appended = dropped - rewritten;
+        let added = run.len;
+        if !has_room(stats, rewritten, appended, queue, added) {
+            return Err(Error::Full);
         }
+        self.put_run(keep, run)?;
+        exchange(stats, rewritten, appended, queue, added);
         Ok(())
     }
 
@@ -191,19 +190,38 @@ impl Entries {
         ensures meets { IsStart self.now index result }
         ensures sound { AreTableEntries self.now }
     {
-        let Some(front) = self.deque.front() else {
+        if self.len == 0 {
             return Start::Joins(0);
-        };
-        let first = front.index;
-        if index < first {
+        }
+        if index < self.first {
             return Start::InFront;
         }
-        let below = index - first;
-        if below > self.deque.len() as u64 {
+        let below = index - self.first;
+        if below > self.len as u64 {
             return Start::BehindHole;
         }
         Start::Joins(below as usize)
     }
+}
+
+/// Whether so many records of `queue` can be live in place of those that are gone from either queue.
+fn has_room(
+    stats: &GlobalStats,
+    rewritten: usize,
+    appended: usize,
+    queue: LogQueue,
+    added: usize,
+) -> bool
+    requires rewritten { rewritten ≤ live Rewrite stats.now }
+    requires appended { appended ≤ live Append stats.now }
+    ensures { MatchBool result (live queue stats.now + added < 2 ^ 64 + of_queue queue appended rewritten)
+        (2 ^ 64 + of_queue queue appended rewritten ≤ live queue stats.now + added) }
+{
+    let gone = match queue {
+        LogQueue::Append => appended,
+        LogQueue::Rewrite => rewritten,
+    };
+    added <= usize::MAX - (stats.live_entries(queue) - gone)
 }
 
 /// Counts `added` live records of `queue` in place of those that are gone from either queue.
@@ -213,25 +231,18 @@ fn exchange(
     appended: usize,
     queue: LogQueue,
     added: usize,
-) -> Result<()>
+)
     requires rewritten { rewritten ≤ live Rewrite stats.old }
     requires appended { appended ≤ live Append stats.old }
-    ensures ok { OnOk result ((q : LogQueue) →
-        live q stats.new + of_queue q appended rewritten ≡ live q stats.old + count_in q queue added) }
-    ensures counts { OnOk result (stats.new
-        ≡ with_added queue added (with_deleted Rewrite rewritten (with_deleted Append appended stats.old))) }
-    ensures err { OnErr result (stats.new ≡ stats.old) }
-    ensures full { IfErr result (λ e. (e ≡ Error.Full)
-        × (2 ^ 64 + of_queue queue appended rewritten ≤ live queue stats.old + added)) }
+    requires room { live queue stats.old + added < 2 ^ 64 + of_queue queue appended rewritten }
+    ensures live { (q : LogQueue) →
+        live q stats.new + of_queue q appended rewritten ≡ live q stats.old + count_in q queue added }
+    ensures counts { stats.new
+        ≡ with_added queue added (with_deleted Rewrite rewritten (with_deleted Append appended stats.old)) }
 {
-    let gone = match queue {
-        LogQueue::Append => appended,
-        LogQueue::Rewrite => rewritten,
-    };
-    if added > usize::MAX - (stats.live_entries(queue) - gone) {
-        return Err(Error::Full);
-    }
     stats.delete(LogQueue::Append, appended);
     stats.delete(LogQueue::Rewrite, rewritten);
-    stats.add(queue, added)
+    if stats.add(queue, added).is_err() {
+        unreachable!()
+    }
 }

@@ -1,6 +1,17 @@
-use Rattle.std.proofs.Common.{◌≡◌, ◌<◌, length}
-use Rattle.raft_base.specs.declared.pipe_log.LogQueue.TheVariants.{Append}
-use Rattle.raft_table.specs.Entries.{start_of}
+use Rattle.std.proofs.Common.{ℕ, suc, ◌≡◌, ◌≢◌, ◌+◌, ◌-◌, ◌<◌, ◌≤◌, ◌^◌, inl, inr, min, max, List, [], ◌∷◌, ◌++◌, length, take, drop, get_or, set, arith, refl, sym, ap, subst, ◌∙◌, Some, None, Option}
+use Rattle.std.specs.Prelude.{map}
+use Rattle.std.proofs.lemmas.List.{nil_from_length, append-nil, append_assoc, length-append, length-map, length-take-le, length-take, length-drop, take_all, drop_all, take-map, drop-map, map-append, map-set, get_or-map, get_or_default, take-append-drop}
+use Rattle.std.proofs.lemmas.Result.{err_from_is_err_and, on_ok_weaker, IfErr-weaker}
+use Rattle.raft_base.specs.declared.pipe_log.LogQueue.TheVariants.{Append, Rewrite}
+use Rattle.raft_table.specs.Blocks.{Stretch, stretch_of, shown, spread, expanded, AreStretches}
+use Rattle.raft_table.specs.BlockWords.{count, starts_of, AreKept, IsAt, IsIndexOf, cut_last, cut_first, joined, seam}
+use Rattle.raft_table.specs.Entries.{AreTableEntries, start_of, end_of, below, from, placed_in, entry_count}
+use Rattle.raft_table.proofs.PlaceLemmas.{each_queue, entry_count-append, entries_in_one}
+use Rattle.raft_table.proofs.SoundLemmas.{CutCounts, cut_counts, sound_rising, AreTableEntries-take, AreTableEntries-drop}
+use Rattle.raft_table.proofs.BlockLemmas.{length-expanded, length-starts, rises_expanded}
+use Rattle.raft_table.proofs.BlockSearch.{at_start, index_some, index_first, index_rises, at_place, entry_at_place, place_within}
+use Rattle.raft_table.proofs.BlockKept.{IsPushed, pushed_fits, kept_push, IsKeptAs, kept_join, sound_fits}
+use Rattle.raft_table.proofs.BlockCuts.{found, index_of, kept_length, kept_front, front_of, KeptFacts, kept_facts, kept_nil, kept_drop, kept_take, IsFront, front_at}
 use Rattle.raft_table.specs.StartOf.{IsStart}
 use Rattle.raft_table.specs.declared.memtable.entries.Start.TheVariants.{Joins}
 use Rattle.raft_table.proofs.SoundLemmas.{start_of_front}
@@ -14,7 +25,7 @@ put_behind-requires-clause-sound c =
     let h : c.deref.result.now ≡ run = c.deref.ensures.value in
     let l : 0 < length run = rw (← h) c.in-Some.ensures.item.3.0 in
     let s : start_of run ≡ c.in-Some.first.now.index = start_of_front run c.in-Some.first.now l (rw (← h) c.in-Some.ensures.item.1) in
-    rw c.from_vec-run.ensures.items
+    rw (c.in_ok-run-in-Joins.ensures.ok, c.deref-in-Joins.ensures.value)
     (sound_joined Append c.in-Joins.keep c.args.self.now run c.start.ensures.sound tt c.requires.run l (rw s c.in-Joins.ensures.meets))
 
 pub returns-in-Joins-clause-counts : goal.returns-in-Joins-clause-counts
@@ -25,5 +36,5 @@ returns-in-Joins-clause-counts c =
     let s : start_of run ≡ c.in-Some.first.now.index = start_of_front run c.in-Some.first.now l (rw (← h) c.in-Some.ensures.item.1) in
     let m : IsStart c.args.self.now (start_of run) (Joins c.in-Joins.keep) = rw s c.in-Joins.ensures.meets in
     on_ok c.put_behind.result
-    (λ w. counts_joined Append c.args.self.now run c.in-Joins.keep c.args.stats.now c.put_behind.new.stats c.start.ensures.sound l m.2 m.0 m.1 (rw c.from_vec-run.ensures.items at w))
+    (λ w. counts_joined Append c.args.self.now run c.in-Joins.keep c.args.stats.now c.put_behind.new.stats c.start.ensures.sound l m.2 m.0 m.1 (rw (c.in_ok-run-in-Joins.ensures.ok, c.deref-in-Joins.ensures.value) at w))
     c.put_behind.ensures.counts

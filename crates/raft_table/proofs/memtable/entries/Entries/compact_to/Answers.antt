@@ -1,78 +1,76 @@
-use Rattle.std.proofs.Common.{arith, refl, sym, ◌≡◌, drop, ◌∙◌}
+use Rattle.std.proofs.Common.{ℕ, suc, ◌≡◌, ◌≢◌, ◌+◌, ◌-◌, ◌<◌, ◌≤◌, ◌^◌, inl, inr, min, max, List, [], ◌∷◌, ◌++◌, length, take, drop, get_or, set, arith, refl, sym, ap, subst, ◌∙◌, Some, None, Option}
+use Rattle.std.specs.Prelude.{map}
+use Rattle.std.proofs.lemmas.List.{nil_from_length, append-nil, append_assoc, length-append, length-map, length-take-le, length-take, length-drop, take_all, drop_all, take-map, drop-map, map-append, map-set, get_or-map, get_or_default, take-append-drop}
+use Rattle.std.proofs.lemmas.Result.{err_from_is_err_and, on_ok_weaker, IfErr-weaker}
 use Rattle.raft_base.specs.declared.pipe_log.LogQueue.TheVariants.{Append, Rewrite}
-use Rattle.raft_table.specs.Entries.{below, from, start_of}
+use Rattle.raft_table.specs.Blocks.{Stretch, stretch_of, shown, spread, expanded, AreStretches}
+use Rattle.raft_table.specs.BlockWords.{count, starts_of, AreKept, IsAt, IsIndexOf, cut_last, cut_first, joined, seam}
+use Rattle.raft_table.specs.Entries.{AreTableEntries, start_of, end_of, below, from, placed_in, entry_count}
+use Rattle.raft_table.proofs.PlaceLemmas.{each_queue, entry_count-append, entries_in_one}
+use Rattle.raft_table.proofs.SoundLemmas.{CutCounts, cut_counts, sound_rising, AreTableEntries-take, AreTableEntries-drop}
+use Rattle.raft_table.proofs.BlockLemmas.{length-expanded, length-starts, rises_expanded}
+use Rattle.raft_table.proofs.BlockSearch.{at_start, index_some, index_first, index_rises, at_place, entry_at_place, place_within}
+use Rattle.raft_table.proofs.BlockCuts.{found, index_of, kept_length, kept_front, front_of, KeptFacts, kept_facts, kept_nil, kept_drop, kept_take, IsFront, front_at}
 use Rattle.raft_table.proofs.RunLemmas.{below_start, from_start}
-use Rattle.raft_table.proofs.PlaceLemmas.{each_queue}
-use Rattle.raft_table.proofs.SoundLemmas.{no_front, start_of_front, sound_rising, from_cut, below_cut, AreTableEntries-drop, CutCounts, cut_counts}
+use Rattle.raft_table.proofs.SoundLemmas.{from_cut, below_cut}
 use Rattle.raft_table.proofs.GoneLemmas.{none_below, same_deleted}
 use Rattle.raft_table.proofs.memtable.entries.Entries.compact_to.Goals as goal
 
-pub returns-in_default-clause-entries : goal.returns-in_default-clause-entries
+pub returns-then-self-eq0-clause-entries : goal.returns-then-self-eq0-clause-entries
 unfolding from
-returns-in_default-clause-entries c =
-    rw (← c.self.view_is, no_front c.self.inside.deque.items _ c.self.inside.deque.ok.0 c.in_default.ensures.variant.1) refl
+returns-then-self-eq0-clause-entries c = rw (← c.self.view_is, (kept_facts c.self.invariant).empty (omega arith)) refl
 
-first_is : (c : goal.Then-index-first) → start_of c.self.inside.deque.items ≡ c.in-Some.front.now.index
-first_is c =
-    start_of_front c.self.inside.deque.items c.in-Some.front.now (omega (arith, c.in-Some.ensures.variant.0 refl, c.self.inside.deque.ok)) c.in-Some.ensures.lookup
+pub returns-then-index-self-clause-entries : goal.returns-then-index-self-clause-entries
+returns-then-index-self-clause-entries c = rw (← c.self.view_is) (sym (from_start c.args.index c.self.inside.first (expanded c.self.inside.first (shown c.self.inside.blocks.items)) (rises_expanded c.self.inside.first (shown c.self.inside.blocks.items)) (omega arith)))
 
-pub returns-then-index-first-clause-entries : goal.returns-then-index-first-clause-entries
-returns-then-index-first-clause-entries c =
-    let s = first_is c in
-    rw (← c.self.view_is)
-    (sym (from_start c.args.index (start_of c.self.inside.deque.items) c.self.inside.deque.items
-    (sound_rising c.self.inside.deque.items c.self.invariant.0) (omega arith)))
+pub drop_front-requires : goal.drop_front-requires
+drop_front-requires c = let l = (kept_facts c.self.invariant).length in rw (← c.self.view_is) (omega arith)
 
-cut : (c : goal.After-delete-2) → c.drop.new.self.0.items ≡ drop c.min-count.result c.self.inside.deque.items
-cut c = c.drop.ensures.items ∙ c.drain.ensures.kept
+pub delete-requires-2 : goal.delete-requires-2
+delete-requires-2 c =
+    let l = (kept_facts c.self.invariant).length in
+    let k = cut_counts c.min-count.result (expanded c.self.inside.first (shown c.self.inside.blocks.items)) c.self.invariant.sound (omega arith) in
+    let r = c.self.invariant.rewritten in let a = rw (← c.self.view_is) at (c.requires Append) in omega (arith, c.delete.ensures.live Append)
 
-counts : (c : goal.After-delete-2) → CutCounts c.min-count.result c.self.inside.deque.items
-counts c = cut_counts c.min-count.result c.self.inside.deque.items c.self.invariant.0 (omega (arith, c.self.inside.deque.ok))
-
-pub invariant_of-self : goal.invariant_of-self
-invariant_of-self c =
-    let k = counts c in
-    let r = c.self.invariant.1 in
-    rw (cut c) (AreTableEntries-drop c.min-count.result c.self.inside.deque.items c.self.invariant.0, omega arith)
+cut : (c : goal.After-delete-2) → c.drop_front.new.self ≡ drop c.min-count.result (expanded c.self.inside.first (shown c.self.inside.blocks.items))
+cut c = rw (c.self.view_is) c.drop_front.ensures
 
 pub returns-clause-entries : goal.returns-clause-entries
 returns-clause-entries c =
-    let s : start_of c.self.inside.deque.items ≡ c.in-Some.front.now.index =
-    start_of_front c.self.inside.deque.items c.in-Some.front.now (omega (arith, c.in-Some.ensures.variant.0 refl, c.self.inside.deque.ok)) c.in-Some.ensures.lookup in
-    rw (← c.self.view_is)
-    (cut c ∙ from_cut c.args.index c.min-count.result c.self.inside.deque.items c.self.invariant.0 (omega arith) (rw s (omega (arith, c.self.inside.deque.ok))))
+    let l = (kept_facts c.self.invariant).length in
+    let s = (kept_facts c.self.invariant).start (omega arith) in
+    rw (← c.self.view_is, cut c) (from_cut c.args.index c.min-count.result (expanded c.self.inside.first (shown c.self.inside.blocks.items)) c.self.invariant.sound (omega arith) (rw (s, l) c.min-count.ensures))
+
+pub returns-clause-dropped : goal.returns-clause-dropped
+returns-clause-dropped c = let l = (kept_facts c.self.invariant).length in rw (← c.self.view_is, cut c, length-drop c.min-count.result (expanded c.self.inside.first (shown c.self.inside.blocks.items))) (omega arith)
 
 pub returns-clause-recounted : goal.returns-clause-recounted
 returns-clause-recounted c =
-    let k = counts c in
-    let r = c.self.invariant.1 in
+    let l = (kept_facts c.self.invariant).length in
+    let k = cut_counts c.min-count.result (expanded c.self.inside.first (shown c.self.inside.blocks.items)) c.self.invariant.sound (omega arith) in
+    let r = c.self.invariant.rewritten in
     rw (← c.self.view_is, cut c)
     (each_queue _
     (omega (arith, c.delete.ensures.live Append, c.delete-2.ensures.live Append))
     (omega (arith, c.delete.ensures.live Rewrite, c.delete-2.ensures.live Rewrite)))
 
-pub returns-in_default-clause-counts : goal.returns-in_default-clause-counts
+pub returns-then-self-eq0-clause-counts : goal.returns-then-self-eq0-clause-counts
 unfolding below
-returns-in_default-clause-counts c =
-    none_below c.args.stats.now c.args.index c.args.self.now
-    (rw (← c.self.view_is, no_front c.self.inside.deque.items _ c.self.inside.deque.ok.0 c.in_default.ensures.variant.1) refl)
+returns-then-self-eq0-clause-counts c = none_below c.args.stats.now c.args.index c.args.self.now (rw (← c.self.view_is, (kept_facts c.self.invariant).empty (omega arith)) refl)
 
-pub returns-then-index-first-clause-counts : goal.returns-then-index-first-clause-counts
-returns-then-index-first-clause-counts c =
-    let s = first_is c in
+pub returns-then-index-self-clause-counts : goal.returns-then-index-self-clause-counts
+returns-then-index-self-clause-counts c =
     none_below c.args.stats.now c.args.index c.args.self.now
-    (rw (← c.self.view_is)
-    (below_start c.args.index (start_of c.self.inside.deque.items) c.self.inside.deque.items
-    (sound_rising c.self.inside.deque.items c.self.invariant.0) (omega arith)))
+    (rw (← c.self.view_is) (below_start c.args.index c.self.inside.first (expanded c.self.inside.first (shown c.self.inside.blocks.items)) (rises_expanded c.self.inside.first (shown c.self.inside.blocks.items)) (omega arith)))
 
 pub returns-clause-counts : goal.returns-clause-counts
 returns-clause-counts c =
-    let es = c.self.inside.deque.items in
-    let s : start_of es ≡ c.in-Some.front.now.index =
-    start_of_front es c.in-Some.front.now (omega (arith, c.in-Some.ensures.variant.0 refl, c.self.inside.deque.ok)) c.in-Some.ensures.lookup in
-    let k = counts c in
-    let r = c.self.invariant.1 in
-    let t = below_cut c.args.index c.min-count.result es c.self.invariant.0 (omega arith) (rw s (omega (arith, c.self.inside.deque.ok))) in
+    let es = expanded c.self.inside.first (shown c.self.inside.blocks.items) in
+    let l = (kept_facts c.self.invariant).length in
+    let s = (kept_facts c.self.invariant).start (omega arith) in
+    let k = cut_counts c.min-count.result es c.self.invariant.sound (omega arith) in
+    let r = c.self.invariant.rewritten in
+    let t = below_cut c.args.index c.min-count.result es c.self.invariant.sound (omega arith) (rw (s, l) c.min-count.ensures) in
     rw (← c.self.view_is, ← t)
     (same_deleted c.args.stats.now c.delete.new.self c.delete-2.new.self _ _ _ _ c.delete.ensures.after c.delete-2.ensures.after
     (omega (arith, k.rewritten, r)) (omega (arith, k.rewritten, k.both, r)))

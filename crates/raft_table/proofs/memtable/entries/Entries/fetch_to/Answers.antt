@@ -1,35 +1,64 @@
-use Rattle.std.proofs.Common.{◌≡◌, ◌<◌, length, arith, refl}
-use Rattle.std.proofs.lemmas.Result.{on_ok_weaker, IfErr-weaker}
+use Rattle.std.proofs.Common.{ℕ, suc, ◌≡◌, ◌≢◌, ◌+◌, ◌-◌, ◌<◌, ◌≤◌, ◌^◌, inl, inr, min, max, List, [], ◌∷◌, ◌++◌, length, take, drop, get_or, set, arith, refl, sym, ap, subst, ◌∙◌, Some, None, Option}
+use Rattle.std.specs.Prelude.{map}
+use Rattle.std.proofs.lemmas.List.{nil_from_length, append-nil, append_assoc, length-append, length-map, length-take-le, length-take, length-drop, take_all, drop_all, take-map, drop-map, map-append, map-set, get_or-map, get_or_default, take-append-drop}
+use Rattle.std.proofs.lemmas.Result.{err_from_is_err_and, on_ok_weaker, IfErr-weaker}
+use Rattle.raft_base.specs.declared.pipe_log.LogQueue.TheVariants.{Append, Rewrite}
+use Rattle.raft_table.specs.Blocks.{Stretch, stretch_of, shown, spread, expanded, AreStretches}
+use Rattle.raft_table.specs.BlockWords.{count, starts_of, AreKept, IsAt, IsIndexOf, cut_last, cut_first, joined, seam}
+use Rattle.raft_table.specs.Entries.{AreTableEntries, start_of, end_of, below, from, placed_in, entry_count}
+use Rattle.raft_table.proofs.PlaceLemmas.{each_queue, entry_count-append, entries_in_one}
+use Rattle.raft_table.proofs.SoundLemmas.{CutCounts, cut_counts, sound_rising, AreTableEntries-take, AreTableEntries-drop}
+use Rattle.raft_table.proofs.BlockLemmas.{length-expanded, length-starts, rises_expanded}
+use Rattle.raft_table.proofs.BlockSearch.{at_start, index_some, index_first, index_rises, at_place, entry_at_place, place_within}
+use Rattle.raft_table.proofs.BlockKept.{IsPushed, pushed_fits, kept_push, IsKeptAs, kept_join, sound_fits}
+use Rattle.raft_table.proofs.BlockCuts.{found, index_of, kept_length, kept_front, front_of, KeptFacts, kept_facts, kept_nil, kept_drop, kept_take, IsFront, front_at}
 use Rattle.raft_base.specs.declared.errors.Error.TheVariants as errors
-use Rattle.raft_table.specs.Entries.{start_of}
 use Rattle.raft_table.specs.Fetches.{Found, IsFetchFault, range_answer}
-use Rattle.raft_table.proofs.SoundLemmas.{start_of_front}
-use Rattle.raft_table.proofs.FetchLemmas.{range_behind, range_found, fetched_part}
+use Rattle.raft_table.proofs.FetchLemmas.{range_none, range_below, range_behind, range_found, fetched_part}
 use Rattle.raft_table.proofs.memtable.entries.Entries.fetch_to.Goals as goal
 
-pub returns-then-end-first-clause-fault : goal.returns-then-end-first-clause-fault
-returns-then-end-first-clause-fault c =
-    let es = c.self.inside.deque.items in
-    let l : 0 < length es = omega (arith, c.in-Some.ensures.variant.0 refl, c.self.inside.deque.ok) in
-    let s = start_of_front es c.in-Some.front.now l c.in-Some.ensures.lookup in
-    rw (← c.self.view_is, range_behind c.args.begin c.args.end es c.self.invariant.0 l (omega arith) (omega arith) (omega (arith, c.self.inside.deque.ok))) tt
+pub returns-then-self-eq0-clause-fault : goal.returns-then-self-eq0-clause-fault
+returns-then-self-eq0-clause-fault c = rw (← c.self.view_is, (kept_facts c.self.invariant).empty (omega arith), range_none c.args.begin c.args.end (omega arith)) tt
 
-found : (c : goal.After-extend) → range_answer c.args.begin c.args.end c.args.self.now ≡ Found
-found c =
-    let es = c.self.inside.deque.items in
-    let l : 0 < length es = omega (arith, c.in-Some.ensures.variant.0 refl, c.self.inside.deque.ok) in
-    let s = start_of_front es c.in-Some.front.now l c.in-Some.ensures.lookup in
-    rw (← c.self.view_is) (range_found c.args.begin c.args.end es c.self.invariant.0 l (omega arith) (omega arith) (omega (arith, c.self.inside.deque.ok)))
+pub returns-then-begin-self-clause-fault : goal.returns-then-begin-self-clause-fault
+returns-then-begin-self-clause-fault c =
+    let l = (kept_facts c.self.invariant).length in
+    let s = (kept_facts c.self.invariant).start (omega arith) in
+    rw (← c.self.view_is, range_below c.args.begin c.args.end (expanded c.self.inside.first (shown c.self.inside.blocks.items)) (omega arith) (omega arith) (omega arith)) tt
+
+pub returns-then-end-self-clause-fault : goal.returns-then-end-self-clause-fault
+returns-then-end-self-clause-fault c =
+    let l = (kept_facts c.self.invariant).length in
+    let s = (kept_facts c.self.invariant).start (omega arith) in
+    rw (← c.self.view_is, range_behind c.args.begin c.args.end (expanded c.self.inside.first (shown c.self.inside.blocks.items)) c.self.invariant.sound (omega arith) (omega arith) (omega arith) (omega arith)) tt
+
+pub count_within-count-requires-clause-within : goal.count_within-count-requires-clause-within
+count_within-count-requires-clause-within c = let l = (kept_facts c.self.invariant).length in rw (← c.self.view_is) (omega arith)
+
+pub extend-requires-clause-within : goal.extend-requires-clause-within
+extend-requires-clause-within c =
+    let l = (kept_facts c.self.invariant).length in
+    let t = c.count_within-count.ensures.there in
+    let n = length-drop (c.args.begin - c.self.inside.first) (take (c.args.end - c.self.inside.first) c.args.self.now) in
+    let m = length-take (c.args.end - c.self.inside.first) c.args.self.now in
+    let v : length c.args.self.now ≡ c.self.inside.len = rw (← c.self.view_is) l in
+    omega arith
+
+is_found : (c : goal.After-extend) → range_answer c.args.begin c.args.end c.args.self.now ≡ Found
+is_found c =
+    let l = (kept_facts c.self.invariant).length in
+    let s = (kept_facts c.self.invariant).start (omega arith) in
+    rw (← c.self.view_is) (range_found c.args.begin c.args.end (expanded c.self.inside.first (shown c.self.inside.blocks.items)) c.self.invariant.sound (omega arith) (omega arith) (omega arith) (omega arith))
 
 pub returns-clause-ok : goal.returns-clause-ok
 returns-clause-ok c =
-    let es = c.self.inside.deque.items in
-    let l : 0 < length es = omega (arith, c.in-Some.ensures.variant.0 refl, c.self.inside.deque.ok) in
-    let s : start_of es ≡ c.in-Some.front.now.index = start_of_front es c.in-Some.front.now l c.in-Some.ensures.lookup in
-    rw (found c, ← c.self.view_is)
-    (on_ok_weaker c.extend.result (λ h. fetched_part c.args.limit c.args.begin c.args.end c.count_within-count.result es c.args.vec.now.items c.extend.new.vec.items c.self.invariant.0 (omega arith) (omega arith) (rw s c.count_within-count.ensures) (rw s h)) c.extend.ensures.ok)
+    let l = (kept_facts c.self.invariant).length in
+    let s : start_of (expanded c.self.inside.first (shown c.self.inside.blocks.items)) ≡ c.self.inside.first = (kept_facts c.self.invariant).start (omega arith) in
+    let w = rw (← c.self.view_is) at c.count_within-count.ensures in
+    rw (is_found c, ← c.self.view_is)
+    (on_ok_weaker c.extend.result (λ h. fetched_part c.args.limit c.args.begin c.args.end c.count_within-count.result (expanded c.self.inside.first (shown c.self.inside.blocks.items)) c.args.vec.now.items c.extend.new.vec.items c.self.invariant.sound (omega arith) (omega arith) (rw s w) (rw (s, c.self.view_is) h)) c.extend.ensures.ok)
 
 pub returns-clause-fault : goal.returns-clause-fault
 returns-clause-fault c =
-    rw (found c)
+    rw (is_found c)
     (IfErr-weaker c.extend.result (λ e. e ≡ errors.Memory) (IsFetchFault Found) (λ e h. rw h tt) c.extend.ensures.memory)

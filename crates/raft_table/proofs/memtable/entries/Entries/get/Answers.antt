@@ -1,28 +1,52 @@
-use Rattle.std.proofs.Common.{ℕ, arith, refl, sym, ap, ◌≡◌, ◌<◌, ◌+◌, ◌-◌, ◌≤◌, List, length, Option, Some, None, MatchOption, ◌∙◌, Bor}
-use Rattle.std.specs.Option.{option_copied}
-use Rattle.std.specs.List.{HoldsAt}
-use Rattle.raft_records.specs.declared.entry_index.EntryIndex.{EntryIndex}
-use Rattle.raft_table.specs.Entries.{RisesFrom, start_of, entry_with_index}
-use Rattle.raft_table.proofs.LookupLemmas.{entry_at_low, entry_at_past, entry_at_is}
-use Rattle.raft_table.proofs.SoundLemmas.{start_of_front, sound_rising}
+use Rattle.std.proofs.Common.{ℕ, suc, ◌≡◌, ◌≢◌, ◌+◌, ◌-◌, ◌<◌, ◌≤◌, ◌^◌, inl, inr, min, max, List, [], ◌∷◌, ◌++◌, length, take, drop, get_or, set, arith, refl, sym, ap, subst, ◌∙◌, Some, None, Option}
+use Rattle.std.specs.Prelude.{map}
+use Rattle.std.proofs.lemmas.List.{nil_from_length, append-nil, append_assoc, length-append, length-map, length-take-le, length-take, length-drop, take_all, drop_all, take-map, drop-map, map-append, map-set, get_or-map, get_or_default, take-append-drop}
+use Rattle.std.proofs.lemmas.Result.{err_from_is_err_and, on_ok_weaker, IfErr-weaker}
+use Rattle.raft_base.specs.declared.pipe_log.LogQueue.TheVariants.{Append, Rewrite}
+use Rattle.raft_table.specs.Blocks.{Stretch, stretch_of, shown, spread, expanded, AreStretches}
+use Rattle.raft_table.specs.BlockWords.{count, starts_of, AreKept, IsAt, IsIndexOf, cut_last, cut_first, joined, seam}
+use Rattle.raft_table.specs.Entries.{AreTableEntries, start_of, end_of, below, from, placed_in, entry_count}
+use Rattle.raft_table.proofs.PlaceLemmas.{each_queue, entry_count-append, entries_in_one}
+use Rattle.raft_table.proofs.SoundLemmas.{CutCounts, cut_counts, sound_rising, AreTableEntries-take, AreTableEntries-drop}
+use Rattle.raft_table.proofs.BlockLemmas.{length-expanded, length-starts, rises_expanded}
+use Rattle.raft_table.proofs.BlockSearch.{at_start, index_some, index_first, index_rises, at_place, entry_at_place, place_within}
+use Rattle.raft_table.proofs.BlockCuts.{KeptFacts, kept_facts, kept_nil, kept_drop, kept_take, IsFront, front_at}
+use Rattle.raft_table.proofs.LookupLemmas.{entry_at_low, entry_at_past}
+use Rattle.raft_table.proofs.BlockQueues.{shown_at, block_at, block_within, place_inside}
+use Rattle.raft_table.proofs.BlockSearch.{at_same}
 use Rattle.raft_table.proofs.memtable.entries.Entries.get.Goals as goal
 
-pub returns-then-index-first : goal.returns-then-index-first
-returns-then-index-first c =
-    let es = c.self.inside.deque.items in
-    let s : start_of es ≡ c.in_ok-first.field-0.now.index =
-    start_of_front es c.in_ok-first.field-0.now (omega (arith, c.in_ok-first.ensures.variant.0 refl, c.self.inside.deque.ok)) c.in_ok-first.ensures.lookup in
-    rw (← c.self.view_is) (sym (entry_at_low c.args.index (start_of es) es (omega arith) (sound_rising es c.self.invariant.0)))
+pub returns-then-index-self : goal.returns-then-index-self
+returns-then-index-self c = rw (← c.self.view_is) (sym (entry_at_low c.args.index c.self.inside.first (expanded c.self.inside.first (shown c.self.inside.blocks.items)) (omega arith) (rises_expanded c.self.inside.first (shown c.self.inside.blocks.items))))
 
-found : (i k s : ℕ) (es : List EntryIndex) (r : Option (Bor EntryIndex)) → i ≡ s + k → RisesFrom s es → MatchOption r (length es ≤ k) (λ x. (k < length es) × HoldsAt (λ y. x.now ≡ y) es k) → option_copied r ≡ entry_with_index i es
-found i k s es None e h m = sym (entry_at_past i k s es e m h)
-found i k s es (Some x) e h m = ap (λ y. Some y) (m.1 x.now) ∙ sym (entry_at_is i k s es x.now e m.0 h)
+pub returns-then-index-self-2 : goal.returns-then-index-self-2
+returns-then-index-self-2 c =
+    let l = (kept_facts c.self.invariant).length in
+    rw (← c.self.view_is) (sym (entry_at_past c.args.index (c.args.index - c.self.inside.first) c.self.inside.first (expanded c.self.inside.first (shown c.self.inside.blocks.items)) (omega arith) (omega arith) (rises_expanded c.self.inside.first (shown c.self.inside.blocks.items))))
+
+pub find-whole-requires : goal.find-whole-requires
+find-whole-requires c = let l = c.self.invariant.len in (c.self.inside.first, (shown c.self.inside.blocks.items), c.self.invariant.starts, omega arith, omega arith)
+
+at : (c : goal.After-find-whole) → IsAt (c.args.index - c.self.inside.first) (shown c.self.inside.blocks.items) c.find-whole.result.0 c.find-whole.result.1
+at c = let l = c.self.invariant.len in c.find-whole.ensures c.self.inside.first (shown c.self.inside.blocks.items) c.self.invariant.starts (omega arith) (omega arith)
+
+pub index-block-requires : goal.index-block-requires
+index-block-requires c =
+    let l = c.self.invariant.len in
+    let a = c.find-whole.ensures c.self.inside.first (shown c.self.inside.blocks.items) c.self.invariant.starts (omega arith) (omega arith) in
+    let w = block_within c.self.inside.blocks.items a in omega (arith, c.self.inside.blocks.ok)
+
+pub index-span-requires : goal.index-span-requires
+index-span-requires c =
+    let l = c.self.invariant.len in
+    let a = c.find-whole.ensures c.self.inside.first (shown c.self.inside.blocks.items) c.self.invariant.starts (omega arith) (omega arith) in
+    let b = block_at c.self.inside.blocks.items c.index-block.result.now a c.index-block.ensures in
+    let w = b.inside in omega (arith, c.index-block.result.now.spans.ok)
 
 pub returns : goal.returns
 returns c =
-    let es = c.self.inside.deque.items in
-    let s : start_of es ≡ c.in_ok-first.field-0.now.index =
-    start_of_front es c.in_ok-first.field-0.now (omega (arith, c.in_ok-first.ensures.variant.0 refl, c.self.inside.deque.ok)) c.in_ok-first.ensures.lookup in
+    let l = c.self.invariant.len in
+    let a = c.find-whole.ensures c.self.inside.first (shown c.self.inside.blocks.items) c.self.invariant.starts (omega arith) (omega arith) in
+    let b = block_at c.self.inside.blocks.items c.index-block.result.now a c.index-block.ensures in
     rw (← c.self.view_is)
-    (c.copied.ensures
-    ∙ found c.args.index (c.args.index - c.in_ok-first.field-0.now.index) (start_of es) es c.get.result (rw s (omega arith)) (sound_rising es c.self.invariant.0) c.get.ensures.item.3)
+    (entry_at_place c.args.index c.self.inside.first c.find-whole.result.0 c.find-whole.result.1 (shown c.self.inside.blocks.items) (stretch_of c.index-block.result.now) c.index-span.result.now (omega arith) a b.same c.index-span.ensures)

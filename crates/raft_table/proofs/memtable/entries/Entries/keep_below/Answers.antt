@@ -1,34 +1,50 @@
-use Rattle.std.proofs.Common.{arith, refl, sym, ◌≡◌, ◌∙◌, take}
+use Rattle.std.proofs.Common.{ℕ, suc, ◌≡◌, ◌≢◌, ◌+◌, ◌-◌, ◌<◌, ◌≤◌, ◌^◌, inl, inr, min, max, List, [], ◌∷◌, ◌++◌, length, take, drop, get_or, set, arith, refl, sym, ap, subst, ◌∙◌, Some, None, Option}
+use Rattle.std.specs.Prelude.{map}
+use Rattle.std.proofs.lemmas.List.{nil_from_length, append-nil, append_assoc, length-append, length-map, length-take-le, length-take, length-drop, take_all, drop_all, take-map, drop-map, map-append, map-set, get_or-map, get_or_default, take-append-drop}
+use Rattle.std.proofs.lemmas.Result.{err_from_is_err_and, on_ok_weaker, IfErr-weaker}
 use Rattle.raft_base.specs.declared.pipe_log.LogQueue.TheVariants.{Append, Rewrite}
-use Rattle.raft_table.specs.Entries.{below, start_of}
-use Rattle.raft_table.proofs.PlaceLemmas.{each_queue}
-use Rattle.raft_table.proofs.SoundLemmas.{no_front, start_of_front, AreTableEntries-take, CutCounts, cut_counts}
+use Rattle.raft_table.specs.Blocks.{Stretch, stretch_of, shown, spread, expanded, AreStretches}
+use Rattle.raft_table.specs.BlockWords.{count, starts_of, AreKept, IsAt, IsIndexOf, cut_last, cut_first, joined, seam}
+use Rattle.raft_table.specs.Entries.{AreTableEntries, start_of, end_of, below, from, placed_in, entry_count}
+use Rattle.raft_table.proofs.PlaceLemmas.{each_queue, entry_count-append, entries_in_one}
+use Rattle.raft_table.proofs.SoundLemmas.{CutCounts, cut_counts, sound_rising, AreTableEntries-take, AreTableEntries-drop}
+use Rattle.raft_table.proofs.BlockLemmas.{length-expanded, length-starts, rises_expanded}
+use Rattle.raft_table.proofs.BlockSearch.{at_start, index_some, index_first, index_rises, at_place, entry_at_place, place_within}
+use Rattle.raft_table.proofs.BlockCuts.{found, index_of, kept_length, kept_front, front_of, KeptFacts, kept_facts, kept_nil, kept_drop, kept_take, IsFront, front_at}
 use Rattle.raft_table.proofs.CutLemmas.{front_below}
 use Rattle.raft_table.proofs.memtable.entries.Entries.keep_below.Goals as goal
 
-pub returns-in_default-clause-entries : goal.returns-in_default-clause-entries
+pub returns-then-self-eq0-clause-entries : goal.returns-then-self-eq0-clause-entries
 unfolding below
-returns-in_default-clause-entries c =
-    rw (← c.self.view_is, no_front c.self.inside.deque.items _ c.self.inside.deque.ok.0 c.in_default.ensures.variant.1) refl
+returns-then-self-eq0-clause-entries c = rw (← c.self.view_is, (kept_facts c.self.invariant).empty (omega arith)) refl
 
-pub invariant_of-self : goal.invariant_of-self
-invariant_of-self c =
-    let k = cut_counts c.min-keep.result c.self.inside.deque.items c.self.invariant.0 (omega (arith, c.self.inside.deque.ok)) in
-    let r = c.self.invariant.1 in
-    rw (c.truncate.ensures.items) (AreTableEntries-take c.min-keep.result c.self.inside.deque.items c.self.invariant.0, omega arith)
+pub keep_front-requires : goal.keep_front-requires
+keep_front-requires c = let l = (kept_facts c.self.invariant).length in rw (← c.self.view_is) (omega arith)
+
+pub overflow_sub-dropped-2 : goal.overflow_sub-dropped-2
+overflow_sub-dropped-2 c = let b = (kept_facts c.self.invariant).both in omega arith
+
+pub delete-requires-2 : goal.delete-requires-2
+delete-requires-2 c =
+    let l = (kept_facts c.self.invariant).length in
+    let k = cut_counts c.min-keep.result (expanded c.self.inside.first (shown c.self.inside.blocks.items)) c.self.invariant.sound (omega arith) in
+    let r = c.self.invariant.rewritten in let a = rw (← c.self.view_is) at (c.requires Append) in omega (arith, c.delete.ensures.live Append)
+
+cut : (c : goal.After-delete-2) → c.keep_front.new.self ≡ take c.min-keep.result (expanded c.self.inside.first (shown c.self.inside.blocks.items))
+cut c = rw (c.self.view_is) c.keep_front.ensures
 
 pub returns-clause-entries : goal.returns-clause-entries
 returns-clause-entries c =
-    let s : start_of c.self.inside.deque.items ≡ c.in-Some.front.now.index =
-    start_of_front c.self.inside.deque.items c.in-Some.front.now (omega (arith, c.in-Some.ensures.variant.0 refl, c.self.inside.deque.ok)) c.in-Some.ensures.lookup in
-    rw (← c.self.view_is)
-    (c.truncate.ensures.items ∙ front_below c.args.index c.in-Some.front.now.index c.min-keep.result c.self.inside.deque.items c.self.invariant.0 s (omega (arith, c.self.inside.deque.ok)))
+    let l = (kept_facts c.self.invariant).length in
+    let s = (kept_facts c.self.invariant).start (omega arith) in
+    rw (← c.self.view_is, cut c) (front_below c.args.index c.self.inside.first c.min-keep.result (expanded c.self.inside.first (shown c.self.inside.blocks.items)) c.self.invariant.sound s (omega arith))
 
 pub returns-clause-recounted : goal.returns-clause-recounted
 returns-clause-recounted c =
-    let k = cut_counts c.min-keep.result c.self.inside.deque.items c.self.invariant.0 (omega (arith, c.self.inside.deque.ok)) in
-    let r = c.self.invariant.1 in
-    rw (← c.self.view_is, c.truncate.ensures.items)
+    let l = (kept_facts c.self.invariant).length in
+    let k = cut_counts c.min-keep.result (expanded c.self.inside.first (shown c.self.inside.blocks.items)) c.self.invariant.sound (omega arith) in
+    let r = c.self.invariant.rewritten in
+    rw (← c.self.view_is, cut c)
     (each_queue _
     (omega (arith, c.delete.ensures.live Append, c.delete-2.ensures.live Append))
     (omega (arith, c.delete.ensures.live Rewrite, c.delete-2.ensures.live Rewrite)))

@@ -1,17 +1,23 @@
-use Rattle.std.proofs.Common.{arith, ◌≡◌, ◌<◌, ◌-◌, length, ap}
-use Rattle.std.specs.VecDeque.{deque_len}
-use Rattle.raft_table.specs.Entries.{start_of}
-use Rattle.raft_table.proofs.LookupLemmas.{index_at}
-use Rattle.raft_table.proofs.SoundLemmas.{sound_rising}
-use Rattle.raft_table.proofs.StartLemmas.{sound_end}
+use Rattle.std.proofs.Common.{ℕ, suc, ◌≡◌, ◌≢◌, ◌+◌, ◌-◌, ◌<◌, ◌≤◌, ◌^◌, inl, inr, min, max, List, [], ◌∷◌, ◌++◌, length, take, drop, get_or, set, arith, refl, sym, ap, subst, ◌∙◌, Some, None, Option}
+use Rattle.std.specs.Prelude.{map}
+use Rattle.std.proofs.lemmas.List.{nil_from_length, append-nil, append_assoc, length-append, length-map, length-take-le, length-take, length-drop, take_all, drop_all, take-map, drop-map, map-append, map-set, get_or-map, get_or_default, take-append-drop}
+use Rattle.std.proofs.lemmas.Result.{err_from_is_err_and, on_ok_weaker, IfErr-weaker}
+use Rattle.raft_base.specs.declared.pipe_log.LogQueue.TheVariants.{Append, Rewrite}
+use Rattle.raft_table.specs.Blocks.{Stretch, stretch_of, shown, spread, expanded, AreStretches}
+use Rattle.raft_table.specs.BlockWords.{count, starts_of, AreKept, IsAt, IsIndexOf, cut_last, cut_first, joined, seam}
+use Rattle.raft_table.specs.Entries.{AreTableEntries, start_of, end_of, below, from, placed_in, entry_count}
+use Rattle.raft_table.proofs.PlaceLemmas.{each_queue, entry_count-append, entries_in_one}
+use Rattle.raft_table.proofs.SoundLemmas.{CutCounts, cut_counts, sound_rising, AreTableEntries-take, AreTableEntries-drop}
+use Rattle.raft_table.proofs.BlockLemmas.{length-expanded, length-starts, rises_expanded}
+use Rattle.raft_table.proofs.BlockSearch.{at_start, index_some, index_first, index_rises, at_place, entry_at_place, place_within}
+use Rattle.raft_table.proofs.BlockCuts.{KeptFacts, kept_facts, kept_nil, kept_drop, kept_take, IsFront, front_at}
 use Rattle.raft_table.proofs.memtable.entries.Entries.last_index.Goals as goal
 
+pub returns-then-self-eq0 : goal.returns-then-self-eq0
+returns-then-self-eq0 c = rw (← c.self.view_is) ((kept_facts c.self.invariant).empty (omega arith))
+
+pub overflow_add-result : goal.overflow_add-result
+overflow_add-result c = let b = (kept_facts c.self.invariant).bounded (omega arith) in omega arith
+
 pub returns : goal.returns
-returns c =
-    let es = c.self.inside.deque.items in
-    let l : 0 < length es = c.in_ok-back.ensures.item.3.0 in
-    let n : deque_len c.self.inside.deque ≡ length es = c.self.inside.deque.ok.0 in
-    let i = index_at (deque_len c.self.inside.deque - 1) (start_of es) es c.in_ok-back.back.now (omega arith) (sound_rising es c.self.invariant.0) in
-    let b = ap (λ y. y.index) c.in_ok-back.ensures.lookup in
-    let e = sound_end es c.self.invariant.0 l in
-    rw (← c.self.view_is) (omega arith)
+returns c = let f = (kept_facts c.self.invariant).end (omega arith) in rw (← c.self.view_is) (omega arith)

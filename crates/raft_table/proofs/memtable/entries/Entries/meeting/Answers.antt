@@ -1,13 +1,29 @@
-use Rattle.std.proofs.Common.{arith, refl, ◌<◌, length}
-use Rattle.raft_table.proofs.SoundLemmas.{start_of_front}
-use Rattle.raft_table.proofs.StartLemmas.{sound_end}
+use Rattle.std.proofs.Common.{ℕ, suc, ◌≡◌, ◌≢◌, ◌+◌, ◌-◌, ◌<◌, ◌≤◌, ◌^◌, inl, inr, min, max, List, [], ◌∷◌, ◌++◌, length, take, drop, get_or, set, arith, refl, sym, ap, subst, ◌∙◌, Some, None, Option}
+use Rattle.std.specs.Prelude.{map}
+use Rattle.std.proofs.lemmas.List.{nil_from_length, append-nil, append_assoc, length-append, length-map, length-take-le, length-take, length-drop, take_all, drop_all, take-map, drop-map, map-append, map-set, get_or-map, get_or_default, take-append-drop}
+use Rattle.std.proofs.lemmas.Result.{err_from_is_err_and, on_ok_weaker, IfErr-weaker}
+use Rattle.raft_base.specs.declared.pipe_log.LogQueue.TheVariants.{Append, Rewrite}
+use Rattle.raft_table.specs.Blocks.{Stretch, stretch_of, shown, spread, expanded, AreStretches}
+use Rattle.raft_table.specs.BlockWords.{count, starts_of, AreKept, IsAt, IsIndexOf, cut_last, cut_first, joined, seam}
+use Rattle.raft_table.specs.Entries.{AreTableEntries, start_of, end_of, below, from, placed_in, entry_count}
+use Rattle.raft_table.proofs.PlaceLemmas.{each_queue, entry_count-append, entries_in_one}
+use Rattle.raft_table.proofs.SoundLemmas.{CutCounts, cut_counts, sound_rising, AreTableEntries-take, AreTableEntries-drop}
+use Rattle.raft_table.proofs.BlockLemmas.{length-expanded, length-starts, rises_expanded}
+use Rattle.raft_table.proofs.BlockSearch.{at_start, index_some, index_first, index_rises, at_place, entry_at_place, place_within}
+use Rattle.raft_table.proofs.BlockCuts.{KeptFacts, kept_facts, kept_nil, kept_drop, kept_take, IsFront, front_at}
 use Rattle.raft_table.proofs.memtable.entries.Entries.meeting.Goals as goal
 
+pub returns-then-self-eq0-clause-meets : goal.returns-then-self-eq0-clause-meets
+returns-then-self-eq0-clause-meets c = let l = (kept_facts c.self.invariant).length in rw (← c.self.view_is) (omega arith)
+
 pub overflow_add-end : goal.overflow_add-end
-overflow_add-end c =
-    let es = c.self.inside.deque.items in
-    let l : 0 < length es = omega (arith, c.in_ok-first.ensures.variant.0 refl, c.self.inside.deque.ok) in
-    let s = start_of_front es c.in_ok-first.field-0.now l c.in_ok-first.ensures.lookup in
-    let e = sound_end es c.self.invariant.0 l in
-    let b = c.self.invariant.0.bounded in
-    omega (arith, c.self.inside.deque.ok)
+overflow_add-end c = let b = (kept_facts c.self.invariant).bounded (omega arith) in omega arith
+
+pub returns-then-to-from-clause-meets : goal.returns-then-to-from-clause-meets
+returns-then-to-from-clause-meets c = let l = (kept_facts c.self.invariant).length in let s = (kept_facts c.self.invariant).start (omega arith) in rw (← c.self.view_is) (omega arith)
+
+pub returns-clause-meets : goal.returns-clause-meets
+returns-clause-meets c =
+    let l = (kept_facts c.self.invariant).length in
+    let s = (kept_facts c.self.invariant).start (omega arith) in
+    rw (← c.self.view_is, l, s) (record { in_entries = omega arith; in_run = omega arith; end = omega arith; some = omega arith })

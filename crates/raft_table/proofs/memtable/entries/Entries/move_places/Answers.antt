@@ -1,120 +1,47 @@
-use Rattle.std.proofs.Common.{arith, sym, ◌≡◌, ◌+◌, ◌-◌, ◌++◌, length, take, drop, ap, ◌∙◌}
-use Rattle.std.proofs.lemmas.List.{length-take-le}
+use Rattle.std.proofs.Common.{ℕ, suc, ◌≡◌, ◌≢◌, ◌+◌, ◌-◌, ◌<◌, ◌≤◌, ◌^◌, inl, inr, min, max, List, [], ◌∷◌, ◌++◌, length, take, drop, get_or, set, arith, refl, sym, ap, subst, ◌∙◌, Some, None, Option}
+use Rattle.std.specs.Prelude.{map}
+use Rattle.std.proofs.lemmas.List.{nil_from_length, append-nil, append_assoc, length-append, length-map, length-take-le, length-take, length-drop, take_all, drop_all, take-map, drop-map, map-append, map-set, get_or-map, get_or_default, take-append-drop}
+use Rattle.std.proofs.lemmas.Result.{err_from_is_err_and, on_ok_weaker, IfErr-weaker}
 use Rattle.raft_base.specs.declared.pipe_log.LogQueue.TheVariants.{Append, Rewrite}
-use Rattle.raft_table.specs.Counts.{with_deleted}
-use Rattle.raft_table.proofs.MovesLemmas.{Moves, moves}
-use Rattle.raft_table.proofs.PlaceLemmas.{each_queue, entries_in_both}
+use Rattle.raft_table.specs.Blocks.{Stretch, stretch_of, shown, spread, expanded, AreStretches}
+use Rattle.raft_table.specs.BlockWords.{count, starts_of, AreKept, IsAt, IsIndexOf, cut_last, cut_first, joined, seam}
+use Rattle.raft_table.specs.Entries.{AreTableEntries, start_of, end_of, below, from, placed_in, entry_count}
+use Rattle.raft_table.proofs.PlaceLemmas.{each_queue, entry_count-append, entries_in_one}
+use Rattle.raft_table.proofs.SoundLemmas.{CutCounts, cut_counts, sound_rising, AreTableEntries-take, AreTableEntries-drop}
+use Rattle.raft_table.proofs.BlockLemmas.{length-expanded, length-starts, rises_expanded}
+use Rattle.raft_table.proofs.BlockSearch.{at_start, index_some, index_first, index_rises, at_place, entry_at_place, place_within}
+use Rattle.raft_table.proofs.BlockKept.{IsPushed, pushed_fits, kept_push, IsKeptAs, kept_join, sound_fits}
+use Rattle.raft_table.proofs.BlockCuts.{found, index_of, kept_length, kept_front, front_of, KeptFacts, kept_facts, kept_nil, kept_drop, kept_take, IsFront, front_at}
+use Rattle.raft_table.proofs.MovesLemmas.{moves}
 use Rattle.raft_table.proofs.memtable.entries.Entries.move_places.Goals as goal
 
-facts_before : (c : goal.After-copy_places-arg-1) → Moves c.args.gate c.args.at c.movable-moved.result c.self.inside.deque.items c.args.places.now
-facts_before c =
-    moves c.args.gate c.args.at c.movable-moved.result c.self.inside.deque.items c.args.places.now c.self.invariant.0
-    (rw c.self.view_is c.requires.within) (rw c.self.view_is c.requires.rising) c.requires.placed (rw c.self.view_is c.requires.well_placed) c.movable-moved.ensures
+pub slice_bounds-set_places-end : goal.slice_bounds-set_places-end
+slice_bounds-set_places-end c = sym (length-take-le c.movable-moved.result c.args.places.now (moves c.args.gate c.args.at c.movable-moved.result c.args.self.now c.args.places.now c.holds_one_run.ensures c.requires.within c.requires.rising c.requires.placed c.requires.well_placed c.movable-moved.ensures).within)
 
-pub slice_bounds-copy_places-end : goal.slice_bounds-copy_places-end
-slice_bounds-copy_places-end c = let f = facts_before c in sym (length-take-le c.movable-moved.result c.args.places.now f.within)
+pub set_places-requires-clause-within : goal.set_places-requires-clause-within
+set_places-requires-clause-within c = let n = (length-take-le c.movable-moved.result c.args.places.now (moves c.args.gate c.args.at c.movable-moved.result c.args.self.now c.args.places.now c.holds_one_run.ensures c.requires.within c.requires.rising c.requires.placed c.requires.well_placed c.movable-moved.ensures).within) in let w = (moves c.args.gate c.args.at c.movable-moved.result c.args.self.now c.args.places.now c.holds_one_run.ensures c.requires.within c.requires.rising c.requires.placed c.requires.well_placed c.movable-moved.ensures).within in omega (arith, c.requires.within)
 
-facts_gate : (c : goal.In-Some) → Moves c.args.gate c.args.at c.movable-moved.result c.self.inside.deque.items c.args.places.now
-facts_gate c =
-    moves c.args.gate c.args.at c.movable-moved.result c.self.inside.deque.items c.args.places.now c.self.invariant.0
-    (rw c.self.view_is c.requires.within) (rw c.self.view_is c.requires.rising) c.requires.placed (rw c.self.view_is c.requires.well_placed) c.movable-moved.ensures
+pub set_places-requires-clause-sound : goal.set_places-requires-clause-sound
+set_places-requires-clause-sound c = subst (λ k. AreTableEntries (take c.args.at c.args.self.now ++ take c.movable-moved.result c.args.places.now ++ drop (c.args.at + k) c.args.self.now)) (sym (length-take-le c.movable-moved.result c.args.places.now (moves c.args.gate c.args.at c.movable-moved.result c.args.self.now c.args.places.now c.holds_one_run.ensures c.requires.within c.requires.rising c.requires.placed c.requires.well_placed c.movable-moved.ensures).within)) (moves c.args.gate c.args.at c.movable-moved.result c.args.self.now c.args.places.now c.holds_one_run.ensures c.requires.within c.requires.rising c.requires.placed c.requires.well_placed c.movable-moved.ensures).sound
 
-pub overflow_add-self : goal.overflow_add-self
-overflow_add-self c =
-    let f = facts_gate c in
-    let e = entries_in_both c.self.inside.deque.items c.self.invariant.0.in_front in
-    let a = rw c.in-Some.is at f.appended in
-    let r = c.self.invariant.1 in
-    omega (arith, c.self.inside.deque.ok, c.self.inside.deque.small)
+pub count_moved-requires-clause-moved : goal.count_moved-requires-clause-moved
+count_moved-requires-clause-moved c = let w = (moves c.args.gate c.args.at c.movable-moved.result c.args.self.now c.args.places.now c.holds_one_run.ensures c.requires.within c.requires.rising c.requires.placed c.requires.well_placed c.movable-moved.ensures).within in omega (arith, c.requires.written)
 
-facts_delete : (c : goal.After-delete-arg-1) → Moves c.args.gate c.args.at c.movable-moved.result c.self.inside.deque.items c.args.places.now
-facts_delete c =
-    moves c.args.gate c.args.at c.movable-moved.result c.self.inside.deque.items c.args.places.now c.self.invariant.0
-    (rw c.self.view_is c.requires.within) (rw c.self.view_is c.requires.rising) c.requires.placed (rw c.self.view_is c.requires.well_placed) c.movable-moved.ensures
+pub count_moved-requires-clause-appended : goal.count_moved-requires-clause-appended
+count_moved-requires-clause-appended c = let a = (moves c.args.gate c.args.at c.movable-moved.result c.args.self.now c.args.places.now c.holds_one_run.ensures c.requires.within c.requires.rising c.requires.placed c.requires.well_placed c.movable-moved.ensures).appended in omega (arith, c.requires.counted Append)
 
-pub delete-requires : goal.delete-requires
-delete-requires c =
-    let f = facts_delete c in
-    let a = rw c.in-Some.is at f.appended in
-    omega (arith, rw (← c.self.view_is) at (c.requires.counted Append), c.in_ok-add.ensures.live Append)
+new : (c : goal.After-count_moved) → c.set_places.new.self ≡ take c.args.at c.args.self.now ++ take c.movable-moved.result c.args.places.now ++ drop (c.args.at + c.movable-moved.result) c.args.self.now
+new c = c.in_ok-set_places.ensures.ok ∙ ap (λ k. take c.args.at c.args.self.now ++ take c.movable-moved.result c.args.places.now ++ drop (c.args.at + k) c.args.self.now) (length-take-le c.movable-moved.result c.args.places.now (moves c.args.gate c.args.at c.movable-moved.result c.args.self.now c.args.places.now c.holds_one_run.ensures c.requires.within c.requires.rising c.requires.placed c.requires.well_placed c.movable-moved.ensures).within)
 
-facts_rest : (c : goal.After-delete-arg-in-Some-1) → Moves c.args.gate c.args.at c.movable-moved.result c.self.inside.deque.items c.args.places.now
-facts_rest c =
-    moves c.args.gate c.args.at c.movable-moved.result c.self.inside.deque.items c.args.places.now c.self.invariant.0
-    (rw c.self.view_is c.requires.within) (rw c.self.view_is c.requires.rising) c.requires.placed (rw c.self.view_is c.requires.well_placed) c.movable-moved.ensures
+pub returns-clause-ok : goal.returns-clause-ok
+returns-clause-ok c = rw (← c.movable-moved.ensures) (new c, c.count_moved.ensures.counts)
 
-pub overflow_sub-written : goal.overflow_sub-written
-overflow_sub-written c = let f = facts_rest c in let w = f.within in omega (arith, c.requires.written)
-
-pub delete-requires-in-Some : goal.delete-requires-in-Some
-delete-requires-in-Some c = omega (arith, c.in_ok-add.ensures.live Rewrite, c.delete.ensures.live Rewrite)
-
-facts_some : (c : goal.After-delete-in-Some) → Moves c.args.gate c.args.at c.movable-moved.result c.self.inside.deque.items c.args.places.now
-facts_some c =
-    moves c.args.gate c.args.at c.movable-moved.result c.self.inside.deque.items c.args.places.now c.self.invariant.0
-    (rw c.self.view_is c.requires.within) (rw c.self.view_is c.requires.rising) c.requires.placed (rw c.self.view_is c.requires.well_placed) c.movable-moved.ensures
-
-new_some : (c : goal.After-delete-in-Some) → c.copy_places.new.deque.items ≡ take c.args.at c.self.inside.deque.items ++ take c.movable-moved.result c.args.places.now ++ drop (c.args.at + c.movable-moved.result) c.self.inside.deque.items
-new_some c =
-    let f = facts_some c in
-    let n : length (take c.movable-moved.result c.args.places.now) ≡ c.movable-moved.result = length-take-le c.movable-moved.result c.args.places.now f.within in
-    c.copy_places.ensures.items ∙ ap (λ k. take c.args.at c.self.inside.deque.items ++ take c.movable-moved.result c.args.places.now ++ drop (c.args.at + k) c.self.inside.deque.items) n
-
-pub invariant_of-self : goal.invariant_of-self
-invariant_of-self c =
-    let f = facts_some c in
-    let a = rw c.in-Some.is at f.rewritten in
-    let r = c.self.invariant.1 in
-    rw (new_some c) (f.sound, omega arith)
-
-pub returns-in-Some-clause-ok : goal.returns-in-Some-clause-ok
-returns-in-Some-clause-ok c =
-    rw (← c.self.view_is, ← c.movable-moved.ensures)
-    (new_some c, rw c.in-Some.is (c.delete-in-Some.ensures.after ∙ ap (with_deleted Rewrite (c.args.written - c.movable-moved.result)) (c.delete.ensures.after ∙ ap (with_deleted Append c.movable-moved.result) c.in_ok-add.ensures.ok)))
-
-pub returns-in-Some-clause-recounted : goal.returns-in-Some-clause-recounted
-returns-in-Some-clause-recounted c =
-    let f = facts_some c in
-    let w = f.within in
-    let a = rw c.in-Some.is at f.rewritten in
-    let b = rw c.in-Some.is at f.appended in
-    rw (← c.self.view_is, new_some c)
+pub returns-clause-recounted : goal.returns-clause-recounted
+returns-clause-recounted c =
+    let f = (moves c.args.gate c.args.at c.movable-moved.result c.args.self.now c.args.places.now c.holds_one_run.ensures c.requires.within c.requires.rising c.requires.placed c.requires.well_placed c.movable-moved.ensures) in
+    let a = f.appended in
+    let r = f.rewritten in
+    rw (new c)
     (each_queue _
-    (omega (arith, c.in_ok-add.ensures.live Append, c.delete.ensures.live Append, c.delete-in-Some.ensures.live Append))
-    (omega (arith, c.requires.written, c.in_ok-add.ensures.live Rewrite, c.delete.ensures.live Rewrite, c.delete-in-Some.ensures.live Rewrite)))
-
-pub delete-requires-in-None : goal.delete-requires-in-None
-delete-requires-in-None c = omega (arith, c.in_ok-add.ensures.live Rewrite)
-
-facts_none : (c : goal.After-delete-in-None) → Moves c.args.gate c.args.at c.movable-moved.result c.self.inside.deque.items c.args.places.now
-facts_none c =
-    moves c.args.gate c.args.at c.movable-moved.result c.self.inside.deque.items c.args.places.now c.self.invariant.0
-    (rw c.self.view_is c.requires.within) (rw c.self.view_is c.requires.rising) c.requires.placed (rw c.self.view_is c.requires.well_placed) c.movable-moved.ensures
-
-new_none : (c : goal.After-delete-in-None) → c.copy_places.new.deque.items ≡ take c.args.at c.self.inside.deque.items ++ take c.movable-moved.result c.args.places.now ++ drop (c.args.at + c.movable-moved.result) c.self.inside.deque.items
-new_none c =
-    let f = facts_none c in
-    let n : length (take c.movable-moved.result c.args.places.now) ≡ c.movable-moved.result = length-take-le c.movable-moved.result c.args.places.now f.within in
-    c.copy_places.ensures.items ∙ ap (λ k. take c.args.at c.self.inside.deque.items ++ take c.movable-moved.result c.args.places.now ++ drop (c.args.at + k) c.self.inside.deque.items) n
-
-pub invariant_of-self-in-None : goal.invariant_of-self-in-None
-invariant_of-self-in-None c =
-    let f = facts_none c in
-    let a = rw c.in-None.is at f.rewritten in
-    let r = c.self.invariant.1 in
-    rw (new_none c) (f.sound, omega arith)
-
-pub returns-in-None-clause-ok : goal.returns-in-None-clause-ok
-returns-in-None-clause-ok c =
-    rw (← c.self.view_is, ← c.movable-moved.ensures)
-    (new_none c, rw c.in-None.is (c.delete-in-None.ensures.after ∙ ap (with_deleted Rewrite c.args.written) c.in_ok-add.ensures.ok))
-
-pub returns-in-None-clause-recounted : goal.returns-in-None-clause-recounted
-returns-in-None-clause-recounted c =
-    let f = facts_none c in
-    let a = rw c.in-None.is at f.rewritten in
-    let b = rw c.in-None.is at f.appended in
-    rw (← c.self.view_is, new_none c)
-    (each_queue _
-    (omega (arith, c.in_ok-add.ensures.live Append, c.delete-in-None.ensures.live Append))
-    (omega (arith, c.in_ok-add.ensures.live Rewrite, c.delete-in-None.ensures.live Rewrite)))
+    (omega (arith, c.count_moved.ensures.appended))
+    (omega (arith, c.count_moved.ensures.rewritten)))

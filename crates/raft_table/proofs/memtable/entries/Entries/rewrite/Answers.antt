@@ -1,4 +1,4 @@
-use Rattle.std.proofs.Common.{ℕ, arith, sym, subst, ◌≡◌, ◌+◌, ◌≤◌, ◌^◌, length, ap, ◌∙◌, Some, None, List, [], Option}
+use Rattle.std.proofs.Common.{ℕ, ◌⊎◌, inl, inr, arith, sym, subst, ◌≡◌, ◌+◌, ◌≤◌, ◌^◌, length, ap, ◌∙◌, Some, None, List, [], Option}
 use Rattle.std.proofs.lemmas.Result.{err_from_is_err_and, on_ok_weaker, IfErr-weaker}
 use Rattle.raft_base.specs.declared.errors.Error.{Error}
 use Rattle.raft_base.specs.declared.errors.Error.TheVariants as errors
@@ -32,40 +32,35 @@ meeting-requires c =
 full_is : (n : ℕ) (counts : Counts) (gate : Option ℕ) (run es after : List EntryIndex) → rewritten gate run es ≡ Some after → 2 ^ 64 ≤ live Rewrite counts + n → IsRewriteFault n counts (rewritten gate run es) errors.Full
 full_is n counts gate run es after e h = rw e h
 
-start_full : (c : goal.After-from_residual) → start_of c.args.run.now ≡ c.in-Some.head.now.index
-start_full c = start_of_front c.args.run.now c.in-Some.head.now c.in-Some.ensures.item.3.0 c.in-Some.ensures.item.1
-
-pub returns-in_err-add-clause-fault : goal.returns-in_err-add-clause-fault
-returns-in_err-add-clause-fault c =
-    let p = err_from_is_err_and c.from_residual.result c.from_residual.ensures.1 in
-    let f = c.in_err-add.ensures.full in
-    let e = rewritten_apart c.args.gate Rewrite c.args.run.now c.args.self.now c.meeting.ensures.sound c.requires.run c.in-Some.ensures.item.3.0 (rw (start_full c) c.in_default-meeting.ensures.meets) in
-    rw (p.1, p.2, f.0) (full_is (length c.args.run.now) c.args.stats.now c.args.gate c.args.run.now c.args.self.now c.args.self.now e f.1)
-
-pub delete-requires : goal.delete-requires
-delete-requires c = omega (arith, c.in_ok-add.ensures.live Rewrite)
-
-start_apart : (c : goal.After-delete) → start_of c.args.run.now ≡ c.in-Some.head.now.index
+start_apart : (c : goal.After-count_unmoved) → start_of c.args.run.now ≡ c.in-Some.head.now.index
 start_apart c = start_of_front c.args.run.now c.in-Some.head.now c.in-Some.ensures.item.3.0 c.in-Some.ensures.item.1
 
+apart : (c : goal.After-count_unmoved) → rewritten c.args.gate c.args.run.now c.args.self.now ≡ Some c.args.self.now
+apart c = rewritten_apart c.args.gate Rewrite c.args.run.now c.args.self.now c.meeting.ensures.sound c.requires.run c.in-Some.ensures.item.3.0 (rw (start_apart c) c.in_default-meeting.ensures.meets)
+
 pub returns-in_default-meeting-clause-ok : goal.returns-in_default-meeting-clause-ok
-returns-in_default-meeting-clause-ok c =
-    rewritten_apart c.args.gate Rewrite c.args.run.now c.args.self.now c.meeting.ensures.sound c.requires.run c.in-Some.ensures.item.3.0 (rw (start_apart c) c.in_default-meeting.ensures.meets)
+returns-in_default-meeting-clause-ok c = on_ok_weaker c.count_unmoved.result (λ h. apart c) c.count_unmoved.ensures.ok
 
 pub returns-in_default-meeting-clause-counts : goal.returns-in_default-meeting-clause-counts
 returns-in_default-meeting-clause-counts c =
-    c.delete.ensures.after ∙ ap (with_deleted Rewrite (length c.args.run.now)) c.in_ok-add.ensures.ok
-    ∙ sym (recounted_apart c.args.gate Rewrite c.args.run.now c.args.self.now c.args.stats.now c.meeting.ensures.sound c.requires.run c.in-Some.ensures.item.3.0 (rw (start_apart c) c.in_default-meeting.ensures.meets))
+    on_ok_weaker c.count_unmoved.result
+    (λ h. h ∙ sym (recounted_apart c.args.gate Rewrite c.args.run.now c.args.self.now c.args.stats.now c.meeting.ensures.sound c.requires.run c.in-Some.ensures.item.3.0 (rw (start_apart c) c.in_default-meeting.ensures.meets)))
+    c.count_unmoved.ensures.ok
 
-start_memory : (c : goal.After-from_residual-in_err-corruption) → start_of c.args.run.now ≡ c.in-Some.head.now.index
+pub returns-in_default-meeting-clause-fault : goal.returns-in_default-meeting-clause-fault
+returns-in_default-meeting-clause-fault c =
+    IfErr-weaker c.count_unmoved.result (λ e. (e ≡ errors.Full) × (2 ^ 64 ≤ live Rewrite c.args.stats.now + length c.args.run.now)) (IsRewriteFault (length c.args.run.now) c.args.stats.now (rewritten c.args.gate c.args.run.now c.args.self.now))
+    (λ e h. rw h.0 (full_is (length c.args.run.now) c.args.stats.now c.args.gate c.args.run.now c.args.self.now c.args.self.now (apart c) h.1)) c.count_unmoved.ensures.full
+
+start_memory : (c : goal.After-from_residual) → start_of c.args.run.now ≡ c.in-Some.head.now.index
 start_memory c = start_of_front c.args.run.now c.in-Some.head.now c.in-Some.ensures.item.3.0 c.in-Some.ensures.item.1
 
-at_memory : (c : goal.After-from_residual-in_err-corruption) → RewritesAt c.args.gate c.args.run.now c.args.self.now c.in-Some-meeting.meeting.at c.in-Some-meeting.meeting.skipped c.in-Some-meeting.meeting.count
+at_memory : (c : goal.After-from_residual) → RewritesAt c.args.gate c.args.run.now c.args.self.now c.in-Some-meeting.meeting.at c.in-Some-meeting.meeting.skipped c.in-Some-meeting.meeting.count
 at_memory c = rewrites_at c.args.gate c.args.run.now c.args.self.now c.in-Some-meeting.meeting c.meeting.ensures.sound c.requires.run c.in-Some.ensures.item.3.0 (rw (start_memory c) c.in-Some-meeting.ensures.meets)
 
 pub returns-in_err-corruption-clause-fault : goal.returns-in_err-corruption-clause-fault
 returns-in_err-corruption-clause-fault c =
-    let p = err_from_is_err_and c.from_residual-in_err-corruption.result c.from_residual-in_err-corruption.ensures.1 in
+    let p = err_from_is_err_and c.from_residual.result c.from_residual.ensures.1 in
     let m = c.in_err-corruption.ensures.err in
     rw (p.1, p.2, m, (at_memory c).refused (sym c.if-is_misplaced.ensures)) tt
 
@@ -112,17 +107,22 @@ returns-clause-counts c =
     let f = at_moved c in
     on_ok_weaker c.move_places.result (λ h. h.1 ∙ ap (λ m. with_rewritten c.args.gate (length c.args.run.now) m c.args.stats.now) (sym f.counts) ∙ sym (recounted_is c.args.gate c.args.run.now c.args.self.now c.args.stats.now c.in-Some.ensures.item.3.0)) c.move_places.ensures.ok
 
+-- want of memory, or of room
+either_is : (n : ℕ) (counts : Counts) (gate : Option ℕ) (run es after : List EntryIndex) (e : Error) → rewritten gate run es ≡ Some after → (e ≡ errors.Memory) ⊎ ((e ≡ errors.Full) × (2 ^ 64 ≤ live Rewrite counts + n)) → IsRewriteFault n counts (rewritten gate run es) e
+either_is n counts gate run es after e h (inl m) = rw (m, h) tt
+either_is n counts gate run es after e h (inr f) = rw f.0 (full_is n counts gate run es after h f.1)
+
 pub returns-clause-fault : goal.returns-clause-fault
 returns-clause-fault c =
     let f = at_moved c in
-    IfErr-weaker c.move_places.result (λ e. (e ≡ errors.Full) × (2 ^ 64 ≤ live Rewrite c.args.stats.now + length c.args.run.now)) (IsRewriteFault (length c.args.run.now) c.args.stats.now (rewritten c.args.gate c.args.run.now c.args.self.now))
-    (λ e h. rw h.0 (full_is (length c.args.run.now) c.args.stats.now c.args.gate c.args.run.now c.args.self.now _ (f.ok (sym c.if-is_misplaced.ensures)) h.1)) c.move_places.ensures.full
+    IfErr-weaker c.move_places.result (λ e. (e ≡ errors.Memory) ⊎ ((e ≡ errors.Full) × (2 ^ 64 ≤ live Rewrite c.args.stats.now + length c.args.run.now))) (IsRewriteFault (length c.args.run.now) c.args.stats.now (rewritten c.args.gate c.args.run.now c.args.self.now))
+    (λ e h. either_is (length c.args.run.now) c.args.stats.now c.args.gate c.args.run.now c.args.self.now _ e (f.ok (sym c.if-is_misplaced.ensures)) h) c.move_places.ensures.fault
 
 pub returns-in_default-clause-places_alone : goal.returns-in_default-clause-places_alone
 returns-in_default-clause-places_alone c = none_moved c.args.run.now c.args.self.now
 
 pub returns-in_default-meeting-clause-places_alone : goal.returns-in_default-meeting-clause-places_alone
-returns-in_default-meeting-clause-places_alone c = none_moved c.args.run.now c.args.self.now
+returns-in_default-meeting-clause-places_alone c = on_ok_weaker c.count_unmoved.result (λ h. none_moved c.args.run.now c.args.self.now) c.count_unmoved.ensures.ok
 
 pub returns-clause-places_alone : goal.returns-clause-places_alone
 returns-clause-places_alone c =

@@ -1,0 +1,172 @@
+-- Blocks behind others, joined where two that meet have the same handle.
+use Rattle.std.proofs.Common.{◌≡◌, ◌≢◌, ℕ, zero, suc, ◌+◌, ◌<◌, ◌≤◌, Bool, true, false, eqb, List, [], ◌∷◌, ◌++◌, length, take, drop, refl, sym, ap, ◌∙◌, subst, arith}
+use Rattle.std.proofs.lemmas.List.{append-nil, append_assoc, length-append, drop-append-le}
+use Rattle.std.proofs.lemmas.Bool.{eqb-true}
+use Rattle.std.proofs.lemmas.Bool.Decides.{nat_tests}
+use Rattle.raft_base.specs.declared.pipe_log.FileBlockHandle.{FileBlockHandle}
+use Rattle.raft_base.specs.declared.pipe_log.LogQueue.{LogQueue}
+use Rattle.raft_base.specs.declared.pipe_log.LogQueue.TheVariants.{Append, Rewrite}
+use Rattle.raft_table.specs.Blocks.{Stretch, spread, expanded, Differs, AreStretches}
+use Rattle.raft_table.specs.BlockWords.{count, starts_of, AreKept, lengthened, shortened, cut_last, joined, seam}
+use Rattle.raft_table.specs.Entries.{AreTableEntries, entry_count}
+use Rattle.raft_table.specs.Fetches.{is_same_block}
+use Rattle.raft_table.specs.Queues.{is_same}
+use Rattle.raft_table.proofs.BlockLemmas.{length-spread, spread-append, length-expanded, count-append, expanded-append, starts-append, length-starts}
+use Rattle.raft_table.proofs.BlockCuts.{IsFront, Differs-same}
+
+same_queue : (q r : LogQueue) → is_same q r ≡ true → q ≡ r
+same_queue Append Append h = refl
+same_queue Append Rewrite h = cc
+same_queue Rewrite Append h = cc
+same_queue Rewrite Rewrite h = refl
+
+same_queue_self : (q : LogQueue) → is_same q q ≡ true
+same_queue_self Append = refl
+same_queue_self Rewrite = refl
+
+same_number : (a : ℕ) → eqb a a ≡ true
+same_number a = grind (arith, nat_tests)
+
+pub same_block_self : (a : FileBlockHandle) → is_same_block a a ≡ true
+same_block_self a = rw (same_queue_self a.id.queue, same_number a.id.seq, same_number a.offset, same_number a.len) refl
+
+pub same_block : (a b : FileBlockHandle) → is_same_block a b ≡ true → a ≡ b
+same_block a b h = at (is_same a.id.queue b.id.queue) (eqb a.id.seq b.id.seq) (eqb a.offset b.offset) (eqb a.len b.len) refl refl refl refl h
+  where
+    number : (x y : ℕ) → eqb x y ≡ true → x ≡ y
+    number x y e = grind (arith, nat_tests)
+
+    make : LogQueue → ℕ → ℕ → ℕ → FileBlockHandle
+    make q n o l = record { id = record { queue = q; seq = n }; offset = o; len = l }
+
+    equal : a.id.queue ≡ b.id.queue → a.id.seq ≡ b.id.seq → a.offset ≡ b.offset → a.len ≡ b.len → a ≡ b
+    equal e f g k =
+        ap (λ q. make q a.id.seq a.offset a.len) e ∙ ap (λ n. make b.id.queue n a.offset a.len) f
+        ∙ ap (λ o. make b.id.queue b.id.seq o a.len) g ∙ ap (λ l. make b.id.queue b.id.seq b.offset l) k
+
+    at : (x y z w : Bool) → is_same a.id.queue b.id.queue ≡ x → eqb a.id.seq b.id.seq ≡ y → eqb a.offset b.offset ≡ z → eqb a.len b.len ≡ w → is_same_block a b ≡ true → a ≡ b
+    at true true true true e f g k h = equal (same_queue _ _ e) (number _ _ f) (number _ _ g) (number _ _ k)
+    at false y z w e f g k h = cc
+    at true false z w e f g k h = cc
+    at true true false w e f g k h = cc
+    at true true true false e f g k h = cc
+
+pub other_block : (a b : FileBlockHandle) → is_same_block a b ≡ false → a ≢ b
+other_block a b h e = let t : is_same_block a b ≡ true = rw (← e) (same_block_self a) in cc
+
+pub other_block_is : (a b : FileBlockHandle) → a ≢ b → is_same_block a b ≡ false
+other_block_is a b n = at (is_same_block a b) refl
+  where
+    at : (t : Bool) → is_same_block a b ≡ t → is_same_block a b ≡ false
+    at true h = absurd (n (same_block a b h))
+    at false h = h
+
+pub joined_nil : (f : List Stretch) → joined f [] ≡ f
+joined_nil [] = refl
+joined_nil (b ∷ []) = refl
+joined_nil (b ∷ d ∷ f) = ap (λ ys. b ∷ ys) (joined_nil (d ∷ f))
+
+pub joined_append : (f y r : List Stretch) → 0 < length y → joined f y ++ r ≡ joined f (y ++ r)
+joined_append f [] r l = absurd (omega arith)
+joined_append [] (c ∷ y) r l = refl
+joined_append (b ∷ []) (c ∷ y) r l = at (is_same_block b.handle c.handle) refl
+  where
+    at : (t : Bool) → is_same_block b.handle c.handle ≡ t → joined (b ∷ []) (c ∷ y) ++ r ≡ joined (b ∷ []) (c ∷ y ++ r)
+    at true h = rw h refl
+    at false h = rw h refl
+joined_append (b ∷ d ∷ f) (c ∷ y) r l = ap (λ ys. b ∷ ys) (joined_append (d ∷ f) (c ∷ y) r l)
+
+pub joined_expanded : (i : ℕ) (f y : List Stretch) → expanded i (joined f y) ≡ expanded i f ++ expanded (i + count f) y
+joined_expanded i [] y = ap (λ n. expanded n y) (omega arith)
+joined_expanded i (b ∷ []) [] = sym (append-nil (expanded i (b ∷ [])))
+joined_expanded i (b ∷ []) (c ∷ y) = at (is_same_block b.handle c.handle) refl
+  where
+    n : i + (length b.spans + 0) ≡ i + length b.spans
+    n = omega arith
+
+    at : (t : Bool) → is_same_block b.handle c.handle ≡ t → expanded i (joined (b ∷ []) (c ∷ y)) ≡ expanded i (b ∷ []) ++ expanded (i + (length b.spans + 0)) (c ∷ y)
+    at false h = rw (h, n) (ap (λ xs. xs ++ expanded (i + length b.spans) (c ∷ y)) (sym (append-nil (spread i b.handle b.spans))))
+    at true h =
+        let e = same_block b.handle c.handle h in
+        let m : i + length (b.spans ++ c.spans) ≡ i + length b.spans + length c.spans = omega (arith, length-append b.spans c.spans) in
+        rw (h, n, m, spread-append i b.handle b.spans c.spans, append-nil (spread i b.handle b.spans), ← e)
+        (append_assoc (spread i b.handle b.spans) (spread (i + length b.spans) b.handle c.spans) (expanded (i + length b.spans + length c.spans) y))
+joined_expanded i (b ∷ d ∷ f) y =
+    let k = i + length b.spans in
+    let m : i + (length b.spans + count (d ∷ f)) ≡ k + count (d ∷ f) = omega arith in
+    rw m (ap (λ xs. spread i b.handle b.spans ++ xs) (joined_expanded k (d ∷ f) y)
+    ∙ sym (append_assoc (spread i b.handle b.spans) (expanded k (d ∷ f)) (expanded (k + count (d ∷ f)) y)))
+
+pub joined_starts : (i : ℕ) (f y : List Stretch) → starts_of i (joined f y) ≡ starts_of i f ++ drop (seam f y) (starts_of (i + count f) y)
+joined_starts i [] y = ap (λ n. starts_of n y) (omega arith)
+joined_starts i (b ∷ []) [] = refl
+joined_starts i (b ∷ []) (c ∷ y) = at (is_same_block b.handle c.handle) refl
+  where
+    n : i + (length b.spans + 0) ≡ i + length b.spans
+    n = omega arith
+
+    at : (t : Bool) → is_same_block b.handle c.handle ≡ t → starts_of i (joined (b ∷ []) (c ∷ y)) ≡ starts_of i (b ∷ []) ++ drop (seam (b ∷ []) (c ∷ y)) (starts_of (i + (length b.spans + 0)) (c ∷ y))
+    at false h = rw (h, n) refl
+    at true h =
+        let m : i + length (b.spans ++ c.spans) ≡ i + length b.spans + length c.spans = omega (arith, length-append b.spans c.spans) in
+        rw (h, n, m) refl
+joined_starts i (b ∷ d ∷ f) y =
+    let k = i + length b.spans in
+    let m : i + (length b.spans + count (d ∷ f)) ≡ k + count (d ∷ f) = omega arith in
+    rw m (ap (λ xs. i ∷ xs) (joined_starts k (d ∷ f) y))
+
+pub joined_count : (f y : List Stretch) → count (joined f y) ≡ count f + count y
+joined_count f y =
+    let a = length-expanded 0 (joined f y) in
+    let b = length-append (expanded 0 f) (expanded (0 + count f) y) in
+    let c = length-expanded 0 f in
+    let d = length-expanded (0 + count f) y in
+    let e = ap length (joined_expanded 0 f y) in
+    omega arith
+
+pub joined_stretches : (f y : List Stretch) → AreStretches f → AreStretches y → AreStretches (joined f y)
+joined_stretches [] y h k = k
+joined_stretches (b ∷ []) [] h k = h
+joined_stretches (b ∷ []) (c ∷ y) h k = at (is_same_block b.handle c.handle) refl
+  where
+    at : (t : Bool) → is_same_block b.handle c.handle ≡ t → AreStretches (joined (b ∷ []) (c ∷ y))
+    at false t = rw t (h.0, other_block b.handle c.handle t, k)
+    at true t =
+        let e = same_block b.handle c.handle t in
+        rw t (let l = h.0 in omega (arith, length-append b.spans c.spans), Differs-same c (lengthened b c.spans) y e k.1, k.2)
+joined_stretches (b ∷ d ∷ f) y h k = (h.0, first d f y h.1, joined_stretches (d ∷ f) y h.2 k)
+  where
+    first : (d : Stretch) (f y : List Stretch) → b.handle ≢ d.handle → Differs b (joined (d ∷ f) y)
+    first d [] [] n = n
+    first d [] (c ∷ y) n = at (is_same_block d.handle c.handle) refl
+      where
+        at : (t : Bool) → is_same_block d.handle c.handle ≡ t → Differs b (joined (d ∷ []) (c ∷ y))
+        at true t = rw t n
+        at false t = rw t n
+    first d (x ∷ f) y n = n
+
+pub seam_cut : (m : ℕ) (f y : List Stretch) → seam (cut_last m f) y ≡ seam f y
+seam_cut m [] y = refl
+seam_cut m (b ∷ []) [] = refl
+seam_cut m (b ∷ []) (c ∷ y) = refl
+seam_cut m (b ∷ d ∷ []) y = seam_cut m (d ∷ []) y
+seam_cut m (b ∷ d ∷ x ∷ f) y = seam_cut m (d ∷ x ∷ f) y
+
+-- what is kept after blocks were put behind a front, and before those that stay behind
+pub kept_put : (i p k n : ℕ) (bs front y rest : List Stretch) (ss tt rs : List ℕ) (r : ℕ) → IsFront i p k bs front → ss ≡ starts_of i bs → tt ≡ starts_of (i + p) y → rs ≡ starts_of (i + p + count y) rest → 0 < length y → AreStretches (y ++ rest) → n ≡ p + count y + count rest → AreTableEntries (take p (expanded i bs) ++ expanded (i + p) y ++ expanded (i + p + count y) rest) → r ≡ entry_count Rewrite (take p (expanded i bs) ++ expanded (i + p) y ++ expanded (i + p + count y) rest) → AreKept i n (joined front y ++ rest) (take k ss ++ drop (seam front y) tt ++ rs) r × (expanded i (joined front y ++ rest) ≡ take p (expanded i bs) ++ expanded (i + p) y ++ expanded (i + p + count y) rest)
+kept_put i p k n bs front y rest ss tt rs r f e g h l str len sound q =
+    let c = f.count in
+    let m : i + count (joined front y) ≡ i + p + count y = omega (arith, joined_count front y) in
+    let whole : expanded i (joined front y ++ rest) ≡ take p (expanded i bs) ++ expanded (i + p) y ++ expanded (i + p + count y) rest =
+    expanded-append i (joined front y) rest ∙ rw (m, joined_expanded i front y, f.entries, c) refl in
+    let starts : take k ss ++ drop (seam front y) tt ++ rs ≡ starts_of i (joined front y ++ rest) =
+    sym (starts-append i (joined front y) rest ∙ rw (m, joined_starts i front y, f.starts, c, e, g, h) refl) in (
+      record {
+        sound = subst AreTableEntries (sym whole) sound;
+        stretches = subst AreStretches (sym (joined_append front y rest l)) (joined_stretches front (y ++ rest) f.stretches str);
+        starts = starts;
+        len = len ∙ sym (count-append (joined front y) rest ∙ omega (arith, joined_count front y));
+        rewritten = q ∙ ap (entry_count Rewrite) (sym whole);
+      },
+      whole,
+    )

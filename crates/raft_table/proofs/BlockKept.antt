@@ -1,0 +1,157 @@
+-- What is kept of entries behind or between others.
+use Rattle.std.proofs.Common.{◌≡◌, ◌≢◌, ◌^◌, true, Some, ℕ, zero, suc, ◌+◌, ◌-◌, ◌<◌, ◌≤◌, min, List, [], ◌∷◌, ◌++◌, length, get_or, take, drop, refl, sym, ap, ◌∙◌, subst, arith}
+use Rattle.std.proofs.lemmas.List.{nil_from_length, append-nil, append_assoc, length-append, length-drop, length-take-le, take_all, drop_all, drop-append-le, drop_more}
+use Rattle.raft_base.specs.declared.pipe_log.FileBlockHandle.{FileBlockHandle}
+use Rattle.raft_base.specs.declared.pipe_log.LogQueue.{LogQueue}
+use Rattle.raft_base.specs.declared.pipe_log.LogQueue.TheVariants.{Append, Rewrite}
+use Rattle.raft_records.specs.declared.compression_type.CompressionType.TheVariants as compression
+use Rattle.raft_records.specs.declared.entry_index.EntryIndex.{EntryIndex}
+use Rattle.raft_table.specs.Blocks.{Stretch, spread, expanded, AreStretches}
+use Rattle.raft_table.specs.BlockWords.{count, starts_of, AreKept, advanced, cut_first, cut_last, joined, seam, IsAt}
+use Rattle.raft_table.specs.Entries.{RisesFrom, AreTableEntries, start_of, placed_in, is_placed_in, entry_count}
+use Rattle.raft_table.specs.Queues.{is_same, count_in}
+use Rattle.raft_table.proofs.RunLemmas.{start-of_rising, end_of-run}
+use Rattle.raft_table.proofs.PlaceLemmas.{entries_in_both, entry_count-append, entries_in_one}
+use Rattle.raft_table.proofs.SoundLemmas.{sound_rising, cut_counts}
+use Rattle.raft_table.proofs.BlockLemmas.{length-spread, rises_spread, length-expanded, length-starts, starts_drop, count_cut, rises_expanded}
+use Rattle.raft_table.proofs.BlockSearch.{place_within}
+use Rattle.raft_table.proofs.BlockCuts.{IsFront, kept_facts, kept_drop, kept_length, split_drop}
+use Rattle.raft_table.proofs.BlockJoins.{joined_append, joined_expanded, joined_starts, joined_count, joined_stretches, seam_cut, kept_put}
+
+rises_behind : (s : ℕ) (a b : List EntryIndex) → RisesFrom s (a ++ b) → RisesFrom (s + length a) b
+rises_behind s [] b h = let e : s + 0 ≡ s = omega arith in rw e h
+rises_behind s (x ∷ a) b h = let e : s + suc (length a) ≡ suc s + length a = omega arith in rw e (rises_behind (suc s) a b h.1)
+
+-- entries behind others start where those end
+pub behind_index : (i : ℕ) (a b : List EntryIndex) → AreTableEntries (a ++ b) → RisesFrom i a → 0 < length a → 0 < length b → start_of b ≡ i + length a
+behind_index i [] b h r l m = absurd (omega arith)
+behind_index i (x ∷ a) b h r l m =
+    let up : RisesFrom x.index (x ∷ a ++ b) = sound_rising (x ∷ a ++ b) h in
+    let e = r.0 in
+    start-of_rising (x.index + length (x ∷ a)) b (rises_behind x.index (x ∷ a) b up) m ∙ omega arith
+
+is_same_self : (q : LogQueue) → is_same q q ≡ true
+is_same_self Append = refl
+is_same_self Rewrite = refl
+
+placed_spread : (i : ℕ) (h : FileBlockHandle) (ss : List (ℕ × ℕ)) → placed_in h.id.queue (spread i h ss) ≡ spread i h ss
+unfolding placed_in is_placed_in
+placed_spread i h [] = refl
+placed_spread i h (s ∷ ss) = rw (is_same_self h.id.queue) (ap (λ es. record { index = i; entries = Some h; compression_type = compression.None; entry_offset = s.0; entry_len = s.1 } ∷ es) (placed_spread (suc i) h ss))
+
+pub entries_in_spread : (q : LogQueue) (i : ℕ) (h : FileBlockHandle) (ss : List (ℕ × ℕ)) → entry_count q (spread i h ss) ≡ count_in q h.id.queue (length ss)
+entries_in_spread q i h ss = entries_in_one q h.id.queue (spread i h ss) (placed_spread i h ss) ∙ ap (count_in q h.id.queue) (length-spread i h ss)
+
+pub count_in_le : (q r : LogQueue) (n : ℕ) → count_in q r n ≤ n
+count_in_le Append Append n = omega arith
+count_in_le Append Rewrite n = omega arith
+count_in_le Rewrite Append n = omega arith
+count_in_le Rewrite Rewrite n = omega arith
+
+-- sound entries that begin at an index end below 2^64
+pub sound_fits : (i : ℕ) (es : List EntryIndex) → AreTableEntries es → RisesFrom i es → 0 < length es → i + length es < 2 ^ 64
+sound_fits i es h r l = let e = end_of-run i es r l in let b = h.bounded in omega arith
+
+all_front : (i n : ℕ) (bs : List Stretch) → AreStretches bs → n ≡ count bs → IsFront i n (length bs) bs bs
+all_front i n bs h e = record {
+  entries = sym (take_all n (expanded i bs) (let l = length-expanded i bs in omega arith));
+  stretches = h;
+  starts = sym (take_all (length bs) (starts_of i bs) (let l = length-starts i bs in omega arith));
+  count = sym e;
+}
+
+none_in : entry_count Rewrite [] ≡ 0
+unfolding placed_in
+none_in = refl
+
+-- the entries of one block behind others
+pub record IsPushed (i j n x : ℕ) (bs : List Stretch) (ss : List ℕ) (r : ℕ) (t : Stretch) : Type 0 where
+  pub kept : AreKept j (n + length t.spans) (joined bs (t ∷ [])) (ss ++ drop (seam bs (t ∷ [])) (x ∷ [])) (r + count_in Rewrite t.handle.id.queue (length t.spans))
+  pub entries : expanded j (joined bs (t ∷ [])) ≡ expanded i bs ++ spread x t.handle t.spans
+
+pub pushed_fits : {i n : ℕ} {bs : List Stretch} {ss : List ℕ} {r : ℕ} → AreKept i n bs ss r → (x : ℕ) (t : Stretch) → 0 < length t.spans → AreTableEntries (expanded i bs ++ spread x t.handle t.spans) → (n + length t.spans < 2 ^ 64) × (r + count_in Rewrite t.handle.id.queue (length t.spans) ≤ n + length t.spans)
+pushed_fits {i} {n} {bs} {ss} {r} h x t l s =
+    let es = expanded i bs ++ spread x t.handle t.spans in
+    let f = (kept_facts h).length in
+    let b = (kept_facts h).both in
+    let g = length-spread x t.handle t.spans in
+    let m = length-append (expanded i bs) (spread x t.handle t.spans) in
+    let u = sound_fits (start_of es) es s (sound_rising es s) (omega arith) in
+    let c = count_in_le Rewrite t.handle.id.queue (length t.spans) in
+    (omega arith, omega arith)
+
+pub kept_push : {i n : ℕ} {bs : List Stretch} {ss : List ℕ} {r : ℕ} → AreKept i n bs ss r → (j x : ℕ) (t : Stretch) → 0 < length t.spans → AreTableEntries (expanded i bs ++ spread x t.handle t.spans) → (n ≡ 0 → j ≡ x) → (0 < n → j ≡ i) → IsPushed i j n x bs ss r t
+kept_push {i} {n} {bs = []} {ss} {r} h j x t l s e f =
+    let z : n ≡ 0 = h.len in
+    let q : r ≡ 0 = h.rewritten ∙ none_in in
+    let g : ss ≡ [] = h.starts in
+    let u = entries_in_spread Rewrite x t.handle t.spans in
+    let v = append-nil (spread x t.handle t.spans) in
+    rw (z, q, g, e z) (record {
+      kept = record {
+        sound = rw v s;
+        stretches = (l, tt, tt);
+        starts = refl;
+        len = omega arith;
+        rewritten = rw (v, u) (omega arith);
+      };
+      entries = v;
+    })
+kept_push {i} {n} {bs = b ∷ bs} {ss} {r} h j x t l s e f =
+    let xs = b ∷ bs in
+    let k = h.len in
+    let p = h.stretches.0 in
+    let a = expanded i xs in
+    let la = (kept_facts h).length in
+    let g = length-spread x t.handle t.spans in
+    let y : x ≡ i + n = sym (start-of_rising x (spread x t.handle t.spans) (rises_spread x t.handle t.spans) (omega arith)) ∙ behind_index i a (spread x t.handle t.spans) s (rises_expanded i xs) (omega arith) (omega arith) ∙ omega arith in
+    let fr = all_front i n xs h.stretches k in
+    let v : expanded (i + n) (t ∷ []) ≡ spread x t.handle t.spans = append-nil (spread (i + n) t.handle t.spans) ∙ ap (λ m. spread m t.handle t.spans) (sym y) in
+    let whole : take n a ++ expanded (i + n) (t ∷ []) ++ [] ≡ a ++ spread x t.handle t.spans = append-nil (take n a ++ expanded (i + n) (t ∷ [])) ∙ rw (v, take_all n a (omega arith)) refl in
+    let c1 = entry_count-append Rewrite a (spread x t.handle t.spans) in
+    let c2 = entries_in_spread Rewrite x t.handle t.spans in
+    let c3 = h.rewritten in
+    let put = kept_put i n (length xs) (n + length t.spans) xs xs (t ∷ []) [] ss (x ∷ []) [] (r + count_in Rewrite t.handle.id.queue (length t.spans)) fr h.starts (ap (λ m. m ∷ []) y) refl (omega arith) (l, tt, tt) (omega arith)
+    (subst AreTableEntries (sym whole) s) (subst (λ es. r + count_in Rewrite t.handle.id.queue (length t.spans) ≡ entry_count Rewrite es) (sym whole) (omega arith)) in
+    let n1 = append-nil (joined xs (t ∷ [])) in
+    let n2 : take (length xs) ss ++ drop (seam xs (t ∷ [])) (x ∷ []) ++ [] ≡ ss ++ drop (seam xs (t ∷ [])) (x ∷ []) =
+    append-nil (take (length xs) ss ++ drop (seam xs (t ∷ [])) (x ∷ [])) ∙ ap (λ ys. ys ++ drop (seam xs (t ∷ [])) (x ∷ [])) (take_all (length xs) ss (let q = kept_length h in omega arith)) in
+    rw (f (omega arith)) (record {
+      kept = subst (λ ys. AreKept i (n + length t.spans) ys (ss ++ drop (seam xs (t ∷ [])) (x ∷ [])) (r + count_in Rewrite t.handle.id.queue (length t.spans))) n1 (subst (λ ys. AreKept i (n + length t.spans) (joined xs (t ∷ []) ++ []) ys (r + count_in Rewrite t.handle.id.queue (length t.spans))) n2 put.0);
+      entries = ap (expanded i) (sym n1) ∙ put.1 ∙ whole;
+    })
+
+-- blocks put behind a front, and nothing behind them
+pub record IsKeptAs (i n : ℕ) (bs : List Stretch) (ss : List ℕ) (r : ℕ) (es : List EntryIndex) : Type 0 where
+  pub kept : AreKept i n bs ss r
+  pub entries : expanded i bs ≡ es
+
+pub kept_join : {i n j m : ℕ} {bs ys : List Stretch} {ss tt : List ℕ} {r q : ℕ} → AreKept i n bs ss r → AreKept j m ys tt q → (w k o rest : ℕ) → 0 < w → w ≤ n → IsFront i w k bs (cut_last o (take k bs)) → 0 < m → AreTableEntries (take w (expanded i bs) ++ expanded j ys) → rest ≡ length bs → IsKeptAs i (w + m) (joined (cut_last o (take k bs)) ys ++ drop rest bs) (take k ss ++ drop (seam (take k bs) ys) tt ++ drop rest ss) (min r w + q) (take w (expanded i bs) ++ expanded j ys)
+kept_join {i} {n} {j} {m} {bs} {ys} {ss} {tt} {r} {q} h g w k o rest l d f p s e =
+    let es = expanded i bs in
+    let le = (kept_facts h).length in
+    let ly = (kept_facts g).length in
+    let lt : length (take w es) ≡ w = length-take-le w es (omega arith) in
+    let front = cut_last o (take k bs) in
+    let up : RisesFrom i (take w es) = subst (RisesFrom i) f.entries (rises_expanded i front) in
+    let y : j ≡ i + w = sym ((kept_facts g).start p) ∙ behind_index i (take w es) (expanded j ys) s up (omega arith) (omega arith) ∙ omega arith in
+    let gl = g.len in
+    let some : 0 < length ys = filled ys (omega arith) in
+    let n1 : drop rest bs ≡ [] = drop_all rest bs (omega arith) in
+    let n2 : drop rest ss ≡ [] = drop_all rest ss (let z = kept_length h in omega arith) in
+    let whole : take w es ++ expanded (i + w) ys ++ [] ≡ take w es ++ expanded j ys = append-nil (take w es ++ expanded (i + w) ys) ∙ ap (λ z. take w es ++ expanded z ys) (sym y) in
+    let cc = cut_counts w es h.sound (omega arith) in
+    let c1 = entry_count-append Rewrite (take w es) (expanded j ys) in
+    let c2 = h.rewritten in
+    let c3 = g.rewritten in
+    let put = kept_put i w k (w + m) bs front ys [] ss tt [] (min r w + q) f h.starts (g.starts ∙ ap (λ z. starts_of z ys) y) refl some (subst AreStretches (sym (append-nil ys)) g.stretches) (omega arith)
+    (subst AreTableEntries (sym whole) s) (subst (λ xs. min r w + q ≡ entry_count Rewrite xs) (sym whole) (omega arith)) in
+    rw (n1, n2, ← seam_cut o (take k bs) ys) (record { kept = put.0; entries = put.1 ∙ whole })
+  where
+    filled : (ys : List Stretch) → 0 < count ys → 0 < length ys
+    filled [] l = l
+    filled (c ∷ cs) l = omega arith
+
+pub blocks_filled : (i : ℕ) (bs : List Stretch) → 0 < length (expanded i bs) → 0 < length bs
+blocks_filled i [] l = l
+blocks_filled i (b ∷ bs) l = omega arith

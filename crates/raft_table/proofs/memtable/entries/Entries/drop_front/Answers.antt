@@ -1,0 +1,56 @@
+use Rattle.std.proofs.Common.{ℕ, suc, ◌≡◌, ◌≢◌, ◌+◌, ◌-◌, ◌<◌, ◌≤◌, ◌^◌, inl, inr, min, max, List, [], ◌∷◌, ◌++◌, length, take, drop, get_or, set, arith, refl, sym, ap, subst, ◌∙◌, Some, None, Option}
+use Rattle.std.specs.Prelude.{map}
+use Rattle.std.proofs.lemmas.List.{nil_from_length, append-nil, append_assoc, length-append, length-map, length-take-le, length-take, length-drop, take_all, drop_all, take-map, drop-map, map-append, map-set, get_or-map, get_or_default, take-append-drop}
+use Rattle.std.proofs.lemmas.Result.{err_from_is_err_and, on_ok_weaker, IfErr-weaker}
+use Rattle.raft_base.specs.declared.pipe_log.LogQueue.TheVariants.{Append, Rewrite}
+use Rattle.raft_table.specs.Blocks.{Stretch, stretch_of, shown, spread, expanded, AreStretches}
+use Rattle.raft_table.specs.BlockWords.{count, starts_of, AreKept, IsAt, IsIndexOf, cut_last, cut_first, joined, seam}
+use Rattle.raft_table.specs.Entries.{AreTableEntries, start_of, end_of, below, from, placed_in, entry_count}
+use Rattle.raft_table.proofs.PlaceLemmas.{each_queue, entry_count-append, entries_in_one}
+use Rattle.raft_table.proofs.SoundLemmas.{CutCounts, cut_counts, sound_rising, AreTableEntries-take, AreTableEntries-drop}
+use Rattle.raft_table.proofs.BlockLemmas.{length-expanded, length-starts, rises_expanded}
+use Rattle.raft_table.proofs.BlockSearch.{at_start, index_some, index_first, index_rises, at_place, entry_at_place, place_within}
+use Rattle.raft_table.proofs.BlockCuts.{found, index_of, kept_length, kept_front, front_of, KeptFacts, kept_facts, kept_nil, kept_drop, kept_take, IsFront, front_at}
+use Rattle.raft_table.proofs.BlockQueues.{shown_at, block_at, block_within, place_inside}
+use Rattle.raft_table.proofs.BlockSearch.{at_same}
+use Rattle.raft_table.proofs.memtable.entries.Entries.drop_front.Goals as goal
+
+pub returns-then-count-self : goal.returns-then-count-self
+returns-then-count-self c = let l = (kept_facts c.self.invariant).length in rw (← c.self.view_is, drop_all c.args.count (expanded c.self.inside.first (shown c.self.inside.blocks.items)) (omega arith)) c.clear.ensures
+
+pub overflow_add-index : goal.overflow_add-index
+overflow_add-index c = let f = (kept_facts c.self.invariant) in let l = f.length in let h = rw (← c.self.view_is) at c.requires in let b = f.bounded (omega arith) in omega arith
+
+pub find-whole-requires : goal.find-whole-requires
+find-whole-requires c = index_of c.self.invariant c.args.count refl (let l = (kept_facts c.self.invariant).length in let h = rw (← c.self.view_is) at c.requires in omega arith)
+
+pub cut_front-requires-clause-whole : goal.cut_front-requires-clause-whole
+cut_front-requires-clause-whole c = block_within c.self.inside.blocks.items (found c.self.invariant c.find-whole.ensures (c.args.count) refl (let l = (kept_facts c.self.invariant).length in let h = rw (← c.self.view_is) at c.requires in omega arith))
+
+pub cut_front-requires-clause-part : goal.cut_front-requires-clause-part
+cut_front-requires-clause-part c d = let w = place_inside c.self.inside.blocks.items (found c.self.invariant c.find-whole.ensures (c.args.count) refl (let l = (kept_facts c.self.invariant).length in let h = rw (← c.self.view_is) at c.requires in omega arith)) d in omega arith
+
+pub drop_first-requires : goal.drop_first-requires
+drop_first-requires c = let a = (found c.self.invariant c.find-whole.ensures (c.args.count) refl (let l = (kept_facts c.self.invariant).length in let h = rw (← c.self.view_is) at c.requires in omega arith)) in let w = a.block in let n = kept_length c.self.invariant in omega arith
+
+pub index_mut-requires : goal.index_mut-requires
+index_mut-requires c =
+    let a = (found c.self.invariant c.find-whole.ensures (c.args.count) refl (let l = (kept_facts c.self.invariant).length in let h = rw (← c.self.view_is) at c.requires in omega arith)) in
+    let w = a.block in
+    let n = kept_length c.self.invariant in
+    let d = ap length c.drop_first.ensures ∙ length-drop c.find-whole.result.0 c.self.inside.starts.items in
+    omega (arith, c.drop_first.new.deque.ok)
+
+pub overflow_sub-self : goal.overflow_sub-self
+overflow_sub-self c = let l = (kept_facts c.self.invariant).length in let h = rw (← c.self.view_is) at c.requires in omega arith
+
+pub invariant_of-self : goal.invariant_of-self
+invariant_of-self c =
+    rw (c.cut_front.ensures, c.drop_first.ensures, c.min.ensures)
+    (kept_drop c.self.inside.first c.self.inside.len c.args.count c.find-whole.result.0 c.find-whole.result.1 (shown c.self.inside.blocks.items) c.self.inside.starts.items c.self.inside.rewritten c.self.invariant (found c.self.invariant c.find-whole.ensures (c.args.count) refl (let l = (kept_facts c.self.invariant).length in let h = rw (← c.self.view_is) at c.requires in omega arith))).0
+
+pub returns : goal.returns
+returns c =
+    rw (← c.self.view_is)
+    (ap (expanded (c.self.inside.first + c.args.count)) c.cut_front.ensures
+    ∙ (kept_drop c.self.inside.first c.self.inside.len c.args.count c.find-whole.result.0 c.find-whole.result.1 (shown c.self.inside.blocks.items) c.self.inside.starts.items c.self.inside.rewritten c.self.invariant (found c.self.invariant c.find-whole.ensures (c.args.count) refl (let l = (kept_facts c.self.invariant).length in let h = rw (← c.self.view_is) at c.requires in omega arith))).1)

@@ -1,0 +1,57 @@
+use Rattle.std.proofs.Common.{ℕ, suc, ◌≡◌, ◌≢◌, ◌+◌, ◌-◌, ◌<◌, ◌≤◌, ◌^◌, inl, inr, min, max, List, [], ◌∷◌, ◌++◌, length, take, drop, get_or, set, arith, refl, sym, ap, subst, ◌∙◌, Some, None, Option}
+use Rattle.std.specs.Prelude.{map}
+use Rattle.std.proofs.lemmas.List.{nil_from_length, append-nil, append_assoc, length-append, length-map, length-take-le, length-take, length-drop, take_all, drop_all, take-map, drop-map, map-append, map-set, get_or-map, get_or_default, take-append-drop}
+use Rattle.std.proofs.lemmas.Result.{err_from_is_err_and, on_ok_weaker, IfErr-weaker}
+use Rattle.raft_base.specs.declared.pipe_log.LogQueue.TheVariants.{Append, Rewrite}
+use Rattle.raft_table.specs.Blocks.{Stretch, stretch_of, shown, spread, expanded, AreStretches}
+use Rattle.raft_table.specs.BlockWords.{count, starts_of, AreKept, IsAt, IsIndexOf, cut_last, cut_first, joined, seam}
+use Rattle.raft_table.specs.Entries.{AreTableEntries, start_of, end_of, below, from, placed_in, entry_count}
+use Rattle.raft_table.proofs.PlaceLemmas.{each_queue, entry_count-append, entries_in_one}
+use Rattle.raft_table.proofs.SoundLemmas.{CutCounts, cut_counts, sound_rising, AreTableEntries-take, AreTableEntries-drop}
+use Rattle.raft_table.proofs.BlockLemmas.{length-expanded, length-starts, rises_expanded}
+use Rattle.raft_table.proofs.BlockSearch.{at_start, index_some, index_first, index_rises, at_place, entry_at_place, place_within}
+use Rattle.raft_table.proofs.BlockCuts.{KeptFacts, kept_facts, kept_nil, kept_drop, kept_take, IsFront, front_at}
+use Rattle.raft_table.proofs.BlockSearch.{found_some}
+use Rattle.raft_table.proofs.memtable.entries.lists.find.Goals as goal
+
+pub overflow_sub-last : goal.overflow_sub-last
+overflow_sub-last c = let s = index_some c.args.starts.now.items c.args.index c.requires in omega (arith, c.args.starts.now.ok)
+
+pub index-start-requires : goal.index-start-requires
+index-start-requires c = let s = index_some c.args.starts.now.items c.args.index c.requires in omega (arith, c.args.starts.now.ok)
+
+pub returns-then-start-index : goal.returns-then-start-index
+returns-then-start-index c i bs e lo hi =
+    let s = index_some c.args.starts.now.items c.args.index c.requires in
+    at_start c.args.index i (c.len-last.result - 1) c.index-start.result.now bs c.args.starts.now.items e lo hi (omega (arith, c.args.starts.now.ok)) c.index-start.ensures c.if-start-index.true (λ d l. absurd (omega (arith, c.args.starts.now.ok)))
+
+pub count_at_or_below-whole-requires : goal.count_at_or_below-whole-requires
+count_at_or_below-whole-requires c = index_rises c.args.starts.now.items c.args.index c.requires
+
+pub overflow_sub-whole : goal.overflow_sub-whole
+overflow_sub-whole c = let p = found_some c.args.starts.now.items c.args.index c.count_at_or_below-whole.result c.requires c.count_at_or_below-whole.ensures.above in omega arith
+
+pub index-start-requires-2 : goal.index-start-requires-2
+index-start-requires-2 c =
+    let p = found_some c.args.starts.now.items c.args.index c.count_at_or_below-whole.result c.requires c.count_at_or_below-whole.ensures.above in
+    let b = c.count_at_or_below-whole.ensures.bound in
+    omega (arith, c.args.starts.now.ok)
+
+pub overflow_sub-result-2 : goal.overflow_sub-result-2
+overflow_sub-result-2 c =
+    let p = found_some c.args.starts.now.items c.args.index c.count_at_or_below-whole.result c.requires c.count_at_or_below-whole.ensures.above in
+    let b = c.count_at_or_below-whole.ensures.below (c.count_at_or_below-whole.result - 1) c.index-start-2.result.now (omega arith) in
+    let e = c.index-start-2.ensures in
+    omega arith
+
+pub returns : goal.returns
+returns c i bs e lo hi =
+    let k = c.count_at_or_below-whole.result in
+    let start = c.index-start-2.result.now in
+    let p = found_some c.args.starts.now.items c.args.index c.count_at_or_below-whole.result c.requires c.count_at_or_below-whole.ensures.above in
+    let w = c.count_at_or_below-whole.ensures.bound in
+    let b = c.count_at_or_below-whole.ensures.below (k - 1) start (omega arith) in
+    let f = c.index-start-2.ensures in
+    let q : suc (k - 1) ≡ k = omega arith in
+    at_start c.args.index i (k - 1) start bs c.args.starts.now.items e lo hi (omega arith) f (omega arith)
+    (λ d l. subst (λ n. c.args.index < get_or c.args.starts.now.items n d) (sym q) (c.count_at_or_below-whole.ensures.above k d (omega arith) (omega arith)))

@@ -1,0 +1,58 @@
+use Rattle.std.proofs.Common.{ℕ, suc, ◌≡◌, ◌≢◌, ◌+◌, ◌-◌, ◌<◌, ◌≤◌, ◌^◌, inl, inr, min, max, List, [], ◌∷◌, ◌++◌, length, take, drop, get_or, set, arith, refl, sym, ap, subst, ◌∙◌, Some, None, Option}
+use Rattle.std.specs.Prelude.{map}
+use Rattle.std.proofs.lemmas.List.{nil_from_length, append-nil, append_assoc, length-append, length-map, length-take-le, length-take, length-drop, take_all, drop_all, take-map, drop-map, map-append, map-set, get_or-map, get_or_default, take-append-drop}
+use Rattle.std.proofs.lemmas.Result.{err_from_is_err_and, on_ok_weaker, IfErr-weaker}
+use Rattle.raft_base.specs.declared.pipe_log.LogQueue.TheVariants.{Append, Rewrite}
+use Rattle.raft_table.specs.Blocks.{Stretch, stretch_of, shown, spread, expanded, AreStretches}
+use Rattle.raft_table.specs.BlockWords.{count, starts_of, AreKept, IsAt, IsIndexOf, cut_last, cut_first, joined, seam}
+use Rattle.raft_table.specs.Entries.{AreTableEntries, start_of, end_of, below, from, placed_in, entry_count}
+use Rattle.raft_table.proofs.PlaceLemmas.{each_queue, entry_count-append, entries_in_one}
+use Rattle.raft_table.proofs.SoundLemmas.{CutCounts, cut_counts, sound_rising, AreTableEntries-take, AreTableEntries-drop}
+use Rattle.raft_table.proofs.BlockLemmas.{length-expanded, length-starts, rises_expanded}
+use Rattle.raft_table.proofs.BlockSearch.{at_start, index_some, index_first, index_rises, at_place, entry_at_place, place_within}
+use Rattle.raft_table.proofs.BlockCuts.{found, index_of, kept_length, kept_front, front_of, KeptFacts, kept_facts, kept_nil, kept_drop, kept_take, IsFront, front_at}
+use Rattle.raft_table.proofs.BlockQueues.{stretch_is, shown_at, pushed_same, pushed_other, AreMet, met_same, met_other, set_same, first_of, rest_set, one_block}
+use Rattle.raft_table.specs.declared.memtable.block.Block.{Block}
+use Rattle.raft_table.proofs.memtable.entries.lists.push_block.Goals.{then-len-gt0+else-is_same, else-len-gt0}
+use Rattle.raft_table.proofs.memtable.entries.lists.push_block.Goals as goal
+
+last : (c : goal.After-drop-block) → c.len-len.result - 1 < length c.args.blocks.now.items
+last c = omega (arith, c.args.blocks.now.ok)
+
+-- the last block, read three times
+same : (c : goal.After-drop-block) → c.index_mut.result.now.handle ≡ c.args.block.handle
+same c = ap (λ (y : Block). y.handle) (one_block c.args.blocks.now.items (c.len-len.result - 1) c.index_mut.result.now c.index.result.now (last c) c.index_mut.ensures.value c.index.ensures) ∙ c.if-is_same.ensures
+
+pushed : (c : goal.After-drop-block) → c.lengthen.new.block.spans.items ≡ take c.len-part.result c.index_mut.result.now.spans.items ++ c.args.block.spans.items → (shown (set c.args.blocks.now.items (c.len-len.result - 1) c.lengthen.new.block) ≡ joined (shown c.args.blocks.now.items) (stretch_of c.args.block ∷ [])) × (seam (shown c.args.blocks.now.items) (stretch_of c.args.block ∷ []) ≡ 1)
+pushed c h =
+    let k = c.len-len.result - 1 in
+    let b = c.index_mut.result.now in
+    let part : c.len-part.result ≡ length b.spans.items = omega (arith, ap (λ (y : Block). length y.spans.items) (one_block c.args.blocks.now.items k b c.index-then-is_same.result.now (last c) c.index_mut.ensures.value c.index-then-is_same.ensures), c.index-then-is_same.result.now.spans.ok) in
+    pushed_same k c.args.blocks.now.items b c.lengthen.new.block c.args.block (omega (arith, c.args.blocks.now.ok)) c.index_mut.ensures.value (same c) c.lengthen.ensures.handle
+    (h ∙ ap (λ ys. ys ++ c.args.block.spans.items) (take_all c.len-part.result b.spans.items (omega arith)))
+
+pub returns-then-is_same-clause-blocks : goal.returns-then-is_same-clause-blocks
+returns-then-is_same-clause-blocks c = on_ok_weaker c.lengthen.result (λ h. (pushed c h).0) c.lengthen.ensures.ok
+
+pub returns-then-is_same-clause-starts : goal.returns-then-is_same-clause-starts
+returns-then-is_same-clause-starts c = on_ok_weaker c.lengthen.result (λ h. rw (pushed c h).1 (sym (append-nil c.args.starts.now.items))) c.lengthen.ensures.ok
+
+pub returns-then-is_same-clause-err : goal.returns-then-is_same-clause-err
+returns-then-is_same-clause-err c =
+    IfErr-weaker c.lengthen.result _ _ (λ e h. (set_same c.args.blocks.now.items (c.len-len.result - 1) c.index_mut.result.now c.lengthen.new.block (last c) c.index_mut.ensures.value c.lengthen.ensures.handle h.0, refl)) c.lengthen.ensures.err
+
+added : (c : goal.After-push_back_reserved) → (shown (c.args.blocks.now.items ++ c.args.block ∷ []) ≡ joined (shown c.args.blocks.now.items) (stretch_of c.args.block ∷ [])) × (seam (shown c.args.blocks.now.items) (stretch_of c.args.block ∷ []) ≡ 0)
+added c = elim c.if-len-gt0.branch [
+  | then-len-gt0+else-is_same w ↦ pushed_other (c.len-len.result - 1) c.args.blocks.now.items w.index.result.now c.args.block (omega (arith, w.if-len-gt0.true, c.args.blocks.now.ok)) w.index.ensures w.if-is_same.ensures
+  | else-len-gt0 w ↦ first c.args.blocks.now.items (omega (arith, w.if-len-gt0.false, c.args.blocks.now.ok))
+]
+  where
+    first : (bs : List Block) → length bs ≡ 0 → (shown (bs ++ c.args.block ∷ []) ≡ joined (shown bs) (stretch_of c.args.block ∷ [])) × (seam (shown bs) (stretch_of c.args.block ∷ []) ≡ 0)
+    first [] l = (refl, refl)
+    first (x ∷ bs) l = absurd (omega arith)
+
+pub returns-clause-blocks : goal.returns-clause-blocks
+returns-clause-blocks c = ap shown c.in_ok-push_back.ensures.items ∙ (added c).0
+
+pub returns-clause-starts : goal.returns-clause-starts
+returns-clause-starts c = c.push_back_reserved.ensures.items ∙ ap (λ xs. xs ++ c.args.index ∷ []) c.reserve.ensures.items ∙ rw (added c).1 refl

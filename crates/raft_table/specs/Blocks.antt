@@ -1,0 +1,39 @@
+-- Entries kept as blocks: one handle, and for each entry a span of bytes.
+use Rattle.std.specs.Prelude.{◌≡◌, ◌≢◌, ℕ, ◌+◌, ◌<◌, suc, List, [], ◌∷◌, ◌++◌, length, map, Some}
+use Rattle.raft_base.specs.declared.pipe_log.FileBlockHandle.{FileBlockHandle}
+use Rattle.raft_records.specs.declared.compression_type.CompressionType.TheVariants as compression
+use Rattle.raft_records.specs.declared.entry_index.EntryIndex.{EntryIndex}
+use Rattle.raft_table.specs.declared.memtable.block.Block.{Block}
+
+-- a block as its handle, and the offset and the length of each of its entries in order
+pub record Stretch : Type 0 where
+  pub handle : FileBlockHandle
+  pub spans : List (ℕ × ℕ)
+
+-- what a block holds
+abbrev pub stretch_of : Block → Stretch
+stretch_of b = record { handle = b.handle; spans = b.spans.items }
+
+-- what each of some blocks holds
+abbrev pub shown : List Block → List Stretch
+shown bs = map stretch_of bs
+
+-- the entries of one block, from an index on
+abbrev pub spread : ℕ → FileBlockHandle → List (ℕ × ℕ) → List EntryIndex
+spread i handle [] = []
+spread i handle (s ∷ ss) = record { index = i; entries = Some handle; compression_type = compression.None; entry_offset = s.0; entry_len = s.1 } ∷ spread (suc i) handle ss
+
+-- the entries of blocks in order, from an index on
+abbrev pub expanded : ℕ → List Stretch → List EntryIndex
+expanded i [] = []
+expanded i (b ∷ bs) = spread i b.handle b.spans ++ expanded (i + length b.spans) bs
+
+-- whether a block's handle differs from that of the next one, if there is one
+abbrev pub Differs : Stretch → List Stretch → Type 0
+Differs b [] = Unit {0}
+Differs b (c ∷ bs) = b.handle ≢ c.handle
+
+-- no block is empty, and neighbours differ in their handle
+abbrev pub AreStretches : List Stretch → Type 0
+AreStretches [] = Unit {0}
+AreStretches (b ∷ bs) = (0 < length b.spans) × Differs b bs × AreStretches bs

@@ -1,0 +1,13 @@
+//! A block of a table's entries.
+
+use raft_records::FileBlockHandle;
+use std::collections::VecDeque;
+
+/// A longest stretch of neighbouring entries of a table that stand in one block of a file.
+#[derive(Drop)]
+pub struct Block {
+    /// The block of the file.
+    pub handle: FileBlockHandle,
+    /// Where each entry begins in that block, and how many bytes it has.
+    pub spans: VecDeque<(u32, u32)>,
+}

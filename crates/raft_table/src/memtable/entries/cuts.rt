@@ -1,0 +1,172 @@
+//! Entries that go, from the front or from the back.
+
+ghost use Rattle.std.specs.Prelude.{◌≡◌, ◌+◌, ◌≤◌, ◌<◌, [], length, take, drop, slice_index_or};
+ghost use Rattle.raft_table.specs.Blocks.{shown};
+ghost use Rattle.raft_table.specs.BlockWords.{cut_last, cut_first};
+ghost use Rattle.raft_table.specs.Entries.{end_of, below, from, AreCounted, AreRecounted};
+ghost use Rattle.raft_table.specs.Start.{counts_without};
+ghost use Rattle.raft_table.specs.Marks.{part};
+
+use crate::global_stats::GlobalStats;
+use crate::memtable::block::Block;
+use crate::memtable::entries::Entries;
+use crate::memtable::entries::lists::find;
+use raft_records::LogQueue;
+use std::collections::VecDeque;
+
+impl Entries {
+    /// Drops the entries below an index, and answers how many those were.
+    pub fn compact_to(&mut self, index: u64, stats: &mut GlobalStats) -> u64
+        requires { AreCounted self.old stats.old }
+        ensures entries { self.new ≡ from index self.old }
+        ensures dropped { result + length self.new ≡ length self.old }
+        ensures counts { stats.new ≡ counts_without (below index self.old) stats.old }
+        ensures recounted { AreRecounted self.old self.new stats.old stats.new }
+    {
+        if self.len == 0 {
+            return 0;
+        }
+        if index <= self.first {
+            return 0;
+        }
+        let count = (index - self.first).min(self.len as u64) as usize;
+        let rewritten = self.rewritten.min(count);
+        self.drop_front(count);
+        stats.delete(LogQueue::Rewrite, rewritten);
+        stats.delete(LogQueue::Append, count - rewritten);
+        count as u64
+    }
+
+    /// Drops the entries at or above an index.
+    pub fn keep_below(&mut self, index: u64, stats: &mut GlobalStats)
+        requires { AreCounted self.old stats.old }
+        ensures entries { self.new ≡ below index self.old }
+        ensures recounted { AreRecounted self.old self.new stats.old stats.new }
+    {
+        if self.len == 0 {
+            return;
+        }
+        let keep = index.saturating_sub(self.first).min(self.len as u64) as usize;
+        let dropped = self.len - keep;
+        let rewritten = self.rewritten - self.rewritten.min(keep);
+        self.keep_front(keep);
+        stats.delete(LogQueue::Rewrite, rewritten);
+        stats.delete(LogQueue::Append, dropped - rewritten);
+    }
+
+    /// Drops the entries below an index, and those at or above a bound, if there is one.
+    pub fn keep_part(&mut self, index: u64, cut: Option<u64>, stats: &mut GlobalStats)
+        requires { AreCounted self.old stats.old }
+        ensures entries { self.new ≡ part index cut self.old }
+        ensures recounted { AreRecounted self.old self.new stats.old stats.new }
+    {
+        self.compact_to(index, stats);
+        let Some(cut) = cut else {
+            return;
+        };
+        self.keep_below(cut, stats);
+    }
+
+    /// The greatest index plus one, 0 without entries.
+    pub fn end(&self) -> u64
+        ensures { result ≡ end_of self.now }
+    {
+        self.holds_one_run();
+        match self.last_index() {
+            Some(last) => last + 1,
+            None => 0,
+        }
+    }
+
+    /// The end of the entries from an index on: the greatest index plus one, 0 where there are none.
+    pub fn end_from(&self, index: u64) -> u64
+        ensures { result ≡ end_of (from index self.now) }
+    {
+        self.holds_one_run();
+        match self.last_index() {
+            Some(last) if last >= index => last + 1,
+            _ => 0,
+        }
+    }
+
+    /// Drops so many entries from the front.
+    fn drop_front(&mut self, count: usize)
+        requires { count ≤ length self.old }
+        ensures { self.new ≡ drop count self.old }
+    {
+        if count == self.len {
+            self.clear();
+            return;
+        }
+        let index = self.first + count as u64;
+        let (whole, part) = find(&self.starts, index);
+        cut_front(&mut self.blocks, whole, part);
+        drop_first(&mut self.starts, whole);
+        self.starts[0] = index;
+        self.first = index;
+        self.len -= count;
+        self.rewritten -= self.rewritten.min(count);
+    }
+
+    /// Keeps so many entries from the front.
+    fn keep_front(&mut self, count: usize)
+        requires { count ≤ length self.old }
+        ensures { self.new ≡ take count self.old }
+    {
+        if count == 0 {
+            self.clear();
+            return;
+        }
+        let (whole, last) = find(&self.starts, self.first + (count - 1) as u64);
+        cut_back(&mut self.blocks, whole, last + 1);
+        self.starts.truncate(whole + 1);
+        self.len = count;
+        self.rewritten = self.rewritten.min(count);
+    }
+
+    /// Drops all entries.
+    pub(super) fn clear(&mut self)
+        ensures { self.new ≡ [] }
+    {
+        self.blocks.clear();
+        self.starts.clear();
+        self.len = 0;
+        self.rewritten = 0;
+    }
+}
+
+/// Keeps so many whole blocks, and so many entries of the next one.
+fn cut_back(blocks: &mut VecDeque<Block>, whole: usize, part: usize)
+    requires whole { whole < length blocks.old.items }
+    ensures { shown blocks.new.items ≡ cut_last part (take (whole + 1) (shown blocks.old.items)) }
+{
+    blocks.truncate(whole + 1);
+    blocks[whole].spans.truncate(part);
+}
+
+/// Drops whole blocks from the front, and so many entries of the next one.
+fn cut_front(blocks: &mut VecDeque<Block>, whole: usize, part: usize)
+    requires whole { whole < length blocks.old.items }
+    requires part { (d : Block) → part ≤ length (slice_index_or blocks.old.items whole d).spans.items }
+    ensures { shown blocks.new.items ≡ cut_first part (drop whole (shown blocks.old.items)) }
+{
+    drop_first(blocks, whole);
+    drop_spans(&mut blocks[0], part);
+}
+
+/// Drops so many entries of a block.
+fn drop_spans(block: &mut Block, part: usize)
+    requires { part ≤ length block.old.spans.items }
+    ensures handle { block.new.handle ≡ block.old.handle }
+    ensures spans { block.new.spans.items ≡ drop part block.old.spans.items }
+{
+    drop_first(&mut block.spans, part);
+}
+
+/// Drops so many elements from the front.
+fn drop_first<T: Drop>(deque: &mut VecDeque<T>, count: usize)
+    requires { count ≤ length deque.old.items }
+    ensures { deque.new.items ≡ drop count deque.old.items }
+{
+    drop(deque.drain(..count));
+}

@@ -1,0 +1,164 @@
+//! Runs that become entries, and entries behind or between others.
+
+ghost use Rattle.std.specs.Prelude.{◌≡◌, ◌≢◌, ◌+◌, ◌≤◌, ◌<◌, ℕ, [], ◌++◌, length, take, drop, slice_index_or, Some, MatchBool, OnOk, OnErr, IfErr, IfOk};
+ghost use Rattle.raft_base.specs.declared.pipe_log.LogQueue.TheVariants.{Rewrite};
+ghost use Rattle.raft_records.specs.declared.entry_index.EntryIndex.{EntryIndex};
+ghost use Rattle.raft_table.specs.Blocks.{spread};
+ghost use Rattle.raft_table.specs.BlockWords.{spans_of};
+ghost use Rattle.raft_table.specs.Entries.{AreTableEntries};
+ghost use Rattle.raft_table.specs.Queues.{count_in};
+
+use crate::memtable::block::Block;
+use crate::memtable::entries::Entries;
+use crate::memtable::entries::lists::{find, is_same, push_block, put_blocks};
+use raft_records::{EntryIndex, Error, FileBlockHandle, LogQueue, Result};
+use std::alloc::Global;
+use std::collections::VecDeque;
+use std::mem::swap;
+
+impl Entries {
+    /// The entries of a run.
+    pub(super) fn from_run(alloc: Global, run: &[EntryIndex]) -> Result<Entries>
+        requires { AreTableEntries run.now }
+        ensures ok { IfOk result (λ entries. entries ≡ run.now) }
+        ensures memory { IfErr result (λ e. e ≡ Error.Memory) }
+    {
+        let mut entries = Entries::new(alloc);
+        let mut at = 0;
+        while at < run.len() {
+            let Some(handle) = run[at].entries else {
+                unreachable!()
+            };
+            let end = at + count_of(&handle, run, at);
+            let spans = spans_of(alloc, &run[at..end])?;
+            entries.push(run[at].index, handle, spans)?;
+            at = end;
+        }
+        Ok(entries)
+    }
+
+    /// Puts the entries of one block, from an index on, behind the others.
+    fn push(
+        &mut self,
+        index: u64,
+        handle: FileBlockHandle,
+        spans: VecDeque<(u32, u32)>,
+    ) -> Result<()>
+        requires filled { 0 < length spans.items }
+        requires sound { AreTableEntries (self.old ++ spread index handle spans.items) }
+        ensures ok { OnOk result (self.new ≡ self.old ++ spread index handle spans.items) }
+        ensures err { OnErr result (self.new ≡ self.old) }
+        ensures memory { IfErr result (λ e. e ≡ Error.Memory) }
+    {
+        let count = spans.len();
+        let rewritten = rewritten_in(handle.id.queue, count);
+        push_block(
+            &mut self.blocks,
+            &mut self.starts,
+            index,
+            Block { handle, spans },
+        )?;
+        self.first = first_of(self.len, self.first, index);
+        self.len += count;
+        self.rewritten += rewritten;
+        Ok(())
+    }
+
+    /// Keeps the first `keep` entries, and moves a run behind them.
+    pub(super) fn put_run(&mut self, keep: usize, run: &mut Entries) -> Result<()>
+        requires keep { keep ≤ length self.old }
+        requires run { 0 < length run.old }
+        requires sound { AreTableEntries (take keep self.old ++ run.old) }
+        ensures ok { OnOk result ((self.new ≡ take keep self.old ++ run.old) × (run.new ≡ [])) }
+        ensures err { OnErr result ((self.new ≡ self.old) × (run.new ≡ run.old)) }
+        ensures memory { IfErr result (λ e. e ≡ Error.Memory) }
+    {
+        if keep == 0 {
+            swap(self, run);
+            run.clear();
+            return Ok(());
+        }
+        self.join(keep, run)
+    }
+
+    /// Keeps the first `keep` entries, of which there are some, and moves a run behind them.
+    fn join(&mut self, keep: usize, run: &mut Entries) -> Result<()>
+        requires keep { (0 < keep) × (keep ≤ length self.old) }
+        requires run { 0 < length run.old }
+        requires sound { AreTableEntries (take keep self.old ++ run.old) }
+        ensures ok { OnOk result ((self.new ≡ take keep self.old ++ run.old) × (run.new ≡ [])) }
+        ensures err { OnErr result ((self.new ≡ self.old) × (run.new ≡ run.old)) }
+        ensures memory { IfErr result (λ e. e ≡ Error.Memory) }
+    {
+        let (whole, last) = find(&self.starts, self.first + (keep - 1) as u64);
+        let rest = self.blocks.len();
+        put_blocks(
+            &mut self.blocks,
+            &mut self.starts,
+            (whole + 1, last + 1),
+            rest,
+            &mut run.blocks,
+            &mut run.starts,
+        )?;
+        self.len = keep + run.len;
+        self.rewritten = self.rewritten.min(keep) + run.rewritten;
+        run.len = 0;
+        run.rewritten = 0;
+        Ok(())
+    }
+}
+
+/// The first index of so many entries from `first` on, with others from `index` on behind them.
+fn first_of(len: usize, first: u64, index: u64) -> u64
+    ensures { (len ≡ 0 → result ≡ index) × (0 < len → result ≡ first) }
+{
+    if len == 0 { index } else { first }
+}
+
+/// How many of so many entries in `queue` are rewritten.
+fn rewritten_in(queue: LogQueue, count: usize) -> usize
+    ensures { result ≡ count_in Rewrite queue count }
+{
+    match queue {
+        LogQueue::Append => 0,
+        LogQueue::Rewrite => count,
+    }
+}
+
+/// How many entries of a run, behind the first `at` ones, stand in a block, up to the first that
+/// does not.
+fn count_of(handle: &FileBlockHandle, run: &[EntryIndex], at: usize) -> usize
+    requires { at ≤ length run.now }
+    ensures within { at + result ≤ length run.now }
+    ensures all { (j : ℕ) (d : EntryIndex) → at ≤ j → j < at + result → (slice_index_or run.now j d).entries ≡ Some handle.now }
+    ensures some { (d : EntryIndex) → at < length run.now → (slice_index_or run.now at d).entries ≡ Some handle.now → 0 < result }
+{
+    for i in at..run.len() {
+        if !stands_in(&run[i], handle) {
+            return i - at;
+        }
+    }
+    run.len() - at
+}
+
+/// Whether an entry stands in a block.
+fn stands_in(entry: &EntryIndex, handle: &FileBlockHandle) -> bool
+    ensures { MatchBool result (entry.now.entries ≡ Some handle.now) (entry.now.entries ≢ Some handle.now) }
+{
+    match entry.entries {
+        Some(own) => is_same(&own, handle),
+        None => false,
+    }
+}
+
+/// Where entries stand in their block.
+fn spans_of(alloc: Global, run: &[EntryIndex]) -> Result<VecDeque<(u32, u32)>>
+    ensures ok { IfOk result (λ spans. spans.items ≡ spans_of run.now) }
+    ensures memory { IfErr result (λ e. e ≡ Error.Memory) }
+{
+    let mut spans = VecDeque::with_capacity(alloc, run.len())?;
+    for entry in run {
+        spans.push_back_reserved((entry.entry_offset, entry.entry_len));
+    }
+    Ok(spans)
+}

@@ -1,0 +1,192 @@
+//! Queues of blocks and of their first indexes.
+
+ghost use Rattle.std.specs.Prelude.{◌≡◌, ◌≢◌, ◌+◌, ◌-◌, ◌≤◌, ◌<◌, ℕ, List, [], ◌∷◌, ◌++◌, length, take, drop, slice_index_or, MatchBool, OnOk, OnErr, IfErr};
+ghost use Rattle.std.specs.List.Sorted.{IsNonDecreasingBy};
+ghost use Rattle.std.specs.VecDeque.{deque_len, deque_capacity};
+ghost use Rattle.raft_base.specs.declared.errors.Error.TheVariants.{Memory};
+ghost use Rattle.raft_table.specs.Blocks.{Stretch, stretch_of, shown};
+ghost use Rattle.raft_table.specs.BlockWords.{count, starts_of, cut_last, joined, seam, IsIndexOf, IsAt};
+
+use crate::memtable::block::Block;
+use raft_records::{FileBlockHandle, Result};
+use std::collections::VecDeque;
+
+/// How many starts are at or below an index.
+pub(super) fn count_at_or_below(starts: &VecDeque<u64>, index: u64) -> usize
+    requires { IsNonDecreasingBy (λ (y : ℕ). y) starts.now.items }
+    ensures bound { result ≤ length starts.now.items }
+    ensures below { (j d : ℕ) → j < result → slice_index_or starts.now.items j d ≤ index }
+    ensures above { (j d : ℕ) → result ≤ j → j < length starts.now.items → index < slice_index_or starts.now.items j d }
+{
+    starts.partition_point(|start: &u64| -> bool { *start <= index })
+}
+
+/// Behind how many blocks, and behind how many entries of the next one, the entry with an index
+/// stands.
+pub(super) fn find(starts: &VecDeque<u64>, index: u64) -> (usize, usize)
+    requires { IsIndexOf starts.now.items index }
+    ensures { (i : ℕ) (bs : List Stretch) → starts.now.items ≡ starts_of i bs → i ≤ index → index < i + count bs → IsAt (index - i) bs result.0 result.1 }
+{
+    let last = starts.len() - 1;
+    let start = starts[last];
+    if start <= index {
+        return (last, (index - start) as usize);
+    }
+    let whole = count_at_or_below(starts, index) - 1;
+    let start = starts[whole];
+    (whole, (index - start) as usize)
+}
+
+/// Whether two handles are one.
+pub(super) fn is_same(a: &FileBlockHandle, b: &FileBlockHandle) -> bool
+    ensures { MatchBool result (a.now ≡ b.now) (a.now ≢ b.now) }
+{
+    a == b
+}
+
+/// Puts more blocks behind so many first ones, of the last of which so many entries stay, and in
+/// front of those from `rest` on. Where the two that meet first have the same handle they are one
+/// block.
+pub(super) fn put_blocks(
+    blocks: &mut VecDeque<Block>,
+    starts: &mut VecDeque<u64>,
+    place: (usize, usize),
+    rest: usize,
+    more: &mut VecDeque<Block>,
+    more_starts: &mut VecDeque<u64>,
+) -> Result<()>
+    requires order { place.0 ≤ rest }
+    requires within { rest ≤ length blocks.old.items }
+    requires part { (d : Block) → 0 < place.0 → place.1 ≤ length (slice_index_or blocks.old.items (place.0 - 1) d).spans.items }
+    requires starts { length starts.old.items ≡ length blocks.old.items }
+    requires more { (0 < length more.old.items) × (length more_starts.old.items ≡ length more.old.items) }
+    ensures blocks { OnOk result (shown blocks.new.items ≡
+        joined (cut_last place.1 (take place.0 (shown blocks.old.items))) (shown more.old.items) ++ drop rest (shown blocks.old.items)) }
+    ensures starts { OnOk result (starts.new.items ≡ take place.0 starts.old.items
+        ++ drop (seam (take place.0 (shown blocks.old.items)) (shown more.old.items)) more_starts.old.items ++ drop rest starts.old.items) }
+    ensures emptied { OnOk result ((more.new.items ≡ []) × (more_starts.new.items ≡ [])) }
+    ensures err { OnErr result ((shown blocks.new.items ≡ shown blocks.old.items) × (starts.new.items ≡ starts.old.items)
+        × (shown more.new.items ≡ shown more.old.items) × (more_starts.new.items ≡ more_starts.old.items)) }
+    ensures memory { IfErr result (λ e. e ≡ Memory) }
+{
+    blocks.reserve(more.len())?;
+    starts.reserve(more_starts.len())?;
+    meet(blocks, place, more, more_starts)?;
+    splice(blocks, place.0, rest, more);
+    splice(starts, place.0, rest, more_starts);
+    Ok(())
+}
+
+/// Keeps so many entries of the last of so many blocks, if there are any, and moves the entries of
+/// the first of more blocks behind them where the two have the same handle.
+fn meet(
+    blocks: &mut VecDeque<Block>,
+    place: (usize, usize),
+    more: &mut VecDeque<Block>,
+    more_starts: &mut VecDeque<u64>,
+) -> Result<()>
+    requires within { place.0 ≤ length blocks.old.items }
+    requires part { (d : Block) → 0 < place.0 → place.1 ≤ length (slice_index_or blocks.old.items (place.0 - 1) d).spans.items }
+    requires more { (0 < length more.old.items) × (length more_starts.old.items ≡ length more.old.items) }
+    ensures front { OnOk result (take place.0 (shown blocks.new.items) ++ shown more.new.items
+        ≡ joined (cut_last place.1 (take place.0 (shown blocks.old.items))) (shown more.old.items)) }
+    ensures behind { OnOk result ((n : ℕ) → place.0 ≤ n → drop n (shown blocks.new.items) ≡ drop n (shown blocks.old.items)) }
+    ensures starts { OnOk result (more_starts.new.items ≡ drop (seam (take place.0 (shown blocks.old.items)) (shown more.old.items)) more_starts.old.items) }
+    ensures room { (deque_len blocks.new ≡ deque_len blocks.old) × (deque_capacity blocks.new ≡ deque_capacity blocks.old) }
+    ensures fewer { (deque_len more.new ≤ deque_len more.old) × (deque_len more_starts.new ≤ deque_len more_starts.old) }
+    ensures err { OnErr result ((shown blocks.new.items ≡ shown blocks.old.items) × (shown more.new.items ≡ shown more.old.items)
+        × (more_starts.new.items ≡ more_starts.old.items)) }
+    ensures memory { IfErr result (λ e. e ≡ Memory) }
+{
+    let (kept, part) = place;
+    if kept == 0 {
+        return Ok(());
+    }
+    let last = kept - 1;
+    if !is_same(&blocks[last].handle, &more[0].handle) {
+        shorten(&mut blocks[last], part);
+        return Ok(());
+    }
+    lengthen(&mut blocks[last], part, &mut more[0].spans)?;
+    drop_front(more);
+    drop_front(more_starts);
+    Ok(())
+}
+
+/// Drops the first element.
+fn drop_front<T: Drop>(deque: &mut VecDeque<T>)
+    ensures items { deque.new.items ≡ drop 1 deque.old.items }
+    ensures fewer { deque_len deque.new ≤ deque_len deque.old }
+{
+    drop(deque.pop_front());
+}
+
+/// Puts a block, whose first entry has this index, behind others. Where it has the handle of the
+/// last of them it becomes a part of that one.
+pub(super) fn push_block(
+    blocks: &mut VecDeque<Block>,
+    starts: &mut VecDeque<u64>,
+    index: u64,
+    block: Block,
+) -> Result<()>
+    ensures blocks { OnOk result (shown blocks.new.items ≡ joined (shown blocks.old.items) (stretch_of block ∷ [])) }
+    ensures starts { OnOk result (starts.new.items ≡ starts.old.items ++ drop (seam (shown blocks.old.items) (stretch_of block ∷ [])) (index ∷ [])) }
+    ensures err { OnErr result ((shown blocks.new.items ≡ shown blocks.old.items) × (starts.new.items ≡ starts.old.items)) }
+    ensures memory { IfErr result (λ e. e ≡ Memory) }
+{
+    let mut block = block;
+    let len = blocks.len();
+    if len > 0 {
+        let last = len - 1;
+        if is_same(&blocks[last].handle, &block.handle) {
+            let part = blocks[last].spans.len();
+            return lengthen(&mut blocks[last], part, &mut block.spans);
+        }
+    }
+    starts.reserve(1)?;
+    blocks.push_back(block)?;
+    starts.push_back_reserved(index);
+    Ok(())
+}
+
+/// Keeps so many entries of a block, and moves more behind them.
+fn lengthen(block: &mut Block, part: usize, more: &mut VecDeque<(u32, u32)>) -> Result<()>
+    requires { part ≤ length block.old.spans.items }
+    ensures handle { block.new.handle ≡ block.old.handle }
+    ensures ok { OnOk result (block.new.spans.items ≡ take part block.old.spans.items ++ more.old.items) }
+    ensures err { OnErr result ((block.new.spans.items ≡ block.old.spans.items) × (more.new.items ≡ more.old.items)) }
+    ensures memory { IfErr result (λ e. e ≡ Memory) }
+{
+    let len = block.spans.len();
+    block.spans.reserve(more.len().saturating_sub(len - part))?;
+    block.spans.truncate(part);
+    if block.spans.append(more).is_err() {
+        unreachable!()
+    }
+    Ok(())
+}
+
+/// Keeps so many entries of a block.
+fn shorten(block: &mut Block, part: usize)
+    ensures handle { block.new.handle ≡ block.old.handle }
+    ensures spans { block.new.spans.items ≡ take part block.old.spans.items }
+{
+    block.spans.truncate(part);
+}
+
+/// Keeps the first `kept` elements and those from `rest` on, and moves more between them.
+fn splice<T: Drop>(deque: &mut VecDeque<T>, kept: usize, rest: usize, more: &mut VecDeque<T>)
+    requires order { kept ≤ rest }
+    requires within { rest ≤ deque_len deque.old }
+    requires room { deque_len deque.old + deque_len more.old ≤ deque_capacity deque.old }
+    ensures items { deque.new.items ≡ take kept deque.old.items ++ more.old.items ++ drop rest deque.old.items }
+    ensures emptied { more.new.items ≡ [] }
+{
+    let behind = deque.len() - rest;
+    deque.rotate_left(rest);
+    deque.truncate(behind + kept);
+    if deque.append(more).is_err() {
+        unreachable!()
+    }
+    deque.rotate_left(behind);
+}

@@ -4,9 +4,10 @@ ghost use Rattle.std.specs.Prelude.{◌≡◌, ℕ, true, List, [], ◌∷◌, �
 ghost use Rattle.raft_base.specs.declared.pipe_log.LogQueue.{LogQueue};
 ghost use Rattle.raft_base.specs.declared.pipe_log.LogQueue.TheVariants.{Append, Rewrite};
 ghost use Rattle.raft_table.specs.Entries.{IsRunIn};
-ghost use Rattle.raft_table.specs.Marks.{Stands};
+ghost use Rattle.raft_table.specs.MarkMerge.{IsFaultUnder, IsMeetingFault, IsRunOver};
+ghost use Rattle.raft_table.specs.Marks.{is_meeting_refused, Stands};
 ghost use Rattle.raft_table.specs.Queues.{other};
-ghost use Rattle.raft_table.specs.Start.{IsCorruptionError};
+ghost use Rattle.raft_table.specs.Start.{replayed, IsCorruptionError, IsTableRunFault};
 ghost use Rattle.raft_table.specs.Steps.{Step, Run, Del, Clean, AreSteps, table_of, after};
 ghost use Rattle.raft_table.specs.Table.{Table, live_of, IsCounted, IsRecounted};
 
@@ -39,6 +40,8 @@ pub fn join_region(
     ensures refused { (id : ℕ) (own : Option Table) (ss rs : List Step) → table_of id own ≡ table.old → AreSteps rs
         → Stands queue id mark.old own ss → Stands queue id newer.old (Some rhs.old) rs
         → IfErr result (λ e. IsCorruptionError e → after queue id None (ss ++ rs) ≡ None) }
+    ensures fault { IsRunOver queue newer.old rhs.old table.old
+        → IfErr result (IsFaultUnder queue stats.old newer.old rhs.old table.old) }
     ensures recounted { IsRecounted table.old table.new stats.old stats.new }
     ensures regions { (table.new.region_id ≡ table.old.region_id) × (rhs.new.region_id ≡ rhs.old.region_id) }
 {
@@ -69,6 +72,8 @@ pub fn replay_run(
     ensures refused { (id : ℕ) (own : Option Table) (ss : List Step) → table_of id own ≡ table.old
         → Stands queue id mark.old own ss
         → IfErr result (λ e. IsCorruptionError e → after queue id None (ss ++ Run run.items ∷ []) ≡ None) }
+    ensures fault { IfErr result (IsTableRunFault queue stats.old table.old.entries
+        (replayed queue table.old.entries run.items)) }
     ensures recounted { IsRecounted table.old table.new stats.old stats.new }
     ensures region { table.new.region_id ≡ table.old.region_id }
 {
@@ -134,6 +139,7 @@ pub fn join_cleaned(
     ensures refused { (id : ℕ) (own : Option Table) (ss rs : List Step) → table_of id own ≡ table.now
         → Stands queue id mark.old own ss → Stands queue id newer.old None rs
         → IfErr result (λ e. IsCorruptionError e → after queue id None (ss ++ rs) ≡ None) }
+    ensures fault { IfErr result (IsMeetingFault (is_meeting_refused queue newer.old table.now.entries)) }
 {
     table.check_meeting(queue, newer)?;
     mark.join(queue, table.met(newer), newer)?;

@@ -19,7 +19,7 @@ use Rattle.raft_base.specs.declared.pipe_log.LogQueue.TheVariants.{Append, Rewri
 use Rattle.raft_records.specs.declared.entry_index.EntryIndex.{EntryIndex}
 use Rattle.raft_table.specs.Entries.{below, from, end_of}
 use Rattle.raft_table.specs.KeySets.{KeySet, without}
-use Rattle.raft_table.specs.KeyValues.{Keys, Stored, Pair, with_pairs, overlaid}
+use Rattle.raft_table.specs.KeyValues.{Keys, Stored, StoredPair, with_pairs, overlaid}
 use Rattle.raft_table.specs.Marks.{Mark, part, older_entries, entries_over, keys_over, atomic_group_over, table_over, is_meeting_refused, is_missed, is_there_over, applied}
 use Rattle.raft_table.specs.MarkJoins.{joined, mark_of}
 use Rattle.raft_table.specs.Start.{replayed, leaves_hole}
@@ -93,7 +93,7 @@ len_insert m k x = omega (arith, finite.len-insert nat_list_cmp_total m k x, mor
 len_remove : {X : Type 0} (m : finite.FinMap (slice_cmp nat_cmp) X) (k : List ℕ) → finite.len (finite.remove m k) ≤ finite.len m
 len_remove m k = omega (arith, finite.len-remove nat_list_cmp_total m k, less_or_same (finite.contains_key m k) (finite.len m))
 
-len_pairs : (m : Keys) (es : List Pair) → finite.len (with_pairs m es) ≤ finite.len m + length es
+len_pairs : (m : Keys) (es : List StoredPair) → finite.len (with_pairs m es) ≤ finite.len m + length es
 len_pairs m [] = omega arith
 len_pairs m (e ∷ es) = omega (arith, len_pairs (finite.insert m e.0 e.1) es, len_insert m e.0 e.1)
 

@@ -42,7 +42,7 @@ effects_behind before (p ∷ ps) = completed before p ++ effects_behind (before 
 abbrev pub effects : List Batch → List Effect
 effects h = effects_behind [] (placed_from 0 h)
 
--- a group's steps on a region: those of its steps, and its span, where it names the region
+-- a group's steps on a region: those of its steps, and the files of its Begin and End, where it names the region
 unfoldable pub whole_steps : ℕ → WholeGroup → List Step
 whole_steps r w = steps_on r w.steps ++ cond (names r w.steps) (AtomicGroup w.start w.end ∷ []) []
 

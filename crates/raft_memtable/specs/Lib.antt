@@ -12,5 +12,6 @@ pub mod RegionMarks
 pub mod RegionMarksView
 pub mod RegionTablesView
 pub mod Updates
+pub mod Walks
 pub mod Writes
 pub mod ReplayMachine

@@ -1,28 +1,19 @@
 -- What pieces cover: one more segment, all that a seat drew, and all pieces in order.
-use Rattle.std.proofs.Common.{◌≡◌, ◌≢◌, ℕ, zero, suc, ◌+◌, ◌-◌, ◌<◌, ◌≤◌, ◌⊎◌, inl, inr, max, cond, Bool, true, false, List, [], ◌∷◌, ◌++◌, All, Option, Some, None, Vec, map, length, get_or, take, drop, sym, refl, ap, ◌∙◌, subst, arith, append_assoc, add-one, take-append-drop, drop-drop, get_or-drop, length-drop, nat_le, nat_lt, ◌&&◌, ◌==◌, IsPermutation}
+use Rattle.std.proofs.Common.{◌≡◌, ℕ, ◌+◌, ◌<◌, ◌≤◌, inl, inr, max, cond, List, [], ◌∷◌, ◌++◌, None, Vec, length, get_or, take, drop, sym, refl, ap, ◌∙◌, subst, arith, append_assoc, take-append-drop, drop-drop, get_or-drop, length-drop, ◌==◌}
 use Rattle.std.specs.Global.{Global}
-use Rattle.std.specs.List.{AllByRecursion}
-use Rattle.std.specs.List.Sorted.{IsNonDecreasingBy}
-use Rattle.std.proofs.lemmas.Bool.{cases_lt}
 use Rattle.std.proofs.lemmas.Bool.Decides.{nat_tests}
-use Rattle.std.proofs.lemmas.List.{take_more, drop_more, drop_all}
-use Rattle.std.proofs.lemmas.List.Elements.{recursion_from_All}
-use Rattle.std.proofs.lemmas.List.Recursion.{is_sum_by}
-use Rattle.std.proofs.lemmas.List.Sorted.{sum_by-IsPermutation}
-use Rattle.raft_base.specs.declared.errors.Error.{Error}
+use Rattle.std.proofs.lemmas.List.{take_more, drop_more}
 use Rattle.raft_records.specs.FilePart.{Part}
 use Rattle.raft_history.specs.Batches.{Event}
 use Rattle.raft_history.specs.Histories.{IsSmall, Sound}
 use Rattle.raft_history.proofs.StretchOfHistory.{small_front, small_back, sound_front, sound_back}
 use Rattle.raft_recover.specs.declared.piece.Piece.{Piece}
-use Rattle.raft_recover.specs.Covers.{IsPiece, IsPieceOf, covers, covering, Tile, IsDone}
+use Rattle.raft_recover.specs.Covers.{IsPiece, covers, covering}
 use Rattle.raft_recover.specs.Draws.{Draw, AreBelow, HasEnded}
-use Rattle.raft_recover.specs.Lines.{InLine}
-use Rattle.raft_recover.specs.Merges.{joined, StandForEach}
 use Rattle.raft_recover.specs.Recovery.{CannotBeRead}
 use Rattle.raft_recover.specs.Replays.{HasReplayed, CannotFollow}
-use Rattle.raft_recover.specs.Segments.{IsReadBehind, ReadsParts, ReadsEach, ReadsSegments}
-use Rattle.raft_recover.specs.Weights.{weigh, times}
+use Rattle.raft_recover.specs.Segments.{ReadsParts, ReadsSegments}
+use Rattle.raft_recover.specs.Weights.{times}
 use Rattle.raft_recover.proofs.LineLemmas.{each_join, each_cut, each_single}
 use Rattle.raft_recover.proofs.SegmentLemmas.{segments_unique}
 use Rattle.raft_recover.proofs.WeightLemmas.{weigh-append}

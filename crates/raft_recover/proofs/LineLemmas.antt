@@ -1,5 +1,5 @@
 -- Machines in the order of what they have replayed: one goes on, another begins, all are merged, one is refused.
-use Rattle.std.proofs.Common.{◌≡◌, ◌≢◌, ℕ, zero, suc, ◌+◌, ◌<◌, ◌≤◌, min, IsTrue, nat_eq, List, [], ◌∷◌, ◌++◌, All, Bool, true, false, cond, Result, Ok, Err, IfOk, IfErr, Vec, length, take, drop, sym, refl, ap, ◌∙◌, subst, arith, append_assoc, append-nil, add-one}
+use Rattle.std.proofs.Common.{◌≡◌, ◌≢◌, ℕ, zero, suc, ◌+◌, ◌<◌, ◌≤◌, min, IsTrue, nat_eq, List, [], ◌∷◌, ◌++◌, Bool, true, false, cond, Result, Ok, Err, IfOk, IfErr, Vec, sym, refl, ap, ◌∙◌, subst, arith, append_assoc, append-nil, add-one}
 use mir.Val.{bool_byte}
 use Rattle.std.proofs.lemmas.Bool.Decides.{Decides-eqb}
 use Rattle.std.specs.Global.{Global}
@@ -10,7 +10,7 @@ use Rattle.raft_base.specs.declared.errors.Error.TheVariants.{Memory}
 use Rattle.raft_base.specs.declared.pipe_log.LogQueue.{LogQueue}
 use Rattle.raft_records.specs.FilePart.{Part}
 use Rattle.raft_history.specs.Batches.{Event}
-use Rattle.raft_history.specs.Histories.{IsSmall, Sound, Apart, AreOfQueue, IsOfQueue}
+use Rattle.raft_history.specs.Histories.{IsSmall, Sound, AreOfQueue, IsOfQueue}
 use Rattle.raft_history.proofs.StretchOfHistory.{small_front, small_back, sound_front, sound_back, of_both}
 use Rattle.raft_recover.specs.Merges.{joined, StandForEach, IsMerged, CannotMerge, Merges}
 use Rattle.raft_recover.specs.Replays.{HasReplayed, CannotFollow}

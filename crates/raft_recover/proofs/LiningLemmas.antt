@@ -1,5 +1,5 @@
 -- Pieces that tile the segments, sorted by their first ones, stand in line.
-use Rattle.std.proofs.Common.{◌≡◌, ◌≢◌, ℕ, zero, suc, ◌+◌, ◌-◌, ◌<◌, ◌≤◌, ◌⊎◌, inl, inr, List, [], ◌∷◌, ◌++◌, All, Vec, map, length, get_or, take, drop, sym, refl, ap, ◌∙◌, subst, arith, take-append-drop, drop-drop, IsPermutation}
+use Rattle.std.proofs.Common.{◌≡◌, ℕ, suc, ◌+◌, ◌<◌, ◌≤◌, ◌⊎◌, inl, inr, List, [], ◌∷◌, ◌++◌, All, Vec, map, length, take, drop, sym, refl, ap, ◌∙◌, subst, arith, take-append-drop, drop-drop, IsPermutation}
 use Rattle.std.specs.Global.{Global}
 use Rattle.std.specs.List.{AllByRecursion}
 use Rattle.std.specs.List.Sorted.{IsNonDecreasingBy}
@@ -10,12 +10,11 @@ use Rattle.std.proofs.lemmas.List.Recursion.{is_sum_by}
 use Rattle.std.proofs.lemmas.List.Sorted.{sum_by-IsPermutation, All-permutation}
 use Rattle.raft_records.specs.FilePart.{Part}
 use Rattle.raft_history.specs.Batches.{Event}
-use Rattle.raft_history.specs.Histories.{IsSmall}
 use Rattle.raft_history.proofs.StretchOfHistory.{small_front, small_back}
 use Rattle.raft_recover.specs.declared.piece.Piece.{Piece}
 use Rattle.raft_recover.specs.Covers.{IsPieceOf, covers, covering, Tile}
 use Rattle.raft_recover.specs.Lines.{InLine}
-use Rattle.raft_recover.specs.Merges.{joined, StandForEach}
+use Rattle.raft_recover.specs.Merges.{joined}
 use Rattle.raft_recover.specs.Segments.{ReadsParts, ReadsSegments}
 use Rattle.raft_recover.specs.Weights.{weigh}
 use Rattle.raft_recover.proofs.CoverLemmas.{covers_inside, covers_below, covers_behind, covers_none}

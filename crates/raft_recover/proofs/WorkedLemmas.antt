@@ -1,11 +1,9 @@
 -- Workers that are back: one more of them, one that was refused, and all.
-use Rattle.std.proofs.Common.{◌≡◌, ◌≢◌, ℕ, zero, suc, ◌+◌, ◌^◌, ◌<◌, ◌≤◌, ◌⊎◌, inl, inr, Bool, true, false, cond, if◌then◌else◌, nat_lt, List, [], ◌∷◌, ◌++◌, All, Vec, Result, Ok, Err, IfOk, length, get_or, sym, refl, ap, ◌∙◌, subst, arith, append_assoc, length-append}
+use Rattle.std.proofs.Common.{◌≡◌, ◌≢◌, ℕ, ◌^◌, ◌<◌, inl, inr, List, [], ◌∷◌, ◌++◌, All, Vec, Result, Ok, Err, IfOk, length, get_or, refl, ap, ◌∙◌, subst, arith, length-append}
 use Rattle.std.specs.Global.{Global}
-use Rattle.std.proofs.lemmas.Bool.{cases_lt}
 use Rattle.std.proofs.lemmas.Bool.Decides.{nat_tests}
 use Rattle.std.proofs.lemmas.List.{get_or_at}
 use Rattle.std.proofs.lemmas.List.Elements.{All-push, All-append, recursion_from_All}
-use Rattle.std.specs.List.{AllByRecursion}
 use Rattle.raft_base.specs.declared.errors.Error.{Error}
 use Rattle.raft_base.specs.declared.errors.Error.TheVariants.{Memory}
 use Rattle.raft_base.specs.declared.errors.Error.TheVariants as errors
@@ -13,7 +11,7 @@ use Rattle.raft_records.specs.FilePart.{Part}
 use Rattle.raft_history.specs.Batches.{Event}
 use Rattle.raft_recover.specs.declared.piece.Piece.{Piece}
 use Rattle.raft_recover.specs.declared.workers.Worked.{Worked}
-use Rattle.raft_recover.specs.Covers.{IsPieceOf, covers, covering, Tile, IsDone, AreDone, Gives}
+use Rattle.raft_recover.specs.Covers.{IsPieceOf, covers, Tile, IsDone, AreDone, Gives}
 use Rattle.raft_recover.specs.Draws.{TicketBook, Drawer, IsSeatOf, HasEnded, once_below, IsOpenRefusal}
 use Rattle.raft_recover.specs.Recovery.{CannotBeRead}
 use Rattle.raft_recover.specs.Weights.{weigh, times}

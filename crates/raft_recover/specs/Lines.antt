@@ -1,5 +1,5 @@
 -- Machines in the order of what they have replayed.
-use Rattle.std.specs.Prelude.{◌+◌, ◌≤◌, ℕ, List, ◌++◌, length, take, drop, Vec}
+use Rattle.std.specs.Prelude.{List, ◌++◌, Vec}
 use Rattle.std.specs.Global.{Global}
 use Rattle.raft_records.specs.FilePart.{Part}
 use Rattle.raft_history.specs.Batches.{Event}

@@ -22,5 +22,6 @@ pub record CannotBeRead (segments : List (Vec Part Global)) : Type 0 where
 abbrev pub PartsAreOf : LogQueue → List Part → Type 0
 PartsAreOf queue parts = All (λ part. part.id.queue ≡ queue) parts
 
+-- every part of every segment is of this queue
 abbrev pub SegmentsAreOf : LogQueue → List (Vec Part Global) → Type 0
 SegmentsAreOf queue segments = All (λ segment. PartsAreOf queue segment.items) segments

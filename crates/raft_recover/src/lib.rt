@@ -25,3 +25,6 @@ pub use segment::{Segment, replay_segment};
 pub use ticket_seat::TicketSeat;
 pub use tickets::Tickets;
 pub use workers::{MAX_WORKERS, replay_segments};
+
+#[cfg(test)]
+mod tests;

@@ -25,7 +25,7 @@ pub struct Mark {
     reach_floor: u64,
     /// Where older entries begin that stay.
     floor: u64,
-    /// Where they end.
+    /// The index that they stay below, if a run came.
     cut: Option<u64>,
     /// Keys that were deleted.
     deleted: DeletedKeys,
@@ -80,7 +80,7 @@ impl Mark {
         self.floor
     }
 
-    /// Where they end.
+    /// The index that the older entries stay below, if a run came.
     pub fn cut(&self) -> Option<u64>
         ensures { result ≡ self.now.cut }
     {

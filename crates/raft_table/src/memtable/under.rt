@@ -127,7 +127,7 @@ impl MemTable {
         requires blank { self.old ≡ empty_table rhs.old.region_id }
         ensures ok { OnOk result (self.new ≡ rhs.old) }
         ensures emptied { OnOk result (rhs.new ≡ empty_table rhs.old.region_id) }
-        ensures refused { IfErr result (λ e. (e ≡ Error.Full) × ((q : LogQueue) × (2 ^ 64 ≤ live q stats.old + live_of q rhs.old))) }
+        ensures fault { IfErr result (λ e. (e ≡ Error.Full) × ((q : LogQueue) × (2 ^ 64 ≤ live q stats.old + live_of q rhs.old))) }
         ensures err { OnErr result ((self.new ≡ self.old) × (rhs.new ≡ rhs.old) × (stats.new ≡ stats.old)) }
         ensures recounted { IsRecounted self.old self.new stats.old stats.new }
     {

@@ -1,4 +1,4 @@
-use Rattle.std.proofs.Common.{◌≡◌, ℕ, ◌<◌, arith, rules}
+use Rattle.std.proofs.Common.{arith}
 use Rattle.raft_recover.specs.Plans.{leaves}
 use Rattle.raft_recover.specs.Schedules.{pieces_in}
 use Rattle.raft_recover.proofs.LineLemmas.{pieces_few, fits_is}

@@ -1,4 +1,4 @@
-use Rattle.std.proofs.Common.{◌≡◌, ◌<◌, refl, arith, rules}
+use Rattle.std.proofs.Common.{refl, arith}
 use Rattle.raft_recover.proofs.scheduled.is_schedule.Goals as goal
 
 pub returns : goal.returns

@@ -1,6 +1,4 @@
-use Rattle.std.proofs.Common.{◌≡◌, List, [], ◌∷◌, ◌++◌, Vec, sym, subst, rules}
-use Rattle.std.specs.Global.{Global}
-use Rattle.raft_records.specs.FilePart.{Part}
+use Rattle.std.proofs.Common.{List, sym, subst}
 use Rattle.raft_recover.specs.Lines.{IsUnderway}
 use Rattle.raft_recover.proofs.LineLemmas.{next_begun, if_ok}
 use Rattle.raft_recover.proofs.scheduled.piece_behind.Goals as goal

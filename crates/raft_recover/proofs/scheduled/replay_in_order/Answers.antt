@@ -1,4 +1,4 @@
-use Rattle.std.proofs.Common.{◌≡◌, ◌≢◌, ℕ, ◌+◌, ◌<◌, cond, Bool, List, [], ◌∷◌, ◌++◌, Vec, length, vec_len, take, drop, sym, ap, ◌∙◌, subst, arith, take-append-drop, rules}
+use Rattle.std.proofs.Common.{◌≡◌, ◌+◌, cond, List, [], ◌∷◌, ◌++◌, Vec, vec_len, take, drop, sym, ap, ◌∙◌, subst, arith, take-append-drop}
 use Rattle.std.specs.Global.{Global}
 use Rattle.std.proofs.lemmas.List.{take_more}
 use Rattle.std.proofs.lemmas.Result.{err_from_is_err_and}

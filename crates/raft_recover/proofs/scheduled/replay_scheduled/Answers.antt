@@ -1,6 +1,6 @@
-use Rattle.std.proofs.Common.{◌≡◌, List, refl, sym, subst, rules}
+use Rattle.std.proofs.Common.{List, refl, sym, subst}
 use Rattle.raft_recover.specs.Lines.{InLine}
-use Rattle.raft_recover.proofs.LineLemmas.{finished, merged_ok, merged_err, replayed_alone}
+use Rattle.raft_recover.proofs.LineLemmas.{finished, merged_ok, merged_err}
 use Rattle.raft_recover.proofs.scheduled.replay_scheduled.Goals as goal
 
 pub returns-clause-ok : goal.returns-clause-ok

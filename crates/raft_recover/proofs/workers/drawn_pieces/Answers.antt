@@ -1,4 +1,4 @@
-use Rattle.std.proofs.Common.{◌≡◌, ℕ, ◌<◌, ◌≤◌, length, sym, ◌∙◌, arith, rules}
+use Rattle.std.proofs.Common.{length, sym, ◌∙◌, arith}
 use Rattle.std.proofs.lemmas.Result.{err_from_is_err_and}
 use Rattle.raft_recover.proofs.WorkedLemmas.{are_back, worker_refused, all_drawn, open_refused}
 use Rattle.raft_recover.proofs.workers.drawn_pieces.Goals as goal

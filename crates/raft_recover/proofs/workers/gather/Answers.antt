@@ -1,6 +1,5 @@
-use Rattle.std.proofs.Common.{◌≡◌, ◌+◌, List, [], ◌∷◌, ◌++◌, sym, ap, ◌∙◌, subst, append_assoc, arith, rules}
+use Rattle.std.proofs.Common.{List, [], ◌∷◌, ◌++◌, ap, ◌∙◌, append_assoc, arith}
 use Rattle.raft_recover.specs.declared.workers.Worked.{Worked}
-use Rattle.raft_recover.specs.Covers.{AreDone}
 use Rattle.raft_recover.specs.WorkedWords.{IsBack}
 use Rattle.raft_recover.proofs.WorkedLemmas.{all_at, done_more}
 use Rattle.raft_recover.proofs.workers.gather.Goals as goal

@@ -1,4 +1,4 @@
-use Rattle.std.proofs.Common.{◌≡◌, ◌+◌, ◌<◌, subst, rules}
+use Rattle.std.proofs.Common.{subst}
 use Rattle.std.proofs.lemmas.Result.{err_from_is_err_and}
 use Rattle.raft_recover.specs.Replays.{HasReplayed, CannotFollow}
 use Rattle.raft_recover.specs.Segments.{ReadsParts}

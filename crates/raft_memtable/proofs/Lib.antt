@@ -5,6 +5,7 @@ mod AccessorLemmas
 mod LiveLemmas
 mod MapLemmas
 mod OrderLemmas
+mod RegionMarksLemmas
 mod RegionTablesLemmas
 mod SlotLemmas
 mod UpdateLemmas

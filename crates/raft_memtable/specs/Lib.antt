@@ -1,4 +1,3 @@
-pub mod ReplayMachine
 pub mod WaitingGroupsCode
 pub mod WaitingGroupsView
 pub mod WaitingItems
@@ -9,6 +8,8 @@ pub mod AccessorCalls
 pub mod AccessorCode
 pub mod AccessorView
 pub mod ItemWrites
+pub mod RegionMarks
+pub mod RegionMarksView
 pub mod RegionTablesView
 pub mod Updates
 pub mod Walks

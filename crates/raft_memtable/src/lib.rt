@@ -3,6 +3,7 @@
 
 pub mod accessor;
 pub mod item_writes;
+pub mod region_marks;
 pub mod region_tables;
 pub mod replay_machine;
 #[cfg(test)]
@@ -16,5 +17,6 @@ pub use raft_table::{
     EntryIndex, Error, FileBlockHandle, FileId, FileSeq, GlobalStats, LogQueue, MemTable, Result,
     TableChange, global_stats, is_run, memtable,
 };
+pub use region_marks::RegionMarks;
 pub use region_tables::RegionTables;
 pub use replay_machine::ReplayMachine;

@@ -1,0 +1,164 @@
+//! The marks of some regions.
+
+ghost use Rattle.std.specs.Prelude.{◌≡◌, ℕ, OnOk, OnErr, IfErr, Some, None, option_map};
+ghost use Rattle.std.specs.FinMap as finite;
+ghost use Rattle.raft_table.specs.MarkJoins.{fresh, mark_of, joined_at};
+ghost use Rattle.raft_table.specs.Steps.{Compact, Del, Clean};
+ghost use Rattle.raft_memtable.specs.RegionMarks.{mark_in, MayChangeMark, IsMarkUpdated};
+
+use raft_table::{Error, LogQueue, Mark, Result};
+use std::alloc::Global;
+use std::collections::HashMap;
+use std::marker::Model;
+
+/// The marks of some regions, each under its region's id.
+#[derive(Drop)]
+pub struct RegionMarks {
+    marks: HashMap<u64, Mark>,
+    alloc: Global,
+}
+
+impl Model for RegionMarks {
+    ghost use Rattle.std.specs.FinMap as finite;
+    ghost use Rattle.std.specs.Coded.{coded_ℕ};
+    ghost use Rattle.raft_table.specs.MarkCode.{mark_code};
+    ghost use Rattle.raft_history.specs.MarkedRegions.{Marks};
+
+    ghost Value = { Marks };
+
+    ghost coded = { finite.code coded_ℕ mark_code };
+
+    ghost use Rattle.raft_memtable.specs.RegionMarksView.{marks_shown};
+
+    ghost view = { marks_shown };
+}
+
+impl RegionMarks {
+    /// No marks.
+    pub fn new(alloc: Global) -> RegionMarks
+        ensures { result ≡ finite.empty }
+    {
+        RegionMarks {
+            marks: HashMap::new(alloc),
+            alloc,
+        }
+    }
+
+    /// The mark of a region.
+    pub fn get(&self, id: u64) -> Option<&Mark>
+        ensures { option_map (λ m. m.now) result ≡ finite.get self.now id }
+    {
+        self.marks.get(&id)
+    }
+
+    /// Gives a region that has no mark the mark of no step.
+    ///
+    /// # Errors
+    ///
+    /// `Memory`. The marks are then as they were.
+    pub fn mark(&mut self, id: u64) -> Result<()>
+        ensures ok { OnOk result (self.new ≡ finite.insert self.old id (mark_in self.old id)) }
+        ensures err { OnErr result (self.new ≡ self.old) }
+        ensures memory { IfErr result (λ e. e ≡ Error.Memory) }
+    {
+        self.update(id, |_: &mut Mark| Ok(()))
+    }
+
+    /// Joins the mark of a run that starts at `start` to a region's mark, where the region's own entries
+    /// end at `end`.
+    ///
+    /// # Errors
+    ///
+    /// `Memory`. The marks are then as they were.
+    pub fn add_run(&mut self, id: u64, queue: LogQueue, end: u64, start: u64) -> Result<()>
+        ensures ok { OnOk result (self.new ≡ finite.insert self.old id (joined_at queue end (mark_in self.old id) (record fresh { reach = Some start; cut = Some start }))) }
+        ensures err { OnErr result (self.new ≡ self.old) }
+        ensures memory { IfErr result (λ e. e ≡ Error.Memory) }
+    {
+        self.update(id, move |mark: &mut Mark| {
+            mark.add_run(queue, end, start);
+            Ok(())
+        })
+    }
+
+    /// Joins the mark of a compaction to a region's mark.
+    ///
+    /// # Errors
+    ///
+    /// `Memory`. The marks are then as they were.
+    pub fn add_compaction(&mut self, id: u64, index: u64) -> Result<()>
+        ensures ok { (queue : LogQueue) (end : ℕ) → OnOk result (self.new ≡ finite.insert self.old id (joined_at queue end (mark_in self.old id) (mark_of (Compact index)))) }
+        ensures err { OnErr result (self.new ≡ self.old) }
+        ensures memory { IfErr result (λ e. e ≡ Error.Memory) }
+    {
+        self.update(id, move |mark: &mut Mark| {
+            mark.add_compaction(index);
+            Ok(())
+        })
+    }
+
+    /// Joins the mark of a deleted key to a region's mark.
+    ///
+    /// # Errors
+    ///
+    /// `Memory`. The marks are then as they were.
+    pub fn add_deleted(&mut self, id: u64, key: Vec<u8>) -> Result<()>
+        ensures ok { (queue : LogQueue) (end : ℕ) → OnOk result (self.new ≡ finite.insert self.old id (joined_at queue end (mark_in self.old id) (mark_of (Del key.items)))) }
+        ensures err { OnErr result (self.new ≡ self.old) }
+        ensures memory { IfErr result (λ e. e ≡ Error.Memory) }
+    {
+        self.update(id, move |mark: &mut Mark| mark.add_deleted(key))
+    }
+
+    /// Joins the mark of a clean to a region's mark.
+    ///
+    /// # Errors
+    ///
+    /// `Memory`. The marks are then as they were.
+    pub fn add_clean(&mut self, id: u64) -> Result<()>
+        ensures ok { (queue : LogQueue) (end : ℕ) → OnOk result (self.new ≡ finite.insert self.old id (joined_at queue end (mark_in self.old id) (mark_of Clean))) }
+        ensures err { OnErr result (self.new ≡ self.old) }
+        ensures memory { IfErr result (λ e. e ≡ Error.Memory) }
+    {
+        self.update(id, |mark: &mut Mark| {
+            mark.add_clean();
+            Ok(())
+        })
+    }
+
+    /// Joins the mark of newer steps to a region's mark, where its first run meets a part of the region's
+    /// own entries that ends at `met`.
+    ///
+    /// # Errors
+    ///
+    /// `Memory`.
+    pub fn join(&mut self, id: u64, queue: LogQueue, met: u64, newer: Mark) -> Result<()>
+        ensures ok { OnOk result (self.new ≡ finite.insert self.old id (joined_at queue met (mark_in self.old id) newer)) }
+        ensures memory { IfErr result (λ e. e ≡ Error.Memory) }
+    {
+        self.update(id, move |mark: &mut Mark| {
+            let mut newer = newer;
+            mark.join(queue, met, &mut newer)
+        })
+    }
+
+    /// Changes a region's mark, that of no step where it has none. It is looked up once where it is there.
+    #[inline(always)]
+    fn update<F: FnOnce(&mut Mark) -> Result<()>>(&mut self, id: u64, change: F) -> Result<()>
+    where
+        F: Drop,
+        requires { MayChangeMark F.FnOnce change (mark_in self.old id) }
+        ensures { IsMarkUpdated F.FnOnce change self.old id result self.new }
+    {
+        if let Some(mark) = self.marks.get_mut(&id) {
+            return change(mark);
+        }
+        self.marks.reserve(1)?;
+        let mut mark = Mark::new(self.alloc);
+        change(&mut mark)?;
+        match self.marks.insert(id, mark) {
+            Ok(_) => Ok(()),
+            Err(_) => unreachable!(),
+        }
+    }
+}

@@ -9,3 +9,5 @@ mod RegionTablesLemmas
 mod SlotLemmas
 mod UpdateLemmas
 mod WriteLemmas
+mod SlotKeeping
+mod CleanLemmas

@@ -12,3 +12,6 @@ pub mod ItemWrites
 pub mod RegionTablesView
 pub mod Updates
 pub mod Writes
+pub mod Slot
+pub mod SlotCode
+pub mod SlotView

@@ -5,6 +5,7 @@ pub mod accessor;
 pub mod item_writes;
 pub mod region_tables;
 pub mod replay_machine;
+pub mod slot;
 #[cfg(test)]
 mod tests;
 pub mod waiting_group;
@@ -18,3 +19,4 @@ pub use raft_table::{
 };
 pub use region_tables::RegionTables;
 pub use replay_machine::ReplayMachine;
+pub use slot::Slot;

@@ -1,6 +1,6 @@
 //! The tables of some regions.
 
-ghost use Rattle.std.specs.Prelude.{◌≡◌, ◌≢◌, ◌≤◌, ◌<◌, ◌^◌, ◌+◌, ◌↔◌, ◌⊎◌, List, ◌++◌, map, IsPermutation, IsTrue, OnOk, OnErr, IfOk, IfErr, IfSome, Some, None, option_map};
+ghost use Rattle.std.specs.Prelude.{◌≡◌, ◌≢◌, ◌≤◌, ◌<◌, ◌^◌, ◌+◌, ◌↔◌, ◌⊎◌, ℕ, List, ◌++◌, map, IsPermutation, IsTrue, OnOk, OnErr, IfOk, IfErr, IfSome, Some, None, option_map};
 ghost use Rattle.std.specs.FinMap as finite;
 ghost use Rattle.raft_base.specs.declared.pipe_log.LogQueue.{LogQueue};
 ghost use Rattle.raft_history.specs.RegionSteps.{Tables, with_table};
@@ -80,6 +80,13 @@ impl RegionTables {
             tables.push(table)?;
         }
         Ok(())
+    }
+
+    /// Each table stands under its own region's id. This is a law: it computes nothing.
+    pub fn tables_are_own(&self)
+        ensures { (id : ℕ) (t : Table) → finite.get self.now id ≡ Some t → t.region_id ≡ id }
+    {
+        let _ = &self.tables;
     }
 
     /// Makes an empty table for a region that has none.

@@ -2,7 +2,7 @@
 SHELL := /bin/bash
 RT ?= rt
 export RT
-.PHONY: bench demo edits example raftlog test wrong-bodies
+.PHONY: bench compare demo edits example raftlog test wrong-bodies
 
 # Runs `raftlog` on an item batch, which says that the records of region 1 go. Nothing is proved.
 demo:
@@ -38,3 +38,8 @@ bench:
 	@mkdir -p crates/raft_bench/out
 	@cd crates/raft_bench && $(RT) run > out/bench.log 2>&1 || { cat out/bench.log; exit 1; }
 	@crates/raft_bench/out/raft_bench crc32 varint batches memtable
+
+# Runs `raftlog recover` over a folder of cases, as `make compare CASES=folder`, and counts those that it answers otherwise
+# than they say. `make raftlog` builds it first.
+compare:
+	@tools/compare.py $(CASES)

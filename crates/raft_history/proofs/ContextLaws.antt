@@ -6,7 +6,7 @@ use Rattle.std.specs.FinMap as finite
 use Rattle.std.proofs.lemmas.Bool.{false≢true}
 use Rattle.raft_base.specs.declared.pipe_log.LogQueue.{LogQueue}
 use Rattle.raft_base.specs.declared.pipe_log.LogQueue.TheVariants.{Append, Rewrite}
-use Rattle.raft_table.specs.Marks.{fresh}
+use Rattle.raft_table.specs.MarkJoins.{fresh}
 use Rattle.raft_table.specs.Steps.{Step, after}
 use Rattle.raft_table.specs.Table.{Table}
 use Rattle.raft_table.proofs.MarkLaws.{stands_alone}

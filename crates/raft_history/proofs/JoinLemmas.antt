@@ -7,7 +7,8 @@ use Rattle.std.specs.Ordering.{nat_cmp, eq_by_cmp}
 use Rattle.std.specs.FinMap as finite
 use Rattle.std.specs.FinMap.Entries.{find}
 use Rattle.raft_base.specs.declared.pipe_log.LogQueue.{LogQueue}
-use Rattle.raft_table.specs.Marks.{Mark, fresh}
+use Rattle.raft_table.specs.Marks.{Mark}
+use Rattle.raft_table.specs.MarkJoins.{fresh}
 use Rattle.raft_table.specs.Table.{Table}
 use Rattle.raft_history.specs.Contexts.{Context, AreMerged, AreRefused, merged_regions}
 use Rattle.raft_history.specs.MarkedRegions.{MarkedRegions, MarkedRegion, region_in, with_region, joined_region, joined_marked, joined_each, joined_regions, regions_after, region_steps_of_wholes}

@@ -12,7 +12,8 @@ use Rattle.std.specs.FinMap.Entries.{find}
 use Rattle.std.specs.FinSet as finset
 use Rattle.raft_base.specs.declared.pipe_log.LogQueue.{LogQueue}
 use Rattle.raft_table.specs.KeySets.{KeySet}
-use Rattle.raft_table.specs.Marks.{Mark, fresh}
+use Rattle.raft_table.specs.Marks.{Mark}
+use Rattle.raft_table.specs.MarkJoins.{fresh}
 use Rattle.raft_table.specs.Overlay.{HoldsDeleted, deleted_of}
 use Rattle.raft_table.specs.Table.{Table}
 use Rattle.raft_table.proofs.MarkExact.{deleted_count}

@@ -5,7 +5,8 @@ use Rattle.std.specs.Option.{unwrap_or}
 use Rattle.std.specs.Ordering.{nat_cmp}
 use Rattle.std.specs.FinMap as finite
 use Rattle.raft_base.specs.declared.pipe_log.LogQueue.{LogQueue}
-use Rattle.raft_table.specs.Marks.{Mark, fresh}
+use Rattle.raft_table.specs.Marks.{Mark}
+use Rattle.raft_table.specs.MarkJoins.{fresh}
 use Rattle.raft_table.specs.Steps.{after}
 use Rattle.raft_history.specs.Batches.{Event, batches}
 use Rattle.raft_history.specs.Contexts.{Context, new_context, Holds, AreExact, StandsIn, StandsFor, IsExactFor}

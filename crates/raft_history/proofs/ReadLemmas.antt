@@ -6,7 +6,8 @@ use Rattle.std.specs.Option.{option_and_then}
 use Rattle.std.specs.FinMap as finite
 use Rattle.raft_base.specs.declared.pipe_log.LogQueue.{LogQueue}
 use Rattle.raft_base.specs.declared.pipe_log.LogQueue.TheVariants.{Append, Rewrite}
-use Rattle.raft_table.specs.Marks.{Mark, Stands, applied, joined, joined_at, met, fresh, mark_of, own_of}
+use Rattle.raft_table.specs.Marks.{Mark, Stands, applied}
+use Rattle.raft_table.specs.MarkJoins.{joined, joined_at, met, fresh, mark_of, own_of}
 use Rattle.raft_table.specs.Overlay.{HoldsDeleted, IsExactMark}
 use Rattle.raft_table.specs.Steps.{Step, AtomicGroup, IsStep, AreSteps, after_step, after, table_of}
 use Rattle.raft_table.specs.Table.{Table}

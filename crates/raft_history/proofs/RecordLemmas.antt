@@ -20,7 +20,8 @@ use Rattle.raft_records.specs.declared.entry_index.EntryIndex.{EntryIndex}
 use Rattle.raft_table.specs.Entries.{below, from, end_of}
 use Rattle.raft_table.specs.KeySets.{KeySet, without}
 use Rattle.raft_table.specs.KeyValues.{Keys, Stored, StoredPair, with_pairs, overlaid}
-use Rattle.raft_table.specs.Marks.{Mark, part, older_entries, entries_over, keys_over, atomic_group_over, table_over, is_meeting_refused, is_missed, is_there_over, applied, joined, mark_of}
+use Rattle.raft_table.specs.Marks.{Mark, part, older_entries, entries_over, keys_over, atomic_group_over, table_over, is_meeting_refused, is_missed, is_there_over, applied}
+use Rattle.raft_table.specs.MarkJoins.{joined, mark_of}
 use Rattle.raft_table.specs.Start.{replayed, leaves_hole}
 use Rattle.raft_table.specs.Steps.{Step, Run, Compact, Put, Del, AtomicGroup, Clean, stepped, is_there_after, there_if, after_step, table_of}
 use Rattle.raft_table.specs.Table.{Table, empty_table, table_with_entries}

@@ -18,6 +18,7 @@ abbrev pub ended : List Placed → Placed → List Effect
 ended [] p = []
 ended (q ∷ qs) p = record { earlier = q ∷ qs; last = p } ∷ []
 
+-- the same, by the status of the marker
 abbrev pub completed_as : AtomicGroupStatus → List Placed → Placed → List Effect
 completed_as Begin stretch p = []
 completed_as Middle stretch p = []
@@ -28,6 +29,7 @@ abbrev pub completed_by : Option GroupMarker → List Placed → Placed → List
 completed_by None before p = record { earlier = []; last = p } ∷ []
 completed_by (Some m) before p = completed_as m.status (open_stretch (markers_of m.group before)) p
 
+-- the same, by its marker
 abbrev pub completed : List Placed → Placed → List Effect
 completed before p = completed_by p.batch.marker before p
 
@@ -36,20 +38,24 @@ unfoldable pub effects_behind : List Placed → List Placed → List Effect
 effects_behind before [] = []
 effects_behind before (p ∷ ps) = completed before p ++ effects_behind (before ++ p ∷ []) ps
 
+-- the effects of a history, in the order of their last batches
 abbrev pub effects : List Batch → List Effect
 effects h = effects_behind [] (placed_from 0 h)
 
--- a group's steps on a region: those of its steps, and its span, where it names the region
+-- a group's steps on a region: those of its steps, and the files of its Begin and End, where it names the region
 unfoldable pub whole_steps : ℕ → WholeGroup → List Step
 whole_steps r w = steps_on r w.steps ++ cond (names r w.steps) (AtomicGroup w.start w.end ∷ []) []
 
+-- the steps of all batches of an effect, in order
 abbrev pub region_steps_in : Effect → List RegionStep
 region_steps_in e = region_steps_of e.earlier ++ e.last.batch.steps
 
+-- the steps on a region of the batches before the last and the last: of one batch its own, of a group those of all its batches and its files
 abbrev pub steps_by : ℕ → List Placed → Placed → List Step
 steps_by r [] last = steps_on r last.batch.steps
 steps_by r (q ∷ qs) last = whole_steps r record { steps = region_steps_of (q ∷ qs) ++ last.batch.steps; start = q.batch.file; end = last.batch.file }
 
+-- the steps on a region of an effect
 abbrev pub steps_in : ℕ → Effect → List Step
 steps_in r e = steps_by r e.earlier e.last
 
@@ -57,6 +63,7 @@ steps_in r e = steps_by r e.earlier e.last
 unfoldable pub all_steps : ℕ → List Effect → List Step
 all_steps r es = flat_map (steps_in r) es
 
+-- the steps on a region of a history
 abbrev pub steps_of : ℕ → List Batch → List Step
 steps_of r h = all_steps r (effects h)
 
@@ -69,15 +76,19 @@ abbrev pub first_by : List Placed → Placed → ℕ
 first_by [] last = last.number
 first_by (q ∷ qs) last = q.number
 
+-- the number of its first batch
 abbrev pub first_in : Effect → ℕ
 first_in e = first_by e.earlier e.last
 
+-- and of its last
 abbrev pub last_in : Effect → ℕ
 last_in e = e.last.number
 
+-- an effect of more than one batch
 abbrev pub IsGroup : Effect → Type 0
 IsGroup e = e.earlier ≡ [] → ⊥
 
+-- some step of the effect is on the region
 abbrev pub Names : ℕ → Effect → Type 0
 Names r e = names r (region_steps_in e) ≡ true
 
@@ -95,6 +106,7 @@ abbrev pub EachApart : List Effect → Type 0
 EachApart [] = Unit {0}
 EachApart (e ∷ es) = AllByRecursion (AreApart e) es × EachApart es
 
+-- any two effects of the history
 pub record BatchesApart (h : List Batch) : Type 0 where
   pub each : EachApart (effects h)
 
@@ -106,6 +118,7 @@ group_in g h = group_of g (placed_from 0 h)
 abbrev pub wholes : List ℕ → List Batch → List Batch → List WholeGroup
 wholes ids older newer = filter_map (λ g. whole_group (group_in g older) (group_in g newer)) ids
 
+-- the steps on a region of groups that are whole, in order
 unfoldable pub steps_of_wholes : ℕ → List WholeGroup → List Step
 steps_of_wholes r ws = flat_map (whole_steps r) ws
 
@@ -114,6 +127,7 @@ abbrev pub IsListed : List ℕ → Option GroupMarker → Type 0
 IsListed ids None = Unit {0}
 IsListed ids (Some m) = list_any (λ g. eqb g m.group) ids ≡ true
 
+-- the list has the group of each batch that has a marker
 abbrev pub ListsGroups : List ℕ → List Batch → Type 0
 ListsGroups ids h = AllByRecursion (λ b. IsListed ids b.marker) h
 

@@ -125,6 +125,7 @@ abbrev pub AreOfQueue : LogQueue → List Event → Type 0
 AreOfQueue queue [] = Unit {0}
 AreOfQueue queue (e ∷ h) = (e.file.queue ≡ queue) × AreOfQueue queue h
 
+-- the same, as one fact
 pub record IsOfQueue (queue : LogQueue) (h : List Event) : Type 0 where
   pub each : AreOfQueue queue h
 

@@ -4,7 +4,8 @@ use Rattle.std.specs.Option.{unwrap_or, option_and_then}
 use Rattle.std.specs.Ordering.{nat_cmp}
 use Rattle.std.specs.FinMap as finite
 use Rattle.raft_base.specs.declared.pipe_log.LogQueue.{LogQueue}
-use Rattle.raft_table.specs.Marks.{Mark, applied, joined, fresh, mark_of}
+use Rattle.raft_table.specs.Marks.{Mark, applied}
+use Rattle.raft_table.specs.MarkJoins.{joined, fresh, mark_of}
 use Rattle.raft_table.specs.Steps.{Step, AtomicGroup, after_step}
 use Rattle.raft_table.specs.Table.{Table}
 use Rattle.raft_history.specs.RegionSteps.{RegionStep, Tables, with_table, names}

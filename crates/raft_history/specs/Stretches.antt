@@ -35,10 +35,11 @@ pub record IsAlone (h : List Batch) (e : Effect) : Type 0 where
   pub unmarked : e.last.batch.marker ≡ None
   pub none : e.earlier ≡ []
 
+-- an effect of the history: an unmarked batch of it, or a stretch of some group's markers
 abbrev pub IsEffect : List Batch → Effect → Type 0
 IsEffect h e = IsAlone h e ⊎ ((g : ℕ) × IsStretch h g e)
 
--- in the order of their last batches
+-- each effect's last batch stands behind that of the effect before it, the first at this number or behind it
 abbrev pub RiseFrom : ℕ → List Effect → Type 0
 RiseFrom n [] = Unit {0}
 RiseFrom n (e ∷ es) = (n ≤ last_in e) × RiseFrom (suc (last_in e)) es

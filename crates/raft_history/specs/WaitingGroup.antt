@@ -10,10 +10,12 @@ pub record Placed : Type 0 where
   pub number : ℕ
   pub batch : Batch
 
+-- the batches with their numbers, the first of which is this one
 abbrev pub placed_from : ℕ → List Batch → List Placed
 placed_from n [] = []
 placed_from n (b ∷ bs) = record { number = n; batch = b } ∷ placed_from (suc n) bs
 
+-- whether a marker is there and of the group
 abbrev pub is_of : ℕ → Option GroupMarker → Bool
 is_of g None = false
 is_of g (Some m) = eqb g m.group
@@ -22,20 +24,24 @@ is_of g (Some m) = eqb g m.group
 unfoldable pub markers_of : ℕ → List Placed → List Placed
 markers_of g ps = filter (λ p. is_of g p.batch.marker) ps
 
+-- whether a status is Begin
 abbrev pub begins_by : AtomicGroupStatus → Bool
 begins_by Begin = true
 begins_by Middle = false
 begins_by End = false
 
+-- whether a status is Middle
 abbrev pub goes_on_by : AtomicGroupStatus → Bool
 goes_on_by Begin = false
 goes_on_by Middle = true
 goes_on_by End = false
 
+-- whether a marker is there and is a Begin
 abbrev pub begins : Option GroupMarker → Bool
 begins None = false
 begins (Some m) = begins_by m.status
 
+-- whether a marker is there and is a Middle
 abbrev pub goes_on : Option GroupMarker → Bool
 goes_on None = false
 goes_on (Some m) = goes_on_by m.status
@@ -50,6 +56,7 @@ unfoldable pub open_stretch : List Placed → List Placed
 open_stretch [] = []
 open_stretch (p ∷ ps) = cond (begins p.batch.marker && are_middles ps) (p ∷ ps) (open_stretch ps)
 
+-- the steps of batches, in order
 abbrev pub region_steps_of : List Placed → List RegionStep
 region_steps_of ps = flat_map (λ p. p.batch.steps) ps
 
@@ -59,20 +66,24 @@ pub data GroupFront : Type 0 where
   Ended : List RegionStep → ℕ → GroupFront
   Cut : GroupFront
 
+-- a front with steps before it
 abbrev pub led_by : List RegionStep → GroupFront → GroupFront
 led_by is (Open js) = Open (is ++ js)
 led_by is (Ended js f) = Ended (is ++ js) f
 led_by is Cut = Cut
 
+-- a front with one more marker before it, by its status
 abbrev pub front_by : AtomicGroupStatus → List RegionStep → ℕ → GroupFront → GroupFront
 front_by Begin is f rest = Cut
 front_by Middle is f rest = led_by is rest
 front_by End is f rest = Ended is f
 
+-- the same, by the marker
 abbrev pub front_behind : Option GroupMarker → List RegionStep → ℕ → GroupFront → GroupFront
 front_behind None is f rest = Cut
 front_behind (Some m) is f rest = front_by m.status is f rest
 
+-- the front of the markers of a group
 unfoldable pub front_of : List Placed → GroupFront
 front_of [] = Open []
 front_of (p ∷ ps) = front_behind p.batch.marker p.batch.steps p.batch.file (front_of ps)
@@ -82,6 +93,7 @@ pub record OpenStretch : Type 0 where
   pub file : ℕ
   pub steps : List RegionStep
 
+-- what is held of an open stretch, if there is one
 abbrev pub stretch_of : List Placed → Option OpenStretch
 stretch_of [] = None
 stretch_of (p ∷ ps) = Some record { file = p.batch.file; steps = region_steps_of (p ∷ ps) }
@@ -91,9 +103,11 @@ pub record WaitingGroup : Type 0 where
   pub front : GroupFront
   pub stretch : Option OpenStretch
 
+-- what the markers of a group say of it
 abbrev pub group_at : List Placed → WaitingGroup
 group_at ms = record { front = front_of ms; stretch = stretch_of (open_stretch ms) }
 
+-- what batches say of a group
 abbrev pub group_of : ℕ → List Placed → WaitingGroup
 group_of g ps = group_at (markers_of g ps)
 
@@ -114,6 +128,7 @@ joined_group_by (Open is) front older newer = record { front = led_by is front; 
 joined_group_by front (Open is) older newer = record { front = front; stretch = carried older.stretch is }
 joined_group_by front _ older newer = record { front = front; stretch = newer.stretch }
 
+-- the same, of two groups
 abbrev pub joined_group : WaitingGroup → WaitingGroup → WaitingGroup
 joined_group older newer = joined_group_by older.front newer.front older newer
 
@@ -129,6 +144,7 @@ abbrev pub whole_group_by : GroupFront → Option OpenStretch → GroupFront →
 whole_group_by (Open is) s front = None
 whole_group_by _ s front = whole_of s front
 
+-- the group that becomes whole between an older and a newer stretch of a history, if it does
 abbrev pub whole_group : WaitingGroup → WaitingGroup → Option WholeGroup
 whole_group older newer = whole_group_by older.front older.stretch newer.front
 
@@ -136,6 +152,7 @@ whole_group older newer = whole_group_by older.front older.stretch newer.front
 abbrev pub unmarked : WaitingGroup
 unmarked = record { front = Open []; stretch = None }
 
+-- what one marker says of its group
 abbrev pub one_marker : AtomicGroupStatus → List RegionStep → ℕ → WaitingGroup
 one_marker Begin is f = record { front = Cut; stretch = Some record { file = f; steps = is } }
 one_marker Middle is f = record { front = Open is; stretch = None }

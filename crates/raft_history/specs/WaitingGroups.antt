@@ -10,9 +10,11 @@ use Rattle.raft_history.specs.Effects.{whole_steps, group_in}
 use Rattle.raft_history.specs.RegionSteps.{RegionStep, steps_on, names}
 use Rattle.raft_history.specs.WaitingGroup.{unmarked, GroupFront, Open, Ended, Cut, OpenStretch, WaitingGroup, joined_group, WholeGroup, whole_group, one_marker}
 
+-- each group that has a marker, with what is known of it
 abbrev pub WaitingGroups : Type 0
 WaitingGroups = FinMap nat_cmp WaitingGroup
 
+-- the group of a marker, if there is one, with what the history says of it
 abbrev pub entry_by : List Batch → Option GroupMarker → List (ℕ × WaitingGroup)
 entry_by h None = []
 entry_by h (Some m) = (m.group, group_in m.group h) ∷ []
@@ -21,6 +23,7 @@ entry_by h (Some m) = (m.group, group_in m.group h) ∷ []
 unfoldable pub groups_in : List Batch → WaitingGroups
 groups_in h = finite.from_entries (flat_map (λ b. entry_by h b.marker) h)
 
+-- what is known of a group
 abbrev pub known : WaitingGroups → ℕ → WaitingGroup
 known groups g = unwrap_or (finite.get groups g) unmarked
 
@@ -29,6 +32,7 @@ abbrev pub joined_with : WaitingGroups → List (ℕ × WaitingGroup) → Waitin
 joined_with older [] = older
 joined_with older (e ∷ es) = joined_with (finite.insert older e.0 (joined_group (known older e.0) e.1)) es
 
+-- the groups of an older and a newer stretch of a history
 abbrev pub joined_groups : WaitingGroups → WaitingGroups → WaitingGroups
 joined_groups older newer = joined_with older (finite.entries newer)
 
@@ -36,6 +40,7 @@ joined_groups older newer = joined_with older (finite.entries newer)
 abbrev pub whole_with : WaitingGroups → List (ℕ × WaitingGroup) → List WholeGroup
 whole_with older es = filter_map (λ e. whole_group (known older e.0) e.1) es
 
+-- the groups that become whole between the two
 abbrev pub whole_groups : WaitingGroups → WaitingGroups → List WholeGroup
 whole_groups older newer = whole_with older (finite.entries newer)
 
@@ -44,6 +49,7 @@ abbrev pub groups_after : WaitingGroups → Batch → Option GroupMarker → Wai
 groups_after groups b None = groups
 groups_after groups b (Some m) = finite.insert groups m.group (joined_group (known groups m.group) (one_marker m.status b.steps b.file))
 
+-- the steps on a region of a group that may be whole
 abbrev pub steps_or : ℕ → Option WholeGroup → List Step
 steps_or r None = []
 steps_or r (Some w) = whole_steps r w
@@ -59,13 +65,16 @@ front_steps (Open is) = is
 front_steps (Ended is f) = is
 front_steps Cut = []
 
+-- the steps of an open stretch, if there is one
 abbrev pub stretch_steps : Option OpenStretch → List RegionStep
 stretch_steps None = []
 stretch_steps (Some s) = s.steps
 
+-- the steps that wait in a group
 abbrev pub held_steps : WaitingGroup → List RegionStep
 held_steps g = front_steps g.front ++ stretch_steps g.stretch
 
+-- how many steps wait in all groups
 abbrev pub waiting_steps : WaitingGroups → ℕ
 waiting_steps groups = length (flat_map (λ e. held_steps e.1) (finite.entries groups))
 
@@ -74,6 +83,7 @@ abbrev pub names_by : ℕ → Option WholeGroup → Bool
 names_by r None = false
 names_by r (Some w) = names r w.steps
 
+-- whether what takes effect with a batch names the region
 abbrev pub names_by_batch : ℕ → WaitingGroups → Batch → Option GroupMarker → Bool
 names_by_batch r groups b None = names r b.steps
 names_by_batch r groups b (Some m) = names_by r (whole_group (known groups m.group) (one_marker m.status b.steps b.file))

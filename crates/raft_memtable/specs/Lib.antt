@@ -11,7 +11,9 @@ pub mod AccessorView
 pub mod ItemWrites
 pub mod RegionTablesView
 pub mod Updates
+pub mod Walks
 pub mod Writes
 pub mod Slot
 pub mod SlotCode
 pub mod SlotView
+pub mod ReplayMachine

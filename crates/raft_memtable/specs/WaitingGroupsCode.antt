@@ -15,6 +15,7 @@ use Rattle.raft_history.specs.WaitingGroups.{WaitingGroups}
 abbrev pub StepParts : Type 0
 StepParts = Result (List EntryIndex) (Result ℕ (Result (List ℕ × (List ℕ × FileId)) (Result (List ℕ) (Option (ℕ × ℕ)))))
 
+-- what a step holds
 abbrev pub step_parts : Step → StepParts
 step_parts (Run run) = Ok run
 step_parts (Compact i) = Err (Ok i)
@@ -23,6 +24,7 @@ step_parts (Del key) = Err (Err (Err (Ok key)))
 step_parts (AtomicGroup start end) = Err (Err (Err (Err (Some (start, end)))))
 step_parts Clean = Err (Err (Err (Err None)))
 
+-- the step that holds this
 abbrev pub step_from : StepParts → Step
 step_from (Ok run) = Run run
 step_from (Err (Ok i)) = Compact i
@@ -31,6 +33,7 @@ step_from (Err (Err (Err (Ok key)))) = Del key
 step_from (Err (Err (Err (Err (Some p))))) = AtomicGroup p.0 p.1
 step_from (Err (Err (Err (Err None)))) = Clean
 
+-- which is the step again
 pub step_again : (s : Step) → step_from (step_parts s) ≡ s
 step_again (Run run) = refl
 step_again (Compact i) = refl
@@ -39,11 +42,13 @@ step_again (Del key) = refl
 step_again (AtomicGroup start end) = refl
 step_again Clean = refl
 
+-- the code of a step
 abbrev pub step_code : Coded Step
 step_code =
     code_by StepParts (coded_result (coded_list entry.the_row.coded) (coded_result coded_ℕ (coded_result (coded× (coded_list coded_ℕ) (coded× (coded_list coded_ℕ) file.the_row.coded)) (coded_result (coded_list coded_ℕ) (coded_option (coded× coded_ℕ coded_ℕ))))))
     step_parts step_from step_again
 
+-- the code of a step and its region
 abbrev pub region_step_code : Coded RegionStep
 region_step_code = code_by (ℕ × Step) (coded× coded_ℕ step_code) (λ s. (s.region, s.step)) (λ p. record { region = p.0; step = p.1 }) (λ _. refl)
 
@@ -53,27 +58,34 @@ front_parts (Open steps) = Some (steps, None)
 front_parts (Ended steps f) = Some (steps, Some f)
 front_parts Cut = None
 
+-- a front of these steps, by whether it has an End
 abbrev pub front_ending : List RegionStep → Option ℕ → GroupFront
 front_ending steps None = Open steps
 front_ending steps (Some f) = Ended steps f
 
+-- the front of these parts
 abbrev pub front_from : Option (List RegionStep × Option ℕ) → GroupFront
 front_from None = Cut
 front_from (Some p) = front_ending p.0 p.1
 
+-- which is the front again
 pub front_again : (f : GroupFront) → front_from (front_parts f) ≡ f
 front_again (Open steps) = refl
 front_again (Ended steps f) = refl
 front_again Cut = refl
 
+-- the code of a front
 abbrev pub front_code : Coded GroupFront
 front_code = code_by (Option (List RegionStep × Option ℕ)) (coded_option (coded× (coded_list region_step_code) (coded_option coded_ℕ))) front_parts front_from front_again
 
+-- the code of an open stretch
 abbrev pub stretch_code : Coded OpenStretch
 stretch_code = code_by (ℕ × List RegionStep) (coded× coded_ℕ (coded_list region_step_code)) (λ s. (s.file, s.steps)) (λ p. record { file = p.0; steps = p.1 }) (λ _. refl)
 
+-- the code of a group that waits
 abbrev pub group_code : Coded WaitingGroup
 group_code = code_by (GroupFront × Option OpenStretch) (coded× front_code (coded_option stretch_code)) (λ g. (g.front, g.stretch)) (λ p. record { front = p.0; stretch = p.1 }) (λ _. refl)
 
+-- the code of all groups
 abbrev pub groups_code : Coded WaitingGroups
 groups_code = finite.code coded_ℕ group_code

@@ -3,6 +3,7 @@
 ghost use Rattle.std.specs.Prelude.{◌≡◌, ◌≢◌, ◌≤◌, ◌<◌, ◌^◌, ◌+◌, ◌⊎◌, ◌↔◌, ℕ, List, [], ◌∷◌, ◌++◌, map, replicate, IsPermutation, IsTrue, IsOk, OnOk, OnErr, IfOk, IfErr, IfSome, Some, None, option_map, if◌then◌else◌};
 ghost use Rattle.std.specs.FinMap as finite;
 ghost use Rattle.std.specs.Iterator.{Drains, Yields, IsFinite};
+ghost use Rattle.std.specs.List.{FoldsTo};
 ghost use Rattle.raft_base.specs.declared.pipe_log.LogQueue.{LogQueue};
 ghost use Rattle.raft_base.specs.declared.pipe_log.LogQueue.TheVariants.{Append, Rewrite};
 ghost use Rattle.raft_records.specs.declared.log_item.LogItem.{LogItem};
@@ -13,6 +14,7 @@ ghost use Rattle.raft_table.specs.Change.{after_change, IsAnswer, IsChangeFault}
 ghost use Rattle.raft_table.specs.Table.{Table, with_atomic_group, live_of};
 ghost use Rattle.raft_memtable.specs.Accessor.{slot_of, table_in, live_in_all, AreCounted};
 ghost use Rattle.raft_memtable.specs.AccessorCalls.{IsTableChanged, IsWritten};
+ghost use Rattle.raft_memtable.specs.Walks.{Keeps};
 ghost use Rattle.raft_memtable.specs.Writes.{Appending, Replaying, Rewriting, AreWritten, AreRefused};
 
 use crate::region_tables::RegionTables;
@@ -307,6 +309,26 @@ impl MemTableAccessor {
             slot.push_tables(&mut tables)?;
         }
         Ok(tables)
+    }
+
+    /// The tables for which `f` answers true; it is called at each table once, in open order.
+    ///
+    /// # Errors
+    ///
+    /// `Memory`.
+    pub fn collect<F: FnMut(&MemTable) -> bool>(&self, mut f: F) -> Result<Vec<&MemTable>>
+        requires { F.IsAlwaysCallable f }
+        ensures ok { IfOk result (λ kept. (ts : List Table) × (last : F) × IsPermutation ts (finite.values self.now.tables)
+            × FoldsTo (Keeps F.FnMut) (f, []) ts (last, map (λ t. t.now) kept.items)) }
+        ensures memory { IfErr result (λ e. e ≡ Error.Memory) }
+    {
+        let mut kept = Vec::new(*self.cleaned.allocator());
+        for table in self.tables()? {
+            if f(table) {
+                kept.push(table)?;
+            }
+        }
+        Ok(kept)
     }
 
     /// Lists a region as cleaned.

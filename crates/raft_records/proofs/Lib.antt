@@ -20,7 +20,6 @@ pub mod PlacementLemmas
 pub mod PrintLemmas
 pub mod RangeLemmas
 pub mod ReadPlaceLemmas
-pub mod RequestLemmas
 pub mod SealLemmas
 pub mod StageLemmas
 pub mod StringLemmas

@@ -16,7 +16,6 @@ pub mod LogBatchModel
 pub mod Parts
 pub mod Placement
 pub mod Range
-pub mod Requests
 pub mod Same
 pub mod SameLaws
 pub mod Sizes

@@ -14,7 +14,6 @@ pub mod log_batch;
 pub mod log_item;
 pub mod log_item_batch;
 pub mod print;
-pub mod run;
 #[cfg(test)]
 mod tests;
 

@@ -1,5 +1,11 @@
+pub mod CoverLemmas
 pub mod DrawingLemmas
+pub mod LineLemmas
+pub mod LiningLemmas
+pub mod OrderLemmas
+pub mod RequestLemmas
 pub mod MergeLemmas
 pub mod MidwayLemmas
 pub mod SegmentLemmas
 pub mod WeightLemmas
+pub mod WorkedLemmas

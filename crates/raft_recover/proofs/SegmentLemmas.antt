@@ -1,5 +1,5 @@
 -- A part is read in one way, and so are the parts of a segment, and segments.
-use Rattle.std.proofs.Common.{◌≡◌, ℕ, ◌+◌, ◌-◌, ◌<◌, ◌≤◌, List, [], ◌∷◌, ◌++◌, Option, Vec, length, map, get_or, drop, take, sym, refl, ap, ◌∙◌, subst, arith, append_assoc, length-append, length-drop}
+use Rattle.std.proofs.Common.{◌≡◌, ℕ, ◌+◌, ◌<◌, ◌≤◌, List, [], ◌∷◌, ◌++◌, Option, Vec, length, map, get_or, drop, sym, refl, ap, ◌∙◌, subst, arith, append_assoc, length-append, length-drop}
 use Rattle.std.proofs.lemmas.List.{drop_more, drop_all}
 use Rattle.std.specs.Global.{Global}
 use Rattle.raft_base.specs.declared.pipe_log.FileId.{FileId}
@@ -17,7 +17,7 @@ use Rattle.raft_history.specs.Batches.{Event}
 use Rattle.raft_history.specs.Histories.{IsSmall, Sound}
 use Rattle.raft_memtable.specs.ReplayMachine.{event}
 use Rattle.raft_recover.specs.Replays.{CannotFollow}
-use Rattle.raft_recover.specs.Segments.{IsReadBehind, ReadsFrom, ReadsPart, ReadsEach, ReadsParts, ReadsSegments}
+use Rattle.raft_recover.specs.Segments.{ReadsFrom, ReadsPart, ReadsEach, ReadsParts, ReadsSegments}
 use Rattle.raft_recover.proofs.MidwayLemmas.{IsCut, first_refused}
 
 -- ---- one batch

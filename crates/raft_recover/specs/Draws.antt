@@ -18,11 +18,13 @@ pub record TicketBook : Type 0 where
   pub total : ℕ
   pub seats : ℕ
 
+-- a seat as where it draws, the total and its numbers
 abbrev pub drawer_code : Coded Drawer
 drawer_code =
     code_by (TableId × (ℕ × List ℕ)) (coded× table_id_coded (coded× coded_ℕ (coded_list coded_ℕ)))
     (λ d. (d.table, (d.total, d.drawn))) (λ p. record { table = p.0; total = p.1.0; drawn = p.1.1 }) (λ _. refl)
 
+-- tickets as where they are drawn, the total and the count of seats
 abbrev pub ticket_book_code : Coded TicketBook
 ticket_book_code =
     code_by (TableId × (ℕ × ℕ)) (coded× table_id_coded (coded× coded_ℕ coded_ℕ))

@@ -3,6 +3,7 @@ use Rattle.std.specs.Prelude.{◌≡◌, ◌<◌}
 use Rattle.raft_recover.specs.declared.tickets.Tickets.TheInside.{Inside}
 use Rattle.raft_recover.specs.Draws.{TicketBook}
 
+-- the tickets as their callers see them
 abbrev pub book_in : Inside → TicketBook
 book_in t = record { table = t.table.shared.table_id; total = t.total; seats = t.table.shared.key.seats }
 

@@ -1,15 +1,30 @@
-//! Recovery of tables from log files, on any number of threads.
+//! Recovery of tables from log files, on any number of threads, and the program over it.
 #![tactic(auto)]
 
 mod drawing;
+pub mod gate;
+mod piece;
 pub mod pieces;
 pub mod plan;
+pub mod recover;
+pub mod recovered;
+pub mod request;
+pub mod run;
+pub mod scheduled;
 pub mod segment;
 pub mod ticket_seat;
 pub mod tickets;
+pub mod workers;
 
+pub use gate::{Gate, OpenGate};
 pub use pieces::merge_pieces;
 pub use plan::Plan;
+pub use recovered::print_recovered;
+pub use scheduled::{piece_count, replay_scheduled};
 pub use segment::{Segment, replay_segment};
 pub use ticket_seat::TicketSeat;
 pub use tickets::Tickets;
+pub use workers::{MAX_WORKERS, replay_segments};
+
+#[cfg(test)]
+mod tests;

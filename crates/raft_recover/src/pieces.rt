@@ -40,7 +40,7 @@ pub(crate) fn fits<M: ReplayMachine>(pieces: &Vec<M>, plan: &Plan) -> bool
 }
 
 /// The pieces of each branch are merged at once.
-fn merge_at_once<M: ReplayMachine, R: Threads + Sync>(
+pub(crate) fn merge_at_once<M: ReplayMachine, R: Threads + Sync>(
     rt: &R,
     pieces: Vec<M>,
     plan: &Plan,

@@ -9,7 +9,8 @@ use Rattle.raft_base.specs.declared.pipe_log.LogQueue.{LogQueue}
 use Rattle.raft_base.specs.declared.pipe_log.LogQueue.TheVariants.{Append, Rewrite}
 use Rattle.raft_records.specs.declared.entry_index.EntryIndex.{EntryIndex}
 use Rattle.raft_table.specs.Entries.{end_of, from}
-use Rattle.raft_table.specs.Marks.{Mark, part, misses, is_missed, older_entries, is_meeting_refused, entries_over, FitsCut, FitsMark, least_of, joined_first, joined_floor, joined_later, joined_live, joined_at}
+use Rattle.raft_table.specs.Marks.{Mark, part, misses, is_missed, older_entries, is_meeting_refused, entries_over, FitsCut, FitsMark}
+use Rattle.raft_table.specs.MarkJoins.{least_of, joined_first, joined_floor, joined_later, joined_live, joined_at}
 use Rattle.raft_table.proofs.RunLemmas.{end_of-append}
 use Rattle.raft_table.proofs.MarkWords.{part-both, part-part, part-nil, part-empty, part-from, end_of-nil, end_of-from, met_first, met_later}
 

@@ -10,7 +10,8 @@ use Rattle.raft_base.specs.declared.pipe_log.LogQueue.TheVariants.{Append, Rewri
 use Rattle.raft_records.specs.declared.entry_index.EntryIndex.{EntryIndex}
 use Rattle.raft_table.specs.KeySets.{KeySet}
 use Rattle.raft_table.specs.Steps.{Step, Run, Compact, Put, Del, AtomicGroup, Clean}
-use Rattle.raft_table.specs.Marks.{Mark, least_of, FitsCut, FitsMark, joined_deleted, joined_live, joined_at, fresh, mark_of}
+use Rattle.raft_table.specs.Marks.{Mark, FitsCut, FitsMark}
+use Rattle.raft_table.specs.MarkJoins.{least_of, joined_deleted, joined_live, joined_at, fresh, mark_of}
 use Rattle.raft_table.specs.Overlay.{has_clean, greatest_compaction, least_start, deleted_of, HoldsDeleted, IsExactMark}
 
 -- two sets with the same keys are the same

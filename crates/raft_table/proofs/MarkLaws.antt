@@ -8,7 +8,8 @@ use Rattle.raft_records.specs.declared.entry_index.EntryIndex.{EntryIndex}
 use Rattle.raft_table.specs.Entries.{IsRun}
 use Rattle.raft_table.specs.Steps.{Step, Run, Compact, Put, Del, AtomicGroup, Clean, table_of, there_if, after_step, after, IsStep, AreSteps, IsTableOf}
 use Rattle.raft_table.specs.Table.{Table, empty_table}
-use Rattle.raft_table.specs.Marks.{Mark, entries_over, table_over, is_there_over, applied, FitsCut, FitsMark, Stands, joined, fresh, mark_of, own_of}
+use Rattle.raft_table.specs.Marks.{Mark, entries_over, table_over, is_there_over, applied, FitsCut, FitsMark, Stands}
+use Rattle.raft_table.specs.MarkJoins.{joined, fresh, mark_of, own_of}
 use Rattle.raft_table.proofs.MarkWords.{end_of-first}
 use Rattle.raft_table.proofs.MarkEntries.{same_some, fits_join}
 use Rattle.raft_table.proofs.MarkTables.{table-applied, join_applied, one_step, applied_none, applied_fresh}

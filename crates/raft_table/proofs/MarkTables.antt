@@ -19,7 +19,8 @@ use Rattle.raft_table.specs.Merge.{newer_atomic_group}
 use Rattle.raft_table.specs.Start.{leaves_hole, replayed}
 use Rattle.raft_table.specs.Steps.{Step, Run, Compact, Put, Del, AtomicGroup, Clean, stepped, is_there_after, table_of, there_if, after_step, IsTableOf}
 use Rattle.raft_table.specs.Table.{Table, empty_table}
-use Rattle.raft_table.specs.Marks.{Mark, part, misses, is_missed, older_entries, is_meeting_refused, entries_over, keys_over, atomic_group_over, table_over, is_there_over, applied, FitsCut, FitsMark, joined_deleted, joined_live, joined_at, joined, met, fresh, mark_of, own_of}
+use Rattle.raft_table.specs.Marks.{Mark, part, misses, is_missed, older_entries, is_meeting_refused, entries_over, keys_over, atomic_group_over, table_over, is_there_over, applied, FitsCut, FitsMark}
+use Rattle.raft_table.specs.MarkJoins.{joined_deleted, joined_live, joined_at, joined, met, fresh, mark_of, own_of}
 use Rattle.raft_table.proofs.KeyValueLaws.{get-overlaid}
 use Rattle.raft_table.proofs.MarkWords.{part-whole, part-from, part-below, part-nil}
 use Rattle.raft_table.proofs.MarkEntries.{same_some, accepted, pick_true, pick_false, join_entries, over_nil}

@@ -7,7 +7,8 @@ use Rattle.std.proofs.lemmas.Bool.{ltb-true, and_parts}
 use Rattle.std.proofs.lemmas.Bool.Decides.{nat_tests}
 use Rattle.raft_records.specs.declared.entry_index.EntryIndex.{EntryIndex}
 use Rattle.raft_table.specs.Entries.{end_of, below, from}
-use Rattle.raft_table.specs.Marks.{part, is_under, least_of}
+use Rattle.raft_table.specs.Marks.{part, is_under}
+use Rattle.raft_table.specs.MarkJoins.{least_of}
 use Rattle.raft_table.proofs.RunLemmas.{end_of-append}
 
 -- two filters are one

@@ -6,7 +6,8 @@ use Rattle.std.proofs.lemmas.Bool.{false≢true}
 use Rattle.raft_base.specs.declared.pipe_log.LogQueue.{LogQueue}
 use Rattle.raft_base.specs.declared.pipe_log.LogQueue.TheVariants.{Append, Rewrite}
 use Rattle.raft_table.specs.KeySets.{KeySet}
-use Rattle.raft_table.specs.Marks.{Mark, fresh, is_settled, joined_live, joined_at}
+use Rattle.raft_table.specs.Marks.{Mark}
+use Rattle.raft_table.specs.MarkJoins.{fresh, is_settled, joined_live, joined_at}
 use Rattle.raft_table.proofs.MarkExact.{union_empty, union_one}
 
 pub run_added : (q : LogQueue) (x start : ℕ) (m : Mark) → let n : Mark = record fresh { reach = Some start; cut = Some start } in record (joined_at q x m n) { deleted = m.deleted } ≡ joined_at q x m n

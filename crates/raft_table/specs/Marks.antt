@@ -1,5 +1,5 @@
 -- Marks: what steps on a region do to every older table of it, told in a few numbers and the deleted keys.
-use Rattle.std.specs.Prelude.{◌≡◌, ◌⊎◌, ℕ, ◌<◌, ◌≤◌, max, min, Bool, true, false, not, ◌&&◌, ◌||◌, List, [], ◌∷◌, ◌++◌, filter, nat_lt, nat_le, Option, Some, None, is_some, option_map, if◌then◌else◌}
+use Rattle.std.specs.Prelude.{◌≡◌, ◌⊎◌, ℕ, ◌<◌, ◌≤◌, Bool, true, false, ◌&&◌, ◌||◌, List, [], ◌++◌, filter, nat_lt, nat_le, Option, Some, None, is_some, option_map, if◌then◌else◌}
 use Rattle.std.specs.FinSet as finset
 use Rattle.raft_base.specs.declared.pipe_log.LogQueue.{LogQueue}
 use Rattle.raft_base.specs.declared.pipe_log.LogQueue.TheVariants.{Append, Rewrite}
@@ -9,10 +9,10 @@ use Rattle.raft_table.specs.KeySets.{KeySet, without}
 use Rattle.raft_table.specs.KeyValues.{Keys, overlaid}
 use Rattle.raft_table.specs.Merge.{newer_atomic_group}
 use Rattle.raft_table.specs.Start.{leaves_hole}
-use Rattle.raft_table.specs.Steps.{Step, Run, Compact, Put, Del, AtomicGroup, Clean, table_of, there_if, after, IsTableOf}
-use Rattle.raft_table.specs.Table.{Table, empty_table, table_with_entries, with_pair, with_atomic_group}
+use Rattle.raft_table.specs.Steps.{Step, table_of, there_if, after, IsTableOf}
+use Rattle.raft_table.specs.Table.{Table}
 
--- whether the region was cleaned; the start of its first run and the greatest compaction before it; the greatest compaction; the least start of its runs; the deleted keys
+-- whether the region was cleaned; the start of its first run before that, and the greatest compaction before this run; the index that the older entries which stay begin at, and the one that they stay below, if a run came; the deleted keys
 pub record Mark : Type 0 where
   pub cleaned : Bool
   pub reach : Option ℕ
@@ -66,7 +66,7 @@ abbrev pub table_over : LogQueue → Mark → Table → Table → Option Table
 table_over queue m own older =
     option_map (λ es. record older { entries = es; keys = keys_over m own.keys older.keys; atomic_group = atomic_group_over m own.atomic_group older.atomic_group }) (entries_over queue m own.entries older.entries)
 
--- whether the table is present
+-- whether the table is there: where either is, or the own one alone where the region was cleaned
 abbrev pub is_there_over : Mark → Option Table → Option Table → Bool
 is_there_over m own older = if m.cleaned then is_some own else is_some own || is_some older
 
@@ -81,6 +81,7 @@ FitsCut None (Some cut) floor own = ⊥
 FitsCut (Some reach) None floor own = ⊥
 FitsCut (Some reach) (Some cut) floor own = (cut ≤ floor) ⊎ (cut < end_of own)
 
+-- the same of a mark and own entries, where the region was not cleaned
 abbrev pub FitsMark : Mark → List EntryIndex → Type 0
 FitsMark m own = m.cleaned ≡ false → FitsCut m.reach m.cut m.floor own
 
@@ -89,67 +90,3 @@ pub record Stands (queue : LogQueue) (id : ℕ) (m : Mark) (own : Option Table) 
   pub own_table : IsTableOf id (table_of id own)
   pub fits : FitsMark m (table_of id own).entries
   pub every : (older : Option Table) → IsTableOf id (table_of id older) → after queue id older ss ≡ applied queue id m own older
-
--- the lesser of two bounds
-abbrev pub least_of : Option ℕ → Option ℕ → Option ℕ
-least_of None d = d
-least_of (Some c) None = Some c
-least_of (Some c) (Some d) = Some (min c d)
-
--- the keys that two neighbours delete
-abbrev pub joined_deleted : Mark → Mark → KeySet
-joined_deleted m n = if n.cleaned then n.deleted else finset.union m.deleted n.deleted
-
--- the older mark has no run
-abbrev pub joined_first : Mark → Mark → Mark
-joined_first m n = record { cleaned = n.cleaned; reach = n.reach; reach_floor = if is_some n.reach then max m.floor n.reach_floor else m.reach_floor; floor = max m.floor n.floor; cut = least_of m.cut n.cut; deleted = joined_deleted m n }
-
--- where the older entries begin that stay: in the rewrite queue a hole drops all below the cut
-abbrev pub joined_floor : LogQueue → Bool → ℕ → ℕ → ℕ
-joined_floor Append missed floor cut = floor
-joined_floor Rewrite missed floor cut = if missed then max floor cut else floor
-
--- the older mark has a run and the cut c; the part of its table that the newer first run meets ends at x
-abbrev pub joined_later : LogQueue → ℕ → ℕ → Mark → Mark → Mark
-joined_later queue c x m n = record { cleaned = n.cleaned; reach = m.reach; reach_floor = m.reach_floor; floor = joined_floor queue (misses n.reach x) (max m.floor n.floor) c; cut = least_of (Some c) n.cut; deleted = joined_deleted m n }
-
-abbrev pub joined_live : Option ℕ → Option ℕ → LogQueue → ℕ → Mark → Mark → Mark
-joined_live None cut queue x m n = joined_first m n
-joined_live (Some reach) None queue x m n = m
-joined_live (Some reach) (Some cut) queue x m n = joined_later queue cut x m n
-
--- the older mark m, whose table's part that the newer mark's first run meets ends at x, and the newer mark n
-abbrev pub joined_at : LogQueue → ℕ → Mark → Mark → Mark
-joined_at queue x m n = if m.cleaned then m else joined_live m.reach m.cut queue x m n
-
--- where the part of an older table ends that the first run of a mark meets
-abbrev pub met : Mark → Table → ℕ
-met n older = end_of (from n.reach_floor older.entries)
-
--- the older mark m with its own table, and the newer mark n
-abbrev pub joined : LogQueue → ℕ → Mark → Option Table → Mark → Mark
-joined queue id m own n = joined_at queue (met n (table_of id own)) m n
-
--- whether newer steps leave a mark as it is: the region was cleaned (or no steps give such a mark)
-abbrev pub is_settled : Mark → Bool
-is_settled m = m.cleaned || is_some m.reach && not (is_some m.cut)
-
--- the mark of no step
-abbrev pub fresh : Mark
-fresh = record { cleaned = false; reach = None; reach_floor = 0; floor = 0; cut = None; deleted = finset.empty }
-
--- the mark and the own table of one step
-abbrev pub mark_of : Step → Mark
-mark_of (Run []) = fresh
-mark_of (Run (e ∷ run)) = record fresh { reach = Some e.index; cut = Some e.index }
-mark_of (Compact i) = record fresh { floor = i }
-mark_of (Del key) = record fresh { deleted = finset.insert finset.empty key }
-mark_of Clean = record fresh { cleaned = true }
-mark_of _ = fresh
-
-abbrev pub own_of : ℕ → Step → Option Table
-own_of id (Run run) = Some (table_with_entries (empty_table id) run)
-own_of id (Put key value file) = Some (with_pair (empty_table id) key value file)
-own_of id (AtomicGroup start end) = Some (with_atomic_group (empty_table id) start end)
-own_of id Clean = None
-own_of id _ = Some (empty_table id)

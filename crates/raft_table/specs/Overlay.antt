@@ -9,7 +9,8 @@ use Rattle.raft_table.specs.Counts.{Counts, live}
 use Rattle.raft_table.specs.Entries.{end_of}
 use Rattle.raft_table.specs.KeySets.{KeySet, without}
 use Rattle.raft_table.specs.KeyValues.{overlaid}
-use Rattle.raft_table.specs.Marks.{Mark, part, least_of}
+use Rattle.raft_table.specs.Marks.{Mark, part}
+use Rattle.raft_table.specs.MarkJoins.{least_of}
 use Rattle.raft_table.specs.Steps.{Step, Run, Compact, Put, Del, AtomicGroup, Clean, table_of}
 use Rattle.raft_table.specs.Table.{Table, live_of}
 
@@ -74,6 +75,7 @@ abbrev pub kept_if : Bool → Table → Option Table
 kept_if true t = Some t
 kept_if false t = None
 
+-- the overlay of tables that may be absent: one is there where either is, or the appended one alone where the region was cleaned
 abbrev pub overlaid_table : ℕ → List Step → Option Table → Option Table → Option Table
 overlaid_table id ss appended rewritten =
     kept_if (if has_clean ss then is_some appended else is_some appended || is_some rewritten) (overlay ss (table_of id appended) (table_of id rewritten))

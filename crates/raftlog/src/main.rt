@@ -1,7 +1,7 @@
 //! Prints the records of log files.
 #![tactic(auto)]
 
-use raft_records::run::run;
+use raft_recover::run::run;
 use std::process::ExitCode;
 use std::{env, io};
 
@@ -11,7 +11,7 @@ fn main(rt: HostRuntime) -> io::Result<ExitCode> {
         words.push(word)?;
     }
     let status = run(
-        rt.alloc(),
+        &rt,
         words.as_slice(),
         &mut rt.stdin(),
         &mut rt.stdout(),

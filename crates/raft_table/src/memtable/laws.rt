@@ -8,7 +8,8 @@ ghost use Rattle.raft_records.specs.declared.entry_index.EntryIndex.{EntryIndex}
 ghost use Rattle.raft_table.specs.Entries.{IsRun, IsRunIn, StandsBehind, start_of, end_of, entry_with_index, from};
 ghost use Rattle.std.specs.FinMap as finite;
 ghost use Rattle.raft_table.specs.LastWord.{last_entry, last_pair};
-ghost use Rattle.raft_table.specs.Marks.{Mark, Stands, applied, joined, mark_of, own_of};
+ghost use Rattle.raft_table.specs.Marks.{Mark, Stands, applied};
+ghost use Rattle.raft_table.specs.MarkJoins.{joined, mark_of, own_of};
 ghost use Rattle.raft_table.specs.Overlay.{HoldsDeleted, IsExactMark, deleted_of, overlay, overlay_under};
 ghost use Rattle.raft_table.specs.Steps.{Step, IsStep, AreSteps, IsTableOf, table_of, after};
 ghost use Rattle.raft_table.specs.Table.{Table};

@@ -3,7 +3,8 @@
 ghost use Rattle.std.specs.Prelude.{◌≡◌, ℕ, ◌<◌, OnOk, OnErr, IfErr, Some, None, min};
 ghost use Rattle.std.specs.FinMap as finite;
 ghost use Rattle.raft_base.specs.declared.pipe_log.LogQueue.TheVariants.{Append, Rewrite};
-ghost use Rattle.raft_table.specs.Marks.{fresh, is_settled, mark_of, least_of, misses, met, joined_at, joined_deleted, joined_floor};
+ghost use Rattle.raft_table.specs.Marks.{misses};
+ghost use Rattle.raft_table.specs.MarkJoins.{fresh, is_settled, mark_of, least_of, met, joined_at, joined_deleted, joined_floor};
 ghost use Rattle.raft_base.specs.declared.pipe_log.LogQueue.{LogQueue};
 ghost use Rattle.raft_table.specs.Steps.{Compact, Del, Clean};
 
@@ -24,7 +25,7 @@ pub struct Mark {
     reach_floor: u64,
     /// Where older entries begin that stay.
     floor: u64,
-    /// Where they end.
+    /// The index that they stay below, if a run came.
     cut: Option<u64>,
     /// Keys that were deleted.
     deleted: DeletedKeys,
@@ -79,7 +80,7 @@ impl Mark {
         self.floor
     }
 
-    /// Where they end.
+    /// The index that the older entries stay below, if a run came.
     pub fn cut(&self) -> Option<u64>
         ensures { result ≡ self.now.cut }
     {

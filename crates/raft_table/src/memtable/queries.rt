@@ -2,6 +2,7 @@
 
 ghost use Rattle.std.specs.Prelude.{◌≡◌, ◌+◌, ◌-◌, ◌<◌, ◌++◌, IsOk, OnOk, OnErr, IfErr, Some, None};
 ghost use Rattle.std.specs.Fn.{CalledAtTwo};
+ghost use Rattle.std.specs.FinMap as finite;
 ghost use Rattle.std.specs.List.{slice_get};
 ghost use Rattle.std.specs.Option.{option_copied};
 ghost use Rattle.raft_base.specs.declared.pipe_log.LogQueue.TheVariants.{Append, Rewrite};
@@ -21,6 +22,13 @@ impl MemTable {
         ensures { result ≡ block_count self.now.entries }
     {
         self.entries.block_count()
+    }
+
+    /// How many keys have a value.
+    pub fn key_count(&self) -> usize
+        ensures { result ≡ finite.len self.now.keys }
+    {
+        self.keys.len()
     }
 
     /// Appends the entries from `begin` on and below `end`, in order, to `vec`. With a maximal size

@@ -9,7 +9,8 @@ ghost use Rattle.raft_table.specs.Entries.{IsRun, IsRunIn, end_of};
 ghost use Rattle.raft_table.specs.KeySets.{without};
 ghost use Rattle.raft_table.specs.KeyValues.{pair_count};
 ghost use Rattle.raft_table.specs.MarkMerge.{IsMeetingFault, IsFaultUnder, IsRunOver, left_by};
-ghost use Rattle.raft_table.specs.Marks.{part, is_missed, is_meeting_refused, met, table_over};
+ghost use Rattle.raft_table.specs.Marks.{part, is_missed, is_meeting_refused, table_over};
+ghost use Rattle.raft_table.specs.MarkJoins.{met};
 ghost use Rattle.raft_table.specs.Merge.{newer_atomic_group};
 ghost use Rattle.raft_table.specs.Overlay.{is_short, overlay_under, IsOverlayFault};
 ghost use Rattle.raft_table.specs.Queues.{other};
@@ -54,7 +55,7 @@ impl MemTable {
         requires counted { IsCounted self.old stats.old }
         ensures ok { IsRunOver queue mark.now rhs.old self.old
             → OnOk result (table_over queue mark.now rhs.old self.old ≡ Some self.new) }
-        ensures refused { IsRunOver queue mark.now rhs.old self.old
+        ensures fault { IsRunOver queue mark.now rhs.old self.old
             → IfErr result (IsFaultUnder queue stats.old mark.now rhs.old self.old) }
         ensures err { IsRunOver queue mark.now rhs.old self.old → IfErr result (λ e. e ≢ Error.Memory →
             (self.new ≡ self.old) × (rhs.new ≡ rhs.old) × (stats.new ≡ stats.old)) }

@@ -1,4 +1,3 @@
-use Rattle.std.proofs.Common.{◌≡◌, List, ◌++◌, rules}
 use Rattle.std.proofs.lemmas.Result.{err_from_is_err_and}
 use Rattle.raft_recover.proofs.MergeLemmas.{front_refused, back_refused, merge_refused, both_merged}
 use Rattle.raft_recover.proofs.pieces.merge_both.Goals as goal

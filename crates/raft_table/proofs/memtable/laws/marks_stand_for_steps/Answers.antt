@@ -1,4 +1,4 @@
-use Rattle.raft_table.specs.Marks.{met}
+use Rattle.raft_table.specs.MarkJoins.{met}
 use Rattle.raft_table.specs.Steps.{table_of}
 use Rattle.raft_table.proofs.MarkExact.{holds_join, deleted_count}
 use Rattle.raft_table.proofs.MarkLaws.{stands_one, stands_join, refused_join, stands_alone}

@@ -1,4 +1,4 @@
-use Rattle.raft_table.specs.Marks.{met}
+use Rattle.raft_table.specs.MarkJoins.{met}
 use Rattle.raft_table.specs.Steps.{table_of}
 use Rattle.raft_table.proofs.MarkExact.{exact_one, exact_join}
 use Rattle.raft_table.proofs.OverlayLemmas.{overlay_exact, overlay_run}

@@ -1,6 +1,6 @@
 use Rattle.std.proofs.Common.{ap, sym, ◌∙◌}
 use Rattle.std.proofs.lemmas.Result.{err_from_is_err_and}
-use Rattle.raft_table.specs.Marks.{joined_at, met}
+use Rattle.raft_table.specs.MarkJoins.{joined_at, met}
 use Rattle.raft_table.proofs.RegionLemmas.{cleaned_stands, cleaned_refused}
 use Rattle.raft_table.proofs.memtable.region.join_cleaned.Goals as goal
 

@@ -1,6 +1,7 @@
 use Rattle.std.proofs.Common.{ap, ◌∙◌, ◌≡◌, Some, sym, subst, rules}
 use Rattle.std.proofs.lemmas.Result.{err_from_is_err_and}
-use Rattle.raft_table.specs.Marks.{joined_at, table_over, met}
+use Rattle.raft_table.specs.Marks.{table_over}
+use Rattle.raft_table.specs.MarkJoins.{joined_at, met}
 use Rattle.raft_table.specs.MarkMerge.{IsRunOver, IsFaultUnder}
 use Rattle.raft_table.specs.Table.{Table}
 use Rattle.raft_table.proofs.RegionLemmas.{stands_run, join_stands, join_refused}

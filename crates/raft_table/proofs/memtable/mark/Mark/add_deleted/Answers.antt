@@ -1,5 +1,5 @@
 use Rattle.std.proofs.Common.{◌∙◌, sym, ap}
-use Rattle.raft_table.specs.Marks.{is_settled}
+use Rattle.raft_table.specs.MarkJoins.{is_settled}
 use Rattle.raft_table.specs.MarkView.{mark_shown}
 use Rattle.raft_table.proofs.StepMarkLemmas.{deleted_added}
 use Rattle.raft_table.proofs.memtable.mark.Mark.add_deleted.Goals as goal

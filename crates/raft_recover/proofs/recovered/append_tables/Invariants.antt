@@ -1,0 +1,9 @@
+use Rattle.std.proofs.Common.{◌≡◌, ◌++◌, map, string_bytes, drop}
+use Rattle.std.specs.List.{flat_map}
+use Rattle.raft_recover.specs.TableLines.{table_line}
+use Rattle.raft_recover.proofs.recovered.append_tables.Given as goal
+
+-- the lines so far and those of the tables that are left make up the whole
+abbrev pub invariant-loop-table : goal.invariant-loop-table
+invariant-loop-table l =
+    string_bytes l.text ++ flat_map table_line (map (λ t. t.now) (drop l.table-index l.tables)) ≡ string_bytes l.fn.text ++ flat_map table_line (map (λ t. t.now) l.tables)

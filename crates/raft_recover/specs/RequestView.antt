@@ -1,0 +1,20 @@
+-- Requests as the program holds them.
+use Rattle.std.specs.Prelude.{ℕ, List, map, string_bytes, Vec}
+use Rattle.std.specs.Global.{Global}
+use Rattle.raft_recover.specs.declared.request.Recovery.{Recovery}
+use Rattle.raft_recover.specs.declared.request.Request.{Request}
+use Rattle.raft_recover.specs.declared.request.Request.TheVariants.{Batch, Recover}
+use Rattle.raft_recover.specs.Requests as requests
+
+-- a recovery by the words of its files
+abbrev pub asks_for : Recovery → requests.AskedRecovery
+asks_for r = record { queue = r.queue; version = r.version; workers = r.workers; files = map string_bytes r.files.now }
+
+-- the words ask for it
+abbrev pub IsAsked : List (List ℕ) → Request → Type 0
+IsAsked words (Batch context) = requests.AsksBatch words context
+IsAsked words (Recover recovery) = requests.AsksRecovery words (asks_for recovery)
+
+-- a file by its bytes
+abbrev pub file_shown : ℕ × Vec ℕ Global → requests.File
+file_shown file = (file.0, file.1.items)

@@ -1,0 +1,103 @@
+-- What the words of a command line ask for, and the words that name refusals.
+use Rattle.std.specs.Prelude.{◌≡◌, ℕ, ◌^◌, ◌<◌, List, [], ◌∷◌, ◌++◌, codes}
+use Rattle.std.specs.List.{AllByRecursion}
+use Rattle.std.specs.Str.Parse.{IsNumeral, digits_value}
+use Rattle.raft_base.specs.declared.errors.Error.{Error}
+use Rattle.raft_base.specs.declared.errors.Error.TheVariants as errors
+use Rattle.raft_base.specs.declared.pipe_log.LogFileContext.{LogFileContext}
+use Rattle.raft_base.specs.declared.pipe_log.LogQueue.{LogQueue}
+use Rattle.raft_base.specs.declared.pipe_log.LogQueue.TheVariants.{Append, Rewrite}
+use Rattle.raft_base.specs.declared.pipe_log.Version.{Version}
+use Rattle.raft_base.specs.declared.pipe_log.Version.TheVariants.{V1, V2}
+
+-- the word for a queue
+abbrev pub queue_word : LogQueue → List ℕ
+queue_word Append = codes "append"
+queue_word Rewrite = codes "rewrite"
+
+-- the word for a version
+abbrev pub version_word : Version → List ℕ
+version_word V1 = codes "1"
+version_word V2 = codes "2"
+
+-- decimal digits, one or more, without a sign; the number is below 2^64
+pub record IsNumberWord (word : List ℕ) (n : ℕ) : Type 0 where
+  pub digits : IsNumeral 10 word
+  pub value : n ≡ digits_value 10 word
+  pub fits : n < 2 ^ 64
+
+-- a file by its queue, its number and its version
+pub record NamesFile (queue seq version : List ℕ) (context : LogFileContext) : Type 0 where
+  pub queue_named : queue ≡ queue_word context.id.queue
+  pub number : IsNumberWord seq context.id.seq
+  pub version_named : version ≡ version_word context.version
+
+-- `batch` and a file
+pub record AsksBatch (words : List (List ℕ)) (context : LogFileContext) : Type 0 where
+  pub queue : List ℕ
+  pub seq : List ℕ
+  pub version : List ℕ
+  pub form : words ≡ codes "batch" ∷ queue ∷ seq ∷ version ∷ []
+  pub file : NamesFile queue seq version context
+
+-- a file by its number and its path, with `=` between them; digits are no `=`, so it is the word's first
+pub record NamesPath (word : List ℕ) (seq : ℕ) (path : List ℕ) : Type 0 where
+  pub digits : List ℕ
+  pub number : IsNumberWord digits seq
+  pub form : word ≡ digits ++ (codes "=" ++ path)
+
+-- a word that names a file by its number and its path
+pub record IsPathWord (word : List ℕ) : Type 0 where
+  pub seq : ℕ
+  pub path : List ℕ
+  pub named : NamesPath word seq path
+
+-- a file that was read: its number and its bytes
+abbrev pub File : Type 0
+File = ℕ × List ℕ
+
+-- the word names the file by its number and some path
+pub record IsRead (word : List ℕ) (file : File) : Type 0 where
+  pub path : List ℕ
+  pub named : NamesPath word file.0 path
+
+-- a file for each word, in order
+abbrev pub AreRead : List (List ℕ) → List File → Type 0
+AreRead [] [] = Unit {0}
+AreRead [] (file ∷ files) = ⊥
+AreRead (word ∷ words) [] = ⊥
+AreRead (word ∷ words) (file ∷ files) = IsRead word file × AreRead words files
+
+-- a queue, the version of its files, a number of workers, and a word for each file
+pub record AskedRecovery : Type 0 where
+  pub queue : LogQueue
+  pub version : Version
+  pub workers : ℕ
+  pub files : List (List ℕ)
+
+-- `recover` and a recovery
+pub record AsksRecovery (words : List (List ℕ)) (recovery : AskedRecovery) : Type 0 where
+  pub queue : List ℕ
+  pub version : List ℕ
+  pub workers : List ℕ
+  pub form : words ≡ codes "recover" ∷ queue ∷ version ∷ workers ∷ recovery.files
+  pub queue_named : queue ≡ queue_word recovery.queue
+  pub version_named : version ≡ version_word recovery.version
+  pub workers_named : IsNumberWord workers recovery.workers
+  pub files_named : AllByRecursion IsPathWord recovery.files
+
+-- neither a batch nor a recovery is asked for
+pub record AsksNothing (words : List (List ℕ)) : Type 0 where
+  pub no_batch : (context : LogFileContext) → AsksBatch words context → ⊥
+  pub no_recovery : (recovery : AskedRecovery) → AsksRecovery words recovery → ⊥
+
+-- the word for a refusal
+abbrev pub refusal_word : Error → List ℕ
+refusal_word (errors.InvalidArgument _) = codes "invalid-argument"
+refusal_word (errors.Corruption _) = codes "corruption"
+refusal_word (errors.Io _) = codes "io"
+refusal_word (errors.Codec _) = codes "codec"
+refusal_word (errors.Message _) = codes "message"
+refusal_word errors.Full = codes "full"
+refusal_word errors.Memory = codes "memory"
+refusal_word _ = codes "failed"

@@ -1,0 +1,126 @@
+//! The tables of all regions as text.
+
+ghost use Rattle.std.specs.Prelude.{◌≡◌, ◌++◌, IfOk, IfErr, OnOk, map, string_bytes};
+ghost use Rattle.std.specs.List.Sorted.{IsPermutation, IsNonDecreasingBy};
+ghost use Rattle.std.specs.Io.KnownBytes.{Keeps};
+ghost use Rattle.std.specs.List.{flat_map};
+ghost use Rattle.raft_records.specs.Lines.{IsIoError};
+ghost use Rattle.raft_recover.specs.TableLines.{range_text, file_text, region_text, table_line, cleaned_text, cleaned_line, live_line, IsTextOfTables, PrintsTables};
+
+use raft_memtable::{Error, FileSeq, GlobalStats, LogQueue, MemTable, MemTableAccessor, Result};
+use std::alloc::{AllocError, Global};
+use std::io::Write;
+
+/// Prints the tables of all regions, a line for each by rising region, then the cleaned regions and the numbers of live
+/// records. Where memory is short nothing is written. A failure of the writer is `Io`.
+pub fn print_recovered<W: Write>(
+    alloc: Global,
+    accessor: &MemTableAccessor,
+    writer: &mut W,
+) -> Result<()>
+    ensures ok { OnOk result (PrintsTables accessor.now (W.contents writer.old) (W.contents writer.new)) }
+    ensures silent { IfErr result (λ e. (IsIoError e → ⊥) → Keeps (W.contents writer.old) (W.contents writer.new)) }
+    ensures fault { IfErr result (λ e. (IsIoError e → ⊥) → e ≡ Error.Memory) }
+{
+    let text = recovered_text(alloc, accessor)?;
+    writer.write_all(text.as_bytes())?;
+    Ok(())
+}
+
+/// The text of the tables of all regions.
+pub fn recovered_text(alloc: Global, accessor: &MemTableAccessor) -> Result<String>
+    ensures ok { IfOk result (λ text. IsTextOfTables accessor.now (string_bytes text)) }
+    ensures memory { IfErr result (λ e. e ≡ Error.Memory) }
+{
+    let mut tables = accessor.tables()?;
+    sort_by_region(&mut tables);
+    let mut text = String::new(alloc);
+    append_tables(tables.as_slice(), &mut text)?;
+    append_cleaned(accessor.cleaned_regions(), &mut text)?;
+    append_live(accessor.stats(), &mut text)?;
+    Ok(text)
+}
+
+/// Sorts tables by their regions.
+fn sort_by_region(tables: &mut Vec<&MemTable>)
+    ensures moved { IsPermutation tables.old.items tables.new.items }
+    ensures rises { IsNonDecreasingBy (λ t. t.now.region_id) tables.new.items }
+{
+    tables.sort_unstable_by_key(
+        |table: &&MemTable| -> u64
+            ensures { result ≡ table.now.now.region_id }
+        { table.region_id() },
+    );
+}
+
+/// Appends the lines of tables.
+fn append_tables(tables: &[&MemTable], text: &mut String) -> std::result::Result<(), AllocError>
+    ensures { OnOk result (string_bytes text.new
+        ≡ string_bytes text.old ++ flat_map table_line (map (λ t. t.now) tables.now)) }
+{
+    for table in tables {
+        append_table(table, text)?;
+    }
+    Ok(())
+}
+
+/// Appends the line of a table.
+fn append_table(table: &MemTable, text: &mut String) -> std::result::Result<(), AllocError>
+    ensures { OnOk result (string_bytes text.new ≡ string_bytes text.old ++ table_line table.now) }
+{
+    write!(text, "{} entries ", table.region_id())?;
+    append_range(table, text)?;
+    write!(text, " keys {} append ", table.key_count())?;
+    append_file(table.min_file_seq(LogQueue::Append), text)?;
+    text.push_str(" rewrite ")?;
+    append_file(table.min_file_seq(LogQueue::Rewrite), text)?;
+    text.push('\n')
+}
+
+/// Appends the first index of a table and the one behind the last, `-` where it has no entries.
+fn append_range(table: &MemTable, text: &mut String) -> std::result::Result<(), AllocError>
+    ensures { OnOk result (string_bytes text.new ≡ string_bytes text.old ++ range_text table.now.entries) }
+{
+    table.holds_one_run();
+    let (Some(first), Some(last)) = (table.first_index(), table.last_index()) else {
+        return text.push('-');
+    };
+    let end = last + 1;
+    write!(text, "{first}..{end}")
+}
+
+/// Appends the number of a file, `-` where there is none.
+fn append_file(seq: Option<FileSeq>, text: &mut String) -> std::result::Result<(), AllocError>
+    ensures { OnOk result (string_bytes text.new ≡ string_bytes text.old ++ file_text seq) }
+{
+    match seq {
+        Some(seq) => write!(text, "{seq}"),
+        None => text.push('-'),
+    }
+}
+
+/// Appends the line of the cleaned regions.
+fn append_cleaned(regions: &[u64], text: &mut String) -> std::result::Result<(), AllocError>
+    ensures { OnOk result (string_bytes text.new ≡ string_bytes text.old ++ cleaned_line regions.now) }
+{
+    text.push_str("cleaned")?;
+    if regions.is_empty() {
+        text.push_str(" -")?;
+    }
+    for region in regions {
+        write!(text, " {region}")?;
+    }
+    text.push('\n')
+}
+
+/// Appends the line of the numbers of live records.
+fn append_live(stats: &GlobalStats, text: &mut String) -> std::result::Result<(), AllocError>
+    ensures { OnOk result (string_bytes text.new ≡ string_bytes text.old ++ live_line stats.now) }
+{
+    let append = stats.live_entries(LogQueue::Append);
+    let rewrite = stats.live_entries(LogQueue::Rewrite);
+    writeln!(text, "live {append} {rewrite}")
+}
+
+#[cfg(test)]
+mod tests;

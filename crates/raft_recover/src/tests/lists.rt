@@ -1,0 +1,61 @@
+//! A machine that keeps a list of batches.
+
+ghost use Rattle.std.specs.Prelude.{◌≡◌, map};
+
+use raft_base::{Factory, FileId, LogQueue, Result};
+use raft_memtable::ReplayMachine;
+use raft_records::LogItemBatch;
+use std::alloc::Global;
+
+/// A batch, and the file that it was written to.
+#[derive(Drop)]
+pub(crate) struct Kept {
+    batch: LogItemBatch,
+    pub(crate) file: FileId,
+}
+
+/// All batches, in order.
+#[derive(Drop)]
+pub(crate) struct List {
+    pub(crate) kept: Vec<Kept>,
+}
+
+impl ReplayMachine for List {
+    ghost use Rattle.std.specs.Prelude.{◌≡◌, map};
+    ghost use Rattle.raft_memtable.specs.ReplayMachine.{event};
+
+    ghost stands_for = { λ m h. map (λ k. event k.batch k.file) m.kept.items ≡ h };
+
+    ghost stands_exactly = { λ m h. map (λ k. event k.batch k.file) m.kept.items ≡ h };
+
+    ghost exact_stands = { λ m h e. e };
+
+    fn replay(&mut self, batch: LogItemBatch, file_id: FileId) -> Result<()> {
+        let file = file_id;
+        self.kept.push(Kept { batch, file })?;
+        Ok(())
+    }
+
+    fn merge(&mut self, rhs: Self, _queue: LogQueue) -> Result<()> {
+        let List { mut kept } = rhs;
+        self.kept.append(&mut kept)?;
+        Ok(())
+    }
+}
+
+/// Makes lists.
+pub(crate) struct Lists;
+
+impl Factory<List> for Lists {
+    ghost use Rattle.std.specs.Prelude.{◌≡◌, []};
+
+    ghost gives = { λ _ m. m.kept.items ≡ [] };
+
+    ghost may_refuse = { λ _ _. ⊥ };
+
+    fn new_target(&self, alloc: Global) -> Result<List> {
+        Ok(List {
+            kept: Vec::new(alloc),
+        })
+    }
+}

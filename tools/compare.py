@@ -1,0 +1,63 @@
+#!/usr/bin/env python3
+"""Runs `raftlog recover` over a folder of cases and counts those whose answer differs.
+
+    tools/compare.py CASES [PROGRAM [WORKERS]]
+
+A case is a folder with its log files, `args` (a queue, a version, then `<seq>=<path>` for each file) and what is
+owed: `expect`, the lines to print, or `refused`, where nothing is to be printed and the status is to be 1. PROGRAM is
+crates/raftlog/out/raftlog where it isn't given. A case without WORKERS is run with 1.
+"""
+import os
+import subprocess
+import sys
+from concurrent.futures import ThreadPoolExecutor
+from pathlib import Path
+
+RAFTLOG = Path(__file__).resolve().parent.parent / "crates/raftlog/out/raftlog"
+SHOWN = 10
+SECONDS = 60
+
+
+def answer(program, workers, case):
+    """The status of the program and what it printed."""
+    queue, version, *files = (case / "args").read_text().split()
+    words = [str(program), "recover", queue, version, workers, *files]
+    try:
+        done = subprocess.run(words, cwd=case, stdin=subprocess.DEVNULL, capture_output=True, timeout=SECONDS)
+    except subprocess.TimeoutExpired:
+        return None, b""
+    return done.returncode, done.stdout
+
+
+def difference(program, workers, case):
+    """How the answer differs from what is owed, if it does."""
+    status, printed = answer(program, workers, case)
+    expect = case / "expect"
+    if expect.exists():
+        if status != 0:
+            return f"status {status} where lines are owed"
+        return None if printed == expect.read_bytes() else "other lines"
+    if status != 1:
+        return f"status {status} where a refusal is owed"
+    return "printed in front of a refusal" if printed else None
+
+
+def main():
+    if not 2 <= len(sys.argv) <= 4:
+        sys.exit(__doc__)
+    folder = Path(sys.argv[1])
+    program = Path(sys.argv[2]).resolve() if len(sys.argv) > 2 else RAFTLOG
+    workers = sys.argv[3] if len(sys.argv) > 3 else "1"
+    if not program.exists():
+        sys.exit(f"{program} isn't there: make raftlog")
+    cases = sorted(path.parent for path in folder.rglob("args"))
+    with ThreadPoolExecutor(os.cpu_count()) as pool:
+        differences = list(pool.map(lambda case: difference(program, workers, case), cases))
+    differing = [(case, how) for case, how in zip(cases, differences) if how]
+    for case, how in differing[:SHOWN]:
+        print(f"{case}: {how}")
+    print(f"{len(cases)} cases, {len(differing)} differ")
+    sys.exit(1 if differing or not cases else 0)
+
+
+main()

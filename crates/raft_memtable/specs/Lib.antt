@@ -16,4 +16,3 @@ pub mod Writes
 pub mod Slot
 pub mod SlotCode
 pub mod SlotView
-pub mod ReplayMachine

@@ -1,6 +1,6 @@
 //! The tables of the regions of one slot.
 
-ghost use Rattle.std.specs.Prelude.{◌≡◌, ◌≤◌, ◌<◌, ◌^◌, ◌+◌, ◌⊎◌, ℕ, List, [], ◌∷◌, ◌++◌, map, IsTrue, OnOk, OnErr, IfOk, IfErr, IfSome, Some, option_map, if◌then◌else◌};
+ghost use Rattle.std.specs.Prelude.{◌≡◌, ◌≤◌, ◌<◌, ◌^◌, ◌+◌, ◌⊎◌, ◌↔◌, ℕ, List, [], ◌∷◌, ◌++◌, map, IsTrue, OnOk, OnErr, IfOk, IfErr, IfSome, Some, option_map, if◌then◌else◌};
 ghost use Rattle.std.specs.FinMap as finite;
 ghost use Rattle.raft_base.specs.declared.pipe_log.LogQueue.{LogQueue};
 ghost use Rattle.raft_records.specs.Item.{item_of, command_item};
@@ -77,6 +77,36 @@ impl Slot {
         self.tables.get(id)
     }
 
+    /// Whether the slot has no tables.
+    pub fn is_empty(&self) -> bool
+        ensures { IsTrue result ↔ (self.now.part.tables ≡ finite.empty) }
+    {
+        self.tables.is_empty()
+    }
+
+    /// What `f` makes of `init` and each table of the slot, in open order.
+    pub fn fold<B: Drop, F: FnMut(B, &MemTable) -> B>(&self, init: B, f: &mut F) -> B
+        requires { (state : F) (x : _) (t : _) → F.pre state x t }
+    {
+        self.tables.fold(init, f)
+    }
+
+    /// Pushes the ids of the slot's tables at which `wanted` answers true, in open order.
+    ///
+    /// # Errors
+    ///
+    /// `Memory`.
+    pub fn push_ids<F: FnMut(&MemTable) -> bool>(
+        &self,
+        wanted: &mut F,
+        ids: &mut Vec<u64>,
+    ) -> Result<()>
+        requires { (state : F) (x : _) → F.pre state x }
+        ensures { IfErr result (λ e. e ≡ Error.Memory) }
+    {
+        self.tables.push_ids(wanted, ids)
+    }
+
     /// How many records of the slot's tables are live in each queue.
     pub fn stats(&self) -> &GlobalStats
         ensures { result.now ≡ self.now.part.counts }
@@ -134,14 +164,20 @@ impl Slot {
     /// # Errors
     ///
     /// `Memory`. The tables are then as they were.
-    pub fn apply_rewrite_atomic_group(&mut self, id: u64, start: FileSeq, end: FileSeq) -> Result<()>
+    pub fn apply_rewrite_atomic_group(
+        &mut self,
+        id: u64,
+        start: FileSeq,
+        end: FileSeq,
+    ) -> Result<()>
         requires slot { slot_of id ≡ self.old.number }
         requires files { start ≤ end }
         ensures changed { IsTableChanged (Some (with_atomic_group (table_in self.old.part.tables id) start end)) (λ e. ⊥)
             id result self.old.part self.new.part }
         ensures number { self.new.number ≡ self.old.number }
     {
-        self.tables.apply_rewrite_atomic_group(id, start, end, &mut self.stats)
+        self.tables
+            .apply_rewrite_atomic_group(id, start, end, &mut self.stats)
     }
 
     /// Puts a table under its region's id and counts its records. The table that stood there is taken
@@ -197,7 +233,8 @@ impl Slot {
         ensures written { IsWritten Appending (item_of item) result self.old.part self.new.part }
         ensures number { self.new.number ≡ self.old.number }
     {
-        self.tables.append_item(item, &mut self.stats, &mut self.cleaned)
+        self.tables
+            .append_item(item, &mut self.stats, &mut self.cleaned)
     }
 
     /// Writes an item that was rewritten to the file `new_file` of the rewrite queue to its region's
@@ -217,7 +254,8 @@ impl Slot {
         ensures written { IsWritten (Rewriting watermark new_file) (item_of item) result self.old.part self.new.part }
         ensures number { self.new.number ≡ self.old.number }
     {
-        self.tables.rewrite_item(item, watermark, new_file, &mut self.stats)
+        self.tables
+            .rewrite_item(item, watermark, new_file, &mut self.stats)
     }
 
     /// Moves the cleaned regions into an open batch as a `Clean` for each, in order. The list is then
@@ -229,7 +267,8 @@ impl Slot {
     pub fn take_cleaned_region_logs(&mut self, logs: &mut LogBatch) -> Result<()>
         requires { logs.old.stage ≡ populating }
         ensures logs { OnOk result (logs.new ≡ record logs.old {
-            items = logs.old.items ++ map (λ id. command_item id Clean) self.old.part.cleaned }) }
+          items = logs.old.items ++ map (λ id. command_item id Clean) self.old.part.cleaned;
+        }) }
         ensures ok { OnOk result (self.new ≡ record self.old { part = record self.old.part { cleaned = [] } }) }
         ensures err { OnErr result (self.new ≡ self.old) }
         ensures logs_err { OnErr result (logs.new ≡ logs.old) }

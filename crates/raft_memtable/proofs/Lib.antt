@@ -10,3 +10,5 @@ mod RegionTablesLemmas
 mod SlotLemmas
 mod UpdateLemmas
 mod WriteLemmas
+mod SlotKeeping
+mod CleanLemmas

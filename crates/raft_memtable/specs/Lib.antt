@@ -14,3 +14,6 @@ pub mod RegionTablesView
 pub mod Updates
 pub mod Walks
 pub mod Writes
+pub mod Slot
+pub mod SlotCode
+pub mod SlotView

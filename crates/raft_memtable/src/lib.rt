@@ -6,6 +6,7 @@ pub mod item_writes;
 pub mod region_marks;
 pub mod region_tables;
 pub mod replay_machine;
+pub mod slot;
 #[cfg(test)]
 mod tests;
 pub mod waiting_group;
@@ -20,3 +21,4 @@ pub use raft_table::{
 pub use region_marks::RegionMarks;
 pub use region_tables::RegionTables;
 pub use replay_machine::ReplayMachine;
+pub use slot::Slot;

@@ -1,6 +1,6 @@
 //! The tables of some regions.
 
-ghost use Rattle.std.specs.Prelude.{◌≡◌, ◌≢◌, ◌≤◌, ◌<◌, ◌^◌, ◌+◌, ◌↔◌, ◌⊎◌, List, ◌++◌, map, IsPermutation, IsTrue, OnOk, OnErr, IfOk, IfErr, IfSome, Some, None, option_map};
+ghost use Rattle.std.specs.Prelude.{◌≡◌, ◌≢◌, ◌≤◌, ◌<◌, ◌^◌, ◌+◌, ◌↔◌, ◌⊎◌, ℕ, List, ◌++◌, map, IsPermutation, IsTrue, OnOk, OnErr, IfOk, IfErr, IfSome, Some, None, option_map};
 ghost use Rattle.std.specs.FinMap as finite;
 ghost use Rattle.raft_base.specs.declared.pipe_log.LogQueue.{LogQueue};
 ghost use Rattle.raft_history.specs.RegionSteps.{Tables, with_table};
@@ -80,6 +80,41 @@ impl RegionTables {
             tables.push(table)?;
         }
         Ok(())
+    }
+
+    /// What `f` makes of `init` and each table, in open order.
+    pub(crate) fn fold<B: Drop, F: FnMut(B, &MemTable) -> B>(&self, init: B, f: &mut F) -> B
+        requires { (state : F) (x : _) (t : _) → F.pre state x t }
+    {
+        let mut answer = init;
+        for table in self.tables.values() {
+            answer = f(answer, table);
+        }
+        answer
+    }
+
+    /// Pushes the ids of the tables at which `wanted` answers true, in open order.
+    pub(crate) fn push_ids<F: FnMut(&MemTable) -> bool>(
+        &self,
+        wanted: &mut F,
+        ids: &mut Vec<u64>,
+    ) -> Result<()>
+        requires { (state : F) (x : _) → F.pre state x }
+        ensures { IfErr result (λ e. e ≡ Error.Memory) }
+    {
+        for table in self.tables.values() {
+            if wanted(table) {
+                ids.push(table.region_id())?;
+            }
+        }
+        Ok(())
+    }
+
+    /// Each table stands under its own region's id. This is a law: it computes nothing.
+    pub fn tables_are_own(&self)
+        ensures { (id : ℕ) (t : Table) → finite.get self.now id ≡ Some t → t.region_id ≡ id }
+    {
+        let _ = &self.tables;
     }
 
     /// Makes an empty table for a region that has none.

@@ -1,0 +1,32 @@
+use Rattle.std.proofs.Common.{◌≡◌, ◌⊎◌, ◌+◌, ◌≤◌, ◌^◌, ◌++◌, ◌∷◌, [], Some, None, Ok, Err, refl, sym, ap, subst, ◌∙◌, inl, inr}
+use Rattle.std.specs.FinMap as finite
+use Rattle.std.specs.List.{AllByRecursion}
+use Rattle.std.specs.Option.{option_map}
+use Rattle.std.specs.Result.{OnOk, OnErr, IfOk, IfErr}
+use Rattle.raft_base.specs.declared.errors.Error.TheVariants as errors
+use Rattle.raft_base.specs.declared.pipe_log.LogQueue.{LogQueue}
+use Rattle.raft_records.specs.Item.{item_of}
+use Rattle.raft_table.specs.Change.{after_change, IsAnswer, IsChangeFault}
+use Rattle.raft_table.specs.Counts.{live}
+use Rattle.raft_table.specs.Table.{with_atomic_group, live_of}
+use Rattle.raft_memtable.specs.Accessor.{slot_of, table_in, live_in_all}
+use Rattle.raft_memtable.specs.Slot.{SlotContent, IsTableOf}
+use Rattle.raft_memtable.specs.Writes.{Appending, Rewriting}
+use Rattle.raft_memtable.specs.declared.slot.Slot.TheInside.{Inside}
+use Rattle.raft_memtable.proofs.LiveLemmas.{table-counted}
+use Rattle.raft_memtable.proofs.SlotKeeping.{kept-none, kept-with, kept-listed, kept-taken, all-after, slot-changed, slot-written}
+use Rattle.raft_memtable.proofs.slot.Slot.apply_rewrite_write.Goals as goal
+
+pub rewrite_item-requires : goal.rewrite_item-requires
+rewrite_item-requires c = table-counted c.self.inside.tables c.self.inside.stats c.args.item.raft_group_id c.self.invariant.counted
+
+abbrev after : goal.After-rewrite_item → Inside
+after c = record c.self.inside { tables = c.rewrite_item.new.self; stats = c.rewrite_item.new.stats }
+
+pub invariant_of-self : goal.invariant_of-self
+invariant_of-self c =
+    let e = c.rewrite_item.ensures c.self.inside.cleaned.items in
+    kept-with c.self.inside (after c) c.args.item.raft_group_id c.self.invariant (c.requires ∙ sym (ap (λ (s : SlotContent). s.number) c.self.view_is)) refl e.one e.recounted c.self.invariant.cleaned
+
+pub returns-clause-written : goal.returns-clause-written
+returns-clause-written c = rw (← c.self.view_is) (slot-written (Rewriting c.args.watermark c.args.new_file) c.self.inside (after c) (item_of c.args.item) c.rewrite_item.result c.self.invariant (c.rewrite_item.ensures c.self.inside.cleaned.items))

@@ -1,0 +1,37 @@
+use Rattle.std.proofs.Common.{◌≡◌, ◌⊎◌, ◌+◌, ◌≤◌, ◌^◌, ◌++◌, ◌∷◌, [], Some, None, Ok, Err, refl, sym, ap, subst, ◌∙◌, inl, inr}
+use Rattle.std.specs.FinMap as finite
+use Rattle.std.specs.List.{AllByRecursion}
+use Rattle.std.specs.Option.{option_map}
+use Rattle.std.specs.Result.{OnOk, OnErr, IfOk, IfErr}
+use Rattle.raft_base.specs.declared.errors.Error.TheVariants as errors
+use Rattle.raft_base.specs.declared.pipe_log.LogQueue.{LogQueue}
+use Rattle.raft_records.specs.Item.{item_of}
+use Rattle.raft_table.specs.Change.{after_change, IsAnswer, IsChangeFault}
+use Rattle.raft_table.specs.Counts.{live}
+use Rattle.raft_table.specs.Table.{with_atomic_group, live_of}
+use Rattle.raft_memtable.specs.Accessor.{slot_of, table_in, live_in_all}
+use Rattle.raft_memtable.specs.Slot.{SlotContent, IsTableOf}
+use Rattle.raft_memtable.specs.Writes.{Appending, Rewriting}
+use Rattle.raft_memtable.specs.declared.slot.Slot.TheInside.{Inside}
+use Rattle.raft_memtable.proofs.LiveLemmas.{table-counted}
+use Rattle.raft_memtable.proofs.SlotKeeping.{kept-none, kept-with, kept-listed, kept-taken, all-after, slot-changed, slot-written}
+use Rattle.raft_memtable.proofs.slot.Slot.insert.Goals as goal
+
+pub insert-requires-clause-counted : goal.insert-requires-clause-counted
+insert-requires-clause-counted c = table-counted c.self.inside.tables c.self.inside.stats c.args.id c.self.invariant.counted
+
+abbrev after : goal.After-insert → Inside
+after c = record c.self.inside { tables = c.insert.new.self; stats = c.insert.new.stats }
+
+pub invariant_of-self : goal.invariant_of-self
+invariant_of-self c = kept-with c.self.inside (after c) c.args.id c.self.invariant (c.requires.slot ∙ sym (ap (λ (s : SlotContent). s.number) c.self.view_is)) refl c.insert.ensures.one c.insert.ensures.recounted c.self.invariant.cleaned
+
+pub returns-clause-fault : goal.returns-clause-fault
+returns-clause-fault c =
+    rw (← c.self.view_is) (elim c.insert.result as (λ r. IfErr r (λ e. (e ≡ errors.Memory) ⊎ ((e ≡ errors.Full) × ((q : LogQueue) × (2 ^ 64 ≤ live q c.self.inside.stats + live_of q c.args.table)))) → IfErr r (λ e. (e ≡ errors.Memory) ⊎ ((e ≡ errors.Full) × ((q : LogQueue) × (2 ^ 64 ≤ live_in_all q c.self.inside.tables + live_of q c.args.table))))) [
+      | Ok n ↦ λ f. tt
+      | Err x ↦ λ f. elim f [
+        | inl m ↦ inl m
+        | inr g ↦ inr (g.0, (g.1.0, subst (λ n. 2 ^ 64 ≤ n + live_of g.1.0 c.args.table) (c.self.invariant.counted g.1.0) g.1.1))
+      ]
+    ] c.insert.ensures.fault)

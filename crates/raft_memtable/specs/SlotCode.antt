@@ -1,0 +1,9 @@
+-- The code of slots, by which values of their type are told apart.
+use Rattle.std.specs.Prelude.{ℕ, refl}
+use Rattle.std.specs.Coded.{Coded, code_by, coded×, coded_ℕ}
+use Rattle.raft_memtable.specs.Accessor.{Accessor}
+use Rattle.raft_memtable.specs.AccessorCode.{accessor_code}
+use Rattle.raft_memtable.specs.Slot.{SlotContent}
+
+abbrev pub slot_code : Coded SlotContent
+slot_code = code_by (ℕ × Accessor) (coded× coded_ℕ accessor_code) (λ s. (s.number, s.part)) (λ p. record { number = p.0; part = p.1 }) (λ _. refl)

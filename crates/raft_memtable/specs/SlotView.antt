@@ -1,0 +1,21 @@
+-- A slot's fields as its contracts see them. That a table has its own region's id is known by `RegionTables`.
+use Rattle.std.specs.Prelude.{◌≡◌, ℕ, Some}
+use Rattle.std.specs.List.{AllByRecursion}
+use Rattle.std.specs.FinMap as finite
+use Rattle.raft_table.specs.Table.{Table}
+use Rattle.raft_history.specs.RegionSteps.{Tables}
+use Rattle.raft_memtable.specs.declared.slot.Slot.TheInside.{Inside}
+use Rattle.raft_memtable.specs.Accessor.{slot_of, AreCounted}
+use Rattle.raft_memtable.specs.Slot.{SlotContent}
+
+abbrev pub slot_shown : Inside → SlotContent
+slot_shown a = record { number = a.number; part = record { tables = a.tables; cleaned = a.cleaned.items; counts = a.stats } }
+
+-- tables of regions of one slot
+abbrev pub AreOf : ℕ → Tables → Type 0
+AreOf number m = (id : ℕ) (t : Table) → finite.get m id ≡ Some t → slot_of id ≡ number
+
+pub record IsKept (a : Inside) : Type 0 where
+  pub regions : AreOf a.number a.tables
+  pub counted : AreCounted a.tables a.stats
+  pub cleaned : AllByRecursion (λ id. slot_of id ≡ a.number) a.cleaned.items

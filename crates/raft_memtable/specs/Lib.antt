@@ -11,6 +11,7 @@ pub mod ItemWrites
 pub mod RegionMarks
 pub mod RegionMarksView
 pub mod RegionTablesView
+pub mod ReplayMachine
 pub mod Updates
 pub mod Walks
 pub mod Writes

@@ -13,4 +13,3 @@ pub mod RegionTablesView
 pub mod Updates
 pub mod Walks
 pub mod Writes
-pub mod ReplayMachine

@@ -2,8 +2,6 @@ pub mod Covers
 pub mod Draws
 pub mod Drawing
 pub mod Lines
-pub mod Drawing
-pub mod Draws
 pub mod Files
 pub mod Merges
 pub mod Plans

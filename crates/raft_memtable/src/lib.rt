@@ -15,8 +15,8 @@ pub mod waiting_items;
 
 pub use accessor::{MemTableAccessor, slot_of};
 pub use raft_table::{
-    EntryIndex, Error, FileBlockHandle, FileId, FileSeq, GlobalStats, LogQueue, MemTable, Result,
-    TableChange, global_stats, is_run, memtable,
+    Block, EntryIndex, Error, FileBlockHandle, FileId, FileSeq, GlobalStats, LogQueue, MemTable,
+    Result, TableChange, global_stats, is_run, memtable,
 };
 pub use region_marks::RegionMarks;
 pub use region_tables::RegionTables;

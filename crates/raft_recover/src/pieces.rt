@@ -3,6 +3,7 @@
 ghost use Rattle.std.specs.Prelude.{◌≡◌, ◌≢◌, ◌+◌, ◌<◌, ◌↔◌, IsTrue, List, ◌++◌, length, IfOk, IfErr, OnOk, vec_len};
 ghost use Rattle.std.specs.Thread.{IsSync};
 ghost use denote.Param.Send.{IsSend};
+ghost use Rattle.raft_table.specs.Start.{IsInvalidArgument};
 ghost use Rattle.raft_recover.specs.Merges.{IsMerged, CannotMerge, Merges};
 ghost use Rattle.raft_recover.specs.Plans.{leaves};
 
@@ -23,6 +24,8 @@ pub fn merge_pieces<M: ReplayMachine, R: Threads + Sync>(
     ensures accepted { OnOk result (leaves plan.entry.now ≡ length pieces.items) }
     ensures refused { leaves plan.entry.now ≡ length pieces.items →
         IfErr result (λ e. e ≢ Error.Memory → CannotMerge M.stands_for queue pieces.items) }
+    ensures fault { leaves plan.entry.now ≢ length pieces.items →
+        IfErr result (λ e. e ≢ Error.Memory → IsInvalidArgument e) }
 {
     if !fits(&pieces, plan) {
         return Err(Error::InvalidArgument(format!(in *pieces.allocator();

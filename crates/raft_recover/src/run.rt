@@ -24,10 +24,7 @@ enum Status {
 }
 
 /// What is printed where the words ask for nothing that `raftlog` does.
-const USAGE: &str = "\
-usage: raftlog batch <queue> <seq> <version>
-       raftlog recover <queue> <version> <workers> <seq>=<path>..
-";
+const USAGE: &str = "usage: raftlog batch <queue> <seq> <version>\n";
 
 /// Does what the words of a command line ask for, and answers the status to end with: 0 where it is
 /// done, 1 where it is refused, 2 where the words ask for nothing. A refusal and a hint at the words

@@ -24,6 +24,7 @@ ghost use Rattle.std.specs.Prelude.{
 };
 ghost use Rattle.std.specs.Global.{Global};
 ghost use Rattle.raft_records.specs.FilePart.{Part};
+ghost use Rattle.raft_table.specs.Start.{IsInvalidArgument};
 ghost use Rattle.raft_recover.specs.Plans.{leaves};
 ghost use Rattle.raft_recover.specs.Lines.{IsUnderway};
 ghost use Rattle.raft_recover.specs.Recovery.{IsReplayed, CannotBeRead, PartsAreOf, SegmentsAreOf};
@@ -56,6 +57,8 @@ pub fn replay_scheduled<M: ReplayMachine, F: Factory<M>>(
     ensures accepted { OnOk result (IsSchedule segments.entry.now queue workers draws.entry.now plan.entry.now) }
     ensures refused { IsSchedule segments.entry.now queue workers draws.entry.now plan.entry.now →
         IfErr result (λ e. e ≢ Error.Memory → ¬ (F.may_refuse factory.entry.now e) → CannotBeRead segments.entry.now) }
+    ensures fault { (IsSchedule segments.entry.now queue workers draws.entry.now plan.entry.now → ⊥) →
+        IfErr result (λ e. e ≢ Error.Memory → IsInvalidArgument e) }
 {
     if !is_schedule(segments, queue, workers, draws, plan) {
         return Err(Error::InvalidArgument(format!(in alloc;

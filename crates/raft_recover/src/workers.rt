@@ -22,6 +22,7 @@ ghost use Rattle.std.specs.Prelude.{
 };
 ghost use Rattle.std.specs.Global.{Global};
 ghost use Rattle.raft_records.specs.FilePart.{Part};
+ghost use Rattle.raft_table.specs.Start.{IsInvalidArgument};
 ghost use Rattle.raft_recover.specs.Covers.{IsPieceOf, Tile, AreDone, Gives};
 ghost use Rattle.raft_recover.specs.Draws.{TicketBook, IsSeatOf, IsNewSeatOf};
 ghost use Rattle.raft_recover.specs.WorkedWords.{IsBack, HasRefusal};
@@ -63,6 +64,8 @@ pub fn replay_segments<M: ReplayMachine, F: Factory<M>, G: Gate, R: Threads + Sy
     ensures refused { (0 < workers) × (workers ≤ 256) × (length segments.entry.now < 2 ^ 62) ×
         SegmentsAreOf queue segments.entry.now → IfErr result (λ e. e ≢ Error.Memory →
         ¬ (F.may_refuse factory.entry.now e) → CannotBeRead segments.entry.now) }
+    ensures fault { ((0 < workers) × (workers ≤ 256) × (length segments.entry.now < 2 ^ 62) ×
+        SegmentsAreOf queue segments.entry.now → ⊥) → IfErr result (λ e. e ≢ Error.Memory → IsInvalidArgument e) }
 {
     if !is_work(segments, queue, workers) {
         return Err(Error::InvalidArgument(format!(in alloc;

@@ -235,7 +235,8 @@ impl MemTable {
     ///
     /// `Corruption` where more entries stand below the first that meets than are rewritten, and
     /// with a gate also where fewer do; `Full` where the live number of the rewrite queue and the
-    /// run together would pass 2^64 - 1. The table and the counts are then as they were.
+    /// run together would pass 2^64 - 1; `Memory` where blocks have to be divided or added. The
+    /// table and the counts are then as they were.
     pub fn rewrite(
         &mut self,
         run: Vec<EntryIndex>,

@@ -2,8 +2,6 @@ pub mod Covers
 pub mod Draws
 pub mod Drawing
 pub mod Lines
-pub mod Drawing
-pub mod Draws
 pub mod Files
 pub mod Merges
 pub mod Plans
@@ -19,3 +17,4 @@ pub mod TicketModel
 pub mod TicketSeatModel
 pub mod Weights
 pub mod WorkedWords
+pub mod SharedCalls

@@ -17,3 +17,4 @@ pub mod TicketModel
 pub mod TicketSeatModel
 pub mod Weights
 pub mod WorkedWords
+pub mod SharedCalls

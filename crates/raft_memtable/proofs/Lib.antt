@@ -4,7 +4,9 @@ mod WaitingSeen
 mod AccessorLemmas
 mod LiveLemmas
 mod MapLemmas
+mod MergeLemmas
 mod OrderLemmas
+mod ReadingLemmas
 mod RegionTablesLemmas
 mod SlotLemmas
 mod UpdateLemmas

@@ -9,8 +9,8 @@ pub mod AccessorCalls
 pub mod AccessorCode
 pub mod AccessorView
 pub mod ItemWrites
+pub mod Merges
 pub mod RegionTablesView
 pub mod Updates
 pub mod Walks
 pub mod Writes
-pub mod ReplayMachine

@@ -1,8 +1,8 @@
 -- Calls of one slot, seen as calls of the accessor.
-use Rattle.std.proofs.Common.{◌≡◌, ◌⊎◌, ◌<◌, ◌++◌, ℕ, List, [], ◌∷◌, Option, Some, None, Result, Ok, Err, refl, sym, ap, subst, ◌∙◌, slice_index_or, slice_set, append_assoc, append-nil}
+use Rattle.std.proofs.Common.{◌≡◌, ◌⊎◌, ◌<◌, ◌++◌, ℕ, List, [], ◌∷◌, Option, Some, None, Result, Ok, Err, refl, sym, ap, subst, ◌∙◌, slice_index_or, slice_set, append_assoc, append-nil, IsTrue}
 use Rattle.std.specs.FinMap as finite
 use Rattle.std.specs.List.{AllByRecursion}
-use Rattle.std.specs.Option.{option_and_then}
+use Rattle.std.specs.Option.{option_and_then, is_some}
 use Rattle.std.specs.Result.{OnOk, OnErr, IfOk, IfErr}
 use Rattle.raft_base.specs.declared.errors.Error.{Error}
 use Rattle.raft_base.specs.declared.errors.Error.TheVariants.{Memory}
@@ -16,10 +16,14 @@ use Rattle.raft_memtable.specs.Accessor.{Accessor, slot_of, table_in, live_in_al
 use Rattle.raft_memtable.specs.AccessorCalls.{IsTableChanged, IsWritten}
 use Rattle.raft_memtable.specs.AccessorView.{together, accessor_shown, IsKept}
 use Rattle.raft_memtable.specs.ItemWrites.{IsItemWritten}
+use Rattle.raft_memtable.specs.Merges.{IsMergedAt, IsMerged}
 use Rattle.raft_memtable.specs.Updates.{IsTaken}
 use Rattle.raft_memtable.specs.Writes.{Writing, queue_of, after_content, after_items, listed_by, listed_by_items, IsFor, IsContentFault, AreWritten, AreRefused}
 use Rattle.raft_memtable.proofs.MapLemmas.{with_own, with_same}
 use Rattle.raft_memtable.proofs.SlotLemmas.{get-shown, IsChanged, shown-changed, kept-changed}
+
+some_is_there : (t : Table) → IsTrue (is_some (Some t))
+some_is_there t = refl
 
 -- a call of a region's slot changed that region alone
 pub record InSlot (a b : Inside) (id i : ℕ) (d slot : Tables) (after : Counts) : Type 0 where
@@ -70,6 +74,18 @@ module _ (a b : Inside) (id i : ℕ) (d slot : Tables) (after : Counts) (kept : 
           fault = subst (λ c. IfErr res (λ e. (e ≡ Memory) ⊎ IsFault (table_in r.tables id) c e)) (ap (λ (x : Accessor). x.counts) is) (subst (λ u. IfErr res (λ e. (e ≡ Memory) ⊎ IsFault u a.stats e)) old t.fault);
           cleaned = l ∙ ap (λ (x : Accessor). x.cleaned) is;
         }
+
+    -- a merge of a table
+    pub merged-in : {R : Type 0} (merge : Table → Table → Option Table) (newer : Table) (res : Result R Error) → IsMerged (merge (table_in (slice_index_or a.slots i d) id) newer) (slice_index_or a.slots i d) id a.stats res slot after
+        → OnOk res (IsMergedAt merge id (finite.get r.tables id) (Some newer) (finite.get (together b.slots) id))
+    merged-in merge newer (Err x) t = tt
+    merged-in merge newer (Ok x) t = (
+      ap (λ o. merge (table_of id o) newer) was ∙ t.ok ∙ sym t.there ∙ sym now,
+      subst (λ o. IsTrue (is_some o)) (sym (now ∙ t.there)) (some_is_there (table_in slot id)),
+    )
+
+    pub alone-in : together b.slots ≡ with_table r.tables id (finite.get (together b.slots) id)
+    alone-in = tables-are ∙ ap (with_table r.tables id) (sym now)
 
 -- an item written to its region's table
 module _ (a b : Inside) (item : Item) (i : ℕ) (d slot : Tables) (after : Counts) (kept : IsKept a) (h : InSlot a b item.raft_group_id i d slot after) (r : Accessor) (is : accessor_shown a ≡ r) where

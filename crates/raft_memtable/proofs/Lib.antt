@@ -4,8 +4,10 @@ mod WaitingSeen
 mod AccessorLemmas
 mod LiveLemmas
 mod MapLemmas
+mod MergeLemmas
 mod OrderLemmas
 mod RegionMarksLemmas
+mod ReadingLemmas
 mod RegionTablesLemmas
 mod SlotLemmas
 mod UpdateLemmas

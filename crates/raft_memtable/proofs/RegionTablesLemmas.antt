@@ -25,7 +25,7 @@ same_test q k = elim (by_id q k) [ inl p ↦ subst (λ k. is_eq (nat_cmp q k) �
     other : (q k : ℕ) → eq_by_cmp nat_cmp q k ≡ false → nat_eq q k ≡ false
     other q k f = elim (nat_eq q k) as (λ b. nat_eq q k ≡ b → b ≡ false) [ true ↦ λ e. absurd (false≢true (sym f ∙ ap (λ k. eq_by_cmp nat_cmp q k) (sym (eqb-true q k e)) ∙ eq_self q)) | false ↦ λ e. refl ] refl
 
-found : (q : ℕ) (es : Es) → find nat_cmp q es ≡ lookup (nat_eq q) es
+pub found : (q : ℕ) (es : Es) → find nat_cmp q es ≡ lookup (nat_eq q) es
 found q [] = refl
 found q (e ∷ es) = ap (λ b. cond b (Some e.1) (find nat_cmp q es)) (same_test q e.0) ∙ ap (λ o. cond (nat_eq q e.0) (Some e.1) o) (found q es)
 

@@ -10,6 +10,7 @@ pub mod AccessorView
 pub mod ItemWrites
 pub mod RegionMarks
 pub mod RegionMarksView
+pub mod Merges
 pub mod RegionTablesView
 pub mod ReplayMachine
 pub mod Updates

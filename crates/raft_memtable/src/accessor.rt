@@ -10,10 +10,12 @@ ghost use Rattle.raft_records.specs.declared.log_item.LogItem.{LogItem};
 ghost use Rattle.raft_records.specs.Item.{Item, item_of, command_item};
 ghost use Rattle.raft_records.specs.LogBatch.{empty_batch};
 ghost use Rattle.raft_records.specs.declared.command.Command.TheVariants.{Clean};
+ghost use Rattle.raft_history.specs.RegionSteps.{with_table};
 ghost use Rattle.raft_table.specs.Change.{after_change, IsAnswer, IsChangeFault};
 ghost use Rattle.raft_table.specs.Table.{Table, with_atomic_group, live_of};
 ghost use Rattle.raft_memtable.specs.Accessor.{slot_of, table_in, live_in_all, AreCounted};
 ghost use Rattle.raft_memtable.specs.AccessorCalls.{IsTableChanged, IsWritten};
+ghost use Rattle.raft_memtable.specs.Merges.{with_newer, with_appended, IsMergedAt, AreMerged};
 ghost use Rattle.raft_memtable.specs.Walks.{Keeps};
 ghost use Rattle.raft_memtable.specs.Writes.{Appending, Replaying, Rewriting, AreWritten, AreRefused};
 
@@ -187,6 +189,40 @@ impl MemTableAccessor {
         Ok(self.take(id))
     }
 
+    /// Merges the tables of a newer neighbor, each into the table of its region, which is made where
+    /// there is none. The list of `rhs` is dropped.
+    ///
+    /// # Errors
+    ///
+    /// Those of [`MemTable::merge_newer_neighbor`]. Some tables are then merged, and the rest of `rhs`
+    /// is lost.
+    pub fn merge_newer_neighbor(&mut self, rhs: MemTableAccessor) -> Result<()>
+        ensures ok { OnOk result (AreMerged with_newer self.old.tables rhs.tables self.new.tables) }
+        ensures cleaned { self.new.cleaned ≡ self.old.cleaned }
+    {
+        for slot in rhs.slots {
+            self.merge_newer_tables(slot)?;
+        }
+        Ok(())
+    }
+
+    /// Merges appended tables, each into the rewritten table of its region, which is made where there
+    /// is none. The list of `rhs` is dropped.
+    ///
+    /// # Errors
+    ///
+    /// Those of [`MemTable::merge_append_table`]. Some tables are then merged, and the rest of `rhs`
+    /// is lost.
+    pub fn merge_append_table(&mut self, rhs: MemTableAccessor) -> Result<()>
+        ensures ok { OnOk result (AreMerged with_appended self.old.tables rhs.tables self.new.tables) }
+        ensures cleaned { self.new.cleaned ≡ self.old.cleaned }
+    {
+        for slot in rhs.slots {
+            self.merge_append_tables(slot)?;
+        }
+        Ok(())
+    }
+
     /// Writes new items of the append queue to the tables, in order.
     ///
     /// # Errors
@@ -348,6 +384,48 @@ impl MemTableAccessor {
         ensures cleaned { self.new.cleaned ≡ self.old.cleaned }
     {
         self.slots[slot_of(id)].remove(id, &mut self.stats)
+    }
+
+    /// Merges the newer neighbors of one slot.
+    fn merge_newer_tables(&mut self, newer: RegionTables) -> Result<()>
+        ensures ok { OnOk result (AreMerged with_newer self.old.tables newer self.new.tables) }
+        ensures cleaned { self.new.cleaned ≡ self.old.cleaned }
+    {
+        for (id, table) in newer.into_entries() {
+            self.merge_newer_table(id, table)?;
+        }
+        Ok(())
+    }
+
+    /// Merges the appended tables of one slot.
+    fn merge_append_tables(&mut self, newer: RegionTables) -> Result<()>
+        ensures ok { OnOk result (AreMerged with_appended self.old.tables newer self.new.tables) }
+        ensures cleaned { self.new.cleaned ≡ self.old.cleaned }
+    {
+        for (id, table) in newer.into_entries() {
+            self.merge_appended(id, table)?;
+        }
+        Ok(())
+    }
+
+    /// Merges a newer neighbor into the table of its region.
+    fn merge_newer_table(&mut self, id: u64, newer: MemTable) -> Result<()>
+        requires { newer.region_id ≡ id }
+        ensures ok { OnOk result (IsMergedAt with_newer id (finite.get self.old.tables id) (Some newer) (finite.get self.new.tables id)) }
+        ensures others { self.new.tables ≡ with_table self.old.tables id (finite.get self.new.tables id) }
+        ensures cleaned { self.new.cleaned ≡ self.old.cleaned }
+    {
+        self.slots[slot_of(id)].merge_newer_neighbor(id, newer, &mut self.stats)
+    }
+
+    /// Merges an appended table into the table of its region.
+    fn merge_appended(&mut self, id: u64, newer: MemTable) -> Result<()>
+        requires { newer.region_id ≡ id }
+        ensures ok { OnOk result (IsMergedAt with_appended id (finite.get self.old.tables id) (Some newer) (finite.get self.new.tables id)) }
+        ensures others { self.new.tables ≡ with_table self.old.tables id (finite.get self.new.tables id) }
+        ensures cleaned { self.new.cleaned ≡ self.old.cleaned }
+    {
+        self.slots[slot_of(id)].merge_append_table(id, newer, &mut self.stats)
     }
 
     /// Writes a new item of the append queue.

@@ -1,7 +1,9 @@
 //! The tables of some regions.
 
-ghost use Rattle.std.specs.Prelude.{◌≡◌, ◌≢◌, ◌≤◌, ◌<◌, ◌^◌, ◌+◌, ◌↔◌, ◌⊎◌, ℕ, List, ◌++◌, map, IsPermutation, IsTrue, OnOk, OnErr, IfOk, IfErr, IfSome, Some, None, option_map};
+ghost use Rattle.std.specs.Prelude.{◌≡◌, ◌≢◌, ◌≤◌, ◌<◌, ◌^◌, ◌+◌, ◌↔◌, ◌⊎◌, ℕ, nat_eq, List, ◌++◌, map, IsPermutation, IsTrue, OnOk, OnErr, IfOk, IfErr, IfSome, Some, None, option_map};
 ghost use Rattle.std.specs.FinMap as finite;
+ghost use Rattle.std.specs.List.{IsDistinct};
+ghost use Rattle.std.specs.Map.{keys_of, lookup};
 ghost use Rattle.raft_base.specs.declared.pipe_log.LogQueue.{LogQueue};
 ghost use Rattle.raft_history.specs.RegionSteps.{Tables, with_table};
 ghost use Rattle.raft_table.specs.Change.{after_change, IsAnswer, IsChangeFault};
@@ -9,11 +11,13 @@ ghost use Rattle.raft_table.specs.Counts.{live};
 ghost use Rattle.raft_table.specs.Steps.{table_of};
 ghost use Rattle.raft_table.specs.Table.{Table, empty_table, live_of, with_atomic_group, IsCounted, IsRecounted};
 ghost use Rattle.raft_memtable.specs.Accessor.{table_in};
+ghost use Rattle.raft_memtable.specs.Merges.{with_newer, with_appended, MayAlter, IsAltered, IsMerged};
 ghost use Rattle.raft_memtable.specs.Updates.{MayChange, IsUpdated, IsTaken};
 
 use raft_table::{Error, FileSeq, GlobalStats, MemTable, Result, TableChange};
 use std::alloc::Global;
 use std::collections::HashMap;
+use std::collections::hash_map::IntoIter;
 use std::marker::Model;
 
 /// The tables of some regions, each under its region's id.
@@ -218,6 +222,86 @@ impl RegionTables {
         removed
     }
 
+    /// The tables, each with its region, in open order.
+    pub(crate) fn into_entries(self) -> IntoIter<u64, MemTable>
+        ensures entries { finite.from_entries result ≡ self }
+        ensures once { IsDistinct nat_eq (keys_of result) }
+        ensures own { (id : ℕ) (t : Table) → lookup (nat_eq id) result ≡ Some t → t.region_id ≡ id }
+    {
+        self.tables.into_iter()
+    }
+
+    /// Merges a newer neighbor into the table of its region, which is made where there is none.
+    ///
+    /// # Errors
+    ///
+    /// Those of [`MemTable::merge_newer_neighbor`]. The counts then agree with the tables.
+    pub(crate) fn merge_newer_neighbor(
+        &mut self,
+        id: u64,
+        newer: MemTable,
+        stats: &mut GlobalStats,
+    ) -> Result<()>
+        requires region { newer.region_id ≡ id }
+        requires counted { IsCounted (table_in self.old id) stats.old }
+        ensures { IsMerged (with_newer (table_in self.old id) newer) self.old id stats.old result self.new stats.new }
+    {
+        self.alter(
+            id,
+            stats,
+            move |table: &mut MemTable, stats: &mut GlobalStats| merge_newer(table, newer, stats),
+        )
+    }
+
+    /// Merges an appended table into the table of its region, which is made where there is none.
+    ///
+    /// # Errors
+    ///
+    /// Those of [`MemTable::merge_append_table`]. The counts then agree with the tables.
+    pub(crate) fn merge_append_table(
+        &mut self,
+        id: u64,
+        newer: MemTable,
+        stats: &mut GlobalStats,
+    ) -> Result<()>
+        requires region { newer.region_id ≡ id }
+        requires counted { IsCounted (table_in self.old id) stats.old }
+        ensures { IsMerged (with_appended (table_in self.old id) newer) self.old id stats.old result self.new stats.new }
+    {
+        self.alter(
+            id,
+            stats,
+            move |table: &mut MemTable, stats: &mut GlobalStats| merge_append(table, newer, stats),
+        )
+    }
+
+    /// Changes a region's table, which is made where there is none, and keeps what a refused change
+    /// leaves. It is looked up once.
+    #[inline(always)]
+    fn alter<R: Drop, F: FnOnce(&mut MemTable, &mut GlobalStats) -> Result<R>>(
+        &mut self,
+        id: u64,
+        stats: &mut GlobalStats,
+        change: F,
+    ) -> Result<R>
+    where
+        F: Drop,
+        requires counted { IsCounted (table_in self.old id) stats.old }
+        requires may { (table_in self.old id).region_id ≡ id → MayAlter F.FnOnce change (table_in self.old id) stats.old }
+        ensures { IsAltered F.FnOnce change self.old id stats.old result self.new stats.new }
+    {
+        if let Some(table) = self.tables.get_mut(&id) {
+            return change(table, stats);
+        }
+        self.tables.reserve(1)?;
+        let mut table = MemTable::new(self.alloc, id);
+        let answer = change(&mut table, stats);
+        match self.tables.insert(id, table) {
+            Ok(_) => answer,
+            Err(_) => unreachable!(),
+        }
+    }
+
     /// Changes a region's table, which is made where there is none. It is looked up once.
     #[inline(always)]
     pub(crate) fn update<R: Drop, F: FnOnce(&mut MemTable, &mut GlobalStats) -> Result<R>>(
@@ -243,6 +327,28 @@ impl RegionTables {
             Err(_) => unreachable!(),
         }
     }
+}
+
+/// Merges a newer neighbor into a table.
+fn merge_newer(table: &mut MemTable, mut newer: MemTable, stats: &mut GlobalStats) -> Result<()>
+    requires region { table.old.region_id ≡ newer.region_id }
+    requires counted { IsCounted table.old stats.old }
+    ensures ok { OnOk result (with_newer table.old newer ≡ Some table.new) }
+    ensures region { table.new.region_id ≡ table.old.region_id }
+    ensures recounted { IsRecounted table.old table.new stats.old stats.new }
+{
+    table.merge_newer_neighbor(&mut newer, stats)
+}
+
+/// Merges an appended table into a table.
+fn merge_append(table: &mut MemTable, mut newer: MemTable, stats: &mut GlobalStats) -> Result<()>
+    requires region { table.old.region_id ≡ newer.region_id }
+    requires counted { IsCounted table.old stats.old }
+    ensures ok { OnOk result (with_appended table.old newer ≡ Some table.new) }
+    ensures region { table.new.region_id ≡ table.old.region_id }
+    ensures recounted { IsRecounted table.old table.new stats.old stats.new }
+{
+    table.merge_append_table(&mut newer, stats)
 }
 
 /// Takes the records of a table that may have stood there off the counts.

@@ -1,0 +1,29 @@
+use Rattle.std.proofs.Common.{refl, sym, ap, subst, ◌∙◌}
+use Rattle.std.specs.FinMap as finite
+use Rattle.raft_memtable.specs.Merges.{with_appended}
+use Rattle.raft_memtable.proofs.MergeLemmas.{AreOwn, joins-step, joins-none, merged-of, once-tail, own-head, own-tail, own-entries}
+use Rattle.raft_memtable.proofs.OrderLemmas.{Once, once-distinct}
+use Rattle.raft_memtable.proofs.accessor.MemTableAccessor.merge_append_tables.Goals as goal
+
+pub loop-id-init : goal.loop-id-init
+loop-id-init c =
+    let gives = c.into_iter-id-iterator.ensures.into_iter_gives in
+    (subst Once (sym gives) (once-distinct _ c.into_entries-id-items.ensures.once), subst AreOwn (sym gives) (own-entries _ c.into_entries-id-items.ensures.own), refl, λ z h. h)
+
+pub merge_appended-requires : goal.merge_appended-requires
+merge_appended-requires c = own-head _ _ _ c.in-Some.ensures.steps c.loop-id.invariant.1
+
+pub loop-id-preserved : goal.loop-id-preserved
+loop-id-preserved c =
+    let at = c.loop-id.invariant in
+    let is = c.in-Some.ensures.steps in (
+      once-tail _ _ _ is at.0,
+      own-tail _ _ _ is at.0 at.1,
+      c.merge_appended.ensures.cleaned ∙ at.2,
+      λ z h. at.3 z (joins-step with_appended c.loop-id.self.tables c.merge_appended.new.self.tables z _ _ _ _ is at.0 c.in_ok-merge_appended.ensures.ok c.merge_appended.ensures.others h),
+    )
+
+pub returns-clause-ok : goal.returns-clause-ok
+returns-clause-ok c =
+    merged-of with_appended c.args.self.now.tables c.loop-id.self.tables c.args.newer _ (ap (λ es. finite.from_entries es) c.into_iter-id-iterator.ensures.into_iter_gives ∙ c.into_entries-id-items.ensures.entries)
+    (c.loop-id.invariant.3 c.loop-id.self.tables (joins-none with_appended c.loop-id.self.tables _ c.in-None.ensures.steps.0))

@@ -1,0 +1,11 @@
+use Rattle.std.proofs.Common.{◌≡◌}
+use Rattle.raft_history.specs.RegionSteps.{Tables}
+use Rattle.raft_memtable.specs.Merges.{with_newer}
+use Rattle.raft_memtable.proofs.MergeLemmas.{Joins, AreOwn}
+use Rattle.raft_memtable.proofs.OrderLemmas.{Once}
+use Rattle.raft_memtable.proofs.accessor.MemTableAccessor.merge_newer_tables.Given as goal
+
+abbrev pub invariant-loop-id : goal.invariant-loop-id
+invariant-loop-id l =
+    Once l.id-iterator × AreOwn l.id-iterator × (l.self.cleaned ≡ l.fn.self.cleaned)
+    × ((z : Tables) → Joins with_newer l.self.tables l.id-iterator z → Joins with_newer l.fn.self.tables l.initial.id-iterator z)

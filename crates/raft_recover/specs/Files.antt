@@ -1,12 +1,16 @@
--- Whole files of a queue, and the batches in them.
-use Rattle.std.specs.Prelude.{List, Vec}
+-- Whole files of a queue, the batches in them, and their tables as text.
+use Rattle.std.specs.Prelude.{ℕ, List, Option, Vec}
 use Rattle.std.specs.Global.{Global}
 use Rattle.raft_base.specs.declared.pipe_log.LogQueue.{LogQueue}
 use Rattle.raft_base.specs.declared.pipe_log.Version.{Version}
 use Rattle.raft_records.specs.FilePart.{Part}
 use Rattle.raft_history.specs.Batches.{Event}
+use Rattle.raft_history.specs.Histories.{IsSmall, Sound}
+use Rattle.raft_memtable.specs.Accessor.{Accessor}
+use Rattle.raft_recover.specs.Recovery.{IsRecovered}
 use Rattle.raft_recover.specs.Requests.{File}
 use Rattle.raft_recover.specs.Segments.{ReadsPart, ReadsEach}
+use Rattle.raft_recover.specs.TableLines.{PrintsTables}
 
 -- all of a file's bytes
 abbrev pub whole_file : LogQueue → Version → File → Part
@@ -15,6 +19,21 @@ whole_file queue version file = record { id = record { queue = queue; seq = file
 -- the batches of files, in order
 abbrev pub ReadsFiles : LogQueue → Version → List File → List Event → Type 0
 ReadsFiles queue version files h = ReadsEach (λ file. ReadsPart (whole_file queue version file)) files h
+
+-- a file isn't a row of readable batches, or the batches of all files, in order, are a history that can't be read
+pub record FilesCannotBeRead (queue : LogQueue) (version : Version) (files : List File) : Type 0 where
+  pub unsound : (h : List Event) → ReadsFiles queue version files h → IsSmall h → ¬ (Sound h)
+
+-- recovery of the files gives tables
+pub record HaveTables (queue : LogQueue) (version : Version) (files : List File) : Type 0 where
+  pub accessor : Accessor
+  pub recovered : IsRecovered queue (ReadsFiles queue version files) accessor
+
+-- their lines were written behind the old bytes, where those are known
+pub record PrintsRecovered (queue : LogQueue) (version : Version) (files : List File) (old new : Option (List ℕ)) : Type 0 where
+  pub accessor : Accessor
+  pub recovered : IsRecovered queue (ReadsFiles queue version files) accessor
+  pub printed : PrintsTables accessor old new
 
 -- the parts of a segment
 abbrev pub segment_shown : Vec Part Global → List Part

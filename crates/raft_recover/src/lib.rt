@@ -20,6 +20,7 @@ pub mod workers;
 pub use gate::{Gate, OpenGate};
 pub use pieces::merge_pieces;
 pub use plan::Plan;
+pub use recover::{recover, recover_bytes};
 pub use recovered::print_recovered;
 pub use scheduled::{piece_count, replay_scheduled};
 pub use segment::{Segment, replay_segment};

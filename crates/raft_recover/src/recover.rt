@@ -1,12 +1,94 @@
 //! From the bytes of files to the tables of all regions.
 
-ghost use Rattle.std.specs.Prelude.{◌≡◌, [], ◌∷◌, IfOk, IfErr, map};
-ghost use Rattle.raft_recover.specs.Files.{whole_file, segment_shown};
+ghost use Rattle.std.specs.Prelude.{
+  ◌≡◌,
+  ◌≢◌,
+  ◌⊎◌,
+  ◌^◌,
+  ◌<◌,
+  ◌≤◌,
+  [],
+  ◌∷◌,
+  length,
+  IfOk,
+  IfErr,
+  OnOk,
+  map,
+};
+ghost use Rattle.std.specs.Io.KnownBytes.{Keeps};
+ghost use Rattle.raft_records.specs.Lines.{IsIoError};
+ghost use Rattle.raft_table.specs.Start.{IsInvalidArgument};
+ghost use Rattle.raft_recover.specs.Files.{whole_file, segment_shown, ReadsFiles, FilesCannotBeRead, HaveTables, PrintsRecovered};
+ghost use Rattle.raft_recover.specs.Recovery.{IsRecovered, CannotBeRead, SegmentsAreOf};
 ghost use Rattle.raft_recover.specs.RequestView.{file_shown};
+ghost use Rattle.raft_recover.specs.Segments.{ReadsSegments};
 
+use crate::recovered::print_recovered;
 use crate::segment::Segment;
 use raft_base::{Error, FileId, FileSeq, LogQueue, Result, Version};
+use raft_memtable::MemTableAccessor;
 use raft_records::FilePart;
+use std::alloc::Global;
+use std::io::Write;
+use std::thread::Threads;
+
+/// The tables of all regions, their cleaned regions and live counts: those of reading the batches of all segments, of
+/// one queue, in order. They are read by 1 to 256 workers, each of which takes the next segment that is left.
+///
+/// What is proved of it: for every list of segments of the queue, for every number of workers and whatever their turns,
+/// an `Ok` has what one reading of all batches in order gives, and an `Err` other than `Memory` comes only where that
+/// reading is refused too. Premises: the batches name fewer than 2^63 entries and key values; in the rewrite queue the
+/// groups keep apart; the call returns.
+///
+/// # Errors
+///
+/// `InvalidArgument` for another number of workers and for a part of another queue, then whatever a reading answers:
+/// `Corruption` or `Codec` where a part isn't a row of readable batches or the batches in order can't be read. `Memory`.
+pub fn recover<R: Threads + Sync>(
+    rt: &R,
+    alloc: Global,
+    segments: &[Segment],
+    queue: LogQueue,
+    workers: usize,
+) -> Result<MemTableAccessor>
+    ensures ok { IfOk result (IsRecovered queue (ReadsSegments segments.entry.now)) }
+    ensures accepted { OnOk result ((0 < workers) × (workers ≤ 256) × SegmentsAreOf queue segments.entry.now) }
+    ensures refused { (0 < workers) × (workers ≤ 256) × (length segments.entry.now < 2 ^ 62) ×
+        SegmentsAreOf queue segments.entry.now → IfErr result (λ e. e ≢ Error.Memory → CannotBeRead segments.entry.now) }
+    ensures fault { ((0 < workers) × (workers ≤ 256) × (length segments.entry.now < 2 ^ 62) ×
+        SegmentsAreOf queue segments.entry.now → ⊥) → IfErr result (λ e. e ≢ Error.Memory → IsInvalidArgument e) }
+{
+    Err(Error::Memory)
+}
+
+/// Prints the tables that the files of a queue give, each file read as one segment: what `raftlog recover` does once it
+/// has read them. The lines are those of [`print_recovered`].
+///
+/// # Errors
+///
+/// Those of [`recover`], with nothing written, and then `Io` where the writer fails.
+pub fn recover_bytes<R: Threads + Sync, W: Write>(
+    rt: &R,
+    alloc: Global,
+    queue: LogQueue,
+    version: Version,
+    workers: usize,
+    files: Vec<(FileSeq, Vec<u8>)>,
+    writer: &mut W,
+) -> Result<()>
+    ensures ok { OnOk result (PrintsRecovered queue version (map file_shown files.items) (W.contents writer.old) (W.contents writer.new)) }
+    ensures accepted { OnOk result ((0 < workers) × (workers ≤ 256)) }
+    ensures silent { IfErr result (λ _. Keeps (W.contents writer.old) (W.contents writer.new)
+        ⊎ HaveTables queue version (map file_shown files.items)) }
+    ensures refused { (0 < workers) × (workers ≤ 256) × (length files.items < 2 ^ 62) → IfErr result (λ e. e ≢ Error.Memory →
+        (IsIoError e → ⊥) → FilesCannotBeRead queue version (map file_shown files.items)) }
+    ensures fault { ((0 < workers) × (workers ≤ 256) × (length files.items < 2 ^ 62) → ⊥) →
+        IfErr result (λ e. e ≢ Error.Memory → IsInvalidArgument e) }
+{
+    let segments = whole_files(queue, version, files)?;
+    let accessor = recover(rt, alloc, segments.as_slice(), queue, workers)?;
+    print_recovered(alloc, &accessor, writer)
+}
 
 /// Files of a queue as segments, each of one part with all the file's bytes.
 pub fn whole_files(
@@ -36,3 +118,6 @@ fn whole_file(id: FileId, version: Version, bytes: Vec<u8>) -> Result<Segment>
     let part = FilePart::new(id, version, 0, bytes)?;
     Ok(vec![in alloc; part]?)
 }
+
+#[cfg(test)]
+mod tests;

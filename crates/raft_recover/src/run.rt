@@ -1,16 +1,18 @@
 //! What the program `raftlog` does, over any reader and writers.
 
-ghost use Rattle.std.specs.Prelude.{◌≡◌, ◌≤◌, ◌↔◌, ◌⊎◌, map, string_bytes};
+ghost use Rattle.std.specs.Prelude.{◌≡◌, ◌≤◌, ◌↔◌, ◌⊎◌, ℕ, List, OnOk, IfErr, map, string_bytes};
 ghost use Rattle.std.specs.Io.KnownBytes.{Keeps};
-ghost use Rattle.raft_base.specs.declared.pipe_log.LogFileContext.{LogFileContext};
-ghost use Rattle.raft_recover.specs.Requests.{AsksBatch, refusal_word};
-ghost use Rattle.raft_recover.specs.Runs.{IsBatchPrinted, IsBatchFound};
+ghost use Rattle.raft_recover.specs.Requests.{AsksRecovery, AsksNothing, refusal_word};
+ghost use Rattle.raft_recover.specs.RequestView.{IsAsked, asks_for};
+ghost use Rattle.raft_recover.specs.Runs.{IsRecoveryPrinted, IsRecoveryFound, IsPrinted, IsFound};
 
-use crate::request::batch_request;
-use raft_base::Error;
+use crate::recover::recover_bytes;
+use crate::request::{Recovery, Request, read_files};
+use raft_base::{Error, Result};
 use raft_records::print_batch;
 use std::io::{Read, Write};
 use std::rt::Files;
+use std::thread::Threads;
 
 /// How a run of `raftlog` ends.
 #[derive(Clone, Copy, PartialEq, Eq, Debug)]
@@ -24,12 +26,15 @@ enum Status {
 }
 
 /// What is printed where the words ask for nothing that `raftlog` does.
-const USAGE: &str = "usage: raftlog batch <queue> <seq> <version>\n";
+const USAGE: &str = "\
+usage: raftlog batch <queue> <seq> <version>
+       raftlog recover <queue> <version> <workers> <seq>=<path>..
+";
 
 /// Does what the words of a command line ask for, and answers the status to end with: 0 where it is
 /// done, 1 where it is refused, 2 where the words ask for nothing. A refusal and a hint at the words
 /// are a line on `err`; where that can't be written, the status is the same.
-pub fn run<S: Files + AllocGlobal, R: Read, W: Write, E: Write>(
+pub fn run<S: Files + AllocGlobal + Threads + Sync, R: Read, W: Write, E: Write>(
     rt: &S,
     words: &[String],
     input: &mut R,
@@ -37,19 +42,19 @@ pub fn run<S: Files + AllocGlobal, R: Read, W: Write, E: Write>(
     err: &mut E,
 ) -> u8
     ensures known { result ≤ 2 }
-    ensures done { result ≡ 0 → IsBatchPrinted (map string_bytes words.now)
+    ensures done { result ≡ 0 → IsPrinted (map string_bytes words.now)
         (R.remaining input.old) (W.contents out.old) (W.contents out.new) }
     ensures silent { result ≡ 1 → Keeps (W.contents out.old) (W.contents out.new)
-        ⊎ IsBatchFound (map string_bytes words.now) (R.remaining input.old) (R.remaining input.new) }
-    ensures misused { (result ≡ 2) ↔ ((context : LogFileContext) → AsksBatch (map string_bytes words.now) context → ⊥) }
+        ⊎ IsFound (map string_bytes words.now) (R.remaining input.old) (R.remaining input.new) }
+    ensures misused { (result ≡ 2) ↔ AsksNothing (map string_bytes words.now) }
     ensures untouched { result ≡ 2 → Keeps (W.contents out.old) (W.contents out.new) }
     ensures quiet { result ≡ 0 → Keeps (E.contents err.old) (E.contents err.new) }
 {
-    let Some(context) = batch_request(words) else {
+    let Some(request) = Request::parse(words) else {
         let _ = err.write_all(USAGE.as_bytes());
         return Status::Misused as u8;
     };
-    match print_batch(rt.alloc(), input, out, &context) {
+    match answer(rt, request, input, out) {
         Ok(()) => Status::Done as u8,
         Err(error) => {
             let word = refusal(&error);
@@ -57,6 +62,48 @@ pub fn run<S: Files + AllocGlobal, R: Read, W: Write, E: Write>(
             Status::Refused as u8
         }
     }
+}
+
+/// Prints what is asked for.
+fn answer<S: Files + AllocGlobal + Threads + Sync, R: Read, W: Write>(
+    rt: &S,
+    request: Request<'_>,
+    input: &mut R,
+    out: &mut W,
+) -> Result<()>
+    ensures done { (words : List (List ℕ)) → IsAsked words request →
+        OnOk result (IsPrinted words (R.remaining input.old) (W.contents out.old) (W.contents out.new)) }
+    ensures silent { (words : List (List ℕ)) → IsAsked words request →
+        IfErr result (λ _. Keeps (W.contents out.old) (W.contents out.new)
+            ⊎ IsFound words (R.remaining input.old) (R.remaining input.new)) }
+{
+    match request {
+        Request::Batch(context) => print_batch(rt.alloc(), input, out, &context),
+        Request::Recover(recovery) => print_files(rt, recovery, out),
+    }
+}
+
+/// Reads files and prints their tables.
+fn print_files<S: Files + AllocGlobal + Threads + Sync, W: Write>(
+    rt: &S,
+    recovery: Recovery<'_>,
+    out: &mut W,
+) -> Result<()>
+    ensures done { (words : List (List ℕ)) → AsksRecovery words (asks_for recovery) →
+        OnOk result (IsRecoveryPrinted words (W.contents out.old) (W.contents out.new)) }
+    ensures silent { (words : List (List ℕ)) → AsksRecovery words (asks_for recovery) →
+        IfErr result (λ _. Keeps (W.contents out.old) (W.contents out.new) ⊎ IsRecoveryFound words) }
+{
+    let files = read_files(rt, recovery.files)?;
+    recover_bytes(
+        rt,
+        rt.alloc(),
+        recovery.queue,
+        recovery.version,
+        recovery.workers,
+        files,
+        out,
+    )
 }
 
 /// The word for a refusal.

@@ -1,0 +1,26 @@
+-- What was read of a queue's batches, as a plain value.
+use Rattle.std.specs.Prelude.{◌≡◌, ◌⊎◌, ℕ, List, Option, Some, None}
+use Rattle.raft_base.specs.declared.pipe_log.LogQueue.{LogQueue}
+use Rattle.raft_history.specs.Batches.{Event}
+use Rattle.raft_history.specs.Contexts.{Context, FileRange, StandsFor}
+use Rattle.raft_history.specs.RegionSteps.{Tables}
+use Rattle.raft_table.specs.Queues.{other}
+use Rattle.raft_memtable.specs.Accessor.{live_in_all}
+use Rattle.raft_memtable.specs.FileRanges.{ranges_shown}
+use Rattle.raft_memtable.specs.MarkedTables.{regions_in}
+use Rattle.raft_memtable.specs.declared.read_state.ReadState.{ReadState}
+
+-- its regions, its groups, the cleaned regions and the files
+abbrev pub context_in : ReadState → Context
+context_in s = record { regions = regions_in s.regions; groups = s.groups; cleaned = s.regions.accessor.cleaned; files = ranges_shown s.files }
+
+-- with files of a queue, the tables have no record of the other one
+abbrev pub AreAlone : Option FileRange → Tables → Type 0
+AreAlone None tables = Unit {0}
+AreAlone (Some files) tables = live_in_all (other files.queue) tables ≡ 0
+
+-- it was read from some history, and its tables are of that history's queue
+pub record IsRead (c : Context) : Type 0 where
+  pub history : List Event
+  pub stands : StandsFor c history
+  pub alone : AreAlone c.files c.regions.tables

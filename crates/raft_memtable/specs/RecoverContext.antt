@@ -1,0 +1,87 @@
+-- A recovery context: what it holds of the batches that it has read, and whether it reads on.
+use Rattle.std.specs.Prelude.{◌≡◌, ◌≢◌, ◌⊎◌, ◌+◌, ◌≤◌, ◌^◌, Bool, true, false, List, [], ◌∷◌, ℕ, Option, Some, None}
+use Rattle.raft_base.specs.declared.pipe_log.LogQueue.{LogQueue}
+use Rattle.raft_history.specs.Batches.{Event}
+use Rattle.raft_history.specs.Contexts.{Context, new_context, Suits, files_of, follows, StandsFor, IsExactFor, taken_in, merged_with, AreMerged, AreRefused}
+use Rattle.raft_history.specs.Histories.{AreInFile, HaveStatus, records_in}
+use Rattle.raft_history.specs.Records.{all_records, waiting_records}
+use Rattle.raft_history.specs.RegionSteps.{steps_of_items}
+use Rattle.raft_memtable.specs.declared.stage.Stage.{Stage}
+use Rattle.raft_memtable.specs.declared.stage.Stage.TheVariants.{Reading, Overlaid, Failed}
+
+-- what a context holds, and whether it reads on
+pub record RecoverContext : Type 0 where
+  pub stage : Stage
+  pub context : Context
+
+-- a context that has read nothing
+abbrev pub blank_context : RecoverContext
+blank_context = record { stage = Reading; context = new_context }
+
+-- the context reads on, and stands for the history
+pub record IsReading (c : RecoverContext) (h : List Event) : Type 0 where
+  pub stage : c.stage ≡ Reading
+  pub stands : StandsFor c.context h
+
+-- the context reads on, and stands for the history exactly
+pub record IsReadingExactly (c : RecoverContext) (h : List Event) : Type 0 where
+  pub stage : c.stage ≡ Reading
+  pub exact : IsExactFor c.context h
+
+-- what a refused call makes of a context that reads on; it leaves any other
+abbrev pub refused_stage : Stage → Stage
+refused_stage Reading = Failed
+refused_stage Overlaid = Overlaid
+refused_stage Failed = Failed
+
+-- the records of all tables and of the groups that wait
+abbrev pub records_held : Context → ℕ
+records_held c = all_records c.regions.tables + waiting_records c.groups
+
+-- ---- one more batch
+
+-- a batch may come next: its file is of the context's queue, and not below the last one; its items are such as may stand in that file, and its markers have a status
+pub record MayFollow (c : Context) (e : Event) : Type 0 where
+  pub queue : Suits e.file.queue c.files
+  pub files : follows c.files (files_of (e ∷ [])) ≡ true
+  pub items : AreInFile e.file e.items
+  pub markers : HaveStatus e.file.queue e.items
+
+-- the batch was taken in
+pub record IsTakenIn (e : Event) (old new : RecoverContext) : Type 0 where
+  pub before : old.stage ≡ Reading
+  pub next : MayFollow old.context e
+  pub taken : taken_in old.context e ≡ Some new.context
+  pub after : new.stage ≡ Reading
+
+-- why a batch isn't taken in, want of memory aside: the context doesn't read on, the batch may not come next, one of its steps is refused, or the records would be 2^64 or more
+abbrev pub IsReplayRefused : RecoverContext → Event → Type 0
+IsReplayRefused c e =
+    (c.stage ≢ Reading)
+    ⊎ ((MayFollow c.context e → ⊥)
+    ⊎ ((taken_in c.context e ≡ None)
+    ⊎ (2 ^ 64 ≤ records_held c.context + records_in (steps_of_items e.items))))
+
+-- ---- two neighbours
+
+-- two contexts of this queue that read on, the newer one's first file not below the older one's last
+pub record MayMerge (queue : LogQueue) (c d : RecoverContext) : Type 0 where
+  pub older_stage : c.stage ≡ Reading
+  pub newer_stage : d.stage ≡ Reading
+  pub older_queue : Suits queue c.context.files
+  pub newer_queue : Suits queue d.context.files
+  pub files : follows c.context.files d.context.files ≡ true
+
+-- the newer neighbour was taken in
+pub record IsMerged (queue : LogQueue) (newer old new : RecoverContext) : Type 0 where
+  pub before : MayMerge queue old newer
+  pub regions : AreMerged queue old.context newer.context new.context.regions
+  pub merged : new.context ≡ merged_with old.context newer.context new.context.regions
+  pub after : new.stage ≡ Reading
+
+-- why it isn't, want of memory aside: the two may not be merged, a region's join is refused, or the records would be 2^64 or more
+abbrev pub IsMergeRefused : LogQueue → RecoverContext → RecoverContext → Type 0
+IsMergeRefused queue c d =
+    (MayMerge queue c d → ⊥)
+    ⊎ (AreRefused queue c.context d.context
+    ⊎ (2 ^ 64 ≤ records_held c.context + records_held d.context))

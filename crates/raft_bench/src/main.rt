@@ -1,9 +1,11 @@
-//! Times the record layer. Without words it does nothing; each word names what it times.
+//! Times the record layer. Without words it does nothing; each word names what it times, and `recover` with the words
+//! behind it, which are those of `raftlog recover`, times the recovery of files.
 #![tactic(auto)]
 
 mod batches;
 mod checksum;
 mod numbers;
+mod recovery;
 mod tables;
 mod timing;
 
@@ -11,10 +13,24 @@ use raft_records::Result;
 use std::{env, io};
 
 fn main(rt: HostRuntime) -> io::Result<()> {
+    let mut words = Vec::new(rt.alloc());
     for word in env::args(&rt)?.skip(1) {
-        if let Err(e) = time(&rt, word.as_str()) {
-            eprintln!(rt; "raft_bench: {e}")?;
-        }
+        words.push(word)?;
+    }
+    if words.first().is_some_and(|word| word.as_str() == "recover") {
+        report(&rt, recovery::time(&rt, words.as_slice()))?;
+        return Ok(());
+    }
+    for word in &words {
+        report(&rt, time(&rt, word.as_str()))?;
+    }
+    Ok(())
+}
+
+/// Prints a refusal.
+fn report(rt: &HostRuntime, timed: Result<()>) -> io::Result<()> {
+    if let Err(e) = timed {
+        eprintln!(rt; "raft_bench: {e}")?;
     }
     Ok(())
 }
@@ -26,6 +42,6 @@ fn time(rt: &HostRuntime, word: &str) -> Result<()> {
         "varint" => numbers::time(rt),
         "batches" => batches::time(rt),
         "memtable" => Ok(tables::time(rt)?),
-        _ => Ok(eprintln!(rt; "usage: raft_bench [crc32] [varint] [batches] [memtable]")?),
+        _ => Ok(eprintln!(rt; "usage: raft_bench [crc32] [varint] [batches] [memtable], or recover ..")?),
     }
 }

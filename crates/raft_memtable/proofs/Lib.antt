@@ -14,3 +14,4 @@ mod UpdateLemmas
 mod WriteLemmas
 mod SlotKeeping
 mod CleanLemmas
+mod RecoverContextLemmas

@@ -54,34 +54,41 @@ pub record IsTakenIn (e : Event) (old new : RecoverContext) : Type 0 where
   pub taken : taken_in old.context e ≡ Some new.context
   pub after : new.stage ≡ Reading
 
--- why a batch isn't taken in, want of memory aside: the context doesn't read on, the batch may not come next, one of its steps is refused, or the records would be 2^64 or more
+-- why a batch isn't taken in, want of memory aside: it may not come next, one of its steps is refused, or the records would be 2^64 or more
+abbrev pub IsBatchRefused : Context → Event → Type 0
+IsBatchRefused c e =
+    (MayFollow c e → ⊥)
+    ⊎ ((taken_in c e ≡ None)
+    ⊎ (2 ^ 64 ≤ records_held c + records_in (steps_of_items e.items)))
+
+-- or the context doesn't read on
 abbrev pub IsReplayRefused : RecoverContext → Event → Type 0
-IsReplayRefused c e =
-    (c.stage ≢ Reading)
-    ⊎ ((MayFollow c.context e → ⊥)
-    ⊎ ((taken_in c.context e ≡ None)
-    ⊎ (2 ^ 64 ≤ records_held c.context + records_in (steps_of_items e.items))))
+IsReplayRefused c e = (c.stage ≢ Reading) ⊎ IsBatchRefused c.context e
 
 -- ---- two neighbours
 
--- two contexts of this queue that read on, the newer one's first file not below the older one's last
-pub record MayMerge (queue : LogQueue) (c d : RecoverContext) : Type 0 where
-  pub older_stage : c.stage ≡ Reading
-  pub newer_stage : d.stage ≡ Reading
-  pub older_queue : Suits queue c.context.files
-  pub newer_queue : Suits queue d.context.files
-  pub files : follows c.context.files d.context.files ≡ true
+-- both are of this queue, and the newer one's first file isn't below the older one's last
+pub record AreNeighbours (queue : LogQueue) (c d : Context) : Type 0 where
+  pub older : Suits queue c.files
+  pub newer : Suits queue d.files
+  pub files : follows c.files d.files ≡ true
 
 -- the newer neighbour was taken in
 pub record IsMerged (queue : LogQueue) (newer old new : RecoverContext) : Type 0 where
-  pub before : MayMerge queue old newer
+  pub older_before : old.stage ≡ Reading
+  pub newer_before : newer.stage ≡ Reading
+  pub neighbours : AreNeighbours queue old.context newer.context
   pub regions : AreMerged queue old.context newer.context new.context.regions
   pub merged : new.context ≡ merged_with old.context newer.context new.context.regions
   pub after : new.stage ≡ Reading
 
--- why it isn't, want of memory aside: the two may not be merged, a region's join is refused, or the records would be 2^64 or more
+-- why it isn't, want of memory aside: they aren't neighbours, a region's join is refused, or the records would be 2^64 or more
+abbrev pub AreNotMerged : LogQueue → Context → Context → Type 0
+AreNotMerged queue c d =
+    (AreNeighbours queue c d → ⊥)
+    ⊎ (AreRefused queue c d
+    ⊎ (2 ^ 64 ≤ records_held c + records_held d))
+
+-- or one of the two doesn't read on
 abbrev pub IsMergeRefused : LogQueue → RecoverContext → RecoverContext → Type 0
-IsMergeRefused queue c d =
-    (MayMerge queue c d → ⊥)
-    ⊎ (AreRefused queue c.context d.context
-    ⊎ (2 ^ 64 ≤ records_held c.context + records_held d.context))
+IsMergeRefused queue c d = (c.stage ≢ Reading) ⊎ ((d.stage ≢ Reading) ⊎ AreNotMerged queue c.context d.context)

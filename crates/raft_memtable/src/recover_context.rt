@@ -1,6 +1,6 @@
 //! Contexts, which rebuild the tables of all regions from the batches of a queue.
 
-ghost use Rattle.std.specs.Prelude.{◌≡◌, ◌≢◌, ◌⊎◌, [], ◌∷◌, ◌++◌, List, IfOk, IfErr, OnOk, OnErr};
+ghost use Rattle.std.specs.Prelude.{◌≡◌, ◌≢◌, ◌⊎◌, [], ◌∷◌, ◌++◌, List, IsOk, IfOk, IfErr, OnOk, OnErr};
 ghost use Rattle.raft_base.specs.declared.errors.Error.{Error};
 ghost use Rattle.raft_base.specs.declared.pipe_log.LogQueue.{LogQueue};
 ghost use Rattle.raft_history.specs.Batches.{Event};
@@ -48,9 +48,12 @@ impl MemTableRecoverContext {
     pub fn new(alloc: Global) -> Result<MemTableRecoverContext>
         ensures ok { IfOk result (λ context. context ≡ blank_context) }
         ensures exact { IfOk result (λ context. IsReadingExactly context []) }
-        ensures memory { IfErr result (λ e. e ≡ Error.Memory) }
+        ensures never { IsOk result }
     {
-        Err(Error::Memory)
+        Ok(MemTableRecoverContext {
+            state: ReadState::new(alloc),
+            stage: Stage::Reading,
+        })
     }
 
     /// Replays one more batch, that was written to this file. In the rewrite queue the batch's first
@@ -71,7 +74,16 @@ impl MemTableRecoverContext {
         ensures unchanged { self.old.stage ≢ Reading → self.new ≡ self.old }
         ensures failed { self.old.stage ≢ Reading → IfErr result (λ e. e ≡ Error.Failed) }
     {
-        Err(Error::Memory)
+        if self.stage != Stage::Reading {
+            return Err(Error::Failed);
+        }
+        match self.state.replay(batch, file_id) {
+            Ok(()) => Ok(()),
+            Err(e) => {
+                self.stage = Stage::Failed;
+                Err(e)
+            }
+        }
     }
 
     /// Takes in the context of the batches that follow, all of this queue. Groups that become whole
@@ -90,7 +102,21 @@ impl MemTableRecoverContext {
         ensures unchanged { self.old.stage ≢ Reading → self.new ≡ self.old }
         ensures failed { self.old.stage ≢ Reading → IfErr result (λ e. e ≡ Error.Failed) }
     {
-        Err(Error::Memory)
+        if self.stage != Stage::Reading {
+            return Err(Error::Failed);
+        }
+        let MemTableRecoverContext { state, stage } = rhs;
+        if stage != Stage::Reading {
+            self.stage = Stage::Failed;
+            return Err(Error::Failed);
+        }
+        match self.state.merge(state, queue) {
+            Ok(()) => Ok(()),
+            Err(e) => {
+                self.stage = Stage::Failed;
+                Err(e)
+            }
+        }
     }
 
     /// The tables of all regions, with their counts and the regions that were cleaned.
@@ -107,13 +133,18 @@ impl MemTableRecoverContext {
         ensures accepted { OnOk result (self.stage ≢ Failed) }
         ensures failed { IfErr result (λ e. (e ≡ Error.Failed) × (self.stage ≡ Failed)) }
     {
-        Err(Error::Failed)
+        let MemTableRecoverContext { state, stage } = self;
+        if stage == Stage::Failed {
+            return Err(Error::Failed);
+        }
+        let accessor = state.regions.accessor;
+        accessor.counts_are_exact();
+        Ok(accessor)
     }
 }
 
 impl ReplayMachine for MemTableRecoverContext {
     ghost use Rattle.raft_memtable.specs.RecoverContext.{IsReading, IsReadingExactly};
-    ghost use Rattle.raft_memtable.proofs.RecoverContextLemmas.{exact_reads};
 
     ghost stands_for = { IsReading };
 
@@ -127,7 +158,7 @@ impl ReplayMachine for MemTableRecoverContext {
         self.merge(rhs, queue)
     }
 
-    ghost exact_stands = { exact_reads };
+    ghost exact_stands = { λ m h e. record { stage = e.stage; stands = e.exact.stands } };
 }
 
 /// Makes contexts that have read nothing.
@@ -142,10 +173,10 @@ impl MemTableRecoverContextFactory {
 }
 
 impl Factory<MemTableRecoverContext> for MemTableRecoverContextFactory {
-    ghost use Rattle.std.specs.Prelude.{◌≡◌};
-    ghost use Rattle.raft_memtable.specs.RecoverContext.{blank_context};
+    ghost use Rattle.std.specs.Prelude.{[]};
+    ghost use Rattle.raft_memtable.specs.RecoverContext.{IsReadingExactly};
 
-    ghost gives = { λ _ context. context ≡ blank_context };
+    ghost gives = { λ _ context. IsReadingExactly context [] };
 
     ghost may_refuse = { λ _ e. ⊥ };
 

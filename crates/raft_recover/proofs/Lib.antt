@@ -3,6 +3,7 @@ pub mod DrawingLemmas
 pub mod LineLemmas
 pub mod LiningLemmas
 pub mod OrderLemmas
+pub mod RecoveryLemmas
 pub mod RequestLemmas
 pub mod MergeLemmas
 pub mod MidwayLemmas

@@ -23,10 +23,12 @@ ghost use Rattle.raft_recover.specs.Recovery.{IsRecovered, CannotBeRead, Segment
 ghost use Rattle.raft_recover.specs.RequestView.{file_shown};
 ghost use Rattle.raft_recover.specs.Segments.{ReadsSegments};
 
+use crate::gate::OpenGate;
 use crate::recovered::print_recovered;
 use crate::segment::Segment;
+use crate::workers::replay_segments;
 use raft_base::{Error, FileId, FileSeq, LogQueue, Result, Version};
-use raft_memtable::MemTableAccessor;
+use raft_memtable::{MemTableAccessor, MemTableRecoverContextFactory};
 use raft_records::FilePart;
 use std::alloc::Global;
 use std::io::Write;
@@ -58,7 +60,9 @@ pub fn recover<R: Threads + Sync>(
     ensures fault { ((0 < workers) × (workers ≤ 256) × (length segments.entry.now < 2 ^ 62) ×
         SegmentsAreOf queue segments.entry.now → ⊥) → IfErr result (λ e. e ≢ Error.Memory → IsInvalidArgument e) }
 {
-    Err(Error::Memory)
+    let factory = MemTableRecoverContextFactory::new();
+    let context = replay_segments(rt, alloc, &factory, segments, queue, workers, &OpenGate)?;
+    context.finish()
 }
 
 /// Prints the tables that the files of a queue give, each file read as one segment: what `raftlog recover` does once it
@@ -118,3 +122,6 @@ fn whole_file(id: FileId, version: Version, bytes: Vec<u8>) -> Result<Segment>
     let part = FilePart::new(id, version, 0, bytes)?;
     Ok(vec![in alloc; part]?)
 }
+
+#[cfg(test)]
+mod tests;

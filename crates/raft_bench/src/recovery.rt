@@ -2,7 +2,7 @@
 
 use crate::timing::nanoseconds_since;
 use raft_recover::recover;
-use raft_recover::recover::whole_files;
+use raft_recover::recovery::whole_files;
 use raft_recover::request::{Request, read_files};
 use raft_records::Result;
 use std::time::Instant;

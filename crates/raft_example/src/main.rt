@@ -1,95 +1,87 @@
-//! Writes a log batch of two regions, reads it back as after a restart, looks its records up, and
-//! drops those that are done with.
+//! Writes log files of both queues, reads them back as after a restart, looks records up, and drops those that are done
+//! with.
 #![tactic(auto)]
 
+mod files;
 mod proposal;
-mod region;
 
-use proposal::{Proposal, Proposals};
+use raft_memtable::{MemTable, MemTableRecoverContext, TableChange};
 use raft_records::{
-    EntryIndex, Error, FileId, FilePart, LogBatch, LogFileContext, LogItem, LogQueue, Result,
-    Version, next_batch,
+    EntryIndex, Error, FileId, FilePart, LogBatch, LogQueue, Result, next_batch,
 };
-use region::Region;
+use raft_recover::{Segment, print_recovered, recover};
 use std::alloc::Global;
 
 fn main(rt: HostRuntime) -> Result<()> {
     let alloc = rt.alloc();
-    let file = LogFileContext::new(FileId::new(LogQueue::Append, 1), Version::V2);
-
-    let bytes = write(alloc, &file)?;
-    println!(rt; "wrote {} bytes", bytes.len())?;
-
-    let part = FilePart::new(file.id, file.version, 0, bytes)?;
-    let mut regions = vec![in alloc; Region::new(alloc, 7), Region::new(alloc, 8)]?;
-    if let Some((batch, _)) = next_batch(&part, 0)? {
-        replay(alloc, &mut regions, batch.into_items())?;
+    let mut segments = Vec::new(alloc);
+    for file in [files::first(alloc)?, files::second(alloc)?] {
+        segments.push(vec![in alloc; file]?)?;
     }
-    for region in regions.iter() {
-        print(&rt, region, &part)?;
+    println!(rt; "the append queue, read by two workers:")?;
+    let mut tables = recover(&rt, alloc, segments.as_slice(), LogQueue::Append, 2)?;
+    print_recovered(alloc, &tables, &mut rt.stdout())?;
+    if let Some(table) = tables.get(7) {
+        print_table(&rt, table, segments.as_slice())?;
     }
+    let dropped = tables.change(7, TableChange::Compact { index: 12 })?;
+    println!(rt; "region 7: dropped {dropped} below 12")?;
 
-    for region in regions.iter_mut() {
-        let dropped = region.compact_to(12);
-        println!(rt; "region {}: dropped {dropped} below 12", region.id())?;
+    println!(rt; "a group of the rewrite queue, read batch by batch:")?;
+    let mut context = MemTableRecoverContext::new(alloc)?;
+    for part in &files::group(alloc)? {
+        replay(&mut context, part)?;
     }
-    Ok(())
+    print_recovered(alloc, &context.finish()?, &mut rt.stdout())
 }
 
-/// The bytes of a batch of two regions, signed for `file`: all of it is read back or nothing.
-fn write(alloc: Global, file: &LogFileContext) -> Result<Vec<u8>> {
-    let mut batch = LogBatch::default(alloc);
-    batch.add_entries::<Proposals>(
-        7,
-        &[
-            Proposal::new(10, "put x 1"),
-            Proposal::new(11, "put y 2"),
-            Proposal::new(12, "delete x"),
-        ],
-    )?;
-    batch.put(
-        7,
-        Vec::from_slice(alloc, b"applied")?,
-        Vec::from_slice(alloc, b"9")?,
-    )?;
-    batch.add_entries::<Proposals>(8, &[Proposal::new(1, "put z 3")])?;
-    batch.finish_populate()?;
-    batch.prepare_write(file);
-    Ok(Vec::from_slice(alloc, batch.encoded_bytes())?)
-}
-
-/// Takes items into the tables of their regions.
-fn replay(alloc: Global, regions: &mut Vec<Region>, items: Vec<LogItem>) -> Result<()> {
-    for item in items {
-        let id = item.raft_group_id;
-        if let Some(region) = regions.iter_mut().find(|region| region.id() == id) {
-            region.replay(alloc, item.content)?;
-        }
+/// Replays the batches of a part, in order.
+fn replay(context: &mut MemTableRecoverContext, part: &FilePart) -> Result<()> {
+    let mut at = 0;
+    while let Some((batch, behind)) = next_batch(part, at)? {
+        context.replay(batch, part.id())?;
+        at = behind;
     }
     Ok(())
 }
 
 /// Prints a region's key value and its entries.
-fn print(rt: &HostRuntime, region: &Region, part: &FilePart) -> Result<()> {
-    let id = region.id();
-    if let Some(applied) = region.get(b"applied") {
-        let applied = String::from_utf8_lossy(rt.alloc(), applied)?;
+fn print_table(rt: &HostRuntime, table: &MemTable, segments: &[Segment]) -> Result<()> {
+    let (alloc, id) = (rt.alloc(), table.region_id());
+    if let Some(applied) = table.get(b"applied") {
+        let applied = String::from_utf8_lossy(alloc, applied)?;
         println!(rt; "region {id}: applied {applied}")?;
     }
-    for entry in region.entries(rt.alloc())? {
-        let proposal = read(rt.alloc(), part, &entry)?;
+    let mut entries = Vec::new(alloc);
+    if let (Some(first), Some(last)) = (table.first_index(), table.last_index()) {
+        table.fetch_entries_to(first, last.saturating_add(1), None, &mut entries)?;
+    }
+    for entry in &entries {
+        let proposal = read(alloc, segments, entry)?;
         println!(rt; "region {id}: entry {} {proposal}", entry.index)?;
     }
     Ok(())
 }
 
-/// Reads the bytes of an entry, which lie in the block that its index names.
-fn read(alloc: Global, part: &FilePart, entry: &EntryIndex) -> Result<String> {
+/// Reads the bytes of an entry, which lie in the block of the file that its index names.
+fn read(alloc: Global, segments: &[Segment], entry: &EntryIndex) -> Result<String> {
     let place = entry.entries.ok_or(Error::EntryNotFound)?;
+    let part = part_of(segments, place.id).ok_or(Error::EntryNotFound)?;
     let block = part.bytes().get(place.offset as usize..).unwrap_or(&[]);
     let bytes = LogBatch::decode_entries_block(alloc, block, place, entry.compression_type)?;
     let start = entry.entry_offset as usize;
     let end = start + entry.entry_len as usize;
     let bytes = bytes.get(start..end).ok_or(Error::EntryNotFound)?;
     Ok(String::from_utf8_lossy(alloc, bytes)?)
+}
+
+/// The part of a file.
+fn part_of(segments: &[Segment], id: FileId) -> Option<&FilePart> {
+    for segment in segments {
+        let part = segment.first()?;
+        if part.id() == id {
+            return Some(part);
+        }
+    }
+    None
 }

@@ -1,5 +1,5 @@
 -- What a context that has replayed all segments gives, and whole files as segments.
-use Rattle.std.proofs.Common.{◌≡◌, ◌≢◌, ◌⊎◌, inl, inr, ℕ, List, [], ◌∷◌, ◌++◌, Result, Ok, Err, IfOk, IfErr, Vec, length, map, get_or, drop, refl, sym, ap, ◌∙◌, subst, arith, append-nil}
+use Rattle.std.proofs.Common.{◌≡◌, ◌≢◌, ◌⊎◌, inl, inr, ℕ, List, [], ◌∷◌, ◌++◌, Option, Result, Ok, Err, IfOk, IfErr, OnOk, Vec, length, map, get_or, drop, refl, sym, ap, ◌∙◌, subst, arith, append-nil}
 use Rattle.std.specs.Global.{Global}
 use Rattle.std.specs.List.{AllByRecursion, All}
 use Rattle.std.proofs.lemmas.List.Elements.{All-from_recursion}
@@ -15,10 +15,11 @@ use Rattle.raft_memtable.specs.Accessor.{Accessor, AreCounted}
 use Rattle.raft_memtable.specs.RecoverContext.{RecoverContext, IsReading, IsReadingExactly}
 use Rattle.raft_memtable.specs.declared.stage.Stage.{Stage}
 use Rattle.raft_memtable.specs.declared.stage.Stage.TheVariants as stages
-use Rattle.raft_recover.specs.Files.{whole_file, segment_shown, ReadsFiles, FilesCannotBeRead, HaveTables}
+use Rattle.raft_recover.specs.Files.{whole_file, segment_shown, ReadsFiles, FilesCannotBeRead, HaveTables, PrintsRecovered}
 use Rattle.raft_recover.specs.Recovery.{IsRecovered, IsReplayed, CannotBeRead, PartsAreOf, SegmentsAreOf}
 use Rattle.raft_recover.specs.RequestView.{file_shown}
 use Rattle.raft_recover.specs.Segments.{IsReadBehind, ReadsPart, ReadsParts, ReadsSegments}
+use Rattle.raft_recover.specs.TableLines.{PrintsTables}
 use Rattle.raft_recover.proofs.LineLemmas.{segments_of}
 use Rattle.raft_recover.proofs.SegmentLemmas.{segments_unique}
 
@@ -28,7 +29,7 @@ suits : (queue : LogQueue) (h : List Event) → IsOfQueue queue h → Suits queu
 suits queue [] all = tt
 suits queue (e ∷ h) all = all.each.0
 
-is_failed : Stage → Type 0
+abbrev is_failed : Stage → Type 0
 is_failed stages.Failed = Unit {0}
 is_failed _ = ⊥
 
@@ -63,13 +64,13 @@ module _ (queue : LogQueue) (segments : List (Vec Part Global)) (of_queue : Segm
 -- ---- whole files as segments
 
 module _ (queue : LogQueue) (version : Version) where
-  FileAs : Type 0
+  abbrev pub FileAs : Type 0
   FileAs = ℕ × Vec ℕ Global
 
-  parts_of_file : FileAs → List Part
+  abbrev pub parts_of_file : FileAs → List Part
   parts_of_file file = whole_file queue version (file_shown file) ∷ []
 
-  AreWhole : List (Vec Part Global) → List FileAs → Type 0
+  abbrev pub AreWhole : List (Vec Part Global) → List FileAs → Type 0
   AreWhole ss fs = map segment_shown ss ≡ map parts_of_file fs
 
   -- one part alone
@@ -145,3 +146,12 @@ module _ (queue : LogQueue) (version : Version) where
 
     pub files_refused : CannotBeRead ss → FilesCannotBeRead queue version (map file_shown fs)
     files_refused cannot = record { unsound = λ h reads. cannot.unsound h (segments_read ss fs whole h reads) }
+
+    module _ (a : Accessor) (r : IsRecovered queue (ReadsSegments ss) a) where
+      pub tables_printed : {X : Type 0} (printed : Result X Error) (old new : Option (List ℕ)) → OnOk printed (PrintsTables a old new) → OnOk printed (PrintsRecovered queue version (map file_shown fs) old new)
+      tables_printed (Ok x) old new done = record { accessor = a; recovered = files_recovered a r; printed = done }
+      tables_printed (Err e) old new done = tt
+
+      pub tables_found : {X : Type 0} (printed : Result X Error) (P : Type 0) → IfErr printed (λ e. P ⊎ HaveTables queue version (map file_shown fs))
+      tables_found (Ok x) P = tt
+      tables_found (Err e) P = inr (record { accessor = a; recovered = files_recovered a r })

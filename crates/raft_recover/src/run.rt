@@ -6,7 +6,7 @@ ghost use Rattle.raft_recover.specs.Requests.{AsksRecovery, AsksNothing, refusal
 ghost use Rattle.raft_recover.specs.RequestView.{IsAsked, asks_for};
 ghost use Rattle.raft_recover.specs.Runs.{IsRecoveryPrinted, IsRecoveryFound, IsPrinted, IsFound};
 
-use crate::recover::recover_bytes;
+use crate::recovery::recover_bytes;
 use crate::request::{Recovery, Request, read_files};
 use raft_base::{Error, Result};
 use raft_records::print_batch;
@@ -71,9 +71,9 @@ fn answer<S: Files + AllocGlobal + Threads + Sync, R: Read, W: Write>(
     input: &mut R,
     out: &mut W,
 ) -> Result<()>
-    ensures done { (words : List (List ℕ)) → IsAsked words request →
+    ensures done { (words : List (List ℕ)) → IsAsked words request.entry →
         OnOk result (IsPrinted words (R.remaining input.old) (W.contents out.old) (W.contents out.new)) }
-    ensures silent { (words : List (List ℕ)) → IsAsked words request →
+    ensures silent { (words : List (List ℕ)) → IsAsked words request.entry →
         IfErr result (λ _. Keeps (W.contents out.old) (W.contents out.new)
             ⊎ IsFound words (R.remaining input.old) (R.remaining input.new)) }
 {
@@ -89,9 +89,9 @@ fn print_files<S: Files + AllocGlobal + Threads + Sync, W: Write>(
     recovery: Recovery<'_>,
     out: &mut W,
 ) -> Result<()>
-    ensures done { (words : List (List ℕ)) → AsksRecovery words (asks_for recovery) →
+    ensures done { (words : List (List ℕ)) → AsksRecovery words (asks_for recovery.entry) →
         OnOk result (IsRecoveryPrinted words (W.contents out.old) (W.contents out.new)) }
-    ensures silent { (words : List (List ℕ)) → AsksRecovery words (asks_for recovery) →
+    ensures silent { (words : List (List ℕ)) → AsksRecovery words (asks_for recovery.entry) →
         IfErr result (λ _. Keeps (W.contents out.old) (W.contents out.new) ⊎ IsRecoveryFound words) }
 {
     let files = read_files(rt, recovery.files)?;

@@ -2,15 +2,17 @@
 
 use super::*;
 use std::alloc::{AllocError, Global};
-use std::io;
 use std::io::ErrorKind;
+use std::{fs, io};
 
 const OPEN: &str = "batch append 12 1";
 
 const CORRUPTION: &str = "raftlog: refused: corruption\n";
 
+const WORKERS: &str = "raftlog: refused: invalid-argument\n";
+
 /// Words, the input in base 16, the status, what is printed, and how the error stream begins.
-const ROWS: [(&str, &str, u8, &str, &str); 21] = [
+const ROWS: [(&str, &str, u8, &str, &str); 30] = [
     (OPEN, "010102015a800bdd", 0, "1 clean\nitems 1 rest 0\n", ""),
     (
         "batch append 0012 2",
@@ -67,7 +69,16 @@ const ROWS: [(&str, &str, u8, &str, &str); 21] = [
     ("batch append 12 01", "", 2, "", "usage: raftlog"),
     ("batch append 12", "", 2, "", "usage: raftlog"),
     ("batch append 12 1 1", "", 2, "", "usage: raftlog"),
-    ("recover append 1 1", "", 2, "", "usage: raftlog"),
+    ("recover append 1 1", "", 0, "cleaned -\nlive 0 0\n", ""),
+    ("recover rewrite 2 256", "", 0, "cleaned -\nlive 0 0\n", ""),
+    ("recover append 1 0", "", 1, "", WORKERS),
+    ("recover append 1 257", "", 1, "", WORKERS),
+    ("recover append 1 0 12=absent", "", 1, "", "raftlog: refused: io\n"),
+    ("recover append 3 1", "", 2, "", "usage: raftlog"),
+    ("recover append 1 -1", "", 2, "", "usage: raftlog"),
+    ("recover append 1", "", 2, "", "usage: raftlog"),
+    ("recover append 1 1 absent", "", 2, "", "usage: raftlog"),
+    ("recover append 1 1 x=absent", "", 2, "", "usage: raftlog"),
 ];
 
 /// What a run left.
@@ -184,4 +195,36 @@ fn failing_streams(rt: HostRuntime) {
     );
     let none = &words.as_slice()[..0];
     assert_eq!(rt; run(&rt, none, &mut input, &mut Closed, &mut Closed), 2);
+}
+
+/// A log batch of version 1 in file 12: two entries of region 7.
+const TWO_ENTRIES: &str = "00000000000022000000000000000017616263c2412435010701020a0203a7b3df17";
+
+const TWO_LINES: &str = "7 entries 10..12 keys 0 append 12 rewrite -\ncleaned -\nlive 2 0\n";
+
+/// What is answered of a file that holds the first bytes of that batch.
+fn run_on_file(rt: &HostRuntime, length: usize) -> Option<Answer> {
+    let mut bytes = hex::decode(rt.alloc(), TWO_ENTRIES).ok()?;
+    bytes.truncate(length);
+    fs::write(rt, "two_entries.log", bytes.as_slice()).ok()?;
+    run_on(rt, "recover append 1 4 012=two_entries.log", "")
+}
+
+/// Where an allocation is refused the row runs again, and has to find memory.
+#[test]
+fn files(rt: HostRuntime) {
+    for (length, status, out, err) in [
+        (0, 0, "cleaned -\nlive 0 0\n", ""),
+        (33, 1, "", CORRUPTION),
+        (34, 0, TWO_LINES, ""),
+    ] {
+        let mut answer = run_on_file(&rt, length);
+        if answer
+            .as_ref()
+            .is_none_or(|answer| answer.found_no_memory())
+        {
+            answer = run_on_file(&rt, length);
+        }
+        assert!(rt; answer.is_some_and(|answer| answer.is(status, out, err)), "{length} bytes");
+    }
 }

@@ -1,7 +1,7 @@
 use Rattle.std.proofs.Common.{◌≡◌, [], ◌∷◌, ◌++◌, map}
 use Rattle.raft_recover.specs.Files.{whole_file, segment_shown}
 use Rattle.raft_recover.specs.RequestView.{file_shown}
-use Rattle.raft_recover.proofs.recover.whole_files.Given as goal
+use Rattle.raft_recover.proofs.recovery.whole_files.Given as goal
 
 -- the segments so far and those of the files that are left make up the whole
 abbrev pub invariant-loop-seq : goal.invariant-loop-seq

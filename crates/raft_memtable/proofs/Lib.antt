@@ -15,3 +15,5 @@ mod WriteLemmas
 mod SlotKeeping
 mod CleanLemmas
 mod RecoverContextLemmas
+mod BatchCheckLemmas
+mod WholeFiles

@@ -17,3 +17,5 @@ mod CleanLemmas
 mod RecoverContextLemmas
 mod BatchCheckLemmas
 mod WholeFiles
+mod ReadStateLemmas
+mod TakenWholes

@@ -1,5 +1,7 @@
 -- Groups that become whole: their steps are of the queue, and their files in order.
 use Rattle.std.proofs.Common.{◌≡◌, ◌⊎◌, ℕ, suc, ◌≤◌, Bool, true, false, List, [], ◌∷◌, ◌++◌, Option, Some, None, refl, sym, ap, subst, ◌∙◌, inl, inr, arith}
+use Rattle.std.specs.Prelude.{flat_map, length}
+use Rattle.std.specs.Ordering.{nat_cmp}
 use Rattle.std.specs.List.{AllByRecursion, cons_option}
 use Rattle.std.specs.FinMap as finite
 use Rattle.raft_base.specs.declared.pipe_log.LogQueue.{LogQueue}
@@ -146,7 +148,19 @@ wholes_take h k f a g b behind = all (finite.entries (groups_in (batches k))) (e
 
 -- the append queue has no groups
 pub no_wholes : (older : WaitingGroups) (k : List Event) → FilesFrom Append 0 k → whole_groups older (groups_in (batches k)) ≡ []
+unfolding groups_in
 no_wholes older k f = ap (whole_with older) (none (batches k) (unmarked 0 k f))
   where
+    flat : (all bs : List Batch) → AllByRecursion (λ (b : Batch). b.marker ≡ None) bs → flat_map (λ (b : Batch). entry_by all b.marker) bs ≡ []
+    flat all [] u = refl
+    flat all (b ∷ bs) u = ap (λ m. entry_by all m ++ flat_map (λ (b : Batch). entry_by all b.marker) bs) u.0 ∙ flat all bs u.1
+
+    empty : (es : List (ℕ × WaitingGroup)) → length es ≡ 0 → es ≡ []
+    empty [] e = refl
+    empty (x ∷ es) e = absurd (omega (arith, e))
+
+    is_empty : (bs : List Batch) → AllByRecursion (λ (b : Batch). b.marker ≡ None) bs → groups_in bs ≡ finite.empty
+    is_empty bs u = ap (λ es. finite.from_entries es) (flat bs bs u)
+
     none : (bs : List Batch) → AllByRecursion (λ (b : Batch). b.marker ≡ None) bs → finite.entries (groups_in bs) ≡ []
-    none bs u = ?
+    none bs u = ap finite.entries (is_empty bs u) ∙ empty (finite.entries finite.empty) (sym (finite.len-entries {K = ℕ} {X = WaitingGroup} {R = nat_cmp} finite.empty) ∙ finite.len-empty nat_cmp WaitingGroup)

@@ -1,9 +1,13 @@
 -- The files of a group, set for each region that it names: the order doesn't matter, nor whether a region comes twice.
-use Rattle.std.proofs.Common.{◌≡◌, ◌⊎◌, ℕ, Bool, true, false, cond, eqb, ◌||◌, List, [], ◌∷◌, ◌++◌, Option, Some, None, refl, sym, ap, subst, ◌∙◌, inl, inr}
+use Rattle.std.proofs.Common.{◌≡◌, ◌≢◌, ◌⊎◌, ℕ, ◌≤◌, append-nil, Bool, true, false, cond, eqb, ◌||◌, List, [], ◌∷◌, ◌++◌, Option, Some, None, Result, Ok, Err, refl, sym, ap, subst, ◌∙◌, inl, inr, arith}
 use Rattle.std.specs.List.{list_any}
 use Rattle.std.specs.FinMap as finite
+use Rattle.std.specs.Result.{OnOk, IfErr}
 use Rattle.std.specs.Option.{option_map, option_and_then, unwrap_or}
+use Rattle.raft_base.specs.declared.errors.Error.{Error}
+use Rattle.raft_base.specs.declared.errors.Error.TheVariants.{Memory}
 use Rattle.raft_base.specs.declared.pipe_log.LogQueue.{LogQueue}
+use Rattle.raft_base.specs.declared.pipe_log.LogQueue.TheVariants.{Append, Rewrite}
 use Rattle.raft_table.specs.MarkJoins.{joined, joined_at, met, fresh, mark_of}
 use Rattle.raft_table.specs.Marks.{Mark}
 use Rattle.raft_table.specs.Steps.{AtomicGroup, table_of}
@@ -11,13 +15,16 @@ use Rattle.raft_table.specs.Table.{Table, with_atomic_group}
 use Rattle.raft_table.proofs.MarkExact.{joined_fresh}
 use Rattle.std.proofs.lemmas.Bool.{eqb-true}
 use Rattle.raft_history.specs.Histories.{records_in}
-use Rattle.raft_history.specs.MarkedRegions.{Marks, MarkedRegions, MarkedRegion, region_in, with_region, regions_after, named_regions, on_each}
+use Rattle.raft_history.specs.MarkedRegions.{Marks, MarkedRegions, MarkedRegion, region_in, with_region, regions_after, named_regions, on_each, region_steps_of_whole}
+use Rattle.raft_history.specs.WaitingGroup.{WholeGroup}
 use Rattle.raft_history.specs.RegionSteps.{RegionStep, Tables, names}
 use Rattle.raft_history.proofs.MapLemmas.{IsOther, by_region, eqb_self}
 use Rattle.raft_history.proofs.StepListLemmas.{names_none, names_cons}
-use Rattle.raft_memtable.specs.MarkedTables.{AreStepsOfQueue}
+use Rattle.raft_memtable.specs.MarkedTables.{regions_in, AreStepsOfQueue, HaveRoom, one_step, AreTaken}
+use Rattle.raft_memtable.specs.Accessor.{live_in_all}
+use Rattle.raft_memtable.specs.declared.marked_tables.MarkedTables.{MarkedTables}
 use Rattle.raft_memtable.proofs.MapLemmas.{same, get_own, get_other, none_some}
-use Rattle.raft_memtable.proofs.TakenLemmas.{after-append}
+use Rattle.raft_memtable.proofs.TakenLemmas.{after-append, records-append, taken_more, refused_in, other_in}
 
 abbrev pub has : ℕ → List ℕ → Bool
 has r ids = list_any (λ id. eqb r id) ids
@@ -111,17 +118,55 @@ module _ (q : LogQueue) (start end : ℕ) where
 
   pub files-records : (ids : List ℕ) → records_in (on_each ids (AtomicGroup start end)) ≡ 0
   files-records [] = refl
-  files-records (id ∷ ids) = files-records ids
+  files-records (id ∷ ids) = omega (arith, files-records ids)
 
 -- the regions that steps name
 pub has_named : (r : ℕ) (steps : List RegionStep) → has r (named_regions steps) ≡ names r steps
 has_named r [] = sym (names_none r)
-has_named r (s ∷ steps) = go (names s.region steps) refl ∙ sym (names_cons r s steps)
+has_named r (s ∷ steps) = go (names s.region steps) refl (has_named r steps) ∙ sym (names_cons r s steps)
   where
     there : names s.region steps ≡ true → (b : Bool) → eqb r s.region ≡ b → names r steps ≡ (b || names r steps)
     there e true k = subst (λ x. names x steps ≡ true) (sym (eqb-true r s.region k)) e
     there e false k = refl
 
-    go : (b : Bool) → names s.region steps ≡ b → has r (cond b (named_regions steps) (s.region ∷ named_regions steps)) ≡ (eqb r s.region || names r steps)
-    go true e = has_named r steps ∙ there e (eqb r s.region) refl
-    go false e = ap (λ b. eqb r s.region || b) (has_named r steps)
+    go : (b : Bool) → names s.region steps ≡ b → has r (named_regions steps) ≡ names r steps → has r (cond b (named_regions steps) (s.region ∷ named_regions steps)) ≡ (eqb r s.region || names r steps)
+    go true e ih = ih ∙ there e (eqb r s.region) refl
+    go false e ih = ap (λ b. eqb r s.region || b) ih
+
+-- one region more
+pub file_more : (q : LogQueue) (start end id : ℕ) (ids : List ℕ) (a b c : MarkedTables) (r : Result Unit Error) → AreTaken q (one_step id (AtomicGroup start end)) (Ok tt) a b → AreTaken q (on_each ids (AtomicGroup start end)) r b c → AreTaken q (on_each (id ∷ ids) (AtomicGroup start end)) r a c
+file_more q start end id ids a b c r s t = taken_more q (one_step id (AtomicGroup start end)) (on_each ids (AtomicGroup start end)) a b c r (tt, tt) s t
+
+-- ---- a whole group
+
+-- the files of its regions behind its items
+pub whole_same : (q : LogQueue) (w : WholeGroup) (ids : List ℕ) (rs : MarkedRegions) → ((r : ℕ) → has r ids ≡ names r w.steps) → regions_after q rs (w.steps ++ on_each ids (AtomicGroup w.start w.end)) ≡ regions_after q rs (region_steps_of_whole w)
+whole_same q w ids rs h = behind_files q w.start w.end w.steps ids (named_regions w.steps) rs (λ r. h r ∙ sym (has_named r w.steps))
+
+pub whole_records : (w : WholeGroup) (ids : List ℕ) → records_in w.steps ≡ records_in (w.steps ++ on_each ids (AtomicGroup w.start w.end))
+whole_records w ids = omega (arith, records-append w.steps (on_each ids (AtomicGroup w.start w.end)), files-records Rewrite w.start w.end ids)
+
+pub whole_of_queue : (q : LogQueue) (w : WholeGroup) (ids : List ℕ) → AreStepsOfQueue q w.steps → AreStepsOfQueue q (w.steps ++ on_each ids (AtomicGroup w.start w.end))
+whole_of_queue q w ids h = go w.steps h
+  where
+    go : (steps : List RegionStep) → AreStepsOfQueue q steps → AreStepsOfQueue q (steps ++ on_each ids (AtomicGroup w.start w.end))
+    go [] h = files_of_queue q w.start w.end ids
+    go (s ∷ steps) h = (h.0, go steps h.1)
+
+-- what is told of the group, by what was taken in
+module _ (w : WholeGroup) (ids : List ℕ) (a b : MarkedTables) (r : Result Unit Error) (h : (n : ℕ) → has n ids ≡ names n w.steps) (t : AreTaken Rewrite (w.steps ++ on_each ids (AtomicGroup w.start w.end)) r a b) where
+  pub whole_ok : OnOk r (regions_after Rewrite (regions_in a) (region_steps_of_whole w) ≡ Some (regions_in b))
+  whole_ok = elim r as (λ r. OnOk r (regions_after Rewrite (regions_in a) (w.steps ++ on_each ids (AtomicGroup w.start w.end)) ≡ Some (regions_in b)) → OnOk r (regions_after Rewrite (regions_in a) (region_steps_of_whole w) ≡ Some (regions_in b))) [ Ok u ↦ λ e. sym (whole_same Rewrite w ids (regions_in a) h) ∙ e | Err x ↦ λ e. tt ] t.ok
+
+  pub whole_cleaned : OnOk r (b.accessor.cleaned ≡ a.accessor.cleaned)
+  whole_cleaned = elim r as (λ r. OnOk r (b.accessor.cleaned ≡ a.accessor.cleaned ++ []) → OnOk r (b.accessor.cleaned ≡ a.accessor.cleaned)) [ Ok u ↦ λ e. e ∙ append-nil a.accessor.cleaned | Err x ↦ λ e. tt ] t.cleaned
+
+  pub whole_refused : HaveRoom Rewrite a.accessor.tables (records_in w.steps) → IfErr r (λ e. e ≢ Memory → regions_after Rewrite (regions_in a) (region_steps_of_whole w) ≡ None)
+  whole_refused room =
+      elim r as (λ r. IfErr r (λ e. e ≢ Memory → regions_after Rewrite (regions_in a) (w.steps ++ on_each ids (AtomicGroup w.start w.end)) ≡ None) → IfErr r (λ e. e ≢ Memory → regions_after Rewrite (regions_in a) (region_steps_of_whole w) ≡ None)) [
+        | Ok u ↦ λ f. tt
+        | Err x ↦ λ f. λ k. sym (whole_same Rewrite w ids (regions_in a) h) ∙ f k
+      ] (refused_in Rewrite (w.steps ++ on_each ids (AtomicGroup w.start w.end)) (records_in w.steps) a b r (whole_records w ids) t room)
+
+  pub whole_other : AreStepsOfQueue Rewrite w.steps → OnOk r (live_in_all Append b.accessor.tables ≤ live_in_all Append a.accessor.tables)
+  whole_other good = other_in Rewrite (w.steps ++ on_each ids (AtomicGroup w.start w.end)) a b r (whole_of_queue Rewrite w ids good) t.ok

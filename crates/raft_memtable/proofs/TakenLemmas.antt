@@ -1,5 +1,5 @@
 -- Steps taken into the marks and tables of all regions, one after another.
-use Rattle.std.proofs.Common.{◌≡◌, ◌≢◌, ◌⊎◌, ℕ, ◌+◌, ◌<◌, ◌^◌, List, [], ◌∷◌, ◌++◌, length, Bool, true, cond, append-nil, append_assoc, Option, Some, None, Result, Ok, Err, refl, sym, ap, subst, ◌∙◌, inl, inr, arith}
+use Rattle.std.proofs.Common.{◌≡◌, ◌≢◌, ◌⊎◌, ℕ, ◌+◌, ◌<◌, ◌≤◌, ◌^◌, List, [], ◌∷◌, ◌++◌, length, Bool, true, cond, append-nil, append_assoc, map, Option, Some, None, Result, Ok, Err, refl, sym, ap, subst, ◌∙◌, inl, inr, arith}
 use Rattle.std.specs.FinMap as finite
 use Rattle.std.specs.Option.{option_map, option_and_then}
 use Rattle.std.specs.Result.{OnOk, IfErr}
@@ -10,7 +10,8 @@ use Rattle.raft_base.specs.declared.pipe_log.FileId.{FileId}
 use Rattle.raft_base.specs.declared.pipe_log.LogQueue.{LogQueue}
 use Rattle.raft_base.specs.declared.pipe_log.LogQueue.TheVariants.{Append, Rewrite}
 use Rattle.raft_records.specs.declared.entry_index.EntryIndex.{EntryIndex}
-use Rattle.raft_records.specs.Item.{entries}
+use Rattle.raft_records.specs.declared.log_item.LogItem.{LogItem}
+use Rattle.raft_records.specs.Item.{item_of, entries}
 use Rattle.raft_table.specs.Counts.{Counts, live}
 use Rattle.raft_table.specs.Entries.{IsRunIn, end_of}
 use Rattle.raft_table.specs.MarkJoins.{joined, joined_at, met, fresh, mark_of}
@@ -23,7 +24,7 @@ use Rattle.raft_table.proofs.MarkTables.{from_whole}
 use Rattle.raft_table.proofs.TableLemmas.{count_in_own}
 use Rattle.raft_history.specs.Histories.{records_in}
 use Rattle.raft_history.specs.MarkedRegions.{Marks, MarkedRegions, MarkedRegion, region_in, with_region, stepped_region, regions_after}
-use Rattle.raft_history.specs.RegionSteps.{RegionStep, Tables, with_table, cleaned_by}
+use Rattle.raft_history.specs.RegionSteps.{RegionStep, Tables, with_table, steps_of_items, cleaned_by}
 use Rattle.raft_memtable.specs.Accessor.{Accessor, table_in, live_in_all, AreCounted}
 use Rattle.raft_memtable.specs.MarkedTables.{regions_in, AreStepsOfQueue, HaveRoom, HasLiveRoom, one_step, first_index, listed, AreTaken}
 use Rattle.raft_memtable.specs.RegionMarks.{mark_in}
@@ -33,6 +34,7 @@ use Rattle.raft_memtable.specs.declared.marked_tables.MarkedTables.{MarkedTables
 use Rattle.raft_memtable.proofs.LiveLemmas.{table_live-le}
 use Rattle.raft_memtable.proofs.MapLemmas.{some_is, none_some}
 use Rattle.raft_memtable.proofs.LiveSteps.{steps_live, live-le-all}
+use Rattle.raft_memtable.proofs.WaitingItemLemmas.{steps_both}
 use Rattle.raft_memtable.proofs.WriteLemmas.{replay_fault}
 
 -- ---- steps behind steps
@@ -210,3 +212,44 @@ pub clean_taken : (q : LogQueue) (id : ℕ) (a : MarkedTables) (mid : Accessor) 
     → OnOk r (marks ≡ finite.insert a.marks id (joined q id (mark_in a.marks id) (finite.get a.accessor.tables id) (mark_of Clean))) → IfErr r (λ e. e ≡ errors.Memory) → AreTaken q (one_step id Clean) r a (record { accessor = mid; marks = marks })
 clean_taken q id a mid marks r b e t l m f =
     step_taken q id Clean a (record { accessor = mid; marks = marks }) r None refl t (l ∙ ap (λ b. cond b (a.accessor.cleaned ++ id ∷ []) a.accessor.cleaned) e ∙ cleaned_list q id a.accessor.cleaned) m f
+
+-- ---- items, one after another
+
+split_items : (q : LogQueue) (x : LogItem) (xs ys : List LogItem) → ys ≡ x ∷ xs → steps_of_items (map item_of ys) ≡ steps_of_items (item_of x ∷ []) ++ steps_of_items (map item_of xs)
+split_items q x xs ys e = ap (λ l. steps_of_items (map item_of l)) e ∙ steps_both (x ∷ []) xs
+
+of_queue_front : (q : LogQueue) (xs ys : List RegionStep) → AreStepsOfQueue q (xs ++ ys) → AreStepsOfQueue q xs
+of_queue_front q [] ys h = tt
+of_queue_front q (x ∷ xs) ys h = (h.0, of_queue_front q xs ys h.1)
+
+of_queue_back : (q : LogQueue) (xs ys : List RegionStep) → AreStepsOfQueue q (xs ++ ys) → AreStepsOfQueue q ys
+of_queue_back q [] ys h = h
+of_queue_back q (x ∷ xs) ys h = of_queue_back q xs ys h.1
+
+pub first_of_queue : (q : LogQueue) (x : LogItem) (xs ys : List LogItem) → ys ≡ x ∷ xs → AreStepsOfQueue q (steps_of_items (map item_of ys)) → AreStepsOfQueue q (steps_of_items (item_of x ∷ []))
+first_of_queue q x xs ys e h = of_queue_front q (steps_of_items (item_of x ∷ [])) (steps_of_items (map item_of xs)) (subst (AreStepsOfQueue q) (split_items q x xs ys e) h)
+
+pub rest_of_queue : (q : LogQueue) (x : LogItem) (xs ys : List LogItem) → ys ≡ x ∷ xs → AreStepsOfQueue q (steps_of_items (map item_of ys)) → AreStepsOfQueue q (steps_of_items (map item_of xs))
+rest_of_queue q x xs ys e h = of_queue_back q (steps_of_items (item_of x ∷ [])) (steps_of_items (map item_of xs)) (subst (AreStepsOfQueue q) (split_items q x xs ys e) h)
+
+pub each_more : (q : LogQueue) (x : LogItem) (xs ys : List LogItem) (a b c : MarkedTables) (r : Result Unit Error) → ys ≡ x ∷ xs → AreStepsOfQueue q (steps_of_items (map item_of ys)) → AreTaken q (steps_of_items (item_of x ∷ [])) (Ok tt) a b → AreTaken q (steps_of_items (map item_of xs)) r b c
+    → AreTaken q (steps_of_items (map item_of ys)) r a c
+each_more q x xs ys a b c r e h s t =
+    subst (λ l. AreTaken q l r a c) (sym (split_items q x xs ys e)) (taken_more q (steps_of_items (item_of x ∷ [])) (steps_of_items (map item_of xs)) a b c r (first_of_queue q x xs ys e h) s t)
+
+pub each_refused : (q : LogQueue) (x : LogItem) (xs ys : List LogItem) (a b : MarkedTables) (e : Error) → ys ≡ x ∷ xs → AreTaken q (steps_of_items (item_of x ∷ [])) (Err e) a b → AreTaken q (steps_of_items (map item_of ys)) (Err e) a b
+each_refused q x xs ys a b e is s = subst (λ l. AreTaken q l (Err e) a b) (sym (split_items q x xs ys is)) (taken_refused q (steps_of_items (item_of x ∷ [])) (steps_of_items (map item_of xs)) a b e s)
+
+pub no_items : (q : LogQueue) (items : List LogItem) (a : MarkedTables) → length items ≡ 0 → AreTaken q (steps_of_items (map item_of items)) (Ok tt) a a
+no_items q [] a e = taken_none q a
+no_items q (x ∷ items) a e = absurd (omega (arith, e))
+
+-- ---- what is told of all steps
+
+pub refused_in : (q : LogQueue) (steps : List RegionStep) (n : ℕ) (a b : MarkedTables) (r : Result Unit Error) → n ≡ records_in steps → AreTaken q steps r a b → HaveRoom q a.accessor.tables n → IfErr r (λ e. e ≢ errors.Memory → regions_after q (regions_in a) steps ≡ None)
+refused_in q steps n a b (Ok u) e t room = tt
+refused_in q steps n a b (Err x) e t room = λ k. t.refused k (live_room q a.accessor.tables n (records_in steps) e room)
+
+pub other_in : (q : LogQueue) (steps : List RegionStep) (a b : MarkedTables) (r : Result Unit Error) → AreStepsOfQueue q steps → OnOk r (regions_after q (regions_in a) steps ≡ Some (regions_in b)) → OnOk r (live_in_all (other q) b.accessor.tables ≤ live_in_all (other q) a.accessor.tables)
+other_in q steps a b (Ok u) h e = omega (arith, steps_live q (other q) (regions_in a) (regions_in b) steps e h, of_other q (records_in steps))
+other_in q steps a b (Err x) h e = tt

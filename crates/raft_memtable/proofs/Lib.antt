@@ -19,3 +19,6 @@ mod BatchCheckLemmas
 mod WholeFiles
 mod ReadStateLemmas
 mod TakenWholes
+mod LiveSteps
+mod TakenLemmas
+mod GroupFiles

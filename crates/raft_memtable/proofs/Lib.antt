@@ -15,3 +15,10 @@ mod WriteLemmas
 mod SlotKeeping
 mod CleanLemmas
 mod RecoverContextLemmas
+mod BatchCheckLemmas
+mod WholeFiles
+mod ReadStateLemmas
+mod TakenWholes
+mod LiveSteps
+mod TakenLemmas
+mod GroupFiles

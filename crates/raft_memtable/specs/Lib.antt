@@ -25,3 +25,4 @@ pub mod ReadStates
 pub mod RecoverContext
 pub mod RecoverContextCode
 pub mod RecoverContextView
+pub mod BatchChecks

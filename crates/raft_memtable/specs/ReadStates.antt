@@ -1,13 +1,15 @@
 -- What was read of a queue's batches, as a plain value.
-use Rattle.std.specs.Prelude.{◌≡◌, ◌⊎◌, ℕ, List, Option, Some, None}
+use Rattle.std.specs.Prelude.{◌≡◌, ◌≤◌, ℕ, List, Option, Some, None}
 use Rattle.raft_base.specs.declared.pipe_log.LogQueue.{LogQueue}
+use Rattle.raft_base.specs.declared.pipe_log.LogQueue.TheVariants.{Rewrite}
 use Rattle.raft_history.specs.Batches.{Event}
 use Rattle.raft_history.specs.Contexts.{Context, FileRange, StandsFor}
 use Rattle.raft_history.specs.RegionSteps.{Tables}
+use Rattle.raft_history.specs.WaitingGroup.{WholeGroup}
 use Rattle.raft_table.specs.Queues.{other}
 use Rattle.raft_memtable.specs.Accessor.{live_in_all}
 use Rattle.raft_memtable.specs.FileRanges.{ranges_shown}
-use Rattle.raft_memtable.specs.MarkedTables.{regions_in}
+use Rattle.raft_memtable.specs.MarkedTables.{regions_in, AreStepsOfQueue}
 use Rattle.raft_memtable.specs.declared.read_state.ReadState.{ReadState}
 
 -- its regions, its groups, the cleaned regions and the files
@@ -24,3 +26,13 @@ pub record IsRead (c : Context) : Type 0 where
   pub history : List Event
   pub stands : StandsFor c history
   pub alone : AreAlone c.files c.regions.tables
+
+-- a group that is whole, as it is taken in: its steps are such as replays into the rewrite queue ask for, and its files are in order
+pub record TakesEffect (w : WholeGroup) : Type 0 where
+  pub steps : AreStepsOfQueue Rewrite w.steps
+  pub files : w.start ≤ w.end
+
+-- the same of a group, where there is one
+abbrev pub MayTakeEffect : Option WholeGroup → Type 0
+MayTakeEffect None = Unit {0}
+MayTakeEffect (Some w) = TakesEffect w

@@ -54,12 +54,13 @@ pub record IsTakenIn (e : Event) (old new : RecoverContext) : Type 0 where
   pub taken : taken_in old.context e ≡ Some new.context
   pub after : new.stage ≡ Reading
 
--- why a batch isn't taken in, want of memory aside: it may not come next, one of its steps is refused, or the records would be 2^64 or more
+-- one of its steps is refused, or the records would be 2^64 or more
+abbrev pub IsStepRefused : Context → Event → Type 0
+IsStepRefused c e = (taken_in c e ≡ None) ⊎ (2 ^ 64 ≤ records_held c + records_in (steps_of_items e.items))
+
+-- why a batch isn't taken in, want of memory aside: it may not come next, or a step is refused
 abbrev pub IsBatchRefused : Context → Event → Type 0
-IsBatchRefused c e =
-    (MayFollow c e → ⊥)
-    ⊎ ((taken_in c e ≡ None)
-    ⊎ (2 ^ 64 ≤ records_held c + records_in (steps_of_items e.items)))
+IsBatchRefused c e = (MayFollow c e → ⊥) ⊎ IsStepRefused c e
 
 -- or the context doesn't read on
 abbrev pub IsReplayRefused : RecoverContext → Event → Type 0
@@ -82,12 +83,13 @@ pub record IsMerged (queue : LogQueue) (newer old new : RecoverContext) : Type 0
   pub merged : new.context ≡ merged_with old.context newer.context new.context.regions
   pub after : new.stage ≡ Reading
 
--- why it isn't, want of memory aside: they aren't neighbours, a region's join is refused, or the records would be 2^64 or more
+-- a region's join is refused, or the records would be 2^64 or more
+abbrev pub IsJoinRefused : LogQueue → Context → Context → Type 0
+IsJoinRefused queue c d = AreRefused queue c d ⊎ (2 ^ 64 ≤ records_held c + records_held d)
+
+-- why it isn't, want of memory aside: they aren't neighbours, or a join is refused
 abbrev pub AreNotMerged : LogQueue → Context → Context → Type 0
-AreNotMerged queue c d =
-    (AreNeighbours queue c d → ⊥)
-    ⊎ (AreRefused queue c d
-    ⊎ (2 ^ 64 ≤ records_held c + records_held d))
+AreNotMerged queue c d = (AreNeighbours queue c d → ⊥) ⊎ IsJoinRefused queue c d
 
 -- or one of the two doesn't read on
 abbrev pub IsMergeRefused : LogQueue → RecoverContext → RecoverContext → Type 0

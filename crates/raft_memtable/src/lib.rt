@@ -2,6 +2,7 @@
 #![tactic(auto)]
 
 pub mod accessor;
+mod batch_check;
 mod file_range;
 pub mod item_writes;
 mod marked_tables;

@@ -39,7 +39,8 @@ bench:
 	@cd crates/raft_bench && $(RT) run > out/bench.log 2>&1 || { cat out/bench.log; exit 1; }
 	@crates/raft_bench/out/raft_bench crc32 varint batches memtable
 
-# Runs `raftlog recover` over a folder of cases, as `make compare CASES=folder`, and counts those that it answers otherwise
-# than they say. `make raftlog` builds it first.
+# Runs `raftlog recover` over a folder of cases, as `make compare CASES=folder WORKERS=1,2,4,8`, and counts those that it
+# answers otherwise than they say. `make raftlog` builds it first.
+WORKERS ?= 1
 compare:
-	@tools/compare.py $(CASES)
+	@tools/compare.py $(CASES) crates/raftlog/out/raftlog $(WORKERS)

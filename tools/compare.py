@@ -5,7 +5,8 @@
 
 A case is a folder with its log files, `args` (a queue, a version, then `<seq>=<path>` for each file) and what is
 owed: `expect`, the lines to print, or `refused`, where nothing is to be printed and the status is to be 1. PROGRAM is
-crates/raftlog/out/raftlog where it isn't given. A case without WORKERS is run with 1.
+crates/raftlog/out/raftlog where it isn't given. WORKERS are numbers of workers, as `1,2,4,8`; each case is run with each
+of them, or with 1 where none is given. More than one is for cases whose groups keep apart.
 """
 import os
 import subprocess
@@ -42,21 +43,26 @@ def difference(program, workers, case):
     return "printed in front of a refusal" if printed else None
 
 
+def differences(program, numbers, case):
+    """How the answers differ, a line for each number of workers that they differ with."""
+    found = ((workers, difference(program, workers, case)) for workers in numbers)
+    return [f"{case}, {workers} workers: {how}" for workers, how in found if how]
+
+
 def main():
     if not 2 <= len(sys.argv) <= 4:
         sys.exit(__doc__)
     folder = Path(sys.argv[1])
     program = Path(sys.argv[2]).resolve() if len(sys.argv) > 2 else RAFTLOG
-    workers = sys.argv[3] if len(sys.argv) > 3 else "1"
+    numbers = (sys.argv[3] if len(sys.argv) > 3 else "1").split(",")
     if not program.exists():
         sys.exit(f"{program} isn't there: make raftlog")
     cases = sorted(path.parent for path in folder.rglob("args"))
     with ThreadPoolExecutor(os.cpu_count()) as pool:
-        differences = list(pool.map(lambda case: difference(program, workers, case), cases))
-    differing = [(case, how) for case, how in zip(cases, differences) if how]
-    for case, how in differing[:SHOWN]:
-        print(f"{case}: {how}")
-    print(f"{len(cases)} cases, {len(differing)} differ")
+        differing = [line for lines in pool.map(lambda case: differences(program, numbers, case), cases) for line in lines]
+    for line in differing[:SHOWN]:
+        print(line)
+    print(f"{len(cases)} cases, {len(cases) * len(numbers)} runs, {len(differing)} differ")
     sys.exit(1 if differing or not cases else 0)
 
 

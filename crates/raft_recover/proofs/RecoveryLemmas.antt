@@ -20,7 +20,7 @@ use Rattle.raft_recover.specs.Recovery.{IsRecovered, IsReplayed, CannotBeRead, P
 use Rattle.raft_recover.specs.RequestView.{file_shown}
 use Rattle.raft_recover.specs.Segments.{IsReadBehind, ReadsPart, ReadsParts, ReadsSegments}
 use Rattle.raft_recover.specs.TableLines.{PrintsTables}
-use Rattle.raft_recover.proofs.LineLemmas.{segments_of}
+use Rattle.raft_recover.proofs.MachineOrderLemmas.{segments_of}
 use Rattle.raft_recover.proofs.SegmentLemmas.{segments_unique}
 
 -- ---- the context of all segments

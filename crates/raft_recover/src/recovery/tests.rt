@@ -59,7 +59,7 @@ fn cut(
     cuts: u64,
 ) -> Result<Vec<Segment>> {
     let mut segments = vec![in alloc; Vec::new(alloc)]?;
-    let (mut file, mut offset, mut left) = (0, 0, cuts);
+    let (mut file, mut offset, mut left) = (0u64, 0u64, cuts);
     for (seq, digits) in batches {
         let bytes = bytes_of(alloc, digits)?;
         if *seq != file {

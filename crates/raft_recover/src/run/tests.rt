@@ -1,7 +1,7 @@
 //! Whole runs: the status, what is printed, and what stands on the error stream.
 
 use super::*;
-use std::alloc::{AllocError, Global};
+use std::alloc::Global;
 use std::io::ErrorKind;
 use std::{fs, io};
 
@@ -103,7 +103,7 @@ impl Answer {
     }
 }
 
-fn words_of(alloc: Global, line: &str) -> Result<Vec<String>, AllocError> {
+fn words_of(alloc: Global, line: &str) -> Result<Vec<String>> {
     let mut words = Vec::new(alloc);
     for word in line.split_whitespace() {
         words.push(String::from_str(alloc, word)?)?;
@@ -111,7 +111,11 @@ fn words_of(alloc: Global, line: &str) -> Result<Vec<String>, AllocError> {
     Ok(words)
 }
 
-fn run_on(rt: &HostRuntime, line: &str, input: &str) -> Option<Answer> {
+fn run_on<S: Files + AllocGlobal + Threads + Sync>(
+    rt: &S,
+    line: &str,
+    input: &str,
+) -> Option<Answer> {
     let alloc = rt.alloc();
     let words = words_of(alloc, line).ok()?;
     let bytes = hex::decode(alloc, input).ok()?;
@@ -203,7 +207,7 @@ const TWO_ENTRIES: &str = "00000000000022000000000000000017616263c24124350107010
 const TWO_LINES: &str = "7 entries 10..12 keys 0 append 12 rewrite -\ncleaned -\nlive 2 0\n";
 
 /// What is answered of a file that holds the first bytes of that batch.
-fn run_on_file(rt: &HostRuntime, length: usize) -> Option<Answer> {
+fn run_on_file<S: Files + AllocGlobal + Threads + Sync>(rt: &S, length: usize) -> Option<Answer> {
     let mut bytes = hex::decode(rt.alloc(), TWO_ENTRIES).ok()?;
     bytes.truncate(length);
     fs::write(rt, "two_entries.log", bytes.as_slice()).ok()?;

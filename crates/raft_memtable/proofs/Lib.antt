@@ -14,3 +14,5 @@ mod UpdateLemmas
 mod WriteLemmas
 mod SlotKeeping
 mod CleanLemmas
+mod RegionJoinLemmas
+mod TableJoinLemmas

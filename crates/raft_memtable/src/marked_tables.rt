@@ -10,6 +10,8 @@ ghost use Rattle.raft_memtable.specs.Accessor.{live_in_all};
 ghost use Rattle.raft_memtable.specs.MarkedTables.{regions_in, AreStepsOfQueue, HaveRoom};
 ghost use Rattle.raft_memtable.specs.WaitingShown.{whole_shown};
 
+mod join;
+
 use crate::accessor::MemTableAccessor;
 use crate::region_marks::RegionMarks;
 use crate::waiting_group::WholeGroup;

@@ -1,15 +1,14 @@
 -- The files of a group, set for each region that it names: the order doesn't matter, nor whether a region comes twice.
-use Rattle.std.proofs.Common.{◌≡◌, ◌≢◌, ◌⊎◌, ℕ, ◌≤◌, append-nil, Bool, true, false, cond, eqb, ◌||◌, List, [], ◌∷◌, ◌++◌, Option, Some, None, Result, Ok, Err, refl, sym, ap, subst, ◌∙◌, inl, inr, arith}
+use Rattle.std.proofs.Common.{◌≡◌, ◌≢◌, ℕ, ◌≤◌, Bool, true, false, cond, eqb, ◌||◌, List, [], ◌∷◌, ◌++◌, Option, Some, None, Result, Ok, Err, refl, sym, ap, subst, ◌∙◌, inl, inr, arith}
 use Rattle.std.specs.List.{list_any}
 use Rattle.std.specs.FinMap as finite
 use Rattle.std.specs.Result.{OnOk, IfErr}
-use Rattle.std.specs.Option.{option_map, option_and_then, unwrap_or}
+use Rattle.std.specs.Option.{option_and_then, unwrap_or}
 use Rattle.raft_base.specs.declared.errors.Error.{Error}
 use Rattle.raft_base.specs.declared.errors.Error.TheVariants.{Memory}
 use Rattle.raft_base.specs.declared.pipe_log.LogQueue.{LogQueue}
 use Rattle.raft_base.specs.declared.pipe_log.LogQueue.TheVariants.{Append, Rewrite}
-use Rattle.raft_table.specs.MarkJoins.{joined, joined_at, met, fresh, mark_of}
-use Rattle.raft_table.specs.Marks.{Mark}
+use Rattle.raft_table.specs.MarkJoins.{joined, met, fresh, mark_of}
 use Rattle.raft_table.specs.Steps.{AtomicGroup, table_of}
 use Rattle.raft_table.specs.Table.{Table, with_atomic_group}
 use Rattle.raft_table.proofs.MarkExact.{joined_fresh}
@@ -157,9 +156,6 @@ whole_of_queue q w ids h = go w.steps h
 module _ (w : WholeGroup) (ids : List ℕ) (a b : MarkedTables) (r : Result Unit Error) (h : (n : ℕ) → has n ids ≡ names n w.steps) (t : AreTaken Rewrite (w.steps ++ on_each ids (AtomicGroup w.start w.end)) r a b) where
   pub whole_ok : OnOk r (regions_after Rewrite (regions_in a) (region_steps_of_whole w) ≡ Some (regions_in b))
   whole_ok = elim r as (λ r. OnOk r (regions_after Rewrite (regions_in a) (w.steps ++ on_each ids (AtomicGroup w.start w.end)) ≡ Some (regions_in b)) → OnOk r (regions_after Rewrite (regions_in a) (region_steps_of_whole w) ≡ Some (regions_in b))) [ Ok u ↦ λ e. sym (whole_same Rewrite w ids (regions_in a) h) ∙ e | Err x ↦ λ e. tt ] t.ok
-
-  pub whole_cleaned : OnOk r (b.accessor.cleaned ≡ a.accessor.cleaned)
-  whole_cleaned = elim r as (λ r. OnOk r (b.accessor.cleaned ≡ a.accessor.cleaned ++ []) → OnOk r (b.accessor.cleaned ≡ a.accessor.cleaned)) [ Ok u ↦ λ e. e ∙ append-nil a.accessor.cleaned | Err x ↦ λ e. tt ] t.cleaned
 
   pub whole_refused : HaveRoom Rewrite a.accessor.tables (records_in w.steps) → IfErr r (λ e. e ≢ Memory → regions_after Rewrite (regions_in a) (region_steps_of_whole w) ≡ None)
   whole_refused room =

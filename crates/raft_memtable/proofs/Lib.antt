@@ -22,3 +22,5 @@ mod TakenWholes
 mod LiveSteps
 mod TakenLemmas
 mod GroupFiles
+mod RegionJoinLemmas
+mod TableJoinLemmas

@@ -1,12 +1,12 @@
 -- How many records are live after steps on all regions.
-use Rattle.std.proofs.Common.{◌≡◌, ℕ, ◌+◌, ◌≤◌, Bool, true, false, cond, List, [], ◌∷◌, length, filter, Option, Some, None, refl, sym, ap, subst, ◌∙◌, arith}
+use Rattle.std.proofs.Common.{◌≡◌, ℕ, ◌+◌, ◌≤◌, Bool, true, false, cond, List, [], ◌∷◌, length, filter, Option, Some, None, refl, ap, arith}
 use Rattle.std.specs.FinMap as finite
 use Rattle.std.specs.Option.{option_map, option_and_then}
 use Rattle.raft_base.specs.declared.pipe_log.FileId.{FileId}
 use Rattle.raft_base.specs.declared.pipe_log.LogQueue.{LogQueue}
 use Rattle.raft_records.specs.declared.entry_index.EntryIndex.{EntryIndex}
-use Rattle.raft_table.specs.Entries.{entry_count, from, placed_in, IsRunIn}
-use Rattle.raft_table.specs.KeyValues.{with_put, pair_count, file_at, file_weight}
+use Rattle.raft_table.specs.Entries.{entry_count, from, placed_in}
+use Rattle.raft_table.specs.KeyValues.{file_weight}
 use Rattle.raft_table.specs.MarkJoins.{joined, mark_of}
 use Rattle.raft_table.specs.Queues.{count_in, is_same}
 use Rattle.raft_table.specs.Start.{replayed}

@@ -1,12 +1,12 @@
 -- Items that change a table, and their steps.
-use Rattle.std.proofs.Common.{◌≡◌, ℕ, suc, ◌+◌, ◌≤◌, Bool, true, false, cond, eqb, ◌||◌, List, [], ◌∷◌, ◌++◌, length, map, Option, Some, None, refl, sym, ap, ◌∙◌, arith}
+use Rattle.std.proofs.Common.{◌≡◌, ℕ, suc, ◌≤◌, Bool, true, false, cond, eqb, ◌||◌, List, [], ◌∷◌, ◌++◌, length, map, Option, Some, None, refl, sym, ap, ◌∙◌, arith}
 use Rattle.std.specs.Prelude.{filter, is_some}
 use Rattle.std.specs.List.{list_any}
 use Rattle.std.proofs.lemmas.List.{length-append, map-append}
 use Rattle.raft_records.specs.declared.log_item.LogItem.{LogItem}
 use Rattle.raft_records.specs.Item.{Item, item_of, content_of}
 use Rattle.raft_table.specs.Steps.{Step}
-use Rattle.raft_history.specs.RegionSteps.{RegionStep, step_of, with_step, steps_of_items, names}
+use Rattle.raft_history.specs.RegionSteps.{step_of, with_step, steps_of_items, names}
 use Rattle.raft_history.proofs.StepListLemmas.{names_none, names_cons}
 use Rattle.raft_memtable.specs.WaitingItems.{has_step}
 

@@ -5,7 +5,8 @@ ghost use Rattle.std.specs.List.{AllByRecursion};
 ghost use Rattle.raft_base.specs.declared.pipe_log.LogQueue.TheVariants.{Append, Rewrite};
 ghost use Rattle.raft_records.specs.Group.{first_marker};
 ghost use Rattle.raft_records.specs.Item.{item_of, content_of, pair, pair_of};
-ghost use Rattle.raft_history.specs.Histories.{IsInFile, AreInFile, IsBlockIn, AreBlocksIn, HasStatus, HaveStatus};
+ghost use Rattle.raft_records.specs.ReadIn.{IsBlockIn};
+ghost use Rattle.raft_history.specs.Histories.{IsInFile, AreInFile, AreBlocksIn, HasStatus, HaveStatus};
 ghost use Rattle.raft_memtable.specs.BatchChecks.{marker_found};
 
 use raft_records::{

@@ -40,13 +40,13 @@ overlay_exact m ss a r h = go m.cleaned refl
         let d : m.deleted ≡ deleted_of finset.empty ss = sym (h.holds.deleted e finset.empty ∙ empty_union m.deleted) in
         rw (clean false e, ← h.greatest e, ← h.least e, ← d, e) refl
 
--- the code's way: what is left of the rewritten table, and the appended one behind it
-pub over_rewritten : (m : Mark) (a r : Table) → a.atomic_group ≡ None → IsRun (overlay_under m a r).entries
-    → after_join Rewrite (left_by (is_short m.cut (end_of r.entries)) m r) a ≡ Some (overlay_under m a r)
-over_rewritten m a r none run =
+-- the code's way: what is left of the rewritten table, and the appended one behind it, but for the atomic group of a cleaned region
+pub over_rewritten : (m : Mark) (a r : Table) → IsRun (overlay_under m a r).entries
+    → after_join Rewrite (left_by (is_short m.cut (end_of r.entries)) m r) a ≡ Some (record (overlay_under m a r) { atomic_group = cond m.cleaned None r.atomic_group })
+over_rewritten m a r run =
     let left = left_by (is_short m.cut (end_of r.entries)) m r in
     let es = entries m.cleaned in
-    rw (replayed_run Rewrite left.entries a.entries (subst IsRun es run), ← es, ← keys m.cleaned, ← atomic_group m.cleaned) refl
+    rw (replayed_run Rewrite left.entries a.entries (subst IsRun es run), ← es, ← keys m.cleaned) refl
   where
     entries : (b : Bool) → cond b a.entries (rewritten_part m.floor m.cut r.entries ++ a.entries) ≡ cond b [] (rewritten_part m.floor m.cut r.entries) ++ a.entries
     entries true = refl
@@ -56,9 +56,16 @@ over_rewritten m a r none run =
     keys true = sym (whole_keys a.keys)
     keys false = refl
 
-    atomic_group : (b : Bool) → cond b a.atomic_group r.atomic_group ≡ cond b None r.atomic_group
-    atomic_group true = none
-    atomic_group false = refl
+-- and with that group
+pub with_group_over : (m : Mark) (a r t u : Table) → t ≡ record (overlay_under m a r) { atomic_group = cond m.cleaned None r.atomic_group } → u.atomic_group ≡ a.atomic_group
+    → record t { atomic_group = cond m.cleaned u.atomic_group t.atomic_group } ≡ overlay_under m a r
+with_group_over m a r t u is group =
+    ap (λ (t : Table). record t { atomic_group = cond m.cleaned u.atomic_group t.atomic_group }) is
+    ∙ ap (λ g. record (overlay_under m a r) { atomic_group = g }) (ap (λ g. cond m.cleaned g (cond m.cleaned None r.atomic_group)) group ∙ same m.cleaned)
+  where
+    same : (b : Bool) → cond b a.atomic_group (cond b None r.atomic_group) ≡ cond b a.atomic_group r.atomic_group
+    same true = refl
+    same false = refl
 
 -- entries that rise from an index
 filled : EntryIndex → ℕ → ℕ → List EntryIndex

@@ -37,13 +37,7 @@ impl MemTableAccessor {
     }
 
     /// Puts a key.
-    pub(crate) fn put(
-        &mut self,
-        id: u64,
-        key: Vec<u8>,
-        value: Vec<u8>,
-        file: FileId,
-    ) -> Result<()>
+    pub(crate) fn put(&mut self, id: u64, key: Vec<u8>, value: Vec<u8>, file: FileId) -> Result<()>
         ensures changed { IsTableChanged (Some (with_pair (table_in self.old.tables id) key.items value.items file)) (IsTablePutFault file.queue self.old.counts (file_at (table_in self.old.tables id).keys key.items)) id result self.old self.new }
         ensures counted { AreCounted self.old.tables self.old.counts }
     {

@@ -6,7 +6,7 @@ use Rattle.raft_history.specs.MarkedRegions.{on_each}
 use Rattle.raft_history.specs.RegionSteps.{RegionStep}
 use Rattle.raft_memtable.specs.MarkedTables.{AreTaken}
 use Rattle.raft_memtable.specs.WaitingShown.{whole_shown}
-use Rattle.raft_memtable.proofs.GroupFiles.{whole_ok, whole_cleaned, whole_refused, whole_other}
+use Rattle.raft_memtable.proofs.GroupFiles.{whole_ok, whole_refused, whole_other}
 use Rattle.raft_memtable.proofs.TakenLemmas.{taken_more, taken_refused}
 use Rattle.raft_memtable.proofs.marked_tables.MarkedTables.take_group.Goals as goal
 

@@ -1,4 +1,4 @@
-use Rattle.std.proofs.Common.{◌≡◌, ◌||◌, eqb, sym, ap, ◌∙◌}
+use Rattle.std.proofs.Common.{◌||◌, eqb, sym, ap, ◌∙◌}
 use Rattle.std.specs.List.{list_any}
 use Rattle.std.proofs.Math.ListN.{drop_of_length-le}
 use Rattle.raft_history.specs.RegionSteps.{names}

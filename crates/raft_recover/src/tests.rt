@@ -45,6 +45,17 @@ fn has_all(list: &List, count: u64) -> bool {
     seq == count
 }
 
+/// Whether nothing is drawn where there are no numbers, by one step.
+fn draws_nothing(alloc: Global) -> Result<bool> {
+    let (tickets, mut seats) = Tickets::open(alloc, 0, 1)?;
+    let Some(mut seat) = seats.pop() else {
+        return Ok(false);
+    };
+    let none = tickets.draw(&mut seat);
+    seats.push(seat)?;
+    Ok(none.is_none() && tickets.close(seats) == 1)
+}
+
 /// Whether two seats draw three numbers in turn, each once, and how many steps that took.
 fn draws(alloc: Global) -> Result<(bool, usize)> {
     let (tickets, mut seats) = Tickets::open(alloc, 3, 2)?;
@@ -67,6 +78,11 @@ fn numbers_are_drawn_once(rt: HostRuntime) {
         drawn = draws(rt.alloc());
     }
     assert!(rt; matches!(drawn, Ok((true, 5))));
+    let mut nothing = draws_nothing(rt.alloc());
+    if matches!(nothing, Err(Error::Memory)) {
+        nothing = draws_nothing(rt.alloc());
+    }
+    assert!(rt; matches!(nothing, Ok(true)));
 }
 
 #[test]
@@ -129,6 +145,39 @@ fn schedules(alloc: Global) -> Result<bool> {
         &pairs,
     )?;
     Ok(has_all(&list, 0))
+}
+
+/// Whether five segments are refused where the plan is of three pieces, and where a third worker draws.
+fn misfits(alloc: Global) -> Result<bool> {
+    let five = segments(alloc, 5)?;
+    let two = join(alloc, Plan::One, Plan::One)?;
+    let three = join(alloc, Plan::One, two)?;
+    for draws in [[0, 1, 1, 0, 1], [0, 2, 2, 0, 0]] {
+        let refused = replay_scheduled(
+            alloc,
+            &Lists,
+            five.as_slice(),
+            LogQueue::Append,
+            2,
+            &draws,
+            &three,
+        );
+        match refused {
+            Err(Error::InvalidArgument(_)) => {}
+            Err(error) => return Err(error),
+            Ok(_) => return Ok(false),
+        }
+    }
+    Ok(true)
+}
+
+#[test]
+fn schedules_that_dont_fit_are_refused(rt: HostRuntime) {
+    let mut all = misfits(rt.alloc());
+    if matches!(all, Err(Error::Memory)) {
+        all = misfits(rt.alloc());
+    }
+    assert!(rt; matches!(all, Ok(true)));
 }
 
 #[test]

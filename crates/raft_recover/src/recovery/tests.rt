@@ -6,8 +6,8 @@ use super::{recover, recover_bytes};
 use crate::recovered::recovered_text;
 use crate::{Plan, Segment, replay_scheduled};
 use raft_base::{Error, FileId, FileSeq, LogQueue, Result, Version};
-use raft_memtable::MemTableRecoverContextFactory;
-use raft_records::FilePart;
+use raft_memtable::{MemTableRecoverContext, MemTableRecoverContextFactory};
+use raft_records::{FilePart, LogItemBatch};
 use rows::{APPENDED, APPENDED_LINES, HOLE, REWRITTEN, REWRITTEN_LINES, ROWS, Row};
 use std::alloc::Global;
 use std::thread::Threads;
@@ -177,14 +177,46 @@ fn plans_give_one_reading(rt: HostRuntime) {
     assert!(rt; matches!(all, Ok(true)));
 }
 
-/// Whether so many workers are refused.
-fn refuses_workers<R: Threads + Sync>(rt: &R, alloc: Global, workers: usize) -> bool {
-    let refused = recover(rt, alloc, &[], LogQueue::Append, workers);
-    matches!(refused, Err(Error::InvalidArgument(_) | Error::Memory))
+/// Whether a context that refused a file below the last one answers `Failed` from then on.
+fn stays_failed(alloc: Global) -> Result<bool> {
+    let mut context = MemTableRecoverContext::new(alloc)?;
+    context.replay(LogItemBatch::default(alloc), FileId::new(LogQueue::Append, 5))?;
+    let refused = context.replay(LogItemBatch::default(alloc), FileId::new(LogQueue::Append, 4));
+    if matches!(refused, Err(Error::Memory)) {
+        return Err(Error::Memory);
+    }
+    let later = context.replay(LogItemBatch::default(alloc), FileId::new(LogQueue::Append, 6));
+    let finished = context.finish();
+    Ok(matches!(refused, Err(Error::Corruption(_)))
+        && matches!(later, Err(Error::Failed))
+        && matches!(finished, Err(Error::Failed)))
+}
+
+#[test]
+fn refused_contexts_stay_failed(rt: HostRuntime) {
+    let mut failed = stays_failed(rt.alloc());
+    if matches!(failed, Err(Error::Memory)) {
+        failed = stays_failed(rt.alloc());
+    }
+    assert!(rt; matches!(failed, Ok(true)));
+}
+
+/// Whether this many workers are refused.
+fn refuses_workers<R: Threads + Sync>(rt: &R, alloc: Global, workers: usize) -> Result<bool> {
+    match recover(rt, alloc, &[], LogQueue::Append, workers) {
+        Ok(tables) => Ok(!tables.is_empty()),
+        Err(Error::InvalidArgument(_)) => Ok(true),
+        Err(error) => Err(error),
+    }
 }
 
 #[test]
 fn workers_are_1_to_256(rt: HostRuntime) {
-    assert!(rt; refuses_workers(&rt, rt.alloc(), 0) && refuses_workers(&rt, rt.alloc(), 257));
-    assert!(rt; !refuses_workers(&rt, rt.alloc(), 1) || !refuses_workers(&rt, rt.alloc(), 1));
+    for (workers, refused) in [(0, true), (1, false), (256, false), (257, true)] {
+        let mut answer = refuses_workers(&rt, rt.alloc(), workers);
+        if matches!(answer, Err(Error::Memory)) {
+            answer = refuses_workers(&rt, rt.alloc(), workers);
+        }
+        assert!(rt; answer.is_ok_and(|answer| answer == refused), "{workers} workers");
+    }
 }

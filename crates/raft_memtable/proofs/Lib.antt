@@ -16,3 +16,6 @@ mod SlotKeeping
 mod CleanLemmas
 mod RegionJoinLemmas
 mod TableJoinLemmas
+mod LiveSteps
+mod TakenLemmas
+mod GroupFiles

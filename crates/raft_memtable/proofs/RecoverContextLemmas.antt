@@ -30,7 +30,7 @@ on_err (Err e) f p = f e p
 -- ---- a new context
 
 pub new_read : IsRead new_context
-new_read = record { history = []; stands = new_exact.stands; alone = tt }
+new_read = record { history = []; stands = new_exact.stands; alone = tt; steps = tt }
 
 pub new_reads_as : (c : Context) → c ≡ new_context → IsReadingExactly (record { stage = Reading; context = c }) []
 new_reads_as c e = record { stage = refl; exact = subst (λ c. IsExactFor c []) (sym e) new_exact }

@@ -1,11 +1,12 @@
 -- The marks and tables of a newer neighbour joined one after another.
-use Rattle.std.proofs.Common.{◌≡◌, ◌≢◌, ◌⊎◌, ◌<◌, ◌≤◌, ◌+◌, ◌^◌, ℕ, Bool, true, false, cond, ◌||◌, nat_eq, List, [], ◌∷◌, length, Option, Some, None, refl, sym, ap, subst, ◌∙◌, inl, inr, arith}
+use Rattle.std.proofs.Common.{◌≡◌, ◌≢◌, ◌⊎◌, ◌<◌, ◌≤◌, ◌+◌, ◌^◌, ℕ, Bool, true, false, cond, ◌||◌, nat_eq, List, [], ◌∷◌, length, Option, Some, None, Result, Ok, Err, refl, sym, ap, subst, ◌∙◌, inl, inr, arith}
 use Rattle.std.specs.Ordering.{nat_cmp, eq_by_cmp}
 use Rattle.std.specs.Cmp.{nat_cmp_total}
 use Rattle.std.specs.List.{AllByRecursion, IsDistinct}
 use Rattle.std.specs.Map.{keys_of}
 use Rattle.std.specs.Option.{is_some, option_and_then, option_map, unwrap_or}
 use Rattle.std.specs.FinMap as finite
+use Rattle.std.specs.Result.{OnOk}
 use Rattle.std.specs.FinMap.{find}
 use Rattle.raft_base.specs.declared.errors.Error.{Error}
 use Rattle.raft_base.specs.declared.errors.Error.TheVariants as errors
@@ -29,7 +30,7 @@ use Rattle.raft_history.proofs.JoinLemmas.{each_joined, each_refused, each_marke
 use Rattle.raft_memtable.specs.Accessor.{table_in, live_in, live_of_all, live_in_all, AreCounted}
 use Rattle.raft_memtable.specs.RegionMarks.{mark_in}
 use Rattle.raft_memtable.specs.TableJoins.{AreRunsOver}
-use Rattle.raft_memtable.proofs.LiveLemmas.{live-remove}
+use Rattle.raft_memtable.proofs.LiveLemmas.{live-remove, live-with, live-table_of}
 use Rattle.raft_memtable.proofs.MapLemmas.{none_some, by_id, eq_self, self_same, get_own, get_left, with_other}
 use Rattle.raft_memtable.proofs.RegionTablesLemmas.{same_test}
 use Rattle.std.proofs.lemmas.Bool.{false≢true}
@@ -162,6 +163,21 @@ module _ (queue : LogQueue) (newer : Tables) (first : MarkedRegions) (all : List
   joining_refused counts errors.Memory counted small runs r n = absurd (n refl)
   joining_refused counts _ counted small runs r n = absurd r
 
+  -- the same of the table that was taken out
+  module _ (t : Option Table) (taken : t ≡ finite.get left id) where
+    pub alone_taken : live_in (other queue) t ≡ 0
+    alone_taken = ap (live_in (other queue)) taken ∙ taken_alone
+
+    pub taken_step : (next : MarkedRegions) (after : Tables) → (IsRunOver queue m (table_of id t) (table_in now.tables id) → joined_region queue id (region_in now id) record { mark = m; table = t } ≡ Some (region_in next id))
+        → next ≡ with_region now id (region_in next id) → ((q : LogQueue) → live_in_all q next.tables ≤ live_in_all q now.tables + live_in q t) → after ≡ finite.remove left id → AreJoining queue newer first all next after es
+    taken_step next after ok one more gone =
+        joining_step next after (subst (λ (t : Option Table). IsRunOver queue m (table_of id t) (table_in now.tables id) → joined_region queue id (region_in now id) record { mark = m; table = t } ≡ Some (region_in next id)) taken ok) one
+        (λ q. subst (λ (t : Option Table). live_in_all q next.tables ≤ live_in_all q now.tables + live_in q t) taken (more q)) gone
+
+    pub taken_refused : (counts : Counts) (e : Error) → AreCounted now.tables counts → all_records first.tables + all_records newer < 2 ^ 64 → AreRunsOf queue newer first.tables all → (IsRunOver queue m (table_of id t) (table_in now.tables id) → IsFaultUnder queue counts m (table_of id t) (table_in now.tables id) e) → e ≢ errors.Memory → joined_each queue newer first all ≡ None
+    taken_refused counts e counted small runs fault =
+        joining_refused counts e counted small runs (subst (λ (t : Option Table). IsRunOver queue m (table_of id t) (table_in now.tables id) → IsFaultUnder queue counts m (table_of id t) (table_in now.tables id) e) taken fault (run_here runs))
+
 -- all are joined
 pub joined_all : (queue : LogQueue) (newer : Tables) (first now : MarkedRegions) (left : Tables) (marks : Marks) (all es : List (ℕ × Mark)) → finite.from_entries {R = nat_cmp} all ≡ marks → IsDistinct nat_eq (keys_of all) → AreJoining queue newer first all now left es → es ≡ [] → AreRunsOver queue marks newer first.tables → AreJoined queue first record { tables = newer; marks = marks } now
 joined_all queue newer first now left marks all es is once at none runs =
@@ -177,3 +193,29 @@ pub refused_some : (queue : LogQueue) (newer : Tables) (first : MarkedRegions) (
 refused_some queue newer first marks all is once e =
     let p = each_refused queue newer first all once e in
     (p.0, subst (λ (o : Option Mark). joined_marked queue p.0 o (finite.get newer p.0) (region_in first p.0) ≡ None) (sym (ap (λ x. finite.get x p.0) (sym is) ∙ finite.get-from_entries nat_cmp_total all p.0)) p.1)
+
+-- ---- one region
+
+-- a region's mark and table were joined
+pub region_with : (old new : MarkedRegions) (id : ℕ) (m : Mark) → new.tables ≡ with_table old.tables id (finite.get new.tables id) → new.marks ≡ finite.insert old.marks id m → new ≡ with_region old id (region_in new id)
+region_with old new id m t e =
+    ap (λ (tables : Tables). record { tables = tables; marks = new.marks }) t
+    ∙ ap (λ (marks : Marks). record { tables = with_table old.tables id (finite.get new.tables id); marks = marks }) (e ∙ ap (finite.insert old.marks id) (sym (mark_now old new id m e)))
+  where
+    mark_now : (old new : MarkedRegions) (id : ℕ) (m : Mark) → new.marks ≡ finite.insert old.marks id m → (region_in new id).mark ≡ m
+    mark_now old new id m e = ap (λ (o : Option Mark). unwrap_or o fresh) (ap (λ x. finite.get x id) e ∙ get_own old.marks id m)
+
+pub region_joined : (queue : LogQueue) (old new : MarkedRegions) (id : ℕ) (m : Mark) (newer : Option Table) (end : ℕ) → end ≡ met m (table_in old.tables id) → new.marks ≡ finite.insert old.marks id (joined_at queue end (mark_in old.marks id) m)
+    → applied queue id m newer (finite.get old.tables id) ≡ Some (finite.get new.tables id) → joined_region queue id (region_in old id) record { mark = m; table = newer } ≡ Some (region_in new id)
+region_joined queue old new id m newer end at e is =
+    let now : (region_in new id).mark ≡ joined_at queue end (mark_in old.marks id) m = ap (λ (o : Option Mark). unwrap_or o fresh) (ap (λ x. finite.get x id) e ∙ get_own old.marks id _) in
+    ap (option_map (λ t. record { mark = joined queue id (region_in old id).mark (region_in old id).table m; table = t })) is
+    ∙ ap (λ (n : Mark). Some (record { mark = n; table = finite.get new.tables id })) (ap (λ x. joined_at queue x (mark_in old.marks id) m) (sym at) ∙ sym now)
+
+pub live_joined : (q : LogQueue) (old new : Tables) (id : ℕ) (newer : Option Table) → new ≡ with_table old id (finite.get new id) → live_of q (table_in new id) ≤ live_of q (table_in old id) + live_in q newer → live_in_all q new ≤ live_in_all q old + live_in q newer
+live_joined q old new id newer one few =
+    omega (arith, ap (live_in_all q) one, live-with q old id (finite.get new id), live-table_of q id (finite.get new id), live-table_of q id (finite.get old id), few)
+
+pub on_ok : {R P Q : Type 0} (r : Result R Error) → (P → Q) → OnOk r P → OnOk r Q
+on_ok (Ok x) f p = f p
+on_ok (Err x) f p = tt

@@ -108,3 +108,15 @@ meeting_refused queue m old id counts t x e f = record { ok = λ run. tt; answer
     go (errors.Corruption text) f = ap (λ (u : Table). is_meeting_refused queue m u.entries) (there_now old id t e) ∙ f
     go errors.Memory f = tt
     go _ f = absurd f
+
+-- the same, where the region has these tables elsewhere
+pub joined_elsewhere : (queue : LogQueue) (m : Mark) (newer : Option Table) (old older : Tables) (id : ℕ) (counts before : Counts) (r : Result ℕ Error) (new next : Tables) (after : Counts) → finite.get older id ≡ finite.get old id → before ≡ counts → finite.get next id ≡ finite.get new id → next ≡ with_table older id (finite.get next id)
+    → IsTableJoined queue m newer old id counts r new after → IsTableJoined queue m newer older id before r next after
+joined_elsewhere queue m newer old older id counts before r new next after e k f one p = record {
+  ok = λ run. subst (λ o. OnOk r (applied queue id m newer o ≡ Some (finite.get next id))) (sym e) (subst (λ n. OnOk r (applied queue id m newer (finite.get old id) ≡ Some n)) (sym f) (p.ok (subst (λ o. IsRunOver queue m (table_of id newer) (table_of id o)) e run)));
+  answer = subst (λ o. IfOk r (λ end. end ≡ met m (table_of id o))) (sym e) p.answer;
+  fault = λ run. subst (λ c. IfErr r (IsFaultUnder queue c m (table_of id newer) (table_in older id))) (sym k) (subst (λ o. IfErr r (IsFaultUnder queue counts m (table_of id newer) (table_of id o))) (sym e) (p.fault (subst (λ o. IsRunOver queue m (table_of id newer) (table_of id o)) e run)));
+  few = subst (λ o. OnOk r ((q : LogQueue) → live_of q (table_in next id) ≤ live_of q (table_of id o) + live_in q newer)) (sym e) (subst (λ n. OnOk r ((q : LogQueue) → live_of q (table_of id n) ≤ live_of q (table_in old id) + live_in q newer)) (sym f) p.few);
+  one = one;
+  recounted = subst (λ c. IsRecounted (table_in older id) (table_in next id) c after) (sym k) (subst (λ o. IsRecounted (table_of id o) (table_in next id) counts after) (sym e) (subst (λ n. IsRecounted (table_in old id) (table_of id n) counts after) (sym f) p.recounted));
+}

@@ -13,6 +13,9 @@ use Rattle.raft_history.proofs.RecordLemmas.{read_records, whole_group-records}
 use Rattle.raft_memtable.specs.Accessor.{live_in_all}
 use Rattle.raft_memtable.specs.MarkedTables.{HaveRoom}
 
+pub no_cons : {X : Type 0} {x : X} {xs : List X} → x ∷ xs ≡ [] → ⊥
+no_cons e = cc
+
 after-append : (q : LogQueue) (rs : MarkedRegions) (xs ys : List RegionStep) → regions_after q rs (xs ++ ys) ≡ option_and_then (λ n. regions_after q n ys) (regions_after q rs xs)
 after-append q rs [] ys = refl
 after-append q rs (s ∷ xs) ys = go (stepped_region q s.region (region_in rs s.region) s.step) (λ x. after-append q (with_region rs s.region x) xs ys)

@@ -4,6 +4,8 @@ use Rattle.raft_base.specs.declared.pipe_log.LogQueue.{LogQueue}
 use Rattle.raft_base.specs.declared.pipe_log.LogQueue.TheVariants.{Rewrite}
 use Rattle.raft_history.specs.Batches.{Event}
 use Rattle.raft_history.specs.Contexts.{Context, FileRange, StandsFor}
+use Rattle.raft_history.specs.Joins.{StandForSteps}
+use Rattle.raft_history.specs.MarkedRegions.{MarkedRegions}
 use Rattle.raft_history.specs.RegionSteps.{Tables}
 use Rattle.raft_history.specs.WaitingGroup.{WholeGroup}
 use Rattle.raft_table.specs.Queues.{other}
@@ -21,11 +23,17 @@ abbrev pub AreAlone : Option FileRange → Tables → Type 0
 AreAlone None tables = Unit {0}
 AreAlone (Some files) tables = live_in_all (other files.queue) tables ≡ 0
 
--- it was read from some history, and its tables are of that history's queue
+-- and each region's mark and table stand for some steps
+abbrev pub AreOfSteps : Option FileRange → MarkedRegions → Type 0
+AreOfSteps None rs = Unit {0}
+AreOfSteps (Some files) rs = StandForSteps files.queue rs
+
+-- it was read from some history, its tables are of that history's queue, and they and the marks are those of some steps
 pub record IsRead (c : Context) : Type 0 where
   pub history : List Event
   pub stands : StandsFor c history
   pub alone : AreAlone c.files c.regions.tables
+  pub steps : AreOfSteps c.files c.regions
 
 -- a group that is whole, as it is taken in: its steps are such as replays into the rewrite queue ask for, and its files are in order
 pub record TakesEffect (w : WholeGroup) : Type 0 where

@@ -84,12 +84,12 @@ pub record IsMerged (queue : LogQueue) (newer old new : RecoverContext) : Type 0
   pub after : new.stage ≡ Reading
 
 -- a region's join is refused, or the records would be 2^64 or more
-abbrev pub IsJoinRefused : LogQueue → Context → Context → Type 0
-IsJoinRefused queue c d = AreRefused queue c d ⊎ (2 ^ 64 ≤ records_held c + records_held d)
+abbrev pub IsNeighbourRefused : LogQueue → Context → Context → Type 0
+IsNeighbourRefused queue c d = AreRefused queue c d ⊎ (2 ^ 64 ≤ records_held c + records_held d)
 
 -- why it isn't, want of memory aside: they aren't neighbours, or a join is refused
 abbrev pub AreNotMerged : LogQueue → Context → Context → Type 0
-AreNotMerged queue c d = (AreNeighbours queue c d → ⊥) ⊎ IsJoinRefused queue c d
+AreNotMerged queue c d = (AreNeighbours queue c d → ⊥) ⊎ IsNeighbourRefused queue c d
 
 -- or one of the two doesn't read on
 abbrev pub IsMergeRefused : LogQueue → RecoverContext → RecoverContext → Type 0

@@ -1,6 +1,6 @@
 //! What was read of a queue's batches.
 
-ghost use Rattle.std.specs.Prelude.{◌≡◌, ◌≢◌, ◌⊎◌, ◌+◌, ◌≤◌, ◌^◌, ℕ, [], ◌∷◌, OnOk, IfOk, IfErr, Some, None, map};
+ghost use Rattle.std.specs.Prelude.{◌≡◌, ◌≢◌, ◌⊎◌, ◌+◌, ◌≤◌, ◌^◌, ℕ, [], ◌∷◌, OnOk, OnErr, IfOk, IfErr, Some, None, map};
 ghost use Rattle.std.specs.List.{AllByRecursion};
 ghost use Rattle.std.specs.Option.{option_map};
 ghost use Rattle.raft_base.specs.declared.pipe_log.LogQueue.TheVariants.{Append, Rewrite};
@@ -11,7 +11,7 @@ ghost use Rattle.raft_memtable.specs.Accessor.{live_in_all};
 ghost use Rattle.raft_memtable.specs.BatchChecks.{marker_found};
 ghost use Rattle.raft_memtable.specs.MarkedTables.{regions_in, HaveRoom};
 ghost use Rattle.raft_memtable.specs.ReadStates.{context_in, IsRead, TakesEffect, MayTakeEffect};
-ghost use Rattle.raft_memtable.specs.RecoverContext.{MayFollow, IsBatchRefused, IsStepRefused, AreNeighbours, AreNotMerged, IsJoinRefused};
+ghost use Rattle.raft_memtable.specs.RecoverContext.{MayFollow, IsBatchRefused, IsStepRefused, AreNeighbours, AreNotMerged, IsNeighbourRefused};
 ghost use Rattle.raft_memtable.specs.ReplayMachine.{event};
 ghost use Rattle.raft_memtable.specs.WaitingShown.{whole_shown};
 
@@ -152,9 +152,19 @@ impl ReadState {
         ensures regions { OnOk result (AreMerged queue (context_in self.old) (context_in newer) (context_in self.new).regions) }
         ensures merged { OnOk result (context_in self.new ≡ merged_with (context_in self.old) (context_in newer) (context_in self.new).regions) }
         ensures read { OnOk result (IsRead (context_in self.new)) }
-        ensures refused { IfErr result (λ e. e ≢ Error.Memory → IsJoinRefused queue (context_in self.old) (context_in newer)) }
+        ensures refused { IfErr result (λ e. e ≢ Error.Memory → IsNeighbourRefused queue (context_in self.old) (context_in newer)) }
     {
-        Err(Error::Memory)
+        let ReadState {
+            regions,
+            groups,
+            files,
+            ..
+        } = newer;
+        let wholes = self.groups.join(groups)?;
+        take_wholes(&mut self.regions, wholes)?;
+        self.regions.join(queue, regions)?;
+        self.files = FileRange::joined(self.files, files);
+        Ok(())
     }
 }
 
@@ -181,6 +191,7 @@ fn take_wholes(regions: &mut MarkedTables, wholes: Vec<WholeGroup>) -> Result<()
     ensures refused { HaveRoom Rewrite regions.old.accessor.tables (records_in_wholes (map whole_shown wholes.items))
         → IfErr result (λ e. e ≢ Error.Memory → regions_after Rewrite (regions_in regions.old) (region_steps_of_wholes (map whole_shown wholes.items)) ≡ None) }
     ensures other { OnOk result (live_in_all Append regions.new.accessor.tables ≤ live_in_all Append regions.old.accessor.tables) }
+    ensures none { OnErr result (map whole_shown wholes.items ≢ []) }
 {
     for whole in wholes {
         regions.take_group(whole)?;

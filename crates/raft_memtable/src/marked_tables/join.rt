@@ -36,7 +36,10 @@ impl MarkedTables {
             → IfErr result (λ e. e ≢ Error.Memory → IsJoinRefused queue (regions_in self.old) (regions_in newer)) }
         ensures other { OnOk result (live_in_all (other queue) self.new.accessor.tables ≡ 0) }
     {
-        let MarkedTables { mut accessor, marks } = newer;
+        let MarkedTables {
+            mut accessor,
+            marks,
+        } = newer;
         self.accessor.check_alone(queue)?;
         accessor.check_alone(queue)?;
         self.join_regions(queue, marks, &mut accessor)?;

@@ -7,7 +7,7 @@ use Rattle.raft_history.specs.Records.{records_in_wholes}
 use Rattle.raft_memtable.specs.MarkedTables.{regions_in, HaveRoom}
 use Rattle.raft_memtable.specs.ReadStates.{TakesEffect}
 use Rattle.raft_memtable.specs.WaitingShown.{whole_shown}
-use Rattle.raft_memtable.proofs.TakenWholes.{more_taken, more_refused, more_room, one_room}
+use Rattle.raft_memtable.proofs.TakenWholes.{no_cons, more_taken, more_refused, more_room, one_room}
 use Rattle.raft_memtable.proofs.read_state.take_wholes.Goals as goal
 
 pub loop-whole-preserved : goal.loop-whole-preserved
@@ -21,6 +21,7 @@ loop-whole-preserved c =
       omega (arith, c.in_ok-take_group.ensures.other, at.3),
       λ room. more_room (regions_in c.loop-whole.regions) (regions_in c.take_group.new.self) (whole_shown c.in-Some.whole) rest c.in_ok-take_group.ensures.ok c.in_ok-take_group.ensures.other
         (subst (λ ws. HaveRoom Rewrite c.loop-whole.regions.accessor.tables (records_in_wholes ws)) next (at.4 room)),
+      λ none. absurd (no_cons (sym next ∙ at.5 none)),
     )
 
 pub returns-in_err-take_group-clause-refused : goal.returns-in_err-take_group-clause-refused
@@ -32,3 +33,9 @@ returns-in_err-take_group-clause-refused c =
     λ room. rw (p.1, p.2) (λ ne. sym at.1 ∙ ap (λ ws. regions_after Rewrite (regions_in c.loop-whole.regions) (region_steps_of_wholes ws)) next
       ∙ more_refused (regions_in c.loop-whole.regions) (whole_shown c.in-Some.whole) rest
           (c.in_err-take_group.ensures.refused (one_room (regions_in c.loop-whole.regions) (whole_shown c.in-Some.whole) rest (subst (λ ws. HaveRoom Rewrite c.loop-whole.regions.accessor.tables (records_in_wholes ws)) next (at.4 room))) ne))
+
+pub returns-in_err-take_group-clause-none : goal.returns-in_err-take_group-clause-none
+returns-in_err-take_group-clause-none c =
+    let next = ap (map whole_shown) c.in-Some.ensures.steps.0 in
+    let p = err_from_is_err_and c.from_residual.result c.from_residual.ensures.1 in
+    rw (p.1) (λ none. no_cons (sym next ∙ c.loop-whole.invariant.5 none))

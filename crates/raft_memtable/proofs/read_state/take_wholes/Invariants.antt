@@ -1,4 +1,4 @@
-use Rattle.std.proofs.Common.{◌≡◌, ◌≤◌, map}
+use Rattle.std.proofs.Common.{◌≡◌, ◌≤◌, [], map}
 use Rattle.std.specs.List.{AllByRecursion}
 use Rattle.raft_base.specs.declared.pipe_log.LogQueue.TheVariants.{Append, Rewrite}
 use Rattle.raft_history.specs.MarkedRegions.{regions_after, region_steps_of_wholes}
@@ -17,3 +17,4 @@ invariant-loop-whole l =
     × (l.regions.accessor.cleaned ≡ l.fn.regions.accessor.cleaned)
     × (live_in_all Append l.regions.accessor.tables ≤ live_in_all Append l.fn.regions.accessor.tables)
     × (HaveRoom Rewrite l.fn.regions.accessor.tables (records_in_wholes (map whole_shown l.fn.wholes.items)) → HaveRoom Rewrite l.regions.accessor.tables (records_in_wholes (map whole_shown l.whole-iterator.rest.items)))
+    × (map whole_shown l.fn.wholes.items ≡ [] → map whole_shown l.whole-iterator.rest.items ≡ [])

@@ -15,7 +15,7 @@ use Rattle.raft_table.specs.Overlay.{has_clean, kept_if, overlay, overlay_under,
 use Rattle.raft_table.specs.Steps.{Step, Run, Compact, Put, Del, AtomicGroup, Clean, IsStep, AreSteps, table_of}
 use Rattle.raft_table.specs.Table.{Table}
 use Rattle.raft_table.proofs.OverlayLemmas.{overlay_exact}
-use Rattle.raft_history.specs.Batches.{Event, Batch, batches}
+use Rattle.raft_history.specs.Batches.{Event, ReadBatch, batches}
 use Rattle.raft_history.specs.Contexts.{Holds, AreExact}
 use Rattle.raft_history.specs.Effects.{steps_of, is_named}
 use Rattle.raft_history.specs.Histories.{AreInFile, AreInFiles, IsStepOfQueue}
@@ -79,7 +79,7 @@ stand_exact q rs h f ex r = (steps_of r (batches h), steps_good r h f, ex.each r
 
 -- ---- overlays
 
-pub overlay_by_steps : (r : ℕ) (rs : MarkedRegions) (bs : List Batch) (rewritten : Option Table) → AreExact Append rs bs
+pub overlay_by_steps : (r : ℕ) (rs : MarkedRegions) (bs : List ReadBatch) (rewritten : Option Table) → AreExact Append rs bs
     → overlaid_region r (finite.get rs.marks r) (finite.get rs.tables r) rewritten ≡ cond (is_named r bs) (overlaid_table r (steps_of r bs) (finite.get rs.tables r) rewritten) rewritten
 overlay_by_steps r rs bs rewritten ex = go (finite.get rs.marks r) refl
   where

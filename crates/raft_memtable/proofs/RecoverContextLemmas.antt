@@ -6,7 +6,7 @@ use Rattle.raft_base.specs.declared.errors.Error.TheVariants.{Memory}
 use Rattle.raft_base.specs.declared.pipe_log.LogQueue.{LogQueue}
 use Rattle.raft_history.specs.Batches.{Event, batches}
 use Rattle.raft_history.specs.Contexts.{Context, new_context, Suits, files_of, follows, StandsFor, IsExactFor, merged_with}
-use Rattle.raft_history.specs.Histories.{IsSmall, Sound, Apart, IsOfQueue, IsOneReading, size_of, records_in}
+use Rattle.raft_history.specs.Histories.{IsSmall, Sound, Apart, IsOfQueue, IsOneReading, records_in_history, records_in}
 use Rattle.raft_history.specs.RegionSteps.{steps_of_items}
 use Rattle.raft_history.proofs.ContextLaws.{Merges, exact_reading, regions_stand, regions_exact, regions_unsound}
 use Rattle.raft_history.proofs.NewLaws.{new_exact}
@@ -14,7 +14,7 @@ use Rattle.raft_history.proofs.SoundLemmas.{follow_files}
 use Rattle.raft_history.proofs.StretchOfHistory.{size-append, of_front, of_back}
 use Rattle.raft_history.proofs.TakenLaws.{IsNext, taken_stands, taken_exact, taken_none, next_sound}
 use Rattle.raft_memtable.specs.ReadStates.{IsRead}
-use Rattle.raft_memtable.specs.RecoverContext.{RecoverContext, IsReading, IsReadingExactly, MayFollow, IsTakenIn, IsReplayRefused, AreNeighbours, IsMerged, IsMergeRefused}
+use Rattle.raft_memtable.specs.RecoverContext.{RecoverContext, IsReading, IsReadingExactly, MayFollow, IsTakenIn, IsReplayRefused, AreNeighbours, IsMergedWith, IsMergeRefused}
 use Rattle.raft_memtable.specs.declared.stage.Stage.TheVariants.{Reading}
 
 -- ---- results
@@ -60,13 +60,13 @@ replay_unsound c h e small r (inr (inr (inr full))) sound = absurd (omega (arith
 merges : (q : LogQueue) (c d : Context) (h g : List Event) → AreNeighbours q c d → StandsFor c h → StandsFor d g → Merges q c d h g
 merges q c d h g n a b = record { older_suits = n.older; newer_suits = n.newer; older = a; newer = b }
 
-pub merge_stands : (q : LogQueue) (c d new : RecoverContext) (h g : List Event) → IsMerged q d c new → IsReading c h → IsReading d g → IsReading new (h ++ g)
+pub merge_stands : (q : LogQueue) (c d new : RecoverContext) (h g : List Event) → IsMergedWith q d c new → IsReading c h → IsReading d g → IsReading new (h ++ g)
 merge_stands q c d new h g m a b = record {
   stage = m.after;
   stands = subst (λ x. StandsFor x (h ++ g)) (sym m.merged) (regions_stand q c.context d.context h g new.context.regions (merges q c.context d.context h g m.neighbours a.stands b.stands) m.neighbours.files m.regions);
 }
 
-pub merge_exact : (q : LogQueue) (c d new : RecoverContext) (h g : List Event) → Apart (h ++ g) → IsMerged q d c new → IsReadingExactly c h → IsReadingExactly d g → IsReadingExactly new (h ++ g)
+pub merge_exact : (q : LogQueue) (c d new : RecoverContext) (h g : List Event) → Apart (h ++ g) → IsMergedWith q d c new → IsReadingExactly c h → IsReadingExactly d g → IsReadingExactly new (h ++ g)
 merge_exact q c d new h g apart m a b = record {
   stage = m.after;
   exact = subst (λ x. IsExactFor x (h ++ g)) (sym m.merged) (regions_exact q c.context d.context h g new.context.regions (merges q c.context d.context h g m.neighbours a.exact.stands b.exact.stands) a.exact b.exact apart.apart m.neighbours.files m.regions);

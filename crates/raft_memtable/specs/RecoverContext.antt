@@ -2,7 +2,7 @@
 use Rattle.std.specs.Prelude.{◌≡◌, ◌≢◌, ◌⊎◌, ◌+◌, ◌≤◌, ◌^◌, Bool, true, false, List, [], ◌∷◌, ℕ, Option, Some, None}
 use Rattle.raft_base.specs.declared.pipe_log.LogQueue.{LogQueue}
 use Rattle.raft_history.specs.Batches.{Event}
-use Rattle.raft_history.specs.Contexts.{Context, new_context, Suits, files_of, follows, StandsFor, IsExactFor, taken_in, merged_with, AreMerged, AreRefused}
+use Rattle.raft_history.specs.Contexts.{Context, new_context, Suits, files_of, follows, StandsFor, IsExactFor, taken_in, merged_with, AreMerged, AreRegionsRefused}
 use Rattle.raft_history.specs.Histories.{AreInFile, HaveStatus, records_in}
 use Rattle.raft_history.specs.Records.{all_records, waiting_records}
 use Rattle.raft_history.specs.RegionSteps.{steps_of_items}
@@ -75,7 +75,7 @@ pub record AreNeighbours (queue : LogQueue) (c d : Context) : Type 0 where
   pub files : follows c.files d.files ≡ true
 
 -- the newer neighbour was taken in
-pub record IsMerged (queue : LogQueue) (newer old new : RecoverContext) : Type 0 where
+pub record IsMergedWith (queue : LogQueue) (newer old new : RecoverContext) : Type 0 where
   pub older_before : old.stage ≡ Reading
   pub newer_before : newer.stage ≡ Reading
   pub neighbours : AreNeighbours queue old.context newer.context
@@ -85,7 +85,7 @@ pub record IsMerged (queue : LogQueue) (newer old new : RecoverContext) : Type 0
 
 -- a region's join is refused, or the records would be 2^64 or more
 abbrev pub IsNeighbourRefused : LogQueue → Context → Context → Type 0
-IsNeighbourRefused queue c d = AreRefused queue c d ⊎ (2 ^ 64 ≤ records_held c + records_held d)
+IsNeighbourRefused queue c d = AreRegionsRefused queue c d ⊎ (2 ^ 64 ≤ records_held c + records_held d)
 
 -- why it isn't, want of memory aside: they aren't neighbours, or a join is refused
 abbrev pub AreNotMerged : LogQueue → Context → Context → Type 0

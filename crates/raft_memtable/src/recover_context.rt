@@ -6,8 +6,8 @@ ghost use Rattle.raft_base.specs.declared.pipe_log.LogQueue.{LogQueue};
 ghost use Rattle.raft_history.specs.Batches.{Event};
 ghost use Rattle.raft_history.specs.Contexts.{Suits};
 ghost use Rattle.raft_history.specs.Histories.{IsOneReading};
-ghost use Rattle.raft_memtable.specs.Accessor.{AreCounted};
-ghost use Rattle.raft_memtable.specs.RecoverContext.{blank_context, IsReading, IsReadingExactly, IsTakenIn, IsReplayRefused, IsMerged, IsMergeRefused, refused_stage};
+ghost use Rattle.raft_memtable.specs.Accessor.{AreCountsOf};
+ghost use Rattle.raft_memtable.specs.RecoverContext.{blank_context, IsReading, IsReadingExactly, IsTakenIn, IsReplayRefused, IsMergedWith, IsMergeRefused, refused_stage};
 ghost use Rattle.raft_memtable.specs.ReplayMachine.{event};
 ghost use Rattle.raft_memtable.specs.declared.stage.Stage.TheVariants.{Reading, Overlaid, Failed};
 
@@ -96,7 +96,7 @@ impl MemTableRecoverContext {
     /// than that of either; `Corruption` where the first file of `rhs` is below the last one, or
     /// entries leave a hole; `Full` where more than 2^64 - 1 records would be live; `Memory`.
     pub fn merge(&mut self, rhs: MemTableRecoverContext, queue: LogQueue) -> Result<()>
-        ensures ok { OnOk result (IsMerged queue rhs self.old self.new) }
+        ensures ok { OnOk result (IsMergedWith queue rhs self.old self.new) }
         ensures refused { IfErr result (λ e. e ≢ Error.Memory → IsMergeRefused queue self.old rhs) }
         ensures err { OnErr result (self.new.stage ≡ refused_stage self.old.stage) }
         ensures unchanged { self.old.stage ≢ Reading → self.new ≡ self.old }
@@ -127,7 +127,7 @@ impl MemTableRecoverContext {
     pub fn finish(self) -> Result<MemTableAccessor>
         ensures tables { IfOk result (λ accessor. accessor.tables ≡ self.context.regions.tables) }
         ensures cleaned { IfOk result (λ accessor. accessor.cleaned ≡ self.context.cleaned) }
-        ensures counted { IfOk result (λ accessor. AreCounted accessor.tables accessor.counts) }
+        ensures counted { IfOk result (λ accessor. AreCountsOf accessor.tables accessor.counts) }
         ensures reading { (queue : LogQueue) (h : List Event) → IsReadingExactly self h → Suits queue self.context.files
             → IfOk result (λ accessor. IsOneReading queue h accessor.tables accessor.cleaned) }
         ensures accepted { OnOk result (self.stage ≢ Failed) }

@@ -11,7 +11,7 @@ use Rattle.raft_records.specs.FilePart.{Part}
 use Rattle.raft_history.specs.Batches.{Event}
 use Rattle.raft_history.specs.Contexts.{Suits, files_of}
 use Rattle.raft_history.specs.Histories.{IsSmall, Sound, IsSoundIn, Apart, IsOneReading, IsOfQueue}
-use Rattle.raft_memtable.specs.Accessor.{Accessor, AreCounted}
+use Rattle.raft_memtable.specs.Accessor.{Accessor, AreCountsOf}
 use Rattle.raft_memtable.specs.RecoverContext.{RecoverContext, IsReading, IsReadingExactly}
 use Rattle.raft_memtable.specs.declared.stage.Stage.{Stage}
 use Rattle.raft_memtable.specs.declared.stage.Stage.TheVariants as stages
@@ -42,7 +42,7 @@ module _ (queue : LogQueue) (segments : List (Vec Part Global)) (of_queue : Segm
 
   pub recovered : (r : Result Accessor Error)
       → ((q : LogQueue) (h : List Event) → IsReadingExactly m h → Suits q m.context.files → IfOk r (λ a. IsOneReading q h a.tables a.cleaned))
-      → IfOk r (λ a. AreCounted a.tables a.counts) → IfOk r (IsRecovered queue (ReadsSegments segments))
+      → IfOk r (λ a. AreCountsOf a.tables a.counts) → IfOk r (IsRecovered queue (ReadsSegments segments))
   recovered (Ok a) one counted = record {
     history = replayed.history;
     reads = replayed.reads;

@@ -5,7 +5,7 @@ use Rattle.raft_base.specs.declared.pipe_log.LogQueue.{LogQueue}
 use Rattle.raft_records.specs.FilePart.{Part}
 use Rattle.raft_history.specs.Batches.{Event}
 use Rattle.raft_history.specs.Histories.{IsSmall, Sound, IsSoundIn, Apart, IsOneReading}
-use Rattle.raft_memtable.specs.Accessor.{Accessor, AreCounted}
+use Rattle.raft_memtable.specs.Accessor.{Accessor, AreCountsOf}
 use Rattle.raft_recover.specs.Segments.{ReadsSegments}
 
 -- what recovery gives of the batches that are read: they are a history of the queue that can be read, tables and cleaned regions are those of one reading of it, where groups keep apart, and the live counts are those of the tables
@@ -14,7 +14,7 @@ pub record IsRecovered (queue : LogQueue) (Reads : List Event → Type 0) (acces
   pub reads : Reads history
   pub sound : IsSmall history → IsSoundIn queue history
   pub one_reading : IsSmall history → Apart history → IsOneReading queue history accessor.tables accessor.cleaned
-  pub counted : AreCounted accessor.tables accessor.counts
+  pub counted : AreCountsOf accessor.tables accessor.counts
 
 -- the machine stands for the batches of all segments, in order, and exactly where groups keep apart
 pub record IsReplayed {M : Type 0} (stands_for stands_exactly : M → List Event → Type 0) (segments : List (Vec Part Global)) (machine : M) : Type 0 where

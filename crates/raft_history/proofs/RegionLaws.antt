@@ -1,5 +1,5 @@
 -- That marks and tables of regions stand for some steps, kept by steps and joins; and overlays by exact marks.
-use Rattle.std.proofs.Common.{◌≡◌, ℕ, Bool, true, false, cond, ◌||◌, List, [], ◌∷◌, ◌++◌, Option, Some, None, refl, sym, ap, subst, ◌∙◌}
+use Rattle.std.proofs.Common.{◌≡◌, ℕ, cond, ◌||◌, List, [], ◌∷◌, ◌++◌, Option, Some, None, refl, sym, ap, subst, ◌∙◌}
 use Rattle.std.specs.Prelude.{is_some}
 use Rattle.std.specs.List.{AllByRecursion}
 use Rattle.std.specs.Option.{unwrap_or}
@@ -11,16 +11,16 @@ use Rattle.raft_base.specs.declared.pipe_log.LogQueue.TheVariants.{Append}
 use Rattle.raft_records.specs.Item.{Item}
 use Rattle.raft_table.specs.Marks.{Mark}
 use Rattle.raft_table.specs.MarkJoins.{fresh}
-use Rattle.raft_table.specs.Overlay.{has_clean, kept_if, overlay, overlay_under, overlaid_table, IsExactMark}
+use Rattle.raft_table.specs.Overlay.{has_clean, kept_if, overlay_under, overlaid_table, IsExactMark}
 use Rattle.raft_table.specs.Steps.{Step, Run, Compact, Put, Del, AtomicGroup, Clean, IsStep, AreSteps, table_of}
 use Rattle.raft_table.specs.Table.{Table}
 use Rattle.raft_table.proofs.OverlayLemmas.{overlay_exact}
-use Rattle.raft_history.specs.Batches.{Event, Batch, batches}
+use Rattle.raft_history.specs.Batches.{Event, ReadBatch, batches}
 use Rattle.raft_history.specs.Contexts.{Holds, AreExact}
 use Rattle.raft_history.specs.Effects.{steps_of, is_named}
 use Rattle.raft_history.specs.Histories.{AreInFile, AreInFiles, IsStepOfQueue}
 use Rattle.raft_history.specs.Joins.{StandForSteps, AreJoined, overlaid_region}
-use Rattle.raft_history.specs.MarkedRegions.{MarkedRegions, MarkedRegion, no_regions, region_in, regions_after, named_regions, on_each, region_steps_of_whole, joined_marked}
+use Rattle.raft_history.specs.MarkedRegions.{MarkedRegions, MarkedRegion, no_regions, region_in, regions_after, region_steps_of_whole, joined_marked}
 use Rattle.raft_history.specs.RegionSteps.{RegionStep, steps_on, steps_of_items}
 use Rattle.raft_history.specs.WaitingGroup.{WholeGroup}
 use Rattle.raft_history.proofs.QueueLemmas.{items_in_queue, whole_in_queue}
@@ -79,7 +79,7 @@ stand_exact q rs h f ex r = (steps_of r (batches h), steps_good r h f, ex.each r
 
 -- ---- overlays
 
-pub overlay_by_steps : (r : ℕ) (rs : MarkedRegions) (bs : List Batch) (rewritten : Option Table) → AreExact Append rs bs
+pub overlay_by_steps : (r : ℕ) (rs : MarkedRegions) (bs : List ReadBatch) (rewritten : Option Table) → AreExact Append rs bs
     → overlaid_region r (finite.get rs.marks r) (finite.get rs.tables r) rewritten ≡ cond (is_named r bs) (overlaid_table r (steps_of r bs) (finite.get rs.tables r) rewritten) rewritten
 overlay_by_steps r rs bs rewritten ex = go (finite.get rs.marks r) refl
   where

@@ -9,7 +9,7 @@ ghost use Rattle.raft_base.specs.declared.pipe_log.LogQueue.TheVariants.{Append}
 ghost use Rattle.raft_records.specs.Item.{Item};
 ghost use Rattle.raft_table.specs.Overlay.{overlaid_table};
 ghost use Rattle.raft_table.specs.Table.{Table};
-ghost use Rattle.raft_history.specs.Batches.{Event, Batch, batches};
+ghost use Rattle.raft_history.specs.Batches.{Event, ReadBatch, batches};
 ghost use Rattle.raft_history.specs.Contexts.{AreExact};
 ghost use Rattle.raft_history.specs.Effects.{steps_of, is_named};
 ghost use Rattle.raft_history.specs.Histories.{AreInFile, AreInFiles, IsStepOfQueue};
@@ -39,7 +39,7 @@ pub fn regions_stand_for_steps()
 /// Over a rewritten table an exact mark and table of the append queue give the overlay by its steps, for
 /// the regions that these name; the others keep their rewritten tables.
 pub fn overlays_are_by_steps()
-    ensures { (r : ℕ) (rs : MarkedRegions) (bs : List Batch) (rewritten : Option Table) → AreExact Append rs bs
+    ensures { (r : ℕ) (rs : MarkedRegions) (bs : List ReadBatch) (rewritten : Option Table) → AreExact Append rs bs
         → overlaid_region r (finite.get rs.marks r) (finite.get rs.tables r) rewritten
         ≡ (if is_named r bs then overlaid_table r (steps_of r bs) (finite.get rs.tables r) rewritten else rewritten) }
 {}

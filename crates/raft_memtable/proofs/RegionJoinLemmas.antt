@@ -1,5 +1,5 @@
 -- The marks and tables of a newer neighbour joined one after another.
-use Rattle.std.proofs.Common.{◌≡◌, ◌≢◌, ◌⊎◌, ◌<◌, ◌≤◌, ◌+◌, ◌^◌, ℕ, Bool, true, false, cond, ◌||◌, nat_eq, List, [], ◌∷◌, length, Option, Some, None, Result, Ok, Err, refl, sym, ap, subst, ◌∙◌, inl, inr, arith}
+use Rattle.std.proofs.Common.{◌≡◌, ◌≢◌, ◌<◌, ◌≤◌, ◌+◌, ◌^◌, ℕ, false, cond, ◌||◌, nat_eq, List, [], ◌∷◌, Option, Some, None, Result, Ok, Err, refl, sym, ap, subst, ◌∙◌, inl, inr, arith}
 use Rattle.std.specs.Ordering.{nat_cmp, eq_by_cmp}
 use Rattle.std.specs.Cmp.{nat_cmp_total}
 use Rattle.std.specs.List.{AllByRecursion, IsDistinct}
@@ -11,10 +11,10 @@ use Rattle.std.specs.FinMap.{find}
 use Rattle.raft_base.specs.declared.errors.Error.{Error}
 use Rattle.raft_base.specs.declared.errors.Error.TheVariants as errors
 use Rattle.raft_base.specs.declared.pipe_log.LogQueue.{LogQueue}
-use Rattle.raft_table.specs.Counts.{Counts, live}
+use Rattle.raft_table.specs.Counts.{Counts}
 use Rattle.raft_table.specs.MarkMerge.{IsFaultUnder, IsRunOver}
-use Rattle.raft_table.specs.Marks.{Mark, is_meeting_refused, applied}
-use Rattle.raft_table.specs.MarkJoins.{fresh, joined, joined_at, met}
+use Rattle.raft_table.specs.Marks.{Mark, applied}
+use Rattle.raft_table.specs.MarkJoins.{fresh, joined_mark, joined_at, end_at_reach}
 use Rattle.raft_table.specs.Queues.{other}
 use Rattle.raft_table.specs.Steps.{table_of}
 use Rattle.raft_table.specs.Table.{Table, live_of}
@@ -23,11 +23,11 @@ use Rattle.raft_table.proofs.RegionLemmas.{stands_run}
 use Rattle.raft_table.proofs.RunCounts.{entry_count-le}
 use Rattle.raft_table.proofs.TableLemmas.{live_of_empty}
 use Rattle.raft_history.specs.Joins.{StandForSteps, AreJoined, IsJoinRefused}
-use Rattle.raft_history.specs.MarkedRegions.{Marks, MarkedRegions, MarkedRegion, region_in, with_region, joined_region, joined_marked, joined_each}
+use Rattle.raft_history.specs.MarkedRegions.{Marks, MarkedRegions, region_in, with_region, joined_region, joined_marked, joined_each}
 use Rattle.raft_history.specs.Records.{total_of, total, table_records, all_records}
 use Rattle.raft_history.specs.RegionSteps.{Tables, with_table}
 use Rattle.raft_history.proofs.JoinLemmas.{each_joined, each_refused, each_marked}
-use Rattle.raft_memtable.specs.Accessor.{table_in, live_in, live_of_all, live_in_all, AreCounted}
+use Rattle.raft_memtable.specs.Accessor.{table_in, live_in, live_of_all, live_in_all, AreCountsOf}
 use Rattle.raft_memtable.specs.RegionMarks.{mark_in}
 use Rattle.raft_memtable.specs.TableJoins.{AreRunsOver}
 use Rattle.raft_memtable.proofs.LiveLemmas.{live-remove, live-with, live-table_of}
@@ -146,14 +146,14 @@ module _ (queue : LogQueue) (newer : Tables) (first : MarkedRegions) (all : List
   }
 
   -- one is refused, where the records of both sides are few
-  pub joining_refused : (counts : Counts) (e : Error) → AreCounted now.tables counts → all_records first.tables + all_records newer < 2 ^ 64 → AreRunsOf queue newer first.tables all → IsFaultUnder queue counts m (table_of id (finite.get left id)) (table_in now.tables id) e → e ≢ errors.Memory → joined_each queue newer first all ≡ None
+  pub joining_refused : (counts : Counts) (e : Error) → AreCountsOf now.tables counts → all_records first.tables + all_records newer < 2 ^ 64 → AreRunsOf queue newer first.tables all → IsFaultUnder queue counts m (table_of id (finite.get left id)) (table_in now.tables id) e → e ≢ errors.Memory → joined_each queue newer first all ≡ None
   joining_refused counts (errors.Corruption text) counted small runs r n = each_here runs ∙ ap (option_and_then (λ x. joined_each queue newer (with_region now id x) es)) none
     where
       gone : applied queue id m (finite.get left id) (finite.get now.tables id) ≡ None
       gone = rw r refl
 
       none : joined_region queue id (region_in now id) record { mark = m; table = finite.get left id } ≡ None
-      none = ap (option_map (λ t. record { mark = joined queue id (region_in now id).mark (region_in now id).table m; table = t })) gone
+      none = ap (option_map (λ t. record { mark = joined_mark queue id (region_in now id).mark (region_in now id).table m; table = t })) gone
   joining_refused counts errors.Full counted small runs r n =
       absurd (let q = r.0 in omega (arith, r.1, counted q, at.few q, live-le-records q first.tables, live-le-records q newer, live-remove q left id, own_live q (finite.get left id)))
     where
@@ -174,7 +174,7 @@ module _ (queue : LogQueue) (newer : Tables) (first : MarkedRegions) (all : List
         joining_step next after (subst (λ (t : Option Table). IsRunOver queue m (table_of id t) (table_in now.tables id) → joined_region queue id (region_in now id) record { mark = m; table = t } ≡ Some (region_in next id)) taken ok) one
         (λ q. subst (λ (t : Option Table). live_in_all q next.tables ≤ live_in_all q now.tables + live_in q t) taken (more q)) gone
 
-    pub taken_refused : (counts : Counts) (e : Error) → AreCounted now.tables counts → all_records first.tables + all_records newer < 2 ^ 64 → AreRunsOf queue newer first.tables all → (IsRunOver queue m (table_of id t) (table_in now.tables id) → IsFaultUnder queue counts m (table_of id t) (table_in now.tables id) e) → e ≢ errors.Memory → joined_each queue newer first all ≡ None
+    pub taken_refused : (counts : Counts) (e : Error) → AreCountsOf now.tables counts → all_records first.tables + all_records newer < 2 ^ 64 → AreRunsOf queue newer first.tables all → (IsRunOver queue m (table_of id t) (table_in now.tables id) → IsFaultUnder queue counts m (table_of id t) (table_in now.tables id) e) → e ≢ errors.Memory → joined_each queue newer first all ≡ None
     taken_refused counts e counted small runs fault =
         joining_refused counts e counted small runs (subst (λ (t : Option Table). IsRunOver queue m (table_of id t) (table_in now.tables id) → IsFaultUnder queue counts m (table_of id t) (table_in now.tables id) e) taken fault (run_here runs))
 
@@ -205,11 +205,11 @@ region_with old new id m t e =
     mark_now : (old new : MarkedRegions) (id : ℕ) (m : Mark) → new.marks ≡ finite.insert old.marks id m → (region_in new id).mark ≡ m
     mark_now old new id m e = ap (λ (o : Option Mark). unwrap_or o fresh) (ap (λ x. finite.get x id) e ∙ get_own old.marks id m)
 
-pub region_joined : (queue : LogQueue) (old new : MarkedRegions) (id : ℕ) (m : Mark) (newer : Option Table) (end : ℕ) → end ≡ met m (table_in old.tables id) → new.marks ≡ finite.insert old.marks id (joined_at queue end (mark_in old.marks id) m)
+pub region_joined : (queue : LogQueue) (old new : MarkedRegions) (id : ℕ) (m : Mark) (newer : Option Table) (end : ℕ) → end ≡ end_at_reach m (table_in old.tables id) → new.marks ≡ finite.insert old.marks id (joined_at queue end (mark_in old.marks id) m)
     → applied queue id m newer (finite.get old.tables id) ≡ Some (finite.get new.tables id) → joined_region queue id (region_in old id) record { mark = m; table = newer } ≡ Some (region_in new id)
 region_joined queue old new id m newer end at e is =
     let now : (region_in new id).mark ≡ joined_at queue end (mark_in old.marks id) m = ap (λ (o : Option Mark). unwrap_or o fresh) (ap (λ x. finite.get x id) e ∙ get_own old.marks id _) in
-    ap (option_map (λ t. record { mark = joined queue id (region_in old id).mark (region_in old id).table m; table = t })) is
+    ap (option_map (λ t. record { mark = joined_mark queue id (region_in old id).mark (region_in old id).table m; table = t })) is
     ∙ ap (λ (n : Mark). Some (record { mark = n; table = finite.get new.tables id })) (ap (λ x. joined_at queue x (mark_in old.marks id) m) (sym at) ∙ sym now)
 
 pub live_joined : (q : LogQueue) (old new : Tables) (id : ℕ) (newer : Option Table) → new ≡ with_table old id (finite.get new id) → live_of q (table_in new id) ≤ live_of q (table_in old id) + live_in q newer → live_in_all q new ≤ live_in_all q old + live_in q newer

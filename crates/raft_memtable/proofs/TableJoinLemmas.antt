@@ -1,16 +1,15 @@
 -- A newer table of one region, or its absence, over the older one.
 use Rattle.std.proofs.Common.{◌≡◌, ◌≤◌, ◌+◌, ℕ, Bool, true, false, cond, ◌||◌, Option, Some, None, Result, Ok, Err, refl, sym, ap, subst, ◌∙◌, arith}
-use Rattle.std.specs.Prelude.{is_some}
 use Rattle.std.specs.FinMap as finite
-use Rattle.std.specs.Result.{OnOk, OnErr, IfOk, IfErr}
+use Rattle.std.specs.Result.{OnOk, IfOk, IfErr}
 use Rattle.raft_base.specs.declared.errors.Error.{Error}
 use Rattle.raft_base.specs.declared.errors.Error.TheVariants as errors
 use Rattle.raft_base.specs.declared.pipe_log.LogQueue.{LogQueue}
 use Rattle.raft_history.specs.RegionSteps.{Tables, with_table}
 use Rattle.raft_table.specs.Counts.{Counts}
-use Rattle.raft_table.specs.MarkJoins.{met}
-use Rattle.raft_table.specs.MarkMerge.{IsFaultUnder, IsMeetingFault, IsRunOver}
-use Rattle.raft_table.specs.Marks.{Mark, is_meeting_refused, table_over, is_there_over, applied}
+use Rattle.raft_table.specs.MarkJoins.{end_at_reach}
+use Rattle.raft_table.specs.MarkMerge.{IsFaultUnder, IsFirstRunFault, IsRunOver}
+use Rattle.raft_table.specs.Marks.{Mark, is_first_run_refused, table_over, applied}
 use Rattle.raft_table.specs.Steps.{table_of, there_if}
 use Rattle.raft_table.specs.Table.{Table, empty_table, live_of, IsRecounted}
 use Rattle.raft_table.specs.Entries.{end_of, from}
@@ -50,15 +49,15 @@ not_joined queue m newer old id counts r new after e one recounted = subst (λ r
 there_now : (old : Tables) (id : ℕ) (t : Table) → finite.get old id ≡ Some t → table_in old id ≡ t
 there_now old id t e = ap (table_of id) e
 
-nothing_met : (m : Mark) (id : ℕ) → 0 ≡ met m (empty_table id)
+nothing_at_reach : (m : Mark) (id : ℕ) → 0 ≡ end_at_reach m (empty_table id)
 unfolding from end_of
-nothing_met m id = refl
+nothing_at_reach m id = refl
 
 -- nor is there an older one
 pub nothing_joined : (queue : LogQueue) (m : Mark) (old : Tables) (id : ℕ) (counts : Counts) → finite.get old id ≡ None → IsTableJoined queue m None old id counts (Ok 0) old counts
 nothing_joined queue m old id counts e = record {
   ok = λ run. subst (λ o. applied queue id m None o ≡ Some o) (sym e) (applied_none queue id m None refl);
-  answer = nothing_met m id ∙ ap (λ o. met m (table_of id o)) (sym e);
+  answer = nothing_at_reach m id ∙ ap (λ o. end_at_reach m (table_of id o)) (sym e);
   fault = λ run. tt;
   few = λ q. omega arith;
   one = sym (with_same old id);
@@ -87,13 +86,13 @@ empty_joined queue m old id counts t r new after e live p = record {
     same = subst (λ o. applied queue id m None o ≡ applied queue id m (Some (empty_table id)) o) (sym e) (ap (λ b. there_if b (table_over queue m (empty_table id) t)) (there m.cleaned live))
 
 -- the older one goes
-pub cleaned_joined : (queue : LogQueue) (m : Mark) (old : Tables) (id : ℕ) (counts : Counts) (t : Table) (end : ℕ) (new : Tables) (after : Counts) → finite.get old id ≡ Some t → m.cleaned ≡ true → is_meeting_refused queue m t.entries ≡ false → end ≡ met m t → new ≡ finite.remove old id
+pub cleaned_joined : (queue : LogQueue) (m : Mark) (old : Tables) (id : ℕ) (counts : Counts) (t : Table) (end : ℕ) (new : Tables) (after : Counts) → finite.get old id ≡ Some t → m.cleaned ≡ true → is_first_run_refused queue m t.entries ≡ false → end ≡ end_at_reach m t → new ≡ finite.remove old id
     → IsRecounted (table_in old id) (empty_table id) counts after → IsTableJoined queue m None old id counts (Ok end) new after
 cleaned_joined queue m old id counts t end new after e cleaned accepted answer gone recounted =
     let none : finite.get new id ≡ None = ap (λ n. finite.get n id) gone ∙ get_gone old id in
     record {
       ok = λ run. subst (λ o. applied queue id m None o ≡ Some (finite.get new id)) (sym e) (rw (accepted, cleaned) (ap Some (sym none)));
-      answer = answer ∙ ap (met m) (sym (there_now old id t e));
+      answer = answer ∙ ap (end_at_reach m) (sym (there_now old id t e));
       fault = λ run. tt;
       few = λ q. omega (arith, ap (λ o. live_of q (table_of id o)) none, live_of_empty q id);
       one = gone ∙ ap (with_table old id) (sym none);
@@ -101,11 +100,11 @@ cleaned_joined queue m old id counts t end new after e cleaned accepted answer g
     }
 
 -- or the meeting is refused
-pub meeting_refused : (queue : LogQueue) (m : Mark) (old : Tables) (id : ℕ) (counts : Counts) (t : Table) (x : Error) → finite.get old id ≡ Some t → IsMeetingFault (is_meeting_refused queue m t.entries) x → IsTableJoined queue m None old id counts (Err x) old counts
-meeting_refused queue m old id counts t x e f = record { ok = λ run. tt; answer = tt; fault = λ run. go x f; few = tt; one = sym (with_same old id); recounted = λ q. refl }
+pub first_run_refused : (queue : LogQueue) (m : Mark) (old : Tables) (id : ℕ) (counts : Counts) (t : Table) (x : Error) → finite.get old id ≡ Some t → IsFirstRunFault (is_first_run_refused queue m t.entries) x → IsTableJoined queue m None old id counts (Err x) old counts
+first_run_refused queue m old id counts t x e f = record { ok = λ run. tt; answer = tt; fault = λ run. go x f; few = tt; one = sym (with_same old id); recounted = λ q. refl }
   where
-    go : (x : Error) → IsMeetingFault (is_meeting_refused queue m t.entries) x → IsFaultUnder queue counts m (empty_table id) (table_in old id) x
-    go (errors.Corruption text) f = ap (λ (u : Table). is_meeting_refused queue m u.entries) (there_now old id t e) ∙ f
+    go : (x : Error) → IsFirstRunFault (is_first_run_refused queue m t.entries) x → IsFaultUnder queue counts m (empty_table id) (table_in old id) x
+    go (errors.Corruption text) f = ap (λ (u : Table). is_first_run_refused queue m u.entries) (there_now old id t e) ∙ f
     go errors.Memory f = tt
     go _ f = absurd f
 
@@ -114,7 +113,7 @@ pub joined_elsewhere : (queue : LogQueue) (m : Mark) (newer : Option Table) (old
     → IsTableJoined queue m newer old id counts r new after → IsTableJoined queue m newer older id before r next after
 joined_elsewhere queue m newer old older id counts before r new next after e k f one p = record {
   ok = λ run. subst (λ o. OnOk r (applied queue id m newer o ≡ Some (finite.get next id))) (sym e) (subst (λ n. OnOk r (applied queue id m newer (finite.get old id) ≡ Some n)) (sym f) (p.ok (subst (λ o. IsRunOver queue m (table_of id newer) (table_of id o)) e run)));
-  answer = subst (λ o. IfOk r (λ end. end ≡ met m (table_of id o))) (sym e) p.answer;
+  answer = subst (λ o. IfOk r (λ end. end ≡ end_at_reach m (table_of id o))) (sym e) p.answer;
   fault = λ run. subst (λ c. IfErr r (IsFaultUnder queue c m (table_of id newer) (table_in older id))) (sym k) (subst (λ o. IfErr r (IsFaultUnder queue counts m (table_of id newer) (table_of id o))) (sym e) (p.fault (subst (λ o. IsRunOver queue m (table_of id newer) (table_of id o)) e run)));
   few = subst (λ o. OnOk r ((q : LogQueue) → live_of q (table_in next id) ≤ live_of q (table_of id o) + live_in q newer)) (sym e) (subst (λ n. OnOk r ((q : LogQueue) → live_of q (table_of id n) ≤ live_of q (table_in old id) + live_in q newer)) (sym f) p.few);
   one = one;

@@ -3,7 +3,7 @@
 ghost use Rattle.std.specs.Prelude.{◌≡◌, ◌≢◌, ◌<◌, ◌++◌, IfErr, IfSome, OnOk};
 ghost use Rattle.raft_base.specs.declared.pipe_log.LogQueue.TheVariants.{Append, Rewrite};
 ghost use Rattle.raft_table.specs.Queues.{other};
-ghost use Rattle.raft_memtable.specs.Accessor.{live_in, live_in_all, AreCounted};
+ghost use Rattle.raft_memtable.specs.Accessor.{live_in, live_in_all, AreCountsOf};
 ghost use Rattle.raft_memtable.specs.TableJoins.{IsTableJoined};
 
 use crate::accessor::{MemTableAccessor, slot_of};
@@ -11,7 +11,7 @@ use raft_table::{Error, LogQueue, Mark, MemTable, Result};
 
 impl MemTableAccessor {
     /// Puts a newer neighbor's table of a region, or its absence, over the older one, as the newer mark
-    /// says. The answer is where the part of the older entries ends that the mark's first run meets.
+    /// says. The answer is where the older entries end that the mark's first run comes behind.
     ///
     /// # Errors
     ///
@@ -27,7 +27,7 @@ impl MemTableAccessor {
         requires own { live_in (other queue) newer ≡ 0 }
         requires older { queue ≡ Rewrite → live_in_all Append self.old.tables ≡ 0 }
         ensures joined { IsTableJoined queue mark.now newer self.old.tables id self.old.counts result self.new.tables self.new.counts }
-        ensures counted { AreCounted self.old.tables self.old.counts }
+        ensures counted { AreCountsOf self.old.tables self.old.counts }
         ensures cleaned { self.new.cleaned ≡ self.old.cleaned }
     {
         self.slots[slot_of(id)].join_table(queue, id, newer, mark, &mut self.stats)

@@ -9,7 +9,7 @@ ghost use Rattle.raft_history.specs.Records.{all_records};
 ghost use Rattle.raft_table.specs.MarkMerge.{IsFaultUnder, IsRunOver};
 ghost use Rattle.raft_table.specs.Queues.{other};
 ghost use Rattle.raft_table.specs.Steps.{table_of};
-ghost use Rattle.raft_memtable.specs.Accessor.{table_in, live_in, live_in_all, AreCounted};
+ghost use Rattle.raft_memtable.specs.Accessor.{table_in, live_in, live_in_all, AreCountsOf};
 ghost use Rattle.raft_memtable.specs.MarkedTables.{regions_in, HaveRoom};
 ghost use Rattle.raft_memtable.specs.TableJoins.{AreRunsOver};
 
@@ -24,7 +24,7 @@ impl MarkedTables {
     /// # Errors
     ///
     /// `InvalidArgument` where either has records of the other queue, `Corruption` where the first run of
-    /// a region leaves a hole behind the older entries that it meets in the append queue, `Full` where
+    /// a region leaves a hole behind the older entries in the append queue, `Full` where
     /// more than 2^64 - 1 records would be live, `Memory`. Some regions are then joined.
     pub(crate) fn join(&mut self, queue: LogQueue, newer: MarkedTables) -> Result<()>
         ensures ok { StandForSteps queue (regions_in self.old) → StandForSteps queue (regions_in newer)
@@ -86,11 +86,11 @@ impl MarkedTables {
         ensures others { OnOk result (regions_in self.new ≡ with_region (regions_in self.old) id (region_in (regions_in self.new) id)) }
         ensures fault { IsRunOver queue mark (table_of id newer) (table_in self.old.accessor.tables id)
             → IfErr result (IsFaultUnder queue self.old.accessor.counts mark (table_of id newer) (table_in self.old.accessor.tables id)) }
-        ensures counted { AreCounted self.old.accessor.tables self.old.accessor.counts }
+        ensures counted { AreCountsOf self.old.accessor.tables self.old.accessor.counts }
         ensures few { OnOk result ((q : LogQueue) → live_in_all q self.new.accessor.tables ≤ live_in_all q self.old.accessor.tables + live_in q newer) }
         ensures cleaned { self.new.accessor.cleaned ≡ self.old.accessor.cleaned }
     {
-        let met = self.accessor.join_table(queue, id, newer, &mark)?;
-        self.marks.join(id, queue, met, mark)
+        let end = self.accessor.join_table(queue, id, newer, &mark)?;
+        self.marks.join(id, queue, end, mark)
     }
 }

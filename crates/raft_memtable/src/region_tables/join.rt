@@ -4,7 +4,7 @@ ghost use Rattle.std.specs.Prelude.{◌≡◌, ◌+◌, ◌≤◌, IfOk, IfErr, 
 ghost use Rattle.std.specs.FinMap as finite;
 ghost use Rattle.raft_base.specs.declared.pipe_log.LogQueue.{LogQueue};
 ghost use Rattle.raft_base.specs.declared.pipe_log.LogQueue.TheVariants.{Append, Rewrite};
-ghost use Rattle.raft_table.specs.MarkJoins.{met};
+ghost use Rattle.raft_table.specs.MarkJoins.{end_at_reach};
 ghost use Rattle.raft_table.specs.MarkMerge.{IsFaultUnder, IsRunOver};
 ghost use Rattle.raft_table.specs.Marks.{table_over};
 ghost use Rattle.raft_table.specs.Queues.{other};
@@ -17,7 +17,7 @@ use raft_table::{GlobalStats, LogQueue, Mark, MemTable, Result};
 
 impl RegionTables {
     /// Puts a newer neighbor's table of a region, or its absence, over the older one, as the newer mark
-    /// says. The answer is where the part of the older entries ends that the mark's first run meets.
+    /// says. The answer is where the older entries end that the mark's first run comes behind.
     ///
     /// # Errors
     ///
@@ -90,15 +90,15 @@ impl RegionTables {
         if !mark.is_cleaned() {
             return self.put_over(queue, id, MemTable::new(self.alloc, id), mark, stats);
         }
-        table.check_meeting(queue, mark)?;
-        let met = table.met(mark);
+        table.check_first_run(queue, mark)?;
+        let end = table.end_at_reach(mark);
         self.remove(id, stats);
-        Ok(met)
+        Ok(end)
     }
 }
 
-/// Puts a newer table over an older one, and answers where the part of the older entries ended that the
-/// mark's first run meets.
+/// Puts a newer table over an older one, and answers where the older entries ended that the mark's first
+/// run came behind.
 fn merge_under(
     queue: LogQueue,
     table: &mut MemTable,
@@ -114,7 +114,7 @@ fn merge_under(
     ensures region { table.new.region_id ≡ table.old.region_id }
     ensures recounted { IsRecounted table.old table.new stats.old stats.new }
 {
-    let met = table.met(mark);
+    let end = table.end_at_reach(mark);
     table.merge_under(queue, &mut newer, mark, stats)?;
-    Ok(met)
+    Ok(end)
 }

@@ -143,7 +143,7 @@ wholes_take h k f a g b behind = all (finite.entries (groups_in (batches k))) (e
     all [] x = tt
     all (e ∷ es) x = one_more (whole_group (known (groups_in (batches h)) e.0) e.1) (whole_with (groups_in (batches h)) es)
         (whole_takes (last_from 0 h) (known (groups_in (batches h)) e.0) e.1 (known_holds Rewrite e.0 h f a) (subst (Holds Rewrite) (sym x.0) (held e.0)) (known_up_to Rewrite e.0 h f)
-          (subst (λ (w : WaitingGroup). FrontFrom (last_from 0 h) w.front) (sym x.0) (group_from Rewrite e.0 (last_from 0 h) k behind)))
+        (subst (λ (w : WaitingGroup). FrontFrom (last_from 0 h) w.front) (sym x.0) (group_from Rewrite e.0 (last_from 0 h) k behind)))
         (all es x.1)
 
 -- the append queue has no groups

@@ -21,9 +21,9 @@ returns-in_err-take_wholes-clause-refused c =
     let whole = c.in_ok-wholes.ensures.wholes in
     let p = err_from_is_err_and c.from_residual-in_err-take_wholes.result c.from_residual-in_err-take_wholes.ensures.1 in
     rw (p.1, p.2) (λ ne. wholes_refused c.args.queue (context_in c.args.self.now) (context_in c.args.newer) c.requires.older c.requires.newer c.requires.neighbours
-      (subst (λ ws. ws ≢ []) whole c.in_err-take_wholes.ensures.none)
-      (subst (λ ws. HaveRoom Rewrite c.args.self.now.regions.accessor.tables (records_in_wholes ws) → regions_after Rewrite (regions_in c.args.self.now.regions) (region_steps_of_wholes ws) ≡ None) whole
-        (λ room. c.in_err-take_wholes.ensures.refused room ne)))
+    (subst (λ ws. ws ≢ []) whole c.in_err-take_wholes.ensures.none)
+    (subst (λ ws. HaveRoom Rewrite c.args.self.now.regions.accessor.tables (records_in_wholes ws) → regions_after Rewrite (regions_in c.args.self.now.regions) (region_steps_of_wholes ws) ≡ None) whole
+    (λ room. c.in_err-take_wholes.ensures.refused room ne)))
 
 taken_at : (c : goal.After-from_residual-in_err-join) → IsMiddle c.args.queue (context_in c.args.self.now) (context_in c.args.newer) (regions_in c.take_wholes.new.regions)
 taken_at c = record {
@@ -38,7 +38,7 @@ pub returns-in_err-join-clause-refused : goal.returns-in_err-join-clause-refused
 returns-in_err-join-clause-refused c =
     let p = err_from_is_err_and c.from_residual-in_err-join.result c.from_residual-in_err-join.ensures.1 in
     rw (p.1, p.2) (λ ne. join_refused c.args.queue (context_in c.args.self.now) (context_in c.args.newer) (regions_in c.take_wholes.new.regions) (taken_at c)
-      (λ older newer room alone. c.in_err-join.ensures.refused older newer room alone ne))
+    (λ older newer room alone. c.in_err-join.ensures.refused older newer room alone ne))
 
 middle_of : (c : goal.After-self-1) → IsMiddle c.args.queue (context_in c.args.self.now) (context_in c.args.newer) (regions_in c.take_wholes.new.regions)
 middle_of c = record {

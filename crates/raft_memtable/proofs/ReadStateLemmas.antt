@@ -12,19 +12,18 @@ use Rattle.raft_base.specs.declared.pipe_log.LogQueue.{LogQueue}
 use Rattle.raft_base.specs.declared.pipe_log.LogQueue.TheVariants.{Append, Rewrite}
 use Rattle.raft_records.specs.Item.{Item}
 use Rattle.raft_records.specs.declared.atomic_group.AtomicGroupStatus.{AtomicGroupStatus}
-use Rattle.raft_records.specs.declared.atomic_group.AtomicGroupStatus.TheVariants.{Begin, Middle, End}
 use Rattle.raft_table.specs.MarkJoins.{fresh}
 use Rattle.raft_table.specs.Queues.{other}
 use Rattle.raft_table.specs.Steps.{after}
 use Rattle.raft_history.specs.Batches.{Event, GroupMarker, batch_of, batches, marker_in}
-use Rattle.raft_history.specs.Contexts.{Context, FileRange, Suits, files_of, follows, joined_files, AreExact, StandsFor, AreMerged, merged_with, completed_steps, region_steps_or, taken_with, taken_in}
-use Rattle.raft_history.specs.Histories.{AreInFile, HaveStatus, IsSoundIn, IsStepOfQueue, records_in, cleaned_in_batch}
+use Rattle.raft_history.specs.Contexts.{Context, FileRange, Suits, files_of, follows, joined_files, AreExact, StandsFor, AreMerged, merged_with, completed_steps, region_steps_or, taken_in}
+use Rattle.raft_history.specs.Histories.{IsSoundIn, IsStepOfQueue, records_in, cleaned_in_batch}
 use Rattle.raft_history.specs.Joins.{StandForSteps, AreJoined, IsJoinRefused}
 use Rattle.raft_history.specs.MarkedRegions.{MarkedRegions, region_in, regions_after, region_steps_of_whole, region_steps_of_wholes}
-use Rattle.raft_history.specs.Records.{total, all_records, waiting_records, records_or, records_in_wholes}
-use Rattle.raft_history.specs.RegionSteps.{RegionStep, Tables, steps_of_items}
-use Rattle.raft_history.specs.WaitingGroup.{WaitingGroup, WholeGroup, unmarked, joined_group, whole_group, one_marker}
-use Rattle.raft_history.specs.WaitingGroups.{WaitingGroups, known, held_steps, groups_in, groups_after, whole_groups, joined_groups}
+use Rattle.raft_history.specs.Records.{all_records, waiting_records, records_or, records_in_wholes}
+use Rattle.raft_history.specs.RegionSteps.{RegionStep, steps_of_items}
+use Rattle.raft_history.specs.WaitingGroup.{WholeGroup, unmarked, joined_group, whole_group, one_marker}
+use Rattle.raft_history.specs.WaitingGroups.{WaitingGroups, known, groups_in, groups_after, whole_groups, joined_groups}
 use Rattle.raft_history.proofs.ContextLaws.{exact_reading, no_steps, regions_stand}
 use Rattle.raft_history.proofs.EffectLemmas.{each-append}
 use Rattle.raft_history.proofs.QueueLemmas.{items_in_queue, whole_in_queue}
@@ -35,7 +34,7 @@ use Rattle.raft_history.proofs.SoundLemmas.{files-back, files_follow}
 use Rattle.raft_history.proofs.TakenLaws.{IsNext, taken_some, taken_stands}
 use Rattle.raft_history.proofs.TotalLemmas.{total-insert}
 use Rattle.raft_history.proofs.UnmarkedLemmas.{named-steps}
-use Rattle.raft_history.proofs.WaitingLemmas.{records-append, joined_weight, waiting_known, merged_waiting, weight}
+use Rattle.raft_history.proofs.WaitingLemmas.{joined_weight, waiting_known, merged_waiting, weight}
 use Rattle.raft_memtable.specs.Accessor.{live_in_all}
 use Rattle.raft_memtable.specs.BatchChecks.{marker_found}
 use Rattle.raft_memtable.specs.MarkedTables.{AreStepsOfQueue, HaveRoom}

@@ -1,15 +1,11 @@
-use Rattle.std.proofs.Common.{◌≡◌, ◌≢◌, ◌++◌, [], Some, None, map, refl, sym, ap, subst, ◌∙◌}
+use Rattle.std.proofs.Common.{◌≡◌, ◌≢◌, ◌++◌, [], Some, None, sym, ap, subst, ◌∙◌}
 use Rattle.std.proofs.lemmas.Result.{err_from_is_err_and}
 use Rattle.std.specs.List.{AllByRecursion}
-use Rattle.raft_base.specs.declared.pipe_log.LogQueue.TheVariants.{Append, Rewrite}
-use Rattle.raft_history.specs.Contexts.{Context, merged_with, joined_files}
+use Rattle.raft_base.specs.declared.pipe_log.LogQueue.TheVariants.{Rewrite}
 use Rattle.raft_history.specs.MarkedRegions.{regions_after, region_steps_of_wholes}
 use Rattle.raft_history.specs.Records.{records_in_wholes}
-use Rattle.raft_history.specs.WaitingGroups.{joined_groups}
-use Rattle.raft_memtable.specs.FileRanges.{ranges_shown}
 use Rattle.raft_memtable.specs.MarkedTables.{regions_in, HaveRoom}
-use Rattle.raft_memtable.specs.ReadStates.{context_in, IsRead, TakesEffect}
-use Rattle.raft_memtable.specs.WaitingShown.{whole_shown}
+use Rattle.raft_memtable.specs.ReadStates.{context_in, TakesEffect}
 use Rattle.raft_memtable.proofs.ReadStateLemmas.{merge_takes, wholes_refused, IsMiddle, join_refused, join_merged, join_read, merged_by}
 use Rattle.raft_memtable.proofs.read_state.ReadState.join.Goals as goal
 

@@ -1,6 +1,5 @@
-use Rattle.std.proofs.Common.{refl, sym, ap, subst, ◌∙◌}
+use Rattle.std.proofs.Common.{refl, ap, ◌∙◌}
 use Rattle.std.proofs.lemmas.Result.{err_from_is_err_and}
-use Rattle.raft_base.specs.declared.pipe_log.FileId.{FileId}
 use Rattle.raft_history.specs.Contexts.{joined_files}
 use Rattle.raft_memtable.specs.FileRanges.{ranges_shown}
 use Rattle.raft_memtable.specs.ReadStates.{context_in}

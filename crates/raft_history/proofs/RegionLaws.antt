@@ -1,5 +1,5 @@
 -- That marks and tables of regions stand for some steps, kept by steps and joins; and overlays by exact marks.
-use Rattle.std.proofs.Common.{◌≡◌, ℕ, Bool, true, false, cond, ◌||◌, List, [], ◌∷◌, ◌++◌, Option, Some, None, refl, sym, ap, subst, ◌∙◌}
+use Rattle.std.proofs.Common.{◌≡◌, ℕ, cond, ◌||◌, List, [], ◌∷◌, ◌++◌, Option, Some, None, refl, sym, ap, subst, ◌∙◌}
 use Rattle.std.specs.Prelude.{is_some}
 use Rattle.std.specs.List.{AllByRecursion}
 use Rattle.std.specs.Option.{unwrap_or}
@@ -11,7 +11,7 @@ use Rattle.raft_base.specs.declared.pipe_log.LogQueue.TheVariants.{Append}
 use Rattle.raft_records.specs.Item.{Item}
 use Rattle.raft_table.specs.Marks.{Mark}
 use Rattle.raft_table.specs.MarkJoins.{fresh}
-use Rattle.raft_table.specs.Overlay.{has_clean, kept_if, overlay, overlay_under, overlaid_table, IsExactMark}
+use Rattle.raft_table.specs.Overlay.{has_clean, kept_if, overlay_under, overlaid_table, IsExactMark}
 use Rattle.raft_table.specs.Steps.{Step, Run, Compact, Put, Del, AtomicGroup, Clean, IsStep, AreSteps, table_of}
 use Rattle.raft_table.specs.Table.{Table}
 use Rattle.raft_table.proofs.OverlayLemmas.{overlay_exact}
@@ -20,7 +20,7 @@ use Rattle.raft_history.specs.Contexts.{Holds, AreExact}
 use Rattle.raft_history.specs.Effects.{steps_of, is_named}
 use Rattle.raft_history.specs.Histories.{AreInFile, AreInFiles, IsStepOfQueue}
 use Rattle.raft_history.specs.Joins.{StandForSteps, AreJoined, overlaid_region}
-use Rattle.raft_history.specs.MarkedRegions.{MarkedRegions, MarkedRegion, no_regions, region_in, regions_after, named_regions, on_each, region_steps_of_whole, joined_marked}
+use Rattle.raft_history.specs.MarkedRegions.{MarkedRegions, MarkedRegion, no_regions, region_in, regions_after, region_steps_of_whole, joined_marked}
 use Rattle.raft_history.specs.RegionSteps.{RegionStep, steps_on, steps_of_items}
 use Rattle.raft_history.specs.WaitingGroup.{WholeGroup}
 use Rattle.raft_history.proofs.QueueLemmas.{items_in_queue, whole_in_queue}

@@ -12,19 +12,18 @@ use Rattle.raft_base.specs.declared.pipe_log.LogQueue.{LogQueue}
 use Rattle.raft_base.specs.declared.pipe_log.LogQueue.TheVariants.{Append, Rewrite}
 use Rattle.raft_records.specs.Item.{Item}
 use Rattle.raft_records.specs.declared.atomic_group.AtomicGroupStatus.{AtomicGroupStatus}
-use Rattle.raft_records.specs.declared.atomic_group.AtomicGroupStatus.TheVariants.{Begin, Middle, End}
 use Rattle.raft_table.specs.MarkJoins.{fresh}
 use Rattle.raft_table.specs.Queues.{other}
 use Rattle.raft_table.specs.Steps.{after}
 use Rattle.raft_history.specs.Batches.{Event, GroupMarker, batch_of, batches, marker_in}
-use Rattle.raft_history.specs.Contexts.{Context, FileRange, Suits, files_of, follows, joined_files, AreExact, StandsFor, AreMerged, merged_with, completed_steps, region_steps_or, taken_with, taken_in}
-use Rattle.raft_history.specs.Histories.{AreInFile, HaveStatus, IsSoundIn, IsStepOfQueue, records_in, cleaned_in_batch}
+use Rattle.raft_history.specs.Contexts.{Context, FileRange, Suits, files_of, follows, joined_files, AreExact, StandsFor, AreMerged, merged_with, completed_steps, region_steps_or, taken_in}
+use Rattle.raft_history.specs.Histories.{IsSoundIn, IsStepOfQueue, records_in, cleaned_in_batch}
 use Rattle.raft_history.specs.Joins.{StandForSteps, AreJoined, IsJoinRefused}
 use Rattle.raft_history.specs.MarkedRegions.{MarkedRegions, region_in, regions_after, region_steps_of_whole, region_steps_of_wholes}
-use Rattle.raft_history.specs.Records.{total, all_records, waiting_records, records_or, records_in_wholes}
-use Rattle.raft_history.specs.RegionSteps.{RegionStep, Tables, steps_of_items}
-use Rattle.raft_history.specs.WaitingGroup.{WaitingGroup, WholeGroup, unmarked, joined_group, whole_group, one_marker}
-use Rattle.raft_history.specs.WaitingGroups.{WaitingGroups, known, held_steps, groups_in, groups_after, whole_groups, joined_groups}
+use Rattle.raft_history.specs.Records.{all_records, waiting_records, records_or, records_in_wholes}
+use Rattle.raft_history.specs.RegionSteps.{RegionStep, steps_of_items}
+use Rattle.raft_history.specs.WaitingGroup.{WholeGroup, unmarked, joined_group, whole_group, one_marker}
+use Rattle.raft_history.specs.WaitingGroups.{WaitingGroups, known, groups_in, groups_after, whole_groups, joined_groups}
 use Rattle.raft_history.proofs.ContextLaws.{exact_reading, no_steps, regions_stand}
 use Rattle.raft_history.proofs.EffectLemmas.{each-append}
 use Rattle.raft_history.proofs.QueueLemmas.{items_in_queue, whole_in_queue}
@@ -35,7 +34,7 @@ use Rattle.raft_history.proofs.SoundLemmas.{files-back, files_follow}
 use Rattle.raft_history.proofs.TakenLaws.{IsNext, taken_some, taken_stands}
 use Rattle.raft_history.proofs.TotalLemmas.{total-insert}
 use Rattle.raft_history.proofs.UnmarkedLemmas.{named-steps}
-use Rattle.raft_history.proofs.WaitingLemmas.{records-append, joined_weight, waiting_known, merged_waiting, weight}
+use Rattle.raft_history.proofs.WaitingLemmas.{joined_weight, waiting_known, merged_waiting, weight}
 use Rattle.raft_memtable.specs.Accessor.{live_in_all}
 use Rattle.raft_memtable.specs.BatchChecks.{marker_found}
 use Rattle.raft_memtable.specs.MarkedTables.{AreStepsOfQueue, HaveRoom}
@@ -183,7 +182,7 @@ unmarked_step c e r n m h = go (few_or_many (records_held c + records_in (steps_
 
 pub marked_step : (c : Context) (e : Event) (id : ℕ) (s : AtomicGroupStatus) → IsRead c → MayFollow c e → marker_found e.file.queue e.items ≡ Some (id, s)
     → (HaveRoom Rewrite c.regions.tables (records_or (whole_group (known c.groups id) (one_marker s (steps_of_items e.items) e.file.seq)))
-      → regions_after Rewrite c.regions (region_steps_or (whole_group (known c.groups id) (one_marker s (steps_of_items e.items) e.file.seq))) ≡ None) → IsStepRefused c e
+    → regions_after Rewrite c.regions (region_steps_or (whole_group (known c.groups id) (one_marker s (steps_of_items e.items) e.file.seq))) ≡ None) → IsStepRefused c e
 marked_step c e id s r n m h = go (few_or_many (records_held c + records_in (steps_of_items e.items)))
   where
     go : (records_held c + records_in (steps_of_items e.items) < 2 ^ 64) ⊎ (2 ^ 64 ≤ records_held c + records_in (steps_of_items e.items)) → IsStepRefused c e
@@ -211,12 +210,12 @@ completed_in_queue c e r n = go (batch_of e).marker refl
     go None is = items_in_queue e.file.queue e.file e.items refl n.items
     go (Some m) is = let queue = in_rewrite e.file.queue m is in
         subst (λ q. AreStepsOfQueue q (region_steps_or (whole_group (known c.groups m.group) (one_marker m.status (steps_of_items e.items) e.file.seq)))) (sym queue)
-          (of (whole_group (known c.groups m.group) (one_marker m.status (steps_of_items e.items) e.file.seq)) (batch_takes c r.history e m r.stands (next_of c e n) queue))
+        (of (whole_group (known c.groups m.group) (one_marker m.status (steps_of_items e.items) e.file.seq)) (batch_takes c r.history e m r.stands (next_of c e n) queue))
 
 steps_more : (c d : Context) (e : Event) → IsRead c → MayFollow c e → taken_in c e ≡ Some d → StandForSteps e.file.queue d.regions
 steps_more c d e r n t = let s = taken_some c d e t in
     subst (λ (d : Context). StandForSteps e.file.queue d.regions) s.2
-      (stand_after e.file.queue c.regions s.0 (completed_steps c.groups (batch_of e) (batch_of e).marker) (completed_in_queue c e r n) (steps_of_read e.file.queue c r n.queue) s.1)
+    (stand_after e.file.queue c.regions s.0 (completed_steps c.groups (batch_of e) (batch_of e).marker) (completed_in_queue c e r n) (steps_of_read e.file.queue c r n.queue) s.1)
 
 -- with one more batch it was read from one history more
 pub read_more : (c d : Context) (e : Event) → IsRead c → MayFollow c e → taken_in c e ≡ Some d → live_in_all (other e.file.queue) d.regions.tables ≤ live_in_all (other e.file.queue) c.regions.tables → IsRead d
@@ -254,8 +253,8 @@ pub merge_takes : (q : LogQueue) (c d : Context) → IsRead c → IsRead d → A
 merge_takes Append c d r s n = subst (AllByRecursion TakesEffect) (sym (wholes_none c d s n.newer)) tt
 merge_takes Rewrite c d r s n = subst (λ g. AllByRecursion TakesEffect (whole_groups g d.groups)) (sym r.stands.groups) (subst (λ g. AllByRecursion TakesEffect (whole_groups (groups_in (batches r.history)) g)) (sym s.stands.groups)
     (wholes_take r.history s.history (sound_of Rewrite c r n.older).files (sound_of Rewrite c r n.older).items (sound_of Rewrite d s n.newer).files (sound_of Rewrite d s n.newer).items
-      (files-back Rewrite 0 r.history s.history (files_follow Rewrite r.history s.history (sound_of Rewrite c r n.older).files (sound_of Rewrite d s n.newer).files
-        (ap (λ f. follows f (files_of s.history)) (sym r.stands.files) ∙ ap (follows c.files) (sym s.stands.files) ∙ n.files)))))
+    (files-back Rewrite 0 r.history s.history (files_follow Rewrite r.history s.history (sound_of Rewrite c r n.older).files (sound_of Rewrite d s n.newer).files
+    (ap (λ f. follows f (files_of s.history)) (sym r.stands.files) ∙ ap (follows c.files) (sym s.stands.files) ∙ n.files)))))
 
 -- the append queue has none, so these are steps of either queue
 pub either_queue : (q : LogQueue) (c d : Context) → IsRead d → AreNeighbours q c d → regions_after Rewrite c.regions (region_steps_of_wholes (both_wholes c d)) ≡ regions_after q c.regions (region_steps_of_wholes (both_wholes c d))
@@ -304,8 +303,12 @@ pub join_refused : (q : LogQueue) (c d : Context) (middle : MarkedRegions) → I
 join_refused q c d middle m h = go (few_or_many (records_held c + records_held d))
   where
     go : (records_held c + records_held d < 2 ^ 64) ⊎ (2 ^ 64 ≤ records_held c + records_held d) → IsNeighbourRefused q c d
-    go (inl few) = inl (inr (middle, sym (either_queue q c d m.newer m.neighbours) ∙ m.taken, h (middle_steps q c d middle m) (steps_of_read q d m.newer m.neighbours.newer)
-        (record { alone = middle_alone q c d middle m; few = omega (arith, few, middle_records q c d middle m) }) (alone_of q d m.newer m.neighbours.newer)))
+    go (inl few) = inl (inr (
+      middle,
+      sym (either_queue q c d m.newer m.neighbours) ∙ m.taken,
+      h (middle_steps q c d middle m) (steps_of_read q d m.newer m.neighbours.newer)
+          (record { alone = middle_alone q c d middle m; few = omega (arith, few, middle_records q c d middle m) }) (alone_of q d m.newer m.neighbours.newer),
+    ))
     go (inr many) = inr many
 
 -- the regions are joined
@@ -319,7 +322,7 @@ pub join_read : (q : LogQueue) (c d new : Context) (middle : MarkedRegions) → 
 join_read q c d new middle m h is alone = record {
   history = m.older.history ++ m.newer.history;
   stands = subst (λ x. StandsFor x (m.older.history ++ m.newer.history)) (sym is) (regions_stand q c d m.older.history m.newer.history new.regions
-    (record { older_suits = m.neighbours.older; newer_suits = m.neighbours.newer; older = m.older.stands; newer = m.newer.stands }) m.neighbours.files (join_merged q c d middle new.regions m h));
+      (record { older_suits = m.neighbours.older; newer_suits = m.neighbours.newer; older = m.older.stands; newer = m.newer.stands }) m.neighbours.files (join_merged q c d middle new.regions m h));
   alone = of_files (λ f. AreAlone f new.regions.tables) tt (λ f u. subst (λ q. live_in_all (other q) new.regions.tables ≡ 0) (sym u) alone);
   steps = of_files (λ f. AreOfSteps f new.regions) tt (λ f u. subst (λ q. StandForSteps q new.regions) (sym u) (stand_joined q middle d.regions new.regions steps own (h steps own)));
 }

@@ -1,13 +1,10 @@
 -- Recovery contexts and the histories that they stand for.
-use Rattle.std.proofs.Common.{◌≡◌, ◌≢◌, ◌⊎◌, ◌^◌, ◌<◌, ◌≤◌, ◌+◌, ℕ, List, [], ◌∷◌, ◌++◌, Option, Some, None, Result, Ok, Err, true, false, refl, sym, ap, subst, ◌∙◌, inl, inr, arith}
-use Rattle.std.specs.Prelude.{IfOk, IfErr, OnOk}
-use Rattle.raft_base.specs.declared.errors.Error.{Error}
-use Rattle.raft_base.specs.declared.errors.Error.TheVariants.{Memory}
+use Rattle.std.proofs.Common.{◌≡◌, List, [], ◌∷◌, ◌++◌, Result, Ok, Err, refl, sym, ap, subst, ◌∙◌, inl, inr, arith}
+use Rattle.std.specs.Prelude.{IfErr, OnOk}
 use Rattle.raft_base.specs.declared.pipe_log.LogQueue.{LogQueue}
 use Rattle.raft_history.specs.Batches.{Event, batches}
-use Rattle.raft_history.specs.Contexts.{Context, new_context, Suits, files_of, follows, StandsFor, IsExactFor, merged_with}
-use Rattle.raft_history.specs.Histories.{IsSmall, Sound, Apart, IsOfQueue, IsOneReading, records_in_history, records_in}
-use Rattle.raft_history.specs.RegionSteps.{steps_of_items}
+use Rattle.raft_history.specs.Contexts.{Context, new_context, Suits, files_of, follows, StandsFor, IsExactFor}
+use Rattle.raft_history.specs.Histories.{IsSmall, Sound, Apart, IsOfQueue, IsOneReading}
 use Rattle.raft_history.proofs.ContextLaws.{Merges, exact_reading, regions_stand, regions_exact, regions_unsound}
 use Rattle.raft_history.proofs.NewLaws.{new_exact}
 use Rattle.raft_history.proofs.SoundLemmas.{follow_files}

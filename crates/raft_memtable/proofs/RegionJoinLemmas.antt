@@ -1,5 +1,5 @@
 -- The marks and tables of a newer neighbour joined one after another.
-use Rattle.std.proofs.Common.{◌≡◌, ◌≢◌, ◌⊎◌, ◌<◌, ◌≤◌, ◌+◌, ◌^◌, ℕ, Bool, true, false, cond, ◌||◌, nat_eq, List, [], ◌∷◌, length, Option, Some, None, Result, Ok, Err, refl, sym, ap, subst, ◌∙◌, inl, inr, arith}
+use Rattle.std.proofs.Common.{◌≡◌, ◌≢◌, ◌<◌, ◌≤◌, ◌+◌, ◌^◌, ℕ, false, cond, ◌||◌, nat_eq, List, [], ◌∷◌, Option, Some, None, Result, Ok, Err, refl, sym, ap, subst, ◌∙◌, inl, inr, arith}
 use Rattle.std.specs.Ordering.{nat_cmp, eq_by_cmp}
 use Rattle.std.specs.Cmp.{nat_cmp_total}
 use Rattle.std.specs.List.{AllByRecursion, IsDistinct}
@@ -11,9 +11,9 @@ use Rattle.std.specs.FinMap.{find}
 use Rattle.raft_base.specs.declared.errors.Error.{Error}
 use Rattle.raft_base.specs.declared.errors.Error.TheVariants as errors
 use Rattle.raft_base.specs.declared.pipe_log.LogQueue.{LogQueue}
-use Rattle.raft_table.specs.Counts.{Counts, live}
+use Rattle.raft_table.specs.Counts.{Counts}
 use Rattle.raft_table.specs.MarkMerge.{IsFaultUnder, IsRunOver}
-use Rattle.raft_table.specs.Marks.{Mark, is_first_run_refused, applied}
+use Rattle.raft_table.specs.Marks.{Mark, applied}
 use Rattle.raft_table.specs.MarkJoins.{fresh, joined_mark, joined_at, end_at_reach}
 use Rattle.raft_table.specs.Queues.{other}
 use Rattle.raft_table.specs.Steps.{table_of}
@@ -23,7 +23,7 @@ use Rattle.raft_table.proofs.RegionLemmas.{stands_run}
 use Rattle.raft_table.proofs.RunCounts.{entry_count-le}
 use Rattle.raft_table.proofs.TableLemmas.{live_of_empty}
 use Rattle.raft_history.specs.Joins.{StandForSteps, AreJoined, IsJoinRefused}
-use Rattle.raft_history.specs.MarkedRegions.{Marks, MarkedRegions, MarkedRegion, region_in, with_region, joined_region, joined_marked, joined_each}
+use Rattle.raft_history.specs.MarkedRegions.{Marks, MarkedRegions, region_in, with_region, joined_region, joined_marked, joined_each}
 use Rattle.raft_history.specs.Records.{total_of, total, table_records, all_records}
 use Rattle.raft_history.specs.RegionSteps.{Tables, with_table}
 use Rattle.raft_history.proofs.JoinLemmas.{each_joined, each_refused, each_marked}

@@ -1,8 +1,7 @@
 -- A newer table of one region, or its absence, over the older one.
 use Rattle.std.proofs.Common.{◌≡◌, ◌≤◌, ◌+◌, ℕ, Bool, true, false, cond, ◌||◌, Option, Some, None, Result, Ok, Err, refl, sym, ap, subst, ◌∙◌, arith}
-use Rattle.std.specs.Prelude.{is_some}
 use Rattle.std.specs.FinMap as finite
-use Rattle.std.specs.Result.{OnOk, OnErr, IfOk, IfErr}
+use Rattle.std.specs.Result.{OnOk, IfOk, IfErr}
 use Rattle.raft_base.specs.declared.errors.Error.{Error}
 use Rattle.raft_base.specs.declared.errors.Error.TheVariants as errors
 use Rattle.raft_base.specs.declared.pipe_log.LogQueue.{LogQueue}
@@ -10,7 +9,7 @@ use Rattle.raft_history.specs.RegionSteps.{Tables, with_table}
 use Rattle.raft_table.specs.Counts.{Counts}
 use Rattle.raft_table.specs.MarkJoins.{end_at_reach}
 use Rattle.raft_table.specs.MarkMerge.{IsFaultUnder, IsFirstRunFault, IsRunOver}
-use Rattle.raft_table.specs.Marks.{Mark, is_first_run_refused, table_over, is_there_over, applied}
+use Rattle.raft_table.specs.Marks.{Mark, is_first_run_refused, table_over, applied}
 use Rattle.raft_table.specs.Steps.{table_of, there_if}
 use Rattle.raft_table.specs.Table.{Table, empty_table, live_of, IsRecounted}
 use Rattle.raft_table.specs.Entries.{end_of, from}

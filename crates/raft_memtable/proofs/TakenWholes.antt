@@ -1,12 +1,11 @@
 -- Groups that are whole, taken in one after another.
-use Rattle.std.proofs.Common.{◌≡◌, ℕ, ◌+◌, ◌<◌, ◌≤◌, ◌^◌, List, [], ◌∷◌, ◌++◌, Option, Some, None, refl, sym, ap, subst, ◌∙◌, arith}
+use Rattle.std.proofs.Common.{◌≡◌, ◌≤◌, List, [], ◌∷◌, ◌++◌, Option, Some, None, refl, ap, ◌∙◌, arith}
 use Rattle.std.specs.Option.{option_and_then}
-use Rattle.std.specs.FinMap as finite
 use Rattle.raft_base.specs.declared.pipe_log.LogQueue.{LogQueue}
 use Rattle.raft_base.specs.declared.pipe_log.LogQueue.TheVariants.{Append, Rewrite}
 use Rattle.raft_history.specs.Histories.{records_in}
 use Rattle.raft_history.specs.MarkedRegions.{MarkedRegions, MarkedRegion, region_in, with_region, stepped_region, regions_after, region_steps_of_whole, region_steps_of_wholes}
-use Rattle.raft_history.specs.Records.{records_in_wholes, all_records}
+use Rattle.raft_history.specs.Records.{records_in_wholes}
 use Rattle.raft_history.specs.RegionSteps.{RegionStep}
 use Rattle.raft_history.specs.WaitingGroup.{WholeGroup}
 use Rattle.raft_history.proofs.RecordLemmas.{read_records, whole_group-records}

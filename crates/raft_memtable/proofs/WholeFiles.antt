@@ -1,5 +1,5 @@
 -- Groups that become whole: their steps are of the queue, and their files in order.
-use Rattle.std.proofs.Common.{◌≡◌, ◌⊎◌, ℕ, suc, ◌≤◌, Bool, true, false, List, [], ◌∷◌, ◌++◌, Option, Some, None, refl, sym, ap, subst, ◌∙◌, inl, inr, arith}
+use Rattle.std.proofs.Common.{◌≡◌, ℕ, suc, ◌≤◌, List, [], ◌∷◌, ◌++◌, Option, Some, None, refl, sym, ap, subst, ◌∙◌, arith}
 use Rattle.std.specs.Prelude.{flat_map, length}
 use Rattle.std.specs.Ordering.{nat_cmp}
 use Rattle.std.specs.List.{AllByRecursion, cons_option}
@@ -8,7 +8,7 @@ use Rattle.raft_base.specs.declared.pipe_log.LogQueue.{LogQueue}
 use Rattle.raft_base.specs.declared.pipe_log.LogQueue.TheVariants.{Append, Rewrite}
 use Rattle.raft_records.specs.declared.atomic_group.AtomicGroupStatus.{AtomicGroupStatus}
 use Rattle.raft_records.specs.declared.atomic_group.AtomicGroupStatus.TheVariants.{Begin, Middle, End}
-use Rattle.raft_history.specs.Batches.{GroupMarker, ReadBatch, Event, batch_of, batches, marker_in}
+use Rattle.raft_history.specs.Batches.{GroupMarker, ReadBatch, Event, batches}
 use Rattle.raft_history.specs.Contexts.{Context, Suits, StandsFor, StandsIn, files_of, follows}
 use Rattle.raft_history.specs.Effects.{group_in}
 use Rattle.raft_history.specs.Histories.{FilesFrom, AreInFiles, last_from, IsStepOfQueue}
@@ -143,7 +143,7 @@ wholes_take h k f a g b behind = all (finite.entries (groups_in (batches k))) (e
     all [] x = tt
     all (e ∷ es) x = one_more (whole_group (known (groups_in (batches h)) e.0) e.1) (whole_with (groups_in (batches h)) es)
         (whole_takes (last_from 0 h) (known (groups_in (batches h)) e.0) e.1 (known_holds Rewrite e.0 h f a) (subst (Holds Rewrite) (sym x.0) (held e.0)) (known_up_to Rewrite e.0 h f)
-          (subst (λ (w : WaitingGroup). FrontFrom (last_from 0 h) w.front) (sym x.0) (group_from Rewrite e.0 (last_from 0 h) k behind)))
+        (subst (λ (w : WaitingGroup). FrontFrom (last_from 0 h) w.front) (sym x.0) (group_from Rewrite e.0 (last_from 0 h) k behind)))
         (all es x.1)
 
 -- the append queue has no groups

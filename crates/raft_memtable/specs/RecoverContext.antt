@@ -1,5 +1,5 @@
 -- A recovery context: what it holds of the batches that it has read, and whether it reads on.
-use Rattle.std.specs.Prelude.{◌≡◌, ◌≢◌, ◌⊎◌, ◌+◌, ◌≤◌, ◌^◌, Bool, true, false, List, [], ◌∷◌, ℕ, Option, Some, None}
+use Rattle.std.specs.Prelude.{◌≡◌, ◌≢◌, ◌⊎◌, ◌+◌, ◌≤◌, ◌^◌, true, List, [], ◌∷◌, ℕ, Some, None}
 use Rattle.raft_base.specs.declared.pipe_log.LogQueue.{LogQueue}
 use Rattle.raft_history.specs.Batches.{Event}
 use Rattle.raft_history.specs.Contexts.{Context, new_context, Suits, files_of, follows, StandsFor, IsExactFor, taken_in, merged_with, AreMerged, AreRegionsRefused}

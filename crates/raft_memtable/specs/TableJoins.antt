@@ -1,5 +1,5 @@
 -- Tables of all regions joined with those of a newer neighbour, each under its mark.
-use Rattle.std.specs.Prelude.{◌≡◌, ℕ, ◌+◌, ◌≤◌, List, Option, Some, Result, IfOk, IfErr}
+use Rattle.std.specs.Prelude.{◌≡◌, ℕ, ◌+◌, ◌≤◌, Option, Some, Result, IfOk, IfErr}
 use Rattle.std.specs.FinMap as finite
 use Rattle.std.specs.Result.{OnOk}
 use Rattle.raft_base.specs.declared.errors.Error.{Error}

@@ -62,11 +62,7 @@ impl ReadState {
     }
 
     /// The group marker of a batch that may come next, if it has one.
-    fn check(
-        &self,
-        batch: &LogItemBatch,
-        file: FileId,
-    ) -> Result<Option<(u64, AtomicGroupStatus)>>
+    fn check(&self, batch: &LogItemBatch, file: FileId) -> Result<Option<(u64, AtomicGroupStatus)>>
         ensures next { OnOk result (MayFollow (context_in self.now) (event batch.now file)) }
         ensures marker { IfOk result (λ marker. marker ≡ marker_found file.queue batch.now) }
         ensures refused { IfErr result (λ e. e ≢ Error.Memory → MayFollow (context_in self.now) (event batch.now file) → ⊥) }
@@ -75,7 +71,9 @@ impl ReadState {
             return Err(Error::Corruption(format!(in self.alloc; "a batch of the other queue")?));
         }
         if !FileRange::follows(self.files, Some(FileRange::of(file))) {
-            return Err(Error::Corruption(format!(in self.alloc; "a batch of a file below the last one")?));
+            return Err(Error::Corruption(format!(in self.alloc;
+                "a batch of a file below the last one"
+            )?));
         }
         check_batch(self.alloc, batch, file)
     }
@@ -136,10 +134,14 @@ impl ReadState {
         ensures refused { IfErr result (λ e. e ≢ Error.Memory → AreNeighbours queue (context_in self.now) (context_in newer.now) → ⊥) }
     {
         if !FileRange::suits(self.files, queue) || !FileRange::suits(newer.files, queue) {
-            return Err(Error::InvalidArgument(format!(in self.alloc; "a context of the other queue")?));
+            return Err(Error::InvalidArgument(format!(in self.alloc;
+                "a context of the other queue"
+            )?));
         }
         if !FileRange::follows(self.files, newer.files) {
-            return Err(Error::Corruption(format!(in self.alloc; "a context of a file below the last one")?));
+            return Err(Error::Corruption(format!(in self.alloc;
+                "a context of a file below the last one"
+            )?));
         }
         Ok(())
     }

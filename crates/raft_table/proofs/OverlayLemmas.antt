@@ -1,5 +1,5 @@
 -- An appended table over a rewritten one: by a mark and by its steps, and that it is a run.
-use Rattle.std.proofs.Common.{◌≡◌, ◌⊎◌, ℕ, zero, suc, ◌+◌, ◌-◌, ◌<◌, ◌≤◌, max, min, Bool, true, false, cond, ◌&&◌, ◌||◌, ltb, leb, List, [], ◌∷◌, ◌++◌, length, Option, Some, None, refl, sym, ap, subst, ◌∙◌, inl, inr, arith}
+use Rattle.std.proofs.Common.{◌≡◌, ◌⊎◌, ℕ, zero, suc, ◌+◌, ◌-◌, ◌≤◌, Bool, true, false, cond, ◌&&◌, ◌||◌, ltb, leb, List, [], ◌∷◌, ◌++◌, length, Option, Some, None, refl, sym, ap, subst, ◌∙◌, inl, inr, arith}
 use Rattle.std.specs.Option.{option_map}
 use Rattle.std.specs.FinMap as finite
 use Rattle.std.specs.FinSet as finset
@@ -9,20 +9,20 @@ use Rattle.std.proofs.lemmas.Bool.{cases_lt, ltb-false}
 use Rattle.std.proofs.lemmas.Bool.Decides.{nat_tests}
 use Rattle.raft_base.specs.declared.pipe_log.LogQueue.TheVariants.{Append, Rewrite}
 use Rattle.raft_records.specs.declared.entry_index.EntryIndex.{EntryIndex}
-use Rattle.raft_table.specs.Entries.{RisesFrom, IsRun, end_of, below, from}
-use Rattle.raft_table.specs.KeySets.{KeySet, without}
-use Rattle.raft_table.specs.KeyValues.{Keys, overlaid}
+use Rattle.raft_table.specs.Entries.{RisesFrom, IsRun, end_of, from}
+use Rattle.raft_table.specs.KeySets.{without}
+use Rattle.raft_table.specs.KeyValues.{overlaid}
 use Rattle.raft_table.specs.MarkMerge.{left_by}
 use Rattle.raft_table.specs.Marks.{Mark, part, misses, is_missed, entries_over, keys_over, atomic_group_over, table_over, is_there_over, ReachesCut, Stands}
 use Rattle.raft_table.specs.Merge.{after_join}
-use Rattle.raft_table.specs.Overlay.{has_clean, greatest_compaction, least_start, deleted_of, is_short, rewritten_part, overlay, overlay_under, IsExactMark}
-use Rattle.raft_table.specs.Steps.{Step, table_of, after, AreSteps, IsTableOf}
-use Rattle.raft_table.specs.Table.{Table, empty_table, table_with_entries}
+use Rattle.raft_table.specs.Overlay.{has_clean, deleted_of, is_short, rewritten_part, overlay, overlay_under, IsExactMark}
+use Rattle.raft_table.specs.Steps.{Step, table_of, AreSteps, IsTableOf}
+use Rattle.raft_table.specs.Table.{Table, table_with_entries}
 use Rattle.raft_table.proofs.RunLemmas.{end_of-run, end_of-append, RisesFrom-append}
 use Rattle.raft_table.proofs.MarkWords.{part-append, part-nil, part-from, end_of-from}
-use Rattle.raft_table.proofs.MarkEntries.{same_some, pick_true, pick_false}
+use Rattle.raft_table.proofs.MarkEntries.{pick_false}
 use Rattle.raft_table.proofs.MarkExact.{empty_union}
-use Rattle.raft_table.proofs.MarkRuns.{run_from, table_after, empty_run}
+use Rattle.raft_table.proofs.MarkRuns.{run_from, table_after}
 use Rattle.raft_table.proofs.MarkTables.{applied-some, some_there}
 use Rattle.raft_table.proofs.UnderLemmas.{replayed_run, whole_keys}
 

@@ -97,8 +97,8 @@ impl RegionTables {
     }
 }
 
-/// Puts a newer table over an older one, and answers where the part of the older entries ended that the
-/// mark's first run meets.
+/// Puts a newer table over an older one, and answers where the older entries ended that the mark's first
+/// run came behind.
 fn merge_under(
     queue: LogQueue,
     table: &mut MemTable,

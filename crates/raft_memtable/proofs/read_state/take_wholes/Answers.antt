@@ -1,7 +1,7 @@
-use Rattle.std.proofs.Common.{◌≡◌, ◌∷◌, ◌≤◌, map, refl, sym, ap, subst, ◌∙◌, None, arith}
+use Rattle.std.proofs.Common.{map, sym, ap, subst, ◌∙◌, arith}
 use Rattle.std.proofs.lemmas.Result.{err_from_is_err_and}
 use Rattle.std.specs.List.{AllByRecursion}
-use Rattle.raft_base.specs.declared.pipe_log.LogQueue.TheVariants.{Append, Rewrite}
+use Rattle.raft_base.specs.declared.pipe_log.LogQueue.TheVariants.{Rewrite}
 use Rattle.raft_history.specs.MarkedRegions.{regions_after, region_steps_of_wholes}
 use Rattle.raft_history.specs.Records.{records_in_wholes}
 use Rattle.raft_memtable.specs.MarkedTables.{regions_in, HaveRoom}
@@ -20,7 +20,7 @@ loop-whole-preserved c =
       c.in_ok-take_group.ensures.cleaned ∙ at.2,
       omega (arith, c.in_ok-take_group.ensures.other, at.3),
       λ room. more_room (regions_in c.loop-whole.regions) (regions_in c.take_group.new.self) (whole_shown c.in-Some.whole) rest c.in_ok-take_group.ensures.ok c.in_ok-take_group.ensures.other
-        (subst (λ ws. HaveRoom Rewrite c.loop-whole.regions.accessor.tables (records_in_wholes ws)) next (at.4 room)),
+          (subst (λ ws. HaveRoom Rewrite c.loop-whole.regions.accessor.tables (records_in_wholes ws)) next (at.4 room)),
       λ none. absurd (no_cons (sym next ∙ at.5 none)),
     )
 
@@ -31,8 +31,8 @@ returns-in_err-take_group-clause-refused c =
     let rest = map whole_shown c.next.new.self.rest.items in
     let p = err_from_is_err_and c.from_residual.result c.from_residual.ensures.1 in
     λ room. rw (p.1, p.2) (λ ne. sym at.1 ∙ ap (λ ws. regions_after Rewrite (regions_in c.loop-whole.regions) (region_steps_of_wholes ws)) next
-      ∙ more_refused (regions_in c.loop-whole.regions) (whole_shown c.in-Some.whole) rest
-          (c.in_err-take_group.ensures.refused (one_room (regions_in c.loop-whole.regions) (whole_shown c.in-Some.whole) rest (subst (λ ws. HaveRoom Rewrite c.loop-whole.regions.accessor.tables (records_in_wholes ws)) next (at.4 room))) ne))
+    ∙ more_refused (regions_in c.loop-whole.regions) (whole_shown c.in-Some.whole) rest
+    (c.in_err-take_group.ensures.refused (one_room (regions_in c.loop-whole.regions) (whole_shown c.in-Some.whole) rest (subst (λ ws. HaveRoom Rewrite c.loop-whole.regions.accessor.tables (records_in_wholes ws)) next (at.4 room))) ne))
 
 pub returns-in_err-take_group-clause-none : goal.returns-in_err-take_group-clause-none
 returns-in_err-take_group-clause-none c =

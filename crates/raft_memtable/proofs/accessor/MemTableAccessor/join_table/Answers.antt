@@ -1,8 +1,8 @@
 use Rattle.std.proofs.Common.{refl, sym, ap, subst, ◌∙◌, slice_set, arith}
 use Rattle.raft_base.specs.declared.pipe_log.LogQueue.TheVariants.{Append}
 use Rattle.raft_table.specs.Steps.{table_of}
-use Rattle.raft_table.specs.Table.{Table, live_of, IsCounted}
-use Rattle.raft_memtable.specs.Accessor.{Accessor, live_in_all}
+use Rattle.raft_table.specs.Table.{live_of, IsCounted}
+use Rattle.raft_memtable.specs.Accessor.{Accessor}
 use Rattle.raft_memtable.specs.AccessorView.{together}
 use Rattle.raft_memtable.specs.declared.accessor.MemTableAccessor.TheInside.{Inside}
 use Rattle.raft_memtable.proofs.AccessorLemmas.{InSlot, kept-in, was, now, alone-in}

@@ -1,15 +1,11 @@
-use Rattle.std.proofs.Common.{◌≡◌, ◌≢◌, ◌++◌, [], Some, None, map, refl, sym, ap, subst, ◌∙◌}
+use Rattle.std.proofs.Common.{◌≡◌, ◌≢◌, ◌++◌, [], Some, None, sym, ap, subst, ◌∙◌}
 use Rattle.std.proofs.lemmas.Result.{err_from_is_err_and}
 use Rattle.std.specs.List.{AllByRecursion}
-use Rattle.raft_base.specs.declared.pipe_log.LogQueue.TheVariants.{Append, Rewrite}
-use Rattle.raft_history.specs.Contexts.{Context, merged_with, joined_files}
+use Rattle.raft_base.specs.declared.pipe_log.LogQueue.TheVariants.{Rewrite}
 use Rattle.raft_history.specs.MarkedRegions.{regions_after, region_steps_of_wholes}
 use Rattle.raft_history.specs.Records.{records_in_wholes}
-use Rattle.raft_history.specs.WaitingGroups.{joined_groups}
-use Rattle.raft_memtable.specs.FileRanges.{ranges_shown}
 use Rattle.raft_memtable.specs.MarkedTables.{regions_in, HaveRoom}
-use Rattle.raft_memtable.specs.ReadStates.{context_in, IsRead, TakesEffect}
-use Rattle.raft_memtable.specs.WaitingShown.{whole_shown}
+use Rattle.raft_memtable.specs.ReadStates.{context_in, TakesEffect}
 use Rattle.raft_memtable.proofs.ReadStateLemmas.{merge_takes, wholes_refused, IsMiddle, join_refused, join_merged, join_read, merged_by}
 use Rattle.raft_memtable.proofs.read_state.ReadState.join.Goals as goal
 
@@ -21,9 +17,9 @@ returns-in_err-take_wholes-clause-refused c =
     let whole = c.in_ok-wholes.ensures.wholes in
     let p = err_from_is_err_and c.from_residual-in_err-take_wholes.result c.from_residual-in_err-take_wholes.ensures.1 in
     rw (p.1, p.2) (λ ne. wholes_refused c.args.queue (context_in c.args.self.now) (context_in c.args.newer) c.requires.older c.requires.newer c.requires.neighbours
-      (subst (λ ws. ws ≢ []) whole c.in_err-take_wholes.ensures.none)
-      (subst (λ ws. HaveRoom Rewrite c.args.self.now.regions.accessor.tables (records_in_wholes ws) → regions_after Rewrite (regions_in c.args.self.now.regions) (region_steps_of_wholes ws) ≡ None) whole
-        (λ room. c.in_err-take_wholes.ensures.refused room ne)))
+    (subst (λ ws. ws ≢ []) whole c.in_err-take_wholes.ensures.none)
+    (subst (λ ws. HaveRoom Rewrite c.args.self.now.regions.accessor.tables (records_in_wholes ws) → regions_after Rewrite (regions_in c.args.self.now.regions) (region_steps_of_wholes ws) ≡ None) whole
+    (λ room. c.in_err-take_wholes.ensures.refused room ne)))
 
 taken_at : (c : goal.After-from_residual-in_err-join) → IsMiddle c.args.queue (context_in c.args.self.now) (context_in c.args.newer) (regions_in c.take_wholes.new.regions)
 taken_at c = record {
@@ -38,7 +34,7 @@ pub returns-in_err-join-clause-refused : goal.returns-in_err-join-clause-refused
 returns-in_err-join-clause-refused c =
     let p = err_from_is_err_and c.from_residual-in_err-join.result c.from_residual-in_err-join.ensures.1 in
     rw (p.1, p.2) (λ ne. join_refused c.args.queue (context_in c.args.self.now) (context_in c.args.newer) (regions_in c.take_wholes.new.regions) (taken_at c)
-      (λ older newer room alone. c.in_err-join.ensures.refused older newer room alone ne))
+    (λ older newer room alone. c.in_err-join.ensures.refused older newer room alone ne))
 
 middle_of : (c : goal.After-self-1) → IsMiddle c.args.queue (context_in c.args.self.now) (context_in c.args.newer) (regions_in c.take_wholes.new.regions)
 middle_of c = record {

@@ -1,6 +1,5 @@
-use Rattle.std.proofs.Common.{refl, sym, ap, subst, ◌∙◌}
+use Rattle.std.proofs.Common.{refl, ap, ◌∙◌}
 use Rattle.std.proofs.lemmas.Result.{err_from_is_err_and}
-use Rattle.raft_base.specs.declared.pipe_log.FileId.{FileId}
 use Rattle.raft_history.specs.Contexts.{joined_files}
 use Rattle.raft_memtable.specs.FileRanges.{ranges_shown}
 use Rattle.raft_memtable.specs.ReadStates.{context_in}
@@ -16,6 +15,6 @@ returns-in_err-take_items-clause-refused c =
 pub returns-clause-read : goal.returns-clause-read
 returns-clause-read c =
     read_more (context_in c.args.self.now) _ (event c.args.batch c.args.file) c.requires.read c.requires.next
-      (unmarked_taken (context_in c.args.self.now) _ (event c.args.batch c.args.file) c.requires.unmarked c.in_ok-take_items.ensures.ok refl c.in_ok-take_items.ensures.cleaned
-        (c.joined-self.ensures ∙ ap (λ f. joined_files (ranges_shown c.args.self.now.files) (some_range f)) c.of.ensures))
-      c.in_ok-take_items.ensures.other
+    (unmarked_taken (context_in c.args.self.now) _ (event c.args.batch c.args.file) c.requires.unmarked c.in_ok-take_items.ensures.ok refl c.in_ok-take_items.ensures.cleaned
+    (c.joined-self.ensures ∙ ap (λ f. joined_files (ranges_shown c.args.self.now.files) (some_range f)) c.of.ensures))
+    c.in_ok-take_items.ensures.other

@@ -1,4 +1,4 @@
-use Rattle.std.proofs.Common.{refl, inl, inr}
+use Rattle.std.proofs.Common.{inl, inr}
 use Rattle.raft_memtable.proofs.TableJoinLemmas.{put_by, not_joined}
 use Rattle.raft_memtable.proofs.region_tables.RegionTables.put_over.Goals as goal
 

@@ -1,10 +1,9 @@
-use Rattle.std.proofs.Common.{arith, refl, sym, ap, ◌≡◌, ◌+◌, ◌<◌, ◌^◌, ◌∙◌, Some, false}
+use Rattle.std.proofs.Common.{arith, refl, sym, ap, ◌+◌, ◌<◌, ◌^◌, ◌∙◌, Some}
 use Rattle.std.proofs.lemmas.Result.{err_from_is_err_and}
 use Rattle.raft_base.specs.declared.pipe_log.LogQueue.{LogQueue}
 use Rattle.raft_base.specs.declared.pipe_log.LogQueue.TheVariants.{Append, Rewrite}
 use Rattle.raft_table.specs.Counts.{live}
 use Rattle.raft_table.specs.MarkMerge.{left_by}
-use Rattle.raft_table.specs.Marks.{is_missed, is_first_run_refused}
 use Rattle.raft_table.specs.Merge.{after_join, newer_atomic_group}
 use Rattle.raft_table.specs.Table.{Table, live_of}
 use Rattle.raft_table.proofs.PlaceLemmas.{each_queue}

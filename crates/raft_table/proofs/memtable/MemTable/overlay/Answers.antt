@@ -1,14 +1,9 @@
-use Rattle.std.proofs.Common.{arith, refl, sym, ap, ◌≡◌, ◌+◌, ◌<◌, ◌^◌, ◌∙◌, Some}
-use Rattle.std.proofs.lemmas.Result.{err_from_is_err_and}
-use Rattle.raft_base.specs.declared.pipe_log.LogQueue.{LogQueue}
-use Rattle.raft_base.specs.declared.pipe_log.LogQueue.TheVariants.{Append, Rewrite}
-use Rattle.raft_table.specs.Counts.{live}
+use Rattle.std.proofs.Common.{arith, sym, ap, ◌∙◌}
+use Rattle.raft_base.specs.declared.pipe_log.LogQueue.TheVariants.{Rewrite}
 use Rattle.raft_table.specs.MarkMerge.{left_by}
 use Rattle.raft_table.specs.Merge.{after_join}
 use Rattle.raft_table.specs.Table.{Table, live_of}
-use Rattle.raft_table.proofs.PlaceLemmas.{each_queue}
 use Rattle.raft_table.proofs.MarkEntries.{same_some}
-use Rattle.raft_table.proofs.UnderLemmas.{join_memory}
 use Rattle.raft_table.proofs.MergeLemmas.{joined_live}
 use Rattle.raft_table.proofs.OverlayLemmas.{over_rewritten, with_group_over}
 use Rattle.raft_table.proofs.memtable.MemTable.overlay.Goals as goal

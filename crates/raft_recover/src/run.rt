@@ -75,7 +75,7 @@ fn answer<S: Files + AllocGlobal + Threads + Sync, R: Read, W: Write>(
         OnOk result (IsPrinted words (R.remaining input.old) (W.contents out.old) (W.contents out.new)) }
     ensures silent { (words : List (List ℕ)) → IsAsked words request.entry →
         IfErr result (λ _. Keeps (W.contents out.old) (W.contents out.new)
-            ⊎ IsFound words (R.remaining input.old) (R.remaining input.new)) }
+        ⊎ IsFound words (R.remaining input.old) (R.remaining input.new)) }
 {
     match request {
         Request::Batch(context) => print_batch(rt.alloc(), input, out, &context),

@@ -31,7 +31,10 @@ fn holds<R: Threads + Sync>(rt: &R, alloc: Global, row: &Row, workers: usize) ->
     let mut out = Vec::with_capacity(alloc, 512)?;
     let done = recover_bytes(rt, alloc, row.queue, row.version, workers, files, &mut out);
     match done {
-        Ok(()) => Ok(row.lines.is_some_and(|lines| out.as_slice() == lines.as_bytes())),
+        Ok(()) => Ok(
+            row.lines
+                .is_some_and(|lines| out.as_slice() == lines.as_bytes()),
+        ),
         Err(Error::Corruption(_)) => Ok(row.lines.is_none() && out.is_empty()),
         Err(error) => Err(error),
     }
@@ -180,16 +183,27 @@ fn plans_give_one_reading(rt: HostRuntime) {
 /// Whether a context that refused a file below the last one answers `Failed` from then on.
 fn stays_failed(alloc: Global) -> Result<bool> {
     let mut context = MemTableRecoverContext::new(alloc)?;
-    context.replay(LogItemBatch::default(alloc), FileId::new(LogQueue::Append, 5))?;
-    let refused = context.replay(LogItemBatch::default(alloc), FileId::new(LogQueue::Append, 4));
+    context.replay(
+        LogItemBatch::default(alloc),
+        FileId::new(LogQueue::Append, 5),
+    )?;
+    let refused = context.replay(
+        LogItemBatch::default(alloc),
+        FileId::new(LogQueue::Append, 4),
+    );
     if matches!(refused, Err(Error::Memory)) {
         return Err(Error::Memory);
     }
-    let later = context.replay(LogItemBatch::default(alloc), FileId::new(LogQueue::Append, 6));
+    let later = context.replay(
+        LogItemBatch::default(alloc),
+        FileId::new(LogQueue::Append, 6),
+    );
     let finished = context.finish();
-    Ok(matches!(refused, Err(Error::Corruption(_)))
-        && matches!(later, Err(Error::Failed))
-        && matches!(finished, Err(Error::Failed)))
+    Ok(
+        matches!(refused, Err(Error::Corruption(_)))
+            && matches!(later, Err(Error::Failed))
+            && matches!(finished, Err(Error::Failed)),
+    )
 }
 
 #[test]
@@ -217,6 +231,9 @@ fn workers_are_1_to_256(rt: HostRuntime) {
         if matches!(answer, Err(Error::Memory)) {
             answer = refuses_workers(&rt, rt.alloc(), workers);
         }
-        assert!(rt; answer.is_ok_and(|answer| answer == refused), "{workers} workers");
+        assert!(rt;
+            answer.is_ok_and(|answer| answer == refused),
+            "{workers} workers"
+        );
     }
 }

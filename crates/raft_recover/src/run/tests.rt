@@ -12,7 +12,7 @@ const CORRUPTION: &str = "raftlog: refused: corruption\n";
 const WORKERS: &str = "raftlog: refused: invalid-argument\n";
 
 /// Words, the input in base 16, the status, what is printed, and how the error stream begins.
-const ROWS: [(&str, &str, u8, &str, &str); 30] = [
+const ROWS: [(&str, &str, u8, &str, &str); 20] = [
     (OPEN, "010102015a800bdd", 0, "1 clean\nitems 1 rest 0\n", ""),
     (
         "batch append 0012 2",
@@ -69,16 +69,25 @@ const ROWS: [(&str, &str, u8, &str, &str); 30] = [
     ("batch append 12 01", "", 2, "", "usage: raftlog"),
     ("batch append 12", "", 2, "", "usage: raftlog"),
     ("batch append 12 1 1", "", 2, "", "usage: raftlog"),
-    ("recover append 1 1", "", 0, "cleaned -\nlive 0 0\n", ""),
-    ("recover rewrite 2 256", "", 0, "cleaned -\nlive 0 0\n", ""),
-    ("recover append 1 0", "", 1, "", WORKERS),
-    ("recover append 1 257", "", 1, "", WORKERS),
-    ("recover append 1 0 12=absent", "", 1, "", "raftlog: refused: io\n"),
-    ("recover append 3 1", "", 2, "", "usage: raftlog"),
-    ("recover append 1 -1", "", 2, "", "usage: raftlog"),
-    ("recover append 1", "", 2, "", "usage: raftlog"),
-    ("recover append 1 1 absent", "", 2, "", "usage: raftlog"),
-    ("recover append 1 1 x=absent", "", 2, "", "usage: raftlog"),
+];
+
+/// Words without input, the status, what is printed, and how the error stream begins.
+const RECOVERIES: [(&str, u8, &str, &str); 10] = [
+    ("recover append 1 1", 0, "cleaned -\nlive 0 0\n", ""),
+    ("recover rewrite 2 256", 0, "cleaned -\nlive 0 0\n", ""),
+    ("recover append 1 0", 1, "", WORKERS),
+    ("recover append 1 257", 1, "", WORKERS),
+    (
+        "recover append 1 0 12=absent",
+        1,
+        "",
+        "raftlog: refused: io\n",
+    ),
+    ("recover append 3 1", 2, "", "usage: raftlog"),
+    ("recover append 1 -1", 2, "", "usage: raftlog"),
+    ("recover append 1", 2, "", "usage: raftlog"),
+    ("recover append 1 1 absent", 2, "", "usage: raftlog"),
+    ("recover append 1 1 x=absent", 2, "", "usage: raftlog"),
 ];
 
 /// What a run left.
@@ -140,6 +149,24 @@ fn rows(rt: HostRuntime) {
         assert!(rt;
             answer.is_some_and(|answer| answer.is(status, out, err)),
             "{line}: {input}"
+        );
+    }
+}
+
+/// The same of words that ask for the tables of files.
+#[test]
+fn recoveries(rt: HostRuntime) {
+    for (line, status, out, err) in RECOVERIES {
+        let mut answer = run_on(&rt, line, "");
+        if answer
+            .as_ref()
+            .is_none_or(|answer| answer.found_no_memory())
+        {
+            answer = run_on(&rt, line, "");
+        }
+        assert!(rt;
+            answer.is_some_and(|answer| answer.is(status, out, err)),
+            "{line}"
         );
     }
 }
@@ -229,6 +256,9 @@ fn files(rt: HostRuntime) {
         {
             answer = run_on_file(&rt, length);
         }
-        assert!(rt; answer.is_some_and(|answer| answer.is(status, out, err)), "{length} bytes");
+        assert!(rt;
+            answer.is_some_and(|answer| answer.is(status, out, err)),
+            "{length} bytes"
+        );
     }
 }

@@ -18,19 +18,15 @@ fn main(rt: HostRuntime) -> io::Result<()> {
         words.push(word)?;
     }
     if words.first().is_some_and(|word| word.as_str() == "recover") {
-        report(&rt, recovery::time(&rt, words.as_slice()))?;
-        return Ok(());
+        return match recovery::time(&rt, words.as_slice()) {
+            Ok(timed) => recovery::print(&rt, timed),
+            Err(e) => eprintln!(rt; "raft_bench: {e}"),
+        };
     }
     for word in &words {
-        report(&rt, time(&rt, word.as_str()))?;
-    }
-    Ok(())
-}
-
-/// Prints a refusal.
-fn report(rt: &HostRuntime, timed: Result<()>) -> io::Result<()> {
-    if let Err(e) = timed {
-        eprintln!(rt; "raft_bench: {e}")?;
+        if let Err(e) = time(&rt, word.as_str()) {
+            eprintln!(rt; "raft_bench: {e}")?;
+        }
     }
     Ok(())
 }
@@ -42,6 +38,8 @@ fn time(rt: &HostRuntime, word: &str) -> Result<()> {
         "varint" => numbers::time(rt),
         "batches" => batches::time(rt),
         "memtable" => Ok(tables::time(rt)?),
-        _ => Ok(eprintln!(rt; "usage: raft_bench [crc32] [varint] [batches] [memtable], or recover ..")?),
+        _ => Ok(eprintln!(rt;
+            "usage: raft_bench [crc32] [varint] [batches] [memtable], or recover .."
+        )?),
     }
 }

@@ -1,14 +1,14 @@
 //! Clocks, and numbers without a pattern.
 
 use std::io;
-use std::time::Instant;
+use std::time::{Clock, Instant};
 
 /// How often each work is timed; the best time counts.
 pub(crate) const TIMES: usize = 7;
 
 /// The whole nanoseconds since `start`.
-pub(crate) fn nanoseconds_since(rt: &HostRuntime, start: &Instant) -> io::Result<u64> {
-    let taken = start.elapsed(rt)?;
+pub(crate) fn nanoseconds_since(clock: &impl Clock, start: &Instant) -> io::Result<u64> {
+    let taken = start.elapsed(clock)?;
     let seconds = taken.as_secs().saturating_mul(1_000_000_000);
     Ok(seconds.saturating_add(u64::from(taken.subsec_nanos())))
 }

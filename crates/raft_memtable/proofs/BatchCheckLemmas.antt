@@ -1,14 +1,21 @@
 -- Batches that are tested before they are taken in.
-use Rattle.std.proofs.Common.{◌≡◌, ◌<◌, ◌≤◌, ◌+◌, ℕ, suc, zero, List, [], ◌∷◌, drop, length, get_or, Option, Some, None, refl, sym, ap, ◌∙◌, arith}
-use Rattle.std.specs.List.{AllByRecursion}
+use Rattle.std.proofs.Common.{◌≡◌, Bool, true, false, ◌<◌, ◌≤◌, ◌+◌, ℕ, suc, zero, List, [], ◌∷◌, drop, length, get_or, Option, Some, None, refl, sym, ap, ◌∙◌, arith}
+use Rattle.std.specs.List.{AllByRecursion, slice_get}
 use Rattle.std.specs.Option.{option_or}
+use Rattle.raft_base.specs.declared.pipe_log.FileBlockHandle.{FileBlockHandle}
 use Rattle.raft_base.specs.declared.pipe_log.FileId.{FileId}
+use Rattle.raft_base.specs.declared.pipe_log.LogQueue.{LogQueue}
+use Rattle.raft_base.specs.declared.pipe_log.LogQueue.TheVariants.{Append, Rewrite}
 use Rattle.raft_records.specs.declared.atomic_group.AtomicGroupStatus.{AtomicGroupStatus}
 use Rattle.raft_records.specs.declared.atomic_group.AtomicGroupStatus.TheVariants.{Begin, Middle, End}
+use Rattle.raft_records.specs.declared.entry_index.EntryIndex.{EntryIndex}
 use Rattle.raft_records.specs.Group.{status_byte, first_marker, or_marker, IsGroupMarkerRead, IsGroupMarkerContent}
 use Rattle.raft_records.specs.Item.{Item, Content, entries, command, pair}
+use Rattle.raft_records.specs.ReadIn.{IsBlockIn}
 use Rattle.raft_records.proofs.GroupLemmas.{marker_is}
-use Rattle.raft_history.specs.Histories.{IsInFile, AreInFile, HasStatus}
+use Rattle.raft_table.specs.Entries.{is_block_in, is_placed_in}
+use Rattle.raft_table.specs.Queues.{is_same}
+use Rattle.raft_history.specs.Histories.{IsInFile, AreInFile, AreBlocksIn, HasStatus}
 
 or_or : (m n o : Option (ℕ × AtomicGroupStatus)) → or_marker (option_or m n) o ≡ or_marker m (or_marker n o)
 or_or None n o = refl
@@ -45,6 +52,13 @@ next_item (y ∷ ys) (suc i) x low is =
     let behind : suc i + 1 ≡ suc (i + 1) = omega arith in
     rw behind (next_item ys i x (omega arith) is)
 
+pub next_at : {X : Type 0} (xs : List X) (i : ℕ) (d : X) → i < length xs → drop i xs ≡ get_or xs i d ∷ drop (i + 1) xs
+next_at [] i d low = absurd (omega arith)
+next_at (y ∷ ys) zero d low = refl
+next_at (y ∷ ys) (suc i) d low =
+    let behind : suc i + 1 ≡ suc (i + 1) = omega arith in
+    rw behind (next_at ys i d (omega arith))
+
 -- behind the last one there are none
 pub none_left : {X : Type 0} (xs : List X) (i : ℕ) → length xs ≤ i → drop i xs ≡ []
 none_left [] zero past = refl
@@ -70,3 +84,21 @@ one_more file all rest item marker found h is read = (
   λ r. (h.3 r).1,
   or_or marker found (first_marker rest) ∙ ap (λ f. or_marker marker (or_marker f (first_marker rest))) (sym (marker_is item found read)) ∙ h.4,
 )
+
+-- a place in the file is one of its queue
+pub block_placed : (file : FileId) (e : EntryIndex) → IsBlockIn file e.entries → is_placed_in file.queue e ≡ true
+unfolding is_placed_in
+block_placed file e h = go e.entries h
+  where
+    same : (q : LogQueue) → is_same q q ≡ true
+    same Append = refl
+    same Rewrite = refl
+
+    go : (o : Option FileBlockHandle) → IsBlockIn file o → is_block_in file.queue o ≡ true
+    go None h = absurd h
+    go (Some block) h = ap (λ (id : FileId). is_same id.queue file.queue) h ∙ same file.queue
+
+-- no entries have no place elsewhere
+pub no_blocks : (file : FileId) (es : List EntryIndex) → None ≡ slice_get es 0 → AreBlocksIn file es
+no_blocks file [] e = tt
+no_blocks file (x ∷ es) e = absurd cc

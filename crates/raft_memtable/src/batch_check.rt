@@ -4,15 +4,15 @@ ghost use Rattle.std.specs.Prelude.{◌≡◌, ◌≢◌, ◌↔◌, IsTrue, Mat
 ghost use Rattle.std.specs.List.{AllByRecursion};
 ghost use Rattle.raft_base.specs.declared.pipe_log.LogQueue.TheVariants.{Append, Rewrite};
 ghost use Rattle.raft_records.specs.Group.{first_marker};
-ghost use Rattle.raft_records.specs.Item.{item_of, content_of, pair, pair_of};
+ghost use Rattle.raft_records.specs.Item.{item_of, content_of, entries as entries_of, pair, pair_of};
 ghost use Rattle.raft_records.specs.ReadIn.{IsBlockIn};
-ghost use Rattle.raft_history.specs.Histories.{IsInFile, AreInFile, AreBlocksIn, HasStatus, HaveStatus};
+ghost use Rattle.raft_history.specs.Histories.{IsInFile, AreInFile, HasStatus, HaveStatus};
 ghost use Rattle.raft_memtable.specs.BatchChecks.{marker_found};
 
 use raft_records::{
     AtomicGroupStatus, KeyValue, LogItem, LogItemBatch, LogItemContent, OpType, is_reserved,
 };
-use raft_table::{EntryIndex, Error, FileId, LogQueue, Result, is_run};
+use raft_table::{EntryIndex, Error, FileId, LogQueue, Result};
 use std::alloc::Global;
 
 /// The group marker of a batch that was written to the file, if it has one and the queue knows groups.
@@ -86,9 +86,7 @@ fn is_in_file(item: &LogItem, file: FileId) -> bool
     ensures { MatchBool result (IsInFile file (content_of item.now.content)) (IsInFile file (content_of item.now.content) → ⊥) }
 {
     match &item.content {
-        LogItemContent::EntryIndexes(entries) => {
-            is_run(&entries.0, file.queue) && are_blocks_in(&entries.0, file)
-        }
+        LogItemContent::EntryIndexes(entries) => is_run_in(&entries.0, file),
         LogItemContent::Command(_) => true,
         LogItemContent::Kv(kv) => is_pair_in(kv, file),
     }
@@ -110,14 +108,26 @@ fn is_pair_in(kv: &KeyValue, file: FileId) -> bool
     }
 }
 
-/// Whether all entries' places are in the file.
-fn are_blocks_in(entries: &[EntryIndex], file: FileId) -> bool
-    ensures { MatchBool result (AreBlocksIn file entries.now) (AreBlocksIn file entries.now → ⊥) }
+/// Whether entries are a run, and all their places are in the file.
+fn is_run_in(entries: &[EntryIndex], file: FileId) -> bool
+    ensures { MatchBool result (IsInFile file (entries_of entries.now))
+        (IsInFile file (entries_of entries.now) → ⊥) }
 {
+    let Some(first) = entries.first() else {
+        return true;
+    };
+    let mut next = first.index;
     for entry in entries {
+        if entry.index != next {
+            return false;
+        }
+        if next == u64::MAX {
+            return false;
+        }
         if !is_block_in(entry, file) {
             return false;
         }
+        next += 1;
     }
     true
 }

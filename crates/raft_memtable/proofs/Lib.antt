@@ -16,6 +16,7 @@ mod SlotKeeping
 mod CleanLemmas
 mod RegionJoinLemmas
 mod TableJoinLemmas
+mod TotalSums
 mod LiveSteps
 mod TakenLemmas
 mod GroupFiles

@@ -19,8 +19,9 @@ mod BatchCheckLemmas
 mod WholeFiles
 mod ReadStateLemmas
 mod TakenWholes
+mod RegionJoinLemmas
+mod TableJoinLemmas
+mod TotalSums
 mod LiveSteps
 mod TakenLemmas
 mod GroupFiles
-mod RegionJoinLemmas
-mod TableJoinLemmas

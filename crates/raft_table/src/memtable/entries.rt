@@ -120,6 +120,13 @@ impl Entries {
         Some(self.first + (self.len - 1) as u64)
     }
 
+    /// How many there are.
+    pub fn len(&self) -> usize
+        ensures { result ≡ length self.now }
+    {
+        self.len
+    }
+
     /// How many of them are in `queue`.
     pub fn count_in(&self, queue: LogQueue) -> usize
         ensures { result ≡ entry_count queue self.now }

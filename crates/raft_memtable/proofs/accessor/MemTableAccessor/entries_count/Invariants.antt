@@ -1,0 +1,9 @@
+use Rattle.std.proofs.Common.{◌≡◌, ◌≤◌, ◌+◌, ◌*◌, ◌^◌, length, map}
+use Rattle.raft_table.specs.Table.{Table}
+use Rattle.raft_memtable.proofs.TotalSums.{added}
+use Rattle.raft_memtable.proofs.accessor.MemTableAccessor.entries_count.Given as goal
+
+abbrev pub invariant-loop-table : goal.invariant-loop-table
+invariant-loop-table l =
+    (l.count + added (λ (t : Table). length t.entries) (map (λ t. t.now) l.table-iterator) ≡ added (λ (t : Table). length t.entries) (map (λ t. t.now) l.initial.table-iterator))
+    × (l.count + length l.table-iterator * 2 ^ 64 ≤ length l.initial.table-iterator * 2 ^ 64)

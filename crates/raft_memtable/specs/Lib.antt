@@ -8,11 +8,13 @@ pub mod AccessorCalls
 pub mod AccessorCode
 pub mod AccessorView
 pub mod ItemWrites
+pub mod MarkedTables
 pub mod RegionMarks
 pub mod RegionMarksView
 pub mod Merges
 pub mod RegionTablesView
 pub mod ReplayMachine
+pub mod TableJoins
 pub mod Updates
 pub mod Walks
 pub mod Writes

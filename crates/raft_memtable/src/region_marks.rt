@@ -1,7 +1,9 @@
 //! The marks of some regions.
 
-ghost use Rattle.std.specs.Prelude.{◌≡◌, ℕ, OnOk, OnErr, IfErr, Some, None, option_map};
+ghost use Rattle.std.specs.Prelude.{◌≡◌, ℕ, nat_eq, OnOk, OnErr, IfErr, Some, None, option_map};
 ghost use Rattle.std.specs.FinMap as finite;
+ghost use Rattle.std.specs.List.{IsDistinct};
+ghost use Rattle.std.specs.Map.{keys_of};
 ghost use Rattle.raft_table.specs.MarkJoins.{fresh, mark_of, joined_at};
 ghost use Rattle.raft_table.specs.Steps.{Compact, Del, Clean};
 ghost use Rattle.raft_memtable.specs.RegionMarks.{mark_in, MayChangeMark, IsMarkUpdated};
@@ -9,6 +11,7 @@ ghost use Rattle.raft_memtable.specs.RegionMarks.{mark_in, MayChangeMark, IsMark
 use raft_table::{Error, LogQueue, Mark, Result};
 use std::alloc::Global;
 use std::collections::HashMap;
+use std::collections::hash_map::IntoIter;
 use std::marker::Model;
 
 /// The marks of some regions, each under its region's id.
@@ -71,7 +74,9 @@ impl RegionMarks {
     ///
     /// `Memory`. The marks are then as they were.
     pub fn add_run(&mut self, id: u64, queue: LogQueue, end: u64, start: u64) -> Result<()>
-        ensures ok { OnOk result (self.new ≡ finite.insert self.old id (joined_at queue end (mark_in self.old id) (record fresh { reach = Some start; cut = Some start }))) }
+        ensures ok { OnOk result (self.new
+            ≡ finite.insert self.old id
+            (joined_at queue end (mark_in self.old id) (record fresh { reach = Some start; cut = Some start }))) }
         ensures err { OnErr result (self.new ≡ self.old) }
         ensures memory { IfErr result (λ e. e ≡ Error.Memory) }
     {
@@ -87,7 +92,9 @@ impl RegionMarks {
     ///
     /// `Memory`. The marks are then as they were.
     pub fn add_compaction(&mut self, id: u64, index: u64) -> Result<()>
-        ensures ok { (queue : LogQueue) (end : ℕ) → OnOk result (self.new ≡ finite.insert self.old id (joined_at queue end (mark_in self.old id) (mark_of (Compact index)))) }
+        ensures ok { (queue : LogQueue) (end : ℕ)
+            → OnOk result (self.new
+            ≡ finite.insert self.old id (joined_at queue end (mark_in self.old id) (mark_of (Compact index)))) }
         ensures err { OnErr result (self.new ≡ self.old) }
         ensures memory { IfErr result (λ e. e ≡ Error.Memory) }
     {
@@ -103,7 +110,9 @@ impl RegionMarks {
     ///
     /// `Memory`. The marks are then as they were.
     pub fn add_deleted(&mut self, id: u64, key: Vec<u8>) -> Result<()>
-        ensures ok { (queue : LogQueue) (end : ℕ) → OnOk result (self.new ≡ finite.insert self.old id (joined_at queue end (mark_in self.old id) (mark_of (Del key.items)))) }
+        ensures ok { (queue : LogQueue) (end : ℕ)
+            → OnOk result (self.new
+            ≡ finite.insert self.old id (joined_at queue end (mark_in self.old id) (mark_of (Del key.items)))) }
         ensures err { OnErr result (self.new ≡ self.old) }
         ensures memory { IfErr result (λ e. e ≡ Error.Memory) }
     {
@@ -116,7 +125,9 @@ impl RegionMarks {
     ///
     /// `Memory`. The marks are then as they were.
     pub fn add_clean(&mut self, id: u64) -> Result<()>
-        ensures ok { (queue : LogQueue) (end : ℕ) → OnOk result (self.new ≡ finite.insert self.old id (joined_at queue end (mark_in self.old id) (mark_of Clean))) }
+        ensures ok { (queue : LogQueue) (end : ℕ)
+            → OnOk result (self.new
+            ≡ finite.insert self.old id (joined_at queue end (mark_in self.old id) (mark_of Clean))) }
         ensures err { OnErr result (self.new ≡ self.old) }
         ensures memory { IfErr result (λ e. e ≡ Error.Memory) }
     {
@@ -126,20 +137,29 @@ impl RegionMarks {
         })
     }
 
-    /// Joins the mark of newer steps to a region's mark, where its first run meets a part of the region's
-    /// own entries that ends at `met`.
+    /// Joins the mark of newer steps to a region's mark, whose first run comes behind own entries of the
+    /// region that end at `end_at_reach`.
     ///
     /// # Errors
     ///
     /// `Memory`.
-    pub fn join(&mut self, id: u64, queue: LogQueue, met: u64, newer: Mark) -> Result<()>
-        ensures ok { OnOk result (self.new ≡ finite.insert self.old id (joined_at queue met (mark_in self.old id) newer)) }
+    pub fn join(&mut self, id: u64, queue: LogQueue, end_at_reach: u64, newer: Mark) -> Result<()>
+        ensures ok { OnOk result (self.new
+            ≡ finite.insert self.old id (joined_at queue end_at_reach (mark_in self.old id) newer)) }
         ensures memory { IfErr result (λ e. e ≡ Error.Memory) }
     {
         self.update(id, move |mark: &mut Mark| {
             let mut newer = newer;
-            mark.join(queue, met, &mut newer)
+            mark.join(queue, end_at_reach, &mut newer)
         })
+    }
+
+    /// The marks, each with its region, in open order.
+    pub(crate) fn into_entries(self) -> IntoIter<u64, Mark>
+        ensures entries { finite.from_entries result ≡ self }
+        ensures once { IsDistinct nat_eq (keys_of result) }
+    {
+        self.marks.into_iter()
     }
 
     /// Changes a region's mark, that of no step where it has none. It is looked up once where it is there.

@@ -1,4 +1,4 @@
-use Rattle.std.proofs.Common.{◌-◌, ◌≤◌, ◌<◌, arith, inr, length, rules}
+use Rattle.std.proofs.Common.{◌-◌, ◌≤◌, ◌<◌, arith, inr, length}
 use Rattle.std.proofs.lemmas.Result.{err_from_is_err_and}
 use Rattle.raft_base.specs.Reading.{Reads}
 use Rattle.raft_records.specs.Grammar.{IsTail}
@@ -30,8 +30,7 @@ read c = elim c.match-short_tail.branch [
 pub loop-preserved : goal.loop-preserved
 loop-preserved c =
     let r = read c in
-    let so = c.loop.invariant in
-    (
+    let so = c.loop.invariant in (
       rw c.push_reserved.ensures.items (one_more_placed c.args.place c.args.first c.args.entries_size c.args.bytes.now c.loop.rest.now c.match-short_tail.tail.1.now c.loop.entries.items c.loop.index c.loop.offset c.match-short_tail.tail.0 c.loop.counter so.0 r.1 r.0),
       omega (arith, c.push_reserved.ensures.len, so.1),
       omega (arith, c.push_reserved.ensures.capacity, so.2),

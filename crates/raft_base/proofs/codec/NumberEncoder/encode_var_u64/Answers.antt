@@ -1,5 +1,3 @@
-use Rattle.std.proofs.Common.{List, ℕ, sym, subst, arith}
-use Rattle.std.specs.Io.KnownBytes.{Appends}
 use Rattle.raft_base.specs.Varint.{varint}
 use Rattle.raft_base.proofs.VarintLemmas.{groups_last, two_groups}
 use Rattle.raft_base.proofs.codec.NumberEncoder.encode_var_u64.Goals as goal

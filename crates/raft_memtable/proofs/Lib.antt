@@ -14,6 +14,8 @@ mod UpdateLemmas
 mod WriteLemmas
 mod SlotKeeping
 mod CleanLemmas
+mod RegionJoinLemmas
+mod TableJoinLemmas
 mod LiveSteps
 mod TakenLemmas
 mod GroupFiles

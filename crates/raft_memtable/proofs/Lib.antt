@@ -14,8 +14,13 @@ mod UpdateLemmas
 mod WriteLemmas
 mod SlotKeeping
 mod CleanLemmas
-mod RegionJoinLemmas
-mod TableJoinLemmas
+mod RecoverContextLemmas
+mod BatchCheckLemmas
+mod WholeFiles
+mod ReadStateLemmas
+mod TakenWholes
 mod LiveSteps
 mod TakenLemmas
 mod GroupFiles
+mod RegionJoinLemmas
+mod TableJoinLemmas

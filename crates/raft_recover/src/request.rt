@@ -5,7 +5,7 @@ ghost use Rattle.std.specs.List.{AllByRecursion};
 ghost use Rattle.raft_base.specs.declared.pipe_log.LogFileContext.{LogFileContext};
 ghost use Rattle.raft_base.specs.declared.pipe_log.LogQueue.{LogQueue};
 ghost use Rattle.raft_base.specs.declared.pipe_log.Version.{Version};
-ghost use Rattle.raft_recover.specs.Requests.{queue_word, version_word, IsNumberWord, NamesFile, NamesPath, IsPathWord, IsRead, AreRead, IsReadFault, AskedRecovery, AsksBatch, AsksRecovery, AsksNothing};
+ghost use Rattle.raft_recover.specs.Requests.{queue_word, version_word, IsNumberWord, NamesFile, NamesPath, IsPathWord, IsFileOfWord, AreRead, IsReadFault, AskedRecovery, AsksBatch, AsksRecovery, AsksNothing};
 ghost use Rattle.raft_recover.specs.RequestView.{IsAsked, asks_for, file_shown};
 
 use raft_base::{Error, FileId, FileSeq, LogFileContext, LogQueue, Result, Version};
@@ -133,7 +133,7 @@ pub fn read_files<R: Files + AllocGlobal>(
 
 /// Reads the file that a word names.
 fn read_file<R: Files + AllocGlobal>(rt: &R, word: &str) -> Result<(FileSeq, Vec<u8>)>
-    ensures ok { IfOk result (λ file. IsRead word.now (file_shown file)) }
+    ensures ok { IfOk result (λ file. IsFileOfWord word.now (file_shown file)) }
     ensures fault { IfErr result (IsReadFault (word.now ∷ [])) }
 {
     let Some((seq, path)) = path_named(word) else {

@@ -1,16 +1,13 @@
 -- What words ask for.
 use Rattle.std.proofs.Common.{◌≡◌, ◌≢◌, ℕ, zero, suc, ◌+◌, ◌-◌, ◌<◌, ◌≤◌, List, [], ◌∷◌, ◌++◌, length, get_or, take, drop, codes, Bool, true, false, not, Bor, Option, None, Some, IfNone, MatchOption, arith, refl, subst, ap, sym, ◌∙◌, append_assoc}
 use Rattle.std.proofs.lemmas.List.{take_all, append-nil}
-use Rattle.std.specs.List.{AllByRecursion}
 use Rattle.std.specs.Char.{digit_value}
 use Rattle.std.specs.Str.Parse.{AllDigits}
 use Rattle.std.proofs.lemmas.Str.Pattern.{IsSplitOnceResult, split_after}
 use Rattle.std.specs.Str.{bytes_eq}
 use Rattle.std.proofs.lemmas.Slice.Eq.{bytes_eq-Decides}
-use Rattle.raft_base.specs.declared.errors.Error.{Error}
-use Rattle.raft_base.specs.declared.errors.Error.TheVariants as errors
 use Rattle.raft_base.specs.declared.pipe_log.LogFileContext.{LogFileContext}
-use Rattle.raft_recover.specs.Requests.{NamesFile, IsPathWord, AsksBatch, File, IsFileOfWord, AreRead, IsReadFault}
+use Rattle.raft_recover.specs.Requests.{NamesFile, IsPathWord, AsksBatch, File, IsFileOfWord, AreRead}
 
 -- a list of four is its items
 pub four_items : {X : Type 0} (xs : List X) (a b c d : X) → 4 ≤ length xs → length xs < 5 → a ≡ get_or xs 0 a → b ≡ get_or xs 1 b → c ≡ get_or xs 2 c → d ≡ get_or xs 3 d → xs ≡ a ∷ b ∷ c ∷ d ∷ []
@@ -102,9 +99,3 @@ none_left [] zero past = refl
 none_left [] (suc i) past = refl
 none_left (x ∷ xs) zero past = absurd (omega arith)
 none_left (x ∷ xs) (suc i) past = none_left xs i (omega arith)
-
--- why one word's file isn't read tells why those of all words are not
-pub fault_of_all : (all rest : List (List ℕ)) (word : List ℕ) (e : Error) → (AllByRecursion IsPathWord all → AllByRecursion IsPathWord (word ∷ rest)) → IsReadFault (word ∷ []) e → IsReadFault all e
-fault_of_all all rest word (errors.InvalidArgument text) named f = λ h. f ((named h).0, tt)
-fault_of_all all rest word (errors.Io e) named f = tt
-fault_of_all all rest word errors.Memory named f = tt

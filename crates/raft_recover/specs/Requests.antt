@@ -68,13 +68,6 @@ AreRead [] (file ∷ files) = ⊥
 AreRead (word ∷ words) [] = ⊥
 AreRead (word ∷ words) (file ∷ files) = IsFileOfWord word file × AreRead words files
 
--- why files that words name are not read: a word names none, the system refuses, or want of memory
-abbrev pub IsReadFault : List (List ℕ) → Error → Type 0
-IsReadFault words (errors.InvalidArgument text) = AllByRecursion IsPathWord words → ⊥
-IsReadFault words (errors.Io e) = Unit {0}
-IsReadFault words errors.Memory = Unit {0}
-IsReadFault words _ = ⊥
-
 -- a queue, the version of its files, a number of workers, and a word for each file
 pub record AskedRecovery : Type 0 where
   pub queue : LogQueue

@@ -3,6 +3,7 @@ pub mod ContextLaws
 pub mod CutLemmas
 pub mod DifferLemmas
 pub mod EffectLemmas
+pub mod FoldLaws
 pub mod IncompleteLemmas
 pub mod JoinLemmas
 pub mod JoinedLemmas

@@ -102,11 +102,11 @@ merged_regions queue c d = option_and_then (λ middle. joined_regions queue midd
 abbrev pub merged_with : Context → Context → MarkedRegions → Context
 merged_with c d rs = record { regions = rs; groups = joined_groups c.groups d.groups; cleaned = c.cleaned ++ d.cleaned; files = joined_files c.files d.files }
 
--- two neighbours of one queue; none where the files or a region refuse
+-- two neighbours of one queue, merged one region after another; none where the files or a region refuse. A law says that this is the merge of the regions each by itself, in no order
 abbrev pub merged : LogQueue → Context → Context → Option Context
 merged queue c d = if follows c.files d.files then option_map (merged_with c d) (merged_regions queue c d) else None
 
--- the merged regions, each by itself, in no order
+-- the merged regions, each by itself, in no order: what a context that merges holds to
 pub record AreMerged (queue : LogQueue) (c d : Context) (new : MarkedRegions) : Type 0 where
   pub middle : MarkedRegions
   pub wholes : regions_after queue c.regions (region_steps_of_wholes (whole_groups c.groups d.groups)) ≡ Some middle

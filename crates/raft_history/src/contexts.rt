@@ -1,6 +1,6 @@
 //! Laws of contexts, which hold what was read of a stretch of a history.
 
-ghost use Rattle.std.specs.Prelude.{◌≡◌, ◌+◌, ◌≤◌, ℕ, List, [], ◌∷◌, ◌++◌, Some, None, true, false};
+ghost use Rattle.std.specs.Prelude.{◌≡◌, ◌⊎◌, ◌↔◌, ◌+◌, ◌≤◌, ℕ, List, [], ◌∷◌, ◌++◌, Some, None, true, false};
 ghost use Rattle.std.specs.FinMap as finite;
 ghost use Rattle.std.specs.List.{AllByRecursion};
 ghost use Rattle.raft_base.specs.declared.pipe_log.LogQueue.{LogQueue};
@@ -63,6 +63,15 @@ pub fn regions_merge_one_by_one()
     ensures files { (q : LogQueue) (c d : Context) (h k : List Event) → Suits q c.files → Suits q d.files
         → StandsFor c h → StandsFor d k → follows c.files d.files ≡ false → Sound (h ++ k) → ⊥ }
     ensures rewrite { (c d : Context) → AreRegionsRefused Rewrite c d → ⊥ }
+{}
+
+/// The merge that takes one region after another is that of the regions one by one, and is refused where
+/// that is: so what is said of either holds of both.
+pub fn merges_go_region_by_region()
+    ensures same { (q : LogQueue) (c d e : Context) → (merged q c d ≡ Some e)
+        ↔ ((follows c.files d.files ≡ true) × AreMerged q c d e.regions × (e ≡ merged_with c d e.regions)) }
+    ensures refused { (q : LogQueue) (c d : Context) → (merged q c d ≡ None)
+        ↔ ((follows c.files d.files ≡ false) ⊎ AreRegionsRefused q c d) }
 {}
 
 /// An exact context has what one reading of its history gives.

@@ -7,7 +7,7 @@ use Rattle.std.proofs.lemmas.Str.Pattern.{IsSplitOnceResult, split_after}
 use Rattle.std.specs.Str.{bytes_eq}
 use Rattle.std.proofs.lemmas.Slice.Eq.{bytes_eq-Decides}
 use Rattle.raft_base.specs.declared.pipe_log.LogFileContext.{LogFileContext}
-use Rattle.raft_recover.specs.Requests.{NamesFile, IsPathWord, AsksBatch, File, IsRead, AreRead}
+use Rattle.raft_recover.specs.Requests.{NamesFile, IsPathWord, AsksBatch, File, IsFileOfWord, AreRead}
 
 -- a list of four is its items
 pub four_items : {X : Type 0} (xs : List X) (a b c d : X) → 4 ≤ length xs → length xs < 5 → a ≡ get_or xs 0 a → b ≡ get_or xs 1 b → c ≡ get_or xs 2 c → d ≡ get_or xs 3 d → xs ≡ a ∷ b ∷ c ∷ d ∷ []
@@ -76,7 +76,7 @@ pub recover_first : (words rest : List (List ℕ)) (command a b c : List ℕ) �
 recover_first words rest command a b c split recover = rw (← recover) split
 
 -- a word's file goes behind those so far
-pub one_more : (all words : List (List ℕ)) (word : List ℕ) (files shown : List File) (file : File) → ((rest : List File) → AreRead (word ∷ words) rest → AreRead all (files ++ rest)) → IsRead word file → shown ≡ files ++ file ∷ [] → (rest : List File) → AreRead words rest → AreRead all (shown ++ rest)
+pub one_more : (all words : List (List ℕ)) (word : List ℕ) (files shown : List File) (file : File) → ((rest : List File) → AreRead (word ∷ words) rest → AreRead all (files ++ rest)) → IsFileOfWord word file → shown ≡ files ++ file ∷ [] → (rest : List File) → AreRead words rest → AreRead all (shown ++ rest)
 one_more all words word files shown file before read same rest more =
     let parted : shown ++ rest ≡ files ++ (file ∷ rest) = rw same (append_assoc files (file ∷ []) rest) in
     subst (AreRead all) (sym parted) (before (file ∷ rest) (read, more))

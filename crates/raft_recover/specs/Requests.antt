@@ -57,7 +57,7 @@ abbrev pub File : Type 0
 File = ℕ × List ℕ
 
 -- the word names the file by its number and some path
-pub record IsRead (word : List ℕ) (file : File) : Type 0 where
+pub record IsFileOfWord (word : List ℕ) (file : File) : Type 0 where
   pub path : List ℕ
   pub named : NamesPath word file.0 path
 
@@ -66,7 +66,7 @@ abbrev pub AreRead : List (List ℕ) → List File → Type 0
 AreRead [] [] = Unit {0}
 AreRead [] (file ∷ files) = ⊥
 AreRead (word ∷ words) [] = ⊥
-AreRead (word ∷ words) (file ∷ files) = IsRead word file × AreRead words files
+AreRead (word ∷ words) (file ∷ files) = IsFileOfWord word file × AreRead words files
 
 -- a queue, the version of its files, a number of workers, and a word for each file
 pub record AskedRecovery : Type 0 where

@@ -5,7 +5,7 @@ ghost use Rattle.std.specs.List.{AllByRecursion};
 ghost use Rattle.raft_base.specs.declared.pipe_log.LogFileContext.{LogFileContext};
 ghost use Rattle.raft_base.specs.declared.pipe_log.LogQueue.{LogQueue};
 ghost use Rattle.raft_base.specs.declared.pipe_log.Version.{Version};
-ghost use Rattle.raft_recover.specs.Requests.{queue_word, version_word, IsNumberWord, NamesFile, NamesPath, IsPathWord, IsRead, AreRead, AskedRecovery, AsksBatch, AsksRecovery, AsksNothing};
+ghost use Rattle.raft_recover.specs.Requests.{queue_word, version_word, IsNumberWord, NamesFile, NamesPath, IsPathWord, IsFileOfWord, AreRead, AskedRecovery, AsksBatch, AsksRecovery, AsksNothing};
 ghost use Rattle.raft_recover.specs.RequestView.{IsAsked, asks_for, file_shown};
 
 use raft_base::{Error, FileId, FileSeq, LogFileContext, LogQueue, Result, Version};
@@ -128,7 +128,7 @@ pub fn read_files<R: Files + AllocGlobal>(
 
 /// Reads the file that a word names.
 fn read_file<R: Files + AllocGlobal>(rt: &R, word: &str) -> Result<(FileSeq, Vec<u8>)>
-    ensures { IfOk result (λ file. IsRead word.now (file_shown file)) }
+    ensures { IfOk result (λ file. IsFileOfWord word.now (file_shown file)) }
 {
     let Some((seq, path)) = path_named(word) else {
         return Err(Error::InvalidArgument(format!(in rt.alloc(); "no file is named: {word}")?));

@@ -14,7 +14,7 @@ use Rattle.raft_table.specs.Table.{Table, empty_table, table_with_entries, with_
 abbrev pub joined_deleted : Mark → Mark → KeySet
 joined_deleted m n = if n.cleaned then n.deleted else finset.union m.deleted n.deleted
 
--- the older mark has no run
+-- the marks of two neighbours joined, where the older one has no run
 abbrev pub joined_first : Mark → Mark → Mark
 joined_first m n = record { cleaned = n.cleaned; reach = n.reach; reach_floor = if is_some n.reach then max m.floor n.reach_floor else m.reach_floor; floor = max m.floor n.floor; cut = lesser m.cut n.cut; deleted = joined_deleted m n }
 
@@ -23,17 +23,17 @@ abbrev pub joined_floor : LogQueue → Bool → ℕ → ℕ → ℕ
 joined_floor Append missed floor cut = floor
 joined_floor Rewrite missed floor cut = if missed then max floor cut else floor
 
--- the older mark has a run and the cut c; the entries that the newer first run comes behind end at x
+-- the marks of two neighbours joined, where the older one has a run and the cut c, and the entries that the newer first run comes behind end at x
 abbrev pub joined_later : LogQueue → ℕ → ℕ → Mark → Mark → Mark
 joined_later queue c x m n = record { cleaned = n.cleaned; reach = m.reach; reach_floor = m.reach_floor; floor = joined_floor queue (misses n.reach x) (max m.floor n.floor) c; cut = lesser (Some c) n.cut; deleted = joined_deleted m n }
 
--- by whether the older mark has a run
+-- the marks of two neighbours joined, told by the first run and the cut of the older one, where its region wasn't cleaned
 abbrev pub joined_live : Option ℕ → Option ℕ → LogQueue → ℕ → Mark → Mark → Mark
 joined_live None cut queue x m n = joined_first m n
 joined_live (Some reach) None queue x m n = m
 joined_live (Some reach) (Some cut) queue x m n = joined_later queue cut x m n
 
--- the older mark m and the newer mark n, whose first run comes behind entries of the older table that end at x
+-- the marks of two neighbours joined: the older m, and the newer n, whose first run comes behind entries of the older table that end at x
 abbrev pub joined_at : LogQueue → ℕ → Mark → Mark → Mark
 joined_at queue x m n = if m.cleaned then m else joined_live m.reach m.cut queue x m n
 
@@ -41,7 +41,7 @@ joined_at queue x m n = if m.cleaned then m else joined_live m.reach m.cut queue
 abbrev pub end_at_reach : Mark → Table → ℕ
 end_at_reach n older = end_of (from n.reach_floor older.entries)
 
--- the older mark m with its own table, and the newer mark n
+-- the marks of two neighbours joined: the older m with its own table, and the newer n
 abbrev pub joined_mark : LogQueue → ℕ → Mark → Option Table → Mark → Mark
 joined_mark queue id m own n = joined_at queue (end_at_reach n (table_of id own)) m n
 
@@ -53,7 +53,7 @@ is_settled m = m.cleaned || is_some m.reach && not (is_some m.cut)
 abbrev pub fresh : Mark
 fresh = record { cleaned = false; reach = None; reach_floor = 0; floor = 0; cut = None; deleted = finset.empty }
 
--- the mark and the own table of one step
+-- the mark of one step
 abbrev pub mark_of : Step → Mark
 mark_of (Run []) = fresh
 mark_of (Run (e ∷ run)) = record fresh { reach = Some e.index; cut = Some e.index }

@@ -2,6 +2,6 @@
 use Rattle.raft_table.specs.declared.memtable.mark.Mark.TheInside.{Inside}
 use Rattle.raft_table.specs.Marks.{Mark}
 
--- the fields as they are
+-- a mark by its fields as they are
 abbrev pub mark_shown : Inside → Mark
 mark_shown a = record { cleaned = a.cleaned; reach = a.reach; reach_floor = a.reach_floor; floor = a.floor; cut = a.cut; deleted = a.deleted }

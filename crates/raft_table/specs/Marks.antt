@@ -81,7 +81,7 @@ ReachesCut None (Some cut) floor own = ⊥
 ReachesCut (Some reach) None floor own = ⊥
 ReachesCut (Some reach) (Some cut) floor own = (cut ≤ floor) ⊎ (cut < end_of own)
 
--- the same of the own entries under a mark, where the region was not cleaned
+-- where the region was not cleaned, the own entries go on past the mark's cut, if a run came
 abbrev pub OwnReachCut : Mark → List EntryIndex → Type 0
 OwnReachCut m own = m.cleaned ≡ false → ReachesCut m.reach m.cut m.floor own
 

@@ -55,7 +55,7 @@ overlay ss appended rewritten = record rewritten {
   atomic_group = if has_clean ss then appended.atomic_group else rewritten.atomic_group;
 }
 
--- the same told by a mark
+-- an appended table over a rewritten one, told by the mark of the append queue's steps
 abbrev pub overlay_under : Mark → Table → Table → Table
 overlay_under m appended rewritten = record rewritten {
   entries = if m.cleaned then appended.entries else rewritten_part m.floor m.cut rewritten.entries ++ appended.entries;
@@ -69,7 +69,7 @@ IsOverlayFault counts appended errors.Full = (q : LogQueue) × (2 ^ 64 ≤ live 
 IsOverlayFault counts appended errors.Memory = Unit {0}
 IsOverlayFault counts appended _ = ⊥
 
--- both of which may be absent
+-- a table that is there, or its absence
 abbrev pub kept_if : Bool → Table → Option Table
 kept_if true t = Some t
 kept_if false t = None

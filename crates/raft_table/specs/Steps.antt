@@ -45,7 +45,7 @@ there_if false (Some t) = Some None
 abbrev pub after_step : LogQueue → ℕ → Option Table → Step → Option (Option Table)
 after_step queue id o s = there_if (is_there_after s) (stepped queue (table_of id o) s)
 
--- and after steps in order
+-- the table of a region after steps in order, or its absence; none where one is refused
 abbrev pub after : LogQueue → ℕ → Option Table → List Step → Option (Option Table)
 after queue id o [] = Some o
 after queue id o (s ∷ ss) = option_and_then (λ u. after queue id u ss) (after_step queue id o s)
@@ -55,7 +55,7 @@ abbrev pub IsStep : Step → Type 0
 IsStep (Run run) = IsRun run
 IsStep _ = Unit {0}
 
--- the same of each step
+-- the entries of each run have indexes without gaps
 abbrev pub AreSteps : List Step → Type 0
 AreSteps [] = Unit {0}
 AreSteps (s ∷ ss) = IsStep s × AreSteps ss

@@ -75,7 +75,7 @@ impl DeletedKeys {
     ///
     /// # Errors
     ///
-    /// Where there is no memory for all of them.
+    /// Where there is no memory for all of them. Both sets then have some of the keys, and one is lost.
     pub fn absorb(&mut self, rhs: &mut DeletedKeys) -> Result<(), AllocError>
         ensures { OnOk result (self.new ≡ finset.union self.old rhs.old) }
     {

@@ -108,9 +108,11 @@ impl Mark {
     ///
     /// # Errors
     ///
-    /// Where there is no memory for the newer deleted keys.
+    /// Where there is no memory for the newer deleted keys. Bounds and the clean are then as they were,
+    /// and the deleted keys are divided between both marks, but for one that is lost: neither serves on.
     pub fn join(&mut self, queue: LogQueue, end_at_reach: u64, newer: &mut Mark) -> Result<()>
         ensures ok { OnOk result (self.new ≡ joined_at queue end_at_reach self.old newer.old) }
+        ensures err { OnErr result (self.new ≡ record self.old { deleted = self.new.deleted }) }
         ensures memory { IfErr result (λ e. e ≡ Error.Memory) }
     {
         if self.cleaned || self.reach.is_some() && self.cut.is_none() {
@@ -216,6 +218,7 @@ impl Mark {
 
     /// Takes over the keys that the newer steps deleted.
     fn join_deleted(&mut self, newer: &mut Mark) -> Result<()>
+        ensures err { OnErr result (self.new ≡ record self.old { deleted = self.new.deleted }) }
         ensures ok { OnOk result (self.new ≡ record self.old { deleted = joined_deleted self.old newer.old }) }
         ensures newer { OnOk result (newer.new ≡ record newer.old { deleted = newer.new.deleted }) }
         ensures memory { IfErr result (λ e. e ≡ Error.Memory) }

@@ -30,9 +30,9 @@ pub(super) fn sought<'a>(
     end: &Option<Vec<u8>>,
 ) -> Range<'a, Vec<u8>, StoredValue>
     requires { IsTrue (is_forward (option_map (λ k. k.items) start.now) (option_map (λ k. k.items) end.now)) }
-    ensures { result
-        ≡ filter (λ e. is_between (option_map (λ k. k.items) start.now) (option_map
-        (λ k. k.items) end.now) e.0.items) pairs.now.entries }
+    ensures { result ≡ filter
+        (λ e. is_between (option_map (λ k. k.items) start.now) (option_map (λ k. k.items) end.now) e.0.items)
+        pairs.now.entries }
 {
     match (start, end) {
         (Some(start), Some(end)) => pairs.range(start..end),
@@ -61,8 +61,8 @@ pub(super) fn visit<F: FnMut(&[u8], &[u8]) -> bool>(
 )
     requires { F.IsAlwaysCallable f }
     ensures { (last : F)
-        × VisitsUntilFalse (CalledAtTwo F.FnMut) f (map (λ e. (e.0.items, e.1.value.items)) (filter (λ e. is_between
-        (option_copied start.entry) (option_copied end.entry) e.0.items) pairs.entry)) last }
+        × VisitsUntilFalse (CalledAtTwo F.FnMut) f (map (λ e. (e.0.items, e.1.value.items))
+            (filter (λ e. is_between (option_copied start.entry) (option_copied end.entry) e.0.items) pairs.entry)) last }
 {
     while let Some((key, pair)) = pairs.next() {
         if is_between(key.as_slice(), start, end) && !f(key.as_slice(), pair.value.as_slice()) {
@@ -80,8 +80,8 @@ pub(super) fn visit_back<F: FnMut(&[u8], &[u8]) -> bool>(
 )
     requires { F.IsAlwaysCallable f }
     ensures { (last : F)
-        × VisitsUntilFalse (CalledAtTwo F.FnMut) f (reverse (map (λ e. (e.0.items, e.1.value.items)) (filter
-        (λ e. is_between (option_copied start.entry) (option_copied end.entry) e.0.items) pairs.entry))) last }
+        × VisitsUntilFalse (CalledAtTwo F.FnMut) f (reverse (map (λ e. (e.0.items, e.1.value.items))
+            (filter (λ e. is_between (option_copied start.entry) (option_copied end.entry) e.0.items) pairs.entry))) last }
 {
     while let Some((key, pair)) = pairs.next_back() {
         if is_between(key.as_slice(), start, end) && !f(key.as_slice(), pair.value.as_slice()) {

@@ -14,3 +14,6 @@ mod UpdateLemmas
 mod WriteLemmas
 mod SlotKeeping
 mod CleanLemmas
+mod LiveSteps
+mod TakenLemmas
+mod GroupFiles

@@ -72,7 +72,7 @@ abbrev pub after_command : ℕ → Option Table → Command → Option (Option T
 after_command id o commands.Clean = Some None
 after_command id o (commands.Compact index) = Some (Some (compacted index (table_of id o)))
 
--- and by a rewriting, for which a Clean changes nothing and a Compact is refused
+-- a region's table after a command by a rewriting, for which a Clean changes nothing and a Compact is refused
 abbrev pub after_rewrite_command : Option Table → Command → Option (Option Table)
 after_rewrite_command o commands.Clean = Some o
 after_rewrite_command o (commands.Compact index) = None
@@ -100,14 +100,14 @@ IsFileOf queue None = ⊥
 IsFileOf queue (Some file) = file.queue ≡ queue
 
 -- a put of a queue; a deletion is of any
-abbrev pub IsPairOf : LogQueue → OpType → Option FileId → Type 0
-IsPairOf queue operations.Put file = IsFileOf queue file
-IsPairOf queue operations.Del file = Unit {0}
+abbrev pub IsPairOfQueue : LogQueue → OpType → Option FileId → Type 0
+IsPairOfQueue queue operations.Put file = IsFileOf queue file
+IsPairOfQueue queue operations.Del file = Unit {0}
 
 -- what the change of a key is asked to be; a rewriting doesn't look at its file
 abbrev pub IsPairFor : Writing → Pair → Type 0
-IsPairFor Appending p = IsPairOf Append p.op_type p.file_id
-IsPairFor (Replaying queue) p = IsPairOf queue p.op_type p.file_id
+IsPairFor Appending p = IsPairOfQueue Append p.op_type p.file_id
+IsPairFor (Replaying queue) p = IsPairOfQueue queue p.op_type p.file_id
 IsPairFor (Rewriting gate seq) p = Unit {0}
 
 -- what a content is asked to be: entries a run of the queue, a put, unless it is skipped, of a file of the queue
@@ -149,17 +149,17 @@ records_named (command c) = 0
 records_named (pair p) = 1
 
 -- entries that are read again into a table with records of the other queue
-abbrev pub MeetsOthers : Writing → Table → Content → Type 0
-MeetsOthers (Replaying queue) t (entries es) = 0 < live_of (other queue) t
-MeetsOthers w t content = ⊥
+abbrev pub MixesQueues : Writing → Table → Content → Type 0
+MixesQueues (Replaying queue) t (entries es) = 0 < live_of (other queue) t
+MixesQueues w t content = ⊥
 
 -- why a content is refused, `live` records being live in the queue: it isn't as asked, or its change is refused; it would be read again into a table of the other queue; more than 2^64 - 1 records would be live; or want of memory
-abbrev pub IsContentFault : Writing → ℕ → Option Table → ℕ → Content → Error → Type 0
-IsContentFault w id o live content (errors.Corruption text) = (IsFor w content → ⊥) ⊎ (after_content w id o content ≡ None)
-IsContentFault w id o live content (errors.InvalidArgument text) = MeetsOthers w (table_of id o) content
-IsContentFault w id o live content errors.Full = 2 ^ 64 ≤ live + records_named content
-IsContentFault w id o live content errors.Memory = Unit {0}
-IsContentFault w id o live content _ = ⊥
+abbrev pub IsWriteFault : Writing → ℕ → Option Table → ℕ → Content → Error → Type 0
+IsWriteFault w id o live content (errors.Corruption text) = (IsFor w content → ⊥) ⊎ (after_content w id o content ≡ None)
+IsWriteFault w id o live content (errors.InvalidArgument text) = MixesQueues w (table_of id o) content
+IsWriteFault w id o live content errors.Full = 2 ^ 64 ≤ live + records_named content
+IsWriteFault w id o live content errors.Memory = Unit {0}
+IsWriteFault w id o live content _ = ⊥
 
 -- items are written: each is as asked, the tables are those after them in order, and the regions that they clean are listed
 pub record AreWritten (w : Writing) (items : List Item) (old new : Accessor) : Type 0 where
@@ -168,10 +168,10 @@ pub record AreWritten (w : Writing) (items : List Item) (old new : Accessor) : T
   pub cleaned : new.cleaned ≡ old.cleaned ++ listed_by_items w items
 
 -- the items in front of the one that is refused are written, and nothing else
-pub record AreRefused (w : Writing) (items : List Item) (old new : Accessor) (e : Error) : Type 0 where
+pub record AreItemsRefused (w : Writing) (items : List Item) (old new : Accessor) (e : Error) : Type 0 where
   pub front : List Item
   pub item : Item
   pub rest : List Item
   pub split : items ≡ front ++ item ∷ rest
   pub written : AreWritten w front old new
-  pub fault : IsContentFault w item.raft_group_id (finite.get new.tables item.raft_group_id) (live_in_all (queue_of w) new.tables) item.content e
+  pub fault : IsWriteFault w item.raft_group_id (finite.get new.tables item.raft_group_id) (live_in_all (queue_of w) new.tables) item.content e

@@ -13,11 +13,13 @@ ghost use Rattle.raft_records.specs.declared.command.Command.TheVariants.{Clean}
 ghost use Rattle.raft_history.specs.RegionSteps.{with_table};
 ghost use Rattle.raft_table.specs.Change.{after_change, IsAnswer, IsChangeFault};
 ghost use Rattle.raft_table.specs.Table.{Table, with_atomic_group, live_of};
-ghost use Rattle.raft_memtable.specs.Accessor.{slot_of, table_in, live_in_all, AreCounted};
+ghost use Rattle.raft_memtable.specs.Accessor.{slot_of, table_in, live_in_all, AreCountsOf};
 ghost use Rattle.raft_memtable.specs.AccessorCalls.{IsTableChanged, IsWritten};
-ghost use Rattle.raft_memtable.specs.Merges.{with_newer, with_appended, IsMergedAt, AreMerged};
-ghost use Rattle.raft_memtable.specs.Walks.{Keeps};
-ghost use Rattle.raft_memtable.specs.Writes.{Appending, Replaying, Rewriting, AreWritten, AreRefused};
+ghost use Rattle.raft_memtable.specs.Merges.{with_newer, with_appended, IsMergedAt, AreTablesMerged};
+ghost use Rattle.raft_memtable.specs.Walks.{Collects};
+ghost use Rattle.raft_memtable.specs.Writes.{Appending, Replaying, Rewriting, AreWritten, AreItemsRefused};
+
+mod region_steps;
 
 use crate::region_tables::RegionTables;
 use raft_records::{Command, LogBatch, LogItem, hash_u64};
@@ -50,11 +52,11 @@ impl Model for MemTableAccessor {
 
     ghost coded = { accessor_code };
 
-    ghost use Rattle.raft_memtable.specs.AccessorView.{accessor_shown, IsKept};
+    ghost use Rattle.raft_memtable.specs.AccessorView.{accessor_shown, IsAccessorKept};
 
     ghost view = { accessor_shown };
 
-    ghost invariant = { IsKept };
+    ghost invariant = { IsAccessorKept };
 }
 
 impl MemTableAccessor {
@@ -97,7 +99,7 @@ impl MemTableAccessor {
 
     /// The live numbers are those of the tables. This is a law: it computes nothing.
     pub fn counts_are_exact(&self)
-        ensures { AreCounted self.now.tables self.now.counts }
+        ensures { AreCountsOf self.now.tables self.now.counts }
     {
         let _ = &self.stats;
     }
@@ -128,7 +130,8 @@ impl MemTableAccessor {
     ///
     /// Those of [`MemTable::change`], and `Memory`. All tables are then as they were.
     pub fn change(&mut self, id: u64, change: TableChange) -> Result<u64>
-        ensures changed { IsTableChanged (after_change (table_in self.old.tables id) change) (IsChangeFault (table_in self.old.tables id) self.old.counts change) id result self.old self.new }
+        ensures changed { IsTableChanged (after_change (table_in self.old.tables id) change)
+            (IsChangeFault (table_in self.old.tables id) self.old.counts change) id result self.old self.new }
         ensures answer { IfOk result (IsAnswer change (table_in self.old.tables id) (table_in self.new.tables id)) }
     {
         self.slots[slot_of(id)].change(id, change, &mut self.stats)
@@ -147,7 +150,8 @@ impl MemTableAccessor {
         end: FileSeq,
     ) -> Result<()>
         requires { start ≤ end }
-        ensures { IsTableChanged (Some (with_atomic_group (table_in self.old.tables id) start end)) (λ e. ⊥) id result self.old self.new }
+        ensures { IsTableChanged (Some (with_atomic_group (table_in self.old.tables id) start end))
+            (λ e. ⊥) id result self.old self.new }
     {
         self.slots[slot_of(id)].apply_rewrite_atomic_group(id, start, end, &mut self.stats)
     }
@@ -164,7 +168,8 @@ impl MemTableAccessor {
         ensures ok { OnOk result (self.new.tables ≡ finite.insert self.old.tables id table) }
         ensures replaced { IfOk result (λ t. t ≡ finite.get self.old.tables id) }
         ensures err { OnErr result (self.new.tables ≡ self.old.tables) }
-        ensures fault { IfErr result (λ e. (e ≡ Error.Memory) ⊎ ((e ≡ Error.Full) × ((q : LogQueue) × (2 ^ 64 ≤ live_in_all q self.old.tables + live_of q table)))) }
+        ensures fault { IfErr result (λ e. (e ≡ Error.Memory)
+            ⊎ ((e ≡ Error.Full) × ((q : LogQueue) × (2 ^ 64 ≤ live_in_all q self.old.tables + live_of q table)))) }
         ensures cleaned { self.new.cleaned ≡ self.old.cleaned }
     {
         self.slots[slot_of(id)].insert(id, table, &mut self.stats)
@@ -179,7 +184,8 @@ impl MemTableAccessor {
     pub fn remove(&mut self, id: u64, record_tombstone: bool) -> Result<Option<MemTable>>
         ensures tables { OnOk result (self.new.tables ≡ finite.remove self.old.tables id) }
         ensures taken { IfOk result (λ t. t ≡ finite.get self.old.tables id) }
-        ensures cleaned { OnOk result (self.new.cleaned ≡ (if record_tombstone then self.old.cleaned ++ id ∷ [] else self.old.cleaned)) }
+        ensures cleaned { OnOk result (self.new.cleaned
+            ≡ (if record_tombstone then self.old.cleaned ++ id ∷ [] else self.old.cleaned)) }
         ensures err { OnErr result (self.new ≡ self.old) }
         ensures fault { IfErr result (λ e. (e ≡ Error.Memory) × IsTrue record_tombstone) }
     {
@@ -197,7 +203,7 @@ impl MemTableAccessor {
     /// Those of [`MemTable::merge_newer_neighbor`]. Some tables are then merged, and the rest of `rhs`
     /// is lost.
     pub fn merge_newer_neighbor(&mut self, rhs: MemTableAccessor) -> Result<()>
-        ensures ok { OnOk result (AreMerged with_newer self.old.tables rhs.tables self.new.tables) }
+        ensures ok { OnOk result (AreTablesMerged with_newer self.old.tables rhs.tables self.new.tables) }
         ensures cleaned { self.new.cleaned ≡ self.old.cleaned }
     {
         for slot in rhs.slots {
@@ -214,7 +220,7 @@ impl MemTableAccessor {
     /// Those of [`MemTable::merge_append_table`]. Some tables are then merged, and the rest of `rhs`
     /// is lost.
     pub fn merge_append_table(&mut self, rhs: MemTableAccessor) -> Result<()>
-        ensures ok { OnOk result (AreMerged with_appended self.old.tables rhs.tables self.new.tables) }
+        ensures ok { OnOk result (AreTablesMerged with_appended self.old.tables rhs.tables self.new.tables) }
         ensures cleaned { self.new.cleaned ≡ self.old.cleaned }
     {
         for slot in rhs.slots {
@@ -229,11 +235,14 @@ impl MemTableAccessor {
     ///
     /// Those of the first item that is refused. The items in front of it are written, and nothing else.
     pub fn apply_append_writes<I: IntoIterator<Item = LogItem>>(&mut self, items: I) -> Result<()>
-        requires { (it : I.IntoIter) → I.into_iter_gives items it → I.IntoIter.can_next it × IsFinite (I.IntoIter.remaining it) }
-        ensures ok { OnOk result ((it : I.IntoIter) × (xs : List LogItem) × I.into_iter_gives items it × Drains I.IntoIter.next_gives it xs
+        requires { (it : I.IntoIter) → I.into_iter_gives items it
+            → I.IntoIter.can_next it × IsFinite (I.IntoIter.remaining it) }
+        ensures ok { OnOk result ((it : I.IntoIter) × (xs : List LogItem) × I.into_iter_gives items it
+            × Drains I.IntoIter.next_gives it xs
             × AreWritten Appending (map item_of xs) self.old self.new) }
-        ensures refused { IfErr result (λ e. (it : I.IntoIter) × (xs : List LogItem) × (u : I.IntoIter) × I.into_iter_gives items it × Yields I.IntoIter.next_gives it xs u
-            × AreRefused Appending (map item_of xs) self.old self.new e) }
+        ensures refused { IfErr result (λ e. (it : I.IntoIter) × (xs : List LogItem) × (u : I.IntoIter)
+            × I.into_iter_gives items it × Yields I.IntoIter.next_gives it xs u
+            × AreItemsRefused Appending (map item_of xs) self.old self.new e) }
     {
         for item in items {
             self.append_item(item)?;
@@ -247,11 +256,14 @@ impl MemTableAccessor {
     ///
     /// Those of the first item that is refused. The items in front of it are written, and nothing else.
     pub fn replay_append_writes<I: IntoIterator<Item = LogItem>>(&mut self, items: I) -> Result<()>
-        requires { (it : I.IntoIter) → I.into_iter_gives items it → I.IntoIter.can_next it × IsFinite (I.IntoIter.remaining it) }
-        ensures ok { OnOk result ((it : I.IntoIter) × (xs : List LogItem) × I.into_iter_gives items it × Drains I.IntoIter.next_gives it xs
+        requires { (it : I.IntoIter) → I.into_iter_gives items it
+            → I.IntoIter.can_next it × IsFinite (I.IntoIter.remaining it) }
+        ensures ok { OnOk result ((it : I.IntoIter) × (xs : List LogItem) × I.into_iter_gives items it
+            × Drains I.IntoIter.next_gives it xs
             × AreWritten (Replaying Append) (map item_of xs) self.old self.new) }
-        ensures refused { IfErr result (λ e. (it : I.IntoIter) × (xs : List LogItem) × (u : I.IntoIter) × I.into_iter_gives items it × Yields I.IntoIter.next_gives it xs u
-            × AreRefused (Replaying Append) (map item_of xs) self.old self.new e) }
+        ensures refused { IfErr result (λ e. (it : I.IntoIter) × (xs : List LogItem) × (u : I.IntoIter)
+            × I.into_iter_gives items it × Yields I.IntoIter.next_gives it xs u
+            × AreItemsRefused (Replaying Append) (map item_of xs) self.old self.new e) }
     {
         for item in items {
             self.replay_item(LogQueue::Append, item)?;
@@ -265,11 +277,14 @@ impl MemTableAccessor {
     ///
     /// Those of the first item that is refused. The items in front of it are written, and nothing else.
     pub fn replay_rewrite_writes<I: IntoIterator<Item = LogItem>>(&mut self, items: I) -> Result<()>
-        requires { (it : I.IntoIter) → I.into_iter_gives items it → I.IntoIter.can_next it × IsFinite (I.IntoIter.remaining it) }
-        ensures ok { OnOk result ((it : I.IntoIter) × (xs : List LogItem) × I.into_iter_gives items it × Drains I.IntoIter.next_gives it xs
+        requires { (it : I.IntoIter) → I.into_iter_gives items it
+            → I.IntoIter.can_next it × IsFinite (I.IntoIter.remaining it) }
+        ensures ok { OnOk result ((it : I.IntoIter) × (xs : List LogItem) × I.into_iter_gives items it
+            × Drains I.IntoIter.next_gives it xs
             × AreWritten (Replaying Rewrite) (map item_of xs) self.old self.new) }
-        ensures refused { IfErr result (λ e. (it : I.IntoIter) × (xs : List LogItem) × (u : I.IntoIter) × I.into_iter_gives items it × Yields I.IntoIter.next_gives it xs u
-            × AreRefused (Replaying Rewrite) (map item_of xs) self.old self.new e) }
+        ensures refused { IfErr result (λ e. (it : I.IntoIter) × (xs : List LogItem) × (u : I.IntoIter)
+            × I.into_iter_gives items it × Yields I.IntoIter.next_gives it xs u
+            × AreItemsRefused (Replaying Rewrite) (map item_of xs) self.old self.new e) }
     {
         for item in items {
             self.replay_item(LogQueue::Rewrite, item)?;
@@ -290,11 +305,14 @@ impl MemTableAccessor {
         watermark: Option<FileSeq>,
         new_file: FileSeq,
     ) -> Result<()>
-        requires { (it : I.IntoIter) → I.into_iter_gives items it → I.IntoIter.can_next it × IsFinite (I.IntoIter.remaining it) }
-        ensures ok { OnOk result ((it : I.IntoIter) × (xs : List LogItem) × I.into_iter_gives items it × Drains I.IntoIter.next_gives it xs
+        requires { (it : I.IntoIter) → I.into_iter_gives items it
+            → I.IntoIter.can_next it × IsFinite (I.IntoIter.remaining it) }
+        ensures ok { OnOk result ((it : I.IntoIter) × (xs : List LogItem) × I.into_iter_gives items it
+            × Drains I.IntoIter.next_gives it xs
             × AreWritten (Rewriting watermark new_file) (map item_of xs) self.old self.new) }
-        ensures refused { IfErr result (λ e. (it : I.IntoIter) × (xs : List LogItem) × (u : I.IntoIter) × I.into_iter_gives items it × Yields I.IntoIter.next_gives it xs u
-            × AreRefused (Rewriting watermark new_file) (map item_of xs) self.old self.new e) }
+        ensures refused { IfErr result (λ e. (it : I.IntoIter) × (xs : List LogItem) × (u : I.IntoIter)
+            × I.into_iter_gives items it × Yields I.IntoIter.next_gives it xs u
+            × AreItemsRefused (Rewriting watermark new_file) (map item_of xs) self.old self.new e) }
     {
         for item in items {
             self.rewrite_item(item, watermark, new_file)?;
@@ -309,7 +327,8 @@ impl MemTableAccessor {
     ///
     /// `Memory`. The accessor is then as it was.
     pub fn take_cleaned_region_logs(&mut self) -> Result<LogBatch>
-        ensures logs { IfOk result (λ logs. logs ≡ record empty_batch { items = map (λ id. command_item id Clean) self.old.cleaned }) }
+        ensures logs { IfOk result (λ logs. logs
+            ≡ record empty_batch { items = map (λ id. command_item id Clean) self.old.cleaned }) }
         ensures ok { OnOk result (self.new ≡ record self.old { cleaned = [] }) }
         ensures err { OnErr result (self.new ≡ self.old) }
         ensures memory { IfErr result (λ e. e ≡ Error.Memory) }
@@ -337,7 +356,8 @@ impl MemTableAccessor {
     ///
     /// `Memory`.
     pub fn tables(&self) -> Result<Vec<&MemTable>>
-        ensures tables { IfOk result (λ tables. IsPermutation (map (λ t. t.now) tables.items) (finite.values self.now.tables)) }
+        ensures tables { IfOk result
+            (λ tables. IsPermutation (map (λ t. t.now) tables.items) (finite.values self.now.tables)) }
         ensures memory { IfErr result (λ e. e ≡ Error.Memory) }
     {
         let mut tables = Vec::new(*self.cleaned.allocator());
@@ -354,8 +374,9 @@ impl MemTableAccessor {
     /// `Memory`.
     pub fn collect<F: FnMut(&MemTable) -> bool>(&self, mut f: F) -> Result<Vec<&MemTable>>
         requires { F.IsAlwaysCallable f }
-        ensures ok { IfOk result (λ kept. (ts : List Table) × (last : F) × IsPermutation ts (finite.values self.now.tables)
-            × FoldsTo (Keeps F.FnMut) (f, []) ts (last, map (λ t. t.now) kept.items)) }
+        ensures ok { IfOk result (λ kept. (ts : List Table) × (last : F)
+            × IsPermutation ts (finite.values self.now.tables)
+            × FoldsTo (Collects F.FnMut) (f, []) ts (last, map (λ t. t.now) kept.items)) }
         ensures memory { IfErr result (λ e. e ≡ Error.Memory) }
     {
         let mut kept = Vec::new(*self.cleaned.allocator());
@@ -388,7 +409,7 @@ impl MemTableAccessor {
 
     /// Merges the newer neighbors of one slot.
     fn merge_newer_tables(&mut self, newer: RegionTables) -> Result<()>
-        ensures ok { OnOk result (AreMerged with_newer self.old.tables newer self.new.tables) }
+        ensures ok { OnOk result (AreTablesMerged with_newer self.old.tables newer self.new.tables) }
         ensures cleaned { self.new.cleaned ≡ self.old.cleaned }
     {
         for (id, table) in newer.into_entries() {
@@ -399,7 +420,7 @@ impl MemTableAccessor {
 
     /// Merges the appended tables of one slot.
     fn merge_append_tables(&mut self, newer: RegionTables) -> Result<()>
-        ensures ok { OnOk result (AreMerged with_appended self.old.tables newer self.new.tables) }
+        ensures ok { OnOk result (AreTablesMerged with_appended self.old.tables newer self.new.tables) }
         ensures cleaned { self.new.cleaned ≡ self.old.cleaned }
     {
         for (id, table) in newer.into_entries() {
@@ -411,7 +432,8 @@ impl MemTableAccessor {
     /// Merges a newer neighbor into the table of its region.
     fn merge_newer_table(&mut self, id: u64, newer: MemTable) -> Result<()>
         requires { newer.region_id ≡ id }
-        ensures ok { OnOk result (IsMergedAt with_newer id (finite.get self.old.tables id) (Some newer) (finite.get self.new.tables id)) }
+        ensures ok { OnOk result
+            (IsMergedAt with_newer id (finite.get self.old.tables id) (Some newer) (finite.get self.new.tables id)) }
         ensures others { self.new.tables ≡ with_table self.old.tables id (finite.get self.new.tables id) }
         ensures cleaned { self.new.cleaned ≡ self.old.cleaned }
     {
@@ -421,7 +443,8 @@ impl MemTableAccessor {
     /// Merges an appended table into the table of its region.
     fn merge_appended(&mut self, id: u64, newer: MemTable) -> Result<()>
         requires { newer.region_id ≡ id }
-        ensures ok { OnOk result (IsMergedAt with_appended id (finite.get self.old.tables id) (Some newer) (finite.get self.new.tables id)) }
+        ensures ok { OnOk result
+            (IsMergedAt with_appended id (finite.get self.old.tables id) (Some newer) (finite.get self.new.tables id)) }
         ensures others { self.new.tables ≡ with_table self.old.tables id (finite.get self.new.tables id) }
         ensures cleaned { self.new.cleaned ≡ self.old.cleaned }
     {

@@ -11,7 +11,7 @@ ghost use Rattle.raft_table.specs.Counts.{live};
 ghost use Rattle.raft_table.specs.Steps.{table_of};
 ghost use Rattle.raft_table.specs.Table.{Table, empty_table, live_of, with_atomic_group, IsCounted, IsRecounted};
 ghost use Rattle.raft_memtable.specs.Accessor.{table_in};
-ghost use Rattle.raft_memtable.specs.Merges.{with_newer, with_appended, MayAlter, IsAltered, IsMerged};
+ghost use Rattle.raft_memtable.specs.Merges.{with_newer, with_appended, MayAlter, IsAltered, IsTableMerged};
 ghost use Rattle.raft_memtable.specs.Updates.{MayChange, IsUpdated, IsTaken};
 
 use raft_table::{Error, FileSeq, GlobalStats, MemTable, Result, TableChange};
@@ -37,11 +37,11 @@ impl Model for RegionTables {
 
     ghost coded = { finite.code coded_ℕ table_code };
 
-    ghost use Rattle.raft_memtable.specs.RegionTablesView.{tables_shown, IsKept};
+    ghost use Rattle.raft_memtable.specs.RegionTablesView.{tables_shown, AreTablesKept};
 
     ghost view = { tables_shown };
 
-    ghost invariant = { IsKept };
+    ghost invariant = { AreTablesKept };
 }
 
 impl RegionTables {
@@ -77,7 +77,8 @@ impl RegionTables {
 
     /// Pushes all tables, in open order.
     pub(crate) fn push_tables<'a>(&'a self, tables: &mut Vec<&'a MemTable>) -> Result<()>
-        ensures ok { OnOk result ((ts : List Table) × IsPermutation ts (finite.values self.now) × (map (λ t. t.now) tables.new.items ≡ map (λ t. t.now) tables.old.items ++ ts)) }
+        ensures ok { OnOk result ((ts : List Table) × IsPermutation ts (finite.values self.now)
+            × (map (λ t. t.now) tables.new.items ≡ map (λ t. t.now) tables.old.items ++ ts)) }
         ensures memory { IfErr result (λ e. e ≡ Error.Memory) }
     {
         for table in self.tables.values() {
@@ -141,7 +142,8 @@ impl RegionTables {
     /// Those of [`MemTable::change`]. The tables are then as they were.
     pub fn change(&mut self, id: u64, change: TableChange, stats: &mut GlobalStats) -> Result<u64>
         requires { IsCounted (table_in self.old id) stats.old }
-        ensures taken { IsTaken (after_change (table_in self.old id) change) (IsChangeFault (table_in self.old id) stats.old change) self.old id stats.old result self.new stats.new }
+        ensures taken { IsTaken (after_change (table_in self.old id) change)
+            (IsChangeFault (table_in self.old id) stats.old change) self.old id stats.old result self.new stats.new }
         ensures answer { IfOk result (IsAnswer change (table_in self.old id) (table_in self.new id)) }
     {
         self.update(
@@ -165,7 +167,8 @@ impl RegionTables {
     ) -> Result<()>
         requires files { start ≤ end }
         requires counted { IsCounted (table_in self.old id) stats.old }
-        ensures { IsTaken (Some (with_atomic_group (table_in self.old id) start end)) (λ e. ⊥) self.old id stats.old result self.new stats.new }
+        ensures { IsTaken (Some (with_atomic_group (table_in self.old id) start end)) (λ e. ⊥)
+            self.old id stats.old result self.new stats.new }
     {
         self.update(
             id,
@@ -195,7 +198,8 @@ impl RegionTables {
         ensures ok { OnOk result (self.new ≡ finite.insert self.old id table) }
         ensures replaced { IfOk result (λ t. t ≡ finite.get self.old id) }
         ensures err { OnErr result (self.new ≡ self.old) }
-        ensures fault { IfErr result (λ e. (e ≡ Error.Memory) ⊎ ((e ≡ Error.Full) × ((q : LogQueue) × (2 ^ 64 ≤ live q stats.old + live_of q table)))) }
+        ensures fault { IfErr result (λ e. (e ≡ Error.Memory)
+            ⊎ ((e ≡ Error.Full) × ((q : LogQueue) × (2 ^ 64 ≤ live q stats.old + live_of q table)))) }
         ensures one { self.new ≡ with_table self.old id (finite.get self.new id) }
         ensures recounted { IsRecounted (table_in self.old id) (table_in self.new id) stats.old stats.new }
     {
@@ -244,7 +248,8 @@ impl RegionTables {
     ) -> Result<()>
         requires region { newer.region_id ≡ id }
         requires counted { IsCounted (table_in self.old id) stats.old }
-        ensures { IsMerged (with_newer (table_in self.old id) newer) self.old id stats.old result self.new stats.new }
+        ensures { IsTableMerged (with_newer (table_in self.old id) newer)
+            self.old id stats.old result self.new stats.new }
     {
         self.alter(
             id,
@@ -266,7 +271,8 @@ impl RegionTables {
     ) -> Result<()>
         requires region { newer.region_id ≡ id }
         requires counted { IsCounted (table_in self.old id) stats.old }
-        ensures { IsMerged (with_appended (table_in self.old id) newer) self.old id stats.old result self.new stats.new }
+        ensures { IsTableMerged (with_appended (table_in self.old id) newer)
+            self.old id stats.old result self.new stats.new }
     {
         self.alter(
             id,
@@ -287,7 +293,8 @@ impl RegionTables {
     where
         F: Drop,
         requires counted { IsCounted (table_in self.old id) stats.old }
-        requires may { (table_in self.old id).region_id ≡ id → MayAlter F.FnOnce change (table_in self.old id) stats.old }
+        requires may { (table_in self.old id).region_id ≡ id
+            → MayAlter F.FnOnce change (table_in self.old id) stats.old }
         ensures { IsAltered F.FnOnce change self.old id stats.old result self.new stats.new }
     {
         if let Some(table) = self.tables.get_mut(&id) {

@@ -10,7 +10,7 @@ ghost use Rattle.raft_table.specs.Change.{after_change, IsAnswer, IsChangeFault}
 ghost use Rattle.raft_table.specs.Table.{with_atomic_group, live_of};
 ghost use Rattle.raft_memtable.specs.Accessor.{slot_of, table_in, live_in_all};
 ghost use Rattle.raft_memtable.specs.AccessorCalls.{IsTableChanged, IsWritten};
-ghost use Rattle.raft_memtable.specs.Slot.{IsTableOf, SlotKeeps};
+ghost use Rattle.raft_memtable.specs.Slot.{IsSlotTable, SlotKeeps};
 ghost use Rattle.raft_memtable.specs.Writes.{Appending, Rewriting};
 
 use crate::accessor::clean_logs;
@@ -38,11 +38,11 @@ impl Model for Slot {
 
     ghost coded = { slot_code };
 
-    ghost use Rattle.raft_memtable.specs.SlotView.{slot_shown, IsKept};
+    ghost use Rattle.raft_memtable.specs.SlotView.{slot_shown, IsSlotKept};
 
     ghost view = { slot_shown };
 
-    ghost invariant = { IsKept };
+    ghost invariant = { IsSlotKept };
 }
 
 impl Slot {
@@ -72,7 +72,7 @@ impl Slot {
     /// The table of a region.
     pub fn table(&self, id: u64) -> Option<&MemTable>
         ensures value { option_map (λ t. t.now) result ≡ finite.get self.now.part.tables id }
-        ensures allowed { IfSome result (λ t. IsTableOf self.now.number id t.now) }
+        ensures allowed { IfSome result (λ t. IsSlotTable self.now.number id t.now) }
     {
         self.tables.get(id)
     }
@@ -138,8 +138,10 @@ impl Slot {
     pub fn change(&mut self, id: u64, change: TableChange) -> Result<u64>
         requires { slot_of id ≡ self.old.number }
         ensures changed { IsTableChanged (after_change (table_in self.old.part.tables id) change)
-            (IsChangeFault (table_in self.old.part.tables id) self.old.part.counts change) id result self.old.part self.new.part }
-        ensures answer { IfOk result (IsAnswer change (table_in self.old.part.tables id) (table_in self.new.part.tables id)) }
+            (IsChangeFault
+            (table_in self.old.part.tables id) self.old.part.counts change) id result self.old.part self.new.part }
+        ensures answer { IfOk result
+            (IsAnswer change (table_in self.old.part.tables id) (table_in self.new.part.tables id)) }
         ensures number { self.new.number ≡ self.old.number }
     {
         self.tables.change(id, change, &mut self.stats)
@@ -152,7 +154,8 @@ impl Slot {
     /// `Memory`. The tables are then as they were.
     pub fn get_or_insert(&mut self, id: u64) -> Result<()>
         requires { slot_of id ≡ self.old.number }
-        ensures made { IsTableChanged (Some (table_in self.old.part.tables id)) (λ e. ⊥) id result self.old.part self.new.part }
+        ensures made { IsTableChanged (Some (table_in self.old.part.tables id))
+            (λ e. ⊥) id result self.old.part self.new.part }
         ensures number { self.new.number ≡ self.old.number }
     {
         self.tables.make(id, &mut self.stats)
@@ -172,7 +175,8 @@ impl Slot {
     ) -> Result<()>
         requires slot { slot_of id ≡ self.old.number }
         requires files { start ≤ end }
-        ensures changed { IsTableChanged (Some (with_atomic_group (table_in self.old.part.tables id) start end)) (λ e. ⊥)
+        ensures changed { IsTableChanged (Some (with_atomic_group (table_in self.old.part.tables id) start end))
+            (λ e. ⊥)
             id result self.old.part self.new.part }
         ensures number { self.new.number ≡ self.old.number }
     {
@@ -283,7 +287,8 @@ impl Slot {
     /// Lists a region as cleaned.
     fn list(&mut self, id: u64) -> Result<()>
         requires { slot_of id ≡ self.old.number }
-        ensures ok { OnOk result (self.new ≡ record self.old { part = record self.old.part { cleaned = self.old.part.cleaned ++ id ∷ [] } }) }
+        ensures ok { OnOk result (self.new
+            ≡ record self.old { part = record self.old.part { cleaned = self.old.part.cleaned ++ id ∷ [] } }) }
         ensures err { OnErr result (self.new ≡ self.old) }
         ensures memory { IfErr result (λ e. e ≡ Error.Memory) }
     {
@@ -306,7 +311,8 @@ impl Slot {
 /// Adds a `Clean` for each region to an open batch, in order. On `Err` the batch is as it was.
 fn move_cleans(alloc: Global, ids: &[u64], logs: &mut LogBatch) -> Result<()>
     requires { logs.old.stage ≡ populating }
-    ensures ok { OnOk result (logs.new ≡ record logs.old { items = logs.old.items ++ map (λ id. command_item id Clean) ids.now }) }
+    ensures ok { OnOk result (logs.new
+        ≡ record logs.old { items = logs.old.items ++ map (λ id. command_item id Clean) ids.now }) }
     ensures err { OnErr result (logs.new ≡ logs.old) }
     ensures memory { IfErr result (λ e. e ≡ Error.Memory) }
 {

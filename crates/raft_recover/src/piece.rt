@@ -19,7 +19,7 @@ ghost use Rattle.std.specs.Prelude.{
 };
 ghost use Rattle.std.specs.Global.{Global};
 ghost use Rattle.raft_records.specs.FilePart.{Part};
-ghost use Rattle.raft_recover.specs.Lines.{InLine};
+ghost use Rattle.raft_recover.specs.MachineOrder.{AreInOrder};
 ghost use Rattle.raft_recover.specs.Recovery.{CannotBeRead};
 
 use crate::{Segment, replay_segment};
@@ -27,8 +27,8 @@ use raft_base::{Error, Factory, Result};
 use raft_memtable::ReplayMachine;
 use std::alloc::Global;
 
-/// A machine that has replayed so many segments, from this one on. It stands behind a pointer, so that pieces are sorted
-/// by moving pointers.
+/// A machine that has replayed so many segments, from this one on. It stands behind a pointer, so that
+/// pieces are sorted by moving pointers.
 #[derive(Drop)]
 pub(crate) struct Piece<M> {
     from: usize,
@@ -37,7 +37,7 @@ pub(crate) struct Piece<M> {
 }
 
 impl<M: ReplayMachine> Piece<M> {
-    ghost use Rattle.raft_recover.specs.Covers.{IsPieceOf, Tile, covers, covering};
+    ghost use Rattle.raft_recover.specs.Covers.{IsPieceOf, CoverOnce, covers, covering};
 
     /// The piece that goes on with this segment: the last one where it ends there, else a new one.
     pub(crate) fn at<F: Factory<M>>(
@@ -50,7 +50,8 @@ impl<M: ReplayMachine> Piece<M> {
         ensures next { IfOk result (λ p. p.from + p.count ≡ number) }
         ensures piece { (segments : List (Vec Part Global)) → number ≤ length segments →
             All (IsPieceOf M.stands_exactly segments) pieces.old.items →
-            IfOk result (λ p. IsPieceOf M.stands_exactly segments p × All (IsPieceOf M.stands_exactly segments) pieces.new.items) }
+            IfOk result (λ p. IsPieceOf M.stands_exactly segments p
+            × All (IsPieceOf M.stands_exactly segments) pieces.new.items) }
         ensures covered { IfOk result (λ p. (x : ℕ) →
             covering x pieces.new.items + covers p.from p.count x ≡ covering x pieces.old.items) }
         ensures err { IfErr result (λ e. e ≢ Error.Memory → F.may_refuse factory.entry.now e) }
@@ -69,7 +70,8 @@ impl<M: ReplayMachine> Piece<M> {
     fn begin<F: Factory<M>>(alloc: Global, factory: &F, from: usize) -> Result<Piece<M>>
         requires { (m : M) → F.gives factory.now m → M.stands_exactly m [] }
         ensures empty { IfOk result (λ p. (p.from ≡ from) × (p.count ≡ 0)) }
-        ensures piece { (segments : List (Vec Part Global)) → from ≤ length segments → IfOk result (IsPieceOf M.stands_exactly segments) }
+        ensures piece { (segments : List (Vec Part Global)) → from ≤ length segments
+            → IfOk result (IsPieceOf M.stands_exactly segments) }
         ensures err { IfErr result (λ e. e ≢ Error.Memory → F.may_refuse factory.entry.now e) }
     {
         let machine = factory.new_target(alloc)?;
@@ -105,7 +107,7 @@ impl<M: ReplayMachine> Piece<M> {
     /// The machines of pieces, in the order of what they have replayed.
     pub(crate) fn line_up(alloc: Global, mut pieces: Vec<Piece<M>>) -> Result<Vec<M>>
         ensures ok { (segments : List (Vec Part Global)) → All (IsPieceOf M.stands_exactly segments) pieces.items →
-            Tile segments pieces.items → IfOk result (λ v. InLine M.stands_exactly segments v.items) }
+            CoverOnce segments pieces.items → IfOk result (λ v. AreInOrder M.stands_exactly segments v.items) }
         ensures fault { IfErr result (λ e. e ≡ Error.Memory) }
     {
         pieces.sort_by_key(|piece| piece.from)?;

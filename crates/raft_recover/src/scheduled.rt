@@ -26,7 +26,7 @@ ghost use Rattle.std.specs.Global.{Global};
 ghost use Rattle.raft_records.specs.FilePart.{Part};
 ghost use Rattle.raft_table.specs.Start.{IsInvalidArgument};
 ghost use Rattle.raft_recover.specs.Plans.{leaves};
-ghost use Rattle.raft_recover.specs.Lines.{IsUnderway};
+ghost use Rattle.raft_recover.specs.MachineOrder.{IsUnderway};
 ghost use Rattle.raft_recover.specs.Recovery.{IsReplayed, CannotBeRead, PartsAreOf, SegmentsAreOf};
 ghost use Rattle.raft_recover.specs.Schedules.{IsSchedule, switches, count_below, pieces_in};
 
@@ -171,7 +171,8 @@ fn replay_in_order<M: ReplayMachine, F: Factory<M>>(
     requires factory { (m : M) → F.gives factory.now m → M.stands_exactly m [] }
     requires none { machines.old.items ≡ [] }
     ensures ok { IfOk result (IsUnderway M.stands_exactly segments.entry.now machines.new.items) }
-    ensures count { OnOk result (vec_len machines.new ≡ count_below (switches draws.entry.now) (length segments.entry.now)) }
+    ensures count { OnOk result (vec_len machines.new
+        ≡ count_below (switches draws.entry.now) (length segments.entry.now)) }
     ensures refused { IfErr result (λ e. e ≢ Error.Memory → ¬ (F.may_refuse factory.entry.now e) →
         CannotBeRead segments.entry.now) }
 {

@@ -4,8 +4,8 @@ ghost use Rattle.std.specs.Prelude.{◌≡◌, ◌≢◌, ◌+◌, ◌-◌, ◌�
 ghost use Rattle.std.specs.List.Sorted.{IsNonDecreasingBy};
 ghost use Rattle.std.specs.VecDeque.{deque_len, deque_capacity};
 ghost use Rattle.raft_base.specs.declared.errors.Error.TheVariants.{Memory};
-ghost use Rattle.raft_table.specs.Blocks.{Stretch, stretch_of, shown};
-ghost use Rattle.raft_table.specs.BlockWords.{count, starts_of, cut_last, joined, seam, IsIndexOf, IsAt};
+ghost use Rattle.raft_table.specs.Blocks.{BlockSpans, block_spans, shown};
+ghost use Rattle.raft_table.specs.BlockWords.{count, starts_of, cut_last, joined_blocks, seam, IsIndexOf, IsAt};
 
 use crate::memtable::block::Block;
 use raft_records::{FileBlockHandle, Result};
@@ -26,16 +26,34 @@ pub(super) fn count_at_or_below(starts: &VecDeque<u64>, index: u64) -> usize
 /// stands.
 pub(super) fn find(starts: &VecDeque<u64>, index: u64) -> (usize, usize)
     requires { IsIndexOf starts.now.items index }
-    ensures { (i : ℕ) (bs : List Stretch) → starts.now.items ≡ starts_of i bs → i ≤ index → index < i + count bs → IsAt (index - i) bs result.0 result.1 }
+    ensures { (i : ℕ) (bs : List BlockSpans) → starts.now.items ≡ starts_of i bs → i ≤ index → index < i + count bs
+        → IsAt (index - i) bs result.0 result.1 }
 {
     let last = starts.len() - 1;
     let start = starts[last];
     if start <= index {
         return (last, (index - start) as usize);
     }
+    let guess = guess(starts[0], start, last, index);
+    let low = starts[guess];
+    if low <= index && index < starts[guess + 1] {
+        return (guess, (index - low) as usize);
+    }
     let whole = count_at_or_below(starts, index) - 1;
     let start = starts[whole];
     (whole, (index - start) as usize)
+}
+
+/// Behind how many of `count` blocks between two indexes one of them stands, if the blocks are of
+/// one length.
+fn guess(first: u64, end: u64, count: usize, index: u64) -> usize
+    requires above { first ≤ index }
+    requires below { index < end }
+    requires some { 0 < count }
+    ensures { result < count }
+{
+    let guess = (index - first).saturating_mul(count as u64) / (end - first);
+    (guess as usize).min(count - 1)
 }
 
 /// Behind how many blocks the first so many entries end, and behind how many of the last of those.
@@ -44,7 +62,7 @@ pub(super) fn cut_at(starts: &VecDeque<u64>, first: u64, kept: usize) -> (usize,
     requires bounded { first + kept < 2 ^ 64 }
     requires within { 0 < kept → IsIndexOf starts.now.items (first + (kept - 1)) }
     ensures none { kept ≡ 0 → (result.0 ≡ 0) × (result.1 ≡ 0) }
-    ensures some { (bs : List Stretch) → 0 < kept → starts.now.items ≡ starts_of first bs → kept ≤ count bs
+    ensures some { (bs : List BlockSpans) → 0 < kept → starts.now.items ≡ starts_of first bs → kept ≤ count bs
         → IsAt (kept - 1) bs (result.0 - 1) (result.1 - 1) × (0 < result.0) × (0 < result.1) }
 {
     if kept == 0 {
@@ -79,7 +97,7 @@ pub(super) fn is_same(a: &FileBlockHandle, b: &FileBlockHandle) -> bool
 }
 
 /// Puts more blocks behind so many first ones, of the last of which so many entries stay, and in
-/// front of those from `rest` on. Where the two that meet first have the same handle they are one
+/// front of those from `rest` on. Where the two at the first seam have the same handle they are one
 /// block.
 pub(super) fn put_blocks(
     blocks: &mut VecDeque<Block>,
@@ -91,15 +109,19 @@ pub(super) fn put_blocks(
 ) -> Result<()>
     requires order { place.0 ≤ rest }
     requires within { rest ≤ length blocks.old.items }
-    requires part { (d : Block) → 0 < place.0 → place.1 ≤ length (slice_index_or blocks.old.items (place.0 - 1) d).spans.items }
+    requires part { (d : Block) → 0 < place.0
+        → place.1 ≤ length (slice_index_or blocks.old.items (place.0 - 1) d).spans.items }
     requires starts { length starts.old.items ≡ length blocks.old.items }
     requires more { (0 < length more.old.items) × (length more_starts.old.items ≡ length more.old.items) }
     ensures blocks { OnOk result (shown blocks.new.items ≡
-        joined (cut_last place.1 (take place.0 (shown blocks.old.items))) (shown more.old.items) ++ drop rest (shown blocks.old.items)) }
+        joined_blocks (cut_last place.1 (take place.0 (shown blocks.old.items))) (shown more.old.items)
+        ++ drop rest (shown blocks.old.items)) }
     ensures starts { OnOk result (starts.new.items ≡ take place.0 starts.old.items
-        ++ drop (seam (take place.0 (shown blocks.old.items)) (shown more.old.items)) more_starts.old.items ++ drop rest starts.old.items) }
+        ++ drop (seam (take place.0 (shown blocks.old.items)) (shown more.old.items)) more_starts.old.items
+        ++ drop rest starts.old.items) }
     ensures emptied { OnOk result ((more.new.items ≡ []) × (more_starts.new.items ≡ [])) }
-    ensures err { OnErr result ((shown blocks.new.items ≡ shown blocks.old.items) × (starts.new.items ≡ starts.old.items)
+    ensures err { OnErr result ((shown blocks.new.items ≡ shown blocks.old.items)
+        × (starts.new.items ≡ starts.old.items)
         × (shown more.new.items ≡ shown more.old.items) × (more_starts.new.items ≡ more_starts.old.items)) }
     ensures memory { IfErr result (λ e. e ≡ Memory) }
 {
@@ -120,15 +142,21 @@ fn meet(
     more_starts: &mut VecDeque<u64>,
 ) -> Result<()>
     requires within { place.0 ≤ length blocks.old.items }
-    requires part { (d : Block) → 0 < place.0 → place.1 ≤ length (slice_index_or blocks.old.items (place.0 - 1) d).spans.items }
+    requires part { (d : Block) → 0 < place.0
+        → place.1 ≤ length (slice_index_or blocks.old.items (place.0 - 1) d).spans.items }
     requires more { (0 < length more.old.items) × (length more_starts.old.items ≡ length more.old.items) }
     ensures front { OnOk result (take place.0 (shown blocks.new.items) ++ shown more.new.items
-        ≡ joined (cut_last place.1 (take place.0 (shown blocks.old.items))) (shown more.old.items)) }
-    ensures behind { OnOk result ((n : ℕ) → place.0 ≤ n → drop n (shown blocks.new.items) ≡ drop n (shown blocks.old.items)) }
-    ensures starts { OnOk result (more_starts.new.items ≡ drop (seam (take place.0 (shown blocks.old.items)) (shown more.old.items)) more_starts.old.items) }
-    ensures room { (deque_len blocks.new ≡ deque_len blocks.old) × (deque_capacity blocks.new ≡ deque_capacity blocks.old) }
-    ensures fewer { (deque_len more.new ≤ deque_len more.old) × (deque_len more_starts.new ≤ deque_len more_starts.old) }
-    ensures err { OnErr result ((shown blocks.new.items ≡ shown blocks.old.items) × (shown more.new.items ≡ shown more.old.items)
+        ≡ joined_blocks (cut_last place.1 (take place.0 (shown blocks.old.items))) (shown more.old.items)) }
+    ensures behind { OnOk result ((n : ℕ) → place.0 ≤ n
+        → drop n (shown blocks.new.items) ≡ drop n (shown blocks.old.items)) }
+    ensures starts { OnOk result (more_starts.new.items
+        ≡ drop (seam (take place.0 (shown blocks.old.items)) (shown more.old.items)) more_starts.old.items) }
+    ensures room { (deque_len blocks.new ≡ deque_len blocks.old)
+        × (deque_capacity blocks.new ≡ deque_capacity blocks.old) }
+    ensures fewer { (deque_len more.new ≤ deque_len more.old)
+        × (deque_len more_starts.new ≤ deque_len more_starts.old) }
+    ensures err { OnErr result ((shown blocks.new.items ≡ shown blocks.old.items)
+        × (shown more.new.items ≡ shown more.old.items)
         × (more_starts.new.items ≡ more_starts.old.items)) }
     ensures memory { IfErr result (λ e. e ≡ Memory) }
 {
@@ -163,9 +191,12 @@ pub(super) fn push_block(
     index: u64,
     block: Block,
 ) -> Result<()>
-    ensures blocks { OnOk result (shown blocks.new.items ≡ joined (shown blocks.old.items) (stretch_of block ∷ [])) }
-    ensures starts { OnOk result (starts.new.items ≡ starts.old.items ++ drop (seam (shown blocks.old.items) (stretch_of block ∷ [])) (index ∷ [])) }
-    ensures err { OnErr result ((shown blocks.new.items ≡ shown blocks.old.items) × (starts.new.items ≡ starts.old.items)) }
+    ensures blocks { OnOk result (shown blocks.new.items
+        ≡ joined_blocks (shown blocks.old.items) (block_spans block ∷ [])) }
+    ensures starts { OnOk result (starts.new.items
+        ≡ starts.old.items ++ drop (seam (shown blocks.old.items) (block_spans block ∷ [])) (index ∷ [])) }
+    ensures err { OnErr result ((shown blocks.new.items ≡ shown blocks.old.items)
+        × (starts.new.items ≡ starts.old.items)) }
     ensures memory { IfErr result (λ e. e ≡ Memory) }
 {
     let mut block = block;

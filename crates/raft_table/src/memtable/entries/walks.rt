@@ -4,7 +4,7 @@ ghost use Rattle.std.specs.Prelude.{◌≡◌, ◌+◌, ◌-◌, ◌≤◌, ◌<
 ghost use Rattle.std.specs.List.{prefix_len};
 ghost use Rattle.std.specs.Vec.{vec_len, vec_capacity};
 ghost use Rattle.raft_records.specs.declared.entry_index.EntryIndex.{EntryIndex};
-ghost use Rattle.raft_table.specs.Blocks.{Stretch, stretch_of, shown, spread, expanded, AreStretches};
+ghost use Rattle.raft_table.specs.Blocks.{BlockSpans, block_spans, shown, spread, expanded, AreDistinctBlocks};
 ghost use Rattle.raft_table.specs.BlockWords.{count, IsAt};
 ghost use Rattle.raft_table.specs.Fetches.{IsLimitCount};
 ghost use Rattle.raft_table.specs.Rewriting.{may_move};
@@ -24,7 +24,7 @@ pub(super) fn push_parts(
     end: usize,
 )
     requires place { IsAt start (shown blocks.now.items) place.0 place.1 }
-    requires stretches { AreStretches (shown blocks.now.items) }
+    requires distinct { AreDistinctBlocks (shown blocks.now.items) }
     requires order { start ≤ end }
     requires within { end ≤ count (shown blocks.now.items) }
     requires bounded { first + end < 2 ^ 64 }
@@ -75,7 +75,7 @@ pub(super) fn movable_from(
     gate: Option<FileSeq>,
 ) -> usize
     requires place { IsAt start (shown blocks.now.items) place.0 place.1 }
-    requires stretches { AreStretches (shown blocks.now.items) }
+    requires distinct { AreDistinctBlocks (shown blocks.now.items) }
     requires order { start ≤ end }
     requires within { end ≤ count (shown blocks.now.items) }
     ensures { (i : ℕ) → result ≡ prefix_len (may_move gate) (drop start (take end (expanded i (shown blocks.now.items)))) }
@@ -115,7 +115,7 @@ pub(super) fn count_from(
     limit: usize,
 ) -> usize
     requires place { IsAt start (shown blocks.now.items) place.0 place.1 }
-    requires stretches { AreStretches (shown blocks.now.items) }
+    requires distinct { AreDistinctBlocks (shown blocks.now.items) }
     requires order { start ≤ end }
     requires within { end ≤ count (shown blocks.now.items) }
     ensures { (i : ℕ) → IsLimitCount (Some limit) (drop start (take end (expanded i (shown blocks.now.items)))) result }
@@ -138,8 +138,8 @@ pub(super) fn count_from(
 fn next(block: &Block, place: (usize, usize)) -> (usize, usize)
     requires within { place.0 + 1 < 2 ^ 64 }
     requires inside { place.1 < length block.now.spans.items }
-    ensures { (p : ℕ) (bs : List Stretch) → IsAt p bs place.0 place.1 → AreStretches bs
-        → stretch_of block.now ≡ slice_index_or bs place.0 (stretch_of block.now) → p + 1 < count bs → IsAt (p + 1) bs result.0 result.1 }
+    ensures { (p : ℕ) (bs : List BlockSpans) → IsAt p bs place.0 place.1 → AreDistinctBlocks bs
+        → block_spans block.now ≡ slice_index_or bs place.0 (block_spans block.now) → p + 1 < count bs → IsAt (p + 1) bs result.0 result.1 }
 {
     let (whole, at) = place;
     if at + 1 < block.spans.len() {

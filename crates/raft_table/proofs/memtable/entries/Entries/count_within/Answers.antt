@@ -16,8 +16,8 @@ find-place-requires c = index_of c.self.invariant c.args.start refl (let l = (ke
 pub count_from-requires-clause-place : goal.count_from-requires-clause-place
 count_from-requires-clause-place c = found c.self.invariant c.find-place.ensures c.args.start refl (let l = (kept_facts c.self.invariant).length in let h = rw (← c.self.view_is) at c.requires.within in let o = c.requires.order in omega arith)
 
-pub count_from-requires-clause-stretches : goal.count_from-requires-clause-stretches
-count_from-requires-clause-stretches c = c.self.invariant.stretches
+pub count_from-requires-clause-distinct : goal.count_from-requires-clause-distinct
+count_from-requires-clause-distinct c = c.self.invariant.distinct
 
 pub count_from-requires-clause-within : goal.count_from-requires-clause-within
 count_from-requires-clause-within c = let l = (kept_facts c.self.invariant).length in let n = c.self.invariant.len in let h = rw (← c.self.view_is) at c.requires.within in omega arith

@@ -16,8 +16,8 @@ find-place-requires c = index_of c.self.invariant c.args.start refl (let l = (ke
 pub push_parts-requires-clause-place : goal.push_parts-requires-clause-place
 push_parts-requires-clause-place c = found c.self.invariant c.find-place.ensures c.args.start refl (let l = (kept_facts c.self.invariant).length in let h = rw (← c.self.view_is) at c.requires.within in let o = c.requires.order in omega arith)
 
-pub push_parts-requires-clause-stretches : goal.push_parts-requires-clause-stretches
-push_parts-requires-clause-stretches c = c.self.invariant.stretches
+pub push_parts-requires-clause-distinct : goal.push_parts-requires-clause-distinct
+push_parts-requires-clause-distinct c = c.self.invariant.distinct
 
 pub push_parts-requires-clause-within : goal.push_parts-requires-clause-within
 push_parts-requires-clause-within c = let l = (kept_facts c.self.invariant).length in let n = c.self.invariant.len in let h = rw (← c.self.view_is) at c.requires.within in omega arith

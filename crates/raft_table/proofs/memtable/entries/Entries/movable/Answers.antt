@@ -16,8 +16,8 @@ find-place-requires c = index_of c.self.invariant c.args.at refl (let l = (kept_
 pub movable_from-requires-clause-place : goal.movable_from-requires-clause-place
 movable_from-requires-clause-place c = found c.self.invariant c.find-place.ensures c.args.at refl (let l = (kept_facts c.self.invariant).length in let h = rw (← c.self.view_is) at c.requires.within in let o = c.requires.order in omega arith)
 
-pub movable_from-requires-clause-stretches : goal.movable_from-requires-clause-stretches
-movable_from-requires-clause-stretches c = c.self.invariant.stretches
+pub movable_from-requires-clause-distinct : goal.movable_from-requires-clause-distinct
+movable_from-requires-clause-distinct c = c.self.invariant.distinct
 
 pub movable_from-requires-clause-within : goal.movable_from-requires-clause-within
 movable_from-requires-clause-within c = let l = (kept_facts c.self.invariant).length in let n = c.self.invariant.len in let h = rw (← c.self.view_is) at c.requires.within in omega arith

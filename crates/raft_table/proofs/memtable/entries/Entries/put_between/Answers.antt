@@ -3,8 +3,8 @@ use Rattle.std.proofs.lemmas.List.{append-nil, append_assoc, length-append, leng
 use Rattle.std.proofs.lemmas.Bool.{cases_lt}
 use Rattle.std.proofs.lemmas.Result.{on_ok_weaker}
 use Rattle.raft_table.specs.declared.memtable.block.Block.{Block}
-use Rattle.raft_table.specs.Blocks.{Stretch, stretch_of, shown, expanded}
-use Rattle.raft_table.specs.BlockWords.{count, starts_of, AreKept, IsAt, IsIndexOf, advanced, cut_last, joined, seam}
+use Rattle.raft_table.specs.Blocks.{BlockSpans, block_spans, shown, expanded}
+use Rattle.raft_table.specs.BlockWords.{count, starts_of, AreKept, IsAt, IsIndexOf, advanced, cut_last, joined_blocks, seam}
 use Rattle.raft_table.specs.Entries.{AreTableEntries}
 use Rattle.raft_table.proofs.BlockLemmas.{length-expanded, length-starts}
 use Rattle.raft_table.proofs.BlockCuts.{found, index_of, kept_length, kept_facts}
@@ -59,19 +59,19 @@ put_blocks-requires-clause-part c d p =
     ]
 
 pub put_blocks-requires-clause-starts : goal.put_blocks-requires-clause-starts
-put_blocks-requires-clause-starts c = kept_length c.self.invariant ∙ length-map c.self.inside.blocks.items stretch_of
+put_blocks-requires-clause-starts c = kept_length c.self.invariant ∙ length-map c.self.inside.blocks.items block_spans
 
 pub put_blocks-requires-clause-more : goal.put_blocks-requires-clause-more
 put_blocks-requires-clause-more c =
     let ys = shown c.run.inside.blocks.items in
-    let t : Stretch = (record { handle = c.index-block.result.now.handle; spans = c.in_ok-spans.spans.items }) in
-    let n : length c.push_block.new.blocks.items ≡ length (joined ys (t ∷ [])) = sym (length-map c.push_block.new.blocks.items stretch_of) ∙ ap length c.in_ok-push_block.ensures.blocks in
-    let m : length c.push_block.new.starts.items ≡ length (joined ys (t ∷ [])) = ap length c.in_ok-push_block.ensures.starts ∙ pushed_length c.run.inside.first (c.self.inside.first + (c.args.at + c.run.inside.len)) ys t c.run.inside.starts.items c.run.invariant.starts in
+    let t : BlockSpans = (record { handle = c.index-block.result.now.handle; spans = c.in_ok-spans.spans.items }) in
+    let n : length c.push_block.new.blocks.items ≡ length (joined_blocks ys (t ∷ [])) = sym (length-map c.push_block.new.blocks.items block_spans) ∙ ap length c.in_ok-push_block.ensures.blocks in
+    let m : length c.push_block.new.starts.items ≡ length (joined_blocks ys (t ∷ [])) = ap length c.in_ok-push_block.ensures.starts ∙ pushed_length c.run.inside.first (c.self.inside.first + (c.args.at + c.run.inside.len)) ys t c.run.inside.starts.items c.run.invariant.starts in
     (rw n (joined_some ys t), m ∙ sym n)
 
 put : (c : goal.After-drop-blocks-2) → let es = expanded c.self.inside.first (shown c.self.inside.blocks.items) in let ys = shown c.run.inside.blocks.items in
-    IsKeptAs c.self.inside.first c.self.inside.len (joined (cut_last c.cut_at-place.result.1 (take c.cut_at-place.result.0 (shown c.self.inside.blocks.items))) (joined ys ((record { handle = c.index-block.result.now.handle; spans = c.in_ok-spans.spans.items }) ∷ [])) ++ drop (c.find-whole.result.0 + 1) (shown c.self.inside.blocks.items))
-    (take c.cut_at-place.result.0 c.self.inside.starts.items ++ drop (seam (take c.cut_at-place.result.0 (shown c.self.inside.blocks.items)) (joined ys ((record { handle = c.index-block.result.now.handle; spans = c.in_ok-spans.spans.items }) ∷ []))) (c.run.inside.starts.items ++ drop (seam ys ((record { handle = c.index-block.result.now.handle; spans = c.in_ok-spans.spans.items }) ∷ [])) ((c.self.inside.first + (c.args.at + c.run.inside.len)) ∷ [])) ++ drop (c.find-whole.result.0 + 1) c.self.inside.starts.items)
+    IsKeptAs c.self.inside.first c.self.inside.len (joined_blocks (cut_last c.cut_at-place.result.1 (take c.cut_at-place.result.0 (shown c.self.inside.blocks.items))) (joined_blocks ys ((record { handle = c.index-block.result.now.handle; spans = c.in_ok-spans.spans.items }) ∷ [])) ++ drop (c.find-whole.result.0 + 1) (shown c.self.inside.blocks.items))
+    (take c.cut_at-place.result.0 c.self.inside.starts.items ++ drop (seam (take c.cut_at-place.result.0 (shown c.self.inside.blocks.items)) (joined_blocks ys ((record { handle = c.index-block.result.now.handle; spans = c.in_ok-spans.spans.items }) ∷ []))) (c.run.inside.starts.items ++ drop (seam ys ((record { handle = c.index-block.result.now.handle; spans = c.in_ok-spans.spans.items }) ∷ [])) ((c.self.inside.first + (c.args.at + c.run.inside.len)) ∷ [])) ++ drop (c.find-whole.result.0 + 1) c.self.inside.starts.items)
     (min c.self.inside.rewritten c.args.at + c.run.inside.rewritten + (c.self.inside.rewritten - min c.self.inside.rewritten (c.args.at + c.run.inside.len)))
     (take c.args.at es ++ expanded c.run.inside.first ys ++ drop (c.args.at + c.run.inside.len) es)
 put c =
@@ -79,7 +79,7 @@ put c =
     let fs = expanded c.run.inside.first (shown c.run.inside.blocks.items) in
     let b = block_at c.self.inside.blocks.items c.index-block.result.now (found c.self.invariant c.find-whole.ensures (c.args.at + c.run.inside.len) refl (between_fits c.self.invariant c.run.invariant c.args.at (rw (← c.run.view_is) at c.requires.run) (rw (← c.self.view_is, ← c.run.view_is) at c.requires.behind)).1) c.index-block.ensures in
     let s : AreTableEntries (take c.args.at es ++ fs ++ drop (c.args.at + length fs) es) = rw (c.self.view_is, c.run.view_is) c.requires.sound in
-    put_between c.self.invariant c.run.invariant c.args.at c.cut_at-place.result.0 c.cut_at-place.result.1 c.find-whole.result.0 c.find-whole.result.1 (c.self.inside.first + (c.args.at + c.run.inside.len)) (stretch_of c.index-block.result.now) (record { handle = c.index-block.result.now.handle; spans = c.in_ok-spans.spans.items })
+    put_between c.self.invariant c.run.invariant c.args.at c.cut_at-place.result.0 c.cut_at-place.result.1 c.find-whole.result.0 c.find-whole.result.1 (c.self.inside.first + (c.args.at + c.run.inside.len)) (block_spans c.index-block.result.now) (record { handle = c.index-block.result.now.handle; spans = c.in_ok-spans.spans.items })
     c.cut_at-place.ensures.none (λ l. c.cut_at-place.ensures.some (shown c.self.inside.blocks.items) l c.self.invariant.starts (let f = (between_fits c.self.invariant c.run.invariant c.args.at (rw (← c.run.view_is) at c.requires.run) (rw (← c.self.view_is, ← c.run.view_is) at c.requires.behind)) in let g = f.1 in let n = c.self.invariant.len in omega arith)) (found c.self.invariant c.find-whole.ensures (c.args.at + c.run.inside.len) refl (between_fits c.self.invariant c.run.invariant c.args.at (rw (← c.run.view_is) at c.requires.run) (rw (← c.self.view_is, ← c.run.view_is) at c.requires.behind)).1) (between_fits c.self.invariant c.run.invariant c.args.at (rw (← c.run.view_is) at c.requires.run) (rw (← c.self.view_is, ← c.run.view_is) at c.requires.behind)).0 refl b.same
     (ap (λ (ss : List (ℕ × ℕ)). advanced 0 (record { handle = c.index-block.result.now.handle; spans = ss })) c.in_ok-spans.ensures.ok)
     (subst (λ k. AreTableEntries (take c.args.at es ++ fs ++ drop (c.args.at + k) es)) (kept_facts c.run.invariant).length s)
@@ -92,5 +92,5 @@ returns-clause-ok c =
     let es = expanded c.self.inside.first (shown c.self.inside.blocks.items) in
     let fs = expanded c.run.inside.first (shown c.run.inside.blocks.items) in
     rw (← c.self.view_is, ← c.run.view_is)
-    (ap (expanded c.self.inside.first) (c.in_ok-put_blocks.ensures.blocks ∙ ap (λ ys. joined (cut_last c.cut_at-place.result.1 (take c.cut_at-place.result.0 (shown c.self.inside.blocks.items))) ys ++ drop (c.find-whole.result.0 + 1) (shown c.self.inside.blocks.items)) c.in_ok-push_block.ensures.blocks)
+    (ap (expanded c.self.inside.first) (c.in_ok-put_blocks.ensures.blocks ∙ ap (λ ys. joined_blocks (cut_last c.cut_at-place.result.1 (take c.cut_at-place.result.0 (shown c.self.inside.blocks.items))) ys ++ drop (c.find-whole.result.0 + 1) (shown c.self.inside.blocks.items)) c.in_ok-push_block.ensures.blocks)
     ∙ (put c).entries ∙ ap (λ k. take c.args.at es ++ fs ++ drop (c.args.at + k) es) (sym (kept_facts c.run.invariant).length))

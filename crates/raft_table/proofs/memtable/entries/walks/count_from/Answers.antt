@@ -1,7 +1,7 @@
 use Rattle.std.proofs.Common.{ℕ, suc, ◌≡◌, ◌+◌, ◌-◌, ◌*◌, ◌<◌, ◌≤◌, ◌^◌, List, [], ◌∷◌, ◌++◌, length, take, drop, get_or, arith, refl, sym, ap, subst, ◌∙◌, Some, None, Option}
 use Rattle.std.proofs.lemmas.List.{append_assoc, length-drop, length-take-le, length-take, get_or-drop}
 use Rattle.raft_records.specs.declared.entry_index.EntryIndex.{EntryIndex}
-use Rattle.raft_table.specs.Blocks.{Stretch, stretch_of, shown, spread, expanded}
+use Rattle.raft_table.specs.Blocks.{BlockSpans, block_spans, shown, spread, expanded}
 use Rattle.raft_table.specs.BlockWords.{count, IsAt}
 use Rattle.raft_table.proofs.BlockLemmas.{length-expanded}
 use Rattle.raft_table.proofs.BlockQueues.{IsBlockAt, block_at, block_within}
@@ -31,7 +31,7 @@ returns-then-total-gt0 c j =
     let a = c.loop-i.invariant.0 c.loop-i-test.true in
     let b = block_at c.args.blocks.now.items c.index-block.result.now a c.index-block.ensures in
     let d = entry_of 0 c.index-block.result.now.handle c.index.result.now in
-    let len = walk_len j c.args.start c.loop-i.i c.loop-i.place.0 c.loop-i.place.1 c.args.end c.from.result bs (stretch_of c.index-block.result.now) c.index.result.now d a b.same c.index.ensures c.from.ensures i c.loop-i-test.true in
+    let len = walk_len j c.args.start c.loop-i.i c.loop-i.place.0 c.loop-i.place.1 c.args.end c.from.result bs (block_spans c.index-block.result.now) c.index.result.now d a b.same c.index.ensures c.from.ensures i c.loop-i-test.true in
     limit_stops c.args.limit n c.loop-i.total c.from.result xs d (omega (arith, length-drop c.args.start (take c.args.end es), length-take c.args.end es, length-expanded j bs))
     (c.loop-i.invariant.2 j) len c.if-sum-limit.true c.if-total-gt0.true (c.loop-i.invariant.3 j)
 
@@ -44,13 +44,13 @@ loop-i-preserved c =
     let a = c.loop-i.invariant.0 c.loop-i-test.true in
     let b = block_at c.args.blocks.now.items c.index-block.result.now a c.index-block.ensures in
     let d = entry_of 0 c.index-block.result.now.handle c.index.result.now in
-    let len = λ (j : ℕ). walk_len j c.args.start c.loop-i.i c.loop-i.place.0 c.loop-i.place.1 c.args.end c.from.result bs (stretch_of c.index-block.result.now) c.index.result.now d a b.same c.index.ensures c.from.ensures i c.loop-i-test.true in
+    let len = λ (j : ℕ). walk_len j c.args.start c.loop-i.i c.loop-i.place.0 c.loop-i.place.1 c.args.end c.from.result bs (block_spans c.index-block.result.now) c.index.result.now d a b.same c.index.ensures c.from.ensures i c.loop-i-test.true in
     let k : c.loop-i.i + 1 - c.args.start ≡ suc n = omega arith in
     let bound = c.loop-i.invariant.1 in
     let more = λ (j : ℕ). limit_more c.args.limit n c.loop-i.total c.from.result (drop c.args.start (take c.args.end (expanded j bs))) d
             (omega (arith, length-drop c.args.start (take c.args.end (expanded j bs)), length-take c.args.end (expanded j bs), length-expanded j bs))
             (c.loop-i.invariant.2 j) (len j) c.else-sum-limit.either (c.loop-i.invariant.3 j) in
-    rw k (λ l. c.next-place.ensures c.loop-i.i bs a c.requires.stretches b.same (omega arith), omega arith, λ j. (more j).0, λ j. (more j).1)
+    rw k (λ l. c.next-place.ensures c.loop-i.i bs a c.requires.distinct b.same (omega arith), omega arith, λ j. (more j).0, λ j. (more j).1)
 
 pub returns : goal.returns
 returns c j =

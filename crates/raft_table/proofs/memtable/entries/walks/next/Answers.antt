@@ -1,7 +1,7 @@
 use Rattle.std.proofs.Common.{ℕ, suc, ◌≡◌, ◌+◌, ◌-◌, ◌*◌, ◌<◌, ◌≤◌, ◌^◌, List, [], ◌∷◌, ◌++◌, length, take, drop, get_or, arith, refl, sym, ap, subst, ◌∙◌, Some, None, Option}
 use Rattle.std.proofs.lemmas.List.{append_assoc, length-drop, length-take-le, length-take, get_or-drop}
 use Rattle.raft_records.specs.declared.entry_index.EntryIndex.{EntryIndex}
-use Rattle.raft_table.specs.Blocks.{Stretch, stretch_of, shown, spread, expanded}
+use Rattle.raft_table.specs.Blocks.{BlockSpans, block_spans, shown, spread, expanded}
 use Rattle.raft_table.specs.BlockWords.{count, IsAt}
 use Rattle.raft_table.proofs.BlockLemmas.{length-expanded}
 use Rattle.raft_table.proofs.BlockQueues.{IsBlockAt, block_at, block_within}
@@ -12,8 +12,8 @@ use Rattle.raft_table.proofs.memtable.entries.walks.next.Goals as goal
 
 pub returns-then-at-len : goal.returns-then-at-len
 returns-then-at-len c p bs a h q l =
-    walk_next_span p c.args.place.0 c.args.place.1 bs (stretch_of c.args.block.now) a q (let t = c.if-at-len.true in omega (arith, c.args.block.now.spans.ok))
+    walk_next_span p c.args.place.0 c.args.place.1 bs (block_spans c.args.block.now) a q (let t = c.if-at-len.true in omega (arith, c.args.block.now.spans.ok))
 
 pub returns : goal.returns
 returns c p bs a h q l =
-    walk_next_block p c.args.place.0 c.args.place.1 bs (stretch_of c.args.block.now) a h q (let t = c.if-at-len.false in omega (arith, c.args.block.now.spans.ok)) l
+    walk_next_block p c.args.place.0 c.args.place.1 bs (block_spans c.args.block.now) a h q (let t = c.if-at-len.false in omega (arith, c.args.block.now.spans.ok)) l

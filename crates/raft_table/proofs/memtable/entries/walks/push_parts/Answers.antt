@@ -1,7 +1,7 @@
 use Rattle.std.proofs.Common.{ℕ, suc, ◌≡◌, ◌+◌, ◌-◌, ◌*◌, ◌<◌, ◌≤◌, ◌^◌, List, [], ◌∷◌, ◌++◌, length, take, drop, get_or, arith, refl, sym, ap, subst, ◌∙◌, Some, None, Option}
 use Rattle.std.proofs.lemmas.List.{append_assoc, length-drop, length-take-le, length-take, get_or-drop}
 use Rattle.raft_records.specs.declared.entry_index.EntryIndex.{EntryIndex}
-use Rattle.raft_table.specs.Blocks.{Stretch, stretch_of, shown, spread, expanded}
+use Rattle.raft_table.specs.Blocks.{BlockSpans, block_spans, shown, spread, expanded}
 use Rattle.raft_table.specs.BlockWords.{count, IsAt}
 use Rattle.raft_table.proofs.BlockLemmas.{length-expanded}
 use Rattle.raft_table.proofs.BlockQueues.{IsBlockAt, block_at, block_within}
@@ -20,11 +20,11 @@ push_part-requires-clause-within c =
     let b = block_at c.args.blocks.now.items c.index-block.result.now (c.loop-done.invariant.2 c.loop-done-test.true) c.index-block.ensures in
     let w = b.inside in omega (arith, c.index-block.result.now.spans.ok)
 
-step : (c : goal.After-push_part) → IsStep c.loop-done.done c.loop-done.whole c.loop-done.at c.min-count.result c.args.end (shown c.args.blocks.now.items) (stretch_of c.index-block.result.now)
+step : (c : goal.After-push_part) → IsStep c.loop-done.done c.loop-done.whole c.loop-done.at c.min-count.result c.args.end (shown c.args.blocks.now.items) (block_spans c.index-block.result.now)
 step c =
     let a = c.loop-done.invariant.2 c.loop-done-test.true in
     let b = block_at c.args.blocks.now.items c.index-block.result.now a c.index-block.ensures in
-    walk_step c.loop-done.done c.loop-done.whole c.loop-done.at c.min-count.result c.args.end c.len.result (shown c.args.blocks.now.items) (stretch_of c.index-block.result.now) a c.requires.stretches b.same
+    walk_step c.loop-done.done c.loop-done.whole c.loop-done.at c.min-count.result c.args.end c.len.result (shown c.args.blocks.now.items) (block_spans c.index-block.result.now) a c.requires.distinct b.same
     (omega (arith, c.index-block.result.now.spans.ok)) c.min-count.ensures c.loop-done-test.true c.requires.within
 
 pub loop-done-smaller : goal.loop-done-smaller
@@ -49,5 +49,5 @@ loop-done-preserved c =
       c.push_part.ensures.capacity ∙ c.loop-done.invariant.4,
       c.push_part.ensures.items ∙ ap (λ zs. zs ++ ys) c.loop-done.invariant.5 ∙ append_assoc c.args.vec.now.items xs ys
       ∙ ap (λ zs. c.args.vec.now.items ++ zs)
-      (sym (walk_more c.args.first c.args.start c.loop-done.done c.loop-done.whole c.loop-done.at c.min-count.result bs (stretch_of c.index-block.result.now) low a b.same s.within (omega arith))),
+      (sym (walk_more c.args.first c.args.start c.loop-done.done c.loop-done.whole c.loop-done.at c.min-count.result bs (block_spans c.index-block.result.now) low a b.same s.within (omega arith))),
     )

@@ -14,6 +14,13 @@ mod UpdateLemmas
 mod WriteLemmas
 mod SlotKeeping
 mod CleanLemmas
+mod RecoverContextLemmas
+mod BatchCheckLemmas
+mod WholeFiles
+mod ReadStateLemmas
+mod TakenWholes
 mod LiveSteps
 mod TakenLemmas
 mod GroupFiles
+mod RegionJoinLemmas
+mod TableJoinLemmas

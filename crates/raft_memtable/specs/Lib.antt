@@ -14,9 +14,16 @@ pub mod RegionMarksView
 pub mod Merges
 pub mod RegionTablesView
 pub mod ReplayMachine
+pub mod TableJoins
 pub mod Updates
 pub mod Walks
 pub mod Writes
 pub mod Slot
 pub mod SlotCode
 pub mod SlotView
+pub mod FileRanges
+pub mod ReadStates
+pub mod RecoverContext
+pub mod RecoverContextCode
+pub mod RecoverContextView
+pub mod BatchChecks

@@ -14,6 +14,8 @@ ghost use Rattle.raft_memtable.specs.Accessor.{table_in};
 ghost use Rattle.raft_memtable.specs.Merges.{with_newer, with_appended, MayAlter, IsAltered, IsTableMerged};
 ghost use Rattle.raft_memtable.specs.Updates.{MayChange, IsUpdated, IsTaken};
 
+mod join;
+
 use raft_table::{Error, FileSeq, GlobalStats, MemTable, Result, TableChange};
 use std::alloc::Global;
 use std::collections::HashMap;
@@ -218,6 +220,7 @@ impl RegionTables {
     pub fn remove(&mut self, id: u64, stats: &mut GlobalStats) -> Option<MemTable>
         requires { IsCounted (table_in self.old id) stats.old }
         ensures taken { result ≡ finite.get self.old id }
+        ensures own { IfSome result (λ t. t.region_id ≡ id) }
         ensures after { self.new ≡ finite.remove self.old id }
         ensures recounted { IsRecounted (table_in self.old id) (empty_table id) stats.old stats.new }
     {

@@ -3,6 +3,7 @@
 #![tactic(auto)]
 
 mod batches;
+mod blocks;
 mod checksum;
 mod numbers;
 mod recovery;
@@ -38,8 +39,9 @@ fn time(rt: &HostRuntime, word: &str) -> Result<()> {
         "varint" => numbers::time(rt),
         "batches" => batches::time(rt),
         "memtable" => Ok(tables::time(rt)?),
+"blocks" => Ok(blocks::time(rt)?),
         _ => Ok(eprintln!(rt;
-            "usage: raft_bench [crc32] [varint] [batches] [memtable], or recover .."
+            "usage: raft_bench [crc32] [varint] [batches] [memtable] [blocks], or recover .."
         )?),
     }
 }

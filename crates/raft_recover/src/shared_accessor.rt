@@ -409,3 +409,6 @@ where
         None => f(&MemTable::new(alloc, id)),
     }
 }
+
+#[cfg(test)]
+mod tests;

@@ -4,6 +4,7 @@
 mod batches;
 mod checksum;
 mod numbers;
+mod shared;
 mod tables;
 mod timing;
 
@@ -26,6 +27,7 @@ fn time(rt: &HostRuntime, word: &str) -> Result<()> {
         "varint" => numbers::time(rt),
         "batches" => batches::time(rt),
         "memtable" => Ok(tables::time(rt)?),
-        _ => Ok(eprintln!(rt; "usage: raft_bench [crc32] [varint] [batches] [memtable]")?),
+        "shared" => shared::time(rt),
+        _ => Ok(eprintln!(rt; "usage: raft_bench [crc32] [varint] [batches] [memtable] [shared]")?),
     }
 }

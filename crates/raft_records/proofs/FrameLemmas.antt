@@ -48,10 +48,10 @@ header_one a b more rest x y h k e =
     let words : big_bytes 8 (x.2 * 256 + compression_byte x.1) ++ big_bytes 8 x.0 ≡ big_bytes 8 (y.2 * 256 + compression_byte y.1) ++ big_bytes 8 y.0 = sym h.written ∙ same ∙ k.written in
     let first = big_one (x.2 * 256 + compression_byte x.1) (y.2 * 256 + compression_byte y.1) (big_bytes 8 x.0) (big_bytes 8 y.0) (omega arith) (omega arith) words in
     let second = big_one x.0 y.0 [] [] (omega arith) (omega arith) (ap (λ (t : List ℕ). t ++ []) first.1) in
-    let place : x.0 ≡ y.0 = second.0 in
+    let offset : x.0 ≡ y.0 = second.0 in
     let type : x.1 ≡ y.1 = type_one x.1 y.1 in
     let len : x.2 ≡ y.2 = omega (arith, first.0, x_byte, y_byte) in
-    (same, λ i. (place i, type i, len i))
+    (same, λ i. (offset i, type i, len i))
 
 -- ---- frames
 
@@ -81,29 +81,29 @@ framed bytes signature items between h =
       item_batch = subst (λ (t : List ℕ). IsItemBatch t signature items h.rest) (sym at.1) h.item_batch;
     }
 
-pub laid_out : (bytes : List ℕ) (signature : Option ℕ) (items : List Item) (place : ℕ) → IsFramed bytes signature items place → (16 + length (take (place - 16) (drop 16 bytes)) ≡ place) × IsLaidOut bytes signature items (take (place - 16) (drop 16 bytes))
-laid_out bytes signature items place f =
-    let least : 16 ≤ place = f.header.spells.behind_header in
-    let inside : place ≤ length bytes = f.header.spells.inside in
-    let counted : length (take (place - 16) (drop 16 bytes)) ≡ place - 16 = length-take-le (place - 16) (drop 16 bytes) (omega (arith, length-drop 16 bytes)) in
-    let at : 16 + length (take (place - 16) (drop 16 bytes)) ≡ place = omega arith in
-    let behind : drop (place - 16) (drop 16 bytes) ≡ drop place bytes = drop-drop (place - 16) 16 bytes ∙ ap (λ (n : ℕ). drop n bytes) (omega arith) in
-    let between : drop 16 bytes ≡ take (place - 16) (drop 16 bytes) ++ drop place bytes = sym (take-append-drop (place - 16) (drop 16 bytes)) ∙ ap (λ (t : List ℕ). take (place - 16) (drop 16 bytes) ++ t) behind in
-    let head : f.header.front ≡ header_bytes (16 + length (take (place - 16) (drop 16 bytes))) f.compression (length bytes) = f.header.spells.written ∙ ap (λ (n : ℕ). header_bytes n f.compression (length bytes)) (sym at) in (
+pub laid_out : (bytes : List ℕ) (signature : Option ℕ) (items : List Item) (offset : ℕ) → IsFramed bytes signature items offset → (16 + length (take (offset - 16) (drop 16 bytes)) ≡ offset) × IsLaidOut bytes signature items (take (offset - 16) (drop 16 bytes))
+laid_out bytes signature items offset f =
+    let least : 16 ≤ offset = f.header.spells.behind_header in
+    let inside : offset ≤ length bytes = f.header.spells.inside in
+    let counted : length (take (offset - 16) (drop 16 bytes)) ≡ offset - 16 = length-take-le (offset - 16) (drop 16 bytes) (omega (arith, length-drop 16 bytes)) in
+    let at : 16 + length (take (offset - 16) (drop 16 bytes)) ≡ offset = omega arith in
+    let behind : drop (offset - 16) (drop 16 bytes) ≡ drop offset bytes = drop-drop (offset - 16) 16 bytes ∙ ap (λ (n : ℕ). drop n bytes) (omega arith) in
+    let between : drop 16 bytes ≡ take (offset - 16) (drop 16 bytes) ++ drop offset bytes = sym (take-append-drop (offset - 16) (drop 16 bytes)) ∙ ap (λ (t : List ℕ). take (offset - 16) (drop 16 bytes) ++ t) behind in
+    let head : f.header.front ≡ header_bytes (16 + length (take (offset - 16) (drop 16 bytes))) f.compression (length bytes) = f.header.spells.written ∙ ap (λ (n : ℕ). header_bytes n f.compression (length bytes)) (sym at) in (
       at,
       record {
-        footer = drop place bytes;
+        footer = drop offset bytes;
         rest = f.rest;
         compression = f.compression;
         item_batch = f.item_batch;
         fits = f.header.spells.length_fits;
-        split = f.header.split ∙ ap (λ (t : List ℕ). t ++ drop 16 bytes) head ∙ ap (λ (t : List ℕ). header_bytes (16 + length (take (place - 16) (drop 16 bytes))) f.compression (length bytes) ++ t) between;
+        split = f.header.split ∙ ap (λ (t : List ℕ). t ++ drop 16 bytes) head ∙ ap (λ (t : List ℕ). header_bytes (16 + length (take (offset - 16) (drop 16 bytes))) f.compression (length bytes) ++ t) between;
       },
     )
 
-pub readable : (bytes : List ℕ) (signature : Option ℕ) (items : List Item) → IsReadable bytes signature items ↔ ((place : ℕ) × IsFramed bytes signature items place)
+pub readable : (bytes : List ℕ) (signature : Option ℕ) (items : List Item) → IsReadable bytes signature items ↔ ((offset : ℕ) × IsFramed bytes signature items offset)
 readable bytes signature items =
-    (λ (between, h). (16 + length between, framed bytes signature items between h), λ (place, f). (take (place - 16) (drop 16 bytes), (laid_out bytes signature items place f).1))
+    (λ (between, h). (16 + length between, framed bytes signature items between h), λ (offset, f). (take (offset - 16) (drop 16 bytes), (laid_out bytes signature items offset f).1))
 
 -- ---- entry blocks
 
@@ -136,12 +136,12 @@ parts bytes signature items es = (
       let at = places bytes signature items (entry_block es) h in
       let n : 16 + length (entry_block es) - 16 ≡ length (entry_block es) = omega arith in
       record {
-        place = 16 + length (entry_block es);
+        offset = 16 + length (entry_block es);
         frame = framed bytes signature items (entry_block es) h;
         block = is_block (16 + length (entry_block es) - 16) (drop 16 bytes) es (omega (arith, at.2, length-drop 16 bytes)) (ap (λ (k : ℕ). take k (drop 16 bytes)) n ∙ ap (take (length (entry_block es))) at.0 ∙ take_at (entry_block es) h.footer (length (entry_block es)) refl);
       },
   λ p.
-      subst (λ (t : List ℕ). IsLaidOut bytes signature items t) (block_is (p.place - 16) (drop 16 bytes) es p.block) (laid_out bytes signature items p.place p.frame).1,
+      subst (λ (t : List ℕ). IsLaidOut bytes signature items t) (block_is (p.offset - 16) (drop 16 bytes) es p.block) (laid_out bytes signature items p.offset p.frame).1,
 )
 
 -- what lies between a header and an item batch, and the item batch, are those of the bytes
@@ -150,7 +150,7 @@ laid_one bytes signature signature' items items' between between' h k =
     let f = framed bytes signature items between h in
     let g = framed bytes signature' items' between' k in
     let one = header_one f.header.front g.header.front (drop 16 bytes) (drop 16 bytes) (16 + length between, f.compression, length bytes) (16 + length between', g.compression, length bytes) f.header.spells g.header.spells (sym f.header.split ∙ g.header.split) in
-    let place : 16 + length between ≡ 16 + length between' = ap (λ (x : ℕ × CompressionType × ℕ). x.0) one.1 in
+    let offset : 16 + length between ≡ 16 + length between' = ap (λ (x : ℕ × CompressionType × ℕ). x.0) one.1 in
     let behind : between ++ h.footer ≡ between' ++ k.footer = sym (places bytes signature items between h).0 ∙ (places bytes signature' items' between' k).0 in
     let same : between ≡ between' = same_length between between' h.footer k.footer (omega arith) behind in
     (same, append_cancel_left between h.footer k.footer (behind ∙ ap (λ (t : List ℕ). t ++ k.footer) (sym same)))

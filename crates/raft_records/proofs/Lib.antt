@@ -8,7 +8,7 @@ pub mod FrameLemmas
 pub mod GroupLemmas
 pub mod HeaderLemmas
 pub mod InBytesLemmas
-pub mod InFileLemmas
+pub mod ReadInLemmas
 pub mod ItemLemmas
 pub mod JoinLemmas
 pub mod LayLemmas

@@ -34,30 +34,30 @@ same_header xs ys signature header front rest items h r split =
     (header_one h.front f.header.front ys (drop 16 front ++ rest) header (framed.0, f.compression, length front) h.spells f.header.spells (sym h.split ∙ split ∙ ap (λ (t : List ℕ). t ++ rest) f.header.split ∙ append_assoc f.header.front (drop 16 front) rest)).1
 
 -- what is shorter than its header says is no batch
-pub cut_short : (xs ys : List ℕ) (signature : Option ℕ) (place len : ℕ) (compression : CompressionType) → Reads IsHeader xs ys (place, compression, len) → length xs < len → HasNoFront (λ bytes. IsReadable bytes signature) xs
-cut_short xs ys signature place len compression h short front rest items r split =
-    let same : len ≡ length front = ap (λ (t : ℕ × CompressionType × ℕ). t.2) (same_header xs ys signature (place, compression, len) front rest items h r split) in
+pub cut_short : (xs ys : List ℕ) (signature : Option ℕ) (offset len : ℕ) (compression : CompressionType) → Reads IsHeader xs ys (offset, compression, len) → length xs < len → HasNoFront (λ bytes. IsReadable bytes signature) xs
+cut_short xs ys signature offset len compression h short front rest items r split =
+    let same : len ≡ length front = ap (λ (t : ℕ × CompressionType × ℕ). t.2) (same_header xs ys signature (offset, compression, len) front rest items h r split) in
     absurd (omega (arith, same, ap length split, length-append front rest))
 
 -- where the item batch is none, no batch stands
-pub no_footer : (xs ys : List ℕ) (signature : Option ℕ) (place len : ℕ) (compression : CompressionType) → Reads IsHeader xs ys (place, compression, len) → ((items : List Item) (rest : List ℕ) → IsItemBatch (drop place (take len xs)) signature items rest → ⊥) → HasNoFront (λ bytes. IsReadable bytes signature) xs
-no_footer xs ys signature place len compression h none front rest items r split =
+pub no_footer : (xs ys : List ℕ) (signature : Option ℕ) (offset len : ℕ) (compression : CompressionType) → Reads IsHeader xs ys (offset, compression, len) → ((items : List Item) (rest : List ℕ) → IsItemBatch (drop offset (take len xs)) signature items rest → ⊥) → HasNoFront (λ bytes. IsReadable bytes signature) xs
+no_footer xs ys signature offset len compression h none front rest items r split =
     let framed = (readable front signature items).0 r in
     let f = framed.1 in
-    let same = same_header xs ys signature (place, compression, len) front rest items h r split in
-    let at : place ≡ framed.0 = ap (λ (t : ℕ × CompressionType × ℕ). t.0) same in
+    let same = same_header xs ys signature (offset, compression, len) front rest items h r split in
+    let at : offset ≡ framed.0 = ap (λ (t : ℕ × CompressionType × ℕ). t.0) same in
     let long : len ≡ length front = ap (λ (t : ℕ × CompressionType × ℕ). t.2) same in
     let whole : take len xs ≡ front = ap (take len) split ∙ take_at front rest len (sym long) in
-    let footer : drop framed.0 front ≡ drop place (take len xs) = ap (λ (n : ℕ). drop n front) (sym at) ∙ ap (drop place) (sym whole) in
+    let footer : drop framed.0 front ≡ drop offset (take len xs) = ap (λ (n : ℕ). drop n front) (sym at) ∙ ap (drop offset) (sym whole) in
     none items f.rest (subst (λ (t : List ℕ). IsItemBatch t signature items f.rest) footer f.item_batch)
 
 -- a header and the item batch behind it are a batch
-pub batch_stands : (xs ys : List ℕ) (signature : Option ℕ) (place len : ℕ) (compression : CompressionType) (items : List Item) (rest : List ℕ) → Reads IsHeader xs ys (place, compression, len) → len ≤ length xs → IsItemBatch (drop place (take len xs)) signature items rest → (f : IsFramed (take len xs) signature items place) × (f.compression ≡ compression)
-batch_stands xs ys signature place len compression items rest h whole b =
-    let least : 16 ≤ place = h.spells.behind_header in
-    let inside : place ≤ len = h.spells.inside in
+pub batch_stands : (xs ys : List ℕ) (signature : Option ℕ) (offset len : ℕ) (compression : CompressionType) (items : List Item) (rest : List ℕ) → Reads IsHeader xs ys (offset, compression, len) → len ≤ length xs → IsItemBatch (drop offset (take len xs)) signature items rest → (f : IsFramed (take len xs) signature items offset) × (f.compression ≡ compression)
+batch_stands xs ys signature offset len compression items rest h whole b =
+    let least : 16 ≤ offset = h.spells.behind_header in
+    let inside : offset ≤ len = h.spells.inside in
     let long : length (take len xs) ≡ len = length-take-le len xs whole in
-    let sixteen : length h.front ≡ 16 = ap length h.spells.written ∙ header_len place compression len in
+    let sixteen : length h.front ≡ 16 = ap length h.spells.written ∙ header_len offset compression len in
     let first : take 16 xs ≡ h.front = ap (take 16) h.split ∙ take_at h.front ys 16 sixteen in
     let more : 16 + (len - 16) ≡ len = omega arith in
     let behind : take (len - 16) (drop 16 xs) ≡ drop 16 (take len xs) = sym (drop-take 16 (len - 16) xs) ∙ ap (λ (n : ℕ). drop 16 (take n xs)) more in (
@@ -66,7 +66,7 @@ batch_stands xs ys signature place len compression items rest h whole b =
         rest = rest;
         header = record {
           front = h.front;
-          spells = subst (λ (n : ℕ). IsHeader h.front (place, compression, n)) (sym long) h.spells;
+          spells = subst (λ (n : ℕ). IsHeader h.front (offset, compression, n)) (sym long) h.spells;
           split = sym (ap (λ (n : ℕ). take n xs) more) ∙ take-add 16 (len - 16) xs ∙ ap (λ (t : List ℕ). t ++ take (len - 16) (drop 16 xs)) first ∙ ap (λ (t : List ℕ). h.front ++ t) behind;
         };
         item_batch = b;
@@ -81,14 +81,14 @@ batch_split bytes at len = sym (take-append-drop len (drop at bytes)) ∙ ap (λ
 -- ---- a written batch that stands in a part
 
 -- two batches in front of the same bytes are the same one
-one_front : (xs more rest front other : List ℕ) (signature : Option ℕ) (items items' : List Item) (place place' : ℕ) (f : IsFramed front signature items place) → (g : IsFramed other signature items' place') → xs ≡ front ++ more → xs ≡ other ++ rest → (front ≡ other) × (place ≡ place') × (f.compression ≡ g.compression) × (items ≡ items')
-one_front xs more rest front other signature items items' place place' f g e k =
-    let header = (header_one f.header.front g.header.front (drop 16 front ++ more) (drop 16 other ++ rest) (place, f.compression, length front) (place', g.compression, length other) f.header.spells g.header.spells (sym (append_assoc f.header.front (drop 16 front) more) ∙ ap (λ (t : List ℕ). t ++ more) (sym f.header.split) ∙ sym e ∙ k ∙ ap (λ (t : List ℕ). t ++ rest) g.header.split ∙ append_assoc g.header.front (drop 16 other) rest)).1 in
-    let at : place ≡ place' = ap (λ (t : ℕ × CompressionType × ℕ). t.0) header in
+one_front : (xs more rest front other : List ℕ) (signature : Option ℕ) (items items' : List Item) (offset offset' : ℕ) (f : IsFramed front signature items offset) → (g : IsFramed other signature items' offset') → xs ≡ front ++ more → xs ≡ other ++ rest → (front ≡ other) × (offset ≡ offset') × (f.compression ≡ g.compression) × (items ≡ items')
+one_front xs more rest front other signature items items' offset offset' f g e k =
+    let header = (header_one f.header.front g.header.front (drop 16 front ++ more) (drop 16 other ++ rest) (offset, f.compression, length front) (offset', g.compression, length other) f.header.spells g.header.spells (sym (append_assoc f.header.front (drop 16 front) more) ∙ ap (λ (t : List ℕ). t ++ more) (sym f.header.split) ∙ sym e ∙ k ∙ ap (λ (t : List ℕ). t ++ rest) g.header.split ∙ append_assoc g.header.front (drop 16 other) rest)).1 in
+    let at : offset ≡ offset' = ap (λ (t : ℕ × CompressionType × ℕ). t.0) header in
     let long : length front ≡ length other = ap (λ (t : ℕ × CompressionType × ℕ). t.2) header in
     let same : front ≡ other = same_length front other more rest long (sym e ∙ k) in
-    let footer : drop place front ≡ drop place' other = ap (λ (n : ℕ). drop n front) at ∙ ap (drop place') same in
-    (same, at, ap (λ (t : ℕ × CompressionType × ℕ). t.1) header, (one_batch (drop place' other) f.rest g.rest signature items items' (subst (λ (t : List ℕ). IsItemBatch t signature items f.rest) footer f.item_batch) g.item_batch).0)
+    let footer : drop offset front ≡ drop offset' other = ap (λ (n : ℕ). drop n front) at ∙ ap (drop offset') same in
+    (same, at, ap (λ (t : ℕ × CompressionType × ℕ). t.1) header, (one_batch (drop offset' other) f.rest g.rest signature items items' (subst (λ (t : List ℕ). IsItemBatch t signature items f.rest) footer f.item_batch) g.item_batch).0)
 
 -- a written batch, part by part
 written_framed : (signature : Option ℕ) (items : List Item) (es : List ℕ) → IsBatchOf items es → AreInRange items → items ≢ [] → encoded_length items es < 2 ^ 56 → IsFramed (log_batch_bytes signature items es) signature (map bare items) (item_offset es)
@@ -105,14 +105,14 @@ pub written_next : (part : Part) (at : ℕ) (block : FileBlockHandle) (items : L
 written_next part at block items es rest None b r held some fits id offset stands n =
     absurd (omega (arith, n, ap length stands, length-drop at part.bytes, length-append (log_batch_bytes (part_signature part) items es) rest, log_batch_length (part_signature part) items es, encoded_some items es some))
 written_next part at block items es rest (Some next) b r held some fits id offset stands n =
-    let one = one_front (drop at part.bytes) (drop next.1 part.bytes) rest n.bytes (log_batch_bytes (part_signature part) items es) (part_signature part) n.read (map bare items) n.place (item_offset es) n.frame (written_framed (part_signature part) items es b r some fits) n.stands stands in
+    let one = one_front (drop at part.bytes) (drop next.1 part.bytes) rest n.bytes (log_batch_bytes (part_signature part) items es) (part_signature part) n.read (map bare items) n.offset (item_offset es) n.frame (written_framed (part_signature part) items es b r some fits) n.stands stands in
     let long : length n.bytes ≡ encoded_length items es = ap length one.0 ∙ log_batch_length (part_signature part) items es in
     let ends : next.1 ≡ at + encoded_length items es = n.ends ∙ ap (λ (k : ℕ). at + k) long in
-    let len : n.place - 16 ≡ length (entry_block es) = omega (arith, one.1) in
+    let len : n.offset - 16 ≡ length (entry_block es) = omega (arith, one.1) in
     let begin : part.offset + at + 16 ≡ block.offset + 16 = omega (arith, offset) in
-    let place : entries_place part at n.place ≡ entry_place block es = λ i. record { id = sym id i; offset = begin i; len = len i } in
-    let moved : map (placed (entries_place part at n.place) n.frame.compression) n.read ≡ map (placed (entry_place block es) compressions.None) (map bare items) =
-    ap (λ p. map (placed p n.frame.compression) n.read) place ∙ ap (λ c. map (placed (entry_place block es) c) n.read) (one_type n.frame.compression) ∙ ap (map (placed (entry_place block es) compressions.None)) one.3 in
+    let moved_to : entries_place part at n.offset ≡ entry_place block es = λ i. record { id = sym id i; offset = begin i; len = len i } in
+    let moved : map (placed (entries_place part at n.offset) n.frame.compression) n.read ≡ map (placed (entry_place block es) compressions.None) (map bare items) =
+    ap (λ p. map (placed p n.frame.compression) n.read) moved_to ∙ ap (λ c. map (placed (entry_place block es) c) n.read) (one_type n.frame.compression) ∙ ap (map (placed (entry_place block es) compressions.None)) one.3 in
     let items_are : next.0 ≡ map (placed (entry_place block es) compressions.None) items = n.places ∙ moved ∙ items_read (entry_place block es) compressions.None items held in
     λ i. Some (items_are i, ends i)
 

@@ -32,17 +32,17 @@ IsPartRefusal end e = IsMemory e
 
 -- where the entry bytes of a batch lie in the file: behind its header, up to its item batch
 abbrev pub entries_place : Part → ℕ → ℕ → FileBlockHandle
-entries_place part at place = record { id = part.id; offset = part.offset + at + 16; len = place - 16 }
+entries_place part at offset = record { id = part.id; offset = part.offset + at + 16; len = offset - 16 }
 
 -- a readable batch stands at this place of a part, and these are its items with their places in the file; the next one begins behind it
 pub record IsBatchAt (part : Part) (at : ℕ) (items : List Item) (next : ℕ) : Type 0 where
   pub bytes : List ℕ
   pub read : List Item
-  pub place : ℕ
-  pub frame : IsFramed bytes (part_signature part) read place
+  pub offset : ℕ
+  pub frame : IsFramed bytes (part_signature part) read offset
   pub stands : drop at part.bytes ≡ bytes ++ drop next part.bytes
   pub ends : next ≡ at + length bytes
-  pub places : items ≡ map (placed (entries_place part at place) frame.compression) read
+  pub places : items ≡ map (placed (entries_place part at offset) frame.compression) read
 
 -- the end of the part, or the batch that stands there
 abbrev pub IsNext : Part → ℕ → Option (List Item × ℕ) → Type 0
@@ -50,26 +50,26 @@ IsNext part at None = at ≡ length part.bytes
 IsNext part at (Some next) = IsBatchAt part at next.0 next.1
 
 -- a header that stands in front: where its item batch begins, and how long its batch is
-pub record HasHeader (bytes : List ℕ) (place len : ℕ) : Type 0 where
+pub record HasHeader (bytes : List ℕ) (offset len : ℕ) : Type 0 where
   pub compression : CompressionType
   pub rest : List ℕ
-  pub header : Reads IsHeader bytes rest (place, compression, len)
+  pub header : Reads IsHeader bytes rest (offset, compression, len)
 
 -- a batch that is longer than what is left
 pub record IsCutShort (bytes : List ℕ) (e : Error) : Type 0 where
-  pub place : ℕ
+  pub offset : ℕ
   pub len : ℕ
-  pub header : HasHeader bytes place len
+  pub header : HasHeader bytes offset len
   pub short : length bytes < len
   pub error : IsAnyCorruption e
 
 -- a fault of the item batch of a batch that stands there whole
 pub record IsFooterFault (signature : Option ℕ) (bytes : List ℕ) (e : Error) : Type 0 where
-  pub place : ℕ
+  pub offset : ℕ
   pub len : ℕ
-  pub header : HasHeader bytes place len
+  pub header : HasHeader bytes offset len
   pub whole : len ≤ length bytes
-  pub fault : IsItemBatchFault signature (drop place (take len bytes)) e
+  pub fault : IsItemBatchFault signature (drop offset (take len bytes)) e
 
 -- why no batch is read there
 abbrev pub IsNextFault : Option ℕ → List ℕ → Error → Type 0

@@ -20,8 +20,8 @@ abbrev pub IsCompressionFault : ℕ → Error → Type 0
 IsCompressionFault byte e = (byte ≢ 0) × IsCorruption (codes "Unrecognized compression type: " ++ decimal byte) e
 
 -- an item batch that would begin behind the end, or inside the header
-abbrev pub IsPlaceFault : ℕ → ℕ → Error → Type 0
-IsPlaceFault len offset e =
+abbrev pub IsOffsetFault : ℕ → ℕ → Error → Type 0
+IsOffsetFault len offset e =
     ((len < offset) × IsCorruption (codes "Log item offset exceeds log batch length") e)
     ⊎ ((offset ≤ len) × (offset < 16) × IsCorruption (codes "Log item offset is smaller than log batch header length") e)
 
@@ -33,7 +33,7 @@ pub record IsWordsFault (bytes : List ℕ) (e : Error) : Type 0 where
   pub first_fits : first < 2 ^ 64
   pub second_fits : second < 2 ^ 64
   pub split : bytes ≡ big_bytes 8 first ++ (big_bytes 8 second ++ rest)
-  pub fault : IsCompressionFault (first % 256) e ⊎ ((first % 256 ≡ 0) × IsPlaceFault (first / 256) second e)
+  pub fault : IsCompressionFault (first % 256) e ⊎ ((first % 256 ≡ 0) × IsOffsetFault (first / 256) second e)
 
 -- why no header stands in front
 abbrev pub IsHeaderFault : List ℕ → Error → Type 0

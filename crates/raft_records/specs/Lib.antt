@@ -8,7 +8,7 @@ pub mod Grammar
 pub mod Group
 pub mod Header
 pub mod Item
-pub mod InFile
+pub mod ReadIn
 pub mod ItemBatch
 pub mod Lines
 pub mod LogBatch

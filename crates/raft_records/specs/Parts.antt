@@ -9,17 +9,17 @@ use Rattle.raft_records.specs.LogBatch.{IsBatchOf, encoded_length, log_batch_byt
 use Rattle.raft_records.specs.Header.{IsHeader, IsBlockOf}
 
 -- a header in front, which says that the bytes are just as many as they are, and from the place in it an item batch to the end
-pub record IsFramed (bytes : List ℕ) (signature : Option ℕ) (items : List Item) (place : ℕ) : Type 0 where
+pub record IsFramed (bytes : List ℕ) (signature : Option ℕ) (items : List Item) (offset : ℕ) : Type 0 where
   pub compression : CompressionType
   pub rest : List ℕ
-  pub header : Reads IsHeader bytes (drop 16 bytes) (place, compression, length bytes)
-  pub item_batch : IsItemBatch (drop place bytes) signature items rest
+  pub header : Reads IsHeader bytes (drop 16 bytes) (offset, compression, length bytes)
+  pub item_batch : IsItemBatch (drop offset bytes) signature items rest
 
 -- the same, and from the header to that place the block of these entry bytes
 pub record HasParts (bytes : List ℕ) (signature : Option ℕ) (items : List Item) (entry_bytes : List ℕ) : Type 0 where
-  pub place : ℕ
-  pub frame : IsFramed bytes signature items place
-  pub block : IsBlockOf (place - 16) (drop 16 bytes) entry_bytes
+  pub offset : ℕ
+  pub frame : IsFramed bytes signature items offset
+  pub block : IsBlockOf (offset - 16) (drop 16 bytes) entry_bytes
 
 -- what is written and signed of a batch that has items is a log batch of its items, without what bytes don't hold, and its entry bytes
 abbrev pub LogBatchIsSpelled : Type 0

@@ -3,7 +3,7 @@
 ghost use Rattle.std.specs.Prelude.{◌≡◌, ◌≢◌, ℕ, ◌+◌, ◌^◌, ◌<◌, ◌≤◌, length, drop, IfOk, IfErr, IfSome, OnOk, OnErr};
 ghost use Rattle.raft_base.specs.Reading.{HasNoFront};
 ghost use Rattle.raft_records.specs.FilePart.{IsPartRefusal, IsNext, IsNextFault, part_signature};
-ghost use Rattle.raft_records.specs.InFile.{AreInFile};
+ghost use Rattle.raft_records.specs.ReadIn.{AreReadIn};
 ghost use Rattle.raft_records.specs.LogBatch.{IsReadable};
 
 use crate::LogItemBatch;
@@ -93,7 +93,7 @@ impl FilePart {
 pub fn next_batch(part: &FilePart, at: usize) -> Result<Option<(LogItemBatch, usize)>>
     requires { at ≤ length part.now.bytes }
     ensures ok { IfOk result (IsNext part.now at) }
-    ensures in_file { IfOk result (λ next. IfSome next (λ batch. AreInFile part.now.id batch.0)) }
+    ensures in_file { IfOk result (λ next. IfSome next (λ batch. AreReadIn part.now.id batch.0)) }
     ensures left { OnErr result (at < length part.now.bytes) }
     ensures refused { IfErr result (λ e. e ≢ Error.Memory →
         HasNoFront (λ bytes. IsReadable bytes (part_signature part.now)) (drop at part.now.bytes)) }

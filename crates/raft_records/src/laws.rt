@@ -67,7 +67,7 @@ pub fn log_batches_are_read_again()
     ensures parts { (bytes : List ℕ) (signature : Option ℕ) (items : List Item) (entry_bytes : List ℕ) →
         IsLogBatch bytes signature items entry_bytes ↔ HasParts bytes signature items entry_bytes }
     ensures readable { (bytes : List ℕ) (signature : Option ℕ) (items : List Item) →
-        IsReadable bytes signature items ↔ ((place : ℕ) × IsFramed bytes signature items place) }
+        IsReadable bytes signature items ↔ ((offset : ℕ) × IsFramed bytes signature items offset) }
     ensures one_header { HasOneFront IsHeader }
     ensures one_block { (len : ℕ) (bytes entry_bytes entry_bytes' : List ℕ) →
         IsBlockOf len bytes entry_bytes → IsBlockOf len bytes entry_bytes' → entry_bytes ≡ entry_bytes' }

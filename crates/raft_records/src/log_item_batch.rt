@@ -7,7 +7,7 @@ ghost use Rattle.raft_base.specs.declared.pipe_log.Version.TheVariants.{V2};
 ghost use Rattle.raft_base.specs.Reading.{Reads, HasNoFront, HasOneFront};
 ghost use Rattle.raft_base.specs.Signature.{signature_of, signature_in};
 ghost use Rattle.raft_records.specs.Grammar.{IsCommand, IsEntries, IsItem, IsKeyValue, behind_item};
-ghost use Rattle.raft_records.specs.InFile.{AreInFile};
+ghost use Rattle.raft_records.specs.ReadIn.{AreReadIn};
 ghost use Rattle.raft_records.specs.Item.{Item, Pair, bare, bare_entry, bare_pair, entries, command, pair, content_of, item_of, entries_item, command_item, pair_item, AreInBytes, IsInBytes};
 ghost use Rattle.raft_records.specs.Entries.{IsConsecutive, Tile};
 ghost use Rattle.raft_records.specs.ItemBatch.{AreItems, IsItemBatch, IsDecoded, AreItemsFault, IsItemBatchFault, checksum_bytes, batch_bytes, placed, raised, laid, entry_lengths, entry_bytes_of, end_of_items, FitsBehind, IsEncoded, no_checksum, FitTogether, first_entry};
@@ -311,7 +311,7 @@ impl LogItemBatch {
     ) -> Result<LogItemBatch>
         ensures ok { IfOk result (λ batch.
             IsDecoded buf.old.now (signature_of context.now) entries compression_type batch buf.new.now) }
-        ensures in_file { IfOk result (AreInFile entries.id) }
+        ensures in_file { IfOk result (AreReadIn entries.id) }
         ensures err { OnErr result (buf.new.now ≡ buf.old.now) }
         ensures refused { IfErr result (λ e. e ≢ Error.Memory → (items : List Item) (rest : List ℕ) →
             IsItemBatch buf.old.now (signature_of context.now) items rest → ⊥) }

@@ -14,7 +14,7 @@ use Rattle.raft_recover.specs.Recovery.{CannotBeRead}
 use Rattle.raft_recover.specs.Replays.{HasReplayed, CannotFollow}
 use Rattle.raft_recover.specs.Segments.{ReadsParts, ReadsSegments}
 use Rattle.raft_recover.specs.Weights.{times}
-use Rattle.raft_recover.proofs.LineLemmas.{each_join, each_cut, each_single}
+use Rattle.raft_recover.proofs.MachineOrderLemmas.{each_join, each_cut, each_single}
 use Rattle.raft_recover.proofs.SegmentLemmas.{segments_unique}
 use Rattle.raft_recover.proofs.WeightLemmas.{weigh-append}
 

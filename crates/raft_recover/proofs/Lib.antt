@@ -1,6 +1,6 @@
 pub mod CoverLemmas
 pub mod DrawingLemmas
-pub mod LineLemmas
+pub mod MachineOrderLemmas
 pub mod LiningLemmas
 pub mod OrderLemmas
 pub mod RequestLemmas

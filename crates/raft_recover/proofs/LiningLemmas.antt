@@ -13,12 +13,12 @@ use Rattle.raft_history.specs.Batches.{Event}
 use Rattle.raft_history.proofs.StretchOfHistory.{small_front, small_back}
 use Rattle.raft_recover.specs.declared.piece.Piece.{Piece}
 use Rattle.raft_recover.specs.Covers.{IsPieceOf, covers, covering, Tile}
-use Rattle.raft_recover.specs.Lines.{InLine}
+use Rattle.raft_recover.specs.MachineOrder.{AreInOrder}
 use Rattle.raft_recover.specs.Merges.{joined}
 use Rattle.raft_recover.specs.Segments.{ReadsParts, ReadsSegments}
 use Rattle.raft_recover.specs.Weights.{weigh}
 use Rattle.raft_recover.proofs.CoverLemmas.{covers_inside, covers_below, covers_behind, covers_none}
-use Rattle.raft_recover.proofs.LineLemmas.{each_join}
+use Rattle.raft_recover.proofs.MachineOrderLemmas.{each_join}
 
 -- the same elements weigh as much
 pub weigh-permutation : {A : Type 0} (f : A → ℕ) (xs ys : List A) → IsPermutation xs ys → weigh f ys ≡ weigh f xs
@@ -62,7 +62,7 @@ module _ {M : Type 0} where
 
     -- a piece in front of those in line
     in_front : (p : Piece M) (low : ℕ) (ps : List (Piece M)) → IsPieceOf stands_exactly segments p → p.from ≡ low
-        → InLine stands_exactly (drop (low + p.count) segments) (machines ps) → InLine stands_exactly (drop low segments) (machines (p ∷ ps))
+        → AreInOrder stands_exactly (drop (low + p.count) segments) (machines ps) → AreInOrder stands_exactly (drop low segments) (machines (p ∷ ps))
     in_front p low ps piece is line =
         let whole : take p.count (drop p.from segments) ++ drop (low + p.count) segments ≡ drop low segments =
         ap (λ (n : ℕ). take p.count (drop n segments) ++ drop (low + p.count) segments) is
@@ -79,7 +79,7 @@ module _ {M : Type 0} where
 
     -- a piece of no segments in front of those in line
     idle_in_front : (p : Piece M) (low : ℕ) (ps : List (Piece M)) → IsPieceOf stands_exactly segments p → p.count ≡ 0
-        → InLine stands_exactly (drop low segments) (machines ps) → InLine stands_exactly (drop low segments) (machines (p ∷ ps))
+        → AreInOrder stands_exactly (drop low segments) (machines ps) → AreInOrder stands_exactly (drop low segments) (machines (p ∷ ps))
     idle_in_front p low ps piece idle line =
         let nothing : piece.history ≡ [] = subst (λ (n : ℕ). ReadsSegments (take n (drop p.from segments)) piece.history) idle piece.reads in
         let whole : piece.history ++ joined line.histories ≡ joined line.histories = ap (λ (t : List Event). t ++ joined line.histories) nothing in
@@ -102,10 +102,10 @@ module _ {M : Type 0} where
             let own = covers_below p.from p.count low behind in let rest = above_none low p.from behind ps all in absurd (omega arith)
         at (inr a) (inr b) = omega arith
 
-    lined : (low : ℕ) (ps : List (Piece M)) → Ascends ps → Are ps → CoverFrom low ps → InLine stands_exactly (drop low segments) (machines ps)
+    lined : (low : ℕ) (ps : List (Piece M)) → Ascends ps → Are ps → CoverFrom low ps → AreInOrder stands_exactly (drop low segments) (machines ps)
     lined low [] up are cover = none_left (cases_lt low (length segments))
       where
-        none_left : (low < length segments) ⊎ (length segments ≤ low) → InLine stands_exactly (drop low segments) []
+        none_left : (low < length segments) ⊎ (length segments ≤ low) → AreInOrder stands_exactly (drop low segments) []
         none_left (inl some_left) = let once = cover.once low (omega arith) some_left in absurd (omega arith)
         none_left (inr past) = record {
           histories = [];
@@ -114,8 +114,8 @@ module _ {M : Type 0} where
         }
     lined low (p ∷ ps) up are cover = by (cases_lt 0 p.count) (λ n c. lined n ps up.1 are.1 c)
       where
-        by : (0 < p.count) ⊎ (p.count ≤ 0) → ((n : ℕ) → CoverFrom n ps → InLine stands_exactly (drop n segments) (machines ps))
-            → InLine stands_exactly (drop low segments) (machines (p ∷ ps))
+        by : (0 < p.count) ⊎ (p.count ≤ 0) → ((n : ℕ) → CoverFrom n ps → AreInOrder stands_exactly (drop n segments) (machines ps))
+            → AreInOrder stands_exactly (drop low segments) (machines (p ∷ ps))
         by (inl some_segments) rest =
             let here = begins_here p low ps are.0 some_segments up.0 cover in
             let inside = are.0.inside in
@@ -143,7 +143,7 @@ module _ {M : Type 0} where
 
     -- sorted pieces that tile the segments
     pub in_line : (ps qs : List (Piece M)) → All (IsPieceOf stands_exactly segments) ps → Tile segments ps → IsPermutation ps qs → IsNonDecreasingBy (λ q. q.from) qs
-        → InLine stands_exactly segments (machines qs)
+        → AreInOrder stands_exactly segments (machines qs)
     in_line ps qs all tile same up =
         lined 0 qs (ascends qs up) (recursion_from_All (IsPieceOf stands_exactly segments) qs (All-permutation (IsPieceOf stands_exactly segments) ps qs same all))
         record {

@@ -23,44 +23,44 @@ use Rattle.raft_recover.proofs.MidwayLemmas.{IsCut, first_refused}
 -- ---- one batch
 
 -- two frames in front of the same bytes are the same one
-one_frame : (front other more rest : List ℕ) (signature : Option ℕ) (items items' : List Item) (place place' : ℕ)
-    (f : IsFramed front signature items place) (g : IsFramed other signature items' place')
-    → front ++ more ≡ other ++ rest → (front ≡ other) × (place ≡ place') × (f.compression ≡ g.compression) × (items ≡ items')
-one_frame front other more rest signature items items' place place' f g e =
+one_frame : (front other more rest : List ℕ) (signature : Option ℕ) (items items' : List Item) (offset offset' : ℕ)
+    (f : IsFramed front signature items offset) (g : IsFramed other signature items' offset')
+    → front ++ more ≡ other ++ rest → (front ≡ other) × (offset ≡ offset') × (f.compression ≡ g.compression) × (items ≡ items')
+one_frame front other more rest signature items items' offset offset' f g e =
     let whole = sym (append_assoc f.header.front (drop 16 front) more) ∙ ap (λ (t : List ℕ). t ++ more) (sym f.header.split) ∙ e
     ∙ ap (λ (t : List ℕ). t ++ rest) g.header.split ∙ append_assoc g.header.front (drop 16 other) rest in
-    let header = (header_one f.header.front g.header.front (drop 16 front ++ more) (drop 16 other ++ rest) (place, f.compression, length front)
-    (place', g.compression, length other) f.header.spells g.header.spells whole).1 in
-    let at : place ≡ place' = ap (λ (t : ℕ × CompressionType × ℕ). t.0) header in
+    let header = (header_one f.header.front g.header.front (drop 16 front ++ more) (drop 16 other ++ rest) (offset, f.compression, length front)
+    (offset', g.compression, length other) f.header.spells g.header.spells whole).1 in
+    let at : offset ≡ offset' = ap (λ (t : ℕ × CompressionType × ℕ). t.0) header in
     let long : length front ≡ length other = ap (λ (t : ℕ × CompressionType × ℕ). t.2) header in
     let same : front ≡ other = same_length front other more rest long e in
-    let footer : drop place front ≡ drop place' other = ap (λ (n : ℕ). drop n front) at ∙ ap (drop place') same in
+    let footer : drop offset front ≡ drop offset' other = ap (λ (n : ℕ). drop n front) at ∙ ap (drop offset') same in
     let batch = subst (λ (t : List ℕ). IsItemBatch t signature items f.rest) footer f.item_batch in
-    (same, at, ap (λ (t : ℕ × CompressionType × ℕ). t.1) header, (one_batch (drop place' other) f.rest g.rest signature items items' batch g.item_batch).0)
+    (same, at, ap (λ (t : ℕ × CompressionType × ℕ). t.1) header, (one_batch (drop offset' other) f.rest g.rest signature items items' batch g.item_batch).0)
 
 -- one batch stands at a place
 pub batch_unique : (part : Part) (at : ℕ) (items items' : List Item) (next next' : ℕ)
     → IsBatchAt part at items next → IsBatchAt part at items' next' → (items ≡ items') × (next ≡ next')
 batch_unique part at items items' next next' b d =
-    let one = one_frame b.bytes d.bytes (drop next part.bytes) (drop next' part.bytes) (part_signature part) b.read d.read b.place d.place b.frame d.frame
+    let one = one_frame b.bytes d.bytes (drop next part.bytes) (drop next' part.bytes) (part_signature part) b.read d.read b.offset d.offset b.frame d.frame
     (sym b.stands ∙ d.stands) in
     let places = ap (λ (p : ℕ). map (placed (entries_place part at p) b.frame.compression) b.read) one.1
-    ∙ ap (λ (c : CompressionType). map (placed (entries_place part at d.place) c) b.read) one.2
-    ∙ ap (map (placed (entries_place part at d.place) d.frame.compression)) one.3 in
+    ∙ ap (λ (c : CompressionType). map (placed (entries_place part at d.offset) c) b.read) one.2
+    ∙ ap (map (placed (entries_place part at d.offset) d.frame.compression)) one.3 in
     (b.places ∙ places ∙ sym d.places, b.ends ∙ ap (λ (t : List ℕ). at + length t) one.0 ∙ sym d.ends)
 
 -- where no batch is readable none stands
 pub batch_none : (part : Part) (at : ℕ) (items : List Item) (next : ℕ)
     → HasNoFront (λ bytes. IsReadable bytes (part_signature part)) (drop at part.bytes) → ¬ (IsBatchAt part at items next)
 batch_none part at items next none b =
-    none b.bytes (drop next part.bytes) b.read ((readable b.bytes (part_signature part) b.read).1 (b.place, b.frame)) b.stands
+    none b.bytes (drop next part.bytes) b.read ((readable b.bytes (part_signature part) b.read).1 (b.offset, b.frame)) b.stands
 
 -- a batch is longer than nothing, so none stands at the end
 pub batch_inside : (part : Part) (at : ℕ) (items : List Item) (next : ℕ) → IsBatchAt part at items next → (at < next) × (next ≤ length part.bytes)
 batch_inside part at items next b =
     let header = b.frame.header.spells in
-    let least : 16 ≤ b.place = header.behind_header in
-    let long : b.place ≤ length b.bytes = header.inside in
+    let least : 16 ≤ b.offset = header.behind_header in
+    let long : b.offset ≤ length b.bytes = header.inside in
     let lengths = ap length b.stands in
     let ends = b.ends in (
       omega arith,

@@ -1,7 +1,7 @@
 pub mod Covers
 pub mod Draws
 pub mod Drawing
-pub mod Lines
+pub mod MachineOrder
 pub mod Files
 pub mod Merges
 pub mod Plans

@@ -19,7 +19,7 @@ ghost use Rattle.std.specs.Prelude.{
 };
 ghost use Rattle.std.specs.Global.{Global};
 ghost use Rattle.raft_records.specs.FilePart.{Part};
-ghost use Rattle.raft_recover.specs.Lines.{InLine};
+ghost use Rattle.raft_recover.specs.MachineOrder.{AreInOrder};
 ghost use Rattle.raft_recover.specs.Recovery.{CannotBeRead};
 
 use crate::{Segment, replay_segment};
@@ -105,7 +105,7 @@ impl<M: ReplayMachine> Piece<M> {
     /// The machines of pieces, in the order of what they have replayed.
     pub(crate) fn line_up(alloc: Global, mut pieces: Vec<Piece<M>>) -> Result<Vec<M>>
         ensures ok { (segments : List (Vec Part Global)) → All (IsPieceOf M.stands_exactly segments) pieces.items →
-            Tile segments pieces.items → IfOk result (λ v. InLine M.stands_exactly segments v.items) }
+            Tile segments pieces.items → IfOk result (λ v. AreInOrder M.stands_exactly segments v.items) }
         ensures fault { IfErr result (λ e. e ≡ Error.Memory) }
     {
         pieces.sort_by_key(|piece| piece.from)?;

@@ -26,7 +26,7 @@ ghost use Rattle.std.specs.Global.{Global};
 ghost use Rattle.raft_records.specs.FilePart.{Part};
 ghost use Rattle.raft_table.specs.Start.{IsInvalidArgument};
 ghost use Rattle.raft_recover.specs.Plans.{leaves};
-ghost use Rattle.raft_recover.specs.Lines.{IsUnderway};
+ghost use Rattle.raft_recover.specs.MachineOrder.{IsUnderway};
 ghost use Rattle.raft_recover.specs.Recovery.{IsReplayed, CannotBeRead, PartsAreOf, SegmentsAreOf};
 ghost use Rattle.raft_recover.specs.Schedules.{IsSchedule, switches, count_below, pieces_in};
 

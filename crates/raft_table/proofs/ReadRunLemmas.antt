@@ -7,7 +7,7 @@ use Rattle.raft_base.specs.declared.pipe_log.LogQueue.{LogQueue}
 use Rattle.raft_base.specs.declared.pipe_log.LogQueue.TheVariants.{Append, Rewrite}
 use Rattle.raft_records.specs.declared.entry_index.EntryIndex.{EntryIndex}
 use Rattle.raft_records.specs.Entries.{IsConsecutiveFrom, IsConsecutive}
-use Rattle.raft_records.specs.InFile.{IsBlockIn, IsInFile}
+use Rattle.raft_records.specs.ReadIn.{IsBlockIn, IsReadIn}
 use Rattle.raft_records.specs.Item.{entries}
 use Rattle.raft_table.specs.Queues.{is_same}
 use Rattle.raft_table.specs.Entries.{RisesFrom, IsRun, IsRunIn, end_of, is_block_in, is_placed_in, placed_in}
@@ -42,7 +42,7 @@ unfolding end_of
 consecutive_run [] h = (record { start = 0; rising = tt }, omega arith)
 consecutive_run (e ∷ es) h = (record { start = e.index; rising = rising e.index (e ∷ es) h }, bounded e.index (e ∷ es) h)
 
-pub read_run : (file : FileId) (es : List EntryIndex) → IsInFile file (entries es) → IsRunIn file.queue es
+pub read_run : (file : FileId) (es : List EntryIndex) → IsReadIn file (entries es) → IsRunIn file.queue es
 read_run file es h =
     let run = consecutive_run es h.0 in
     record { run = run.0; placed = in_queue file es h.1; bounded = run.1 }

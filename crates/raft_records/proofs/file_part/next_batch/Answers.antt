@@ -42,7 +42,7 @@ returns-in_err-batch-clause-fault c =
     let signature = ap signature_of c.new-context.ensures ∙ ap part_signature c.part.view_is in
     let fault = subst (λ (xs : List ℕ). IsItemBatchFault (part_signature c.args.part.now) xs c.in_err-batch.field-0.0) footer (subst (λ s. IsItemBatchFault s c.split_at-3.result.1.now c.in_err-batch.field-0.0) signature c.in_err-batch.ensures.fault) in
     rw (p.1, p.2) (subst (λ (xs : List ℕ). IsNextFault (part_signature c.args.part.now) xs c.in_err-batch.field-0.0) rest (inr (inr (record {
-      place = c.in_ok-offset.offset;
+      offset = c.in_ok-offset.offset;
       len = c.in_ok-offset.len;
       header = record { compression = c.in_ok-offset.compression_type; rest = c.in_ok-offset.field-0-1.now; header = c.in_ok-offset.ensures.ok };
       whole = c.if-len-rest.false;
@@ -60,7 +60,7 @@ returns-clause-ok c =
     record {
       bytes = take c.in_ok-offset.len c.split_at.result.1.now;
       read = read.read;
-      place = c.in_ok-offset.offset;
+      offset = c.in_ok-offset.offset;
       frame = frame.0;
       stands = batch_split c.args.part.now.bytes c.args.at c.in_ok-offset.len ∙ ap (λ (xs : List ℕ). take c.in_ok-offset.len xs ++ drop (c.args.at + c.in_ok-offset.len) c.args.part.now.bytes) (sym rest);
       ends = ap (λ n. c.args.at + n) (sym (length-take-le c.in_ok-offset.len c.split_at.result.1.now c.if-len-rest.false));

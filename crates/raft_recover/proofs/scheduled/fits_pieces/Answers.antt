@@ -1,7 +1,7 @@
 use Rattle.std.proofs.Common.{arith}
 use Rattle.raft_recover.specs.Plans.{leaves}
 use Rattle.raft_recover.specs.Schedules.{pieces_in}
-use Rattle.raft_recover.proofs.LineLemmas.{pieces_few, fits_is}
+use Rattle.raft_recover.proofs.MachineOrderLemmas.{pieces_few, fits_is}
 use Rattle.raft_recover.proofs.scheduled.fits_pieces.Goals as goal
 
 pub returns-else-segments-eq0 : goal.returns-else-segments-eq0

@@ -1,6 +1,6 @@
 use Rattle.std.proofs.Common.{List, sym, subst}
-use Rattle.raft_recover.specs.Lines.{IsUnderway}
-use Rattle.raft_recover.proofs.LineLemmas.{next_begun, if_ok}
+use Rattle.raft_recover.specs.MachineOrder.{IsUnderway}
+use Rattle.raft_recover.proofs.MachineOrderLemmas.{next_begun, if_ok}
 use Rattle.raft_recover.proofs.scheduled.piece_behind.Goals as goal
 
 pub returns-clause-ok : goal.returns-clause-ok

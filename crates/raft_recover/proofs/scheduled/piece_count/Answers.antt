@@ -1,6 +1,6 @@
 use Rattle.std.proofs.Common.{◌≡◌, ℕ, ◌+◌, cond, sym, ap, ◌∙◌, arith}
 use Rattle.raft_recover.specs.Schedules.{switches, count_below}
-use Rattle.raft_recover.proofs.LineLemmas.{count_more, pieces_some, one_at_most, one_more_is}
+use Rattle.raft_recover.proofs.MachineOrderLemmas.{count_more, pieces_some, one_at_most, one_more_is}
 use Rattle.raft_recover.proofs.scheduled.piece_count.Goals as goal
 
 pub loop-n-preserved : goal.loop-n-preserved

@@ -3,9 +3,9 @@ use Rattle.std.specs.Global.{Global}
 use Rattle.std.proofs.lemmas.List.{take_more}
 use Rattle.std.proofs.lemmas.Result.{err_from_is_err_and}
 use Rattle.raft_records.specs.FilePart.{Part}
-use Rattle.raft_recover.specs.Lines.{IsUnderway}
+use Rattle.raft_recover.specs.MachineOrder.{IsUnderway}
 use Rattle.raft_recover.specs.Schedules.{switches}
-use Rattle.raft_recover.proofs.LineLemmas.{gone_on, stopped, count_more, one_same}
+use Rattle.raft_recover.proofs.MachineOrderLemmas.{gone_on, stopped, count_more, one_same}
 use Rattle.raft_recover.proofs.SegmentLemmas.{left_from}
 use Rattle.raft_recover.proofs.scheduled.replay_in_order.Goals as goal
 

@@ -1,5 +1,5 @@
 use Rattle.std.proofs.Common.{◌≡◌, take, vec_len}
-use Rattle.raft_recover.specs.Lines.{IsUnderway}
+use Rattle.raft_recover.specs.MachineOrder.{IsUnderway}
 use Rattle.raft_recover.specs.Schedules.{switches, count_below}
 use Rattle.raft_recover.proofs.scheduled.replay_in_order.Given as goal
 

@@ -17,7 +17,7 @@ use Rattle.raft_recover.specs.Replays.{HasReplayed, CannotFollow}
 use Rattle.raft_recover.specs.Segments.{IsReadBehind, ReadsFrom, ReadsPart, ReadsEach, ReadsParts, ReadsSegments}
 use Rattle.raft_recover.specs.Recovery.{IsReplayed, CannotBeRead, PartsAreOf, SegmentsAreOf}
 use Rattle.raft_recover.specs.Schedules.{switches, count_below, pieces_in}
-use Rattle.raft_recover.specs.Lines.{InLine, IsUnderway}
+use Rattle.raft_recover.specs.MachineOrder.{AreInOrder, IsUnderway}
 use Rattle.raft_recover.proofs.MergeLemmas.{joined-append, each-append}
 use Rattle.raft_recover.proofs.SegmentLemmas.{segments_unique}
 
@@ -111,7 +111,7 @@ module _ {M : Type 0} (stands_for stands_exactly : M → List Event → Type 0) 
     one_more = joined-append underway.histories (underway.last ∷ []) ∙ ap (λ (t : List Event). joined underway.histories ++ t) (append-nil underway.last)
 
     -- it is the last in line
-    pub finished : InLine stands_exactly segments (ms ++ m ∷ [])
+    pub finished : AreInOrder stands_exactly segments (ms ++ m ∷ [])
     finished = record {
       histories = underway.histories ++ underway.last ∷ [];
       reads = subst (ReadsSegments segments) (sym one_more) underway.reads;
@@ -169,7 +169,7 @@ module _ {M : Type 0} (stands_for stands_exactly : M → List Event → Type 0) 
         exact = λ small apart. absurd (none small);
       }
 
-  module _ (segments : List (Vec Part Global)) (ms : List M) (line : InLine stands_exactly segments ms) (queue : LogQueue) (of : SegmentsAreOf queue segments) where
+  module _ (segments : List (Vec Part Global)) (ms : List M) (line : AreInOrder stands_exactly segments ms) (queue : LogQueue) (of : SegmentsAreOf queue segments) where
     -- all of them merged
     pub replayed_merged : (m : M) → IsMerged stands_for stands_exactly ms m → IsReplayed stands_for stands_exactly segments m
     replayed_merged m merged = record {
@@ -205,7 +205,7 @@ if_ok (Err e) step p = tt
 
 module _ {M : Type 0} (stands_for stands_exactly : M → List Event → Type 0) (exact_stands : (m : M) (h : List Event) → stands_exactly m h → stands_for m h) where
   -- no machine in line, and one that has replayed nothing
-  pub replayed_none : (segments : List (Vec Part Global)) (m : M) → InLine stands_exactly segments [] → stands_exactly m [] → IsReplayed stands_for stands_exactly segments m
+  pub replayed_none : (segments : List (Vec Part Global)) (m : M) → AreInOrder stands_exactly segments [] → stands_exactly m [] → IsReplayed stands_for stands_exactly segments m
   replayed_none segments m line new = none_of line.histories line.reads line.stand
     where
       none_of : (hs : List (List Event)) → ReadsSegments segments (joined hs) → (IsSmall (joined hs) → StandForEach stands_exactly [] hs)

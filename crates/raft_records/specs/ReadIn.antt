@@ -14,11 +14,11 @@ IsBlockIn file None = ⊥
 IsBlockIn file (Some block) = block.id ≡ file
 
 -- entries are consecutive and have their places in the file; a change of a key is of this file, and a Put has a value
-abbrev pub IsInFile : FileId → Content → Type 0
-IsInFile file (entries es) = IsConsecutive es × AllByRecursion (λ (e : EntryIndex). IsBlockIn file e.entries) es
-IsInFile file (command c) = Unit {0}
-IsInFile file (pair p) = IsWritablePair p × (p.file_id ≡ Some file)
+abbrev pub IsReadIn : FileId → Content → Type 0
+IsReadIn file (entries es) = IsConsecutive es × AllByRecursion (λ (e : EntryIndex). IsBlockIn file e.entries) es
+IsReadIn file (command c) = Unit {0}
+IsReadIn file (pair p) = IsWritablePair p × (p.file_id ≡ Some file)
 
 -- all items are so
-abbrev pub AreInFile : FileId → List Item → Type 0
-AreInFile file items = AllByRecursion (λ (item : Item). IsInFile file item.content) items
+abbrev pub AreReadIn : FileId → List Item → Type 0
+AreReadIn file items = AllByRecursion (λ (item : Item). IsReadIn file item.content) items

@@ -7,7 +7,7 @@ use Rattle.raft_records.specs.declared.compression_type.CompressionType.{Compres
 use Rattle.raft_records.specs.declared.entry_index.EntryIndex.{EntryIndex}
 use Rattle.raft_records.specs.FilePart.{Part, IsBatchAt, entries_place}
 use Rattle.raft_records.specs.Grammar.{IsItem, behind_item}
-use Rattle.raft_records.specs.InFile.{IsBlockIn, IsInFile, AreInFile}
+use Rattle.raft_records.specs.ReadIn.{IsBlockIn, IsReadIn, AreReadIn}
 use Rattle.raft_records.specs.Item.{Item, Content, entries, command, pair}
 use Rattle.raft_records.specs.ItemBatch.{FitsBehind, IsDecoded, IsItemBatch, placed, placed_content, placed_entry}
 use Rattle.raft_records.proofs.BatchLemmas.{item_fits, fits_placed}
@@ -16,21 +16,21 @@ places_in_file : (block : FileBlockHandle) (c : CompressionType) (es : List Entr
 places_in_file block c [] = tt
 places_in_file block c (e ∷ es) = (refl, places_in_file block c es)
 
-content_in_file : (block : FileBlockHandle) (c : CompressionType) (s : ℕ) (content : Content) → FitsBehind s (placed_content block c content) → IsInFile block.id (placed_content block c content)
+content_in_file : (block : FileBlockHandle) (c : CompressionType) (s : ℕ) (content : Content) → FitsBehind s (placed_content block c content) → IsReadIn block.id (placed_content block c content)
 content_in_file block c s (entries es) f = (f.0, places_in_file block c es)
 content_in_file block c s (command x) f = tt
 content_in_file block c s (pair p) f = (f, refl)
 
-items_in_file : (block : FileBlockHandle) (c : CompressionType) (s : ℕ) (bytes : List ℕ) (items : List Item) → IsSequence behind_item IsItem s bytes items → AreInFile block.id (map (placed block c) items)
+items_in_file : (block : FileBlockHandle) (c : CompressionType) (s : ℕ) (bytes : List ℕ) (items : List Item) → IsSequence behind_item IsItem s bytes items → AreReadIn block.id (map (placed block c) items)
 items_in_file block c s bytes [] q = tt
 items_in_file block c s bytes (x ∷ xs) q =
     (content_in_file block c s x.content (fits_placed block c s x.content (item_fits s q.first x q.first_spells)), items_in_file block c (behind_item s x) q.second xs q.second_spells)
 
-pub batch_in_file : (block : FileBlockHandle) (c : CompressionType) (bytes rest : List ℕ) (signature : Option ℕ) (items : List Item) → IsItemBatch bytes signature items rest → AreInFile block.id (map (placed block c) items)
+pub batch_in_file : (block : FileBlockHandle) (c : CompressionType) (bytes rest : List ℕ) (signature : Option ℕ) (items : List Item) → IsItemBatch bytes signature items rest → AreReadIn block.id (map (placed block c) items)
 batch_in_file block c bytes rest signature items b = items_in_file block c 0 b.counted.second items b.counted.second_spells.items_spelled
 
-pub decoded_in_file : (old new : List ℕ) (signature : Option ℕ) (block : FileBlockHandle) (c : CompressionType) (items : List Item) → IsDecoded old signature block c items new → AreInFile block.id items
+pub decoded_in_file : (old new : List ℕ) (signature : Option ℕ) (block : FileBlockHandle) (c : CompressionType) (items : List Item) → IsDecoded old signature block c items new → AreReadIn block.id items
 decoded_in_file old new signature block c items d = rw d.places (batch_in_file block c old new signature d.read d.batch)
 
-pub next_in_file : (part : Part) (at : ℕ) (items : List Item) (next : ℕ) → IsBatchAt part at items next → AreInFile part.id items
-next_in_file part at items next b = rw b.places (batch_in_file (entries_place part at b.place) b.frame.compression _ b.frame.rest _ b.read b.frame.item_batch)
+pub next_in_file : (part : Part) (at : ℕ) (items : List Item) (next : ℕ) → IsBatchAt part at items next → AreReadIn part.id items
+next_in_file part at items next b = rw b.places (batch_in_file (entries_place part at b.offset) b.frame.compression _ b.frame.rest _ b.read b.frame.item_batch)

@@ -8,7 +8,7 @@ use Rattle.raft_recover.specs.Merges.{joined, StandForEach}
 use Rattle.raft_recover.specs.Segments.{ReadsSegments}
 
 -- the machines stand exactly for histories which, one behind the other, are what the segments read as
-pub record InLine {M : Type 0} (stands_exactly : M → List Event → Type 0) (segments : List (Vec Part Global)) (machines : List M) : Type 0 where
+pub record AreInOrder {M : Type 0} (stands_exactly : M → List Event → Type 0) (segments : List (Vec Part Global)) (machines : List M) : Type 0 where
   pub histories : List (List Event)
   pub reads : ReadsSegments segments (joined histories)
   pub stand : IsSmall (joined histories) → StandForEach stands_exactly machines histories

@@ -2,7 +2,6 @@
 use Rattle.std.specs.Prelude.{◌≡◌, ℕ, ◌+◌, ◌<◌, ◌≤◌, ◌^◌, false, List, [], ◌∷◌, length, flat_map, Option, Some, None}
 use Rattle.std.specs.List.{AllByRecursion}
 use Rattle.std.specs.FinMap as finite
-use Rattle.raft_base.specs.declared.pipe_log.FileBlockHandle.{FileBlockHandle}
 use Rattle.raft_base.specs.declared.pipe_log.FileId.{FileId}
 use Rattle.raft_base.specs.declared.pipe_log.LogQueue.{LogQueue}
 use Rattle.raft_base.specs.declared.pipe_log.LogQueue.TheVariants.{Append, Rewrite}
@@ -11,6 +10,7 @@ use Rattle.raft_records.specs.declared.key_value.OpType.{OpType}
 use Rattle.raft_records.specs.declared.key_value.OpType.TheVariants as operations
 use Rattle.raft_records.specs.Group.{is_reserved, IsGroupMarkerContent}
 use Rattle.raft_records.specs.Item.{Item, Content, entries, command, pair}
+use Rattle.raft_records.specs.ReadIn.{IsBlockIn}
 use Rattle.raft_table.specs.Entries.{IsRunIn}
 use Rattle.raft_table.specs.Steps.{Step, Run, Put, Del, after}
 use Rattle.raft_table.specs.Table.{Table}
@@ -42,11 +42,6 @@ pub record IsSmall (h : List Event) : Type 0 where
   pub few : size_of h < 2 ^ 63
 
 -- ---- sound histories
-
--- a place in this file
-abbrev pub IsBlockIn : FileId → Option FileBlockHandle → Type 0
-IsBlockIn file None = ⊥
-IsBlockIn file (Some block) = block.id ≡ file
 
 -- every entry's place is in this file
 abbrev pub AreBlocksIn : FileId → List EntryIndex → Type 0

@@ -15,3 +15,6 @@ mod WalkLemmas
 mod WriteLemmas
 mod SlotKeeping
 mod CleanLemmas
+mod LiveSteps
+mod TakenLemmas
+mod GroupFiles

@@ -8,6 +8,7 @@ pub mod AccessorCalls
 pub mod AccessorCode
 pub mod AccessorView
 pub mod ItemWrites
+pub mod MarkedTables
 pub mod RegionMarks
 pub mod RegionMarksView
 pub mod Merges

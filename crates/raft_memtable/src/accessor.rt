@@ -19,6 +19,8 @@ ghost use Rattle.raft_memtable.specs.Merges.{with_newer, with_appended, IsMerged
 ghost use Rattle.raft_memtable.specs.Walks.{Keeps, Makes};
 ghost use Rattle.raft_memtable.specs.Writes.{Appending, Replaying, Rewriting, AreWritten, AreRefused};
 
+mod region_steps;
+
 use crate::region_tables::RegionTables;
 use raft_records::{Command, LogBatch, LogItem, hash_u64};
 use raft_table::{Error, FileSeq, GlobalStats, LogQueue, MemTable, Result, TableChange};

@@ -3,6 +3,7 @@
 
 pub mod accessor;
 pub mod item_writes;
+mod marked_tables;
 pub mod reading;
 pub mod region_marks;
 pub mod region_tables;

@@ -1,8 +1,9 @@
 //! Items of groups that are not whole yet.
 
-ghost use Rattle.std.specs.Prelude.{◌≡◌, ◌++◌, [], length, map, is_some, OnOk};
+ghost use Rattle.std.specs.Prelude.{◌≡◌, ◌++◌, ℕ, eqb, [], ◌∷◌, length, map, is_some, IsTrue, OnOk, IfOk};
+ghost use Rattle.std.specs.List.{list_any};
 ghost use Rattle.raft_records.specs.Item.{item_of, pair, pair_of};
-ghost use Rattle.raft_history.specs.RegionSteps.{step_of, steps_of_items};
+ghost use Rattle.raft_history.specs.RegionSteps.{step_of, steps_of_items, names};
 ghost use Rattle.raft_memtable.specs.WaitingItems.{has_step};
 
 use raft_records::{KeyValue, LogItem, LogItemContent, OpType, is_reserved};
@@ -68,11 +69,39 @@ impl WaitingItems {
         Ok(())
     }
 
+    /// The regions that the items change, in order; one may stand there twice.
+    ///
+    /// # Errors
+    ///
+    /// Where there is no memory for them.
+    pub fn regions(&self) -> Result<Vec<u64>, AllocError>
+        ensures { IfOk result (λ ids. (r : ℕ) → list_any (λ id. eqb r id) ids.items ≡ names r self.now) }
+    {
+        let mut ids: Vec<u64> = Vec::new(*self.items.allocator());
+        for item in &self.items {
+            let id = item.raft_group_id;
+            if !is_last(&ids, id) {
+                ids.push(id)?;
+            }
+        }
+        Ok(ids)
+    }
+
     /// The items, in order.
     pub fn into_items(self) -> Vec<LogItem>
         ensures { steps_of_items (map item_of result.items) ≡ self }
     {
         self.items
+    }
+}
+
+/// Whether a region is the last of these.
+fn is_last(ids: &[u64], id: u64) -> bool
+    ensures { (r : ℕ) → IsTrue result → list_any (λ i. eqb r i) (ids.now ++ id ∷ []) ≡ list_any (λ i. eqb r i) ids.now }
+{
+    match ids.last() {
+        Some(last) => *last == id,
+        None => false,
     }
 }
 

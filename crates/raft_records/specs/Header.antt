@@ -8,7 +8,7 @@ use Rattle.raft_records.specs.Faults.{IsMemory, IsCorruption, IsAnyCorruption}
 use Rattle.raft_records.specs.ItemBatch.{HasSeal, IsSealFault}
 use Rattle.raft_records.specs.LogBatch.{header_bytes}
 
--- a header's bytes: the place of the item batch, the compression of the entries, and the length of the batch
+-- a header's bytes: the offset of the item batch, the compression of the entries, and the length of the batch
 pub record IsHeader (bytes : List ℕ) (header : ℕ × CompressionType × ℕ) : Type 0 where
   pub written : bytes ≡ header_bytes header.0 header.1 header.2
   pub length_fits : header.2 < 2 ^ 56
@@ -25,7 +25,7 @@ IsOffsetFault len offset e =
     ((len < offset) × IsCorruption (codes "Log item offset exceeds log batch length") e)
     ⊎ ((offset ≤ len) × (offset < 16) × IsCorruption (codes "Log item offset is smaller than log batch header length") e)
 
--- two numbers of eight bytes that make no header: first the compression type is looked at, then the place
+-- two numbers of eight bytes that make no header: first the compression type is looked at, then the offset
 pub record IsWordsFault (bytes : List ℕ) (e : Error) : Type 0 where
   pub first : ℕ
   pub second : ℕ

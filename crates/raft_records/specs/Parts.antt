@@ -8,14 +8,14 @@ use Rattle.raft_records.specs.ItemBatch.{IsItemBatch}
 use Rattle.raft_records.specs.LogBatch.{IsBatchOf, encoded_length, log_batch_bytes, IsLogBatch}
 use Rattle.raft_records.specs.Header.{IsHeader, IsBlockOf}
 
--- a header in front, which says that the bytes are just as many as they are, and from the place in it an item batch to the end
+-- a header in front, which says that the bytes are just as many as they are, and from the offset in it an item batch to the end
 pub record IsFramed (bytes : List ℕ) (signature : Option ℕ) (items : List Item) (offset : ℕ) : Type 0 where
   pub compression : CompressionType
   pub rest : List ℕ
   pub header : Reads IsHeader bytes (drop 16 bytes) (offset, compression, length bytes)
   pub item_batch : IsItemBatch (drop offset bytes) signature items rest
 
--- the same, and from the header to that place the block of these entry bytes
+-- the same, and from the header to that offset the block of these entry bytes
 pub record HasParts (bytes : List ℕ) (signature : Option ℕ) (items : List Item) (entry_bytes : List ℕ) : Type 0 where
   pub offset : ℕ
   pub frame : IsFramed bytes signature items offset

@@ -24,7 +24,7 @@ pub(crate) const LOG_BATCH_HEADER_LEN: usize = 16;
 /// The first length in bytes that a batch may not have.
 const LENGTH_LIMIT: u64 = 1 << 56;
 
-/// The header in front of `bytes`, as the place of the item batch, the compression type and the
+/// The header in front of `bytes`, as the offset of the item batch, the compression type and the
 /// length of the batch, and what is behind it. Success takes no memory.
 pub(crate) fn parse_header(
     alloc: Global,

@@ -1,0 +1,168 @@
+-- The files of a group, set for each region that it names: the order doesn't matter, nor whether a region comes twice.
+use Rattle.std.proofs.Common.{◌≡◌, ◌≢◌, ℕ, ◌≤◌, Bool, true, false, cond, eqb, ◌||◌, List, [], ◌∷◌, ◌++◌, Option, Some, None, Result, Ok, Err, refl, sym, ap, subst, ◌∙◌, inl, inr, arith}
+use Rattle.std.specs.List.{list_any}
+use Rattle.std.specs.FinMap as finite
+use Rattle.std.specs.Result.{OnOk, IfErr}
+use Rattle.std.specs.Option.{option_and_then, unwrap_or}
+use Rattle.raft_base.specs.declared.errors.Error.{Error}
+use Rattle.raft_base.specs.declared.errors.Error.TheVariants.{Memory}
+use Rattle.raft_base.specs.declared.pipe_log.LogQueue.{LogQueue}
+use Rattle.raft_base.specs.declared.pipe_log.LogQueue.TheVariants.{Append, Rewrite}
+use Rattle.raft_table.specs.MarkJoins.{joined, met, fresh, mark_of}
+use Rattle.raft_table.specs.Steps.{AtomicGroup, table_of}
+use Rattle.raft_table.specs.Table.{Table, with_atomic_group}
+use Rattle.raft_table.proofs.MarkExact.{joined_fresh}
+use Rattle.std.proofs.lemmas.Bool.{eqb-true}
+use Rattle.raft_history.specs.Histories.{records_in}
+use Rattle.raft_history.specs.MarkedRegions.{Marks, MarkedRegions, MarkedRegion, region_in, with_region, regions_after, named_regions, on_each, region_steps_of_whole}
+use Rattle.raft_history.specs.WaitingGroup.{WholeGroup}
+use Rattle.raft_history.specs.RegionSteps.{RegionStep, Tables, names}
+use Rattle.raft_history.proofs.MapLemmas.{IsOther, by_region, eqb_self}
+use Rattle.raft_history.proofs.StepListLemmas.{names_none, names_cons}
+use Rattle.raft_memtable.specs.MarkedTables.{regions_in, AreStepsOfQueue, HaveRoom, one_step, AreTaken}
+use Rattle.raft_memtable.specs.Accessor.{live_in_all}
+use Rattle.raft_memtable.specs.declared.marked_tables.MarkedTables.{MarkedTables}
+use Rattle.raft_memtable.proofs.MapLemmas.{same, get_own, get_other, none_some}
+use Rattle.raft_memtable.proofs.TakenLemmas.{after-append, records-append, taken_more, refused_in, other_in}
+
+abbrev pub has : ℕ → List ℕ → Bool
+has r ids = list_any (λ id. eqb r id) ids
+
+abbrev filed_table : ℕ → ℕ → ℕ → Option Table → Option Table
+filed_table start end r o = Some (with_atomic_group (table_of r o) start end)
+
+-- what becomes of each region
+record AreFiled (start end : ℕ) (ids : List ℕ) (rs new : MarkedRegions) : Type 0 where
+  tables : (r : ℕ) → finite.get new.tables r ≡ cond (has r ids) (filed_table start end r (finite.get rs.tables r)) (finite.get rs.tables r)
+  marks : (r : ℕ) → finite.get new.marks r ≡ cond (has r ids) (Some (unwrap_or (finite.get rs.marks r) fresh)) (finite.get rs.marks r)
+
+either : {X : Type 0} (b : Bool) (x : X) → cond b x x ≡ x
+either true x = refl
+either false x = refl
+
+module _ (q : LogQueue) (start end : ℕ) where
+  abbrev filed_region : MarkedRegions → ℕ → MarkedRegion
+  filed_region rs id = record { mark = joined q id (region_in rs id).mark (region_in rs id).table (mark_of (AtomicGroup start end)); table = filed_table start end id (finite.get rs.tables id) }
+
+  filed_mark : (rs : MarkedRegions) (id : ℕ) → (filed_region rs id).mark ≡ unwrap_or (finite.get rs.marks id) fresh
+  filed_mark rs id = joined_fresh q (met fresh (table_of id (finite.get rs.tables id))) (unwrap_or (finite.get rs.marks id) fresh)
+
+  own_table : (rs : MarkedRegions) (id : ℕ) (ids : List ℕ)
+      → cond (has id ids) (filed_table start end id (finite.get (with_region rs id (filed_region rs id)).tables id)) (finite.get (with_region rs id (filed_region rs id)).tables id) ≡ cond (has id (id ∷ ids)) (filed_table start end id (finite.get rs.tables id)) (finite.get rs.tables id)
+  own_table rs id ids =
+      ap (λ o. cond (has id ids) (filed_table start end id o) o) (get_own rs.tables id (with_atomic_group (table_of id (finite.get rs.tables id)) start end)) ∙ either (has id ids) (filed_table start end id (finite.get rs.tables id))
+      ∙ sym (ap (λ b. cond (b || has id ids) (filed_table start end id (finite.get rs.tables id)) (finite.get rs.tables id)) (eqb_self id))
+
+  other_table : (rs : MarkedRegions) (id : ℕ) (ids : List ℕ) (r : ℕ) → IsOther r id
+      → cond (has r ids) (filed_table start end r (finite.get (with_region rs id (filed_region rs id)).tables r)) (finite.get (with_region rs id (filed_region rs id)).tables r) ≡ cond (has r (id ∷ ids)) (filed_table start end r (finite.get rs.tables r)) (finite.get rs.tables r)
+  other_table rs id ids r f =
+      ap (λ o. cond (has r ids) (filed_table start end r o) o) (get_other rs.tables id r (with_atomic_group (table_of id (finite.get rs.tables id)) start end) f.1)
+      ∙ sym (ap (λ b. cond (b || has r ids) (filed_table start end r (finite.get rs.tables r)) (finite.get rs.tables r)) f.0)
+
+  own_mark : (rs : MarkedRegions) (id : ℕ) (ids : List ℕ)
+      → cond (has id ids) (Some (unwrap_or (finite.get (with_region rs id (filed_region rs id)).marks id) fresh)) (finite.get (with_region rs id (filed_region rs id)).marks id) ≡ cond (has id (id ∷ ids)) (Some (unwrap_or (finite.get rs.marks id) fresh)) (finite.get rs.marks id)
+  own_mark rs id ids =
+      ap (λ o. cond (has id ids) (Some (unwrap_or o fresh)) o) (get_own rs.marks id (filed_region rs id).mark) ∙ either (has id ids) (Some (filed_region rs id).mark) ∙ ap Some (filed_mark rs id)
+      ∙ sym (ap (λ b. cond (b || has id ids) (Some (unwrap_or (finite.get rs.marks id) fresh)) (finite.get rs.marks id)) (eqb_self id))
+
+  other_mark : (rs : MarkedRegions) (id : ℕ) (ids : List ℕ) (r : ℕ) → IsOther r id
+      → cond (has r ids) (Some (unwrap_or (finite.get (with_region rs id (filed_region rs id)).marks r) fresh)) (finite.get (with_region rs id (filed_region rs id)).marks r) ≡ cond (has r (id ∷ ids)) (Some (unwrap_or (finite.get rs.marks r) fresh)) (finite.get rs.marks r)
+  other_mark rs id ids r f =
+      ap (λ o. cond (has r ids) (Some (unwrap_or o fresh)) o) (get_other rs.marks id r (filed_region rs id).mark f.1)
+      ∙ sym (ap (λ b. cond (b || has r ids) (Some (unwrap_or (finite.get rs.marks r) fresh)) (finite.get rs.marks r)) f.0)
+
+  filed : (ids : List ℕ) (rs : MarkedRegions) → (new : MarkedRegions) × (regions_after q rs (on_each ids (AtomicGroup start end)) ≡ Some new) × AreFiled start end ids rs new
+  filed [] rs = (rs, refl, record { tables = λ r. refl; marks = λ r. refl })
+  filed (id ∷ ids) rs =
+      let ih = filed ids (with_region rs id (filed_region rs id)) in (
+        ih.0,
+        ih.1,
+        record {
+          tables = λ r. ih.2.tables r ∙ elim (by_region r id) [
+            | inl p ↦ subst (λ r. cond (has r ids) (filed_table start end r (finite.get (with_region rs id (filed_region rs id)).tables r)) (finite.get (with_region rs id (filed_region rs id)).tables r) ≡ cond (has r (id ∷ ids)) (filed_table start end r (finite.get rs.tables r)) (finite.get rs.tables r)) (sym p) (own_table rs id ids)
+            | inr f ↦ other_table rs id ids r f
+          ];
+          marks = λ r. ih.2.marks r ∙ elim (by_region r id) [
+            | inl p ↦ subst (λ r. cond (has r ids) (Some (unwrap_or (finite.get (with_region rs id (filed_region rs id)).marks r) fresh)) (finite.get (with_region rs id (filed_region rs id)).marks r) ≡ cond (has r (id ∷ ids)) (Some (unwrap_or (finite.get rs.marks r) fresh)) (finite.get rs.marks r)) (sym p) (own_mark rs id ids)
+            | inr f ↦ other_mark rs id ids r f
+          ];
+        },
+      )
+
+  abbrev made : Tables → Marks → MarkedRegions
+  made tables marks = record { tables = tables; marks = marks }
+
+  -- the regions alone matter
+  pub same_files : (xs ys : List ℕ) (rs : MarkedRegions) → ((r : ℕ) → has r xs ≡ has r ys) → regions_after q rs (on_each xs (AtomicGroup start end)) ≡ regions_after q rs (on_each ys (AtomicGroup start end))
+  same_files xs ys rs h =
+      let x = filed xs rs in
+      let y = filed ys rs in
+      let tables : x.0.tables ≡ y.0.tables = same _ _ (λ r. x.2.tables r ∙ ap (λ b. cond b (filed_table start end r (finite.get rs.tables r)) (finite.get rs.tables r)) (h r) ∙ sym (y.2.tables r)) in
+      let marks : x.0.marks ≡ y.0.marks = same _ _ (λ r. x.2.marks r ∙ ap (λ b. cond b (Some (unwrap_or (finite.get rs.marks r) fresh)) (finite.get rs.marks r)) (h r) ∙ sym (y.2.marks r)) in
+      x.1 ∙ ap Some (ap (λ t. made t x.0.marks) tables ∙ ap (made y.0.tables) marks) ∙ sym y.1
+
+  pub files_accepted : (ids : List ℕ) (rs : MarkedRegions) → regions_after q rs (on_each ids (AtomicGroup start end)) ≡ None → ⊥
+  files_accepted ids rs e = none_some (sym e ∙ (filed ids rs).1)
+
+  pub behind_files : (steps : List RegionStep) (xs ys : List ℕ) (rs : MarkedRegions) → ((r : ℕ) → has r xs ≡ has r ys) → regions_after q rs (steps ++ on_each xs (AtomicGroup start end)) ≡ regions_after q rs (steps ++ on_each ys (AtomicGroup start end))
+  behind_files steps xs ys rs h = after-append q rs steps (on_each xs (AtomicGroup start end)) ∙ go (regions_after q rs steps) ∙ sym (after-append q rs steps (on_each ys (AtomicGroup start end)))
+    where
+      go : (o : Option MarkedRegions) → option_and_then (λ x. regions_after q x (on_each xs (AtomicGroup start end))) o ≡ option_and_then (λ x. regions_after q x (on_each ys (AtomicGroup start end))) o
+      go None = refl
+      go (Some x) = same_files xs ys x h
+
+  pub files_of_queue : (ids : List ℕ) → AreStepsOfQueue q (on_each ids (AtomicGroup start end))
+  files_of_queue [] = tt
+  files_of_queue (id ∷ ids) = (tt, files_of_queue ids)
+
+  pub files-records : (ids : List ℕ) → records_in (on_each ids (AtomicGroup start end)) ≡ 0
+  files-records [] = refl
+  files-records (id ∷ ids) = omega (arith, files-records ids)
+
+-- the regions that steps name
+pub has_named : (r : ℕ) (steps : List RegionStep) → has r (named_regions steps) ≡ names r steps
+has_named r [] = sym (names_none r)
+has_named r (s ∷ steps) = go (names s.region steps) refl (has_named r steps) ∙ sym (names_cons r s steps)
+  where
+    there : names s.region steps ≡ true → (b : Bool) → eqb r s.region ≡ b → names r steps ≡ (b || names r steps)
+    there e true k = subst (λ x. names x steps ≡ true) (sym (eqb-true r s.region k)) e
+    there e false k = refl
+
+    go : (b : Bool) → names s.region steps ≡ b → has r (named_regions steps) ≡ names r steps → has r (cond b (named_regions steps) (s.region ∷ named_regions steps)) ≡ (eqb r s.region || names r steps)
+    go true e ih = ih ∙ there e (eqb r s.region) refl
+    go false e ih = ap (λ b. eqb r s.region || b) ih
+
+-- one region more
+pub file_more : (q : LogQueue) (start end id : ℕ) (ids : List ℕ) (a b c : MarkedTables) (r : Result Unit Error) → AreTaken q (one_step id (AtomicGroup start end)) (Ok tt) a b → AreTaken q (on_each ids (AtomicGroup start end)) r b c → AreTaken q (on_each (id ∷ ids) (AtomicGroup start end)) r a c
+file_more q start end id ids a b c r s t = taken_more q (one_step id (AtomicGroup start end)) (on_each ids (AtomicGroup start end)) a b c r (tt, tt) s t
+
+-- ---- a whole group
+
+-- the files of its regions behind its items
+pub whole_same : (q : LogQueue) (w : WholeGroup) (ids : List ℕ) (rs : MarkedRegions) → ((r : ℕ) → has r ids ≡ names r w.steps) → regions_after q rs (w.steps ++ on_each ids (AtomicGroup w.start w.end)) ≡ regions_after q rs (region_steps_of_whole w)
+whole_same q w ids rs h = behind_files q w.start w.end w.steps ids (named_regions w.steps) rs (λ r. h r ∙ sym (has_named r w.steps))
+
+pub whole_records : (w : WholeGroup) (ids : List ℕ) → records_in w.steps ≡ records_in (w.steps ++ on_each ids (AtomicGroup w.start w.end))
+whole_records w ids = omega (arith, records-append w.steps (on_each ids (AtomicGroup w.start w.end)), files-records Rewrite w.start w.end ids)
+
+pub whole_of_queue : (q : LogQueue) (w : WholeGroup) (ids : List ℕ) → AreStepsOfQueue q w.steps → AreStepsOfQueue q (w.steps ++ on_each ids (AtomicGroup w.start w.end))
+whole_of_queue q w ids h = go w.steps h
+  where
+    go : (steps : List RegionStep) → AreStepsOfQueue q steps → AreStepsOfQueue q (steps ++ on_each ids (AtomicGroup w.start w.end))
+    go [] h = files_of_queue q w.start w.end ids
+    go (s ∷ steps) h = (h.0, go steps h.1)
+
+-- what is told of the group, by what was taken in
+module _ (w : WholeGroup) (ids : List ℕ) (a b : MarkedTables) (r : Result Unit Error) (h : (n : ℕ) → has n ids ≡ names n w.steps) (t : AreTaken Rewrite (w.steps ++ on_each ids (AtomicGroup w.start w.end)) r a b) where
+  pub whole_ok : OnOk r (regions_after Rewrite (regions_in a) (region_steps_of_whole w) ≡ Some (regions_in b))
+  whole_ok = elim r as (λ r. OnOk r (regions_after Rewrite (regions_in a) (w.steps ++ on_each ids (AtomicGroup w.start w.end)) ≡ Some (regions_in b)) → OnOk r (regions_after Rewrite (regions_in a) (region_steps_of_whole w) ≡ Some (regions_in b))) [ Ok u ↦ λ e. sym (whole_same Rewrite w ids (regions_in a) h) ∙ e | Err x ↦ λ e. tt ] t.ok
+
+  pub whole_refused : HaveRoom Rewrite a.accessor.tables (records_in w.steps) → IfErr r (λ e. e ≢ Memory → regions_after Rewrite (regions_in a) (region_steps_of_whole w) ≡ None)
+  whole_refused room =
+      elim r as (λ r. IfErr r (λ e. e ≢ Memory → regions_after Rewrite (regions_in a) (w.steps ++ on_each ids (AtomicGroup w.start w.end)) ≡ None) → IfErr r (λ e. e ≢ Memory → regions_after Rewrite (regions_in a) (region_steps_of_whole w) ≡ None)) [
+        | Ok u ↦ λ f. tt
+        | Err x ↦ λ f. λ k. sym (whole_same Rewrite w ids (regions_in a) h) ∙ f k
+      ] (refused_in Rewrite (w.steps ++ on_each ids (AtomicGroup w.start w.end)) (records_in w.steps) a b r (whole_records w ids) t room)
+
+  pub whole_other : AreStepsOfQueue Rewrite w.steps → OnOk r (live_in_all Append b.accessor.tables ≤ live_in_all Append a.accessor.tables)
+  whole_other good = other_in Rewrite (w.steps ++ on_each ids (AtomicGroup w.start w.end)) a b r (whole_of_queue Rewrite w ids good) t.ok

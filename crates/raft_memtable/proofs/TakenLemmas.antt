@@ -1,0 +1,255 @@
+-- Steps taken into the marks and tables of all regions, one after another.
+use Rattle.std.proofs.Common.{◌≡◌, ◌≢◌, ◌⊎◌, ℕ, ◌+◌, ◌<◌, ◌≤◌, ◌^◌, List, [], ◌∷◌, ◌++◌, length, Bool, true, cond, append-nil, append_assoc, map, Option, Some, None, Result, Ok, Err, refl, sym, ap, subst, ◌∙◌, inl, inr, arith}
+use Rattle.std.specs.FinMap as finite
+use Rattle.std.specs.Option.{option_map, option_and_then}
+use Rattle.std.specs.Result.{OnOk, IfErr}
+use Rattle.std.proofs.lemmas.Grind.{flat_map-append}
+use Rattle.raft_base.specs.declared.errors.Error.{Error}
+use Rattle.raft_base.specs.declared.errors.Error.TheVariants as errors
+use Rattle.raft_base.specs.declared.pipe_log.FileId.{FileId}
+use Rattle.raft_base.specs.declared.pipe_log.LogQueue.{LogQueue}
+use Rattle.raft_base.specs.declared.pipe_log.LogQueue.TheVariants.{Append, Rewrite}
+use Rattle.raft_records.specs.declared.entry_index.EntryIndex.{EntryIndex}
+use Rattle.raft_records.specs.declared.log_item.LogItem.{LogItem}
+use Rattle.raft_records.specs.Item.{item_of, entries}
+use Rattle.raft_table.specs.Counts.{Counts, live}
+use Rattle.raft_table.specs.Entries.{IsRunIn, end_of}
+use Rattle.raft_table.specs.MarkJoins.{joined, joined_at, met, fresh, mark_of}
+use Rattle.raft_table.specs.Marks.{Mark}
+use Rattle.raft_table.specs.Queues.{other, count_in, is_same}
+use Rattle.raft_table.specs.Steps.{Step, Run, Put, Clean, table_of, there_if, after_step}
+use Rattle.raft_table.specs.Table.{Table, live_of, after_replay, IsTablePutFault}
+use Rattle.raft_table.proofs.MarkExact.{joined_fresh}
+use Rattle.raft_table.proofs.MarkTables.{from_whole}
+use Rattle.raft_table.proofs.TableLemmas.{count_in_own}
+use Rattle.raft_history.specs.Histories.{records_in}
+use Rattle.raft_history.specs.MarkedRegions.{Marks, MarkedRegions, MarkedRegion, region_in, with_region, stepped_region, regions_after}
+use Rattle.raft_history.specs.RegionSteps.{RegionStep, Tables, with_table, steps_of_items, cleaned_by}
+use Rattle.raft_memtable.specs.Accessor.{Accessor, table_in, live_in_all, AreCounted}
+use Rattle.raft_memtable.specs.MarkedTables.{regions_in, AreStepsOfQueue, HaveRoom, HasLiveRoom, one_step, first_index, listed, AreTaken}
+use Rattle.raft_memtable.specs.RegionMarks.{mark_in}
+use Rattle.raft_memtable.specs.Updates.{IsReplayFault}
+use Rattle.raft_memtable.specs.Writes.{Replaying, IsContentFault}
+use Rattle.raft_memtable.specs.declared.marked_tables.MarkedTables.{MarkedTables}
+use Rattle.raft_memtable.proofs.LiveLemmas.{table_live-le}
+use Rattle.raft_memtable.proofs.MapLemmas.{some_is, none_some}
+use Rattle.raft_memtable.proofs.LiveSteps.{steps_live, live-le-all}
+use Rattle.raft_memtable.proofs.WaitingItemLemmas.{steps_both}
+use Rattle.raft_memtable.proofs.WriteLemmas.{replay_fault}
+
+-- ---- steps behind steps
+
+pub after-append : (q : LogQueue) (rs : MarkedRegions) (xs ys : List RegionStep) → regions_after q rs (xs ++ ys) ≡ option_and_then (λ x. regions_after q x ys) (regions_after q rs xs)
+after-append q rs [] ys = refl
+after-append q rs (s ∷ xs) ys = go (stepped_region q s.region (region_in rs s.region) s.step) (λ x. after-append q (with_region rs s.region x) xs ys)
+  where
+    go : (o : Option MarkedRegion) → ((x : MarkedRegion) → regions_after q (with_region rs s.region x) (xs ++ ys) ≡ option_and_then (λ x. regions_after q x ys) (regions_after q (with_region rs s.region x) xs))
+        → option_and_then (λ x. regions_after q (with_region rs s.region x) (xs ++ ys)) o ≡ option_and_then (λ x. regions_after q x ys) (option_and_then (λ x. regions_after q (with_region rs s.region x) xs) o)
+    go None ih = refl
+    go (Some x) ih = ih x
+
+pub records-append : (xs ys : List RegionStep) → records_in (xs ++ ys) ≡ records_in xs + records_in ys
+records-append [] ys = omega arith
+records-append (x ∷ xs) ys = omega (arith, records-append xs ys)
+
+listed-nil : (q : LogQueue) → listed q [] ≡ []
+listed-nil Append = refl
+listed-nil Rewrite = refl
+
+listed-append : (q : LogQueue) (xs ys : List RegionStep) → listed q (xs ++ ys) ≡ listed q xs ++ listed q ys
+listed-append Append xs ys = flat_map-append (λ s. cleaned_by s.region s.step) xs ys
+listed-append Rewrite xs ys = refl
+
+of_other : (q : LogQueue) (n : ℕ) → count_in (other q) q n ≡ 0
+of_other Append n = refl
+of_other Rewrite n = refl
+
+room-behind : (q : LogQueue) (rs new : MarkedRegions) (xs ys : List RegionStep) → AreStepsOfQueue q xs → regions_after q rs xs ≡ Some new → HasLiveRoom q rs.tables (records_in (xs ++ ys)) → HasLiveRoom q new.tables (records_in ys)
+room-behind q rs new xs ys h e r = record {
+  alone = omega (arith, steps_live q (other q) rs new xs e h, of_other q (records_in xs), r.alone);
+  few = omega (arith, steps_live q q rs new xs e h, count_in_own q (records_in xs), records-append xs ys, r.few);
+}
+
+room-front : (q : LogQueue) (tables : Tables) (xs ys : List RegionStep) → HasLiveRoom q tables (records_in (xs ++ ys)) → HasLiveRoom q tables (records_in xs)
+room-front q tables xs ys r = record { alone = r.alone; few = omega (arith, records-append xs ys, r.few) }
+
+pub live_room : (q : LogQueue) (tables : Tables) (n m : ℕ) → n ≡ m → HaveRoom q tables n → HasLiveRoom q tables m
+live_room q tables n m e r = record { alone = r.alone; few = omega (arith, live-le-all q tables, e, r.few) }
+
+pub taken_none : (q : LogQueue) (a : MarkedTables) → AreTaken q [] (Ok tt) a a
+taken_none q a = record { ok = refl; cleaned = sym (ap (λ l. a.accessor.cleaned ++ l) (listed-nil q) ∙ append-nil a.accessor.cleaned); refused = tt }
+
+pub taken_memory : (q : LogQueue) (steps : List RegionStep) (a b : MarkedTables) (e : Error) → e ≡ errors.Memory → AreTaken q steps (Err e) a b
+taken_memory q steps a b e is = record { ok = tt; cleaned = tt; refused = λ k. absurd (k is) }
+
+-- steps behind some that are taken in
+pub taken_more : (q : LogQueue) (xs ys : List RegionStep) (a b c : MarkedTables) (r : Result Unit Error) → AreStepsOfQueue q xs → AreTaken q xs (Ok tt) a b → AreTaken q ys r b c → AreTaken q (xs ++ ys) r a c
+taken_more q xs ys a b c r h s t =
+    let rest : regions_after q (regions_in a) (xs ++ ys) ≡ regions_after q (regions_in b) ys = after-append q (regions_in a) xs ys ∙ ap (option_and_then (λ x. regions_after q x ys)) s.ok in
+    record {
+      ok = elim r as (λ r. OnOk r (regions_after q (regions_in b) ys ≡ Some (regions_in c)) → OnOk r (regions_after q (regions_in a) (xs ++ ys) ≡ Some (regions_in c))) [ Ok u ↦ λ e. rest ∙ e | Err x ↦ λ e. tt ] t.ok;
+      cleaned = elim r as (λ r. OnOk r (c.accessor.cleaned ≡ b.accessor.cleaned ++ listed q ys) → OnOk r (c.accessor.cleaned ≡ a.accessor.cleaned ++ listed q (xs ++ ys))) [
+        | Ok u ↦ λ e. e ∙ ap (λ l. l ++ listed q ys) s.cleaned ∙ append_assoc a.accessor.cleaned (listed q xs) (listed q ys) ∙ ap (λ l. a.accessor.cleaned ++ l) (sym (listed-append q xs ys))
+        | Err x ↦ λ e. tt
+      ] t.cleaned;
+      refused = elim r as (λ r. IfErr r (λ e. e ≢ errors.Memory → HasLiveRoom q b.accessor.tables (records_in ys) → regions_after q (regions_in b) ys ≡ None) → IfErr r (λ e. e ≢ errors.Memory → HasLiveRoom q a.accessor.tables (records_in (xs ++ ys)) → regions_after q (regions_in a) (xs ++ ys) ≡ None)) [
+        | Ok u ↦ λ f. tt
+        | Err x ↦ λ f. λ k room. rest ∙ f k (room-behind q (regions_in a) (regions_in b) xs ys h s.ok room)
+      ] t.refused;
+    }
+
+-- where some are refused, so are they with more behind them
+pub taken_refused : (q : LogQueue) (xs ys : List RegionStep) (a b : MarkedTables) (e : Error) → AreTaken q xs (Err e) a b → AreTaken q (xs ++ ys) (Err e) a b
+taken_refused q xs ys a b e s = record { ok = tt; cleaned = tt; refused = λ k room. after-append q (regions_in a) xs ys ∙ ap (option_and_then (λ x. regions_after q x ys)) (s.refused k (room-front q a.accessor.tables xs ys room)) }
+
+-- ---- one step
+
+module _ (q : LogQueue) (id : ℕ) (s : Step) (a b : MarkedTables) where
+  abbrev made : Tables → Marks → MarkedRegions
+  made tables marks = record { tables = tables; marks = marks }
+
+  abbrev put : Option Table → MarkedRegion
+  put t = record { mark = joined q id (mark_in a.marks id) (finite.get a.accessor.tables id) (mark_of s); table = t }
+
+  -- by what the marks answer
+  pub step_taken : (r : Result Unit Error) (t : Option Table) → after_step q id (finite.get a.accessor.tables id) s ≡ Some t → b.accessor.tables ≡ with_table a.accessor.tables id t
+      → b.accessor.cleaned ≡ a.accessor.cleaned ++ listed q (one_step id s) → OnOk r (b.marks ≡ finite.insert a.marks id (joined q id (mark_in a.marks id) (finite.get a.accessor.tables id) (mark_of s))) → IfErr r (λ e. e ≡ errors.Memory) → AreTaken q (one_step id s) r a b
+  step_taken (Ok u) t e k l m n = record {
+    ok = ap (λ o. option_and_then (λ x. regions_after q (with_region (regions_in a) id x) []) (option_map put o)) e ∙ ap Some (ap (λ ts. made ts (finite.insert a.marks id (put t).mark)) (sym k) ∙ ap (made b.accessor.tables) (sym m));
+    cleaned = l;
+    refused = tt;
+  }
+  step_taken (Err x) t e k l m n = taken_memory q (one_step id s) a b x n
+
+  pub step_refused : (e : Error) → (e ≢ errors.Memory → HasLiveRoom q a.accessor.tables (records_in (one_step id s)) → after_step q id (finite.get a.accessor.tables id) s ≡ None) → AreTaken q (one_step id s) (Err e) a b
+  step_refused e h = record { ok = tt; cleaned = tt; refused = λ k room. ap (λ o. option_and_then (λ x. regions_after q (with_region (regions_in a) id x) []) (option_map put o)) (h k room) }
+
+-- a step that changes a table, which is there afterwards
+module _ (q : LogQueue) (id : ℕ) (s : Step) (a : MarkedTables) (mid : Accessor) (marks : Marks) where
+  none_cleaned : (p : LogQueue) → cleaned_by id s ≡ [] → listed p (one_step id s) ≡ []
+  none_cleaned Append e = ap (λ l. l ++ []) e
+  none_cleaned Rewrite e = refl
+
+  pub changed_taken : (r : Result Unit Error) (outcome : Option Table) → after_step q id (finite.get a.accessor.tables id) s ≡ option_map (λ t. Some t) outcome → outcome ≡ Some (table_in mid.tables id) → mid.tables ≡ finite.insert a.accessor.tables id (table_in mid.tables id)
+      → mid.cleaned ≡ a.accessor.cleaned → cleaned_by id s ≡ [] → OnOk r (marks ≡ finite.insert a.marks id (joined q id (mark_in a.marks id) (finite.get a.accessor.tables id) (mark_of s))) → IfErr r (λ e. e ≡ errors.Memory) → AreTaken q (one_step id s) r a (record { accessor = mid; marks = marks })
+  changed_taken r outcome e k t l n m f =
+      step_taken q id s a (record { accessor = mid; marks = marks }) r (Some (table_in mid.tables id)) (e ∙ ap (option_map (λ t. Some t)) k) t
+      (l ∙ sym (ap (λ l. a.accessor.cleaned ++ l) (none_cleaned q n) ∙ append-nil a.accessor.cleaned)) m f
+
+-- ---- refusals of one step
+
+none_of : (o : Option Table) → option_map (λ t. Some t) o ≡ None → o ≡ None
+none_of None e = refl
+none_of (Some t) e = absurd cc
+
+run_by : (q : LogQueue) (id : ℕ) (o : Option Table) (run : List EntryIndex) (n : ℕ) (e : Error) → IsRunIn q run → live_of (other q) (table_of id o) ≡ 0 → n + length run < 2 ^ 64 → e ≢ errors.Memory → IsContentFault (Replaying q) id o n (entries run) e → after_replay q (table_of id o) run ≡ None
+run_by q id o run n (errors.Corruption text) h alone few k (inl f) = absurd (f h)
+run_by q id o run n (errors.Corruption text) h alone few k (inr f) = none_of _ f
+run_by q id o run n (errors.InvalidArgument text) h alone few k f = absurd (omega (arith, alone, f))
+run_by q id o run n errors.Full h alone few k f = absurd (omega (arith, few, f))
+run_by q id o run n errors.Memory h alone few k f = absurd (k refl)
+run_by q id o run n e h alone few k f = absurd f
+
+pub run_refused : (q : LogQueue) (id : ℕ) (o : Option Table) (run : List EntryIndex) (counts : Counts) (e : Error) → IsRunIn q run → live_of (other q) (table_of id o) ≡ 0 → live q counts + length run < 2 ^ 64 → e ≢ errors.Memory → IsReplayFault q run (table_of id o) counts e → after_replay q (table_of id o) run ≡ None
+run_refused q id o run counts e h alone few k f = run_by q id o run (live q counts) e h alone few k (replay_fault q id o run counts e f)
+
+put_by : (q : LogQueue) (counts : Counts) (replaced : Option FileId) (e : Error) → live q counts + 1 < 2 ^ 64 → e ≢ errors.Memory → IsTablePutFault q counts replaced e → ⊥
+put_by q counts replaced errors.Full few k f = omega (arith, few, f.0)
+put_by q counts replaced errors.Memory few k f = k refl
+put_by q counts replaced e few k f = f
+
+pub put_accepted : (q : LogQueue) (file : FileId) (counts : Counts) (replaced : Option FileId) (e : Error) → file.queue ≡ q → live q counts + 1 < 2 ^ 64 → e ≢ errors.Memory → IsTablePutFault file.queue counts replaced e → ⊥
+put_accepted q file counts replaced e is few k f = put_by q counts replaced e few k (subst (λ q. IsTablePutFault q counts replaced e) is f)
+
+-- ---- marks of one step
+
+-- a step that marks nothing marks the region all the same
+pub fresh_marked : (q : LogQueue) (id : ℕ) (s : Step) (o : Option Table) (old new : Marks) (r : Result Unit Error) → mark_of s ≡ fresh → OnOk r (new ≡ finite.insert old id (mark_in old id)) → OnOk r (new ≡ finite.insert old id (joined q id (mark_in old id) o (mark_of s)))
+fresh_marked q id s o old new (Ok u) e h = h ∙ ap (finite.insert old id) (sym (ap (λ n. joined_at q (met n (table_of id o)) (mark_in old id) n) e ∙ joined_fresh q (met fresh (table_of id o)) (mark_in old id)))
+fresh_marked q id s o old new (Err x) e h = tt
+
+pub run_mark : (q : LogQueue) (id : ℕ) (run : List EntryIndex) (start end : ℕ) (o : Option Table) (m : Mark) → first_index run ≡ Some start → end ≡ end_of (table_of id o).entries → joined_at q end m (record fresh { reach = Some start; cut = Some start }) ≡ joined q id m o (mark_of (Run run))
+run_mark q id [] start end o m e k = absurd (none_some e)
+run_mark q id (x ∷ run) start end o m e k =
+    ap (λ i. joined_at q end m (record fresh { reach = Some i; cut = Some i })) (sym (some_is e))
+    ∙ ap (λ y. joined_at q y m (record fresh { reach = Some x.index; cut = Some x.index })) (k ∙ ap end_of (sym (from_whole (table_of id o).entries)))
+
+pub run_marked : (q : LogQueue) (id : ℕ) (run : List EntryIndex) (start end : ℕ) (o : Option Table) (old new : Marks) (r : Result Unit Error) → first_index run ≡ Some start → end ≡ end_of (table_of id o).entries → OnOk r (new ≡ finite.insert old id (joined_at q end (mark_in old id) (record fresh { reach = Some start; cut = Some start })))
+    → OnOk r (new ≡ finite.insert old id (joined q id (mark_in old id) o (mark_of (Run run))))
+run_marked q id run start end o old new (Ok u) e k h = h ∙ ap (finite.insert old id) (run_mark q id run start end o (mark_in old id) e k)
+run_marked q id run start end o old new (Err x) e k h = tt
+
+pub no_run : (run : List EntryIndex) → first_index run ≡ None → mark_of (Run run) ≡ fresh
+no_run [] e = refl
+no_run (x ∷ run) e = absurd (none_some (sym e))
+
+pub run_step : (q : LogQueue) (id : ℕ) (o : Option Table) (run : List EntryIndex) → after_step q id o (Run run) ≡ option_map (λ t. Some t) (after_replay q (table_of id o) run)
+run_step q id o run = go (after_replay q (table_of id o) run)
+  where
+    go : (t : Option Table) → there_if true t ≡ option_map (λ t. Some t) t
+    go None = refl
+    go (Some t) = refl
+
+-- ---- steps that are refused
+
+pub run_taken : (q : LogQueue) (id : ℕ) (run : List EntryIndex) (a b : MarkedTables) (e : Error) → IsRunIn q run → AreCounted a.accessor.tables a.accessor.counts → (e ≡ errors.Memory) ⊎ IsReplayFault q run (table_in a.accessor.tables id) a.accessor.counts e → AreTaken q (one_step id (Run run)) (Err e) a b
+run_taken q id run a b e h counted (inl is) = taken_memory q (one_step id (Run run)) a b e is
+run_taken q id run a b e h counted (inr f) =
+    step_refused q id (Run run) a b e (λ k room.
+    ap (there_if true) (run_refused q id (finite.get a.accessor.tables id) run a.accessor.counts e h (omega (arith, table_live-le (other q) a.accessor.tables id, room.alone)) (omega (arith, counted q, room.few)) k f))
+
+pub put_taken : (q : LogQueue) (id : ℕ) (key value : List ℕ) (file : FileId) (replaced : Option FileId) (a b : MarkedTables) (e : Error) → file.queue ≡ q → AreCounted a.accessor.tables a.accessor.counts → (e ≡ errors.Memory) ⊎ IsTablePutFault file.queue a.accessor.counts replaced e → AreTaken q (one_step id (Put key value file)) (Err e) a b
+put_taken q id key value file replaced a b e h counted (inl is) = taken_memory q (one_step id (Put key value file)) a b e is
+put_taken q id key value file replaced a b e h counted (inr f) = step_refused q id (Put key value file) a b e (λ k room. absurd (put_accepted q file a.accessor.counts replaced e h (omega (arith, counted q, room.few)) k f))
+
+-- ---- a region that is cleaned
+
+cleaned_list : (q : LogQueue) (id : ℕ) (old : List ℕ) → cond (is_same Append q) (old ++ id ∷ []) old ≡ old ++ listed q (one_step id Clean)
+cleaned_list Append id old = refl
+cleaned_list Rewrite id old = sym (append-nil old)
+
+pub clean_taken : (q : LogQueue) (id : ℕ) (a : MarkedTables) (mid : Accessor) (marks : Marks) (r : Result Unit Error) (b : Bool) → b ≡ is_same Append q → mid.tables ≡ finite.remove a.accessor.tables id → mid.cleaned ≡ cond b (a.accessor.cleaned ++ id ∷ []) a.accessor.cleaned
+    → OnOk r (marks ≡ finite.insert a.marks id (joined q id (mark_in a.marks id) (finite.get a.accessor.tables id) (mark_of Clean))) → IfErr r (λ e. e ≡ errors.Memory) → AreTaken q (one_step id Clean) r a (record { accessor = mid; marks = marks })
+clean_taken q id a mid marks r b e t l m f =
+    step_taken q id Clean a (record { accessor = mid; marks = marks }) r None refl t (l ∙ ap (λ b. cond b (a.accessor.cleaned ++ id ∷ []) a.accessor.cleaned) e ∙ cleaned_list q id a.accessor.cleaned) m f
+
+-- ---- items, one after another
+
+split_items : (q : LogQueue) (x : LogItem) (xs ys : List LogItem) → ys ≡ x ∷ xs → steps_of_items (map item_of ys) ≡ steps_of_items (item_of x ∷ []) ++ steps_of_items (map item_of xs)
+split_items q x xs ys e = ap (λ l. steps_of_items (map item_of l)) e ∙ steps_both (x ∷ []) xs
+
+of_queue_front : (q : LogQueue) (xs ys : List RegionStep) → AreStepsOfQueue q (xs ++ ys) → AreStepsOfQueue q xs
+of_queue_front q [] ys h = tt
+of_queue_front q (x ∷ xs) ys h = (h.0, of_queue_front q xs ys h.1)
+
+of_queue_back : (q : LogQueue) (xs ys : List RegionStep) → AreStepsOfQueue q (xs ++ ys) → AreStepsOfQueue q ys
+of_queue_back q [] ys h = h
+of_queue_back q (x ∷ xs) ys h = of_queue_back q xs ys h.1
+
+pub first_of_queue : (q : LogQueue) (x : LogItem) (xs ys : List LogItem) → ys ≡ x ∷ xs → AreStepsOfQueue q (steps_of_items (map item_of ys)) → AreStepsOfQueue q (steps_of_items (item_of x ∷ []))
+first_of_queue q x xs ys e h = of_queue_front q (steps_of_items (item_of x ∷ [])) (steps_of_items (map item_of xs)) (subst (AreStepsOfQueue q) (split_items q x xs ys e) h)
+
+pub rest_of_queue : (q : LogQueue) (x : LogItem) (xs ys : List LogItem) → ys ≡ x ∷ xs → AreStepsOfQueue q (steps_of_items (map item_of ys)) → AreStepsOfQueue q (steps_of_items (map item_of xs))
+rest_of_queue q x xs ys e h = of_queue_back q (steps_of_items (item_of x ∷ [])) (steps_of_items (map item_of xs)) (subst (AreStepsOfQueue q) (split_items q x xs ys e) h)
+
+pub each_more : (q : LogQueue) (x : LogItem) (xs ys : List LogItem) (a b c : MarkedTables) (r : Result Unit Error) → ys ≡ x ∷ xs → AreStepsOfQueue q (steps_of_items (map item_of ys)) → AreTaken q (steps_of_items (item_of x ∷ [])) (Ok tt) a b → AreTaken q (steps_of_items (map item_of xs)) r b c
+    → AreTaken q (steps_of_items (map item_of ys)) r a c
+each_more q x xs ys a b c r e h s t =
+    subst (λ l. AreTaken q l r a c) (sym (split_items q x xs ys e)) (taken_more q (steps_of_items (item_of x ∷ [])) (steps_of_items (map item_of xs)) a b c r (first_of_queue q x xs ys e h) s t)
+
+pub each_refused : (q : LogQueue) (x : LogItem) (xs ys : List LogItem) (a b : MarkedTables) (e : Error) → ys ≡ x ∷ xs → AreTaken q (steps_of_items (item_of x ∷ [])) (Err e) a b → AreTaken q (steps_of_items (map item_of ys)) (Err e) a b
+each_refused q x xs ys a b e is s = subst (λ l. AreTaken q l (Err e) a b) (sym (split_items q x xs ys is)) (taken_refused q (steps_of_items (item_of x ∷ [])) (steps_of_items (map item_of xs)) a b e s)
+
+pub no_items : (q : LogQueue) (items : List LogItem) (a : MarkedTables) → length items ≡ 0 → AreTaken q (steps_of_items (map item_of items)) (Ok tt) a a
+no_items q [] a e = taken_none q a
+no_items q (x ∷ items) a e = absurd (omega (arith, e))
+
+-- ---- what is told of all steps
+
+pub refused_in : (q : LogQueue) (steps : List RegionStep) (n : ℕ) (a b : MarkedTables) (r : Result Unit Error) → n ≡ records_in steps → AreTaken q steps r a b → HaveRoom q a.accessor.tables n → IfErr r (λ e. e ≢ errors.Memory → regions_after q (regions_in a) steps ≡ None)
+refused_in q steps n a b (Ok u) e t room = tt
+refused_in q steps n a b (Err x) e t room = λ k. t.refused k (live_room q a.accessor.tables n (records_in steps) e room)
+
+pub other_in : (q : LogQueue) (steps : List RegionStep) (a b : MarkedTables) (r : Result Unit Error) → AreStepsOfQueue q steps → OnOk r (regions_after q (regions_in a) steps ≡ Some (regions_in b)) → OnOk r (live_in_all (other q) b.accessor.tables ≤ live_in_all (other q) a.accessor.tables)
+other_in q steps a b (Ok u) h e = omega (arith, steps_live q (other q) (regions_in a) (regions_in b) steps e h, of_other q (records_in steps))
+other_in q steps a b (Err x) h e = tt

@@ -1,0 +1,215 @@
+//! The tables of all regions beside their marks.
+
+ghost use Rattle.std.specs.Prelude.{◌≡◌, ◌≢◌, ◌≤◌, ◌++◌, [], ◌∷◌, map, OnOk, IfErr, Some, None};
+ghost use Rattle.raft_base.specs.declared.pipe_log.LogQueue.TheVariants.{Append, Rewrite};
+ghost use Rattle.raft_records.specs.Item.{item_of, pair, pair_of};
+ghost use Rattle.raft_history.specs.Histories.{AreInFile, records_in, cleaned_in_batch};
+ghost use Rattle.raft_history.specs.MarkedRegions.{no_regions, regions_after, on_each, region_steps_of_whole};
+ghost use Rattle.raft_history.specs.RegionSteps.{steps_of_items};
+ghost use Rattle.raft_table.specs.Queues.{other, is_same};
+ghost use Rattle.raft_table.specs.Steps.{Run, Compact, Put, Del, AtomicGroup, Clean};
+ghost use Rattle.raft_memtable.specs.Accessor.{live_in_all};
+ghost use Rattle.raft_memtable.specs.ItemWrites.{pair_change};
+ghost use Rattle.raft_memtable.specs.MarkedTables.{regions_in, AreStepsOfQueue, HaveRoom, one_step, first_index, AreTaken};
+ghost use Rattle.raft_memtable.specs.WaitingShown.{whole_shown};
+
+use crate::accessor::MemTableAccessor;
+use crate::region_marks::RegionMarks;
+use crate::waiting_group::WholeGroup;
+use raft_records::{Command, KeyValue, LogItem, LogItemBatch, LogItemContent, OpType, is_reserved};
+use raft_table::{EntryIndex, Error, FileId, FileSeq, LogQueue, Result};
+use std::alloc::Global;
+
+/// The tables of all regions, and the mark of each region that a step named.
+#[derive(Drop)]
+pub(crate) struct MarkedTables {
+    pub(crate) accessor: MemTableAccessor,
+    pub(crate) marks: RegionMarks,
+}
+
+impl MarkedTables {
+    /// No tables and no marks.
+    pub(crate) fn new(alloc: Global) -> MarkedTables
+        ensures regions { regions_in result ≡ no_regions }
+        ensures cleaned { result.accessor.cleaned ≡ [] }
+    {
+        MarkedTables {
+            accessor: MemTableAccessor::empty(alloc),
+            marks: RegionMarks::new(alloc),
+        }
+    }
+
+    /// Takes in the items of a batch of this file, in order, and lists the regions that they clean in
+    /// the append queue.
+    ///
+    /// # Errors
+    ///
+    /// `Corruption` where the start rule refuses entries, `InvalidArgument` for entries where the table
+    /// has records of the other queue, `Full` where more than 2^64 - 1 records would be live, `Memory`.
+    /// Some items are then taken in.
+    pub(crate) fn take_items(&mut self, file: FileId, items: LogItemBatch) -> Result<()>
+        requires { AreInFile file items }
+        ensures ok { OnOk result (regions_after file.queue (regions_in self.old) (steps_of_items items) ≡ Some (regions_in self.new)) }
+        ensures cleaned { OnOk result (self.new.accessor.cleaned ≡ self.old.accessor.cleaned ++ cleaned_in_batch file.queue items) }
+        ensures refused { HaveRoom file.queue self.old.accessor.tables (records_in (steps_of_items items))
+            → IfErr result (λ e. e ≢ Error.Memory → regions_after file.queue (regions_in self.old) (steps_of_items items) ≡ None) }
+        ensures other { OnOk result (live_in_all (other file.queue) self.new.accessor.tables ≤ live_in_all (other file.queue) self.old.accessor.tables) }
+    {
+        self.take_each(file.queue, items.into_items())
+    }
+
+    /// Takes in the items of a group of the rewrite queue that is whole, in order, and then its files
+    /// for each region that they name.
+    ///
+    /// # Errors
+    ///
+    /// Those of [`MarkedTables::take_items`] in the rewrite queue, whose start rule refuses nothing.
+    /// Some items are then taken in.
+    pub(crate) fn take_group(&mut self, whole: WholeGroup) -> Result<()>
+        requires steps { AreStepsOfQueue Rewrite (whole_shown whole).steps }
+        requires files { (whole_shown whole).start ≤ (whole_shown whole).end }
+        ensures ok { OnOk result (regions_after Rewrite (regions_in self.old) (region_steps_of_whole (whole_shown whole)) ≡ Some (regions_in self.new)) }
+        ensures cleaned { OnOk result (self.new.accessor.cleaned ≡ self.old.accessor.cleaned) }
+        ensures refused { HaveRoom Rewrite self.old.accessor.tables (records_in (whole_shown whole).steps)
+            → IfErr result (λ e. e ≢ Error.Memory → regions_after Rewrite (regions_in self.old) (region_steps_of_whole (whole_shown whole)) ≡ None) }
+        ensures other { OnOk result (live_in_all Append self.new.accessor.tables ≤ live_in_all Append self.old.accessor.tables) }
+    {
+        let WholeGroup { items, start, end } = whole;
+        let regions = items.regions()?;
+        self.take_each(LogQueue::Rewrite, items.into_items())?;
+        self.take_files(&regions, start, end)
+    }
+
+    /// Takes in items, in order.
+    fn take_each(&mut self, queue: LogQueue, items: Vec<LogItem>) -> Result<()>
+        requires { AreStepsOfQueue queue (steps_of_items (map item_of items.items)) }
+        ensures { AreTaken queue (steps_of_items (map item_of items.items)) result self.old self.new }
+    {
+        for item in items {
+            self.take_item(queue, item)?;
+        }
+        Ok(())
+    }
+
+    /// Takes in the files of a group for each of these regions.
+    fn take_files(&mut self, regions: &[u64], start: FileSeq, end: FileSeq) -> Result<()>
+        requires { start ≤ end }
+        ensures { AreTaken Rewrite (on_each regions.now (AtomicGroup start end)) result self.old self.new }
+    {
+        for id in regions {
+            self.accessor.apply_rewrite_atomic_group(*id, start, end)?;
+            self.marks.mark(*id)?;
+        }
+        Ok(())
+    }
+
+    /// Takes in an item.
+    fn take_item(&mut self, queue: LogQueue, item: LogItem) -> Result<()>
+        requires { AreStepsOfQueue queue (steps_of_items (item_of item ∷ [])) }
+        ensures { AreTaken queue (steps_of_items (item_of item ∷ [])) result self.old self.new }
+    {
+        let LogItem {
+            raft_group_id: id,
+            content,
+        } = item;
+        match content {
+            LogItemContent::EntryIndexes(entries) => self.take_run(queue, id, entries.0),
+            LogItemContent::Command(Command::Compact { index }) => {
+                self.take_compaction(queue, id, index)
+            }
+            LogItemContent::Command(Command::Clean) => self.take_clean(queue, id),
+            LogItemContent::Kv(kv) => self.take_pair(queue, id, kv),
+        }
+    }
+
+    /// Takes in a run.
+    fn take_run(&mut self, queue: LogQueue, id: u64, run: Vec<EntryIndex>) -> Result<()>
+        requires { AreStepsOfQueue queue (one_step id (Run run.items)) }
+        ensures { AreTaken queue (one_step id (Run run.items)) result self.old self.new }
+    {
+        let start = start_of(&run);
+        let end = self.accessor.replay_run(queue, id, run)?;
+        match start {
+            Some(start) => self.marks.add_run(id, queue, end, start),
+            None => self.marks.mark(id),
+        }
+    }
+
+    /// Takes in a compaction.
+    fn take_compaction(&mut self, queue: LogQueue, id: u64, index: u64) -> Result<()>
+        ensures { AreTaken queue (one_step id (Compact index)) result self.old self.new }
+    {
+        self.accessor.compact(id, index)?;
+        self.marks.add_compaction(id, index)
+    }
+
+    /// Takes in the clean of a region, which is listed in the append queue.
+    fn take_clean(&mut self, queue: LogQueue, id: u64) -> Result<()>
+        ensures { AreTaken queue (one_step id Clean) result self.old self.new }
+    {
+        self.accessor.remove(id, is_append(queue))?;
+        self.marks.add_clean(id)
+    }
+
+    /// Takes in the change of a key, unless it is reserved or a put without a value or a file.
+    fn take_pair(&mut self, queue: LogQueue, id: u64, kv: KeyValue) -> Result<()>
+        requires { AreStepsOfQueue queue (steps_of_items (pair_change id (pair_of kv) ∷ [])) }
+        ensures { AreTaken queue (steps_of_items (pair_change id (pair_of kv) ∷ [])) result self.old self.new }
+    {
+        if is_reserved(&kv.key) {
+            return Ok(());
+        }
+        let KeyValue {
+            op_type,
+            key,
+            value,
+            file_id,
+        } = kv;
+        match (op_type, value, file_id) {
+            (OpType::Put, Some(value), Some(file)) => self.take_put(queue, id, key, value, file),
+            (OpType::Put, _, _) => Ok(()),
+            (OpType::Del, _, _) => self.take_delete(queue, id, key),
+        }
+    }
+
+    /// Takes in a key that is put.
+    fn take_put(
+        &mut self,
+        queue: LogQueue,
+        id: u64,
+        key: Vec<u8>,
+        value: Vec<u8>,
+        file: FileId,
+    ) -> Result<()>
+        requires { file.queue ≡ queue }
+        ensures { AreTaken queue (one_step id (Put key.items value.items file)) result self.old self.new }
+    {
+        self.accessor.put(id, key, value, file)?;
+        self.marks.mark(id)
+    }
+
+    /// Takes in a key that is deleted.
+    fn take_delete(&mut self, queue: LogQueue, id: u64, key: Vec<u8>) -> Result<()>
+        ensures { AreTaken queue (one_step id (Del key.items)) result self.old self.new }
+    {
+        self.accessor.delete(id, &key)?;
+        self.marks.add_deleted(id, key)
+    }
+}
+
+/// The first index of a run, if it has one.
+fn start_of(run: &[EntryIndex]) -> Option<u64>
+    ensures { result ≡ first_index run.now }
+{
+    match run.first() {
+        Some(first) => Some(first.index),
+        None => None,
+    }
+}
+
+/// Whether a queue is the append queue, whose cleaned regions are listed.
+fn is_append(queue: LogQueue) -> bool
+    ensures { result ≡ is_same Append queue }
+{
+    queue == LogQueue::Append
+}

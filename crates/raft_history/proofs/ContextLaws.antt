@@ -10,10 +10,10 @@ use Rattle.raft_table.specs.MarkJoins.{fresh}
 use Rattle.raft_table.specs.Steps.{Step, after}
 use Rattle.raft_table.specs.Table.{Table}
 use Rattle.raft_table.proofs.MarkLaws.{stands_alone}
-use Rattle.raft_history.specs.Batches.{Batch, Event, batch_of, batches}
-use Rattle.raft_history.specs.Contexts.{IsBounded, FileRange, files_of, Suits, joined_files, follows, Context, Holds, AreExact, StandsIn, StandsFor, IsExactFor, AreMerged, AreRefused, merged_regions, merged_with, merged, completed_steps, taken_with, taken_in}
+use Rattle.raft_history.specs.Batches.{ReadBatch, Event, batch_of, batches}
+use Rattle.raft_history.specs.Contexts.{IsBounded, FileRange, files_of, Suits, joined_files, follows, Context, Holds, AreExact, StandsIn, StandsFor, IsExactFor, AreMerged, AreRegionsRefused, merged_regions, merged_with, merged, completed_steps, taken_with, taken_in}
 use Rattle.raft_history.specs.Effects.{BatchesApart, all_steps, steps_of, is_named}
-use Rattle.raft_history.specs.Histories.{size_of, AreInFile, AreInFiles, FilesFrom, IsSoundIn, Sound, cleaned_in_batch, cleaned_in}
+use Rattle.raft_history.specs.Histories.{records_in_history, AreInFile, AreInFiles, FilesFrom, IsSoundIn, Sound, cleaned_in_batch, cleaned_in}
 use Rattle.raft_history.specs.MarkedRegions.{MarkedRegions, region_in, regions_after}
 use Rattle.raft_history.specs.WaitingGroups.{WaitingGroups, groups_in, joined_groups, groups_after}
 use Rattle.raft_history.proofs.EffectLemmas.{all_steps-none, effects_behind-none}
@@ -56,10 +56,10 @@ no_steps r = ap (all_steps r) (effects_behind-none []) ∙ all_steps-none r
 
 -- ---- exact regions are one reading
 
-pub exact_accepted : (q : LogQueue) (rs : MarkedRegions) (bs : List Batch) → AreExact q rs bs → (r : ℕ) → (t : Option Table) × (after q r None (steps_of r bs) ≡ Some t)
+pub exact_accepted : (q : LogQueue) (rs : MarkedRegions) (bs : List ReadBatch) → AreExact q rs bs → (r : ℕ) → (t : Option Table) × (after q r None (steps_of r bs) ≡ Some t)
 exact_accepted q rs bs ex r = (finite.get rs.tables r, stands_alone q r (region_in rs r).mark (region_in rs r).table (steps_of r bs) (ex.each r).stands)
 
-pub exact_reading : (q : LogQueue) (rs : MarkedRegions) (bs : List Batch) → AreExact q rs bs → (r : ℕ) → after q r None (steps_of r bs) ≡ Some (finite.get rs.tables r)
+pub exact_reading : (q : LogQueue) (rs : MarkedRegions) (bs : List ReadBatch) → AreExact q rs bs → (r : ℕ) → after q r None (steps_of r bs) ≡ Some (finite.get rs.tables r)
 exact_reading q rs bs ex r = stands_alone q r (region_in rs r).mark (region_in rs r).table (steps_of r bs) (ex.each r).stands
 
 -- without a batch the queue doesn't matter
@@ -151,7 +151,7 @@ pub regions_stand : (q : LogQueue) (c d : Context) (h k : List Event) (rs : Mark
 regions_stand q c d h k rs m f is = record {
   files = ap (λ p. joined_files p d.files) m.older.files ∙ ap (joined_files (files_of h)) m.newer.files ∙ sym (files_of-append h k);
   groups = ap (λ g. joined_groups g d.groups) m.older.groups ∙ ap (joined_groups (groups_in (batches h))) m.newer.groups ∙ sym (groups_in-append (batches h) (batches k)) ∙ ap groups_in (sym (batches-append h k));
-  few = subst (IsBounded (merged_with c d rs)) (sym (size-append h k)) (merged_bounded q c d rs (size_of h) (size_of k) m.older.few m.newer.few is);
+  few = subst (IsBounded (merged_with c d rs)) (sym (size-append h k)) (merged_bounded q c d rs (records_in_history h) (records_in_history k) m.older.few m.newer.few is);
   stands = λ p u. by p (both_none q p c.files d.files m.older_suits m.newer_suits u);
 }
   where
@@ -190,7 +190,7 @@ no_both a b = cc
 in_order : (q : LogQueue) (c d : Context) (h k : List Event) → Merges q c d h k → Sound (h ++ k) → follows c.files d.files ≡ true
 in_order q c d h k m sound = ap (λ p. follows p d.files) m.older.files ∙ ap (follows (files_of h)) m.newer.files ∙ follow_files sound.queue h k sound.sound.files
 
-pub regions_unsound : (q : LogQueue) (c d : Context) (h k : List Event) → Merges q c d h k → AreRefused q c d → Sound (h ++ k) → ⊥
+pub regions_unsound : (q : LogQueue) (c d : Context) (h k : List Event) → Merges q c d h k → AreRegionsRefused q c d → Sound (h ++ k) → ⊥
 regions_unsound q c d h k m refused sound = by_queue q m refused suits
   where
     suits : Suits q (files_of (h ++ k))
@@ -201,7 +201,7 @@ regions_unsound q c d h k m refused sound = by_queue q m refused suits
         joined (Some x) None s t = s
         joined (Some x) (Some y) s t = s
 
-    by_append : Merges Append c d h k → AreRefused Append c d → Suits Append (files_of (h ++ k)) → ⊥
+    by_append : Merges Append c d h k → AreRegionsRefused Append c d → Suits Append (files_of (h ++ k)) → ⊥
     by_append m ref u =
         let f = regions_refused Append c d h k (parts Append c d h k m ((m.older.stands Append m.older_suits).append refl) ((m.newer.stands Append m.newer_suits).append refl) (append_apart 0 (h ++ k) (both_files Append c d h k m (in_order Append c d h k m sound)))) ref in
         at f.0 f.1 (sound_queue Append sound.queue (h ++ k) sound.sound.files u)
@@ -210,7 +210,7 @@ regions_unsound q c d h k m refused sound = by_queue q m refused suits
         at r e (inl n) = no_both (sym (ap (λ l. after Append r None (steps_of r (batches l))) n ∙ ap (after Append r None) (no_steps r)) ∙ e) refl
         at r e (inr p) = no_both (ap (λ q. after q r None (steps_of r (batches (h ++ k)))) p ∙ e) (sound.sound.accepted r).1
 
-    by_queue : (q : LogQueue) → Merges q c d h k → AreRefused q c d → Suits q (files_of (h ++ k)) → ⊥
+    by_queue : (q : LogQueue) → Merges q c d h k → AreRegionsRefused q c d → Suits q (files_of (h ++ k)) → ⊥
     by_queue Append m ref u = by_append m ref u
     by_queue Rewrite m ref u = rewrite_refused c d ref
 

@@ -7,7 +7,7 @@ use Rattle.std.specs.Prelude.{flat_map, filter_map}
 use Rattle.std.specs.List.{AllByRecursion, list_any, IsDistinct, cons_option}
 use Rattle.raft_records.specs.declared.atomic_group.AtomicGroupStatus.{AtomicGroupStatus}
 use Rattle.raft_records.specs.declared.atomic_group.AtomicGroupStatus.TheVariants.{Begin, Middle, End}
-use Rattle.raft_history.specs.Batches.{GroupMarker, Batch}
+use Rattle.raft_history.specs.Batches.{GroupMarker, ReadBatch}
 use Rattle.raft_history.specs.Effects.{Effect, completed, effects_behind, whole_steps, region_steps_in, steps_by, steps_in, all_steps, first_in, last_in, IsGroup, Names, EachApart, steps_of_wholes, IsListed, ListsGroups}
 use Rattle.raft_history.specs.RegionSteps.{RegionStep, names}
 use Rattle.raft_history.specs.WaitingGroup.{Placed, placed_from, is_of, markers_of, are_middles, open_stretch, region_steps_of, GroupFront, Open, Ended, Cut, led_by, front_by, front_of, OpenStretch, stretch_of, group_of, WholeGroup, whole_of, whole_group}
@@ -273,17 +273,17 @@ all_given_none r [] olds = refl
 all_given_none r (g ∷ ids) olds = rw (given_none r olds g) (all_given_none r ids olds)
 
 -- the effects behind a cut are those of the newer batches alone, and before them the groups that become whole_group
-record Holds (r n : ℕ) (ids : List ℕ) (olds : List Placed) (h : List Batch) : Type 0 where
+record Holds (r n : ℕ) (ids : List ℕ) (olds : List Placed) (h : List ReadBatch) : Type 0 where
   steps : ListsGroups ids h → EachApart (effects_behind olds (placed_from n h)) → all_steps r (effects_behind olds (placed_from n h)) ≡ all_given r ids olds (placed_from n h) ++ all_steps r (effects_behind [] (placed_from n h))
 
-pub behind_cut : (r n : ℕ) (ids : List ℕ) (olds : List Placed) → AllByRecursion (λ q. q.number < n) olds → IsDistinct eqb ids → (h : List Batch) → ListsGroups ids h → EachApart (effects_behind olds (placed_from n h)) →
+pub behind_cut : (r n : ℕ) (ids : List ℕ) (olds : List Placed) → AllByRecursion (λ q. q.number < n) olds → IsDistinct eqb ids → (h : List ReadBatch) → ListsGroups ids h → EachApart (effects_behind olds (placed_from n h)) →
     all_steps r (effects_behind olds (placed_from n h)) ≡ all_given r ids olds (placed_from n h) ++ all_steps r (effects_behind [] (placed_from n h))
 behind_cut r n ids olds below one h = (by_push (Holds r n ids olds) none more h).steps
   where
     none : Holds r n ids olds []
     none = record { steps = λ listed apart. rw (all_given_none r ids olds, effects_behind-none olds, effects_behind-none []) refl }
 
-    more : (k : List Batch) (b : Batch) → Holds r n ids olds k → Holds r n ids olds (k ++ b ∷ [])
+    more : (k : List ReadBatch) (b : ReadBatch) → Holds r n ids olds k → Holds r n ids olds (k ++ b ∷ [])
     more k b ih = record {
       steps = λ listed. rw (placed_from-append n k (b ∷ []))
           (go (placed_from n k) record { number = n + length k; batch = b } (from_on n k) (up_to n (n + length k) k (omega arith)) (each_weaker (λ q. q.number < n) (λ q. q.number < n + length k) (λ q h. omega arith) olds below)

@@ -5,7 +5,7 @@ use Rattle.std.proofs.lemmas.List.Concat.{flat_map-append}
 use Rattle.std.proofs.lemmas.Bool.{eqb-true}
 use Rattle.raft_records.specs.declared.atomic_group.AtomicGroupStatus.{AtomicGroupStatus}
 use Rattle.raft_records.specs.declared.atomic_group.AtomicGroupStatus.TheVariants.{Begin, Middle, End}
-use Rattle.raft_history.specs.Batches.{GroupMarker, Batch}
+use Rattle.raft_history.specs.Batches.{GroupMarker, ReadBatch}
 use Rattle.raft_history.specs.Effects.{Effect, effects, region_steps_in, first_in, last_in, IsGroup, AreApart, EachApart, BatchesApart, group_in}
 use Rattle.raft_history.specs.RegionSteps.{RegionStep, names}
 use Rattle.raft_history.specs.Stretches.{IsIn, IsMarkerOf}
@@ -64,7 +64,7 @@ ended_is g (p ∷ ps) is f h e = go p.batch.marker refl h.0 e (ended_is g ps)
         at End m e = record { middles = []; end = p; behind = ps; split = refl; goes_on = tt; ends = m; steps = ended_items p.batch.steps is p.batch.file f e; file = ended_file p.batch.steps is p.batch.file f e }
 
 -- the effect of a group that the cut divides
-record IsAcross (h k : List Batch) (g : ℕ) (w : WholeGroup) : Type 0 where
+record IsAcross (h k : List ReadBatch) (g : ℕ) (w : WholeGroup) : Type 0 where
   effect : Effect
   stands : IsIn effect (effects (h ++ k))
   steps : region_steps_in effect ≡ w.steps
@@ -73,7 +73,7 @@ record IsAcross (h k : List Batch) (g : ℕ) (w : WholeGroup) : Type 0 where
   last : length h ≤ last_in effect
   ends : IsMarkerOf g End effect.last
 
-across : (h k : List Batch) (g : ℕ) (w : WholeGroup) → whole_group (group_in g h) (group_in g k) ≡ Some w → IsAcross h k g w
+across : (h k : List ReadBatch) (g : ℕ) (w : WholeGroup) → whole_group (group_in g h) (group_in g k) ≡ Some w → IsAcross h k g w
 across h k g w e = go (open_stretch (markers_of g (placed_from 0 h))) refl (front_of (markers_of g (placed_from (0 + length h) k))) refl
     (ap (whole_of (stretch_of (open_stretch (markers_of g (placed_from 0 h))))) (ap (λ x. x.front) (group_of-placed (0 + length h) g k)) ∙ sym (whole_is (markers_of g (placed_from 0 h)) (group_in g k).front) ∙ e)
   where
@@ -150,7 +150,7 @@ apart_any e f (x ∷ xs) other h i j = go (head_or_tail e x xs i) (head_or_tail 
     go (inr a) (inl b) ih = inr (subst (λ z. AreApart z e) b (each_in (AreApart x) e xs h.0 a))
     go (inr a) (inr b) ih = ih a b
 
-pub wholes_differ : (h k : List Batch) → BatchesApart (h ++ k) → (g l : ℕ) → (g ≡ l → ⊥) → (w v : WholeGroup) → whole_group (group_in g h) (group_in g k) ≡ Some w → whole_group (group_in l h) (group_in l k) ≡ Some v → (r : ℕ) → names r w.steps ≡ true → names r v.steps ≡ true → ⊥
+pub wholes_differ : (h k : List ReadBatch) → BatchesApart (h ++ k) → (g l : ℕ) → (g ≡ l → ⊥) → (w v : WholeGroup) → whole_group (group_in g h) (group_in g k) ≡ Some w → whole_group (group_in l h) (group_in l k) ≡ Some v → (r : ℕ) → names r w.steps ≡ true → names r v.steps ≡ true → ⊥
 wholes_differ h k apart g l other w v a b r m n = go (apart_any x.effect y.effect (effects (h ++ k)) (λ s. other (same_group g l x.effect.last y.effect.last x.ends y.ends (ap (λ z. z.last) s))) apart.each x.stands y.stands)
   where
     x : IsAcross h k g w

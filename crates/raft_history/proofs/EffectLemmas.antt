@@ -6,7 +6,7 @@ use Rattle.std.specs.Prelude.{filter, map}
 use Rattle.std.specs.List.{AllByRecursion, list_any}
 use Rattle.raft_records.specs.declared.atomic_group.AtomicGroupStatus.{AtomicGroupStatus}
 use Rattle.raft_records.specs.declared.atomic_group.AtomicGroupStatus.TheVariants.{Begin, Middle, End}
-use Rattle.raft_history.specs.Batches.{GroupMarker, Batch}
+use Rattle.raft_history.specs.Batches.{GroupMarker, ReadBatch}
 use Rattle.raft_history.specs.Effects.{Effect, ended, completed_as, completed_by, completed, effects_behind, whole_steps, region_steps_in, steps_by, steps_in, all_steps, first_in, last_in, IsGroup, Names, AreApart, EachApart}
 use Rattle.raft_history.specs.RegionSteps.{RegionStep, is_on, names, steps_on}
 use Rattle.raft_history.specs.WaitingGroup.{begins, Placed, placed_from, is_of, markers_of, are_middles, open_stretch, region_steps_of, WholeGroup}
@@ -58,15 +58,15 @@ by_push {X} P none more xs = go [] xs none
     go done (x ∷ todo) h = subst P (append_assoc done (x ∷ []) todo) (go (done ++ x ∷ []) todo (more done x h))
 
 -- numbers
-pub placed_from-append : (n : ℕ) (h k : List Batch) → placed_from n (h ++ k) ≡ placed_from n h ++ placed_from (n + length h) k
+pub placed_from-append : (n : ℕ) (h k : List ReadBatch) → placed_from n (h ++ k) ≡ placed_from n h ++ placed_from (n + length h) k
 placed_from-append n [] k = ap (λ x. placed_from x k) (omega arith)
 placed_from-append n (b ∷ bs) k = ap (λ l. record { number = n; batch = b } ∷ l) (placed_from-append (suc n) bs k ∙ ap (λ x. placed_from (suc n) bs ++ placed_from x k) (omega arith))
 
-pub from_on : (n : ℕ) (h : List Batch) → AllByRecursion (λ p. n ≤ p.number) (placed_from n h)
+pub from_on : (n : ℕ) (h : List ReadBatch) → AllByRecursion (λ p. n ≤ p.number) (placed_from n h)
 from_on n [] = tt
 from_on n (b ∷ bs) = (omega arith, each_weaker (λ p. suc n ≤ p.number) (λ p. n ≤ p.number) (λ p k. omega arith) (placed_from (suc n) bs) (from_on (suc n) bs))
 
-pub up_to : (n m : ℕ) (h : List Batch) → n + length h ≤ m → AllByRecursion (λ p. p.number < m) (placed_from n h)
+pub up_to : (n m : ℕ) (h : List ReadBatch) → n + length h ≤ m → AllByRecursion (λ p. p.number < m) (placed_from n h)
 up_to n m [] e = tt
 up_to n m (b ∷ bs) e = (omega arith, up_to (suc n) m bs (omega arith))
 

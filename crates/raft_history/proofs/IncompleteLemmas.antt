@@ -7,7 +7,7 @@ use Rattle.std.proofs.lemmas.List.Elements.{filter-append}
 use Rattle.raft_records.specs.declared.atomic_group.AtomicGroupStatus.{AtomicGroupStatus}
 use Rattle.raft_records.specs.declared.atomic_group.AtomicGroupStatus.TheVariants.{Begin, Middle, End}
 use Rattle.raft_table.specs.Steps.{Step}
-use Rattle.raft_history.specs.Batches.{GroupMarker, Batch}
+use Rattle.raft_history.specs.Batches.{GroupMarker, ReadBatch}
 use Rattle.raft_history.specs.Effects.{Effect, ended, completed_as, completed_by, completed, effects_behind, effects, steps_by, steps_in, whole_steps, all_steps, steps_of, EndsNoEffect, without_group}
 use Rattle.raft_history.specs.RegionSteps.{RegionStep, steps_on, names}
 use Rattle.raft_history.specs.WaitingGroup.{Placed, placed_from, is_of, markers_of, begins, goes_on, are_middles, open_stretch, region_steps_of}
@@ -99,7 +99,7 @@ unfolding markers_of
 same_markers g [] [] h = tt
 same_markers g [] (q ∷ qs) h = absurd h
 same_markers g (p ∷ ps) [] h = absurd h
-same_markers g (p ∷ ps) (q ∷ qs) h = go (is_of g p.batch.marker) (is_of g q.batch.marker) (ap (λ (b : Batch). is_of g b.marker) h.0) (same_markers g ps qs h.1)
+same_markers g (p ∷ ps) (q ∷ qs) h = go (is_of g p.batch.marker) (is_of g q.batch.marker) (ap (λ (b : ReadBatch). is_of g b.marker) h.0) (same_markers g ps qs h.1)
   where
     go : (a b : Bool) → a ≡ b → SameBatches (filter (λ p. is_of g p.batch.marker) ps) (filter (λ p. is_of g p.batch.marker) qs)
         → SameBatches (cond a (p ∷ filter (λ p. is_of g p.batch.marker) ps) (filter (λ p. is_of g p.batch.marker) ps)) (cond b (q ∷ filter (λ p. is_of g p.batch.marker) qs) (filter (λ p. is_of g p.batch.marker) qs))
@@ -113,14 +113,14 @@ unfolding are_middles
 same_middles [] [] h = refl
 same_middles [] (q ∷ qs) h = absurd h
 same_middles (p ∷ ps) [] h = absurd h
-same_middles (p ∷ ps) (q ∷ qs) h = ap (λ (b : Batch). goes_on b.marker && are_middles ps) h.0 ∙ ap (λ b. goes_on q.batch.marker && b) (same_middles ps qs h.1)
+same_middles (p ∷ ps) (q ∷ qs) h = ap (λ (b : ReadBatch). goes_on b.marker && are_middles ps) h.0 ∙ ap (λ b. goes_on q.batch.marker && b) (same_middles ps qs h.1)
 
 same_stretch : (ps qs : List Placed) → SameBatches ps qs → SameBatches (open_stretch ps) (open_stretch qs)
 unfolding open_stretch
 same_stretch [] [] h = tt
 same_stretch [] (q ∷ qs) h = absurd h
 same_stretch (p ∷ ps) [] h = absurd h
-same_stretch (p ∷ ps) (q ∷ qs) h = go (begins p.batch.marker && are_middles ps) (begins q.batch.marker && are_middles qs) (ap (λ (b : Batch). begins b.marker && are_middles ps) h.0 ∙ ap (λ b. begins q.batch.marker && b) (same_middles ps qs h.1)) (same_stretch ps qs h.1)
+same_stretch (p ∷ ps) (q ∷ qs) h = go (begins p.batch.marker && are_middles ps) (begins q.batch.marker && are_middles qs) (ap (λ (b : ReadBatch). begins b.marker && are_middles ps) h.0 ∙ ap (λ b. begins q.batch.marker && b) (same_middles ps qs h.1)) (same_stretch ps qs h.1)
   where
     go : (a b : Bool) → a ≡ b → SameBatches (open_stretch ps) (open_stretch qs) → SameBatches (cond a (p ∷ ps) (open_stretch ps)) (cond b (q ∷ qs) (open_stretch qs))
     go true true e k = h
@@ -132,20 +132,20 @@ same_region_steps : (ps qs : List Placed) → SameBatches ps qs → region_steps
 same_region_steps [] [] h = refl
 same_region_steps [] (q ∷ qs) h = absurd h
 same_region_steps (p ∷ ps) [] h = absurd h
-same_region_steps (p ∷ ps) (q ∷ qs) h = ap (λ (b : Batch). b.steps ++ region_steps_of ps) h.0 ∙ ap (λ l. q.batch.steps ++ l) (same_region_steps ps qs h.1)
+same_region_steps (p ∷ ps) (q ∷ qs) h = ap (λ (b : ReadBatch). b.steps ++ region_steps_of ps) h.0 ∙ ap (λ l. q.batch.steps ++ l) (same_region_steps ps qs h.1)
 
 same_steps : (r : ℕ) (ps qs : List Placed) (p q : Placed) → SameBatches ps qs → p.batch ≡ q.batch → steps_by r ps p ≡ steps_by r qs q
-same_steps r [] [] p q h e = ap (λ (b : Batch). steps_on r b.steps) e
+same_steps r [] [] p q h e = ap (λ (b : ReadBatch). steps_on r b.steps) e
 same_steps r [] (y ∷ qs) p q h e = absurd h
 same_steps r (x ∷ ps) [] p q h e = absurd h
 same_steps r (x ∷ ps) (y ∷ qs) p q h e =
-    ap (λ (b : Batch). whole_steps r record { steps = region_steps_of (x ∷ ps) ++ b.steps; start = x.batch.file; end = b.file }) e
+    ap (λ (b : ReadBatch). whole_steps r record { steps = region_steps_of (x ∷ ps) ++ b.steps; start = x.batch.file; end = b.file }) e
     ∙ ap (λ l. whole_steps r record { steps = l ++ q.batch.steps; start = x.batch.file; end = q.batch.file }) (same_region_steps (x ∷ ps) (y ∷ qs) h)
-    ∙ ap (λ (b : Batch). whole_steps r record { steps = region_steps_of (y ∷ qs) ++ q.batch.steps; start = b.file; end = q.batch.file }) h.0
+    ∙ ap (λ (b : ReadBatch). whole_steps r record { steps = region_steps_of (y ∷ qs) ++ q.batch.steps; start = b.file; end = q.batch.file }) h.0
 
 same_completed : (r : ℕ) (olds news : List Placed) (p q : Placed) → SameBatches olds news → p.batch ≡ q.batch → all_steps r (completed olds p) ≡ all_steps r (completed news q)
 unfolding all_steps
-same_completed r olds news p q h e = go p.batch.marker q.batch.marker (ap (λ (b : Batch). b.marker) e)
+same_completed r olds news p q h e = go p.batch.marker q.batch.marker (ap (λ (b : ReadBatch). b.marker) e)
   where
     at : (ps qs : List Placed) → SameBatches ps qs → flat_map (steps_in r) (ended ps p) ≡ flat_map (steps_in r) (ended qs q)
     at [] [] k = refl
@@ -174,7 +174,7 @@ same_effects r olds news (p ∷ ps) (q ∷ qs) h k =
     all_steps-append r (completed olds p) (effects_behind (olds ++ p ∷ []) ps) ∙ ap (λ l. l ++ all_steps r (effects_behind (olds ++ p ∷ []) ps)) (same_completed r olds news p q h k.0)
     ∙ ap (λ l. all_steps r (completed news q) ++ l) (same_effects r (olds ++ p ∷ []) (news ++ q ∷ []) ps qs (same-append olds news (p ∷ []) (q ∷ []) h (k.0, tt)) k.1) ∙ sym (all_steps-append r (completed news q) (effects_behind (news ++ q ∷ []) qs))
 
-placed_others : (g n m : ℕ) (h : List Batch) → SameBatches (placed_from n (without_group g h)) (others g (placed_from m h))
+placed_others : (g n m : ℕ) (h : List ReadBatch) → SameBatches (placed_from n (without_group g h)) (others g (placed_from m h))
 unfolding without_group others
 placed_others g n m [] = tt
 placed_others g n m (b ∷ h) = go (is_of g b.marker) (λ n. placed_others g n (suc m) h)
@@ -184,6 +184,6 @@ placed_others g n m (b ∷ h) = go (is_of g b.marker) (λ n. placed_others g n (
     go true ih = ih n
     go false ih = (refl, ih (suc n))
 
-pub incomplete_changes_nothing : (g : ℕ) (h : List Batch) → EndsNoEffect g h → (r : ℕ) → steps_of r (without_group g h) ≡ steps_of r h
+pub incomplete_changes_nothing : (g : ℕ) (h : List ReadBatch) → EndsNoEffect g h → (r : ℕ) → steps_of r (without_group g h) ≡ steps_of r h
 unfolding others
 incomplete_changes_nothing g h n r = same_effects r [] [] (placed_from 0 (without_group g h)) (others g (placed_from 0 h)) tt (placed_others g 0 0 h) ∙ ap (all_steps r) (effects_same g [] (placed_from 0 h) n)

@@ -10,7 +10,7 @@ use Rattle.raft_base.specs.declared.pipe_log.LogQueue.{LogQueue}
 use Rattle.raft_table.specs.Marks.{Mark}
 use Rattle.raft_table.specs.MarkJoins.{fresh}
 use Rattle.raft_table.specs.Table.{Table}
-use Rattle.raft_history.specs.Contexts.{Context, AreMerged, AreRefused, merged_regions}
+use Rattle.raft_history.specs.Contexts.{Context, AreMerged, AreRegionsRefused, merged_regions}
 use Rattle.raft_history.specs.MarkedRegions.{MarkedRegions, MarkedRegion, region_in, with_region, joined_region, joined_marked, joined_each, joined_regions, regions_after, region_steps_of_wholes}
 use Rattle.raft_history.specs.RegionSteps.{Tables}
 use Rattle.raft_history.specs.WaitingGroups.{whole_groups}
@@ -100,10 +100,10 @@ merged_are q c d new e = go (regions_after q c.regions (region_steps_of_wholes (
       marked = λ r. each_marked q d.regions.tables middle new (finite.entries d.regions.marks) e r ∙ ap (λ o. is_some (finite.get middle.marks r) || is_some o) (sym (finite.get-entries d.regions.marks r));
     }
 
-pub merged_refused : (q : LogQueue) (c d : Context) → merged_regions q c d ≡ None → AreRefused q c d
+pub merged_refused : (q : LogQueue) (c d : Context) → merged_regions q c d ≡ None → AreRegionsRefused q c d
 merged_refused q c d e = go (regions_after q c.regions (region_steps_of_wholes (whole_groups c.groups d.groups))) refl e
   where
-    go : (o : Option MarkedRegions) → regions_after q c.regions (region_steps_of_wholes (whole_groups c.groups d.groups)) ≡ o → option_and_then (λ middle. joined_regions q middle d.regions) o ≡ None → AreRefused q c d
+    go : (o : Option MarkedRegions) → regions_after q c.regions (region_steps_of_wholes (whole_groups c.groups d.groups)) ≡ o → option_and_then (λ middle. joined_regions q middle d.regions) o ≡ None → AreRegionsRefused q c d
     go None is e = inl is
     go (Some middle) is e = let p = each_refused q d.regions.tables middle (finite.entries d.regions.marks) (keys_distinct (finite.entries d.regions.marks) (finite.entries_sorted d.regions.marks)) e in
         inr (middle, is, (p.0, ap (λ o. joined_marked q p.0 o (finite.get d.regions.tables p.0) (region_in middle p.0)) (finite.get-entries d.regions.marks p.0) ∙ p.1))

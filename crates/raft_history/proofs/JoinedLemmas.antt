@@ -5,7 +5,7 @@ use Rattle.std.proofs.lemmas.List.{append-nil}
 use Rattle.std.specs.List.{AllByRecursion, IsDistinct}
 use Rattle.raft_records.specs.declared.atomic_group.AtomicGroupStatus.{AtomicGroupStatus}
 use Rattle.raft_records.specs.declared.atomic_group.AtomicGroupStatus.TheVariants.{Begin, Middle, End}
-use Rattle.raft_history.specs.Batches.{GroupMarker, Batch}
+use Rattle.raft_history.specs.Batches.{GroupMarker, ReadBatch}
 use Rattle.raft_history.specs.Effects.{Effect, ended, completed_as, completed_by, completed, effects_behind, effects, all_steps, steps_of, AreApart, EachApart, BatchesApart, group_in, wholes, steps_of_wholes, ListsGroups}
 use Rattle.raft_history.specs.WaitingGroup.{Placed, placed_from, markers_of, are_middles, open_stretch, group_of, WholeGroup, whole_group, joined_group}
 use Rattle.raft_history.proofs.CutLemmas.{given_wholes, behind_cut, wholes_at}
@@ -13,17 +13,17 @@ use Rattle.raft_history.proofs.EffectLemmas.{each-append, each_left, each_right,
 use Rattle.raft_history.proofs.MarkerLemmas.{markers_of-append, open_stretch-append, middles_open_none, group_of-append}
 use Rattle.raft_history.proofs.ShiftLemmas.{group_of-placed, effects-placed, steps-placed, each_apart-moved}
 
-pub group_in-append : (g : ℕ) (h k : List Batch) → group_in g (h ++ k) ≡ joined_group (group_in g h) (group_in g k)
+pub group_in-append : (g : ℕ) (h k : List ReadBatch) → group_in g (h ++ k) ≡ joined_group (group_in g h) (group_in g k)
 group_in-append g h k = ap (group_of g) (placed_from-append 0 h k) ∙ group_of-append g (placed_from 0 h) (placed_from (0 + length h) k) ∙ ap (joined_group (group_in g h)) (group_of-placed (0 + length h) g k)
 
-pub effects-append : (h k : List Batch) → effects (h ++ k) ≡ effects h ++ effects_behind (placed_from 0 h) (placed_from (length h) k)
+pub effects-append : (h k : List ReadBatch) → effects (h ++ k) ≡ effects h ++ effects_behind (placed_from 0 h) (placed_from (length h) k)
 effects-append h k = ap (effects_behind []) (placed_from-append 0 h k) ∙ effects_behind-append [] (placed_from 0 h) (placed_from (0 + length h) k) ∙ ap (λ x. effects h ++ effects_behind (placed_from 0 h) (placed_from x k)) (omega arith)
 
 -- the same groups become whole_group, wherever the newer batches are numbered from
-wholes-placed : (ids : List ℕ) (h k : List Batch) (n : ℕ) → wholes_at ids (placed_from 0 h) (placed_from n k) ≡ wholes ids h k
+wholes-placed : (ids : List ℕ) (h k : List ReadBatch) (n : ℕ) → wholes_at ids (placed_from 0 h) (placed_from n k) ≡ wholes ids h k
 wholes-placed ids h k n = ap (λ (f : ℕ → Option WholeGroup). filter_map f ids) (λ j g. whole_group (group_in g h) (group_of-placed n g k j))
 
-pub joined_steps : (r : ℕ) (ids : List ℕ) (h k : List Batch) → IsDistinct eqb ids → ListsGroups ids k → BatchesApart (h ++ k) → steps_of r (h ++ k) ≡ steps_of r h ++ (steps_of_wholes r (wholes ids h k) ++ steps_of r k)
+pub joined_steps : (r : ℕ) (ids : List ℕ) (h k : List ReadBatch) → IsDistinct eqb ids → ListsGroups ids k → BatchesApart (h ++ k) → steps_of r (h ++ k) ≡ steps_of r h ++ (steps_of_wholes r (wholes ids h k) ++ steps_of r k)
 joined_steps r ids h k one listed apart =
     ap (all_steps r) (effects-append h k) ∙ all_steps-append r (effects h) (effects_behind (placed_from 0 h) (placed_from (length h) k))
     ∙ ap (λ l. steps_of r h ++ l) (behind_cut r (length h) ids (placed_from 0 h) (up_to 0 (length h) h (omega arith)) one k listed (apart_right (effects h) _ (subst EachApart (effects-append h k) apart.each))
@@ -31,7 +31,7 @@ joined_steps r ids h k one listed apart =
     ∙ ap (λ l. steps_of_wholes r (wholes ids h k) ++ l) (steps-placed r (length h) k))
 
 -- stretches of an apart history are apart
-pub apart_front : (h k : List Batch) → BatchesApart (h ++ k) → BatchesApart h
+pub apart_front : (h k : List ReadBatch) → BatchesApart (h ++ k) → BatchesApart h
 apart_front h k apart = record { each = apart_left (effects h) (effects_behind (placed_from 0 h) (placed_from (length h) k)) (subst EachApart (effects-append h k) apart.each) }
 
 -- what a batch completes behind some batches it completes behind more, or it completes nothing there
@@ -78,7 +78,7 @@ apart_behind olds news (p ∷ ps) h = first (kept_or_none olds news p) (apart_be
     first (inl e) rest = apart_fewer (completed news p) (effects_behind (olds ++ (news ++ p ∷ [])) ps) (effects_behind (news ++ p ∷ []) ps) (λ x. each_behind (AreApart x) olds (news ++ p ∷ []) ps) rest
         (subst (λ l. EachApart (l ++ effects_behind (olds ++ (news ++ p ∷ [])) ps)) e (subst (λ l. EachApart (completed (olds ++ news) p ++ l)) same h))
 
-pub apart_back : (h k : List Batch) → BatchesApart (h ++ k) → BatchesApart k
+pub apart_back : (h k : List ReadBatch) → BatchesApart (h ++ k) → BatchesApart k
 apart_back h k apart = record {
   each = each_apart-moved (length h) (effects k) (subst EachApart (effects-placed (length h) k) (apart_behind (placed_from 0 h) [] (placed_from (length h) k)
       (subst (λ l. EachApart (effects_behind l (placed_from (length h) k))) (sym (append-nil (placed_from 0 h))) (apart_right (effects h) (effects_behind (placed_from 0 h) (placed_from (length h) k)) (subst EachApart (effects-append h k) apart.each)))));

@@ -8,13 +8,13 @@ use Rattle.raft_base.specs.declared.pipe_log.LogQueue.{LogQueue}
 use Rattle.raft_base.specs.declared.pipe_log.LogQueue.TheVariants.{Append, Rewrite}
 use Rattle.raft_records.specs.declared.entry_index.EntryIndex.{EntryIndex}
 use Rattle.raft_table.specs.Marks.{Mark, Stands, applied, table_over, is_there_over}
-use Rattle.raft_table.specs.MarkJoins.{joined, fresh, mark_of}
+use Rattle.raft_table.specs.MarkJoins.{joined_mark, fresh, mark_of}
 use Rattle.raft_table.specs.Steps.{Step, Run, Compact, Put, Del, AtomicGroup, Clean, AreSteps, stepped, is_there_after, there_if, after_step, after, table_of}
 use Rattle.raft_table.specs.Start.{replayed}
 use Rattle.raft_table.specs.Table.{Table, table_with_entries}
 use Rattle.raft_table.proofs.MarkLaws.{refused_join, stands_alone}
-use Rattle.raft_history.specs.Batches.{GroupMarker, Batch, Event, batch_of, batches}
-use Rattle.raft_history.specs.Contexts.{Context, Holds, AreExact, AreMerged, AreRefused, region_steps_or, completed_steps}
+use Rattle.raft_history.specs.Batches.{GroupMarker, ReadBatch, Event, batch_of, batches}
+use Rattle.raft_history.specs.Contexts.{Context, Holds, AreExact, AreMerged, AreRegionsRefused, region_steps_or, completed_steps}
 use Rattle.raft_history.specs.Effects.{BatchesApart, steps_of, steps_of_wholes, is_named}
 use Rattle.raft_history.specs.Histories.{AreInFiles}
 use Rattle.raft_history.specs.MarkedRegions.{MarkedRegions, MarkedRegion, region_in, with_region, stepped_region, regions_after, region_steps_of_wholes, joined_region, joined_marked}
@@ -40,11 +40,11 @@ refused_marked : (q : LogQueue) (r : ℕ) (x : MarkedRegion) (o : Option Mark) (
 refused_marked q r x None t ss rs h k e = absurd cc
 refused_marked q r x (Some m) t ss rs h k e = go (applied q r m t x.table) refl e
   where
-    go : (o : Option (Option Table)) → applied q r m t x.table ≡ o → option_map {U = MarkedRegion} (λ t. record { mark = joined q r x.mark x.table m; table = t }) o ≡ None → after q r None (ss ++ rs) ≡ None
+    go : (o : Option (Option Table)) → applied q r m t x.table ≡ o → option_map {U = MarkedRegion} (λ t. record { mark = joined_mark q r x.mark x.table m; table = t }) o ≡ None → after q r None (ss ++ rs) ≡ None
     go None is e = refused_join q r x.mark m x.table t ss rs h.stands k.stands is
     go (Some w) is e = absurd cc
 
-unnamed : (q : LogQueue) (rs : MarkedRegions) (bs : List Batch) → AreExact q rs bs → (r : ℕ) → finite.get rs.marks r ≡ None → steps_of r bs ≡ []
+unnamed : (q : LogQueue) (rs : MarkedRegions) (bs : List ReadBatch) → AreExact q rs bs → (r : ℕ) → finite.get rs.marks r ≡ None → steps_of r bs ≡ []
 unnamed q rs bs ex r e = (named-steps r bs).0 (sym (ex.marked r) ∙ ap is_some e)
 
 names_wholes : (r : ℕ) (ws : List WholeGroup) → names r (region_steps_of_wholes ws) ≡ list_any (λ w. names r w.steps) ws
@@ -97,7 +97,7 @@ regions_merged q c d h k new p m = record { each = each; marked = marked }
         ∙ sym (named_across r (batches h) (batches k) (subst BatchesApart (batches-append h k) p.apart)) ∙ ap (is_named r) (sym (batches-append h k))
 
 -- where the merge is refused, one reading refuses some region's steps
-pub regions_refused : (q : LogQueue) (c d : Context) (h k : List Event) → Parts q c d h k → AreRefused q c d → (r : ℕ) × (after q r None (steps_of r (batches (h ++ k))) ≡ None)
+pub regions_refused : (q : LogQueue) (c d : Context) (h k : List Event) → Parts q c d h k → AreRegionsRefused q c d → (r : ℕ) × (after q r None (steps_of r (batches (h ++ k))) ≡ None)
 regions_refused q c d h k p (inl e) = let f = read_refused q c.regions (region_steps_of_wholes (whole_groups c.groups d.groups)) (λ r. steps_of r (batches h)) (λ r. steps_good r h p.older_files) (wholes_good q c d h k p) p.older.each e in
     (f.0, ap (after q f.0 None) (across q c d h k p f.0 ∙ sym (append_assoc (steps_of f.0 (batches h)) (steps_on f.0 (region_steps_of_wholes (whole_groups c.groups d.groups))) (steps_of f.0 (batches k)))) ∙ refused_more q f.0 (steps_of f.0 (batches h) ++ steps_on f.0 (region_steps_of_wholes (whole_groups c.groups d.groups))) (steps_of f.0 (batches k)) f.1)
 regions_refused q c d h k p (inr f) = let r = f.2.0 in (
@@ -108,7 +108,7 @@ regions_refused q c d h k p (inr f) = let r = f.2.0 in (
 
 -- ---- one more batch
 
-own-completed : (r : ℕ) (g : WaitingGroups) (b : Batch) (m : Option GroupMarker) → steps_on r (completed_steps g b m) ≡ steps_by_batch r g b m
+own-completed : (r : ℕ) (g : WaitingGroups) (b : ReadBatch) (m : Option GroupMarker) → steps_on r (completed_steps g b m) ≡ steps_by_batch r g b m
 own-completed r g b None = refl
 own-completed r g b (Some m) = go (whole_group (known g m.group) (one_marker m.status b.steps b.file))
   where
@@ -158,9 +158,9 @@ rewrite_after r o (s ∷ ss) = let f = rewrite_step r o s in let g = rewrite_aft
 pub rewrite_read : (rs : MarkedRegions) (is : List RegionStep) → (new : MarkedRegions) × (regions_after Rewrite rs is ≡ Some new)
 rewrite_read rs [] = (rs, refl)
 rewrite_read rs (i ∷ is) = let f = rewrite_step i.region (region_in rs i.region).table i.step in
-    let x : MarkedRegion = record { mark = joined Rewrite i.region (region_in rs i.region).mark (region_in rs i.region).table (mark_of i.step); table = f.0 } in
+    let x : MarkedRegion = record { mark = joined_mark Rewrite i.region (region_in rs i.region).mark (region_in rs i.region).table (mark_of i.step); table = f.0 } in
     let g = rewrite_read (with_region rs i.region x) is in
-    (g.0, ap (λ o. option_and_then (λ x. regions_after Rewrite (with_region rs i.region x) is) (option_map (λ t. record { mark = joined Rewrite i.region (region_in rs i.region).mark (region_in rs i.region).table (mark_of i.step); table = t }) o)) f.1 ∙ g.1)
+    (g.0, ap (λ o. option_and_then (λ x. regions_after Rewrite (with_region rs i.region x) is) (option_map (λ t. record { mark = joined_mark Rewrite i.region (region_in rs i.region).mark (region_in rs i.region).table (mark_of i.step); table = t }) o)) f.1 ∙ g.1)
 
 there_some : (b : Bool) (t : Table) → there_if b (Some t) ≡ None → ⊥
 there_some true t e = cc
@@ -173,11 +173,11 @@ rewrite_marked : (r : ℕ) (o : Option Mark) (t : Option Table) (x : MarkedRegio
 rewrite_marked r None t x e = cc
 rewrite_marked r (Some m) t x e = go (applied Rewrite r m t x.table) refl e
   where
-    go : (o : Option (Option Table)) → applied Rewrite r m t x.table ≡ o → option_map {U = MarkedRegion} (λ t. record { mark = joined Rewrite r x.mark x.table m; table = t }) o ≡ None → ⊥
+    go : (o : Option (Option Table)) → applied Rewrite r m t x.table ≡ o → option_map {U = MarkedRegion} (λ t. record { mark = joined_mark Rewrite r x.mark x.table m; table = t }) o ≡ None → ⊥
     go None is e = rewrite_applied r m t x.table is
     go (Some w) is e = cc
 
-pub rewrite_refused : (c d : Context) → AreRefused Rewrite c d → ⊥
+pub rewrite_refused : (c d : Context) → AreRegionsRefused Rewrite c d → ⊥
 rewrite_refused c d (inl e) = let f = rewrite_read c.regions (region_steps_of_wholes (whole_groups c.groups d.groups)) in no_both e f.1
   where
     no_both : {o : Option MarkedRegions} {n : MarkedRegions} → o ≡ None → o ≡ Some n → ⊥

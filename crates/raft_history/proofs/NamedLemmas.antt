@@ -2,7 +2,7 @@
 use Rattle.std.proofs.Common.{◌≡◌, ℕ, Bool, true, false, cond, ◌||◌, List, [], ◌∷◌, ◌++◌, Option, Some, None, refl, sym, ap, ◌∙◌}
 use Rattle.std.specs.Prelude.{flat_map}
 use Rattle.std.specs.List.{list_any}
-use Rattle.raft_history.specs.Batches.{Batch, GroupMarker}
+use Rattle.raft_history.specs.Batches.{ReadBatch, GroupMarker}
 use Rattle.raft_history.specs.Effects.{whole_steps, steps_of, steps_of_wholes, BatchesApart, is_named}
 use Rattle.raft_history.specs.RegionSteps.{RegionStep, names, steps_on}
 use Rattle.raft_history.specs.WaitingGroup.{WholeGroup, whole_group, one_marker}
@@ -32,7 +32,7 @@ same_test true false f g = g refl
 same_test false true f g = sym (f refl)
 same_test false false f g = refl
 
-pub has_steps-of : (r : ℕ) (h : List Batch) → has_steps (steps_of r h) ≡ is_named r h
+pub has_steps-of : (r : ℕ) (h : List ReadBatch) → has_steps (steps_of r h) ≡ is_named r h
 has_steps-of r h = same_test (has_steps (steps_of r h)) (is_named r h) (λ e. (named-steps r h).1 (no_steps (steps_of r h) e)) (λ e. ap has_steps ((named-steps r h).0 e))
 
 pub has_steps-own : (r : ℕ) (is : List RegionStep) → has_steps (steps_on r is) ≡ names r is
@@ -51,7 +51,7 @@ unfolding steps_of_wholes
 has_steps-wholes r [] = refl
 has_steps-wholes r (w ∷ ws) = has_steps-append (whole_steps r w) (flat_map (whole_steps r) ws) ∙ ap (λ b. b || has_steps (flat_map (whole_steps r) ws)) (has_steps-whole_group r w) ∙ ap (λ b. names r w.steps || b) (has_steps-wholes r ws)
 
-pub named_across : (r : ℕ) (h k : List Batch) → BatchesApart (h ++ k) → is_named r (h ++ k) ≡ (is_named r h || (list_any (λ w. names r w.steps) (whole_groups (groups_in h) (groups_in k)) || is_named r k))
+pub named_across : (r : ℕ) (h k : List ReadBatch) → BatchesApart (h ++ k) → is_named r (h ++ k) ≡ (is_named r h || (list_any (λ w. names r w.steps) (whole_groups (groups_in h) (groups_in k)) || is_named r k))
 named_across r h k apart =
     sym (has_steps-of r (h ++ k)) ∙ ap has_steps (steps_across r h k apart)
     ∙ has_steps-append (steps_of r h) (steps_of_wholes r (whole_groups (groups_in h) (groups_in k)) ++ steps_of r k)
@@ -60,7 +60,7 @@ named_across r h k apart =
     ∙ ap (λ b. is_named r h || (b || has_steps (steps_of r k))) (has_steps-wholes r (whole_groups (groups_in h) (groups_in k)))
     ∙ ap (λ b. is_named r h || (list_any (λ w. names r w.steps) (whole_groups (groups_in h) (groups_in k)) || b)) (has_steps-of r k)
 
-pub by_batch : (r : ℕ) (groups : WaitingGroups) (b : Batch) (m : Option GroupMarker) → has_steps (steps_by_batch r groups b m) ≡ names_by_batch r groups b m
+pub by_batch : (r : ℕ) (groups : WaitingGroups) (b : ReadBatch) (m : Option GroupMarker) → has_steps (steps_by_batch r groups b m) ≡ names_by_batch r groups b m
 by_batch r groups b None = has_steps-own r b.steps
 by_batch r groups b (Some m) = go (whole_group (known groups m.group) (one_marker m.status b.steps b.file))
   where
@@ -68,6 +68,6 @@ by_batch r groups b (Some m) = go (whole_group (known groups m.group) (one_marke
     go None = refl
     go (Some w) = has_steps-whole_group r w
 
-pub named-one : (r : ℕ) (h : List Batch) (b : Batch) → is_named r (h ++ b ∷ []) ≡ (is_named r h || names_by_batch r (groups_in h) b b.marker)
+pub named-one : (r : ℕ) (h : List ReadBatch) (b : ReadBatch) → is_named r (h ++ b ∷ []) ≡ (is_named r h || names_by_batch r (groups_in h) b b.marker)
 named-one r h b = sym (has_steps-of r (h ++ b ∷ [])) ∙ ap has_steps (steps-one r h b) ∙ has_steps-append (steps_of r h) (steps_by_batch r (groups_in h) b b.marker)
     ∙ ap (λ x. x || has_steps (steps_by_batch r (groups_in h) b b.marker)) (has_steps-of r h) ∙ ap (λ x. is_named r h || x) (by_batch r (groups_in h) b b.marker)

@@ -8,12 +8,12 @@ use Rattle.raft_base.specs.declared.pipe_log.LogQueue.{LogQueue}
 use Rattle.raft_table.specs.Steps.{Step, Run, Compact, Put, Del, AtomicGroup, Clean}
 use Rattle.raft_records.specs.declared.atomic_group.AtomicGroupStatus.{AtomicGroupStatus}
 use Rattle.raft_records.specs.declared.atomic_group.AtomicGroupStatus.TheVariants.{Begin, Middle, End}
-use Rattle.raft_history.specs.Batches.{GroupMarker, Batch, Event, batch_of, batches}
+use Rattle.raft_history.specs.Batches.{GroupMarker, ReadBatch, Event, batch_of, batches}
 use Rattle.raft_history.specs.Contexts.{completed_steps, region_steps_or}
 use Rattle.raft_history.specs.Effects.{group_in}
 use Rattle.raft_history.specs.Histories.{IsInFile, AreInFile, AreInFiles, FilesFrom, IsPutIn, IsPairIn, IsStepOfQueue}
 use Rattle.raft_history.specs.MarkedRegions.{named_regions, on_each, region_steps_of_whole, region_steps_of_wholes}
-use Rattle.raft_history.specs.RegionSteps.{RegionStep, put_step, pair_step, step_of, with_step, steps_of_items}
+use Rattle.raft_history.specs.RegionSteps.{RegionStep, put_step, pair_step, content_step, with_step, steps_of_items}
 use Rattle.raft_history.specs.WaitingGroup.{Placed, placed_from, markers_of, open_stretch, region_steps_of, GroupFront, Open, Ended, Cut, led_by, front_by, front_behind, front_of, OpenStretch, stretch_of, WaitingGroup, group_at, WholeGroup, whole_of, whole_group_by, whole_group, one_marker}
 use Rattle.raft_history.specs.WaitingGroups.{WaitingGroups, groups_in, known, whole_with, whole_groups, front_steps, stretch_steps}
 use Rattle.raft_history.proofs.EffectLemmas.{each-append, each_left, each_markers, each_open, each_weaker}
@@ -64,7 +64,7 @@ stretch_are : (q : LogQueue) (ps : List Placed) → AllByRecursion (IsOf q) ps �
 stretch_are q [] h = tt
 stretch_are q (p ∷ ps) h = items_are q (p ∷ ps) h
 
-group_holds : (q : LogQueue) (g : ℕ) (bs : List Batch) → AllByRecursion (IsOf q) (placed_from 0 bs) → Holds q (group_in g bs)
+group_holds : (q : LogQueue) (g : ℕ) (bs : List ReadBatch) → AllByRecursion (IsOf q) (placed_from 0 bs) → Holds q (group_in g bs)
 group_holds q g bs h = (front_are q (markers_of g (placed_from 0 bs)) (each_markers (IsOf q) g (placed_from 0 bs) h), stretch_are q (open_stretch (markers_of g (placed_from 0 bs))) (each_open (IsOf q) (markers_of g (placed_from 0 bs)) (each_markers (IsOf q) g (placed_from 0 bs) h)))
 
 abbrev pub OrAre : LogQueue → Option WholeGroup → Type 0
@@ -89,7 +89,7 @@ spans_are : (q : LogQueue) (rs : List ℕ) (start end : ℕ) → Are q (on_each 
 spans_are q [] s e = tt
 spans_are q (r ∷ rs) s e = (tt, spans_are q rs s e)
 
-step_in_queue : (file : FileId) (content : Content) (s : Step) → IsInFile file content → step_of content ≡ Some s → IsStepOfQueue file.queue s
+step_in_queue : (file : FileId) (content : Content) (s : Step) → IsInFile file content → content_step content ≡ Some s → IsStepOfQueue file.queue s
 step_in_queue file (entries es) s h e = subst (IsStepOfQueue file.queue) (same_some (Run es) s e) h.0
 step_in_queue file (command commands.Clean) s h e = subst (IsStepOfQueue file.queue) (same_some Clean s e) tt
 step_in_queue file (command (commands.Compact index)) s h e = subst (IsStepOfQueue file.queue) (same_some (Compact index) s e) tt
@@ -110,7 +110,7 @@ step_in_queue file (pair p) s h e = go (is_reserved p.key) refl e
 
 items_in_file : (file : FileId) (items : List Item) → AreInFile file items → Are file.queue (steps_of_items items)
 items_in_file file [] h = tt
-items_in_file file (item ∷ items) h = go (step_of item.content) (λ s e. step_in_queue file item.content s h.0 e) (items_in_file file items h.1)
+items_in_file file (item ∷ items) h = go (content_step item.content) (λ s e. step_in_queue file item.content s h.0 e) (items_in_file file items h.1)
   where
     go : (o : Option Step) → ((s : Step) → o ≡ Some s → IsStepOfQueue file.queue s) → Are file.queue (steps_of_items items) → Are file.queue (with_step item.raft_group_id o (steps_of_items items))
     go None each rest = rest

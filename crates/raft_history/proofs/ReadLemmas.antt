@@ -7,7 +7,7 @@ use Rattle.std.specs.FinMap as finite
 use Rattle.raft_base.specs.declared.pipe_log.LogQueue.{LogQueue}
 use Rattle.raft_base.specs.declared.pipe_log.LogQueue.TheVariants.{Append, Rewrite}
 use Rattle.raft_table.specs.Marks.{Mark, Stands, applied}
-use Rattle.raft_table.specs.MarkJoins.{joined, joined_at, met, fresh, mark_of, own_of}
+use Rattle.raft_table.specs.MarkJoins.{joined_mark, joined_at, end_at_reach, fresh, mark_of, own_of}
 use Rattle.raft_table.specs.Overlay.{HoldsDeleted, IsExactMark}
 use Rattle.raft_table.specs.Steps.{Step, AtomicGroup, IsStep, AreSteps, after_step, after, table_of}
 use Rattle.raft_table.specs.Table.{Table}
@@ -66,18 +66,18 @@ holds_none q r x m t = subst (λ x. Holds q r x []) (sym (ap (λ m. record { mar
 pub holds_joined : (q : LogQueue) (r : ℕ) (x n y : MarkedRegion) (ss rs : List Step) → AreSteps ss → AreSteps rs → Holds q r x ss → Holds q r n rs → joined_region q r x n ≡ Some y → Holds q r y (ss ++ rs)
 holds_joined q r x n y ss rs good good' h k e = go (applied q r n.mark n.table x.table) refl e
   where
-    go : (o : Option (Option Table)) → applied q r n.mark n.table x.table ≡ o → option_map (λ t. record { mark = joined q r x.mark x.table n.mark; table = t }) o ≡ Some y → Holds q r y (ss ++ rs)
+    go : (o : Option (Option Table)) → applied q r n.mark n.table x.table ≡ o → option_map (λ t. record { mark = joined_mark q r x.mark x.table n.mark; table = t }) o ≡ Some y → Holds q r y (ss ++ rs)
     go None is e = absurd cc
     go (Some w) is e = subst (λ y. Holds q r y (ss ++ rs)) (some_is e) record {
       stands = stands_join q r x.mark n.mark x.table n.table w ss rs good good' h.stands k.stands is;
-      deleted = (let p = joined_parts q (met n.mark (table_of r x.table)) x.mark n.mark (table_of r x.table).entries h.stands.fits in holds_join x.mark n.mark (joined q r x.mark x.table n.mark) ss rs h.deleted k.deleted p.0 p.1);
-      exact = λ a. subst (λ q. IsExactMark (joined q r x.mark x.table n.mark) (ss ++ rs)) (sym a) (exact_join (met n.mark (table_of r x.table)) x.mark n.mark (table_of r x.table).entries ss rs h.stands.fits (h.exact a) (k.exact a));
+      deleted = (let p = joined_parts q (end_at_reach n.mark (table_of r x.table)) x.mark n.mark (table_of r x.table).entries h.stands.fits in holds_join x.mark n.mark (joined_mark q r x.mark x.table n.mark) ss rs h.deleted k.deleted p.0 p.1);
+      exact = λ a. subst (λ q. IsExactMark (joined_mark q r x.mark x.table n.mark) (ss ++ rs)) (sym a) (exact_join (end_at_reach n.mark (table_of r x.table)) x.mark n.mark (table_of r x.table).entries ss rs h.stands.fits (h.exact a) (k.exact a));
     }
 
 pub holds_stepped : (q : LogQueue) (r : ℕ) (x y : MarkedRegion) (ss : List Step) (s : Step) → AreSteps ss → IsStep s → Holds q r x ss → stepped_region q r x s ≡ Some y → Holds q r y (ss ++ s ∷ [])
 holds_stepped q r x y ss s good good' h e =
     holds_joined q r x record { mark = mark_of s; table = own_of r s } y ss (s ∷ []) good (good', tt) h (holds_one_step q r s good')
-    (ap (option_map (λ t. record { mark = joined q r x.mark x.table (mark_of s); table = t })) (one_step q r s x.table h.stands.own_table) ∙ e)
+    (ap (option_map (λ t. record { mark = joined_mark q r x.mark x.table (mark_of s); table = t })) (one_step q r s x.table h.stands.own_table) ∙ e)
 
 -- ---- all regions
 
@@ -120,7 +120,7 @@ read_refused q rs [] ss good good' h e = absurd cc
 read_refused q rs (i ∷ is) ss good good' h e = go (after_step q i.region (region_in rs i.region).table i.step) refl e (λ x k e. read_refused q (with_region rs i.region x) is (λ r. ss r ++ steps_on r (i ∷ [])) (λ r. steps-append (ss r) _ (good r) (rest_good r i is (good' r)).0) (λ r. (rest_good r i is (good' r)).1) k e)
   where
     put : Option Table → MarkedRegion
-    put t = record { mark = joined q i.region (region_in rs i.region).mark (region_in rs i.region).table (mark_of i.step); table = t }
+    put t = record { mark = joined_mark q i.region (region_in rs i.region).mark (region_in rs i.region).table (mark_of i.step); table = t }
 
     go : (o : Option (Option Table)) → after_step q i.region (region_in rs i.region).table i.step ≡ o → option_and_then (λ x. regions_after q (with_region rs i.region x) is) (option_map put o) ≡ None
         → ((x : MarkedRegion) → ((r : ℕ) → Holds q r (region_in (with_region rs i.region x) r) (ss r ++ steps_on r (i ∷ []))) → regions_after q (with_region rs i.region x) is ≡ None → (r : ℕ) × (after q r None ((ss r ++ steps_on r (i ∷ [])) ++ steps_on r is) ≡ None))

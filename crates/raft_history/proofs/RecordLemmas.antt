@@ -20,8 +20,8 @@ use Rattle.raft_records.specs.declared.entry_index.EntryIndex.{EntryIndex}
 use Rattle.raft_table.specs.Entries.{below, from, end_of}
 use Rattle.raft_table.specs.KeySets.{KeySet, without}
 use Rattle.raft_table.specs.KeyValues.{Keys, Stored, StoredPair, with_pairs, overlaid}
-use Rattle.raft_table.specs.Marks.{Mark, part, older_entries, entries_over, keys_over, atomic_group_over, table_over, is_meeting_refused, is_missed, is_there_over, applied}
-use Rattle.raft_table.specs.MarkJoins.{joined, mark_of}
+use Rattle.raft_table.specs.Marks.{Mark, part, older_entries, entries_over, keys_over, atomic_group_over, table_over, is_first_run_refused, is_missed, is_there_over, applied}
+use Rattle.raft_table.specs.MarkJoins.{joined_mark, mark_of}
 use Rattle.raft_table.specs.Start.{replayed, leaves_hole}
 use Rattle.raft_table.specs.Steps.{Step, Run, Compact, Put, Del, AtomicGroup, Clean, stepped, is_there_after, there_if, after_step, table_of}
 use Rattle.raft_table.specs.Table.{Table, empty_table, table_with_entries}
@@ -29,7 +29,7 @@ use Rattle.raft_records.specs.declared.atomic_group.AtomicGroupStatus.{AtomicGro
 use Rattle.raft_records.specs.declared.atomic_group.AtomicGroupStatus.TheVariants.{Begin, Middle, End}
 use Rattle.raft_history.specs.Batches.{GroupMarker, Event, batch_of}
 use Rattle.raft_history.specs.Contexts.{Context, merged_regions, merged_with, merged, completed_steps, region_steps_or, taken_with, taken_in, IsBounded, AreMerged}
-use Rattle.raft_history.specs.Histories.{records_of, records_in, size_of}
+use Rattle.raft_history.specs.Histories.{records_of, records_in, records_in_history}
 use Rattle.raft_history.specs.MarkedRegions.{MarkedRegions, MarkedRegion, region_in, with_region, stepped_region, regions_after, named_regions, on_each, region_steps_of_whole, region_steps_of_wholes, joined_region, joined_each, joined_regions, Marks, joined_marked}
 use Rattle.raft_history.specs.Records.{total, records_or, records_in_wholes, waiting_records, table_records, all_records}
 use Rattle.raft_history.specs.RegionSteps.{RegionStep, Tables, with_table, steps_of_items}
@@ -166,7 +166,7 @@ older_shorter Rewrite m es = go (is_missed m es)
     go false = part_shorter m.floor m.cut es
 
 over_records : (q : LogQueue) (m : Mark) (t o x : Table) → table_over q m t o ≡ Some x → table_records x ≤ table_records o + table_records t
-over_records q m t o x e = go (is_meeting_refused q m o.entries) m.cleaned refl e
+over_records q m t o x e = go (is_first_run_refused q m o.entries) m.cleaned refl e
   where
     go : (b c : Bool) → m.cleaned ≡ c → option_map {U = Table} (λ es. record o { entries = es; keys = cond m.cleaned t.keys (overlaid t.keys (without m.deleted o.keys)); atomic_group = atomic_group_over m t.atomic_group o.atomic_group }) (cond b None (Some (cond c t.entries (older_entries q m o.entries ++ t.entries)))) ≡ Some x → table_records x ≤ table_records o + table_records t
     go true c k e = absurd cc
@@ -187,7 +187,7 @@ read_records q rs new [] e = omega (arith, ap (λ (n : MarkedRegions). all_recor
 read_records q rs new (i ∷ is) e = go (after_step q i.region (finite.get rs.tables i.region) i.step) refl e (λ x e. read_records q (with_region rs i.region x) new is e)
   where
     put : Option Table → MarkedRegion
-    put t = record { mark = joined q i.region (region_in rs i.region).mark (region_in rs i.region).table (mark_of i.step); table = t }
+    put t = record { mark = joined_mark q i.region (region_in rs i.region).mark (region_in rs i.region).table (mark_of i.step); table = t }
 
     go : (o : Option (Option Table)) → after_step q i.region (finite.get rs.tables i.region) i.step ≡ o → option_and_then (λ x. regions_after q (with_region rs i.region x) is) (option_map put o) ≡ Some new
         → ((x : MarkedRegion) → regions_after q (with_region rs i.region x) is ≡ Some new → all_records new.tables ≤ all_records (with_table rs.tables i.region x.table) + records_in is) → all_records new.tables ≤ all_records rs.tables + records_in (i ∷ is)
@@ -202,7 +202,7 @@ joined_records q mid marks tables new h = total-both table_records new.tables mi
     at r None e = omega (arith, ap (λ (x : MarkedRegion). recs x.table) (some_is e))
     at r (Some m) e = go (applied q r m (finite.get tables r) (finite.get mid.tables r)) refl e
       where
-        go : (o : Option (Option Table)) → applied q r m (finite.get tables r) (finite.get mid.tables r) ≡ o → option_map {U = MarkedRegion} (λ t. record { mark = joined q r (region_in mid r).mark (finite.get mid.tables r) m; table = t }) o ≡ Some (region_in new r) → recs (finite.get new.tables r) ≤ recs (finite.get mid.tables r) + recs (finite.get tables r)
+        go : (o : Option (Option Table)) → applied q r m (finite.get tables r) (finite.get mid.tables r) ≡ o → option_map {U = MarkedRegion} (λ t. record { mark = joined_mark q r (region_in mid r).mark (finite.get mid.tables r) m; table = t }) o ≡ Some (region_in new r) → recs (finite.get new.tables r) ≤ recs (finite.get mid.tables r) + recs (finite.get tables r)
         go None k e = absurd cc
         go (Some w) k e = omega (arith, join_records q r m (finite.get tables r) (finite.get mid.tables r) w k, ap (λ (x : MarkedRegion). recs x.table) (some_is e))
 

@@ -5,7 +5,7 @@ use Rattle.std.specs.Prelude.{filter, map}
 use Rattle.std.specs.List.{AllByRecursion}
 use Rattle.raft_records.specs.declared.atomic_group.AtomicGroupStatus.{AtomicGroupStatus}
 use Rattle.raft_records.specs.declared.atomic_group.AtomicGroupStatus.TheVariants.{Begin, Middle, End}
-use Rattle.raft_history.specs.Batches.{GroupMarker, Batch}
+use Rattle.raft_history.specs.Batches.{GroupMarker, ReadBatch}
 use Rattle.raft_history.specs.Effects.{Effect, ended, completed_as, completed_by, completed, effects_behind, effects, region_steps_in, steps_by, steps_in, all_steps, first_by, first_in, IsGroup, AreApart, EachApart}
 use Rattle.raft_history.specs.RegionSteps.{names}
 use Rattle.raft_history.specs.WaitingGroup.{begins, Placed, placed_from, is_of, markers_of, are_middles, open_stretch, region_steps_of, front_of, front_behind, stretch_of, group_of}
@@ -16,7 +16,7 @@ moved k p = record { number = k + p.number; batch = p.batch }
 abbrev pub moved_effect : ℕ → Effect → Effect
 moved_effect k e = record { earlier = map (moved k) e.earlier; last = moved k e.last }
 
-pub placed_from-moved : (k n : ℕ) (h : List Batch) → placed_from (k + n) h ≡ map (moved k) (placed_from n h)
+pub placed_from-moved : (k n : ℕ) (h : List ReadBatch) → placed_from (k + n) h ≡ map (moved k) (placed_from n h)
 placed_from-moved k n [] = refl
 placed_from-moved k n (b ∷ bs) = ap (λ l. record { number = k + n; batch = b } ∷ l) (ap (λ x. placed_from x bs) (omega arith) ∙ placed_from-moved k (suc n) bs)
 
@@ -60,7 +60,7 @@ pub group_of-moved : (k g : ℕ) (ps : List Placed) → group_of g (map (moved k
 group_of-moved k g ps = rw (markers_of-moved k g ps, front_of-moved k (markers_of g ps), open_stretch-moved k (markers_of g ps), stretch_of-moved k (open_stretch (markers_of g ps))) refl
 
 -- where the history's batches are numbered from doesn't matter
-pub group_of-placed : (n g : ℕ) (h : List Batch) → group_of g (placed_from n h) ≡ group_of g (placed_from 0 h)
+pub group_of-placed : (n g : ℕ) (h : List ReadBatch) → group_of g (placed_from n h) ≡ group_of g (placed_from 0 h)
 group_of-placed n g h = ap (λ x. group_of g (placed_from x h)) (omega arith) ∙ ap (group_of g) (placed_from-moved n 0 h) ∙ group_of-moved n g (placed_from 0 h)
 
 completed-moved : (k : ℕ) (olds : List Placed) (p : Placed) → completed (map (moved k) olds) (moved k p) ≡ map (moved_effect k) (completed olds p)
@@ -96,10 +96,10 @@ unfolding all_steps
 all_steps-moved r k [] = refl
 all_steps-moved r k (e ∷ es) = rw (steps_in-moved r k e, all_steps-moved r k es) refl
 
-pub effects-placed : (n : ℕ) (h : List Batch) → effects_behind [] (placed_from n h) ≡ map (moved_effect n) (effects h)
+pub effects-placed : (n : ℕ) (h : List ReadBatch) → effects_behind [] (placed_from n h) ≡ map (moved_effect n) (effects h)
 effects-placed n h = ap (λ x. effects_behind [] (placed_from x h)) (omega arith) ∙ ap (effects_behind []) (placed_from-moved n 0 h) ∙ effects_behind-moved n [] (placed_from 0 h)
 
-pub steps-placed : (r n : ℕ) (h : List Batch) → all_steps r (effects_behind [] (placed_from n h)) ≡ all_steps r (effects h)
+pub steps-placed : (r n : ℕ) (h : List ReadBatch) → all_steps r (effects_behind [] (placed_from n h)) ≡ all_steps r (effects h)
 steps-placed r n h = ap (all_steps r) (effects-placed n h) ∙ all_steps-moved r n (effects h)
 
 -- apart, numbered from elsewhere

@@ -15,11 +15,11 @@ use Rattle.raft_records.specs.Group.{is_reserved}
 use Rattle.raft_records.specs.Item.{Item, Content, entries, command, pair}
 use Rattle.raft_table.specs.Steps.{Step, Run, Compact, Put, Del, AtomicGroup, Clean, IsStep, AreSteps}
 use Rattle.raft_table.proofs.MarkEntries.{same_some}
-use Rattle.raft_history.specs.Batches.{Event, GroupMarker, Batch, marker_in, batch_of, batches}
+use Rattle.raft_history.specs.Batches.{Event, GroupMarker, ReadBatch, marker_in, batch_of, batches}
 use Rattle.raft_history.specs.Contexts.{FileRange, files_of, joined_files, follows}
 use Rattle.raft_history.specs.Effects.{Effect, ended, completed_as, completed_by, completed, effects_behind, effects, whole_steps, steps_by, steps_in, all_steps, steps_of, BatchesApart}
 use Rattle.raft_history.specs.Histories.{IsInFile, AreInFile, AreInFiles, AllHaveStatus, FilesFrom, last_from, cleaned_in_batch, cleaned_in}
-use Rattle.raft_history.specs.RegionSteps.{RegionStep, is_on, names, steps_on, put_step, pair_step, step_of, with_step, steps_of_items}
+use Rattle.raft_history.specs.RegionSteps.{RegionStep, is_on, names, steps_on, put_step, pair_step, content_step, with_step, steps_of_items}
 use Rattle.raft_history.specs.WaitingGroup.{Placed, placed_from, markers_of, open_stretch, region_steps_of}
 use Rattle.raft_history.proofs.EffectLemmas.{each-append, each_left, each_right, each_markers, each_open, all_steps-append}
 use Rattle.raft_history.proofs.StepListLemmas.{steps-append}
@@ -84,7 +84,7 @@ unfolding effects_behind all_steps
 effects_good r olds [] h k = tt
 effects_good r olds (p ∷ ps) h k = all-append r (completed olds p) (effects_behind (olds ++ p ∷ []) ps) (completed_good r olds p h k.0) (effects_good r (olds ++ p ∷ []) ps (each-append IsGood olds (p ∷ []) h (k.0, tt)) k.1)
 
-run_step : (file : FileId) (content : Content) (s : Step) → IsInFile file content → step_of content ≡ Some s → IsStep s
+run_step : (file : FileId) (content : Content) (s : Step) → IsInFile file content → content_step content ≡ Some s → IsStep s
 run_step file (entries es) s h e = subst IsStep (same_some (Run es) s e) h.0.run
 run_step file (command commands.Clean) s h e = subst IsStep (same_some Clean s e) tt
 run_step file (command (commands.Compact index)) s h e = subst IsStep (same_some (Compact index) s e) tt
@@ -105,7 +105,7 @@ run_step file (pair p) s h e = go (is_reserved p.key) e
 
 in_file_good : (file : FileId) (items : List Item) → AreInFile file items → AreGood (steps_of_items items)
 in_file_good file [] h = tt
-in_file_good file (item ∷ items) h = go (step_of item.content) (λ s e. run_step file item.content s h.0 e) (in_file_good file items h.1)
+in_file_good file (item ∷ items) h = go (content_step item.content) (λ s e. run_step file item.content s h.0 e) (in_file_good file items h.1)
   where
     go : (o : Option Step) → ((s : Step) → o ≡ Some s → IsStep s) → AreGood (steps_of_items items) → AreGood (with_step item.raft_group_id o (steps_of_items items))
     go None good rest = rest
@@ -169,7 +169,7 @@ pub cleaned-append : (q : LogQueue) (h k : List Event) → cleaned_in q (h ++ k)
 cleaned-append q [] k = refl
 cleaned-append q (e ∷ h) k = ap (λ l. cleaned_in_batch q e.items ++ l) (cleaned-append q h k) ∙ sym (append_assoc (cleaned_in_batch q e.items) (cleaned_in q h) (cleaned_in q k))
 
-pub unmarked : (n : ℕ) (h : List Event) → FilesFrom Append n h → AllByRecursion (λ (b : Batch). b.marker ≡ None) (batches h)
+pub unmarked : (n : ℕ) (h : List Event) → FilesFrom Append n h → AllByRecursion (λ (b : ReadBatch). b.marker ≡ None) (batches h)
 unmarked n [] f = tt
 unmarked n (e ∷ h) f = (ap (λ q. marker_in q e.items) f.0, unmarked e.file.seq h f.2)
 

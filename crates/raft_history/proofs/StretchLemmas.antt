@@ -5,7 +5,7 @@ use Rattle.std.specs.Prelude.{filter}
 use Rattle.std.specs.List.{AllByRecursion}
 use Rattle.raft_records.specs.declared.atomic_group.AtomicGroupStatus.{AtomicGroupStatus}
 use Rattle.raft_records.specs.declared.atomic_group.AtomicGroupStatus.TheVariants.{Begin, Middle, End}
-use Rattle.raft_history.specs.Batches.{GroupMarker, Batch}
+use Rattle.raft_history.specs.Batches.{GroupMarker, ReadBatch}
 use Rattle.raft_history.specs.Effects.{Effect, ended, completed_as, completed_by, completed, effects_behind, effects}
 use Rattle.raft_history.specs.Stretches.{IsIn, IsMarkerOf, IsStretch, IsAlone, IsEffect, RiseFrom, AreEffects}
 use Rattle.raft_history.specs.WaitingGroup.{begins, goes_on, Placed, placed_from, is_of, markers_of, begins_by, goes_on_by, are_middles, open_stretch}
@@ -100,7 +100,7 @@ marks_at : (g : ℕ) (before : List Placed) (p : Placed) (behind : List Placed) 
 unfolding markers_of
 marks_at g before p behind h = markers_of-append g before (p ∷ behind) ∙ rw h refl
 
-only_completed : (h : List Batch) (before : List Placed) (p : Placed) (behind : List Placed) → placed_from 0 h ≡ before ++ p ∷ behind → AllByRecursion (IsEffect h) (completed before p)
+only_completed : (h : List ReadBatch) (before : List Placed) (p : Placed) (behind : List Placed) → placed_from 0 h ≡ before ++ p ∷ behind → AllByRecursion (IsEffect h) (completed before p)
 only_completed h before p behind is = go p.batch.marker refl
   where
     end : (g : ℕ) → IsMarkerOf g End p → HasMark g p → (l : List Placed) → open_stretch (markers_of g before) ≡ l → AllByRecursion (IsEffect h) (ended l p)
@@ -135,7 +135,7 @@ only_completed h before p behind is = go p.batch.marker refl
         at Middle e = tt
         at End e = end m.group e (ap (is_of m.group) e ∙ eq-eqb m.group m.group refl) (open_stretch (markers_of m.group before)) refl
 
-only_effects : (h : List Batch) (before ps : List Placed) → placed_from 0 h ≡ before ++ ps → AllByRecursion (IsEffect h) (effects_behind before ps)
+only_effects : (h : List ReadBatch) (before ps : List Placed) → placed_from 0 h ≡ before ++ ps → AllByRecursion (IsEffect h) (effects_behind before ps)
 unfolding effects_behind
 only_effects h before [] is = tt
 only_effects h before (p ∷ ps) is = each-append (IsEffect h) (completed before p) (effects_behind (before ++ p ∷ []) ps) (only_completed h before p ps is) (only_effects h (before ++ p ∷ []) ps (is ∙ sym (append_assoc before (p ∷ []) ps)))
@@ -176,7 +176,7 @@ parts_of t (p ∷ ps) xs y ys e = go (t p) refl e (parts_of t ps)
         d = ih xs y ys e
 
 -- the effect that a batch completes stands among all
-completed_in : (h : List Batch) (before : List Placed) (p : Placed) (behind : List Placed) (e : Effect) → placed_from 0 h ≡ before ++ p ∷ behind → completed before p ≡ e ∷ [] → IsIn e (effects h)
+completed_in : (h : List ReadBatch) (before : List Placed) (p : Placed) (behind : List Placed) (e : Effect) → placed_from 0 h ≡ before ++ p ∷ behind → completed before p ≡ e ∷ [] → IsIn e (effects h)
 unfolding effects_behind
 completed_in h before p behind e is one = record {
   before = effects_behind [] before;
@@ -187,10 +187,10 @@ completed_in h before p behind e is one = record {
 same_effect : (e : Effect) (l : List Placed) → e.earlier ≡ l → record { earlier = l; last = e.last } ≡ e
 same_effect e l h = ap (λ x. record { earlier = x; last = e.last }) (sym h)
 
-every_alone : (h : List Batch) (e : Effect) → IsAlone h e → IsIn e (effects h)
+every_alone : (h : List ReadBatch) (e : Effect) → IsAlone h e → IsIn e (effects h)
 every_alone h e a = completed_in h a.stands.before e.last a.stands.behind e a.stands.split (ap (λ m. completed_by m a.stands.before e.last) a.unmarked ∙ ap (λ x. x ∷ []) (same_effect e [] a.none))
 
-pub every_stretch : (h : List Batch) (g : ℕ) (e : Effect) → IsStretch h g e → IsIn e (effects h)
+pub every_stretch : (h : List ReadBatch) (g : ℕ) (e : Effect) → IsStretch h g e → IsIn e (effects h)
 unfolding markers_of
 every_stretch h g e s = completed_in h d.before e.last d.behind e d.split (ap (λ m. completed_by m d.before e.last) s.ends ∙ ap (λ l. ended l e.last) (ap open_stretch d.kept ∙ is_open g s.before s.begin s.middles s.begins s.goes_on) ∙ ap (λ x. x ∷ []) (same_effect e (s.begin ∷ s.middles) s.earlier))
   where
@@ -202,7 +202,7 @@ rise_lower : (n m : ℕ) (es : List Effect) → n ≤ m → RiseFrom m es → Ri
 rise_lower n m [] k h = tt
 rise_lower n m (e ∷ es) k h = (omega (arith, h.0), h.1)
 
-rise_behind : (n : ℕ) (olds : List Placed) (h : List Batch) → RiseFrom n (effects_behind olds (placed_from n h))
+rise_behind : (n : ℕ) (olds : List Placed) (h : List ReadBatch) → RiseFrom n (effects_behind olds (placed_from n h))
 unfolding effects_behind
 rise_behind n olds [] = tt
 rise_behind n olds (b ∷ bs) = go b.marker (rise_behind (suc n) (olds ++ record { number = n; batch = b } ∷ []) bs)
@@ -220,7 +220,7 @@ rise_behind n olds (b ∷ bs) = go b.marker (rise_behind (suc n) (olds ++ record
         at Middle = rise_lower n (suc n) (effects_behind (olds ++ record { number = n; batch = b } ∷ []) (placed_from (suc n) bs)) (omega arith) ih
         at End = end (open_stretch (markers_of m.group olds)) (effects_behind (olds ++ record { number = n; batch = b } ∷ []) (placed_from (suc n) bs)) ih
 
-pub effects_are : (h : List Batch) → AreEffects h (effects h)
+pub effects_are : (h : List ReadBatch) → AreEffects h (effects h)
 effects_are h = record { only = only_effects h [] (placed_from 0 h) refl; every = every; rise = rise_behind 0 [] h }
   where
     every : (e : Effect) → IsEffect h e → IsIn e (effects h)

@@ -9,9 +9,9 @@ use Rattle.raft_table.specs.Steps.{Step, after, AreSteps}
 use Rattle.raft_table.specs.Table.{Table}
 use Rattle.raft_table.proofs.LaterSteps.{accepted_alone, steps_rewritten}
 use Rattle.raft_table.proofs.MarkLaws.{after-append}
-use Rattle.raft_history.specs.Batches.{Event, Batch, batches}
+use Rattle.raft_history.specs.Batches.{Event, ReadBatch, batches}
 use Rattle.raft_history.specs.Effects.{effects, effects_behind, all_steps, steps_of, BatchesApart}
-use Rattle.raft_history.specs.Histories.{records_in, size_of, IsSmall, AreInFiles, AllHaveStatus, FilesFrom, last_from, IsSoundIn, Sound, Apart, AreOfQueue, IsOfQueue}
+use Rattle.raft_history.specs.Histories.{records_in, records_in_history, IsSmall, AreInFiles, AllHaveStatus, FilesFrom, last_from, IsSoundIn, Sound, Apart, AreOfQueue, IsOfQueue}
 use Rattle.raft_history.specs.RegionSteps.{steps_on, steps_of_items}
 use Rattle.raft_history.specs.WaitingGroup.{placed_from}
 use Rattle.raft_history.proofs.EffectLemmas.{all_steps-append}
@@ -22,7 +22,7 @@ use Rattle.raft_history.proofs.JoinedLemmas as joined
 
 -- ---- sizes
 
-pub size-append : (h k : List Event) → size_of (h ++ k) ≡ size_of h + size_of k
+pub size-append : (h k : List Event) → records_in_history (h ++ k) ≡ records_in_history h + records_in_history k
 size-append [] k = omega arith
 size-append (e ∷ h) k = omega (arith, size-append h k)
 
@@ -97,7 +97,7 @@ parted q r ss rs t is = go (after q r None ss) refl (sym (after-append q r None 
     go None e k = absurd cc
     go (Some u) e k = (u, e, k)
 
-steps_parted : (r : ℕ) (h k : List Batch) → (rs : List Step) × (steps_of r (h ++ k) ≡ steps_of r h ++ rs)
+steps_parted : (r : ℕ) (h k : List ReadBatch) → (rs : List Step) × (steps_of r (h ++ k) ≡ steps_of r h ++ rs)
 steps_parted r h k = (all_steps r (effects_behind (placed_from 0 h) (placed_from (length h) k)), ap (all_steps r) (effects-append h k) ∙ all_steps-append r (effects h) _)
 
 accepted_front : (q : LogQueue) (r : ℕ) (h k : List Event) (t : Option Table) → after q r None (steps_of r (batches (h ++ k))) ≡ Some t → (u : Option Table) × (after q r None (steps_of r (batches h)) ≡ Some u)
@@ -109,8 +109,8 @@ accepted_front q r h k t is =
 -- in the append queue each batch's steps stand alone
 pub plain-append : (r : ℕ) (h k : List Event) → FilesFrom Append 0 h → FilesFrom Append 0 k → FilesFrom Append 0 (h ++ k) → steps_of r (batches (h ++ k)) ≡ steps_of r (batches h) ++ steps_of r (batches k)
 plain-append r h k a b c =
-    plain_steps r (batches (h ++ k)) (unmarked 0 (h ++ k) c) ∙ ap (flat_map (λ (b : Batch). steps_on r b.steps)) (batches-append h k) ∙ flat_map-append (λ (b : Batch). steps_on r b.steps) (batches h) (batches k)
-    ∙ ap (λ l. l ++ flat_map (λ (b : Batch). steps_on r b.steps) (batches k)) (sym (plain_steps r (batches h) (unmarked 0 h a))) ∙ ap (λ l. steps_of r (batches h) ++ l) (sym (plain_steps r (batches k) (unmarked 0 k b)))
+    plain_steps r (batches (h ++ k)) (unmarked 0 (h ++ k) c) ∙ ap (flat_map (λ (b : ReadBatch). steps_on r b.steps)) (batches-append h k) ∙ flat_map-append (λ (b : ReadBatch). steps_on r b.steps) (batches h) (batches k)
+    ∙ ap (λ l. l ++ flat_map (λ (b : ReadBatch). steps_on r b.steps) (batches k)) (sym (plain_steps r (batches h) (unmarked 0 h a))) ∙ ap (λ l. steps_of r (batches h) ++ l) (sym (plain_steps r (batches k) (unmarked 0 k b)))
 
 accepted_back : (q : LogQueue) (r : ℕ) (h k : List Event) (t : Option Table) → FilesFrom q 0 h → FilesFrom q 0 k → FilesFrom q 0 (h ++ k) → AreInFiles k → after q r None (steps_of r (batches (h ++ k))) ≡ Some t
     → (u : Option Table) × (after q r None (steps_of r (batches k)) ≡ Some u)

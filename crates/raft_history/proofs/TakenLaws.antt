@@ -8,7 +8,7 @@ use Rattle.raft_table.specs.Table.{Table}
 use Rattle.raft_history.specs.Batches.{Event, batch_of, batches}
 use Rattle.raft_history.specs.Contexts.{IsBounded, FileRange, files_of, Suits, joined_files, follows, Context, AreExact, StandsIn, StandsFor, IsExactFor, completed_steps, taken_with, taken_in}
 use Rattle.raft_history.specs.Effects.{steps_of}
-use Rattle.raft_history.specs.Histories.{size_of, HaveStatus, AllHaveStatus, AreInFile, AreInFiles, FilesFrom, IsSoundIn, Sound, cleaned_in_batch, cleaned_in}
+use Rattle.raft_history.specs.Histories.{records_in_history, HaveStatus, AllHaveStatus, AreInFile, AreInFiles, FilesFrom, IsSoundIn, Sound, cleaned_in_batch, cleaned_in}
 use Rattle.raft_history.specs.MarkedRegions.{MarkedRegions, regions_after}
 use Rattle.raft_history.specs.WaitingGroups.{WaitingGroups, groups_in, groups_after}
 use Rattle.raft_history.proofs.ContextLaws.{exact_accepted}
@@ -62,7 +62,7 @@ pub taken_stands : (c d : Context) (h : List Event) (e : Event) → IsNext c e �
 taken_stands c d h e n st is = subst (λ d. StandsFor d (h ++ e ∷ [])) s.2 record {
   files = ap (λ p. joined_files p (files_of (e ∷ []))) st.files ∙ sym (files_of-append h (e ∷ []));
   groups = groups_more h e c.groups st.groups;
-  few = subst (IsBounded (taken_with c e s.0)) (omega (arith, size-append h (e ∷ []))) (taken_bounded e.file.queue c e s.0 (size_of h) st.few s.1);
+  few = subst (IsBounded (taken_with c e s.0)) (omega (arith, size-append h (e ∷ []))) (taken_bounded e.file.queue c e s.0 (records_in_history h) st.few s.1);
   stands = λ p u. subst (λ p. StandsIn p (taken_with c e s.0) (h ++ e ∷ [])) (one_queue e.file.queue p c.files record { queue = e.file.queue; first = e.file.seq; last = e.file.seq } n.suits refl u) own;
 }
   where

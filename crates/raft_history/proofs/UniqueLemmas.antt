@@ -1,7 +1,7 @@
 -- The effects of a history are the only list of its effects in order.
 use Rattle.std.proofs.Common.{◌≡◌, ℕ, suc, ◌≤◌, ◌⊎◌, List, [], ◌∷◌, refl, sym, ap, ◌∙◌, inl, inr, arith}
 use Rattle.std.specs.List.{AllByRecursion}
-use Rattle.raft_history.specs.Batches.{Batch}
+use Rattle.raft_history.specs.Batches.{ReadBatch}
 use Rattle.raft_history.specs.Effects.{Effect, effects, last_in}
 use Rattle.raft_history.specs.Stretches.{IsIn, IsEffect, RiseFrom, AreEffects}
 use Rattle.raft_history.proofs.DifferLemmas.{head_or_tail, in_none, each_in}
@@ -59,5 +59,5 @@ same_lists n m (e ∷ es) (f ∷ fs) h k a b = go (head_or_tail e f fs (a e (in_
     go (inr s) (inl t) ih = both t ih
     go (inr s) (inr t) ih = absurd (omega (arith, behind_f e s, behind_e f t))
 
-pub effects_unique : (h : List Batch) (es : List Effect) → AreEffects h es → es ≡ effects h
+pub effects_unique : (h : List ReadBatch) (es : List Effect) → AreEffects h es → es ≡ effects h
 effects_unique h es a = same_lists 0 0 es (effects h) a.rise (effects_are h).rise (λ e i. (effects_are h).every e (each_in (IsEffect h) e es a.only i)) (λ e i. a.every e (each_in (IsEffect h) e (effects h) (effects_are h).only i))

@@ -2,7 +2,7 @@
 use Rattle.std.proofs.Common.{◌≡◌, ℕ, suc, Bool, true, false, cond, ◌↔◌, ◌||◌, List, [], ◌∷◌, ◌++◌, None, refl, sym, ap, subst, ◌∙◌, inl, inr}
 use Rattle.std.specs.Prelude.{filter, flat_map, map}
 use Rattle.std.specs.List.{AllByRecursion, list_any}
-use Rattle.raft_history.specs.Batches.{Batch}
+use Rattle.raft_history.specs.Batches.{ReadBatch}
 use Rattle.raft_history.specs.Effects.{Effect, completed_by, effects_behind, effects, whole_steps, region_steps_in, steps_by, steps_in, all_steps, steps_of, AreApart, EachApart, BatchesApart, is_named}
 use Rattle.raft_history.specs.RegionSteps.{RegionStep, is_on, names, steps_on}
 use Rattle.raft_history.specs.WaitingGroup.{Placed, placed_from, region_steps_of}
@@ -50,7 +50,7 @@ no_steps_unnamed r [] h = refl
 no_steps_unnamed r (e ∷ es) h = rw (steps_in-some r e (head_none _ _ h)) (no_steps_unnamed r es (tail_none (steps_in r e) (flat_map (steps_in r) es) h))
 
 -- without markers (as in the append queue) each batch is an effect, and the effects are apart
-alone : (olds : List Placed) (h : List Batch) (n : ℕ) → AllByRecursion (λ b. b.marker ≡ None) h → effects_behind olds (placed_from n h) ≡ map (λ p. record { earlier = []; last = p }) (placed_from n h)
+alone : (olds : List Placed) (h : List ReadBatch) (n : ℕ) → AllByRecursion (λ b. b.marker ≡ None) h → effects_behind olds (placed_from n h) ≡ map (λ p. record { earlier = []; last = p }) (placed_from n h)
 unfolding effects_behind
 alone olds [] n k = refl
 alone olds (b ∷ bs) n k = ap (λ m. completed_by m olds record { number = n; batch = b } ++ effects_behind (olds ++ record { number = n; batch = b } ∷ []) (placed_from (suc n) bs)) k.0
@@ -68,16 +68,16 @@ singles_apart (p ∷ ps) = (each p ps, singles_apart ps)
     each p [] = tt
     each p (q ∷ qs) = (none p q, each p qs)
 
-pub plain_apart : (h : List Batch) → AllByRecursion (λ b. b.marker ≡ None) h → BatchesApart h
+pub plain_apart : (h : List ReadBatch) → AllByRecursion (λ b. b.marker ≡ None) h → BatchesApart h
 plain_apart h k = record { each = subst EachApart (sym (alone [] h 0 k)) (singles_apart (placed_from 0 h)) }
 
-pub plain_steps : (r : ℕ) (h : List Batch) → AllByRecursion (λ b. b.marker ≡ None) h → steps_of r h ≡ flat_map (λ b. steps_on r b.steps) h
+pub plain_steps : (r : ℕ) (h : List ReadBatch) → AllByRecursion (λ b. b.marker ≡ None) h → steps_of r h ≡ flat_map (λ b. steps_on r b.steps) h
 unfolding all_steps
 plain_steps r h k = ap (all_steps r) (alone [] h 0 k) ∙ go 0 h
   where
-    go : (n : ℕ) (h : List Batch) → flat_map (steps_in r) (map (λ p. record { earlier = []; last = p }) (placed_from n h)) ≡ flat_map (λ b. steps_on r b.steps) h
+    go : (n : ℕ) (h : List ReadBatch) → flat_map (steps_in r) (map (λ p. record { earlier = []; last = p }) (placed_from n h)) ≡ flat_map (λ b. steps_on r b.steps) h
     go n [] = refl
     go n (b ∷ bs) = ap (λ l. steps_on r b.steps ++ l) (go (suc n) bs)
 
-pub named-steps : (r : ℕ) (h : List Batch) → (is_named r h ≡ false) ↔ (steps_of r h ≡ [])
+pub named-steps : (r : ℕ) (h : List ReadBatch) → (is_named r h ≡ false) ↔ (steps_of r h ≡ [])
 named-steps r h = (unnamed_steps r (effects h), no_steps_unnamed r (effects h))

@@ -29,19 +29,19 @@ marker_in Rewrite items = option_map (λ m. record { group = m.0; status = m.1 }
 -- ---- what is read of a batch
 
 -- a batch's steps, its marker if it has one, and the number of its file
-pub record Batch : Type 0 where
+pub record ReadBatch : Type 0 where
   pub steps : List RegionStep
   pub marker : Option GroupMarker
   pub file : ℕ
 
 -- a batch with a marker
-abbrev pub marked_batch : List RegionStep → ℕ → AtomicGroupStatus → ℕ → Batch
+abbrev pub marked_batch : List RegionStep → ℕ → AtomicGroupStatus → ℕ → ReadBatch
 marked_batch steps group status file = record { steps = steps; marker = Some (record { group = group; status = status }); file = file }
 
 -- what is read of a batch
-abbrev pub batch_of : Event → Batch
+abbrev pub batch_of : Event → ReadBatch
 batch_of e = record { steps = steps_of_items e.items; marker = marker_in e.file.queue e.items; file = e.file.seq }
 
 -- what is read of each batch
-abbrev pub batches : List Event → List Batch
+abbrev pub batches : List Event → List ReadBatch
 batches h = map batch_of h

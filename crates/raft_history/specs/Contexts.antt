@@ -7,9 +7,9 @@ use Rattle.raft_base.specs.declared.pipe_log.LogQueue.TheVariants.{Append}
 use Rattle.raft_table.specs.Marks.{Stands}
 use Rattle.raft_table.specs.Overlay.{HoldsDeleted, IsExactMark}
 use Rattle.raft_table.specs.Steps.{Step}
-use Rattle.raft_history.specs.Batches.{Event, GroupMarker, Batch, batch_of, batches}
+use Rattle.raft_history.specs.Batches.{Event, GroupMarker, ReadBatch, batch_of, batches}
 use Rattle.raft_history.specs.Effects.{steps_of, is_named}
-use Rattle.raft_history.specs.Histories.{IsSoundIn, size_of, last_from, cleaned_in_batch, cleaned_in}
+use Rattle.raft_history.specs.Histories.{IsSoundIn, records_in_history, last_from, cleaned_in_batch, cleaned_in}
 use Rattle.raft_history.specs.MarkedRegions.{MarkedRegions, no_regions, MarkedRegion, region_in, regions_after, region_steps_of_whole, region_steps_of_wholes, joined_marked, joined_regions}
 use Rattle.raft_history.specs.Records.{all_records, waiting_records}
 use Rattle.raft_history.specs.RegionSteps.{RegionStep}
@@ -66,7 +66,7 @@ pub record Holds (queue : LogQueue) (r : ℕ) (x : MarkedRegion) (ss : List Step
   pub exact : queue ≡ Append → IsExactMark x.mark ss
 
 -- every region's mark and table stand for its steps in the effects, and the regions that those name, and no others, have a mark
-pub record AreExact (queue : LogQueue) (rs : MarkedRegions) (bs : List Batch) : Type 0 where
+pub record AreExact (queue : LogQueue) (rs : MarkedRegions) (bs : List ReadBatch) : Type 0 where
   pub each : (r : ℕ) → Holds queue r (region_in rs r) (steps_of r bs)
   pub marked : (r : ℕ) → is_some (finite.get rs.marks r) ≡ is_named r bs
 
@@ -84,7 +84,7 @@ IsBounded c count = all_records c.regions.tables + waiting_records c.groups ≤ 
 pub record StandsFor (c : Context) (h : List Event) : Type 0 where
   pub files : c.files ≡ files_of h
   pub groups : c.groups ≡ groups_in (batches h)
-  pub few : IsBounded c (size_of h)
+  pub few : IsBounded c (records_in_history h)
   pub stands : (queue : LogQueue) → Suits queue c.files → StandsIn queue c h
 
 -- and exactly
@@ -114,8 +114,8 @@ pub record AreMerged (queue : LogQueue) (c d : Context) (new : MarkedRegions) : 
   pub marked : (r : ℕ) → is_some (finite.get new.marks r) ≡ (is_some (finite.get middle.marks r) || is_some (finite.get d.regions.marks r))
 
 -- a step of a group that becomes whole is refused, or a region's join
-abbrev pub AreRefused : LogQueue → Context → Context → Type 0
-AreRefused queue c d =
+abbrev pub AreRegionsRefused : LogQueue → Context → Context → Type 0
+AreRegionsRefused queue c d =
     (regions_after queue c.regions (region_steps_of_wholes (whole_groups c.groups d.groups)) ≡ None)
     ⊎ ((middle : MarkedRegions) × (regions_after queue c.regions (region_steps_of_wholes (whole_groups c.groups d.groups)) ≡ Some middle) × ((r : ℕ) × (joined_marked queue r (finite.get d.regions.marks r) (finite.get d.regions.tables r) (region_in middle r) ≡ None)))
 
@@ -127,7 +127,7 @@ region_steps_or None = []
 region_steps_or (Some w) = region_steps_of_whole w
 
 -- the steps that take effect with a batch: its own where it has no marker, else those of the group that it makes whole
-abbrev pub completed_steps : WaitingGroups → Batch → Option GroupMarker → List RegionStep
+abbrev pub completed_steps : WaitingGroups → ReadBatch → Option GroupMarker → List RegionStep
 completed_steps groups b None = b.steps
 completed_steps groups b (Some m) = region_steps_or (whole_group (known groups m.group) (one_marker m.status b.steps b.file))
 

@@ -4,7 +4,7 @@ use Rattle.std.specs.List.{AllByRecursion, list_any}
 use Rattle.raft_table.specs.Steps.{Step, AtomicGroup}
 use Rattle.raft_records.specs.declared.atomic_group.AtomicGroupStatus.{AtomicGroupStatus}
 use Rattle.raft_records.specs.declared.atomic_group.AtomicGroupStatus.TheVariants.{Begin, Middle, End}
-use Rattle.raft_history.specs.Batches.{GroupMarker, Batch}
+use Rattle.raft_history.specs.Batches.{GroupMarker, ReadBatch}
 use Rattle.raft_history.specs.RegionSteps.{RegionStep, names, steps_on}
 use Rattle.raft_history.specs.WaitingGroup.{Placed, placed_from, is_of, markers_of, open_stretch, region_steps_of, WaitingGroup, group_of, WholeGroup, whole_group}
 
@@ -39,7 +39,7 @@ effects_behind before [] = []
 effects_behind before (p ∷ ps) = completed before p ++ effects_behind (before ++ p ∷ []) ps
 
 -- the effects of a history, in the order of their last batches
-abbrev pub effects : List Batch → List Effect
+abbrev pub effects : List ReadBatch → List Effect
 effects h = effects_behind [] (placed_from 0 h)
 
 -- a group's steps on a region: those of its steps, and the files of its Begin and End, where it names the region
@@ -64,11 +64,11 @@ unfoldable pub all_steps : ℕ → List Effect → List Step
 all_steps r es = flat_map (steps_in r) es
 
 -- the steps on a region of a history
-abbrev pub steps_of : ℕ → List Batch → List Step
+abbrev pub steps_of : ℕ → List ReadBatch → List Step
 steps_of r h = all_steps r (effects h)
 
 -- whether an effect names the region
-abbrev pub is_named : ℕ → List Batch → Bool
+abbrev pub is_named : ℕ → List ReadBatch → Bool
 is_named r h = list_any (λ e. names r (region_steps_in e)) (effects h)
 
 -- the extent of an effect
@@ -93,13 +93,13 @@ abbrev pub Names : ℕ → Effect → Type 0
 Names r e = names r (region_steps_in e) ≡ true
 
 -- the extents of two effects meet
-pub record Meets (e f : Effect) : Type 0 where
+pub record ExtentsOverlap (e f : Effect) : Type 0 where
   pub before : first_in e ≤ last_in f
   pub behind : first_in f ≤ last_in e
 
 -- two effects whose extents meet, one of them a group, name no common region
 abbrev pub AreApart : Effect → Effect → Type 0
-AreApart e f = Meets e f → IsGroup e ⊎ IsGroup f → (r : ℕ) → Names r e → Names r f → ⊥
+AreApart e f = ExtentsOverlap e f → IsGroup e ⊎ IsGroup f → (r : ℕ) → Names r e → Names r f → ⊥
 
 -- any two
 abbrev pub EachApart : List Effect → Type 0
@@ -107,15 +107,15 @@ EachApart [] = Unit {0}
 EachApart (e ∷ es) = AllByRecursion (AreApart e) es × EachApart es
 
 -- any two effects of the history
-pub record BatchesApart (h : List Batch) : Type 0 where
+pub record BatchesApart (h : List ReadBatch) : Type 0 where
   pub each : EachApart (effects h)
 
 -- what is known of a group from a history
-abbrev pub group_in : ℕ → List Batch → WaitingGroup
+abbrev pub group_in : ℕ → List ReadBatch → WaitingGroup
 group_in g h = group_of g (placed_from 0 h)
 
 -- the groups that become whole_group where two histories are joined_group, of the ids in the list
-abbrev pub wholes : List ℕ → List Batch → List Batch → List WholeGroup
+abbrev pub wholes : List ℕ → List ReadBatch → List ReadBatch → List WholeGroup
 wholes ids older newer = filter_map (λ g. whole_group (group_in g older) (group_in g newer)) ids
 
 -- the steps on a region of groups that are whole, in order
@@ -128,15 +128,15 @@ IsListed ids None = Unit {0}
 IsListed ids (Some m) = list_any (λ g. eqb g m.group) ids ≡ true
 
 -- the list has the group of each batch that has a marker
-abbrev pub ListsGroups : List ℕ → List Batch → Type 0
+abbrev pub ListsGroups : List ℕ → List ReadBatch → Type 0
 ListsGroups ids h = AllByRecursion (λ b. IsListed ids b.marker) h
 
 -- ---- groups that are not whole
 
 -- no effect of the history ends with a marker of the group
-abbrev pub EndsNoEffect : ℕ → List Batch → Type 0
+abbrev pub EndsNoEffect : ℕ → List ReadBatch → Type 0
 EndsNoEffect g h = AllByRecursion (λ (e : Effect). is_of g e.last.batch.marker ≡ false) (effects h)
 
 -- the history without the batches of the group
-unfoldable pub without_group : ℕ → List Batch → List Batch
+unfoldable pub without_group : ℕ → List ReadBatch → List ReadBatch
 without_group g h = filter (λ b. not (is_of g b.marker)) h

@@ -33,13 +33,13 @@ records_in [] = 0
 records_in (s ∷ steps) = records_of s.step + records_in steps
 
 -- those of a history
-abbrev pub size_of : List Event → ℕ
-size_of [] = 0
-size_of (e ∷ h) = records_in (steps_of_items e.items) + size_of h
+abbrev pub records_in_history : List Event → ℕ
+records_in_history [] = 0
+records_in_history (e ∷ h) = records_in (steps_of_items e.items) + records_in_history h
 
 -- fewer than 2^63 entries and key values
 pub record IsSmall (h : List Event) : Type 0 where
-  pub few : size_of h < 2 ^ 63
+  pub few : records_in_history h < 2 ^ 63
 
 -- ---- sound histories
 

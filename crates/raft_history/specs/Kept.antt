@@ -8,7 +8,7 @@ use Rattle.raft_table.specs.KeySets.{KeySet}
 use Rattle.raft_table.specs.Marks.{Mark}
 use Rattle.raft_table.specs.Overlay.{deleted_of}
 use Rattle.raft_table.specs.Table.{Table}
-use Rattle.raft_history.specs.Batches.{Event, Batch, batches}
+use Rattle.raft_history.specs.Batches.{Event, ReadBatch, batches}
 use Rattle.raft_history.specs.Contexts.{Context}
 use Rattle.raft_history.specs.Effects.{Effect, effects, region_steps_in, steps_of}
 use Rattle.raft_history.specs.Histories.{cleaned_in}
@@ -41,7 +41,7 @@ abbrev pub named_by : List Effect → List ℕ
 named_by es = flat_map (λ e. map (λ (s : RegionStep). s.region) (region_steps_in e)) es
 
 -- each region that a history names, with the keys that are deleted there since its last Clean
-unfoldable pub deleted_in : List Batch → finite.FinMap nat_cmp KeySet
+unfoldable pub deleted_in : List ReadBatch → finite.FinMap nat_cmp KeySet
 deleted_in bs = finite.from_entries (map (λ r. (r, deleted_of finset.empty (steps_of r bs))) (named_by (effects bs)))
 
 -- what a context of a history may hold, by the tables of one reading: their entries and key values; the regions that the effects name and the groups that have a marker; the keys deleted since each region's last Clean; the cleaned regions; the items of fronts and open stretches

@@ -5,7 +5,7 @@ use Rattle.std.specs.Ordering.{nat_cmp}
 use Rattle.std.specs.FinMap as finite
 use Rattle.raft_base.specs.declared.pipe_log.LogQueue.{LogQueue}
 use Rattle.raft_table.specs.Marks.{Mark, applied}
-use Rattle.raft_table.specs.MarkJoins.{joined, fresh, mark_of}
+use Rattle.raft_table.specs.MarkJoins.{joined_mark, fresh, mark_of}
 use Rattle.raft_table.specs.Steps.{Step, AtomicGroup, after_step}
 use Rattle.raft_table.specs.Table.{Table}
 use Rattle.raft_history.specs.RegionSteps.{RegionStep, Tables, with_table, names}
@@ -41,7 +41,7 @@ with_region rs r x = record { tables = with_table rs.tables r x.table; marks = f
 
 -- one region after a step; none where it is refused
 abbrev pub stepped_region : LogQueue → ℕ → MarkedRegion → Step → Option MarkedRegion
-stepped_region queue r x s = option_map (λ t. record { mark = joined queue r x.mark x.table (mark_of s); table = t }) (after_step queue r x.table s)
+stepped_region queue r x s = option_map (λ t. record { mark = joined_mark queue r x.mark x.table (mark_of s); table = t }) (after_step queue r x.table s)
 
 -- all regions after steps in order; none where one is refused
 abbrev pub regions_after : LogQueue → MarkedRegions → List RegionStep → Option MarkedRegions
@@ -69,7 +69,7 @@ region_steps_of_wholes ws = flat_map region_steps_of_whole ws
 
 -- one region of an older and a newer neighbour; none where the newer one's first run is refused
 abbrev pub joined_region : LogQueue → ℕ → MarkedRegion → MarkedRegion → Option MarkedRegion
-joined_region queue r older newer = option_map (λ t. record { mark = joined queue r older.mark older.table newer.mark; table = t }) (applied queue r newer.mark newer.table older.table)
+joined_region queue r older newer = option_map (λ t. record { mark = joined_mark queue r older.mark older.table newer.mark; table = t }) (applied queue r newer.mark newer.table older.table)
 
 -- one region, which is as it was where the newer neighbour has no mark of it
 abbrev pub joined_marked : LogQueue → ℕ → Option Mark → Option Table → MarkedRegion → Option MarkedRegion

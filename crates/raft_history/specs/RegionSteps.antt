@@ -39,10 +39,10 @@ command_step commands.Clean = Clean
 command_step (commands.Compact index) = Compact index
 
 -- the step of a content; none of a change of the reserved key, which is skipped, nor of a put without a value or a file
-abbrev pub step_of : Content → Option Step
-step_of (entries es) = Some (Run es)
-step_of (command c) = Some (command_step c)
-step_of (pair p) = if is_reserved p.key then None else pair_step p.op_type p.key p.value p.file_id
+abbrev pub content_step : Content → Option Step
+content_step (entries es) = Some (Run es)
+content_step (command c) = Some (command_step c)
+content_step (pair p) = if is_reserved p.key then None else pair_step p.op_type p.key p.value p.file_id
 
 -- a step, if there is one, on a region in front of others
 abbrev pub with_step : ℕ → Option Step → List RegionStep → List RegionStep
@@ -52,7 +52,7 @@ with_step region (Some s) steps = record { region = region; step = s } ∷ steps
 -- the steps of items, in order
 abbrev pub steps_of_items : List Item → List RegionStep
 steps_of_items [] = []
-steps_of_items (item ∷ items) = with_step item.raft_group_id (step_of item.content) (steps_of_items items)
+steps_of_items (item ∷ items) = with_step item.raft_group_id (content_step item.content) (steps_of_items items)
 
 -- ---- the steps on one region
 

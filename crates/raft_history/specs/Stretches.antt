@@ -3,7 +3,7 @@ use Rattle.std.specs.Prelude.{◌≡◌, ◌⊎◌, ℕ, suc, ◌≤◌, List, [
 use Rattle.std.specs.List.{AllByRecursion}
 use Rattle.raft_records.specs.declared.atomic_group.AtomicGroupStatus.{AtomicGroupStatus}
 use Rattle.raft_records.specs.declared.atomic_group.AtomicGroupStatus.TheVariants.{Begin, Middle, End}
-use Rattle.raft_history.specs.Batches.{Batch}
+use Rattle.raft_history.specs.Batches.{ReadBatch}
 use Rattle.raft_history.specs.Effects.{Effect, last_in}
 use Rattle.raft_history.specs.WaitingGroup.{Placed, placed_from, markers_of}
 
@@ -18,7 +18,7 @@ abbrev pub IsMarkerOf : ℕ → AtomicGroupStatus → Placed → Type 0
 IsMarkerOf g s p = p.batch.marker ≡ Some record { group = g; status = s }
 
 -- among the group's markers, neighbours: a Begin, Middles, and an End
-pub record IsStretch (h : List Batch) (g : ℕ) (e : Effect) : Type 0 where
+pub record IsStretch (h : List ReadBatch) (g : ℕ) (e : Effect) : Type 0 where
   pub before : List Placed
   pub begin : Placed
   pub middles : List Placed
@@ -30,13 +30,13 @@ pub record IsStretch (h : List Batch) (g : ℕ) (e : Effect) : Type 0 where
   pub earlier : e.earlier ≡ begin ∷ middles
 
 -- an unmarked batch
-pub record IsAlone (h : List Batch) (e : Effect) : Type 0 where
+pub record IsAlone (h : List ReadBatch) (e : Effect) : Type 0 where
   pub stands : IsIn e.last (placed_from 0 h)
   pub unmarked : e.last.batch.marker ≡ None
   pub none : e.earlier ≡ []
 
 -- an effect of the history: an unmarked batch of it, or a stretch of some group's markers
-abbrev pub IsEffect : List Batch → Effect → Type 0
+abbrev pub IsEffect : List ReadBatch → Effect → Type 0
 IsEffect h e = IsAlone h e ⊎ ((g : ℕ) × IsStretch h g e)
 
 -- each effect's last batch stands behind that of the effect before it, the first at this number or behind it
@@ -45,7 +45,7 @@ RiseFrom n [] = Unit {0}
 RiseFrom n (e ∷ es) = (n ≤ last_in e) × RiseFrom (suc (last_in e)) es
 
 -- the list has each effect of the history once, and nothing else, in the order of their last batches
-pub record AreEffects (h : List Batch) (es : List Effect) : Type 0 where
+pub record AreEffects (h : List ReadBatch) (es : List Effect) : Type 0 where
   pub only : AllByRecursion (IsEffect h) es
   pub every : (e : Effect) → IsEffect h e → IsIn e es
   pub rise : RiseFrom 0 es

@@ -2,16 +2,16 @@
 use Rattle.std.specs.Prelude.{ℕ, suc, Bool, true, false, cond, ◌&&◌, eqb, List, [], ◌∷◌, ◌++◌, filter, flat_map, Option, Some, None}
 use Rattle.raft_records.specs.declared.atomic_group.AtomicGroupStatus.{AtomicGroupStatus}
 use Rattle.raft_records.specs.declared.atomic_group.AtomicGroupStatus.TheVariants.{Begin, Middle, End}
-use Rattle.raft_history.specs.Batches.{GroupMarker, Batch}
+use Rattle.raft_history.specs.Batches.{GroupMarker, ReadBatch}
 use Rattle.raft_history.specs.RegionSteps.{RegionStep}
 
 -- a batch with its number in the history
 pub record Placed : Type 0 where
   pub number : ℕ
-  pub batch : Batch
+  pub batch : ReadBatch
 
 -- the batches with their numbers, the first of which is this one
-abbrev pub placed_from : ℕ → List Batch → List Placed
+abbrev pub placed_from : ℕ → List ReadBatch → List Placed
 placed_from n [] = []
 placed_from n (b ∷ bs) = record { number = n; batch = b } ∷ placed_from (suc n) bs
 

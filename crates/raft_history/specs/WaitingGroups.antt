@@ -5,7 +5,7 @@ use Rattle.std.specs.Ordering.{nat_cmp}
 use Rattle.std.specs.FinMap as finite
 use Rattle.std.specs.FinMap.{FinMap}
 use Rattle.raft_table.specs.Steps.{Step}
-use Rattle.raft_history.specs.Batches.{GroupMarker, Batch}
+use Rattle.raft_history.specs.Batches.{GroupMarker, ReadBatch}
 use Rattle.raft_history.specs.Effects.{whole_steps, group_in}
 use Rattle.raft_history.specs.RegionSteps.{RegionStep, steps_on, names}
 use Rattle.raft_history.specs.WaitingGroup.{unmarked, GroupFront, Open, Ended, Cut, OpenStretch, WaitingGroup, joined_group, WholeGroup, whole_group, one_marker}
@@ -15,12 +15,12 @@ abbrev pub WaitingGroups : Type 0
 WaitingGroups = FinMap nat_cmp WaitingGroup
 
 -- the group of a marker, if there is one, with what the history says of it
-abbrev pub entry_by : List Batch → Option GroupMarker → List (ℕ × WaitingGroup)
+abbrev pub entry_by : List ReadBatch → Option GroupMarker → List (ℕ × WaitingGroup)
 entry_by h None = []
 entry_by h (Some m) = (m.group, group_in m.group h) ∷ []
 
 -- each group that the history markers, with what is known of it
-unfoldable pub groups_in : List Batch → WaitingGroups
+unfoldable pub groups_in : List ReadBatch → WaitingGroups
 groups_in h = finite.from_entries (flat_map (λ b. entry_by h b.marker) h)
 
 -- what is known of a group
@@ -45,7 +45,7 @@ abbrev pub whole_groups : WaitingGroups → WaitingGroups → List WholeGroup
 whole_groups older newer = whole_with older (finite.entries newer)
 
 -- one more batch
-abbrev pub groups_after : WaitingGroups → Batch → Option GroupMarker → WaitingGroups
+abbrev pub groups_after : WaitingGroups → ReadBatch → Option GroupMarker → WaitingGroups
 groups_after groups b None = groups
 groups_after groups b (Some m) = finite.insert groups m.group (joined_group (known groups m.group) (one_marker m.status b.steps b.file))
 
@@ -55,7 +55,7 @@ steps_or r None = []
 steps_or r (Some w) = whole_steps r w
 
 -- the steps of what it completes
-abbrev pub steps_by_batch : ℕ → WaitingGroups → Batch → Option GroupMarker → List Step
+abbrev pub steps_by_batch : ℕ → WaitingGroups → ReadBatch → Option GroupMarker → List Step
 steps_by_batch r groups b None = steps_on r b.steps
 steps_by_batch r groups b (Some m) = steps_or r (whole_group (known groups m.group) (one_marker m.status b.steps b.file))
 
@@ -84,6 +84,6 @@ names_by r None = false
 names_by r (Some w) = names r w.steps
 
 -- whether what takes effect with a batch names the region
-abbrev pub names_by_batch : ℕ → WaitingGroups → Batch → Option GroupMarker → Bool
+abbrev pub names_by_batch : ℕ → WaitingGroups → ReadBatch → Option GroupMarker → Bool
 names_by_batch r groups b None = names r b.steps
 names_by_batch r groups b (Some m) = names_by r (whole_group (known groups m.group) (one_marker m.status b.steps b.file))

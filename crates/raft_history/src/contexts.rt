@@ -11,7 +11,7 @@ ghost use Rattle.raft_history.specs.Histories.{Sound, Apart, AreInFile, AreInFil
 ghost use Rattle.raft_history.specs.WaitingGroups.{WaitingGroups, groups_in, joined_groups, whole_groups};
 ghost use Rattle.raft_history.specs.Records.{waiting_records, records_in_wholes};
 ghost use Rattle.raft_history.specs.MarkedRegions.{MarkedRegions, region_steps_of_wholes};
-ghost use Rattle.raft_history.specs.Contexts.{Context, StandsFor, IsExactFor, Suits, files_of, follows, new_context, merged, taken_in, merged_with, AreMerged, AreRefused};
+ghost use Rattle.raft_history.specs.Contexts.{Context, StandsFor, IsExactFor, Suits, files_of, follows, new_context, merged, taken_in, merged_with, AreMerged, AreRegionsRefused};
 ghost use Rattle.raft_history.specs.Kept.{kept_of, kept_by, IsAtMost};
 
 /// A new context stands exactly for the empty history.
@@ -58,10 +58,10 @@ pub fn regions_merge_one_by_one()
         → Suits q d.files → IsExactFor c h → IsExactFor d k → Apart (h ++ k)
         → follows c.files d.files ≡ true → AreMerged q c d regions → IsExactFor (merged_with c d regions) (h ++ k) }
     ensures refused { (q : LogQueue) (c d : Context) (h k : List Event) → Suits q c.files → Suits q d.files
-        → StandsFor c h → StandsFor d k → AreRefused q c d → Sound (h ++ k) → ⊥ }
+        → StandsFor c h → StandsFor d k → AreRegionsRefused q c d → Sound (h ++ k) → ⊥ }
     ensures files { (q : LogQueue) (c d : Context) (h k : List Event) → Suits q c.files → Suits q d.files
         → StandsFor c h → StandsFor d k → follows c.files d.files ≡ false → Sound (h ++ k) → ⊥ }
-    ensures rewrite { (c d : Context) → AreRefused Rewrite c d → ⊥ }
+    ensures rewrite { (c d : Context) → AreRegionsRefused Rewrite c d → ⊥ }
 {}
 
 /// An exact context has what one reading of its history gives.

@@ -4,7 +4,7 @@ ghost use Rattle.std.specs.Prelude.{◌≡◌, ℕ, List, ◌++◌, Some, None, 
 ghost use Rattle.std.specs.FinMap as finite;
 ghost use Rattle.raft_base.specs.declared.pipe_log.LogQueue.{LogQueue};
 ghost use Rattle.raft_base.specs.declared.pipe_log.LogQueue.TheVariants.{Append};
-ghost use Rattle.raft_table.specs.Entries.{entry_with_index};
+ghost use Rattle.raft_table.specs.Entries.{entry_at};
 ghost use Rattle.raft_table.specs.LastWord.{last_entry, last_pair};
 ghost use Rattle.raft_table.specs.Steps.{after, table_of};
 ghost use Rattle.raft_history.specs.RegionSteps.{RegionStep, Tables, steps_on, steps_of_items, reading};
@@ -39,7 +39,7 @@ pub fn last_words_stand()
     ensures entries { (h : List Event) (tables : Tables) (cleaned : List ℕ) → IsSoundIn Append h
         → IsOneReading Append h tables cleaned
         → (r i : ℕ)
-        → entry_with_index i (table_of r (finite.get tables r)).entries ≡ last_entry i (flat_map (λ e. steps_on r (steps_of_items e.items)) h) }
+        → entry_at i (table_of r (finite.get tables r)).entries ≡ last_entry i (flat_map (λ e. steps_on r (steps_of_items e.items)) h) }
     ensures keys { (h : List Event) (tables : Tables) (cleaned : List ℕ) → IsSoundIn Append h
         → IsOneReading Append h tables cleaned
         → (r : ℕ) (key : List ℕ)

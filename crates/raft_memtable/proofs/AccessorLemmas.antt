@@ -14,11 +14,11 @@ use Rattle.raft_table.specs.Table.{Table, IsRecounted}
 use Rattle.raft_memtable.specs.declared.accessor.MemTableAccessor.TheInside.{Inside}
 use Rattle.raft_memtable.specs.Accessor.{Accessor, slot_of, table_in, live_in_all}
 use Rattle.raft_memtable.specs.AccessorCalls.{IsTableChanged, IsWritten}
-use Rattle.raft_memtable.specs.AccessorView.{together, accessor_shown, IsKept}
+use Rattle.raft_memtable.specs.AccessorView.{together, accessor_shown, IsAccessorKept}
 use Rattle.raft_memtable.specs.ItemWrites.{IsItemWritten}
-use Rattle.raft_memtable.specs.Merges.{IsMergedAt, IsMerged}
+use Rattle.raft_memtable.specs.Merges.{IsMergedAt, IsTableMerged}
 use Rattle.raft_memtable.specs.Updates.{IsTaken}
-use Rattle.raft_memtable.specs.Writes.{Writing, queue_of, after_content, after_items, listed_by, listed_by_items, IsFor, MeetsOthers, NoneMeetsOthers, IsContentFault, AreWritten, AreRefused}
+use Rattle.raft_memtable.specs.Writes.{Writing, queue_of, after_content, after_items, listed_by, listed_by_items, IsFor, MixesQueues, NoneMeetsOthers, IsWriteFault, AreWritten, AreItemsRefused}
 use Rattle.raft_memtable.proofs.MapLemmas.{with_own, with_same, some_is}
 use Rattle.raft_memtable.proofs.SlotLemmas.{get-shown, IsChanged, shown-changed, kept-changed}
 
@@ -34,11 +34,11 @@ pub record InSlot (a b : Inside) (id i : ℕ) (d slot : Tables) (after : Counts)
   pub one : slot ≡ with_table (slice_index_or a.slots i d) id (finite.get slot id)
   pub recounted : IsRecounted (table_in (slice_index_or a.slots i d) id) (table_in slot id) a.stats after
 
-module _ (a b : Inside) (id i : ℕ) (d slot : Tables) (after : Counts) (kept : IsKept a) (h : InSlot a b id i d slot after) where
+module _ (a b : Inside) (id i : ℕ) (d slot : Tables) (after : Counts) (kept : IsAccessorKept a) (h : InSlot a b id i d slot after) where
   changed : IsChanged a b id i d (finite.get slot id)
   changed = record { at = h.at; bound = h.bound; slots = h.slots ∙ ap (slice_set a.slots i) h.one; counts = subst (λ s. IsRecounted (table_in (slice_index_or a.slots i d) id) (table_in slot id) a.stats s) (sym h.stats) h.recounted }
 
-  pub kept-in : IsKept b
+  pub kept-in : IsAccessorKept b
   kept-in = kept-changed a b id i d (finite.get slot id) kept changed
 
   module _ (r : Accessor) (is : accessor_shown a ≡ r) where
@@ -76,7 +76,7 @@ module _ (a b : Inside) (id i : ℕ) (d slot : Tables) (after : Counts) (kept : 
         }
 
     -- a merge of a table
-    pub merged-in : {R : Type 0} (merge : Table → Table → Option Table) (newer : Table) (res : Result R Error) → IsMerged (merge (table_in (slice_index_or a.slots i d) id) newer) (slice_index_or a.slots i d) id a.stats res slot after
+    pub merged-in : {R : Type 0} (merge : Table → Table → Option Table) (newer : Table) (res : Result R Error) → IsTableMerged (merge (table_in (slice_index_or a.slots i d) id) newer) (slice_index_or a.slots i d) id a.stats res slot after
         → OnOk res (IsMergedAt merge id (finite.get r.tables id) (Some newer) (finite.get (together b.slots) id))
     merged-in merge newer (Err x) t = tt
     merged-in merge newer (Ok x) t = (
@@ -88,7 +88,7 @@ module _ (a b : Inside) (id i : ℕ) (d slot : Tables) (after : Counts) (kept : 
     alone-in = tables-are ∙ ap (with_table r.tables id) (sym now)
 
 -- an item written to its region's table
-module _ (a b : Inside) (item : Item) (i : ℕ) (d slot : Tables) (after : Counts) (kept : IsKept a) (h : InSlot a b item.raft_group_id i d slot after) (r : Accessor) (is : accessor_shown a ≡ r) where
+module _ (a b : Inside) (item : Item) (i : ℕ) (d slot : Tables) (after : Counts) (kept : IsAccessorKept a) (h : InSlot a b item.raft_group_id i d slot after) (r : Accessor) (is : accessor_shown a ≡ r) where
   here : finite.get r.tables item.raft_group_id ≡ finite.get (slice_index_or a.slots i d) item.raft_group_id
   here = get-shown a r item.raft_group_id i d kept is h.at h.bound
 
@@ -97,7 +97,7 @@ module _ (a b : Inside) (item : Item) (i : ℕ) (d slot : Tables) (after : Count
     ok = elim res as (λ res. IsItemWritten w item (slice_index_or a.slots i d) a.stats a.cleaned.items res slot after b.cleaned.items → OnOk res (AreWritten w (item ∷ []) r (accessor_shown b))) [
       | Ok x ↦ λ t. record {
         asked = (t.asked, tt);
-        accepted = (subst (λ o. MeetsOthers w (table_of item.raft_group_id o) item.content → ⊥) (sym here) t.accepted, λ u e. tt);
+        accepted = (subst (λ o. MixesQueues w (table_of item.raft_group_id o) item.content → ⊥) (sym here) t.accepted, λ u e. tt);
         tables = ap (option_and_then (λ o. Some (with_table r.tables item.raft_group_id o))) (ap (λ o. after_content w item.raft_group_id o item.content) here ∙ t.ok) ∙ ap Some (sym (tables-are a b item.raft_group_id i d slot after kept h r is));
         cleaned = t.cleaned ∙ ap (λ l. l ++ listed_by w item) (ap (λ (x : Accessor). x.cleaned) is) ∙ ap (λ l. r.cleaned ++ l) (sym (append-nil (listed_by w item)));
       }
@@ -108,8 +108,8 @@ module _ (a b : Inside) (item : Item) (i : ℕ) (d slot : Tables) (after : Count
       | Err x ↦ λ e. tables-are a b item.raft_group_id i d slot after kept h r is ∙ ap (with_table r.tables item.raft_group_id) (ap (λ m. finite.get m item.raft_group_id) e ∙ sym here) ∙ with_same r.tables item.raft_group_id
     ] t.err;
     cleaned = elim res as (λ res. OnErr res (b.cleaned.items ≡ a.cleaned.items) → OnErr res (b.cleaned.items ≡ r.cleaned)) [ Ok x ↦ λ e. tt | Err x ↦ λ e. e ∙ ap (λ (x : Accessor). x.cleaned) is ] t.cleaned_err;
-    fault = subst (λ n. IfErr res (IsContentFault w item.raft_group_id (finite.get r.tables item.raft_group_id) n item.content)) (kept.counted (queue_of w) ∙ ap (λ (x : Accessor). live_in_all (queue_of w) x.tables) is)
-        (subst (λ o. IfErr res (IsContentFault w item.raft_group_id o (live (queue_of w) a.stats) item.content)) (sym here) t.fault);
+    fault = subst (λ n. IfErr res (IsWriteFault w item.raft_group_id (finite.get r.tables item.raft_group_id) n item.content)) (kept.counted (queue_of w) ∙ ap (λ (x : Accessor). live_in_all (queue_of w) x.tables) is)
+        (subst (λ o. IfErr res (IsWriteFault w item.raft_group_id o (live (queue_of w) a.stats) item.content)) (sym here) t.fault);
   }
 
 -- ---- items in order
@@ -153,11 +153,11 @@ written_same w xs a b c h e f = record { asked = h.asked; accepted = h.accepted;
 
 -- the last item is refused
 pub refused_last : (w : Writing) (front : List Item) (item : Item) (all : List Item) (a b c : Accessor) (e : Error) → all ≡ front ++ item ∷ [] → AreWritten w front a b → c.tables ≡ b.tables → c.cleaned ≡ b.cleaned
-    → IsContentFault w item.raft_group_id (finite.get b.tables item.raft_group_id) (live_in_all (queue_of w) b.tables) item.content e → AreRefused w all a c e
+    → IsWriteFault w item.raft_group_id (finite.get b.tables item.raft_group_id) (live_in_all (queue_of w) b.tables) item.content e → AreItemsRefused w all a c e
 refused_last w front item all a b c e split h t l f = record {
   front = front;
   item = item;
   split = split;
   written = written_same w front a b c h t l;
-  fault = subst (λ m. IsContentFault w item.raft_group_id (finite.get m item.raft_group_id) (live_in_all (queue_of w) m) item.content e) (sym t) f;
+  fault = subst (λ m. IsWriteFault w item.raft_group_id (finite.get m item.raft_group_id) (live_in_all (queue_of w) m) item.content e) (sym t) f;
 }

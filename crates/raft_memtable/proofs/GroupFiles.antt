@@ -8,7 +8,7 @@ use Rattle.raft_base.specs.declared.errors.Error.{Error}
 use Rattle.raft_base.specs.declared.errors.Error.TheVariants.{Memory}
 use Rattle.raft_base.specs.declared.pipe_log.LogQueue.{LogQueue}
 use Rattle.raft_base.specs.declared.pipe_log.LogQueue.TheVariants.{Append, Rewrite}
-use Rattle.raft_table.specs.MarkJoins.{joined, met, fresh, mark_of}
+use Rattle.raft_table.specs.MarkJoins.{joined_mark, end_at_reach, fresh, mark_of}
 use Rattle.raft_table.specs.Steps.{AtomicGroup, table_of}
 use Rattle.raft_table.specs.Table.{Table, with_atomic_group}
 use Rattle.raft_table.proofs.MarkExact.{joined_fresh}
@@ -42,10 +42,10 @@ either false x = refl
 
 module _ (q : LogQueue) (start end : ℕ) where
   abbrev filed_region : MarkedRegions → ℕ → MarkedRegion
-  filed_region rs id = record { mark = joined q id (region_in rs id).mark (region_in rs id).table (mark_of (AtomicGroup start end)); table = filed_table start end id (finite.get rs.tables id) }
+  filed_region rs id = record { mark = joined_mark q id (region_in rs id).mark (region_in rs id).table (mark_of (AtomicGroup start end)); table = filed_table start end id (finite.get rs.tables id) }
 
   filed_mark : (rs : MarkedRegions) (id : ℕ) → (filed_region rs id).mark ≡ unwrap_or (finite.get rs.marks id) fresh
-  filed_mark rs id = joined_fresh q (met fresh (table_of id (finite.get rs.tables id))) (unwrap_or (finite.get rs.marks id) fresh)
+  filed_mark rs id = joined_fresh q (end_at_reach fresh (table_of id (finite.get rs.tables id))) (unwrap_or (finite.get rs.marks id) fresh)
 
   own_table : (rs : MarkedRegions) (id : ℕ) (ids : List ℕ)
       → cond (has id ids) (filed_table start end id (finite.get (with_region rs id (filed_region rs id)).tables id)) (finite.get (with_region rs id (filed_region rs id)).tables id) ≡ cond (has id (id ∷ ids)) (filed_table start end id (finite.get rs.tables id)) (finite.get rs.tables id)

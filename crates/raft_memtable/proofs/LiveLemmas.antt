@@ -15,7 +15,7 @@ use Rattle.raft_table.specs.Table.{Table, live_of, IsCounted, IsRecounted}
 use Rattle.raft_table.proofs.KeyValueCounts.{entries-remove}
 use Rattle.raft_table.proofs.Shown.{find-below, where_key-below, below_all-less, below_all-equal, first_of_both, second_of_both, equal}
 use Rattle.raft_history.specs.RegionSteps.{Tables, with_table}
-use Rattle.raft_memtable.specs.Accessor.{table_in, live_in, live_of_all, live_in_all, AreCounted}
+use Rattle.raft_memtable.specs.Accessor.{table_in, live_in, live_of_all, live_in_all, AreCountsOf}
 
 live-put : (q : LogQueue) (k : ℕ) (t : Table) (es : List (ℕ × Table)) → T (is_sorted nat_cmp es) → live_of_all q (put nat_cmp k t es) + live_in q (find nat_cmp k es) ≡ live_of_all q es + live_of q t
 live-put q k t [] h = omega arith
@@ -53,11 +53,11 @@ live-table_of q k None = live_of_empty q k
 live-table_of q k (Some t) = refl
 
 -- a table's records are counted among all
-pub table-counted : (m : Tables) (counts : Counts) (k : ℕ) → AreCounted m counts → IsCounted (table_in m k) counts
+pub table-counted : (m : Tables) (counts : Counts) (k : ℕ) → AreCountsOf m counts → IsCounted (table_in m k) counts
 table-counted m counts k h = λ q. omega (arith, h q, live-table_of q k (finite.get m k), live-remove q m k)
 
 -- where the counts change by one table's records, they are still those of all
-pub counted-with : (m : Tables) (old new : Counts) (k : ℕ) (t : Option Table) → AreCounted m old → IsRecounted (table_in m k) (table_of k t) old new → AreCounted (with_table m k t) new
+pub counted-with : (m : Tables) (old new : Counts) (k : ℕ) (t : Option Table) → AreCountsOf m old → IsRecounted (table_in m k) (table_of k t) old new → AreCountsOf (with_table m k t) new
 counted-with m old new k t h r = λ q. omega (arith, h q, r q, live-with q m k t, live-table_of q k (finite.get m k), live-table_of q k t)
 
 pub live-none : (q : LogQueue) → live_in_all q finite.empty ≡ 0

@@ -7,7 +7,7 @@ use Rattle.raft_base.specs.declared.pipe_log.LogQueue.{LogQueue}
 use Rattle.raft_records.specs.declared.entry_index.EntryIndex.{EntryIndex}
 use Rattle.raft_table.specs.Entries.{entry_count, from, placed_in}
 use Rattle.raft_table.specs.KeyValues.{file_weight}
-use Rattle.raft_table.specs.MarkJoins.{joined, mark_of}
+use Rattle.raft_table.specs.MarkJoins.{joined_mark, mark_of}
 use Rattle.raft_table.specs.Queues.{count_in, is_same}
 use Rattle.raft_table.specs.Start.{replayed}
 use Rattle.raft_table.specs.Steps.{Step, Run, Compact, Put, Del, AtomicGroup, Clean, stepped, is_there_after, table_of, there_if, after_step}
@@ -73,7 +73,7 @@ steps_live queue q rs new [] e h = omega (arith, ap (λ (n : MarkedRegions). liv
 steps_live queue q rs new (s ∷ steps) e h = go (after_step queue s.region (finite.get rs.tables s.region) s.step) refl e (λ x e. steps_live queue q (with_region rs s.region x) new steps e h.1)
   where
     put : Option Table → MarkedRegion
-    put t = record { mark = joined queue s.region (region_in rs s.region).mark (region_in rs s.region).table (mark_of s.step); table = t }
+    put t = record { mark = joined_mark queue s.region (region_in rs s.region).mark (region_in rs s.region).table (mark_of s.step); table = t }
 
     go : (o : Option (Option Table)) → after_step queue s.region (finite.get rs.tables s.region) s.step ≡ o → option_and_then (λ x. regions_after queue (with_region rs s.region x) steps) (option_map put o) ≡ Some new
         → ((x : MarkedRegion) → regions_after queue (with_region rs s.region x) steps ≡ Some new → live_in_all q new.tables ≤ live_in_all q (with_table rs.tables s.region x.table) + count_in q queue (records_in steps))

@@ -14,7 +14,7 @@ use Rattle.raft_table.specs.Steps.{table_of}
 use Rattle.raft_table.specs.Table.{Table, IsRecounted}
 use Rattle.raft_memtable.specs.Accessor.{slot_of, table_in}
 use Rattle.raft_memtable.specs.AccessorView.{slot_entries, together, AreSlots}
-use Rattle.raft_memtable.specs.Merges.{IsMergedAt, AreMerged, MayAlter, IsAltered}
+use Rattle.raft_memtable.specs.Merges.{IsMergedAt, AreTablesMerged, MayAlter, IsAltered}
 use Rattle.raft_memtable.specs.Updates.{Change, Changes}
 use Rattle.raft_memtable.proofs.MapLemmas.{none_some, by_id, eq_self, get_own, one_written, one_same, with_other}
 use Rattle.std.specs.Map.{lookup}
@@ -89,7 +89,7 @@ module _ (merge : Table → Table → Option Table) where
   ]
 
   -- a slot in front of others
-  pub slots-step : (m n z : Tables) (rest ms : List Tables) (k : ℕ) (s : Tables) → rest ≡ s ∷ ms → AreSlots k rest → AreMerged merge m s n → Joins n (slot_entries ms) z → Joins m (slot_entries rest) z
+  pub slots-step : (m n z : Tables) (rest ms : List Tables) (k : ℕ) (s : Tables) → rest ≡ s ∷ ms → AreSlots k rest → AreTablesMerged merge m s n → Joins n (slot_entries ms) z → Joins m (slot_entries rest) z
   slots-step m n z rest ms k s is slots here h =
       subst (λ l. Joins m (slot_entries l) z) (sym is)
       (joins-append m n z (finite.entries s) (slot_entries ms) (apart_slot k s ms (subst (AreSlots k) is slots)) (λ q. subst (λ o. IsMergedAt merge q (finite.get m q) o (finite.get n q)) (finite.get-entries s q) (here q)) h)
@@ -99,7 +99,7 @@ module _ (merge : Table → Table → Option Table) where
   joins-none m es e = λ q. subst (λ l. IsMergedAt merge q (finite.get m q) (find nat_cmp q l) (finite.get m q)) (sym e) refl
 
   -- the entries of a map
-  pub merged-of : (m n s : Tables) (es : List (ℕ × Table)) → finite.from_entries {R = nat_cmp} es ≡ s → Joins m es n → AreMerged merge m s n
+  pub merged-of : (m n s : Tables) (es : List (ℕ × Table)) → finite.from_entries {R = nat_cmp} es ≡ s → Joins m es n → AreTablesMerged merge m s n
   merged-of m n s es e h = λ q. subst (λ o. IsMergedAt merge q (finite.get m q) o (finite.get n q)) (sym (finite.get-from_entries nat_cmp_total es q) ∙ ap (λ r. finite.get r q) e) (h q)
 
 -- ---- the entries that are left

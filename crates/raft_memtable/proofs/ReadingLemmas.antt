@@ -10,7 +10,7 @@ use Rattle.raft_records.specs.declared.key_value.OpType.{OpType}
 use Rattle.raft_records.specs.declared.key_value.OpType.TheVariants as operations
 use Rattle.raft_records.specs.Group.{is_reserved}
 use Rattle.raft_records.specs.Item.{Item, Content, entries, command, pair}
-use Rattle.raft_history.specs.RegionSteps.{Tables, RegionStep, with_table, with_step, step_of, pair_step, steps_of_items, reading, cleaned_by_steps}
+use Rattle.raft_history.specs.RegionSteps.{Tables, RegionStep, with_table, with_step, content_step, pair_step, steps_of_items, reading, cleaned_by_steps}
 use Rattle.raft_table.specs.Steps.{table_of, there_if}
 use Rattle.raft_table.specs.Table.{Table, after_replay}
 use Rattle.raft_memtable.specs.Writes.{Replaying, after_content, after_items, after_pair, with_change, listed_by, listed_by_items}
@@ -23,7 +23,7 @@ module _ (q : LogQueue) (m n : Tables) (id : ℕ) (rest : List RegionStep) (late
   pair-read operations.Put key None file e = absurd (none_some e)
   pair-read operations.Del key value file e = h _ e
 
-  content-read : (content : Content) → option_and_then (λ t. later (with_table m id t)) (after_content (Replaying q) id (finite.get m id) content) ≡ Some n → reading q m (with_step id (step_of content) rest) ≡ Some n
+  content-read : (content : Content) → option_and_then (λ t. later (with_table m id t)) (after_content (Replaying q) id (finite.get m id) content) ≡ Some n → reading q m (with_step id (content_step content) rest) ≡ Some n
   content-read (entries es) e =
       elim (after_replay q (table_of id (finite.get m id)) es) as (λ o. option_and_then (λ t. later (with_table m id t)) (option_map Some o) ≡ Some n → option_and_then (λ t. reading q (with_table m id t) rest) (there_if true o) ≡ Some n) [
         | None ↦ λ e. absurd (none_some e)
@@ -41,7 +41,7 @@ pub items_read : (q : LogQueue) (m n : Tables) (items : List Item) → after_ite
 items_read q m n [] e = e
 items_read q m n (item ∷ items) e = content-read q m n item.raft_group_id (steps_of_items items) (λ k. after_items (Replaying q) k items) (λ k. items_read q k n items) item.content e
 
-content-listed : (content : Content) (id : ℕ) (rest : List RegionStep) → cleaned_by_steps (with_step id (step_of content) rest) ≡ listed_by (Replaying Append) (record { raft_group_id = id; content = content }) ++ cleaned_by_steps rest
+content-listed : (content : Content) (id : ℕ) (rest : List RegionStep) → cleaned_by_steps (with_step id (content_step content) rest) ≡ listed_by (Replaying Append) (record { raft_group_id = id; content = content }) ++ cleaned_by_steps rest
 content-listed (entries es) id rest = refl
 content-listed (command commands.Clean) id rest = refl
 content-listed (command (commands.Compact i)) id rest = refl

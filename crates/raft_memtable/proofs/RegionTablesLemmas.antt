@@ -10,7 +10,7 @@ use Rattle.std.specs.FinMap.{find}
 use Rattle.std.proofs.lemmas.Bool.{false≢true, eqb-true}
 use Rattle.raft_table.specs.Table.{Table}
 use Rattle.raft_memtable.specs.declared.region_tables.RegionTables.TheInside.{Inside}
-use Rattle.raft_memtable.specs.RegionTablesView.{tables_shown, IsKept}
+use Rattle.raft_memtable.specs.RegionTablesView.{tables_shown, AreTablesKept}
 use Rattle.raft_history.specs.RegionSteps.{Tables, with_table}
 use Rattle.raft_memtable.specs.Accessor.{table_in}
 use Rattle.raft_memtable.proofs.MapLemmas.{same, by_id, eq_self, not_same, self_same, with_own, with_other}
@@ -43,7 +43,7 @@ shown-with a b m k t is h =
       | inr f ↦ ap (λ b. cond b t (lookup (nat_eq q) a.tables.entries)) (not_same k q f) ∙ sym (get-shown a m q is) ∙ sym (with_other m k q t f)
     ])
 
-pub kept-with : (a b : Inside) (k : ℕ) (t : Option Table) → IsKept a → ((u : Table) → t ≡ Some u → u.region_id ≡ k) → ((q : ℕ) → lookup (nat_eq q) b.tables.entries ≡ cond (nat_eq k q) t (lookup (nat_eq q) a.tables.entries)) → IsKept b
+pub kept-with : (a b : Inside) (k : ℕ) (t : Option Table) → AreTablesKept a → ((u : Table) → t ≡ Some u → u.region_id ≡ k) → ((q : ℕ) → lookup (nat_eq q) b.tables.entries ≡ cond (nat_eq k q) t (lookup (nat_eq q) a.tables.entries)) → AreTablesKept b
 kept-with a b k t kept own h = λ q u e. elim (nat_eq k q) as (λ c. nat_eq k q ≡ c → cond c t (lookup (nat_eq q) a.tables.entries) ≡ Some u → u.region_id ≡ q) [
   | true ↦ λ c e. own u e ∙ eqb-true k q c
   | false ↦ λ c e. kept q u e
@@ -53,7 +53,7 @@ kept-with a b k t kept own h = λ q u e. elim (nat_eq k q) as (λ c. nat_eq k q 
 pub shown-same : (a b : Inside) (m : Tables) → tables_shown a ≡ m → ((q : ℕ) → lookup (nat_eq q) b.tables.entries ≡ lookup (nat_eq q) a.tables.entries) → tables_shown b ≡ m
 shown-same a b m is h = same _ _ (λ q. get-of b.tables.entries q ∙ h q ∙ sym (get-shown a m q is))
 
-pub kept-same : (a b : Inside) → IsKept a → ((q : ℕ) → lookup (nat_eq q) b.tables.entries ≡ lookup (nat_eq q) a.tables.entries) → IsKept b
+pub kept-same : (a b : Inside) → AreTablesKept a → ((q : ℕ) → lookup (nat_eq q) b.tables.entries ≡ lookup (nat_eq q) a.tables.entries) → AreTablesKept b
 kept-same a b kept h = λ q t e. kept q t (sym (h q) ∙ e)
 
 -- what a look-up for writing found
@@ -64,7 +64,7 @@ pub absent : (a : Inside) (m : Tables) (k : ℕ) (o : Option (MutBor Table)) →
 absent a m k o is v e = get-shown a m k is ∙ sym v ∙ ap option_copied_mut e
 
 -- the table of a region, or an empty one in its place, has the region's number
-pub region-in : (a : Inside) (m : Tables) (k : ℕ) → IsKept a → tables_shown a ≡ m → (table_in m k).region_id ≡ k
+pub region-in : (a : Inside) (m : Tables) (k : ℕ) → AreTablesKept a → tables_shown a ≡ m → (table_in m k).region_id ≡ k
 region-in a m k kept is = elim (finite.get m k) as (λ o. finite.get m k ≡ o → (table_of k o).region_id ≡ k) [ None ↦ λ e. refl | Some t ↦ λ e. kept k t (sym (get-shown a m k is) ∙ e) ] refl
 
 nothing : (es : Es) → ((q : ℕ) → lookup (nat_eq q) es ≡ None) → es ≡ []

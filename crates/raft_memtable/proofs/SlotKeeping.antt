@@ -14,12 +14,12 @@ use Rattle.raft_history.specs.RegionSteps.{Tables, with_table}
 use Rattle.raft_table.specs.Counts.{Counts, live}
 use Rattle.raft_table.specs.Table.{Table, empty_table, IsRecounted}
 use Rattle.raft_memtable.specs.declared.slot.Slot.TheInside.{Inside}
-use Rattle.raft_memtable.specs.Accessor.{Accessor, slot_of, table_in, live_in_all, AreCounted}
+use Rattle.raft_memtable.specs.Accessor.{Accessor, slot_of, table_in, live_in_all, AreCountsOf}
 use Rattle.raft_memtable.specs.AccessorCalls.{IsTableChanged, IsWritten}
 use Rattle.raft_memtable.specs.ItemWrites.{IsItemWritten}
-use Rattle.raft_memtable.specs.SlotView.{slot_shown, AreOf, IsKept}
+use Rattle.raft_memtable.specs.SlotView.{slot_shown, AreOf, IsSlotKept}
 use Rattle.raft_memtable.specs.Updates.{IsTaken}
-use Rattle.raft_memtable.specs.Writes.{Writing, queue_of, after_content, lists, cleaned_by_command, cleaned_by_content, listed_by, IsContentFault, AreWritten}
+use Rattle.raft_memtable.specs.Writes.{Writing, queue_of, after_content, lists, cleaned_by_command, cleaned_by_content, listed_by, IsWriteFault, AreWritten}
 use Rattle.std.specs.Ordering.{nat_cmp}
 use Rattle.raft_base.specs.declared.pipe_log.LogQueue.TheVariants.{Append, Rewrite}
 use Rattle.raft_table.specs.Steps.{table_of}
@@ -33,11 +33,11 @@ of-with number m id t own e = λ q u g. elim (by_id q id) [
 ]
 
 -- one region of the slot was changed, and the counts with it
-pub kept-with : (a b : Inside) (id : ℕ) → IsKept a → slot_of id ≡ a.number → b.number ≡ a.number → b.tables ≡ with_table a.tables id (finite.get b.tables id)
-    → IsRecounted (table_in a.tables id) (table_in b.tables id) a.stats b.stats → AllByRecursion (λ id. slot_of id ≡ a.number) b.cleaned.items → IsKept b
+pub kept-with : (a b : Inside) (id : ℕ) → IsSlotKept a → slot_of id ≡ a.number → b.number ≡ a.number → b.tables ≡ with_table a.tables id (finite.get b.tables id)
+    → IsRecounted (table_in a.tables id) (table_in b.tables id) a.stats b.stats → AllByRecursion (λ id. slot_of id ≡ a.number) b.cleaned.items → IsSlotKept b
 kept-with a b id kept e n one recounted l = record {
   regions = subst (λ m. AreOf b.number m) (sym one) (subst (λ k. AreOf k (with_table a.tables id (finite.get b.tables id))) (sym n) (of-with a.number a.tables id (finite.get b.tables id) kept.regions e));
-  counted = subst (λ m. AreCounted m b.stats) (sym one) (counted-with a.tables a.stats b.stats id (finite.get b.tables id) kept.counted recounted);
+  counted = subst (λ m. AreCountsOf m b.stats) (sym one) (counted-with a.tables a.stats b.stats id (finite.get b.tables id) kept.counted recounted);
   cleaned = subst (λ k. AllByRecursion (λ id. slot_of id ≡ k) b.cleaned.items) (sym n) l;
 }
 
@@ -85,7 +85,7 @@ slot-changed outcome IsFault a b id r t l = record {
 }
 
 -- an item written to its region's table
-pub slot-written : (w : Writing) (a b : Inside) (item : Item) (r : Result Unit Error) → IsKept a → IsItemWritten w item a.tables a.stats a.cleaned.items r b.tables b.stats b.cleaned.items → IsWritten w item r (slot_shown a).part (slot_shown b).part
+pub slot-written : (w : Writing) (a b : Inside) (item : Item) (r : Result Unit Error) → IsSlotKept a → IsItemWritten w item a.tables a.stats a.cleaned.items r b.tables b.stats b.cleaned.items → IsWritten w item r (slot_shown a).part (slot_shown b).part
 slot-written w a b item r kept t = record {
   ok = elim r as (λ r. IsItemWritten w item a.tables a.stats a.cleaned.items r b.tables b.stats b.cleaned.items → OnOk r (AreWritten w (item ∷ []) (slot_shown a).part (slot_shown b).part)) [
     | Ok x ↦ λ t. record {
@@ -98,12 +98,12 @@ slot-written w a b item r kept t = record {
   ] t;
   err = t.err;
   cleaned = t.cleaned_err;
-  fault = subst (λ n. IfErr r (IsContentFault w item.raft_group_id (finite.get a.tables item.raft_group_id) n item.content)) (kept.counted (queue_of w)) t.fault;
+  fault = subst (λ n. IfErr r (IsWriteFault w item.raft_group_id (finite.get a.tables item.raft_group_id) n item.content)) (kept.counted (queue_of w)) t.fault;
 }
 
 -- ---- a slot without tables, with one less, and with one more cleaned region
 
-pub kept-none : (a : Inside) → a.tables ≡ finite.empty → a.stats ≡ record { append = 0; written = 0; deleted = 0 } → a.cleaned.items ≡ [] → IsKept a
+pub kept-none : (a : Inside) → a.tables ≡ finite.empty → a.stats ≡ record { append = 0; written = 0; deleted = 0 } → a.cleaned.items ≡ [] → IsSlotKept a
 kept-none a e z l = record {
   regions = λ id t g. absurd (none_some (sym (finite.get-empty nat_cmp id) ∙ ap (λ m. finite.get m id) (sym e) ∙ g));
   counted = λ q. elim q as (λ q. live q a.stats ≡ live_in_all q a.tables) [ Append ↦ rw (z, e) (sym (live-none Append)) | Rewrite ↦ rw (z, e) (sym (live-none Rewrite)) ];
@@ -113,14 +113,14 @@ kept-none a e z l = record {
     none_some : {X : Type 0} {x : X} → None ≡ Some x → ⊥
     none_some e = cc
 
-pub kept-taken : (a b : Inside) (id : ℕ) → IsKept a → slot_of id ≡ a.number → b.number ≡ a.number → b.tables ≡ finite.remove a.tables id → IsRecounted (table_in a.tables id) (empty_table id) a.stats b.stats → b.cleaned.items ≡ a.cleaned.items → IsKept b
+pub kept-taken : (a b : Inside) (id : ℕ) → IsSlotKept a → slot_of id ≡ a.number → b.number ≡ a.number → b.tables ≡ finite.remove a.tables id → IsRecounted (table_in a.tables id) (empty_table id) a.stats b.stats → b.cleaned.items ≡ a.cleaned.items → IsSlotKept b
 kept-taken a b id kept e n gone recounted l =
     let none : finite.get b.tables id ≡ None = ap (λ m. finite.get m id) gone ∙ get_gone a.tables id in
     kept-with a b id kept e n (gone ∙ ap (with_table a.tables id) (sym none)) (subst (λ t. IsRecounted (table_in a.tables id) t a.stats b.stats) (sym (ap (table_of id) none)) recounted) (subst (AllByRecursion (λ id. slot_of id ≡ a.number)) (sym l) kept.cleaned)
 
-pub kept-listed : (a b : Inside) (xs : List ℕ) → IsKept a → b.number ≡ a.number → b.tables ≡ a.tables → b.stats ≡ a.stats → b.cleaned.items ≡ xs → AllByRecursion (λ id. slot_of id ≡ a.number) xs → IsKept b
+pub kept-listed : (a b : Inside) (xs : List ℕ) → IsSlotKept a → b.number ≡ a.number → b.tables ≡ a.tables → b.stats ≡ a.stats → b.cleaned.items ≡ xs → AllByRecursion (λ id. slot_of id ≡ a.number) xs → IsSlotKept b
 kept-listed a b xs kept n t s l h = record {
   regions = subst (AreOf b.number) (sym t) (subst (λ k. AreOf k a.tables) (sym n) kept.regions);
-  counted = subst (λ m. AreCounted m b.stats) (sym t) (subst (AreCounted a.tables) (sym s) kept.counted);
+  counted = subst (λ m. AreCountsOf m b.stats) (sym t) (subst (AreCountsOf a.tables) (sym s) kept.counted);
   cleaned = subst (AllByRecursion (λ id. slot_of id ≡ b.number)) (sym l) (subst (λ k. AllByRecursion (λ id. slot_of id ≡ k) xs) (sym n) h);
 }

@@ -10,8 +10,8 @@ use Rattle.raft_table.specs.Steps.{table_of}
 use Rattle.raft_table.specs.Table.{Table, IsRecounted}
 use Rattle.raft_memtable.specs.declared.accessor.MemTableAccessor.TheInside.{Inside}
 use Rattle.raft_history.specs.RegionSteps.{Tables, with_table}
-use Rattle.raft_memtable.specs.Accessor.{Accessor, slot_of, table_in, AreCounted, live_in_all}
-use Rattle.raft_memtable.specs.AccessorView.{slot_entries, together, IsSlot, AreSlots, accessor_shown, IsKept}
+use Rattle.raft_memtable.specs.Accessor.{Accessor, slot_of, table_in, AreCountsOf, live_in_all}
+use Rattle.raft_memtable.specs.AccessorView.{slot_entries, together, IsSlot, AreSlots, accessor_shown, IsAccessorKept}
 use Rattle.raft_memtable.proofs.LiveLemmas.{counted-with, live-none}
 use Rattle.raft_base.specs.declared.pipe_log.LogQueue.TheVariants.{Append, Rewrite}
 use Rattle.raft_table.specs.Counts.{live}
@@ -124,7 +124,7 @@ length-with ms i m = length-set ms i m
 
 -- ---- the accessor
 
-pub get-shown : (a : Inside) (r : Accessor) (id i : ℕ) (d : Tables) → IsKept a → accessor_shown a ≡ r → i ≡ slot_of id → i < 128 → finite.get r.tables id ≡ finite.get (slice_index_or a.slots i d) id
+pub get-shown : (a : Inside) (r : Accessor) (id i : ℕ) (d : Tables) → IsAccessorKept a → accessor_shown a ≡ r → i ≡ slot_of id → i < 128 → finite.get r.tables id ≡ finite.get (slice_index_or a.slots i d) id
 get-shown a r id i d kept is e lt =
     ap (λ (x : Accessor). finite.get x.tables id) (sym is) ∙ get-together a.slots id d kept.slots (omega (arith, kept.all, e, lt)) ∙ ap (λ j. finite.get (slice_index_or a.slots j d) id) (sym e)
 
@@ -135,11 +135,11 @@ pub record IsChanged (a b : Inside) (id i : ℕ) (d : Tables) (t : Option Table)
   pub slots : b.slots ≡ slice_set a.slots i (with_table (slice_index_or a.slots i d) id t)
   pub counts : IsRecounted (table_in (slice_index_or a.slots i d) id) (table_of id t) a.stats b.stats
 
-pub shown-changed : (a b : Inside) (r : Accessor) (id i : ℕ) (d : Tables) (t : Option Table) → IsKept a → accessor_shown a ≡ r → IsChanged a b id i d t → together b.slots ≡ with_table r.tables id t
+pub shown-changed : (a b : Inside) (r : Accessor) (id i : ℕ) (d : Tables) (t : Option Table) → IsAccessorKept a → accessor_shown a ≡ r → IsChanged a b id i d t → together b.slots ≡ with_table r.tables id t
 shown-changed a b r id i d t kept is ch =
     ap together (ch.slots ∙ ap (λ j. slice_set a.slots j (with_table (slice_index_or a.slots j d) id t)) ch.at) ∙ together-with a.slots id t d kept.slots (omega (arith, kept.all, ch.at, ch.bound)) ∙ ap (λ (x : Accessor). with_table x.tables id t) is
 
-pub kept-changed : (a b : Inside) (id i : ℕ) (d : Tables) (t : Option Table) → IsKept a → IsChanged a b id i d t → IsKept b
+pub kept-changed : (a b : Inside) (id i : ℕ) (d : Tables) (t : Option Table) → IsAccessorKept a → IsChanged a b id i d t → IsAccessorKept b
 kept-changed a b id i d t kept ch =
     let lt : slot_of id < length a.slots = omega (arith, kept.all, ch.at, ch.bound) in
     let is : b.slots ≡ slice_set a.slots (slot_of id) (with_table (slice_index_or a.slots (slot_of id) d) id t) = ch.slots ∙ ap (λ j. slice_set a.slots j (with_table (slice_index_or a.slots j d) id t)) ch.at in
@@ -147,7 +147,7 @@ kept-changed a b id i d t kept ch =
     record {
       slots = subst (AreSlots 0) (sym is) (slots-with a.slots id t d kept.slots lt);
       all = ap length is ∙ length-set a.slots (slot_of id) _ ∙ kept.all;
-      counted = subst (λ m. AreCounted m b.stats) (sym (shown-changed a b (accessor_shown a) id i d t kept refl ch)) (counted-with (together a.slots) a.stats b.stats id t kept.counted (subst (λ x. IsRecounted x (table_of id t) a.stats b.stats) same_table ch.counts));
+      counted = subst (λ m. AreCountsOf m b.stats) (sym (shown-changed a b (accessor_shown a) id i d t kept refl ch)) (counted-with (together a.slots) a.stats b.stats id t kept.counted (subst (λ x. IsRecounted x (table_of id t) a.stats b.stats) same_table ch.counts));
     }
 
 -- ---- no tables
@@ -175,7 +175,7 @@ all_alike [] (suc n) x l h = absurd (omega (arith, l))
 all_alike (y ∷ ys) zero x l h = absurd (omega (arith, l))
 all_alike (y ∷ ys) (suc n) x l h = ap (λ z. z ∷ ys) (h 0 (omega arith)) ∙ ap (λ zs. x ∷ zs) (all_alike ys n x (omega (arith, l)) (λ i lt. h (suc i) (omega (arith, lt))))
 
-pub kept-none : (a : Inside) → a.slots ≡ replicate 128 finite.empty → a.stats ≡ record { append = 0; written = 0; deleted = 0 } → IsKept a
+pub kept-none : (a : Inside) → a.slots ≡ replicate 128 finite.empty → a.stats ≡ record { append = 0; written = 0; deleted = 0 } → IsAccessorKept a
 kept-none a e z = record {
   slots = slots-none a.slots 128 e;
   all = ap length e;

@@ -14,7 +14,7 @@ use Rattle.raft_records.specs.declared.log_item.LogItem.{LogItem}
 use Rattle.raft_records.specs.Item.{item_of, entries}
 use Rattle.raft_table.specs.Counts.{Counts, live}
 use Rattle.raft_table.specs.Entries.{IsRunIn, end_of}
-use Rattle.raft_table.specs.MarkJoins.{joined, joined_at, met, fresh, mark_of}
+use Rattle.raft_table.specs.MarkJoins.{joined_mark, joined_at, end_at_reach, fresh, mark_of}
 use Rattle.raft_table.specs.Marks.{Mark}
 use Rattle.raft_table.specs.Queues.{other, count_in, is_same}
 use Rattle.raft_table.specs.Steps.{Step, Run, Put, Clean, table_of, there_if, after_step}
@@ -25,11 +25,11 @@ use Rattle.raft_table.proofs.TableLemmas.{count_in_own}
 use Rattle.raft_history.specs.Histories.{records_in}
 use Rattle.raft_history.specs.MarkedRegions.{Marks, MarkedRegions, MarkedRegion, region_in, with_region, stepped_region, regions_after}
 use Rattle.raft_history.specs.RegionSteps.{RegionStep, Tables, with_table, steps_of_items, cleaned_by}
-use Rattle.raft_memtable.specs.Accessor.{Accessor, table_in, live_in_all, AreCounted}
+use Rattle.raft_memtable.specs.Accessor.{Accessor, table_in, live_in_all, AreCountsOf}
 use Rattle.raft_memtable.specs.MarkedTables.{regions_in, AreStepsOfQueue, HaveRoom, HasLiveRoom, one_step, first_index, listed, AreTaken}
 use Rattle.raft_memtable.specs.RegionMarks.{mark_in}
 use Rattle.raft_memtable.specs.Updates.{IsReplayFault}
-use Rattle.raft_memtable.specs.Writes.{Replaying, IsContentFault}
+use Rattle.raft_memtable.specs.Writes.{Replaying, IsWriteFault}
 use Rattle.raft_memtable.specs.declared.marked_tables.MarkedTables.{MarkedTables}
 use Rattle.raft_memtable.proofs.LiveLemmas.{table_live-le}
 use Rattle.raft_memtable.proofs.MapLemmas.{some_is, none_some}
@@ -109,11 +109,11 @@ module _ (q : LogQueue) (id : ℕ) (s : Step) (a b : MarkedTables) where
   made tables marks = record { tables = tables; marks = marks }
 
   abbrev put : Option Table → MarkedRegion
-  put t = record { mark = joined q id (mark_in a.marks id) (finite.get a.accessor.tables id) (mark_of s); table = t }
+  put t = record { mark = joined_mark q id (mark_in a.marks id) (finite.get a.accessor.tables id) (mark_of s); table = t }
 
   -- by what the marks answer
   pub step_taken : (r : Result Unit Error) (t : Option Table) → after_step q id (finite.get a.accessor.tables id) s ≡ Some t → b.accessor.tables ≡ with_table a.accessor.tables id t
-      → b.accessor.cleaned ≡ a.accessor.cleaned ++ listed q (one_step id s) → OnOk r (b.marks ≡ finite.insert a.marks id (joined q id (mark_in a.marks id) (finite.get a.accessor.tables id) (mark_of s))) → IfErr r (λ e. e ≡ errors.Memory) → AreTaken q (one_step id s) r a b
+      → b.accessor.cleaned ≡ a.accessor.cleaned ++ listed q (one_step id s) → OnOk r (b.marks ≡ finite.insert a.marks id (joined_mark q id (mark_in a.marks id) (finite.get a.accessor.tables id) (mark_of s))) → IfErr r (λ e. e ≡ errors.Memory) → AreTaken q (one_step id s) r a b
   step_taken (Ok u) t e k l m n = record {
     ok = ap (λ o. option_and_then (λ x. regions_after q (with_region (regions_in a) id x) []) (option_map put o)) e ∙ ap Some (ap (λ ts. made ts (finite.insert a.marks id (put t).mark)) (sym k) ∙ ap (made b.accessor.tables) (sym m));
     cleaned = l;
@@ -131,7 +131,7 @@ module _ (q : LogQueue) (id : ℕ) (s : Step) (a : MarkedTables) (mid : Accessor
   none_cleaned Rewrite e = refl
 
   pub changed_taken : (r : Result Unit Error) (outcome : Option Table) → after_step q id (finite.get a.accessor.tables id) s ≡ option_map (λ t. Some t) outcome → outcome ≡ Some (table_in mid.tables id) → mid.tables ≡ finite.insert a.accessor.tables id (table_in mid.tables id)
-      → mid.cleaned ≡ a.accessor.cleaned → cleaned_by id s ≡ [] → OnOk r (marks ≡ finite.insert a.marks id (joined q id (mark_in a.marks id) (finite.get a.accessor.tables id) (mark_of s))) → IfErr r (λ e. e ≡ errors.Memory) → AreTaken q (one_step id s) r a (record { accessor = mid; marks = marks })
+      → mid.cleaned ≡ a.accessor.cleaned → cleaned_by id s ≡ [] → OnOk r (marks ≡ finite.insert a.marks id (joined_mark q id (mark_in a.marks id) (finite.get a.accessor.tables id) (mark_of s))) → IfErr r (λ e. e ≡ errors.Memory) → AreTaken q (one_step id s) r a (record { accessor = mid; marks = marks })
   changed_taken r outcome e k t l n m f =
       step_taken q id s a (record { accessor = mid; marks = marks }) r (Some (table_in mid.tables id)) (e ∙ ap (option_map (λ t. Some t)) k) t
       (l ∙ sym (ap (λ l. a.accessor.cleaned ++ l) (none_cleaned q n) ∙ append-nil a.accessor.cleaned)) m f
@@ -142,7 +142,7 @@ none_of : (o : Option Table) → option_map (λ t. Some t) o ≡ None → o ≡ 
 none_of None e = refl
 none_of (Some t) e = absurd cc
 
-run_by : (q : LogQueue) (id : ℕ) (o : Option Table) (run : List EntryIndex) (n : ℕ) (e : Error) → IsRunIn q run → live_of (other q) (table_of id o) ≡ 0 → n + length run < 2 ^ 64 → e ≢ errors.Memory → IsContentFault (Replaying q) id o n (entries run) e → after_replay q (table_of id o) run ≡ None
+run_by : (q : LogQueue) (id : ℕ) (o : Option Table) (run : List EntryIndex) (n : ℕ) (e : Error) → IsRunIn q run → live_of (other q) (table_of id o) ≡ 0 → n + length run < 2 ^ 64 → e ≢ errors.Memory → IsWriteFault (Replaying q) id o n (entries run) e → after_replay q (table_of id o) run ≡ None
 run_by q id o run n (errors.Corruption text) h alone few k (inl f) = absurd (f h)
 run_by q id o run n (errors.Corruption text) h alone few k (inr f) = none_of _ f
 run_by q id o run n (errors.InvalidArgument text) h alone few k f = absurd (omega (arith, alone, f))
@@ -164,18 +164,18 @@ put_accepted q file counts replaced e is few k f = put_by q counts replaced e fe
 -- ---- marks of one step
 
 -- a step that marks nothing marks the region all the same
-pub fresh_marked : (q : LogQueue) (id : ℕ) (s : Step) (o : Option Table) (old new : Marks) (r : Result Unit Error) → mark_of s ≡ fresh → OnOk r (new ≡ finite.insert old id (mark_in old id)) → OnOk r (new ≡ finite.insert old id (joined q id (mark_in old id) o (mark_of s)))
-fresh_marked q id s o old new (Ok u) e h = h ∙ ap (finite.insert old id) (sym (ap (λ n. joined_at q (met n (table_of id o)) (mark_in old id) n) e ∙ joined_fresh q (met fresh (table_of id o)) (mark_in old id)))
+pub fresh_marked : (q : LogQueue) (id : ℕ) (s : Step) (o : Option Table) (old new : Marks) (r : Result Unit Error) → mark_of s ≡ fresh → OnOk r (new ≡ finite.insert old id (mark_in old id)) → OnOk r (new ≡ finite.insert old id (joined_mark q id (mark_in old id) o (mark_of s)))
+fresh_marked q id s o old new (Ok u) e h = h ∙ ap (finite.insert old id) (sym (ap (λ n. joined_at q (end_at_reach n (table_of id o)) (mark_in old id) n) e ∙ joined_fresh q (end_at_reach fresh (table_of id o)) (mark_in old id)))
 fresh_marked q id s o old new (Err x) e h = tt
 
-pub run_mark : (q : LogQueue) (id : ℕ) (run : List EntryIndex) (start end : ℕ) (o : Option Table) (m : Mark) → first_index run ≡ Some start → end ≡ end_of (table_of id o).entries → joined_at q end m (record fresh { reach = Some start; cut = Some start }) ≡ joined q id m o (mark_of (Run run))
+pub run_mark : (q : LogQueue) (id : ℕ) (run : List EntryIndex) (start end : ℕ) (o : Option Table) (m : Mark) → first_index run ≡ Some start → end ≡ end_of (table_of id o).entries → joined_at q end m (record fresh { reach = Some start; cut = Some start }) ≡ joined_mark q id m o (mark_of (Run run))
 run_mark q id [] start end o m e k = absurd (none_some e)
 run_mark q id (x ∷ run) start end o m e k =
     ap (λ i. joined_at q end m (record fresh { reach = Some i; cut = Some i })) (sym (some_is e))
     ∙ ap (λ y. joined_at q y m (record fresh { reach = Some x.index; cut = Some x.index })) (k ∙ ap end_of (sym (from_whole (table_of id o).entries)))
 
 pub run_marked : (q : LogQueue) (id : ℕ) (run : List EntryIndex) (start end : ℕ) (o : Option Table) (old new : Marks) (r : Result Unit Error) → first_index run ≡ Some start → end ≡ end_of (table_of id o).entries → OnOk r (new ≡ finite.insert old id (joined_at q end (mark_in old id) (record fresh { reach = Some start; cut = Some start })))
-    → OnOk r (new ≡ finite.insert old id (joined q id (mark_in old id) o (mark_of (Run run))))
+    → OnOk r (new ≡ finite.insert old id (joined_mark q id (mark_in old id) o (mark_of (Run run))))
 run_marked q id run start end o old new (Ok u) e k h = h ∙ ap (finite.insert old id) (run_mark q id run start end o (mark_in old id) e k)
 run_marked q id run start end o old new (Err x) e k h = tt
 
@@ -192,13 +192,13 @@ run_step q id o run = go (after_replay q (table_of id o) run)
 
 -- ---- steps that are refused
 
-pub run_taken : (q : LogQueue) (id : ℕ) (run : List EntryIndex) (a b : MarkedTables) (e : Error) → IsRunIn q run → AreCounted a.accessor.tables a.accessor.counts → (e ≡ errors.Memory) ⊎ IsReplayFault q run (table_in a.accessor.tables id) a.accessor.counts e → AreTaken q (one_step id (Run run)) (Err e) a b
+pub run_taken : (q : LogQueue) (id : ℕ) (run : List EntryIndex) (a b : MarkedTables) (e : Error) → IsRunIn q run → AreCountsOf a.accessor.tables a.accessor.counts → (e ≡ errors.Memory) ⊎ IsReplayFault q run (table_in a.accessor.tables id) a.accessor.counts e → AreTaken q (one_step id (Run run)) (Err e) a b
 run_taken q id run a b e h counted (inl is) = taken_memory q (one_step id (Run run)) a b e is
 run_taken q id run a b e h counted (inr f) =
     step_refused q id (Run run) a b e (λ k room.
     ap (there_if true) (run_refused q id (finite.get a.accessor.tables id) run a.accessor.counts e h (omega (arith, table_live-le (other q) a.accessor.tables id, room.alone)) (omega (arith, counted q, room.few)) k f))
 
-pub put_taken : (q : LogQueue) (id : ℕ) (key value : List ℕ) (file : FileId) (replaced : Option FileId) (a b : MarkedTables) (e : Error) → file.queue ≡ q → AreCounted a.accessor.tables a.accessor.counts → (e ≡ errors.Memory) ⊎ IsTablePutFault file.queue a.accessor.counts replaced e → AreTaken q (one_step id (Put key value file)) (Err e) a b
+pub put_taken : (q : LogQueue) (id : ℕ) (key value : List ℕ) (file : FileId) (replaced : Option FileId) (a b : MarkedTables) (e : Error) → file.queue ≡ q → AreCountsOf a.accessor.tables a.accessor.counts → (e ≡ errors.Memory) ⊎ IsTablePutFault file.queue a.accessor.counts replaced e → AreTaken q (one_step id (Put key value file)) (Err e) a b
 put_taken q id key value file replaced a b e h counted (inl is) = taken_memory q (one_step id (Put key value file)) a b e is
 put_taken q id key value file replaced a b e h counted (inr f) = step_refused q id (Put key value file) a b e (λ k room. absurd (put_accepted q file a.accessor.counts replaced e h (omega (arith, counted q, room.few)) k f))
 
@@ -209,7 +209,7 @@ cleaned_list Append id old = refl
 cleaned_list Rewrite id old = sym (append-nil old)
 
 pub clean_taken : (q : LogQueue) (id : ℕ) (a : MarkedTables) (mid : Accessor) (marks : Marks) (r : Result Unit Error) (b : Bool) → b ≡ is_same Append q → mid.tables ≡ finite.remove a.accessor.tables id → mid.cleaned ≡ cond b (a.accessor.cleaned ++ id ∷ []) a.accessor.cleaned
-    → OnOk r (marks ≡ finite.insert a.marks id (joined q id (mark_in a.marks id) (finite.get a.accessor.tables id) (mark_of Clean))) → IfErr r (λ e. e ≡ errors.Memory) → AreTaken q (one_step id Clean) r a (record { accessor = mid; marks = marks })
+    → OnOk r (marks ≡ finite.insert a.marks id (joined_mark q id (mark_in a.marks id) (finite.get a.accessor.tables id) (mark_of Clean))) → IfErr r (λ e. e ≡ errors.Memory) → AreTaken q (one_step id Clean) r a (record { accessor = mid; marks = marks })
 clean_taken q id a mid marks r b e t l m f =
     step_taken q id Clean a (record { accessor = mid; marks = marks }) r None refl t (l ∙ ap (λ b. cond b (a.accessor.cleaned ++ id ∷ []) a.accessor.cleaned) e ∙ cleaned_list q id a.accessor.cleaned) m f
 

@@ -26,7 +26,7 @@ use Rattle.raft_table.proofs.RunCounts.{append_full, replay_full}
 use Rattle.raft_memtable.specs.Accessor.{table_in}
 use Rattle.raft_memtable.specs.ItemWrites.{IsItemWritten, pair_change}
 use Rattle.raft_memtable.specs.Updates.{IsTaken, IsReplayFault, IsRefusal}
-use Rattle.raft_memtable.specs.Writes.{Writing, Appending, Replaying, Rewriting, queue_of, after_content, after_rewrite_put, with_change, lists, listed_by, cleaned_by_content, IsFor, MeetsOthers, IsContentFault}
+use Rattle.raft_memtable.specs.Writes.{Writing, Appending, Replaying, Rewriting, queue_of, after_content, after_rewrite_put, with_change, lists, listed_by, cleaned_by_content, IsFor, MixesQueues, IsWriteFault}
 use Rattle.raft_memtable.proofs.MapLemmas.{get_gone, one_same}
 
 -- new items meet no records of the other queue, and those that are read again only where there are some
@@ -40,8 +40,8 @@ never_met n (Err e) z = tt
 
 -- what is done to the table is what the content asks for, and no region is listed
 pub written_by : (w : Writing) (item : Item) (outcome : Option Table) (IsFault : Error → Type 0) (old : Tables) (counts : Counts) (list : List ℕ) (r : Result Unit Error) (new : Tables) (after : Counts) → IsTaken outcome IsFault old item.raft_group_id counts r new after
-    → IsFor w item.content → OnOk r (MeetsOthers w (table_in old item.raft_group_id) item.content → ⊥) → listed_by w item ≡ [] → after_content w item.raft_group_id (finite.get old item.raft_group_id) item.content ≡ option_map Some outcome
-    → ((e : Error) → IsFault e → IsContentFault w item.raft_group_id (finite.get old item.raft_group_id) (live (queue_of w) counts) item.content e) → IsItemWritten w item old counts list r new after list
+    → IsFor w item.content → OnOk r (MixesQueues w (table_in old item.raft_group_id) item.content → ⊥) → listed_by w item ≡ [] → after_content w item.raft_group_id (finite.get old item.raft_group_id) item.content ≡ option_map Some outcome
+    → ((e : Error) → IsFault e → IsWriteFault w item.raft_group_id (finite.get old item.raft_group_id) (live (queue_of w) counts) item.content e) → IsItemWritten w item old counts list r new after list
 written_by w item outcome IsFault old counts list r new after h asked alone none is fault = record {
   accepted = alone;
   asked = elim r as (λ r. OnOk r (IsFor w item.content)) [ Ok a ↦ asked | Err x ↦ tt ];
@@ -52,16 +52,16 @@ written_by w item outcome IsFault old counts list r new after h asked alone none
   cleaned = elim r as (λ r. OnOk r (list ≡ list ++ listed_by w item)) [ Ok a ↦ sym (append-nil list) ∙ sym (ap (λ l. list ++ l) none) | Err x ↦ tt ];
   err = h.err;
   cleaned_err = elim r as (λ r. OnErr r (list ≡ list)) [ Ok a ↦ tt | Err x ↦ refl ];
-  fault = elim r as (λ r. IfErr r (λ e. (e ≡ errors.Memory) ⊎ IsFault e) → IfErr r (IsContentFault w item.raft_group_id (finite.get old item.raft_group_id) (live (queue_of w) counts) item.content)) [
+  fault = elim r as (λ r. IfErr r (λ e. (e ≡ errors.Memory) ⊎ IsFault e) → IfErr r (IsWriteFault w item.raft_group_id (finite.get old item.raft_group_id) (live (queue_of w) counts) item.content)) [
     | Ok a ↦ λ f. tt
-    | Err x ↦ λ f. elim f [ inl e ↦ subst (IsContentFault w item.raft_group_id (finite.get old item.raft_group_id) (live (queue_of w) counts) item.content) (sym e) tt | inr g ↦ fault x g ]
+    | Err x ↦ λ f. elim f [ inl e ↦ subst (IsWriteFault w item.raft_group_id (finite.get old item.raft_group_id) (live (queue_of w) counts) item.content) (sym e) tt | inr g ↦ fault x g ]
   ] h.fault;
   one = h.one;
   recounted = h.recounted;
 }
 
 -- an item that is refused changes nothing
-pub refused_by : (w : Writing) (item : Item) (old : Tables) (counts : Counts) (list : List ℕ) (e : Error) → IsContentFault w item.raft_group_id (finite.get old item.raft_group_id) (live (queue_of w) counts) item.content e → IsItemWritten w item old counts list (Err e) old counts list
+pub refused_by : (w : Writing) (item : Item) (old : Tables) (counts : Counts) (list : List ℕ) (e : Error) → IsWriteFault w item.raft_group_id (finite.get old item.raft_group_id) (live (queue_of w) counts) item.content e → IsItemWritten w item old counts list (Err e) old counts list
 refused_by w item old counts list e fault = record {
   accepted = tt;
   asked = tt;
@@ -75,7 +75,7 @@ refused_by w item old counts list e fault = record {
 }
 
 -- nor does one that is skipped
-pub skipped_by : (w : Writing) (item : Item) (old : Tables) (counts : Counts) (list : List ℕ) → IsFor w item.content → (MeetsOthers w (table_in old item.raft_group_id) item.content → ⊥) → listed_by w item ≡ [] → after_content w item.raft_group_id (finite.get old item.raft_group_id) item.content ≡ Some (finite.get old item.raft_group_id) → IsItemWritten w item old counts list (Ok tt) old counts list
+pub skipped_by : (w : Writing) (item : Item) (old : Tables) (counts : Counts) (list : List ℕ) → IsFor w item.content → (MixesQueues w (table_in old item.raft_group_id) item.content → ⊥) → listed_by w item ≡ [] → after_content w item.raft_group_id (finite.get old item.raft_group_id) item.content ≡ Some (finite.get old item.raft_group_id) → IsItemWritten w item old counts list (Ok tt) old counts list
 skipped_by w item old counts list asked alone none is = record {
   accepted = alone;
   asked = asked;
@@ -90,61 +90,61 @@ skipped_by w item old counts list asked alone none is = record {
 
 -- ---- why runs are refused
 
-by_append : (id : ℕ) (o : Option Table) (rs : List EntryIndex) (p : Option (List EntryIndex)) (counts : Counts) (e : Error) → appended (table_of id o).entries rs ≡ p → IsTableRunFault Append counts (table_of id o).entries p e → IsContentFault Appending id o (live Append counts) (entries rs) e
+by_append : (id : ℕ) (o : Option Table) (rs : List EntryIndex) (p : Option (List EntryIndex)) (counts : Counts) (e : Error) → appended (table_of id o).entries rs ≡ p → IsTableRunFault Append counts (table_of id o).entries p e → IsWriteFault Appending id o (live Append counts) (entries rs) e
 by_append id o rs None counts (errors.Corruption text) is h = inr (ap (λ p. option_map Some (option_map (table_with_entries (table_of id o)) p)) is)
 by_append id o rs None counts errors.Memory is h = tt
 by_append id o rs (Some after) counts errors.Full is h = append_full Append counts (table_of id o).entries rs (subst (λ p. IsTableRunFault Append counts (table_of id o).entries p errors.Full) (sym is) h)
 by_append id o rs (Some after) counts errors.Memory is h = tt
 by_append id o rs p counts e is h = absurd h
 
-pub append_fault : (id : ℕ) (o : Option Table) (rs : List EntryIndex) (counts : Counts) (e : Error) → IsTableRunFault Append counts (table_of id o).entries (appended (table_of id o).entries rs) e → IsContentFault Appending id o (live Append counts) (entries rs) e
+pub append_fault : (id : ℕ) (o : Option Table) (rs : List EntryIndex) (counts : Counts) (e : Error) → IsTableRunFault Append counts (table_of id o).entries (appended (table_of id o).entries rs) e → IsWriteFault Appending id o (live Append counts) (entries rs) e
 append_fault id o rs counts e h = by_append id o rs _ counts e refl h
 
-by_replay : (q : LogQueue) (id : ℕ) (o : Option Table) (rs : List EntryIndex) (p : Option (List EntryIndex)) (counts : Counts) (e : Error) → replayed q (table_of id o).entries rs ≡ p → IsTableRunFault q counts (table_of id o).entries p e → IsContentFault (Replaying q) id o (live q counts) (entries rs) e
+by_replay : (q : LogQueue) (id : ℕ) (o : Option Table) (rs : List EntryIndex) (p : Option (List EntryIndex)) (counts : Counts) (e : Error) → replayed q (table_of id o).entries rs ≡ p → IsTableRunFault q counts (table_of id o).entries p e → IsWriteFault (Replaying q) id o (live q counts) (entries rs) e
 by_replay q id o rs None counts (errors.Corruption text) is h = inr (ap (λ p. option_map Some (option_map (table_with_entries (table_of id o)) p)) is)
 by_replay q id o rs None counts errors.Memory is h = tt
 by_replay q id o rs (Some after) counts errors.Full is h = replay_full q q counts (table_of id o).entries rs (subst (λ p. IsTableRunFault q counts (table_of id o).entries p errors.Full) (sym is) h)
 by_replay q id o rs (Some after) counts errors.Memory is h = tt
 by_replay q id o rs p counts e is h = absurd h
 
-pub replay_fault : (q : LogQueue) (id : ℕ) (o : Option Table) (rs : List EntryIndex) (counts : Counts) (e : Error) → IsReplayFault q rs (table_of id o) counts e → IsContentFault (Replaying q) id o (live q counts) (entries rs) e
+pub replay_fault : (q : LogQueue) (id : ℕ) (o : Option Table) (rs : List EntryIndex) (counts : Counts) (e : Error) → IsReplayFault q rs (table_of id o) counts e → IsWriteFault (Replaying q) id o (live q counts) (entries rs) e
 replay_fault q id o rs counts (errors.InvalidArgument text) h = h
 replay_fault q id o rs counts errors.Memory h = tt
 replay_fault q id o rs counts e h = by_replay q id o rs _ counts e refl h
 
-by_rewrite : (gate : Option ℕ) (seq id : ℕ) (o : Option Table) (rs : List EntryIndex) (p : Option (List EntryIndex)) (counts : Counts) (e : Error) → rewritten gate rs (table_of id o).entries ≡ p → IsRewriteFault (length rs) counts p e → IsContentFault (Rewriting gate seq) id o (live Rewrite counts) (entries rs) e
+by_rewrite : (gate : Option ℕ) (seq id : ℕ) (o : Option Table) (rs : List EntryIndex) (p : Option (List EntryIndex)) (counts : Counts) (e : Error) → rewritten gate rs (table_of id o).entries ≡ p → IsRewriteFault (length rs) counts p e → IsWriteFault (Rewriting gate seq) id o (live Rewrite counts) (entries rs) e
 by_rewrite gate seq id o rs None counts (errors.Corruption text) is h = inr (ap (λ p. option_map Some (option_map (table_with_entries (table_of id o)) p)) is)
 by_rewrite gate seq id o rs None counts errors.Memory is h = tt
 by_rewrite gate seq id o rs (Some after) counts errors.Full is h = h
 by_rewrite gate seq id o rs p counts errors.Memory is h = tt
 by_rewrite gate seq id o rs p counts e is h = absurd h
 
-pub rewrite_fault : (gate : Option ℕ) (seq id : ℕ) (o : Option Table) (rs : List EntryIndex) (counts : Counts) (e : Error) → IsRewriteFault (length rs) counts (rewritten gate rs (table_of id o).entries) e → IsContentFault (Rewriting gate seq) id o (live Rewrite counts) (entries rs) e
+pub rewrite_fault : (gate : Option ℕ) (seq id : ℕ) (o : Option Table) (rs : List EntryIndex) (counts : Counts) (e : Error) → IsRewriteFault (length rs) counts (rewritten gate rs (table_of id o).entries) e → IsWriteFault (Rewriting gate seq) id o (live Rewrite counts) (entries rs) e
 rewrite_fault gate seq id o rs counts e h = by_rewrite gate seq id o rs _ counts e refl h
 
 -- what isn't as asked, or has no outcome
-pub no_outcome : (w : Writing) (id : ℕ) (o : Option Table) (live : ℕ) (content : Content) (e : Error) → IsRefusal e → (IsFor w content → ⊥) ⊎ (after_content w id o content ≡ None) → IsContentFault w id o live content e
+pub no_outcome : (w : Writing) (id : ℕ) (o : Option Table) (live : ℕ) (content : Content) (e : Error) → IsRefusal e → (IsFor w content → ⊥) ⊎ (after_content w id o content ≡ None) → IsWriteFault w id o live content e
 no_outcome w id o live content (errors.Corruption text) h k = k
 no_outcome w id o live content errors.Memory h k = tt
 no_outcome w id o live content e h k = absurd h
 
 -- ---- why changes of keys are refused
 
-put_at : (q : LogQueue) (id : ℕ) (o : Option Table) (p : Pair) (counts : Counts) (replaced : Option FileId) (e : Error) → IsTablePutFault q counts replaced e → IsContentFault (Replaying q) id o (live q counts) (pair p) e
+put_at : (q : LogQueue) (id : ℕ) (o : Option Table) (p : Pair) (counts : Counts) (replaced : Option FileId) (e : Error) → IsTablePutFault q counts replaced e → IsWriteFault (Replaying q) id o (live q counts) (pair p) e
 put_at q id o p counts replaced errors.Full h = h.0
 put_at q id o p counts replaced errors.Memory h = tt
 put_at q id o p counts replaced e h = absurd h
 
-pub put_fault : (q : LogQueue) (id : ℕ) (o : Option Table) (p : Pair) (counts : Counts) (file : FileId) (replaced : Option FileId) (e : Error) → file.queue ≡ q → IsTablePutFault file.queue counts replaced e → IsContentFault (Replaying q) id o (live q counts) (pair p) e
+pub put_fault : (q : LogQueue) (id : ℕ) (o : Option Table) (p : Pair) (counts : Counts) (file : FileId) (replaced : Option FileId) (e : Error) → file.queue ≡ q → IsTablePutFault file.queue counts replaced e → IsWriteFault (Replaying q) id o (live q counts) (pair p) e
 put_fault q id o p counts file replaced e is h = put_at q id o p counts replaced e (subst (λ q. IsTablePutFault q counts replaced e) is h)
 
-key_by : (gate : Option ℕ) (seq id : ℕ) (o : Option Table) (p : Pair) (counts : Counts) (t : Option Table) (e : Error) → after_content (Rewriting gate seq) id o (pair p) ≡ option_map Some t → IsKeyRewriteFault counts t e → IsContentFault (Rewriting gate seq) id o (live Rewrite counts) (pair p) e
+key_by : (gate : Option ℕ) (seq id : ℕ) (o : Option Table) (p : Pair) (counts : Counts) (t : Option Table) (e : Error) → after_content (Rewriting gate seq) id o (pair p) ≡ option_map Some t → IsKeyRewriteFault counts t e → IsWriteFault (Rewriting gate seq) id o (live Rewrite counts) (pair p) e
 key_by gate seq id o p counts None (errors.Corruption text) is h = inr is
 key_by gate seq id o p counts None errors.Memory is h = tt
 key_by gate seq id o p counts (Some u) errors.Full is h = h
 key_by gate seq id o p counts t e is h = absurd h
 
-pub key_fault : (gate : Option ℕ) (seq id : ℕ) (o : Option Table) (p : Pair) (counts : Counts) (t : Option Table) (e : Error) → after_content (Rewriting gate seq) id o (pair p) ≡ option_map Some t → IsKeyRewriteFault counts t e → IsContentFault (Rewriting gate seq) id o (live Rewrite counts) (pair p) e
+pub key_fault : (gate : Option ℕ) (seq id : ℕ) (o : Option Table) (p : Pair) (counts : Counts) (t : Option Table) (e : Error) → after_content (Rewriting gate seq) id o (pair p) ≡ option_map Some t → IsKeyRewriteFault counts t e → IsWriteFault (Rewriting gate seq) id o (live Rewrite counts) (pair p) e
 key_fault gate seq id o p counts t e is h = key_by gate seq id o p counts t e is h
 
 -- a rewriting of a key without a value has no outcome
@@ -183,13 +183,13 @@ cleaned_by q id old counts list new after listed e r l =
 
 -- ---- new commands and changes of keys are as those that are read again
 
-command_as_new : (id : ℕ) (o : Option Table) (live : ℕ) (c : Command) (e : Error) → IsContentFault (Replaying Append) id o live (command c) e → IsContentFault Appending id o live (command c) e
+command_as_new : (id : ℕ) (o : Option Table) (live : ℕ) (c : Command) (e : Error) → IsWriteFault (Replaying Append) id o live (command c) e → IsWriteFault Appending id o live (command c) e
 command_as_new id o live c (errors.Corruption text) h = h
 command_as_new id o live c errors.Full h = h
 command_as_new id o live c errors.Memory h = tt
 command_as_new id o live c e h = absurd h
 
-pair_as_new : (id : ℕ) (o : Option Table) (live : ℕ) (p : Pair) (e : Error) → IsContentFault (Replaying Append) id o live (pair p) e → IsContentFault Appending id o live (pair p) e
+pair_as_new : (id : ℕ) (o : Option Table) (live : ℕ) (p : Pair) (e : Error) → IsWriteFault (Replaying Append) id o live (pair p) e → IsWriteFault Appending id o live (pair p) e
 pair_as_new id o live p (errors.Corruption text) h = h
 pair_as_new id o live p errors.Full h = h
 pair_as_new id o live p errors.Memory h = tt
@@ -203,7 +203,7 @@ new_command id c old counts list r new after listed h = record {
   cleaned = h.cleaned;
   err = h.err;
   cleaned_err = h.cleaned_err;
-  fault = elim r as (λ r. IfErr r (IsContentFault (Replaying Append) id (finite.get old id) (live Append counts) (command c)) → IfErr r (IsContentFault Appending id (finite.get old id) (live Append counts) (command c))) [ Ok a ↦ λ f. tt | Err x ↦ λ f. command_as_new id (finite.get old id) (live Append counts) c x f ] h.fault;
+  fault = elim r as (λ r. IfErr r (IsWriteFault (Replaying Append) id (finite.get old id) (live Append counts) (command c)) → IfErr r (IsWriteFault Appending id (finite.get old id) (live Append counts) (command c))) [ Ok a ↦ λ f. tt | Err x ↦ λ f. command_as_new id (finite.get old id) (live Append counts) c x f ] h.fault;
   one = h.one;
   recounted = h.recounted;
 }
@@ -216,7 +216,7 @@ new_pair id p old counts list r new after listed h = record {
   cleaned = h.cleaned;
   err = h.err;
   cleaned_err = h.cleaned_err;
-  fault = elim r as (λ r. IfErr r (IsContentFault (Replaying Append) id (finite.get old id) (live Append counts) (pair p)) → IfErr r (IsContentFault Appending id (finite.get old id) (live Append counts) (pair p))) [ Ok a ↦ λ f. tt | Err x ↦ λ f. pair_as_new id (finite.get old id) (live Append counts) p x f ] h.fault;
+  fault = elim r as (λ r. IfErr r (IsWriteFault (Replaying Append) id (finite.get old id) (live Append counts) (pair p)) → IfErr r (IsWriteFault Appending id (finite.get old id) (live Append counts) (pair p))) [ Ok a ↦ λ f. tt | Err x ↦ λ f. pair_as_new id (finite.get old id) (live Append counts) p x f ] h.fault;
   one = h.one;
   recounted = h.recounted;
 }

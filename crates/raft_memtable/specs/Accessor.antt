@@ -37,5 +37,5 @@ unfoldable pub live_in_all : LogQueue → Tables → ℕ
 live_in_all queue tables = live_of_all queue (finite.entries tables)
 
 -- the counts are those of the tables
-abbrev pub AreCounted : Tables → Counts → Type 0
-AreCounted tables counts = (q : LogQueue) → live q counts ≡ live_in_all q tables
+abbrev pub AreCountsOf : Tables → Counts → Type 0
+AreCountsOf tables counts = (q : LogQueue) → live q counts ≡ live_in_all q tables

@@ -7,7 +7,7 @@ use Rattle.raft_base.specs.declared.errors.Error.TheVariants.{Memory}
 use Rattle.raft_records.specs.Item.{Item}
 use Rattle.raft_table.specs.Table.{Table}
 use Rattle.raft_memtable.specs.Accessor.{Accessor, table_in, live_in_all}
-use Rattle.raft_memtable.specs.Writes.{Writing, queue_of, AreWritten, IsContentFault}
+use Rattle.raft_memtable.specs.Writes.{Writing, queue_of, AreWritten, IsWriteFault}
 
 -- a region's table becomes the outcome of a change, if there is one, and all others stay; where the change is refused all tables stay, for this fault or for want of memory
 pub record IsTableChanged {R : Type 0} (outcome : Option Table) (IsFault : Error → Type 0) (id : ℕ) (r : Result R Error) (old new : Accessor) : Type 0 where
@@ -28,4 +28,4 @@ pub record IsWritten (w : Writing) (item : Item) (r : Result Unit Error) (old ne
   pub ok : OnOk r (AreWritten w (item ∷ []) old new)
   pub err : OnErr r (new.tables ≡ old.tables)
   pub cleaned : OnErr r (new.cleaned ≡ old.cleaned)
-  pub fault : IfErr r (IsContentFault w item.raft_group_id (finite.get old.tables item.raft_group_id) (live_in_all (queue_of w) old.tables) item.content)
+  pub fault : IfErr r (IsWriteFault w item.raft_group_id (finite.get old.tables item.raft_group_id) (live_in_all (queue_of w) old.tables) item.content)

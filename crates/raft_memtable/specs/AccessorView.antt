@@ -4,7 +4,7 @@ use Rattle.std.specs.FinMap as finite
 use Rattle.raft_table.specs.Table.{Table}
 use Rattle.raft_memtable.specs.declared.accessor.MemTableAccessor.TheInside.{Inside}
 use Rattle.raft_history.specs.RegionSteps.{Tables}
-use Rattle.raft_memtable.specs.Accessor.{Accessor, slot_of, AreCounted}
+use Rattle.raft_memtable.specs.Accessor.{Accessor, slot_of, AreCountsOf}
 
 -- the tables of all slots, one slot behind the other
 abbrev pub slot_entries : List Tables → List (ℕ × Table)
@@ -29,7 +29,7 @@ abbrev pub accessor_shown : Inside → Accessor
 accessor_shown a = record { tables = together a.slots; cleaned = a.cleaned.items; counts = a.stats }
 
 -- each slot has its own regions, and the counts are those of the tables
-pub record IsKept (a : Inside) : Type 0 where
+pub record IsAccessorKept (a : Inside) : Type 0 where
   pub slots : AreSlots 0 a.slots
   pub all : length a.slots ≡ 128
-  pub counted : AreCounted (together a.slots) a.stats
+  pub counted : AreCountsOf (together a.slots) a.stats

@@ -26,8 +26,8 @@ IsMergedAt merge id older None after = after ≡ older
 IsMergedAt merge id older (Some newer) after = (merge (table_of id older) newer ≡ after) × IsTrue (is_some after)
 
 -- each region's table is merged with its newer one
-abbrev pub AreMerged : (Table → Table → Option Table) → Tables → Tables → Tables → Type 0
-AreMerged merge older newer after = (id : ℕ) → IsMergedAt merge id (finite.get older id) (finite.get newer id) (finite.get after id)
+abbrev pub AreTablesMerged : (Table → Table → Option Table) → Tables → Tables → Tables → Type 0
+AreTablesMerged merge older newer after = (id : ℕ) → IsMergedAt merge id (finite.get older id) (finite.get newer id) (finite.get after id)
 
 -- ---- one table
 
@@ -45,7 +45,7 @@ pub record IsAltered {F R : Type 0} (g : Change F R) (f : F) (old : Tables) (id 
   pub recounted : IsRecounted (table_in old id) (table_in new id) counts after
 
 -- a region's table becomes the outcome of a merge, and no other table is changed, also where the merge is refused
-pub record IsMerged {R : Type 0} (outcome : Option Table) (old : Tables) (id : ℕ) (counts : Counts) (r : Result R Error) (new : Tables) (after : Counts) : Type 0 where
+pub record IsTableMerged {R : Type 0} (outcome : Option Table) (old : Tables) (id : ℕ) (counts : Counts) (r : Result R Error) (new : Tables) (after : Counts) : Type 0 where
   pub ok : OnOk r (outcome ≡ Some (table_in new id))
   pub there : OnOk r (finite.get new id ≡ Some (table_in new id))
   pub one : new ≡ with_table old id (finite.get new id)

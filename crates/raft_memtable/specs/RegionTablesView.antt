@@ -11,5 +11,5 @@ abbrev pub tables_shown : Inside → Tables
 tables_shown a = finite.from_entries a.tables.entries
 
 -- each table stands under its own region
-abbrev pub IsKept : Inside → Type 0
-IsKept a = (q : ℕ) (t : Table) → lookup (nat_eq q) a.tables.entries ≡ Some t → t.region_id ≡ q
+abbrev pub AreTablesKept : Inside → Type 0
+AreTablesKept a = (q : ℕ) (t : Table) → lookup (nat_eq q) a.tables.entries ≡ Some t → t.region_id ≡ q

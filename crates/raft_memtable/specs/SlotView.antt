@@ -5,7 +5,7 @@ use Rattle.std.specs.FinMap as finite
 use Rattle.raft_table.specs.Table.{Table}
 use Rattle.raft_history.specs.RegionSteps.{Tables}
 use Rattle.raft_memtable.specs.declared.slot.Slot.TheInside.{Inside}
-use Rattle.raft_memtable.specs.Accessor.{slot_of, AreCounted}
+use Rattle.raft_memtable.specs.Accessor.{slot_of, AreCountsOf}
 use Rattle.raft_memtable.specs.Slot.{SlotContent}
 
 abbrev pub slot_shown : Inside → SlotContent
@@ -15,7 +15,7 @@ slot_shown a = record { number = a.number; part = record { tables = a.tables; cl
 abbrev pub AreOf : ℕ → Tables → Type 0
 AreOf number m = (id : ℕ) (t : Table) → finite.get m id ≡ Some t → slot_of id ≡ number
 
-pub record IsKept (a : Inside) : Type 0 where
+pub record IsSlotKept (a : Inside) : Type 0 where
   pub regions : AreOf a.number a.tables
-  pub counted : AreCounted a.tables a.stats
+  pub counted : AreCountsOf a.tables a.stats
   pub cleaned : AllByRecursion (λ id. slot_of id ≡ a.number) a.cleaned.items

@@ -5,8 +5,8 @@ use Rattle.std.specs.Fn.{Mut, CalledAt, Called}
 use Rattle.raft_table.specs.Table.{Table}
 
 -- the closure and the tables that were kept, before and after a call at a table, which is kept where the closure answers true
-abbrev pub Keeps : {F : Type 0} → Mut F (Bor Table × Unit {0}) Bool → F × List Table → Table → F × List Table → Type 0
-Keeps g p t q = (b : Bool) × CalledAt g p.0 t b q.0 × (q.1 ≡ (if b then p.1 ++ t ∷ [] else p.1))
+abbrev pub Collects : {F : Type 0} → Mut F (Bor Table × Unit {0}) Bool → F × List Table → Table → F × List Table → Type 0
+Collects g p t q = (b : Bool) × CalledAt g p.0 t b q.0 × (q.1 ≡ (if b then p.1 ++ t ∷ [] else p.1))
 
 -- the closure and the ids that were kept, before and after a call at a table, whose id is kept where the closure answers true
 abbrev pub KeepsId : {F : Type 0} → Mut F (Bor Table × Unit {0}) Bool → F × List ℕ → Table → F × List ℕ → Type 0

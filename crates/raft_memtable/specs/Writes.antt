@@ -100,14 +100,14 @@ IsFileOf queue None = ⊥
 IsFileOf queue (Some file) = file.queue ≡ queue
 
 -- a put of a queue; a deletion is of any
-abbrev pub IsPairOf : LogQueue → OpType → Option FileId → Type 0
-IsPairOf queue operations.Put file = IsFileOf queue file
-IsPairOf queue operations.Del file = Unit {0}
+abbrev pub IsPairOfQueue : LogQueue → OpType → Option FileId → Type 0
+IsPairOfQueue queue operations.Put file = IsFileOf queue file
+IsPairOfQueue queue operations.Del file = Unit {0}
 
 -- what the change of a key is asked to be; a rewriting doesn't look at its file
 abbrev pub IsPairFor : Writing → Pair → Type 0
-IsPairFor Appending p = IsPairOf Append p.op_type p.file_id
-IsPairFor (Replaying queue) p = IsPairOf queue p.op_type p.file_id
+IsPairFor Appending p = IsPairOfQueue Append p.op_type p.file_id
+IsPairFor (Replaying queue) p = IsPairOfQueue queue p.op_type p.file_id
 IsPairFor (Rewriting gate seq) p = Unit {0}
 
 -- what a content is asked to be: entries a run of the queue, a put, unless it is skipped, of a file of the queue
@@ -149,24 +149,24 @@ records_named (command c) = 0
 records_named (pair p) = 1
 
 -- entries that are read again into a table with records of the other queue
-abbrev pub MeetsOthers : Writing → Table → Content → Type 0
-MeetsOthers (Replaying queue) t (entries es) = 0 < live_of (other queue) t
-MeetsOthers w t content = ⊥
+abbrev pub MixesQueues : Writing → Table → Content → Type 0
+MixesQueues (Replaying queue) t (entries es) = 0 < live_of (other queue) t
+MixesQueues w t content = ⊥
 
 -- no item is entries that are read again into a table of the other queue, the tables being those after the items in front of it
 abbrev pub NoneMeetsOthers : Writing → Tables → List Item → Type 0
 NoneMeetsOthers w m [] = Unit {0}
 NoneMeetsOthers w m (item ∷ items) =
-    (MeetsOthers w (table_of item.raft_group_id (finite.get m item.raft_group_id)) item.content → ⊥)
+    (MixesQueues w (table_of item.raft_group_id (finite.get m item.raft_group_id)) item.content → ⊥)
     × ((t : Option Table) → after_content w item.raft_group_id (finite.get m item.raft_group_id) item.content ≡ Some t → NoneMeetsOthers w (with_table m item.raft_group_id t) items)
 
 -- why a content is refused, `live` records being live in the queue: it isn't as asked, or its change is refused; it would be read again into a table of the other queue; more than 2^64 - 1 records would be live; or want of memory
-abbrev pub IsContentFault : Writing → ℕ → Option Table → ℕ → Content → Error → Type 0
-IsContentFault w id o live content (errors.Corruption text) = (IsFor w content → ⊥) ⊎ (after_content w id o content ≡ None)
-IsContentFault w id o live content (errors.InvalidArgument text) = MeetsOthers w (table_of id o) content
-IsContentFault w id o live content errors.Full = 2 ^ 64 ≤ live + records_named content
-IsContentFault w id o live content errors.Memory = Unit {0}
-IsContentFault w id o live content _ = ⊥
+abbrev pub IsWriteFault : Writing → ℕ → Option Table → ℕ → Content → Error → Type 0
+IsWriteFault w id o live content (errors.Corruption text) = (IsFor w content → ⊥) ⊎ (after_content w id o content ≡ None)
+IsWriteFault w id o live content (errors.InvalidArgument text) = MixesQueues w (table_of id o) content
+IsWriteFault w id o live content errors.Full = 2 ^ 64 ≤ live + records_named content
+IsWriteFault w id o live content errors.Memory = Unit {0}
+IsWriteFault w id o live content _ = ⊥
 
 -- items are written: each is as asked, none meets records of the other queue, the tables are those after them in order, and the regions that they clean are listed
 pub record AreWritten (w : Writing) (items : List Item) (old new : Accessor) : Type 0 where
@@ -176,9 +176,9 @@ pub record AreWritten (w : Writing) (items : List Item) (old new : Accessor) : T
   pub cleaned : new.cleaned ≡ old.cleaned ++ listed_by_items w items
 
 -- the last item is refused, those in front of it are written, and nothing else
-pub record AreRefused (w : Writing) (items : List Item) (old new : Accessor) (e : Error) : Type 0 where
+pub record AreItemsRefused (w : Writing) (items : List Item) (old new : Accessor) (e : Error) : Type 0 where
   pub front : List Item
   pub item : Item
   pub split : items ≡ front ++ item ∷ []
   pub written : AreWritten w front old new
-  pub fault : IsContentFault w item.raft_group_id (finite.get new.tables item.raft_group_id) (live_in_all (queue_of w) new.tables) item.content e
+  pub fault : IsWriteFault w item.raft_group_id (finite.get new.tables item.raft_group_id) (live_in_all (queue_of w) new.tables) item.content e

@@ -13,11 +13,11 @@ ghost use Rattle.raft_records.specs.declared.command.Command.TheVariants.{Clean}
 ghost use Rattle.raft_history.specs.RegionSteps.{with_table};
 ghost use Rattle.raft_table.specs.Change.{after_change, IsAnswer, IsChangeFault};
 ghost use Rattle.raft_table.specs.Table.{Table, with_atomic_group, live_of};
-ghost use Rattle.raft_memtable.specs.Accessor.{slot_of, table_in, live_in_all, AreCounted};
+ghost use Rattle.raft_memtable.specs.Accessor.{slot_of, table_in, live_in_all, AreCountsOf};
 ghost use Rattle.raft_memtable.specs.AccessorCalls.{IsTableChanged, IsTableMade, IsWritten};
-ghost use Rattle.raft_memtable.specs.Merges.{with_newer, with_appended, IsMergedAt, AreMerged};
-ghost use Rattle.raft_memtable.specs.Walks.{Keeps, Makes};
-ghost use Rattle.raft_memtable.specs.Writes.{Appending, Replaying, Rewriting, AreWritten, AreRefused};
+ghost use Rattle.raft_memtable.specs.Merges.{with_newer, with_appended, IsMergedAt, AreTablesMerged};
+ghost use Rattle.raft_memtable.specs.Walks.{Collects, Makes};
+ghost use Rattle.raft_memtable.specs.Writes.{Appending, Replaying, Rewriting, AreWritten, AreItemsRefused};
 
 mod region_steps;
 
@@ -52,11 +52,11 @@ impl Model for MemTableAccessor {
 
     ghost coded = { accessor_code };
 
-    ghost use Rattle.raft_memtable.specs.AccessorView.{accessor_shown, IsKept};
+    ghost use Rattle.raft_memtable.specs.AccessorView.{accessor_shown, IsAccessorKept};
 
     ghost view = { accessor_shown };
 
-    ghost invariant = { IsKept };
+    ghost invariant = { IsAccessorKept };
 }
 
 impl MemTableAccessor {
@@ -105,7 +105,7 @@ impl MemTableAccessor {
 
     /// The live numbers are those of the tables. This is a law: it computes nothing.
     pub fn counts_are_exact(&self)
-        ensures { AreCounted self.now.tables self.now.counts }
+        ensures { AreCountsOf self.now.tables self.now.counts }
     {
         let _ = &self.stats;
     }
@@ -239,7 +239,7 @@ impl MemTableAccessor {
     /// Those of [`MemTable::merge_newer_neighbor`]. Some tables are then merged, and the rest of `rhs`
     /// is lost.
     pub fn merge_newer_neighbor(&mut self, rhs: MemTableAccessor) -> Result<()>
-        ensures ok { OnOk result (AreMerged with_newer self.old.tables rhs.tables self.new.tables) }
+        ensures ok { OnOk result (AreTablesMerged with_newer self.old.tables rhs.tables self.new.tables) }
         ensures cleaned { self.new.cleaned ≡ self.old.cleaned }
     {
         for slot in rhs.slots {
@@ -256,7 +256,7 @@ impl MemTableAccessor {
     /// Those of [`MemTable::merge_append_table`]. Some tables are then merged, and the rest of `rhs`
     /// is lost.
     pub fn merge_append_table(&mut self, rhs: MemTableAccessor) -> Result<()>
-        ensures ok { OnOk result (AreMerged with_appended self.old.tables rhs.tables self.new.tables) }
+        ensures ok { OnOk result (AreTablesMerged with_appended self.old.tables rhs.tables self.new.tables) }
         ensures cleaned { self.new.cleaned ≡ self.old.cleaned }
     {
         for slot in rhs.slots {
@@ -275,7 +275,7 @@ impl MemTableAccessor {
         ensures ok { OnOk result ((it : I.IntoIter) × (xs : List LogItem) × I.into_iter_gives items it × Drains I.IntoIter.next_gives it xs
             × AreWritten Appending (map item_of xs) self.old self.new) }
         ensures refused { IfErr result (λ e. (it : I.IntoIter) × (xs : List LogItem) × (u : I.IntoIter) × I.into_iter_gives items it × Yields I.IntoIter.next_gives it xs u
-            × AreRefused Appending (map item_of xs) self.old self.new e) }
+            × AreItemsRefused Appending (map item_of xs) self.old self.new e) }
     {
         for item in items {
             self.append_item(item)?;
@@ -293,7 +293,7 @@ impl MemTableAccessor {
         ensures ok { OnOk result ((it : I.IntoIter) × (xs : List LogItem) × I.into_iter_gives items it × Drains I.IntoIter.next_gives it xs
             × AreWritten (Replaying Append) (map item_of xs) self.old self.new) }
         ensures refused { IfErr result (λ e. (it : I.IntoIter) × (xs : List LogItem) × (u : I.IntoIter) × I.into_iter_gives items it × Yields I.IntoIter.next_gives it xs u
-            × AreRefused (Replaying Append) (map item_of xs) self.old self.new e) }
+            × AreItemsRefused (Replaying Append) (map item_of xs) self.old self.new e) }
     {
         for item in items {
             self.replay_item(LogQueue::Append, item)?;
@@ -311,7 +311,7 @@ impl MemTableAccessor {
         ensures ok { OnOk result ((it : I.IntoIter) × (xs : List LogItem) × I.into_iter_gives items it × Drains I.IntoIter.next_gives it xs
             × AreWritten (Replaying Rewrite) (map item_of xs) self.old self.new) }
         ensures refused { IfErr result (λ e. (it : I.IntoIter) × (xs : List LogItem) × (u : I.IntoIter) × I.into_iter_gives items it × Yields I.IntoIter.next_gives it xs u
-            × AreRefused (Replaying Rewrite) (map item_of xs) self.old self.new e) }
+            × AreItemsRefused (Replaying Rewrite) (map item_of xs) self.old self.new e) }
     {
         for item in items {
             self.replay_item(LogQueue::Rewrite, item)?;
@@ -336,7 +336,7 @@ impl MemTableAccessor {
         ensures ok { OnOk result ((it : I.IntoIter) × (xs : List LogItem) × I.into_iter_gives items it × Drains I.IntoIter.next_gives it xs
             × AreWritten (Rewriting watermark new_file) (map item_of xs) self.old self.new) }
         ensures refused { IfErr result (λ e. (it : I.IntoIter) × (xs : List LogItem) × (u : I.IntoIter) × I.into_iter_gives items it × Yields I.IntoIter.next_gives it xs u
-            × AreRefused (Rewriting watermark new_file) (map item_of xs) self.old self.new e) }
+            × AreItemsRefused (Rewriting watermark new_file) (map item_of xs) self.old self.new e) }
     {
         for item in items {
             self.rewrite_item(item, watermark, new_file)?;
@@ -412,7 +412,7 @@ impl MemTableAccessor {
     pub fn collect<F: FnMut(&MemTable) -> bool>(&self, mut f: F) -> Result<Vec<&MemTable>>
         requires { F.IsAlwaysCallable f }
         ensures ok { IfOk result (λ kept. (ts : List Table) × (last : F) × IsPermutation ts (finite.values self.now.tables)
-            × FoldsTo (Keeps F.FnMut) (f, []) ts (last, map (λ t. t.now) kept.items)) }
+            × FoldsTo (Collects F.FnMut) (f, []) ts (last, map (λ t. t.now) kept.items)) }
         ensures memory { IfErr result (λ e. e ≡ Error.Memory) }
     {
         let mut kept = Vec::new(*self.cleaned.allocator());
@@ -445,7 +445,7 @@ impl MemTableAccessor {
 
     /// Merges the newer neighbors of one slot.
     fn merge_newer_tables(&mut self, newer: RegionTables) -> Result<()>
-        ensures ok { OnOk result (AreMerged with_newer self.old.tables newer self.new.tables) }
+        ensures ok { OnOk result (AreTablesMerged with_newer self.old.tables newer self.new.tables) }
         ensures cleaned { self.new.cleaned ≡ self.old.cleaned }
     {
         for (id, table) in newer.into_entries() {
@@ -456,7 +456,7 @@ impl MemTableAccessor {
 
     /// Merges the appended tables of one slot.
     fn merge_append_tables(&mut self, newer: RegionTables) -> Result<()>
-        ensures ok { OnOk result (AreMerged with_appended self.old.tables newer self.new.tables) }
+        ensures ok { OnOk result (AreTablesMerged with_appended self.old.tables newer self.new.tables) }
         ensures cleaned { self.new.cleaned ≡ self.old.cleaned }
     {
         for (id, table) in newer.into_entries() {

@@ -132,13 +132,13 @@ impl RegionMarks {
     /// # Errors
     ///
     /// `Memory`.
-    pub fn join(&mut self, id: u64, queue: LogQueue, met: u64, newer: Mark) -> Result<()>
-        ensures ok { OnOk result (self.new ≡ finite.insert self.old id (joined_at queue met (mark_in self.old id) newer)) }
+    pub fn join(&mut self, id: u64, queue: LogQueue, end_at_reach: u64, newer: Mark) -> Result<()>
+        ensures ok { OnOk result (self.new ≡ finite.insert self.old id (joined_at queue end_at_reach (mark_in self.old id) newer)) }
         ensures memory { IfErr result (λ e. e ≡ Error.Memory) }
     {
         self.update(id, move |mark: &mut Mark| {
             let mut newer = newer;
-            mark.join(queue, met, &mut newer)
+            mark.join(queue, end_at_reach, &mut newer)
         })
     }
 

@@ -11,7 +11,7 @@ ghost use Rattle.raft_table.specs.Counts.{live};
 ghost use Rattle.raft_table.specs.Steps.{table_of};
 ghost use Rattle.raft_table.specs.Table.{Table, empty_table, live_of, with_atomic_group, IsCounted, IsRecounted};
 ghost use Rattle.raft_memtable.specs.Accessor.{table_in};
-ghost use Rattle.raft_memtable.specs.Merges.{with_newer, with_appended, MayAlter, IsAltered, IsMerged};
+ghost use Rattle.raft_memtable.specs.Merges.{with_newer, with_appended, MayAlter, IsAltered, IsTableMerged};
 ghost use Rattle.raft_memtable.specs.Updates.{MayChange, IsUpdated, IsTaken};
 ghost use Rattle.raft_memtable.specs.Walks.{KeepsId, Makes};
 
@@ -38,11 +38,11 @@ impl Model for RegionTables {
 
     ghost coded = { finite.code coded_ℕ table_code };
 
-    ghost use Rattle.raft_memtable.specs.RegionTablesView.{tables_shown, IsKept};
+    ghost use Rattle.raft_memtable.specs.RegionTablesView.{tables_shown, AreTablesKept};
 
     ghost view = { tables_shown };
 
-    ghost invariant = { IsKept };
+    ghost invariant = { AreTablesKept };
 }
 
 impl RegionTables {
@@ -248,7 +248,7 @@ impl RegionTables {
     ) -> Result<()>
         requires region { newer.region_id ≡ id }
         requires counted { IsCounted (table_in self.old id) stats.old }
-        ensures { IsMerged (with_newer (table_in self.old id) newer) self.old id stats.old result self.new stats.new }
+        ensures { IsTableMerged (with_newer (table_in self.old id) newer) self.old id stats.old result self.new stats.new }
     {
         self.alter(
             id,
@@ -270,7 +270,7 @@ impl RegionTables {
     ) -> Result<()>
         requires region { newer.region_id ≡ id }
         requires counted { IsCounted (table_in self.old id) stats.old }
-        ensures { IsMerged (with_appended (table_in self.old id) newer) self.old id stats.old result self.new stats.new }
+        ensures { IsTableMerged (with_appended (table_in self.old id) newer) self.old id stats.old result self.new stats.new }
     {
         self.alter(
             id,

@@ -11,7 +11,7 @@ ghost use Rattle.raft_table.specs.Change.{after_change, IsAnswer, IsChangeFault}
 ghost use Rattle.raft_table.specs.Table.{Table, with_atomic_group, live_of};
 ghost use Rattle.raft_memtable.specs.Accessor.{slot_of, table_in, live_in_all};
 ghost use Rattle.raft_memtable.specs.AccessorCalls.{IsTableChanged, IsWritten};
-ghost use Rattle.raft_memtable.specs.Slot.{IsTableOf, SlotKeeps};
+ghost use Rattle.raft_memtable.specs.Slot.{IsSlotTable, SlotKeeps};
 ghost use Rattle.raft_memtable.specs.Walks.{KeepsId, Makes};
 ghost use Rattle.raft_memtable.specs.Writes.{Appending, Rewriting};
 
@@ -40,11 +40,11 @@ impl Model for Slot {
 
     ghost coded = { slot_code };
 
-    ghost use Rattle.raft_memtable.specs.SlotView.{slot_shown, IsKept};
+    ghost use Rattle.raft_memtable.specs.SlotView.{slot_shown, IsSlotKept};
 
     ghost view = { slot_shown };
 
-    ghost invariant = { IsKept };
+    ghost invariant = { IsSlotKept };
 }
 
 impl Slot {
@@ -74,7 +74,7 @@ impl Slot {
     /// The table of a region.
     pub fn table(&self, id: u64) -> Option<&MemTable>
         ensures value { option_map (λ t. t.now) result ≡ finite.get self.now.part.tables id }
-        ensures allowed { IfSome result (λ t. IsTableOf self.now.number id t.now) }
+        ensures allowed { IfSome result (λ t. IsSlotTable self.now.number id t.now) }
     {
         self.tables.get(id)
     }

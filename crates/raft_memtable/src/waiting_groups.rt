@@ -6,7 +6,7 @@ ghost use Rattle.std.specs.FinMap as finite;
 ghost use Rattle.std.specs.Ordering.{nat_cmp};
 ghost use Rattle.std.specs.BTreeMap.{IsOrdered, is_at};
 ghost use Rattle.std.specs.Map.{remove_entry};
-ghost use Rattle.raft_history.specs.Batches.{Batch, marked_batch};
+ghost use Rattle.raft_history.specs.Batches.{ReadBatch, marked_batch};
 ghost use Rattle.raft_history.specs.Effects.{BatchesApart, steps_of, steps_of_wholes};
 ghost use Rattle.raft_history.specs.WaitingGroup.{joined_group, whole_group, one_marker};
 ghost use Rattle.raft_history.specs.WaitingGroups.{groups_in, waiting_steps, steps_or, known, joined_groups, whole_groups};
@@ -85,9 +85,9 @@ impl WaitingGroups {
     ) -> Result<Option<WholeGroup>, AllocError>
         ensures known { OnOk result (self.new ≡ finite.insert self.old id (joined_group (known self.old id) (one_marker status items file))) }
         ensures whole { IfOk result (λ w. option_map whole_shown w ≡ whole_group (known self.old id) (one_marker status items file)) }
-        ensures stands { (h : List Batch) → self.old ≡ groups_in h
+        ensures stands { (h : List ReadBatch) → self.old ≡ groups_in h
             → OnOk result (self.new ≡ groups_in (h ++ marked_batch items id status file ∷ [])) }
-        ensures steps { (h : List Batch) (r : ℕ) → self.old ≡ groups_in h
+        ensures steps { (h : List ReadBatch) (r : ℕ) → self.old ≡ groups_in h
             → IfOk result (λ w. steps_of r (h ++ marked_batch items id status file ∷ []) ≡ steps_of r h ++ steps_or r (option_map whole_shown w)) }
     {
         let whole = self.join_one(id, WaitingGroup::marked(status, items, file))?;
@@ -103,9 +103,9 @@ impl WaitingGroups {
     pub fn join(&mut self, newer: WaitingGroups) -> Result<Vec<WholeGroup>, AllocError>
         ensures known { OnOk result (self.new ≡ joined_groups self.old newer) }
         ensures wholes { IfOk result (λ w. map whole_shown w.items ≡ whole_groups self.old newer) }
-        ensures stands { (h k : List Batch) → self.old ≡ groups_in h → newer ≡ groups_in k
+        ensures stands { (h k : List ReadBatch) → self.old ≡ groups_in h → newer ≡ groups_in k
             → OnOk result (self.new ≡ groups_in (h ++ k)) }
-        ensures steps { (h k : List Batch) (r : ℕ) → self.old ≡ groups_in h → newer ≡ groups_in k
+        ensures steps { (h k : List ReadBatch) (r : ℕ) → self.old ≡ groups_in h → newer ≡ groups_in k
             → BatchesApart (h ++ k)
             → IfOk result (λ w. steps_of r (h ++ k) ≡ steps_of r h ++ (steps_of_wholes r (map whole_shown w.items) ++ steps_of r k)) }
     {

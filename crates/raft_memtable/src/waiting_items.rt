@@ -3,7 +3,7 @@
 ghost use Rattle.std.specs.Prelude.{◌≡◌, ◌++◌, ℕ, eqb, [], ◌∷◌, length, map, is_some, IsTrue, OnOk, IfOk};
 ghost use Rattle.std.specs.List.{list_any};
 ghost use Rattle.raft_records.specs.Item.{item_of, pair, pair_of};
-ghost use Rattle.raft_history.specs.RegionSteps.{step_of, steps_of_items, names};
+ghost use Rattle.raft_history.specs.RegionSteps.{content_step, steps_of_items, names};
 ghost use Rattle.raft_memtable.specs.WaitingItems.{has_step};
 
 use raft_records::{KeyValue, LogItem, LogItemContent, OpType, is_reserved};
@@ -23,9 +23,9 @@ impl Model for WaitingItems {
 
     ghost Value = { List RegionStep };
 
-    ghost use Rattle.raft_memtable.specs.WaitingItemsView.{steps_in, EachHasStep};
+    ghost use Rattle.raft_memtable.specs.WaitingItemsView.{steps_shown, EachHasStep};
 
-    ghost view = { steps_in };
+    ghost view = { steps_shown };
 
     ghost invariant = { EachHasStep };
 }
@@ -118,7 +118,7 @@ fn has_step(item: &LogItem) -> bool
 
 /// Whether a change of a key changes a table.
 fn changes_key(kv: &KeyValue) -> bool
-    ensures { result ≡ is_some (step_of (pair (pair_of kv.now))) }
+    ensures { result ≡ is_some (content_step (pair (pair_of kv.now))) }
 {
     if is_reserved(kv.key.as_slice()) {
         return false;

@@ -13,7 +13,7 @@ use Rattle.raft_recover.specs.Draws.{Draw, AreBelow, HasEnded}
 use Rattle.raft_recover.specs.Recovery.{CannotBeRead}
 use Rattle.raft_recover.specs.Replays.{HasReplayed, CannotFollow}
 use Rattle.raft_recover.specs.Segments.{ReadsParts, ReadsSegments}
-use Rattle.raft_recover.specs.Weights.{times}
+use Rattle.raft_recover.specs.Weights.{occurrences}
 use Rattle.raft_recover.proofs.MachineOrderLemmas.{each_join, each_cut, each_single}
 use Rattle.raft_recover.proofs.SegmentLemmas.{segments_unique}
 use Rattle.raft_recover.proofs.WeightLemmas.{weigh-append}
@@ -113,28 +113,28 @@ bound_more n (x ∷ xs) = let r = bound_more n xs in omega arith
 times_past : (x n : ℕ) → x < n → (let z : ℕ = cond (x == n) 1 0 in z ≡ 0)
 times_past x n less = grind (arith, nat_tests)
 
-pub times_more : (x n : ℕ) (xs : List ℕ) → times x (xs ++ n ∷ []) ≡ times x xs + cond (x == n) 1 0
+pub times_more : (x n : ℕ) (xs : List ℕ) → occurrences x (xs ++ n ∷ []) ≡ occurrences x xs + cond (x == n) 1 0
 times_more x n xs = let a = weigh-append (λ (y : ℕ). cond (x == y) 1 0) xs (n ∷ []) in omega arith
 
 -- a seat that is answered nothing has ended, and has drawn the same segments
 pub none_left : (total : ℕ) (before after : List ℕ) → Draw total before None after
-    → HasEnded total after × ((x : ℕ) → x < total → times x after ≡ times x before)
+    → HasEnded total after × ((x : ℕ) → x < total → occurrences x after ≡ occurrences x before)
 none_left total before after (inl last) = (
   record { front = before; last = last.0; split = last.3; below = last.2; past = last.1 },
-  λ x small. ap (times x) last.3 ∙ (let a = times_more x last.0 before in let past = last.1 in let b = times_past x last.0 (omega arith) in omega arith),
+  λ x small. ap (occurrences x) last.3 ∙ (let a = times_more x last.0 before in let past = last.1 in let b = times_past x last.0 (omega arith) in omega arith),
 )
 none_left total before after (inr ended) =
-    (subst (HasEnded total) (sym ended.1) ended.0, λ x small. ap (times x) ended.1)
+    (subst (HasEnded total) (sym ended.1) ended.0, λ x small. ap (occurrences x) ended.1)
 
 -- a segment that was drawn is one more of a piece's
 pub cover_step : {M : Type 0} (x n : ℕ) (old mid new : List (Piece M)) (p q : Piece M) (before after : List ℕ)
     → covering x mid + covers p.from p.count x ≡ covering x old → p.from + p.count ≡ n → q.from ≡ p.from → q.count ≡ p.count + 1 → new ≡ mid ++ q ∷ []
-    → after ≡ before ++ n ∷ [] → covering x old ≡ times x before → covering x new ≡ times x after
+    → after ≡ before ++ n ∷ [] → covering x old ≡ occurrences x before → covering x new ≡ occurrences x after
 cover_step {M} x n old mid new p q before after kept next from count push drew covered =
     let a = weigh-append (λ (r : Piece M). covers r.from r.count x) mid (q ∷ []) in
     let b : covering x new ≡ covering x (mid ++ q ∷ []) = ap (λ (l : List (Piece M)). covering x l) push in
     let d : covers q.from q.count x ≡ covers p.from (p.count + 1) x = λ i. covers (from i) (count i) x in
     let e = covers_more p.from p.count x in
     let f : once_at x (p.from + p.count) ≡ once_at x n = ap (once_at x) next in
-    let t : times x after ≡ times x (before ++ n ∷ []) = ap (times x) drew in
+    let t : occurrences x after ≡ occurrences x (before ++ n ∷ []) = ap (occurrences x) drew in
     let u = times_more x n before in omega arith

@@ -5,9 +5,9 @@ use Rattle.std.proofs.lemmas.List.{drop-replicate, get_or_append_left}
 use mathlib.Core.Option.{some, some-injective, some-ne-none}
 use lib.ListN.{get_elem?}
 use Rattle.atomic_table.specs.Table.{State, Me, keeps, Allows, Splits, Joins}
-use Rattle.raft_recover.specs.Weights.{weigh, times}
+use Rattle.raft_recover.specs.Weights.{weigh, occurrences}
 use Rattle.raft_recover.specs.Draws.{Drawer, AreBelow, AreAbove, Rises, once_below}
-use Rattle.raft_recover.specs.Drawing.{lists_in, times_in, passed, passed_in, IsDrawn, HasDrawn, only, Continues, IsDrawer}
+use Rattle.raft_recover.specs.Drawing.{lists_in, occurrences_in, passed, passed_in, IsDrawn, HasDrawn, only, Continues, IsDrawer}
 use Rattle.raft_recover.proofs.WeightLemmas.{weigh-append, weigh-set, weigh_at, weigh_cut, weigh-replicate, weigh_le, weigh_all_of_one}
 
 abbrev pub Views : Type 0
@@ -20,7 +20,7 @@ abbrev pub nothing : List ℕ
 nothing = []
 
 -- numbers
-times_itself : (x : ℕ) (ys : List ℕ) → 0 < times x (x ∷ ys)
+times_itself : (x : ℕ) (ys : List ℕ) → 0 < occurrences x (x ∷ ys)
 times_itself x ys = grind (arith, nat_tests)
 
 once_more : (x n : ℕ) → once_below x (n + 1) ≡ once_below x n + cond (x == n) 1 0
@@ -33,7 +33,7 @@ once_none : (x : ℕ) → once_below x 0 ≡ 0
 once_none x = grind (arith, nat_tests)
 
 -- lists that rise
-pub below_all : (n : ℕ) (ys : List ℕ) → ((x : ℕ) → 0 < times x ys → x < n) → AreBelow n ys
+pub below_all : (n : ℕ) (ys : List ℕ) → ((x : ℕ) → 0 < occurrences x ys → x < n) → AreBelow n ys
 below_all n [] h = tt
 below_all n (y ∷ ys) h = (h y (times_itself y ys), below_all n ys (λ x there. h x (omega arith)))
 
@@ -84,7 +84,7 @@ module _ (total seats : ℕ) where
     few_numbers = r.few_numbers;
     few_seats = r.few_seats;
     all_seats = same (λ _. 1) ∙ r.all_seats;
-    once = λ x. same (times x) ∙ r.once x;
+    once = λ x. same (occurrences x) ∙ r.once x;
     reached = let s : weigh (passed_in total) others ≡ weigh (passed_in total) views = same (passed total) in let h = r.reached in omega arith;
   }
 
@@ -94,7 +94,7 @@ module _ (total seats : ℕ) where
     few_numbers = few_numbers;
     few_seats = few_seats;
     all_seats = let h = (weigh-replicate (λ (_ : List ℕ). 1) seats [] 1 refl).1 refl in omega arith;
-    once = λ x. let h = (weigh-replicate (times x) seats [] 0 refl).0 refl in let e = once_none x in omega arith;
+    once = λ x. let h = (weigh-replicate (occurrences x) seats [] 0 refl).0 refl in let e = once_none x in omega arith;
     reached = omega arith;
   }
 
@@ -123,7 +123,7 @@ module _ (total seats : ℕ) where
 
     drawn_below : AreBelow found drawn
     drawn_below = below_all found drawn (λ x there.
-        let within = weigh_at (times_in x) s.views id (drawn ∷ []) at in
+        let within = weigh_at (occurrences_in x) s.views id (drawn ∷ []) at in
         let all = r.once x in below_once x found (omega arith))
 
     no_wrap : (found + 1) % 2 ^ 64 ≡ found + 1
@@ -134,9 +134,9 @@ module _ (total seats : ℕ) where
     moved : get_or (set s.words 0 ((found + 1) % 2 ^ 64)) 0 0 ≡ found + 1
     moved = let w = r.one_word in get_or-set_same s.words 0 ((found + 1) % 2 ^ 64) 0 (omega arith) ∙ no_wrap
 
-    once_after : (x : ℕ) → weigh (times_in x) (set s.views id after) ≡ once_below x (found + 1)
+    once_after : (x : ℕ) → weigh (occurrences_in x) (set s.views id after) ≡ once_below x (found + 1)
     once_after x =
-        let a = weigh-set (times_in x) s.views id (drawn ∷ []) after at in
+        let a = weigh-set (occurrences_in x) s.views id (drawn ∷ []) after at in
         let b = weigh-append (λ (y : ℕ). cond (x == y) 1 0) drawn (found ∷ []) in
         let c = once_more x found in let d = r.once x in omega arith
 
@@ -175,8 +175,8 @@ module _ (total seats : ℕ) where
 
   -- the view of all lists has drawn all numbers
   pub closes : (words : List ℕ) (id : ℕ) (view : List (List ℕ)) → lists_in view ≡ seats
-      → (s : St) → Holds s → get_elem? s.views id ≡ some view → (x : ℕ) → times_in x view ≡ once_below x (get_or s.words 0 0)
-  closes words id view all s r at x = sym (weigh_all_of_one (times x) s.views id view at (r.all_seats ∙ sym all)) ∙ r.once x
+      → (s : St) → Holds s → get_elem? s.views id ≡ some view → (x : ℕ) → occurrences_in x view ≡ once_below x (get_or s.words 0 0)
+  closes words id view all s r at x = sym (weigh_all_of_one (occurrences x) s.views id view at (r.all_seats ∙ sym all)) ∙ r.once x
 
 -- what a seat keeps at a draw
 module _ (total n : ℕ) (ended : Bool) (view after : List (List ℕ)) (going : ended ≡ false) (seat : IsDrawer total ended view) (drew : HasDrawn view n after) where
@@ -249,14 +249,14 @@ pub closed_draws : (total seats id word : ℕ) (first view : List (List ℕ)) (d
     → ((f : List ℕ → ℕ) → weigh f view ≡ weigh f first + weigh (λ (d : Drawer). f d.drawn) others)
     → length others + 1 ≡ seats
     → (s : St) → IsDrawn total seats s.words s.views → get_elem? s.views id ≡ some view → s.words ≡ words → get_elem? words 0 ≡ some word
-    → (x : ℕ) → weigh (λ (d : Drawer). times x d.drawn) others + times x drawn ≡ once_below x word
+    → (x : ℕ) → weigh (λ (d : Drawer). occurrences x d.drawn) others + occurrences x drawn ≡ once_below x word
 closed_draws total seats id word first view drawn others words one joined all s r at same here x =
     let lists = joined (λ _. 1) in
     let ones = weigh_ones others in
     let first_one : weigh (λ (l : List ℕ). 1) first ≡ 1 = ap (λ (l : List (List ℕ)). weigh (λ (y : List ℕ). 1) l) one in
     let closed = closes total seats words id view (omega arith) s r at x in
-    let numbers = joined (times x) in
-    let first_numbers : weigh (times x) first ≡ times x drawn + 0 = ap (λ (l : List (List ℕ)). weigh (times x) l) one in
+    let numbers = joined (occurrences x) in
+    let first_numbers : weigh (occurrences x) first ≡ occurrences x drawn + 0 = ap (λ (l : List (List ℕ)). weigh (occurrences x) l) one in
     let word_at = ap (once_below x) (ap (λ (ws : List ℕ). get_or ws 0 0) same ∙ word_is words word here) in omega arith
 
 -- what is true of all is true of the first of them

@@ -12,9 +12,9 @@ use Rattle.raft_records.specs.FilePart.{Part}
 use Rattle.raft_history.specs.Batches.{Event}
 use Rattle.raft_history.proofs.StretchOfHistory.{small_front, small_back}
 use Rattle.raft_recover.specs.declared.piece.Piece.{Piece}
-use Rattle.raft_recover.specs.Covers.{IsPieceOf, covers, covering, Tile}
+use Rattle.raft_recover.specs.Covers.{IsPieceOf, covers, covering, CoverOnce}
 use Rattle.raft_recover.specs.MachineOrder.{AreInOrder}
-use Rattle.raft_recover.specs.Merges.{joined}
+use Rattle.raft_recover.specs.Merges.{concatenated}
 use Rattle.raft_recover.specs.Segments.{ReadsParts, ReadsSegments}
 use Rattle.raft_recover.specs.Weights.{weigh}
 use Rattle.raft_recover.proofs.CoverLemmas.{covers_inside, covers_below, covers_behind, covers_none}
@@ -71,10 +71,10 @@ module _ {M : Type 0} where
         record {
           histories = piece.history ∷ line.histories;
           reads =
-              subst (λ (l : List (Vec Part Global)). ReadsSegments l (piece.history ++ joined line.histories)) whole
-              (each_join SegmentReads (take p.count (drop p.from segments)) (drop (low + p.count) segments) piece.history (joined line.histories) piece.reads line.reads);
+              subst (λ (l : List (Vec Part Global)). ReadsSegments l (piece.history ++ concatenated line.histories)) whole
+              (each_join SegmentReads (take p.count (drop p.from segments)) (drop (low + p.count) segments) piece.history (concatenated line.histories) piece.reads line.reads);
           stand = λ small.
-              (piece.exact (small_front piece.history (joined line.histories) small), line.stand (small_back piece.history (joined line.histories) small));
+              (piece.exact (small_front piece.history (concatenated line.histories) small), line.stand (small_back piece.history (concatenated line.histories) small));
         }
 
     -- a piece of no segments in front of those in line
@@ -82,12 +82,12 @@ module _ {M : Type 0} where
         → AreInOrder stands_exactly (drop low segments) (machines ps) → AreInOrder stands_exactly (drop low segments) (machines (p ∷ ps))
     idle_in_front p low ps piece idle line =
         let nothing : piece.history ≡ [] = subst (λ (n : ℕ). ReadsSegments (take n (drop p.from segments)) piece.history) idle piece.reads in
-        let whole : piece.history ++ joined line.histories ≡ joined line.histories = ap (λ (t : List Event). t ++ joined line.histories) nothing in
+        let whole : piece.history ++ concatenated line.histories ≡ concatenated line.histories = ap (λ (t : List Event). t ++ concatenated line.histories) nothing in
         record {
           histories = piece.history ∷ line.histories;
           reads = subst (ReadsSegments (drop low segments)) (sym whole) line.reads;
           stand = λ small.
-              (piece.exact (small_front piece.history (joined line.histories) small), line.stand (small_back piece.history (joined line.histories) small));
+              (piece.exact (small_front piece.history (concatenated line.histories) small), line.stand (small_back piece.history (concatenated line.histories) small));
         }
 
     -- a piece of some segments begins where the others are still to begin
@@ -142,7 +142,7 @@ module _ {M : Type 0} where
             })
 
     -- sorted pieces that tile the segments
-    pub in_line : (ps qs : List (Piece M)) → All (IsPieceOf stands_exactly segments) ps → Tile segments ps → IsPermutation ps qs → IsNonDecreasingBy (λ q. q.from) qs
+    pub in_line : (ps qs : List (Piece M)) → All (IsPieceOf stands_exactly segments) ps → CoverOnce segments ps → IsPermutation ps qs → IsNonDecreasingBy (λ q. q.from) qs
         → AreInOrder stands_exactly segments (machines qs)
     in_line ps qs all tile same up =
         lined 0 qs (ascends qs up) (recursion_from_All (IsPieceOf stands_exactly segments) qs (All-permutation (IsPieceOf stands_exactly segments) ps qs same all))

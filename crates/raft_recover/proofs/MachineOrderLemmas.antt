@@ -12,7 +12,7 @@ use Rattle.raft_records.specs.FilePart.{Part}
 use Rattle.raft_history.specs.Batches.{Event}
 use Rattle.raft_history.specs.Histories.{IsSmall, Sound, AreOfQueue, IsOfQueue}
 use Rattle.raft_history.proofs.StretchOfHistory.{small_front, small_back, sound_front, sound_back, of_both}
-use Rattle.raft_recover.specs.Merges.{joined, StandForEach, IsMerged, CannotMerge, Merges}
+use Rattle.raft_recover.specs.Merges.{concatenated, StandForEach, IsMerged, CannotMerge, Merges}
 use Rattle.raft_recover.specs.Replays.{HasReplayed, CannotFollow}
 use Rattle.raft_recover.specs.Segments.{IsReadBehind, ReadsFrom, ReadsPart, ReadsEach, ReadsParts, ReadsSegments}
 use Rattle.raft_recover.specs.Recovery.{IsReplayed, CannotBeRead, PartsAreOf, SegmentsAreOf}
@@ -93,22 +93,22 @@ module _ {M : Type 0} (stands_for stands_exactly : M → List Event → Type 0) 
     pub gone_on : (segment : Vec Part Global) (n : M) → HasReplayed (ReadsParts segment.items) stands_for stands_exactly m n
         → IsUnderway stands_exactly (segments ++ segment ∷ []) ms n
     gone_on segment n more =
-        let two = append_assoc (joined underway.histories) underway.last more.history in
+        let two = append_assoc (concatenated underway.histories) underway.last more.history in
         record {
           histories = underway.histories;
           last = underway.last ++ more.history;
           reads =
               subst (ReadsSegments (segments ++ segment ∷ [])) two
-              (each_join SegmentReads segments (segment ∷ []) (joined underway.histories ++ underway.last) more.history underway.reads
+              (each_join SegmentReads segments (segment ∷ []) (concatenated underway.histories ++ underway.last) more.history underway.reads
               (each_single SegmentReads segment more.history more.reads));
-          stand = λ small. underway.stand (small_front (joined underway.histories ++ underway.last) more.history (subst IsSmall (sym two) small));
+          stand = λ small. underway.stand (small_front (concatenated underway.histories ++ underway.last) more.history (subst IsSmall (sym two) small));
           exact = λ small.
-              let before = small_front (joined underway.histories ++ underway.last) more.history (subst IsSmall (sym two) small) in
-              more.exact underway.last (small_back (joined underway.histories) (underway.last ++ more.history) small) (underway.exact before);
+              let before = small_front (concatenated underway.histories ++ underway.last) more.history (subst IsSmall (sym two) small) in
+              more.exact underway.last (small_back (concatenated underway.histories) (underway.last ++ more.history) small) (underway.exact before);
         }
 
-    one_more : joined (underway.histories ++ underway.last ∷ []) ≡ joined underway.histories ++ underway.last
-    one_more = joined-append underway.histories (underway.last ∷ []) ∙ ap (λ (t : List Event). joined underway.histories ++ t) (append-nil underway.last)
+    one_more : concatenated (underway.histories ++ underway.last ∷ []) ≡ concatenated underway.histories ++ underway.last
+    one_more = joined-append underway.histories (underway.last ∷ []) ∙ ap (λ (t : List Event). concatenated underway.histories ++ t) (append-nil underway.last)
 
     -- it is the last in line
     pub finished : AreInOrder stands_exactly segments (ms ++ m ∷ [])
@@ -125,8 +125,8 @@ module _ {M : Type 0} (stands_for stands_exactly : M → List Event → Type 0) 
     next_begun n new = record {
       histories = finished.histories;
       last = [];
-      reads = subst (ReadsSegments segments) (sym (append-nil (joined finished.histories))) finished.reads;
-      stand = λ small. finished.stand (subst IsSmall (append-nil (joined finished.histories)) small);
+      reads = subst (ReadsSegments segments) (sym (append-nil (concatenated finished.histories))) finished.reads;
+      stand = λ small. finished.stand (subst IsSmall (append-nil (concatenated finished.histories)) small);
       exact = λ small. new;
     }
 
@@ -136,25 +136,25 @@ module _ {M : Type 0} (stands_for stands_exactly : M → List Event → Type 0) 
     stopped all rest segment is cannot = record {
       unsound = λ h reads small sound.
           let cut = each_cut SegmentReads segments (segment ∷ rest) h (subst (λ (l : List (Vec Part Global)). ReadsSegments l h) is reads) in
-          let same = segments_unique segments cut.first (joined underway.histories ++ underway.last) cut.first_reads underway.reads in
+          let same = segments_unique segments cut.first (concatenated underway.histories ++ underway.last) cut.first_reads underway.reads in
           let next = cut.rest_reads in
-          let whole : h ≡ joined underway.histories ++ underway.last ++ next.first ++ next.rest =
-          cut.split ∙ ap (λ (t : List Event). t ++ cut.rest) same ∙ ap (λ (t : List Event). joined underway.histories ++ underway.last ++ t) next.split
-          ∙ sym (append_assoc (joined underway.histories ++ underway.last) next.first next.rest) in
-          let few = small_front (joined underway.histories ++ underway.last ++ next.first) next.rest (subst IsSmall whole small) in
-          let good = sound_front (joined underway.histories ++ underway.last ++ next.first) next.rest (subst Sound whole sound) in
-          let two = append_assoc (joined underway.histories) underway.last next.first in
-          let stands = exact_stands m underway.last (underway.exact (small_front (joined underway.histories ++ underway.last) next.first few)) in
-          cannot.unsound underway.last next.first next.first_reads (small_back (joined underway.histories) (underway.last ++ next.first) (subst IsSmall two few)) stands
-          (sound_back (joined underway.histories) (underway.last ++ next.first) (subst Sound two good));
+          let whole : h ≡ concatenated underway.histories ++ underway.last ++ next.first ++ next.rest =
+          cut.split ∙ ap (λ (t : List Event). t ++ cut.rest) same ∙ ap (λ (t : List Event). concatenated underway.histories ++ underway.last ++ t) next.split
+          ∙ sym (append_assoc (concatenated underway.histories ++ underway.last) next.first next.rest) in
+          let few = small_front (concatenated underway.histories ++ underway.last ++ next.first) next.rest (subst IsSmall whole small) in
+          let good = sound_front (concatenated underway.histories ++ underway.last ++ next.first) next.rest (subst Sound whole sound) in
+          let two = append_assoc (concatenated underway.histories) underway.last next.first in
+          let stands = exact_stands m underway.last (underway.exact (small_front (concatenated underway.histories ++ underway.last) next.first few)) in
+          cannot.unsound underway.last next.first next.first_reads (small_back (concatenated underway.histories) (underway.last ++ next.first) (subst IsSmall two few)) stands
+          (sound_back (concatenated underway.histories) (underway.last ++ next.first) (subst Sound two good));
     }
 
   -- one machine alone
   pub replayed_alone : (segments : List (Vec Part Global)) (m : M) → IsUnderway stands_exactly segments [] m → IsReplayed stands_for stands_exactly segments m
   replayed_alone segments m underway = alone underway.histories underway.last underway.reads underway.stand underway.exact
     where
-      alone : (hs : List (List Event)) (last : List Event) → ReadsSegments segments (joined hs ++ last)
-          → (IsSmall (joined hs ++ last) → StandForEach stands_exactly [] hs) → (IsSmall (joined hs ++ last) → stands_exactly m last)
+      alone : (hs : List (List Event)) (last : List Event) → ReadsSegments segments (concatenated hs ++ last)
+          → (IsSmall (concatenated hs ++ last) → StandForEach stands_exactly [] hs) → (IsSmall (concatenated hs ++ last) → stands_exactly m last)
           → IsReplayed stands_for stands_exactly segments m
       alone [] last reads none exact = record {
         history = last;
@@ -163,7 +163,7 @@ module _ {M : Type 0} (stands_for stands_exactly : M → List Event → Type 0) 
         exact = λ small apart. exact small;
       }
       alone (h ∷ hs) last reads none exact = record {
-        history = h ++ joined hs ++ last;
+        history = h ++ concatenated hs ++ last;
         reads = reads;
         stands = λ small. absurd (none small);
         exact = λ small apart. absurd (none small);
@@ -173,7 +173,7 @@ module _ {M : Type 0} (stands_for stands_exactly : M → List Event → Type 0) 
     -- all of them merged
     pub replayed_merged : (m : M) → IsMerged stands_for stands_exactly ms m → IsReplayed stands_for stands_exactly segments m
     replayed_merged m merged = record {
-      history = joined line.histories;
+      history = concatenated line.histories;
       reads = line.reads;
       stands = λ small. merged.stands line.histories small (each_stands ms line.histories (line.stand small));
       exact = λ small apart. merged.exact line.histories small apart (line.stand small);
@@ -183,9 +183,9 @@ module _ {M : Type 0} (stands_for stands_exactly : M → List Event → Type 0) 
     pub unmerged : CannotMerge stands_for queue ms → CannotBeRead segments
     unmerged cannot = record {
       unsound = λ h reads small sound.
-          let same = segments_unique segments h (joined line.histories) reads line.reads in
+          let same = segments_unique segments h (concatenated line.histories) reads line.reads in
           let few = subst IsSmall same small in
-          cannot.unsound line.histories few (segments_of queue segments of (joined line.histories) line.reads)
+          cannot.unsound line.histories few (segments_of queue segments of (concatenated line.histories) line.reads)
           (each_stands ms line.histories (line.stand few)) (subst Sound same sound);
     }
 
@@ -208,11 +208,11 @@ module _ {M : Type 0} (stands_for stands_exactly : M → List Event → Type 0) 
   pub replayed_none : (segments : List (Vec Part Global)) (m : M) → AreInOrder stands_exactly segments [] → stands_exactly m [] → IsReplayed stands_for stands_exactly segments m
   replayed_none segments m line new = none_of line.histories line.reads line.stand
     where
-      none_of : (hs : List (List Event)) → ReadsSegments segments (joined hs) → (IsSmall (joined hs) → StandForEach stands_exactly [] hs)
+      none_of : (hs : List (List Event)) → ReadsSegments segments (concatenated hs) → (IsSmall (concatenated hs) → StandForEach stands_exactly [] hs)
           → IsReplayed stands_for stands_exactly segments m
       none_of [] reads none = record { history = []; reads = reads; stands = λ small. exact_stands m [] new; exact = λ small apart. new }
       none_of (h ∷ hs) reads none = record {
-        history = h ++ joined hs;
+        history = h ++ concatenated hs;
         reads = reads;
         stands = λ small. absurd (none small);
         exact = λ small apart. absurd (none small);

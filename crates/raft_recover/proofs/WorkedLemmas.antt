@@ -11,10 +11,10 @@ use Rattle.raft_records.specs.FilePart.{Part}
 use Rattle.raft_history.specs.Batches.{Event}
 use Rattle.raft_recover.specs.declared.piece.Piece.{Piece}
 use Rattle.raft_recover.specs.declared.workers.Worked.{Worked}
-use Rattle.raft_recover.specs.Covers.{IsPieceOf, covers, Tile, IsDone, AreDone, Gives}
+use Rattle.raft_recover.specs.Covers.{IsPieceOf, covers, CoverOnce, IsDone, AreDone, Gives}
 use Rattle.raft_recover.specs.Draws.{TicketBook, Drawer, IsSeatOf, HasEnded, once_below, IsOpenRefusal}
 use Rattle.raft_recover.specs.Recovery.{CannotBeRead}
-use Rattle.raft_recover.specs.Weights.{weigh, times}
+use Rattle.raft_recover.specs.Weights.{weigh, occurrences}
 use Rattle.raft_recover.specs.WorkedWords.{IsBack, HasRefusal}
 use Rattle.raft_recover.proofs.WeightLemmas.{weigh-append}
 
@@ -34,7 +34,7 @@ module _ {M : Type 0} (stands_exactly : M → List Event → Type 0) where
     each = All-append (IsPieceOf stands_exactly segments) pieces made done.each more.each;
     covered = λ x small.
         let a = weigh-append (λ (p : Piece M). covers p.from p.count x) pieces made in
-        let b = weigh-append (λ (s : Drawer). times x s.drawn) seats (seat ∷ []) in
+        let b = weigh-append (λ (s : Drawer). occurrences x s.drawn) seats (seat ∷ []) in
         let c = done.covered x small in let d = more.covered x small in omega arith;
     ended = All-push (λ (s : Drawer). HasEnded (length segments) s.drawn) seats seat done.ended more.ended;
   }
@@ -59,7 +59,7 @@ module _ {M : Type 0} (stands_exactly : M → List Event → Type 0) where
       subst (λ (r : Result (Vec (Piece M) Global) Error). Gives stands_exactly Own segments refused.one.seat.drawn r) refused.refusal one.1 in at
 
 -- a number is counted where it stands
-times_last : (n : ℕ) (front : List ℕ) → 0 < times n (front ++ n ∷ [])
+times_last : (n : ℕ) (front : List ℕ) → 0 < occurrences n (front ++ n ∷ [])
 times_last n [] = grind (arith, nat_tests)
 times_last n (x ∷ front) = let r = times_last n front in omega arith
 
@@ -71,19 +71,19 @@ once_of_below x n h = grind (arith, nat_tests)
 
 -- where every seat has ended, every number below the total was drawn, once
 pub all_drawn : (total word : ℕ) (seats : List Drawer) → 0 < length seats → All (λ s. HasEnded total s.drawn) seats
-    → ((x : ℕ) → weigh (λ (s : Drawer). times x s.drawn) seats ≡ once_below x word) → (x : ℕ) → x < total → weigh (λ (s : Drawer). times x s.drawn) seats ≡ 1
+    → ((x : ℕ) → weigh (λ (s : Drawer). occurrences x s.drawn) seats ≡ once_below x word) → (x : ℕ) → x < total → weigh (λ (s : Drawer). occurrences x s.drawn) seats ≡ 1
 all_drawn total word [] none all drawn x small = absurd (omega arith)
 all_drawn total word (s ∷ seats) some_seats all drawn x small =
     let ended = (recursion_from_All (λ (t : Drawer). HasEnded total t.drawn) (s ∷ seats) all).0 in
     let last = times_last ended.last ended.front in
-    let counted : times ended.last s.drawn ≡ times ended.last (ended.front ++ ended.last ∷ []) = ap (times ended.last) ended.split in
+    let counted : occurrences ended.last s.drawn ≡ occurrences ended.last (ended.front ++ ended.last ∷ []) = ap (occurrences ended.last) ended.split in
     let all_seats = drawn ended.last in
     let past = ended.past in
     let reached = below_once ended.last word (omega arith) in
     drawn x ∙ once_of_below x word (omega arith)
 
 -- some piece has the first segment
-pub tile_some : {M : Type 0} (segments : List (Vec Part Global)) (pieces : List (Piece M)) → 0 < length segments → Tile segments pieces → 0 < length pieces
+pub tile_some : {M : Type 0} (segments : List (Vec Part Global)) (pieces : List (Piece M)) → 0 < length segments → CoverOnce segments pieces → 0 < length pieces
 tile_some segments [] some_left tile = let none = tile 0 some_left in absurd (omega arith)
 tile_some segments (p ∷ ps) some_left tile = omega arith
 

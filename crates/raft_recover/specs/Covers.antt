@@ -10,7 +10,7 @@ use Rattle.raft_recover.specs.declared.piece.Piece.{Piece}
 use Rattle.raft_recover.specs.Draws.{TicketBook, Drawer, IsSeatOf, HasEnded}
 use Rattle.raft_recover.specs.Recovery.{CannotBeRead}
 use Rattle.raft_recover.specs.Segments.{ReadsSegments}
-use Rattle.raft_recover.specs.Weights.{weigh, times}
+use Rattle.raft_recover.specs.Weights.{weigh, occurrences}
 
 -- a machine that stands exactly for so many segments from this one on
 pub record IsPiece {M : Type 0} (stands_exactly : M → List Event → Type 0) (segments : List (Vec Part Global)) (from count : ℕ) (machine : M) : Type 0 where
@@ -32,13 +32,13 @@ abbrev pub covering : {M : Type 0} → ℕ → List (Piece M) → ℕ
 covering x pieces = weigh (λ piece. covers piece.from piece.count x) pieces
 
 -- each segment is in one piece
-abbrev pub Tile : {M : Type 0} → List (Vec Part Global) → List (Piece M) → Type 0
-Tile segments pieces = (x : ℕ) → x < length segments → covering x pieces ≡ 1
+abbrev pub CoverOnce : {M : Type 0} → List (Vec Part Global) → List (Piece M) → Type 0
+CoverOnce segments pieces = (x : ℕ) → x < length segments → covering x pieces ≡ 1
 
 -- pieces of what a seat has drawn, up to its end
 pub record IsDone {M : Type 0} (stands_exactly : M → List Event → Type 0) (segments : List (Vec Part Global)) (drawn : List ℕ) (pieces : List (Piece M)) : Type 0 where
   pub each : All (IsPieceOf stands_exactly segments) pieces
-  pub covered : (x : ℕ) → x < length segments → covering x pieces ≡ times x drawn
+  pub covered : (x : ℕ) → x < length segments → covering x pieces ≡ occurrences x drawn
   pub ended : HasEnded (length segments) drawn
 
 -- what a worker gives back: pieces of what its seat has drawn, or a refusal, want of memory and the factory's own aside only where the segments can't be read
@@ -50,5 +50,5 @@ Gives stands_exactly Own segments drawn result =
 pub record AreDone {M : Type 0} (stands_exactly : M → List Event → Type 0) (segments : List (Vec Part Global)) (tickets : TicketBook) (seats : List Drawer) (pieces : List (Piece M)) : Type 0 where
   pub of_tickets : All (IsSeatOf tickets) seats
   pub each : All (IsPieceOf stands_exactly segments) pieces
-  pub covered : (x : ℕ) → x < length segments → covering x pieces ≡ weigh (λ seat. times x seat.drawn) seats
+  pub covered : (x : ℕ) → x < length segments → covering x pieces ≡ weigh (λ seat. occurrences x seat.drawn) seats
   pub ended : All (λ seat. HasEnded (length segments) seat.drawn) seats

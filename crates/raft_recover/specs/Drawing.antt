@@ -1,15 +1,15 @@
 -- The rule of the word from which seats draw. A view has the list of numbers of each seat that it stands for.
 use Rattle.std.specs.Prelude.{◌≡◌, ℕ, ◌+◌, ◌^◌, ◌<◌, ◌≤◌, List, [], ◌∷◌, ◌++◌, Bool, true, false, if◌then◌else◌, nat_le, length, slice_index}
 use Rattle.raft_recover.specs.Draws.{AreBelow, Rises, HasEnded, once_below}
-use Rattle.raft_recover.specs.Weights.{weigh, times}
+use Rattle.raft_recover.specs.Weights.{weigh, occurrences}
 
 -- how many lists there are
 abbrev pub lists_in : List (List ℕ) → ℕ
 lists_in ls = weigh (λ _. 1) ls
 
 -- how often a number stands in lists
-abbrev pub times_in : ℕ → List (List ℕ) → ℕ
-times_in x ls = weigh (times x) ls
+abbrev pub occurrences_in : ℕ → List (List ℕ) → ℕ
+occurrences_in x ls = weigh (occurrences x) ls
 
 -- 1 for a list with a number that isn't below the total, else 0
 abbrev pub passed : ℕ → List ℕ → ℕ
@@ -26,7 +26,7 @@ pub record IsDrawn (total seats : ℕ) (words : List ℕ) (views : List (List (L
   pub few_numbers : total < 2 ^ 62
   pub few_seats : seats < 2 ^ 62
   pub all_seats : weigh lists_in views ≡ seats
-  pub once : (x : ℕ) → weigh (times_in x) views ≡ once_below x (slice_index words 0)
+  pub once : (x : ℕ) → weigh (occurrences_in x) views ≡ once_below x (slice_index words 0)
   pub reached : slice_index words 0 ≤ total + weigh (passed_in total) views
 
 -- a view of one list has drawn the number n

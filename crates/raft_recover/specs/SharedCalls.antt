@@ -6,8 +6,8 @@ use Rattle.raft_table.specs.declared.memtable.change.TableChange.{TableChange}
 use Rattle.raft_table.specs.Change.{after_change, IsAnswer}
 use Rattle.raft_table.specs.Table.{Table}
 use Rattle.raft_memtable.specs.Accessor.{slot_of}
-use Rattle.raft_memtable.specs.Slot.{IsTableOf}
+use Rattle.raft_memtable.specs.Slot.{IsSlotTable}
 
 -- the number is that of a change of a table that may stand under the id, the change being the call's answer for this table
-abbrev pub IsChangedBy : {F : Type 0} → Once F (Bor Table × Unit {0}) TableChange → F → ℕ → ℕ → Type 0
-IsChangedBy g f id n = (t : Table) × (u : Table) × (change : TableChange) × IsTableOf (slot_of id) id t × FnOnceReturnsAt g f t change × (after_change t change ≡ Some u) × IsAnswer change t u n
+abbrev pub IsChangeAnswer : {F : Type 0} → Once F (Bor Table × Unit {0}) TableChange → F → ℕ → ℕ → Type 0
+IsChangeAnswer g f id n = (t : Table) × (u : Table) × (change : TableChange) × IsSlotTable (slot_of id) id t × FnOnceReturnsAt g f t change × (after_change t change ≡ Some u) × IsAnswer change t u n

@@ -7,5 +7,5 @@ weigh f [] = 0
 weigh f (x ∷ xs) = f x + weigh f xs
 
 -- how often a number stands in a list
-abbrev pub times : ℕ → List ℕ → ℕ
-times x ys = weigh (λ y. if x == y then 1 else 0) ys
+abbrev pub occurrences : ℕ → List ℕ → ℕ
+occurrences x ys = weigh (λ y. if x == y then 1 else 0) ys

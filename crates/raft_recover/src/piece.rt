@@ -37,7 +37,7 @@ pub(crate) struct Piece<M> {
 }
 
 impl<M: ReplayMachine> Piece<M> {
-    ghost use Rattle.raft_recover.specs.Covers.{IsPieceOf, Tile, covers, covering};
+    ghost use Rattle.raft_recover.specs.Covers.{IsPieceOf, CoverOnce, covers, covering};
 
     /// The piece that goes on with this segment: the last one where it ends there, else a new one.
     pub(crate) fn at<F: Factory<M>>(
@@ -105,7 +105,7 @@ impl<M: ReplayMachine> Piece<M> {
     /// The machines of pieces, in the order of what they have replayed.
     pub(crate) fn line_up(alloc: Global, mut pieces: Vec<Piece<M>>) -> Result<Vec<M>>
         ensures ok { (segments : List (Vec Part Global)) → All (IsPieceOf M.stands_exactly segments) pieces.items →
-            Tile segments pieces.items → IfOk result (λ v. AreInOrder M.stands_exactly segments v.items) }
+            CoverOnce segments pieces.items → IfOk result (λ v. AreInOrder M.stands_exactly segments v.items) }
         ensures fault { IfErr result (λ e. e ≡ Error.Memory) }
     {
         pieces.sort_by_key(|piece| piece.from)?;

@@ -8,8 +8,8 @@ ghost use Rattle.raft_table.specs.declared.memtable.change.TableChange.{TableCha
 ghost use Rattle.raft_table.specs.Change.{after_change, IsAnswer};
 ghost use Rattle.raft_table.specs.Table.{Table};
 ghost use Rattle.raft_memtable.specs.Accessor.{slot_of, table_in};
-ghost use Rattle.raft_memtable.specs.Slot.{IsTableOf};
-ghost use Rattle.raft_recover.specs.SharedCalls.{IsChangedBy};
+ghost use Rattle.raft_memtable.specs.Slot.{IsSlotTable};
+ghost use Rattle.raft_recover.specs.SharedCalls.{IsChangeAnswer};
 
 use raft_memtable::{
     Error, FileSeq, LogQueue, MemTable, MemTableAccessor, Result, Slot, TableChange, slot_of,
@@ -74,7 +74,7 @@ impl SharedAccessor {
     where
         F: Drop,
         requires { F.IsAlwaysCallable f }
-        ensures { IfSome result (λ x. (t : Table) × IsTableOf (slot_of id) id t × FnOnceReturnsAt F.FnOnce f t x) }
+        ensures { IfSome result (λ x. (t : Table) × IsSlotTable (slot_of id) id t × FnOnceReturnsAt F.FnOnce f t x) }
     {
         let number = slot_of(id);
         let slot = self.slots[number].read(rt);
@@ -100,7 +100,7 @@ impl SharedAccessor {
     where
         F: Drop,
         requires { F.IsAlwaysCallable f }
-        ensures { IfOk result (IsChangedBy F.FnOnce f id) }
+        ensures { IfOk result (IsChangeAnswer F.FnOnce f id) }
     {
         let number = slot_of(id);
         let mut slot = self.slots[number].write(rt);
@@ -367,7 +367,7 @@ where
     F: Drop,
     requires callable { F.IsAlwaysCallable f }
     requires slot { slot_of id ≡ slot.now.number }
-    ensures { IfSome result (λ x. (t : Table) × IsTableOf (slot_of id) id t × FnOnceReturnsAt F.FnOnce f t x) }
+    ensures { IfSome result (λ x. (t : Table) × IsSlotTable (slot_of id) id t × FnOnceReturnsAt F.FnOnce f t x) }
 {
     let table = slot.table(id)?;
     Some(f(table))
@@ -384,7 +384,7 @@ where
     F: Drop,
     requires callable { F.IsAlwaysCallable f }
     requires slot { slot_of id ≡ slot.old.number }
-    ensures { IfOk result (IsChangedBy F.FnOnce f id) }
+    ensures { IfOk result (IsChangeAnswer F.FnOnce f id) }
 {
     let change = answer_at(slot, alloc, id, f);
     slot.change(id, change)
@@ -402,7 +402,7 @@ where
     requires callable { F.IsAlwaysCallable f }
     requires slot { slot_of id ≡ slot.now.number }
     ensures gave { FnOnceReturnsAt F.FnOnce f (table_in slot.now.part.tables id) result }
-    ensures allowed { IsTableOf (slot_of id) id (table_in slot.now.part.tables id) }
+    ensures allowed { IsSlotTable (slot_of id) id (table_in slot.now.part.tables id) }
 {
     match slot.table(id) {
         Some(table) => f(table),

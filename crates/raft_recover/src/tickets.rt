@@ -19,7 +19,7 @@ ghost use Rattle.std.specs.Prelude.{
 };
 ghost use Rattle.atomic_table.specs.Seated.{TableId};
 ghost use Rattle.raft_recover.specs.Draws.{IsSeatOf, IsNewSeatOf, Rises, Draw, once_below, IsOpenRefusal};
-ghost use Rattle.raft_recover.specs.Weights.{weigh, times};
+ghost use Rattle.raft_recover.specs.Weights.{weigh, occurrences};
 
 use crate::TicketSeat;
 use crate::drawing::{Both, Drawing, Draws, First, Lists, Sizes};
@@ -101,7 +101,7 @@ impl Tickets {
     /// How many numbers were drawn, once all seats are back.
     pub fn close(self, mut seats: Vec<TicketSeat>) -> usize
         requires { (vec_len seats ≡ self.seats) × All (IsSeatOf self) seats.items }
-        ensures { (x : ℕ) → weigh (λ s. times x s.drawn) seats.items ≡ once_below x result }
+        ensures { (x : ℕ) → weigh (λ s. occurrences x s.drawn) seats.items ≡ once_below x result }
     {
         let _ = &self.total;
         let Some(last) = seats.pop() else {

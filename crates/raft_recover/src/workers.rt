@@ -23,7 +23,7 @@ ghost use Rattle.std.specs.Prelude.{
 ghost use Rattle.std.specs.Global.{Global};
 ghost use Rattle.raft_records.specs.FilePart.{Part};
 ghost use Rattle.raft_table.specs.Start.{IsInvalidArgument};
-ghost use Rattle.raft_recover.specs.Covers.{IsPieceOf, Tile, AreDone, Gives};
+ghost use Rattle.raft_recover.specs.Covers.{IsPieceOf, CoverOnce, AreDone, Gives};
 ghost use Rattle.raft_recover.specs.Draws.{TicketBook, IsSeatOf, IsNewSeatOf};
 ghost use Rattle.raft_recover.specs.WorkedWords.{IsBack, HasRefusal};
 ghost use Rattle.raft_recover.specs.Recovery.{IsReplayed, CannotBeRead, SegmentsAreOf};
@@ -104,7 +104,7 @@ fn drawn_pieces<M: ReplayMachine, F: Factory<M>, G: Gate, R: Threads + Sync>(
     requires factory { (m : M) → F.gives factory.now m → M.stands_exactly m [] }
     requires workers { (0 < workers) × (workers ≤ 256) × (length segments.now < 2 ^ 62) }
     ensures pieces { IfOk result (λ v. All (IsPieceOf M.stands_exactly segments.entry.now) v.items) }
-    ensures tile { IfOk result (λ v. Tile segments.entry.now v.items) }
+    ensures tile { IfOk result (λ v. CoverOnce segments.entry.now v.items) }
     ensures refused { IfErr result (λ e. e ≢ Error.Memory → ¬ (F.may_refuse factory.entry.now e) →
         CannotBeRead segments.entry.now) }
 {

@@ -2,7 +2,7 @@
 use Rattle.std.proofs.Common.{◌≡◌, ◌≢◌, ◌^◌, ℕ, zero, suc, ◌+◌, ◌-◌, ◌<◌, ◌≤◌, min, List, [], ◌∷◌, ◌++◌, length, get_or, set, take, drop, refl, sym, ap, ◌∙◌, subst, arith}
 use Rattle.std.proofs.lemmas.List.{nil_from_length, append-nil, length-append, length-drop, length-take-le, take-append-drop}
 use Rattle.raft_base.specs.declared.pipe_log.LogQueue.TheVariants.{Append, Rewrite}
-use Rattle.raft_table.specs.Blocks.{Stretch, spread, expanded, Differs, AreStretches}
+use Rattle.raft_table.specs.Blocks.{BlockSpans, spread, expanded, Differs, AreDistinctBlocks}
 use Rattle.raft_table.specs.BlockWords.{count, starts_of, AreKept, shortened, advanced, cut_last, cut_first, IsAt, IsIndexOf}
 use Rattle.raft_table.specs.Entries.{AreTableEntries, start_of, end_of, placed_in, entry_count}
 use Rattle.raft_table.proofs.PlaceLemmas.{entries_in_both}
@@ -12,7 +12,7 @@ use Rattle.raft_table.proofs.BlockLemmas.{length-spread, length-starts, length-e
 use Rattle.raft_table.proofs.BlockSearch.{at_place, below_place, place_within}
 
 -- what the numbers that are kept say
-pub record KeptFacts (i n : ℕ) (bs : List Stretch) (r : ℕ) : Type 0 where
+pub record KeptFacts (i n : ℕ) (bs : List BlockSpans) (r : ℕ) : Type 0 where
   pub length : length (expanded i bs) ≡ n
   pub both : r + entry_count Append (expanded i bs) ≡ n
   pub empty : n ≡ 0 → expanded i bs ≡ []
@@ -20,7 +20,7 @@ pub record KeptFacts (i n : ℕ) (bs : List Stretch) (r : ℕ) : Type 0 where
   pub end : 0 < n → end_of (expanded i bs) ≡ i + n
   pub bounded : 0 < n → i + n < 2 ^ 64
 
-pub kept_facts : {i n : ℕ} {bs : List Stretch} {ss : List ℕ} {r : ℕ} → AreKept i n bs ss r → KeptFacts i n bs r
+pub kept_facts : {i n : ℕ} {bs : List BlockSpans} {ss : List ℕ} {r : ℕ} → AreKept i n bs ss r → KeptFacts i n bs r
 kept_facts {i} {n} {bs} {ss} {r} k =
     let l : length (expanded i bs) ≡ n = length-expanded i bs ∙ sym k.len in
     let b = entries_in_both (expanded i bs) k.sound.in_front in
@@ -36,18 +36,18 @@ kept_facts {i} {n} {bs} {ss} {r} k =
     }
 
 -- what a search finds
-pub index_of : {i n x : ℕ} {bs : List Stretch} {ss : List ℕ} {r : ℕ} → AreKept i n bs ss r → (w : ℕ) → x ≡ i + w → w < n → IsIndexOf ss x
+pub index_of : {i n x : ℕ} {bs : List BlockSpans} {ss : List ℕ} {r : ℕ} → AreKept i n bs ss r → (w : ℕ) → x ≡ i + w → w < n → IsIndexOf ss x
 index_of {i} {n} {x} {bs} h w e l = let k = h.len in (i, bs, h.starts, omega arith, omega arith)
 
-pub found : {i n x k o : ℕ} {bs : List Stretch} {ss : List ℕ} {r : ℕ} → AreKept i n bs ss r → ((j : ℕ) (cs : List Stretch) → ss ≡ starts_of j cs → j ≤ x → x < j + count cs → IsAt (x - j) cs k o) → (w : ℕ) → x ≡ i + w → w < n → IsAt w bs k o
+pub found : {i n x k o : ℕ} {bs : List BlockSpans} {ss : List ℕ} {r : ℕ} → AreKept i n bs ss r → ((j : ℕ) (cs : List BlockSpans) → ss ≡ starts_of j cs → j ≤ x → x < j + count cs → IsAt (x - j) cs k o) → (w : ℕ) → x ≡ i + w → w < n → IsAt w bs k o
 found {i} {n} {x} {k} {o} {bs} h f w e l = let m = h.len in subst (λ z. IsAt z bs k o) (let q : x - i ≡ w = omega arith in q) (f i bs h.starts (omega arith) (omega arith))
 
-pub kept_length : {i n : ℕ} {bs : List Stretch} {ss : List ℕ} {r : ℕ} → AreKept i n bs ss r → length ss ≡ length bs
+pub kept_length : {i n : ℕ} {bs : List BlockSpans} {ss : List ℕ} {r : ℕ} → AreKept i n bs ss r → length ss ≡ length bs
 kept_length {i} {n} {bs} h = ap length h.starts ∙ length-starts i bs
 
-pub kept_nil : (i n : ℕ) (bs : List Stretch) (ss : List ℕ) (r : ℕ) → bs ≡ [] → ss ≡ [] → n ≡ 0 → r ≡ 0 → AreKept i n bs ss r
+pub kept_nil : (i n : ℕ) (bs : List BlockSpans) (ss : List ℕ) (r : ℕ) → bs ≡ [] → ss ≡ [] → n ≡ 0 → r ≡ 0 → AreKept i n bs ss r
 unfolding placed_in
-kept_nil i n bs ss r e f g h = rw (e, f, g, h) record { sound = AreTableEntries-nil; stretches = tt; starts = refl; len = refl; rewritten = refl }
+kept_nil i n bs ss r e f g h = rw (e, f, g, h) record { sound = AreTableEntries-nil; distinct = tt; starts = refl; len = refl; rewritten = refl }
 
 pub split_drop : {X : Type 0} (k : ℕ) (bs : List X) (b : X) (rest : List X) (d : X) → drop k bs ≡ b ∷ rest → (get_or bs k d ≡ b) × (drop (suc k) bs ≡ rest)
 split_drop zero [] b rest d h = absurd (omega (arith, ap length h))
@@ -55,25 +55,25 @@ split_drop zero (x ∷ bs) b rest d h = (ap (λ ys. get_or ys 0 d) h, ap (drop 1
 split_drop (suc k) [] b rest d h = absurd (omega (arith, ap length h))
 split_drop (suc k) (x ∷ bs) b rest d h = split_drop k bs b rest d h
 
-pub stretches-drop : (j : ℕ) (bs : List Stretch) → AreStretches bs → AreStretches (drop j bs)
-stretches-drop zero bs h = h
-stretches-drop (suc j) [] h = tt
-stretches-drop (suc j) (b ∷ bs) h = stretches-drop j bs h.2
+pub distinct-drop : (j : ℕ) (bs : List BlockSpans) → AreDistinctBlocks bs → AreDistinctBlocks (drop j bs)
+distinct-drop zero bs h = h
+distinct-drop (suc j) [] h = tt
+distinct-drop (suc j) (b ∷ bs) h = distinct-drop j bs h.2
 
-pub Differs-same : (b c : Stretch) (bs : List Stretch) → c.handle ≡ b.handle → Differs b bs → Differs c bs
+pub Differs-same : (b c : BlockSpans) (bs : List BlockSpans) → c.handle ≡ b.handle → Differs b bs → Differs c bs
 Differs-same b c [] e h = tt
 Differs-same b c (x ∷ bs) e h = λ f. h (sym e ∙ f)
 
 -- the blocks from a place on
-pub kept_drop : (i n p k o : ℕ) (bs : List Stretch) (ss : List ℕ) (r : ℕ) → AreKept i n bs ss r → IsAt p bs k o → AreKept (i + p) (n - p) (cut_first o (drop k bs)) (set (drop k ss) 0 (i + p)) (r - min r p) × (expanded (i + p) (cut_first o (drop k bs)) ≡ drop p (expanded i bs))
+pub kept_drop : (i n p k o : ℕ) (bs : List BlockSpans) (ss : List ℕ) (r : ℕ) → AreKept i n bs ss r → IsAt p bs k o → AreKept (i + p) (n - p) (cut_first o (drop k bs)) (set (drop k ss) 0 (i + p)) (r - min r p) × (expanded (i + p) (cut_first o (drop k bs)) ≡ drop p (expanded i bs))
 kept_drop i n p k o bs ss r h a = at (drop k bs) refl
   where
-    at : (back : List Stretch) → drop k bs ≡ back → AreKept (i + p) (n - p) (cut_first o back) (set (drop k ss) 0 (i + p)) (r - min r p) × (expanded (i + p) (cut_first o back) ≡ drop p (expanded i bs))
+    at : (back : List BlockSpans) → drop k bs ≡ back → AreKept (i + p) (n - p) (cut_first o back) (set (drop k ss) 0 (i + p)) (r - min r p) × (expanded (i + p) (cut_first o back) ≡ drop p (expanded i bs))
     at [] q = absurd (let l = a.block in omega (arith, ap length q, length-drop k bs))
     at (b ∷ rest) q =
         let s = split_drop k bs b rest b q in
         let es = expanded i bs in
-        let inside : o < length b.spans = subst (λ (y : Stretch). o < length y.spans) s.0 (a.inside b) in
+        let inside : o < length b.spans = subst (λ (y : BlockSpans). o < length y.spans) s.0 (a.inside b) in
         let cc = count_cut k bs in
         let total : count (take k bs) + (length b.spans + count rest) ≡ count bs = ap (λ ys. count (take k bs) + count ys) (sym q) ∙ cc in
         let more : count (take (suc k) bs) ≡ count (take k bs) + length b.spans = let c2 = count_cut (suc k) bs in let c3 = ap count s.1 in omega arith in
@@ -81,20 +81,20 @@ kept_drop i n p k o bs ss r h a = at (drop k bs) refl
         let ln : length (drop o b.spans) ≡ length b.spans - o = length-drop o b.spans in
         let pos : i + p + length (drop o b.spans) ≡ i + count (take (suc k) bs) = omega arith in
         let whole : drop p es ≡ spread (i + p) b.handle (drop o b.spans) ++ expanded (i + count (take (suc k) bs)) rest =
-        subst (λ (ys : List Stretch). drop p es ≡ spread (i + p) b.handle (drop o b.spans) ++ expanded (i + count (take (suc k) bs)) ys) s.1
-        (subst (λ (y : Stretch). drop p es ≡ spread (i + p) y.handle (drop o y.spans) ++ expanded (i + count (take (suc k) bs)) (drop (suc k) bs)) s.0 (at_place i p k o bs b a)) in
+        subst (λ (ys : List BlockSpans). drop p es ≡ spread (i + p) b.handle (drop o b.spans) ++ expanded (i + count (take (suc k) bs)) ys) s.1
+        (subst (λ (y : BlockSpans). drop p es ≡ spread (i + p) y.handle (drop o y.spans) ++ expanded (i + count (take (suc k) bs)) (drop (suc k) bs)) s.0 (at_place i p k o bs b a)) in
         let cut : drop p es ≡ expanded (i + p) (advanced o b ∷ rest) = rw pos whole in
         let kl = h.len in
         let le : p ≤ length es = rw (length-expanded i bs) (omega arith) in
         let counts = cut_counts p es h.sound le in
         let kr = h.rewritten in
-        let str : AreStretches (b ∷ rest) = subst AreStretches q (stretches-drop k bs h.stretches) in
+        let str : AreDistinctBlocks (b ∷ rest) = subst AreDistinctBlocks q (distinct-drop k bs h.distinct) in
         let ds : drop k ss ≡ (i + count (take k bs)) ∷ starts_of (i + count (take k bs) + length b.spans) rest =
         ap (drop k) h.starts ∙ starts_drop k i bs ∙ ap (starts_of (i + count (take k bs))) q in
         let ps : i + count (take k bs) + length b.spans ≡ i + p + length (drop o b.spans) = omega arith in (
           record {
             sound = subst AreTableEntries cut (AreTableEntries-drop p es h.sound);
-            stretches = (omega arith, Differs-same b (advanced o b) rest refl str.1, str.2);
+            distinct = (omega arith, Differs-same b (advanced o b) rest refl str.1, str.2);
             starts = rw (ds, ps) refl;
             len = omega arith;
             rewritten = subst (λ xs. r - min r p ≡ entry_count Rewrite xs) cut (omega arith);
@@ -103,19 +103,19 @@ kept_drop i n p k o bs ss r h a = at (drop k bs) refl
         )
 
 -- blocks that stay up to a place among them, so many of them and of their entries
-pub record IsFront (i p k : ℕ) (bs front : List Stretch) : Type 0 where
+pub record IsFront (i p k : ℕ) (bs front : List BlockSpans) : Type 0 where
   pub entries : expanded i front ≡ take p (expanded i bs)
-  pub stretches : AreStretches front
+  pub distinct : AreDistinctBlocks front
   pub starts : starts_of i front ≡ take k (starts_of i bs)
   pub count : count front ≡ p
 
-cut_is : (k m : ℕ) (bs : List Stretch) (b : Stretch) (rest : List Stretch) → drop k bs ≡ b ∷ rest → cut_last m (take (suc k) bs) ≡ take k bs ++ shortened m b ∷ []
+cut_is : (k m : ℕ) (bs : List BlockSpans) (b : BlockSpans) (rest : List BlockSpans) → drop k bs ≡ b ∷ rest → cut_last m (take (suc k) bs) ≡ take k bs ++ shortened m b ∷ []
 cut_is k m [] b rest h = none k h
   where
     none : (k : ℕ) → drop k [] ≡ b ∷ rest → cut_last m (take (suc k) []) ≡ take k [] ++ shortened m b ∷ []
     none zero h = absurd (omega (arith, ap length h))
     none (suc k) h = absurd (omega (arith, ap length h))
-cut_is zero m (x ∷ bs) b rest h = let s = split_drop 0 (x ∷ bs) b rest b h in ap (λ (y : Stretch). shortened m y ∷ []) s.0
+cut_is zero m (x ∷ bs) b rest h = let s = split_drop 0 (x ∷ bs) b rest b h in ap (λ (y : BlockSpans). shortened m y ∷ []) s.0
 cut_is (suc k) m (x ∷ []) b rest h = none k h
   where
     none : (k : ℕ) → drop k [] ≡ b ∷ rest → cut_last m (take (suc (suc k)) (x ∷ [])) ≡ take (suc k) (x ∷ []) ++ shortened m b ∷ []
@@ -123,24 +123,24 @@ cut_is (suc k) m (x ∷ []) b rest h = none k h
     none (suc k) h = absurd (omega (arith, ap length h))
 cut_is (suc k) m (x ∷ y ∷ bs) b rest h = ap (λ ys. x ∷ ys) (cut_is k m (y ∷ bs) b rest h)
 
-stretches_back : (front : List Stretch) (b c : Stretch) (rest : List Stretch) → c.handle ≡ b.handle → 0 < length c.spans → AreStretches (front ++ b ∷ rest) → AreStretches (front ++ c ∷ [])
+stretches_back : (front : List BlockSpans) (b c : BlockSpans) (rest : List BlockSpans) → c.handle ≡ b.handle → 0 < length c.spans → AreDistinctBlocks (front ++ b ∷ rest) → AreDistinctBlocks (front ++ c ∷ [])
 stretches_back [] b c rest e l h = (l, tt, tt)
 stretches_back (x ∷ []) b c rest e l h = (h.0, (λ f. h.1 (f ∙ e)), (l, tt, tt))
 stretches_back (x ∷ y ∷ front) b c rest e l h = (h.0, h.1, stretches_back (y ∷ front) b c rest e l h.2)
 
-starts_back : (i : ℕ) (front : List Stretch) (b c : Stretch) (rest : List Stretch) → starts_of i (front ++ c ∷ []) ≡ take (suc (length front)) (starts_of i (front ++ b ∷ rest))
+starts_back : (i : ℕ) (front : List BlockSpans) (b c : BlockSpans) (rest : List BlockSpans) → starts_of i (front ++ c ∷ []) ≡ take (suc (length front)) (starts_of i (front ++ b ∷ rest))
 starts_back i [] b c rest = refl
 starts_back i (x ∷ front) b c rest = ap (λ xs. i ∷ xs) (starts_back (i + length x.spans) front b c rest)
 
-pub front_at : (i p k o : ℕ) (bs : List Stretch) → AreStretches bs → IsAt p bs k o → IsFront i (suc p) (suc k) bs (cut_last (suc o) (take (suc k) bs))
+pub front_at : (i p k o : ℕ) (bs : List BlockSpans) → AreDistinctBlocks bs → IsAt p bs k o → IsFront i (suc p) (suc k) bs (cut_last (suc o) (take (suc k) bs))
 front_at i p k o bs str a = at (drop k bs) refl
   where
-    at : (back : List Stretch) → drop k bs ≡ back → IsFront i (suc p) (suc k) bs (cut_last (suc o) (take (suc k) bs))
+    at : (back : List BlockSpans) → drop k bs ≡ back → IsFront i (suc p) (suc k) bs (cut_last (suc o) (take (suc k) bs))
     at [] q = absurd (let l = a.block in omega (arith, ap length q, length-drop k bs))
     at (b ∷ rest) q =
         let s = split_drop k bs b rest b q in
         let c = shortened (suc o) b in
-        let inside : o < length b.spans = subst (λ (y : Stretch). o < length y.spans) s.0 (a.inside b) in
+        let inside : o < length b.spans = subst (λ (y : BlockSpans). o < length y.spans) s.0 (a.inside b) in
         let lc : length (take (suc o) b.spans) ≡ suc o = length-take-le (suc o) b.spans (omega arith) in
         let front = take k bs in
         let w = a.place in
@@ -149,21 +149,21 @@ front_at i p k o bs str a = at (drop k bs) refl
         let lf : length front ≡ k = length-take-le k bs (omega arith) in
         let is = cut_is k (suc o) bs b rest q in
         let below : take (suc p) (expanded i bs) ≡ expanded i front ++ spread (i + count front) b.handle (take (suc o) b.spans) =
-        subst (λ (y : Stretch). take (suc p) (expanded i bs) ≡ expanded i front ++ spread (i + count front) y.handle (take (suc o) y.spans)) s.0
+        subst (λ (y : BlockSpans). take (suc p) (expanded i bs) ≡ expanded i front ++ spread (i + count front) y.handle (take (suc o) y.spans)) s.0
         (below_place i (suc p) k (suc o) bs b l (omega arith) (a.inside b)) in
         let ends : expanded i (front ++ c ∷ []) ≡ expanded i front ++ spread (i + count front) b.handle (take (suc o) b.spans) =
         expanded-append i front (c ∷ []) ∙ ap (λ xs. expanded i front ++ xs) (append-nil (spread (i + count front) b.handle (take (suc o) b.spans))) in
         rw is (record {
           entries = ends ∙ sym below;
-          stretches = stretches_back front b c rest refl (omega arith) (subst AreStretches (sym whole) str);
+          distinct = stretches_back front b c rest refl (omega arith) (subst AreDistinctBlocks (sym whole) str);
           starts = starts_back i front b c rest ∙ ap (λ z. take (suc z) (starts_of i (front ++ b ∷ rest))) lf ∙ ap (λ ys. take (suc k) (starts_of i ys)) whole;
           count = count-append front (c ∷ []) ∙ omega arith;
         })
 
 -- the blocks up to a place
-pub kept_take : (i n p k o : ℕ) (bs : List Stretch) (ss : List ℕ) (r : ℕ) → AreKept i n bs ss r → IsAt p bs k o → AreKept i (suc p) (cut_last (suc o) (take (suc k) bs)) (take (suc k) ss) (min r (suc p)) × (expanded i (cut_last (suc o) (take (suc k) bs)) ≡ take (suc p) (expanded i bs))
+pub kept_take : (i n p k o : ℕ) (bs : List BlockSpans) (ss : List ℕ) (r : ℕ) → AreKept i n bs ss r → IsAt p bs k o → AreKept i (suc p) (cut_last (suc o) (take (suc k) bs)) (take (suc k) ss) (min r (suc p)) × (expanded i (cut_last (suc o) (take (suc k) bs)) ≡ take (suc p) (expanded i bs))
 kept_take i n p k o bs ss r h a =
-    let f = front_at i p k o bs h.stretches a in
+    let f = front_at i p k o bs h.distinct a in
     let es = expanded i bs in
     let c = f.count in
     let le : suc p ≤ length es = rw (length-expanded i bs) (place_within p k o bs a) in
@@ -171,7 +171,7 @@ kept_take i n p k o bs ss r h a =
     let kr = h.rewritten in (
       record {
         sound = rw f.entries (AreTableEntries-take (suc p) es h.sound);
-        stretches = f.stretches;
+        distinct = f.distinct;
         starts = ap (take (suc k)) h.starts ∙ sym f.starts;
         len = sym c;
         rewritten = rw f.entries (omega arith);
@@ -180,14 +180,14 @@ kept_take i n p k o bs ss r h a =
     )
 
 -- the same, told by how many stay
-pub front_of : (i w k o : ℕ) (bs : List Stretch) → AreStretches bs → 0 < w → IsAt (w - 1) bs k o → IsFront i w (k + 1) bs (cut_last (o + 1) (take (k + 1) bs))
+pub front_of : (i w k o : ℕ) (bs : List BlockSpans) → AreDistinctBlocks bs → 0 < w → IsAt (w - 1) bs k o → IsFront i w (k + 1) bs (cut_last (o + 1) (take (k + 1) bs))
 front_of i w k o bs str l a =
     let e : suc (w - 1) ≡ w = omega arith in
     let f : k + 1 ≡ suc k = omega arith in
     let g : o + 1 ≡ suc o = omega arith in
     rw (f, g) (subst (λ n. IsFront i n (suc k) bs (cut_last (suc o) (take (suc k) bs))) e (front_at i (w - 1) k o bs str a))
 
-pub kept_front : {n r : ℕ} {ss : List ℕ} (i w k o : ℕ) (bs : List Stretch) → AreKept i n bs ss r → 0 < w → IsAt (w - 1) bs k o → AreKept i w (cut_last (o + 1) (take (k + 1) bs)) (take (k + 1) ss) (min r w) × (expanded i (cut_last (o + 1) (take (k + 1) bs)) ≡ take w (expanded i bs))
+pub kept_front : {n r : ℕ} {ss : List ℕ} (i w k o : ℕ) (bs : List BlockSpans) → AreKept i n bs ss r → 0 < w → IsAt (w - 1) bs k o → AreKept i w (cut_last (o + 1) (take (k + 1) bs)) (take (k + 1) ss) (min r w) × (expanded i (cut_last (o + 1) (take (k + 1) bs)) ≡ take w (expanded i bs))
 kept_front {n} {r} {ss} i w k o bs h l a =
     let e : suc (w - 1) ≡ w = omega arith in
     let f : k + 1 ≡ suc k = omega arith in

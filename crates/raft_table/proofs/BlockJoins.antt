@@ -6,8 +6,8 @@ use Rattle.std.proofs.lemmas.Bool.Decides.{nat_tests}
 use Rattle.raft_base.specs.declared.pipe_log.FileBlockHandle.{FileBlockHandle}
 use Rattle.raft_base.specs.declared.pipe_log.LogQueue.{LogQueue}
 use Rattle.raft_base.specs.declared.pipe_log.LogQueue.TheVariants.{Append, Rewrite}
-use Rattle.raft_table.specs.Blocks.{Stretch, spread, expanded, Differs, AreStretches}
-use Rattle.raft_table.specs.BlockWords.{count, starts_of, AreKept, lengthened, shortened, cut_last, joined, seam}
+use Rattle.raft_table.specs.Blocks.{BlockSpans, spread, expanded, Differs, AreDistinctBlocks}
+use Rattle.raft_table.specs.BlockWords.{count, starts_of, AreKept, lengthened, shortened, cut_last, joined_blocks, seam}
 use Rattle.raft_table.specs.Entries.{AreTableEntries, entry_count}
 use Rattle.raft_table.specs.Fetches.{is_same_block}
 use Rattle.raft_table.specs.Queues.{is_same}
@@ -61,22 +61,22 @@ other_block_is a b n = at (is_same_block a b) refl
     at true h = absurd (n (same_block a b h))
     at false h = h
 
-pub joined_nil : (f : List Stretch) → joined f [] ≡ f
+pub joined_nil : (f : List BlockSpans) → joined_blocks f [] ≡ f
 joined_nil [] = refl
 joined_nil (b ∷ []) = refl
 joined_nil (b ∷ d ∷ f) = ap (λ ys. b ∷ ys) (joined_nil (d ∷ f))
 
-pub joined_append : (f y r : List Stretch) → 0 < length y → joined f y ++ r ≡ joined f (y ++ r)
+pub joined_append : (f y r : List BlockSpans) → 0 < length y → joined_blocks f y ++ r ≡ joined_blocks f (y ++ r)
 joined_append f [] r l = absurd (omega arith)
 joined_append [] (c ∷ y) r l = refl
 joined_append (b ∷ []) (c ∷ y) r l = at (is_same_block b.handle c.handle) refl
   where
-    at : (t : Bool) → is_same_block b.handle c.handle ≡ t → joined (b ∷ []) (c ∷ y) ++ r ≡ joined (b ∷ []) (c ∷ y ++ r)
+    at : (t : Bool) → is_same_block b.handle c.handle ≡ t → joined_blocks (b ∷ []) (c ∷ y) ++ r ≡ joined_blocks (b ∷ []) (c ∷ y ++ r)
     at true h = rw h refl
     at false h = rw h refl
 joined_append (b ∷ d ∷ f) (c ∷ y) r l = ap (λ ys. b ∷ ys) (joined_append (d ∷ f) (c ∷ y) r l)
 
-pub joined_expanded : (i : ℕ) (f y : List Stretch) → expanded i (joined f y) ≡ expanded i f ++ expanded (i + count f) y
+pub joined_expanded : (i : ℕ) (f y : List BlockSpans) → expanded i (joined_blocks f y) ≡ expanded i f ++ expanded (i + count f) y
 joined_expanded i [] y = ap (λ n. expanded n y) (omega arith)
 joined_expanded i (b ∷ []) [] = sym (append-nil (expanded i (b ∷ [])))
 joined_expanded i (b ∷ []) (c ∷ y) = at (is_same_block b.handle c.handle) refl
@@ -84,7 +84,7 @@ joined_expanded i (b ∷ []) (c ∷ y) = at (is_same_block b.handle c.handle) re
     n : i + (length b.spans + 0) ≡ i + length b.spans
     n = omega arith
 
-    at : (t : Bool) → is_same_block b.handle c.handle ≡ t → expanded i (joined (b ∷ []) (c ∷ y)) ≡ expanded i (b ∷ []) ++ expanded (i + (length b.spans + 0)) (c ∷ y)
+    at : (t : Bool) → is_same_block b.handle c.handle ≡ t → expanded i (joined_blocks (b ∷ []) (c ∷ y)) ≡ expanded i (b ∷ []) ++ expanded (i + (length b.spans + 0)) (c ∷ y)
     at false h = rw (h, n) (ap (λ xs. xs ++ expanded (i + length b.spans) (c ∷ y)) (sym (append-nil (spread i b.handle b.spans))))
     at true h =
         let e = same_block b.handle c.handle h in
@@ -97,7 +97,7 @@ joined_expanded i (b ∷ d ∷ f) y =
     rw m (ap (λ xs. spread i b.handle b.spans ++ xs) (joined_expanded k (d ∷ f) y)
     ∙ sym (append_assoc (spread i b.handle b.spans) (expanded k (d ∷ f)) (expanded (k + count (d ∷ f)) y)))
 
-pub joined_starts : (i : ℕ) (f y : List Stretch) → starts_of i (joined f y) ≡ starts_of i f ++ drop (seam f y) (starts_of (i + count f) y)
+pub joined_starts : (i : ℕ) (f y : List BlockSpans) → starts_of i (joined_blocks f y) ≡ starts_of i f ++ drop (seam f y) (starts_of (i + count f) y)
 joined_starts i [] y = ap (λ n. starts_of n y) (omega arith)
 joined_starts i (b ∷ []) [] = refl
 joined_starts i (b ∷ []) (c ∷ y) = at (is_same_block b.handle c.handle) refl
@@ -105,7 +105,7 @@ joined_starts i (b ∷ []) (c ∷ y) = at (is_same_block b.handle c.handle) refl
     n : i + (length b.spans + 0) ≡ i + length b.spans
     n = omega arith
 
-    at : (t : Bool) → is_same_block b.handle c.handle ≡ t → starts_of i (joined (b ∷ []) (c ∷ y)) ≡ starts_of i (b ∷ []) ++ drop (seam (b ∷ []) (c ∷ y)) (starts_of (i + (length b.spans + 0)) (c ∷ y))
+    at : (t : Bool) → is_same_block b.handle c.handle ≡ t → starts_of i (joined_blocks (b ∷ []) (c ∷ y)) ≡ starts_of i (b ∷ []) ++ drop (seam (b ∷ []) (c ∷ y)) (starts_of (i + (length b.spans + 0)) (c ∷ y))
     at false h = rw (h, n) refl
     at true h =
         let m : i + length (b.spans ++ c.spans) ≡ i + length b.spans + length c.spans = omega (arith, length-append b.spans c.spans) in
@@ -115,37 +115,37 @@ joined_starts i (b ∷ d ∷ f) y =
     let m : i + (length b.spans + count (d ∷ f)) ≡ k + count (d ∷ f) = omega arith in
     rw m (ap (λ xs. i ∷ xs) (joined_starts k (d ∷ f) y))
 
-pub joined_count : (f y : List Stretch) → count (joined f y) ≡ count f + count y
+pub joined_count : (f y : List BlockSpans) → count (joined_blocks f y) ≡ count f + count y
 joined_count f y =
-    let a = length-expanded 0 (joined f y) in
+    let a = length-expanded 0 (joined_blocks f y) in
     let b = length-append (expanded 0 f) (expanded (0 + count f) y) in
     let c = length-expanded 0 f in
     let d = length-expanded (0 + count f) y in
     let e = ap length (joined_expanded 0 f y) in
     omega arith
 
-pub joined_stretches : (f y : List Stretch) → AreStretches f → AreStretches y → AreStretches (joined f y)
+pub joined_stretches : (f y : List BlockSpans) → AreDistinctBlocks f → AreDistinctBlocks y → AreDistinctBlocks (joined_blocks f y)
 joined_stretches [] y h k = k
 joined_stretches (b ∷ []) [] h k = h
 joined_stretches (b ∷ []) (c ∷ y) h k = at (is_same_block b.handle c.handle) refl
   where
-    at : (t : Bool) → is_same_block b.handle c.handle ≡ t → AreStretches (joined (b ∷ []) (c ∷ y))
+    at : (t : Bool) → is_same_block b.handle c.handle ≡ t → AreDistinctBlocks (joined_blocks (b ∷ []) (c ∷ y))
     at false t = rw t (h.0, other_block b.handle c.handle t, k)
     at true t =
         let e = same_block b.handle c.handle t in
         rw t (let l = h.0 in omega (arith, length-append b.spans c.spans), Differs-same c (lengthened b c.spans) y e k.1, k.2)
 joined_stretches (b ∷ d ∷ f) y h k = (h.0, first d f y h.1, joined_stretches (d ∷ f) y h.2 k)
   where
-    first : (d : Stretch) (f y : List Stretch) → b.handle ≢ d.handle → Differs b (joined (d ∷ f) y)
+    first : (d : BlockSpans) (f y : List BlockSpans) → b.handle ≢ d.handle → Differs b (joined_blocks (d ∷ f) y)
     first d [] [] n = n
     first d [] (c ∷ y) n = at (is_same_block d.handle c.handle) refl
       where
-        at : (t : Bool) → is_same_block d.handle c.handle ≡ t → Differs b (joined (d ∷ []) (c ∷ y))
+        at : (t : Bool) → is_same_block d.handle c.handle ≡ t → Differs b (joined_blocks (d ∷ []) (c ∷ y))
         at true t = rw t n
         at false t = rw t n
     first d (x ∷ f) y n = n
 
-pub seam_cut : (m : ℕ) (f y : List Stretch) → seam (cut_last m f) y ≡ seam f y
+pub seam_cut : (m : ℕ) (f y : List BlockSpans) → seam (cut_last m f) y ≡ seam f y
 seam_cut m [] y = refl
 seam_cut m (b ∷ []) [] = refl
 seam_cut m (b ∷ []) (c ∷ y) = refl
@@ -153,19 +153,19 @@ seam_cut m (b ∷ d ∷ []) y = seam_cut m (d ∷ []) y
 seam_cut m (b ∷ d ∷ x ∷ f) y = seam_cut m (d ∷ x ∷ f) y
 
 -- what is kept after blocks were put behind a front, and before those that stay behind
-pub kept_put : (i p k n : ℕ) (bs front y rest : List Stretch) (ss tt rs : List ℕ) (r : ℕ) → IsFront i p k bs front → ss ≡ starts_of i bs → tt ≡ starts_of (i + p) y → rs ≡ starts_of (i + p + count y) rest → 0 < length y → AreStretches (y ++ rest) → n ≡ p + count y + count rest → AreTableEntries (take p (expanded i bs) ++ expanded (i + p) y ++ expanded (i + p + count y) rest) → r ≡ entry_count Rewrite (take p (expanded i bs) ++ expanded (i + p) y ++ expanded (i + p + count y) rest) → AreKept i n (joined front y ++ rest) (take k ss ++ drop (seam front y) tt ++ rs) r × (expanded i (joined front y ++ rest) ≡ take p (expanded i bs) ++ expanded (i + p) y ++ expanded (i + p + count y) rest)
+pub kept_put : (i p k n : ℕ) (bs front y rest : List BlockSpans) (ss tt rs : List ℕ) (r : ℕ) → IsFront i p k bs front → ss ≡ starts_of i bs → tt ≡ starts_of (i + p) y → rs ≡ starts_of (i + p + count y) rest → 0 < length y → AreDistinctBlocks (y ++ rest) → n ≡ p + count y + count rest → AreTableEntries (take p (expanded i bs) ++ expanded (i + p) y ++ expanded (i + p + count y) rest) → r ≡ entry_count Rewrite (take p (expanded i bs) ++ expanded (i + p) y ++ expanded (i + p + count y) rest) → AreKept i n (joined_blocks front y ++ rest) (take k ss ++ drop (seam front y) tt ++ rs) r × (expanded i (joined_blocks front y ++ rest) ≡ take p (expanded i bs) ++ expanded (i + p) y ++ expanded (i + p + count y) rest)
 kept_put i p k n bs front y rest ss tt rs r f e g h l str len sound q =
     let c = f.count in
-    let m : i + count (joined front y) ≡ i + p + count y = omega (arith, joined_count front y) in
-    let whole : expanded i (joined front y ++ rest) ≡ take p (expanded i bs) ++ expanded (i + p) y ++ expanded (i + p + count y) rest =
-    expanded-append i (joined front y) rest ∙ rw (m, joined_expanded i front y, f.entries, c) refl in
-    let starts : take k ss ++ drop (seam front y) tt ++ rs ≡ starts_of i (joined front y ++ rest) =
-    sym (starts-append i (joined front y) rest ∙ rw (m, joined_starts i front y, f.starts, c, e, g, h) refl) in (
+    let m : i + count (joined_blocks front y) ≡ i + p + count y = omega (arith, joined_count front y) in
+    let whole : expanded i (joined_blocks front y ++ rest) ≡ take p (expanded i bs) ++ expanded (i + p) y ++ expanded (i + p + count y) rest =
+    expanded-append i (joined_blocks front y) rest ∙ rw (m, joined_expanded i front y, f.entries, c) refl in
+    let starts : take k ss ++ drop (seam front y) tt ++ rs ≡ starts_of i (joined_blocks front y ++ rest) =
+    sym (starts-append i (joined_blocks front y) rest ∙ rw (m, joined_starts i front y, f.starts, c, e, g, h) refl) in (
       record {
         sound = subst AreTableEntries (sym whole) sound;
-        stretches = subst AreStretches (sym (joined_append front y rest l)) (joined_stretches front (y ++ rest) f.stretches str);
+        distinct = subst AreDistinctBlocks (sym (joined_append front y rest l)) (joined_stretches front (y ++ rest) f.distinct str);
         starts = starts;
-        len = len ∙ sym (count-append (joined front y) rest ∙ omega (arith, joined_count front y));
+        len = len ∙ sym (count-append (joined_blocks front y) rest ∙ omega (arith, joined_count front y));
         rewritten = q ∙ ap (entry_count Rewrite) (sym whole);
       },
       whole,

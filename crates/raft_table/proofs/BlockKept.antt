@@ -6,8 +6,8 @@ use Rattle.raft_base.specs.declared.pipe_log.LogQueue.{LogQueue}
 use Rattle.raft_base.specs.declared.pipe_log.LogQueue.TheVariants.{Append, Rewrite}
 use Rattle.raft_records.specs.declared.compression_type.CompressionType.TheVariants as compression
 use Rattle.raft_records.specs.declared.entry_index.EntryIndex.{EntryIndex}
-use Rattle.raft_table.specs.Blocks.{Stretch, spread, expanded, AreStretches}
-use Rattle.raft_table.specs.BlockWords.{count, starts_of, AreKept, advanced, cut_first, cut_last, joined, seam, IsAt}
+use Rattle.raft_table.specs.Blocks.{BlockSpans, spread, expanded, AreDistinctBlocks}
+use Rattle.raft_table.specs.BlockWords.{count, starts_of, AreKept, advanced, cut_first, cut_last, joined_blocks, seam, IsAt}
 use Rattle.raft_table.specs.Entries.{RisesFrom, AreTableEntries, start_of, placed_in, is_placed_in, entry_count}
 use Rattle.raft_table.specs.Queues.{is_same, count_in}
 use Rattle.raft_table.proofs.RunLemmas.{start-of_rising, end_of-run}
@@ -52,10 +52,10 @@ count_in_le Rewrite Rewrite n = omega arith
 pub sound_fits : (i : ℕ) (es : List EntryIndex) → AreTableEntries es → RisesFrom i es → 0 < length es → i + length es < 2 ^ 64
 sound_fits i es h r l = let e = end_of-run i es r l in let b = h.bounded in omega arith
 
-all_front : (i n : ℕ) (bs : List Stretch) → AreStretches bs → n ≡ count bs → IsFront i n (length bs) bs bs
+all_front : (i n : ℕ) (bs : List BlockSpans) → AreDistinctBlocks bs → n ≡ count bs → IsFront i n (length bs) bs bs
 all_front i n bs h e = record {
   entries = sym (take_all n (expanded i bs) (let l = length-expanded i bs in omega arith));
-  stretches = h;
+  distinct = h;
   starts = sym (take_all (length bs) (starts_of i bs) (let l = length-starts i bs in omega arith));
   count = sym e;
 }
@@ -65,11 +65,11 @@ unfolding placed_in
 none_in = refl
 
 -- the entries of one block behind others
-pub record IsPushed (i j n x : ℕ) (bs : List Stretch) (ss : List ℕ) (r : ℕ) (t : Stretch) : Type 0 where
-  pub kept : AreKept j (n + length t.spans) (joined bs (t ∷ [])) (ss ++ drop (seam bs (t ∷ [])) (x ∷ [])) (r + count_in Rewrite t.handle.id.queue (length t.spans))
-  pub entries : expanded j (joined bs (t ∷ [])) ≡ expanded i bs ++ spread x t.handle t.spans
+pub record IsPushed (i j n x : ℕ) (bs : List BlockSpans) (ss : List ℕ) (r : ℕ) (t : BlockSpans) : Type 0 where
+  pub kept : AreKept j (n + length t.spans) (joined_blocks bs (t ∷ [])) (ss ++ drop (seam bs (t ∷ [])) (x ∷ [])) (r + count_in Rewrite t.handle.id.queue (length t.spans))
+  pub entries : expanded j (joined_blocks bs (t ∷ [])) ≡ expanded i bs ++ spread x t.handle t.spans
 
-pub pushed_fits : {i n : ℕ} {bs : List Stretch} {ss : List ℕ} {r : ℕ} → AreKept i n bs ss r → (x : ℕ) (t : Stretch) → 0 < length t.spans → AreTableEntries (expanded i bs ++ spread x t.handle t.spans) → (n + length t.spans < 2 ^ 64) × (r + count_in Rewrite t.handle.id.queue (length t.spans) ≤ n + length t.spans)
+pub pushed_fits : {i n : ℕ} {bs : List BlockSpans} {ss : List ℕ} {r : ℕ} → AreKept i n bs ss r → (x : ℕ) (t : BlockSpans) → 0 < length t.spans → AreTableEntries (expanded i bs ++ spread x t.handle t.spans) → (n + length t.spans < 2 ^ 64) × (r + count_in Rewrite t.handle.id.queue (length t.spans) ≤ n + length t.spans)
 pushed_fits {i} {n} {bs} {ss} {r} h x t l s =
     let es = expanded i bs ++ spread x t.handle t.spans in
     let f = (kept_facts h).length in
@@ -80,7 +80,7 @@ pushed_fits {i} {n} {bs} {ss} {r} h x t l s =
     let c = count_in_le Rewrite t.handle.id.queue (length t.spans) in
     (omega arith, omega arith)
 
-pub kept_push : {i n : ℕ} {bs : List Stretch} {ss : List ℕ} {r : ℕ} → AreKept i n bs ss r → (j x : ℕ) (t : Stretch) → 0 < length t.spans → AreTableEntries (expanded i bs ++ spread x t.handle t.spans) → (n ≡ 0 → j ≡ x) → (0 < n → j ≡ i) → IsPushed i j n x bs ss r t
+pub kept_push : {i n : ℕ} {bs : List BlockSpans} {ss : List ℕ} {r : ℕ} → AreKept i n bs ss r → (j x : ℕ) (t : BlockSpans) → 0 < length t.spans → AreTableEntries (expanded i bs ++ spread x t.handle t.spans) → (n ≡ 0 → j ≡ x) → (0 < n → j ≡ i) → IsPushed i j n x bs ss r t
 kept_push {i} {n} {bs = []} {ss} {r} h j x t l s e f =
     let z : n ≡ 0 = h.len in
     let q : r ≡ 0 = h.rewritten ∙ none_in in
@@ -90,7 +90,7 @@ kept_push {i} {n} {bs = []} {ss} {r} h j x t l s e f =
     rw (z, q, g, e z) (record {
       kept = record {
         sound = rw v s;
-        stretches = (l, tt, tt);
+        distinct = (l, tt, tt);
         starts = refl;
         len = omega arith;
         rewritten = rw (v, u) (omega arith);
@@ -100,12 +100,12 @@ kept_push {i} {n} {bs = []} {ss} {r} h j x t l s e f =
 kept_push {i} {n} {bs = b ∷ bs} {ss} {r} h j x t l s e f =
     let xs = b ∷ bs in
     let k = h.len in
-    let p = h.stretches.0 in
+    let p = h.distinct.0 in
     let a = expanded i xs in
     let la = (kept_facts h).length in
     let g = length-spread x t.handle t.spans in
     let y : x ≡ i + n = sym (start-of_rising x (spread x t.handle t.spans) (rises_spread x t.handle t.spans) (omega arith)) ∙ behind_index i a (spread x t.handle t.spans) s (rises_expanded i xs) (omega arith) (omega arith) ∙ omega arith in
-    let fr = all_front i n xs h.stretches k in
+    let fr = all_front i n xs h.distinct k in
     let v : expanded (i + n) (t ∷ []) ≡ spread x t.handle t.spans = append-nil (spread (i + n) t.handle t.spans) ∙ ap (λ m. spread m t.handle t.spans) (sym y) in
     let whole : take n a ++ expanded (i + n) (t ∷ []) ++ [] ≡ a ++ spread x t.handle t.spans = append-nil (take n a ++ expanded (i + n) (t ∷ [])) ∙ rw (v, take_all n a (omega arith)) refl in
     let c1 = entry_count-append Rewrite a (spread x t.handle t.spans) in
@@ -113,20 +113,20 @@ kept_push {i} {n} {bs = b ∷ bs} {ss} {r} h j x t l s e f =
     let c3 = h.rewritten in
     let put = kept_put i n (length xs) (n + length t.spans) xs xs (t ∷ []) [] ss (x ∷ []) [] (r + count_in Rewrite t.handle.id.queue (length t.spans)) fr h.starts (ap (λ m. m ∷ []) y) refl (omega arith) (l, tt, tt) (omega arith)
     (subst AreTableEntries (sym whole) s) (subst (λ es. r + count_in Rewrite t.handle.id.queue (length t.spans) ≡ entry_count Rewrite es) (sym whole) (omega arith)) in
-    let n1 = append-nil (joined xs (t ∷ [])) in
+    let n1 = append-nil (joined_blocks xs (t ∷ [])) in
     let n2 : take (length xs) ss ++ drop (seam xs (t ∷ [])) (x ∷ []) ++ [] ≡ ss ++ drop (seam xs (t ∷ [])) (x ∷ []) =
     append-nil (take (length xs) ss ++ drop (seam xs (t ∷ [])) (x ∷ [])) ∙ ap (λ ys. ys ++ drop (seam xs (t ∷ [])) (x ∷ [])) (take_all (length xs) ss (let q = kept_length h in omega arith)) in
     rw (f (omega arith)) (record {
-      kept = subst (λ ys. AreKept i (n + length t.spans) ys (ss ++ drop (seam xs (t ∷ [])) (x ∷ [])) (r + count_in Rewrite t.handle.id.queue (length t.spans))) n1 (subst (λ ys. AreKept i (n + length t.spans) (joined xs (t ∷ []) ++ []) ys (r + count_in Rewrite t.handle.id.queue (length t.spans))) n2 put.0);
+      kept = subst (λ ys. AreKept i (n + length t.spans) ys (ss ++ drop (seam xs (t ∷ [])) (x ∷ [])) (r + count_in Rewrite t.handle.id.queue (length t.spans))) n1 (subst (λ ys. AreKept i (n + length t.spans) (joined_blocks xs (t ∷ []) ++ []) ys (r + count_in Rewrite t.handle.id.queue (length t.spans))) n2 put.0);
       entries = ap (expanded i) (sym n1) ∙ put.1 ∙ whole;
     })
 
 -- blocks put behind a front, and nothing behind them
-pub record IsKeptAs (i n : ℕ) (bs : List Stretch) (ss : List ℕ) (r : ℕ) (es : List EntryIndex) : Type 0 where
+pub record IsKeptAs (i n : ℕ) (bs : List BlockSpans) (ss : List ℕ) (r : ℕ) (es : List EntryIndex) : Type 0 where
   pub kept : AreKept i n bs ss r
   pub entries : expanded i bs ≡ es
 
-pub kept_join : {i n j m : ℕ} {bs ys : List Stretch} {ss tt : List ℕ} {r q : ℕ} → AreKept i n bs ss r → AreKept j m ys tt q → (w k o rest : ℕ) → 0 < w → w ≤ n → IsFront i w k bs (cut_last o (take k bs)) → 0 < m → AreTableEntries (take w (expanded i bs) ++ expanded j ys) → rest ≡ length bs → IsKeptAs i (w + m) (joined (cut_last o (take k bs)) ys ++ drop rest bs) (take k ss ++ drop (seam (take k bs) ys) tt ++ drop rest ss) (min r w + q) (take w (expanded i bs) ++ expanded j ys)
+pub kept_join : {i n j m : ℕ} {bs ys : List BlockSpans} {ss tt : List ℕ} {r q : ℕ} → AreKept i n bs ss r → AreKept j m ys tt q → (w k o rest : ℕ) → 0 < w → w ≤ n → IsFront i w k bs (cut_last o (take k bs)) → 0 < m → AreTableEntries (take w (expanded i bs) ++ expanded j ys) → rest ≡ length bs → IsKeptAs i (w + m) (joined_blocks (cut_last o (take k bs)) ys ++ drop rest bs) (take k ss ++ drop (seam (take k bs) ys) tt ++ drop rest ss) (min r w + q) (take w (expanded i bs) ++ expanded j ys)
 kept_join {i} {n} {j} {m} {bs} {ys} {ss} {tt} {r} {q} h g w k o rest l d f p s e =
     let es = expanded i bs in
     let le = (kept_facts h).length in
@@ -144,14 +144,14 @@ kept_join {i} {n} {j} {m} {bs} {ys} {ss} {tt} {r} {q} h g w k o rest l d f p s e
     let c1 = entry_count-append Rewrite (take w es) (expanded j ys) in
     let c2 = h.rewritten in
     let c3 = g.rewritten in
-    let put = kept_put i w k (w + m) bs front ys [] ss tt [] (min r w + q) f h.starts (g.starts ∙ ap (λ z. starts_of z ys) y) refl some (subst AreStretches (sym (append-nil ys)) g.stretches) (omega arith)
+    let put = kept_put i w k (w + m) bs front ys [] ss tt [] (min r w + q) f h.starts (g.starts ∙ ap (λ z. starts_of z ys) y) refl some (subst AreDistinctBlocks (sym (append-nil ys)) g.distinct) (omega arith)
     (subst AreTableEntries (sym whole) s) (subst (λ xs. min r w + q ≡ entry_count Rewrite xs) (sym whole) (omega arith)) in
     rw (n1, n2, ← seam_cut o (take k bs) ys) (record { kept = put.0; entries = put.1 ∙ whole })
   where
-    filled : (ys : List Stretch) → 0 < count ys → 0 < length ys
+    filled : (ys : List BlockSpans) → 0 < count ys → 0 < length ys
     filled [] l = l
     filled (c ∷ cs) l = omega arith
 
-pub blocks_filled : (i : ℕ) (bs : List Stretch) → 0 < length (expanded i bs) → 0 < length bs
+pub blocks_filled : (i : ℕ) (bs : List BlockSpans) → 0 < length (expanded i bs) → 0 < length bs
 blocks_filled i [] l = l
 blocks_filled i (b ∷ bs) l = omega arith

@@ -3,7 +3,7 @@ use Rattle.std.proofs.Common.{◌≡◌, ℕ, zero, suc, ◌+◌, ◌<◌, ◌�
 use Rattle.std.proofs.lemmas.List.{append_assoc, length-append}
 use Rattle.std.specs.List.Sorted.{IsNonDecreasingBy}
 use Rattle.raft_base.specs.declared.pipe_log.FileBlockHandle.{FileBlockHandle}
-use Rattle.raft_table.specs.Blocks.{Stretch, spread, expanded}
+use Rattle.raft_table.specs.Blocks.{BlockSpans, spread, expanded}
 use Rattle.raft_table.specs.BlockWords.{count, starts_of}
 use Rattle.raft_table.specs.Entries.{RisesFrom}
 use Rattle.raft_table.proofs.RunLemmas.{RisesFrom-append}
@@ -30,46 +30,46 @@ spread_drop (suc n) i h (s ∷ ss) l =
     let e : i + suc n ≡ suc i + n = omega arith in
     rw e (spread_drop n (suc i) h ss (omega arith))
 
-pub length-expanded : (i : ℕ) (bs : List Stretch) → length (expanded i bs) ≡ count bs
+pub length-expanded : (i : ℕ) (bs : List BlockSpans) → length (expanded i bs) ≡ count bs
 length-expanded i [] = refl
 length-expanded i (b ∷ bs) =
     length-append (spread i b.handle b.spans) (expanded (i + length b.spans) bs)
     ∙ rw (length-spread i b.handle b.spans, length-expanded (i + length b.spans) bs) refl
 
-pub count-append : (a b : List Stretch) → count (a ++ b) ≡ count a + count b
+pub count-append : (a b : List BlockSpans) → count (a ++ b) ≡ count a + count b
 count-append [] b = omega arith
 count-append (x ∷ a) b = rw (count-append a b) (omega arith)
 
-pub expanded-append : (i : ℕ) (a b : List Stretch) → expanded i (a ++ b) ≡ expanded i a ++ expanded (i + count a) b
+pub expanded-append : (i : ℕ) (a b : List BlockSpans) → expanded i (a ++ b) ≡ expanded i a ++ expanded (i + count a) b
 expanded-append i [] b = let e : i + 0 ≡ i = omega arith in rw e refl
 expanded-append i (x ∷ a) b =
     let n = length x.spans in
     let e : i + (n + count a) ≡ i + n + count a = omega arith in
     rw (expanded-append (i + n) a b, e) (sym (append_assoc (spread i x.handle x.spans) (expanded (i + n) a) (expanded (i + n + count a) b)))
 
-pub starts-append : (i : ℕ) (a b : List Stretch) → starts_of i (a ++ b) ≡ starts_of i a ++ starts_of (i + count a) b
+pub starts-append : (i : ℕ) (a b : List BlockSpans) → starts_of i (a ++ b) ≡ starts_of i a ++ starts_of (i + count a) b
 starts-append i [] b = let e : i + 0 ≡ i = omega arith in rw e refl
 starts-append i (x ∷ a) b =
     let n = length x.spans in
     let e : i + (n + count a) ≡ i + n + count a = omega arith in
     rw (starts-append (i + n) a b, e) refl
 
-pub length-starts : (i : ℕ) (bs : List Stretch) → length (starts_of i bs) ≡ length bs
+pub length-starts : (i : ℕ) (bs : List BlockSpans) → length (starts_of i bs) ≡ length bs
 length-starts i [] = refl
 length-starts i (b ∷ bs) = ap suc (length-starts (i + length b.spans) bs)
 
-pub start_at : (k i : ℕ) (bs : List Stretch) (d : ℕ) → k < length bs → get_or (starts_of i bs) k d ≡ i + count (take k bs)
+pub start_at : (k i : ℕ) (bs : List BlockSpans) (d : ℕ) → k < length bs → get_or (starts_of i bs) k d ≡ i + count (take k bs)
 start_at k i [] d l = absurd (omega arith)
 start_at zero i (b ∷ bs) d l = omega arith
 start_at (suc k) i (b ∷ bs) d l = start_at k (i + length b.spans) bs d (omega arith) ∙ omega arith
 
-count_take-le : (j k : ℕ) (bs : List Stretch) → j ≤ k → count (take j bs) ≤ count (take k bs)
+count_take-le : (j k : ℕ) (bs : List BlockSpans) → j ≤ k → count (take j bs) ≤ count (take k bs)
 count_take-le zero k bs l = omega arith
 count_take-le (suc j) zero bs l = absurd (omega arith)
 count_take-le (suc j) (suc k) [] l = omega arith
 count_take-le (suc j) (suc k) (b ∷ bs) l = let h = count_take-le j k bs (omega arith) in omega arith
 
-pub starts_rise : (i : ℕ) (bs : List Stretch) → IsNonDecreasingBy (λ (y : ℕ). y) (starts_of i bs)
+pub starts_rise : (i : ℕ) (bs : List BlockSpans) → IsNonDecreasingBy (λ (y : ℕ). y) (starts_of i bs)
 starts_rise i bs j k d le lt =
     let l : k < length bs = rw (length-starts i bs) at lt in
     let h = count_take-le j k bs le in
@@ -79,13 +79,13 @@ pub rises_spread : (i : ℕ) (h : FileBlockHandle) (ss : List (ℕ × ℕ)) → 
 rises_spread i h [] = tt
 rises_spread i h (s ∷ ss) = (refl, rises_spread (suc i) h ss)
 
-pub rises_expanded : (i : ℕ) (bs : List Stretch) → RisesFrom i (expanded i bs)
+pub rises_expanded : (i : ℕ) (bs : List BlockSpans) → RisesFrom i (expanded i bs)
 rises_expanded i [] = tt
 rises_expanded i (b ∷ bs) =
     RisesFrom-append i (spread i b.handle b.spans) (expanded (i + length b.spans) bs) (rises_spread i b.handle b.spans)
     (rw (length-spread i b.handle b.spans) (rises_expanded (i + length b.spans) bs))
 
-pub starts_drop : (j i : ℕ) (bs : List Stretch) → drop j (starts_of i bs) ≡ starts_of (i + count (take j bs)) (drop j bs)
+pub starts_drop : (j i : ℕ) (bs : List BlockSpans) → drop j (starts_of i bs) ≡ starts_of (i + count (take j bs)) (drop j bs)
 starts_drop zero i bs = let e : i + 0 ≡ i = omega arith in rw e refl
 starts_drop (suc j) i [] = refl
 starts_drop (suc j) i (b ∷ bs) =
@@ -93,17 +93,17 @@ starts_drop (suc j) i (b ∷ bs) =
     let e : i + (n + count (take j bs)) ≡ i + n + count (take j bs) = omega arith in
     rw e (starts_drop j (i + n) bs)
 
-pub starts_take : (j i : ℕ) (bs : List Stretch) → take j (starts_of i bs) ≡ starts_of i (take j bs)
+pub starts_take : (j i : ℕ) (bs : List BlockSpans) → take j (starts_of i bs) ≡ starts_of i (take j bs)
 starts_take zero i bs = refl
 starts_take (suc j) i [] = refl
 starts_take (suc j) i (b ∷ bs) = ap (λ xs. i ∷ xs) (starts_take j (i + length b.spans) bs)
 
-pub count_cut : (j : ℕ) (bs : List Stretch) → count (take j bs) + count (drop j bs) ≡ count bs
+pub count_cut : (j : ℕ) (bs : List BlockSpans) → count (take j bs) + count (drop j bs) ≡ count bs
 count_cut zero bs = omega arith
 count_cut (suc j) [] = refl
 count_cut (suc j) (b ∷ bs) = let h = count_cut j bs in omega arith
 
-pub count_take_more : (j : ℕ) (bs : List Stretch) (d : Stretch) → j < length bs → count (take (suc j) bs) ≡ count (take j bs) + length (get_or bs j d).spans
+pub count_take_more : (j : ℕ) (bs : List BlockSpans) (d : BlockSpans) → j < length bs → count (take (suc j) bs) ≡ count (take j bs) + length (get_or bs j d).spans
 count_take_more j [] d l = absurd (omega arith)
 count_take_more zero (b ∷ bs) d l = omega arith
 count_take_more (suc j) (b ∷ bs) d l = let h = count_take_more j bs d (omega arith) in omega arith

@@ -4,8 +4,8 @@ use Rattle.std.specs.Prelude.{map}
 use Rattle.std.proofs.lemmas.List.{append_assoc, length-drop, length-map, length-take-le, take-take, take_at, drop_at, take-map, drop-map, map-set, get_or-map, get_or_default, take_more, take_more_set, take_all, length-set, map-append, drop-set-lt}
 use Rattle.raft_base.specs.declared.pipe_log.FileBlockHandle.{FileBlockHandle}
 use Rattle.raft_table.specs.declared.memtable.block.Block.{Block}
-use Rattle.raft_table.specs.Blocks.{Stretch, stretch_of, shown}
-use Rattle.raft_table.specs.BlockWords.{shortened, advanced, lengthened, cut_last, cut_first, joined, seam, IsAt}
+use Rattle.raft_table.specs.Blocks.{BlockSpans, block_spans, shown}
+use Rattle.raft_table.specs.BlockWords.{shortened, advanced, lengthened, cut_last, cut_first, joined_blocks, seam, IsAt}
 use Rattle.raft_table.specs.Fetches.{is_same_block}
 use Rattle.raft_table.proofs.BlockSearch.{take_past}
 use Rattle.raft_table.proofs.BlockJoins.{same_block_self, other_block_is}
@@ -22,111 +22,111 @@ spliced kept rest n xs more a b c d k l e f g h j =
     ∙ ap (λ ys. ys ++ take n (drop rest xs ++ (take kept xs ++ more))) (drop_at (drop rest xs) (take kept xs ++ more) n m)
     ∙ ap (λ ys. (take kept xs ++ more) ++ ys) (take_at (drop rest xs) (take kept xs ++ more) n m)
 
-pub shown_at : (bs : List Block) (k : ℕ) (b : Block) → k < length bs → b ≡ get_or bs k b → stretch_of b ≡ get_or (shown bs) k (stretch_of b)
-shown_at bs k b l e = ap stretch_of e ∙ sym (get_or-map stretch_of bs k b (stretch_of b) l)
+pub shown_at : (bs : List Block) (k : ℕ) (b : Block) → k < length bs → b ≡ get_or bs k b → block_spans b ≡ get_or (shown bs) k (block_spans b)
+shown_at bs k b l e = ap block_spans e ∙ sym (get_or-map block_spans bs k b (block_spans b) l)
 
 -- a block with these spans
-pub stretch_is : (c : Block) (s : Stretch) → c.handle ≡ s.handle → c.spans.items ≡ s.spans → stretch_of c ≡ s
+pub stretch_is : (c : Block) (s : BlockSpans) → c.handle ≡ s.handle → c.spans.items ≡ s.spans → block_spans c ≡ s
 stretch_is c s h e = ap (λ x. make x c.spans.items) h ∙ ap (λ y. make s.handle y) e
   where
-    make : FileBlockHandle → List (ℕ × ℕ) → Stretch
+    make : FileBlockHandle → List (ℕ × ℕ) → BlockSpans
     make h ss = record { handle = h; spans = ss }
 
-cut_last_set : (k m : ℕ) (xs : List Stretch) (b : Stretch) → length xs ≡ suc k → b ≡ get_or xs k b → set xs k (shortened m b) ≡ cut_last m xs
+cut_last_set : (k m : ℕ) (xs : List BlockSpans) (b : BlockSpans) → length xs ≡ suc k → b ≡ get_or xs k b → set xs k (shortened m b) ≡ cut_last m xs
 cut_last_set k m [] b l e = absurd (omega arith)
-cut_last_set zero m (x ∷ []) b l e = ap (λ (y : Stretch). shortened m y ∷ []) e
+cut_last_set zero m (x ∷ []) b l e = ap (λ (y : BlockSpans). shortened m y ∷ []) e
 cut_last_set zero m (x ∷ y ∷ xs) b l e = absurd (omega arith)
 cut_last_set (suc k) m (x ∷ []) b l e = absurd (omega arith)
 cut_last_set (suc k) m (x ∷ y ∷ xs) b l e = ap (λ ys. x ∷ ys) (cut_last_set k m (y ∷ xs) b (omega arith) e)
 
 pub cut_last_shown : (k m : ℕ) (bs : List Block) (b c : Block) → length bs ≡ suc k → b ≡ get_or bs k b → c.handle ≡ b.handle → c.spans.items ≡ take m b.spans.items → shown (set bs k c) ≡ cut_last m (shown bs)
 cut_last_shown k m bs b c l e h s =
-    map-set stretch_of bs k c
-    ∙ ap (set (shown bs) k) (stretch_is c (shortened m (stretch_of b)) h s)
-    ∙ cut_last_set k m (shown bs) (stretch_of b) (length-map bs stretch_of ∙ l) (shown_at bs k b (omega arith) e)
+    map-set block_spans bs k c
+    ∙ ap (set (shown bs) k) (stretch_is c (shortened m (block_spans b)) h s)
+    ∙ cut_last_set k m (shown bs) (block_spans b) (length-map bs block_spans ∙ l) (shown_at bs k b (omega arith) e)
 
 pub cut_back_shown : (k m : ℕ) (old bs : List Block) (b c : Block) → k < length old → bs ≡ take (k + 1) old → b ≡ get_or bs k b → c.handle ≡ b.handle → c.spans.items ≡ take m b.spans.items → shown (set bs k c) ≡ cut_last m (take (k + 1) (shown old))
 cut_back_shown k m old bs b c l t e h s =
     let n : length bs ≡ suc k = ap length t ∙ length-take-le (k + 1) old (omega arith) ∙ omega arith in
-    cut_last_shown k m bs b c n e h s ∙ ap (cut_last m) (ap shown t ∙ sym (take-map stretch_of (k + 1) old))
+    cut_last_shown k m bs b c n e h s ∙ ap (cut_last m) (ap shown t ∙ sym (take-map block_spans (k + 1) old))
 
 pub cut_front_shown : (k m : ℕ) (old bs : List Block) (b c : Block) → k < length old → bs ≡ drop k old → b ≡ get_or bs 0 b → c.handle ≡ b.handle → c.spans.items ≡ drop m b.spans.items → shown (set bs 0 c) ≡ cut_first m (drop k (shown old))
 cut_front_shown k m old bs b c l t e h s =
     let n : 0 < length bs = rw t (omega (arith, length-drop k old)) in
-    first bs n e ∙ ap (cut_first m) (ap shown t ∙ sym (drop-map stretch_of k old))
+    first bs n e ∙ ap (cut_first m) (ap shown t ∙ sym (drop-map block_spans k old))
   where
     first : (bs : List Block) → 0 < length bs → b ≡ get_or bs 0 b → shown (set bs 0 c) ≡ cut_first m (shown bs)
     first [] l e = absurd (omega arith)
-    first (x ∷ bs) l e = ap (λ y. y ∷ shown bs) (stretch_is c (advanced m (stretch_of b)) h s ∙ ap (λ (y : Block). advanced m (stretch_of y)) e)
+    first (x ∷ bs) l e = ap (λ y. y ∷ shown bs) (stretch_is c (advanced m (block_spans b)) h s ∙ ap (λ (y : Block). advanced m (block_spans y)) e)
 
 -- the block of a queue where an entry stands
 pub record IsBlockAt (bs : List Block) (k o : ℕ) (b : Block) : Type 0 where
   pub within : k < length bs
-  pub same : stretch_of b ≡ get_or (shown bs) k (stretch_of b)
+  pub same : block_spans b ≡ get_or (shown bs) k (block_spans b)
   pub inside : o < length b.spans.items
 
 pub block_within : {p k o : ℕ} (bs : List Block) → IsAt p (shown bs) k o → k < length bs
-block_within bs a = let n = length-map bs stretch_of in let l = a.block in omega arith
+block_within bs a = let n = length-map bs block_spans in let l = a.block in omega arith
 
 pub block_at : {p k o : ℕ} (bs : List Block) (b : Block) → IsAt p (shown bs) k o → b ≡ get_or bs k b → IsBlockAt bs k o b
 block_at {p} {k} {o} bs b a e =
     let l = block_within bs a in
     let s = shown_at bs k b l e in
-    record { within = l; same = s; inside = subst (λ (y : Stretch). o < length y.spans) (sym s) (a.inside (stretch_of b)) }
+    record { within = l; same = s; inside = subst (λ (y : BlockSpans). o < length y.spans) (sym s) (a.inside (block_spans b)) }
 
 pub place_inside : {p k o : ℕ} (bs : List Block) → IsAt p (shown bs) k o → (d : Block) → o < length (get_or bs k d).spans.items
-place_inside {p} {k} {o} bs a d = subst (λ (y : Stretch). o < length y.spans) (get_or-map stretch_of bs k d (stretch_of d) (block_within bs a)) (a.inside (stretch_of d))
+place_inside {p} {k} {o} bs a d = subst (λ (y : BlockSpans). o < length y.spans) (get_or-map block_spans bs k d (block_spans d) (block_within bs a)) (a.inside (block_spans d))
 
 -- a list up to its last block
-joined_last : (a : List Stretch) (b c : Stretch) (cs : List Stretch) → joined (a ++ b ∷ []) (c ∷ cs) ≡ a ++ joined (b ∷ []) (c ∷ cs)
+joined_last : (a : List BlockSpans) (b c : BlockSpans) (cs : List BlockSpans) → joined_blocks (a ++ b ∷ []) (c ∷ cs) ≡ a ++ joined_blocks (b ∷ []) (c ∷ cs)
 joined_last [] b c cs = refl
 joined_last (x ∷ []) b c cs = refl
 joined_last (x ∷ y ∷ a) b c cs = ap (λ ys. x ∷ ys) (joined_last (y ∷ a) b c cs)
 
-seam_last : (a : List Stretch) (b c : Stretch) (cs : List Stretch) → seam (a ++ b ∷ []) (c ∷ cs) ≡ seam (b ∷ []) (c ∷ cs)
+seam_last : (a : List BlockSpans) (b c : BlockSpans) (cs : List BlockSpans) → seam (a ++ b ∷ []) (c ∷ cs) ≡ seam (b ∷ []) (c ∷ cs)
 seam_last [] b c cs = refl
 seam_last (x ∷ []) b c cs = refl
 seam_last (x ∷ y ∷ a) b c cs = seam_last (y ∷ a) b c cs
 
-cut_last_last : (m : ℕ) (a : List Stretch) (b : Stretch) → cut_last m (a ++ b ∷ []) ≡ a ++ shortened m b ∷ []
+cut_last_last : (m : ℕ) (a : List BlockSpans) (b : BlockSpans) → cut_last m (a ++ b ∷ []) ≡ a ++ shortened m b ∷ []
 cut_last_last m [] b = refl
 cut_last_last m (x ∷ []) b = refl
 cut_last_last m (x ∷ y ∷ a) b = ap (λ ys. x ∷ ys) (cut_last_last m (y ∷ a) b)
 
 -- two that meet, by whether they have the same handle
-pub meets_same : (k m : ℕ) (xs : List Stretch) (b c : Stretch) (cs : List Stretch) → k < length xs → b ≡ get_or xs k b → b.handle ≡ c.handle → joined (cut_last m (take (k + 1) xs)) (c ∷ cs) ≡ take (k + 1) (set xs k (lengthened (shortened m b) c.spans)) ++ cs
+pub meets_same : (k m : ℕ) (xs : List BlockSpans) (b c : BlockSpans) (cs : List BlockSpans) → k < length xs → b ≡ get_or xs k b → b.handle ≡ c.handle → joined_blocks (cut_last m (take (k + 1) xs)) (c ∷ cs) ≡ take (k + 1) (set xs k (lengthened (shortened m b) c.spans)) ++ cs
 meets_same k m xs b c cs l e h =
     let t : is_same_block b.handle c.handle ≡ true = rw h (same_block_self c.handle) in
     let w : take (k + 1) xs ≡ take k xs ++ b ∷ [] = take_more xs k b l ∙ ap (λ y. take k xs ++ y ∷ []) (sym e) in
-    ap (λ ys. joined (cut_last m ys) (c ∷ cs)) w ∙ ap (λ ys. joined ys (c ∷ cs)) (cut_last_last m (take k xs) b) ∙ joined_last (take k xs) (shortened m b) c cs
+    ap (λ ys. joined_blocks (cut_last m ys) (c ∷ cs)) w ∙ ap (λ ys. joined_blocks ys (c ∷ cs)) (cut_last_last m (take k xs) b) ∙ joined_last (take k xs) (shortened m b) c cs
     ∙ rw (t, take_more_set xs k (lengthened (shortened m b) c.spans) l) (sym (append_assoc (take k xs) (lengthened (shortened m b) c.spans ∷ []) cs))
 
-pub meets_other : (k m : ℕ) (xs : List Stretch) (b c : Stretch) (cs : List Stretch) → k < length xs → b ≡ get_or xs k b → b.handle ≢ c.handle → joined (cut_last m (take (k + 1) xs)) (c ∷ cs) ≡ take (k + 1) (set xs k (shortened m b)) ++ c ∷ cs
+pub meets_other : (k m : ℕ) (xs : List BlockSpans) (b c : BlockSpans) (cs : List BlockSpans) → k < length xs → b ≡ get_or xs k b → b.handle ≢ c.handle → joined_blocks (cut_last m (take (k + 1) xs)) (c ∷ cs) ≡ take (k + 1) (set xs k (shortened m b)) ++ c ∷ cs
 meets_other k m xs b c cs l e h =
     let t : is_same_block b.handle c.handle ≡ false = other_block_is b.handle c.handle h in
     let w : take (k + 1) xs ≡ take k xs ++ b ∷ [] = take_more xs k b l ∙ ap (λ y. take k xs ++ y ∷ []) (sym e) in
-    ap (λ ys. joined (cut_last m ys) (c ∷ cs)) w ∙ ap (λ ys. joined ys (c ∷ cs)) (cut_last_last m (take k xs) b) ∙ joined_last (take k xs) (shortened m b) c cs
+    ap (λ ys. joined_blocks (cut_last m ys) (c ∷ cs)) w ∙ ap (λ ys. joined_blocks ys (c ∷ cs)) (cut_last_last m (take k xs) b) ∙ joined_last (take k xs) (shortened m b) c cs
     ∙ rw (t, take_more_set xs k (shortened m b) l) (sym (append_assoc (take k xs) (shortened m b ∷ []) (c ∷ cs)))
 
-pub seam_same : (k : ℕ) (xs : List Stretch) (b c : Stretch) (cs : List Stretch) → k < length xs → b ≡ get_or xs k b → b.handle ≡ c.handle → seam (take (k + 1) xs) (c ∷ cs) ≡ 1
+pub seam_same : (k : ℕ) (xs : List BlockSpans) (b c : BlockSpans) (cs : List BlockSpans) → k < length xs → b ≡ get_or xs k b → b.handle ≡ c.handle → seam (take (k + 1) xs) (c ∷ cs) ≡ 1
 seam_same k xs b c cs l e h =
     let t : is_same_block b.handle c.handle ≡ true = rw h (same_block_self c.handle) in
     ap (λ ys. seam ys (c ∷ cs)) (take_more xs k b l ∙ ap (λ y. take k xs ++ y ∷ []) (sym e)) ∙ seam_last (take k xs) b c cs ∙ rw t refl
 
-pub seam_other : (k : ℕ) (xs : List Stretch) (b c : Stretch) (cs : List Stretch) → k < length xs → b ≡ get_or xs k b → b.handle ≢ c.handle → seam (take (k + 1) xs) (c ∷ cs) ≡ 0
+pub seam_other : (k : ℕ) (xs : List BlockSpans) (b c : BlockSpans) (cs : List BlockSpans) → k < length xs → b ≡ get_or xs k b → b.handle ≢ c.handle → seam (take (k + 1) xs) (c ∷ cs) ≡ 0
 seam_other k xs b c cs l e h =
     let t : is_same_block b.handle c.handle ≡ false = other_block_is b.handle c.handle h in
     ap (λ ys. seam ys (c ∷ cs)) (take_more xs k b l ∙ ap (λ y. take k xs ++ y ∷ []) (sym e)) ∙ seam_last (take k xs) b c cs ∙ rw t refl
 
 pub set_same : (bs : List Block) (k : ℕ) (b c : Block) → k < length bs → b ≡ get_or bs k b → c.handle ≡ b.handle → c.spans.items ≡ b.spans.items → shown (set bs k c) ≡ shown bs
 set_same [] k b c l e h s = absurd (omega arith)
-set_same (x ∷ bs) zero b c l e h s = ap (λ y. y ∷ shown bs) (stretch_is c (stretch_of b) h s ∙ ap stretch_of e)
-set_same (x ∷ bs) (suc k) b c l e h s = ap (λ ys. stretch_of x ∷ ys) (set_same bs k b c (omega arith) e h s)
+set_same (x ∷ bs) zero b c l e h s = ap (λ y. y ∷ shown bs) (stretch_is c (block_spans b) h s ∙ ap block_spans e)
+set_same (x ∷ bs) (suc k) b c l e h s = ap (λ ys. block_spans x ∷ ys) (set_same bs k b c (omega arith) e h s)
 
 -- a queue up to its first block
-pub first_of : (more : List Block) (y : Block) → 0 < length more → y ≡ get_or more 0 y → shown more ≡ stretch_of y ∷ shown (drop 1 more)
+pub first_of : (more : List Block) (y : Block) → 0 < length more → y ≡ get_or more 0 y → shown more ≡ block_spans y ∷ shown (drop 1 more)
 first_of [] y l e = absurd (omega arith)
-first_of (x ∷ more) y l e = ap (λ z. stretch_of z ∷ shown more) (sym e)
+first_of (x ∷ more) y l e = ap (λ z. block_spans z ∷ shown more) (sym e)
 
 pub rest_set : (more : List Block) (y : Block) → drop 1 (set more 0 y) ≡ drop 1 more
 rest_set [] y = refl
@@ -137,34 +137,34 @@ pub one_block : (bs : List Block) (k : ℕ) (b c : Block) → k < length bs → 
 one_block bs k b c l e f = e ∙ get_or_default bs k b c l ∙ sym f
 
 -- a block behind the last of others
-pub pushed_same : (k : ℕ) (bs : List Block) (b c y : Block) → k + 1 ≡ length bs → b ≡ get_or bs k b → b.handle ≡ y.handle → c.handle ≡ b.handle → c.spans.items ≡ b.spans.items ++ y.spans.items → (shown (set bs k c) ≡ joined (shown bs) (stretch_of y ∷ [])) × (seam (shown bs) (stretch_of y ∷ []) ≡ 1)
+pub pushed_same : (k : ℕ) (bs : List Block) (b c y : Block) → k + 1 ≡ length bs → b ≡ get_or bs k b → b.handle ≡ y.handle → c.handle ≡ b.handle → c.spans.items ≡ b.spans.items ++ y.spans.items → (shown (set bs k c) ≡ joined_blocks (shown bs) (block_spans y ∷ [])) × (seam (shown bs) (block_spans y ∷ []) ≡ 1)
 pushed_same k bs b c y l e h g s =
     let xs = shown bs in
-    let n : k + 1 ≡ length xs = l ∙ sym (length-map bs stretch_of) in
+    let n : k + 1 ≡ length xs = l ∙ sym (length-map bs block_spans) in
     let at = shown_at bs k b (omega arith) e in
     let t : is_same_block b.handle y.handle ≡ true = rw h (same_block_self y.handle) in
-    let w : xs ≡ take k xs ++ stretch_of b ∷ [] = sym (take_all (k + 1) xs (omega arith)) ∙ take_more xs k (stretch_of b) (omega arith) ∙ ap (λ z. take k xs ++ z ∷ []) (sym at) in
-    let new = lengthened (stretch_of b) y.spans.items in
+    let w : xs ≡ take k xs ++ block_spans b ∷ [] = sym (take_all (k + 1) xs (omega arith)) ∙ take_more xs k (block_spans b) (omega arith) ∙ ap (λ z. take k xs ++ z ∷ []) (sym at) in
+    let new = lengthened (block_spans b) y.spans.items in
     let left : shown (set bs k c) ≡ take k xs ++ new ∷ [] =
-    map-set stretch_of bs k c ∙ ap (set xs k) (stretch_is c new g s)
+    map-set block_spans bs k c ∙ ap (set xs k) (stretch_is c new g s)
     ∙ sym (take_all (k + 1) (set xs k new) (omega (arith, length-set xs k new))) ∙ take_more_set xs k new (omega arith) in
-    let right : joined xs (stretch_of y ∷ []) ≡ take k xs ++ new ∷ [] = ap (λ ys. joined ys (stretch_of y ∷ [])) w ∙ joined_last (take k xs) (stretch_of b) (stretch_of y) [] ∙ rw t refl in
-    (left ∙ sym right, ap (λ ys. seam ys (stretch_of y ∷ [])) w ∙ seam_last (take k xs) (stretch_of b) (stretch_of y) [] ∙ rw t refl)
+    let right : joined_blocks xs (block_spans y ∷ []) ≡ take k xs ++ new ∷ [] = ap (λ ys. joined_blocks ys (block_spans y ∷ [])) w ∙ joined_last (take k xs) (block_spans b) (block_spans y) [] ∙ rw t refl in
+    (left ∙ sym right, ap (λ ys. seam ys (block_spans y ∷ [])) w ∙ seam_last (take k xs) (block_spans b) (block_spans y) [] ∙ rw t refl)
 
-pub pushed_other : (k : ℕ) (bs : List Block) (b y : Block) → k + 1 ≡ length bs → b ≡ get_or bs k b → b.handle ≢ y.handle → (shown (bs ++ y ∷ []) ≡ joined (shown bs) (stretch_of y ∷ [])) × (seam (shown bs) (stretch_of y ∷ []) ≡ 0)
+pub pushed_other : (k : ℕ) (bs : List Block) (b y : Block) → k + 1 ≡ length bs → b ≡ get_or bs k b → b.handle ≢ y.handle → (shown (bs ++ y ∷ []) ≡ joined_blocks (shown bs) (block_spans y ∷ [])) × (seam (shown bs) (block_spans y ∷ []) ≡ 0)
 pushed_other k bs b y l e h =
     let xs = shown bs in
-    let n : k + 1 ≡ length xs = l ∙ sym (length-map bs stretch_of) in
+    let n : k + 1 ≡ length xs = l ∙ sym (length-map bs block_spans) in
     let at = shown_at bs k b (omega arith) e in
     let t : is_same_block b.handle y.handle ≡ false = other_block_is b.handle y.handle h in
-    let w : xs ≡ take k xs ++ stretch_of b ∷ [] = sym (take_all (k + 1) xs (omega arith)) ∙ take_more xs k (stretch_of b) (omega arith) ∙ ap (λ z. take k xs ++ z ∷ []) (sym at) in
-    let right : joined xs (stretch_of y ∷ []) ≡ xs ++ stretch_of y ∷ [] =
-    ap (λ ys. joined ys (stretch_of y ∷ [])) w ∙ joined_last (take k xs) (stretch_of b) (stretch_of y) [] ∙ rw t (sym (append_assoc (take k xs) (stretch_of b ∷ []) (stretch_of y ∷ []))) ∙ ap (λ ys. ys ++ stretch_of y ∷ []) (sym w) in
-    (map-append stretch_of bs (y ∷ []) ∙ sym right, ap (λ ys. seam ys (stretch_of y ∷ [])) w ∙ seam_last (take k xs) (stretch_of b) (stretch_of y) [] ∙ rw t refl)
+    let w : xs ≡ take k xs ++ block_spans b ∷ [] = sym (take_all (k + 1) xs (omega arith)) ∙ take_more xs k (block_spans b) (omega arith) ∙ ap (λ z. take k xs ++ z ∷ []) (sym at) in
+    let right : joined_blocks xs (block_spans y ∷ []) ≡ xs ++ block_spans y ∷ [] =
+    ap (λ ys. joined_blocks ys (block_spans y ∷ [])) w ∙ joined_last (take k xs) (block_spans b) (block_spans y) [] ∙ rw t (sym (append_assoc (take k xs) (block_spans b ∷ []) (block_spans y ∷ []))) ∙ ap (λ ys. ys ++ block_spans y ∷ []) (sym w) in
+    (map-append block_spans bs (y ∷ []) ∙ sym right, ap (λ ys. seam ys (block_spans y ∷ [])) w ∙ seam_last (take k xs) (block_spans b) (block_spans y) [] ∙ rw t refl)
 
 -- what meeting blocks leave
-pub record AreMet (kept m : ℕ) (old new more left : List Stretch) (gone : ℕ) : Type 0 where
-  pub front : take kept new ++ left ≡ joined (cut_last m (take kept old)) more
+pub record AreMet (kept m : ℕ) (old new more left : List BlockSpans) (gone : ℕ) : Type 0 where
+  pub front : take kept new ++ left ≡ joined_blocks (cut_last m (take kept old)) more
   pub behind : (n : ℕ) → kept ≤ n → drop n new ≡ drop n old
   pub seam : seam (take kept old) more ≡ gone
 
@@ -175,13 +175,13 @@ met_other kept m bs more a b c y p l q e f d g h s =
     let w : k + 1 ≡ kept = omega arith in
     let first = first_of more y q f in
     let at = shown_at bs k b (omega arith) g in
-    let n = length-map bs stretch_of in
-    let new : shown (set bs k c) ≡ set (shown bs) k (shortened m (stretch_of b)) = map-set stretch_of bs k c ∙ ap (set (shown bs) k) (stretch_is c (shortened m (stretch_of b)) h s) in
+    let n = length-map bs block_spans in
+    let new : shown (set bs k c) ≡ set (shown bs) k (shortened m (block_spans b)) = map-set block_spans bs k c ∙ ap (set (shown bs) k) (stretch_is c (shortened m (block_spans b)) h s) in
     let dif : b.handle ≢ y.handle = λ z. d (ap (λ (x : Block). x.handle) (sym one) ∙ z) in
-    rw (new, first) (subst (λ z. AreMet z m (shown bs) (set (shown bs) k (shortened m (stretch_of b))) (stretch_of y ∷ shown (drop 1 more)) (stretch_of y ∷ shown (drop 1 more)) 0) w (record {
-      front = sym (meets_other k m (shown bs) (stretch_of b) (stretch_of y) (shown (drop 1 more)) (omega arith) at dif);
-      behind = λ z o. drop-set-lt z (shown bs) k (shortened m (stretch_of b)) (omega arith);
-      seam = seam_other k (shown bs) (stretch_of b) (stretch_of y) (shown (drop 1 more)) (omega arith) at dif;
+    rw (new, first) (subst (λ z. AreMet z m (shown bs) (set (shown bs) k (shortened m (block_spans b))) (block_spans y ∷ shown (drop 1 more)) (block_spans y ∷ shown (drop 1 more)) 0) w (record {
+      front = sym (meets_other k m (shown bs) (block_spans b) (block_spans y) (shown (drop 1 more)) (omega arith) at dif);
+      behind = λ z o. drop-set-lt z (shown bs) k (shortened m (block_spans b)) (omega arith);
+      seam = seam_other k (shown bs) (block_spans b) (block_spans y) (shown (drop 1 more)) (omega arith) at dif;
     }))
 
 pub met_same : (kept m : ℕ) (bs more : List Block) (a b c y : Block) → 0 < kept → kept ≤ length bs → 0 < length more → a ≡ get_or bs (kept - 1) a → y ≡ get_or more 0 y → a.handle ≡ y.handle → b ≡ get_or bs (kept - 1) b → c.handle ≡ b.handle → c.spans.items ≡ take m b.spans.items ++ y.spans.items → AreMet kept m (shown bs) (shown (set bs (kept - 1) c)) (shown more) (shown (drop 1 more)) 1
@@ -191,17 +191,17 @@ met_same kept m bs more a b c y p l q e f d g h s =
     let w : k + 1 ≡ kept = omega arith in
     let first = first_of more y q f in
     let at = shown_at bs k b (omega arith) g in
-    let n = length-map bs stretch_of in
-    let longer = lengthened (shortened m (stretch_of b)) y.spans.items in
-    let new : shown (set bs k c) ≡ set (shown bs) k longer = map-set stretch_of bs k c ∙ ap (set (shown bs) k) (stretch_is c longer h s) in
+    let n = length-map bs block_spans in
+    let longer = lengthened (shortened m (block_spans b)) y.spans.items in
+    let new : shown (set bs k c) ≡ set (shown bs) k longer = map-set block_spans bs k c ∙ ap (set (shown bs) k) (stretch_is c longer h s) in
     let same : b.handle ≡ y.handle = ap (λ (x : Block). x.handle) one ∙ d in
-    rw (new, first) (subst (λ z. AreMet z m (shown bs) (set (shown bs) k longer) (stretch_of y ∷ shown (drop 1 more)) (shown (drop 1 more)) 1) w (record {
-      front = sym (meets_same k m (shown bs) (stretch_of b) (stretch_of y) (shown (drop 1 more)) (omega arith) at same);
+    rw (new, first) (subst (λ z. AreMet z m (shown bs) (set (shown bs) k longer) (block_spans y ∷ shown (drop 1 more)) (shown (drop 1 more)) 1) w (record {
+      front = sym (meets_same k m (shown bs) (block_spans b) (block_spans y) (shown (drop 1 more)) (omega arith) at same);
       behind = λ z o. drop-set-lt z (shown bs) k longer (omega arith);
-      seam = seam_same k (shown bs) (stretch_of b) (stretch_of y) (shown (drop 1 more)) (omega arith) at same;
+      seam = seam_same k (shown bs) (block_spans b) (block_spans y) (shown (drop 1 more)) (omega arith) at same;
     }))
 
 pub shown_three : (kept rest : ℕ) (bs more : List Block) → shown (take kept bs ++ more ++ drop rest bs) ≡ take kept (shown bs) ++ shown more ++ drop rest (shown bs)
 shown_three kept rest bs more =
-    map-append stretch_of (take kept bs ++ more) (drop rest bs)
-    ∙ rw (map-append stretch_of (take kept bs) more, sym (take-map stretch_of kept bs), sym (drop-map stretch_of rest bs)) refl
+    map-append block_spans (take kept bs ++ more) (drop rest bs)
+    ∙ rw (map-append block_spans (take kept bs) more, sym (take-map block_spans kept bs), sym (drop-map block_spans rest bs)) refl

@@ -7,9 +7,9 @@ use Rattle.std.specs.List.Sorted.{IsNonDecreasingBy}
 use Rattle.raft_base.specs.declared.pipe_log.FileBlockHandle.{FileBlockHandle}
 use Rattle.raft_records.specs.declared.compression_type.CompressionType.TheVariants as compression
 use Rattle.raft_records.specs.declared.entry_index.EntryIndex.{EntryIndex}
-use Rattle.raft_table.specs.Blocks.{Stretch, spread, expanded}
+use Rattle.raft_table.specs.Blocks.{BlockSpans, spread, expanded}
 use Rattle.raft_table.specs.BlockWords.{count, starts_of, IsIndexOf, IsAt}
-use Rattle.raft_table.specs.Entries.{RisesFrom, entry_with_index}
+use Rattle.raft_table.specs.Entries.{RisesFrom, entry_at}
 use Rattle.raft_table.proofs.RunLemmas.{RisesFrom-take}
 use Rattle.raft_table.proofs.BlockLemmas.{length-spread, spread_take, spread_drop, length-expanded, length-starts, start_at, starts_rise, count_take_more, rises_expanded}
 
@@ -21,7 +21,7 @@ take_past [] b n = ap (λ z. take z b) (omega arith)
 take_past (x ∷ a) b n = let e : suc (length a) + n ≡ suc (length a + n) = omega arith in rw e (ap (λ ys. x ∷ ys) (take_past a b n))
 
 -- the block whose first index is at or below an index, where the next one's is above it
-pub at_start : (x i k s : ℕ) (bs : List Stretch) (ss : List ℕ) → ss ≡ starts_of i bs → i ≤ x → x < i + count bs → k < length ss → s ≡ get_or ss k s → s ≤ x → ((d : ℕ) → suc k < length ss → x < get_or ss (suc k) d) → IsAt (x - i) bs k (x - s)
+pub at_start : (x i k s : ℕ) (bs : List BlockSpans) (ss : List ℕ) → ss ≡ starts_of i bs → i ≤ x → x < i + count bs → k < length ss → s ≡ get_or ss k s → s ≤ x → ((d : ℕ) → suc k < length ss → x < get_or ss (suc k) d) → IsAt (x - i) bs k (x - s)
 at_start x i k s bs ss e lo hi l g le up =
     let n : length ss ≡ length bs = rw e (length-starts i bs) in
     let f : s ≡ i + count (take k bs) = g ∙ ap (λ xs. get_or xs k s) e ∙ start_at k i bs s (omega arith) in
@@ -35,7 +35,7 @@ at_start x i k s bs ss e lo hi l g le up =
       inside = λ d. let m = count_take_more k bs d (omega arith) in omega arith;
     }
 
-pub count_front : (k : ℕ) (bs : List Stretch) → count (take k bs) ≤ count bs
+pub count_front : (k : ℕ) (bs : List BlockSpans) → count (take k bs) ≤ count bs
 count_front k [] = none k
   where
     none : (k : ℕ) → count (take k []) ≤ 0
@@ -44,7 +44,7 @@ count_front k [] = none k
 count_front zero (c ∷ cs) = omega arith
 count_front (suc k) (c ∷ cs) = let h = count_front k cs in omega arith
 
-pub place_within : (p k o : ℕ) (bs : List Stretch) → IsAt p bs k o → p < count bs
+pub place_within : (p k o : ℕ) (bs : List BlockSpans) → IsAt p bs k o → p < count bs
 place_within p k o [] a = absurd (let l = a.block in omega arith)
 place_within p k o (b ∷ bs) a =
     let l = a.block in
@@ -58,14 +58,14 @@ place_within p k o (b ∷ bs) a =
 pub index_some : (ss : List ℕ) (x : ℕ) → IsIndexOf ss x → 0 < length ss
 index_some ss x h = rw h.2 (some h.1 h.4)
   where
-    some : (bs : List Stretch) → x < h.0 + count bs → 0 < length (starts_of h.0 bs)
+    some : (bs : List BlockSpans) → x < h.0 + count bs → 0 < length (starts_of h.0 bs)
     some [] l = absurd (let k = h.3 in omega arith)
     some (b ∷ bs) l = omega arith
 
 pub index_first : (ss : List ℕ) (x : ℕ) → IsIndexOf ss x → (d : ℕ) → get_or ss 0 d ≤ x
 index_first ss x h d = rw h.2 (first h.1 h.4)
   where
-    first : (bs : List Stretch) → x < h.0 + count bs → get_or (starts_of h.0 bs) 0 d ≤ x
+    first : (bs : List BlockSpans) → x < h.0 + count bs → get_or (starts_of h.0 bs) 0 d ≤ x
     first [] l = absurd (let k = h.3 in omega arith)
     first (b ∷ bs) l = h.3
 
@@ -76,11 +76,11 @@ pub found_some : (ss : List ℕ) (x k : ℕ) → IsIndexOf ss x → ((j d : ℕ)
 found_some ss x zero h up = let a = up 0 0 (omega arith) (index_some ss x h) in let b = index_first ss x h 0 in absurd (omega arith)
 found_some ss x (suc k) h up = omega arith
 
-pub at_same : {bs : List Stretch} {k o : ℕ} (p q : ℕ) → p ≡ q → IsAt p bs k o → IsAt q bs k o
+pub at_same : {bs : List BlockSpans} {k o : ℕ} (p q : ℕ) → p ≡ q → IsAt p bs k o → IsAt q bs k o
 at_same {bs} {k} {o} p q e a = subst (λ n. IsAt n bs k o) e a
 
 -- what stands from a place on
-pub at_place : (i p k o : ℕ) (bs : List Stretch) (d : Stretch) → IsAt p bs k o → drop p (expanded i bs) ≡ spread (i + p) (get_or bs k d).handle (drop o (get_or bs k d).spans) ++ expanded (i + count (take (suc k) bs)) (drop (suc k) bs)
+pub at_place : (i p k o : ℕ) (bs : List BlockSpans) (d : BlockSpans) → IsAt p bs k o → drop p (expanded i bs) ≡ spread (i + p) (get_or bs k d).handle (drop o (get_or bs k d).spans) ++ expanded (i + count (take (suc k) bs)) (drop (suc k) bs)
 at_place i p k o [] d a = absurd (let l = a.block in omega arith)
 at_place i p zero o (b ∷ bs) d a =
     let l = a.inside d in
@@ -102,7 +102,7 @@ at_place i p (suc k) o (b ∷ bs) d a =
     ∙ rw (u, v) refl
 
 -- what stands below it
-pub below_place : (i p k o : ℕ) (bs : List Stretch) (d : Stretch) → k < length bs → count (take k bs) + o ≡ p → o ≤ length (get_or bs k d).spans → take p (expanded i bs) ≡ expanded i (take k bs) ++ spread (i + count (take k bs)) (get_or bs k d).handle (take o (get_or bs k d).spans)
+pub below_place : (i p k o : ℕ) (bs : List BlockSpans) (d : BlockSpans) → k < length bs → count (take k bs) + o ≡ p → o ≤ length (get_or bs k d).spans → take p (expanded i bs) ≡ expanded i (take k bs) ++ spread (i + count (take k bs)) (get_or bs k d).handle (take o (get_or bs k d).spans)
 below_place i p k o [] d l e m = absurd (omega arith)
 below_place i p zero o (b ∷ bs) d l e m =
     let q : p ≡ o = sym e ∙ omega arith in
@@ -120,7 +120,7 @@ below_place i p (suc k) o (b ∷ bs) d l e m =
     ∙ rw v (sym (append_assoc (spread i b.handle b.spans) (expanded (i + n) (take k bs)) (spread (i + n + count (take k bs)) (get_or bs k d).handle (take o (get_or bs k d).spans))))
 
 -- look-ups go past what stands below
-skip : (x s : ℕ) (a b : List EntryIndex) → RisesFrom s a → s + length a ≤ x → entry_with_index x (a ++ b) ≡ entry_with_index x b
+skip : (x s : ℕ) (a b : List EntryIndex) → RisesFrom s a → s + length a ≤ x → entry_at x (a ++ b) ≡ entry_at x b
 skip x s [] b h l = refl
 skip x s (e ∷ a) b h l =
     let t : eqb e.index x ≡ false = rw h.0 (grind (arith, nat_tests)) in
@@ -130,35 +130,35 @@ skip x s (e ∷ a) b h l =
 abbrev pub entry_of : ℕ → FileBlockHandle → ℕ × ℕ → EntryIndex
 entry_of x handle s = record { index = x; entries = Some handle; compression_type = compression.None; entry_offset = s.0; entry_len = s.1 }
 
-head_of : (x o : ℕ) (h : FileBlockHandle) (ss : List (ℕ × ℕ)) (s : ℕ × ℕ) (rest : List EntryIndex) → o < length ss → s ≡ get_or ss o s → entry_with_index x (spread x h (drop o ss) ++ rest) ≡ Some (entry_of x h s)
+head_of : (x o : ℕ) (h : FileBlockHandle) (ss : List (ℕ × ℕ)) (s : ℕ × ℕ) (rest : List EntryIndex) → o < length ss → s ≡ get_or ss o s → entry_at x (spread x h (drop o ss) ++ rest) ≡ Some (entry_of x h s)
 head_of x o h ss s rest l e =
     let t : eqb x x ≡ true = grind (arith, nat_tests) in
     rw (drop_more ss o s l, ← e, t) refl
 
 -- the entry at an index, by where it stands
-pub entry_at_place : (x i k o : ℕ) (bs : List Stretch) (b : Stretch) (s : ℕ × ℕ) → i ≤ x → IsAt (x - i) bs k o → b ≡ get_or bs k b → s ≡ get_or b.spans o s → Some (entry_of x b.handle s) ≡ entry_with_index x (expanded i bs)
+pub entry_at_place : (x i k o : ℕ) (bs : List BlockSpans) (b : BlockSpans) (s : ℕ × ℕ) → i ≤ x → IsAt (x - i) bs k o → b ≡ get_or bs k b → s ≡ get_or b.spans o s → Some (entry_of x b.handle s) ≡ entry_at x (expanded i bs)
 entry_at_place x i k o bs b s lo a e f =
     let es = expanded i bs in
     let p = x - i in
     let l = a.block in
-    let inside : o < length b.spans = subst (λ (y : Stretch). o < length y.spans) (sym e) (a.inside b) in
+    let inside : o < length b.spans = subst (λ (y : BlockSpans). o < length y.spans) (sym e) (a.inside b) in
     let tail : drop p es ≡ spread (i + p) b.handle (drop o b.spans) ++ expanded (i + count (take (suc k) bs)) (drop (suc k) bs) =
-    subst (λ (y : Stretch). drop p es ≡ spread (i + p) y.handle (drop o y.spans) ++ expanded (i + count (take (suc k) bs)) (drop (suc k) bs)) (sym e) (at_place i p k o bs b a) in
+    subst (λ (y : BlockSpans). drop p es ≡ spread (i + p) y.handle (drop o y.spans) ++ expanded (i + count (take (suc k) bs)) (drop (suc k) bs)) (sym e) (at_place i p k o bs b a) in
     let q : i + p ≡ x = omega arith in
     let fit : p ≤ length es = rw (length-expanded i bs) (omega (arith, place_within p k o bs a)) in
     let g : length (take p es) ≡ p = length-take-le p es fit in
-    sym (ap (entry_with_index x) (sym (take-append-drop p es))
+    sym (ap (entry_at x) (sym (take-append-drop p es))
     ∙ skip x i (take p es) (drop p es) (RisesFrom-take p i es (rises_expanded i bs)) (omega arith)
     ∙ rw (tail, q) (head_of x o b.handle b.spans s (expanded (i + count (take (suc k) bs)) (drop (suc k) bs)) inside f))
 
 -- the entry at a place
-pub entry_is : (i p k o : ℕ) (bs : List Stretch) (b : Stretch) (s : ℕ × ℕ) (d : EntryIndex) → IsAt p bs k o → b ≡ get_or bs k b → s ≡ get_or b.spans o s → entry_of (i + p) b.handle s ≡ get_or (expanded i bs) p d
+pub entry_is : (i p k o : ℕ) (bs : List BlockSpans) (b : BlockSpans) (s : ℕ × ℕ) (d : EntryIndex) → IsAt p bs k o → b ≡ get_or bs k b → s ≡ get_or b.spans o s → entry_of (i + p) b.handle s ≡ get_or (expanded i bs) p d
 entry_is i p k o bs b s d a e f =
     let es = expanded i bs in
     let rest = expanded (i + count (take (suc k) bs)) (drop (suc k) bs) in
-    let inside : o < length b.spans = subst (λ (y : Stretch). o < length y.spans) (sym e) (a.inside b) in
+    let inside : o < length b.spans = subst (λ (y : BlockSpans). o < length y.spans) (sym e) (a.inside b) in
     let tail : drop p es ≡ spread (i + p) b.handle (drop o b.spans) ++ rest =
-    subst (λ (y : Stretch). drop p es ≡ spread (i + p) y.handle (drop o y.spans) ++ rest) (sym e) (at_place i p k o bs b a) in
+    subst (λ (y : BlockSpans). drop p es ≡ spread (i + p) y.handle (drop o y.spans) ++ rest) (sym e) (at_place i p k o bs b a) in
     let head : get_or (drop p es) 0 d ≡ entry_of (i + p) b.handle s = rw (tail, drop_more b.spans o s inside, ← f) refl in
     let z : p + 0 ≡ p = omega arith in
     sym (sym (get_or-drop p es 0 d ∙ ap (λ m. get_or es m d) z) ∙ head)

@@ -9,7 +9,7 @@ use Rattle.std.proofs.lemmas.Bool.Decides.{nat_tests}
 use Rattle.raft_base.specs.declared.pipe_log.LogQueue.{LogQueue}
 use Rattle.raft_base.specs.declared.pipe_log.LogQueue.TheVariants.{Append, Rewrite}
 use Rattle.raft_records.specs.declared.entry_index.EntryIndex.{EntryIndex}
-use Rattle.raft_table.specs.Entries.{IsRun, start_of, end_of, below, from, entry_with_index}
+use Rattle.raft_table.specs.Entries.{IsRun, start_of, end_of, below, from, entry_at}
 use Rattle.raft_table.specs.KeyValues.{Stored}
 use Rattle.raft_table.specs.LastWord.{last_that, speaks_of_index, said_of_index, last_entry, is_same_key, speaks_of_key, said_of_key, last_pair}
 use Rattle.raft_table.specs.Start.{leaves_hole, replayed}
@@ -44,35 +44,35 @@ turned i f a b = go (ltb i f) (leb f i) refl refl
     go false true e g = refl
     go false false e g = absurd (grind (arith, nat_tests))
 
-run_said : (i : ℕ) (e : EntryIndex) (run : List EntryIndex) (old : Option EntryIndex) → cond (ltb i e.index) old (entry_with_index i (e ∷ run)) ≡ said_or (said_of_index i) old (cond (nat_le e.index i) (Some (Run (e ∷ run))) None)
-run_said i e run old = turned i e.index old (entry_with_index i (e ∷ run)) ∙ go (nat_le e.index i)
+run_said : (i : ℕ) (e : EntryIndex) (run : List EntryIndex) (old : Option EntryIndex) → cond (ltb i e.index) old (entry_at i (e ∷ run)) ≡ said_or (said_of_index i) old (cond (nat_le e.index i) (Some (Run (e ∷ run))) None)
+run_said i e run old = turned i e.index old (entry_at i (e ∷ run)) ∙ go (nat_le e.index i)
   where
-    go : (b : Bool) → cond b (entry_with_index i (e ∷ run)) old ≡ said_or (said_of_index i) old (cond b (Some (Run (e ∷ run))) None)
+    go : (b : Bool) → cond b (entry_at i (e ∷ run)) old ≡ said_or (said_of_index i) old (cond b (Some (Run (e ∷ run))) None)
     go true = refl
     go false = refl
 
-run_entry : (i : ℕ) (es run after : List EntryIndex) → IsRun run → replayed Append es run ≡ Some after → entry_with_index i after ≡ said_or (said_of_index i) (entry_with_index i es) (cond (speaks_of_index i (Run run)) (Some (Run run)) None)
-run_entry i es [] after h is = ap (entry_with_index i) (sym (same_some es after is))
+run_entry : (i : ℕ) (es run after : List EntryIndex) → IsRun run → replayed Append es run ≡ Some after → entry_at i after ≡ said_or (said_of_index i) (entry_at i es) (cond (speaks_of_index i (Run run)) (Some (Run run)) None)
+run_entry i es [] after h is = ap (entry_at i) (sym (same_some es after is))
 run_entry i es (e ∷ run) after h is =
-    ap (entry_with_index i) (sym (accepted (leaves_hole (end_of es) e.index) (below e.index es ++ e ∷ run) after is).1) ∙ run_stands es (e ∷ run) h i ∙ run_said i e run (entry_with_index i es)
+    ap (entry_at i) (sym (accepted (leaves_hole (end_of es) e.index) (below e.index es ++ e ∷ run) after is).1) ∙ run_stands es (e ∷ run) h i ∙ run_said i e run (entry_at i es)
 
 step_entry : (i id : ℕ) (o v : Option Table) (s : Step) → IsStep s → after_step Append id o s ≡ Some v
-    → entry_with_index i (table_of id v).entries ≡ said_or (said_of_index i) (entry_with_index i (table_of id o).entries) (cond (speaks_of_index i s) (Some s) None)
+    → entry_at i (table_of id v).entries ≡ said_or (said_of_index i) (entry_at i (table_of id o).entries) (cond (speaks_of_index i s) (Some s) None)
 step_entry i id o v (Run run) good is = go (replayed Append (table_of id o).entries run) refl is
   where
     go : (x : Option (List EntryIndex)) → replayed Append (table_of id o).entries run ≡ x → there_if true (option_map (table_with_entries (table_of id o)) x) ≡ Some v
-        → entry_with_index i (table_of id v).entries ≡ said_or (said_of_index i) (entry_with_index i (table_of id o).entries) (cond (speaks_of_index i (Run run)) (Some (Run run)) None)
+        → entry_at i (table_of id v).entries ≡ said_or (said_of_index i) (entry_at i (table_of id o).entries) (cond (speaks_of_index i (Run run)) (Some (Run run)) None)
     go None e k = absurd cc
-    go (Some es) e k = ap (λ (u : Option Table). entry_with_index i (table_of id u).entries) (sym (same_some _ v k)) ∙ run_entry i (table_of id o).entries run es good e
-step_entry i id o v (Compact j) good is = ap (λ (u : Option Table). entry_with_index i (table_of id u).entries) (sym (same_some _ v is)) ∙ entry_with_index-from i j (table_of id o).entries ∙ go (nat_lt i j)
+    go (Some es) e k = ap (λ (u : Option Table). entry_at i (table_of id u).entries) (sym (same_some _ v k)) ∙ run_entry i (table_of id o).entries run es good e
+step_entry i id o v (Compact j) good is = ap (λ (u : Option Table). entry_at i (table_of id u).entries) (sym (same_some _ v is)) ∙ entry_with_index-from i j (table_of id o).entries ∙ go (nat_lt i j)
   where
-    go : (b : Bool) → cond b None (entry_with_index i (table_of id o).entries) ≡ said_or (said_of_index i) (entry_with_index i (table_of id o).entries) (cond b (Some (Compact j)) None)
+    go : (b : Bool) → cond b None (entry_at i (table_of id o).entries) ≡ said_or (said_of_index i) (entry_at i (table_of id o).entries) (cond b (Some (Compact j)) None)
     go true = refl
     go false = refl
-step_entry i id o v (Put key value file) good is = ap (λ (u : Option Table). entry_with_index i (table_of id u).entries) (sym (same_some _ v is))
-step_entry i id o v (Del key) good is = ap (λ (u : Option Table). entry_with_index i (table_of id u).entries) (sym (same_some _ v is))
-step_entry i id o v (AtomicGroup start end) good is = ap (λ (u : Option Table). entry_with_index i (table_of id u).entries) (sym (same_some _ v is))
-step_entry i id o v Clean good is = ap (λ (u : Option Table). entry_with_index i (table_of id u).entries) (sym (same_some _ v is))
+step_entry i id o v (Put key value file) good is = ap (λ (u : Option Table). entry_at i (table_of id u).entries) (sym (same_some _ v is))
+step_entry i id o v (Del key) good is = ap (λ (u : Option Table). entry_at i (table_of id u).entries) (sym (same_some _ v is))
+step_entry i id o v (AtomicGroup start end) good is = ap (λ (u : Option Table). entry_at i (table_of id u).entries) (sym (same_some _ v is))
+step_entry i id o v Clean good is = ap (λ (u : Option Table). entry_at i (table_of id u).entries) (sym (same_some _ v is))
 
 -- ---- one step, keys
 
@@ -99,13 +99,13 @@ step_pair q key id o v Clean is = ap (λ (u : Option Table). finite.get (table_o
 
 -- ---- all steps
 
-steps_entry : (i id : ℕ) (o t : Option Table) (ss : List Step) → AreSteps ss → after Append id o ss ≡ Some t → entry_with_index i (table_of id t).entries ≡ said_or (said_of_index i) (entry_with_index i (table_of id o).entries) (last_that (speaks_of_index i) ss)
-steps_entry i id o t [] good is = ap (λ (u : Option Table). entry_with_index i (table_of id u).entries) (sym (same_some o t is))
+steps_entry : (i id : ℕ) (o t : Option Table) (ss : List Step) → AreSteps ss → after Append id o ss ≡ Some t → entry_at i (table_of id t).entries ≡ said_or (said_of_index i) (entry_at i (table_of id o).entries) (last_that (speaks_of_index i) ss)
+steps_entry i id o t [] good is = ap (λ (u : Option Table). entry_at i (table_of id u).entries) (sym (same_some o t is))
 steps_entry i id o t (s ∷ ss) good is = go (λ v k. steps_entry i id v t ss good.1 k) (after_step Append id o s) refl is
   where
-    go : ((v : Option Table) → after Append id v ss ≡ Some t → entry_with_index i (table_of id t).entries ≡ said_or (said_of_index i) (entry_with_index i (table_of id v).entries) (last_that (speaks_of_index i) ss))
+    go : ((v : Option Table) → after Append id v ss ≡ Some t → entry_at i (table_of id t).entries ≡ said_or (said_of_index i) (entry_at i (table_of id v).entries) (last_that (speaks_of_index i) ss))
         → (x : Option (Option Table)) → after_step Append id o s ≡ x → option_and_then (λ u. after Append id u ss) x ≡ Some t
-        → entry_with_index i (table_of id t).entries ≡ said_or (said_of_index i) (entry_with_index i (table_of id o).entries) (last_that (speaks_of_index i) (s ∷ ss))
+        → entry_at i (table_of id t).entries ≡ said_or (said_of_index i) (entry_at i (table_of id o).entries) (last_that (speaks_of_index i) (s ∷ ss))
     go ih None e k = absurd cc
     go ih (Some v) e k = said_behind (said_of_index i) (last_that (speaks_of_index i) ss) s (speaks_of_index i s) _ _ _ (step_entry i id o v s good.0 e) (ih v k)
 
@@ -120,7 +120,7 @@ steps_pair q key id o t (s ∷ ss) is = go (λ v k. steps_pair q key id v t ss k
     go ih (Some v) e k = said_behind said_of_key (last_that (speaks_of_key key) ss) s (speaks_of_key key s) _ _ _ (step_pair q key id o v s e) (ih v k)
 
 -- in the append queue what stands at an index is the last word on it
-pub last_entry_stands : (i id : ℕ) (t : Option Table) (ss : List Step) → AreSteps ss → after Append id None ss ≡ Some t → entry_with_index i (table_of id t).entries ≡ last_entry i ss
+pub last_entry_stands : (i id : ℕ) (t : Option Table) (ss : List Step) → AreSteps ss → after Append id None ss ≡ Some t → entry_at i (table_of id t).entries ≡ last_entry i ss
 last_entry_stands i id t ss good is = steps_entry i id None t ss good is ∙ said_none (said_of_index i) (last_that (speaks_of_index i) ss)
 
 -- what stands under a key is the last word on it

@@ -10,8 +10,9 @@ use Rattle.raft_base.specs.declared.pipe_log.LogQueue.TheVariants.{Append, Rewri
 use Rattle.raft_records.specs.declared.entry_index.EntryIndex.{EntryIndex}
 use Rattle.raft_table.specs.KeySets.{KeySet}
 use Rattle.raft_table.specs.Steps.{Step, Run, Compact, Put, Del, AtomicGroup, Clean}
-use Rattle.raft_table.specs.Marks.{Mark, FitsCut, FitsMark}
-use Rattle.raft_table.specs.MarkJoins.{least_of, joined_deleted, joined_live, joined_at, fresh, mark_of}
+use Rattle.raft_table.specs.Marks.{Mark, ReachesCut, OwnReachCut}
+use Rattle.raft_table.specs.MarkJoins.{joined_deleted, joined_live, joined_at, fresh, mark_of}
+use Rattle.raft_table.specs.KeyValues.{lesser}
 use Rattle.raft_table.specs.Overlay.{has_clean, greatest_compaction, least_start, deleted_of, HoldsDeleted, IsExactMark}
 
 -- two sets with the same keys are the same
@@ -51,7 +52,7 @@ union_one a key = same_set _ _ (λ q.
     ∙ ap (λ x. finset.contains a q || x) (finset.contains-insert nat_list_cmp_total finset.empty key q ∙ ap (λ x. eq_by_cmp (slice_cmp nat_cmp) q key || x) (finset.contains-empty (slice_cmp nat_cmp) q) ∙ or_none (eq_by_cmp (slice_cmp nat_cmp) q key))
     ∙ or_comm (finset.contains a q) (eq_by_cmp (slice_cmp nat_cmp) q key)))
 
-least_of_assoc : (a b c : Option ℕ) → least_of (least_of a b) c ≡ least_of a (least_of b c)
+least_of_assoc : (a b c : Option ℕ) → lesser (lesser a b) c ≡ lesser a (lesser b c)
 least_of_assoc None b c = refl
 least_of_assoc (Some a) None c = refl
 least_of_assoc (Some a) (Some b) None = refl
@@ -75,10 +76,10 @@ greatest-append (Del k ∷ ss) rs = greatest-append ss rs
 greatest-append (AtomicGroup s e ∷ ss) rs = greatest-append ss rs
 greatest-append (Clean ∷ ss) rs = greatest-append ss rs
 
-least-append : (ss rs : List Step) → least_start (ss ++ rs) ≡ least_of (least_start ss) (least_start rs)
+least-append : (ss rs : List Step) → least_start (ss ++ rs) ≡ lesser (least_start ss) (least_start rs)
 least-append [] rs = refl
 least-append (Run [] ∷ ss) rs = least-append ss rs
-least-append (Run (e ∷ run) ∷ ss) rs = ap (least_of (Some e.index)) (least-append ss rs) ∙ sym (least_of_assoc (Some e.index) (least_start ss) (least_start rs))
+least-append (Run (e ∷ run) ∷ ss) rs = ap (lesser (Some e.index)) (least-append ss rs) ∙ sym (least_of_assoc (Some e.index) (least_start ss) (least_start rs))
 least-append (Compact i ∷ ss) rs = least-append ss rs
 least-append (Put k v f ∷ ss) rs = least-append ss rs
 least-append (Del k ∷ ss) rs = least-append ss rs
@@ -142,25 +143,25 @@ deleted_count m ss h = go m.cleaned refl
     go true e = omega (arith, ap finset.len (h.none_deleted e), finset.len-empty (slice_cmp nat_cmp))
     go false e = omega (arith, ap finset.len (h.deleted e finset.empty ∙ empty_union m.deleted))
 
-pub exact_join : (x : ℕ) (m n : Mark) (t : List EntryIndex) (ss rs : List Step) → FitsMark m t → IsExactMark m ss → IsExactMark n rs → IsExactMark (joined_at Append x m n) (ss ++ rs)
+pub exact_join : (x : ℕ) (m n : Mark) (t : List EntryIndex) (ss rs : List Step) → OwnReachCut m t → IsExactMark m ss → IsExactMark n rs → IsExactMark (joined_at Append x m n) (ss ++ rs)
 exact_join x m n t ss rs fits h k = by_cleaned m.cleaned refl
   where
-    live_parts : (j : Mark) → m.cleaned ≡ false → j.cleaned ≡ n.cleaned → j.floor ≡ max m.floor n.floor → j.cut ≡ least_of m.cut n.cut → j.deleted ≡ joined_deleted m n → IsExactMark j (ss ++ rs)
+    live_parts : (j : Mark) → m.cleaned ≡ false → j.cleaned ≡ n.cleaned → j.floor ≡ max m.floor n.floor → j.cut ≡ lesser m.cut n.cut → j.deleted ≡ joined_deleted m n → IsExactMark j (ss ++ rs)
     live_parts j e c l u d = record {
       holds = holds_join m n j ss rs h.holds k.holds (c ∙ sym (pick m.cleaned true n.cleaned e)) (d ∙ sym (pick m.cleaned m.deleted (joined_deleted m n) e));
       greatest = λ z. l ∙ ap (max m.floor) (k.greatest (sym c ∙ z)) ∙ ap (λ y. max y (greatest_compaction rs)) (h.greatest e) ∙ sym (greatest-append ss rs);
-      least = λ z. u ∙ ap (least_of m.cut) (k.least (sym c ∙ z)) ∙ ap (λ y. least_of y (least_start rs)) (h.least e) ∙ sym (least-append ss rs);
+      least = λ z. u ∙ ap (lesser m.cut) (k.least (sym c ∙ z)) ∙ ap (λ y. lesser y (least_start rs)) (h.least e) ∙ sym (least-append ss rs);
     }
       where
         pick : {X : Type 0} (b : Bool) (x y : X) → b ≡ false → cond b x y ≡ y
         pick true x y z = absurd (false≢true (sym z))
         pick false x y z = refl
 
-    by_run : (y z : Option ℕ) → m.cleaned ≡ false → m.cut ≡ z → FitsCut y z m.floor t → IsExactMark (joined_live y z Append x m n) (ss ++ rs)
+    by_run : (y z : Option ℕ) → m.cleaned ≡ false → m.cut ≡ z → ReachesCut y z m.floor t → IsExactMark (joined_live y z Append x m n) (ss ++ rs)
     by_run None None e u f = live_parts _ e refl refl refl refl
     by_run None (Some c) e u f = absurd f
     by_run (Some r) None e u f = absurd f
-    by_run (Some r) (Some c) e u f = live_parts _ e refl refl (ap (λ d. least_of d n.cut) (sym u)) refl
+    by_run (Some r) (Some c) e u f = live_parts _ e refl refl (ap (λ d. lesser d n.cut) (sym u)) refl
 
     by_cleaned : (b : Bool) → m.cleaned ≡ b → IsExactMark (cond b m (joined_live m.reach m.cut Append x m n)) (ss ++ rs)
     by_cleaned true e = record {
@@ -177,7 +178,7 @@ exact_join x m n t ss rs fits h k = by_cleaned m.cleaned refl
 omega_max : (i : ℕ) → max i 0 ≡ i
 omega_max i = omega arith
 
-same_cut : (c : Option ℕ) → least_of c None ≡ c
+same_cut : (c : Option ℕ) → lesser c None ≡ c
 same_cut None = refl
 same_cut (Some c) = refl
 

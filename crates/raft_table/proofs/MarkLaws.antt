@@ -8,8 +8,8 @@ use Rattle.raft_records.specs.declared.entry_index.EntryIndex.{EntryIndex}
 use Rattle.raft_table.specs.Entries.{IsRun}
 use Rattle.raft_table.specs.Steps.{Step, Run, Compact, Put, Del, AtomicGroup, Clean, table_of, there_if, after_step, after, IsStep, AreSteps, IsTableOf}
 use Rattle.raft_table.specs.Table.{Table, empty_table}
-use Rattle.raft_table.specs.Marks.{Mark, entries_over, table_over, is_there_over, applied, FitsCut, FitsMark, Stands}
-use Rattle.raft_table.specs.MarkJoins.{joined, fresh, mark_of, own_of}
+use Rattle.raft_table.specs.Marks.{Mark, entries_over, table_over, is_there_over, applied, ReachesCut, OwnReachCut, Stands}
+use Rattle.raft_table.specs.MarkJoins.{joined_mark, fresh, mark_of, own_of}
 use Rattle.raft_table.proofs.MarkWords.{end_of-first}
 use Rattle.raft_table.proofs.MarkEntries.{same_some, fits_join}
 use Rattle.raft_table.proofs.MarkTables.{table-applied, join_applied, one_step, applied_none, applied_fresh}
@@ -41,7 +41,7 @@ one_after q id o s = go (after_step q id o s)
     go None = refl
     go (Some u) = refl
 
-fits_one : (id : ℕ) (s : Step) → FitsMark (mark_of s) (table_of id (own_of id s)).entries
+fits_one : (id : ℕ) (s : Step) → OwnReachCut (mark_of s) (table_of id (own_of id s)).entries
 fits_one id (Run []) e = refl
 fits_one id (Run (x ∷ run)) e = inr (end_of-first x run)
 fits_one id (Compact i) e = refl
@@ -72,7 +72,7 @@ stands_one q id s good = record {
   every = λ o h. one_after q id o s ∙ sym (one_step q id s o h);
 }
 
-pub stands_join : (q : LogQueue) (id : ℕ) (m n : Mark) (t u w : Option Table) (ss rs : List Step) → AreSteps ss → AreSteps rs → Stands q id m t ss → Stands q id n u rs → applied q id n u t ≡ Some w → Stands q id (joined q id m t n) w (ss ++ rs)
+pub stands_join : (q : LogQueue) (id : ℕ) (m n : Mark) (t u w : Option Table) (ss rs : List Step) → AreSteps ss → AreSteps rs → Stands q id m t ss → Stands q id n u rs → applied q id n u t ≡ Some w → Stands q id (joined_mark q id m t n) w (ss ++ rs)
 stands_join q id m n t u w ss rs good good' h k is = record {
   own_table = table_after q id t w rs good' h.own_table (k.every t h.own_table ∙ is);
   fits = fits_join q m n (table_of id t).entries (table_of id u).entries (table_of id w).entries h.fits k.fits (entries-over_table q n (table_of id u) (table_of id t) (table_of id w) (table-applied q id n u t w h.own_table is).0);
@@ -84,7 +84,7 @@ stands_join q id m n t u w ss rs good good' h k is = record {
     inner o r (Some v) e = k.every v (table_after q id o v ss good r e)
 
 -- one more step, over the table as it is
-pub stands_step : (q : LogQueue) (id : ℕ) (m : Mark) (t w : Option Table) (ss : List Step) (s : Step) → AreSteps ss → IsStep s → Stands q id m t ss → after_step q id t s ≡ Some w → Stands q id (joined q id m t (mark_of s)) w (ss ++ s ∷ [])
+pub stands_step : (q : LogQueue) (id : ℕ) (m : Mark) (t w : Option Table) (ss : List Step) (s : Step) → AreSteps ss → IsStep s → Stands q id m t ss → after_step q id t s ≡ Some w → Stands q id (joined_mark q id m t (mark_of s)) w (ss ++ s ∷ [])
 stands_step q id m t w ss s good good' h is = stands_join q id m (mark_of s) t (own_of id s) w ss (s ∷ []) good (good', tt) h (stands_one q id s good') (one_step q id s t h.own_table ∙ is)
 
 -- the own table is what one reading of the steps gives

@@ -19,8 +19,8 @@ use Rattle.raft_table.specs.Merge.{newer_atomic_group}
 use Rattle.raft_table.specs.Start.{leaves_hole, replayed}
 use Rattle.raft_table.specs.Steps.{Step, Run, Compact, Put, Del, AtomicGroup, Clean, stepped, is_there_after, table_of, there_if, after_step, IsTableOf}
 use Rattle.raft_table.specs.Table.{Table, empty_table}
-use Rattle.raft_table.specs.Marks.{Mark, part, misses, is_missed, older_entries, is_meeting_refused, entries_over, keys_over, atomic_group_over, table_over, is_there_over, applied, FitsCut, FitsMark}
-use Rattle.raft_table.specs.MarkJoins.{joined_deleted, joined_live, joined_at, joined, met, fresh, mark_of, own_of}
+use Rattle.raft_table.specs.Marks.{Mark, part, misses, is_missed, older_entries, is_first_run_refused, entries_over, keys_over, atomic_group_over, table_over, is_there_over, applied, ReachesCut, OwnReachCut}
+use Rattle.raft_table.specs.MarkJoins.{joined_deleted, joined_live, joined_at, joined_mark, end_at_reach, fresh, mark_of, own_of}
 use Rattle.raft_table.proofs.KeyValueLaws.{get-overlaid}
 use Rattle.raft_table.proofs.MarkWords.{part-whole, part-from, part-below, part-nil}
 use Rattle.raft_table.proofs.MarkEntries.{same_some, accepted, pick_true, pick_false, join_entries, over_nil}
@@ -68,10 +68,10 @@ join_there false false t true o = refl
 join_there false false t false o = refl
 
 -- what the joined mark has of the two beside its numbers
-pub joined_parts : (q : LogQueue) (x : ℕ) (m n : Mark) (t : List EntryIndex) → FitsMark m t → ((joined_at q x m n).cleaned ≡ cond m.cleaned true n.cleaned) × ((joined_at q x m n).deleted ≡ cond m.cleaned m.deleted (joined_deleted m n))
+pub joined_parts : (q : LogQueue) (x : ℕ) (m n : Mark) (t : List EntryIndex) → OwnReachCut m t → ((joined_at q x m n).cleaned ≡ cond m.cleaned true n.cleaned) × ((joined_at q x m n).deleted ≡ cond m.cleaned m.deleted (joined_deleted m n))
 joined_parts q x m n t fits = by_cleaned m.cleaned refl
   where
-    by_run : (y z : Option ℕ) → FitsCut y z m.floor t → ((joined_live y z q x m n).cleaned ≡ n.cleaned) × ((joined_live y z q x m n).deleted ≡ joined_deleted m n)
+    by_run : (y z : Option ℕ) → ReachesCut y z m.floor t → ((joined_live y z q x m n).cleaned ≡ n.cleaned) × ((joined_live y z q x m n).deleted ≡ joined_deleted m n)
     by_run None None h = (refl, refl)
     by_run None (Some c) h = absurd h
     by_run (Some r) None h = absurd h
@@ -86,15 +86,15 @@ abbrev rebuilt : Table → Keys → Option (ℕ × ℕ) → List EntryIndex → 
 rebuilt o keys atomic_group es = record o { entries = es; keys = keys; atomic_group = atomic_group }
 
 -- tables, one over the other
-pub join_tables : (q : LogQueue) (m n : Mark) (t u w o : Table) → FitsMark m t.entries → table_over q n u t ≡ Some w
-    → option_and_then (λ v. table_over q n u v) (table_over q m t o) ≡ table_over q (joined_at q (met n t) m n) w o
+pub join_tables : (q : LogQueue) (m n : Mark) (t u w o : Table) → OwnReachCut m t.entries → table_over q n u t ≡ Some w
+    → option_and_then (λ v. table_over q n u v) (table_over q m t o) ≡ table_over q (joined_at q (end_at_reach n t) m n) w o
 join_tables q m n t u w o fits is = by_own (entries_over q n u.entries t.entries) refl is
   where
     j : Mark
-    j = joined_at q (met n t) m n
+    j = joined_at q (end_at_reach n t) m n
 
     parts : (j.cleaned ≡ cond m.cleaned true n.cleaned) × (j.deleted ≡ cond m.cleaned m.deleted (joined_deleted m n))
-    parts = joined_parts q (met n t) m n t.entries fits
+    parts = joined_parts q (end_at_reach n t) m n t.entries fits
 
     keys : keys_over n u.keys (keys_over m t.keys o.keys) ≡ keys_over j (keys_over n u.keys t.keys) o.keys
     keys = rw (parts.0, parts.1) (join_keys m.cleaned n.cleaned m.deleted n.deleted t.keys u.keys o.keys)
@@ -144,9 +144,9 @@ no_keys d = same_keys _ _ (λ q. rw (get-overlaid, get-without, finite.get-empty
 
 -- what is applied without a table has no records
 none_cleaned : (q : LogQueue) (id : ℕ) (m : Mark) (o x : Table) → o.region_id ≡ id → m.cleaned ≡ true → table_over q m (empty_table id) o ≡ Some x → x ≡ empty_table id
-none_cleaned q id m o x r e is = go (is_meeting_refused q m o.entries) refl
+none_cleaned q id m o x r e is = go (is_first_run_refused q m o.entries) refl
   where
-    go : (b : Bool) → is_meeting_refused q m o.entries ≡ b → x ≡ empty_table id
+    go : (b : Bool) → is_first_run_refused q m o.entries ≡ b → x ≡ empty_table id
     go true k = absurd (no_some (rw k at is))
       where
         no_some : ◌≡◌ {A = Option Table} None (Some x) → ⊥
@@ -184,12 +184,12 @@ table-applied q id m t o w h is = go (table_over q m (table_of id t) (table_of i
         (e ∙ ap (λ y. Some y) (sym whole), ap is_some (sym same) ∙ is_some-there (is_there_over m t o) x)
 
 -- tables that may be absent, one over the other
-pub join_applied : (q : LogQueue) (id : ℕ) (m n : Mark) (t u w o : Option Table) → FitsMark m (table_of id t).entries → IsTableOf id (table_of id t) → IsTableOf id (table_of id o) → applied q id n u t ≡ Some w
-    → option_and_then (λ v. applied q id n u v) (applied q id m t o) ≡ applied q id (joined q id m t n) w o
+pub join_applied : (q : LogQueue) (id : ℕ) (m n : Mark) (t u w o : Option Table) → OwnReachCut m (table_of id t).entries → IsTableOf id (table_of id t) → IsTableOf id (table_of id o) → applied q id n u t ≡ Some w
+    → option_and_then (λ v. applied q id n u v) (applied q id m t o) ≡ applied q id (joined_mark q id m t n) w o
 join_applied q id m n t u w o fits own h is = go (table_over q m (table_of id t) (table_of id o)) refl
   where
     j : Mark
-    j = joined q id m t n
+    j = joined_mark q id m t n
 
     newer : (table_over q n (table_of id u) (table_of id t) ≡ Some (table_of id w)) × (is_some w ≡ is_there_over n u t)
     newer = table-applied q id n u t w own is
@@ -198,7 +198,7 @@ join_applied q id m n t u w o fits own h is = go (table_over q m (table_of id t)
     law = join_tables q m n (table_of id t) (table_of id u) (table_of id w) (table_of id o) fits newer.0
 
     there : cond n.cleaned (is_some u) (is_some u || is_there_over m t o) ≡ is_there_over j w o
-    there = rw (newer.1, (joined_parts q (met n (table_of id t)) m n (table_of id t).entries fits).0) (join_there m.cleaned n.cleaned (is_some t) (is_some u) (is_some o))
+    there = rw (newer.1, (joined_parts q (end_at_reach n (table_of id t)) m n (table_of id t).entries fits).0) (join_there m.cleaned n.cleaned (is_some t) (is_some u) (is_some o))
 
     go : (y : Option Table) → table_over q m (table_of id t) (table_of id o) ≡ y → option_and_then (λ v. applied q id n u v) (applied q id m t o) ≡ applied q id j w o
     go None e = rw e (ap (there_if (is_there_over j w o)) (sym (ap (option_and_then (λ v. table_over q n (table_of id u) v)) e) ∙ law))

@@ -8,7 +8,7 @@ use Rattle.std.proofs.lemmas.Bool.Decides.{nat_tests}
 use Rattle.raft_records.specs.declared.entry_index.EntryIndex.{EntryIndex}
 use Rattle.raft_table.specs.Entries.{end_of, below, from}
 use Rattle.raft_table.specs.Marks.{part, is_under}
-use Rattle.raft_table.specs.MarkJoins.{least_of}
+use Rattle.raft_table.specs.KeyValues.{lesser}
 use Rattle.raft_table.proofs.RunLemmas.{end_of-append}
 
 -- two filters are one
@@ -60,16 +60,16 @@ pub part-below : (i : ℕ) (es : List EntryIndex) → part 0 (Some i) es ≡ bel
 unfolding part below
 part-below i es = same_filter _ _ (λ e. grind (arith, nat_tests)) es
 
-both_parts : (l floor k : ℕ) (d cut : Option ℕ) → ((leb floor k && is_under cut k) && (leb l k && is_under d k)) ≡ (leb (max floor l) k && is_under (least_of cut d) k)
+both_parts : (l floor k : ℕ) (d cut : Option ℕ) → ((leb floor k && is_under cut k) && (leb l k && is_under d k)) ≡ (leb (max floor l) k && is_under (lesser cut d) k)
 both_parts l floor k d cut = grind (arith, nat_tests)
 
-pub part-part : (l : ℕ) (d : Option ℕ) (floor : ℕ) (cut : Option ℕ) (es : List EntryIndex) → part l d (part floor cut es) ≡ part (max floor l) (least_of cut d) es
+pub part-part : (l : ℕ) (d : Option ℕ) (floor : ℕ) (cut : Option ℕ) (es : List EntryIndex) → part l d (part floor cut es) ≡ part (max floor l) (lesser cut d) es
 unfolding part
 part-part l d floor cut es = filter-filter _ _ _ (λ e. both_parts l floor e.index d cut) es
 
 -- a part of what an older mark leaves
-pub part-both : (l : ℕ) (d : Option ℕ) (floor : ℕ) (cut : Option ℕ) (o t u : List EntryIndex) → part l d (part floor cut o ++ t) ++ u ≡ part (max floor l) (least_of cut d) o ++ (part l d t ++ u)
-part-both l d floor cut o t u = rw (part-append, part-part) (append_assoc (part (max floor l) (least_of cut d) o) (part l d t) u)
+pub part-both : (l : ℕ) (d : Option ℕ) (floor : ℕ) (cut : Option ℕ) (o t u : List EntryIndex) → part l d (part floor cut o ++ t) ++ u ≡ part (max floor l) (lesser cut d) o ++ (part l d t ++ u)
+part-both l d floor cut o t u = rw (part-append, part-part) (append_assoc (part (max floor l) (lesser cut d) o) (part l d t) u)
 
 pub end_of-nil : end_of [] ≡ 0
 unfolding end_of

@@ -9,9 +9,9 @@ use Rattle.raft_base.specs.declared.pipe_log.LogQueue.{LogQueue}
 use Rattle.raft_records.specs.declared.entry_index.EntryIndex.{EntryIndex}
 use Rattle.raft_table.specs.Counts.{Counts}
 use Rattle.raft_table.specs.Entries.{IsRun, start_of, end_of, from}
-use Rattle.raft_table.specs.MarkMerge.{IsRunOver, IsFaultUnder, IsMeetingFault}
-use Rattle.raft_table.specs.Marks.{Mark, is_meeting_refused, entries_over, keys_over, atomic_group_over, table_over, is_there_over, applied, Stands}
-use Rattle.raft_table.specs.MarkJoins.{joined_at, met, fresh, mark_of}
+use Rattle.raft_table.specs.MarkMerge.{IsRunOver, IsFaultUnder, IsFirstRunFault}
+use Rattle.raft_table.specs.Marks.{Mark, is_first_run_refused, entries_over, keys_over, atomic_group_over, table_over, is_there_over, applied, Stands}
+use Rattle.raft_table.specs.MarkJoins.{joined_at, end_at_reach, fresh, mark_of}
 use Rattle.raft_table.specs.Start.{replayed, IsTableRunFault, IsCorruptionError}
 use Rattle.raft_table.specs.Steps.{Step, Run, Del, Clean, stepped, is_there_after, table_of, there_if, after, IsStep, AreSteps, IsTableOf}
 use Rattle.raft_table.specs.Table.{Table, table_with_entries, without_key, after_replay}
@@ -36,7 +36,7 @@ own_there false c = refl
 pub applied_own : (q : LogQueue) (id : ℕ) (n : Mark) (u w : Table) (t : Option Table) → table_over q n u (table_of id t) ≡ Some w → applied q id n (Some u) t ≡ Some (Some w)
 applied_own q id n u w t e = applied-some q id n (Some u) t w e ∙ ap (λ b. Some (some_there b w)) (own_there n.cleaned (is_some t))
 
-pub join_stands : (q : LogQueue) (id : ℕ) (m n j : Mark) (t : Option Table) (u w : Table) (ss rs : List Step) → AreSteps ss → AreSteps rs → Stands q id m t ss → Stands q id n (Some u) rs → table_over q n u (table_of id t) ≡ Some w → j ≡ joined_at q (met n (table_of id t)) m n → Stands q id j (Some w) (ss ++ rs)
+pub join_stands : (q : LogQueue) (id : ℕ) (m n j : Mark) (t : Option Table) (u w : Table) (ss rs : List Step) → AreSteps ss → AreSteps rs → Stands q id m t ss → Stands q id n (Some u) rs → table_over q n u (table_of id t) ≡ Some w → j ≡ joined_at q (end_at_reach n (table_of id t)) m n → Stands q id j (Some w) (ss ++ rs)
 join_stands q id m n j t u w ss rs good good' h k e is =
     subst (λ j. Stands q id j (Some w) (ss ++ rs)) (sym is) (stands_join q id m n t (Some u) (Some w) ss rs good good' h k (applied_own q id n u w t e))
 
@@ -45,7 +45,7 @@ join_refused q id m n t u ss rs counts (errors.Corruption text) h k r c = refuse
 join_refused q id m n t u ss rs counts _ h k r c = absurd c
 
 -- one more step of a table that is there afterwards
-pub step_stands : (q : LogQueue) (id : ℕ) (m j : Mark) (t : Option Table) (w : Table) (ss : List Step) (s : Step) → AreSteps ss → IsStep s → Stands q id m t ss → is_there_after s ≡ true → stepped q (table_of id t) s ≡ Some w → j ≡ joined_at q (met (mark_of s) (table_of id t)) m (mark_of s) → Stands q id j (Some w) (ss ++ s ∷ [])
+pub step_stands : (q : LogQueue) (id : ℕ) (m j : Mark) (t : Option Table) (w : Table) (ss : List Step) (s : Step) → AreSteps ss → IsStep s → Stands q id m t ss → is_there_after s ≡ true → stepped q (table_of id t) s ≡ Some w → j ≡ joined_at q (end_at_reach (mark_of s) (table_of id t)) m (mark_of s) → Stands q id j (Some w) (ss ++ s ∷ [])
 step_stands q id m j t w ss s good good' h there e is =
     subst (λ j. Stands q id j (Some w) (ss ++ s ∷ [])) (sym is) (stands_step q id m t (Some w) ss s good good' h (rw (there, e) refl))
 
@@ -67,13 +67,13 @@ pub run_stands : (q : LogQueue) (id : ℕ) (m j : Mark) (t : Option Table) (w : 
 run_stands q id m j t w ss run end start good r h is l s e k =
     let n = run_mark run start l s in
     let reach_floor : (mark_of (Run run)).reach_floor ≡ 0 = ap (λ (m : Mark). m.reach_floor) n in
-    let top : met (mark_of (Run run)) (table_of id t) ≡ end = ap (λ i. end_of (from i (table_of id t).entries)) reach_floor ∙ ap end_of (from_whole (table_of id t).entries) ∙ sym e in
-    step_stands q id m j t w ss (Run run) good r h refl is (k ∙ ap (λ x. joined_at q x m (record fresh { reach = Some start; cut = Some start })) (sym top) ∙ ap (joined_at q (met (mark_of (Run run)) (table_of id t)) m) (sym n))
+    let top : end_at_reach (mark_of (Run run)) (table_of id t) ≡ end = ap (λ i. end_of (from i (table_of id t).entries)) reach_floor ∙ ap end_of (from_whole (table_of id t).entries) ∙ sym e in
+    step_stands q id m j t w ss (Run run) good r h refl is (k ∙ ap (λ x. joined_at q x m (record fresh { reach = Some start; cut = Some start })) (sym top) ∙ ap (joined_at q (end_at_reach (mark_of (Run run)) (table_of id t)) m) (sym n))
 
 -- a run without entries
 pub none_stands : (q : LogQueue) (id : ℕ) (m : Mark) (t : Option Table) (ss : List Step) (run : List EntryIndex) → run ≡ [] → AreSteps ss → Stands q id m t ss → Stands q id m (Some (table_of id t)) (ss ++ Run run ∷ [])
 none_stands q id m t ss run none good h =
-    rw none (step_stands q id m m t (table_of id t) ss (Run []) good empty_run h refl refl (sym (joined_fresh q (met fresh (table_of id t)) m)))
+    rw none (step_stands q id m m t (table_of id t) ss (Run []) good empty_run h refl refl (sym (joined_fresh q (end_at_reach fresh (table_of id t)) m)))
 
 pub deleted_stands : (q : LogQueue) (id : ℕ) (m j : Mark) (t : Option Table) (old new : Table) (ss : List Step) (key : List ℕ) → AreSteps ss → Stands q id m t ss → table_of id t ≡ old → new ≡ without_key old key → ((x : ℕ) → j ≡ joined_at q x m (mark_of (Del key))) → Stands q id j (Some new) (ss ++ Del key ∷ [])
 deleted_stands q id m j t old new ss key good h is e k =
@@ -82,7 +82,7 @@ deleted_stands q id m j t old new ss key good h is e k =
 pub clean_stands : (q : LogQueue) (id : ℕ) (m j : Mark) (t : Option Table) (ss : List Step) → AreSteps ss → Stands q id m t ss → ((x : ℕ) → j ≡ joined_at q x m (mark_of Clean)) → Stands q id j None (ss ++ Clean ∷ [])
 clean_stands q id m j t ss good h k = subst (λ j. Stands q id j None (ss ++ Clean ∷ [])) (sym (k _)) (stands_step q id m t None ss Clean good tt h refl)
 
-pub cleaned_stands : (q : LogQueue) (id : ℕ) (m n j : Mark) (t : Option Table) (ss rs : List Step) → AreSteps ss → AreSteps rs → Stands q id m t ss → Stands q id n None rs → n.cleaned ≡ true → is_meeting_refused q n (table_of id t).entries ≡ false → j ≡ joined_at q (met n (table_of id t)) m n → Stands q id j None (ss ++ rs)
+pub cleaned_stands : (q : LogQueue) (id : ℕ) (m n j : Mark) (t : Option Table) (ss rs : List Step) → AreSteps ss → AreSteps rs → Stands q id m t ss → Stands q id n None rs → n.cleaned ≡ true → is_first_run_refused q n (table_of id t).entries ≡ false → j ≡ joined_at q (end_at_reach n (table_of id t)) m n → Stands q id j None (ss ++ rs)
 cleaned_stands q id m n j t ss rs good good' h k e ok is =
     subst (λ j. Stands q id j None (ss ++ rs)) (sym is) (stands_join q id m n t None None ss rs good good' h k (gone n.cleaned e))
   where
@@ -90,6 +90,6 @@ cleaned_stands q id m n j t ss rs good good' h k e ok is =
     gone true e = rw ok refl
     gone false e = absurd (false≢true e)
 
-pub cleaned_refused : (q : LogQueue) (id : ℕ) (m n : Mark) (t : Option Table) (ss rs : List Step) (e : Error) → Stands q id m t ss → Stands q id n None rs → IsMeetingFault (is_meeting_refused q n (table_of id t).entries) e → IsCorruptionError e → after q id None (ss ++ rs) ≡ None
+pub cleaned_refused : (q : LogQueue) (id : ℕ) (m n : Mark) (t : Option Table) (ss rs : List Step) (e : Error) → Stands q id m t ss → Stands q id n None rs → IsFirstRunFault (is_first_run_refused q n (table_of id t).entries) e → IsCorruptionError e → after q id None (ss ++ rs) ≡ None
 cleaned_refused q id m n t ss rs (errors.Corruption text) h k r c = refused_join q id m n t None ss rs h k (rw r refl)
 cleaned_refused q id m n t ss rs _ h k r c = absurd c

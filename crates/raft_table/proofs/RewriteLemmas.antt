@@ -8,11 +8,11 @@ use Rattle.std.proofs.lemmas.Bool.Decides.{nat_tests}
 use Rattle.raft_base.specs.declared.pipe_log.LogQueue.{LogQueue}
 use Rattle.raft_base.specs.declared.pipe_log.LogQueue.TheVariants.{Append, Rewrite}
 use Rattle.raft_records.specs.declared.entry_index.EntryIndex.{EntryIndex}
-use Rattle.raft_table.specs.declared.memtable.entries.Meeting.{Meeting}
+use Rattle.raft_table.specs.declared.memtable.entries.Overlap.{Overlap}
 use Rattle.raft_table.specs.Counts.{Counts, with_added, with_deleted}
 use Rattle.raft_table.specs.Entries.{RisesFrom, IsRunIn, AreTableEntries, start_of, end_of, below, from, placed_in, entry_count}
-use Rattle.raft_table.specs.Meetings.{IsMeeting, AreApart}
-use Rattle.raft_table.specs.Rewriting.{may_move, meeting, moved_count, is_misplaced, with_places, rewritten_from, rewritten, with_rewritten, recounted}
+use Rattle.raft_table.specs.Overlaps.{IsOverlap, AreDisjoint}
+use Rattle.raft_table.specs.Rewriting.{may_move, overlap, moved_count, is_misplaced, with_places, rewritten_from, rewritten, with_rewritten, recounted}
 use Rattle.raft_table.proofs.RunLemmas.{below_take, below_start, from_drop, from_start, end_of-run, RisesFrom-take, RisesFrom-drop, RisesFrom-start}
 use Rattle.raft_table.proofs.SoundLemmas.{sound_rising}
 use Rattle.raft_table.proofs.MovesLemmas.{placed_in-take, placed_in-drop}
@@ -48,14 +48,14 @@ pub run_end : (q : LogQueue) (run : List EntryIndex) → IsRunIn q run → 0 < l
 run_end q run r l = end_of-run (start_of run) run (run_rising q run r) l
 
 -- the meeting entries as a part of the entries
-pub meeting_is : (q : LogQueue) (run es : List EntryIndex) → AreTableEntries es → IsRunIn q run → 0 < length run → meeting run es ≡ drop (start_of run - start_of es) (take (start_of run + length run - start_of es) es)
+pub meeting_is : (q : LogQueue) (run es : List EntryIndex) → AreTableEntries es → IsRunIn q run → 0 < length run → overlap run es ≡ drop (start_of run - start_of es) (take (start_of run + length run - start_of es) es)
 meeting_is q run es h r l =
     let s = start_of es in
     let x = start_of run in
     rw (run_end q run r l, below_is (x + length run) s es (sound_rising es h))
     (from_is x s (take (x + length run - s) es) (RisesFrom-take (x + length run - s) s es (sound_rising es h)))
 
-pub meeting_apart : (q : LogQueue) (run es : List EntryIndex) → AreTableEntries es → IsRunIn q run → 0 < length run → AreApart (start_of es) (length es) (start_of run) (length run) → meeting run es ≡ []
+pub meeting_apart : (q : LogQueue) (run es : List EntryIndex) → AreTableEntries es → IsRunIn q run → 0 < length run → AreDisjoint (start_of es) (length es) (start_of run) (length run) → overlap run es ≡ []
 meeting_apart q run es h r l a =
     let s = start_of es in
     let x = start_of run in
@@ -63,7 +63,7 @@ meeting_apart q run es h r l a =
     nil_from_length _ (ap length (meeting_is q run es h r l) ∙ length-drop (x - s) (take (x + length run - s) es) ∙ omega arith)
 
 -- a rewriting that meets no entries
-pub rewritten_apart : (gate : Option ℕ) (q : LogQueue) (run es : List EntryIndex) → AreTableEntries es → IsRunIn q run → 0 < length run → AreApart (start_of es) (length es) (start_of run) (length run) → rewritten gate run es ≡ Some es
+pub rewritten_apart : (gate : Option ℕ) (q : LogQueue) (run es : List EntryIndex) → AreTableEntries es → IsRunIn q run → 0 < length run → AreDisjoint (start_of es) (length es) (start_of run) (length run) → rewritten gate run es ≡ Some es
 rewritten_apart gate q run es h r l a = ap (rewritten_from gate run es) (meeting_apart q run es h r l a)
 
 pub recounted_is : (gate : Option ℕ) (run es : List EntryIndex) (counts : Counts) → 0 < length run → recounted gate run es counts ≡ with_rewritten gate (length run) (moved_count gate run es) counts
@@ -80,7 +80,7 @@ pub with_rewritten_none : (gate : Option ℕ) (n : ℕ) (counts : Counts) → wi
 with_rewritten_none (Some gate) n counts = none_deleted n (with_added Rewrite n counts)
 with_rewritten_none None n counts = refl
 
-pub recounted_apart : (gate : Option ℕ) (q : LogQueue) (run es : List EntryIndex) (counts : Counts) → AreTableEntries es → IsRunIn q run → 0 < length run → AreApart (start_of es) (length es) (start_of run) (length run) → recounted gate run es counts ≡ with_deleted Rewrite (length run) (with_added Rewrite (length run) counts)
+pub recounted_apart : (gate : Option ℕ) (q : LogQueue) (run es : List EntryIndex) (counts : Counts) → AreTableEntries es → IsRunIn q run → 0 < length run → AreDisjoint (start_of es) (length es) (start_of run) (length run) → recounted gate run es counts ≡ with_deleted Rewrite (length run) (with_added Rewrite (length run) counts)
 recounted_apart gate q run es counts h r l a =
     recounted_is gate run es counts l
     ∙ ap (λ met. with_rewritten gate (length run) (prefix_len (may_move gate) met) counts) (meeting_apart q run es h r l a)
@@ -108,7 +108,7 @@ pub record RewritesAt (gate : Option ℕ) (run es : List EntryIndex) (at skipped
   pub ok : is_misplaced gate at (entry_count Rewrite es) ≡ false → rewritten gate run es ≡ Some (take at es ++ take (moves_of gate run es at skipped count) (places_of run skipped count) ++ drop (at + moves_of gate run es at skipped count) es)
   pub counts : moved_count gate run es ≡ moves_of gate run es at skipped count
 
-pub rewrites_at : (gate : Option ℕ) (run es : List EntryIndex) (m : Meeting) → AreTableEntries es → IsRunIn Rewrite run → 0 < length run → IsMeeting (start_of es) (length es) (start_of run) (length run) m → RewritesAt gate run es m.at m.skipped m.count
+pub rewrites_at : (gate : Option ℕ) (run es : List EntryIndex) (m : Overlap) → AreTableEntries es → IsRunIn Rewrite run → 0 < length run → IsOverlap (start_of es) (length es) (start_of run) (length run) m → RewritesAt gate run es m.at m.skipped m.count
 rewrites_at gate run es m h r l x =
     let s = start_of es in
     let y = start_of run in
@@ -124,19 +124,19 @@ rewrites_at gate run es m h r l x =
     let sub : skipped + count - skipped ≡ count = omega arith in
     let len : length (places_of run skipped count) ≡ count = rw sub (length-take-le count (drop skipped run) (omega (arith, length-drop skipped run))) in
     let place : y + skipped ≡ s + at = omega arith in
-    let cut : meeting run es ≡ drop at (take (at + count) es) =
+    let cut : overlap run es ≡ drop at (take (at + count) es) =
     meeting_is Rewrite run es h r l
     ∙ ap (λ k. drop k (take (y + length run - s) es)) (let e : y - s ≡ at = omega arith in e)
     ∙ ap (drop at) (sym (take_min (y + length run - s) es) ∙ ap (λ k. take k es) (let e : min (y + length run - s) (length es) ≡ at + count = omega arith in e)) in
     let same : moved_count gate run es ≡ moves_of gate run es at skipped count = rw (cut, len) refl in
-    let metlen : length (meeting run es) ≡ count = rw cut (length-drop at (take (at + count) es) ∙ omega (arith, length-take-le (at + count) es inside)) in
-    let head : start_of (meeting run es) ≡ s + at =
+    let metlen : length (overlap run es) ≡ count = rw cut (length-drop at (take (at + count) es) ∙ omega (arith, length-take-le (at + count) es inside)) in
+    let head : start_of (overlap run es) ≡ s + at =
     rw cut (start_of_rise (s + at) (drop at (take (at + count) es)) (omega (arith, ap length cut)) (RisesFrom-drop at s (take (at + count) es) (RisesFrom-take (at + count) s es (sound_rising es h)) (omega (arith, length-take-le (at + count) es inside)))) in
     let under : below (s + at) es ≡ take at es = below_take (s + at) at s es refl (sound_rising es h) in
     let underlen : length (below (s + at) es) ≡ at = rw under (length-take-le at es (omega arith)) in
-    let whole : rewritten gate run es ≡ cond (is_misplaced gate (length (below (s + at) es)) (entry_count Rewrite es)) None (Some (with_places run (s + at) (moved_count gate run es) es)) = rewritten_at gate run es (meeting run es) (s + at) (omega arith) head in
+    let whole : rewritten gate run es ≡ cond (is_misplaced gate (length (below (s + at) es)) (entry_count Rewrite es)) None (Some (with_places run (s + at) (moved_count gate run es) es)) = rewritten_at gate run es (overlap run es) (s + at) (omega arith) head in
     let k = moved_count gate run es in
-    let few : k ≤ count = omega (arith, prefix_len-le-length (may_move gate) (meeting run es)) in
+    let few : k ≤ count = omega (arith, prefix_len-le-length (may_move gate) (overlap run es)) in
     let mine : from (s + at) run ≡ drop skipped run = from_drop (s + at) skipped y run (omega arith) (run_rising Rewrite run r) in
     let behind : from (s + at + k) es ≡ drop (at + k) es = from_drop (s + at + k) (at + k) s es (omega arith) (sound_rising es h) in
     let front : take k (drop skipped run) ≡ take k (places_of run skipped count) = sym (take-take k (skipped + count - skipped) (drop skipped run) (omega arith)) in

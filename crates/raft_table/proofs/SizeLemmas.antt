@@ -6,7 +6,7 @@ use Rattle.std.proofs.lemmas.Bool.Decides.{nat_tests}
 use Rattle.std.proofs.lemmas.List.{length-append, length-take-le, length-drop, take_all}
 use Rattle.raft_base.specs.declared.pipe_log.LogQueue.TheVariants.{Append, Rewrite}
 use Rattle.raft_records.specs.declared.entry_index.EntryIndex.{EntryIndex}
-use Rattle.raft_table.specs.Entries.{RisesFrom, AreTableEntries, start_of, end_of, below, between, placed_in, entry_count, entry_with_index}
+use Rattle.raft_table.specs.Entries.{RisesFrom, AreTableEntries, start_of, end_of, below, between, placed_in, entry_count, entry_at}
 use Rattle.raft_table.specs.Fetches.{Empty, NotFound, Compacted, Found, range_answer, total_len, is_too_many, IsLimitCount, FetchesWithin}
 use Rattle.raft_table.specs.Table.{Table, live_of}
 use Rattle.raft_table.proofs.FetchLemmas.{between_is}
@@ -27,12 +27,12 @@ records_of_both t h = omega (arith, entries_of_both t.entries h, pair_count-both
 
 -- ---- ranges
 
-pub between_by_index : (begin end i : ℕ) (es : List EntryIndex) → entry_with_index i (between begin end es) ≡ cond (leb begin i && ltb i end) (entry_with_index i es) None
+pub between_by_index : (begin end i : ℕ) (es : List EntryIndex) → entry_at i (between begin end es) ≡ cond (leb begin i && ltb i end) (entry_at i es) None
 unfolding between
 between_by_index begin end i es =
     entry_with_index-from i begin (below end es) ∙ ap (cond (ltb i begin) None) (entry_with_index-below i end es) ∙ at (ltb i begin) (leb begin i) (ltb i end) refl refl
   where
-    at : (a b c : Bool) → ltb i begin ≡ a → leb begin i ≡ b → cond a None (cond c (entry_with_index i es) None) ≡ cond (b && c) (entry_with_index i es) None
+    at : (a b c : Bool) → ltb i begin ≡ a → leb begin i ≡ b → cond a None (cond c (entry_at i es) None) ≡ cond (b && c) (entry_at i es) None
     at true true c e f = absurd (grind (arith, nat_tests))
     at true false c e f = refl
     at false true c e f = refl

@@ -5,16 +5,16 @@ use Rattle.std.proofs.lemmas.Bool.Decides.{nat_tests}
 use Rattle.raft_base.specs.declared.pipe_log.LogQueue.{LogQueue}
 use Rattle.raft_base.specs.declared.pipe_log.LogQueue.TheVariants.{Append, Rewrite}
 use Rattle.raft_records.specs.declared.entry_index.EntryIndex.{EntryIndex}
-use Rattle.raft_table.specs.Entries.{IsRun, IsRunIn, start_of, end_of, below, from, entry_with_index, StandsBehind}
+use Rattle.raft_table.specs.Entries.{IsRun, IsRunIn, start_of, end_of, below, from, entry_at, StandsBehind}
 use Rattle.raft_table.specs.Start.{leaves_hole, appended, replayed}
 use Rattle.raft_table.proofs.RunLemmas.{RisesFrom-start}
 use Rattle.raft_table.proofs.LookupLemmas.{entry_at_low}
 
-pub entry_with_index-append : (i : ℕ) (a b : List EntryIndex) → entry_with_index i (a ++ b) ≡ option_or (entry_with_index i a) (entry_with_index i b)
+pub entry_with_index-append : (i : ℕ) (a b : List EntryIndex) → entry_at i (a ++ b) ≡ option_or (entry_at i a) (entry_at i b)
 entry_with_index-append i [] b = refl
 entry_with_index-append i (x ∷ a) b = at (eqb x.index i) refl (entry_with_index-append i a b)
   where
-    at : (t : Bool) → eqb x.index i ≡ t → entry_with_index i (a ++ b) ≡ option_or (entry_with_index i a) (entry_with_index i b) → entry_with_index i (x ∷ (a ++ b)) ≡ option_or (entry_with_index i (x ∷ a)) (entry_with_index i b)
+    at : (t : Bool) → eqb x.index i ≡ t → entry_at i (a ++ b) ≡ option_or (entry_at i a) (entry_at i b) → entry_at i (x ∷ (a ++ b)) ≡ option_or (entry_at i (x ∷ a)) (entry_at i b)
     at true e h = rw e refl
     at false e h = rw e h
 
@@ -23,12 +23,12 @@ either : (o : Option EntryIndex) (t : Bool) → o ≡ cond t o o
 either o true = refl
 either o false = refl
 
-pub entry_with_index-below : (i f : ℕ) (es : List EntryIndex) → entry_with_index i (below f es) ≡ cond (ltb i f) (entry_with_index i es) None
+pub entry_with_index-below : (i f : ℕ) (es : List EntryIndex) → entry_at i (below f es) ≡ cond (ltb i f) (entry_at i es) None
 unfolding below
 entry_with_index-below i f [] = either None (ltb i f)
 entry_with_index-below i f (x ∷ es) = at (eqb x.index i) (ltb x.index f) (ltb i f) refl refl refl (entry_with_index-below i f es)
   where
-    at : (t u v : Bool) → eqb x.index i ≡ t → ltb x.index f ≡ u → ltb i f ≡ v → entry_with_index i (below f es) ≡ cond (ltb i f) (entry_with_index i es) None → entry_with_index i (below f (x ∷ es)) ≡ cond (ltb i f) (entry_with_index i (x ∷ es)) None
+    at : (t u v : Bool) → eqb x.index i ≡ t → ltb x.index f ≡ u → ltb i f ≡ v → entry_at i (below f es) ≡ cond (ltb i f) (entry_at i es) None → entry_at i (below f (x ∷ es)) ≡ cond (ltb i f) (entry_at i (x ∷ es)) None
     at true true true e g k h = rw (g, e, k) refl
     at true true false e g k h = absurd (grind (arith, nat_tests))
     at true false true e g k h = absurd (grind (arith, nat_tests))
@@ -36,12 +36,12 @@ entry_with_index-below i f (x ∷ es) = at (eqb x.index i) (ltb x.index f) (ltb 
     at false true v e g k h = rw (g, e) h
     at false false v e g k h = rw (g, e) h
 
-pub entry_with_index-from : (i f : ℕ) (es : List EntryIndex) → entry_with_index i (from f es) ≡ cond (ltb i f) None (entry_with_index i es)
+pub entry_with_index-from : (i f : ℕ) (es : List EntryIndex) → entry_at i (from f es) ≡ cond (ltb i f) None (entry_at i es)
 unfolding from
 entry_with_index-from i f [] = either None (ltb i f)
 entry_with_index-from i f (x ∷ es) = at (eqb x.index i) (leb f x.index) (ltb i f) refl refl refl (entry_with_index-from i f es)
   where
-    at : (t u v : Bool) → eqb x.index i ≡ t → leb f x.index ≡ u → ltb i f ≡ v → entry_with_index i (from f es) ≡ cond (ltb i f) None (entry_with_index i es) → entry_with_index i (from f (x ∷ es)) ≡ cond (ltb i f) None (entry_with_index i (x ∷ es))
+    at : (t u v : Bool) → eqb x.index i ≡ t → leb f x.index ≡ u → ltb i f ≡ v → entry_at i (from f es) ≡ cond (ltb i f) None (entry_at i es) → entry_at i (from f (x ∷ es)) ≡ cond (ltb i f) None (entry_at i (x ∷ es))
     at true true true e g k h = absurd (grind (arith, nat_tests))
     at true true false e g k h = rw (g, e, k) refl
     at true false true e g k h = rw (g, k) (rw k at h)
@@ -53,10 +53,10 @@ entry_with_index-from i f (x ∷ es) = at (eqb x.index i) (leb f x.index) (ltb i
 pub run_stands : (es run : List EntryIndex) → IsRun run → StandsBehind es run (below (start_of run) es ++ run)
 run_stands es run r = λ i. at i (ltb i (start_of run)) refl
   where
-    at : (i : ℕ) (t : Bool) → ltb i (start_of run) ≡ t → entry_with_index i (below (start_of run) es ++ run) ≡ cond (ltb i (start_of run)) (entry_with_index i es) (entry_with_index i run)
+    at : (i : ℕ) (t : Bool) → ltb i (start_of run) ≡ t → entry_at i (below (start_of run) es ++ run) ≡ cond (ltb i (start_of run)) (entry_at i es) (entry_at i run)
     at i true e =
-        let low : entry_with_index i run ≡ None = entry_at_low i (start_of run) run (grind (arith, nat_tests)) (RisesFrom-start r.start run r.rising) in
-        entry_with_index-append i (below (start_of run) es) run ∙ rw (entry_with_index-below i (start_of run) es, low, e) (none_behind (entry_with_index i es))
+        let low : entry_at i run ≡ None = entry_at_low i (start_of run) run (grind (arith, nat_tests)) (RisesFrom-start r.start run r.rising) in
+        entry_with_index-append i (below (start_of run) es) run ∙ rw (entry_with_index-below i (start_of run) es, low, e) (none_behind (entry_at i es))
       where
         none_behind : {X : Type 0} (o : Option X) → option_or o None ≡ o
         none_behind None = refl

@@ -18,7 +18,7 @@ use Rattle.raft_table.specs.Entries.{RisesFrom, IsRun, end_of, below, from}
 use Rattle.raft_table.specs.KeySets.{KeySet, without}
 use Rattle.raft_table.specs.KeyValues.{Keys, Stored, overlaid}
 use Rattle.raft_table.specs.MarkMerge.{left_by, IsFaultUnder}
-use Rattle.raft_table.specs.Marks.{Mark, part, is_missed, older_entries, is_meeting_refused, entries_over, keys_over, atomic_group_over, table_over}
+use Rattle.raft_table.specs.Marks.{Mark, part, is_missed, older_entries, is_first_run_refused, entries_over, keys_over, atomic_group_over, table_over}
 use Rattle.raft_table.specs.Merge.{after_join, newer_atomic_group, with_newer_atomic_group, IsTableMergeFault}
 use Rattle.raft_table.specs.Start.{leaves_hole, replayed}
 use Rattle.raft_table.specs.Table.{Table, empty_table, live_of}
@@ -63,11 +63,11 @@ replayed_run q a (e ∷ b) r = go q (meets a r)
     go Rewrite h = rw (h.0, h.1) refl
 
 -- what is left, and the own entries behind it, are those over the older ones
-left_entries : (q : LogQueue) (m : Mark) (own older : Table) → is_meeting_refused q m older.entries ≡ false
+left_entries : (q : LogQueue) (m : Mark) (own older : Table) → is_first_run_refused q m older.entries ≡ false
     → entries_over q m own.entries older.entries ≡ Some ((left_by (is_missed m older.entries) m older).entries ++ own.entries)
 left_entries q m own older e = rw e (ap (λ x. Some x) (go m.cleaned q e))
   where
-    go : (b : Bool) (q : LogQueue) → is_meeting_refused q m older.entries ≡ false
+    go : (b : Bool) (q : LogQueue) → is_first_run_refused q m older.entries ≡ false
         → cond b own.entries (older_entries q m older.entries ++ own.entries) ≡ cond b [] (cond (is_missed m older.entries) [] (part m.floor m.cut older.entries)) ++ own.entries
     go true q e = refl
     go false Append e = rw e refl
@@ -80,7 +80,7 @@ whole_keys t = same_keys _ _ (λ q. get-overlaid t finite.empty q ∙ ap (option
     either None = refl
     either (Some s) = refl
 
-pub over_left : (q : LogQueue) (m : Mark) (own older : Table) → is_meeting_refused q m older.entries ≡ false → ((es : List EntryIndex) → entries_over q m own.entries older.entries ≡ Some es → IsRun es)
+pub over_left : (q : LogQueue) (m : Mark) (own older : Table) → is_first_run_refused q m older.entries ≡ false → ((es : List EntryIndex) → entries_over q m own.entries older.entries ≡ Some es → IsRun es)
     → let left = left_by (is_missed m older.entries) m older in
     let es = left.entries ++ own.entries in
     (after_join q left own ≡ Some (record left { entries = es; keys = overlaid own.keys left.keys }))

@@ -2,12 +2,12 @@
 use Rattle.std.specs.Prelude.{◌≡◌, ℕ, ◌+◌, ◌<◌, ◌≤◌, List, [], ◌∷◌, ◌++◌, length, take, drop, map, slice_index_or, if◌then◌else◌}
 use Rattle.raft_base.specs.declared.pipe_log.LogQueue.TheVariants.{Rewrite}
 use Rattle.raft_records.specs.declared.entry_index.EntryIndex.{EntryIndex}
-use Rattle.raft_table.specs.Blocks.{Stretch, expanded, AreStretches}
+use Rattle.raft_table.specs.Blocks.{BlockSpans, expanded, AreDistinctBlocks}
 use Rattle.raft_table.specs.Entries.{AreTableEntries, entry_count}
 use Rattle.raft_table.specs.Fetches.{is_same_block}
 
 -- how many entries blocks have
-abbrev pub count : List Stretch → ℕ
+abbrev pub count : List BlockSpans → ℕ
 count [] = 0
 count (b ∷ bs) = length b.spans + count bs
 
@@ -16,50 +16,50 @@ abbrev pub spans_of : List EntryIndex → List (ℕ × ℕ)
 spans_of es = map (λ e. (e.entry_offset, e.entry_len)) es
 
 -- the first index of each block
-abbrev pub starts_of : ℕ → List Stretch → List ℕ
+abbrev pub starts_of : ℕ → List BlockSpans → List ℕ
 starts_of i [] = []
 starts_of i (b ∷ bs) = i ∷ starts_of (i + length b.spans) bs
 
 -- what a table keeps: sound entries in longest stretches, their first indexes, and how many are rewritten
-pub record AreKept (i n : ℕ) (bs : List Stretch) (ss : List ℕ) (r : ℕ) : Type 0 where
+pub record AreKept (i n : ℕ) (bs : List BlockSpans) (ss : List ℕ) (r : ℕ) : Type 0 where
   pub sound : AreTableEntries (expanded i bs)
-  pub stretches : AreStretches bs
+  pub distinct : AreDistinctBlocks bs
   pub starts : ss ≡ starts_of i bs
   pub len : n ≡ count bs
   pub rewritten : r ≡ entry_count Rewrite (expanded i bs)
 
 -- the first entries of a block
-abbrev pub shortened : ℕ → Stretch → Stretch
+abbrev pub shortened : ℕ → BlockSpans → BlockSpans
 shortened m b = record b { spans = take m b.spans }
 
 -- a block without its first entries
-abbrev pub advanced : ℕ → Stretch → Stretch
+abbrev pub advanced : ℕ → BlockSpans → BlockSpans
 advanced m b = record b { spans = drop m b.spans }
 
 -- a block with more entries behind
-abbrev pub lengthened : Stretch → List (ℕ × ℕ) → Stretch
+abbrev pub lengthened : BlockSpans → List (ℕ × ℕ) → BlockSpans
 lengthened b more = record b { spans = b.spans ++ more }
 
 -- blocks, of the last of which so many entries
-abbrev pub cut_last : ℕ → List Stretch → List Stretch
+abbrev pub cut_last : ℕ → List BlockSpans → List BlockSpans
 cut_last m [] = []
 cut_last m (b ∷ []) = shortened m b ∷ []
 cut_last m (b ∷ c ∷ bs) = b ∷ cut_last m (c ∷ bs)
 
 -- blocks, the first of which without so many entries
-abbrev pub cut_first : ℕ → List Stretch → List Stretch
+abbrev pub cut_first : ℕ → List BlockSpans → List BlockSpans
 cut_first m [] = []
 cut_first m (b ∷ bs) = advanced m b ∷ bs
 
 -- blocks behind others: the two that meet are one where they have the same handle
-abbrev pub joined : List Stretch → List Stretch → List Stretch
-joined [] cs = cs
-joined (b ∷ []) [] = b ∷ []
-joined (b ∷ []) (c ∷ cs) = if is_same_block b.handle c.handle then lengthened b c.spans ∷ cs else b ∷ c ∷ cs
-joined (b ∷ d ∷ bs) cs = b ∷ joined (d ∷ bs) cs
+abbrev pub joined_blocks : List BlockSpans → List BlockSpans → List BlockSpans
+joined_blocks [] cs = cs
+joined_blocks (b ∷ []) [] = b ∷ []
+joined_blocks (b ∷ []) (c ∷ cs) = if is_same_block b.handle c.handle then lengthened b c.spans ∷ cs else b ∷ c ∷ cs
+joined_blocks (b ∷ d ∷ bs) cs = b ∷ joined_blocks (d ∷ bs) cs
 
 -- how many blocks fewer that are
-abbrev pub seam : List Stretch → List Stretch → ℕ
+abbrev pub seam : List BlockSpans → List BlockSpans → ℕ
 seam [] cs = 0
 seam (b ∷ []) [] = 0
 seam (b ∷ []) (c ∷ cs) = if is_same_block b.handle c.handle then 1 else 0
@@ -67,10 +67,10 @@ seam (b ∷ d ∷ bs) cs = seam (d ∷ bs) cs
 
 -- an index at which the blocks with these first indexes have an entry
 abbrev pub IsIndexOf : List ℕ → ℕ → Type 0
-IsIndexOf ss x = (i : ℕ) × (bs : List Stretch) × (ss ≡ starts_of i bs) × (i ≤ x) × (x < i + count bs)
+IsIndexOf ss x = (i : ℕ) × (bs : List BlockSpans) × (ss ≡ starts_of i bs) × (i ≤ x) × (x < i + count bs)
 
 -- the entry behind the first p ones stands in the block behind the first k ones, behind so many of its entries
-pub record IsAt (p : ℕ) (bs : List Stretch) (k o : ℕ) : Type 0 where
+pub record IsAt (p : ℕ) (bs : List BlockSpans) (k o : ℕ) : Type 0 where
   pub block : k < length bs
   pub place : count (take k bs) + o ≡ p
-  pub inside : (d : Stretch) → o < length (slice_index_or bs k d).spans
+  pub inside : (d : BlockSpans) → o < length (slice_index_or bs k d).spans

@@ -6,17 +6,17 @@ use Rattle.raft_records.specs.declared.entry_index.EntryIndex.{EntryIndex}
 use Rattle.raft_table.specs.declared.memtable.block.Block.{Block}
 
 -- a block as its handle, and the offset and the length of each of its entries in order
-pub record Stretch : Type 0 where
+pub record BlockSpans : Type 0 where
   pub handle : FileBlockHandle
   pub spans : List (ℕ × ℕ)
 
 -- what a block holds
-abbrev pub stretch_of : Block → Stretch
-stretch_of b = record { handle = b.handle; spans = b.spans.items }
+abbrev pub block_spans : Block → BlockSpans
+block_spans b = record { handle = b.handle; spans = b.spans.items }
 
 -- what each of some blocks holds
-abbrev pub shown : List Block → List Stretch
-shown bs = map stretch_of bs
+abbrev pub shown : List Block → List BlockSpans
+shown bs = map block_spans bs
 
 -- the entries of one block, from an index on
 abbrev pub spread : ℕ → FileBlockHandle → List (ℕ × ℕ) → List EntryIndex
@@ -24,16 +24,16 @@ spread i handle [] = []
 spread i handle (s ∷ ss) = record { index = i; entries = Some handle; compression_type = compression.None; entry_offset = s.0; entry_len = s.1 } ∷ spread (suc i) handle ss
 
 -- the entries of blocks in order, from an index on
-abbrev pub expanded : ℕ → List Stretch → List EntryIndex
+abbrev pub expanded : ℕ → List BlockSpans → List EntryIndex
 expanded i [] = []
 expanded i (b ∷ bs) = spread i b.handle b.spans ++ expanded (i + length b.spans) bs
 
 -- whether a block's handle differs from that of the next one, if there is one
-abbrev pub Differs : Stretch → List Stretch → Type 0
+abbrev pub Differs : BlockSpans → List BlockSpans → Type 0
 Differs b [] = Unit {0}
 Differs b (c ∷ bs) = b.handle ≢ c.handle
 
 -- no block is empty, and neighbours differ in their handle
-abbrev pub AreStretches : List Stretch → Type 0
-AreStretches [] = Unit {0}
-AreStretches (b ∷ bs) = (0 < length b.spans) × Differs b bs × AreStretches bs
+abbrev pub AreDistinctBlocks : List BlockSpans → Type 0
+AreDistinctBlocks [] = Unit {0}
+AreDistinctBlocks (b ∷ bs) = (0 < length b.spans) × Differs b bs × AreDistinctBlocks bs

@@ -69,12 +69,12 @@ pub record AreTableEntries (es : List EntryIndex) : Type 0 where
   pub bounded : end_of es < 2 ^ 64
 
 -- the entry with this index
-abbrev pub entry_with_index : ℕ → List EntryIndex → Option EntryIndex
-entry_with_index i es = find (λ e. e.index == i) es
+abbrev pub entry_at : ℕ → List EntryIndex → Option EntryIndex
+entry_at i es = find (λ e. e.index == i) es
 
 -- what stands behind a run: below its first index the old entries, from it on the run's
 abbrev pub StandsBehind : List EntryIndex → List EntryIndex → List EntryIndex → Type 0
-StandsBehind old run new = (i : ℕ) → entry_with_index i new ≡ (if nat_lt i (start_of run) then entry_with_index i old else entry_with_index i run)
+StandsBehind old run new = (i : ℕ) → entry_at i new ≡ (if nat_lt i (start_of run) then entry_at i old else entry_at i run)
 
 -- how many entries have their place in a queue
 abbrev pub entry_count : LogQueue → List EntryIndex → ℕ

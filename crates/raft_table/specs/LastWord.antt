@@ -4,7 +4,7 @@ use Rattle.std.specs.Option.{option_or, option_and_then}
 use Rattle.std.specs.Ordering.{nat_cmp, eq_by_cmp}
 use Rattle.std.specs.Cmp.Lexicographic.{slice_cmp}
 use Rattle.raft_records.specs.declared.entry_index.EntryIndex.{EntryIndex}
-use Rattle.raft_table.specs.Entries.{entry_with_index}
+use Rattle.raft_table.specs.Entries.{entry_at}
 use Rattle.raft_table.specs.KeyValues.{Stored}
 use Rattle.raft_table.specs.Steps.{Step, Run, Compact, Put, Del, AtomicGroup, Clean}
 
@@ -25,7 +25,7 @@ speaks_of_index i _ = false
 
 -- a run says that its own entry stands there, if it has one; the others that none does
 abbrev pub said_of_index : ℕ → Step → Option EntryIndex
-said_of_index i (Run run) = entry_with_index i run
+said_of_index i (Run run) = entry_at i run
 said_of_index i _ = None
 
 -- the entry that stands at an index, by the last step that speaks of it

@@ -10,10 +10,10 @@ use Rattle.raft_table.specs.Steps.{Step, Run, Compact, Put, Del, AtomicGroup, Cl
 use Rattle.raft_table.specs.Table.{Table, empty_table, table_with_entries, with_pair, with_atomic_group}
 
 -- the lesser of two bounds
-abbrev pub least_of : Option ℕ → Option ℕ → Option ℕ
-least_of None d = d
-least_of (Some c) None = Some c
-least_of (Some c) (Some d) = Some (min c d)
+abbrev pub lesser : Option ℕ → Option ℕ → Option ℕ
+lesser None d = d
+lesser (Some c) None = Some c
+lesser (Some c) (Some d) = Some (min c d)
 
 -- the keys that two neighbours delete
 abbrev pub joined_deleted : Mark → Mark → KeySet
@@ -21,7 +21,7 @@ joined_deleted m n = if n.cleaned then n.deleted else finset.union m.deleted n.d
 
 -- the older mark has no run
 abbrev pub joined_first : Mark → Mark → Mark
-joined_first m n = record { cleaned = n.cleaned; reach = n.reach; reach_floor = if is_some n.reach then max m.floor n.reach_floor else m.reach_floor; floor = max m.floor n.floor; cut = least_of m.cut n.cut; deleted = joined_deleted m n }
+joined_first m n = record { cleaned = n.cleaned; reach = n.reach; reach_floor = if is_some n.reach then max m.floor n.reach_floor else m.reach_floor; floor = max m.floor n.floor; cut = lesser m.cut n.cut; deleted = joined_deleted m n }
 
 -- where the older entries begin that stay: in the rewrite queue a hole drops all below the cut
 abbrev pub joined_floor : LogQueue → Bool → ℕ → ℕ → ℕ
@@ -30,7 +30,7 @@ joined_floor Rewrite missed floor cut = if missed then max floor cut else floor
 
 -- the older mark has a run and the cut c; the part of its table that the newer first run meets ends at x
 abbrev pub joined_later : LogQueue → ℕ → ℕ → Mark → Mark → Mark
-joined_later queue c x m n = record { cleaned = n.cleaned; reach = m.reach; reach_floor = m.reach_floor; floor = joined_floor queue (misses n.reach x) (max m.floor n.floor) c; cut = least_of (Some c) n.cut; deleted = joined_deleted m n }
+joined_later queue c x m n = record { cleaned = n.cleaned; reach = m.reach; reach_floor = m.reach_floor; floor = joined_floor queue (misses n.reach x) (max m.floor n.floor) c; cut = lesser (Some c) n.cut; deleted = joined_deleted m n }
 
 -- by whether the older mark has a run
 abbrev pub joined_live : Option ℕ → Option ℕ → LogQueue → ℕ → Mark → Mark → Mark
@@ -43,12 +43,12 @@ abbrev pub joined_at : LogQueue → ℕ → Mark → Mark → Mark
 joined_at queue x m n = if m.cleaned then m else joined_live m.reach m.cut queue x m n
 
 -- where the part of an older table ends that the first run of a mark meets
-abbrev pub met : Mark → Table → ℕ
-met n older = end_of (from n.reach_floor older.entries)
+abbrev pub end_at_reach : Mark → Table → ℕ
+end_at_reach n older = end_of (from n.reach_floor older.entries)
 
 -- the older mark m with its own table, and the newer mark n
-abbrev pub joined : LogQueue → ℕ → Mark → Option Table → Mark → Mark
-joined queue id m own n = joined_at queue (met n (table_of id own)) m n
+abbrev pub joined_mark : LogQueue → ℕ → Mark → Option Table → Mark → Mark
+joined_mark queue id m own n = joined_at queue (end_at_reach n (table_of id own)) m n
 
 -- whether newer steps leave a mark as it is: the region was cleaned (or no steps give such a mark)
 abbrev pub is_settled : Mark → Bool

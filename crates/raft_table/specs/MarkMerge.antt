@@ -7,19 +7,19 @@ use Rattle.raft_base.specs.declared.pipe_log.LogQueue.{LogQueue}
 use Rattle.raft_records.specs.declared.entry_index.EntryIndex.{EntryIndex}
 use Rattle.raft_table.specs.Entries.{IsRun}
 use Rattle.raft_table.specs.Counts.{Counts, live}
-use Rattle.raft_table.specs.Marks.{Mark, part, is_meeting_refused, entries_over}
+use Rattle.raft_table.specs.Marks.{Mark, part, is_first_run_refused, entries_over}
 use Rattle.raft_table.specs.KeySets.{without}
 use Rattle.raft_table.specs.Table.{Table, live_of}
 
 -- why a meeting is refused: it is, or want of memory for the refusal's text
-abbrev pub IsMeetingFault : Bool → Error → Type 0
-IsMeetingFault refused (errors.Corruption text) = refused ≡ true
-IsMeetingFault refused errors.Memory = Unit {0}
-IsMeetingFault refused _ = ⊥
+abbrev pub IsFirstRunFault : Bool → Error → Type 0
+IsFirstRunFault refused (errors.Corruption text) = refused ≡ true
+IsFirstRunFault refused errors.Memory = Unit {0}
+IsFirstRunFault refused _ = ⊥
 
 -- why a table is refused over an older one: the meeting of its first run is, the live number of a queue and its records there would pass 2^64 - 1, or want of memory
 abbrev pub IsFaultUnder : LogQueue → Counts → Mark → Table → Table → Error → Type 0
-IsFaultUnder queue counts m own older (errors.Corruption text) = is_meeting_refused queue m older.entries ≡ true
+IsFaultUnder queue counts m own older (errors.Corruption text) = is_first_run_refused queue m older.entries ≡ true
 IsFaultUnder queue counts m own older errors.Full = (q : LogQueue) × (2 ^ 64 ≤ live q counts + live_of q own)
 IsFaultUnder queue counts m own older errors.Memory = Unit {0}
 IsFaultUnder queue counts m own older _ = ⊥

@@ -45,13 +45,13 @@ older_entries Append m older = part m.floor m.cut older
 older_entries Rewrite m older = if is_missed m older then [] else part m.floor m.cut older
 
 -- whether the meeting of the first run is refused
-abbrev pub is_meeting_refused : LogQueue → Mark → List EntryIndex → Bool
-is_meeting_refused Append m older = is_missed m older
-is_meeting_refused Rewrite m older = false
+abbrev pub is_first_run_refused : LogQueue → Mark → List EntryIndex → Bool
+is_first_run_refused Append m older = is_missed m older
+is_first_run_refused Rewrite m older = false
 
 -- own entries over older ones; none where the meeting is refused
 abbrev pub entries_over : LogQueue → Mark → List EntryIndex → List EntryIndex → Option (List EntryIndex)
-entries_over queue m own older = if is_meeting_refused queue m older then None else Some (if m.cleaned then own else older_entries queue m older ++ own)
+entries_over queue m own older = if is_first_run_refused queue m older then None else Some (if m.cleaned then own else older_entries queue m older ++ own)
 
 -- own pairs over older ones
 abbrev pub keys_over : Mark → Keys → Keys → Keys
@@ -75,18 +75,18 @@ abbrev pub applied : LogQueue → ℕ → Mark → Option Table → Option Table
 applied queue id m own older = there_if (is_there_over m own older) (table_over queue m (table_of id own) (table_of id older))
 
 -- what the laws need beside the meaning: without a run there are no own entries; behind one nothing older stands at or above the cut, and the own entries reach it
-abbrev pub FitsCut : Option ℕ → Option ℕ → ℕ → List EntryIndex → Type 0
-FitsCut None None floor own = own ≡ []
-FitsCut None (Some cut) floor own = ⊥
-FitsCut (Some reach) None floor own = ⊥
-FitsCut (Some reach) (Some cut) floor own = (cut ≤ floor) ⊎ (cut < end_of own)
+abbrev pub ReachesCut : Option ℕ → Option ℕ → ℕ → List EntryIndex → Type 0
+ReachesCut None None floor own = own ≡ []
+ReachesCut None (Some cut) floor own = ⊥
+ReachesCut (Some reach) None floor own = ⊥
+ReachesCut (Some reach) (Some cut) floor own = (cut ≤ floor) ⊎ (cut < end_of own)
 
 -- the same of a mark and own entries, where the region was not cleaned
-abbrev pub FitsMark : Mark → List EntryIndex → Type 0
-FitsMark m own = m.cleaned ≡ false → FitsCut m.reach m.cut m.floor own
+abbrev pub OwnReachCut : Mark → List EntryIndex → Type 0
+OwnReachCut m own = m.cleaned ≡ false → ReachesCut m.reach m.cut m.floor own
 
 -- the mark and the own table stand for the steps: over every older table the steps give what the mark says, or both are refused
 pub record Stands (queue : LogQueue) (id : ℕ) (m : Mark) (own : Option Table) (ss : List Step) : Type 0 where
   pub own_table : IsTableOf id (table_of id own)
-  pub fits : FitsMark m (table_of id own).entries
+  pub fits : OwnReachCut m (table_of id own).entries
   pub every : (older : Option Table) → IsTableOf id (table_of id older) → after queue id older ss ≡ applied queue id m own older

@@ -8,9 +8,8 @@ use Rattle.raft_records.specs.declared.entry_index.EntryIndex.{EntryIndex}
 use Rattle.raft_table.specs.Counts.{Counts, live}
 use Rattle.raft_table.specs.Entries.{end_of}
 use Rattle.raft_table.specs.KeySets.{KeySet, without}
-use Rattle.raft_table.specs.KeyValues.{overlaid}
+use Rattle.raft_table.specs.KeyValues.{overlaid, lesser}
 use Rattle.raft_table.specs.Marks.{Mark, part}
-use Rattle.raft_table.specs.MarkJoins.{least_of}
 use Rattle.raft_table.specs.Steps.{Step, Run, Compact, Put, Del, AtomicGroup, Clean, table_of}
 use Rattle.raft_table.specs.Table.{Table, live_of}
 
@@ -29,7 +28,7 @@ greatest_compaction (_ ∷ ss) = greatest_compaction ss
 -- the least start of a run
 abbrev pub least_start : List Step → Option ℕ
 least_start [] = None
-least_start (Run (e ∷ run) ∷ ss) = least_of (Some e.index) (least_start ss)
+least_start (Run (e ∷ run) ∷ ss) = lesser (Some e.index) (least_start ss)
 least_start (_ ∷ ss) = least_start ss
 
 -- the keys deleted since the last clean, beside some before

@@ -24,12 +24,12 @@ may_move (Some gate) e = is_placed_before gate e
 may_move None e = is_placed_in Rewrite e
 
 -- the entries at the indexes that a run spans
-abbrev pub meeting : List EntryIndex → List EntryIndex → List EntryIndex
-meeting run es = from (start_of run) (below (end_of run) es)
+abbrev pub overlap : List EntryIndex → List EntryIndex → List EntryIndex
+overlap run es = from (start_of run) (below (end_of run) es)
 
 -- how many places move: the longest front of the meeting ones that may
 abbrev pub moved_count : Option ℕ → List EntryIndex → List EntryIndex → ℕ
-moved_count gate run es = prefix_len (may_move gate) (meeting run es)
+moved_count gate run es = prefix_len (may_move gate) (overlap run es)
 
 -- refused with more entries below the run than are rewritten, and with a gate also with fewer
 abbrev pub is_misplaced : Option ℕ → ℕ → ℕ → Bool
@@ -46,7 +46,7 @@ rewritten_from gate run es (e ∷ met) = if is_misplaced gate (length (below e.i
 
 -- the entries after a rewriting to the places of a run of the rewrite queue; none where it is refused
 abbrev pub rewritten : Option ℕ → List EntryIndex → List EntryIndex → Option (List EntryIndex)
-rewritten gate run es = rewritten_from gate run es (meeting run es)
+rewritten gate run es = rewritten_from gate run es (overlap run es)
 
 -- the counts after a rewriting by n entries that moved m places: n more are written; with a gate m appended ones are gone and the others of the n deleted again, without one all n
 abbrev pub with_rewritten : Option ℕ → ℕ → ℕ → Counts → Counts

@@ -3,8 +3,8 @@
 ghost use Rattle.std.specs.Prelude.{◌≡◌, ◌≢◌, ◌+◌, ◌≤◌, ◌^◌, false, length, MatchOption, OnOk, OnErr, IfErr, IfOk, Some, [], option_map, MatchBool};
 ghost use Rattle.raft_base.specs.declared.pipe_log.LogQueue.{LogQueue};
 ghost use Rattle.raft_base.specs.declared.pipe_log.LogQueue.TheVariants.{Append, Rewrite};
-ghost use Rattle.raft_table.specs.Entries.{IsRunIn, AreTableEntries, start_of, end_of, entry_with_index, entry_count, below};
-ghost use Rattle.raft_table.specs.Blocks.{shown, expanded, AreStretches};
+ghost use Rattle.raft_table.specs.Entries.{IsRunIn, AreTableEntries, start_of, end_of, entry_at, entry_count, below};
+ghost use Rattle.raft_table.specs.Blocks.{shown, expanded, AreDistinctBlocks};
 ghost use Rattle.raft_table.specs.Counts.{Counts, live, with_added};
 ghost use Rattle.raft_table.specs.KeyValues.{value_at, file_at, file_weight};
 ghost use Rattle.raft_table.specs.Table.{empty_table, live_of, IsCounted, IsRecounted, after_append, after_replay, after_rewrite, after_rewrite_key, compacted, with_pair, without_key, with_atomic_group, table_with_entries, table_with_keys, with_pair_deleted, with_rewritten_key, MovesKeyAlone, leaves_append, IsTablePutFault, IsKeyRewriteFault};
@@ -128,7 +128,7 @@ impl MemTable {
     /// different blocks of the files.
     pub fn blocks(&self) -> &VecDeque<Block>
         ensures entries { expanded (start_of self.now.entries) (shown result.now.items) ≡ self.now.entries }
-        ensures stretches { AreStretches (shown result.now.items) }
+        ensures distinct { AreDistinctBlocks (shown result.now.items) }
     {
         self.entries.blocks()
     }
@@ -149,7 +149,7 @@ impl MemTable {
 
     /// The place of the entry with this index.
     pub fn get_entry(&self, index: u64) -> Option<EntryIndex>
-        ensures { result ≡ entry_with_index index self.now.entries }
+        ensures { result ≡ entry_at index self.now.entries }
     {
         self.entries.get(index)
     }

@@ -4,7 +4,7 @@ ghost use Rattle.std.specs.Prelude.{◌≡◌, ◌⊎◌, ℕ, List, IfOk, Some}
 ghost use Rattle.raft_table.specs.Entries.{IsRunIn, end_of};
 ghost use Rattle.raft_table.specs.KeyValues.{file_at};
 ghost use Rattle.raft_table.specs.Table.{after_replay, compacted, with_pair, without_key, IsTablePutFault, IsCounted};
-ghost use Rattle.raft_memtable.specs.Accessor.{table_in, AreCounted};
+ghost use Rattle.raft_memtable.specs.Accessor.{table_in, AreCountsOf};
 ghost use Rattle.raft_memtable.specs.AccessorCalls.{IsTableChanged};
 ghost use Rattle.raft_memtable.specs.Updates.{IsTaken, IsReplayFault};
 
@@ -24,7 +24,7 @@ impl MemTableAccessor {
         requires { IsRunIn queue run.items }
         ensures changed { IsTableChanged (after_replay queue (table_in self.old.tables id) run.items) (IsReplayFault queue run.items (table_in self.old.tables id) self.old.counts) id result self.old self.new }
         ensures end { IfOk result (λ end. end ≡ end_of (table_in self.old.tables id).entries) }
-        ensures counted { AreCounted self.old.tables self.old.counts }
+        ensures counted { AreCountsOf self.old.tables self.old.counts }
     {
         self.slots[slot_of(id)].replay_run_behind(queue, id, run, &mut self.stats)
     }
@@ -39,7 +39,7 @@ impl MemTableAccessor {
     /// Puts a key.
     pub(crate) fn put(&mut self, id: u64, key: Vec<u8>, value: Vec<u8>, file: FileId) -> Result<()>
         ensures changed { IsTableChanged (Some (with_pair (table_in self.old.tables id) key.items value.items file)) (IsTablePutFault file.queue self.old.counts (file_at (table_in self.old.tables id).keys key.items)) id result self.old self.new }
-        ensures counted { AreCounted self.old.tables self.old.counts }
+        ensures counted { AreCountsOf self.old.tables self.old.counts }
     {
         self.slots[slot_of(id)].put(id, key, value, file, &mut self.stats)
     }

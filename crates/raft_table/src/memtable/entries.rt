@@ -1,9 +1,9 @@
 //! The entries of a region, in order of index.
 
 ghost use Rattle.std.specs.Prelude.{◌≡◌, ◌≢◌, ◌+◌, ◌<◌, ◌≤◌, [], length, take, drop, MatchOption, IfOk, IfErr};
-ghost use Rattle.raft_table.specs.Blocks.{shown, expanded, AreStretches};
+ghost use Rattle.raft_table.specs.Blocks.{shown, expanded, AreDistinctBlocks};
 ghost use Rattle.raft_table.specs.Start.{counts_without, IsCorruptionError, IsInvalidArgument};
-ghost use Rattle.raft_table.specs.Entries.{AreTableEntries, start_of, end_of, entry_with_index, entry_count, below, from, AreCounted, AreRecounted};
+ghost use Rattle.raft_table.specs.Entries.{AreTableEntries, start_of, end_of, entry_at, entry_count, below, from, AreCounted, AreRecounted};
 ghost use Rattle.raft_base.specs.declared.pipe_log.LogQueue.TheVariants.{Rewrite};
 
 mod cuts;
@@ -48,7 +48,7 @@ enum Start {
 
 /// Where the indexes of a run meet those of a table.
 #[derive(Clone, Copy)]
-struct Meeting {
+struct Overlap {
     /// How many of the table's entries stand below the first that meets.
     at: usize,
     /// How many of the run's stand below it.
@@ -95,7 +95,7 @@ impl Entries {
     /// The blocks that are kept.
     pub fn blocks(&self) -> &VecDeque<Block>
         ensures entries { expanded (start_of self.now) (shown result.now.items) ≡ self.now }
-        ensures stretches { AreStretches (shown result.now.items) }
+        ensures distinct { AreDistinctBlocks (shown result.now.items) }
     {
         &self.blocks
     }
@@ -155,7 +155,7 @@ impl Entries {
 
     /// The entry with this index.
     pub fn get(&self, index: u64) -> Option<EntryIndex>
-        ensures { result ≡ entry_with_index index self.now }
+        ensures { result ≡ entry_at index self.now }
     {
         if index < self.first {
             return None;

@@ -5,11 +5,11 @@ ghost use Rattle.std.specs.FinSet as finset;
 ghost use Rattle.raft_base.specs.declared.pipe_log.LogQueue.{LogQueue};
 ghost use Rattle.raft_base.specs.declared.pipe_log.LogQueue.TheVariants.{Append, Rewrite};
 ghost use Rattle.raft_records.specs.declared.entry_index.EntryIndex.{EntryIndex};
-ghost use Rattle.raft_table.specs.Entries.{IsRun, IsRunIn, StandsBehind, start_of, end_of, entry_with_index, from};
+ghost use Rattle.raft_table.specs.Entries.{IsRun, IsRunIn, StandsBehind, start_of, end_of, entry_at, from};
 ghost use Rattle.std.specs.FinMap as finite;
 ghost use Rattle.raft_table.specs.LastWord.{last_entry, last_pair};
 ghost use Rattle.raft_table.specs.Marks.{Mark, Stands, applied};
-ghost use Rattle.raft_table.specs.MarkJoins.{joined, mark_of, own_of};
+ghost use Rattle.raft_table.specs.MarkJoins.{joined_mark, mark_of, own_of};
 ghost use Rattle.raft_table.specs.Overlay.{HoldsDeleted, IsExactMark, deleted_of, overlay, overlay_under};
 ghost use Rattle.raft_table.specs.Steps.{Step, IsStep, AreSteps, IsTableOf, table_of, after};
 ghost use Rattle.raft_table.specs.Table.{Table};
@@ -29,7 +29,7 @@ pub fn entries_stand_by_index()
     ensures hole { (es run after : List EntryIndex) → leaves_hole (end_of es) (start_of run) ≡ true
         → replayed Rewrite es run ≡ Some after → after ≡ run }
     ensures compacted { (index i : ℕ) (es : List EntryIndex)
-        → entry_with_index i (from index es) ≡ (if nat_lt i index then None else entry_with_index i es) }
+        → entry_at i (from index es) ≡ (if nat_lt i index then None else entry_at i es) }
 {}
 
 /// In the append queue the entry at an index is that of the last of a region's steps that speaks of the
@@ -38,7 +38,7 @@ pub fn entries_stand_by_index()
 /// or a clean.
 pub fn last_words_stand()
     ensures entries { (id i : ℕ) (t : Option Table) (ss : List Step) → AreSteps ss → after Append id None ss ≡ Some t
-        → entry_with_index i (table_of id t).entries ≡ last_entry i ss }
+        → entry_at i (table_of id t).entries ≡ last_entry i ss }
     ensures keys { (q : LogQueue) (id : ℕ) (key : List ℕ) (t : Option Table) (ss : List Step)
         → after q id None ss ≡ Some t → finite.get (table_of id t).keys key ≡ last_pair key ss }
 {}
@@ -50,13 +50,13 @@ pub fn marks_stand_for_steps()
     ensures one { (q : LogQueue) (id : ℕ) (s : Step) → IsStep s → Stands q id (mark_of s) (own_of id s) (s ∷ []) }
     ensures joins { (q : LogQueue) (id : ℕ) (m n : Mark) (t u w : Option Table) (ss rs : List Step) → AreSteps ss
         → AreSteps rs → Stands q id m t ss → Stands q id n u rs → applied q id n u t ≡ Some w
-        → Stands q id (joined q id m t n) w (ss ++ rs) }
+        → Stands q id (joined_mark q id m t n) w (ss ++ rs) }
     ensures refused { (q : LogQueue) (id : ℕ) (m n : Mark) (t u : Option Table) (ss rs : List Step)
         → Stands q id m t ss → Stands q id n u rs → applied q id n u t ≡ None → after q id None (ss ++ rs) ≡ None }
     ensures alone { (q : LogQueue) (id : ℕ) (m : Mark) (t : Option Table) (ss : List Step) → Stands q id m t ss
         → after q id None ss ≡ Some t }
     ensures deleted { (q : LogQueue) (id : ℕ) (m n : Mark) (t : Option Table) (ss rs : List Step) → Stands q id m t ss
-        → HoldsDeleted m ss → HoldsDeleted n rs → HoldsDeleted (joined q id m t n) (ss ++ rs) }
+        → HoldsDeleted m ss → HoldsDeleted n rs → HoldsDeleted (joined_mark q id m t n) (ss ++ rs) }
     ensures few_deleted { (m : Mark) (ss : List Step) → HoldsDeleted m ss
         → finset.len m.deleted ≤ finset.len (deleted_of finset.empty ss) }
 {}
@@ -66,7 +66,7 @@ pub fn marks_stand_for_steps()
 pub fn overlays_by_marks()
     ensures one { (s : Step) → IsExactMark (mark_of s) (s ∷ []) }
     ensures joins { (id : ℕ) (m n : Mark) (t : Option Table) (ss rs : List Step) → Stands Append id m t ss
-        → IsExactMark m ss → IsExactMark n rs → IsExactMark (joined Append id m t n) (ss ++ rs) }
+        → IsExactMark m ss → IsExactMark n rs → IsExactMark (joined_mark Append id m t n) (ss ++ rs) }
     ensures overlay { (m : Mark) (ss : List Step) (a r : Table) → IsExactMark m ss
         → overlay_under m a r ≡ overlay ss a r }
     ensures run { (id : ℕ) (m : Mark) (a : Option Table) (ss : List Step) (r : Table) → AreSteps ss

@@ -4,7 +4,8 @@ ghost use Rattle.std.specs.Prelude.{◌≡◌, ℕ, ◌<◌, OnOk, OnErr, IfErr,
 ghost use Rattle.std.specs.FinMap as finite;
 ghost use Rattle.raft_base.specs.declared.pipe_log.LogQueue.TheVariants.{Append, Rewrite};
 ghost use Rattle.raft_table.specs.Marks.{misses};
-ghost use Rattle.raft_table.specs.MarkJoins.{fresh, is_settled, mark_of, least_of, met, joined_at, joined_deleted, joined_floor};
+ghost use Rattle.raft_table.specs.MarkJoins.{fresh, is_settled, mark_of, end_at_reach, joined_at, joined_deleted, joined_floor};
+ghost use Rattle.raft_table.specs.KeyValues.{lesser};
 ghost use Rattle.raft_base.specs.declared.pipe_log.LogQueue.{LogQueue};
 ghost use Rattle.raft_table.specs.Steps.{Compact, Del, Clean};
 
@@ -107,8 +108,8 @@ impl Mark {
     /// # Errors
     ///
     /// Where there is no memory for the newer deleted keys.
-    pub fn join(&mut self, queue: LogQueue, met: u64, newer: &mut Mark) -> Result<()>
-        ensures ok { OnOk result (self.new ≡ joined_at queue met self.old newer.old) }
+    pub fn join(&mut self, queue: LogQueue, end_at_reach: u64, newer: &mut Mark) -> Result<()>
+        ensures ok { OnOk result (self.new ≡ joined_at queue end_at_reach self.old newer.old) }
         ensures memory { IfErr result (λ e. e ≡ Error.Memory) }
     {
         if self.cleaned || self.reach.is_some() && self.cut.is_none() {
@@ -118,7 +119,7 @@ impl Mark {
         let floor = self.floor.max(newer.floor);
         match (self.reach, self.cut) {
             (Some(_), Some(cut)) => {
-                self.floor = joined_floor(queue, misses(newer.reach, met), floor, cut);
+                self.floor = joined_floor(queue, misses(newer.reach, end_at_reach), floor, cut);
             }
             (_, _) => {
                 self.reach = newer.reach;
@@ -128,7 +129,7 @@ impl Mark {
                 self.floor = floor;
             }
         }
-        self.cut = least_of(self.cut, newer.cut);
+        self.cut = lesser(self.cut, newer.cut);
         self.cleaned = newer.cleaned;
         Ok(())
     }
@@ -207,7 +208,7 @@ impl Mark {
                 self.floor = joined;
             }
         }
-        self.cut = least_of(self.cut, reach);
+        self.cut = lesser(self.cut, reach);
     }
 
     /// Takes over the keys that the newer steps deleted.
@@ -226,8 +227,8 @@ impl Mark {
 }
 
 /// The lesser of two bounds.
-fn least_of(a: Option<u64>, b: Option<u64>) -> Option<u64>
-    ensures { result ≡ least_of a b }
+fn lesser(a: Option<u64>, b: Option<u64>) -> Option<u64>
+    ensures { result ≡ lesser a b }
 {
     match (a, b) {
         (Some(a), Some(b)) => Some(a.min(b)),

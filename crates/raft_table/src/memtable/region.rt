@@ -4,8 +4,8 @@ ghost use Rattle.std.specs.Prelude.{◌≡◌, ℕ, true, List, [], ◌∷◌, �
 ghost use Rattle.raft_base.specs.declared.pipe_log.LogQueue.{LogQueue};
 ghost use Rattle.raft_base.specs.declared.pipe_log.LogQueue.TheVariants.{Append, Rewrite};
 ghost use Rattle.raft_table.specs.Entries.{IsRunIn};
-ghost use Rattle.raft_table.specs.MarkMerge.{IsFaultUnder, IsMeetingFault, IsRunOver};
-ghost use Rattle.raft_table.specs.Marks.{is_meeting_refused, Stands};
+ghost use Rattle.raft_table.specs.MarkMerge.{IsFaultUnder, IsFirstRunFault, IsRunOver};
+ghost use Rattle.raft_table.specs.Marks.{is_first_run_refused, Stands};
 ghost use Rattle.raft_table.specs.Queues.{other};
 ghost use Rattle.raft_table.specs.Start.{replayed, IsCorruptionError, IsTableRunFault};
 ghost use Rattle.raft_table.specs.Steps.{Step, Run, Del, Clean, AreSteps, table_of, after};
@@ -45,9 +45,9 @@ pub fn join_region(
     ensures recounted { IsRecounted table.old table.new stats.old stats.new }
     ensures regions { (table.new.region_id ≡ table.old.region_id) × (rhs.new.region_id ≡ rhs.old.region_id) }
 {
-    let met = table.met(newer);
+    let end_at_reach = table.end_at_reach(newer);
     table.merge_under(queue, rhs, newer, stats)?;
-    mark.join(queue, met, newer)?;
+    mark.join(queue, end_at_reach, newer)?;
     Ok(())
 }
 
@@ -139,9 +139,9 @@ pub fn join_cleaned(
     ensures refused { (id : ℕ) (own : Option Table) (ss rs : List Step) → table_of id own ≡ table.now
         → Stands queue id mark.old own ss → Stands queue id newer.old None rs
         → IfErr result (λ e. IsCorruptionError e → after queue id None (ss ++ rs) ≡ None) }
-    ensures fault { IfErr result (IsMeetingFault (is_meeting_refused queue newer.old table.now.entries)) }
+    ensures fault { IfErr result (IsFirstRunFault (is_first_run_refused queue newer.old table.now.entries)) }
 {
-    table.check_meeting(queue, newer)?;
-    mark.join(queue, table.met(newer), newer)?;
+    table.check_first_run(queue, newer)?;
+    mark.join(queue, table.end_at_reach(newer), newer)?;
     Ok(())
 }

@@ -11,10 +11,10 @@ ghost use Rattle.raft_base.specs.declared.pipe_log.LogQueue.{LogQueue};
 ghost use Rattle.raft_records.specs.declared.entry_index.EntryIndex.{EntryIndex};
 ghost use Rattle.raft_table.specs.Counts.{Counts, live};
 ghost use Rattle.raft_base.specs.declared.pipe_log.LogQueue.TheVariants.{Append, Rewrite};
-ghost use Rattle.raft_table.specs.Entries.{RisesFrom, IsRunIn, AreTableEntries, start_of, end_of, between, entry_count, entry_with_index};
+ghost use Rattle.raft_table.specs.Entries.{RisesFrom, IsRunIn, AreTableEntries, start_of, end_of, between, entry_count, entry_at};
 ghost use Rattle.raft_table.specs.Fetches.{Found, range_answer, total_len, IsLimitCount, FetchesWithin};
 ghost use Rattle.raft_table.specs.KeyValues.{Keys, value_at, least, overlaid};
-ghost use Rattle.raft_table.specs.Rewriting.{meeting, moved_count, rewritten};
+ghost use Rattle.raft_table.specs.Rewriting.{overlap, moved_count, rewritten};
 ghost use Rattle.raft_table.specs.Scan.{is_between, scanned};
 ghost use Rattle.raft_table.specs.Table.{Table, live_of};
 ghost use Rattle.raft_table.specs.Start.{appended, replayed, IsTableRunFault};
@@ -48,8 +48,8 @@ pub fn tables_add_up()
 #[tactic(auto, using(crate::proofs::SizeLemmas::between_by_index, crate::proofs::SizeLemmas::found_is_whole, crate::proofs::SizeLemmas::unlimited_is_all, crate::proofs::SizeLemmas::first_is_fetched, crate::proofs::SizeLemmas::limit_is_kept, crate::proofs::SizeLemmas::one_limit_count))]
 pub fn fetches_answer_ranges()
     ensures between { (begin end i : ℕ) (es : List EntryIndex)
-        → entry_with_index i (between begin end es)
-        ≡ (if nat_le begin i && nat_lt i end then entry_with_index i es else None) }
+        → entry_at i (between begin end es)
+        ≡ (if nat_le begin i && nat_lt i end then entry_at i es else None) }
     ensures whole { (begin end : ℕ) (es : List EntryIndex) → AreTableEntries es → range_answer begin end es ≡ Found
         → RisesFrom begin (between begin end es) × (begin + length (between begin end es) ≡ end) }
     ensures unlimited { (es old new : List EntryIndex) → FetchesWithin None es old new → new ≡ old ++ es }
@@ -81,9 +81,9 @@ pub fn scans_visit_pairs()
 #[tactic(auto, using(crate::proofs::MovedLemmas::moved_by_index, crate::proofs::MovedLemmas::unmoved))]
 pub fn rewriting_stands_by_index()
     ensures moved { (gate : Option ℕ) (run es after met : List EntryIndex) (e : EntryIndex) (i : ℕ)
-        → IsRunIn Rewrite run → AreTableEntries es → meeting run es ≡ e ∷ met → rewritten gate run es ≡ Some after
-        → entry_with_index i after ≡ (if nat_le e.index i && nat_lt i (e.index + moved_count gate run es) then entry_with_index i run else entry_with_index i es) }
-    ensures apart { (gate : Option ℕ) (run es : List EntryIndex) → meeting run es ≡ []
+        → IsRunIn Rewrite run → AreTableEntries es → overlap run es ≡ e ∷ met → rewritten gate run es ≡ Some after
+        → entry_at i after ≡ (if nat_le e.index i && nat_lt i (e.index + moved_count gate run es) then entry_at i run else entry_at i es) }
+    ensures apart { (gate : Option ℕ) (run es : List EntryIndex) → overlap run es ≡ []
         → rewritten gate run es ≡ Some es }
 {}
 

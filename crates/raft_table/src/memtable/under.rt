@@ -8,9 +8,9 @@ ghost use Rattle.raft_table.specs.Counts.{live};
 ghost use Rattle.raft_table.specs.Entries.{IsRun, IsRunIn, end_of};
 ghost use Rattle.raft_table.specs.KeySets.{without};
 ghost use Rattle.raft_table.specs.KeyValues.{pair_count};
-ghost use Rattle.raft_table.specs.MarkMerge.{IsMeetingFault, IsFaultUnder, IsRunOver, left_by};
-ghost use Rattle.raft_table.specs.Marks.{part, is_missed, is_meeting_refused, table_over};
-ghost use Rattle.raft_table.specs.MarkJoins.{met};
+ghost use Rattle.raft_table.specs.MarkMerge.{IsFirstRunFault, IsFaultUnder, IsRunOver, left_by};
+ghost use Rattle.raft_table.specs.Marks.{part, is_missed, is_first_run_refused, table_over};
+ghost use Rattle.raft_table.specs.MarkJoins.{end_at_reach};
 ghost use Rattle.raft_table.specs.Merge.{newer_atomic_group};
 ghost use Rattle.raft_table.specs.Overlay.{is_short, overlay_under, IsOverlayFault};
 ghost use Rattle.raft_table.specs.Queues.{other};
@@ -27,8 +27,8 @@ use std::mem;
 
 impl MemTable {
     /// Where the part of this table ends that the first run of a newer mark meets.
-    pub fn met(&self, mark: &Mark) -> u64
-        ensures { result ≡ met mark.now self.now }
+    pub fn end_at_reach(&self, mark: &Mark) -> u64
+        ensures { result ≡ end_at_reach mark.now self.now }
     {
         self.entries.end_from(mark.reach_floor())
     }
@@ -66,7 +66,7 @@ impl MemTable {
         if !stats.has_room(rhs, LogQueue::Append) || !stats.has_room(rhs, LogQueue::Rewrite) {
             return Err(Error::Full);
         }
-        self.check_meeting(queue, mark)?;
+        self.check_first_run(queue, mark)?;
         self.drop_older(self.is_missed(mark), mark, stats);
         self.join(queue, rhs, queue, stats)?;
         self.take_atomic_group(rhs);
@@ -188,15 +188,15 @@ impl MemTable {
     fn is_missed(&self, mark: &Mark) -> bool
         ensures { result ≡ is_missed mark.now self.now.entries }
     {
-        mark.misses(self.met(mark))
+        mark.misses(self.end_at_reach(mark))
     }
 
     /// Refuses a newer mark whose first run leaves a hole behind the entries that it meets.
-    pub fn check_meeting(&self, queue: LogQueue, mark: &Mark) -> Result<()>
-        ensures ok { OnOk result (is_meeting_refused queue mark.now self.now.entries ≡ false) }
-        ensures fault { IfErr result (IsMeetingFault (is_meeting_refused queue mark.now self.now.entries)) }
+    pub fn check_first_run(&self, queue: LogQueue, mark: &Mark) -> Result<()>
+        ensures ok { OnOk result (is_first_run_refused queue mark.now self.now.entries ≡ false) }
+        ensures fault { IfErr result (IsFirstRunFault (is_first_run_refused queue mark.now self.now.entries)) }
     {
-        if self.is_meeting_refused(queue, mark) {
+        if self.is_first_run_refused(queue, mark) {
             return Err(
                 self.entries
                     .corruption("a run leaves a hole behind older entries")?,
@@ -206,8 +206,8 @@ impl MemTable {
     }
 
     /// Whether the meeting of a newer mark's first run is refused.
-    fn is_meeting_refused(&self, queue: LogQueue, mark: &Mark) -> bool
-        ensures { result ≡ is_meeting_refused queue mark.now self.now.entries }
+    fn is_first_run_refused(&self, queue: LogQueue, mark: &Mark) -> bool
+        ensures { result ≡ is_first_run_refused queue mark.now self.now.entries }
     {
         match queue {
             LogQueue::Append => self.is_missed(mark),

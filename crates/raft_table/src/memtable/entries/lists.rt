@@ -4,8 +4,8 @@ ghost use Rattle.std.specs.Prelude.{◌≡◌, ◌≢◌, ◌+◌, ◌-◌, ◌�
 ghost use Rattle.std.specs.List.Sorted.{IsNonDecreasingBy};
 ghost use Rattle.std.specs.VecDeque.{deque_len, deque_capacity};
 ghost use Rattle.raft_base.specs.declared.errors.Error.TheVariants.{Memory};
-ghost use Rattle.raft_table.specs.Blocks.{Stretch, stretch_of, shown};
-ghost use Rattle.raft_table.specs.BlockWords.{count, starts_of, cut_last, joined, seam, IsIndexOf, IsAt};
+ghost use Rattle.raft_table.specs.Blocks.{BlockSpans, block_spans, shown};
+ghost use Rattle.raft_table.specs.BlockWords.{count, starts_of, cut_last, joined_blocks, seam, IsIndexOf, IsAt};
 
 use crate::memtable::block::Block;
 use raft_records::{FileBlockHandle, Result};
@@ -25,7 +25,7 @@ pub(super) fn count_at_or_below(starts: &VecDeque<u64>, index: u64) -> usize
 /// stands.
 pub(super) fn find(starts: &VecDeque<u64>, index: u64) -> (usize, usize)
     requires { IsIndexOf starts.now.items index }
-    ensures { (i : ℕ) (bs : List Stretch) → starts.now.items ≡ starts_of i bs → i ≤ index → index < i + count bs → IsAt (index - i) bs result.0 result.1 }
+    ensures { (i : ℕ) (bs : List BlockSpans) → starts.now.items ≡ starts_of i bs → i ≤ index → index < i + count bs → IsAt (index - i) bs result.0 result.1 }
 {
     let last = starts.len() - 1;
     let start = starts[last];
@@ -61,7 +61,7 @@ pub(super) fn put_blocks(
     requires starts { length starts.old.items ≡ length blocks.old.items }
     requires more { (0 < length more.old.items) × (length more_starts.old.items ≡ length more.old.items) }
     ensures blocks { OnOk result (shown blocks.new.items ≡
-        joined (cut_last place.1 (take place.0 (shown blocks.old.items))) (shown more.old.items) ++ drop rest (shown blocks.old.items)) }
+        joined_blocks (cut_last place.1 (take place.0 (shown blocks.old.items))) (shown more.old.items) ++ drop rest (shown blocks.old.items)) }
     ensures starts { OnOk result (starts.new.items ≡ take place.0 starts.old.items
         ++ drop (seam (take place.0 (shown blocks.old.items)) (shown more.old.items)) more_starts.old.items ++ drop rest starts.old.items) }
     ensures emptied { OnOk result ((more.new.items ≡ []) × (more_starts.new.items ≡ [])) }
@@ -89,7 +89,7 @@ fn meet(
     requires part { (d : Block) → 0 < place.0 → place.1 ≤ length (slice_index_or blocks.old.items (place.0 - 1) d).spans.items }
     requires more { (0 < length more.old.items) × (length more_starts.old.items ≡ length more.old.items) }
     ensures front { OnOk result (take place.0 (shown blocks.new.items) ++ shown more.new.items
-        ≡ joined (cut_last place.1 (take place.0 (shown blocks.old.items))) (shown more.old.items)) }
+        ≡ joined_blocks (cut_last place.1 (take place.0 (shown blocks.old.items))) (shown more.old.items)) }
     ensures behind { OnOk result ((n : ℕ) → place.0 ≤ n → drop n (shown blocks.new.items) ≡ drop n (shown blocks.old.items)) }
     ensures starts { OnOk result (more_starts.new.items ≡ drop (seam (take place.0 (shown blocks.old.items)) (shown more.old.items)) more_starts.old.items) }
     ensures room { (deque_len blocks.new ≡ deque_len blocks.old) × (deque_capacity blocks.new ≡ deque_capacity blocks.old) }
@@ -129,8 +129,8 @@ pub(super) fn push_block(
     index: u64,
     block: Block,
 ) -> Result<()>
-    ensures blocks { OnOk result (shown blocks.new.items ≡ joined (shown blocks.old.items) (stretch_of block ∷ [])) }
-    ensures starts { OnOk result (starts.new.items ≡ starts.old.items ++ drop (seam (shown blocks.old.items) (stretch_of block ∷ [])) (index ∷ [])) }
+    ensures blocks { OnOk result (shown blocks.new.items ≡ joined_blocks (shown blocks.old.items) (block_spans block ∷ [])) }
+    ensures starts { OnOk result (starts.new.items ≡ starts.old.items ++ drop (seam (shown blocks.old.items) (block_spans block ∷ [])) (index ∷ [])) }
     ensures err { OnErr result ((shown blocks.new.items ≡ shown blocks.old.items) × (starts.new.items ≡ starts.old.items)) }
     ensures memory { IfErr result (λ e. e ≡ Memory) }
 {

@@ -5,13 +5,13 @@ ghost use Rattle.std.specs.List.{prefix_len};
 ghost use Rattle.raft_table.specs.Counts.{live, with_added, with_deleted};
 ghost use Rattle.raft_table.specs.Entries.{AreTableEntries, IsRunIn, RisesFrom, start_of, placed_in, entry_count, AreCounted, AreRecounted};
 ghost use Rattle.raft_table.specs.Queues.{count_in};
-ghost use Rattle.raft_table.specs.Meetings.{IsMeeting, AreApart};
+ghost use Rattle.raft_table.specs.Overlaps.{IsOverlap, AreDisjoint};
 ghost use Rattle.raft_table.specs.Rewriting.{may_move, is_misplaced, newly_rewritten, with_rewritten, rewritten, recounted, IsRewriteFault, MovesPlacesAlone};
 ghost use Rattle.raft_base.specs.declared.pipe_log.LogQueue.{LogQueue};
 ghost use Rattle.raft_base.specs.declared.pipe_log.LogQueue.TheVariants.{Append, Rewrite};
 
 use crate::global_stats::GlobalStats;
-use crate::memtable::entries::{Entries, Meeting};
+use crate::memtable::entries::{Entries, Overlap};
 use raft_records::{EntryIndex, Error, FileSeq, LogQueue, Result};
 
 impl Entries {
@@ -42,22 +42,22 @@ impl Entries {
         let Some(head) = run.first() else {
             return Ok(());
         };
-        let Some(meeting) = self.meeting(head.index, run.len()) else {
+        let Some(overlap) = self.overlap(head.index, run.len()) else {
             return count_unmoved(run.len(), stats);
         };
-        if self.is_misplaced(meeting.at, gate) {
+        if self.is_misplaced(overlap.at, gate) {
             return Err(self.corruption("a rewriting starts off the rewritten entries")?);
         }
-        let places = &run[meeting.skipped..meeting.skipped + meeting.count];
-        self.move_places(meeting.at, places, gate, run.len(), stats)
+        let places = &run[overlap.skipped..overlap.skipped + overlap.count];
+        self.move_places(overlap.at, places, gate, run.len(), stats)
     }
 
     /// Where a run of `len` indexes from `start` on meets the entries, if it does.
-    fn meeting(&self, start: u64, len: usize) -> Option<Meeting>
+    fn overlap(&self, start: u64, len: usize) -> Option<Overlap>
         requires { start + len < 2 ^ 64 }
         ensures meets { MatchOption result
-            (AreApart (start_of self.now) (length self.now) start len)
-            (IsMeeting (start_of self.now) (length self.now) start len) }
+            (AreDisjoint (start_of self.now) (length self.now) start len)
+            (IsOverlap (start_of self.now) (length self.now) start len) }
         ensures sound { AreTableEntries self.now }
     {
         if self.len == 0 {
@@ -70,7 +70,7 @@ impl Entries {
         if to <= from {
             return None;
         }
-        Some(Meeting {
+        Some(Overlap {
             at: (from - first) as usize,
             skipped: (from - start) as usize,
             count: (to - from) as usize,

@@ -1,9 +1,8 @@
 use Rattle.std.proofs.Common.{Some, refl, ap, subst, slice_set}
 use Rattle.raft_table.specs.KeyValues.{file_at}
-use Rattle.raft_table.specs.Table.{with_pair, IsTablePutFault}
-use Rattle.raft_memtable.specs.Accessor.{Accessor, AreCounted}
+use Rattle.raft_table.specs.Table.{with_pair, IsTablePutFault, IsCounted}
+use Rattle.raft_memtable.specs.Accessor.{Accessor, AreCountsOf}
 use Rattle.raft_table.specs.Steps.{table_of}
-use Rattle.raft_table.specs.Table.{IsCounted}
 use Rattle.raft_memtable.specs.AccessorView.{together}
 use Rattle.raft_memtable.specs.declared.accessor.MemTableAccessor.TheInside.{Inside}
 use Rattle.raft_memtable.proofs.AccessorLemmas.{InSlot, kept-in, changed-in}
@@ -29,4 +28,4 @@ pub returns-clause-changed : goal.returns-clause-changed
 returns-clause-changed c = changed-in c.self.inside (after c) c.args.id c.slot_of.result c.index-self-slot_of.result c.put.new.self c.put.new.stats c.self.invariant (slotted c) c.args.self.now c.self.view_is (λ t. Some (with_pair t c.args.key.items c.args.value.items c.args.file)) (λ t k. IsTablePutFault c.args.file.queue k (file_at t.keys c.args.key.items)) c.put.result c.put.ensures refl
 
 pub returns-clause-counted : goal.returns-clause-counted
-returns-clause-counted c = subst (λ (x : Accessor). AreCounted x.tables x.counts) c.self.view_is c.self.invariant.counted
+returns-clause-counted c = subst (λ (x : Accessor). AreCountsOf x.tables x.counts) c.self.view_is c.self.invariant.counted

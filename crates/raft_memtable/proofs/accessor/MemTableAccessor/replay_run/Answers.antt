@@ -1,10 +1,9 @@
 use Rattle.std.proofs.Common.{◌≡◌, refl, ap, subst, slice_set}
 use Rattle.raft_table.specs.Entries.{end_of}
-use Rattle.raft_table.specs.Table.{after_replay}
-use Rattle.raft_memtable.specs.Accessor.{Accessor, AreCounted}
+use Rattle.raft_table.specs.Table.{after_replay, IsCounted}
+use Rattle.raft_memtable.specs.Accessor.{Accessor, AreCountsOf}
 use Rattle.raft_memtable.specs.Updates.{IsReplayFault}
 use Rattle.raft_table.specs.Steps.{table_of}
-use Rattle.raft_table.specs.Table.{IsCounted}
 use Rattle.raft_memtable.specs.AccessorView.{together}
 use Rattle.raft_memtable.specs.declared.accessor.MemTableAccessor.TheInside.{Inside}
 use Rattle.raft_memtable.proofs.AccessorLemmas.{InSlot, kept-in, changed-in, answers-in}
@@ -33,4 +32,4 @@ pub returns-clause-end : goal.returns-clause-end
 returns-clause-end c = answers-in c.self.inside (after c) c.args.id c.slot_of.result c.index-self-slot_of.result c.replay_run_behind.new.self c.replay_run_behind.new.stats c.self.invariant (slotted c) c.args.self.now c.self.view_is (λ t u end. end ≡ end_of t.entries) c.replay_run_behind.result c.replay_run_behind.ensures.end
 
 pub returns-clause-counted : goal.returns-clause-counted
-returns-clause-counted c = subst (λ (x : Accessor). AreCounted x.tables x.counts) c.self.view_is c.self.invariant.counted
+returns-clause-counted c = subst (λ (x : Accessor). AreCountsOf x.tables x.counts) c.self.view_is c.self.invariant.counted

@@ -6,7 +6,7 @@ use Rattle.raft_records.specs.Group.{is_reserved}
 use Rattle.raft_records.specs.Item.{pair, pair_of}
 use Rattle.raft_memtable.specs.Accessor.{table_in}
 use Rattle.raft_memtable.specs.ItemWrites.{pair_change}
-use Rattle.raft_memtable.specs.Writes.{Replaying, with_change, IsFileOf, IsPairOf}
+use Rattle.raft_memtable.specs.Writes.{Replaying, with_change, IsFileOf, IsPairOfQueue}
 use Rattle.raft_memtable.proofs.WriteLemmas.{refused_by, skipped_by, no_outcome, none_listed, reserved_step, change_step}
 use Rattle.raft_memtable.proofs.region_tables.RegionTables.replay_pair.Goals as goal
 
@@ -34,5 +34,5 @@ pub returns-then-not-is_in : goal.returns-then-not-is_in
 returns-then-not-is_in c = λ list.
     refused_by (Replaying c.args.queue) (pair_change c.args.id (pair_of c.args.kv)) c.args.self.now c.args.stats.now list _
     (no_outcome (Replaying c.args.queue) c.args.id (finite.get c.args.self.now c.args.id) _ (pair (pair_of c.args.kv)) _ c.corruption-then-not-is_in.ensures
-    (inl (λ k. let e : c.in-Some-file_id.file.queue ≡ c.args.queue = subst (IsFileOf c.args.queue) c.in-Some-file_id.is (subst (λ o. IsPairOf c.args.queue o c.args.kv.file_id) c.in-Put.is (k (ap is_reserved (sym c.deref.ensures.value) ∙ sym c.is_reserved.ensures.value ∙ c.if-is_reserved.false))) in
+    (inl (λ k. let e : c.in-Some-file_id.file.queue ≡ c.args.queue = subst (IsFileOf c.args.queue) c.in-Some-file_id.is (subst (λ o. IsPairOfQueue c.args.queue o c.args.kv.file_id) c.in-Put.is (k (ap is_reserved (sym c.deref.ensures.value) ∙ sym c.is_reserved.ensures.value ∙ c.if-is_reserved.false))) in
     c.if-not-is_in.ensures e)))

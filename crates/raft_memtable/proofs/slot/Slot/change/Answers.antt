@@ -10,7 +10,7 @@ use Rattle.raft_table.specs.Change.{after_change, IsAnswer, IsChangeFault}
 use Rattle.raft_table.specs.Counts.{live}
 use Rattle.raft_table.specs.Table.{with_atomic_group, live_of}
 use Rattle.raft_memtable.specs.Accessor.{slot_of, table_in, live_in_all}
-use Rattle.raft_memtable.specs.Slot.{SlotContent, IsTableOf}
+use Rattle.raft_memtable.specs.Slot.{SlotContent, IsSlotTable}
 use Rattle.raft_memtable.specs.Writes.{Appending, Rewriting}
 use Rattle.raft_memtable.specs.declared.slot.Slot.TheInside.{Inside}
 use Rattle.raft_memtable.proofs.LiveLemmas.{table-counted}

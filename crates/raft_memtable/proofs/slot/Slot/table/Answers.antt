@@ -10,7 +10,7 @@ use Rattle.raft_table.specs.Change.{after_change, IsAnswer, IsChangeFault}
 use Rattle.raft_table.specs.Counts.{live}
 use Rattle.raft_table.specs.Table.{with_atomic_group, live_of}
 use Rattle.raft_memtable.specs.Accessor.{slot_of, table_in, live_in_all}
-use Rattle.raft_memtable.specs.Slot.{SlotContent, IsTableOf}
+use Rattle.raft_memtable.specs.Slot.{SlotContent, IsSlotTable}
 use Rattle.raft_memtable.specs.Writes.{Appending, Rewriting}
 use Rattle.raft_memtable.specs.declared.slot.Slot.TheInside.{Inside}
 use Rattle.raft_memtable.proofs.LiveLemmas.{table-counted}
@@ -19,7 +19,7 @@ use Rattle.raft_memtable.proofs.slot.Slot.table.Goals as goal
 
 pub returns-clause-allowed : goal.returns-clause-allowed
 returns-clause-allowed c =
-    rw (← c.self.view_is) (elim c.get.result as (λ r. option_map (λ t. t.now) r ≡ finite.get c.self.inside.tables c.args.id → IfSome r (λ t. t.now.region_id ≡ c.args.id) → IfSome r (λ t. IsTableOf c.self.inside.number c.args.id t.now)) [
+    rw (← c.self.view_is) (elim c.get.result as (λ r. option_map (λ t. t.now) r ≡ finite.get c.self.inside.tables c.args.id → IfSome r (λ t. t.now.region_id ≡ c.args.id) → IfSome r (λ t. IsSlotTable c.self.inside.number c.args.id t.now)) [
       | None ↦ λ e o. tt
       | Some t ↦ λ e o. record { own = o; slot = c.self.invariant.regions c.args.id t.now (sym e) }
     ] c.get.ensures.value c.get.ensures.own)

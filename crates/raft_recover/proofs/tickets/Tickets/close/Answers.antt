@@ -2,14 +2,14 @@ use Rattle.std.proofs.Common.{◌≡◌, ◌+◌, [], ◌∷◌, length, ap, ◌
 use Rattle.std.proofs.lemmas.List.{length_push}
 use Rattle.std.specs.Slots.{slots_items}
 use Rattle.raft_recover.specs.Draws.{Drawer, TicketBook}
-use Rattle.raft_recover.specs.Weights.{times}
+use Rattle.raft_recover.specs.Weights.{occurrences}
 use Rattle.raft_recover.proofs.DrawingLemmas.{closed_draws, one_fewer}
 use Rattle.raft_recover.proofs.tickets.Tickets.close.Goals as goal
 
 pub returns : goal.returns
 returns c x =
     let popped = c.in-Some.ensures.items in
-    let fewer = one_fewer (λ (d : Drawer). times x d.drawn) c.args.seats.items c.pop.new.self.items c.in-Some.last popped in
+    let fewer = one_fewer (λ (d : Drawer). occurrences x d.drawn) c.args.seats.items c.pop.new.self.items c.in-Some.last popped in
     let state = c.close_with-closed.ensures.values.2 in
     let all : length c.pop.new.self.items + 1 ≡ c.self.inside.table.shared.key.seats =
     let lengths = ap length popped ∙ length_push c.pop.new.self.items c.in-Some.last in

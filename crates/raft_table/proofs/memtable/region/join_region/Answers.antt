@@ -1,7 +1,7 @@
 use Rattle.std.proofs.Common.{ap, ◌∙◌, ◌≡◌, Some, sym, subst, rules}
 use Rattle.std.proofs.lemmas.Result.{err_from_is_err_and}
 use Rattle.raft_table.specs.Marks.{table_over}
-use Rattle.raft_table.specs.MarkJoins.{joined_at, met}
+use Rattle.raft_table.specs.MarkJoins.{joined_at, end_at_reach}
 use Rattle.raft_table.specs.MarkMerge.{IsRunOver, IsFaultUnder}
 use Rattle.raft_table.specs.Table.{Table}
 use Rattle.raft_table.proofs.RegionLemmas.{stands_run, join_stands, join_refused}
@@ -24,4 +24,4 @@ returns-clause-ok c = λ id own ss rs is good good' h k.
     let run = subst (IsRunOver c.args.queue c.args.newer.now c.args.rhs.now) is (stands_run c.args.queue id c.args.newer.now (Some c.args.rhs.now) own rs good' h.own_table k) in
     join_stands c.args.queue id c.args.mark.now c.args.newer.now c.join.new.self own c.args.rhs.now c.merge_under.new.self ss rs good good' h k
     (ap (table_over c.args.queue c.args.newer.now c.args.rhs.now) is ∙ c.in_ok-merge_under.ensures.ok run)
-    (c.in_ok-join.ensures.ok ∙ ap (λ x. joined_at c.args.queue x c.args.mark.now c.args.newer.now) (c.met-met.ensures ∙ ap (met c.args.newer.now) (sym is)))
+    (c.in_ok-join.ensures.ok ∙ ap (λ x. joined_at c.args.queue x c.args.mark.now c.args.newer.now) (c.end_at_reach-end_at_reach.ensures ∙ ap (end_at_reach c.args.newer.now) (sym is)))

@@ -3,18 +3,16 @@ use Rattle.std.specs.Prelude.{map}
 use Rattle.std.proofs.lemmas.List.{nil_from_length, append-nil, append_assoc, length-append, length-map, length-take-le, length-take, length-drop, take_all, drop_all, take-map, drop-map, map-append, map-set, get_or-map, get_or_default, take-append-drop}
 use Rattle.std.proofs.lemmas.Result.{err_from_is_err_and, on_ok_weaker, IfErr-weaker}
 use Rattle.raft_base.specs.declared.pipe_log.LogQueue.TheVariants.{Append, Rewrite}
-use Rattle.raft_table.specs.Blocks.{Stretch, stretch_of, shown, spread, expanded, AreStretches}
-use Rattle.raft_table.specs.BlockWords.{count, starts_of, AreKept, IsAt, IsIndexOf, cut_last, cut_first, joined, seam}
+use Rattle.raft_table.specs.Blocks.{BlockSpans, block_spans, shown, spread, expanded, AreDistinctBlocks}
+use Rattle.raft_table.specs.BlockWords.{count, starts_of, AreKept, IsAt, IsIndexOf, cut_last, cut_first, joined_blocks, seam}
 use Rattle.raft_table.specs.Entries.{AreTableEntries, start_of, end_of, below, from, placed_in, entry_count}
 use Rattle.raft_table.proofs.PlaceLemmas.{each_queue, entry_count-append, entries_in_one}
 use Rattle.raft_table.proofs.SoundLemmas.{CutCounts, cut_counts, sound_rising, AreTableEntries-take, AreTableEntries-drop}
 use Rattle.raft_table.proofs.BlockLemmas.{length-expanded, length-starts, rises_expanded}
-use Rattle.raft_table.proofs.BlockSearch.{at_start, index_some, index_first, index_rises, at_place, entry_at_place, place_within}
-use Rattle.raft_table.proofs.BlockKept.{IsPushed, pushed_fits, kept_push, IsKeptAs, kept_join, sound_fits}
+use Rattle.raft_table.proofs.BlockSearch.{at_start, index_some, index_first, index_rises, at_place, entry_at_place, place_within, at_same}
+use Rattle.raft_table.proofs.BlockKept.{IsPushed, pushed_fits, kept_push, IsKeptAs, kept_join, sound_fits, blocks_filled}
 use Rattle.raft_table.proofs.BlockCuts.{found, index_of, kept_length, kept_front, front_of, KeptFacts, kept_facts, kept_nil, kept_drop, kept_take, IsFront, front_at}
 use Rattle.raft_table.proofs.BlockQueues.{shown_at, block_at, block_within, place_inside}
-use Rattle.raft_table.proofs.BlockSearch.{at_same}
-use Rattle.raft_table.proofs.BlockKept.{blocks_filled}
 use Rattle.raft_table.proofs.memtable.entries.Entries.join.Goals as goal
 
 pub overflow_add-self-inside : goal.overflow_add-self-inside
@@ -38,11 +36,11 @@ put_blocks-requires-clause-part c d p =
     subst (λ k. c.find-whole.result.1 + 1 ≤ length (get_or c.self.inside.blocks.items k d).spans.items) e (let w = place_inside c.self.inside.blocks.items (found c.self.invariant c.find-whole.ensures (c.args.keep - 1) refl (let l = (kept_facts c.self.invariant).length in let h = (rw (← c.self.view_is) at c.requires.keep.1) in let p = c.requires.keep.0 in omega arith)) d in omega arith)
 
 pub put_blocks-requires-clause-starts : goal.put_blocks-requires-clause-starts
-put_blocks-requires-clause-starts c = kept_length c.self.invariant ∙ length-map c.self.inside.blocks.items stretch_of
+put_blocks-requires-clause-starts c = kept_length c.self.invariant ∙ length-map c.self.inside.blocks.items block_spans
 
 pub put_blocks-requires-clause-more : goal.put_blocks-requires-clause-more
 put_blocks-requires-clause-more c =
-    let n = length-map c.run.inside.blocks.items stretch_of in
+    let n = length-map c.run.inside.blocks.items block_spans in
     let k = kept_length c.run.invariant in
     let h : 0 < length (expanded c.run.inside.first (shown c.run.inside.blocks.items)) = rw c.run.view_is c.requires.run in
     let f = blocks_filled c.run.inside.first (shown c.run.inside.blocks.items) h in
@@ -75,16 +73,16 @@ overflow_add-self-2 c =
     let f = sound_fits (start_of es) es s (sound_rising es s) (omega arith) in
     omega arith
 
-put : (c : goal.After-run-2-1) → IsKeptAs c.self.inside.first (c.args.keep + c.run.inside.len) (joined (cut_last (c.find-whole.result.1 + 1) (take (c.find-whole.result.0 + 1) (shown c.self.inside.blocks.items))) (shown c.run.inside.blocks.items) ++ drop c.len-rest.result (shown c.self.inside.blocks.items))
+put : (c : goal.After-run-2-1) → IsKeptAs c.self.inside.first (c.args.keep + c.run.inside.len) (joined_blocks (cut_last (c.find-whole.result.1 + 1) (take (c.find-whole.result.0 + 1) (shown c.self.inside.blocks.items))) (shown c.run.inside.blocks.items) ++ drop c.len-rest.result (shown c.self.inside.blocks.items))
     (take (c.find-whole.result.0 + 1) c.self.inside.starts.items ++ drop (seam (take (c.find-whole.result.0 + 1) (shown c.self.inside.blocks.items)) (shown c.run.inside.blocks.items)) c.run.inside.starts.items ++ drop c.len-rest.result c.self.inside.starts.items)
     (min c.self.inside.rewritten c.args.keep + c.run.inside.rewritten) (take c.args.keep (expanded c.self.inside.first (shown c.self.inside.blocks.items)) ++ expanded c.run.inside.first (shown c.run.inside.blocks.items))
 put c =
     let s : AreTableEntries (take c.args.keep (expanded c.self.inside.first (shown c.self.inside.blocks.items)) ++ expanded c.run.inside.first (shown c.run.inside.blocks.items)) = rw (c.self.view_is, c.run.view_is) c.requires.sound in
     kept_join c.self.invariant c.run.invariant c.args.keep (c.find-whole.result.0 + 1) (c.find-whole.result.1 + 1) c.len-rest.result c.requires.keep.0
     (let l = (kept_facts c.self.invariant).length in let h = rw (← c.self.view_is) at c.requires.keep.1 in omega arith)
-    (front_of c.self.inside.first c.args.keep c.find-whole.result.0 c.find-whole.result.1 (shown c.self.inside.blocks.items) c.self.invariant.stretches c.requires.keep.0 (found c.self.invariant c.find-whole.ensures (c.args.keep - 1) refl (let l = (kept_facts c.self.invariant).length in let h = (rw (← c.self.view_is) at c.requires.keep.1) in let p = c.requires.keep.0 in omega arith)))
+    (front_of c.self.inside.first c.args.keep c.find-whole.result.0 c.find-whole.result.1 (shown c.self.inside.blocks.items) c.self.invariant.distinct c.requires.keep.0 (found c.self.invariant c.find-whole.ensures (c.args.keep - 1) refl (let l = (kept_facts c.self.invariant).length in let h = (rw (← c.self.view_is) at c.requires.keep.1) in let p = c.requires.keep.0 in omega arith)))
     (let m = (kept_facts c.run.invariant).length in let h = rw (← c.run.view_is) at c.requires.run in omega arith)
-    s (let n = length-map c.self.inside.blocks.items stretch_of in omega (arith, c.self.inside.blocks.ok))
+    s (let n = length-map c.self.inside.blocks.items block_spans in omega (arith, c.self.inside.blocks.ok))
 
 pub invariant_of-self-2 : goal.invariant_of-self-2
 invariant_of-self-2 c = rw (c.in_ok-put_blocks.ensures.blocks, c.in_ok-put_blocks.ensures.starts, c.min.ensures) (put c).kept

@@ -21,8 +21,8 @@ returns-in_default-clause-ok c =
 start_known : (c : goal.At-field_known-1-known-fits) → start_of c.args.run.now ≡ c.in-Some.head.now.index
 start_known c = start_of_front c.args.run.now c.in-Some.head.now c.in-Some.ensures.item.3.0 c.in-Some.ensures.item.1
 
-pub meeting-requires : goal.meeting-requires
-meeting-requires c =
+pub overlap-requires : goal.overlap-requires
+overlap-requires c =
     let s = start_known c in
     let e = run_end Rewrite c.args.run.now c.requires.run c.in-Some.ensures.item.3.0 in
     let b = c.requires.run.bounded in
@@ -36,27 +36,27 @@ start_apart : (c : goal.After-count_unmoved) → start_of c.args.run.now ≡ c.i
 start_apart c = start_of_front c.args.run.now c.in-Some.head.now c.in-Some.ensures.item.3.0 c.in-Some.ensures.item.1
 
 apart : (c : goal.After-count_unmoved) → rewritten c.args.gate c.args.run.now c.args.self.now ≡ Some c.args.self.now
-apart c = rewritten_apart c.args.gate Rewrite c.args.run.now c.args.self.now c.meeting.ensures.sound c.requires.run c.in-Some.ensures.item.3.0 (rw (start_apart c) c.in_default-meeting.ensures.meets)
+apart c = rewritten_apart c.args.gate Rewrite c.args.run.now c.args.self.now c.overlap.ensures.sound c.requires.run c.in-Some.ensures.item.3.0 (rw (start_apart c) c.in_default-overlap.ensures.meets)
 
-pub returns-in_default-meeting-clause-ok : goal.returns-in_default-meeting-clause-ok
-returns-in_default-meeting-clause-ok c = on_ok_weaker c.count_unmoved.result (λ h. apart c) c.count_unmoved.ensures.ok
+pub returns-in_default-overlap-clause-ok : goal.returns-in_default-overlap-clause-ok
+returns-in_default-overlap-clause-ok c = on_ok_weaker c.count_unmoved.result (λ h. apart c) c.count_unmoved.ensures.ok
 
-pub returns-in_default-meeting-clause-counts : goal.returns-in_default-meeting-clause-counts
-returns-in_default-meeting-clause-counts c =
+pub returns-in_default-overlap-clause-counts : goal.returns-in_default-overlap-clause-counts
+returns-in_default-overlap-clause-counts c =
     on_ok_weaker c.count_unmoved.result
-    (λ h. h ∙ sym (recounted_apart c.args.gate Rewrite c.args.run.now c.args.self.now c.args.stats.now c.meeting.ensures.sound c.requires.run c.in-Some.ensures.item.3.0 (rw (start_apart c) c.in_default-meeting.ensures.meets)))
+    (λ h. h ∙ sym (recounted_apart c.args.gate Rewrite c.args.run.now c.args.self.now c.args.stats.now c.overlap.ensures.sound c.requires.run c.in-Some.ensures.item.3.0 (rw (start_apart c) c.in_default-overlap.ensures.meets)))
     c.count_unmoved.ensures.ok
 
-pub returns-in_default-meeting-clause-fault : goal.returns-in_default-meeting-clause-fault
-returns-in_default-meeting-clause-fault c =
+pub returns-in_default-overlap-clause-fault : goal.returns-in_default-overlap-clause-fault
+returns-in_default-overlap-clause-fault c =
     IfErr-weaker c.count_unmoved.result (λ e. (e ≡ errors.Full) × (2 ^ 64 ≤ live Rewrite c.args.stats.now + length c.args.run.now)) (IsRewriteFault (length c.args.run.now) c.args.stats.now (rewritten c.args.gate c.args.run.now c.args.self.now))
     (λ e h. rw h.0 (full_is (length c.args.run.now) c.args.stats.now c.args.gate c.args.run.now c.args.self.now c.args.self.now (apart c) h.1)) c.count_unmoved.ensures.full
 
 start_memory : (c : goal.After-from_residual) → start_of c.args.run.now ≡ c.in-Some.head.now.index
 start_memory c = start_of_front c.args.run.now c.in-Some.head.now c.in-Some.ensures.item.3.0 c.in-Some.ensures.item.1
 
-at_memory : (c : goal.After-from_residual) → RewritesAt c.args.gate c.args.run.now c.args.self.now c.in-Some-meeting.meeting.at c.in-Some-meeting.meeting.skipped c.in-Some-meeting.meeting.count
-at_memory c = rewrites_at c.args.gate c.args.run.now c.args.self.now c.in-Some-meeting.meeting c.meeting.ensures.sound c.requires.run c.in-Some.ensures.item.3.0 (rw (start_memory c) c.in-Some-meeting.ensures.meets)
+at_memory : (c : goal.After-from_residual) → RewritesAt c.args.gate c.args.run.now c.args.self.now c.in-Some-overlap.overlap.at c.in-Some-overlap.overlap.skipped c.in-Some-overlap.overlap.count
+at_memory c = rewrites_at c.args.gate c.args.run.now c.args.self.now c.in-Some-overlap.overlap c.overlap.ensures.sound c.requires.run c.in-Some.ensures.item.3.0 (rw (start_memory c) c.in-Some-overlap.ensures.meets)
 
 pub returns-in_err-corruption-clause-fault : goal.returns-in_err-corruption-clause-fault
 returns-in_err-corruption-clause-fault c =
@@ -71,8 +71,8 @@ corruption_is n counts _ h = absurd h
 start_refused : (c : goal.In_ok-corruption) → start_of c.args.run.now ≡ c.in-Some.head.now.index
 start_refused c = start_of_front c.args.run.now c.in-Some.head.now c.in-Some.ensures.item.3.0 c.in-Some.ensures.item.1
 
-at_refused : (c : goal.In_ok-corruption) → RewritesAt c.args.gate c.args.run.now c.args.self.now c.in-Some-meeting.meeting.at c.in-Some-meeting.meeting.skipped c.in-Some-meeting.meeting.count
-at_refused c = rewrites_at c.args.gate c.args.run.now c.args.self.now c.in-Some-meeting.meeting c.meeting.ensures.sound c.requires.run c.in-Some.ensures.item.3.0 (rw (start_refused c) c.in-Some-meeting.ensures.meets)
+at_refused : (c : goal.In_ok-corruption) → RewritesAt c.args.gate c.args.run.now c.args.self.now c.in-Some-overlap.overlap.at c.in-Some-overlap.overlap.skipped c.in-Some-overlap.overlap.count
+at_refused c = rewrites_at c.args.gate c.args.run.now c.args.self.now c.in-Some-overlap.overlap c.overlap.ensures.sound c.requires.run c.in-Some.ensures.item.3.0 (rw (start_refused c) c.in-Some-overlap.ensures.meets)
 
 pub returns-then-is_misplaced-clause-fault : goal.returns-then-is_misplaced-clause-fault
 returns-then-is_misplaced-clause-fault c =
@@ -82,8 +82,8 @@ returns-then-is_misplaced-clause-fault c =
 start_places : (c : goal.After-move_places-arg-2-1) → start_of c.args.run.now ≡ c.in-Some.head.now.index
 start_places c = start_of_front c.args.run.now c.in-Some.head.now c.in-Some.ensures.item.3.0 c.in-Some.ensures.item.1
 
-at_places : (c : goal.After-move_places-arg-2-1) → RewritesAt c.args.gate c.args.run.now c.args.self.now c.in-Some-meeting.meeting.at c.in-Some-meeting.meeting.skipped c.in-Some-meeting.meeting.count
-at_places c = rewrites_at c.args.gate c.args.run.now c.args.self.now c.in-Some-meeting.meeting c.meeting.ensures.sound c.requires.run c.in-Some.ensures.item.3.0 (rw (start_places c) c.in-Some-meeting.ensures.meets)
+at_places : (c : goal.After-move_places-arg-2-1) → RewritesAt c.args.gate c.args.run.now c.args.self.now c.in-Some-overlap.overlap.at c.in-Some-overlap.overlap.skipped c.in-Some-overlap.overlap.count
+at_places c = rewrites_at c.args.gate c.args.run.now c.args.self.now c.in-Some-overlap.overlap c.overlap.ensures.sound c.requires.run c.in-Some.ensures.item.3.0 (rw (start_places c) c.in-Some-overlap.ensures.meets)
 
 pub move_places-requires-clause-rising : goal.move_places-requires-clause-rising
 move_places-requires-clause-rising c = (at_places c).rising
@@ -94,8 +94,8 @@ move_places-requires-clause-placed c = (at_places c).placed
 start_moved : (c : goal.After-move_places) → start_of c.args.run.now ≡ c.in-Some.head.now.index
 start_moved c = start_of_front c.args.run.now c.in-Some.head.now c.in-Some.ensures.item.3.0 c.in-Some.ensures.item.1
 
-at_moved : (c : goal.After-move_places) → RewritesAt c.args.gate c.args.run.now c.args.self.now c.in-Some-meeting.meeting.at c.in-Some-meeting.meeting.skipped c.in-Some-meeting.meeting.count
-at_moved c = rewrites_at c.args.gate c.args.run.now c.args.self.now c.in-Some-meeting.meeting c.meeting.ensures.sound c.requires.run c.in-Some.ensures.item.3.0 (rw (start_moved c) c.in-Some-meeting.ensures.meets)
+at_moved : (c : goal.After-move_places) → RewritesAt c.args.gate c.args.run.now c.args.self.now c.in-Some-overlap.overlap.at c.in-Some-overlap.overlap.skipped c.in-Some-overlap.overlap.count
+at_moved c = rewrites_at c.args.gate c.args.run.now c.args.self.now c.in-Some-overlap.overlap c.overlap.ensures.sound c.requires.run c.in-Some.ensures.item.3.0 (rw (start_moved c) c.in-Some-overlap.ensures.meets)
 
 pub returns-clause-ok : goal.returns-clause-ok
 returns-clause-ok c =
@@ -121,12 +121,12 @@ returns-clause-fault c =
 pub returns-in_default-clause-places_alone : goal.returns-in_default-clause-places_alone
 returns-in_default-clause-places_alone c = none_moved c.args.run.now c.args.self.now
 
-pub returns-in_default-meeting-clause-places_alone : goal.returns-in_default-meeting-clause-places_alone
-returns-in_default-meeting-clause-places_alone c = on_ok_weaker c.count_unmoved.result (λ h. none_moved c.args.run.now c.args.self.now) c.count_unmoved.ensures.ok
+pub returns-in_default-overlap-clause-places_alone : goal.returns-in_default-overlap-clause-places_alone
+returns-in_default-overlap-clause-places_alone c = on_ok_weaker c.count_unmoved.result (λ h. none_moved c.args.run.now c.args.self.now) c.count_unmoved.ensures.ok
 
 pub returns-clause-places_alone : goal.returns-clause-places_alone
 returns-clause-places_alone c =
-    let met = c.in-Some-meeting.meeting in
+    let met = c.in-Some-overlap.overlap in
     on_ok_weaker c.move_places.result
-    (λ h. subst (MovesPlacesAlone c.args.run.now c.args.self.now) (sym h.0) (moved_alone c.args.gate c.args.run.now c.args.self.now met.at met.skipped met.count c.meeting.ensures.sound (at_moved c)))
+    (λ h. subst (MovesPlacesAlone c.args.run.now c.args.self.now) (sym h.0) (moved_alone c.args.gate c.args.run.now c.args.self.now met.at met.skipped met.count c.overlap.ensures.sound (at_moved c)))
     c.move_places.ensures.ok

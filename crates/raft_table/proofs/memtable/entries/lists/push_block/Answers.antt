@@ -3,8 +3,8 @@ use Rattle.std.specs.Prelude.{map}
 use Rattle.std.proofs.lemmas.List.{nil_from_length, append-nil, append_assoc, length-append, length-map, length-take-le, length-take, length-drop, take_all, drop_all, take-map, drop-map, map-append, map-set, get_or-map, get_or_default, take-append-drop}
 use Rattle.std.proofs.lemmas.Result.{err_from_is_err_and, on_ok_weaker, IfErr-weaker}
 use Rattle.raft_base.specs.declared.pipe_log.LogQueue.TheVariants.{Append, Rewrite}
-use Rattle.raft_table.specs.Blocks.{Stretch, stretch_of, shown, spread, expanded, AreStretches}
-use Rattle.raft_table.specs.BlockWords.{count, starts_of, AreKept, IsAt, IsIndexOf, cut_last, cut_first, joined, seam}
+use Rattle.raft_table.specs.Blocks.{BlockSpans, block_spans, shown, spread, expanded, AreDistinctBlocks}
+use Rattle.raft_table.specs.BlockWords.{count, starts_of, AreKept, IsAt, IsIndexOf, cut_last, cut_first, joined_blocks, seam}
 use Rattle.raft_table.specs.Entries.{AreTableEntries, start_of, end_of, below, from, placed_in, entry_count}
 use Rattle.raft_table.proofs.PlaceLemmas.{each_queue, entry_count-append, entries_in_one}
 use Rattle.raft_table.proofs.SoundLemmas.{CutCounts, cut_counts, sound_rising, AreTableEntries-take, AreTableEntries-drop}
@@ -23,7 +23,7 @@ last c = omega (arith, c.args.blocks.now.ok)
 same : (c : goal.After-drop-block) → c.index_mut.result.now.handle ≡ c.args.block.handle
 same c = ap (λ (y : Block). y.handle) (one_block c.args.blocks.now.items (c.len-len.result - 1) c.index_mut.result.now c.index.result.now (last c) c.index_mut.ensures.value c.index.ensures) ∙ c.if-is_same.ensures
 
-pushed : (c : goal.After-drop-block) → c.lengthen.new.block.spans.items ≡ take c.len-part.result c.index_mut.result.now.spans.items ++ c.args.block.spans.items → (shown (set c.args.blocks.now.items (c.len-len.result - 1) c.lengthen.new.block) ≡ joined (shown c.args.blocks.now.items) (stretch_of c.args.block ∷ [])) × (seam (shown c.args.blocks.now.items) (stretch_of c.args.block ∷ []) ≡ 1)
+pushed : (c : goal.After-drop-block) → c.lengthen.new.block.spans.items ≡ take c.len-part.result c.index_mut.result.now.spans.items ++ c.args.block.spans.items → (shown (set c.args.blocks.now.items (c.len-len.result - 1) c.lengthen.new.block) ≡ joined_blocks (shown c.args.blocks.now.items) (block_spans c.args.block ∷ [])) × (seam (shown c.args.blocks.now.items) (block_spans c.args.block ∷ []) ≡ 1)
 pushed c h =
     let k = c.len-len.result - 1 in
     let b = c.index_mut.result.now in
@@ -41,13 +41,13 @@ pub returns-then-is_same-clause-err : goal.returns-then-is_same-clause-err
 returns-then-is_same-clause-err c =
     IfErr-weaker c.lengthen.result _ _ (λ e h. (set_same c.args.blocks.now.items (c.len-len.result - 1) c.index_mut.result.now c.lengthen.new.block (last c) c.index_mut.ensures.value c.lengthen.ensures.handle h.0, refl)) c.lengthen.ensures.err
 
-added : (c : goal.After-push_back_reserved) → (shown (c.args.blocks.now.items ++ c.args.block ∷ []) ≡ joined (shown c.args.blocks.now.items) (stretch_of c.args.block ∷ [])) × (seam (shown c.args.blocks.now.items) (stretch_of c.args.block ∷ []) ≡ 0)
+added : (c : goal.After-push_back_reserved) → (shown (c.args.blocks.now.items ++ c.args.block ∷ []) ≡ joined_blocks (shown c.args.blocks.now.items) (block_spans c.args.block ∷ [])) × (seam (shown c.args.blocks.now.items) (block_spans c.args.block ∷ []) ≡ 0)
 added c = elim c.if-len-gt0.branch [
   | then-len-gt0+else-is_same w ↦ pushed_other (c.len-len.result - 1) c.args.blocks.now.items w.index.result.now c.args.block (omega (arith, w.if-len-gt0.true, c.args.blocks.now.ok)) w.index.ensures w.if-is_same.ensures
   | else-len-gt0 w ↦ first c.args.blocks.now.items (omega (arith, w.if-len-gt0.false, c.args.blocks.now.ok))
 ]
   where
-    first : (bs : List Block) → length bs ≡ 0 → (shown (bs ++ c.args.block ∷ []) ≡ joined (shown bs) (stretch_of c.args.block ∷ [])) × (seam (shown bs) (stretch_of c.args.block ∷ []) ≡ 0)
+    first : (bs : List Block) → length bs ≡ 0 → (shown (bs ++ c.args.block ∷ []) ≡ joined_blocks (shown bs) (block_spans c.args.block ∷ [])) × (seam (shown bs) (block_spans c.args.block ∷ []) ≡ 0)
     first [] l = (refl, refl)
     first (x ∷ bs) l = absurd (omega arith)
 

@@ -28,7 +28,7 @@ marker_in Rewrite items = option_map (λ m. record { group = m.0; status = m.1 }
 
 -- ---- what is read of a batch
 
--- a batch's steps, its marker if it has one, and the number of its file
+-- what is read of a batch: its steps, its marker if it has one, and the number of its file
 pub record ReadBatch : Type 0 where
   pub steps : List RegionStep
   pub marker : Option GroupMarker

@@ -70,7 +70,7 @@ pub record AreExact (queue : LogQueue) (rs : MarkedRegions) (bs : List ReadBatch
   pub each : (r : ℕ) → Holds queue r (region_in rs r) (steps_of r bs)
   pub marked : (r : ℕ) → is_some (finite.get rs.marks r) ≡ is_named r bs
 
--- of a history of this queue: it is sound, and its cleaned regions are the context's; in the append queue the regions are exact
+-- the context stands for a history of this queue: that is sound, its cleaned regions are the context's, and in the append queue the regions are exact
 pub record StandsIn (queue : LogQueue) (c : Context) (h : List Event) : Type 0 where
   pub sound : IsSoundIn queue h
   pub cleaned : c.cleaned ≡ cleaned_in queue h
@@ -87,7 +87,7 @@ pub record StandsFor (c : Context) (h : List Event) : Type 0 where
   pub few : IsBounded c (records_in_history h)
   pub stands : (queue : LogQueue) → Suits queue c.files → StandsIn queue c h
 
--- and exactly
+-- the context stands for the history exactly: also in the rewrite queue every region's mark and table stand for its steps in the effects
 pub record IsExactFor (c : Context) (h : List Event) : Type 0 where
   pub stands : StandsFor c h
   pub regions : (queue : LogQueue) → Suits queue c.files → AreExact queue c.regions (batches h)

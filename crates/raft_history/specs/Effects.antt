@@ -18,18 +18,18 @@ abbrev pub ended : List Placed → Placed → List Effect
 ended [] p = []
 ended (q ∷ qs) p = record { earlier = q ∷ qs; last = p } ∷ []
 
--- the same, by the status of the marker
+-- what a marker of this status completes behind the open stretch of its group: an End alone something
 abbrev pub completed_as : AtomicGroupStatus → List Placed → Placed → List Effect
 completed_as Begin stretch p = []
 completed_as Middle stretch p = []
 completed_as End stretch p = ended stretch p
 
--- what a batch completes behind those before it
+-- what a batch with this marker completes behind those before it: without one itself
 abbrev pub completed_by : Option GroupMarker → List Placed → Placed → List Effect
 completed_by None before p = record { earlier = []; last = p } ∷ []
 completed_by (Some m) before p = completed_as m.status (open_stretch (markers_of m.group before)) p
 
--- the same, by its marker
+-- what a batch completes behind those before it
 abbrev pub completed : List Placed → Placed → List Effect
 completed before p = completed_by p.batch.marker before p
 
@@ -71,16 +71,16 @@ steps_of r h = all_steps r (effects h)
 abbrev pub is_named : ℕ → List ReadBatch → Bool
 is_named r h = list_any (λ e. names r (region_steps_in e)) (effects h)
 
--- the extent of an effect
+-- the number of an effect's first batch, told by those before the last and the last
 abbrev pub first_by : List Placed → Placed → ℕ
 first_by [] last = last.number
 first_by (q ∷ qs) last = q.number
 
--- the number of its first batch
+-- the number of an effect's first batch
 abbrev pub first_in : Effect → ℕ
 first_in e = first_by e.earlier e.last
 
--- and of its last
+-- the number of an effect's last batch
 abbrev pub last_in : Effect → ℕ
 last_in e = e.last.number
 
@@ -92,21 +92,21 @@ IsGroup e = e.earlier ≡ [] → ⊥
 abbrev pub Names : ℕ → Effect → Type 0
 Names r e = names r (region_steps_in e) ≡ true
 
--- the extents of two effects meet
+-- the extents of two effects overlap
 pub record ExtentsOverlap (e f : Effect) : Type 0 where
   pub before : first_in e ≤ last_in f
   pub behind : first_in f ≤ last_in e
 
--- two effects whose extents meet, one of them a group, name no common region
+-- two effects whose extents overlap, one of them a group, name no common region
 abbrev pub AreApart : Effect → Effect → Type 0
 AreApart e f = ExtentsOverlap e f → IsGroup e ⊎ IsGroup f → (r : ℕ) → Names r e → Names r f → ⊥
 
--- any two
+-- any two of some effects are apart
 abbrev pub EachApart : List Effect → Type 0
 EachApart [] = Unit {0}
 EachApart (e ∷ es) = AllByRecursion (AreApart e) es × EachApart es
 
--- any two effects of the history
+-- any two effects of the history are apart
 pub record BatchesApart (h : List ReadBatch) : Type 0 where
   pub each : EachApart (effects h)
 
@@ -114,7 +114,7 @@ pub record BatchesApart (h : List ReadBatch) : Type 0 where
 abbrev pub group_in : ℕ → List ReadBatch → WaitingGroup
 group_in g h = group_of g (placed_from 0 h)
 
--- the groups that become whole_group where two histories are joined_group, of the ids in the list
+-- of the groups in the list those that become whole between two histories
 abbrev pub wholes : List ℕ → List ReadBatch → List ReadBatch → List WholeGroup
 wholes ids older newer = filter_map (λ g. whole_group (group_in g older) (group_in g newer)) ids
 

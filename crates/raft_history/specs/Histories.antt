@@ -27,12 +27,12 @@ records_of (Put key value file) = 1
 records_of (Del key) = 1
 records_of _ = 0
 
--- those of steps together
+-- the entries and key values that steps name together
 abbrev pub records_in : List RegionStep → ℕ
 records_in [] = 0
 records_in (s ∷ steps) = records_of s.step + records_in steps
 
--- those of a history
+-- the entries and key values that a history names
 abbrev pub records_in_history : List Event → ℕ
 records_in_history [] = 0
 records_in_history (e ∷ h) = records_in (steps_of_items e.items) + records_in_history h
@@ -65,12 +65,12 @@ IsInFile file (entries es) = IsRunIn file.queue es × AreBlocksIn file es
 IsInFile file (command c) = Unit {0}
 IsInFile file (pair p) = is_reserved p.key ≡ false → IsPairIn file p.op_type p.value p.file_id
 
--- the same of each item of a batch
+-- each item is as it may stand in a batch of this file
 abbrev pub AreInFile : FileId → List Item → Type 0
 AreInFile file [] = Unit {0}
 AreInFile file (item ∷ items) = IsInFile file item.content × AreInFile file items
 
--- and of each batch
+-- each batch's items are as they may stand in a batch of its file
 abbrev pub AreInFiles : List Event → Type 0
 AreInFiles [] = Unit {0}
 AreInFiles (e ∷ h) = AreInFile e.file e.items × AreInFiles h
@@ -79,12 +79,12 @@ AreInFiles (e ∷ h) = AreInFile e.file e.items × AreInFiles h
 abbrev pub HasStatus : Item → Type 0
 HasStatus item = (byte : ℕ) → IsGroupMarkerContent item.content byte → byte ≤ 2
 
--- the same of each item of a batch of the rewrite queue; the append queue ignores markers
+-- in the rewrite queue each group marker of a batch has the byte of a status; the append queue ignores markers
 abbrev pub HaveStatus : LogQueue → List Item → Type 0
 HaveStatus Append items = Unit {0}
 HaveStatus Rewrite items = AllByRecursion HasStatus items
 
--- and of each batch
+-- each batch's group markers have the byte of a status, where its queue looks at them
 abbrev pub AllHaveStatus : List Event → Type 0
 AllHaveStatus [] = Unit {0}
 AllHaveStatus (e ∷ h) = HaveStatus e.file.queue e.items × AllHaveStatus h
@@ -111,7 +111,7 @@ pub record Sound (h : List Event) : Type 0 where
   pub queue : LogQueue
   pub sound : IsSoundIn queue h
 
--- any two effects of the history whose extents meet, one of them a group, name no common region
+-- any two effects of the history whose extents overlap, one of them a group, name no common region
 pub record Apart (h : List Event) : Type 0 where
   pub apart : BatchesApart (batches h)
 
@@ -120,7 +120,7 @@ abbrev pub AreOfQueue : LogQueue → List Event → Type 0
 AreOfQueue queue [] = Unit {0}
 AreOfQueue queue (e ∷ h) = (e.file.queue ≡ queue) × AreOfQueue queue h
 
--- the same, as one fact
+-- every batch is of this queue, as one fact
 pub record IsOfQueue (queue : LogQueue) (h : List Event) : Type 0 where
   pub each : AreOfQueue queue h
 

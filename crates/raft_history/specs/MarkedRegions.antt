@@ -61,7 +61,7 @@ on_each regions s = map (λ r. record { region = r; step = s }) regions
 abbrev pub region_steps_of_whole : WholeGroup → List RegionStep
 region_steps_of_whole w = w.steps ++ on_each (named_regions w.steps) (AtomicGroup w.start w.end)
 
--- and those of some, one after another
+-- the steps of groups that are whole, one group after another
 abbrev pub region_steps_of_wholes : List WholeGroup → List RegionStep
 region_steps_of_wholes ws = flat_map region_steps_of_whole ws
 

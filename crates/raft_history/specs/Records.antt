@@ -21,7 +21,7 @@ total f m = total_of f (finite.entries m)
 abbrev pub table_records : Table → ℕ
 table_records t = length t.entries + finite.len t.keys
 
--- those of all tables
+-- the entries and key values of all tables
 abbrev pub all_records : Tables → ℕ
 all_records tables = total table_records tables
 
@@ -29,12 +29,12 @@ all_records tables = total table_records tables
 abbrev pub waiting_records : WaitingGroups → ℕ
 waiting_records groups = total (λ (g : WaitingGroup). records_in (held_steps g)) groups
 
--- those that a group names, if it is whole
+-- the entries and key values that a group names, if it is whole
 abbrev pub records_or : Option WholeGroup → ℕ
 records_or None = 0
 records_or (Some w) = records_in w.steps
 
--- those that groups name which are whole
+-- the entries and key values that groups name which are whole
 abbrev pub records_in_wholes : List WholeGroup → ℕ
 records_in_wholes [] = 0
 records_in_wholes (w ∷ ws) = records_in w.steps + records_in_wholes ws

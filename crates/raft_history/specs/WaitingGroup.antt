@@ -72,18 +72,18 @@ led_by is (Open js) = Open (is ++ js)
 led_by is (Ended js f) = Ended (is ++ js) f
 led_by is Cut = Cut
 
--- a front with one more marker before it, by its status
+-- a front with one more marker before it, which has this status, these steps and this file
 abbrev pub front_by : AtomicGroupStatus → List RegionStep → ℕ → GroupFront → GroupFront
 front_by Begin is f rest = Cut
 front_by Middle is f rest = led_by is rest
 front_by End is f rest = Ended is f
 
--- the same, by the marker
+-- a front with one more batch before it, by the batch's marker
 abbrev pub front_behind : Option GroupMarker → List RegionStep → ℕ → GroupFront → GroupFront
 front_behind None is f rest = Cut
 front_behind (Some m) is f rest = front_by m.status is f rest
 
--- the front of the markers of a group
+-- the front of a group, by its markers in order
 unfoldable pub front_of : List Placed → GroupFront
 front_of [] = Open []
 front_of (p ∷ ps) = front_behind p.batch.marker p.batch.steps p.batch.file (front_of ps)
@@ -93,7 +93,7 @@ pub record OpenStretch : Type 0 where
   pub file : ℕ
   pub steps : List RegionStep
 
--- what is held of an open stretch, if there is one
+-- the open stretch of these batches, if there are any
 abbrev pub stretch_of : List Placed → Option OpenStretch
 stretch_of [] = None
 stretch_of (p ∷ ps) = Some record { file = p.batch.file; steps = region_steps_of (p ∷ ps) }
@@ -111,48 +111,48 @@ group_at ms = record { front = front_of ms; stretch = stretch_of (open_stretch m
 abbrev pub group_of : ℕ → List Placed → WaitingGroup
 group_of g ps = group_at (markers_of g ps)
 
--- a group whose stretch is whole_group: its steps, and the files of its Begin and End
+-- a group that is whole: its steps, and the files of its Begin and End
 pub record WholeGroup : Type 0 where
   pub steps : List RegionStep
   pub start : ℕ
   pub end : ℕ
 
--- the older stretch, where the newer segment goes on with it
+-- an older open stretch, if there is one, with the steps that go on with it in a newer segment
 abbrev pub carried : Option OpenStretch → List RegionStep → Option OpenStretch
 carried None is = None
 carried (Some s) is = Some record { file = s.file; steps = s.steps ++ is }
 
--- what is known of a group from an older and a newer segment
+-- what is known of a group from an older and a newer segment, by the front that it has in each
 abbrev pub joined_group_by : GroupFront → GroupFront → WaitingGroup → WaitingGroup → WaitingGroup
 joined_group_by (Open is) front older newer = record { front = led_by is front; stretch = newer.stretch }
 joined_group_by front (Open is) older newer = record { front = front; stretch = carried older.stretch is }
 joined_group_by front _ older newer = record { front = front; stretch = newer.stretch }
 
--- the same, of two groups
+-- what is known of a group from an older and a newer segment
 abbrev pub joined_group : WaitingGroup → WaitingGroup → WaitingGroup
 joined_group older newer = joined_group_by older.front newer.front older newer
 
--- the stretch that begins in the older segment and ends in the newer one
+-- the group that becomes whole, if it does, by the older segment's open stretch and the newer one's front
 abbrev pub whole_of : Option OpenStretch → GroupFront → Option WholeGroup
 whole_of None front = None
 whole_of (Some s) (Open is) = None
 whole_of (Some s) (Ended is f) = Some record { steps = s.steps ++ is; start = s.file; end = f }
 whole_of (Some s) Cut = None
 
--- (with an open front there is no open stretch)
+-- the same, by the older segment's front too: where that is open, the group has no open stretch there
 abbrev pub whole_group_by : GroupFront → Option OpenStretch → GroupFront → Option WholeGroup
 whole_group_by (Open is) s front = None
 whole_group_by _ s front = whole_of s front
 
--- the group that becomes whole between an older and a newer stretch of a history, if it does
+-- the group that becomes whole between an older and a newer segment of a history, if it does
 abbrev pub whole_group : WaitingGroup → WaitingGroup → Option WholeGroup
 whole_group older newer = whole_group_by older.front older.stretch newer.front
 
--- of no marker, and of one
+-- what is known of a group without a marker
 abbrev pub unmarked : WaitingGroup
 unmarked = record { front = Open []; stretch = None }
 
--- what one marker says of its group
+-- what is known of a group with one marker of this status, in a batch of these steps in this file
 abbrev pub one_marker : AtomicGroupStatus → List RegionStep → ℕ → WaitingGroup
 one_marker Begin is f = record { front = Cut; stretch = Some record { file = f; steps = is } }
 one_marker Middle is f = record { front = Open is; stretch = None }

@@ -27,24 +27,24 @@ groups_in h = finite.from_entries (flat_map (λ b. entry_by h b.marker) h)
 abbrev pub known : WaitingGroups → ℕ → WaitingGroup
 known groups g = unwrap_or (finite.get groups g) unmarked
 
--- groups of an older and a newer segment
+-- an older segment's groups with some of a newer one's, one after another
 abbrev pub joined_with : WaitingGroups → List (ℕ × WaitingGroup) → WaitingGroups
 joined_with older [] = older
 joined_with older (e ∷ es) = joined_with (finite.insert older e.0 (joined_group (known older e.0) e.1)) es
 
--- the groups of an older and a newer stretch of a history
+-- the groups of an older and a newer segment of a history, one behind the other
 abbrev pub joined_groups : WaitingGroups → WaitingGroups → WaitingGroups
 joined_groups older newer = joined_with older (finite.entries newer)
 
--- the groups that become whole_group between the two
+-- of some of a newer segment's groups, those that become whole with what an older one knows
 abbrev pub whole_with : WaitingGroups → List (ℕ × WaitingGroup) → List WholeGroup
 whole_with older es = filter_map (λ e. whole_group (known older e.0) e.1) es
 
--- the groups that become whole between the two
+-- the groups that become whole between an older and a newer segment
 abbrev pub whole_groups : WaitingGroups → WaitingGroups → List WholeGroup
 whole_groups older newer = whole_with older (finite.entries newer)
 
--- one more batch
+-- the groups with one more batch, by its marker
 abbrev pub groups_after : WaitingGroups → ReadBatch → Option GroupMarker → WaitingGroups
 groups_after groups b None = groups
 groups_after groups b (Some m) = finite.insert groups m.group (joined_group (known groups m.group) (one_marker m.status b.steps b.file))
@@ -54,12 +54,12 @@ abbrev pub steps_or : ℕ → Option WholeGroup → List Step
 steps_or r None = []
 steps_or r (Some w) = whole_steps r w
 
--- the steps of what it completes
+-- the steps on a region that take effect with a batch: its own where it has no marker, else those of the group that it makes whole
 abbrev pub steps_by_batch : ℕ → WaitingGroups → ReadBatch → Option GroupMarker → List Step
 steps_by_batch r groups b None = steps_on r b.steps
 steps_by_batch r groups b (Some m) = steps_or r (whole_group (known groups m.group) (one_marker m.status b.steps b.file))
 
--- the steps that wait
+-- the steps that wait in a front
 abbrev pub front_steps : GroupFront → List RegionStep
 front_steps (Open is) = is
 front_steps (Ended is f) = is
@@ -78,7 +78,7 @@ held_steps g = front_steps g.front ++ stretch_steps g.stretch
 abbrev pub waiting_steps : WaitingGroups → ℕ
 waiting_steps groups = length (flat_map (λ e. held_steps e.1) (finite.entries groups))
 
--- whether what a batch completes names the region
+-- whether a group, if it is whole, names the region
 abbrev pub names_by : ℕ → Option WholeGroup → Bool
 names_by r None = false
 names_by r (Some w) = names r w.steps

@@ -32,7 +32,8 @@ pub fn batches_are_taken_in()
         → follows c.files (files_of (e ∷ [])) ≡ true → AreInFile e.file e.items → HaveStatus e.file.queue e.items
         → StandsFor c h → taken_in c e ≡ None → Sound (h ++ e ∷ []) → ⊥ }
     ensures next { (c : Context) (h : List Event) (e : Event) → StandsFor c h → Sound (h ++ e ∷ [])
-        → Suits e.file.queue c.files × (follows c.files (files_of (e ∷ [])) ≡ true) × AreInFile e.file e.items × HaveStatus e.file.queue e.items }
+        → Suits e.file.queue c.files × (follows c.files (files_of (e ∷ [])) ≡ true) × AreInFile e.file e.items
+        × HaveStatus e.file.queue e.items }
 {}
 
 /// Contexts of two neighbouring histories, merged, stand for both, one behind the other; exactly, if
@@ -80,19 +81,21 @@ pub fn exact_contexts_keep_little()
 /// in meaning.
 pub fn exact_contexts_agree()
     ensures { (c d : Context) (h : List Event) → IsExactFor c h → IsExactFor d h
-        → (c.regions.tables ≡ d.regions.tables) × (c.groups ≡ d.groups) × (c.cleaned ≡ d.cleaned) × (c.files ≡ d.files) }
+        → (c.regions.tables ≡ d.regions.tables) × (c.groups ≡ d.groups) × (c.cleaned ≡ d.cleaned)
+        × (c.files ≡ d.files) }
 {}
 
 /// What waits after two neighbours were joined, and what became whole between them, is no more than
 /// waited in both.
 pub fn waiting_records_stay_few()
     ensures { (older newer : WaitingGroups)
-        → waiting_records (joined_groups older newer) + records_in_wholes (whole_groups older newer) ≤ waiting_records older + waiting_records newer }
+        → waiting_records (joined_groups older newer) + records_in_wholes (whole_groups older newer)
+        ≤ waiting_records older + waiting_records newer }
 {}
 
-/// The steps that become whole where two histories of a queue meet are such as replays into it ask
-/// for.
+/// The steps that become whole between two histories of a queue are such as replays into it ask for.
 pub fn wholes_are_of_the_queue()
     ensures { (q : LogQueue) (h k : List Event) → FilesFrom q 0 h → AreInFiles h → FilesFrom q 0 k → AreInFiles k
-        → AllByRecursion (λ (s : RegionStep). IsStepOfQueue q s.step) (region_steps_of_wholes (whole_groups (groups_in (batches h)) (groups_in (batches k)))) }
+        → AllByRecursion (λ (s : RegionStep). IsStepOfQueue q s.step)
+        (region_steps_of_wholes (whole_groups (groups_in (batches h)) (groups_in (batches k)))) }
 {}

@@ -20,7 +20,8 @@ pub fn effects_are_stretches()
 /// behind the other.
 pub fn groups_join()
     ensures joined { (h k : List ReadBatch) → groups_in (h ++ k) ≡ joined_groups (groups_in h) (groups_in k) }
-    ensures more { (h : List ReadBatch) (b : ReadBatch) → groups_in (h ++ b ∷ []) ≡ groups_after (groups_in h) b b.marker }
+    ensures more { (h : List ReadBatch) (b : ReadBatch)
+        → groups_in (h ++ b ∷ []) ≡ groups_after (groups_in h) b b.marker }
     ensures each { (g : ℕ) (h : List ReadBatch) → known (groups_in h) g ≡ group_in g h }
 {}
 
@@ -28,7 +29,8 @@ pub fn groups_join()
 /// that become whole between them, and of the newer.
 pub fn steps_join()
     ensures across { (r : ℕ) (h k : List ReadBatch) → BatchesApart (h ++ k) →
-        steps_of r (h ++ k) ≡ steps_of r h ++ (steps_of_wholes r (whole_groups (groups_in h) (groups_in k)) ++ steps_of r k) }
+        steps_of r (h ++ k)
+        ≡ steps_of r h ++ (steps_of_wholes r (whole_groups (groups_in h) (groups_in k)) ++ steps_of r k) }
     ensures more { (r : ℕ) (h : List ReadBatch) (b : ReadBatch)
         → steps_of r (h ++ b ∷ []) ≡ steps_of r h ++ steps_by_batch r (groups_in h) b b.marker }
 {}
@@ -55,12 +57,15 @@ pub fn unmarked_batches_are_effects()
 pub fn named_regions_have_steps()
     ensures steps { (r : ℕ) (h : List ReadBatch) → (is_named r h ≡ false) ↔ (steps_of r h ≡ []) }
     ensures across { (r : ℕ) (h k : List ReadBatch) → BatchesApart (h ++ k)
-        → is_named r (h ++ k) ≡ (is_named r h || (list_any (λ w. names r w.steps) (whole_groups (groups_in h) (groups_in k)) || is_named r k)) }
+        → is_named r (h ++ k)
+        ≡ (is_named r h
+        || (list_any (λ w. names r w.steps) (whole_groups (groups_in h) (groups_in k)) || is_named r k)) }
     ensures more { (r : ℕ) (h : List ReadBatch) (b : ReadBatch)
         → is_named r (h ++ b ∷ []) ≡ (is_named r h || names_by_batch r (groups_in h) b b.marker) }
 {}
 
 /// A group that is not whole changes nothing: without its batches every region has the same steps.
 pub fn incomplete_groups_change_nothing()
-    ensures { (g : ℕ) (h : List ReadBatch) → EndsNoEffect g h → (r : ℕ) → steps_of r (without_group g h) ≡ steps_of r h }
+    ensures { (g : ℕ) (h : List ReadBatch) → EndsNoEffect g h → (r : ℕ)
+        → steps_of r (without_group g h) ≡ steps_of r h }
 {}

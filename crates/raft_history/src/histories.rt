@@ -39,9 +39,11 @@ pub fn last_words_stand()
     ensures entries { (h : List Event) (tables : Tables) (cleaned : List ℕ) → IsSoundIn Append h
         → IsOneReading Append h tables cleaned
         → (r i : ℕ)
-        → entry_at i (table_of r (finite.get tables r)).entries ≡ last_entry i (flat_map (λ e. steps_on r (steps_of_items e.items)) h) }
+        → entry_at i (table_of r (finite.get tables r)).entries
+        ≡ last_entry i (flat_map (λ e. steps_on r (steps_of_items e.items)) h) }
     ensures keys { (h : List Event) (tables : Tables) (cleaned : List ℕ) → IsSoundIn Append h
         → IsOneReading Append h tables cleaned
         → (r : ℕ) (key : List ℕ)
-        → finite.get (table_of r (finite.get tables r)).keys key ≡ last_pair key (flat_map (λ e. steps_on r (steps_of_items e.items)) h) }
+        → finite.get (table_of r (finite.get tables r)).keys key
+        ≡ last_pair key (flat_map (λ e. steps_on r (steps_of_items e.items)) h) }
 {}

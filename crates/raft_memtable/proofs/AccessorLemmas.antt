@@ -18,7 +18,7 @@ use Rattle.raft_memtable.specs.AccessorView.{together, accessor_shown, IsAccesso
 use Rattle.raft_memtable.specs.ItemWrites.{IsItemWritten}
 use Rattle.raft_memtable.specs.Merges.{IsMergedAt, IsTableMerged}
 use Rattle.raft_memtable.specs.Updates.{IsTaken}
-use Rattle.raft_memtable.specs.Writes.{Writing, queue_of, after_content, after_items, listed_by, listed_by_items, IsFor, MixesQueues, NoneMeetsOthers, IsWriteFault, AreWritten, AreItemsRefused}
+use Rattle.raft_memtable.specs.Writes.{Writing, queue_of, after_content, after_items, listed_by, listed_by_items, IsFor, MixesQueues, NoneMixesQueues, IsWriteFault, AreWritten, AreItemsRefused}
 use Rattle.raft_memtable.proofs.MapLemmas.{with_own, with_same, some_is}
 use Rattle.raft_memtable.proofs.SlotLemmas.{get-shown, IsChanged, shown-changed, kept-changed}
 
@@ -130,8 +130,8 @@ asked-append : (w : Writing) (xs ys : List Item) → AllByRecursion (λ (item : 
 asked-append w [] ys g h = h
 asked-append w (x ∷ xs) ys g h = (g.0, asked-append w xs ys g.1 h)
 
-none-append : (w : Writing) (xs ys : List Item) (m n : Tables) → NoneMeetsOthers w m xs → after_items w m xs ≡ Some n → NoneMeetsOthers w n ys → NoneMeetsOthers w m (xs ++ ys)
-none-append w [] ys m n g e h = subst (λ k. NoneMeetsOthers w k ys) (sym (some_is e)) h
+none-append : (w : Writing) (xs ys : List Item) (m n : Tables) → NoneMixesQueues w m xs → after_items w m xs ≡ Some n → NoneMixesQueues w n ys → NoneMixesQueues w m (xs ++ ys)
+none-append w [] ys m n g e h = subst (λ k. NoneMixesQueues w k ys) (sym (some_is e)) h
 none-append w (x ∷ xs) ys m n g e h = (
   g.0,
   λ t is. none-append w xs ys (with_table m x.raft_group_id t) n (g.1 t is) (subst (λ o. option_and_then (λ t. after_items w (with_table m x.raft_group_id t) xs) o ≡ Some n) is e) h,

@@ -8,6 +8,7 @@ use Rattle.raft_memtable.specs.declared.slot.Slot.TheInside.{Inside}
 use Rattle.raft_memtable.specs.Accessor.{slot_of, AreCountsOf}
 use Rattle.raft_memtable.specs.Slot.{SlotContent}
 
+-- a slot's number, and its tables, cleaned regions and counts
 abbrev pub slot_shown : Inside → SlotContent
 slot_shown a = record { number = a.number; part = record { tables = a.tables; cleaned = a.cleaned.items; counts = a.stats } }
 
@@ -15,6 +16,7 @@ slot_shown a = record { number = a.number; part = record { tables = a.tables; cl
 abbrev pub AreOf : ℕ → Tables → Type 0
 AreOf number m = (id : ℕ) (t : Table) → finite.get m id ≡ Some t → slot_of id ≡ number
 
+-- the tables and the cleaned regions are of this slot, and the counts are those of the tables
 pub record IsSlotKept (a : Inside) : Type 0 where
   pub regions : AreOf a.number a.tables
   pub counted : AreCountsOf a.tables a.stats

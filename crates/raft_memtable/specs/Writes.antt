@@ -72,7 +72,7 @@ abbrev pub after_command : ℕ → Option Table → Command → Option (Option T
 after_command id o commands.Clean = Some None
 after_command id o (commands.Compact index) = Some (Some (compacted index (table_of id o)))
 
--- and by a rewriting, for which a Clean changes nothing and a Compact is refused
+-- a region's table after a command by a rewriting, for which a Clean changes nothing and a Compact is refused
 abbrev pub after_rewrite_command : Option Table → Command → Option (Option Table)
 after_rewrite_command o commands.Clean = Some o
 after_rewrite_command o (commands.Compact index) = None
@@ -154,11 +154,11 @@ MixesQueues (Replaying queue) t (entries es) = 0 < live_of (other queue) t
 MixesQueues w t content = ⊥
 
 -- no item is entries that are read again into a table of the other queue, the tables being those after the items in front of it
-abbrev pub NoneMeetsOthers : Writing → Tables → List Item → Type 0
-NoneMeetsOthers w m [] = Unit {0}
-NoneMeetsOthers w m (item ∷ items) =
+abbrev pub NoneMixesQueues : Writing → Tables → List Item → Type 0
+NoneMixesQueues w m [] = Unit {0}
+NoneMixesQueues w m (item ∷ items) =
     (MixesQueues w (table_of item.raft_group_id (finite.get m item.raft_group_id)) item.content → ⊥)
-    × ((t : Option Table) → after_content w item.raft_group_id (finite.get m item.raft_group_id) item.content ≡ Some t → NoneMeetsOthers w (with_table m item.raft_group_id t) items)
+    × ((t : Option Table) → after_content w item.raft_group_id (finite.get m item.raft_group_id) item.content ≡ Some t → NoneMixesQueues w (with_table m item.raft_group_id t) items)
 
 -- why a content is refused, `live` records being live in the queue: it isn't as asked, or its change is refused; it would be read again into a table of the other queue; more than 2^64 - 1 records would be live; or want of memory
 abbrev pub IsWriteFault : Writing → ℕ → Option Table → ℕ → Content → Error → Type 0
@@ -171,7 +171,7 @@ IsWriteFault w id o live content _ = ⊥
 -- items are written: each is as asked, none meets records of the other queue, the tables are those after them in order, and the regions that they clean are listed
 pub record AreWritten (w : Writing) (items : List Item) (old new : Accessor) : Type 0 where
   pub asked : AllByRecursion (λ (item : Item). IsFor w item.content) items
-  pub accepted : NoneMeetsOthers w old.tables items
+  pub accepted : NoneMixesQueues w old.tables items
   pub tables : after_items w old.tables items ≡ Some new.tables
   pub cleaned : new.cleaned ≡ old.cleaned ++ listed_by_items w items
 

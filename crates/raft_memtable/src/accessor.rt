@@ -124,7 +124,8 @@ impl MemTableAccessor {
     ///
     /// `AllocError`. All tables are then as they were.
     pub fn get_or_insert(&mut self, id: u64) -> std::result::Result<&MemTable, AllocError>
-        ensures* ends { sem 𝓛 (follows_so the_row the_row self.entry.ghost_name none (λ _ _. ⊤) (λ new. IsTableMade id result self.old new)) }
+        ensures* ends { sem 𝓛 (follows_so the_row the_row self.entry.ghost_name none (λ _ _. ⊤)
+            (λ new. IsTableMade id result self.old new)) }
         ensures table { IfOk result (λ t. t.now ≡ table_in self.old.tables id) }
     {
         self.make_table(id)?;
@@ -170,7 +171,8 @@ impl MemTableAccessor {
     ///
     /// Those of [`MemTable::change`], and `Memory`. All tables are then as they were.
     pub fn change(&mut self, id: u64, change: TableChange) -> Result<u64>
-        ensures changed { IsTableChanged (after_change (table_in self.old.tables id) change) (IsChangeFault (table_in self.old.tables id) self.old.counts change) id result self.old self.new }
+        ensures changed { IsTableChanged (after_change (table_in self.old.tables id) change)
+            (IsChangeFault (table_in self.old.tables id) self.old.counts change) id result self.old self.new }
         ensures answer { IfOk result (IsAnswer change (table_in self.old.tables id) (table_in self.new.tables id)) }
     {
         self.slots[slot_of(id)].change(id, change, &mut self.stats)
@@ -189,7 +191,8 @@ impl MemTableAccessor {
         end: FileSeq,
     ) -> Result<()>
         requires { start ≤ end }
-        ensures { IsTableChanged (Some (with_atomic_group (table_in self.old.tables id) start end)) (λ e. ⊥) id result self.old self.new }
+        ensures { IsTableChanged (Some (with_atomic_group (table_in self.old.tables id) start end))
+            (λ e. ⊥) id result self.old self.new }
     {
         self.slots[slot_of(id)].apply_rewrite_atomic_group(id, start, end, &mut self.stats)
     }
@@ -206,7 +209,8 @@ impl MemTableAccessor {
         ensures ok { OnOk result (self.new.tables ≡ finite.insert self.old.tables id table) }
         ensures replaced { IfOk result (λ t. t ≡ finite.get self.old.tables id) }
         ensures err { OnErr result (self.new.tables ≡ self.old.tables) }
-        ensures fault { IfErr result (λ e. (e ≡ Error.Memory) ⊎ ((e ≡ Error.Full) × ((q : LogQueue) × (2 ^ 64 ≤ live_in_all q self.old.tables + live_of q table)))) }
+        ensures fault { IfErr result (λ e. (e ≡ Error.Memory)
+            ⊎ ((e ≡ Error.Full) × ((q : LogQueue) × (2 ^ 64 ≤ live_in_all q self.old.tables + live_of q table)))) }
         ensures cleaned { self.new.cleaned ≡ self.old.cleaned }
     {
         self.slots[slot_of(id)].insert(id, table, &mut self.stats)
@@ -221,7 +225,8 @@ impl MemTableAccessor {
     pub fn remove(&mut self, id: u64, record_tombstone: bool) -> Result<Option<MemTable>>
         ensures tables { OnOk result (self.new.tables ≡ finite.remove self.old.tables id) }
         ensures taken { IfOk result (λ t. t ≡ finite.get self.old.tables id) }
-        ensures cleaned { OnOk result (self.new.cleaned ≡ (if record_tombstone then self.old.cleaned ++ id ∷ [] else self.old.cleaned)) }
+        ensures cleaned { OnOk result (self.new.cleaned
+            ≡ (if record_tombstone then self.old.cleaned ++ id ∷ [] else self.old.cleaned)) }
         ensures err { OnErr result (self.new ≡ self.old) }
         ensures fault { IfErr result (λ e. (e ≡ Error.Memory) × IsTrue record_tombstone) }
     {
@@ -271,10 +276,13 @@ impl MemTableAccessor {
     ///
     /// Those of the first item that is refused. The items in front of it are written, and nothing else.
     pub fn apply_append_writes<I: IntoIterator<Item = LogItem>>(&mut self, items: I) -> Result<()>
-        requires { (it : I.IntoIter) → I.into_iter_gives items it → I.IntoIter.can_next it × IsFinite (I.IntoIter.remaining it) }
-        ensures ok { OnOk result ((it : I.IntoIter) × (xs : List LogItem) × I.into_iter_gives items it × Drains I.IntoIter.next_gives it xs
+        requires { (it : I.IntoIter) → I.into_iter_gives items it
+            → I.IntoIter.can_next it × IsFinite (I.IntoIter.remaining it) }
+        ensures ok { OnOk result ((it : I.IntoIter) × (xs : List LogItem) × I.into_iter_gives items it
+            × Drains I.IntoIter.next_gives it xs
             × AreWritten Appending (map item_of xs) self.old self.new) }
-        ensures refused { IfErr result (λ e. (it : I.IntoIter) × (xs : List LogItem) × (u : I.IntoIter) × I.into_iter_gives items it × Yields I.IntoIter.next_gives it xs u
+        ensures refused { IfErr result (λ e. (it : I.IntoIter) × (xs : List LogItem) × (u : I.IntoIter)
+            × I.into_iter_gives items it × Yields I.IntoIter.next_gives it xs u
             × AreItemsRefused Appending (map item_of xs) self.old self.new e) }
     {
         for item in items {
@@ -289,10 +297,13 @@ impl MemTableAccessor {
     ///
     /// Those of the first item that is refused. The items in front of it are written, and nothing else.
     pub fn replay_append_writes<I: IntoIterator<Item = LogItem>>(&mut self, items: I) -> Result<()>
-        requires { (it : I.IntoIter) → I.into_iter_gives items it → I.IntoIter.can_next it × IsFinite (I.IntoIter.remaining it) }
-        ensures ok { OnOk result ((it : I.IntoIter) × (xs : List LogItem) × I.into_iter_gives items it × Drains I.IntoIter.next_gives it xs
+        requires { (it : I.IntoIter) → I.into_iter_gives items it
+            → I.IntoIter.can_next it × IsFinite (I.IntoIter.remaining it) }
+        ensures ok { OnOk result ((it : I.IntoIter) × (xs : List LogItem) × I.into_iter_gives items it
+            × Drains I.IntoIter.next_gives it xs
             × AreWritten (Replaying Append) (map item_of xs) self.old self.new) }
-        ensures refused { IfErr result (λ e. (it : I.IntoIter) × (xs : List LogItem) × (u : I.IntoIter) × I.into_iter_gives items it × Yields I.IntoIter.next_gives it xs u
+        ensures refused { IfErr result (λ e. (it : I.IntoIter) × (xs : List LogItem) × (u : I.IntoIter)
+            × I.into_iter_gives items it × Yields I.IntoIter.next_gives it xs u
             × AreItemsRefused (Replaying Append) (map item_of xs) self.old self.new e) }
     {
         for item in items {
@@ -307,10 +318,13 @@ impl MemTableAccessor {
     ///
     /// Those of the first item that is refused. The items in front of it are written, and nothing else.
     pub fn replay_rewrite_writes<I: IntoIterator<Item = LogItem>>(&mut self, items: I) -> Result<()>
-        requires { (it : I.IntoIter) → I.into_iter_gives items it → I.IntoIter.can_next it × IsFinite (I.IntoIter.remaining it) }
-        ensures ok { OnOk result ((it : I.IntoIter) × (xs : List LogItem) × I.into_iter_gives items it × Drains I.IntoIter.next_gives it xs
+        requires { (it : I.IntoIter) → I.into_iter_gives items it
+            → I.IntoIter.can_next it × IsFinite (I.IntoIter.remaining it) }
+        ensures ok { OnOk result ((it : I.IntoIter) × (xs : List LogItem) × I.into_iter_gives items it
+            × Drains I.IntoIter.next_gives it xs
             × AreWritten (Replaying Rewrite) (map item_of xs) self.old self.new) }
-        ensures refused { IfErr result (λ e. (it : I.IntoIter) × (xs : List LogItem) × (u : I.IntoIter) × I.into_iter_gives items it × Yields I.IntoIter.next_gives it xs u
+        ensures refused { IfErr result (λ e. (it : I.IntoIter) × (xs : List LogItem) × (u : I.IntoIter)
+            × I.into_iter_gives items it × Yields I.IntoIter.next_gives it xs u
             × AreItemsRefused (Replaying Rewrite) (map item_of xs) self.old self.new e) }
     {
         for item in items {
@@ -332,10 +346,13 @@ impl MemTableAccessor {
         watermark: Option<FileSeq>,
         new_file: FileSeq,
     ) -> Result<()>
-        requires { (it : I.IntoIter) → I.into_iter_gives items it → I.IntoIter.can_next it × IsFinite (I.IntoIter.remaining it) }
-        ensures ok { OnOk result ((it : I.IntoIter) × (xs : List LogItem) × I.into_iter_gives items it × Drains I.IntoIter.next_gives it xs
+        requires { (it : I.IntoIter) → I.into_iter_gives items it
+            → I.IntoIter.can_next it × IsFinite (I.IntoIter.remaining it) }
+        ensures ok { OnOk result ((it : I.IntoIter) × (xs : List LogItem) × I.into_iter_gives items it
+            × Drains I.IntoIter.next_gives it xs
             × AreWritten (Rewriting watermark new_file) (map item_of xs) self.old self.new) }
-        ensures refused { IfErr result (λ e. (it : I.IntoIter) × (xs : List LogItem) × (u : I.IntoIter) × I.into_iter_gives items it × Yields I.IntoIter.next_gives it xs u
+        ensures refused { IfErr result (λ e. (it : I.IntoIter) × (xs : List LogItem) × (u : I.IntoIter)
+            × I.into_iter_gives items it × Yields I.IntoIter.next_gives it xs u
             × AreItemsRefused (Rewriting watermark new_file) (map item_of xs) self.old self.new e) }
     {
         for item in items {
@@ -351,7 +368,8 @@ impl MemTableAccessor {
     ///
     /// `Memory`. The accessor is then as it was.
     pub fn take_cleaned_region_logs(&mut self) -> Result<LogBatch>
-        ensures logs { IfOk result (λ logs. logs ≡ record empty_batch { items = map (λ id. command_item id Clean) self.old.cleaned }) }
+        ensures logs { IfOk result (λ logs. logs
+            ≡ record empty_batch { items = map (λ id. command_item id Clean) self.old.cleaned }) }
         ensures ok { OnOk result (self.new ≡ record self.old { cleaned = [] }) }
         ensures err { OnErr result (self.new ≡ self.old) }
         ensures memory { IfErr result (λ e. e ≡ Error.Memory) }
@@ -394,7 +412,8 @@ impl MemTableAccessor {
     ///
     /// `Memory`.
     pub fn tables(&self) -> Result<Vec<&MemTable>>
-        ensures tables { IfOk result (λ tables. IsPermutation (map (λ t. t.now) tables.items) (finite.values self.now.tables)) }
+        ensures tables { IfOk result
+            (λ tables. IsPermutation (map (λ t. t.now) tables.items) (finite.values self.now.tables)) }
         ensures memory { IfErr result (λ e. e ≡ Error.Memory) }
     {
         let mut tables = Vec::new(*self.cleaned.allocator());
@@ -411,7 +430,8 @@ impl MemTableAccessor {
     /// `Memory`.
     pub fn collect<F: FnMut(&MemTable) -> bool>(&self, mut f: F) -> Result<Vec<&MemTable>>
         requires { F.IsAlwaysCallable f }
-        ensures ok { IfOk result (λ kept. (ts : List Table) × (last : F) × IsPermutation ts (finite.values self.now.tables)
+        ensures ok { IfOk result (λ kept. (ts : List Table) × (last : F)
+            × IsPermutation ts (finite.values self.now.tables)
             × FoldsTo (Collects F.FnMut) (f, []) ts (last, map (λ t. t.now) kept.items)) }
         ensures memory { IfErr result (λ e. e ≡ Error.Memory) }
     {
@@ -468,7 +488,8 @@ impl MemTableAccessor {
     /// Merges a newer neighbor into the table of its region.
     fn merge_newer_table(&mut self, id: u64, newer: MemTable) -> Result<()>
         requires { newer.region_id ≡ id }
-        ensures ok { OnOk result (IsMergedAt with_newer id (finite.get self.old.tables id) (Some newer) (finite.get self.new.tables id)) }
+        ensures ok { OnOk result
+            (IsMergedAt with_newer id (finite.get self.old.tables id) (Some newer) (finite.get self.new.tables id)) }
         ensures others { self.new.tables ≡ with_table self.old.tables id (finite.get self.new.tables id) }
         ensures cleaned { self.new.cleaned ≡ self.old.cleaned }
     {
@@ -478,7 +499,8 @@ impl MemTableAccessor {
     /// Merges an appended table into the table of its region.
     fn merge_appended(&mut self, id: u64, newer: MemTable) -> Result<()>
         requires { newer.region_id ≡ id }
-        ensures ok { OnOk result (IsMergedAt with_appended id (finite.get self.old.tables id) (Some newer) (finite.get self.new.tables id)) }
+        ensures ok { OnOk result
+            (IsMergedAt with_appended id (finite.get self.old.tables id) (Some newer) (finite.get self.new.tables id)) }
         ensures others { self.new.tables ≡ with_table self.old.tables id (finite.get self.new.tables id) }
         ensures cleaned { self.new.cleaned ≡ self.old.cleaned }
     {

@@ -41,7 +41,8 @@ impl RegionTables {
         cleaned: &mut Vec<u64>,
     ) -> Result<()>
         requires { IsCounted (table_in self.old item.raft_group_id) stats.old }
-        ensures { IsItemWritten Appending (item_of item) self.old stats.old cleaned.old.items result self.new stats.new cleaned.new.items }
+        ensures { IsItemWritten Appending (item_of item)
+            self.old stats.old cleaned.old.items result self.new stats.new cleaned.new.items }
     {
         let LogItem {
             raft_group_id: id,
@@ -73,7 +74,8 @@ impl RegionTables {
         cleaned: &mut Vec<u64>,
     ) -> Result<()>
         requires { IsCounted (table_in self.old item.raft_group_id) stats.old }
-        ensures { IsItemWritten (Replaying queue) (item_of item) self.old stats.old cleaned.old.items result self.new stats.new cleaned.new.items }
+        ensures { IsItemWritten (Replaying queue) (item_of item)
+            self.old stats.old cleaned.old.items result self.new stats.new cleaned.new.items }
     {
         let LogItem {
             raft_group_id: id,
@@ -106,7 +108,8 @@ impl RegionTables {
         stats: &mut GlobalStats,
     ) -> Result<()>
         requires { IsCounted (table_in self.old item.raft_group_id) stats.old }
-        ensures { (list : List ℕ) → IsItemWritten (Rewriting gate seq) (item_of item) self.old stats.old list result self.new stats.new list }
+        ensures { (list : List ℕ)
+            → IsItemWritten (Rewriting gate seq) (item_of item) self.old stats.old list result self.new stats.new list }
     {
         let LogItem {
             raft_group_id: id,
@@ -129,7 +132,9 @@ impl RegionTables {
         stats: &mut GlobalStats,
     ) -> Result<()>
         requires { IsCounted (table_in self.old id) stats.old }
-        ensures { (list : List ℕ) → IsItemWritten Appending (entries_item id run.items) self.old stats.old list result self.new stats.new list }
+        ensures { (list : List ℕ)
+            → IsItemWritten Appending (entries_item id run.items)
+            self.old stats.old list result self.new stats.new list }
     {
         if !is_run(&run, LogQueue::Append) {
             return Err(corruption(self.allocator(), "entries are no run of the append queue"));
@@ -146,7 +151,9 @@ impl RegionTables {
         stats: &mut GlobalStats,
     ) -> Result<()>
         requires { IsCounted (table_in self.old id) stats.old }
-        ensures { (list : List ℕ) → IsItemWritten (Replaying queue) (entries_item id run.items) self.old stats.old list result self.new stats.new list }
+        ensures { (list : List ℕ)
+            → IsItemWritten (Replaying queue) (entries_item id run.items)
+            self.old stats.old list result self.new stats.new list }
     {
         if !is_run(&run, queue) {
             return Err(corruption(self.allocator(), "entries are no run of their queue"));
@@ -164,7 +171,9 @@ impl RegionTables {
         stats: &mut GlobalStats,
     ) -> Result<()>
         requires { IsCounted (table_in self.old id) stats.old }
-        ensures { (list : List ℕ) → IsItemWritten (Rewriting gate seq) (entries_item id run.items) self.old stats.old list result self.new stats.new list }
+        ensures { (list : List ℕ)
+            → IsItemWritten (Rewriting gate seq) (entries_item id run.items)
+            self.old stats.old list result self.new stats.new list }
     {
         if !is_run(&run, LogQueue::Rewrite) {
             return Err(corruption(self.allocator(), "entries are no run of the rewrite queue"));
@@ -174,7 +183,9 @@ impl RegionTables {
 
     /// Refuses a compaction that was rewritten. A `Clean` changes nothing.
     fn rewrite_command(&self, id: u64, command: Command) -> Result<()>
-        ensures { (gate : Option ℕ) (seq : ℕ) (counts : Counts) (list : List ℕ) → IsItemWritten (Rewriting gate seq) (command_item id command) self.now counts list result self.now counts list }
+        ensures { (gate : Option ℕ) (seq : ℕ) (counts : Counts) (list : List ℕ)
+            → IsItemWritten (Rewriting gate seq) (command_item id command)
+            self.now counts list result self.now counts list }
     {
         match command {
             Command::Clean => Ok(()),
@@ -194,7 +205,8 @@ impl RegionTables {
         cleaned: &mut Vec<u64>,
     ) -> Result<()>
         requires { IsCounted (table_in self.old id) stats.old }
-        ensures { IsItemWritten (Replaying queue) (command_item id command) self.old stats.old cleaned.old.items result self.new stats.new cleaned.new.items }
+        ensures { IsItemWritten (Replaying queue) (command_item id command)
+            self.old stats.old cleaned.old.items result self.new stats.new cleaned.new.items }
     {
         match command {
             Command::Clean => self.clean(queue, id, stats, cleaned),
@@ -211,7 +223,8 @@ impl RegionTables {
         cleaned: &mut Vec<u64>,
     ) -> Result<()>
         requires { IsCounted (table_in self.old id) stats.old }
-        ensures { IsItemWritten (Replaying queue) (command_item id Clean) self.old stats.old cleaned.old.items result self.new stats.new cleaned.new.items }
+        ensures { IsItemWritten (Replaying queue) (command_item id Clean)
+            self.old stats.old cleaned.old.items result self.new stats.new cleaned.new.items }
     {
         match queue {
             LogQueue::Append => {
@@ -235,7 +248,9 @@ impl RegionTables {
         stats: &mut GlobalStats,
     ) -> Result<()>
         requires { IsCounted (table_in self.old id) stats.old }
-        ensures { (list : List ℕ) → IsItemWritten (Replaying queue) (pair_change id (pair_of kv)) self.old stats.old list result self.new stats.new list }
+        ensures { (list : List ℕ)
+            → IsItemWritten (Replaying queue) (pair_change id (pair_of kv))
+            self.old stats.old list result self.new stats.new list }
     {
         if is_reserved(&kv.key) {
             return Ok(());
@@ -273,7 +288,9 @@ impl RegionTables {
         stats: &mut GlobalStats,
     ) -> Result<()>
         requires { IsCounted (table_in self.old id) stats.old }
-        ensures { (list : List ℕ) → IsItemWritten (Rewriting gate seq) (pair_change id (pair_of kv)) self.old stats.old list result self.new stats.new list }
+        ensures { (list : List ℕ)
+            → IsItemWritten (Rewriting gate seq) (pair_change id (pair_of kv))
+            self.old stats.old list result self.new stats.new list }
     {
         if is_reserved(&kv.key) {
             return Ok(());
@@ -292,7 +309,10 @@ impl RegionTables {
     fn append_run(&mut self, id: u64, run: Vec<EntryIndex>, stats: &mut GlobalStats) -> Result<()>
         requires run { IsRunIn Append run.items }
         requires counted { IsCounted (table_in self.old id) stats.old }
-        ensures { IsTaken (after_append (table_in self.old id) run.items) (IsTableRunFault Append stats.old (table_in self.old id).entries (appended (table_in self.old id).entries run.items)) self.old id stats.old result self.new stats.new }
+        ensures { IsTaken (after_append (table_in self.old id) run.items)
+            (IsTableRunFault Append stats.old (table_in self.old id).entries
+                (appended (table_in self.old id).entries run.items))
+            self.old id stats.old result self.new stats.new }
     {
         self.update(
             id,
@@ -311,7 +331,9 @@ impl RegionTables {
     ) -> Result<()>
         requires run { IsRunIn queue run.items }
         requires counted { IsCounted (table_in self.old id) stats.old }
-        ensures taken { IsTaken (after_replay queue (table_in self.old id) run.items) (IsReplayFault queue run.items (table_in self.old id) stats.old) self.old id stats.old result self.new stats.new }
+        ensures taken { IsTaken (after_replay queue (table_in self.old id) run.items)
+            (IsReplayFault queue run.items (table_in self.old id) stats.old)
+            self.old id stats.old result self.new stats.new }
         ensures accepted { OnOk result (live_of (other queue) (table_in self.old id) ≡ 0) }
     {
         let alloc = self.allocator();
@@ -327,7 +349,8 @@ impl RegionTables {
     /// Drops the entries below an index.
     pub(crate) fn compact(&mut self, id: u64, index: u64, stats: &mut GlobalStats) -> Result<()>
         requires { IsCounted (table_in self.old id) stats.old }
-        ensures { IsTaken (Some (compacted index (table_in self.old id))) (λ e. ⊥) self.old id stats.old result self.new stats.new }
+        ensures { IsTaken (Some (compacted index (table_in self.old id))) (λ e. ⊥)
+            self.old id stats.old result self.new stats.new }
     {
         self.update(
             id,
@@ -349,7 +372,9 @@ impl RegionTables {
         stats: &mut GlobalStats,
     ) -> Result<()>
         requires { IsCounted (table_in self.old id) stats.old }
-        ensures { IsTaken (Some (with_pair (table_in self.old id) key.items value.items file)) (IsTablePutFault file.queue stats.old (file_at (table_in self.old id).keys key.items)) self.old id stats.old result self.new stats.new }
+        ensures { IsTaken (Some (with_pair (table_in self.old id) key.items value.items file))
+            (IsTablePutFault file.queue stats.old (file_at (table_in self.old id).keys key.items))
+            self.old id stats.old result self.new stats.new }
     {
         self.update(
             id,
@@ -361,7 +386,8 @@ impl RegionTables {
     /// Deletes a key.
     pub(crate) fn delete(&mut self, id: u64, key: &[u8], stats: &mut GlobalStats) -> Result<()>
         requires { IsCounted (table_in self.old id) stats.old }
-        ensures { IsTaken (Some (without_key (table_in self.old id) key.now)) (λ e. ⊥) self.old id stats.old result self.new stats.new }
+        ensures { IsTaken (Some (without_key (table_in self.old id) key.now)) (λ e. ⊥)
+            self.old id stats.old result self.new stats.new }
     {
         self.update(
             id,
@@ -383,7 +409,9 @@ impl RegionTables {
     ) -> Result<()>
         requires run { IsRunIn Rewrite run.items }
         requires counted { IsCounted (table_in self.old id) stats.old }
-        ensures { IsTaken (after_rewrite gate (table_in self.old id) run.items) (IsRewriteFault (length run.items) stats.old (rewritten gate run.items (table_in self.old id).entries)) self.old id stats.old result self.new stats.new }
+        ensures { IsTaken (after_rewrite gate (table_in self.old id) run.items)
+            (IsRewriteFault (length run.items) stats.old (rewritten gate run.items (table_in self.old id).entries))
+            self.old id stats.old result self.new stats.new }
     {
         self.update(
             id,
@@ -402,7 +430,9 @@ impl RegionTables {
         stats: &mut GlobalStats,
     ) -> Result<()>
         requires { IsCounted (table_in self.old id) stats.old }
-        ensures { IsTaken (after_rewrite_key gate seq (table_in self.old id) key.items) (IsKeyRewriteFault stats.old (after_rewrite_key gate seq (table_in self.old id) key.items)) self.old id stats.old result self.new stats.new }
+        ensures { IsTaken (after_rewrite_key gate seq (table_in self.old id) key.items)
+            (IsKeyRewriteFault stats.old (after_rewrite_key gate seq (table_in self.old id) key.items))
+            self.old id stats.old result self.new stats.new }
     {
         self.update(
             id,

@@ -71,7 +71,9 @@ impl RegionMarks {
     ///
     /// `Memory`. The marks are then as they were.
     pub fn add_run(&mut self, id: u64, queue: LogQueue, end: u64, start: u64) -> Result<()>
-        ensures ok { OnOk result (self.new ≡ finite.insert self.old id (joined_at queue end (mark_in self.old id) (record fresh { reach = Some start; cut = Some start }))) }
+        ensures ok { OnOk result (self.new
+            ≡ finite.insert self.old id
+            (joined_at queue end (mark_in self.old id) (record fresh { reach = Some start; cut = Some start }))) }
         ensures err { OnErr result (self.new ≡ self.old) }
         ensures memory { IfErr result (λ e. e ≡ Error.Memory) }
     {
@@ -87,7 +89,9 @@ impl RegionMarks {
     ///
     /// `Memory`. The marks are then as they were.
     pub fn add_compaction(&mut self, id: u64, index: u64) -> Result<()>
-        ensures ok { (queue : LogQueue) (end : ℕ) → OnOk result (self.new ≡ finite.insert self.old id (joined_at queue end (mark_in self.old id) (mark_of (Compact index)))) }
+        ensures ok { (queue : LogQueue) (end : ℕ)
+            → OnOk result (self.new
+            ≡ finite.insert self.old id (joined_at queue end (mark_in self.old id) (mark_of (Compact index)))) }
         ensures err { OnErr result (self.new ≡ self.old) }
         ensures memory { IfErr result (λ e. e ≡ Error.Memory) }
     {
@@ -103,7 +107,9 @@ impl RegionMarks {
     ///
     /// `Memory`. The marks are then as they were.
     pub fn add_deleted(&mut self, id: u64, key: Vec<u8>) -> Result<()>
-        ensures ok { (queue : LogQueue) (end : ℕ) → OnOk result (self.new ≡ finite.insert self.old id (joined_at queue end (mark_in self.old id) (mark_of (Del key.items)))) }
+        ensures ok { (queue : LogQueue) (end : ℕ)
+            → OnOk result (self.new
+            ≡ finite.insert self.old id (joined_at queue end (mark_in self.old id) (mark_of (Del key.items)))) }
         ensures err { OnErr result (self.new ≡ self.old) }
         ensures memory { IfErr result (λ e. e ≡ Error.Memory) }
     {
@@ -116,7 +122,9 @@ impl RegionMarks {
     ///
     /// `Memory`. The marks are then as they were.
     pub fn add_clean(&mut self, id: u64) -> Result<()>
-        ensures ok { (queue : LogQueue) (end : ℕ) → OnOk result (self.new ≡ finite.insert self.old id (joined_at queue end (mark_in self.old id) (mark_of Clean))) }
+        ensures ok { (queue : LogQueue) (end : ℕ)
+            → OnOk result (self.new
+            ≡ finite.insert self.old id (joined_at queue end (mark_in self.old id) (mark_of Clean))) }
         ensures err { OnErr result (self.new ≡ self.old) }
         ensures memory { IfErr result (λ e. e ≡ Error.Memory) }
     {
@@ -126,14 +134,15 @@ impl RegionMarks {
         })
     }
 
-    /// Joins the mark of newer steps to a region's mark, where its first run meets a part of the region's
-    /// own entries that ends at `met`.
+    /// Joins the mark of newer steps to a region's mark, whose first run comes behind own entries of the
+    /// region that end at `end_at_reach`.
     ///
     /// # Errors
     ///
     /// `Memory`.
     pub fn join(&mut self, id: u64, queue: LogQueue, end_at_reach: u64, newer: Mark) -> Result<()>
-        ensures ok { OnOk result (self.new ≡ finite.insert self.old id (joined_at queue end_at_reach (mark_in self.old id) newer)) }
+        ensures ok { OnOk result (self.new
+            ≡ finite.insert self.old id (joined_at queue end_at_reach (mark_in self.old id) newer)) }
         ensures memory { IfErr result (λ e. e ≡ Error.Memory) }
     {
         self.update(id, move |mark: &mut Mark| {

@@ -78,7 +78,8 @@ impl RegionTables {
 
     /// Pushes all tables, in open order.
     pub(crate) fn push_tables<'a>(&'a self, tables: &mut Vec<&'a MemTable>) -> Result<()>
-        ensures ok { OnOk result ((ts : List Table) × IsPermutation ts (finite.values self.now) × (map (λ t. t.now) tables.new.items ≡ map (λ t. t.now) tables.old.items ++ ts)) }
+        ensures ok { OnOk result ((ts : List Table) × IsPermutation ts (finite.values self.now)
+            × (map (λ t. t.now) tables.new.items ≡ map (λ t. t.now) tables.old.items ++ ts)) }
         ensures memory { IfErr result (λ e. e ≡ Error.Memory) }
     {
         for table in self.tables.values() {
@@ -90,7 +91,8 @@ impl RegionTables {
     /// What `f` makes of `init` and each table, in open order.
     pub(crate) fn fold<B: Drop, F: FnMut(B, &MemTable) -> B>(&self, init: B, f: &mut F) -> B
         requires { (state : F) (x : _) (t : _) → F.pre state x t }
-        ensures { (ts : List Table) × IsPermutation ts (finite.values self.now) × FoldsTo (Makes F.FnMut) (f.old, init) ts (f.new, result) }
+        ensures { (ts : List Table) × IsPermutation ts (finite.values self.now)
+            × FoldsTo (Makes F.FnMut) (f.old, init) ts (f.new, result) }
     {
         let mut answer = init;
         for table in self.tables.values() {
@@ -145,7 +147,8 @@ impl RegionTables {
     /// Those of [`MemTable::change`]. The tables are then as they were.
     pub fn change(&mut self, id: u64, change: TableChange, stats: &mut GlobalStats) -> Result<u64>
         requires { IsCounted (table_in self.old id) stats.old }
-        ensures taken { IsTaken (after_change (table_in self.old id) change) (IsChangeFault (table_in self.old id) stats.old change) self.old id stats.old result self.new stats.new }
+        ensures taken { IsTaken (after_change (table_in self.old id) change)
+            (IsChangeFault (table_in self.old id) stats.old change) self.old id stats.old result self.new stats.new }
         ensures answer { IfOk result (IsAnswer change (table_in self.old id) (table_in self.new id)) }
     {
         self.update(
@@ -169,7 +172,8 @@ impl RegionTables {
     ) -> Result<()>
         requires files { start ≤ end }
         requires counted { IsCounted (table_in self.old id) stats.old }
-        ensures { IsTaken (Some (with_atomic_group (table_in self.old id) start end)) (λ e. ⊥) self.old id stats.old result self.new stats.new }
+        ensures { IsTaken (Some (with_atomic_group (table_in self.old id) start end)) (λ e. ⊥)
+            self.old id stats.old result self.new stats.new }
     {
         self.update(
             id,
@@ -199,7 +203,8 @@ impl RegionTables {
         ensures ok { OnOk result (self.new ≡ finite.insert self.old id table) }
         ensures replaced { IfOk result (λ t. t ≡ finite.get self.old id) }
         ensures err { OnErr result (self.new ≡ self.old) }
-        ensures fault { IfErr result (λ e. (e ≡ Error.Memory) ⊎ ((e ≡ Error.Full) × ((q : LogQueue) × (2 ^ 64 ≤ live q stats.old + live_of q table)))) }
+        ensures fault { IfErr result (λ e. (e ≡ Error.Memory)
+            ⊎ ((e ≡ Error.Full) × ((q : LogQueue) × (2 ^ 64 ≤ live q stats.old + live_of q table)))) }
         ensures one { self.new ≡ with_table self.old id (finite.get self.new id) }
         ensures recounted { IsRecounted (table_in self.old id) (table_in self.new id) stats.old stats.new }
     {
@@ -248,7 +253,8 @@ impl RegionTables {
     ) -> Result<()>
         requires region { newer.region_id ≡ id }
         requires counted { IsCounted (table_in self.old id) stats.old }
-        ensures { IsTableMerged (with_newer (table_in self.old id) newer) self.old id stats.old result self.new stats.new }
+        ensures { IsTableMerged (with_newer (table_in self.old id) newer)
+            self.old id stats.old result self.new stats.new }
     {
         self.alter(
             id,
@@ -270,7 +276,8 @@ impl RegionTables {
     ) -> Result<()>
         requires region { newer.region_id ≡ id }
         requires counted { IsCounted (table_in self.old id) stats.old }
-        ensures { IsTableMerged (with_appended (table_in self.old id) newer) self.old id stats.old result self.new stats.new }
+        ensures { IsTableMerged (with_appended (table_in self.old id) newer)
+            self.old id stats.old result self.new stats.new }
     {
         self.alter(
             id,
@@ -291,7 +298,8 @@ impl RegionTables {
     where
         F: Drop,
         requires counted { IsCounted (table_in self.old id) stats.old }
-        requires may { (table_in self.old id).region_id ≡ id → MayAlter F.FnOnce change (table_in self.old id) stats.old }
+        requires may { (table_in self.old id).region_id ≡ id
+            → MayAlter F.FnOnce change (table_in self.old id) stats.old }
         ensures { IsAltered F.FnOnce change self.old id stats.old result self.new stats.new }
     {
         if let Some(table) = self.tables.get_mut(&id) {

@@ -89,7 +89,8 @@ impl Slot {
     /// What `f` makes of `init` and each table of the slot, in open order.
     pub fn fold<B: Drop, F: FnMut(B, &MemTable) -> B>(&self, init: B, f: &mut F) -> B
         requires { (state : F) (x : _) (t : _) → F.pre state x t }
-        ensures { (ts : List Table) × IsPermutation ts (finite.values self.now.part.tables) × FoldsTo (Makes F.FnMut) (f.old, init) ts (f.new, result) }
+        ensures { (ts : List Table) × IsPermutation ts (finite.values self.now.part.tables)
+            × FoldsTo (Makes F.FnMut) (f.old, init) ts (f.new, result) }
     {
         self.tables.fold(init, f)
     }
@@ -143,8 +144,10 @@ impl Slot {
     pub fn change(&mut self, id: u64, change: TableChange) -> Result<u64>
         requires { slot_of id ≡ self.old.number }
         ensures changed { IsTableChanged (after_change (table_in self.old.part.tables id) change)
-            (IsChangeFault (table_in self.old.part.tables id) self.old.part.counts change) id result self.old.part self.new.part }
-        ensures answer { IfOk result (IsAnswer change (table_in self.old.part.tables id) (table_in self.new.part.tables id)) }
+            (IsChangeFault
+            (table_in self.old.part.tables id) self.old.part.counts change) id result self.old.part self.new.part }
+        ensures answer { IfOk result
+            (IsAnswer change (table_in self.old.part.tables id) (table_in self.new.part.tables id)) }
         ensures number { self.new.number ≡ self.old.number }
     {
         self.tables.change(id, change, &mut self.stats)
@@ -157,7 +160,8 @@ impl Slot {
     /// `Memory`. The tables are then as they were.
     pub fn get_or_insert(&mut self, id: u64) -> Result<()>
         requires { slot_of id ≡ self.old.number }
-        ensures made { IsTableChanged (Some (table_in self.old.part.tables id)) (λ e. ⊥) id result self.old.part self.new.part }
+        ensures made { IsTableChanged (Some (table_in self.old.part.tables id))
+            (λ e. ⊥) id result self.old.part self.new.part }
         ensures number { self.new.number ≡ self.old.number }
     {
         self.tables.make(id, &mut self.stats)
@@ -177,7 +181,8 @@ impl Slot {
     ) -> Result<()>
         requires slot { slot_of id ≡ self.old.number }
         requires files { start ≤ end }
-        ensures changed { IsTableChanged (Some (with_atomic_group (table_in self.old.part.tables id) start end)) (λ e. ⊥)
+        ensures changed { IsTableChanged (Some (with_atomic_group (table_in self.old.part.tables id) start end))
+            (λ e. ⊥)
             id result self.old.part self.new.part }
         ensures number { self.new.number ≡ self.old.number }
     {
@@ -288,7 +293,8 @@ impl Slot {
     /// Lists a region as cleaned.
     fn list(&mut self, id: u64) -> Result<()>
         requires { slot_of id ≡ self.old.number }
-        ensures ok { OnOk result (self.new ≡ record self.old { part = record self.old.part { cleaned = self.old.part.cleaned ++ id ∷ [] } }) }
+        ensures ok { OnOk result (self.new
+            ≡ record self.old { part = record self.old.part { cleaned = self.old.part.cleaned ++ id ∷ [] } }) }
         ensures err { OnErr result (self.new ≡ self.old) }
         ensures memory { IfErr result (λ e. e ≡ Error.Memory) }
     {
@@ -311,7 +317,8 @@ impl Slot {
 /// Adds a `Clean` for each region to an open batch, in order. On `Err` the batch is as it was.
 fn move_cleans(alloc: Global, ids: &[u64], logs: &mut LogBatch) -> Result<()>
     requires { logs.old.stage ≡ populating }
-    ensures ok { OnOk result (logs.new ≡ record logs.old { items = logs.old.items ++ map (λ id. command_item id Clean) ids.now }) }
+    ensures ok { OnOk result (logs.new
+        ≡ record logs.old { items = logs.old.items ++ map (λ id. command_item id Clean) ids.now }) }
     ensures err { OnErr result (logs.new ≡ logs.old) }
     ensures memory { IfErr result (λ e. e ≡ Error.Memory) }
 {

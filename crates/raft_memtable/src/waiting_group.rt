@@ -125,7 +125,8 @@ impl WaitingGroup {
     /// Where there is no memory to put the newer items behind the older ones.
     pub fn join(self, newer: WaitingGroup) -> Result<(WaitingGroup, Option<WholeGroup>), AllocError>
         ensures known { IfOk result (λ r. group_shown r.0 ≡ joined_group (group_shown self) (group_shown newer)) }
-        ensures whole { IfOk result (λ r. option_map whole_shown r.1 ≡ whole_group (group_shown self) (group_shown newer)) }
+        ensures whole { IfOk result (λ r. option_map whole_shown r.1
+            ≡ whole_group (group_shown self) (group_shown newer)) }
     {
         let WaitingGroup {
             front: older_front,

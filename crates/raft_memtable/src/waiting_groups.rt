@@ -83,12 +83,15 @@ impl WaitingGroups {
         items: WaitingItems,
         file: FileSeq,
     ) -> Result<Option<WholeGroup>, AllocError>
-        ensures known { OnOk result (self.new ≡ finite.insert self.old id (joined_group (known self.old id) (one_marker status items file))) }
-        ensures whole { IfOk result (λ w. option_map whole_shown w ≡ whole_group (known self.old id) (one_marker status items file)) }
+        ensures known { OnOk result (self.new
+            ≡ finite.insert self.old id (joined_group (known self.old id) (one_marker status items file))) }
+        ensures whole { IfOk result (λ w. option_map whole_shown w
+            ≡ whole_group (known self.old id) (one_marker status items file)) }
         ensures stands { (h : List ReadBatch) → self.old ≡ groups_in h
             → OnOk result (self.new ≡ groups_in (h ++ marked_batch items id status file ∷ [])) }
         ensures steps { (h : List ReadBatch) (r : ℕ) → self.old ≡ groups_in h
-            → IfOk result (λ w. steps_of r (h ++ marked_batch items id status file ∷ []) ≡ steps_of r h ++ steps_or r (option_map whole_shown w)) }
+            → IfOk result (λ w. steps_of r (h ++ marked_batch items id status file ∷ [])
+            ≡ steps_of r h ++ steps_or r (option_map whole_shown w)) }
     {
         let whole = self.join_one(id, WaitingGroup::marked(status, items, file))?;
         Ok(whole)
@@ -107,7 +110,8 @@ impl WaitingGroups {
             → OnOk result (self.new ≡ groups_in (h ++ k)) }
         ensures steps { (h k : List ReadBatch) (r : ℕ) → self.old ≡ groups_in h → newer ≡ groups_in k
             → BatchesApart (h ++ k)
-            → IfOk result (λ w. steps_of r (h ++ k) ≡ steps_of r h ++ (steps_of_wholes r (map whole_shown w.items) ++ steps_of r k)) }
+            → IfOk result (λ w. steps_of r (h ++ k)
+            ≡ steps_of r h ++ (steps_of_wholes r (map whole_shown w.items) ++ steps_of r k)) }
     {
         let wholes = self.join_each(newer)?;
         Ok(wholes)
@@ -129,8 +133,10 @@ impl WaitingGroups {
 
     /// Joins what is known of one group with what is known of it from a newer stretch.
     fn join_one(&mut self, id: u64, newer: WaitingGroup) -> Result<Option<WholeGroup>, AllocError>
-        ensures known { OnOk result (self.new ≡ finite.insert self.old id (joined_group (known self.old id) (group_shown newer))) }
-        ensures whole { IfOk result (λ w. option_map whole_shown w ≡ whole_group (known self.old id) (group_shown newer)) }
+        ensures known { OnOk result (self.new
+            ≡ finite.insert self.old id (joined_group (known self.old id) (group_shown newer))) }
+        ensures whole { IfOk result (λ w. option_map whole_shown w
+            ≡ whole_group (known self.old id) (group_shown newer)) }
     {
         let older = take_out(&mut self.groups, self.alloc, id);
         let (group, whole) = older.join(newer)?;
@@ -140,7 +146,8 @@ impl WaitingGroups {
 
     /// The first group, and what is known of it, leaves.
     fn take_first(&mut self) -> Option<(u64, WaitingGroup)>
-        ensures first { IfSome result (λ p. finite.entries self.old ≡ (p.0, group_shown p.1) ∷ finite.entries self.new) }
+        ensures first { IfSome result (λ p. finite.entries self.old
+            ≡ (p.0, group_shown p.1) ∷ finite.entries self.new) }
         ensures none { IfNone result (finite.entries self.old ≡ []) }
         ensures unchanged { IfNone result (self.new ≡ self.old) }
     {
@@ -164,7 +171,8 @@ fn take_out(groups: &mut BTreeMap<u64, WaitingGroup>, alloc: Global, id: u64) ->
 
 /// Pushes a group, if there is one.
 fn push_some(wholes: &mut Vec<WholeGroup>, whole: Option<WholeGroup>) -> Result<(), AllocError>
-    ensures { OnOk result (map whole_shown wholes.new.items ≡ map whole_shown wholes.old.items ++ option_to_list (option_map whole_shown whole)) }
+    ensures { OnOk result (map whole_shown wholes.new.items
+        ≡ map whole_shown wholes.old.items ++ option_to_list (option_map whole_shown whole)) }
 {
     if let Some(whole) = whole {
         wholes.push(whole)?;

@@ -19,7 +19,7 @@ pub record IsPiece {M : Type 0} (stands_exactly : M → List Event → Type 0) (
   pub reads : ReadsSegments (take count (drop from segments)) history
   pub exact : IsSmall history → stands_exactly machine history
 
--- the same of a piece with its machine
+-- a piece whose machine stands exactly for its segments
 abbrev pub IsPieceOf : {M : Type 0} → (M → List Event → Type 0) → List (Vec Part Global) → Piece M → Type 0
 IsPieceOf stands_exactly segments piece = IsPiece stands_exactly segments piece.from piece.count piece.machine.value
 

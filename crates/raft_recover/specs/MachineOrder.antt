@@ -13,7 +13,7 @@ pub record AreInOrder {M : Type 0} (stands_exactly : M → List Event → Type 0
   pub reads : ReadsSegments segments (concatenated histories)
   pub stand : IsSmall (concatenated histories) → StandForEach stands_exactly machines histories
 
--- the same of machines and one more, which goes on
+-- the machines and one more, which goes on, stand exactly for histories which, one behind the other, are what the segments read as
 pub record IsUnderway {M : Type 0} (stands_exactly : M → List Event → Type 0) (segments : List (Vec Part Global)) (machines : List M) (current : M) : Type 0 where
   pub histories : List (List Event)
   pub last : List Event

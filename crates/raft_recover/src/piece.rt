@@ -27,8 +27,8 @@ use raft_base::{Error, Factory, Result};
 use raft_memtable::ReplayMachine;
 use std::alloc::Global;
 
-/// A machine that has replayed so many segments, from this one on. It stands behind a pointer, so that pieces are sorted
-/// by moving pointers.
+/// A machine that has replayed so many segments, from this one on. It stands behind a pointer, so that
+/// pieces are sorted by moving pointers.
 #[derive(Drop)]
 pub(crate) struct Piece<M> {
     from: usize,
@@ -50,7 +50,8 @@ impl<M: ReplayMachine> Piece<M> {
         ensures next { IfOk result (λ p. p.from + p.count ≡ number) }
         ensures piece { (segments : List (Vec Part Global)) → number ≤ length segments →
             All (IsPieceOf M.stands_exactly segments) pieces.old.items →
-            IfOk result (λ p. IsPieceOf M.stands_exactly segments p × All (IsPieceOf M.stands_exactly segments) pieces.new.items) }
+            IfOk result (λ p. IsPieceOf M.stands_exactly segments p
+            × All (IsPieceOf M.stands_exactly segments) pieces.new.items) }
         ensures covered { IfOk result (λ p. (x : ℕ) →
             covering x pieces.new.items + covers p.from p.count x ≡ covering x pieces.old.items) }
         ensures err { IfErr result (λ e. e ≢ Error.Memory → F.may_refuse factory.entry.now e) }
@@ -69,7 +70,8 @@ impl<M: ReplayMachine> Piece<M> {
     fn begin<F: Factory<M>>(alloc: Global, factory: &F, from: usize) -> Result<Piece<M>>
         requires { (m : M) → F.gives factory.now m → M.stands_exactly m [] }
         ensures empty { IfOk result (λ p. (p.from ≡ from) × (p.count ≡ 0)) }
-        ensures piece { (segments : List (Vec Part Global)) → from ≤ length segments → IfOk result (IsPieceOf M.stands_exactly segments) }
+        ensures piece { (segments : List (Vec Part Global)) → from ≤ length segments
+            → IfOk result (IsPieceOf M.stands_exactly segments) }
         ensures err { IfErr result (λ e. e ≢ Error.Memory → F.may_refuse factory.entry.now e) }
     {
         let machine = factory.new_target(alloc)?;

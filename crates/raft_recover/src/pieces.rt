@@ -109,7 +109,8 @@ fn only_piece<M: ReplayMachine>(mut pieces: Vec<M>) -> Result<M>
 fn cut<M: ReplayMachine>(mut pieces: Vec<M>, left: &Plan, right: &Plan) -> Result<(Vec<M>, Vec<M>)>
     requires { leaves left.now + leaves right.now ≡ vec_len pieces }
     ensures ok { IfOk result (λ cut. pieces.items ≡ cut.0.items ++ cut.1.items) }
-    ensures lengths { IfOk result (λ cut. (leaves left.entry.now ≡ vec_len cut.0) × (leaves right.entry.now ≡ vec_len cut.1)) }
+    ensures lengths { IfOk result (λ cut. (leaves left.entry.now ≡ vec_len cut.0)
+        × (leaves right.entry.now ≡ vec_len cut.1)) }
     ensures some { (0 < leaves left.entry.now) × (0 < leaves right.entry.now) }
     ensures fault { IfErr result (λ e. e ≡ Error.Memory) }
 {

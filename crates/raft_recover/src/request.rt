@@ -73,7 +73,8 @@ fn file_named(queue: &str, seq: &str, version: &str) -> Option<LogFileContext>
 /// The files whose tables the words ask for.
 fn recovery_request(words: &[String]) -> Option<Recovery<'_>>
     ensures asked { IfSome result (λ r. AsksRecovery (map string_bytes words.now) (asks_for r)) }
-    ensures refused { IfNone result ((recovery : AskedRecovery) → AsksRecovery (map string_bytes words.now) recovery → ⊥) }
+    ensures refused { IfNone result ((recovery : AskedRecovery) → AsksRecovery (map string_bytes words.now) recovery
+        → ⊥) }
 {
     let [command, queue, version, workers, files @ ..] = words else {
         return None;

@@ -171,7 +171,8 @@ fn replay_in_order<M: ReplayMachine, F: Factory<M>>(
     requires factory { (m : M) → F.gives factory.now m → M.stands_exactly m [] }
     requires none { machines.old.items ≡ [] }
     ensures ok { IfOk result (IsUnderway M.stands_exactly segments.entry.now machines.new.items) }
-    ensures count { OnOk result (vec_len machines.new ≡ count_below (switches draws.entry.now) (length segments.entry.now)) }
+    ensures count { OnOk result (vec_len machines.new
+        ≡ count_below (switches draws.entry.now) (length segments.entry.now)) }
     ensures refused { IfErr result (λ e. e ≢ Error.Memory → ¬ (F.may_refuse factory.entry.now e) →
         CannotBeRead segments.entry.now) }
 {

@@ -209,7 +209,8 @@ impl SharedAccessor {
         rt: &R,
         items: I,
     ) -> Result<()>
-        requires { (it : I.IntoIter) → I.into_iter_gives items it → I.IntoIter.can_next it × IsFinite (I.IntoIter.remaining it) }
+        requires { (it : I.IntoIter) → I.into_iter_gives items it
+            → I.IntoIter.can_next it × IsFinite (I.IntoIter.remaining it) }
     {
         for item in items {
             self.append_item(rt, item)?;
@@ -231,7 +232,8 @@ impl SharedAccessor {
         watermark: Option<FileSeq>,
         new_file: FileSeq,
     ) -> Result<()>
-        requires { (it : I.IntoIter) → I.into_iter_gives items it → I.IntoIter.can_next it × IsFinite (I.IntoIter.remaining it) }
+        requires { (it : I.IntoIter) → I.into_iter_gives items it
+            → I.IntoIter.can_next it × IsFinite (I.IntoIter.remaining it) }
     {
         for item in items {
             self.rewrite_item(rt, item, watermark, new_file)?;

@@ -52,11 +52,11 @@ union_one a key = same_set _ _ (λ q.
     ∙ ap (λ x. finset.contains a q || x) (finset.contains-insert nat_list_cmp_total finset.empty key q ∙ ap (λ x. eq_by_cmp (slice_cmp nat_cmp) q key || x) (finset.contains-empty (slice_cmp nat_cmp) q) ∙ or_none (eq_by_cmp (slice_cmp nat_cmp) q key))
     ∙ or_comm (finset.contains a q) (eq_by_cmp (slice_cmp nat_cmp) q key)))
 
-least_of_assoc : (a b c : Option ℕ) → lesser (lesser a b) c ≡ lesser a (lesser b c)
-least_of_assoc None b c = refl
-least_of_assoc (Some a) None c = refl
-least_of_assoc (Some a) (Some b) None = refl
-least_of_assoc (Some a) (Some b) (Some c) = ap (λ x. Some x) (omega arith)
+lesser_assoc : (a b c : Option ℕ) → lesser (lesser a b) c ≡ lesser a (lesser b c)
+lesser_assoc None b c = refl
+lesser_assoc (Some a) None c = refl
+lesser_assoc (Some a) (Some b) None = refl
+lesser_assoc (Some a) (Some b) (Some c) = ap (λ x. Some x) (omega arith)
 
 clean-append : (ss rs : List Step) → has_clean (ss ++ rs) ≡ (has_clean ss || has_clean rs)
 clean-append [] rs = refl
@@ -79,7 +79,7 @@ greatest-append (Clean ∷ ss) rs = greatest-append ss rs
 least-append : (ss rs : List Step) → least_start (ss ++ rs) ≡ lesser (least_start ss) (least_start rs)
 least-append [] rs = refl
 least-append (Run [] ∷ ss) rs = least-append ss rs
-least-append (Run (e ∷ run) ∷ ss) rs = ap (lesser (Some e.index)) (least-append ss rs) ∙ sym (least_of_assoc (Some e.index) (least_start ss) (least_start rs))
+least-append (Run (e ∷ run) ∷ ss) rs = ap (lesser (Some e.index)) (least-append ss rs) ∙ sym (lesser_assoc (Some e.index) (least_start ss) (least_start rs))
 least-append (Compact i ∷ ss) rs = least-append ss rs
 least-append (Put k v f ∷ ss) rs = least-append ss rs
 least-append (Del k ∷ ss) rs = least-append ss rs

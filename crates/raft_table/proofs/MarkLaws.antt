@@ -61,22 +61,22 @@ table_one id Clean good = no_table id
 pub stands_fresh : (q : LogQueue) (id : ℕ) → Stands q id fresh None []
 stands_fresh q id = record {
   own_table = no_table id;
-  fits = λ e. refl;
+  past_cut = λ e. refl;
   every = λ o h. sym (applied_fresh q id o);
 }
 
 pub stands_one : (q : LogQueue) (id : ℕ) (s : Step) → IsStep s → Stands q id (mark_of s) (own_of id s) (s ∷ [])
 stands_one q id s good = record {
   own_table = table_one id s good;
-  fits = fits_one id s;
+  past_cut = fits_one id s;
   every = λ o h. one_after q id o s ∙ sym (one_step q id s o h);
 }
 
 pub stands_join : (q : LogQueue) (id : ℕ) (m n : Mark) (t u w : Option Table) (ss rs : List Step) → AreSteps ss → AreSteps rs → Stands q id m t ss → Stands q id n u rs → applied q id n u t ≡ Some w → Stands q id (joined_mark q id m t n) w (ss ++ rs)
 stands_join q id m n t u w ss rs good good' h k is = record {
   own_table = table_after q id t w rs good' h.own_table (k.every t h.own_table ∙ is);
-  fits = fits_join q m n (table_of id t).entries (table_of id u).entries (table_of id w).entries h.fits k.fits (entries-over_table q n (table_of id u) (table_of id t) (table_of id w) (table-applied q id n u t w h.own_table is).0);
-  every = λ o r. after-append q id o ss rs ∙ inner o r (after q id o ss) refl ∙ (rw (h.every o r) (join_applied q id m n t u w o h.fits h.own_table r is));
+  past_cut = fits_join q m n (table_of id t).entries (table_of id u).entries (table_of id w).entries h.past_cut k.past_cut (entries-over_table q n (table_of id u) (table_of id t) (table_of id w) (table-applied q id n u t w h.own_table is).0);
+  every = λ o r. after-append q id o ss rs ∙ inner o r (after q id o ss) refl ∙ (rw (h.every o r) (join_applied q id m n t u w o h.past_cut h.own_table r is));
 }
   where
     inner : (o : Option Table) → IsTableOf id (table_of id o) → (x : Option (Option Table)) → after q id o ss ≡ x → option_and_then (λ v. after q id v rs) x ≡ option_and_then (λ v. applied q id n u v) x

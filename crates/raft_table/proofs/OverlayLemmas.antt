@@ -173,4 +173,4 @@ overlay_run id m a ss r good h k = by_cleaned m.cleaned refl
 
     by_cleaned : (b : Bool) → m.cleaned ≡ b → IsRun (cond b own (rewritten_part m.floor m.cut r.entries ++ own))
     by_cleaned true e = h.own_table.run
-    by_cleaned false e = by_run m.reach m.cut refl refl e (h.fits e)
+    by_cleaned false e = by_run m.reach m.cut refl refl e (h.past_cut e)

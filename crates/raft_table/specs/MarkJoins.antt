@@ -1,19 +1,14 @@
 -- How marks are reckoned: the mark and the own table of one step, and the mark of two neighbours. That they stand for the steps is a law.
-use Rattle.std.specs.Prelude.{ℕ, max, min, Bool, true, false, not, ◌&&◌, ◌||◌, List, [], ◌∷◌, Option, Some, None, is_some, if◌then◌else◌}
+use Rattle.std.specs.Prelude.{ℕ, max, Bool, true, false, not, ◌&&◌, ◌||◌, List, [], ◌∷◌, Option, Some, None, is_some, if◌then◌else◌}
 use Rattle.std.specs.FinSet as finset
 use Rattle.raft_base.specs.declared.pipe_log.LogQueue.{LogQueue}
 use Rattle.raft_base.specs.declared.pipe_log.LogQueue.TheVariants.{Append, Rewrite}
 use Rattle.raft_table.specs.Entries.{end_of, from}
 use Rattle.raft_table.specs.KeySets.{KeySet}
+use Rattle.raft_table.specs.KeyValues.{lesser}
 use Rattle.raft_table.specs.Marks.{Mark, misses}
 use Rattle.raft_table.specs.Steps.{Step, Run, Compact, Put, Del, AtomicGroup, Clean, table_of}
 use Rattle.raft_table.specs.Table.{Table, empty_table, table_with_entries, with_pair, with_atomic_group}
-
--- the lesser of two bounds
-abbrev pub lesser : Option ℕ → Option ℕ → Option ℕ
-lesser None d = d
-lesser (Some c) None = Some c
-lesser (Some c) (Some d) = Some (min c d)
 
 -- the keys that two neighbours delete
 abbrev pub joined_deleted : Mark → Mark → KeySet
@@ -28,7 +23,7 @@ abbrev pub joined_floor : LogQueue → Bool → ℕ → ℕ → ℕ
 joined_floor Append missed floor cut = floor
 joined_floor Rewrite missed floor cut = if missed then max floor cut else floor
 
--- the older mark has a run and the cut c; the part of its table that the newer first run meets ends at x
+-- the older mark has a run and the cut c; the entries that the newer first run comes behind end at x
 abbrev pub joined_later : LogQueue → ℕ → ℕ → Mark → Mark → Mark
 joined_later queue c x m n = record { cleaned = n.cleaned; reach = m.reach; reach_floor = m.reach_floor; floor = joined_floor queue (misses n.reach x) (max m.floor n.floor) c; cut = lesser (Some c) n.cut; deleted = joined_deleted m n }
 
@@ -38,11 +33,11 @@ joined_live None cut queue x m n = joined_first m n
 joined_live (Some reach) None queue x m n = m
 joined_live (Some reach) (Some cut) queue x m n = joined_later queue cut x m n
 
--- the older mark m, whose table's part that the newer mark's first run meets ends at x, and the newer mark n
+-- the older mark m and the newer mark n, whose first run comes behind entries of the older table that end at x
 abbrev pub joined_at : LogQueue → ℕ → Mark → Mark → Mark
 joined_at queue x m n = if m.cleaned then m else joined_live m.reach m.cut queue x m n
 
--- where the part of an older table ends that the first run of a mark meets
+-- where the entries end that the first run of a mark comes behind
 abbrev pub end_at_reach : Mark → Table → ℕ
 end_at_reach n older = end_of (from n.reach_floor older.entries)
 

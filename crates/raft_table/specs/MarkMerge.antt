@@ -11,13 +11,13 @@ use Rattle.raft_table.specs.Marks.{Mark, part, is_first_run_refused, entries_ove
 use Rattle.raft_table.specs.KeySets.{without}
 use Rattle.raft_table.specs.Table.{Table, live_of}
 
--- why a meeting is refused: it is, or want of memory for the refusal's text
+-- why a first run is refused: it leaves a hole, or want of memory for the refusal's text
 abbrev pub IsFirstRunFault : Bool → Error → Type 0
 IsFirstRunFault refused (errors.Corruption text) = refused ≡ true
 IsFirstRunFault refused errors.Memory = Unit {0}
 IsFirstRunFault refused _ = ⊥
 
--- why a table is refused over an older one: the meeting of its first run is, the live number of a queue and its records there would pass 2^64 - 1, or want of memory
+-- why a table is refused over an older one: its first run is, the live number of a queue and its records there would pass 2^64 - 1, or want of memory
 abbrev pub IsFaultUnder : LogQueue → Counts → Mark → Table → Table → Error → Type 0
 IsFaultUnder queue counts m own older (errors.Corruption text) = is_first_run_refused queue m older.entries ≡ true
 IsFaultUnder queue counts m own older errors.Full = (q : LogQueue) × (2 ^ 64 ≤ live q counts + live_of q own)

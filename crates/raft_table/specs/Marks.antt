@@ -44,12 +44,12 @@ abbrev pub older_entries : LogQueue → Mark → List EntryIndex → List EntryI
 older_entries Append m older = part m.floor m.cut older
 older_entries Rewrite m older = if is_missed m older then [] else part m.floor m.cut older
 
--- whether the meeting of the first run is refused
+-- whether the first run is refused behind older entries: in the rewrite queue a hole drops them instead
 abbrev pub is_first_run_refused : LogQueue → Mark → List EntryIndex → Bool
 is_first_run_refused Append m older = is_missed m older
 is_first_run_refused Rewrite m older = false
 
--- own entries over older ones; none where the meeting is refused
+-- own entries over older ones; none where the first run is refused
 abbrev pub entries_over : LogQueue → Mark → List EntryIndex → List EntryIndex → Option (List EntryIndex)
 entries_over queue m own older = if is_first_run_refused queue m older then None else Some (if m.cleaned then own else older_entries queue m older ++ own)
 
@@ -61,7 +61,7 @@ keys_over m own older = if m.cleaned then own else overlaid own (without m.delet
 abbrev pub atomic_group_over : Mark → Option (ℕ × ℕ) → Option (ℕ × ℕ) → Option (ℕ × ℕ)
 atomic_group_over m own older = if m.cleaned then own else newer_atomic_group own older
 
--- an own table over an older one of the region; none where the meeting is refused
+-- an own table over an older one of the region; none where the first run is refused
 abbrev pub table_over : LogQueue → Mark → Table → Table → Option Table
 table_over queue m own older =
     option_map (λ es. record older { entries = es; keys = keys_over m own.keys older.keys; atomic_group = atomic_group_over m own.atomic_group older.atomic_group }) (entries_over queue m own.entries older.entries)
@@ -74,19 +74,19 @@ is_there_over m own older = if m.cleaned then is_some own else is_some own || is
 abbrev pub applied : LogQueue → ℕ → Mark → Option Table → Option Table → Option (Option Table)
 applied queue id m own older = there_if (is_there_over m own older) (table_over queue m (table_of id own) (table_of id older))
 
--- what the laws need beside the meaning: without a run there are no own entries; behind one nothing older stands at or above the cut, and the own entries reach it
+-- without a run there are no own entries; behind one the own entries go on past the cut, but where a compaction at or above it drops all older ones
 abbrev pub ReachesCut : Option ℕ → Option ℕ → ℕ → List EntryIndex → Type 0
 ReachesCut None None floor own = own ≡ []
 ReachesCut None (Some cut) floor own = ⊥
 ReachesCut (Some reach) None floor own = ⊥
 ReachesCut (Some reach) (Some cut) floor own = (cut ≤ floor) ⊎ (cut < end_of own)
 
--- the same of a mark and own entries, where the region was not cleaned
+-- the same of the own entries under a mark, where the region was not cleaned
 abbrev pub OwnReachCut : Mark → List EntryIndex → Type 0
 OwnReachCut m own = m.cleaned ≡ false → ReachesCut m.reach m.cut m.floor own
 
--- the mark and the own table stand for the steps: over every older table the steps give what the mark says, or both are refused
+-- the mark and the own table stand for the steps: over every older table of the region the steps give what the mark says, or both are refused
 pub record Stands (queue : LogQueue) (id : ℕ) (m : Mark) (own : Option Table) (ss : List Step) : Type 0 where
   pub own_table : IsTableOf id (table_of id own)
-  pub fits : OwnReachCut m (table_of id own).entries
+  pub past_cut : OwnReachCut m (table_of id own).entries
   pub every : (older : Option Table) → IsTableOf id (table_of id older) → after queue id older ss ≡ applied queue id m own older

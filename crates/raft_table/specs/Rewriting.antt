@@ -27,7 +27,7 @@ may_move None e = is_placed_in Rewrite e
 abbrev pub overlap : List EntryIndex → List EntryIndex → List EntryIndex
 overlap run es = from (start_of run) (below (end_of run) es)
 
--- how many places move: the longest front of the meeting ones that may
+-- how many places move: the longest front of the overlap whose entries may
 abbrev pub moved_count : Option ℕ → List EntryIndex → List EntryIndex → ℕ
 moved_count gate run es = prefix_len (may_move gate) (overlap run es)
 
@@ -39,7 +39,7 @@ is_misplaced gate below_run rewritten = nat_lt rewritten below_run || (is_some g
 abbrev pub with_places : List EntryIndex → ℕ → ℕ → List EntryIndex → List EntryIndex
 with_places run i n es = below i es ++ take n (from i run) ++ from (i + n) es
 
--- the entries after a rewriting that meets those given last; none where it is refused
+-- the entries after a rewriting that shares indexes with those given last; none where it is refused
 abbrev pub rewritten_from : Option ℕ → List EntryIndex → List EntryIndex → List EntryIndex → Option (List EntryIndex)
 rewritten_from gate run es [] = Some es
 rewritten_from gate run es (e ∷ met) = if is_misplaced gate (length (below e.index es)) (entry_count Rewrite es) then None else Some (with_places run e.index (moved_count gate run es) es)

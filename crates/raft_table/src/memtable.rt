@@ -226,14 +226,14 @@ impl MemTable {
         self.entries.replay_rewrite(run, stats)
     }
 
-    /// Gives the entries the places of a run of the rewrite queue, from the first that meet on
+    /// Gives the entries the places of a run of the rewrite queue, from the first shared index on
     /// and as far as they may move: with a gate those in files at or below it, without one those
     /// that are rewritten already. Indexes, keys and values stay. A run without entries changes
     /// nothing.
     ///
     /// # Errors
     ///
-    /// `Corruption` where more entries stand below the first that meets than are rewritten, and
+    /// `Corruption` where more entries stand below the first shared index than are rewritten, and
     /// with a gate also where fewer do; `Full` where the live number of the rewrite queue and the
     /// run together would pass 2^64 - 1; `Memory` where blocks have to be divided or added. The
     /// table and the counts are then as they were.

@@ -46,14 +46,14 @@ enum Start {
     BehindHole,
 }
 
-/// Where the indexes of a run meet those of a table.
+/// The indexes that a run and a table share.
 #[derive(Clone, Copy)]
 struct Overlap {
-    /// How many of the table's entries stand below the first that meets.
+    /// How many of the table's entries stand below the first of them.
     at: usize,
     /// How many of the run's stand below it.
     skipped: usize,
-    /// How many meet.
+    /// How many there are.
     count: usize,
 }
 

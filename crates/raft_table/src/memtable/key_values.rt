@@ -286,8 +286,8 @@ fn copied(bytes: &Vec<u8>) -> Result<Vec<u8>, AllocError>
     bytes.clone()
 }
 
-/// The lesser of two file numbers, where both are there.
-pub(super) fn lesser(a: Option<FileSeq>, b: Option<FileSeq>) -> Option<FileSeq>
+/// The lesser of two numbers, where both are there.
+pub(super) fn lesser(a: Option<u64>, b: Option<u64>) -> Option<u64>
     ensures { result ≡ lesser a b }
 {
     match (a, b) {

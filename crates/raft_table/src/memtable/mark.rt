@@ -10,6 +10,7 @@ ghost use Rattle.raft_base.specs.declared.pipe_log.LogQueue.{LogQueue};
 ghost use Rattle.raft_table.specs.Steps.{Compact, Del, Clean};
 
 use crate::memtable::deleted_keys::DeletedKeys;
+use crate::memtable::key_values::lesser;
 use raft_records::{Error, LogQueue, Result};
 use std::alloc::Global;
 use std::marker::Model;
@@ -102,8 +103,8 @@ impl Mark {
         misses(self.reach, end)
     }
 
-    /// Joins the mark of newer steps, whose first run meets a part of the own table that ends at `met`.
-    /// `newer` is left without deleted keys.
+    /// Joins the mark of newer steps, whose first run comes behind own entries that end at
+    /// `end_at_reach`. `newer` is left without deleted keys.
     ///
     /// # Errors
     ///
@@ -190,7 +191,9 @@ impl Mark {
 
     /// Joins the numbers of one step.
     fn add(&mut self, queue: LogQueue, end: u64, reach: Option<u64>, floor: u64)
-        ensures { self.new ≡ record (joined_at queue end self.old (record fresh { reach = reach; floor = floor; cut = reach })) { deleted = self.old.deleted } }
+        ensures { self.new
+            ≡ record (joined_at queue end self.old
+            (record fresh { reach = reach; floor = floor; cut = reach })) { deleted = self.old.deleted } }
     {
         if self.is_settled() {
             return;
@@ -223,17 +226,6 @@ impl Mark {
         }
         self.deleted.absorb(&mut newer.deleted)?;
         Ok(())
-    }
-}
-
-/// The lesser of two bounds.
-fn lesser(a: Option<u64>, b: Option<u64>) -> Option<u64>
-    ensures { result ≡ lesser a b }
-{
-    match (a, b) {
-        (Some(a), Some(b)) => Some(a.min(b)),
-        (Some(a), None) => Some(a),
-        (None, b) => b,
     }
 }
 

@@ -26,7 +26,7 @@ use raft_records::{EntryIndex, Error, LogQueue, Result};
 use std::mem;
 
 impl MemTable {
-    /// Where the part of this table ends that the first run of a newer mark meets.
+    /// Where the entries end that the first run of a newer mark comes behind.
     pub fn end_at_reach(&self, mark: &Mark) -> u64
         ensures { result ≡ end_at_reach mark.now self.now }
     {
@@ -127,7 +127,8 @@ impl MemTable {
         requires blank { self.old ≡ empty_table rhs.old.region_id }
         ensures ok { OnOk result (self.new ≡ rhs.old) }
         ensures emptied { OnOk result (rhs.new ≡ empty_table rhs.old.region_id) }
-        ensures fault { IfErr result (λ e. (e ≡ Error.Full) × ((q : LogQueue) × (2 ^ 64 ≤ live q stats.old + live_of q rhs.old))) }
+        ensures fault { IfErr result (λ e. (e ≡ Error.Full)
+            × ((q : LogQueue) × (2 ^ 64 ≤ live q stats.old + live_of q rhs.old))) }
         ensures err { OnErr result ((self.new ≡ self.old) × (rhs.new ≡ rhs.old) × (stats.new ≡ stats.old)) }
         ensures recounted { IsRecounted self.old self.new stats.old stats.new }
     {
@@ -148,7 +149,8 @@ impl MemTable {
 
     /// Takes over the atomic group of a newer table, if it has one.
     fn take_atomic_group(&mut self, rhs: &mut MemTable)
-        ensures atomic_group { self.new ≡ record self.old { atomic_group = newer_atomic_group rhs.old.atomic_group self.old.atomic_group } }
+        ensures atomic_group { self.new
+            ≡ record self.old { atomic_group = newer_atomic_group rhs.old.atomic_group self.old.atomic_group } }
         ensures emptied { rhs.new ≡ record rhs.old { atomic_group = None } }
     {
         if let Some(atomic_group) = rhs.atomic_group.take() {
@@ -174,7 +176,8 @@ impl MemTable {
         requires older { queue ≡ Rewrite → live_of Append self.old ≡ 0 }
         requires counted { IsCounted self.old stats.old }
         ensures ok { OnOk result (after_replay queue self.old run.items ≡ Some self.new) }
-        ensures fault { IfErr result (IsTableRunFault queue stats.old self.old.entries (replayed queue self.old.entries run.items)) }
+        ensures fault { IfErr result
+            (IsTableRunFault queue stats.old self.old.entries (replayed queue self.old.entries run.items)) }
         ensures recounted { IsRecounted self.old self.new stats.old stats.new }
         ensures region { self.new.region_id ≡ self.old.region_id }
     {
@@ -205,7 +208,7 @@ impl MemTable {
         Ok(())
     }
 
-    /// Whether the meeting of a newer mark's first run is refused.
+    /// Whether a newer mark's first run is refused.
     fn is_first_run_refused(&self, queue: LogQueue, mark: &Mark) -> bool
         ensures { result ≡ is_first_run_refused queue mark.now self.now.entries }
     {
@@ -237,7 +240,8 @@ impl MemTable {
     /// Drops the entries off a mark's bounds, or all of them.
     fn drop_entries(&mut self, gone: bool, mark: &Mark, stats: &mut GlobalStats)
         requires counted { IsCounted self.old stats.old }
-        ensures left { self.new ≡ table_with_entries self.old (if gone then [] else part mark.now.floor mark.now.cut self.old.entries) }
+        ensures left { self.new
+            ≡ table_with_entries self.old (if gone then [] else part mark.now.floor mark.now.cut self.old.entries) }
         ensures recounted { IsRecounted self.old self.new stats.old stats.new }
     {
         if gone {

@@ -130,8 +130,10 @@ fn rewritten_in(queue: LogQueue, count: usize) -> usize
 fn count_of(handle: &FileBlockHandle, run: &[EntryIndex], at: usize) -> usize
     requires { at ≤ length run.now }
     ensures within { at + result ≤ length run.now }
-    ensures all { (j : ℕ) (d : EntryIndex) → at ≤ j → j < at + result → (slice_index_or run.now j d).entries ≡ Some handle.now }
-    ensures some { (d : EntryIndex) → at < length run.now → (slice_index_or run.now at d).entries ≡ Some handle.now → 0 < result }
+    ensures all { (j : ℕ) (d : EntryIndex) → at ≤ j → j < at + result
+        → (slice_index_or run.now j d).entries ≡ Some handle.now }
+    ensures some { (d : EntryIndex) → at < length run.now → (slice_index_or run.now at d).entries ≡ Some handle.now
+        → 0 < result }
 {
     for i in at..run.len() {
         if !stands_in(&run[i], handle) {

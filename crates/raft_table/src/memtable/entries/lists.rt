@@ -25,7 +25,8 @@ pub(super) fn count_at_or_below(starts: &VecDeque<u64>, index: u64) -> usize
 /// stands.
 pub(super) fn find(starts: &VecDeque<u64>, index: u64) -> (usize, usize)
     requires { IsIndexOf starts.now.items index }
-    ensures { (i : ℕ) (bs : List BlockSpans) → starts.now.items ≡ starts_of i bs → i ≤ index → index < i + count bs → IsAt (index - i) bs result.0 result.1 }
+    ensures { (i : ℕ) (bs : List BlockSpans) → starts.now.items ≡ starts_of i bs → i ≤ index → index < i + count bs
+        → IsAt (index - i) bs result.0 result.1 }
 {
     let last = starts.len() - 1;
     let start = starts[last];
@@ -45,7 +46,7 @@ pub(super) fn is_same(a: &FileBlockHandle, b: &FileBlockHandle) -> bool
 }
 
 /// Puts more blocks behind so many first ones, of the last of which so many entries stay, and in
-/// front of those from `rest` on. Where the two that meet first have the same handle they are one
+/// front of those from `rest` on. Where the two at the first seam have the same handle they are one
 /// block.
 pub(super) fn put_blocks(
     blocks: &mut VecDeque<Block>,
@@ -57,15 +58,19 @@ pub(super) fn put_blocks(
 ) -> Result<()>
     requires order { place.0 ≤ rest }
     requires within { rest ≤ length blocks.old.items }
-    requires part { (d : Block) → 0 < place.0 → place.1 ≤ length (slice_index_or blocks.old.items (place.0 - 1) d).spans.items }
+    requires part { (d : Block) → 0 < place.0
+        → place.1 ≤ length (slice_index_or blocks.old.items (place.0 - 1) d).spans.items }
     requires starts { length starts.old.items ≡ length blocks.old.items }
     requires more { (0 < length more.old.items) × (length more_starts.old.items ≡ length more.old.items) }
     ensures blocks { OnOk result (shown blocks.new.items ≡
-        joined_blocks (cut_last place.1 (take place.0 (shown blocks.old.items))) (shown more.old.items) ++ drop rest (shown blocks.old.items)) }
+        joined_blocks (cut_last place.1 (take place.0 (shown blocks.old.items))) (shown more.old.items)
+        ++ drop rest (shown blocks.old.items)) }
     ensures starts { OnOk result (starts.new.items ≡ take place.0 starts.old.items
-        ++ drop (seam (take place.0 (shown blocks.old.items)) (shown more.old.items)) more_starts.old.items ++ drop rest starts.old.items) }
+        ++ drop (seam (take place.0 (shown blocks.old.items)) (shown more.old.items)) more_starts.old.items
+        ++ drop rest starts.old.items) }
     ensures emptied { OnOk result ((more.new.items ≡ []) × (more_starts.new.items ≡ [])) }
-    ensures err { OnErr result ((shown blocks.new.items ≡ shown blocks.old.items) × (starts.new.items ≡ starts.old.items)
+    ensures err { OnErr result ((shown blocks.new.items ≡ shown blocks.old.items)
+        × (starts.new.items ≡ starts.old.items)
         × (shown more.new.items ≡ shown more.old.items) × (more_starts.new.items ≡ more_starts.old.items)) }
     ensures memory { IfErr result (λ e. e ≡ Memory) }
 {
@@ -86,15 +91,21 @@ fn meet(
     more_starts: &mut VecDeque<u64>,
 ) -> Result<()>
     requires within { place.0 ≤ length blocks.old.items }
-    requires part { (d : Block) → 0 < place.0 → place.1 ≤ length (slice_index_or blocks.old.items (place.0 - 1) d).spans.items }
+    requires part { (d : Block) → 0 < place.0
+        → place.1 ≤ length (slice_index_or blocks.old.items (place.0 - 1) d).spans.items }
     requires more { (0 < length more.old.items) × (length more_starts.old.items ≡ length more.old.items) }
     ensures front { OnOk result (take place.0 (shown blocks.new.items) ++ shown more.new.items
         ≡ joined_blocks (cut_last place.1 (take place.0 (shown blocks.old.items))) (shown more.old.items)) }
-    ensures behind { OnOk result ((n : ℕ) → place.0 ≤ n → drop n (shown blocks.new.items) ≡ drop n (shown blocks.old.items)) }
-    ensures starts { OnOk result (more_starts.new.items ≡ drop (seam (take place.0 (shown blocks.old.items)) (shown more.old.items)) more_starts.old.items) }
-    ensures room { (deque_len blocks.new ≡ deque_len blocks.old) × (deque_capacity blocks.new ≡ deque_capacity blocks.old) }
-    ensures fewer { (deque_len more.new ≤ deque_len more.old) × (deque_len more_starts.new ≤ deque_len more_starts.old) }
-    ensures err { OnErr result ((shown blocks.new.items ≡ shown blocks.old.items) × (shown more.new.items ≡ shown more.old.items)
+    ensures behind { OnOk result ((n : ℕ) → place.0 ≤ n
+        → drop n (shown blocks.new.items) ≡ drop n (shown blocks.old.items)) }
+    ensures starts { OnOk result (more_starts.new.items
+        ≡ drop (seam (take place.0 (shown blocks.old.items)) (shown more.old.items)) more_starts.old.items) }
+    ensures room { (deque_len blocks.new ≡ deque_len blocks.old)
+        × (deque_capacity blocks.new ≡ deque_capacity blocks.old) }
+    ensures fewer { (deque_len more.new ≤ deque_len more.old)
+        × (deque_len more_starts.new ≤ deque_len more_starts.old) }
+    ensures err { OnErr result ((shown blocks.new.items ≡ shown blocks.old.items)
+        × (shown more.new.items ≡ shown more.old.items)
         × (more_starts.new.items ≡ more_starts.old.items)) }
     ensures memory { IfErr result (λ e. e ≡ Memory) }
 {
@@ -129,9 +140,12 @@ pub(super) fn push_block(
     index: u64,
     block: Block,
 ) -> Result<()>
-    ensures blocks { OnOk result (shown blocks.new.items ≡ joined_blocks (shown blocks.old.items) (block_spans block ∷ [])) }
-    ensures starts { OnOk result (starts.new.items ≡ starts.old.items ++ drop (seam (shown blocks.old.items) (block_spans block ∷ [])) (index ∷ [])) }
-    ensures err { OnErr result ((shown blocks.new.items ≡ shown blocks.old.items) × (starts.new.items ≡ starts.old.items)) }
+    ensures blocks { OnOk result (shown blocks.new.items
+        ≡ joined_blocks (shown blocks.old.items) (block_spans block ∷ [])) }
+    ensures starts { OnOk result (starts.new.items
+        ≡ starts.old.items ++ drop (seam (shown blocks.old.items) (block_spans block ∷ [])) (index ∷ [])) }
+    ensures err { OnErr result ((shown blocks.new.items ≡ shown blocks.old.items)
+        × (starts.new.items ≡ starts.old.items)) }
     ensures memory { IfErr result (λ e. e ≡ Memory) }
 {
     let mut block = block;

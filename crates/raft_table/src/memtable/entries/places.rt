@@ -15,13 +15,13 @@ use crate::memtable::entries::{Entries, Overlap};
 use raft_records::{EntryIndex, Error, FileSeq, LogQueue, Result};
 
 impl Entries {
-    /// Gives the entries the places of a run of the rewrite queue, from the first that meet on
+    /// Gives the entries the places of a run of the rewrite queue, from the first shared index on
     /// and as far as they may move: with a gate those in files at or below it, without one those
     /// that are rewritten already. Indexes stay.
     ///
     /// # Errors
     ///
-    /// `Corruption` where more entries stand below the first that meets than are rewritten, and
+    /// `Corruption` where more entries stand below the first shared index than are rewritten, and
     /// with a gate also where fewer do; `Full` where the live number of the rewrite queue and the
     /// run together would pass 2^64 - 1.
     pub fn rewrite(
@@ -52,7 +52,7 @@ impl Entries {
         self.move_places(overlap.at, places, gate, run.len(), stats)
     }
 
-    /// Where a run of `len` indexes from `start` on meets the entries, if it does.
+    /// Where a run of `len` indexes from `start` on overlaps the entries, if it does.
     fn overlap(&self, start: u64, len: usize) -> Option<Overlap>
         requires { start + len < 2 ^ 64 }
         ensures meets { MatchOption result
@@ -103,7 +103,8 @@ impl Entries {
         ensures ok { let m = prefix_len (may_move gate) (drop at (take (at + length places.now) self.old)) in
             OnOk result ((self.new ≡ take at self.old ++ take m places.now ++ drop (at + m) self.old)
             × (stats.new ≡ with_rewritten gate written m stats.old)) }
-        ensures fault { IfErr result (λ e. (e ≡ Error.Memory) ⊎ ((e ≡ Error.Full) × (2 ^ 64 ≤ live Rewrite stats.old + written))) }
+        ensures fault { IfErr result (λ e. (e ≡ Error.Memory)
+            ⊎ ((e ≡ Error.Full) × (2 ^ 64 ≤ live Rewrite stats.old + written))) }
         ensures err { OnErr result ((self.new ≡ self.old) × (stats.new ≡ stats.old)) }
         ensures recounted { AreRecounted self.old self.new stats.old stats.new }
     {

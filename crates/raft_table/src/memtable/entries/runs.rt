@@ -73,7 +73,8 @@ impl Entries {
         requires rewritten { entry_count Append self.old ≡ 0 }
         requires counted { AreCounted self.old stats.old }
         ensures ok { OnOk result (replayed Rewrite self.old run.items ≡ Some self.new) }
-        ensures fault { IfErr result (IsTableRunFault Rewrite stats.old self.old (replayed Rewrite self.old run.items)) }
+        ensures fault { IfErr result
+            (IsTableRunFault Rewrite stats.old self.old (replayed Rewrite self.old run.items)) }
         ensures err { OnErr result ((self.new ≡ self.old) × (stats.new ≡ stats.old)) }
         ensures counts { OnOk result (stats.new ≡ counts_with_run Rewrite self.old run.items stats.old) }
         ensures recounted { AreRecounted self.old self.new stats.old stats.new }

@@ -19,6 +19,7 @@ pub mod QueueLemmas
 pub mod ReadLemmas
 pub mod ReadingLemmas
 pub mod RecordLemmas
+pub mod RegionLaws
 pub mod ShiftLemmas
 pub mod SoundLemmas
 pub mod StepListLemmas

@@ -126,12 +126,15 @@ placed_are q n m (e ∷ h) f a = (items_in_queue q e.file e.items f.0 a.0, place
 pub known_holds : (q : LogQueue) (g : ℕ) (h : List Event) → FilesFrom q 0 h → AreInFiles h → Holds q (known (groups_in (batches h)) g)
 known_holds q g h f a = subst (Holds q) (sym (known-groups_in g (batches h))) (group_holds q g (batches h) (placed_are q 0 0 h f a))
 
+pub whole_in_queue : (q : LogQueue) (w : WholeGroup) → Are q w.steps → Are q (region_steps_of_whole w)
+whole_in_queue q w h = are-append q w.steps (on_each (named_regions w.steps) (AtomicGroup w.start w.end)) h (spans_are q (named_regions w.steps) w.start w.end)
+
 pub wholes_in_queue : (q : LogQueue) (h k : List Event) → FilesFrom q 0 h → AreInFiles h → FilesFrom q 0 k → AreInFiles k → Are q (region_steps_of_wholes (whole_groups (groups_in (batches h)) (groups_in (batches k))))
 wholes_in_queue q h k f a g b = all (finite.entries (groups_in (batches k))) (each_weaker _ (λ (e : ℕ × WaitingGroup). Holds q e.1) (λ e x. subst (Holds q) (sym x.1) (group_holds q e.0 (batches k) (placed_are q 0 0 k g b))) (finite.entries (groups_in (batches k))) (each_known (batches k)))
   where
     one : (o : Option WholeGroup) (ws : List WholeGroup) → OrAre q o → Are q (region_steps_of_wholes ws) → Are q (region_steps_of_wholes (cons_option o ws))
     one None ws x y = y
-    one (Some w) ws x y = are-append q (region_steps_of_whole w) (region_steps_of_wholes ws) (are-append q w.steps (on_each (named_regions w.steps) (AtomicGroup w.start w.end)) x (spans_are q (named_regions w.steps) w.start w.end)) y
+    one (Some w) ws x y = are-append q (region_steps_of_whole w) (region_steps_of_wholes ws) (whole_in_queue q w x) y
 
     all : (es : List (ℕ × WaitingGroup)) → AllByRecursion (λ (e : ℕ × WaitingGroup). Holds q e.1) es → Are q (region_steps_of_wholes (whole_with (groups_in (batches h)) es))
     all [] x = tt

@@ -33,7 +33,7 @@ AreGood is = AllByRecursion (λ (i : RegionStep). IsStep i.step) is
 abbrev IsGood : Placed → Type 0
 IsGood p = AreGood p.batch.steps
 
-own_good : (r : ℕ) (is : List RegionStep) → AreGood is → AreSteps (steps_on r is)
+pub own_good : (r : ℕ) (is : List RegionStep) → AreGood is → AreSteps (steps_on r is)
 unfolding steps_on
 own_good r [] h = tt
 own_good r (i ∷ is) h = go (is_on r i) (own_good r is h.1)

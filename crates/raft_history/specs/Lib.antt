@@ -2,6 +2,7 @@ pub mod Batches
 pub mod Contexts
 pub mod Effects
 pub mod Histories
+pub mod Joins
 pub mod Kept
 pub mod MarkedRegions
 pub mod Records

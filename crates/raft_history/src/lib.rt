@@ -4,3 +4,4 @@
 pub mod contexts;
 pub mod effects;
 pub mod histories;
+pub mod regions;

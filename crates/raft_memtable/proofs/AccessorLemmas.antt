@@ -42,13 +42,13 @@ module _ (a b : Inside) (id i : ℕ) (d slot : Tables) (after : Counts) (kept : 
   kept-in = kept-changed a b id i d (finite.get slot id) kept changed
 
   module _ (r : Accessor) (is : accessor_shown a ≡ r) where
-    was : finite.get r.tables id ≡ finite.get (slice_index_or a.slots i d) id
+    pub was : finite.get r.tables id ≡ finite.get (slice_index_or a.slots i d) id
     was = get-shown a r id i d kept is h.at h.bound
 
     pub tables-are : together b.slots ≡ with_table r.tables id (finite.get slot id)
     tables-are = shown-changed a b r id i d (finite.get slot id) kept is changed
 
-    now : finite.get (together b.slots) id ≡ finite.get slot id
+    pub now : finite.get (together b.slots) id ≡ finite.get slot id
     now = ap (λ m. finite.get m id) tables-are ∙ with_own r.tables id (finite.get slot id)
 
     pub unchanged : slot ≡ slice_index_or a.slots i d → together b.slots ≡ r.tables

@@ -15,6 +15,8 @@ mod WalkLemmas
 mod WriteLemmas
 mod SlotKeeping
 mod CleanLemmas
+mod RegionJoinLemmas
+mod TableJoinLemmas
 mod LiveSteps
 mod TakenLemmas
 mod GroupFiles

@@ -14,6 +14,7 @@ pub mod RegionMarksView
 pub mod Merges
 pub mod RegionTablesView
 pub mod ReplayMachine
+pub mod TableJoins
 pub mod Updates
 pub mod Walks
 pub mod Writes

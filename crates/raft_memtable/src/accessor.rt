@@ -19,6 +19,7 @@ ghost use Rattle.raft_memtable.specs.Merges.{with_newer, with_appended, IsMerged
 ghost use Rattle.raft_memtable.specs.Walks.{Collects, Makes};
 ghost use Rattle.raft_memtable.specs.Writes.{Appending, Replaying, Rewriting, AreWritten, AreItemsRefused};
 
+mod join;
 mod region_steps;
 
 use crate::region_tables::RegionTables;
@@ -455,9 +456,10 @@ impl MemTableAccessor {
     }
 
     /// Takes a region's table away, and its records off the counts.
-    fn take(&mut self, id: u64) -> Option<MemTable>
+    pub(crate) fn take(&mut self, id: u64) -> Option<MemTable>
         ensures tables { self.new.tables ≡ finite.remove self.old.tables id }
         ensures taken { result ≡ finite.get self.old.tables id }
+        ensures own { IfSome result (λ t. t.region_id ≡ id) }
         ensures cleaned { self.new.cleaned ≡ self.old.cleaned }
     {
         self.slots[slot_of(id)].remove(id, &mut self.stats)

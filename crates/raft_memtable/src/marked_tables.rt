@@ -13,6 +13,8 @@ ghost use Rattle.raft_memtable.specs.ItemWrites.{pair_change};
 ghost use Rattle.raft_memtable.specs.MarkedTables.{regions_in, AreStepsOfQueue, HaveRoom, one_step, first_index, AreTaken};
 ghost use Rattle.raft_memtable.specs.WaitingShown.{whole_shown};
 
+mod join;
+
 use crate::accessor::MemTableAccessor;
 use crate::region_marks::RegionMarks;
 use crate::waiting_group::WholeGroup;

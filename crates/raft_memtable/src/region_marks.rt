@@ -1,7 +1,9 @@
 //! The marks of some regions.
 
-ghost use Rattle.std.specs.Prelude.{◌≡◌, ℕ, OnOk, OnErr, IfErr, Some, None, option_map};
+ghost use Rattle.std.specs.Prelude.{◌≡◌, ℕ, nat_eq, OnOk, OnErr, IfErr, Some, None, option_map};
 ghost use Rattle.std.specs.FinMap as finite;
+ghost use Rattle.std.specs.List.{IsDistinct};
+ghost use Rattle.std.specs.Map.{keys_of};
 ghost use Rattle.raft_table.specs.MarkJoins.{fresh, mark_of, joined_at};
 ghost use Rattle.raft_table.specs.Steps.{Compact, Del, Clean};
 ghost use Rattle.raft_memtable.specs.RegionMarks.{mark_in, MayChangeMark, IsMarkUpdated};
@@ -9,6 +11,7 @@ ghost use Rattle.raft_memtable.specs.RegionMarks.{mark_in, MayChangeMark, IsMark
 use raft_table::{Error, LogQueue, Mark, Result};
 use std::alloc::Global;
 use std::collections::HashMap;
+use std::collections::hash_map::IntoIter;
 use std::marker::Model;
 
 /// The marks of some regions, each under its region's id.
@@ -149,6 +152,14 @@ impl RegionMarks {
             let mut newer = newer;
             mark.join(queue, end_at_reach, &mut newer)
         })
+    }
+
+    /// The marks, each with its region, in open order.
+    pub(crate) fn into_entries(self) -> IntoIter<u64, Mark>
+        ensures entries { finite.from_entries result ≡ self }
+        ensures once { IsDistinct nat_eq (keys_of result) }
+    {
+        self.marks.into_iter()
     }
 
     /// Changes a region's mark, that of no step where it has none. It is looked up once where it is there.

@@ -15,6 +15,8 @@ ghost use Rattle.raft_memtable.specs.Merges.{with_newer, with_appended, MayAlter
 ghost use Rattle.raft_memtable.specs.Updates.{MayChange, IsUpdated, IsTaken};
 ghost use Rattle.raft_memtable.specs.Walks.{KeepsId, Makes};
 
+mod join;
+
 use raft_table::{Error, FileSeq, GlobalStats, MemTable, Result, TableChange};
 use std::alloc::Global;
 use std::collections::HashMap;
@@ -223,6 +225,7 @@ impl RegionTables {
     pub fn remove(&mut self, id: u64, stats: &mut GlobalStats) -> Option<MemTable>
         requires { IsCounted (table_in self.old id) stats.old }
         ensures taken { result ≡ finite.get self.old id }
+        ensures own { IfSome result (λ t. t.region_id ≡ id) }
         ensures after { self.new ≡ finite.remove self.old id }
         ensures recounted { IsRecounted (table_in self.old id) (empty_table id) stats.old stats.new }
     {

@@ -1,16 +1,20 @@
 -- Counts through a merge of two tables.
-use Rattle.std.proofs.Common.{◌≡◌, ℕ, ◌+◌, ◌-◌, ◌≤◌, Bool, true, false, cond, ltb, List, [], ◌∷◌, ◌++◌, length, Option, Some, None, refl, ap, subst, arith}
+use Rattle.std.proofs.Common.{◌≡◌, ℕ, ◌+◌, ◌-◌, ◌≤◌, Bool, true, false, cond, ltb, List, [], ◌∷◌, ◌++◌, length, filter, Option, Some, None, refl, ap, subst, arith}
+use Rattle.std.specs.FinMap as finite
+use Rattle.std.specs.Option.{option_map}
 use Rattle.raft_base.specs.declared.errors.Error.{Error}
 use Rattle.raft_base.specs.declared.errors.Error.TheVariants as errors
 use Rattle.raft_base.specs.declared.pipe_log.LogQueue.{LogQueue}
 use Rattle.raft_base.specs.declared.pipe_log.LogQueue.TheVariants.{Append, Rewrite}
 use Rattle.raft_records.specs.declared.entry_index.EntryIndex.{EntryIndex}
 use Rattle.raft_table.specs.Entries.{below, end_of, placed_in, entry_count}
-use Rattle.raft_table.specs.Queues.{count_in}
+use Rattle.raft_table.specs.Queues.{count_in, is_same}
 use Rattle.raft_table.specs.Counts.{Counts}
-use Rattle.raft_table.specs.Merge.{IsTableMergeFault}
+use Rattle.raft_table.specs.Merge.{after_join, IsTableMergeFault}
 use Rattle.raft_table.specs.Start.{replayed, leaves_hole, IsTableRunFault}
-use Rattle.raft_table.specs.Table.{Table}
+use Rattle.raft_table.specs.Table.{Table, live_of}
+use Rattle.raft_table.specs.KeyValues.{Keys, StoredPair, overlaid, with_pairs, pair_count}
+use Rattle.raft_table.proofs.KeyValueCounts.{length-cond, pair_count-with_put}
 use Rattle.raft_table.proofs.RunLemmas.{below-placed_in}
 use Rattle.raft_table.proofs.PlaceLemmas.{entry_count-append}
 
@@ -74,3 +78,18 @@ merge_refused rule queue counts older newer e h = at (replayed rule older.entrie
     at (Some after) k errors.Full h = (queue, let b = joined_bound rule queue older.entries newer.entries after k in omega arith)
     at (Some after) k errors.Memory h = tt
     at (Some after) k _ h = absurd h
+
+-- pairs put over others are at most those of both
+pairs_bound : (q : LogQueue) (keys : Keys) (es : List StoredPair) → pair_count q (with_pairs keys es) ≤ pair_count q keys + length (filter (λ e. is_same q e.1.file.queue) es)
+pairs_bound q keys [] = omega arith
+pairs_bound q keys (e ∷ es) =
+    omega (arith, pairs_bound q (finite.insert keys e.0 e.1) es, pair_count-with_put q keys e.0 e.1.value e.1.file, length-cond (is_same q e.1.file.queue) e (filter (λ e. is_same q e.1.file.queue) es))
+
+-- a joined table has at most the records of both in each queue
+pub joined_live : (rule q : LogQueue) (older newer w : Table) → after_join rule older newer ≡ Some w → live_of q w ≤ live_of q older + live_of q newer
+joined_live rule q older newer w e = go (replayed rule older.entries newer.entries) refl e
+  where
+    go : (o : Option (List EntryIndex)) → replayed rule older.entries newer.entries ≡ o → option_map {U = Table} (λ es. record older { entries = es; keys = overlaid newer.keys older.keys }) o ≡ Some w → live_of q w ≤ live_of q older + live_of q newer
+    go None k e = absurd cc
+    go (Some es) k e = subst (λ w. live_of q w ≤ live_of q older + live_of q newer) (of_some (record older { entries = es; keys = overlaid newer.keys older.keys }) w e)
+        (omega (arith, joined_bound rule q older.entries newer.entries es k, pairs_bound q older.keys (finite.entries newer.keys)))

@@ -1,5 +1,5 @@
 -- An appended table over a rewritten one: by a mark and by its steps, and that it is a run.
-use Rattle.std.proofs.Common.{◌≡◌, ◌⊎◌, ℕ, zero, suc, ◌+◌, ◌-◌, ◌<◌, ◌≤◌, max, min, Bool, true, false, cond, ◌&&◌, ◌||◌, ltb, leb, List, [], ◌∷◌, ◌++◌, length, Option, Some, None, refl, sym, ap, subst, ◌∙◌, inl, inr, arith}
+use Rattle.std.proofs.Common.{◌≡◌, ◌⊎◌, ℕ, zero, suc, ◌+◌, ◌-◌, ◌≤◌, Bool, true, false, cond, ◌&&◌, ◌||◌, ltb, leb, List, [], ◌∷◌, ◌++◌, length, Option, Some, None, refl, sym, ap, subst, ◌∙◌, inl, inr, arith}
 use Rattle.std.specs.Option.{option_map}
 use Rattle.std.specs.FinMap as finite
 use Rattle.std.specs.FinSet as finset
@@ -9,20 +9,20 @@ use Rattle.std.proofs.lemmas.Bool.{cases_lt, ltb-false}
 use Rattle.std.proofs.lemmas.Bool.Decides.{nat_tests}
 use Rattle.raft_base.specs.declared.pipe_log.LogQueue.TheVariants.{Append, Rewrite}
 use Rattle.raft_records.specs.declared.entry_index.EntryIndex.{EntryIndex}
-use Rattle.raft_table.specs.Entries.{RisesFrom, IsRun, end_of, below, from}
-use Rattle.raft_table.specs.KeySets.{KeySet, without}
-use Rattle.raft_table.specs.KeyValues.{Keys, overlaid}
+use Rattle.raft_table.specs.Entries.{RisesFrom, IsRun, end_of, from}
+use Rattle.raft_table.specs.KeySets.{without}
+use Rattle.raft_table.specs.KeyValues.{overlaid}
 use Rattle.raft_table.specs.MarkMerge.{left_by}
 use Rattle.raft_table.specs.Marks.{Mark, part, misses, is_missed, entries_over, keys_over, atomic_group_over, table_over, is_there_over, ReachesCut, Stands}
 use Rattle.raft_table.specs.Merge.{after_join}
-use Rattle.raft_table.specs.Overlay.{has_clean, greatest_compaction, least_start, deleted_of, is_short, rewritten_part, overlay, overlay_under, IsExactMark}
-use Rattle.raft_table.specs.Steps.{Step, table_of, after, AreSteps, IsTableOf}
-use Rattle.raft_table.specs.Table.{Table, empty_table, table_with_entries}
+use Rattle.raft_table.specs.Overlay.{has_clean, deleted_of, is_short, rewritten_part, overlay, overlay_under, IsExactMark}
+use Rattle.raft_table.specs.Steps.{Step, table_of, AreSteps, IsTableOf}
+use Rattle.raft_table.specs.Table.{Table, table_with_entries}
 use Rattle.raft_table.proofs.RunLemmas.{end_of-run, end_of-append, RisesFrom-append}
 use Rattle.raft_table.proofs.MarkWords.{part-append, part-nil, part-from, end_of-from}
-use Rattle.raft_table.proofs.MarkEntries.{same_some, pick_true, pick_false}
+use Rattle.raft_table.proofs.MarkEntries.{pick_false}
 use Rattle.raft_table.proofs.MarkExact.{empty_union}
-use Rattle.raft_table.proofs.MarkRuns.{run_from, table_after, empty_run}
+use Rattle.raft_table.proofs.MarkRuns.{run_from, table_after}
 use Rattle.raft_table.proofs.MarkTables.{applied-some, some_there}
 use Rattle.raft_table.proofs.UnderLemmas.{replayed_run, whole_keys}
 
@@ -40,13 +40,13 @@ overlay_exact m ss a r h = go m.cleaned refl
         let d : m.deleted ≡ deleted_of finset.empty ss = sym (h.holds.deleted e finset.empty ∙ empty_union m.deleted) in
         rw (clean false e, ← h.greatest e, ← h.least e, ← d, e) refl
 
--- the code's way: what is left of the rewritten table, and the appended one behind it
-pub over_rewritten : (m : Mark) (a r : Table) → a.atomic_group ≡ None → IsRun (overlay_under m a r).entries
-    → after_join Rewrite (left_by (is_short m.cut (end_of r.entries)) m r) a ≡ Some (overlay_under m a r)
-over_rewritten m a r none run =
+-- the code's way: what is left of the rewritten table, and the appended one behind it, but for the atomic group of a cleaned region
+pub over_rewritten : (m : Mark) (a r : Table) → IsRun (overlay_under m a r).entries
+    → after_join Rewrite (left_by (is_short m.cut (end_of r.entries)) m r) a ≡ Some (record (overlay_under m a r) { atomic_group = cond m.cleaned None r.atomic_group })
+over_rewritten m a r run =
     let left = left_by (is_short m.cut (end_of r.entries)) m r in
     let es = entries m.cleaned in
-    rw (replayed_run Rewrite left.entries a.entries (subst IsRun es run), ← es, ← keys m.cleaned, ← atomic_group m.cleaned) refl
+    rw (replayed_run Rewrite left.entries a.entries (subst IsRun es run), ← es, ← keys m.cleaned) refl
   where
     entries : (b : Bool) → cond b a.entries (rewritten_part m.floor m.cut r.entries ++ a.entries) ≡ cond b [] (rewritten_part m.floor m.cut r.entries) ++ a.entries
     entries true = refl
@@ -56,9 +56,16 @@ over_rewritten m a r none run =
     keys true = sym (whole_keys a.keys)
     keys false = refl
 
-    atomic_group : (b : Bool) → cond b a.atomic_group r.atomic_group ≡ cond b None r.atomic_group
-    atomic_group true = none
-    atomic_group false = refl
+-- and with that group
+pub with_group_over : (m : Mark) (a r t u : Table) → t ≡ record (overlay_under m a r) { atomic_group = cond m.cleaned None r.atomic_group } → u.atomic_group ≡ a.atomic_group
+    → record t { atomic_group = cond m.cleaned u.atomic_group t.atomic_group } ≡ overlay_under m a r
+with_group_over m a r t u is group =
+    ap (λ (t : Table). record t { atomic_group = cond m.cleaned u.atomic_group t.atomic_group }) is
+    ∙ ap (λ g. record (overlay_under m a r) { atomic_group = g }) (ap (λ g. cond m.cleaned g (cond m.cleaned None r.atomic_group)) group ∙ same m.cleaned)
+  where
+    same : (b : Bool) → cond b a.atomic_group (cond b None r.atomic_group) ≡ cond b a.atomic_group r.atomic_group
+    same true = refl
+    same false = refl
 
 -- entries that rise from an index
 filled : EntryIndex → ℕ → ℕ → List EntryIndex

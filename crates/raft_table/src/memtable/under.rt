@@ -60,6 +60,7 @@ impl MemTable {
         ensures err { IsRunOver queue mark.now rhs.old self.old → IfErr result (λ e. e ≢ Error.Memory →
             (self.new ≡ self.old) × (rhs.new ≡ rhs.old) × (stats.new ≡ stats.old)) }
         ensures emptied { OnOk result (rhs.new ≡ empty_table rhs.old.region_id) }
+        ensures few { OnOk result ((q : LogQueue) → live_of q self.new ≤ live_of q self.old + live_of q rhs.old) }
         ensures recounted { IsRecounted self.old self.new stats.old stats.new }
         ensures regions { (self.new.region_id ≡ self.old.region_id) × (rhs.new.region_id ≡ rhs.old.region_id) }
     {
@@ -89,7 +90,6 @@ impl MemTable {
     ) -> Result<()>
         requires region { self.old.region_id ≡ rhs.old.region_id }
         requires appended { live_of Rewrite rhs.old ≡ 0 }
-        requires atomic_group { rhs.old.atomic_group ≡ None }
         requires counted { IsCounted self.old stats.old }
         ensures ok { IsRun (overlay_under mark.now rhs.old self.old).entries
             → OnOk result (self.new ≡ overlay_under mark.now rhs.old self.old) }
@@ -97,6 +97,7 @@ impl MemTable {
         ensures fault { IfErr result (IsOverlayFault stats.old rhs.old) }
         ensures err { IfErr result (λ e. e ≢ Error.Memory →
             (self.new ≡ self.old) × (rhs.new ≡ rhs.old) × (stats.new ≡ stats.old)) }
+        ensures few { OnOk result ((q : LogQueue) → live_of q self.new ≤ live_of q self.old + live_of q rhs.old) }
         ensures recounted { IsRecounted self.old self.new stats.old stats.new }
         ensures regions { (self.new.region_id ≡ self.old.region_id) × (rhs.new.region_id ≡ rhs.old.region_id) }
     {
@@ -105,6 +106,7 @@ impl MemTable {
         }
         self.drop_older(self.is_short(mark), mark, stats);
         self.join(LogQueue::Rewrite, rhs, LogQueue::Append, stats)?;
+        self.take_appended_group(rhs, mark);
         Ok(())
     }
 
@@ -155,6 +157,17 @@ impl MemTable {
     {
         if let Some(atomic_group) = rhs.atomic_group.take() {
             self.atomic_group = Some(atomic_group);
+        }
+    }
+
+    /// Takes the atomic group of an appended table away, and over where the region was cleaned.
+    fn take_appended_group(&mut self, rhs: &mut MemTable, mark: &Mark)
+        ensures atomic_group { self.new ≡ record self.old { atomic_group = if mark.now.cleaned then rhs.old.atomic_group else self.old.atomic_group } }
+        ensures emptied { rhs.new ≡ record rhs.old { atomic_group = None } }
+    {
+        let atomic_group = rhs.atomic_group.take();
+        if mark.is_cleaned() {
+            self.atomic_group = atomic_group;
         }
     }
 

@@ -1,14 +1,14 @@
-use Rattle.std.proofs.Common.{arith, refl, sym, ap, ◌≡◌, ◌+◌, ◌<◌, ◌^◌, ◌∙◌, Some, false}
+use Rattle.std.proofs.Common.{arith, refl, sym, ap, ◌+◌, ◌<◌, ◌^◌, ◌∙◌, Some}
 use Rattle.std.proofs.lemmas.Result.{err_from_is_err_and}
 use Rattle.raft_base.specs.declared.pipe_log.LogQueue.{LogQueue}
 use Rattle.raft_base.specs.declared.pipe_log.LogQueue.TheVariants.{Append, Rewrite}
 use Rattle.raft_table.specs.Counts.{live}
 use Rattle.raft_table.specs.MarkMerge.{left_by}
-use Rattle.raft_table.specs.Marks.{is_missed, is_first_run_refused}
 use Rattle.raft_table.specs.Merge.{after_join, newer_atomic_group}
 use Rattle.raft_table.specs.Table.{Table, live_of}
 use Rattle.raft_table.proofs.PlaceLemmas.{each_queue}
 use Rattle.raft_table.proofs.MarkEntries.{same_some}
+use Rattle.raft_table.proofs.MergeLemmas.{joined_live}
 use Rattle.raft_table.proofs.UnderLemmas.{over_left, join_memory}
 use Rattle.raft_table.proofs.memtable.MemTable.merge_under.Goals as goal
 
@@ -45,3 +45,7 @@ returns-clause-ok c = λ run.
     let atomic_group = ap (λ (t : Table). t.atomic_group) c.in_ok-join.ensures.emptied in
     over.1 ∙ ap (λ (t : Table). Some (record t { atomic_group = newer_atomic_group c.args.rhs.now.atomic_group t.atomic_group })) joined
     ∙ sym (ap (λ (t : Table). Some t) (c.take_atomic_group.ensures.atomic_group ∙ ap (λ s. record c.join.new.self { atomic_group = newer_atomic_group s c.join.new.self.atomic_group }) atomic_group))
+
+pub returns-clause-few : goal.returns-clause-few
+returns-clause-few c = λ q.
+    omega (arith, c.drop_older.ensures.fewer q, joined_live c.args.queue q c.drop_older.new.self c.args.rhs.now _ c.in_ok-join.ensures.ok, ap (live_of q) c.take_atomic_group.ensures.atomic_group)

@@ -1,19 +1,20 @@
-use Rattle.std.proofs.Common.{arith, refl, sym, ap, ◌≡◌, ◌+◌, ◌<◌, ◌^◌, ◌∙◌, Some}
-use Rattle.std.proofs.lemmas.Result.{err_from_is_err_and}
-use Rattle.raft_base.specs.declared.pipe_log.LogQueue.{LogQueue}
-use Rattle.raft_base.specs.declared.pipe_log.LogQueue.TheVariants.{Append, Rewrite}
-use Rattle.raft_table.specs.Counts.{live}
+use Rattle.std.proofs.Common.{arith, sym, ap, ◌∙◌}
+use Rattle.raft_base.specs.declared.pipe_log.LogQueue.TheVariants.{Rewrite}
 use Rattle.raft_table.specs.MarkMerge.{left_by}
 use Rattle.raft_table.specs.Merge.{after_join}
 use Rattle.raft_table.specs.Table.{Table, live_of}
-use Rattle.raft_table.proofs.PlaceLemmas.{each_queue}
 use Rattle.raft_table.proofs.MarkEntries.{same_some}
-use Rattle.raft_table.proofs.UnderLemmas.{join_memory}
-use Rattle.raft_table.proofs.OverlayLemmas.{over_rewritten}
+use Rattle.raft_table.proofs.MergeLemmas.{joined_live}
+use Rattle.raft_table.proofs.OverlayLemmas.{over_rewritten, with_group_over}
 use Rattle.raft_table.proofs.memtable.MemTable.overlay.Goals as goal
 
 pub returns-clause-ok : goal.returns-clause-ok
 returns-clause-ok c = λ run.
     let left = c.drop_older.ensures.left ∙ ap (λ g. left_by g c.args.mark.now c.args.self.now) c.is_short.ensures in
-    sym (same_some _ _ (sym (over_rewritten c.args.mark.now c.args.rhs.now c.args.self.now c.requires.atomic_group run)
-    ∙ ap (λ (t : Table). after_join Rewrite t c.args.rhs.now) (sym left) ∙ c.in_ok-join.ensures.ok))
+    let joined = same_some _ _ (sym c.in_ok-join.ensures.ok ∙ ap (λ (t : Table). after_join Rewrite t c.args.rhs.now) left ∙ over_rewritten c.args.mark.now c.args.rhs.now c.args.self.now run) in
+    let group = ap (λ (t : Table). t.atomic_group) c.in_ok-join.ensures.emptied in
+    c.take_appended_group.ensures.atomic_group ∙ with_group_over c.args.mark.now c.args.rhs.now c.args.self.now c.join.new.self c.join.new.rhs joined group
+
+pub returns-clause-few : goal.returns-clause-few
+returns-clause-few c = λ q.
+    omega (arith, c.drop_older.ensures.fewer q, joined_live Rewrite q c.drop_older.new.self c.args.rhs.now _ c.in_ok-join.ensures.ok, ap (live_of q) c.take_appended_group.ensures.atomic_group)

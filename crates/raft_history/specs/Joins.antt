@@ -1,0 +1,34 @@
+-- The regions of two neighbours joined one by one, in no order, and those of the append queue over rewritten ones.
+use Rattle.std.specs.Prelude.{◌≡◌, ℕ, ◌||◌, List, Option, Some, None, is_some, if◌then◌else◌}
+use Rattle.std.specs.FinMap as finite
+use Rattle.raft_base.specs.declared.pipe_log.LogQueue.{LogQueue}
+use Rattle.raft_table.specs.Marks.{Mark}
+use Rattle.raft_table.specs.Overlay.{kept_if, overlay_under}
+use Rattle.raft_table.specs.Steps.{Step, AreSteps, table_of}
+use Rattle.raft_table.specs.Table.{Table}
+use Rattle.raft_history.specs.Contexts.{Holds}
+use Rattle.raft_history.specs.MarkedRegions.{MarkedRegions, region_in, joined_marked}
+use Rattle.raft_history.specs.RegionSteps.{Tables}
+
+-- each region's mark and table stand for some steps
+abbrev pub StandForSteps : LogQueue → MarkedRegions → Type 0
+StandForSteps queue rs = (r : ℕ) → (ss : List Step) × AreSteps ss × Holds queue r (region_in rs r) ss
+
+-- each region is that of the older neighbour joined with that of the newer one, and those that either marks, and no others, have a mark
+pub record AreJoined (queue : LogQueue) (older newer new : MarkedRegions) : Type 0 where
+  pub regions : (r : ℕ) → joined_marked queue r (finite.get newer.marks r) (finite.get newer.tables r) (region_in older r) ≡ Some (region_in new r)
+  pub marked : (r : ℕ) → is_some (finite.get new.marks r) ≡ (is_some (finite.get older.marks r) || is_some (finite.get newer.marks r))
+
+-- some region's join is refused
+abbrev pub IsJoinRefused : LogQueue → MarkedRegions → MarkedRegions → Type 0
+IsJoinRefused queue older newer = (r : ℕ) × (joined_marked queue r (finite.get newer.marks r) (finite.get newer.tables r) (region_in older r) ≡ None)
+
+-- a rewritten table under the append queue's mark of its region, with its table there: it stays where the append queue has no mark, else it becomes the overlay, which is there where either table is, or the appended one alone where the region was cleaned
+abbrev pub overlaid_region : ℕ → Option Mark → Option Table → Option Table → Option Table
+overlaid_region r None appended rewritten = rewritten
+overlaid_region r (Some m) appended rewritten =
+    kept_if (if m.cleaned then is_some appended else is_some appended || is_some rewritten) (overlay_under m (table_of r appended) (table_of r rewritten))
+
+-- the same of all regions
+abbrev pub AreOverlaid : MarkedRegions → Tables → Tables → Type 0
+AreOverlaid appended rewritten new = (r : ℕ) → finite.get new r ≡ overlaid_region r (finite.get appended.marks r) (finite.get appended.tables r) (finite.get rewritten r)

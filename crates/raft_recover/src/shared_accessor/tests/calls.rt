@@ -178,26 +178,29 @@ fn call_shared<R: Wait>(rt: &R, alloc: Global, shared: &SharedAccessor, call: Ca
     }
 }
 
-/// A table's region, its first and last index, its records in both queues, and its least files.
+/// A table's region, its first and last index, its records and its least file in both queues, and its
+/// atomic group.
 type Shape = (
     u64,
-    Option<u64>,
-    Option<u64>,
-    u128,
-    u128,
-    Option<FileSeq>,
-    Option<FileSeq>,
+    (Option<u64>, Option<u64>),
+    (u128, u128),
+    (Option<FileSeq>, Option<FileSeq>),
+    Option<(FileSeq, FileSeq)>,
 );
 
 fn shape(table: &MemTable) -> Shape {
     (
         table.region_id(),
-        table.first_index(),
-        table.last_index(),
-        table.records(LogQueue::Append),
-        table.records(LogQueue::Rewrite),
-        table.min_file_seq(LogQueue::Append),
-        table.min_file_seq(LogQueue::Rewrite),
+        (table.first_index(), table.last_index()),
+        (
+            table.records(LogQueue::Append),
+            table.records(LogQueue::Rewrite),
+        ),
+        (
+            table.min_file_seq(LogQueue::Append),
+            table.min_file_seq(LogQueue::Rewrite),
+        ),
+        table.atomic_group(),
     )
 }
 

@@ -15,8 +15,13 @@ mod WalkLemmas
 mod WriteLemmas
 mod SlotKeeping
 mod CleanLemmas
-mod RegionJoinLemmas
-mod TableJoinLemmas
+mod RecoverContextLemmas
+mod BatchCheckLemmas
+mod WholeFiles
+mod ReadStateLemmas
+mod TakenWholes
 mod LiveSteps
 mod TakenLemmas
 mod GroupFiles
+mod RegionJoinLemmas
+mod TableJoinLemmas

@@ -11,7 +11,7 @@ mod ReadingLemmas
 mod RegionTablesLemmas
 mod SlotLemmas
 mod UpdateLemmas
-mod WalkLemmas
+pub mod WalkLemmas
 mod WriteLemmas
 mod SlotKeeping
 mod CleanLemmas

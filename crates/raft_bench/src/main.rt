@@ -7,6 +7,7 @@ mod blocks;
 mod checksum;
 mod numbers;
 mod recovery;
+mod shared;
 mod tables;
 mod timing;
 
@@ -39,9 +40,10 @@ fn time(rt: &HostRuntime, word: &str) -> Result<()> {
         "varint" => numbers::time(rt),
         "batches" => batches::time(rt),
         "memtable" => Ok(tables::time(rt)?),
-"blocks" => Ok(blocks::time(rt)?),
+        "blocks" => Ok(blocks::time(rt)?),
+        "shared" => shared::time(rt),
         _ => Ok(eprintln!(rt;
-            "usage: raft_bench [crc32] [varint] [batches] [memtable] [blocks], or recover .."
+            "usage: raft_bench [crc32] [varint] [batches] [memtable] [blocks] [shared], or recover .."
         )?),
     }
 }

@@ -18,8 +18,8 @@ use Rattle.raft_memtable.specs.AccessorView.{together, accessor_shown, IsAccesso
 use Rattle.raft_memtable.specs.ItemWrites.{IsItemWritten}
 use Rattle.raft_memtable.specs.Merges.{IsMergedAt, IsTableMerged}
 use Rattle.raft_memtable.specs.Updates.{IsTaken}
-use Rattle.raft_memtable.specs.Writes.{Writing, queue_of, after_content, after_items, listed_by, listed_by_items, IsFor, IsWriteFault, AreWritten, AreItemsRefused}
-use Rattle.raft_memtable.proofs.MapLemmas.{with_own, with_same}
+use Rattle.raft_memtable.specs.Writes.{Writing, queue_of, after_content, after_items, listed_by, listed_by_items, IsFor, MixesQueues, NoneMixesQueues, IsWriteFault, AreWritten, AreItemsRefused}
+use Rattle.raft_memtable.proofs.MapLemmas.{with_own, with_same, some_is}
 use Rattle.raft_memtable.proofs.SlotLemmas.{get-shown, IsChanged, shown-changed, kept-changed}
 
 some_is_there : (t : Table) → IsTrue (is_some (Some t))
@@ -97,6 +97,7 @@ module _ (a b : Inside) (item : Item) (i : ℕ) (d slot : Tables) (after : Count
     ok = elim res as (λ res. IsItemWritten w item (slice_index_or a.slots i d) a.stats a.cleaned.items res slot after b.cleaned.items → OnOk res (AreWritten w (item ∷ []) r (accessor_shown b))) [
       | Ok x ↦ λ t. record {
         asked = (t.asked, tt);
+        accepted = (subst (λ o. MixesQueues w (table_of item.raft_group_id o) item.content → ⊥) (sym here) t.accepted, λ u e. tt);
         tables = ap (option_and_then (λ o. Some (with_table r.tables item.raft_group_id o))) (ap (λ o. after_content w item.raft_group_id o item.content) here ∙ t.ok) ∙ ap Some (sym (tables-are a b item.raft_group_id i d slot after kept h r is));
         cleaned = t.cleaned ∙ ap (λ l. l ++ listed_by w item) (ap (λ (x : Accessor). x.cleaned) is) ∙ ap (λ l. r.cleaned ++ l) (sym (append-nil (listed_by w item)));
       }
@@ -129,18 +130,26 @@ asked-append : (w : Writing) (xs ys : List Item) → AllByRecursion (λ (item : 
 asked-append w [] ys g h = h
 asked-append w (x ∷ xs) ys g h = (g.0, asked-append w xs ys g.1 h)
 
+none-append : (w : Writing) (xs ys : List Item) (m n : Tables) → NoneMixesQueues w m xs → after_items w m xs ≡ Some n → NoneMixesQueues w n ys → NoneMixesQueues w m (xs ++ ys)
+none-append w [] ys m n g e h = subst (λ k. NoneMixesQueues w k ys) (sym (some_is e)) h
+none-append w (x ∷ xs) ys m n g e h = (
+  g.0,
+  λ t is. none-append w xs ys (with_table m x.raft_group_id t) n (g.1 t is) (subst (λ o. option_and_then (λ t. after_items w (with_table m x.raft_group_id t) xs) o ≡ Some n) is e) h,
+)
+
 pub written_none : (w : Writing) (r : Accessor) → AreWritten w [] r r
-written_none w r = record { asked = tt; tables = refl; cleaned = sym (append-nil r.cleaned) }
+written_none w r = record { asked = tt; accepted = tt; tables = refl; cleaned = sym (append-nil r.cleaned) }
 
 pub written_append : (w : Writing) (xs ys : List Item) (a b c : Accessor) → AreWritten w xs a b → AreWritten w ys b c → AreWritten w (xs ++ ys) a c
 written_append w xs ys a b c g h = record {
   asked = asked-append w xs ys g.asked h.asked;
+  accepted = none-append w xs ys a.tables b.tables g.accepted g.tables h.accepted;
   tables = after_items-append w a.tables xs ys ∙ ap (option_and_then (λ n. after_items w n ys)) g.tables ∙ h.tables;
   cleaned = h.cleaned ∙ ap (λ l. l ++ listed_by_items w ys) g.cleaned ∙ append_assoc a.cleaned (listed_by_items w xs) (listed_by_items w ys) ∙ ap (λ l. a.cleaned ++ l) (sym (listed-append w xs ys));
 }
 
 written_same : (w : Writing) (xs : List Item) (a b c : Accessor) → AreWritten w xs a b → c.tables ≡ b.tables → c.cleaned ≡ b.cleaned → AreWritten w xs a c
-written_same w xs a b c h e f = record { asked = h.asked; tables = h.tables ∙ ap Some (sym e); cleaned = f ∙ h.cleaned }
+written_same w xs a b c h e f = record { asked = h.asked; accepted = h.accepted; tables = h.tables ∙ ap Some (sym e); cleaned = f ∙ h.cleaned }
 
 -- the last item is refused
 pub refused_last : (w : Writing) (front : List Item) (item : Item) (all : List Item) (a b c : Accessor) (e : Error) → all ≡ front ++ item ∷ [] → AreWritten w front a b → c.tables ≡ b.tables → c.cleaned ≡ b.cleaned
@@ -148,7 +157,6 @@ pub refused_last : (w : Writing) (front : List Item) (item : Item) (all : List I
 refused_last w front item all a b c e split h t l f = record {
   front = front;
   item = item;
-  rest = [];
   split = split;
   written = written_same w front a b c h t l;
   fault = subst (λ m. IsWriteFault w item.raft_group_id (finite.get m item.raft_group_id) (live_in_all (queue_of w) m) item.content e) (sym t) f;

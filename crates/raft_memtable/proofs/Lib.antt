@@ -11,6 +11,7 @@ mod ReadingLemmas
 mod RegionTablesLemmas
 mod SlotLemmas
 mod UpdateLemmas
+pub mod WalkLemmas
 mod WriteLemmas
 mod SlotKeeping
 mod CleanLemmas

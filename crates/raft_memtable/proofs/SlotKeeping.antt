@@ -89,6 +89,7 @@ slot-written w a b item r kept t = record {
   ok = elim r as (λ r. IsItemWritten w item a.tables a.stats a.cleaned.items r b.tables b.stats b.cleaned.items → OnOk r (AreWritten w (item ∷ []) (slot_shown a).part (slot_shown b).part)) [
     | Ok x ↦ λ t. record {
       asked = (t.asked, tt);
+      accepted = (t.accepted, λ u e. tt);
       tables = ap (option_and_then (λ o. Some (with_table a.tables item.raft_group_id o))) t.ok ∙ ap Some (sym t.one);
       cleaned = t.cleaned ∙ ap (λ l. a.cleaned.items ++ l) (sym (append-nil (listed_by w item)));
     }

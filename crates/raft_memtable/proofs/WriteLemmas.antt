@@ -1,5 +1,5 @@
 -- One item written to its region's table.
-use Rattle.std.proofs.Common.{◌≡◌, ◌⊎◌, ℕ, true, false, cond, List, [], ◌++◌, length, append-nil, Option, Some, None, Result, Ok, Err, refl, sym, ap, subst, ◌∙◌, inl, inr}
+use Rattle.std.proofs.Common.{◌≡◌, ◌⊎◌, ◌<◌, ℕ, true, false, cond, arith, List, [], ◌++◌, length, append-nil, Option, Some, None, Result, Ok, Err, refl, sym, ap, subst, ◌∙◌, inl, inr}
 use Rattle.std.specs.FinMap as finite
 use Rattle.std.specs.Option.{option_map, is_some}
 use Rattle.std.specs.declared.alloc.Global.{Global}
@@ -26,14 +26,24 @@ use Rattle.raft_table.proofs.RunCounts.{append_full, replay_full}
 use Rattle.raft_memtable.specs.Accessor.{table_in}
 use Rattle.raft_memtable.specs.ItemWrites.{IsItemWritten, pair_change}
 use Rattle.raft_memtable.specs.Updates.{IsTaken, IsReplayFault, IsRefusal}
-use Rattle.raft_memtable.specs.Writes.{Writing, Appending, Replaying, Rewriting, queue_of, after_content, after_rewrite_put, with_change, lists, listed_by, cleaned_by_content, IsFor, IsWriteFault}
+use Rattle.raft_memtable.specs.Writes.{Writing, Appending, Replaying, Rewriting, queue_of, after_content, after_rewrite_put, with_change, lists, listed_by, cleaned_by_content, IsFor, MixesQueues, IsWriteFault}
 use Rattle.raft_memtable.proofs.MapLemmas.{get_gone, one_same}
+
+-- new items meet no records of the other queue, and those that are read again only where there are some
+pub none_met : {R : Type 0} (r : Result R Error) → OnOk r (⊥ → ⊥)
+none_met (Ok x) = λ m. m
+none_met (Err e) = tt
+
+pub never_met : {R : Type 0} (n : ℕ) (r : Result R Error) → OnOk r (n ≡ 0) → OnOk r (0 < n → ⊥)
+never_met n (Ok x) z = λ m. omega (arith, z, m)
+never_met n (Err e) z = tt
 
 -- what is done to the table is what the content asks for, and no region is listed
 pub written_by : (w : Writing) (item : Item) (outcome : Option Table) (IsFault : Error → Type 0) (old : Tables) (counts : Counts) (list : List ℕ) (r : Result Unit Error) (new : Tables) (after : Counts) → IsTaken outcome IsFault old item.raft_group_id counts r new after
-    → IsFor w item.content → listed_by w item ≡ [] → after_content w item.raft_group_id (finite.get old item.raft_group_id) item.content ≡ option_map Some outcome
+    → IsFor w item.content → OnOk r (MixesQueues w (table_in old item.raft_group_id) item.content → ⊥) → listed_by w item ≡ [] → after_content w item.raft_group_id (finite.get old item.raft_group_id) item.content ≡ option_map Some outcome
     → ((e : Error) → IsFault e → IsWriteFault w item.raft_group_id (finite.get old item.raft_group_id) (live (queue_of w) counts) item.content e) → IsItemWritten w item old counts list r new after list
-written_by w item outcome IsFault old counts list r new after h asked none is fault = record {
+written_by w item outcome IsFault old counts list r new after h asked alone none is fault = record {
+  accepted = alone;
   asked = elim r as (λ r. OnOk r (IsFor w item.content)) [ Ok a ↦ asked | Err x ↦ tt ];
   ok = elim r as (λ r. OnOk r (outcome ≡ Some (table_in new item.raft_group_id)) → OnOk r (finite.get new item.raft_group_id ≡ Some (table_in new item.raft_group_id)) → OnOk r (after_content w item.raft_group_id (finite.get old item.raft_group_id) item.content ≡ Some (finite.get new item.raft_group_id))) [
     | Ok a ↦ λ e t. is ∙ ap (option_map Some) e ∙ ap Some (sym t)
@@ -53,6 +63,7 @@ written_by w item outcome IsFault old counts list r new after h asked none is fa
 -- an item that is refused changes nothing
 pub refused_by : (w : Writing) (item : Item) (old : Tables) (counts : Counts) (list : List ℕ) (e : Error) → IsWriteFault w item.raft_group_id (finite.get old item.raft_group_id) (live (queue_of w) counts) item.content e → IsItemWritten w item old counts list (Err e) old counts list
 refused_by w item old counts list e fault = record {
+  accepted = tt;
   asked = tt;
   ok = tt;
   cleaned = tt;
@@ -64,8 +75,9 @@ refused_by w item old counts list e fault = record {
 }
 
 -- nor does one that is skipped
-pub skipped_by : (w : Writing) (item : Item) (old : Tables) (counts : Counts) (list : List ℕ) → IsFor w item.content → listed_by w item ≡ [] → after_content w item.raft_group_id (finite.get old item.raft_group_id) item.content ≡ Some (finite.get old item.raft_group_id) → IsItemWritten w item old counts list (Ok tt) old counts list
-skipped_by w item old counts list asked none is = record {
+pub skipped_by : (w : Writing) (item : Item) (old : Tables) (counts : Counts) (list : List ℕ) → IsFor w item.content → (MixesQueues w (table_in old item.raft_group_id) item.content → ⊥) → listed_by w item ≡ [] → after_content w item.raft_group_id (finite.get old item.raft_group_id) item.content ≡ Some (finite.get old item.raft_group_id) → IsItemWritten w item old counts list (Ok tt) old counts list
+skipped_by w item old counts list asked alone none is = record {
+  accepted = alone;
   asked = asked;
   ok = is;
   cleaned = sym (append-nil list) ∙ sym (ap (λ l. list ++ l) none);
@@ -159,6 +171,7 @@ cleaned_by q id old counts list new after listed e r l =
     let gone : finite.get new id ≡ None = ap (λ m. finite.get m id) e ∙ get_gone old id in
     record {
       asked = tt;
+      accepted = λ m. m;
       ok = ap Some (sym gone);
       cleaned = l;
       err = tt;
@@ -185,6 +198,7 @@ pair_as_new id o live p e h = absurd h
 pub new_command : (id : ℕ) (c : Command) (old : Tables) (counts : Counts) (list : List ℕ) (r : Result Unit Error) (new : Tables) (after : Counts) (listed : List ℕ) → IsItemWritten (Replaying Append) (command_item id c) old counts list r new after listed → IsItemWritten Appending (command_item id c) old counts list r new after listed
 new_command id c old counts list r new after listed h = record {
   asked = elim r as (λ r. OnOk r Unit) [ Ok a ↦ tt | Err x ↦ tt ];
+  accepted = elim r as (λ r. OnOk r (⊥ → ⊥)) [ Ok a ↦ λ m. m | Err x ↦ tt ];
   ok = h.ok;
   cleaned = h.cleaned;
   err = h.err;
@@ -197,6 +211,7 @@ new_command id c old counts list r new after listed h = record {
 pub new_pair : (id : ℕ) (p : Pair) (old : Tables) (counts : Counts) (list : List ℕ) (r : Result Unit Error) (new : Tables) (after : Counts) (listed : List ℕ) → IsItemWritten (Replaying Append) (pair_change id p) old counts list r new after listed → IsItemWritten Appending (pair_change id p) old counts list r new after listed
 new_pair id p old counts list r new after listed h = record {
   asked = h.asked;
+  accepted = elim r as (λ r. OnOk r (⊥ → ⊥)) [ Ok a ↦ λ m. m | Err x ↦ tt ];
   ok = h.ok;
   cleaned = h.cleaned;
   err = h.err;

@@ -8,7 +8,7 @@ use Rattle.raft_table.specs.Counts.{Counts, live}
 use Rattle.raft_table.specs.Table.{IsRecounted}
 use Rattle.raft_history.specs.RegionSteps.{Tables, with_table}
 use Rattle.raft_memtable.specs.Accessor.{table_in}
-use Rattle.raft_memtable.specs.Writes.{Writing, queue_of, after_content, listed_by, IsFor, IsWriteFault}
+use Rattle.raft_memtable.specs.Writes.{Writing, queue_of, after_content, listed_by, IsFor, MixesQueues, IsWriteFault}
 
 -- the change of a key of a region
 abbrev pub pair_change : ℕ → Pair → Item
@@ -17,6 +17,7 @@ pair_change id p = record { raft_group_id = id; content = pair p }
 -- an item is written to its region's table
 pub record IsItemWritten (w : Writing) (item : Item) (old : Tables) (counts : Counts) (list : List ℕ) (r : Result Unit Error) (new : Tables) (after : Counts) (listed : List ℕ) : Type 0 where
   pub asked : OnOk r (IsFor w item.content)
+  pub accepted : OnOk r (MixesQueues w (table_in old item.raft_group_id) item.content → ⊥)
   pub ok : OnOk r (after_content w item.raft_group_id (finite.get old item.raft_group_id) item.content ≡ Some (finite.get new item.raft_group_id))
   pub cleaned : OnOk r (listed ≡ list ++ listed_by w item)
   pub err : OnErr r (new ≡ old)

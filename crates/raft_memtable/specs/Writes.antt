@@ -153,6 +153,13 @@ abbrev pub MixesQueues : Writing → Table → Content → Type 0
 MixesQueues (Replaying queue) t (entries es) = 0 < live_of (other queue) t
 MixesQueues w t content = ⊥
 
+-- no item is entries that are read again into a table of the other queue, the tables being those after the items in front of it
+abbrev pub NoneMixesQueues : Writing → Tables → List Item → Type 0
+NoneMixesQueues w m [] = Unit {0}
+NoneMixesQueues w m (item ∷ items) =
+    (MixesQueues w (table_of item.raft_group_id (finite.get m item.raft_group_id)) item.content → ⊥)
+    × ((t : Option Table) → after_content w item.raft_group_id (finite.get m item.raft_group_id) item.content ≡ Some t → NoneMixesQueues w (with_table m item.raft_group_id t) items)
+
 -- why a content is refused, `live` records being live in the queue: it isn't as asked, or its change is refused; it would be read again into a table of the other queue; more than 2^64 - 1 records would be live; or want of memory
 abbrev pub IsWriteFault : Writing → ℕ → Option Table → ℕ → Content → Error → Type 0
 IsWriteFault w id o live content (errors.Corruption text) = (IsFor w content → ⊥) ⊎ (after_content w id o content ≡ None)
@@ -161,17 +168,17 @@ IsWriteFault w id o live content errors.Full = 2 ^ 64 ≤ live + records_named c
 IsWriteFault w id o live content errors.Memory = Unit {0}
 IsWriteFault w id o live content _ = ⊥
 
--- items are written: each is as asked, the tables are those after them in order, and the regions that they clean are listed
+-- items are written: each is as asked, none meets records of the other queue, the tables are those after them in order, and the regions that they clean are listed
 pub record AreWritten (w : Writing) (items : List Item) (old new : Accessor) : Type 0 where
   pub asked : AllByRecursion (λ (item : Item). IsFor w item.content) items
+  pub accepted : NoneMixesQueues w old.tables items
   pub tables : after_items w old.tables items ≡ Some new.tables
   pub cleaned : new.cleaned ≡ old.cleaned ++ listed_by_items w items
 
--- the items in front of the one that is refused are written, and nothing else
+-- the last item is refused, those in front of it are written, and nothing else
 pub record AreItemsRefused (w : Writing) (items : List Item) (old new : Accessor) (e : Error) : Type 0 where
   pub front : List Item
   pub item : Item
-  pub rest : List Item
-  pub split : items ≡ front ++ item ∷ rest
+  pub split : items ≡ front ++ item ∷ []
   pub written : AreWritten w front old new
   pub fault : IsWriteFault w item.raft_group_id (finite.get new.tables item.raft_group_id) (live_in_all (queue_of w) new.tables) item.content e

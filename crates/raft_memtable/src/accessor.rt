@@ -1,6 +1,6 @@
 //! The tables of all regions.
 
-ghost use Rattle.std.specs.Prelude.{◌≡◌, ◌≢◌, ◌≤◌, ◌<◌, ◌^◌, ◌+◌, ◌⊎◌, ◌↔◌, ℕ, List, [], ◌∷◌, ◌++◌, map, replicate, IsPermutation, IsTrue, IsOk, OnOk, OnErr, IfOk, IfErr, IfSome, Some, None, option_map, if◌then◌else◌};
+ghost use Rattle.std.specs.Prelude.{◌≡◌, ◌≢◌, ◌≤◌, ◌<◌, ◌^◌, ◌+◌, ◌⊎◌, ◌↔◌, ℕ, List, [], ◌∷◌, ◌++◌, map, replicate, IsPermutation, IsTrue, IsOk, OnOk, OnErr, IfOk, IfErr, IfSome, Some, None, option_map, is_some, if◌then◌else◌};
 ghost use Rattle.std.specs.FinMap as finite;
 ghost use Rattle.std.specs.Iterator.{Drains, Yields, IsFinite};
 ghost use Rattle.std.specs.List.{FoldsTo};
@@ -14,9 +14,9 @@ ghost use Rattle.raft_history.specs.RegionSteps.{with_table};
 ghost use Rattle.raft_table.specs.Change.{after_change, IsAnswer, IsChangeFault};
 ghost use Rattle.raft_table.specs.Table.{Table, with_atomic_group, live_of};
 ghost use Rattle.raft_memtable.specs.Accessor.{slot_of, table_in, live_in_all, AreCountsOf};
-ghost use Rattle.raft_memtable.specs.AccessorCalls.{IsTableChanged, IsWritten};
+ghost use Rattle.raft_memtable.specs.AccessorCalls.{IsTableChanged, IsTableMade, IsWritten};
 ghost use Rattle.raft_memtable.specs.Merges.{with_newer, with_appended, IsMergedAt, AreTablesMerged};
-ghost use Rattle.raft_memtable.specs.Walks.{Collects};
+ghost use Rattle.raft_memtable.specs.Walks.{Collects, Makes};
 ghost use Rattle.raft_memtable.specs.Writes.{Appending, Replaying, Rewriting, AreWritten, AreItemsRefused};
 
 mod join;
@@ -26,7 +26,7 @@ mod totals;
 use crate::region_tables::RegionTables;
 use raft_records::{Command, LogBatch, LogItem, hash_u64};
 use raft_table::{Error, FileSeq, GlobalStats, LogQueue, MemTable, Result, TableChange};
-use std::alloc::Global;
+use std::alloc::{AllocError, Global};
 use std::marker::Model;
 
 /// The number of the slot that holds a region's table: the low 7 bits of the number's hash.
@@ -62,6 +62,12 @@ impl Model for MemTableAccessor {
 }
 
 impl MemTableAccessor {
+    ghost use Rattle.std.specs.Prelude.{⊤};
+    ghost use Rattle.std.specs.Borrow.{sem};
+    ghost use mathlib.Core.Option.{none};
+    ghost use denote.Follow.{follows_so};
+    ghost use Rattle.raft_memtable.specs.contracts.accessor.MemTableAccessor.{the_row};
+
     /// No tables. It takes no memory and never fails.
     pub fn new(alloc: Global) -> Result<MemTableAccessor>
         ensures ok { IsOk result }
@@ -112,6 +118,41 @@ impl MemTableAccessor {
         ensures own { IfSome result (λ t. t.now.region_id ≡ id) }
     {
         self.slots[slot_of(id)].get(id)
+    }
+
+    /// The table of a region, an empty one that is made where there is none.
+    ///
+    /// # Errors
+    ///
+    /// `AllocError`. All tables are then as they were.
+    pub fn get_or_insert(&mut self, id: u64) -> std::result::Result<&MemTable, AllocError>
+        ensures* ends { sem 𝓛 (follows_so the_row the_row self.entry.ghost_name none (λ _ _. ⊤)
+            (λ new. IsTableMade id result self.old new)) }
+        ensures table { IfOk result (λ t. t.now ≡ table_in self.old.tables id) }
+    {
+        self.make_table(id)?;
+        Ok(self.made(id))
+    }
+
+    /// Makes an empty table for a region that has none. All tables stay where there is no memory for it.
+    fn make_table(&mut self, id: u64) -> std::result::Result<(), AllocError>
+        ensures { IsTableMade id result self.old self.new }
+    {
+        match self.make(id) {
+            Ok(()) => Ok(()),
+            Err(_) => Err(AllocError),
+        }
+    }
+
+    /// The table of a region that has one.
+    fn made(&self, id: u64) -> &MemTable
+        requires { IsTrue (is_some (finite.get self.now.tables id)) }
+        ensures { result.now ≡ table_in self.now.tables id }
+    {
+        match self.get(id) {
+            Some(table) => table,
+            None => unreachable!(),
+        }
     }
 
     /// Makes an empty table for a region that has none.
@@ -350,6 +391,21 @@ impl MemTableAccessor {
             }
         }
         true
+    }
+
+    /// What `f` makes of `init` and each table, in open order: it is called at each table once.
+    pub fn fold<B: Drop, F: FnMut(B, &MemTable) -> B>(&self, init: B, mut f: F) -> B
+    where
+        F: Drop,
+        requires { (state : F) (x : _) (t : _) → F.pre state x t }
+        ensures { (ts : List Table) × (last : F) × IsPermutation ts (finite.values self.now.tables)
+            × FoldsTo (Makes F.FnMut) (f, init) ts (last, result) }
+    {
+        let mut answer = init;
+        for slot in &self.slots {
+            answer = slot.fold(answer, &mut f);
+        }
+        answer
     }
 
     /// All tables, in open order.

@@ -331,9 +331,10 @@ impl RegionTables {
     ) -> Result<()>
         requires run { IsRunIn queue run.items }
         requires counted { IsCounted (table_in self.old id) stats.old }
-        ensures { IsTaken (after_replay queue (table_in self.old id) run.items)
+        ensures taken { IsTaken (after_replay queue (table_in self.old id) run.items)
             (IsReplayFault queue run.items (table_in self.old id) stats.old)
             self.old id stats.old result self.new stats.new }
+        ensures accepted { OnOk result (live_of (other queue) (table_in self.old id) ≡ 0) }
     {
         let alloc = self.allocator();
         self.update(
@@ -459,6 +460,7 @@ pub(crate) fn replay_into(
     requires run { IsRunIn queue run.items }
     requires counted { IsCounted table.old stats.old }
     ensures ok { OnOk result (after_replay queue table.old run.items ≡ Some table.new) }
+    ensures accepted { OnOk result (live_of (other queue) table.old ≡ 0) }
     ensures err { OnErr result (table.new ≡ table.old) }
     ensures fault { IfErr result (IsReplayFault queue run.items table.old stats.old) }
     ensures region { table.new.region_id ≡ table.old.region_id }

@@ -2,7 +2,7 @@
 
 ghost use Rattle.std.specs.Prelude.{◌≡◌, ◌≢◌, ◌≤◌, ◌<◌, ◌^◌, ◌+◌, ◌↔◌, ◌⊎◌, ℕ, nat_eq, List, ◌++◌, map, IsPermutation, IsTrue, OnOk, OnErr, IfOk, IfErr, IfSome, Some, None, option_map};
 ghost use Rattle.std.specs.FinMap as finite;
-ghost use Rattle.std.specs.List.{IsDistinct};
+ghost use Rattle.std.specs.List.{IsDistinct, FoldsTo};
 ghost use Rattle.std.specs.Map.{keys_of, lookup};
 ghost use Rattle.raft_base.specs.declared.pipe_log.LogQueue.{LogQueue};
 ghost use Rattle.raft_history.specs.RegionSteps.{Tables, with_table};
@@ -13,6 +13,7 @@ ghost use Rattle.raft_table.specs.Table.{Table, empty_table, live_of, with_atomi
 ghost use Rattle.raft_memtable.specs.Accessor.{table_in};
 ghost use Rattle.raft_memtable.specs.Merges.{with_newer, with_appended, MayAlter, IsAltered, IsTableMerged};
 ghost use Rattle.raft_memtable.specs.Updates.{MayChange, IsUpdated, IsTaken};
+ghost use Rattle.raft_memtable.specs.Walks.{KeepsId, Makes};
 
 mod join;
 
@@ -92,6 +93,8 @@ impl RegionTables {
     /// What `f` makes of `init` and each table, in open order.
     pub(crate) fn fold<B: Drop, F: FnMut(B, &MemTable) -> B>(&self, init: B, f: &mut F) -> B
         requires { (state : F) (x : _) (t : _) → F.pre state x t }
+        ensures { (ts : List Table) × IsPermutation ts (finite.values self.now)
+            × FoldsTo (Makes F.FnMut) (f.old, init) ts (f.new, result) }
     {
         let mut answer = init;
         for table in self.tables.values() {
@@ -107,7 +110,9 @@ impl RegionTables {
         ids: &mut Vec<u64>,
     ) -> Result<()>
         requires { (state : F) (x : _) → F.pre state x }
-        ensures { IfErr result (λ e. e ≡ Error.Memory) }
+        ensures ok { OnOk result ((ts : List Table) × IsPermutation ts (finite.values self.now)
+            × FoldsTo (KeepsId F.FnMut) (wanted.old, ids.old.items) ts (wanted.new, ids.new.items)) }
+        ensures memory { IfErr result (λ e. e ≡ Error.Memory) }
     {
         for table in self.tables.values() {
             if wanted(table) {

@@ -1,16 +1,18 @@
 //! The tables of the regions of one slot.
 
-ghost use Rattle.std.specs.Prelude.{◌≡◌, ◌≤◌, ◌<◌, ◌^◌, ◌+◌, ◌⊎◌, ◌↔◌, ℕ, List, [], ◌∷◌, ◌++◌, map, IsTrue, OnOk, OnErr, IfOk, IfErr, IfSome, Some, option_map, if◌then◌else◌};
+ghost use Rattle.std.specs.Prelude.{◌≡◌, ◌≤◌, ◌<◌, ◌^◌, ◌+◌, ◌⊎◌, ◌↔◌, ℕ, List, [], ◌∷◌, ◌++◌, map, IsPermutation, IsTrue, OnOk, OnErr, IfOk, IfErr, IfSome, Some, option_map, if◌then◌else◌};
 ghost use Rattle.std.specs.FinMap as finite;
+ghost use Rattle.std.specs.List.{FoldsTo};
 ghost use Rattle.raft_base.specs.declared.pipe_log.LogQueue.{LogQueue};
 ghost use Rattle.raft_records.specs.Item.{item_of, command_item};
 ghost use Rattle.raft_records.specs.LogBatch.{populating};
 ghost use Rattle.raft_records.specs.declared.command.Command.TheVariants.{Clean};
 ghost use Rattle.raft_table.specs.Change.{after_change, IsAnswer, IsChangeFault};
-ghost use Rattle.raft_table.specs.Table.{with_atomic_group, live_of};
+ghost use Rattle.raft_table.specs.Table.{Table, with_atomic_group, live_of};
 ghost use Rattle.raft_memtable.specs.Accessor.{slot_of, table_in, live_in_all};
 ghost use Rattle.raft_memtable.specs.AccessorCalls.{IsTableChanged, IsWritten};
 ghost use Rattle.raft_memtable.specs.Slot.{IsSlotTable, SlotKeeps};
+ghost use Rattle.raft_memtable.specs.Walks.{KeepsId, Makes};
 ghost use Rattle.raft_memtable.specs.Writes.{Appending, Rewriting};
 
 use crate::accessor::clean_logs;
@@ -87,6 +89,8 @@ impl Slot {
     /// What `f` makes of `init` and each table of the slot, in open order.
     pub fn fold<B: Drop, F: FnMut(B, &MemTable) -> B>(&self, init: B, f: &mut F) -> B
         requires { (state : F) (x : _) (t : _) → F.pre state x t }
+        ensures { (ts : List Table) × IsPermutation ts (finite.values self.now.part.tables)
+            × FoldsTo (Makes F.FnMut) (f.old, init) ts (f.new, result) }
     {
         self.tables.fold(init, f)
     }
@@ -102,7 +106,9 @@ impl Slot {
         ids: &mut Vec<u64>,
     ) -> Result<()>
         requires { (state : F) (x : _) → F.pre state x }
-        ensures { IfErr result (λ e. e ≡ Error.Memory) }
+        ensures ok { OnOk result ((ts : List Table) × IsPermutation ts (finite.values self.now.part.tables)
+            × FoldsTo (KeepsId F.FnMut) (wanted.old, ids.old.items) ts (wanted.new, ids.new.items)) }
+        ensures memory { IfErr result (λ e. e ≡ Error.Memory) }
     {
         self.tables.push_ids(wanted, ids)
     }

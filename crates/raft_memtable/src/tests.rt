@@ -1,4 +1,4 @@
-//! Items written to the tables of several regions, and the regions that were cleaned.
+//! Items written to the tables of several regions, the regions that were cleaned, walks and merges.
 
 mod groups;
 
@@ -171,9 +171,71 @@ fn count(alloc: Global) -> Result<bool> {
     )
 }
 
+/// A table is made where there is none and handed out, and a walk meets each.
+fn walk(alloc: Global) -> Result<bool> {
+    let mut accessor = MemTableAccessor::new(alloc)?;
+    let made = accessor.get_or_insert(7)?.region_id();
+    accessor.change(7, TableChange::Append(run(alloc, 10, 20, FIRST)?))?;
+    let last = accessor.get_or_insert(7)?.last_index();
+    for region in [8, 9] {
+        accessor.get_or_insert(region)?;
+    }
+    let sum = accessor.fold(0, |sum: u64, table: &MemTable| {
+        sum.wrapping_add(table.region_id())
+    });
+    let kept = accessor.collect(|table: &MemTable| table.first_index().is_none())?;
+    let mut regions = Vec::new(alloc);
+    for table in kept {
+        regions.push(table.region_id())?;
+    }
+    regions.sort()?;
+    Ok(made == 7 && last == Some(19) && sum == 24 && regions.as_slice() == [8, 9].as_slice())
+}
+
+/// The tables of regions with one run each, in files of one queue.
+fn replayed(alloc: Global, file: FileId, runs: &[(u64, u64, u64)]) -> Result<MemTableAccessor> {
+    let mut accessor = MemTableAccessor::new(alloc)?;
+    let mut items = Vec::new(alloc);
+    for (region, start, end) in runs {
+        items.push(entries(alloc, *region, *start, *end, file)?)?;
+    }
+    match file.queue {
+        LogQueue::Append => accessor.replay_append_writes(items)?,
+        LogQueue::Rewrite => accessor.replay_rewrite_writes(items)?,
+    }
+    Ok(accessor)
+}
+
+/// Tables of neighbors are joined region by region, unless a hole is left.
+fn merge_neighbors(alloc: Global) -> Result<bool> {
+    let mut older = replayed(alloc, FIRST, &[(1, 10, 20), (3, 1, 4)])?;
+    older.merge_newer_neighbor(replayed(alloc, FIRST, &[(1, 15, 18), (2, 5, 7)])?)?;
+    let joined = shape(&older, 1) == Some((Some(10), Some(17), 8, 0))
+        && shape(&older, 2) == Some((Some(5), Some(6), 2, 0))
+        && shape(&older, 3) == Some((Some(1), Some(3), 3, 0))
+        && live(&older) == (13, 0);
+    let hole = replayed(alloc, FIRST, &[(1, 25, 30)])?;
+    Ok(joined && is_corruption(older.merge_newer_neighbor(hole))? && live(&older) == (13, 0))
+}
+
+/// An appended table behind a hole takes the place of the rewritten one.
+fn merge_appended(alloc: Global) -> Result<bool> {
+    let rewritten = FileId::new(LogQueue::Rewrite, 50);
+    let mut older = replayed(alloc, rewritten, &[(1, 10, 20), (2, 1, 4)])?;
+    older.merge_append_table(replayed(alloc, FIRST, &[(1, 25, 30)])?)?;
+    Ok(
+        shape(&older, 1) == Some((Some(25), Some(29), 5, 0))
+            && shape(&older, 2) == Some((Some(1), Some(3), 0, 3))
+            && live(&older) == (5, 3),
+    )
+}
+
+/// Numbers as raft-engine gives them.
 #[test]
 fn a_region_has_one_slot(rt: HostRuntime) -> std::result::Result<(), Fail> {
-    assert_eq!(rt; slot_of(0), 0);
+    for (region, slot) in [(0, 0), (1, 101), (2, 10), (10, 121), (20, 114), (127, 37)] {
+        assert_eq!(rt; slot_of(region), slot);
+    }
     Ok(())
 }
 
@@ -183,7 +245,10 @@ fn write_items(alloc: Global) -> Result<bool> {
         write_up_to_a_hole(alloc)?
             && rewrite_what_cannot_be(alloc)?
             && clean(alloc)?
-            && count(alloc)?,
+            && count(alloc)?
+            && walk(alloc)?
+            && merge_neighbors(alloc)?
+            && merge_appended(alloc)?,
     )
 }
 

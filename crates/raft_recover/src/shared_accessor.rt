@@ -411,3 +411,6 @@ where
         None => f(&MemTable::new(alloc, id)),
     }
 }
+
+#[cfg(test)]
+mod tests;

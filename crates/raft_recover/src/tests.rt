@@ -1,7 +1,7 @@
 //! Tickets, plans, given schedules and workers, over a machine that keeps a list of batches.
 
 mod lists;
-mod waits;
+pub(crate) mod waits;
 
 use crate::{
     OpenGate, Plan, Segment, Tickets, merge_pieces, piece_count, replay_scheduled, replay_segments,

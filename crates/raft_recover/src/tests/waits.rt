@@ -11,7 +11,7 @@ use std::thread;
 use std::time::{Clock, Duration};
 
 /// Whether the number is reached within ten thousand sleeps of a millisecond.
-fn is_reached<R: Clock>(rt: &R, number: &AtomicU64, goal: u64) -> bool {
+pub(crate) fn is_reached<R: Clock>(rt: &R, number: &AtomicU64, goal: u64) -> bool {
     for _ in 0..10_000 {
         if number.load(Ordering::SeqCst) >= goal {
             return true;

@@ -13,7 +13,7 @@ use Rattle.raft_memtable.proofs.region_tables.RegionTables.replay_pair.Goals as 
 pub returns-then-is_reserved : goal.returns-then-is_reserved
 returns-then-is_reserved c = λ list.
     let there : is_reserved (pair_of c.args.kv).key ≡ true = ap is_reserved (sym c.deref.ensures.value) ∙ sym c.is_reserved.ensures.value ∙ c.if-is_reserved.true in
-    skipped_by (Replaying c.args.queue) (pair_change c.args.id (pair_of c.args.kv)) c.args.self.now c.args.stats.now list (λ e. absurd (false≢true (sym e ∙ there))) (none_listed (Replaying c.args.queue) (pair_change c.args.id (pair_of c.args.kv)) refl)
+    skipped_by (Replaying c.args.queue) (pair_change c.args.id (pair_of c.args.kv)) c.args.self.now c.args.stats.now list (λ e. absurd (false≢true (sym e ∙ there))) (λ m. m) (none_listed (Replaying c.args.queue) (pair_change c.args.id (pair_of c.args.kv)) refl)
     (reserved_step (Replaying c.args.queue) c.args.id (finite.get c.args.self.now c.args.id) (pair_of c.args.kv) there)
 
 pub returns-in_default : goal.returns-in_default

@@ -12,7 +12,7 @@ use Rattle.raft_memtable.proofs.region_tables.RegionTables.rewrite_pair.Goals as
 pub returns-then-is_reserved : goal.returns-then-is_reserved
 returns-then-is_reserved c = λ list.
     let there : is_reserved (pair_of c.args.kv).key ≡ true = ap is_reserved (sym c.deref.ensures.value) ∙ sym c.is_reserved.ensures.value ∙ c.if-is_reserved.true in
-    skipped_by (Rewriting c.args.gate c.args.seq) (pair_change c.args.id (pair_of c.args.kv)) c.args.self.now c.args.stats.now list (λ e. tt) refl
+    skipped_by (Rewriting c.args.gate c.args.seq) (pair_change c.args.id (pair_of c.args.kv)) c.args.self.now c.args.stats.now list (λ e. tt) (λ m. m) refl
     (reserved_step (Rewriting c.args.gate c.args.seq) c.args.id (finite.get c.args.self.now c.args.id) (pair_of c.args.kv) there)
 
 pub returns-then-is_none : goal.returns-then-is_none

@@ -59,7 +59,10 @@ fn kept_bytes(region: &Region) -> usize {
     let each = size_of::<Block>() + size_of::<u64>();
     let mut bytes = blocks.capacity().saturating_mul(each);
     for block in blocks {
-        let spans = block.spans.capacity().saturating_mul(size_of::<(u32, u32)>());
+        let spans = block
+            .spans
+            .capacity()
+            .saturating_mul(size_of::<(u32, u32)>());
         bytes = bytes.saturating_add(spans);
     }
     bytes
@@ -84,7 +87,10 @@ fn time_appends(rt: &HostRuntime, len: u64) -> io::Result<()> {
         }
     }
     let entries = regions * ENTRIES;
-    println!(rt; "2,048,000 entries, {len} a call, {len} a block: {} bytes an entry", bytes as u64 / entries)?;
+    println!(rt;
+        "2,048,000 entries, {len} a call, {len} a block: {} bytes an entry",
+        bytes as u64 / entries
+    )?;
     print_each(rt, "append", best, "entry", entries)
 }
 
@@ -117,7 +123,13 @@ fn time_get(rt: &HostRuntime) -> io::Result<()> {
         got = found(regions.as_slice(), picks.as_slice());
         best = best.min(nanoseconds_since(rt, &start)?);
     }
-    print_each(rt, "get_entry, one table of 1,000 blocks", best, "call", got)
+    print_each(
+        rt,
+        "get_entry, one table of 1,000 blocks",
+        best,
+        "call",
+        got,
+    )
 }
 
 /// Rewrites a table of many blocks from its first entry on, some entries a call.

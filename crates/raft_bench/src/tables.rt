@@ -4,7 +4,8 @@ ghost use Rattle.raft_table.specs.Table.{IsCounted};
 
 use crate::timing::{Noise, TIMES, nanoseconds_since};
 use raft_table::{
-    Block, EntryIndex, FileBlockHandle, FileId, FileSeq, GlobalStats, LogQueue, MemTable, Result, is_run,
+    Block, EntryIndex, FileBlockHandle, FileId, FileSeq, GlobalStats, LogQueue, MemTable, Result,
+    is_run,
 };
 use std::alloc::{AllocError, Global};
 use std::collections::VecDeque;

@@ -82,6 +82,6 @@ returns-then-index c i bs e lo hi =
     let high = c.index-then-low-index.result.now in
     at_start c.args.index i g c.index-low.result.now bs ss e lo hi (omega (arith, c.args.starts.now.ok)) c.index-low.ensures c.if-low-index.true
     (λ d l.
-        let r : get_or ss (suc g) d ≡ high = get_or_default ss (suc g) d high l ∙ ap (λ k. get_or ss k high) (let z : suc g ≡ g + 1 = omega arith in z) ∙ sym c.index-then-low-index.ensures in
-        let t = c.if-index.true in
-        omega arith)
+    let r : get_or ss (suc g) d ≡ high = get_or_default ss (suc g) d high l ∙ ap (λ k. get_or ss k high) (let z : suc g ≡ g + 1 = omega arith in z) ∙ sym c.index-then-low-index.ensures in
+    let t = c.if-index.true in
+    omega arith)

@@ -48,8 +48,8 @@ loop-i-preserved c =
     let k : c.loop-i.i + 1 - c.args.start ≡ suc n = omega arith in
     let bound = c.loop-i.invariant.1 in
     let more = λ (j : ℕ). limit_more c.args.limit n c.loop-i.total c.from.result (drop c.args.start (take c.args.end (expanded j bs))) d
-            (omega (arith, length-drop c.args.start (take c.args.end (expanded j bs)), length-take c.args.end (expanded j bs), length-expanded j bs))
-            (c.loop-i.invariant.2 j) (len j) c.else-sum-limit.either (c.loop-i.invariant.3 j) in
+    (omega (arith, length-drop c.args.start (take c.args.end (expanded j bs)), length-take c.args.end (expanded j bs), length-expanded j bs))
+    (c.loop-i.invariant.2 j) (len j) c.else-sum-limit.either (c.loop-i.invariant.3 j) in
     rw k (λ l. c.next-place.ensures c.loop-i.i bs a c.requires.distinct b.same (omega arith), omega arith, λ j. (more j).0, λ j. (more j).1)
 
 pub returns : goal.returns

@@ -10,7 +10,7 @@ invariant-loop-done l =
     (l.start ≤ l.done) × (l.done ≤ l.end)
     × (l.done < l.end → IsAt l.done (shown l.blocks.items) l.whole l.at)
     × ((i : ℕ) → prefix_len (may_move l.gate) (drop l.start (take l.end (expanded i (shown l.blocks.items)))) + l.start
-        ≡ l.done + prefix_len (may_move l.gate) (drop l.done (take l.end (expanded i (shown l.blocks.items)))))
+    ≡ l.done + prefix_len (may_move l.gate) (drop l.done (take l.end (expanded i (shown l.blocks.items)))))
 
 abbrev pub decreases-loop-done : goal.decreases-loop-done
 decreases-loop-done l = l.end - l.done

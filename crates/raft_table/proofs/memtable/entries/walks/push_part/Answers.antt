@@ -21,8 +21,8 @@ loop-i-preserved c =
     let more = spread_more c.args.first i h ss s (omega (arith, length-drop c.args.at c.args.block.now.spans.items)) (c.index-span.ensures ∙ sym (get_or-drop c.args.at c.args.block.now.spans.items i s)) in
     let last = entry_of (c.args.first + i) h s ∷ [] in (
       c.push_reserved.ensures.items ∙ ap (λ xs. xs ++ last) c.loop-i.invariant.0
-      ∙ append_assoc c.args.vec.now.items (spread c.args.first h (take i ss)) last
-      ∙ ap (λ xs. c.args.vec.now.items ++ xs) (sym more),
+          ∙ append_assoc c.args.vec.now.items (spread c.args.first h (take i ss)) last
+          ∙ ap (λ xs. c.args.vec.now.items ++ xs) (sym more),
       (let l = c.loop-i.invariant.1 in omega (arith, c.push_reserved.ensures.len)),
       c.push_reserved.ensures.capacity ∙ c.loop-i.invariant.2,
     )

@@ -48,6 +48,6 @@ loop-done-preserved c =
       (let l = c.loop-done.invariant.3 in omega (arith, c.push_part.ensures.len)),
       c.push_part.ensures.capacity ∙ c.loop-done.invariant.4,
       c.push_part.ensures.items ∙ ap (λ zs. zs ++ ys) c.loop-done.invariant.5 ∙ append_assoc c.args.vec.now.items xs ys
-      ∙ ap (λ zs. c.args.vec.now.items ++ zs)
-      (sym (walk_more c.args.first c.args.start c.loop-done.done c.loop-done.whole c.loop-done.at c.min-count.result bs (block_spans c.index-block.result.now) low a b.same s.within (omega arith))),
+          ∙ ap (λ zs. c.args.vec.now.items ++ zs)
+          (sym (walk_more c.args.first c.args.start c.loop-done.done c.loop-done.whole c.loop-done.at c.min-count.result bs (block_spans c.index-block.result.now) low a b.same s.within (omega arith))),
     )

@@ -182,7 +182,7 @@ with_records : (m : Tables) (r : ℕ) (t : Option Table) → all_records (with_t
 with_records m r None = omega (arith, total-remove table_records m r)
 with_records m r (Some t) = total-insert table_records m r t
 
-read_records : (q : LogQueue) (rs new : MarkedRegions) (is : List RegionStep) → regions_after q rs is ≡ Some new → all_records new.tables ≤ all_records rs.tables + records_in is
+pub read_records : (q : LogQueue) (rs new : MarkedRegions) (is : List RegionStep) → regions_after q rs is ≡ Some new → all_records new.tables ≤ all_records rs.tables + records_in is
 read_records q rs new [] e = omega (arith, ap (λ (n : MarkedRegions). all_records n.tables) (some_is e))
 read_records q rs new (i ∷ is) e = go (after_step q i.region (finite.get rs.tables i.region) i.step) refl e (λ x e. read_records q (with_region rs i.region x) new is e)
   where
@@ -210,10 +210,10 @@ spans-records : (rs : List ℕ) (start end : ℕ) → records_in (on_each rs (At
 spans-records [] s e = refl
 spans-records (r ∷ rs) s e = omega (arith, spans-records rs s e)
 
-whole_group-records : (w : WholeGroup) → records_in (region_steps_of_whole w) ≡ records_in w.steps
+pub whole_group-records : (w : WholeGroup) → records_in (region_steps_of_whole w) ≡ records_in w.steps
 whole_group-records w = omega (arith, records-append w.steps (on_each (named_regions w.steps) (AtomicGroup w.start w.end)), spans-records (named_regions w.steps) w.start w.end)
 
-wholes-records : (ws : List WholeGroup) → records_in (region_steps_of_wholes ws) ≡ records_in_wholes ws
+pub wholes-records : (ws : List WholeGroup) → records_in (region_steps_of_wholes ws) ≡ records_in_wholes ws
 wholes-records [] = refl
 wholes-records (w ∷ ws) = omega (arith, records-append (region_steps_of_whole w) (region_steps_of_wholes ws), whole_group-records w, wholes-records ws)
 
@@ -230,7 +230,7 @@ merged_bounded q c d rs n m a b is = omega (
   joined_records q is.middle d.regions.marks d.regions.tables rs is.regions,
 )
 
-one_weight : (s : AtomicGroupStatus) (is : List RegionStep) (f : ℕ) → records_in (held_steps (one_marker s is f)) ≡ records_in is
+pub one_weight : (s : AtomicGroupStatus) (is : List RegionStep) (f : ℕ) → records_in (held_steps (one_marker s is f)) ≡ records_in is
 one_weight Begin is f = refl
 one_weight Middle is f = ap records_in (append-nil is)
 one_weight End is f = ap records_in (append-nil is)

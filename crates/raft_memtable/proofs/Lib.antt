@@ -17,6 +17,13 @@ mod CleanLemmas
 mod RegionJoinLemmas
 mod TableJoinLemmas
 mod TotalSums
+mod RecoverContextLemmas
+mod BatchCheckLemmas
+mod WholeFiles
+mod ReadStateLemmas
+mod TakenWholes
 mod LiveSteps
 mod TakenLemmas
 mod GroupFiles
+mod RegionJoinLemmas
+mod TableJoinLemmas

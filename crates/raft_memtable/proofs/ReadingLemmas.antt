@@ -12,7 +12,7 @@ use Rattle.raft_records.specs.Group.{is_reserved}
 use Rattle.raft_records.specs.Item.{Item, Content, entries, command, pair}
 use Rattle.raft_history.specs.RegionSteps.{Tables, RegionStep, with_table, with_step, content_step, pair_step, steps_of_items, reading, cleaned_by_steps}
 use Rattle.raft_table.specs.Steps.{table_of, there_if}
-use Rattle.raft_table.specs.Table.{Table, after_replay}
+use Rattle.raft_table.specs.Table.{after_replay}
 use Rattle.raft_memtable.specs.Writes.{Replaying, after_content, after_items, after_pair, with_change, listed_by, listed_by_items}
 use Rattle.raft_memtable.proofs.MapLemmas.{none_some, with_same}
 

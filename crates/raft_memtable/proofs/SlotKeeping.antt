@@ -1,25 +1,24 @@
 -- What a slot keeps, when one of its regions is changed, and its calls seen as an accessor's.
-use Rattle.std.proofs.Common.{◌≡◌, ◌⊎◌, ◌<◌, ℕ, Bool, true, false, List, [], ◌∷◌, ◌++◌, Option, Some, None, Result, Ok, Err, refl, sym, ap, subst, ◌∙◌, inl, inr, append-nil}
+use Rattle.std.proofs.Common.{◌≡◌, ℕ, true, false, List, [], ◌∷◌, ◌++◌, Option, Some, None, Result, Ok, Err, sym, ap, subst, ◌∙◌, inl, inr, append-nil}
 use Rattle.std.specs.FinMap as finite
 use Rattle.std.specs.List.{AllByRecursion}
 use Rattle.std.specs.Option.{option_and_then}
 use Rattle.std.specs.Prelude.{if◌then◌else◌}
-use Rattle.std.specs.Result.{OnOk, OnErr, IfOk, IfErr}
+use Rattle.std.specs.Result.{OnOk, OnErr, IfErr}
 use Rattle.raft_base.specs.declared.errors.Error.{Error}
-use Rattle.raft_base.specs.declared.errors.Error.TheVariants.{Memory}
 use Rattle.raft_records.specs.declared.command.Command.{Command}
 use Rattle.raft_records.specs.declared.command.Command.TheVariants as commands
 use Rattle.raft_records.specs.Item.{Item, Content, entries, command, pair}
 use Rattle.raft_history.specs.RegionSteps.{Tables, with_table}
-use Rattle.raft_table.specs.Counts.{Counts, live}
+use Rattle.raft_table.specs.Counts.{live}
 use Rattle.raft_table.specs.Table.{Table, empty_table, IsRecounted}
 use Rattle.raft_memtable.specs.declared.slot.Slot.TheInside.{Inside}
-use Rattle.raft_memtable.specs.Accessor.{Accessor, slot_of, table_in, live_in_all, AreCountsOf}
+use Rattle.raft_memtable.specs.Accessor.{slot_of, table_in, live_in_all, AreCountsOf}
 use Rattle.raft_memtable.specs.AccessorCalls.{IsTableChanged, IsWritten}
 use Rattle.raft_memtable.specs.ItemWrites.{IsItemWritten}
 use Rattle.raft_memtable.specs.SlotView.{slot_shown, AreOf, IsSlotKept}
 use Rattle.raft_memtable.specs.Updates.{IsTaken}
-use Rattle.raft_memtable.specs.Writes.{Writing, queue_of, after_content, lists, cleaned_by_command, cleaned_by_content, listed_by, IsWriteFault, AreWritten}
+use Rattle.raft_memtable.specs.Writes.{Writing, queue_of, lists, cleaned_by_command, cleaned_by_content, listed_by, IsWriteFault, AreWritten}
 use Rattle.std.specs.Ordering.{nat_cmp}
 use Rattle.raft_base.specs.declared.pipe_log.LogQueue.TheVariants.{Append, Rewrite}
 use Rattle.raft_table.specs.Steps.{table_of}

@@ -21,3 +21,9 @@ pub mod Writes
 pub mod Slot
 pub mod SlotCode
 pub mod SlotView
+pub mod FileRanges
+pub mod ReadStates
+pub mod RecoverContext
+pub mod RecoverContextCode
+pub mod RecoverContextView
+pub mod BatchChecks

@@ -311,7 +311,7 @@ impl RegionTables {
         requires counted { IsCounted (table_in self.old id) stats.old }
         ensures { IsTaken (after_append (table_in self.old id) run.items)
             (IsTableRunFault Append stats.old (table_in self.old id).entries
-                (appended (table_in self.old id).entries run.items))
+            (appended (table_in self.old id).entries run.items))
             self.old id stats.old result self.new stats.new }
     {
         self.update(

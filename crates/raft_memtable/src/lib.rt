@@ -2,13 +2,18 @@
 #![tactic(auto)]
 
 pub mod accessor;
+mod batch_check;
+mod file_range;
 pub mod item_writes;
 mod marked_tables;
+mod read_state;
 pub mod reading;
+pub mod recover_context;
 pub mod region_marks;
 pub mod region_tables;
 pub mod replay_machine;
 pub mod slot;
+pub mod stage;
 #[cfg(test)]
 mod tests;
 pub mod waiting_group;
@@ -20,7 +25,9 @@ pub use raft_table::{
     Block, EntryIndex, Error, FileBlockHandle, FileId, FileSeq, GlobalStats, LogQueue, MemTable,
     Result, TableChange, global_stats, is_run, memtable,
 };
+pub use recover_context::{MemTableRecoverContext, MemTableRecoverContextFactory};
 pub use region_marks::RegionMarks;
 pub use region_tables::RegionTables;
 pub use replay_machine::ReplayMachine;
 pub use slot::Slot;
+pub use stage::Stage;

@@ -12,6 +12,7 @@ mod joins;
 mod lists;
 mod places;
 mod runs;
+mod walks;
 
 use crate::global_stats::GlobalStats;
 use crate::memtable::block::Block;

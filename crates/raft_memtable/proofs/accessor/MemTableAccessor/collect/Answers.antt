@@ -1,4 +1,4 @@
-use Rattle.std.proofs.Common.{◌≡◌, ◌++◌, [], ◌∷◌, List, map, true, false, refl, sym, ap, subst, ◌∙◌, of_calls}
+use Rattle.std.proofs.Common.{[], ◌∷◌, List, map, true, false, refl, sym, ap, subst, ◌∙◌, of_calls}
 use Rattle.std.proofs.lemmas.Fn.{called_at}
 use Rattle.std.proofs.lemmas.List.{map-append}
 use Rattle.std.specs.List.{FoldsTo}

@@ -1,7 +1,6 @@
-use Rattle.std.proofs.Common.{◌≡◌, [], List, map}
+use Rattle.std.proofs.Common.{[], map}
 use Rattle.std.specs.List.{FoldsTo}
 use Rattle.std.specs.Vec.Iter.{into_iter_items}
-use Rattle.raft_table.specs.Table.{Table}
 use Rattle.raft_memtable.specs.Walks.{Collects}
 use Rattle.raft_memtable.proofs.accessor.MemTableAccessor.collect.Given as goal
 

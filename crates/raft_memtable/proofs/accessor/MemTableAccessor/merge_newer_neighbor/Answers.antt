@@ -1,4 +1,4 @@
-use Rattle.std.proofs.Common.{suc, refl, sym, ap, subst, ◌∙◌}
+use Rattle.std.proofs.Common.{suc, ap, subst, ◌∙◌}
 use Rattle.std.specs.FinMap as finite
 use Rattle.raft_memtable.specs.Accessor.{Accessor}
 use Rattle.raft_memtable.specs.AccessorView.{slot_entries, AreSlots}

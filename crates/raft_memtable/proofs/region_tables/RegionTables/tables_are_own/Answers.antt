@@ -1,4 +1,4 @@
-use Rattle.std.proofs.Common.{◌≡◌, sym, ◌∙◌}
+use Rattle.std.proofs.Common.{sym, ◌∙◌}
 use Rattle.raft_memtable.proofs.RegionTablesLemmas.{get-shown}
 use Rattle.raft_memtable.proofs.region_tables.RegionTables.tables_are_own.Goals as goal
 

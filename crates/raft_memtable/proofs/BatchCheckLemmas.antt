@@ -1,0 +1,72 @@
+-- Batches that are tested before they are taken in.
+use Rattle.std.proofs.Common.{◌≡◌, ◌<◌, ◌≤◌, ◌+◌, ℕ, suc, zero, List, [], ◌∷◌, drop, length, get_or, Option, Some, None, refl, sym, ap, ◌∙◌, arith}
+use Rattle.std.specs.List.{AllByRecursion}
+use Rattle.std.specs.Option.{option_or}
+use Rattle.raft_base.specs.declared.pipe_log.FileId.{FileId}
+use Rattle.raft_records.specs.declared.atomic_group.AtomicGroupStatus.{AtomicGroupStatus}
+use Rattle.raft_records.specs.declared.atomic_group.AtomicGroupStatus.TheVariants.{Begin, Middle, End}
+use Rattle.raft_records.specs.Group.{status_byte, first_marker, or_marker, IsGroupMarkerRead, IsGroupMarkerContent}
+use Rattle.raft_records.specs.Item.{Item, Content, entries, command, pair}
+use Rattle.raft_records.proofs.GroupLemmas.{marker_is}
+use Rattle.raft_history.specs.Histories.{IsInFile, AreInFile, HasStatus}
+
+or_or : (m n o : Option (ℕ × AtomicGroupStatus)) → or_marker (option_or m n) o ≡ or_marker m (or_marker n o)
+or_or None n o = refl
+or_or (Some m) n o = refl
+
+pub or_none : (m : Option (ℕ × AtomicGroupStatus)) → or_marker m (first_marker []) ≡ m
+unfolding first_marker
+or_none None = refl
+or_none (Some m) = refl
+
+-- a group marker that was read has the byte of a status
+read_status : (item : Item) (read : Option (ℕ × AtomicGroupStatus)) → IsGroupMarkerRead item read → HasStatus item
+read_status item None h = λ byte m. absurd (h byte m)
+read_status item (Some read) h = λ byte m. go item.content byte h.1 m
+  where
+    one : {a b : ℕ} → Some (a ∷ []) ≡ Some (b ∷ []) → a ≡ b
+    one e = cc
+
+    few : (s : AtomicGroupStatus) → status_byte s ≤ 2
+    few Begin = omega arith
+    few Middle = omega arith
+    few End = omega arith
+
+    go : (c : Content) (byte : ℕ) → IsGroupMarkerContent c (status_byte read.1) → IsGroupMarkerContent c byte → byte ≤ 2
+    go (pair p) byte a b = omega (arith, few read.1, one (sym a.value ∙ b.value))
+    go (entries es) byte a b = absurd a
+    go (command c) byte a b = absurd a
+
+-- the elements from an index on begin with the one there
+pub next_item : {X : Type 0} (xs : List X) (i : ℕ) (x : X) → i < length xs → x ≡ get_or xs i x → drop i xs ≡ x ∷ drop (i + 1) xs
+next_item [] i x low is = absurd (omega arith)
+next_item (y ∷ ys) zero x low is = ap (λ z. z ∷ ys) (sym is)
+next_item (y ∷ ys) (suc i) x low is =
+    let behind : suc i + 1 ≡ suc (i + 1) = omega arith in
+    rw behind (next_item ys i x (omega arith) is)
+
+-- behind the last one there are none
+pub none_left : {X : Type 0} (xs : List X) (i : ℕ) → length xs ≤ i → drop i xs ≡ []
+none_left [] zero past = refl
+none_left [] (suc i) past = refl
+none_left (x ∷ xs) zero past = absurd (omega arith)
+none_left (x ∷ xs) (suc i) past = none_left xs i (omega arith)
+
+-- what is known of items whose first are tested, beside the marker so far
+abbrev pub IsTested : FileId → List Item → List Item → Option (ℕ × AtomicGroupStatus) → Type 0
+IsTested file all rest marker =
+    (AreInFile file rest → AreInFile file all) × (AreInFile file all → AreInFile file rest)
+    × (AllByRecursion HasStatus rest → AllByRecursion HasStatus all) × (AllByRecursion HasStatus all → AllByRecursion HasStatus rest)
+    × (or_marker marker (first_marker rest) ≡ first_marker all)
+
+-- what is known behind one more item
+pub one_more : (file : FileId) (all rest : List Item) (item : Item) (marker found : Option (ℕ × AtomicGroupStatus))
+    → IsTested file all (item ∷ rest) marker → IsInFile file item.content → IsGroupMarkerRead item found → IsTested file all rest (option_or marker found)
+unfolding first_marker
+one_more file all rest item marker found h is read = (
+  λ r. h.0 (is, r),
+  λ r. (h.1 r).1,
+  λ r. h.2 (read_status item found read, r),
+  λ r. (h.3 r).1,
+  or_or marker found (first_marker rest) ∙ ap (λ f. or_marker marker (or_marker f (first_marker rest))) (sym (marker_is item found read)) ∙ h.4,
+)

@@ -1,0 +1,93 @@
+-- Recovery contexts and the histories that they stand for.
+use Rattle.std.proofs.Common.{◌≡◌, List, [], ◌∷◌, ◌++◌, Result, Ok, Err, refl, sym, ap, subst, ◌∙◌, inl, inr, arith}
+use Rattle.std.specs.Prelude.{IfErr, OnOk}
+use Rattle.raft_base.specs.declared.pipe_log.LogQueue.{LogQueue}
+use Rattle.raft_history.specs.Batches.{Event, batches}
+use Rattle.raft_history.specs.Contexts.{Context, new_context, Suits, files_of, follows, StandsFor, IsExactFor}
+use Rattle.raft_history.specs.Histories.{IsSmall, Sound, Apart, IsOfQueue, IsOneReading}
+use Rattle.raft_history.proofs.ContextLaws.{Merges, exact_reading, regions_stand, regions_exact, regions_unsound}
+use Rattle.raft_history.proofs.NewLaws.{new_exact}
+use Rattle.raft_history.proofs.SoundLemmas.{follow_files}
+use Rattle.raft_history.proofs.StretchOfHistory.{size-append, of_front, of_back}
+use Rattle.raft_history.proofs.TakenLaws.{IsNext, taken_stands, taken_exact, taken_none, next_sound}
+use Rattle.raft_memtable.specs.ReadStates.{IsRead}
+use Rattle.raft_memtable.specs.RecoverContext.{RecoverContext, IsReading, IsReadingExactly, MayFollow, IsTakenIn, IsReplayRefused, AreNeighbours, IsMergedWith, IsMergeRefused}
+use Rattle.raft_memtable.specs.declared.stage.Stage.TheVariants.{Reading}
+
+-- ---- results
+
+pub on_ok : {X E P Q : Type 0} (r : Result X E) → (P → Q) → OnOk r P → OnOk r Q
+on_ok (Ok x) f p = f p
+on_ok (Err e) f p = p
+
+pub on_err : {X E : Type 0} {P Q : E → Type 0} (r : Result X E) → ((e : E) → P e → Q e) → IfErr r P → IfErr r Q
+on_err (Ok x) f p = p
+on_err (Err e) f p = f e p
+
+-- ---- a new context
+
+pub new_read : IsRead new_context
+new_read = record { history = []; stands = new_exact.stands; alone = tt; steps = tt }
+
+pub new_reads_as : (c : Context) → c ≡ new_context → IsReadingExactly (record { stage = Reading; context = c }) []
+new_reads_as c e = record { stage = refl; exact = subst (λ c. IsExactFor c []) (sym e) new_exact }
+
+-- ---- one more batch
+
+next_of : (c : Context) (e : Event) → MayFollow c e → IsNext c e
+next_of c e m = record { suits = m.queue; follows = m.files; in_file = m.items; status = m.markers }
+
+may_of : (c : Context) (e : Event) → IsNext c e → MayFollow c e
+may_of c e n = record { queue = n.suits; files = n.follows; items = n.in_file; markers = n.status }
+
+pub replay_stands : (c d : RecoverContext) (h : List Event) (e : Event) → IsTakenIn e c d → IsReading c h → IsReading d (h ++ e ∷ [])
+replay_stands c d h e t r = record { stage = t.after; stands = taken_stands c.context d.context h e (next_of c.context e t.next) r.stands t.taken }
+
+pub replay_exact : (c d : RecoverContext) (h : List Event) (e : Event) → IsTakenIn e c d → IsReadingExactly c h → IsReadingExactly d (h ++ e ∷ [])
+replay_exact c d h e t r = record { stage = t.after; exact = taken_exact c.context d.context h e (next_of c.context e t.next) r.exact t.taken }
+
+pub replay_unsound : (c : RecoverContext) (h : List Event) (e : Event) → IsSmall (h ++ e ∷ []) → IsReading c h → IsReplayRefused c e → Sound (h ++ e ∷ []) → ⊥
+replay_unsound c h e small r (inl stage) sound = stage r.stage
+replay_unsound c h e small r (inr (inl unfit)) sound = unfit (may_of c.context e (next_sound c.context h e r.stands sound))
+replay_unsound c h e small r (inr (inr (inl none))) sound = taken_none c.context h e (next_sound c.context h e r.stands sound) r.stands none sound
+replay_unsound c h e small r (inr (inr (inr full))) sound = absurd (omega (arith, full, small.few, r.stands.few, size-append h (e ∷ [])))
+
+-- ---- two neighbours
+
+merges : (q : LogQueue) (c d : Context) (h g : List Event) → AreNeighbours q c d → StandsFor c h → StandsFor d g → Merges q c d h g
+merges q c d h g n a b = record { older_suits = n.older; newer_suits = n.newer; older = a; newer = b }
+
+pub merge_stands : (q : LogQueue) (c d new : RecoverContext) (h g : List Event) → IsMergedWith q d c new → IsReading c h → IsReading d g → IsReading new (h ++ g)
+merge_stands q c d new h g m a b = record {
+  stage = m.after;
+  stands = subst (λ x. StandsFor x (h ++ g)) (sym m.merged) (regions_stand q c.context d.context h g new.context.regions (merges q c.context d.context h g m.neighbours a.stands b.stands) m.neighbours.files m.regions);
+}
+
+pub merge_exact : (q : LogQueue) (c d new : RecoverContext) (h g : List Event) → Apart (h ++ g) → IsMergedWith q d c new → IsReadingExactly c h → IsReadingExactly d g → IsReadingExactly new (h ++ g)
+merge_exact q c d new h g apart m a b = record {
+  stage = m.after;
+  exact = subst (λ x. IsExactFor x (h ++ g)) (sym m.merged) (regions_exact q c.context d.context h g new.context.regions (merges q c.context d.context h g m.neighbours a.exact.stands b.exact.stands) a.exact b.exact apart.apart m.neighbours.files m.regions);
+}
+
+suits_of : (q : LogQueue) (h : List Event) → IsOfQueue q h → Suits q (files_of h)
+suits_of q [] o = tt
+suits_of q (e ∷ h) o = o.each.0
+
+neighbours : (q : LogQueue) (c d : Context) (h g : List Event) → IsOfQueue q (h ++ g) → StandsFor c h → StandsFor d g → Sound (h ++ g) → AreNeighbours q c d
+neighbours q c d h g o a b sound = record {
+  older = subst (Suits q) (sym a.files) (suits_of q h (of_front q h g o));
+  newer = subst (Suits q) (sym b.files) (suits_of q g (of_back q h g o));
+  files = ap (λ x. follows x d.files) a.files ∙ ap (follows (files_of h)) b.files ∙ follow_files sound.queue h g sound.sound.files;
+}
+
+pub merge_unsound : (q : LogQueue) (c d : RecoverContext) (h g : List Event) → IsSmall (h ++ g) → IsOfQueue q (h ++ g) → IsReading c h → IsReading d g → IsMergeRefused q c d → Sound (h ++ g) → ⊥
+merge_unsound q c d h g small o a b (inl stage) sound = stage a.stage
+merge_unsound q c d h g small o a b (inr (inl stage)) sound = stage b.stage
+merge_unsound q c d h g small o a b (inr (inr (inl apart))) sound = apart (neighbours q c.context d.context h g o a.stands b.stands sound)
+merge_unsound q c d h g small o a b (inr (inr (inr (inl refused)))) sound = regions_unsound q c.context d.context h g (merges q c.context d.context h g (neighbours q c.context d.context h g o a.stands b.stands sound) a.stands b.stands) refused sound
+merge_unsound q c d h g small o a b (inr (inr (inr (inr full)))) sound = absurd (omega (arith, full, small.few, a.stands.few, b.stands.few, size-append h g))
+
+-- ---- what was read
+
+pub one_reading : (q : LogQueue) (c : RecoverContext) (h : List Event) → IsReadingExactly c h → Suits q c.context.files → IsOneReading q h c.context.regions.tables c.context.cleaned
+one_reading q c h r u = record { tables_read = exact_reading q c.context.regions (batches h) (r.exact.regions q u); regions_cleaned = (r.exact.stands.stands q u).cleaned }

@@ -1,0 +1,46 @@
+use Rattle.std.proofs.Common.{◌≡◌, ◌≤◌, sym, ap, subst, ◌∙◌, Some, None}
+use Rattle.std.specs.FinMap as finite
+use Rattle.std.proofs.lemmas.Result.{err_from_is_err_and}
+use Rattle.raft_base.specs.declared.pipe_log.LogQueue.TheVariants.{Rewrite}
+use Rattle.raft_table.specs.Queues.{other}
+use Rattle.raft_history.specs.Contexts.{region_steps_or, joined_files}
+use Rattle.raft_history.specs.MarkedRegions.{regions_after}
+use Rattle.raft_history.specs.Records.{records_or}
+use Rattle.raft_history.specs.RegionSteps.{steps_of_items}
+use Rattle.raft_history.specs.WaitingGroup.{joined_group, whole_group, one_marker}
+use Rattle.raft_history.specs.WaitingGroups.{known}
+use Rattle.raft_memtable.specs.Accessor.{live_in_all}
+use Rattle.raft_memtable.specs.FileRanges.{ranges_shown}
+use Rattle.raft_memtable.specs.MarkedTables.{regions_in, HaveRoom}
+use Rattle.raft_memtable.specs.ReadStates.{context_in, MayTakeEffect}
+use Rattle.raft_memtable.specs.ReplayMachine.{event}
+use Rattle.raft_memtable.proofs.ReadStateLemmas.{some_range, found_some, read_more, marked_taken, marked_step, marked_takes}
+use Rattle.raft_memtable.proofs.read_state.ReadState.take_marked.Goals as goal
+
+pub take_whole-requires : goal.take_whole-requires
+take_whole-requires c =
+    let steps = c.of_items-items.ensures ∙ ap steps_of_items c.into_items.ensures in
+    let whole = c.in_ok-whole.ensures.whole ∙ ap (λ is. whole_group (known c.args.self.now.groups c.args.id) (one_marker c.args.status is c.args.file.seq)) steps in
+    subst MayTakeEffect (sym whole) (marked_takes (context_in c.args.self.now) (event c.args.batch c.args.file) c.args.id c.args.status c.requires.read c.requires.next c.requires.marked)
+
+pub returns-in_err-take_whole-clause-refused : goal.returns-in_err-take_whole-clause-refused
+returns-in_err-take_whole-clause-refused c =
+    let steps = c.of_items-items.ensures ∙ ap steps_of_items c.into_items.ensures in
+    let whole = c.in_ok-whole.ensures.whole ∙ ap (λ is. whole_group (known c.args.self.now.groups c.args.id) (one_marker c.args.status is c.args.file.seq)) steps in
+    let p = err_from_is_err_and c.from_residual-in_err-take_whole.result c.from_residual-in_err-take_whole.ensures.1 in
+    rw (p.1, p.2) (λ ne. marked_step (context_in c.args.self.now) (event c.args.batch c.args.file) c.args.id c.args.status c.requires.read c.requires.next c.requires.marked
+    (subst (λ o. HaveRoom Rewrite c.args.self.now.regions.accessor.tables (records_or o) → regions_after Rewrite (regions_in c.args.self.now.regions) (region_steps_or o) ≡ None) whole
+    (λ room. c.in_err-take_whole.ensures.refused room ne)))
+
+pub returns-clause-read : goal.returns-clause-read
+returns-clause-read c =
+    let steps = c.of_items-items.ensures ∙ ap steps_of_items c.into_items.ensures in
+    let whole = c.in_ok-whole.ensures.whole ∙ ap (λ is. whole_group (known c.args.self.now.groups c.args.id) (one_marker c.args.status is c.args.file.seq)) steps in
+    read_more (context_in c.args.self.now) _ (event c.args.batch c.args.file) c.requires.read c.requires.next
+    (marked_taken (context_in c.args.self.now) _ (event c.args.batch c.args.file) c.args.id c.args.status c.requires.marked
+    (subst (λ o. regions_after Rewrite (regions_in c.args.self.now.regions) (region_steps_or o) ≡ Some (regions_in c.take_whole.new.regions)) whole c.in_ok-take_whole.ensures.taken)
+    (c.in_ok-whole.ensures.known ∙ ap (λ is. finite.insert c.args.self.now.groups c.args.id (joined_group (known c.args.self.now.groups c.args.id) (one_marker c.args.status is c.args.file.seq))) steps)
+    c.in_ok-take_whole.ensures.cleaned
+    (c.joined-self.ensures ∙ ap (λ f. joined_files (ranges_shown c.args.self.now.files) (some_range f)) c.of.ensures))
+    (subst (λ q. live_in_all (other q) c.take_whole.new.regions.accessor.tables ≤ live_in_all (other q) c.args.self.now.regions.accessor.tables)
+    (sym (found_some c.args.file.queue c.args.batch c.args.id c.args.status c.requires.marked).0) c.in_ok-take_whole.ensures.other)

@@ -1,0 +1,12 @@
+-- The group marker that decides for a batch.
+use Rattle.std.specs.Prelude.{ℕ, List, Option, None}
+use Rattle.raft_base.specs.declared.pipe_log.LogQueue.{LogQueue}
+use Rattle.raft_base.specs.declared.pipe_log.LogQueue.TheVariants.{Append, Rewrite}
+use Rattle.raft_records.specs.Group.{first_marker}
+use Rattle.raft_records.specs.Item.{Item}
+use Rattle.raft_records.specs.declared.atomic_group.AtomicGroupStatus.{AtomicGroupStatus}
+
+-- the first one in the rewrite queue; the append queue ignores markers
+abbrev pub marker_found : LogQueue → List Item → Option (ℕ × AtomicGroupStatus)
+marker_found Append items = None
+marker_found Rewrite items = first_marker items

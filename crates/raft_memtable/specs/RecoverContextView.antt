@@ -1,0 +1,14 @@
+-- A recovery context's fields as its contracts see them.
+use Rattle.std.specs.Prelude.{◌≡◌}
+use Rattle.raft_memtable.specs.declared.recover_context.MemTableRecoverContext.TheInside.{Inside}
+use Rattle.raft_memtable.specs.declared.stage.Stage.TheVariants.{Reading}
+use Rattle.raft_memtable.specs.ReadStates.{context_in, IsRead}
+use Rattle.raft_memtable.specs.RecoverContext.{RecoverContext}
+
+-- the stage, and what was read
+abbrev pub recover_context_shown : Inside → RecoverContext
+recover_context_shown a = record { stage = a.stage; context = context_in a.state }
+
+-- as long as it reads on, it holds what some history gives
+pub record IsKept (a : Inside) : Type 0 where
+  pub read : a.stage ≡ Reading → IsRead (context_in a.state)

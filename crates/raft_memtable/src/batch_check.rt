@@ -1,0 +1,133 @@
+//! Tests of a batch before it is taken in.
+
+ghost use Rattle.std.specs.Prelude.{◌≡◌, ◌≢◌, ◌↔◌, IsTrue, MatchBool, IfOk, IfErr, OnOk, None, map};
+ghost use Rattle.std.specs.List.{AllByRecursion};
+ghost use Rattle.raft_base.specs.declared.pipe_log.LogQueue.TheVariants.{Append, Rewrite};
+ghost use Rattle.raft_records.specs.Group.{first_marker};
+ghost use Rattle.raft_records.specs.Item.{item_of, content_of, pair, pair_of};
+ghost use Rattle.raft_records.specs.ReadIn.{IsBlockIn};
+ghost use Rattle.raft_history.specs.Histories.{IsInFile, AreInFile, AreBlocksIn, HasStatus, HaveStatus};
+ghost use Rattle.raft_memtable.specs.BatchChecks.{marker_found};
+
+use raft_records::{
+    AtomicGroupStatus, KeyValue, LogItem, LogItemBatch, LogItemContent, OpType, is_reserved,
+};
+use raft_table::{EntryIndex, Error, FileId, LogQueue, Result, is_run};
+use std::alloc::Global;
+
+/// The group marker of a batch that was written to the file, if it has one and the queue knows groups.
+///
+/// # Errors
+///
+/// `Corruption` where an item can't stand in a batch of the file, or a group marker's status is unknown;
+/// `Memory` for the refusal's text.
+pub(crate) fn check_batch(
+    alloc: Global,
+    batch: &LogItemBatch,
+    file: FileId,
+) -> Result<Option<(u64, AtomicGroupStatus)>>
+    ensures items { OnOk result (AreInFile file batch.now) }
+    ensures markers { OnOk result (HaveStatus file.queue batch.now) }
+    ensures marker { IfOk result (λ marker. marker ≡ marker_found file.queue batch.now) }
+    ensures refused { IfErr result (λ e. e ≢ Error.Memory → AreInFile file batch.now → HaveStatus file.queue batch.now → ⊥) }
+{
+    let items = batch.iter().as_slice();
+    match file.queue {
+        LogQueue::Append => {
+            if !are_in_file(items, file) {
+                return Err(Error::Corruption(format!(in alloc;
+                    "an item can't stand in a batch of its file"
+                )?));
+            }
+            Ok(None)
+        }
+        LogQueue::Rewrite => check_marked(alloc, items, file),
+    }
+}
+
+/// The same of the items of a batch of the rewrite queue.
+fn check_marked(
+    alloc: Global,
+    items: &[LogItem],
+    file: FileId,
+) -> Result<Option<(u64, AtomicGroupStatus)>>
+    ensures items { OnOk result (AreInFile file (map item_of items.now)) }
+    ensures markers { OnOk result (AllByRecursion HasStatus (map item_of items.now)) }
+    ensures marker { IfOk result (λ marker. marker ≡ first_marker (map item_of items.now)) }
+    ensures refused { IfErr result (λ e. e ≢ Error.Memory → AreInFile file (map item_of items.now) → AllByRecursion HasStatus (map item_of items.now) → ⊥) }
+{
+    let mut marker = None;
+    for item in items {
+        if !is_in_file(item, file) {
+            return Err(Error::Corruption(format!(in alloc;
+                "an item can't stand in a batch of its file"
+            )?));
+        }
+        let found = AtomicGroupStatus::parse(alloc, item)?;
+        marker = marker.or(found);
+    }
+    Ok(marker)
+}
+
+/// Whether all items may stand in a batch of the file.
+fn are_in_file(items: &[LogItem], file: FileId) -> bool
+    ensures { MatchBool result (AreInFile file (map item_of items.now)) (AreInFile file (map item_of items.now) → ⊥) }
+{
+    for item in items {
+        if !is_in_file(item, file) {
+            return false;
+        }
+    }
+    true
+}
+
+/// Whether an item may stand in a batch of the file.
+fn is_in_file(item: &LogItem, file: FileId) -> bool
+    ensures { MatchBool result (IsInFile file (content_of item.now.content)) (IsInFile file (content_of item.now.content) → ⊥) }
+{
+    match &item.content {
+        LogItemContent::EntryIndexes(entries) => {
+            is_run(&entries.0, file.queue) && are_blocks_in(&entries.0, file)
+        }
+        LogItemContent::Command(_) => true,
+        LogItemContent::Kv(kv) => is_pair_in(kv, file),
+    }
+}
+
+/// Whether a change of a key may stand in a batch of the file.
+fn is_pair_in(kv: &KeyValue, file: FileId) -> bool
+    ensures { MatchBool result (IsInFile file (pair (pair_of kv.now))) (IsInFile file (pair (pair_of kv.now)) → ⊥) }
+{
+    if is_reserved(kv.key.as_slice()) {
+        return true;
+    }
+    match kv.op_type {
+        OpType::Put => match (&kv.value, kv.file_id) {
+            (Some(_), Some(id)) => id == file,
+            _ => false,
+        },
+        OpType::Del => true,
+    }
+}
+
+/// Whether all entries' places are in the file.
+fn are_blocks_in(entries: &[EntryIndex], file: FileId) -> bool
+    ensures { MatchBool result (AreBlocksIn file entries.now) (AreBlocksIn file entries.now → ⊥) }
+{
+    for entry in entries {
+        if !is_block_in(entry, file) {
+            return false;
+        }
+    }
+    true
+}
+
+/// Whether an entry's place is in the file.
+fn is_block_in(entry: &EntryIndex, file: FileId) -> bool
+    ensures { MatchBool result (IsBlockIn file entry.now.entries) (IsBlockIn file entry.now.entries → ⊥) }
+{
+    match entry.entries {
+        Some(block) => block.id == file,
+        None => false,
+    }
+}

@@ -1,0 +1,65 @@
+//! The files of batches that were read.
+
+ghost use Rattle.std.specs.Prelude.{◌≡◌, ◌↔◌, [], ◌∷◌, IsTrue};
+ghost use Rattle.std.specs.Option.{option_map};
+ghost use Rattle.raft_history.specs.Contexts.{Suits, files_of, follows, joined_files};
+ghost use Rattle.raft_memtable.specs.FileRanges.{range_shown, ranges_shown};
+ghost use Rattle.raft_memtable.specs.ReplayMachine.{event};
+
+use raft_table::{FileId, FileSeq, LogQueue};
+
+/// The queue of some batches, and the first and the last of their files.
+#[derive(Clone, Copy, Debug)]
+pub(crate) struct FileRange {
+    queue: LogQueue,
+    first: FileSeq,
+    last: FileSeq,
+}
+
+impl FileRange {
+    /// The files of one batch.
+    pub(crate) fn of(file: FileId) -> FileRange
+        ensures { range_shown result ≡ record { queue = file.queue; first = file.seq; last = file.seq } }
+    {
+        FileRange {
+            queue: file.queue,
+            first: file.seq,
+            last: file.seq,
+        }
+    }
+
+    /// Whether the files, if there are any, are of the queue.
+    pub(crate) fn suits(files: Option<FileRange>, queue: LogQueue) -> bool
+        ensures { IsTrue result ↔ Suits queue (ranges_shown files) }
+    {
+        match files {
+            None => true,
+            Some(files) => files.queue == queue,
+        }
+    }
+
+    /// Whether the newer files may come behind the older ones: the first isn't below the last.
+    pub(crate) fn follows(older: Option<FileRange>, newer: Option<FileRange>) -> bool
+        ensures { result ≡ follows (ranges_shown older) (ranges_shown newer) }
+    {
+        match (older, newer) {
+            (Some(older), Some(newer)) => older.last <= newer.first,
+            _ => true,
+        }
+    }
+
+    /// The files of two neighbours.
+    pub(crate) fn joined(older: Option<FileRange>, newer: Option<FileRange>) -> Option<FileRange>
+        ensures { ranges_shown result ≡ joined_files (ranges_shown older) (ranges_shown newer) }
+    {
+        match (older, newer) {
+            (Some(older), Some(newer)) => Some(FileRange {
+                queue: older.queue,
+                first: older.first,
+                last: newer.last,
+            }),
+            (Some(older), None) => Some(older),
+            (None, newer) => newer,
+        }
+    }
+}

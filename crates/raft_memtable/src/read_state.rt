@@ -1,0 +1,202 @@
+//! What was read of a queue's batches.
+
+ghost use Rattle.std.specs.Prelude.{◌≡◌, ◌≢◌, ◌⊎◌, ◌+◌, ◌≤◌, ◌^◌, ℕ, [], ◌∷◌, OnOk, OnErr, IfOk, IfErr, Some, None, map};
+ghost use Rattle.std.specs.List.{AllByRecursion};
+ghost use Rattle.std.specs.Option.{option_map};
+ghost use Rattle.raft_base.specs.declared.pipe_log.LogQueue.TheVariants.{Append, Rewrite};
+ghost use Rattle.raft_history.specs.Contexts.{new_context, taken_in, merged_with, AreMerged, region_steps_or};
+ghost use Rattle.raft_history.specs.MarkedRegions.{regions_after, region_steps_of_wholes};
+ghost use Rattle.raft_history.specs.Records.{records_or, records_in_wholes};
+ghost use Rattle.raft_memtable.specs.Accessor.{live_in_all};
+ghost use Rattle.raft_memtable.specs.BatchChecks.{marker_found};
+ghost use Rattle.raft_memtable.specs.MarkedTables.{regions_in, HaveRoom};
+ghost use Rattle.raft_memtable.specs.ReadStates.{context_in, IsRead, TakesEffect, MayTakeEffect};
+ghost use Rattle.raft_memtable.specs.RecoverContext.{MayFollow, IsBatchRefused, IsStepRefused, AreNeighbours, AreNotMerged, IsNeighbourRefused};
+ghost use Rattle.raft_memtable.specs.ReplayMachine.{event};
+ghost use Rattle.raft_memtable.specs.WaitingShown.{whole_shown};
+
+use crate::batch_check::check_batch;
+use crate::file_range::FileRange;
+use crate::marked_tables::MarkedTables;
+use crate::waiting_group::WholeGroup;
+use crate::waiting_groups::WaitingGroups;
+use crate::waiting_items::WaitingItems;
+use raft_records::{AtomicGroupStatus, LogItemBatch};
+use raft_table::{Error, FileId, LogQueue, Result};
+use std::alloc::Global;
+
+/// The tables and marks of all regions, the groups that wait, and the files of the batches.
+#[derive(Drop)]
+pub(crate) struct ReadState {
+    pub(crate) regions: MarkedTables,
+    pub(crate) groups: WaitingGroups,
+    pub(crate) files: Option<FileRange>,
+    alloc: Global,
+}
+
+impl ReadState {
+    /// Nothing was read.
+    pub(crate) fn new(alloc: Global) -> ReadState
+        ensures { context_in result ≡ new_context }
+    {
+        ReadState {
+            regions: MarkedTables::new(alloc),
+            groups: WaitingGroups::new(alloc),
+            files: None,
+            alloc,
+        }
+    }
+
+    /// Takes in one more batch, that was written to this file.
+    pub(crate) fn replay(&mut self, batch: LogItemBatch, file: FileId) -> Result<()>
+        requires { IsRead (context_in self.old) }
+        ensures next { OnOk result (MayFollow (context_in self.old) (event batch file)) }
+        ensures taken { OnOk result (taken_in (context_in self.old) (event batch file) ≡ Some (context_in self.new)) }
+        ensures read { OnOk result (IsRead (context_in self.new)) }
+        ensures refused { IfErr result (λ e. e ≢ Error.Memory → IsBatchRefused (context_in self.old) (event batch file)) }
+    {
+        match self.check(&batch, file)? {
+            None => self.take_unmarked(batch, file),
+            Some((id, status)) => self.take_marked(id, status, batch, file),
+        }
+    }
+
+    /// The group marker of a batch that may come next, if it has one.
+    fn check(&self, batch: &LogItemBatch, file: FileId) -> Result<Option<(u64, AtomicGroupStatus)>>
+        ensures next { OnOk result (MayFollow (context_in self.now) (event batch.now file)) }
+        ensures marker { IfOk result (λ marker. marker ≡ marker_found file.queue batch.now) }
+        ensures refused { IfErr result (λ e. e ≢ Error.Memory → MayFollow (context_in self.now) (event batch.now file) → ⊥) }
+    {
+        if !FileRange::suits(self.files, file.queue) {
+            return Err(Error::Corruption(format!(in self.alloc; "a batch of the other queue")?));
+        }
+        if !FileRange::follows(self.files, Some(FileRange::of(file))) {
+            return Err(Error::Corruption(format!(in self.alloc;
+                "a batch of a file below the last one"
+            )?));
+        }
+        check_batch(self.alloc, batch, file)
+    }
+
+    /// Takes in a batch without a group marker, which takes effect at once.
+    fn take_unmarked(&mut self, batch: LogItemBatch, file: FileId) -> Result<()>
+        requires read { IsRead (context_in self.old) }
+        requires next { MayFollow (context_in self.old) (event batch file) }
+        requires unmarked { marker_found file.queue batch ≡ None }
+        ensures taken { OnOk result (taken_in (context_in self.old) (event batch file) ≡ Some (context_in self.new)) }
+        ensures read { OnOk result (IsRead (context_in self.new)) }
+        ensures refused { IfErr result (λ e. e ≢ Error.Memory → IsStepRefused (context_in self.old) (event batch file)) }
+    {
+        self.regions.take_items(file, batch)?;
+        self.files = FileRange::joined(self.files, Some(FileRange::of(file)));
+        Ok(())
+    }
+
+    /// Takes in a batch with a group marker: what it makes whole takes effect.
+    fn take_marked(
+        &mut self,
+        id: u64,
+        status: AtomicGroupStatus,
+        batch: LogItemBatch,
+        file: FileId,
+    ) -> Result<()>
+        requires read { IsRead (context_in self.old) }
+        requires next { MayFollow (context_in self.old) (event batch file) }
+        requires marked { marker_found file.queue batch ≡ Some (id, status) }
+        ensures taken { OnOk result (taken_in (context_in self.old) (event batch file) ≡ Some (context_in self.new)) }
+        ensures read { OnOk result (IsRead (context_in self.new)) }
+        ensures refused { IfErr result (λ e. e ≢ Error.Memory → IsStepRefused (context_in self.old) (event batch file)) }
+    {
+        let items = WaitingItems::of_items(batch.into_items());
+        let whole = self.groups.take_in(id, status, items, file.seq)?;
+        take_whole(&mut self.regions, whole)?;
+        self.files = FileRange::joined(self.files, Some(FileRange::of(file)));
+        Ok(())
+    }
+
+    /// Takes in what was read of the batches that follow, all of this queue.
+    pub(crate) fn merge(&mut self, newer: ReadState, queue: LogQueue) -> Result<()>
+        requires older { IsRead (context_in self.old) }
+        requires newer { IsRead (context_in newer) }
+        ensures neighbours { OnOk result (AreNeighbours queue (context_in self.old) (context_in newer)) }
+        ensures regions { OnOk result (AreMerged queue (context_in self.old) (context_in newer) (context_in self.new).regions) }
+        ensures merged { OnOk result (context_in self.new ≡ merged_with (context_in self.old) (context_in newer) (context_in self.new).regions) }
+        ensures read { OnOk result (IsRead (context_in self.new)) }
+        ensures refused { IfErr result (λ e. e ≢ Error.Memory → AreNotMerged queue (context_in self.old) (context_in newer)) }
+    {
+        self.check_neighbour(&newer, queue)?;
+        self.join(newer, queue)
+    }
+
+    /// Whether what was read of newer batches may be taken in.
+    fn check_neighbour(&self, newer: &ReadState, queue: LogQueue) -> Result<()>
+        ensures ok { OnOk result (AreNeighbours queue (context_in self.now) (context_in newer.now)) }
+        ensures refused { IfErr result (λ e. e ≢ Error.Memory → AreNeighbours queue (context_in self.now) (context_in newer.now) → ⊥) }
+    {
+        if !FileRange::suits(self.files, queue) || !FileRange::suits(newer.files, queue) {
+            return Err(Error::InvalidArgument(format!(in self.alloc;
+                "a context of the other queue"
+            )?));
+        }
+        if !FileRange::follows(self.files, newer.files) {
+            return Err(Error::Corruption(format!(in self.alloc;
+                "a context of a file below the last one"
+            )?));
+        }
+        Ok(())
+    }
+
+    /// Takes in a neighbour.
+    fn join(&mut self, newer: ReadState, queue: LogQueue) -> Result<()>
+        requires older { IsRead (context_in self.old) }
+        requires newer { IsRead (context_in newer) }
+        requires neighbours { AreNeighbours queue (context_in self.old) (context_in newer) }
+        ensures regions { OnOk result (AreMerged queue (context_in self.old) (context_in newer) (context_in self.new).regions) }
+        ensures merged { OnOk result (context_in self.new ≡ merged_with (context_in self.old) (context_in newer) (context_in self.new).regions) }
+        ensures read { OnOk result (IsRead (context_in self.new)) }
+        ensures refused { IfErr result (λ e. e ≢ Error.Memory → IsNeighbourRefused queue (context_in self.old) (context_in newer)) }
+    {
+        let ReadState {
+            regions,
+            groups,
+            files,
+            ..
+        } = newer;
+        let wholes = self.groups.join(groups)?;
+        take_wholes(&mut self.regions, wholes)?;
+        self.regions.join(queue, regions)?;
+        self.files = FileRange::joined(self.files, files);
+        Ok(())
+    }
+}
+
+/// Takes in a group that is whole, if there is one.
+fn take_whole(regions: &mut MarkedTables, whole: Option<WholeGroup>) -> Result<()>
+    requires { MayTakeEffect (option_map whole_shown whole) }
+    ensures taken { OnOk result (regions_after Rewrite (regions_in regions.old) (region_steps_or (option_map whole_shown whole)) ≡ Some (regions_in regions.new)) }
+    ensures cleaned { OnOk result (regions.new.accessor.cleaned ≡ regions.old.accessor.cleaned) }
+    ensures refused { HaveRoom Rewrite regions.old.accessor.tables (records_or (option_map whole_shown whole))
+        → IfErr result (λ e. e ≢ Error.Memory → regions_after Rewrite (regions_in regions.old) (region_steps_or (option_map whole_shown whole)) ≡ None) }
+    ensures other { OnOk result (live_in_all Append regions.new.accessor.tables ≤ live_in_all Append regions.old.accessor.tables) }
+{
+    match whole {
+        Some(whole) => regions.take_group(whole),
+        None => Ok(()),
+    }
+}
+
+/// Takes in groups that are whole, one after another.
+fn take_wholes(regions: &mut MarkedTables, wholes: Vec<WholeGroup>) -> Result<()>
+    requires { AllByRecursion TakesEffect (map whole_shown wholes.items) }
+    ensures taken { OnOk result (regions_after Rewrite (regions_in regions.old) (region_steps_of_wholes (map whole_shown wholes.items)) ≡ Some (regions_in regions.new)) }
+    ensures cleaned { OnOk result (regions.new.accessor.cleaned ≡ regions.old.accessor.cleaned) }
+    ensures refused { HaveRoom Rewrite regions.old.accessor.tables (records_in_wholes (map whole_shown wholes.items))
+        → IfErr result (λ e. e ≢ Error.Memory → regions_after Rewrite (regions_in regions.old) (region_steps_of_wholes (map whole_shown wholes.items)) ≡ None) }
+    ensures other { OnOk result (live_in_all Append regions.new.accessor.tables ≤ live_in_all Append regions.old.accessor.tables) }
+    ensures none { OnErr result (map whole_shown wholes.items ≢ []) }
+{
+    for whole in wholes {
+        regions.take_group(whole)?;
+    }
+    Ok(())
+}

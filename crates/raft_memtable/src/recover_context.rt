@@ -1,0 +1,186 @@
+//! Contexts, which rebuild the tables of all regions from the batches of a queue.
+
+ghost use Rattle.std.specs.Prelude.{◌≡◌, ◌≢◌, ◌⊎◌, [], ◌∷◌, ◌++◌, List, IsOk, IfOk, IfErr, OnOk, OnErr};
+ghost use Rattle.raft_base.specs.declared.errors.Error.{Error};
+ghost use Rattle.raft_base.specs.declared.pipe_log.LogQueue.{LogQueue};
+ghost use Rattle.raft_history.specs.Batches.{Event};
+ghost use Rattle.raft_history.specs.Contexts.{Suits};
+ghost use Rattle.raft_history.specs.Histories.{IsOneReading};
+ghost use Rattle.raft_memtable.specs.Accessor.{AreCountsOf};
+ghost use Rattle.raft_memtable.specs.RecoverContext.{blank_context, IsReading, IsReadingExactly, IsTakenIn, IsReplayRefused, IsMergedWith, IsMergeRefused, refused_stage};
+ghost use Rattle.raft_memtable.specs.ReplayMachine.{event};
+ghost use Rattle.raft_memtable.specs.declared.stage.Stage.TheVariants.{Reading, Overlaid, Failed};
+
+use crate::accessor::MemTableAccessor;
+use crate::read_state::ReadState;
+use crate::replay_machine::ReplayMachine;
+use crate::stage::Stage;
+use raft_records::{Factory, LogItemBatch};
+use raft_table::{Error, FileId, LogQueue, Result};
+use std::alloc::Global;
+use std::marker::Model;
+
+/// What was read of a queue: the tables of all regions with their counts, a mark of each region, the
+/// groups that wait, and the files.
+#[derive(Drop)]
+pub struct MemTableRecoverContext {
+    state: ReadState,
+    stage: Stage,
+}
+
+impl Model for MemTableRecoverContext {
+    ghost use Rattle.raft_memtable.specs.RecoverContext.{RecoverContext};
+    ghost use Rattle.raft_memtable.specs.RecoverContextCode.{recover_context_code};
+
+    ghost Value = { RecoverContext };
+
+    ghost coded = { recover_context_code };
+
+    ghost use Rattle.raft_memtable.specs.RecoverContextView.{recover_context_shown, IsKept};
+
+    ghost view = { recover_context_shown };
+
+    ghost invariant = { IsKept };
+}
+
+impl MemTableRecoverContext {
+    /// A context that has read nothing. It takes no memory and never fails.
+    pub fn new(alloc: Global) -> Result<MemTableRecoverContext>
+        ensures ok { IfOk result (λ context. context ≡ blank_context) }
+        ensures exact { IfOk result (λ context. IsReadingExactly context []) }
+        ensures never { IsOk result }
+    {
+        Ok(MemTableRecoverContext {
+            state: ReadState::new(alloc),
+            stage: Stage::Reading,
+        })
+    }
+
+    /// Replays one more batch, that was written to this file. In the rewrite queue the batch's first
+    /// group marker decides: a batch without one takes effect at once, the others as their group
+    /// becomes whole.
+    ///
+    /// # Errors
+    ///
+    /// `Failed` where the context doesn't read on, and then it stays as it is. After any other refusal
+    /// it is failed. `Corruption` where a place isn't in the file, a `Put` that isn't skipped lacks its
+    /// value or has another file, entries are not consecutive, the file is of another queue than the
+    /// files before or below the last of them, a group marker's status is unknown, or entries leave a
+    /// hole; `Full` where more than 2^64 - 1 records would be live; `Memory`.
+    pub fn replay(&mut self, batch: LogItemBatch, file_id: FileId) -> Result<()>
+        ensures ok { OnOk result (IsTakenIn (event batch file_id) self.old self.new) }
+        ensures refused { IfErr result (λ e. e ≢ Error.Memory → IsReplayRefused self.old (event batch file_id)) }
+        ensures err { OnErr result (self.new.stage ≡ refused_stage self.old.stage) }
+        ensures unchanged { self.old.stage ≢ Reading → self.new ≡ self.old }
+        ensures failed { self.old.stage ≢ Reading → IfErr result (λ e. e ≡ Error.Failed) }
+    {
+        if self.stage != Stage::Reading {
+            return Err(Error::Failed);
+        }
+        match self.state.replay(batch, file_id) {
+            Ok(()) => Ok(()),
+            Err(e) => {
+                self.stage = Stage::Failed;
+                Err(e)
+            }
+        }
+    }
+
+    /// Takes in the context of the batches that follow, all of this queue. Groups that become whole
+    /// between the two take effect first.
+    ///
+    /// # Errors
+    ///
+    /// `Failed` where the context doesn't read on, and then it stays as it is. After any other refusal
+    /// it is failed. `Failed` also where `rhs` doesn't read on; `InvalidArgument` for another queue
+    /// than that of either; `Corruption` where the first file of `rhs` is below the last one, or
+    /// entries leave a hole; `Full` where more than 2^64 - 1 records would be live; `Memory`.
+    pub fn merge(&mut self, rhs: MemTableRecoverContext, queue: LogQueue) -> Result<()>
+        ensures ok { OnOk result (IsMergedWith queue rhs self.old self.new) }
+        ensures refused { IfErr result (λ e. e ≢ Error.Memory → IsMergeRefused queue self.old rhs) }
+        ensures err { OnErr result (self.new.stage ≡ refused_stage self.old.stage) }
+        ensures unchanged { self.old.stage ≢ Reading → self.new ≡ self.old }
+        ensures failed { self.old.stage ≢ Reading → IfErr result (λ e. e ≡ Error.Failed) }
+    {
+        if self.stage != Stage::Reading {
+            return Err(Error::Failed);
+        }
+        let MemTableRecoverContext { state, stage } = rhs;
+        if stage != Stage::Reading {
+            self.stage = Stage::Failed;
+            return Err(Error::Failed);
+        }
+        match self.state.merge(state, queue) {
+            Ok(()) => Ok(()),
+            Err(e) => {
+                self.stage = Stage::Failed;
+                Err(e)
+            }
+        }
+    }
+
+    /// The tables of all regions, with their counts and the regions that were cleaned.
+    ///
+    /// # Errors
+    ///
+    /// `Failed` after a refusal.
+    pub fn finish(self) -> Result<MemTableAccessor>
+        ensures tables { IfOk result (λ accessor. accessor.tables ≡ self.context.regions.tables) }
+        ensures cleaned { IfOk result (λ accessor. accessor.cleaned ≡ self.context.cleaned) }
+        ensures counted { IfOk result (λ accessor. AreCountsOf accessor.tables accessor.counts) }
+        ensures reading { (queue : LogQueue) (h : List Event) → IsReadingExactly self h → Suits queue self.context.files
+            → IfOk result (λ accessor. IsOneReading queue h accessor.tables accessor.cleaned) }
+        ensures accepted { OnOk result (self.stage ≢ Failed) }
+        ensures failed { IfErr result (λ e. (e ≡ Error.Failed) × (self.stage ≡ Failed)) }
+    {
+        let MemTableRecoverContext { state, stage } = self;
+        if stage == Stage::Failed {
+            return Err(Error::Failed);
+        }
+        let accessor = state.regions.accessor;
+        accessor.counts_are_exact();
+        Ok(accessor)
+    }
+}
+
+impl ReplayMachine for MemTableRecoverContext {
+    ghost use Rattle.raft_memtable.specs.RecoverContext.{IsReading, IsReadingExactly};
+
+    ghost stands_for = { IsReading };
+
+    ghost stands_exactly = { IsReadingExactly };
+
+    fn replay(&mut self, batch: LogItemBatch, file_id: FileId) -> Result<()> {
+        self.replay(batch, file_id)
+    }
+
+    fn merge(&mut self, rhs: MemTableRecoverContext, queue: LogQueue) -> Result<()> {
+        self.merge(rhs, queue)
+    }
+
+    ghost exact_stands = { λ m h e. record { stage = e.stage; stands = e.exact.stands } };
+}
+
+/// Makes contexts that have read nothing.
+#[derive(Drop)]
+pub struct MemTableRecoverContextFactory;
+
+impl MemTableRecoverContextFactory {
+    /// A factory.
+    pub fn new() -> MemTableRecoverContextFactory {
+        MemTableRecoverContextFactory
+    }
+}
+
+impl Factory<MemTableRecoverContext> for MemTableRecoverContextFactory {
+    ghost use Rattle.std.specs.Prelude.{[]};
+    ghost use Rattle.raft_memtable.specs.RecoverContext.{IsReadingExactly};
+
+    ghost gives = { λ _ context. IsReadingExactly context [] };
+
+    ghost may_refuse = { λ _ e. ⊥ };
+
+    fn new_target(&self, alloc: Global) -> Result<MemTableRecoverContext> {
+        MemTableRecoverContext::new(alloc)
+    }
+}

@@ -1,0 +1,12 @@
+//! Whether a context reads on.
+
+/// Whether a context reads on.
+#[derive(Clone, Copy, PartialEq, Eq, Debug)]
+pub enum Stage {
+    /// It takes in batches and newer neighbours.
+    Reading,
+    /// It has taken in a context of the append queue: its tables are those of both queues.
+    Overlaid,
+    /// A call was refused.
+    Failed,
+}

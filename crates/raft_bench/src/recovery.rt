@@ -28,9 +28,12 @@ pub(crate) fn time<R: Threads + Files + AllocGlobal + Clock + Sync>(
     rt: &R,
     words: &[String],
 ) -> Result<Option<Timed>> {
-    match Request::parse(words) {
-        Some(Request::Recover(asked)) => Ok(Some(time_files(rt, asked)?)),
-        _ => Ok(None),
+    let Some(request) = Request::parse(words) else {
+        return Ok(None);
+    };
+    match request {
+        Request::Recover(asked) => Ok(Some(time_files(rt, asked)?)),
+        Request::Batch(_) => Ok(None),
     }
 }
 

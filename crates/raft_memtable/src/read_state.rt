@@ -1,22 +1,27 @@
 //! What was read of a queue's batches.
 
 ghost use Rattle.std.specs.Prelude.{◌≡◌, ◌≢◌, ◌⊎◌, ◌+◌, ◌≤◌, ◌^◌, ℕ, [], ◌∷◌, OnOk, OnErr, IfOk, IfErr, Some, None, map};
+ghost use Rattle.std.specs.FinMap as finite;
 ghost use Rattle.std.specs.List.{AllByRecursion};
 ghost use Rattle.std.specs.Option.{option_map};
 ghost use Rattle.raft_base.specs.declared.pipe_log.LogQueue.TheVariants.{Append, Rewrite};
 ghost use Rattle.raft_history.specs.Contexts.{new_context, taken_in, merged_with, AreMerged, region_steps_or};
+ghost use Rattle.raft_history.specs.Joins.{AreOverlaid};
+ghost use Rattle.raft_history.specs.Kept.{kept_of};
 ghost use Rattle.raft_history.specs.MarkedRegions.{regions_after, region_steps_of_wholes};
 ghost use Rattle.raft_history.specs.Records.{records_or, records_in_wholes};
 ghost use Rattle.raft_memtable.specs.Accessor.{live_in_all};
 ghost use Rattle.raft_memtable.specs.BatchChecks.{marker_found};
+ghost use Rattle.raft_memtable.specs.KeptShown.{kept_shown};
 ghost use Rattle.raft_memtable.specs.MarkedTables.{regions_in, HaveRoom};
 ghost use Rattle.raft_memtable.specs.ReadStates.{context_in, IsRead, TakesEffect, MayTakeEffect};
-ghost use Rattle.raft_memtable.specs.RecoverContext.{MayFollow, IsBatchRefused, IsStepRefused, AreNeighbours, AreNotMerged, IsNeighbourRefused};
+ghost use Rattle.raft_memtable.specs.RecoverContext.{MayFollow, IsBatchRefused, IsStepRefused, AreNeighbours, AreNotMerged, IsNeighbourRefused, AreBothQueues, AreNotOverlaid};
 ghost use Rattle.raft_memtable.specs.ReplayMachine.{event};
 ghost use Rattle.raft_memtable.specs.WaitingShown.{whole_shown};
 
 use crate::batch_check::check_batch;
 use crate::file_range::FileRange;
+use crate::kept::Kept;
 use crate::marked_tables::MarkedTables;
 use crate::waiting_group::WholeGroup;
 use crate::waiting_groups::WaitingGroups;
@@ -126,6 +131,53 @@ impl ReadState {
     {
         self.check_neighbour(&newer, queue)?;
         self.join(newer, queue)
+    }
+
+    /// Puts what was read of the append queue over this, which was read of the rewrite queue.
+    pub(crate) fn overlay(&mut self, append: ReadState) -> Result<()>
+        requires { IsRead (context_in append) }
+        ensures queues { OnOk result (AreBothQueues (context_in self.old) (context_in append)) }
+        ensures tables { OnOk result (AreOverlaid (context_in append).regions (context_in self.old).regions.tables (context_in self.new).regions.tables) }
+        ensures groups { OnOk result ((context_in self.new).groups ≡ finite.empty) }
+        ensures cleaned { OnOk result ((context_in self.new).cleaned ≡ (context_in append).cleaned) }
+        ensures refused { IfErr result (λ e. e ≢ Error.Memory → AreNotOverlaid (context_in self.old) (context_in append)) }
+    {
+        self.check_queues(&append)?;
+        let ReadState { regions, .. } = append;
+        self.regions.overlay(regions)?;
+        self.groups = WaitingGroups::new(self.alloc);
+        Ok(())
+    }
+
+    /// Whether this was read of the rewrite queue and `append` of the append queue.
+    fn check_queues(&self, append: &ReadState) -> Result<()>
+        ensures ok { OnOk result (AreBothQueues (context_in self.now) (context_in append.now)) }
+        ensures refused { IfErr result (λ e. e ≢ Error.Memory → AreBothQueues (context_in self.now) (context_in append.now) → ⊥) }
+    {
+        if !FileRange::suits(self.files, LogQueue::Rewrite)
+            || !FileRange::suits(append.files, LogQueue::Append)
+        {
+            return Err(Error::InvalidArgument(format!(in self.alloc;
+                "a context of the other queue"
+            )?));
+        }
+        Ok(())
+    }
+
+    /// How much it is.
+    pub(crate) fn kept(&self) -> Result<Kept>
+        ensures ok { IfOk result (λ kept. kept_shown kept ≡ kept_of (context_in self.now)) }
+        ensures memory { IfErr result (λ e. e ≡ Error.Memory) }
+    {
+        let MarkedTables { accessor, marks } = &self.regions;
+        Ok(Kept {
+            entries: accessor.entries_count()?,
+            keys: accessor.key_count()?,
+            marks: marks.len() as u128 + self.groups.len() as u128,
+            deleted_keys: marks.deleted_keys(),
+            cleaned: accessor.cleaned_regions().len() as u128,
+            waiting_items: self.groups.waiting_items(),
+        })
     }
 
     /// Whether what was read of newer batches may be taken in.

@@ -2,6 +2,7 @@
 #![tactic(auto)]
 
 mod batches;
+mod blocks;
 mod checksum;
 mod numbers;
 mod tables;
@@ -26,6 +27,7 @@ fn time(rt: &HostRuntime, word: &str) -> Result<()> {
         "varint" => numbers::time(rt),
         "batches" => batches::time(rt),
         "memtable" => Ok(tables::time(rt)?),
-        _ => Ok(eprintln!(rt; "usage: raft_bench [crc32] [varint] [batches] [memtable]")?),
+        "blocks" => Ok(blocks::time(rt)?),
+        _ => Ok(eprintln!(rt; "usage: raft_bench [crc32] [varint] [batches] [memtable] [blocks]")?),
     }
 }

@@ -4,9 +4,10 @@ ghost use Rattle.raft_table.specs.Table.{IsCounted};
 
 use crate::timing::{Noise, TIMES, nanoseconds_since};
 use raft_table::{
-    EntryIndex, FileBlockHandle, FileId, FileSeq, GlobalStats, LogQueue, MemTable, Result, is_run,
+    Block, EntryIndex, FileBlockHandle, FileId, FileSeq, GlobalStats, LogQueue, MemTable, Result, is_run,
 };
 use std::alloc::{AllocError, Global};
+use std::collections::VecDeque;
 use std::io;
 use std::time::Instant;
 
@@ -33,7 +34,7 @@ const KEYS: usize = 100_000;
 
 /// A region's table, and the counts of its records.
 #[derive(Drop)]
-struct Region {
+pub(crate) struct Region {
     table: MemTable,
     stats: GlobalStats,
     ghost counted: { IsCounted table stats },
@@ -43,7 +44,7 @@ struct Region {
 type Pair = (Vec<u8>, Vec<u8>);
 
 impl Region {
-    fn new(alloc: Global, region_id: u64) -> Region {
+    pub(crate) fn new(alloc: Global, region_id: u64) -> Region {
         Region {
             table: MemTable::new(alloc, region_id),
             stats: GlobalStats::default(),
@@ -51,7 +52,7 @@ impl Region {
     }
 
     /// Appends a list, if it is a run.
-    fn append(&mut self, run: Vec<EntryIndex>) -> Result<()> {
+    pub(crate) fn append(&mut self, run: Vec<EntryIndex>) -> Result<()> {
         if is_run(&run, LogQueue::Append) {
             self.table.append(run, &mut self.stats)?;
         }
@@ -59,11 +60,25 @@ impl Region {
     }
 
     /// Rewrites the places in files up to the first to those of a list, if it is a run.
-    fn rewrite(&mut self, run: Vec<EntryIndex>) -> Result<()> {
+    pub(crate) fn rewrite(&mut self, run: Vec<EntryIndex>) -> Result<()> {
         if is_run(&run, LogQueue::Rewrite) {
             self.table.rewrite(run, Some(1), &mut self.stats)?;
         }
         Ok(())
+    }
+
+    /// Moves the records of a newer table of the same region into this one.
+    pub(crate) fn merge(&mut self, newer: Region) -> Result<()> {
+        let mut table = newer.table;
+        if self.table.region_id() == table.region_id() {
+            self.table
+                .merge_newer_neighbor(&mut table, &mut self.stats)?;
+        }
+        Ok(())
+    }
+
+    pub(crate) fn blocks(&self) -> &VecDeque<Block> {
+        self.table.blocks()
     }
 
     fn compact_to(&mut self, index: u64) -> u64 {
@@ -91,7 +106,7 @@ pub(crate) fn time(rt: &HostRuntime) -> io::Result<()> {
 }
 
 /// Prints a line: how long each of `count` units took at best, in tenths of nanoseconds.
-fn print_each(
+pub(crate) fn print_each(
     rt: &HostRuntime,
     name: &str,
     nanoseconds: u64,
@@ -104,7 +119,7 @@ fn print_each(
 }
 
 /// The entries from `first` on, in one block of a file.
-fn run(
+pub(crate) fn run(
     alloc: Global,
     first: u64,
     len: u64,
@@ -148,7 +163,7 @@ fn runs(alloc: Global) -> std::result::Result<Vec<Vec<EntryIndex>>, AllocError> 
 }
 
 /// Appends each run to the region whose turn it is. Answers how many were accepted.
-fn append_all(regions: &mut Vec<Region>, runs: Vec<Vec<EntryIndex>>) -> u64 {
+pub(crate) fn append_all(regions: &mut Vec<Region>, runs: Vec<Vec<EntryIndex>>) -> u64 {
     let mut turn = 0;
     let mut accepted = 0u64;
     for run in runs {
@@ -230,7 +245,7 @@ fn picks(
 }
 
 /// How many of these entries there are.
-fn found(regions: &[Region], picks: &[(usize, u64)]) -> u64 {
+pub(crate) fn found(regions: &[Region], picks: &[(usize, u64)]) -> u64 {
     let mut count = 0u64;
     for (region, index) in picks {
         if let Some(region) = regions.get(*region)

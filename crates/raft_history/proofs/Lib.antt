@@ -16,6 +16,7 @@ pub mod MoreLemmas
 pub mod NamedLemmas
 pub mod NewLaws
 pub mod QueueLemmas
+pub mod ReadItemLemmas
 pub mod ReadLemmas
 pub mod ReadingLemmas
 pub mod RecordLemmas

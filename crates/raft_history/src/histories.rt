@@ -2,14 +2,17 @@
 
 ghost use Rattle.std.specs.Prelude.{◌≡◌, ℕ, List, ◌++◌, Some, None, flat_map};
 ghost use Rattle.std.specs.FinMap as finite;
+ghost use Rattle.raft_base.specs.declared.pipe_log.FileId.{FileId};
 ghost use Rattle.raft_base.specs.declared.pipe_log.LogQueue.{LogQueue};
 ghost use Rattle.raft_base.specs.declared.pipe_log.LogQueue.TheVariants.{Append};
+ghost use Rattle.raft_records.specs.Item.{Item};
+ghost use Rattle.raft_records.specs.ReadIn.{AreReadIn};
 ghost use Rattle.raft_table.specs.Entries.{entry_at};
 ghost use Rattle.raft_table.specs.LastWord.{last_entry, last_pair};
 ghost use Rattle.raft_table.specs.Steps.{after, table_of};
 ghost use Rattle.raft_history.specs.RegionSteps.{RegionStep, Tables, steps_on, steps_of_items, reading};
 ghost use Rattle.raft_history.specs.Batches.{Event};
-ghost use Rattle.raft_history.specs.Histories.{IsSmall, Sound, IsSoundIn, Apart, IsOfQueue, IsOneReading};
+ghost use Rattle.raft_history.specs.Histories.{IsSmall, Sound, IsSoundIn, Apart, AreInFile, IsOfQueue, IsOneReading};
 
 /// What holds of two histories, one behind the other, holds of each: so it holds of every stretch of
 /// a history.
@@ -46,4 +49,10 @@ pub fn last_words_stand()
         → (r : ℕ) (key : List ℕ)
         → finite.get (table_of r (finite.get tables r)).keys key
         ≡ last_pair key (flat_map (λ e. steps_on r (steps_of_items e.items)) h) }
+{}
+
+/// What `next_batch` answers is as histories ask it of a batch of that file, so a test of it refuses
+/// nothing that was read.
+pub fn read_items_are_in_their_file()
+    ensures { (file : FileId) (items : List Item) → AreReadIn file items → AreInFile file items }
 {}

@@ -14,6 +14,9 @@ mod UpdateLemmas
 mod WriteLemmas
 mod SlotKeeping
 mod CleanLemmas
+mod RegionJoinLemmas
+mod TableJoinLemmas
+mod TotalSums
 mod RecoverContextLemmas
 mod BatchCheckLemmas
 mod WholeFiles

@@ -21,6 +21,7 @@ ghost use Rattle.raft_memtable.specs.Writes.{Appending, Replaying, Rewriting, Ar
 
 mod join;
 mod region_steps;
+mod totals;
 
 use crate::region_tables::RegionTables;
 use raft_records::{Command, LogBatch, LogItem, hash_u64};

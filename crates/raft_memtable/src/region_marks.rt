@@ -2,8 +2,11 @@
 
 ghost use Rattle.std.specs.Prelude.{◌≡◌, ℕ, nat_eq, OnOk, OnErr, IfErr, Some, None, option_map};
 ghost use Rattle.std.specs.FinMap as finite;
+ghost use Rattle.std.specs.FinSet as finset;
 ghost use Rattle.std.specs.List.{IsDistinct};
 ghost use Rattle.std.specs.Map.{keys_of};
+ghost use Rattle.raft_history.specs.Records.{total};
+ghost use Rattle.raft_table.specs.Marks.{Mark};
 ghost use Rattle.raft_table.specs.MarkJoins.{fresh, mark_of, joined_at};
 ghost use Rattle.raft_table.specs.Steps.{Compact, Del, Clean};
 ghost use Rattle.raft_memtable.specs.RegionMarks.{mark_in, MayChangeMark, IsMarkUpdated};
@@ -52,6 +55,24 @@ impl RegionMarks {
         ensures { option_map (λ m. m.now) result ≡ finite.get self.now id }
     {
         self.marks.get(&id)
+    }
+
+    /// How many regions have a mark.
+    pub fn len(&self) -> usize
+        ensures { result ≡ finite.len self.now }
+    {
+        self.marks.len()
+    }
+
+    /// How many deleted keys all marks hold together.
+    pub fn deleted_keys(&self) -> u128
+        ensures { result ≡ total (λ (m : Mark). finset.len m.deleted) self.now }
+    {
+        let mut count = 0;
+        for mark in self.marks.values() {
+            count += mark.deleted().len() as u128;
+        }
+        count
     }
 
     /// Gives a region that has no mark the mark of no step.

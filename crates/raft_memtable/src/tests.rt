@@ -1,5 +1,7 @@
 //! Items written to the tables of several regions, and the regions that were cleaned.
 
+mod groups;
+
 use crate::{MemTableAccessor, slot_of};
 use raft_records::{Command, CompressionType, LogItem, LogItemContent, OpType};
 use raft_table::{

@@ -1,10 +1,10 @@
 -- On the bytes of entries.
 use Rattle.std.proofs.Common.{◌≡◌, ℕ, suc, ◌+◌, ◌-◌, ◌^◌, ◌<◌, ◌≤◌, ◌⊎◌, ◌↔◌, List, [], ◌∷◌, ◌++◌, length, get_or, drop, None, refl, sym, ap, ◌∙◌, subst, arith, inl, inr}
-use Rattle.std.proofs.lemmas.List.{drop_more}
+use Rattle.std.proofs.lemmas.List.{drop_more, length-append}
 use Rattle.raft_base.specs.Reading.{Reads, HasNoFront, HasOneFront, IsPair, IsSequence, state_after, IsSequenceFault}
 use Rattle.raft_base.specs.Varint.{IsVarint}
 use Rattle.raft_base.specs.declared.errors.Error.{Error}
-use Rattle.raft_base.proofs.VarintLemmas.{varint_one_front}
+use Rattle.raft_base.proofs.VarintLemmas.{varint_one_front, varint_some}
 use Rattle.raft_base.proofs.ReadingLemmas.{reads_pair, no_first, no_second, pair_one_front}
 use Rattle.raft_base.proofs.SequenceLemmas.{reads_more, state_after-push, stuck, sequence_one_front, fault_after}
 use Rattle.raft_records.specs.declared.compression_type.CompressionType.TheVariants as compressions
@@ -25,6 +25,14 @@ tail_read bytes rest index offset tail e fits le lt r made =
       split = r.split;
     } in
     subst (λ (x : EntryIndex). Reads (IsTail (index, offset)) bytes rest x) (sym made) whole
+
+-- behind a number fewer bytes are left
+pub behind_number : (bytes rest : List ℕ) (n : ℕ) → Reads IsVarint bytes rest n → length rest < length bytes
+behind_number bytes rest n r = omega (arith, ap length r.split ∙ length-append r.front rest, varint_some r.front n r.spells)
+
+-- and behind a tail offset
+pub behind_tail : (bytes rest : List ℕ) (next : ℕ × ℕ) (e : EntryIndex) → Reads (IsTail next) bytes rest e → length rest < length bytes
+behind_tail bytes rest next e r = omega (arith, ap length r.split ∙ length-append r.front rest, varint_some r.front (tail_of e) r.spells.tail)
 
 pub no_index : (bytes : List ℕ) (index offset : ℕ) → 2 ^ 64 - 1 ≤ index → HasNoFront (IsTail (index, offset)) bytes
 no_index bytes index offset le front rest e t split = let same : e.index ≡ index = t.index in let lt : e.index < 2 ^ 64 - 1 = t.index_fits in absurd (omega arith)

@@ -80,7 +80,7 @@ pub record IsBatchOf (items : List Item) (entry_bytes : List ℕ) : Type 0 where
 abbrev pub compression_byte : CompressionType → ℕ
 compression_byte compressions.None = 0
 
--- a header: the batch's length with the compression type's byte behind it, and the place of the item batch; eight bytes each, the highest first
+-- a header: the batch's length with the compression type's byte behind it, and the offset of the item batch; eight bytes each, the highest first
 unfoldable pub header_bytes : ℕ → CompressionType → ℕ → List ℕ
 header_bytes offset compression len = big_bytes 8 (len * 256 + compression_byte compression) ++ big_bytes 8 offset
 

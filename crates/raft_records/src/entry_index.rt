@@ -1,6 +1,6 @@
 //! Where the entries of a region's log stand.
 
-ghost use Rattle.std.specs.Prelude.{◌≡◌, ◌≢◌, ◌↔◌, ◌-◌, ◌^◌, ◌<◌, ◌≤◌, List, ◌++◌, map, IsTrue, IfOk, IfErr, OnOk, OnErr};
+ghost use Rattle.std.specs.Prelude.{◌≡◌, ◌≢◌, ◌↔◌, ◌-◌, ◌^◌, ◌<◌, ◌≤◌, List, ◌++◌, map, length, IsTrue, IfOk, IfErr, IfSome, OnOk, OnErr};
 ghost use Rattle.raft_base.specs.Reading.{Reads, HasNoFront};
 ghost use Rattle.raft_records.specs.Grammar.{IsEntries, IsTail, AreTails, end_behind};
 ghost use Rattle.raft_records.specs.Faults.{IsEntriesFault, IsTailFault, IsTailsFault, IsEntriesRefusal};
@@ -194,7 +194,8 @@ impl EntryIndexes {
         ensures size { IfOk result (λ es. entries_size.new ≡ end_behind entries_size.old es.0.items) }
         ensures err { OnErr result (buf.new.now ≡ buf.old.now) }
         ensures size_err { OnErr result (entries_size.new ≡ entries_size.old) }
-        ensures refused { IfErr result (λ e. e ≢ Error.Memory → HasNoFront (IsEntries entries_size.old) buf.old.now) }
+        ensures refused { IfErr result (λ e. e ≢ Error.Memory →
+            HasNoFront (IsEntries entries_size.old) buf.old.now) }
         ensures fault { IfErr result (IsEntriesFault entries_size.old buf.old.now) }
     {
         let (entries, end, rest) = EntryIndexes::parse(alloc, *buf, *entries_size, UNPLACED)?;
@@ -205,6 +206,7 @@ impl EntryIndexes {
 
     /// The entries in front of `bytes`, each in this place, the end of their bytes, and what is behind
     /// them.
+    #[inline(always)]
     pub(crate) fn parse(
         alloc: Global,
         bytes: &[u8],
@@ -248,6 +250,7 @@ fn append_run(
 }
 
 /// The tail offsets of `count` entries from the index `first` on, behind `entries_size` entry bytes.
+#[inline(never)]
 fn parse_tails(
     alloc: Global,
     bytes: &[u8],
@@ -271,14 +274,17 @@ fn parse_tails(
     let mut index = first;
     let mut offset = entries_size;
     for _ in 0..count {
-        let (tail, behind) = parse_tail(alloc, rest, index, offset)?;
-        entries.push(EntryIndex {
+        let (tail, behind) = match short_tail(rest, index, offset) {
+            Some(read) => read,
+            None => parse_tail(alloc, rest, index, offset)?,
+        };
+        entries.push_reserved(EntryIndex {
             index,
             entries: place.block,
             compression_type: place.compression_type,
             entry_offset: offset,
             entry_len: tail - offset,
-        })?;
+        });
         rest = behind;
         index += 1;
         offset = tail;
@@ -286,13 +292,32 @@ fn parse_tails(
     Ok((entries, offset, rest))
 }
 
-/// The tail offset of the entry `index`, whose bytes begin at `offset`, and what is behind it.
+/// The tail offset of the entry `index`, whose bytes begin at `offset`, and what is behind it, where it
+/// takes four bytes at most, as most do. Nothing is said where it is longer, or is none.
 #[inline(always)]
+fn short_tail(bytes: &[u8], index: u64, offset: u32) -> Option<(u32, &[u8])>
+    ensures read { IfSome result (λ read.
+        Reads (IsTail (index, offset)) bytes.now read.1.now (entry_between index offset read.0)) }
+    ensures ends { IfSome result (λ read. offset ≤ read.0) }
+    ensures counted { IfSome result (λ read. index < 2 ^ 64 - 1) }
+    ensures shorter { IfSome result (λ read. length read.1.now < length bytes.now) }
+{
+    match codec::parse_short_var_u64(bytes) {
+        Some((tail, rest)) if tail >= u64::from(offset) && index < u64::MAX => {
+            Some((tail as u32, rest))
+        }
+        _ => None,
+    }
+}
+
+/// The tail offset of the entry `index`, whose bytes begin at `offset`, and what is behind it.
+#[inline(never)]
 fn parse_tail(alloc: Global, bytes: &[u8], index: u64, offset: u32) -> Result<(u32, &[u8])>
     ensures ok { IfOk result (λ read.
         Reads (IsTail (index, offset)) bytes.now read.1.now (entry_between index offset read.0)) }
     ensures ends { IfOk result (λ read. offset ≤ read.0) }
     ensures counted { OnOk result (index < 2 ^ 64 - 1) }
+    ensures shorter { IfOk result (λ read. length read.1.now < length bytes.now) }
     ensures refused { OnErr result (HasNoFront (IsTail (index, offset)) bytes.now) }
     ensures fault { IfErr result (IsTailFault (index, offset) bytes.now) }
 {

@@ -127,7 +127,8 @@ pub(crate) fn parse_block(
 ) -> Result<Vec<u8>>
     ensures ok { IfOk result (λ entries. IsBlockOf len bytes.now entries.items) }
     ensures some { OnErr result (0 < len) }
-    ensures refused { IfErr result (λ e. e ≢ Error.Memory → (entries : List ℕ) → IsBlockOf len bytes.now entries → ⊥) }
+    ensures refused { IfErr result (λ e. e ≢ Error.Memory →
+        (entries : List ℕ) → IsBlockOf len bytes.now entries → ⊥) }
     ensures fault { IfErr result (IsBlockFault len bytes.now) }
 {
     if len == 0 {

@@ -71,7 +71,8 @@ pub fn log_batches_are_read_again()
     ensures one_header { HasOneFront IsHeader }
     ensures one_block { (len : ℕ) (bytes entry_bytes entry_bytes' : List ℕ) →
         IsBlockOf len bytes entry_bytes → IsBlockOf len bytes entry_bytes' → entry_bytes ≡ entry_bytes' }
-    ensures one_batch { (bytes entry_bytes entry_bytes' : List ℕ) (signature : Option ℕ) (items items' : List Item) →
+    ensures one_batch { (bytes entry_bytes entry_bytes' : List ℕ) (signature : Option ℕ)
+        (items items' : List Item) →
         IsLogBatch bytes signature items entry_bytes → IsLogBatch bytes signature items' entry_bytes' →
         (items ≡ items') × (entry_bytes ≡ entry_bytes') }
 {}

@@ -200,6 +200,7 @@ impl LogItem {
 
     /// The item in front of `bytes`, in this place, the end of its entries' bytes, and what is behind
     /// it.
+    #[inline(always)]
     pub(crate) fn parse(
         alloc: Global,
         bytes: &[u8],
@@ -248,6 +249,7 @@ impl LogItemContent {
 
     /// The content in front of `bytes`, in this place, the end of its entries' bytes, and what is
     /// behind it.
+    #[inline(always)]
     fn parse(
         alloc: Global,
         bytes: &[u8],

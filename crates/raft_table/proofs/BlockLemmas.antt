@@ -63,7 +63,7 @@ start_at k i [] d l = absurd (omega arith)
 start_at zero i (b ∷ bs) d l = omega arith
 start_at (suc k) i (b ∷ bs) d l = start_at k (i + length b.spans) bs d (omega arith) ∙ omega arith
 
-count_take-le : (j k : ℕ) (bs : List BlockSpans) → j ≤ k → count (take j bs) ≤ count (take k bs)
+pub count_take-le : (j k : ℕ) (bs : List BlockSpans) → j ≤ k → count (take j bs) ≤ count (take k bs)
 count_take-le zero k bs l = omega arith
 count_take-le (suc j) zero bs l = absurd (omega arith)
 count_take-le (suc j) (suc k) [] l = omega arith

@@ -1,5 +1,5 @@
 -- Entries that were read from a file are a run of the file's queue.
-use Rattle.std.proofs.Common.{◌≡◌, ℕ, suc, ◌+◌, ◌-◌, ◌<◌, ◌^◌, max, Bool, true, cond, List, [], ◌∷◌, filter, Option, Some, None, refl, ap, ◌∙◌, subst, arith}
+use Rattle.std.proofs.Common.{◌≡◌, ℕ, suc, ◌+◌, ◌-◌, ◌<◌, ◌^◌, ◌↔◌, max, Bool, true, cond, List, [], ◌∷◌, filter, Option, Some, None, refl, sym, ap, ◌∙◌, subst, arith}
 use Rattle.std.specs.List.{AllByRecursion}
 use Rattle.raft_base.specs.declared.pipe_log.FileBlockHandle.{FileBlockHandle}
 use Rattle.raft_base.specs.declared.pipe_log.FileId.{FileId}
@@ -41,6 +41,22 @@ consecutive_run : (es : List EntryIndex) → IsConsecutive es → IsRun es × (e
 unfolding end_of
 consecutive_run [] h = (record { start = 0; rising = tt }, omega arith)
 consecutive_run (e ∷ es) h = (record { start = e.index; rising = rising e.index (e ∷ es) h }, bounded e.index (e ∷ es) h)
+
+consecutive : (i : ℕ) (es : List EntryIndex) → RisesFrom i es → end_of es < 2 ^ 64 → IsConsecutiveFrom i es
+unfolding end_of
+consecutive i [] h lt = tt
+consecutive i (e ∷ es) h lt =
+    let index : e.index ≡ i = h.0 in
+    (index, omega (arith, lt), subst (λ j. IsConsecutiveFrom j es) (sym (next_is i)) (consecutive (suc i) es h.1 (omega (arith, lt))))
+
+run_consecutive : (es : List EntryIndex) → IsRun es → end_of es < 2 ^ 64 → IsConsecutive es
+run_consecutive [] r lt = tt
+run_consecutive (e ∷ es) r lt =
+    let index : e.index ≡ r.start = r.rising.0 in
+    subst (λ i. IsConsecutiveFrom i (e ∷ es)) (sym index) (consecutive r.start (e ∷ es) r.rising lt)
+
+pub consecutive_is_run : (es : List EntryIndex) → IsConsecutive es ↔ (IsRun es × (end_of es < 2 ^ 64))
+consecutive_is_run es = (consecutive_run es, λ (r, lt). run_consecutive es r lt)
 
 pub read_run : (file : FileId) (es : List EntryIndex) → IsReadIn file (entries es) → IsRunIn file.queue es
 read_run file es h =

@@ -12,6 +12,7 @@ mod joins;
 mod lists;
 mod places;
 mod runs;
+mod walks;
 
 use crate::global_stats::GlobalStats;
 use crate::memtable::block::Block;
@@ -118,6 +119,13 @@ impl Entries {
             return None;
         }
         Some(self.first + (self.len - 1) as u64)
+    }
+
+    /// How many there are.
+    pub fn len(&self) -> usize
+        ensures { result ≡ length self.now }
+    {
+        self.len
     }
 
     /// How many of them are in `queue`.

@@ -1,6 +1,6 @@
 //! What a table answers of its records.
 
-ghost use Rattle.std.specs.Prelude.{◌≡◌, ◌+◌, ◌-◌, ◌<◌, ◌++◌, IsOk, OnOk, OnErr, IfErr, Some, None};
+ghost use Rattle.std.specs.Prelude.{◌≡◌, ◌+◌, ◌-◌, ◌<◌, ◌++◌, length, IsOk, OnOk, OnErr, IfErr, Some, None};
 ghost use Rattle.std.specs.Fn.{CalledAtTwo};
 ghost use Rattle.std.specs.FinMap as finite;
 ghost use Rattle.std.specs.List.{slice_get};
@@ -22,6 +22,13 @@ impl MemTable {
         ensures { result ≡ block_count self.now.entries }
     {
         self.entries.block_count()
+    }
+
+    /// How many entries there are.
+    pub fn entries_count(&self) -> usize
+        ensures { result ≡ length self.now.entries }
+    {
+        self.entries.len()
     }
 
     /// How many keys have a value.

@@ -1,32 +1,41 @@
-use Rattle.std.proofs.Common.{◌-◌, arith, inr, [], refl}
+use Rattle.std.proofs.Common.{◌-◌, ◌≤◌, ◌<◌, arith, inr, length}
 use Rattle.std.proofs.lemmas.Result.{err_from_is_err_and}
-use Rattle.raft_records.proofs.EntryLemmas.{none_read, no_more_tails, tail_fault, all_read}
+use Rattle.raft_base.specs.Reading.{Reads}
+use Rattle.raft_records.specs.Grammar.{IsTail}
+use Rattle.raft_records.specs.Placement.{entry_between}
+use Rattle.raft_records.proofs.EntryLemmas.{no_more_tails, tail_fault}
 use Rattle.raft_records.proofs.PlacementLemmas.{one_more_placed, placed_end}
 use Rattle.raft_records.proofs.entry_index.parse_tails.Goals as goal
+use Rattle.raft_records.proofs.entry_index.parse_tails.Goals.{in-Some, in-None+in_ok-tail-in-None}
 
-pub loop-init : goal.loop-init
-loop-init c = ([], none_read c.args.first c.args.entries_size c.args.bytes.now [] refl, c.in_ok-entries.ensures.items, refl)
+pub returns-in_err-tail-in-None-clause-refused : goal.returns-in_err-tail-in-None-clause-refused
+returns-in_err-tail-in-None-clause-refused c =
+    let p = err_from_is_err_and c.from_residual-in_err-tail-in-None.result c.from_residual-in_err-tail-in-None.ensures.1 in
+    let so = c.loop.invariant.0 in
+    rw (p.1) (λ ne. no_more_tails c.args.first c.args.entries_size c.args.bytes.now c.loop.rest.now so.0 c.loop.index c.loop.offset c.args.count so.1 (omega (arith, so.3)) c.in_err-tail-in-None.ensures.refused)
 
-pub returns-in_err-tail-clause-refused : goal.returns-in_err-tail-clause-refused
-returns-in_err-tail-clause-refused c =
-    let p = err_from_is_err_and c.from_residual-in_err-tail.result c.from_residual-in_err-tail.ensures.1 in
-    let so = c.loop.invariant in
-    rw (p.1) (λ ne. no_more_tails c.args.first c.args.entries_size c.args.bytes.now c.loop.rest.now so.0 c.loop.index c.loop.offset c.args.count so.1 (omega (arith, so.3)) c.in_err-tail.ensures.refused)
+pub returns-in_err-tail-in-None-clause-fault : goal.returns-in_err-tail-in-None-clause-fault
+returns-in_err-tail-in-None-clause-fault c =
+    let p = err_from_is_err_and c.from_residual-in_err-tail-in-None.result c.from_residual-in_err-tail-in-None.ensures.1 in
+    let so = c.loop.invariant.0 in
+    rw (p.1, p.2) (inr (tail_fault c.args.first c.args.entries_size c.args.bytes.now c.loop.rest.now so.0 c.loop.index c.loop.offset c.args.count (c.args.count - c.loop.counter - 1) _ so.1 (omega (arith, so.3)) c.in_err-tail-in-None.ensures.fault))
 
-pub returns-in_err-tail-clause-fault : goal.returns-in_err-tail-clause-fault
-returns-in_err-tail-clause-fault c =
-    let p = err_from_is_err_and c.from_residual-in_err-tail.result c.from_residual-in_err-tail.ensures.1 in
-    let so = c.loop.invariant in
-    rw (p.1, p.2) (inr (tail_fault c.args.first c.args.entries_size c.args.bytes.now c.loop.rest.now so.0 c.loop.index c.loop.offset c.args.count (c.args.count - c.loop.counter - 1) _ so.1 (omega (arith, so.3)) c.in_err-tail.ensures.fault))
+-- what was read, by either reader
+read : (c : goal.After-push_reserved) → Reads (IsTail (c.loop.index, c.loop.offset)) c.loop.rest.now c.match-short_tail.tail.1.now (entry_between c.loop.index c.loop.offset c.match-short_tail.tail.0) × (c.loop.offset ≤ c.match-short_tail.tail.0) × (length c.match-short_tail.tail.1.now < length c.loop.rest.now)
+read c = elim c.match-short_tail.branch [
+  | in-Some w ↦ rw w.tail-is (w.in-Some.ensures.read, w.in-Some.ensures.ends, w.in-Some.ensures.shorter)
+  | in-None+in_ok-tail-in-None w ↦ rw w.tail-is (w.in_ok-tail-in-None.ensures.ok, w.in_ok-tail-in-None.ensures.ends, w.in_ok-tail-in-None.ensures.shorter)
+]
 
 pub loop-preserved : goal.loop-preserved
 loop-preserved c =
-    rw c.in_ok-push.ensures.items (one_more_placed c.args.place c.args.first c.args.entries_size c.args.bytes.now c.loop.rest.now c.in_ok-tail.behind.now c.loop.entries.items c.loop.index c.loop.offset c.in_ok-tail.tail c.loop.counter c.loop.invariant c.in_ok-tail.ensures.ends c.in_ok-tail.ensures.ok)
+    let r = read c in
+    let so = c.loop.invariant in (
+      rw c.push_reserved.ensures.items (one_more_placed c.args.place c.args.first c.args.entries_size c.args.bytes.now c.loop.rest.now c.match-short_tail.tail.1.now c.loop.entries.items c.loop.index c.loop.offset c.match-short_tail.tail.0 c.loop.counter so.0 r.1 r.0),
+      omega (arith, c.push_reserved.ensures.len, so.1),
+      omega (arith, c.push_reserved.ensures.capacity, so.2),
+      omega (arith, so.3, r.2),
+    )
 
 pub returns-clause-size : goal.returns-clause-size
-returns-clause-size c = placed_end c.args.place c.args.first c.args.entries_size c.args.bytes.now c.loop.rest.now c.loop.entries.items c.loop.index c.loop.offset c.loop.counter c.loop.invariant
-
-pub returns-clause-ok : goal.returns-clause-ok
-returns-clause-ok c =
-    let so = c.loop.invariant in
-    (so.0, all_read c.args.first c.args.entries_size c.args.count c.args.bytes.now c.loop.rest.now so.0 c.loop.index c.loop.offset so.1 (omega (arith, so.3)), so.2)
+returns-clause-size c = placed_end c.args.place c.args.first c.args.entries_size c.args.bytes.now c.loop.rest.now c.loop.entries.items c.loop.index c.loop.offset c.loop.counter c.loop.invariant.0

@@ -9,7 +9,8 @@ ghost use Rattle.raft_table.specs.Rewriting.{may_move};
 
 use crate::memtable::entries::Entries;
 use crate::memtable::entries::lists::find;
-use raft_records::{CompressionType, EntryIndex, Error, FileSeq, LogQueue, Result};
+use crate::memtable::entries::walks::{count_from, movable_from, push_parts};
+use raft_records::{EntryIndex, Error, FileSeq, LogQueue, Result};
 
 impl Entries {
     /// Appends the entries from `begin` on and below `end`, in order, to `vec`. With a limit it
@@ -100,24 +101,6 @@ impl Entries {
         self.blocks.len()
     }
 
-    /// The entry behind the first `place` ones.
-    pub(super) fn entry(&self, place: usize) -> EntryIndex
-        requires { place < length self.now }
-        ensures { result ≡ slice_index_or self.now place result }
-    {
-        let index = self.first + place as u64;
-        let (whole, at) = find(&self.starts, index);
-        let block = &self.blocks[whole];
-        let span = block.spans[at];
-        EntryIndex {
-            index,
-            entries: Some(block.handle),
-            compression_type: CompressionType::None,
-            entry_offset: span.0,
-            entry_len: span.1,
-        }
-    }
-
     /// How many entries behind the first `at`, among the first `end`, may move, up to the first
     /// that may not.
     pub(super) fn movable(&self, at: usize, end: usize, gate: Option<FileSeq>) -> usize
@@ -125,12 +108,11 @@ impl Entries {
         requires within { end ≤ length self.now }
         ensures { result ≡ prefix_len (may_move gate) (drop at (take end self.now)) }
     {
-        for i in at..end {
-            if !is_movable(&self.entry(i), gate) {
-                return i - at;
-            }
+        if at == end {
+            return 0;
         }
-        end - at
+        let place = find(&self.starts, self.first + at as u64);
+        movable_from(&self.blocks, place, at, end, gate)
     }
 
     /// How many entries behind the first `start`, among the first `end`, a limit on the total of
@@ -143,15 +125,11 @@ impl Entries {
         let Some(limit) = limit else {
             return end - start;
         };
-        let mut total = 0u128;
-        for i in start..end {
-            let sum = total + u128::from(self.entry(i).entry_len);
-            if sum > limit as u128 && total > 0 {
-                return i - start;
-            }
-            total = sum;
+        if start == end {
+            return 0;
         }
-        end - start
+        let place = find(&self.starts, self.first + start as u64);
+        count_from(&self.blocks, place, start, end, limit)
     }
 
     /// Appends the entries behind the first `start`, among the first `end`, to a vector, which
@@ -164,23 +142,10 @@ impl Entries {
         ensures memory { IfErr result (λ e. e ≡ Error.Memory) }
     {
         vec.reserve(end - start)?;
-        for i in start..end {
-            vec.push_reserved(self.entry(i));
+        if start < end {
+            let place = find(&self.starts, self.first + start as u64);
+            push_parts(vec, self.first, &self.blocks, place, start, end);
         }
         Ok(())
-    }
-}
-
-/// Whether the place of an entry may move.
-#[tactic(auto, unfolding(crate::specs::Entries::is_placed_in, crate::specs::Rewriting::is_placed_before))]
-fn is_movable(entry: &EntryIndex, gate: Option<FileSeq>) -> bool
-    ensures { result ≡ may_move gate entry.now }
-{
-    let Some(block) = entry.entries else {
-        return false;
-    };
-    match gate {
-        Some(gate) => block.id.seq <= gate,
-        None => matches!(block.id.queue, LogQueue::Rewrite),
     }
 }

@@ -10,7 +10,9 @@ ghost use Rattle.raft_table.specs.Queues.{count_in};
 
 use crate::memtable::block::Block;
 use crate::memtable::entries::Entries;
-use crate::memtable::entries::lists::{find, is_same, push_block, put_blocks};
+use crate::memtable::entries::lists::{
+    cut_at, find, is_same, push_block, put_blocks, spans_behind,
+};
 use raft_records::{EntryIndex, Error, FileBlockHandle, LogQueue, Result};
 use std::alloc::Global;
 use std::collections::VecDeque;
@@ -104,6 +106,41 @@ impl Entries {
         self.rewritten = self.rewritten.min(keep) + run.rewritten;
         run.len = 0;
         run.rewritten = 0;
+        Ok(())
+    }
+
+    /// Puts a run in place of as many entries behind the first `at`. Others stand behind those.
+    pub(super) fn put_between(&mut self, at: usize, run: Entries) -> Result<()>
+        requires run { 0 < length run }
+        requires behind { at + length run < length self.old }
+        requires sound { AreTableEntries (take at self.old ++ run ++ drop (at + length run) self.old) }
+        ensures ok { OnOk result (self.new ≡ take at self.old ++ run ++ drop (at + length run) self.old) }
+        ensures err { OnErr result (self.new ≡ self.old) }
+        ensures memory { IfErr result (λ e. e ≡ Error.Memory) }
+    {
+        let kept = self.rewritten.min(at);
+        let end = at + run.len;
+        let passed = self.rewritten.min(end);
+        let moved = kept + run.rewritten;
+        let rewritten = moved + (self.rewritten - passed);
+        let index = self.first + end as u64;
+        let (whole, part) = find(&self.starts, index);
+        let block = &self.blocks[whole];
+        let handle = block.handle;
+        let spans = spans_behind(*self.blocks.allocator(), &block.spans, part)?;
+        let place = cut_at(&self.starts, self.first, at);
+        let mut blocks = run.blocks;
+        let mut starts = run.starts;
+        push_block(&mut blocks, &mut starts, index, Block { handle, spans })?;
+        put_blocks(
+            &mut self.blocks,
+            &mut self.starts,
+            place,
+            whole + 1,
+            &mut blocks,
+            &mut starts,
+        )?;
+        self.rewritten = rewritten;
         Ok(())
     }
 }

@@ -1,6 +1,6 @@
 //! Queues of blocks and of their first indexes.
 
-ghost use Rattle.std.specs.Prelude.{◌≡◌, ◌≢◌, ◌+◌, ◌-◌, ◌≤◌, ◌<◌, ℕ, List, [], ◌∷◌, ◌++◌, length, take, drop, slice_index_or, MatchBool, OnOk, OnErr, IfErr};
+ghost use Rattle.std.specs.Prelude.{◌≡◌, ◌≢◌, ◌+◌, ◌-◌, ◌≤◌, ◌<◌, ℕ, List, [], ◌∷◌, ◌++◌, length, take, drop, slice_index_or, ◌^◌, MatchBool, OnOk, OnErr, IfOk, IfErr};
 ghost use Rattle.std.specs.List.Sorted.{IsNonDecreasingBy};
 ghost use Rattle.std.specs.VecDeque.{deque_len, deque_capacity};
 ghost use Rattle.raft_base.specs.declared.errors.Error.TheVariants.{Memory};
@@ -9,6 +9,7 @@ ghost use Rattle.raft_table.specs.BlockWords.{count, starts_of, cut_last, joined
 
 use crate::memtable::block::Block;
 use raft_records::{FileBlockHandle, Result};
+use std::alloc::Global;
 use std::collections::VecDeque;
 
 /// How many starts are at or below an index.
@@ -33,9 +34,59 @@ pub(super) fn find(starts: &VecDeque<u64>, index: u64) -> (usize, usize)
     if start <= index {
         return (last, (index - start) as usize);
     }
+    let guess = guess(starts[0], start, last, index);
+    let low = starts[guess];
+    if low <= index && index < starts[guess + 1] {
+        return (guess, (index - low) as usize);
+    }
     let whole = count_at_or_below(starts, index) - 1;
     let start = starts[whole];
     (whole, (index - start) as usize)
+}
+
+/// Behind how many of `count` blocks between two indexes one of them stands, if the blocks are of
+/// one length.
+fn guess(first: u64, end: u64, count: usize, index: u64) -> usize
+    requires above { first ≤ index }
+    requires below { index < end }
+    requires some { 0 < count }
+    ensures { result < count }
+{
+    let guess = (index - first).saturating_mul(count as u64) / (end - first);
+    (guess as usize).min(count - 1)
+}
+
+/// Behind how many blocks the first so many entries end, and behind how many of the last of those.
+/// `first` is the index of the first of all.
+pub(super) fn cut_at(starts: &VecDeque<u64>, first: u64, kept: usize) -> (usize, usize)
+    requires bounded { first + kept < 2 ^ 64 }
+    requires within { 0 < kept → IsIndexOf starts.now.items (first + (kept - 1)) }
+    ensures none { kept ≡ 0 → (result.0 ≡ 0) × (result.1 ≡ 0) }
+    ensures some { (bs : List BlockSpans) → 0 < kept → starts.now.items ≡ starts_of first bs → kept ≤ count bs
+        → IsAt (kept - 1) bs (result.0 - 1) (result.1 - 1) × (0 < result.0) × (0 < result.1) }
+{
+    if kept == 0 {
+        return (0, 0);
+    }
+    let (whole, last) = find(starts, first + (kept - 1) as u64);
+    (whole + 1, last + 1)
+}
+
+/// The spans behind the first `part`.
+pub(super) fn spans_behind(
+    alloc: Global,
+    spans: &VecDeque<(u32, u32)>,
+    part: usize,
+) -> Result<VecDeque<(u32, u32)>>
+    requires { part ≤ length spans.now.items }
+    ensures ok { IfOk result (λ behind. behind.items ≡ drop part spans.now.items) }
+    ensures memory { IfErr result (λ e. e ≡ Memory) }
+{
+    let mut behind = VecDeque::with_capacity(alloc, spans.len() - part)?;
+    for i in part..spans.len() {
+        behind.push_back_reserved(spans[i]);
+    }
+    Ok(behind)
 }
 
 /// Whether two handles are one.

@@ -129,10 +129,10 @@ impl Entries {
         if places.is_empty() {
             return Ok(());
         }
-        let alloc = *self.blocks.allocator();
-        let mut run = Vec::from_slice(alloc, places)?;
-        self.extend(&mut run, at + places.len(), self.len)?;
-        let mut run = Entries::from_run(alloc, &run)?;
+        let mut run = Entries::from_run(*self.blocks.allocator(), places)?;
+        if at + places.len() < self.len {
+            return self.put_between(at, run);
+        }
         self.put_run(at, &mut run)
     }
 }

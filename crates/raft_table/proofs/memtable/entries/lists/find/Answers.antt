@@ -11,6 +11,7 @@ use Rattle.raft_table.proofs.SoundLemmas.{CutCounts, cut_counts, sound_rising, A
 use Rattle.raft_table.proofs.BlockLemmas.{length-expanded, length-starts, rises_expanded}
 use Rattle.raft_table.proofs.BlockSearch.{at_start, index_some, index_first, index_rises, at_place, entry_at_place, place_within, found_some}
 use Rattle.raft_table.proofs.BlockCuts.{KeptFacts, kept_facts, kept_nil, kept_drop, kept_take, IsFront, front_at}
+use Rattle.std.proofs.lemmas.Bool.{cases_lt}
 use Rattle.raft_table.proofs.memtable.entries.lists.find.Goals as goal
 
 pub overflow_sub-last : goal.overflow_sub-last
@@ -54,3 +55,33 @@ returns c i bs e lo hi =
     let q : suc (k - 1) ≡ k = omega arith in
     at_start c.args.index i (k - 1) start bs c.args.starts.now.items e lo hi (omega arith) f (omega arith)
     (λ d l. subst (λ n. c.args.index < get_or c.args.starts.now.items n d) (sym q) (c.count_at_or_below-whole.ensures.above k d (omega arith) (omega arith)))
+
+pub index-requires : goal.index-requires
+index-requires c = let s = index_some c.args.starts.now.items c.args.index c.requires in omega (arith, c.args.starts.now.ok)
+
+pub guess-guess-requires-clause-above : goal.guess-guess-requires-clause-above
+guess-guess-requires-clause-above c = let a = index_first c.args.starts.now.items c.args.index c.requires c.index.result.now in let e = c.index.ensures in omega arith
+
+pub guess-guess-requires-clause-some : goal.guess-guess-requires-clause-some
+guess-guess-requires-clause-some c =
+    elim (cases_lt 0 (c.len-last.result - 1)) [
+      | inl l ↦ l
+      | inr l ↦
+          let s = c.index-start.result.now in
+          let e : s ≡ get_or c.args.starts.now.items 0 s = c.index-start.ensures ∙ ap (λ k. get_or c.args.starts.now.items k s) (let z : c.len-last.result - 1 ≡ 0 = omega arith in z) in
+          let a = index_first c.args.starts.now.items c.args.index c.requires s in
+          let f = c.if-start-index.false in
+          absurd (omega arith)
+    ]
+
+pub returns-then-index : goal.returns-then-index
+returns-then-index c i bs e lo hi =
+    let ss = c.args.starts.now.items in
+    let g = c.guess-guess.result in
+    let n = c.guess-guess.ensures in
+    let high = c.index-then-low-index.result.now in
+    at_start c.args.index i g c.index-low.result.now bs ss e lo hi (omega (arith, c.args.starts.now.ok)) c.index-low.ensures c.if-low-index.true
+    (λ d l.
+        let r : get_or ss (suc g) d ≡ high = get_or_default ss (suc g) d high l ∙ ap (λ k. get_or ss k high) (let z : suc g ≡ g + 1 = omega arith in z) ∙ sym c.index-then-low-index.ensures in
+        let t = c.if-index.true in
+        omega arith)

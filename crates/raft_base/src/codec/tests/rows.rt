@@ -1,0 +1,201 @@
+//! Numbers and their bytes, as the Rust crate writes them. The tables have the bytes of a fixed
+//! count as one number in hexadecimal, the first byte highest.
+
+use std::io::ErrorKind;
+
+/// A row for each line: what stands behind the arrow is written for what stands before it.
+macro_rules! rows {
+    ($($($number:expr),+ => $($bytes:literal)+;)+) => {
+        [$(($($number),+, $($bytes),+)),+]
+    };
+}
+
+/// A number, and what `encode_u64`, `encode_u64_desc` and `encode_u64_le` write.
+pub(super) const U64_ROWS: [(u64, u64, u64, u64); 16] = rows! {
+    0 => 0x00000000_00000000 0xffffffff_ffffffff 0x00000000_00000000;
+    1 => 0x00000000_00000001 0xffffffff_fffffffe 0x01000000_00000000;
+    2 => 0x00000000_00000002 0xffffffff_fffffffd 0x02000000_00000000;
+    10 => 0x00000000_0000000a 0xffffffff_fffffff5 0x0a000000_00000000;
+    20 => 0x00000000_00000014 0xffffffff_ffffffeb 0x14000000_00000000;
+    63 => 0x00000000_0000003f 0xffffffff_ffffffc0 0x3f000000_00000000;
+    64 => 0x00000000_00000040 0xffffffff_ffffffbf 0x40000000_00000000;
+    65 => 0x00000000_00000041 0xffffffff_ffffffbe 0x41000000_00000000;
+    127 => 0x00000000_0000007f 0xffffffff_ffffff80 0x7f000000_00000000;
+    128 => 0x00000000_00000080 0xffffffff_ffffff7f 0x80000000_00000000;
+    129 => 0x00000000_00000081 0xffffffff_ffffff7e 0x81000000_00000000;
+    255 => 0x00000000_000000ff 0xffffffff_ffffff00 0xff000000_00000000;
+    256 => 0x00000000_00000100 0xffffffff_fffffeff 0x00010000_00000000;
+    257 => 0x00000000_00000101 0xffffffff_fffffefe 0x01010000_00000000;
+    1024 => 0x00000000_00000400 0xffffffff_fffffbff 0x00040000_00000000;
+    u64::MAX => 0xffffffff_ffffffff 0x00000000_00000000 0xffffffff_ffffffff;
+};
+
+/// A number, and what `encode_i64`, `encode_i64_desc` and `encode_i64_le` write.
+pub(super) const I64_ROWS: [(i64, u64, u64, u64); 20] = rows! {
+    i64::MIN => 0x00000000_00000000 0xffffffff_ffffffff 0x00000000_00000080;
+    -1024 => 0x7fffffff_fffffc00 0x80000000_000003ff 0x00fcffff_ffffffff;
+    -1023 => 0x7fffffff_fffffc01 0x80000000_000003fe 0x01fcffff_ffffffff;
+    -1 => 0x7fffffff_ffffffff 0x80000000_00000000 0xffffffff_ffffffff;
+    0 => 0x80000000_00000000 0x7fffffff_ffffffff 0x00000000_00000000;
+    1 => 0x80000000_00000001 0x7fffffff_fffffffe 0x01000000_00000000;
+    2 => 0x80000000_00000002 0x7fffffff_fffffffd 0x02000000_00000000;
+    10 => 0x80000000_0000000a 0x7fffffff_fffffff5 0x0a000000_00000000;
+    20 => 0x80000000_00000014 0x7fffffff_ffffffeb 0x14000000_00000000;
+    63 => 0x80000000_0000003f 0x7fffffff_ffffffc0 0x3f000000_00000000;
+    64 => 0x80000000_00000040 0x7fffffff_ffffffbf 0x40000000_00000000;
+    65 => 0x80000000_00000041 0x7fffffff_ffffffbe 0x41000000_00000000;
+    127 => 0x80000000_0000007f 0x7fffffff_ffffff80 0x7f000000_00000000;
+    128 => 0x80000000_00000080 0x7fffffff_ffffff7f 0x80000000_00000000;
+    129 => 0x80000000_00000081 0x7fffffff_ffffff7e 0x81000000_00000000;
+    255 => 0x80000000_000000ff 0x7fffffff_ffffff00 0xff000000_00000000;
+    256 => 0x80000000_00000100 0x7fffffff_fffffeff 0x00010000_00000000;
+    257 => 0x80000000_00000101 0x7fffffff_fffffefe 0x01010000_00000000;
+    1024 => 0x80000000_00000400 0x7fffffff_fffffbff 0x00040000_00000000;
+    i64::MAX => 0xffffffff_ffffffff 0x00000000_00000000 0xffffffff_ffffff7f;
+};
+
+/// Two numbers, what `encode_u32` and `encode_u32_le` write of the first, and what `encode_u16`
+/// and `encode_u16_le` write of the second.
+pub(super) const SHORT_ROWS: [(u32, u16, u32, u32, u16, u16); 16] = rows! {
+    0, 0 => 0x00000000 0x00000000 0x0000 0x0000;
+    1, 1 => 0x00000001 0x01000000 0x0001 0x0100;
+    2, 2 => 0x00000002 0x02000000 0x0002 0x0200;
+    10, 10 => 0x0000000a 0x0a000000 0x000a 0x0a00;
+    20, 20 => 0x00000014 0x14000000 0x0014 0x1400;
+    63, 63 => 0x0000003f 0x3f000000 0x003f 0x3f00;
+    64, 64 => 0x00000040 0x40000000 0x0040 0x4000;
+    65, 65 => 0x00000041 0x41000000 0x0041 0x4100;
+    127, 127 => 0x0000007f 0x7f000000 0x007f 0x7f00;
+    128, 128 => 0x00000080 0x80000000 0x0080 0x8000;
+    129, 129 => 0x00000081 0x81000000 0x0081 0x8100;
+    255, 255 => 0x000000ff 0xff000000 0x00ff 0xff00;
+    256, 256 => 0x00000100 0x00010000 0x0100 0x0001;
+    257, 257 => 0x00000101 0x01010000 0x0101 0x0101;
+    1024, 1024 => 0x00000400 0x00040000 0x0400 0x0004;
+    u32::MAX, u16::MAX => 0xffffffff 0xffffffff 0xffff 0xffff;
+};
+
+/// A number, and what `encode_i32_le` writes.
+pub(super) const I32_ROWS: [(i32, u32); 20] = rows! {
+    i32::MIN => 0x00000080;
+    -1024 => 0x00fcffff;
+    -1023 => 0x01fcffff;
+    -1 => 0xffffffff;
+    0 => 0x00000000;
+    1 => 0x01000000;
+    2 => 0x02000000;
+    10 => 0x0a000000;
+    20 => 0x14000000;
+    63 => 0x3f000000;
+    64 => 0x40000000;
+    65 => 0x41000000;
+    127 => 0x7f000000;
+    128 => 0x80000000;
+    129 => 0x81000000;
+    255 => 0xff000000;
+    256 => 0x00010000;
+    257 => 0x01010000;
+    1024 => 0x00040000;
+    i32::MAX => 0xffffff7f;
+};
+
+/// A number, and what `encode_var_u64` writes.
+pub(super) const VAR_U64_ROWS: [(u64, &[u8]); 16] = rows! {
+    0 => b"\x00";
+    1 => b"\x01";
+    2 => b"\x02";
+    10 => b"\x0a";
+    20 => b"\x14";
+    63 => b"\x3f";
+    64 => b"\x40";
+    65 => b"\x41";
+    127 => b"\x7f";
+    128 => b"\x80\x01";
+    129 => b"\x81\x01";
+    255 => b"\xff\x01";
+    256 => b"\x80\x02";
+    257 => b"\x81\x02";
+    1024 => b"\x80\x08";
+    u64::MAX => b"\xff\xff\xff\xff\xff\xff\xff\xff\xff\x01";
+};
+
+/// A number, and what `encode_var_i64` writes.
+pub(super) const VAR_I64_ROWS: [(i64, &[u8]); 20] = rows! {
+    i64::MIN => b"\xff\xff\xff\xff\xff\xff\xff\xff\xff\x01";
+    -1024 => b"\xff\x0f";
+    -1023 => b"\xfd\x0f";
+    -1 => b"\x01";
+    0 => b"\x00";
+    1 => b"\x02";
+    2 => b"\x04";
+    10 => b"\x14";
+    20 => b"\x28";
+    63 => b"\x7e";
+    64 => b"\x80\x01";
+    65 => b"\x82\x01";
+    127 => b"\xfe\x01";
+    128 => b"\x80\x02";
+    129 => b"\x82\x02";
+    255 => b"\xfe\x03";
+    256 => b"\x80\x04";
+    257 => b"\x82\x04";
+    1024 => b"\x80\x10";
+    i64::MAX => b"\xfe\xff\xff\xff\xff\xff\xff\xff\xff\x01";
+};
+
+/// Bytes, what `decode_var_u64` and `decode_var_i64` read in front of them, and how many bytes are
+/// left then. Some spellings are longer than need be.
+pub(super) const VAR_FRONTS: [(&[u8], u64, i64, usize); 11] = [
+    (b"\x80\x80\x80\x00", 0, 0, 0),
+    (b"\x00", 0, 0, 0),
+    (b"\x80\x00", 0, 0, 0),
+    (b"\xff\x00", 127, -64, 0),
+    (b"\x7f", 127, -64, 0),
+    (b"\x80\x01", 128, 64, 0),
+    (b"\x80\x80\x01", 16_384, 8192, 0),
+    (
+        b"\xff\xff\xff\xff\xff\xff\xff\xff\xff\x01",
+        u64::MAX,
+        i64::MIN,
+        0,
+    ),
+    (
+        b"\xff\xff\xff\xff\xff\xff\xff\xff\xff\x00",
+        9_223_372_036_854_775_807,
+        -4_611_686_018_427_387_904,
+        0,
+    ),
+    (b"\x05\x01", 5, -3, 1),
+    (b"\x85\x01\x2a", 133, -67, 1),
+];
+
+/// Bytes in front of which there is no number, and the kind of the refusal.
+pub(super) const VAR_FAULTS: [(&[u8], ErrorKind); 9] = [
+    (b"", ErrorKind::UnexpectedEof),
+    (b"\x80", ErrorKind::UnexpectedEof),
+    (b"\x80\x80\x80", ErrorKind::UnexpectedEof),
+    (
+        b"\xff\xff\xff\xff\xff\xff\xff\xff\xff",
+        ErrorKind::UnexpectedEof,
+    ),
+    (
+        b"\x80\x80\x80\x80\x80\x80\x80\x80\x80\x80",
+        ErrorKind::InvalidData,
+    ),
+    (
+        b"\x80\x80\x80\x80\x80\x80\x80\x80\x80\x02",
+        ErrorKind::InvalidData,
+    ),
+    (
+        b"\xff\xff\xff\xff\xff\xff\xff\xff\xff\x02",
+        ErrorKind::InvalidData,
+    ),
+    (
+        b"\xff\xff\xff\xff\xff\xff\xff\xff\xff\x7f",
+        ErrorKind::InvalidData,
+    ),
+    (
+        b"\x80\x80\x80\x80\x80\x80\x80\x80\x80\x80\x01",
+        ErrorKind::InvalidData,
+    ),
+];

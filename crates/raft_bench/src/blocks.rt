@@ -1,0 +1,189 @@
+//! Times tables by how many entries each of their blocks has, and counts the bytes of what is kept.
+
+use crate::tables::{Region, append_all, found, print_each, run};
+use crate::timing::{Noise, TIMES, nanoseconds_since};
+use raft_table::{Block, EntryIndex, LogQueue};
+use std::alloc::{AllocError, Global};
+use std::io;
+use std::mem::size_of;
+use std::time::Instant;
+
+/// How many entries a region has.
+const ENTRIES: u64 = 2_048;
+
+/// How many blocks a table of many blocks has.
+const BLOCKS: u64 = 1_000;
+
+/// How many entries each of those has.
+const SPANS: u64 = 8;
+
+/// How many such tables are merged.
+const PAIRS: u64 = 200;
+
+/// How many entries are looked up.
+const LOOKUPS: u64 = 1_000_000;
+
+/// How many entries a rewriting within a table moves.
+const STEP: u64 = 64;
+
+/// Times tables of long and of short blocks.
+pub(crate) fn time(rt: &HostRuntime) -> io::Result<()> {
+    for len in [64, 8, 1] {
+        time_appends(rt, len)?;
+    }
+    time_get(rt)?;
+    time_rewrite(rt)?;
+    time_merge(rt)
+}
+
+/// Runs of `len` entries for each of so many regions in turn, each behind the last one of its region.
+fn runs_of(
+    alloc: Global,
+    regions: u64,
+    len: u64,
+) -> std::result::Result<Vec<Vec<EntryIndex>>, AllocError> {
+    let mut runs = Vec::new(alloc);
+    let mut first = 1u64;
+    for _ in 0..ENTRIES / len.max(1) {
+        for _ in 0..regions {
+            runs.push(run(alloc, first, len, LogQueue::Append, 1)?)?;
+        }
+        first = first.saturating_add(len);
+    }
+    Ok(runs)
+}
+
+/// How many bytes the room of a region's blocks, of their first indexes and of their spans has.
+fn kept_bytes(region: &Region) -> usize {
+    let blocks = region.blocks();
+    let each = size_of::<Block>() + size_of::<u64>();
+    let mut bytes = blocks.capacity().saturating_mul(each);
+    for block in blocks {
+        let spans = block.spans.capacity().saturating_mul(size_of::<(u32, u32)>());
+        bytes = bytes.saturating_add(spans);
+    }
+    bytes
+}
+
+fn time_appends(rt: &HostRuntime, len: u64) -> io::Result<()> {
+    let regions = 1_000;
+    let mut best = u64::MAX;
+    let mut bytes = 0usize;
+    for _ in 0..TIMES {
+        let mut tables = Vec::new(rt.alloc());
+        for id in 0..regions {
+            tables.push(Region::new(rt.alloc(), id))?;
+        }
+        let runs = runs_of(rt.alloc(), regions, len)?;
+        let start = Instant::now(rt)?;
+        append_all(&mut tables, runs);
+        best = best.min(nanoseconds_since(rt, &start)?);
+        bytes = 0;
+        for table in &tables {
+            bytes = bytes.saturating_add(kept_bytes(table));
+        }
+    }
+    let entries = regions * ENTRIES;
+    println!(rt; "2,048,000 entries, {len} a call, {len} a block: {} bytes an entry", bytes as u64 / entries)?;
+    print_each(rt, "append", best, "entry", entries)
+}
+
+/// A table of many blocks, from an index on.
+fn long(alloc: Global, first: u64) -> std::result::Result<Region, AllocError> {
+    let mut region = Region::new(alloc, 1);
+    let mut next = first;
+    for _ in 0..BLOCKS {
+        let run = run(alloc, next, SPANS, LogQueue::Append, 1)?;
+        if region.append(run).is_err() {
+            return Ok(region);
+        }
+        next = next.saturating_add(SPANS);
+    }
+    Ok(region)
+}
+
+fn time_get(rt: &HostRuntime) -> io::Result<()> {
+    let mut regions = Vec::new(rt.alloc());
+    regions.push(long(rt.alloc(), 1)?)?;
+    let mut noise = Noise::new();
+    let mut picks = Vec::new(rt.alloc());
+    for _ in 0..LOOKUPS {
+        picks.push((0usize, 1 + noise.next_u64() % (BLOCKS * SPANS)))?;
+    }
+    let mut best = u64::MAX;
+    let mut got = 0;
+    for _ in 0..TIMES {
+        let start = Instant::now(rt)?;
+        got = found(regions.as_slice(), picks.as_slice());
+        best = best.min(nanoseconds_since(rt, &start)?);
+    }
+    print_each(rt, "get_entry, one table of 1,000 blocks", best, "call", got)
+}
+
+/// Rewrites a table of many blocks from its first entry on, some entries a call.
+fn rewrite_by_steps(region: &mut Region, runs: Vec<Vec<EntryIndex>>) {
+    for run in runs {
+        if region.rewrite(run).is_err() {
+            return;
+        }
+    }
+}
+
+fn time_rewrite(rt: &HostRuntime) -> io::Result<()> {
+    let mut best = u64::MAX;
+    for _ in 0..TIMES {
+        let mut region = long(rt.alloc(), 1)?;
+        let mut runs = Vec::new(rt.alloc());
+        let mut first = 1u64;
+        for _ in 0..BLOCKS * SPANS / STEP {
+            runs.push(run(rt.alloc(), first, STEP, LogQueue::Rewrite, 50)?)?;
+            first = first.saturating_add(STEP);
+        }
+        let start = Instant::now(rt)?;
+        rewrite_by_steps(&mut region, runs);
+        best = best.min(nanoseconds_since(rt, &start)?);
+    }
+    print_each(
+        rt,
+        "rewrite, 64 entries a call, one table of 1,000 blocks",
+        best,
+        "entry",
+        BLOCKS * SPANS,
+    )
+}
+
+/// Tables of many blocks, from an index on.
+fn long_tables(alloc: Global, first: u64) -> std::result::Result<Vec<Region>, AllocError> {
+    let mut regions = Vec::new(alloc);
+    for _ in 0..PAIRS {
+        regions.push(long(alloc, first)?)?;
+    }
+    Ok(regions)
+}
+
+/// Merges each newer table into its older neighbor.
+fn merge_all(older: &mut Vec<Region>, newer: Vec<Region>) {
+    for (older, newer) in older.iter_mut().zip(newer) {
+        if older.merge(newer).is_err() {
+            return;
+        }
+    }
+}
+
+fn time_merge(rt: &HostRuntime) -> io::Result<()> {
+    let mut best = u64::MAX;
+    for _ in 0..TIMES {
+        let mut older = long_tables(rt.alloc(), 1)?;
+        let newer = long_tables(rt.alloc(), 1 + BLOCKS * SPANS)?;
+        let start = Instant::now(rt)?;
+        merge_all(&mut older, newer);
+        best = best.min(nanoseconds_since(rt, &start)?);
+    }
+    print_each(
+        rt,
+        "merge_newer_neighbor, two tables of 1,000 blocks",
+        best,
+        "call",
+        PAIRS,
+    )
+}

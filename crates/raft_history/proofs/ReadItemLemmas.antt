@@ -1,0 +1,30 @@
+-- Items that were read from a file are as histories ask it of a batch of that file.
+use Rattle.std.proofs.Common.{ℕ, List, [], ◌∷◌, ◌≡◌, Option, Some, None, refl, sym, subst}
+use Rattle.std.specs.List.{AllByRecursion}
+use Rattle.raft_base.specs.declared.pipe_log.FileId.{FileId}
+use Rattle.raft_records.specs.declared.entry_index.EntryIndex.{EntryIndex}
+use Rattle.raft_records.specs.declared.key_value.OpType.{OpType}
+use Rattle.raft_records.specs.declared.key_value.OpType.TheVariants.{Put, Del}
+use Rattle.raft_records.specs.Item.{Item, Content, entries, command, pair}
+use Rattle.raft_records.specs.ReadIn.{IsBlockIn, IsReadIn, AreReadIn}
+use Rattle.raft_records.specs.Spelling.{IsWritableWith}
+use Rattle.raft_table.proofs.ReadRunLemmas.{read_run}
+use Rattle.raft_history.specs.Histories.{AreBlocksIn, IsPairIn, IsInFile, AreInFile}
+
+blocks_in : (file : FileId) (es : List EntryIndex) → AllByRecursion (λ (e : EntryIndex). IsBlockIn file e.entries) es → AreBlocksIn file es
+blocks_in file [] h = tt
+blocks_in file (e ∷ es) h = (h.0, blocks_in file es h.1)
+
+pair_in : (file : FileId) (op : OpType) (value : Option (List ℕ)) → IsWritableWith op value → IsPairIn file op value (Some file)
+pair_in file Put None w = absurd w
+pair_in file Put (Some v) w = refl
+pair_in file Del value w = tt
+
+content_in_file : (file : FileId) (content : Content) → IsReadIn file content → IsInFile file content
+content_in_file file (entries es) h = (read_run file es h, blocks_in file es h.1)
+content_in_file file (command c) h = tt
+content_in_file file (pair p) h = λ plain. subst (λ (id : Option FileId). IsPairIn file p.op_type p.value id) (sym h.1) (pair_in file p.op_type p.value h.0)
+
+pub items_in_file : (file : FileId) (items : List Item) → AreReadIn file items → AreInFile file items
+items_in_file file [] h = tt
+items_in_file file (item ∷ items) h = (content_in_file file item.content h.0, items_in_file file items h.1)

@@ -1,0 +1,6 @@
+use Rattle.std.proofs.Common.{refl, sym}
+use Rattle.raft_table.proofs.BlockCuts.{kept_facts}
+use Rattle.raft_table.proofs.memtable.entries.Entries.len.Goals as goal
+
+pub returns : goal.returns
+returns c = let f = (kept_facts c.self.invariant).length in rw (← c.self.view_is) (sym f)

@@ -1,0 +1,26 @@
+use Rattle.std.proofs.Common.{ℕ, ◌≡◌, ◌+◌, ◌-◌, ◌<◌, ◌≤◌, ◌^◌, List, [], ◌∷◌, ◌++◌, length, take, drop, arith, refl, sym, ap, subst, ◌∙◌}
+use Rattle.std.proofs.lemmas.List.{nil_from_length, append-nil, length-take-le, length-drop, drop_all}
+use Rattle.std.specs.List.{prefix_len}
+use Rattle.raft_table.specs.Blocks.{shown, expanded}
+use Rattle.raft_table.specs.BlockWords.{IsAt}
+use Rattle.raft_table.specs.Rewriting.{may_move}
+use Rattle.raft_table.proofs.BlockCuts.{found, index_of, kept_facts}
+use Rattle.raft_table.proofs.memtable.entries.Entries.movable.Goals as goal
+
+pub overflow_add-self-inside : goal.overflow_add-self-inside
+overflow_add-self-inside c = let f = kept_facts c.self.invariant in let l = f.length in let h = rw (← c.self.view_is) at c.requires.within in let b = f.bounded (omega arith) in omega arith
+
+pub find-place-requires : goal.find-place-requires
+find-place-requires c = index_of c.self.invariant c.args.at refl (let l = (kept_facts c.self.invariant).length in let h = rw (← c.self.view_is) at c.requires.within in let o = c.requires.order in omega arith)
+
+pub movable_from-requires-clause-place : goal.movable_from-requires-clause-place
+movable_from-requires-clause-place c = found c.self.invariant c.find-place.ensures c.args.at refl (let l = (kept_facts c.self.invariant).length in let h = rw (← c.self.view_is) at c.requires.within in let o = c.requires.order in omega arith)
+
+pub movable_from-requires-clause-distinct : goal.movable_from-requires-clause-distinct
+movable_from-requires-clause-distinct c = c.self.invariant.distinct
+
+pub movable_from-requires-clause-within : goal.movable_from-requires-clause-within
+movable_from-requires-clause-within c = let l = (kept_facts c.self.invariant).length in let n = c.self.invariant.len in let h = rw (← c.self.view_is) at c.requires.within in omega arith
+
+pub returns : goal.returns
+returns c = rw (← c.self.view_is) (c.movable_from.ensures c.self.inside.first)

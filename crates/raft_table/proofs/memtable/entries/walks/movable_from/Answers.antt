@@ -1,0 +1,46 @@
+use Rattle.std.proofs.Common.{ℕ, suc, ◌≡◌, ◌+◌, ◌-◌, ◌*◌, ◌<◌, ◌≤◌, ◌^◌, List, [], ◌∷◌, ◌++◌, length, take, drop, get_or, arith, refl, sym, ap, subst, ◌∙◌, Some, None, Option}
+use Rattle.std.proofs.lemmas.List.{append_assoc, length-drop, length-take-le, length-take, get_or-drop}
+use Rattle.raft_records.specs.declared.entry_index.EntryIndex.{EntryIndex}
+use Rattle.raft_table.specs.Blocks.{BlockSpans, block_spans, shown, spread, expanded}
+use Rattle.raft_table.specs.BlockWords.{count, IsAt}
+use Rattle.raft_table.proofs.BlockLemmas.{length-expanded}
+use Rattle.raft_table.proofs.BlockQueues.{IsBlockAt, block_at, block_within}
+use Rattle.raft_table.proofs.BlockSearch.{entry_of}
+use Rattle.raft_table.proofs.FetchLemmas.{limit_stops, limit_more}
+use Rattle.raft_table.proofs.WalkLemmas.{IsStep, walk_step, walk_more, walk_stops, walk_goes, walk_len, walk_next_block, walk_next_span, spread_more}
+use Rattle.raft_table.proofs.memtable.entries.walks.movable_from.Goals as goal
+
+pub returns-then-not-is_movable : goal.returns-then-not-is_movable
+returns-then-not-is_movable c i =
+    let a = c.loop-done.invariant.2 c.loop-done-test.true in
+    let b = block_at c.args.blocks.now.items c.index-block.result.now a c.index-block.ensures in
+    walk_stops c.args.gate i c.args.start c.loop-done.done c.loop-done.whole c.loop-done.at c.args.end (shown c.args.blocks.now.items) (block_spans c.index-block.result.now) a b.same c.loop-done-test.true c.requires.within
+    (λ x e. sym c.if-not-is_movable.true ∙ c.is_movable.ensures x e) (c.loop-done.invariant.3 i)
+
+pub overflow_sub-len : goal.overflow_sub-len
+overflow_sub-len c =
+    let b = block_at c.args.blocks.now.items c.index-block.result.now (c.loop-done.invariant.2 c.loop-done-test.true) c.index-block.ensures in
+    let w = b.inside in omega (arith, c.index-block.result.now.spans.ok)
+
+step : (c : goal.After-min-done) → IsStep c.loop-done.done c.loop-done.whole c.loop-done.at c.min-done.result c.args.end (shown c.args.blocks.now.items) (block_spans c.index-block.result.now)
+step c =
+    let a = c.loop-done.invariant.2 c.loop-done-test.true in
+    let b = block_at c.args.blocks.now.items c.index-block.result.now a c.index-block.ensures in
+    walk_step c.loop-done.done c.loop-done.whole c.loop-done.at c.min-done.result c.args.end c.len.result (shown c.args.blocks.now.items) (block_spans c.index-block.result.now) a c.requires.distinct b.same
+    (omega (arith, c.index-block.result.now.spans.ok)) c.min-done.ensures c.loop-done-test.true c.requires.within
+
+pub loop-done-smaller : goal.loop-done-smaller
+loop-done-smaller c = let s = step c in let p = s.some in let t = c.loop-done-test.true in omega arith
+
+pub loop-done-preserved : goal.loop-done-preserved
+loop-done-preserved c =
+    let s = step c in
+    let low = c.loop-done.invariant.0 in
+    let a = c.loop-done.invariant.2 c.loop-done-test.true in
+    let b = block_at c.args.blocks.now.items c.index-block.result.now a c.index-block.ensures in (
+      omega arith,
+      s.order,
+      s.next,
+      λ i. walk_goes c.args.gate i c.args.start c.loop-done.done c.loop-done.whole c.loop-done.at c.min-done.result c.args.end (shown c.args.blocks.now.items) (block_spans c.index-block.result.now) a b.same s c.requires.within
+          (λ x e. sym c.if-not-is_movable.false ∙ c.is_movable.ensures x e) (c.loop-done.invariant.3 i),
+    )

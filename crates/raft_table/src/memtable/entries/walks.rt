@@ -1,0 +1,149 @@
+//! Walks over entries in order, block by block.
+
+ghost use Rattle.std.specs.Prelude.{◌≡◌, ◌+◌, ◌-◌, ◌≤◌, ◌<◌, ◌^◌, ◌++◌, ℕ, List, take, drop, slice_index_or, length, Some};
+ghost use Rattle.std.specs.List.{prefix_len};
+ghost use Rattle.std.specs.Vec.{vec_len, vec_capacity};
+ghost use Rattle.raft_records.specs.declared.entry_index.EntryIndex.{EntryIndex};
+ghost use Rattle.raft_table.specs.Blocks.{BlockSpans, block_spans, shown, spread, expanded, AreDistinctBlocks};
+ghost use Rattle.raft_table.specs.BlockWords.{count, IsAt};
+ghost use Rattle.raft_table.specs.Fetches.{IsLimitCount};
+ghost use Rattle.raft_table.specs.Rewriting.{may_move};
+
+use crate::memtable::block::Block;
+use raft_records::{CompressionType, EntryIndex, FileBlockHandle, FileSeq, LogQueue};
+use std::collections::VecDeque;
+
+/// Appends the entries behind the first `start`, among the first `end`, to a vector with room for
+/// them. The first of them stands at `place`, the first of all blocks has the index `first`.
+pub(super) fn push_parts(
+    vec: &mut Vec<EntryIndex>,
+    first: u64,
+    blocks: &VecDeque<Block>,
+    place: (usize, usize),
+    start: usize,
+    end: usize,
+)
+    requires place { IsAt start (shown blocks.now.items) place.0 place.1 }
+    requires distinct { AreDistinctBlocks (shown blocks.now.items) }
+    requires order { start ≤ end }
+    requires within { end ≤ count (shown blocks.now.items) }
+    requires bounded { first + end < 2 ^ 64 }
+    requires room { vec_len vec.old + (end - start) ≤ vec_capacity vec.old }
+    ensures { vec.new.items ≡ vec.old.items ++ drop start (take end (expanded first (shown blocks.now.items))) }
+{
+    let (mut whole, mut at) = place;
+    let mut done = start;
+    while done < end {
+        let block = &blocks[whole];
+        let count = (block.spans.len() - at).min(end - done);
+        push_part(vec, first + done as u64, block, at, count);
+        done += count;
+        whole += 1;
+        at = 0;
+    }
+}
+
+/// Appends so many entries of a block, behind the first `at`, to a vector with room for them. The
+/// first of them has the index `first`.
+fn push_part(vec: &mut Vec<EntryIndex>, first: u64, block: &Block, at: usize, count: usize)
+    requires within { at + count ≤ length block.now.spans.items }
+    requires bounded { first + count < 2 ^ 64 }
+    requires room { vec_len vec.old + count ≤ vec_capacity vec.old }
+    ensures items { vec.new.items ≡ vec.old.items ++ spread first block.now.handle (take count (drop at block.now.spans.items)) }
+    ensures len { vec_len vec.new ≡ vec_len vec.old + count }
+    ensures capacity { vec_capacity vec.new ≡ vec_capacity vec.old }
+{
+    for i in 0..count {
+        let span = block.spans[at + i];
+        vec.push_reserved(EntryIndex {
+            index: first + i as u64,
+            entries: Some(block.handle),
+            compression_type: CompressionType::None,
+            entry_offset: span.0,
+            entry_len: span.1,
+        });
+    }
+}
+
+/// How many entries behind the first `start`, among the first `end`, may move, up to the first that
+/// may not. The first of them stands at `place`.
+pub(super) fn movable_from(
+    blocks: &VecDeque<Block>,
+    place: (usize, usize),
+    start: usize,
+    end: usize,
+    gate: Option<FileSeq>,
+) -> usize
+    requires place { IsAt start (shown blocks.now.items) place.0 place.1 }
+    requires distinct { AreDistinctBlocks (shown blocks.now.items) }
+    requires order { start ≤ end }
+    requires within { end ≤ count (shown blocks.now.items) }
+    ensures { (i : ℕ) → result ≡ prefix_len (may_move gate) (drop start (take end (expanded i (shown blocks.now.items)))) }
+{
+    let (mut whole, mut at) = place;
+    let mut done = start;
+    while done < end {
+        let block = &blocks[whole];
+        if !is_movable(&block.handle, gate) {
+            return done - start;
+        }
+        done += (block.spans.len() - at).min(end - done);
+        whole += 1;
+        at = 0;
+    }
+    end - start
+}
+
+/// Whether the entries of a block of a file may move.
+#[tactic(auto, unfolding(crate::specs::Entries::is_placed_in, crate::specs::Rewriting::is_placed_before))]
+fn is_movable(handle: &FileBlockHandle, gate: Option<FileSeq>) -> bool
+    ensures { (e : EntryIndex) → e.entries ≡ Some handle.now → result ≡ may_move gate e }
+{
+    match gate {
+        Some(gate) => handle.id.seq <= gate,
+        None => matches!(handle.id.queue, LogQueue::Rewrite),
+    }
+}
+
+/// How many entries behind the first `start`, among the first `end`, a limit on the total of their
+/// lengths lets through. The first of them stands at `place`.
+pub(super) fn count_from(
+    blocks: &VecDeque<Block>,
+    place: (usize, usize),
+    start: usize,
+    end: usize,
+    limit: usize,
+) -> usize
+    requires place { IsAt start (shown blocks.now.items) place.0 place.1 }
+    requires distinct { AreDistinctBlocks (shown blocks.now.items) }
+    requires order { start ≤ end }
+    requires within { end ≤ count (shown blocks.now.items) }
+    ensures { (i : ℕ) → IsLimitCount (Some limit) (drop start (take end (expanded i (shown blocks.now.items)))) result }
+{
+    let mut place = place;
+    let mut total = 0u128;
+    for i in start..end {
+        let block = &blocks[place.0];
+        let sum = total + u128::from(block.spans[place.1].1);
+        if sum > limit as u128 && total > 0 {
+            return i - start;
+        }
+        total = sum;
+        place = next(block, place);
+    }
+    end - start
+}
+
+/// The place of the next entry: behind the last one in its block, or first in the next block.
+fn next(block: &Block, place: (usize, usize)) -> (usize, usize)
+    requires within { place.0 + 1 < 2 ^ 64 }
+    requires inside { place.1 < length block.now.spans.items }
+    ensures { (p : ℕ) (bs : List BlockSpans) → IsAt p bs place.0 place.1 → AreDistinctBlocks bs
+        → block_spans block.now ≡ slice_index_or bs place.0 (block_spans block.now) → p + 1 < count bs → IsAt (p + 1) bs result.0 result.1 }
+{
+    let (whole, at) = place;
+    if at + 1 < block.spans.len() {
+        return (whole, at + 1);
+    }
+    (whole + 1, 0)
+}

@@ -1,5 +1,5 @@
 -- Recovery contexts and the histories that they stand for.
-use Rattle.std.proofs.Common.{cond, ◌≡◌, ℕ, List, [], ◌∷◌, ◌++◌, Result, Ok, Err, refl, sym, ap, subst, ◌∙◌, inl, inr, arith}
+use Rattle.std.proofs.Common.{◌≡◌, ℕ, List, [], ◌∷◌, ◌++◌, Result, Ok, Err, refl, sym, ap, subst, ◌∙◌, inl, inr, arith}
 use Rattle.std.specs.Prelude.{IfOk, IfErr, OnOk}
 use Rattle.raft_base.specs.declared.pipe_log.LogQueue.{LogQueue}
 use Rattle.raft_history.specs.Batches.{Event, batches}
@@ -10,15 +10,9 @@ use Rattle.raft_history.proofs.NewLaws.{new_exact}
 use Rattle.raft_history.proofs.SoundLemmas.{follow_files}
 use Rattle.raft_history.proofs.StretchOfHistory.{size-append, of_front, of_back}
 use Rattle.raft_history.proofs.TakenLaws.{IsNext, taken_stands, taken_exact, taken_none, next_sound}
-use Rattle.raft_table.specs.Overlay.{overlaid_table}
-use Rattle.raft_history.specs.Effects.{is_named, steps_of}
-use Rattle.raft_history.specs.Joins.{AreOverlaid}
 use Rattle.raft_history.specs.Kept.{kept_of, kept_by, IsAtMost}
 use Rattle.raft_history.specs.RegionSteps.{Tables}
 use Rattle.raft_history.proofs.KeptLaws.{kept_at_most}
-use Rattle.raft_history.proofs.RegionLaws.{overlay_by_steps}
-use Rattle.raft_base.specs.declared.pipe_log.LogQueue.TheVariants.{Append}
-use Rattle.std.specs.FinMap as finite
 use Rattle.raft_memtable.specs.ReadStates.{IsRead}
 use Rattle.raft_memtable.specs.RecoverContext.{RecoverContext, IsReading, IsReadingExactly, MayFollow, IsTakenIn, IsReplayRefused, AreNeighbours, IsMergedWith, IsMergeRefused}
 use Rattle.raft_memtable.specs.declared.stage.Stage.TheVariants.{Reading}
@@ -104,12 +98,6 @@ merge_unsound q c d h g small o a b (inr (inr (inr (inr full)))) sound = absurd 
 
 pub one_reading : (q : LogQueue) (c : RecoverContext) (h : List Event) → IsReadingExactly c h → Suits q c.context.files → IsOneReading q h c.context.regions.tables c.context.cleaned
 one_reading q c h r u = record { tables_read = exact_reading q c.context.regions (batches h) (r.exact.regions q u); regions_cleaned = (r.exact.stands.stands q u).cleaned }
-
--- ---- the append queue over the rewrite queue
-
-pub overlay_steps : (append : RecoverContext) (old new : Tables) (h : List Event) (r : ℕ) → AreOverlaid append.context.regions old new → Suits Append append.context.files → IsReading append h
-    → finite.get new r ≡ cond (is_named r (batches h)) (overlaid_table r (steps_of r (batches h)) (finite.get append.context.regions.tables r) (finite.get old r)) (finite.get old r)
-overlay_steps append old new h r o u read = o r ∙ overlay_by_steps r append.context.regions (batches h) (finite.get old r) ((read.stands.stands Append u).append refl)
 
 -- ---- numbers
 

@@ -1,12 +1,9 @@
 -- A recovery context: what it holds of the batches that it has read, and whether it reads on.
 use Rattle.std.specs.Prelude.{◌≡◌, ◌≢◌, ◌⊎◌, ◌+◌, ◌≤◌, ◌^◌, true, List, [], ◌∷◌, ℕ, Some, None}
-use Rattle.std.specs.FinMap as finite
 use Rattle.raft_base.specs.declared.pipe_log.LogQueue.{LogQueue}
-use Rattle.raft_base.specs.declared.pipe_log.LogQueue.TheVariants.{Append, Rewrite}
 use Rattle.raft_history.specs.Batches.{Event}
 use Rattle.raft_history.specs.Contexts.{Context, new_context, Suits, files_of, follows, StandsFor, IsExactFor, taken_in, merged_with, AreMerged, AreRegionsRefused}
 use Rattle.raft_history.specs.Histories.{AreInFile, HaveStatus, records_in}
-use Rattle.raft_history.specs.Joins.{AreOverlaid}
 use Rattle.raft_history.specs.Records.{all_records, waiting_records}
 use Rattle.raft_history.specs.RegionSteps.{steps_of_items}
 use Rattle.raft_memtable.specs.declared.stage.Stage.{Stage}
@@ -97,28 +94,3 @@ AreNotMerged queue c d = (AreNeighbours queue c d → ⊥) ⊎ IsNeighbourRefuse
 -- or one of the two doesn't read on
 abbrev pub IsMergeRefused : LogQueue → RecoverContext → RecoverContext → Type 0
 IsMergeRefused queue c d = (c.stage ≢ Reading) ⊎ ((d.stage ≢ Reading) ⊎ AreNotMerged queue c.context d.context)
-
--- ---- the append queue over the rewrite queue
-
--- a context of the rewrite queue, and one of the append queue; a context without a batch is either
-pub record AreBothQueues (c d : Context) : Type 0 where
-  pub rewritten : Suits Rewrite c.files
-  pub appended : Suits Append d.files
-
--- the append queue's context was put over that of the rewrite queue: each region's table, none of the groups that waited, and the append queue's cleaned regions
-pub record IsOverlaidBy (append old new : RecoverContext) : Type 0 where
-  pub older_before : old.stage ≡ Reading
-  pub newer_before : append.stage ≡ Reading
-  pub queues : AreBothQueues old.context append.context
-  pub tables : AreOverlaid append.context.regions old.context.regions.tables new.context.regions.tables
-  pub groups : new.context.groups ≡ finite.empty
-  pub cleaned : new.context.cleaned ≡ append.context.cleaned
-  pub after : new.stage ≡ Overlaid
-
--- why it isn't, want of memory aside: they are of other queues, or the records would be 2^64 or more
-abbrev pub AreNotOverlaid : Context → Context → Type 0
-AreNotOverlaid c d = (AreBothQueues c d → ⊥) ⊎ (2 ^ 64 ≤ records_held c + records_held d)
-
--- or one of the two doesn't read on
-abbrev pub IsOverlayRefused : RecoverContext → RecoverContext → Type 0
-IsOverlayRefused c d = (c.stage ≢ Reading) ⊎ ((d.stage ≢ Reading) ⊎ AreNotOverlaid c.context d.context)

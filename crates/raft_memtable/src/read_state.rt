@@ -1,12 +1,10 @@
 //! What was read of a queue's batches.
 
 ghost use Rattle.std.specs.Prelude.{◌≡◌, ◌≢◌, ◌⊎◌, ◌+◌, ◌≤◌, ◌^◌, ℕ, [], ◌∷◌, OnOk, OnErr, IfOk, IfErr, Some, None, map};
-ghost use Rattle.std.specs.FinMap as finite;
 ghost use Rattle.std.specs.List.{AllByRecursion};
 ghost use Rattle.std.specs.Option.{option_map};
 ghost use Rattle.raft_base.specs.declared.pipe_log.LogQueue.TheVariants.{Append, Rewrite};
 ghost use Rattle.raft_history.specs.Contexts.{new_context, taken_in, merged_with, AreMerged, region_steps_or};
-ghost use Rattle.raft_history.specs.Joins.{AreOverlaid};
 ghost use Rattle.raft_history.specs.Kept.{kept_of};
 ghost use Rattle.raft_history.specs.MarkedRegions.{regions_after, region_steps_of_wholes};
 ghost use Rattle.raft_history.specs.Records.{records_or, records_in_wholes};
@@ -15,7 +13,7 @@ ghost use Rattle.raft_memtable.specs.BatchChecks.{marker_found};
 ghost use Rattle.raft_memtable.specs.KeptShown.{kept_shown};
 ghost use Rattle.raft_memtable.specs.MarkedTables.{regions_in, HaveRoom};
 ghost use Rattle.raft_memtable.specs.ReadStates.{context_in, IsRead, TakesEffect, MayTakeEffect};
-ghost use Rattle.raft_memtable.specs.RecoverContext.{MayFollow, IsBatchRefused, IsStepRefused, AreNeighbours, AreNotMerged, IsNeighbourRefused, AreBothQueues, AreNotOverlaid};
+ghost use Rattle.raft_memtable.specs.RecoverContext.{MayFollow, IsBatchRefused, IsStepRefused, AreNeighbours, AreNotMerged, IsNeighbourRefused};
 ghost use Rattle.raft_memtable.specs.ReplayMachine.{event};
 ghost use Rattle.raft_memtable.specs.WaitingShown.{whole_shown};
 
@@ -131,37 +129,6 @@ impl ReadState {
     {
         self.check_neighbour(&newer, queue)?;
         self.join(newer, queue)
-    }
-
-    /// Puts what was read of the append queue over this, which was read of the rewrite queue.
-    pub(crate) fn overlay(&mut self, append: ReadState) -> Result<()>
-        requires { IsRead (context_in append) }
-        ensures queues { OnOk result (AreBothQueues (context_in self.old) (context_in append)) }
-        ensures tables { OnOk result (AreOverlaid (context_in append).regions (context_in self.old).regions.tables (context_in self.new).regions.tables) }
-        ensures groups { OnOk result ((context_in self.new).groups ≡ finite.empty) }
-        ensures cleaned { OnOk result ((context_in self.new).cleaned ≡ (context_in append).cleaned) }
-        ensures refused { IfErr result (λ e. e ≢ Error.Memory → AreNotOverlaid (context_in self.old) (context_in append)) }
-    {
-        self.check_queues(&append)?;
-        let ReadState { regions, .. } = append;
-        self.regions.overlay(regions)?;
-        self.groups = WaitingGroups::new(self.alloc);
-        Ok(())
-    }
-
-    /// Whether this was read of the rewrite queue and `append` of the append queue.
-    fn check_queues(&self, append: &ReadState) -> Result<()>
-        ensures ok { OnOk result (AreBothQueues (context_in self.now) (context_in append.now)) }
-        ensures refused { IfErr result (λ e. e ≢ Error.Memory → AreBothQueues (context_in self.now) (context_in append.now) → ⊥) }
-    {
-        if !FileRange::suits(self.files, LogQueue::Rewrite)
-            || !FileRange::suits(append.files, LogQueue::Append)
-        {
-            return Err(Error::InvalidArgument(format!(in self.alloc;
-                "a context of the other queue"
-            )?));
-        }
-        Ok(())
     }
 
     /// How much it is.

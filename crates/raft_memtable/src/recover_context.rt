@@ -1,19 +1,16 @@
 //! Contexts, which rebuild the tables of all regions from the batches of a queue.
 
-ghost use Rattle.std.specs.Prelude.{ℕ, ◌≡◌, ◌≢◌, ◌⊎◌, [], ◌∷◌, ◌++◌, List, IsOk, IfOk, IfErr, OnOk, OnErr, if◌then◌else◌};
-ghost use Rattle.std.specs.FinMap as finite;
+ghost use Rattle.std.specs.Prelude.{ℕ, ◌≡◌, ◌≢◌, ◌⊎◌, [], ◌∷◌, ◌++◌, List, IsOk, IfOk, IfErr, OnOk, OnErr};
 ghost use Rattle.raft_base.specs.declared.errors.Error.{Error};
 ghost use Rattle.raft_base.specs.declared.pipe_log.LogQueue.{LogQueue};
-ghost use Rattle.raft_history.specs.Batches.{Event, batches};
+ghost use Rattle.raft_history.specs.Batches.{Event};
 ghost use Rattle.raft_history.specs.Contexts.{Suits};
-ghost use Rattle.raft_history.specs.Effects.{is_named, steps_of};
 ghost use Rattle.raft_history.specs.Histories.{IsOneReading};
 ghost use Rattle.raft_history.specs.Kept.{kept_of, kept_by, IsAtMost};
 ghost use Rattle.raft_history.specs.RegionSteps.{Tables};
-ghost use Rattle.raft_table.specs.Overlay.{overlaid_table};
 ghost use Rattle.raft_memtable.specs.Accessor.{AreCountsOf};
 ghost use Rattle.raft_memtable.specs.KeptShown.{kept_shown, IsKeptFault};
-ghost use Rattle.raft_memtable.specs.RecoverContext.{blank_context, IsReading, IsReadingExactly, IsTakenIn, IsReplayRefused, IsMergedWith, IsMergeRefused, IsOverlaidBy, IsOverlayRefused, refused_stage};
+ghost use Rattle.raft_memtable.specs.RecoverContext.{blank_context, IsReading, IsReadingExactly, IsTakenIn, IsReplayRefused, IsMergedWith, IsMergeRefused, refused_stage};
 ghost use Rattle.raft_memtable.specs.ReplayMachine.{event};
 ghost use Rattle.raft_memtable.specs.declared.stage.Stage.TheVariants.{Reading, Overlaid, Failed};
 
@@ -119,48 +116,6 @@ impl MemTableRecoverContext {
         }
         match self.state.merge(state, queue) {
             Ok(()) => Ok(()),
-            Err(e) => {
-                self.stage = Stage::Failed;
-                Err(e)
-            }
-        }
-    }
-
-    /// Puts a context of the append queue over this one of the rewrite queue: each region that the
-    /// append queue names gets the overlay of its entries and keys, the others keep their rewritten
-    /// tables, and the regions that were cleaned are those of the append queue. Groups that wait are
-    /// dropped. Afterwards the context doesn't read on: `finish` and `kept` are served, and any other
-    /// call answers `Failed` and changes nothing.
-    ///
-    /// # Errors
-    ///
-    /// `Failed` where the context doesn't read on, and then it stays as it is. After any other refusal
-    /// it is failed. `Failed` also where `append` doesn't read on; `InvalidArgument` where either is of
-    /// the other's queue; `Full` where more than 2^64 - 1 records would be live; `Memory`.
-    pub fn merge_append_context(&mut self, append: MemTableRecoverContext) -> Result<()>
-        ensures ok { OnOk result (IsOverlaidBy append self.old self.new) }
-        ensures by_steps { (h : List Event) (r : ℕ) → IsReading append h
-            → OnOk result (finite.get self.new.context.regions.tables r
-                ≡ (if is_named r (batches h) then overlaid_table r (steps_of r (batches h)) (finite.get append.context.regions.tables r) (finite.get self.old.context.regions.tables r)
-                    else finite.get self.old.context.regions.tables r)) }
-        ensures refused { IfErr result (λ e. e ≢ Error.Memory → IsOverlayRefused self.old append) }
-        ensures err { OnErr result (self.new.stage ≡ refused_stage self.old.stage) }
-        ensures unchanged { self.old.stage ≢ Reading → self.new ≡ self.old }
-        ensures failed { self.old.stage ≢ Reading → IfErr result (λ e. e ≡ Error.Failed) }
-    {
-        if self.stage != Stage::Reading {
-            return Err(Error::Failed);
-        }
-        let MemTableRecoverContext { state, stage } = append;
-        if stage != Stage::Reading {
-            self.stage = Stage::Failed;
-            return Err(Error::Failed);
-        }
-        match self.state.overlay(state) {
-            Ok(()) => {
-                self.stage = Stage::Overlaid;
-                Ok(())
-            }
             Err(e) => {
                 self.stage = Stage::Failed;
                 Err(e)

@@ -1,6 +1,6 @@
 -- Recovery contexts and the histories that they stand for.
-use Rattle.std.proofs.Common.{◌≡◌, List, [], ◌∷◌, ◌++◌, Result, Ok, Err, refl, sym, ap, subst, ◌∙◌, inl, inr, arith}
-use Rattle.std.specs.Prelude.{IfErr, OnOk}
+use Rattle.std.proofs.Common.{◌≡◌, ℕ, List, [], ◌∷◌, ◌++◌, Result, Ok, Err, refl, sym, ap, subst, ◌∙◌, inl, inr, arith}
+use Rattle.std.specs.Prelude.{IfOk, IfErr, OnOk}
 use Rattle.raft_base.specs.declared.pipe_log.LogQueue.{LogQueue}
 use Rattle.raft_history.specs.Batches.{Event, batches}
 use Rattle.raft_history.specs.Contexts.{Context, new_context, Suits, files_of, follows, StandsFor, IsExactFor}
@@ -10,6 +10,9 @@ use Rattle.raft_history.proofs.NewLaws.{new_exact}
 use Rattle.raft_history.proofs.SoundLemmas.{follow_files}
 use Rattle.raft_history.proofs.StretchOfHistory.{size-append, of_front, of_back}
 use Rattle.raft_history.proofs.TakenLaws.{IsNext, taken_stands, taken_exact, taken_none, next_sound}
+use Rattle.raft_history.specs.Kept.{kept_of, kept_by, IsAtMost}
+use Rattle.raft_history.specs.RegionSteps.{Tables}
+use Rattle.raft_history.proofs.KeptLaws.{kept_at_most}
 use Rattle.raft_memtable.specs.ReadStates.{IsRead}
 use Rattle.raft_memtable.specs.RecoverContext.{RecoverContext, IsReading, IsReadingExactly, MayFollow, IsTakenIn, IsReplayRefused, AreNeighbours, IsMergedWith, IsMergeRefused}
 use Rattle.raft_memtable.specs.declared.stage.Stage.TheVariants.{Reading}
@@ -23,6 +26,10 @@ on_ok (Err e) f p = p
 pub on_err : {X E : Type 0} {P Q : E → Type 0} (r : Result X E) → ((e : E) → P e → Q e) → IfErr r P → IfErr r Q
 on_err (Ok x) f p = p
 on_err (Err e) f p = f e p
+
+pub if_ok : {X E : Type 0} {P Q : X → Type 0} (r : Result X E) → ((x : X) → P x → Q x) → IfOk r P → IfOk r Q
+if_ok (Ok x) f p = f x p
+if_ok (Err e) f p = p
 
 -- ---- a new context
 
@@ -91,3 +98,8 @@ merge_unsound q c d h g small o a b (inr (inr (inr (inr full)))) sound = absurd 
 
 pub one_reading : (q : LogQueue) (c : RecoverContext) (h : List Event) → IsReadingExactly c h → Suits q c.context.files → IsOneReading q h c.context.regions.tables c.context.cleaned
 one_reading q c h r u = record { tables_read = exact_reading q c.context.regions (batches h) (r.exact.regions q u); regions_cleaned = (r.exact.stands.stands q u).cleaned }
+
+-- ---- numbers
+
+pub keeps_little : (q : LogQueue) (c : RecoverContext) (h : List Event) (tables : Tables) (cleaned : List ℕ) → IsReadingExactly c h → Suits q c.context.files → IsOneReading q h tables cleaned → IsAtMost (kept_of c.context) (kept_by q h tables)
+keeps_little q c h tables cleaned r u one = kept_at_most q c.context h tables cleaned r.exact u one

@@ -27,3 +27,4 @@ pub mod RecoverContext
 pub mod RecoverContextCode
 pub mod RecoverContextView
 pub mod BatchChecks
+pub mod KeptShown

@@ -10,5 +10,5 @@ abbrev pub recover_context_shown : Inside → RecoverContext
 recover_context_shown a = record { stage = a.stage; context = context_in a.state }
 
 -- as long as it reads on, it holds what some history gives
-pub record IsKept (a : Inside) : Type 0 where
+pub record IsContextKept (a : Inside) : Type 0 where
   pub read : a.stage ≡ Reading → IsRead (context_in a.state)

@@ -5,6 +5,7 @@ pub mod accessor;
 mod batch_check;
 mod file_range;
 pub mod item_writes;
+pub mod kept;
 mod marked_tables;
 mod read_state;
 pub mod reading;
@@ -21,6 +22,7 @@ pub mod waiting_groups;
 pub mod waiting_items;
 
 pub use accessor::{MemTableAccessor, slot_of};
+pub use kept::Kept;
 pub use raft_table::{
     Block, EntryIndex, Error, FileBlockHandle, FileId, FileSeq, GlobalStats, LogQueue, MemTable,
     Result, TableChange, global_stats, is_run, memtable,

@@ -5,10 +5,12 @@ ghost use Rattle.std.specs.List.{AllByRecursion};
 ghost use Rattle.std.specs.Option.{option_map};
 ghost use Rattle.raft_base.specs.declared.pipe_log.LogQueue.TheVariants.{Append, Rewrite};
 ghost use Rattle.raft_history.specs.Contexts.{new_context, taken_in, merged_with, AreMerged, region_steps_or};
+ghost use Rattle.raft_history.specs.Kept.{kept_of};
 ghost use Rattle.raft_history.specs.MarkedRegions.{regions_after, region_steps_of_wholes};
 ghost use Rattle.raft_history.specs.Records.{records_or, records_in_wholes};
 ghost use Rattle.raft_memtable.specs.Accessor.{live_in_all};
 ghost use Rattle.raft_memtable.specs.BatchChecks.{marker_found};
+ghost use Rattle.raft_memtable.specs.KeptShown.{kept_shown};
 ghost use Rattle.raft_memtable.specs.MarkedTables.{regions_in, HaveRoom};
 ghost use Rattle.raft_memtable.specs.ReadStates.{context_in, IsRead, TakesEffect, MayTakeEffect};
 ghost use Rattle.raft_memtable.specs.RecoverContext.{MayFollow, IsBatchRefused, IsStepRefused, AreNeighbours, AreNotMerged, IsNeighbourRefused};
@@ -17,6 +19,7 @@ ghost use Rattle.raft_memtable.specs.WaitingShown.{whole_shown};
 
 use crate::batch_check::check_batch;
 use crate::file_range::FileRange;
+use crate::kept::Kept;
 use crate::marked_tables::MarkedTables;
 use crate::waiting_group::WholeGroup;
 use crate::waiting_groups::WaitingGroups;
@@ -126,6 +129,22 @@ impl ReadState {
     {
         self.check_neighbour(&newer, queue)?;
         self.join(newer, queue)
+    }
+
+    /// How much it is.
+    pub(crate) fn kept(&self) -> Result<Kept>
+        ensures ok { IfOk result (λ kept. kept_shown kept ≡ kept_of (context_in self.now)) }
+        ensures memory { IfErr result (λ e. e ≡ Error.Memory) }
+    {
+        let MarkedTables { accessor, marks } = &self.regions;
+        Ok(Kept {
+            entries: accessor.entries_count()?,
+            keys: accessor.key_count()?,
+            marks: marks.len() as u128 + self.groups.len() as u128,
+            deleted_keys: marks.deleted_keys(),
+            cleaned: accessor.cleaned_regions().len() as u128,
+            waiting_items: self.groups.waiting_items(),
+        })
     }
 
     /// Whether what was read of newer batches may be taken in.

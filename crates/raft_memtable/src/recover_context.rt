@@ -1,17 +1,21 @@
 //! Contexts, which rebuild the tables of all regions from the batches of a queue.
 
-ghost use Rattle.std.specs.Prelude.{◌≡◌, ◌≢◌, ◌⊎◌, [], ◌∷◌, ◌++◌, List, IsOk, IfOk, IfErr, OnOk, OnErr};
+ghost use Rattle.std.specs.Prelude.{ℕ, ◌≡◌, ◌≢◌, ◌⊎◌, [], ◌∷◌, ◌++◌, List, IsOk, IfOk, IfErr, OnOk, OnErr};
 ghost use Rattle.raft_base.specs.declared.errors.Error.{Error};
 ghost use Rattle.raft_base.specs.declared.pipe_log.LogQueue.{LogQueue};
 ghost use Rattle.raft_history.specs.Batches.{Event};
 ghost use Rattle.raft_history.specs.Contexts.{Suits};
 ghost use Rattle.raft_history.specs.Histories.{IsOneReading};
+ghost use Rattle.raft_history.specs.Kept.{kept_of, kept_by, IsAtMost};
+ghost use Rattle.raft_history.specs.RegionSteps.{Tables};
 ghost use Rattle.raft_memtable.specs.Accessor.{AreCountsOf};
+ghost use Rattle.raft_memtable.specs.KeptShown.{kept_shown, IsKeptFault};
 ghost use Rattle.raft_memtable.specs.RecoverContext.{blank_context, IsReading, IsReadingExactly, IsTakenIn, IsReplayRefused, IsMergedWith, IsMergeRefused, refused_stage};
 ghost use Rattle.raft_memtable.specs.ReplayMachine.{event};
 ghost use Rattle.raft_memtable.specs.declared.stage.Stage.TheVariants.{Reading, Overlaid, Failed};
 
 use crate::accessor::MemTableAccessor;
+use crate::kept::Kept;
 use crate::read_state::ReadState;
 use crate::replay_machine::ReplayMachine;
 use crate::stage::Stage;
@@ -36,11 +40,11 @@ impl Model for MemTableRecoverContext {
 
     ghost coded = { recover_context_code };
 
-    ghost use Rattle.raft_memtable.specs.RecoverContextView.{recover_context_shown, IsKept};
+    ghost use Rattle.raft_memtable.specs.RecoverContextView.{recover_context_shown, IsContextKept};
 
     ghost view = { recover_context_shown };
 
-    ghost invariant = { IsKept };
+    ghost invariant = { IsContextKept };
 }
 
 impl MemTableRecoverContext {
@@ -117,6 +121,25 @@ impl MemTableRecoverContext {
                 Err(e)
             }
         }
+    }
+
+    /// How much the context holds. Where it stands for a history exactly, that is no more than one
+    /// reading of the history has, its groups that are not whole, and the keys that it deletes.
+    ///
+    /// # Errors
+    ///
+    /// `Failed` after a refusal, `Memory`.
+    pub fn kept(&self) -> Result<Kept>
+        ensures ok { IfOk result (λ kept. kept_shown kept ≡ kept_of self.now.context) }
+        ensures little { (queue : LogQueue) (h : List Event) (tables : Tables) (cleaned : List ℕ) → IsReadingExactly self.now h
+            → Suits queue self.now.context.files → IsOneReading queue h tables cleaned
+            → IfOk result (λ kept. IsAtMost (kept_shown kept) (kept_by queue h tables)) }
+        ensures fault { IfErr result (IsKeptFault self.now.stage) }
+    {
+        if self.stage == Stage::Failed {
+            return Err(Error::Failed);
+        }
+        self.state.kept()
     }
 
     /// The tables of all regions, with their counts and the regions that were cleaned.

@@ -33,8 +33,7 @@ returns-then-not-is_block_in c =
 pub loop-entry-preserved : goal.loop-entry-preserved
 loop-entry-preserved c =
     let e = c.loop-entry.invariant.0 in
-    let next = next_at c.args.entries.now c.loop-entry.entry-index _ c.loop-entry-test.true in
-    (
+    let next = next_at c.args.entries.now c.loop-entry.entry-index _ c.loop-entry-test.true in (
       omega arith,
       rising_more (start_of c.args.entries.now) c.loop-entry.entry-index c.args.entries.now _ c.loop-entry-test.true c.loop-entry.invariant.1 (c.if-entry-next.false ∙ e),
       placed_more c.args.file.queue c.loop-entry.entry-index c.args.entries.now _ c.loop-entry-test.true c.loop-entry.invariant.2 (block_placed c.args.file _ c.if-not-is_block_in.ensures),
@@ -45,6 +44,7 @@ loop-entry-preserved c =
 pub returns : goal.returns
 returns c =
     let e = c.loop-entry.auto in
-    let none = none_left c.args.entries.now c.loop-entry.entry-index c.loop-entry-test.false in
-    (all_run c.args.file.queue c.loop-entry.entry-index c.loop-entry.next c.args.entries.now (omega arith) (omega arith) c.in-Some.ensures.item.3.0 c.loop-entry.invariant.0 (omega arith) c.loop-entry.invariant.1 c.loop-entry.invariant.2,
-      c.loop-entry.invariant.3 (subst (AreBlocksIn c.args.file) (sym none) tt))
+    let none = none_left c.args.entries.now c.loop-entry.entry-index c.loop-entry-test.false in (
+      all_run c.args.file.queue c.loop-entry.entry-index c.loop-entry.next c.args.entries.now (omega arith) (omega arith) c.in-Some.ensures.item.3.0 c.loop-entry.invariant.0 (omega arith) c.loop-entry.invariant.1 c.loop-entry.invariant.2,
+      c.loop-entry.invariant.3 (subst (AreBlocksIn c.args.file) (sym none) tt),
+    )

@@ -1,0 +1,18 @@
+//! What a context holds, in numbers.
+
+/// What a context holds, number by number.
+#[derive(Clone, Copy, PartialEq, Eq, Debug)]
+pub struct Kept {
+    /// Entries in all tables.
+    pub entries: u128,
+    /// Key values in all tables.
+    pub keys: u128,
+    /// Regions that have a mark, and groups that have a marker.
+    pub marks: u128,
+    /// Keys in the marks that were deleted.
+    pub deleted_keys: u128,
+    /// Regions in the list of those that were cleaned.
+    pub cleaned: u128,
+    /// Items of groups that wait.
+    pub waiting_items: u128,
+}

@@ -25,5 +25,3 @@ mod TakenWholes
 mod LiveSteps
 mod TakenLemmas
 mod GroupFiles
-mod RegionJoinLemmas
-mod TableJoinLemmas

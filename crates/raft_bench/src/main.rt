@@ -7,7 +7,6 @@ mod blocks;
 mod checksum;
 mod numbers;
 mod recovery;
-mod shared;
 mod tables;
 mod timing;
 
@@ -41,9 +40,8 @@ fn time(rt: &HostRuntime, word: &str) -> Result<()> {
         "batches" => batches::time(rt),
         "memtable" => Ok(tables::time(rt)?),
         "blocks" => Ok(blocks::time(rt)?),
-        "shared" => shared::time(rt),
         _ => Ok(eprintln!(rt;
-            "usage: raft_bench [crc32] [varint] [batches] [memtable] [blocks] [shared], or recover .."
+            "usage: raft_bench [crc32] [varint] [batches] [memtable] [blocks], or recover .."
         )?),
     }
 }

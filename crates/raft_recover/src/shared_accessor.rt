@@ -1,6 +1,7 @@
 //! The tables of all regions, shared by threads.
 
-ghost use Rattle.std.specs.Prelude.{◌≡◌, ◌≤◌, ◌<◌, Some, IfOk, IfSome};
+ghost use Rattle.std.specs.Prelude.{◌≡◌, ◌≤◌, ◌<◌, List, [], Some, IfOk, IfErr, IfSome};
+ghost use Rattle.std.specs.List.{FoldsTo};
 ghost use Rattle.std.specs.Fn.{FnOnceReturnsAt};
 ghost use Rattle.std.specs.Iterator.{IsFinite};
 ghost use Rattle.raft_records.specs.LogBatch.{populating};
@@ -9,6 +10,7 @@ ghost use Rattle.raft_table.specs.Change.{after_change, IsAnswer};
 ghost use Rattle.raft_table.specs.Table.{Table};
 ghost use Rattle.raft_memtable.specs.Accessor.{slot_of, table_in};
 ghost use Rattle.raft_memtable.specs.Slot.{IsSlotTable};
+ghost use Rattle.raft_memtable.specs.Walks.{KeepsId, Makes};
 ghost use Rattle.raft_recover.specs.SharedCalls.{IsChangeAnswer};
 
 use raft_memtable::{
@@ -265,7 +267,7 @@ impl SharedAccessor {
         true
     }
 
-    /// What `f` makes of `init` and each table, in open order.
+    /// What `f` makes of `init` and each table, one after another in open order.
     pub fn fold<B: Drop, F: FnMut(B, &MemTable) -> B, R: Wait>(
         &self,
         rt: &R,
@@ -275,6 +277,7 @@ impl SharedAccessor {
     where
         F: Drop,
         requires { (state : F) (x : _) (t : _) → F.pre state x t }
+        ensures { (ts : List Table) × (last : F) × FoldsTo (Makes F.FnMut) (f, init) ts (last, result) }
     {
         let mut answer = init;
         for slot in &self.slots {
@@ -296,6 +299,9 @@ impl SharedAccessor {
     where
         F: Drop,
         requires { (state : F) (x : _) → F.pre state x }
+        ensures ok { IfOk result (λ ids. (ts : List Table) × (last : F)
+            × FoldsTo (KeepsId F.FnMut) (wanted, []) ts (last, ids.items)) }
+        ensures memory { IfErr result (λ e. e ≡ Error.Memory) }
     {
         let mut ids = Vec::new(self.alloc);
         for slot in &self.slots {

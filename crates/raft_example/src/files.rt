@@ -54,12 +54,7 @@ pub(crate) fn group(alloc: Global) -> Result<Vec<FilePart>> {
 }
 
 /// A file that holds this batch alone, signed for it.
-fn file_of(
-    alloc: Global,
-    queue: LogQueue,
-    seq: FileSeq,
-    mut batch: LogBatch,
-) -> Result<FilePart>
+fn file_of(alloc: Global, queue: LogQueue, seq: FileSeq, mut batch: LogBatch) -> Result<FilePart>
     requires { batch.stage ≡ populating }
 {
     let file = LogFileContext::new(FileId::new(queue, seq), Version::V2);

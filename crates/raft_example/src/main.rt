@@ -6,9 +6,7 @@ mod files;
 mod proposal;
 
 use raft_memtable::{MemTable, MemTableRecoverContext, TableChange};
-use raft_records::{
-    EntryIndex, Error, FileId, FilePart, LogBatch, LogQueue, Result, next_batch,
-};
+use raft_records::{EntryIndex, Error, FileId, FilePart, LogBatch, LogQueue, Result, next_batch};
 use raft_recover::{Segment, print_recovered, recover};
 use std::alloc::Global;
 

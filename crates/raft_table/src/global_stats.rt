@@ -28,9 +28,10 @@ impl Model for GlobalStats {
     ghost Value = { Counts };
 
     ghost view = { λ s. record {
-        append = s.live_append_entries;
-        written = s.rewrite_entries;
-        deleted = s.deleted_rewrite_entries } };
+      append = s.live_append_entries;
+      written = s.rewrite_entries;
+      deleted = s.deleted_rewrite_entries;
+    } };
 
     ghost invariant = { λ s. s.deleted_rewrite_entries ≤ s.rewrite_entries };
 }

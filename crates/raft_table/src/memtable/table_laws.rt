@@ -33,11 +33,7 @@ pub fn full_runs_pass_the_limit()
 
 /// A table has as many entries as its end is above its first index, and in both queues together as
 /// many records as entries and key values.
-#[tactic(auto, using(
-    crate::proofs::SizeLemmas::length_by_ends,
-    crate::proofs::SizeLemmas::entries_of_both,
-    crate::proofs::SizeLemmas::records_of_both
-))]
+#[tactic(auto, using(crate::proofs::SizeLemmas::length_by_ends, crate::proofs::SizeLemmas::entries_of_both, crate::proofs::SizeLemmas::records_of_both))]
 pub fn tables_add_up()
     ensures length { (es : List EntryIndex) → AreTableEntries es → 0 < length es → start_of es + length es ≡ end_of es }
     ensures entries { (es : List EntryIndex) → AreTableEntries es
@@ -49,14 +45,7 @@ pub fn tables_add_up()
 /// A range that is found has every index from its begin to below its end once, in order. Without a
 /// limit a fetch answers all of it. With one it answers the first entry, and then as many as have
 /// lengths of at most the limit together, but for entries in front without bytes.
-#[tactic(auto, using(
-    crate::proofs::SizeLemmas::between_by_index,
-    crate::proofs::SizeLemmas::found_is_whole,
-    crate::proofs::SizeLemmas::unlimited_is_all,
-    crate::proofs::SizeLemmas::first_is_fetched,
-    crate::proofs::SizeLemmas::limit_is_kept,
-    crate::proofs::SizeLemmas::one_limit_count
-))]
+#[tactic(auto, using(crate::proofs::SizeLemmas::between_by_index, crate::proofs::SizeLemmas::found_is_whole, crate::proofs::SizeLemmas::unlimited_is_all, crate::proofs::SizeLemmas::first_is_fetched, crate::proofs::SizeLemmas::limit_is_kept, crate::proofs::SizeLemmas::one_limit_count))]
 pub fn fetches_answer_ranges()
     ensures between { (begin end i : ℕ) (es : List EntryIndex)
         → entry_at i (between begin end es)
@@ -74,11 +63,7 @@ pub fn fetches_answer_ranges()
 
 /// A scan visits exactly the pairs whose key is at or above the first bound and below the second, in
 /// the order of the keys, or in the reversed order.
-#[tactic(auto, using(
-    crate::proofs::VisitLemmas::visited_are_pairs,
-    crate::proofs::VisitLemmas::pairs_are_visited,
-    crate::proofs::VisitLemmas::visits_rise
-))]
+#[tactic(auto, using(crate::proofs::VisitLemmas::visited_are_pairs, crate::proofs::VisitLemmas::pairs_are_visited, crate::proofs::VisitLemmas::visits_rise))]
 pub fn scans_visit_pairs()
     ensures visited { (start end : Option (List ℕ)) (keys : Keys) → All (λ p. (value_at keys p.0 ≡ Some p.1)
         × (is_between start end p.0 ≡ true)) (scanned start end false keys) }

@@ -24,6 +24,11 @@ pub fn stretches_keep_what_histories_are()
         → IsOfQueue queue h × IsOfQueue queue k }
 {}
 
+/// Effects of the append queue, which ignores group markers, are always apart.
+pub fn histories_of_the_append_queue_are_apart()
+    ensures { (h : List Event) → IsSoundIn Append h → Apart h }
+{}
+
 /// Steps on the tables of all regions give each region the table of its own steps, in order; and
 /// where they are refused, some region's own steps are.
 pub fn regions_are_read_apart()

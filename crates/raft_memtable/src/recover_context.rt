@@ -134,6 +134,8 @@ impl MemTableRecoverContext {
         ensures little { (queue : LogQueue) (h : List Event) (tables : Tables) (cleaned : List ℕ) → IsReadingExactly self.now h
             → Suits queue self.now.context.files → IsOneReading queue h tables cleaned
             → IfOk result (λ kept. IsAtMost (kept_shown kept) (kept_by queue h tables)) }
+        ensures accepted { OnOk result (self.now.stage ≢ Failed) }
+        ensures failed { self.now.stage ≡ Failed → IfErr result (λ e. e ≡ Error.Failed) }
         ensures fault { IfErr result (IsKeptFault self.now.stage) }
     {
         if self.stage == Stage::Failed {

@@ -52,7 +52,7 @@ pub record IsPathWord (word : List ℕ) : Type 0 where
   pub path : List ℕ
   pub named : NamesPath word seq path
 
--- a file that was read: its number and its bytes
+-- a file as it is handed on: its number and its bytes
 abbrev pub File : Type 0
 File = ℕ × List ℕ
 
@@ -61,7 +61,7 @@ pub record IsFileOfWord (word : List ℕ) (file : File) : Type 0 where
   pub path : List ℕ
   pub named : NamesPath word file.0 path
 
--- a file for each word, in order
+-- a file for each word, in order, whatever its bytes
 abbrev pub AreRead : List (List ℕ) → List File → Type 0
 AreRead [] [] = Unit {0}
 AreRead [] (file ∷ files) = ⊥

@@ -1,5 +1,5 @@
 -- What a run of the program prints.
-use Rattle.std.specs.Prelude.{◌⊎◌, ℕ, List, Option, IfSome}
+use Rattle.std.specs.Prelude.{◌⊎◌, ◌<◌, ◌≤◌, ℕ, List, Option, IfSome}
 use Rattle.std.specs.Io.KnownBytes.{IsAtEnd}
 use Rattle.raft_base.specs.Signature.{signature_of}
 use Rattle.raft_base.specs.declared.pipe_log.LogFileContext.{LogFileContext}
@@ -20,15 +20,16 @@ pub record IsBatchFound (words : List (List ℕ)) (input left : Option (List ℕ
   pub all_read : IsAtEnd left
   pub of_batch : IfSome input (λ bytes. (text : List ℕ) × IsTextOf bytes (signature_of context) text)
 
--- the files that were asked for were read, whatever they held, and the lines of their tables are printed
+-- for 1 to 256 workers and files under the numbers that were asked for, whatever bytes stood at their paths, the lines of the files' tables are printed
 pub record IsRecoveryPrinted (words : List (List ℕ)) (old new : Option (List ℕ)) : Type 0 where
   pub recovery : AskedRecovery
   pub asked : AsksRecovery words recovery
   pub files : List File
+  pub workers : (0 < recovery.workers) × (recovery.workers ≤ 256)
   pub read : AreRead recovery.files files
   pub printed : PrintsRecovered recovery.queue recovery.version files old new
 
--- the files that were asked for were read, and they have tables
+-- files under the numbers that were asked for, whatever bytes stood at their paths, have tables
 pub record IsRecoveryFound (words : List (List ℕ)) : Type 0 where
   pub recovery : AskedRecovery
   pub asked : AsksRecovery words recovery

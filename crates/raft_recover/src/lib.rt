@@ -1,4 +1,4 @@
-//! Recovery of tables from log files, on any number of threads, and the program over it.
+//! Recovery of tables from log files, on 1 to 256 threads, and the program over it.
 #![tactic(auto)]
 
 mod drawing;
@@ -23,7 +23,7 @@ pub use plan::Plan;
 pub use recovered::print_recovered;
 pub use recovery::{recover, recover_bytes};
 pub use scheduled::{piece_count, replay_scheduled};
-pub use segment::{Segment, replay_segment};
+pub use segment::{Segment, replay_segment, segments_read_as_one_history};
 pub use shared_accessor::SharedAccessor;
 pub use ticket_seat::TicketSeat;
 pub use tickets::Tickets;

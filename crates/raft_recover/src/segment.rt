@@ -1,8 +1,11 @@
 //! Segments of a queue, and their replay into a machine.
 
-ghost use Rattle.std.specs.Prelude.{◌≢◌, OnOk, IfErr};
+ghost use Rattle.std.specs.Prelude.{◌≡◌, ◌≢◌, List, Vec, OnOk, IfErr};
+ghost use Rattle.std.specs.Global.{Global};
+ghost use Rattle.raft_records.specs.FilePart.{Part};
+ghost use Rattle.raft_history.specs.Batches.{Event};
 ghost use Rattle.raft_recover.specs.Replays.{HasReplayed, CannotFollow};
-ghost use Rattle.raft_recover.specs.Segments.{ReadsPart, ReadsParts};
+ghost use Rattle.raft_recover.specs.Segments.{ReadsPart, ReadsParts, ReadsSegments};
 
 use raft_base::{Error, Result};
 use raft_memtable::ReplayMachine;
@@ -38,3 +41,8 @@ fn replay_part<M: ReplayMachine>(machine: &mut M, part: &FilePart) -> Result<()>
     }
     Ok(())
 }
+
+/// The parts of segments read as one history at most.
+pub fn segments_read_as_one_history()
+    ensures { (segments : List (Vec Part Global)) (g h : List Event) → ReadsSegments segments g → ReadsSegments segments h → g ≡ h }
+{}

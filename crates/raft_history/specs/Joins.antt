@@ -29,6 +29,6 @@ overlaid_region r None appended rewritten = rewritten
 overlaid_region r (Some m) appended rewritten =
     kept_if (if m.cleaned then is_some appended else is_some appended || is_some rewritten) (overlay_under m (table_of r appended) (table_of r rewritten))
 
--- the same of all regions
+-- each rewritten table becomes the overlaid one of its region
 abbrev pub AreOverlaid : MarkedRegions → Tables → Tables → Type 0
 AreOverlaid appended rewritten new = (r : ℕ) → finite.get new r ≡ overlaid_region r (finite.get appended.marks r) (finite.get appended.tables r) (finite.get rewritten r)

@@ -16,7 +16,7 @@ use Rattle.raft_history.specs.Records.{total}
 use Rattle.raft_history.specs.RegionSteps.{RegionStep, Tables}
 use Rattle.raft_history.specs.WaitingGroups.{groups_in, waiting_steps}
 
--- six numbers: entries and key values in tables; regions with a mark and groups that wait; deleted keys; cleaned regions; items that wait
+-- six numbers: entries and key values in tables; regions with a mark and groups with a marker; deleted keys; cleaned regions; items that wait
 pub record Kept : Type 0 where
   pub entries : ℕ
   pub keys : ℕ
@@ -55,7 +55,7 @@ kept_by queue h tables = record {
   waiting_items = waiting_steps (groups_in (batches h));
 }
 
--- number by number
+-- each of the six numbers is at most the other's
 pub record IsAtMost (a b : Kept) : Type 0 where
   pub entries : a.entries ≤ b.entries
   pub keys : a.keys ≤ b.keys

@@ -19,7 +19,7 @@ abbrev pub entry_by : List ReadBatch → Option GroupMarker → List (ℕ × Wai
 entry_by h None = []
 entry_by h (Some m) = (m.group, group_in m.group h) ∷ []
 
--- each group that the history markers, with what is known of it
+-- each group that has a marker in the history, with what is known of it
 unfoldable pub groups_in : List ReadBatch → WaitingGroups
 groups_in h = finite.from_entries (flat_map (λ b. entry_by h b.marker) h)
 

@@ -8,6 +8,6 @@ use Rattle.raft_memtable.specs.declared.file_range.FileRange.{FileRange}
 abbrev pub range_shown : FileRange → contexts.FileRange
 range_shown f = record { queue = f.queue; first = f.first; last = f.last }
 
--- the same, where there are files
+-- the files that were read, if any, as a plain value
 abbrev pub ranges_shown : Option FileRange → Option contexts.FileRange
 ranges_shown f = option_map range_shown f

@@ -7,7 +7,7 @@ use Rattle.raft_memtable.specs.declared.kept.Kept.{Kept}
 use Rattle.raft_memtable.specs.declared.stage.Stage.{Stage}
 use Rattle.raft_memtable.specs.declared.stage.Stage.TheVariants.{Failed}
 
--- the same six numbers
+-- the program's six numbers as a plain value
 abbrev pub kept_shown : Kept → numbers.Kept
 kept_shown k = record { entries = k.entries; keys = k.keys; marks = k.marks; deleted_keys = k.deleted_keys; cleaned = k.cleaned; waiting_items = k.waiting_items }
 

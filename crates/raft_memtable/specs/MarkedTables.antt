@@ -29,7 +29,7 @@ pub record HaveRoom (queue : LogQueue) (tables : Tables) (more : ℕ) : Type 0 w
   pub alone : live_in_all (other queue) tables ≡ 0
   pub few : all_records tables + more < 2 ^ 64
 
--- the same, told by live records
+-- the tables have no live record of the other queue, and with so many more fewer than 2^64 are live
 pub record HasLiveRoom (queue : LogQueue) (tables : Tables) (more : ℕ) : Type 0 where
   pub alone : live_in_all (other queue) tables ≡ 0
   pub few : live_in_all queue tables + more < 2 ^ 64

@@ -13,7 +13,7 @@ use Rattle.raft_memtable.specs.FileRanges.{ranges_shown}
 use Rattle.raft_memtable.specs.MarkedTables.{regions_in, AreStepsOfQueue}
 use Rattle.raft_memtable.specs.declared.read_state.ReadState.{ReadState}
 
--- its regions, its groups, the cleaned regions and the files
+-- what a read state holds, as a context
 abbrev pub context_in : ReadState → Context
 context_in s = record { regions = regions_in s.regions; groups = s.groups; cleaned = s.regions.accessor.cleaned; files = ranges_shown s.files }
 
@@ -22,12 +22,12 @@ abbrev pub AreAlone : Option FileRange → Tables → Type 0
 AreAlone None tables = Unit {0}
 AreAlone (Some files) tables = live_in_all (other files.queue) tables ≡ 0
 
--- and each region's mark and table stand for some steps
+-- with files of a queue, each region's mark and table stand for some steps
 abbrev pub AreOfSteps : Option FileRange → MarkedRegions → Type 0
 AreOfSteps None rs = Unit {0}
 AreOfSteps (Some files) rs = StandForSteps files.queue rs
 
--- it was read from some history, its tables are of that history's queue, and they and the marks are those of some steps
+-- the context was read from some history, its tables are of that history's queue, and they and the marks are those of some steps
 pub record IsRead (c : Context) : Type 0 where
   pub history : List Event
   pub stands : StandsFor c history
@@ -39,7 +39,7 @@ pub record TakesEffect (w : WholeGroup) : Type 0 where
   pub steps : AreStepsOfQueue Rewrite w.steps
   pub files : w.start ≤ w.end
 
--- the same of a group, where there is one
+-- a group, if there is one, may be taken in
 abbrev pub MayTakeEffect : Option WholeGroup → Type 0
 MayTakeEffect None = Unit {0}
 MayTakeEffect (Some w) = TakesEffect w

@@ -62,7 +62,7 @@ IsStepRefused c e = (taken_in c e ≡ None) ⊎ (2 ^ 64 ≤ records_held c + rec
 abbrev pub IsBatchRefused : Context → Event → Type 0
 IsBatchRefused c e = (MayFollow c e → ⊥) ⊎ IsStepRefused c e
 
--- or the context doesn't read on
+-- why a call of replay is refused, want of memory aside: the context doesn't read on, or the batch is refused
 abbrev pub IsReplayRefused : RecoverContext → Event → Type 0
 IsReplayRefused c e = (c.stage ≢ Reading) ⊎ IsBatchRefused c.context e
 
@@ -87,10 +87,10 @@ pub record IsMergedWith (queue : LogQueue) (newer old new : RecoverContext) : Ty
 abbrev pub IsNeighbourRefused : LogQueue → Context → Context → Type 0
 IsNeighbourRefused queue c d = AreRegionsRefused queue c d ⊎ (2 ^ 64 ≤ records_held c + records_held d)
 
--- why it isn't, want of memory aside: they aren't neighbours, or a join is refused
+-- why two contexts aren't merged, want of memory aside: they aren't neighbours, or a join is refused
 abbrev pub AreNotMerged : LogQueue → Context → Context → Type 0
 AreNotMerged queue c d = (AreNeighbours queue c d → ⊥) ⊎ IsNeighbourRefused queue c d
 
--- or one of the two doesn't read on
+-- why a call of merge is refused, want of memory aside: one of the two doesn't read on, or they aren't merged
 abbrev pub IsMergeRefused : LogQueue → RecoverContext → RecoverContext → Type 0
 IsMergeRefused queue c d = (c.stage ≢ Reading) ⊎ ((d.stage ≢ Reading) ⊎ AreNotMerged queue c.context d.context)

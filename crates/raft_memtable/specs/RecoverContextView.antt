@@ -9,6 +9,6 @@ use Rattle.raft_memtable.specs.RecoverContext.{RecoverContext}
 abbrev pub recover_context_shown : Inside → RecoverContext
 recover_context_shown a = record { stage = a.stage; context = context_in a.state }
 
--- as long as it reads on, it holds what some history gives
+-- a context that reads on holds what some history gives
 pub record IsContextKept (a : Inside) : Type 0 where
   pub read : a.stage ≡ Reading → IsRead (context_in a.state)

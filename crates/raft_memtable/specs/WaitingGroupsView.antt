@@ -9,6 +9,6 @@ use Rattle.raft_memtable.specs.WaitingShown.{seen_entries}
 abbrev pub groups_seen : Inside → WaitingGroups
 groups_seen a = seen_entries a.groups.entries
 
--- its keys are in order
+-- the keys of the map of groups are in order
 pub record IsSound (a : Inside) : Type 0 where
   pub ordered : IsOrdered nat_cmp a.groups

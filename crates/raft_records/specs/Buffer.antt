@@ -14,7 +14,7 @@ pub record IsUnsealed (items : List Item) (entry_bytes bytes : List ℕ) : Type 
   pub four : length seal ≡ 4
   pub split : bytes ≡ unsealed_bytes (encoded_length items entry_bytes) items entry_bytes ++ seal
 
--- the same, and nothing of a batch without items
+-- the bytes of an encoded batch: none without items, else all but the checksum
 abbrev pub IsEncodedAs : List Item → List ℕ → List ℕ → Type 0
 IsEncodedAs [] entry_bytes bytes = bytes ≡ []
 IsEncodedAs (item ∷ items) entry_bytes bytes = IsUnsealed (item ∷ items) entry_bytes bytes

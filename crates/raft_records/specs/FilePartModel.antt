@@ -7,6 +7,6 @@ use Rattle.raft_records.specs.FilePart.{Part}
 abbrev pub part_in : Inside → Part
 part_in p = record { id = p.id; version = p.version; offset = p.offset; bytes = p.bytes.items }
 
--- its bytes end at the last offset at most
+-- a part's bytes end at the last offset at most
 abbrev pub EndsWithin : Inside → Type 0
 EndsWithin p = p.offset + length p.bytes.items < 2 ^ 64

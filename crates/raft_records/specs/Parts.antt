@@ -15,7 +15,7 @@ pub record IsFramed (bytes : List ℕ) (signature : Option ℕ) (items : List It
   pub header : Reads IsHeader bytes (drop 16 bytes) (offset, compression, length bytes)
   pub item_batch : IsItemBatch (drop offset bytes) signature items rest
 
--- the same, and from the header to that offset the block of these entry bytes
+-- bytes that are framed so, with the block of these entry bytes from the header to that offset
 pub record HasParts (bytes : List ℕ) (signature : Option ℕ) (items : List Item) (entry_bytes : List ℕ) : Type 0 where
   pub offset : ℕ
   pub frame : IsFramed bytes signature items offset

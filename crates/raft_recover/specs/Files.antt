@@ -20,7 +20,7 @@ whole_file queue version file = record { id = record { queue = queue; seq = file
 abbrev pub ReadsFiles : LogQueue → Version → List File → List Event → Type 0
 ReadsFiles queue version files h = ReadsEach (λ file. ReadsPart (whole_file queue version file)) files h
 
--- a file isn't a row of readable batches, or the batches of all files, in order, are a history that can't be read
+-- a file isn't a row of readable batches, or the batches of all files, in order, name 2^63 records or more or are a history that can't be read
 pub record FilesCannotBeRead (queue : LogQueue) (version : Version) (files : List File) : Type 0 where
   pub unsound : (h : List Event) → ReadsFiles queue version files h → IsSmall h → ¬ (Sound h)
 
@@ -29,7 +29,7 @@ pub record HaveTables (queue : LogQueue) (version : Version) (files : List File)
   pub accessor : Accessor
   pub recovered : IsRecovered queue (ReadsFiles queue version files) accessor
 
--- their lines were written behind the old bytes, where those are known
+-- the lines of the files' tables were written behind the old bytes, where those are known
 pub record PrintsRecovered (queue : LogQueue) (version : Version) (files : List File) (old new : Option (List ℕ)) : Type 0 where
   pub accessor : Accessor
   pub recovered : IsRecovered queue (ReadsFiles queue version files) accessor

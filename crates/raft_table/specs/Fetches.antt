@@ -26,7 +26,7 @@ pub record IsLimitCount (limit : Option ℕ) (es : List EntryIndex) (count : ℕ
   pub fit : (n : ℕ) → n < count → is_too_many limit n es ≡ false
   pub stops : count < length es → is_too_many limit count es ≡ true
 
--- so many are appended to what was there
+-- so many entries as the limit lets through are appended to what was there
 pub record FetchesWithin (limit : Option ℕ) (es old new : List EntryIndex) : Type 0 where
   pub count : ℕ
   pub within : IsLimitCount limit es count

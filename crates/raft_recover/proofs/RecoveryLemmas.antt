@@ -8,6 +8,7 @@ use Rattle.raft_base.specs.declared.errors.Error.TheVariants as errors
 use Rattle.raft_base.specs.declared.pipe_log.LogQueue.{LogQueue}
 use Rattle.raft_base.specs.declared.pipe_log.Version.{Version}
 use Rattle.raft_records.specs.FilePart.{Part}
+use Rattle.raft_records.specs.Lines.{IsIoError}
 use Rattle.raft_history.specs.Batches.{Event}
 use Rattle.raft_history.specs.Contexts.{Suits, files_of}
 use Rattle.raft_history.specs.Histories.{IsSmall, Sound, IsSoundIn, Apart, IsOneReading, IsOfQueue}
@@ -15,7 +16,7 @@ use Rattle.raft_memtable.specs.Accessor.{Accessor, AreCountsOf}
 use Rattle.raft_memtable.specs.RecoverContext.{RecoverContext, IsReading, IsReadingExactly}
 use Rattle.raft_memtable.specs.declared.stage.Stage.{Stage}
 use Rattle.raft_memtable.specs.declared.stage.Stage.TheVariants as stages
-use Rattle.raft_recover.specs.Files.{whole_file, segment_shown, ReadsFiles, FilesCannotBeRead, HaveTables, PrintsRecovered}
+use Rattle.raft_recover.specs.Files.{whole_file, segment_shown, ReadsFiles, FilesCannotBeRead, HaveTables, IsPrintFailure, PrintsRecovered}
 use Rattle.raft_recover.specs.Recovery.{IsRecovered, IsReplayed, CannotBeRead, PartsAreOf, SegmentsAreOf}
 use Rattle.raft_recover.specs.RequestView.{file_shown}
 use Rattle.raft_recover.specs.Segments.{IsReadBehind, ReadsPart, ReadsParts, ReadsSegments}
@@ -152,6 +153,23 @@ module _ (queue : LogQueue) (version : Version) where
       tables_printed (Ok x) old new done = record { accessor = a; recovered = files_recovered a r; printed = done }
       tables_printed (Err e) old new done = tt
 
-      pub tables_found : {X : Type 0} (printed : Result X Error) (P : Type 0) → IfErr printed (λ e. P ⊎ HaveTables queue version (map file_shown fs))
-      tables_found (Ok x) P = tt
-      tables_found (Err e) P = inr (record { accessor = a; recovered = files_recovered a r })
+      found : HaveTables queue version (map file_shown fs)
+      found = record { accessor = a; recovered = files_recovered a r }
+
+      kept_or_failed : (K : Type 0) (e : Error) → ((IsIoError e → ⊥) → K) → K ⊎ IsPrintFailure queue version (map file_shown fs) e
+      kept_or_failed K (errors.Io x) silent = inr (record { io = tt; found = found })
+      kept_or_failed K e silent = inl (silent (λ io. io))
+
+      pub tables_found : {X : Type 0} (printed : Result X Error) (K : Type 0) → IfErr printed (λ e. (IsIoError e → ⊥) → K)
+          → IfErr printed (λ e. K ⊎ IsPrintFailure queue version (map file_shown fs) e)
+      tables_found (Ok x) K silent = tt
+      tables_found (Err e) K silent = kept_or_failed K e silent
+
+      failed_by : (e : Error) → ((IsIoError e → ⊥) → e ≡ errors.Memory) → e ≢ errors.Memory → IsPrintFailure queue version (map file_shown fs) e
+      failed_by (errors.Io x) fault not_memory = record { io = tt; found = found }
+      failed_by e fault not_memory = absurd (not_memory (fault (λ io. io)))
+
+      pub print_failed : {X : Type 0} (printed : Result X Error) → IfErr printed (λ e. (IsIoError e → ⊥) → e ≡ errors.Memory)
+          → IfErr printed (λ e. e ≢ errors.Memory → FilesCannotBeRead queue version (map file_shown fs) ⊎ IsPrintFailure queue version (map file_shown fs) e)
+      print_failed (Ok x) fault = tt
+      print_failed (Err e) fault = λ not_memory. inr (failed_by e fault not_memory)

@@ -1,9 +1,11 @@
 -- Whole files of a queue, the batches in them, and their tables as text.
 use Rattle.std.specs.Prelude.{ℕ, List, Option, Vec}
 use Rattle.std.specs.Global.{Global}
+use Rattle.raft_base.specs.declared.errors.Error.{Error}
 use Rattle.raft_base.specs.declared.pipe_log.LogQueue.{LogQueue}
 use Rattle.raft_base.specs.declared.pipe_log.Version.{Version}
 use Rattle.raft_records.specs.FilePart.{Part}
+use Rattle.raft_records.specs.Lines.{IsIoError}
 use Rattle.raft_history.specs.Batches.{Event}
 use Rattle.raft_history.specs.Histories.{IsSmall, Sound}
 use Rattle.raft_memtable.specs.Accessor.{Accessor}
@@ -28,6 +30,11 @@ pub record FilesCannotBeRead (queue : LogQueue) (version : Version) (files : Lis
 pub record HaveTables (queue : LogQueue) (version : Version) (files : List File) : Type 0 where
   pub accessor : Accessor
   pub recovered : IsRecovered queue (ReadsFiles queue version files) accessor
+
+-- the writer failed, once the tables were found
+pub record IsPrintFailure (queue : LogQueue) (version : Version) (files : List File) (e : Error) : Type 0 where
+  pub io : IsIoError e
+  pub found : HaveTables queue version files
 
 -- the lines of the files' tables were written behind the old bytes, where those are known
 pub record PrintsRecovered (queue : LogQueue) (version : Version) (files : List File) (old new : Option (List ℕ)) : Type 0 where

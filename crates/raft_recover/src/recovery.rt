@@ -16,9 +16,8 @@ ghost use Rattle.std.specs.Prelude.{
   map,
 };
 ghost use Rattle.std.specs.Io.KnownBytes.{Keeps};
-ghost use Rattle.raft_records.specs.Lines.{IsIoError};
 ghost use Rattle.raft_table.specs.Start.{IsInvalidArgument};
-ghost use Rattle.raft_recover.specs.Files.{whole_file, segment_shown, ReadsFiles, FilesCannotBeRead, HaveTables, PrintsRecovered};
+ghost use Rattle.raft_recover.specs.Files.{whole_file, segment_shown, ReadsFiles, FilesCannotBeRead, IsPrintFailure, PrintsRecovered};
 ghost use Rattle.raft_recover.specs.Recovery.{IsRecovered, CannotBeRead, SegmentsAreOf};
 ghost use Rattle.raft_recover.specs.RequestView.{file_shown};
 ghost use Rattle.raft_recover.specs.Segments.{ReadsSegments};
@@ -44,8 +43,9 @@ use std::thread::Threads;
 ///
 /// # Errors
 ///
-/// `InvalidArgument` for another number of workers and for a part of another queue, then whatever a reading answers:
-/// `Corruption` or `Codec` where a part isn't a row of readable batches or the batches in order can't be read. `Memory`.
+/// `InvalidArgument` for another number of workers, for a part of another queue and for 2^62 segments, then whatever a
+/// reading answers: `Corruption`, `Codec`, or `Io` for an item that ends before its type, where a part isn't a row of
+/// readable batches or the batches in order can't be read. `Memory`.
 pub fn recover<R: Threads + Sync>(
     rt: &R,
     alloc: Global,
@@ -82,10 +82,10 @@ pub fn recover_bytes<R: Threads + Sync, W: Write>(
 ) -> Result<()>
     ensures ok { OnOk result (PrintsRecovered queue version (map file_shown files.items) (W.contents writer.old) (W.contents writer.new)) }
     ensures accepted { OnOk result ((0 < workers) × (workers ≤ 256)) }
-    ensures silent { IfErr result (λ _. Keeps (W.contents writer.old) (W.contents writer.new)
-        ⊎ HaveTables queue version (map file_shown files.items)) }
+    ensures silent { IfErr result (λ e. Keeps (W.contents writer.old) (W.contents writer.new)
+        ⊎ IsPrintFailure queue version (map file_shown files.items) e) }
     ensures refused { (0 < workers) × (workers ≤ 256) × (length files.items < 2 ^ 62) → IfErr result (λ e. e ≢ Error.Memory →
-        (IsIoError e → ⊥) → FilesCannotBeRead queue version (map file_shown files.items)) }
+        FilesCannotBeRead queue version (map file_shown files.items) ⊎ IsPrintFailure queue version (map file_shown files.items) e) }
     ensures fault { ((0 < workers) × (workers ≤ 256) × (length files.items < 2 ^ 62) → ⊥) →
         IfErr result (λ e. e ≢ Error.Memory → IsInvalidArgument e) }
 {

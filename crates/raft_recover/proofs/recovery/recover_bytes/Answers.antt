@@ -1,6 +1,6 @@
-use Rattle.std.proofs.Common.{length, ◌<◌, arith}
+use Rattle.std.proofs.Common.{length, ◌<◌, arith, inl}
 use Rattle.std.proofs.lemmas.Result.{err_from_is_err_and}
-use Rattle.raft_recover.proofs.RecoveryLemmas.{whole_are_of, as_many, files_refused, tables_printed, tables_found}
+use Rattle.raft_recover.proofs.RecoveryLemmas.{whole_are_of, as_many, files_refused, tables_printed, tables_found, print_failed}
 use Rattle.raft_recover.proofs.recovery.recover_bytes.Goals as goal
 
 pub returns-in_err-accessor-clause-refused : goal.returns-in_err-accessor-clause-refused
@@ -12,7 +12,7 @@ returns-in_err-accessor-clause-refused g c good =
     let of_queue = whole_are_of c.args.queue c.args.version c.in_ok-segments.segments.items c.args.files.items whole in
     let refused = rw (c.as_slice.ensures.value) at c.in_err-accessor.ensures.refused in
     rw (p.1, p.2)
-    (λ not_memory not_io. files_refused c.args.queue c.args.version c.in_ok-segments.segments.items c.args.files.items whole (refused (good.0, good.1, few, of_queue) not_memory))
+    (λ not_memory. inl (files_refused c.args.queue c.args.version c.in_ok-segments.segments.items c.args.files.items whole (refused (good.0, good.1, few, of_queue) not_memory)))
 
 pub returns-clause-ok : goal.returns-clause-ok
 returns-clause-ok g c =
@@ -22,4 +22,9 @@ returns-clause-ok g c =
 pub returns-clause-silent : goal.returns-clause-silent
 returns-clause-silent g c =
     let recovered = rw (c.as_slice.ensures.value) at c.in_ok-accessor.ensures.ok in
-    tables_found c.args.queue c.args.version c.in_ok-segments.segments.items c.args.files.items c.in_ok-segments.ensures.ok c.in_ok-accessor.accessor recovered c.print_recovered.result _
+    tables_found c.args.queue c.args.version c.in_ok-segments.segments.items c.args.files.items c.in_ok-segments.ensures.ok c.in_ok-accessor.accessor recovered c.print_recovered.result _ c.print_recovered.ensures.silent
+
+pub returns-clause-refused : goal.returns-clause-refused
+returns-clause-refused g c good =
+    let recovered = rw (c.as_slice.ensures.value) at c.in_ok-accessor.ensures.ok in
+    print_failed c.args.queue c.args.version c.in_ok-segments.segments.items c.args.files.items c.in_ok-segments.ensures.ok c.in_ok-accessor.accessor recovered c.print_recovered.result c.print_recovered.ensures.fault

@@ -3,6 +3,7 @@
 
 pub mod accessor;
 mod batch_check;
+pub mod context_stage;
 mod file_range;
 pub mod item_writes;
 pub mod kept;
@@ -14,12 +15,12 @@ pub mod region_marks;
 pub mod region_tables;
 pub mod replay_machine;
 pub mod slot;
-pub mod stage;
 pub mod waiting_group;
 pub mod waiting_groups;
 pub mod waiting_items;
 
 pub use accessor::{MemTableAccessor, slot_of};
+pub use context_stage::ContextStage;
 pub use kept::Kept;
 pub use raft_table::{
     Block, EntryIndex, Error, FileBlockHandle, FileId, FileSeq, GlobalStats, LogQueue, MemTable,
@@ -30,4 +31,3 @@ pub use region_marks::RegionMarks;
 pub use region_tables::RegionTables;
 pub use replay_machine::ReplayMachine;
 pub use slot::Slot;
-pub use stage::Stage;

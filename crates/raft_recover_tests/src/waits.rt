@@ -1,4 +1,4 @@
-//! A gate and a machine that wait for one another's threads.
+//! A workers' gate and a machine that wait for one another's threads.
 
 use raft_base::{FileId, LogQueue, Result};
 use raft_memtable::ReplayMachine;

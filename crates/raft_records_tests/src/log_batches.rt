@@ -6,9 +6,9 @@ ghost use Rattle.raft_records.specs.LogBatch.{populating};
 mod rows;
 
 use raft_records::{
-    Command, CompressionType, EntryIndex, Error, FileBlockHandle, FileId, LogBatch, LogFileContext,
-    LogItem, LogItemBatch, LogItemContent, LogQueue, Message, MessageError, MessageExt,
-    ReactiveBytes, Result, Version,
+    AtomicGroupBuilder, Command, CompressionType, EntryIndex, Error, FileBlockHandle, FileId,
+    LogBatch, LogFileContext, LogItem, LogItemBatch, LogItemContent, LogQueue, Message,
+    MessageError, MessageExt, ReactiveBytes, Result, Version,
 };
 use rows::Row;
 use std::alloc::Global;
@@ -114,11 +114,7 @@ fn with_one_of_each(alloc: Global) -> Result<LogBatch>
         Vec::from_slice(alloc, b"v")?,
     )?;
     batch.delete(9, Vec::from_slice(alloc, b"j")?)?;
-    batch.put_unchecked(
-        9,
-        Vec::from_slice(alloc, b"__\x01")?,
-        Vec::from_slice(alloc, &[0])?,
-    )?;
+    AtomicGroupBuilder::with_id(9).begin(&mut batch)?;
     Ok(batch)
 }
 

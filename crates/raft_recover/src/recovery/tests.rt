@@ -1,5 +1,7 @@
 //! Whole recoveries: files in, lines out, on any number of workers and however the files are cut.
 
+mod bound;
+mod kept;
 mod rows;
 
 use super::{recover, recover_bytes};

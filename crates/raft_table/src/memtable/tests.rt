@@ -1,6 +1,7 @@
 //! Calls of a table through the log store of a Raft node, and what is left of the store.
 
 mod blocks;
+mod lists;
 mod queries;
 mod store;
 

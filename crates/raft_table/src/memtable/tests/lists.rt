@@ -19,6 +19,7 @@ impl Numbers {
     /// The next number, below another.
     fn below(&mut self, end: u64) -> u64
         requires { 0 < end }
+        ensures { result < end }
     {
         self.state = self
             .state
@@ -54,28 +55,52 @@ enum Call {
     MergeUnder(LogQueue, u64, Run),
 }
 
-impl Call {
-    /// Some call with this number, on indexes from 0 to 27, in files from 1 to 3.
-    fn random(numbers: &mut Numbers, call: u32) -> Call {
-        let run = Run {
-            first: numbers.below(24),
-            count: 1 + numbers.below(4),
+impl Run {
+    /// A run of up to three entries in a file from 1 to 3, that starts near the entries of a list or, less often,
+    /// anywhere; all indexes stay below 27.
+    fn random(numbers: &mut Numbers, list: &List, call: u32) -> Run {
+        let near = list
+            .start()
+            .saturating_add(numbers.below(list.entries.len() as u64 + 2));
+        let far = numbers.below(24);
+        Run {
+            first: if numbers.below(16) == 0 {
+                far
+            } else {
+                near.min(24)
+            },
+            count: 1 + numbers.below(3),
             seq: 1 + numbers.below(3),
             call,
-        };
+        }
+    }
+
+    fn holds(&self, index: u64) -> bool {
+        self.first <= index && index < self.end()
+    }
+
+    fn end(&self) -> u64 {
+        self.first.saturating_add(self.count)
+    }
+}
+
+impl Call {
+    /// Some call with this number.
+    fn random(numbers: &mut Numbers, list: &List, call: u32) -> Call {
+        let run = Run::random(numbers, list, call);
         let gate = 1 + numbers.below(3);
-        let index = numbers.below(24);
-        match numbers.below(20) {
-            0..=3 => Call::Append(run),
-            4 | 5 => Call::ReplayAppend(run),
-            6 => Call::ReplayRewrite(run),
-            7..=11 => Call::Rewrite(run, Some(gate)),
-            12 => Call::Rewrite(run, None),
-            13 => Call::Compact(index),
-            14 => Call::MergeNewer(LogQueue::Append, run),
-            15 => Call::MergeNewer(LogQueue::Rewrite, run),
-            16 => Call::MergeAppended(run),
-            17 => Call::MergeUnder(LogQueue::Rewrite, index, run),
+        let index = list.start().saturating_add(numbers.below(3));
+        match numbers.below(24) {
+            0..=5 => Call::Append(run),
+            6 => Call::ReplayAppend(run),
+            7 => Call::ReplayRewrite(run),
+            8..=14 => Call::Rewrite(run, Some(gate)),
+            15..=17 => Call::Rewrite(run, None),
+            18 => Call::Compact(index),
+            19 => Call::MergeNewer(LogQueue::Append, run),
+            20 => Call::MergeNewer(LogQueue::Rewrite, run),
+            21 => Call::MergeAppended(run),
+            22 => Call::MergeUnder(LogQueue::Rewrite, index, run),
             _ => Call::MergeUnder(LogQueue::Append, index, run),
         }
     }
@@ -101,7 +126,7 @@ fn entries_of(alloc: Global, queue: LogQueue, run: Run) -> Result<Vec<EntryIndex
     ensures { IfOk result (λ entries. IsRunIn queue entries.items) }
 {
     let mut entries = Vec::new(alloc);
-    for index in run.first..run.first.saturating_add(run.count) {
+    for index in run.first..run.end() {
         entries.push(entry_of(queue, run, index))?;
     }
     if is_run(&entries, queue) {
@@ -190,13 +215,15 @@ fn may_move(entry: &EntryIndex, gate: Option<FileSeq>) -> bool {
     }
 }
 
-impl Run {
-    fn holds(&self, index: u64) -> bool {
-        self.first <= index && index < self.first.saturating_add(self.count)
-    }
-}
-
 impl List {
+    /// The least index, 0 without entries.
+    fn start(&self) -> u64 {
+        match self.entries.first() {
+            Some(first) => first.index,
+            None => 0,
+        }
+    }
+
     /// The greatest index plus one, 0 without entries.
     fn end(&self) -> u64 {
         match self.entries.last() {
@@ -298,7 +325,7 @@ impl List {
             self.entries.clear();
         }
         self.entries.retain(|e| e.index < run.first);
-        for index in run.first..run.first.saturating_add(run.count) {
+        for index in run.first..run.end() {
             self.entries.push(entry_of(queue, run, index))?;
         }
         Ok(())
@@ -349,7 +376,7 @@ fn first_fault(alloc: Global, calls: u32) -> Result<Option<Call>> {
         entries: Vec::new(alloc),
     };
     for number in 0..calls {
-        let call = Call::random(&mut numbers, number);
+        let call = Call::random(&mut numbers, &list, number);
         if !agree(alloc, &mut store, &mut list, call)? {
             return Ok(Some(call));
         }

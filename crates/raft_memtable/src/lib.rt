@@ -15,8 +15,6 @@ pub mod region_marks;
 pub mod region_tables;
 pub mod replay_machine;
 pub mod slot;
-#[cfg(test)]
-mod tests;
 pub mod waiting_group;
 pub mod waiting_groups;
 pub mod waiting_items;

@@ -93,9 +93,6 @@ fn marker_byte(kv: &KeyValue) -> Option<u8>
     }
 }
 
-#[cfg(test)]
-mod tests;
-
 /// Marks the batches of one group: the first with `Begin`, the last with `End`, those between them
 /// with `Middle`. Each call takes a batch of its own: of two group markers in one batch only the first
 /// is read, so a group has two batches at least.

@@ -11,9 +11,6 @@ use crate::header::{LOG_BATCH_HEADER_LEN, parse_header};
 use raft_base::{Error, FileBlockHandle, FileId, LogFileContext, Result, Version};
 use std::marker::Model;
 
-#[cfg(test)]
-mod tests;
-
 /// Bytes of a file, from an offset in it on: log batches one behind the other.
 #[derive(Debug, Drop)]
 pub struct FilePart {

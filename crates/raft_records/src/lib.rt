@@ -14,8 +14,6 @@ pub mod log_batch;
 pub mod log_item;
 pub mod log_item_batch;
 pub mod print;
-#[cfg(test)]
-mod tests;
 
 pub use atomic_group::{ATOMIC_GROUP_KEY, AtomicGroupBuilder, AtomicGroupStatus, is_reserved};
 pub use command::Command;

@@ -474,6 +474,3 @@ impl LogBatch {
         }
     }
 }
-
-#[cfg(test)]
-mod tests;

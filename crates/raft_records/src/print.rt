@@ -183,6 +183,3 @@ fn append_counts(
 {
     writeln!(text, "items {items} rest {rest}")
 }
-
-#[cfg(test)]
-mod tests;

@@ -28,6 +28,3 @@ pub use shared_accessor::SharedAccessor;
 pub use ticket_seat::TicketSeat;
 pub use tickets::Tickets;
 pub use workers::{MAX_WORKERS, replay_segments};
-
-#[cfg(test)]
-mod tests;

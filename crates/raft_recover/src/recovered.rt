@@ -121,6 +121,3 @@ fn append_live(stats: &GlobalStats, text: &mut String) -> std::result::Result<()
     let rewrite = stats.live_entries(LogQueue::Rewrite);
     writeln!(text, "live {append} {rewrite}")
 }
-
-#[cfg(test)]
-mod tests;

@@ -126,6 +126,3 @@ fn whole_file(id: FileId, version: Version, bytes: Vec<u8>) -> Result<Segment>
     let part = FilePart::new(id, version, 0, bytes)?;
     Ok(vec![in alloc; part]?)
 }
-
-#[cfg(test)]
-mod tests;

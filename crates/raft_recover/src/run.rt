@@ -121,6 +121,3 @@ fn refusal(error: &Error) -> &'static str
         _ => "failed",
     }
 }
-
-#[cfg(test)]
-mod tests;

@@ -417,6 +417,3 @@ where
         None => f(&MemTable::new(alloc, id)),
     }
 }
-
-#[cfg(test)]
-mod tests;

@@ -208,23 +208,3 @@ fn sum(a: usize, b: usize) -> Result<usize>
         None => Err(Error::Full),
     }
 }
-
-#[cfg(test)]
-mod tests {
-    use super::*;
-    use std::test::Fail;
-
-    #[test]
-    fn deleted_records_make_room_once(rt: HostRuntime) -> std::result::Result<(), Fail> {
-        let mut stats = GlobalStats::default();
-        stats.add(LogQueue::Rewrite, usize::MAX)?;
-        stats.delete(LogQueue::Rewrite, 10);
-        stats.add(LogQueue::Rewrite, 4)?;
-        assert_eq!(rt; stats.rewrite_entries(), usize::MAX - 6);
-        assert_eq!(rt; stats.deleted_rewrite_entries(), 0);
-        stats.add(LogQueue::Append, usize::MAX)?;
-        assert!(rt; matches!(stats.add(LogQueue::Append, 1), Err(Error::Full)));
-        assert_eq!(rt; stats.live_entries(LogQueue::Append), usize::MAX);
-        Ok(())
-    }
-}

@@ -24,8 +24,6 @@ mod queries;
 mod read_runs;
 mod region;
 mod table_laws;
-#[cfg(test)]
-mod tests;
 mod under;
 
 use crate::global_stats::GlobalStats;

@@ -1,0 +1,37 @@
+//! Checksums as other programs compute them.
+
+use raft_base::util::crc32;
+
+/// Lengths, and the checksums of as many bytes that count up and begin anew after 250.
+const CHECKSUMS: [(usize, u32); 16] = [
+    (0, 0x00000000),
+    (1, 0xd202ef8d),
+    (7, 0xad5809f9),
+    (8, 0x88aa689f),
+    (15, 0xa06c675e),
+    (16, 0xcecee288),
+    (31, 0x4d786d77),
+    (127, 0xdec481aa),
+    (128, 0x24650d57),
+    (255, 0x6f7c9956),
+    (639, 0xff805395),
+    (640, 0xc6fc3391),
+    (2348, 0xfde1f9ae),
+    (2349, 0xf12669cb),
+    (2649, 0xcef9a330),
+    (5000, 0xc1607408),
+];
+
+#[test]
+fn agrees_with_other_programs(rt: HostRuntime) {
+    assert_eq!(rt; crc32(b"123456789"), 0xcbf43926);
+    assert_eq!(rt; crc32(b"\xff\xff\xff\xff"), 0xffffffff);
+    assert_eq!(rt; crc32(b"abc"), 0x352441c2);
+    let mut bytes = [0u8; 5000];
+    for (k, byte) in bytes.iter_mut().enumerate() {
+        *byte = (k % 251) as u8;
+    }
+    for (len, checksum) in CHECKSUMS {
+        assert_eq!(rt; crc32(&bytes[..len.min(5000)]), checksum, "{len} bytes");
+    }
+}

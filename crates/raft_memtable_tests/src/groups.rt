@@ -1,0 +1,269 @@
+//! Contexts of the rewrite queue: batches with group markers in any order, and batches that are refused.
+
+ghost use Rattle.std.specs.Prelude.{◌≡◌, OnOk};
+ghost use Rattle.raft_records.specs.LogBatch.{populating};
+
+use AtomicGroupStatus::{Begin, End, Middle};
+use raft_memtable::{Error, FileId, LogQueue, MemTableAccessor, MemTableRecoverContext, Result};
+use raft_records::{
+    ATOMIC_GROUP_KEY, AtomicGroupBuilder, AtomicGroupStatus, Command, FilePart, LogBatch,
+    LogFileContext, LogItemBatch, Version, next_batch,
+};
+use std::alloc::Global;
+
+/// The four keys, one of each batch.
+const KEYS: [&[u8; 2]; 4] = [b"k1", b"k2", b"k3", b"k4"];
+
+/// A file of the rewrite queue.
+fn file(seq: u64) -> FileId {
+    FileId::new(LogQueue::Rewrite, seq)
+}
+
+/// Adds the marker of group 9 with this status.
+fn add_marker(alloc: Global, status: AtomicGroupStatus, batch: &mut LogBatch) -> Result<()>
+    requires { batch.old.stage ≡ populating }
+    ensures { OnOk result (batch.new.stage ≡ populating) }
+{
+    let mut builder = AtomicGroupBuilder::with_id(9);
+    if status == Begin {
+        return builder.begin(batch);
+    }
+    builder.begin(&mut LogBatch::default(alloc))?;
+    match status {
+        Middle => builder.add(batch),
+        _ => builder.end(batch),
+    }
+}
+
+/// The bytes of a batch with this marker, which puts a key in region 5.
+fn part(alloc: Global, status: AtomicGroupStatus, key: &[u8], seq: u64) -> Result<FilePart> {
+    let mut batch = LogBatch::default(alloc);
+    add_marker(alloc, status, &mut batch)?;
+    batch.put(
+        5,
+        Vec::from_slice(alloc, key)?,
+        Vec::from_slice(alloc, b"v".as_slice())?,
+    )?;
+    batch.finish_populate()?;
+    batch.prepare_write(&LogFileContext::new(file(seq), Version::V1));
+    let bytes = Vec::from_slice(alloc, batch.encoded_bytes())?;
+    FilePart::new(file(seq), Version::V1, 0, bytes)
+}
+
+/// The tables after four batches with these markers, in the files 1 to 4.
+fn read(alloc: Global, statuses: [AtomicGroupStatus; 4]) -> Result<MemTableAccessor> {
+    let mut context = MemTableRecoverContext::new(alloc)?;
+    let mut seq = 1u64;
+    for (status, key) in statuses.iter().zip(KEYS.iter()) {
+        let part = part(alloc, *status, key.as_slice(), seq)?;
+        if let Some((batch, _)) = next_batch(&part, 0)? {
+            context.replay(batch, part.id())?;
+        }
+        seq = seq.saturating_add(1);
+    }
+    context.finish()
+}
+
+/// Which of the four keys region 5 has, and the files of its last group.
+type Effect = ([bool; 4], Option<(u64, u64)>);
+
+/// What the tables have.
+fn seen(accessor: &MemTableAccessor) -> Effect {
+    match accessor.get(5) {
+        Some(table) => (
+            KEYS.map(|key| table.get(key.as_slice()).is_some()),
+            table.atomic_group(),
+        ),
+        None => ([false; 4], None),
+    }
+}
+
+/// Whether markers of a group, one behind the other, are a whole stretch.
+fn is_whole(statuses: &[AtomicGroupStatus]) -> bool {
+    match statuses {
+        [Begin, middles @ .., End] => middles.iter().all(|status| *status == Middle),
+        _ => false,
+    }
+}
+
+/// What the markers ask for: each whole stretch has the keys of its batches, and is the region's last
+/// group if none comes behind it.
+fn owed(statuses: &[AtomicGroupStatus; 4]) -> Effect {
+    let mut keys = [false; 4];
+    let mut group = None;
+    for (first, last) in [(0, 1), (0, 2), (1, 2), (0, 3), (1, 3), (2, 3)] {
+        if is_whole(&statuses[first..=last]) {
+            keys[first..=last].fill(true);
+            group = Some((first as u64 + 1, last as u64 + 1));
+        }
+    }
+    (keys, group)
+}
+
+/// Whether these four markers have the effect that is owed.
+fn has_effect(alloc: Global, statuses: [AtomicGroupStatus; 4], owed: Effect) -> Result<bool> {
+    let accessor = read(alloc, statuses)?;
+    let (keys, _) = owed;
+    let records = keys.iter().filter(|has| **has).count();
+    Ok(
+        seen(&accessor) == owed
+            && accessor.stats().live_entries(LogQueue::Rewrite) == records
+            && accessor.is_empty() == (records == 0),
+    )
+}
+
+const STATUSES: [AtomicGroupStatus; 3] = [Begin, Middle, End];
+
+/// Whether all lists of four markers that begin with these two have their effects.
+fn all_behind_have_effects(
+    alloc: Global,
+    first: AtomicGroupStatus,
+    second: AtomicGroupStatus,
+) -> Result<bool> {
+    for third in STATUSES {
+        for fourth in STATUSES {
+            let statuses = [first, second, third, fourth];
+            if !has_effect(alloc, statuses, owed(&statuses))? {
+                return Ok(false);
+            }
+        }
+    }
+    Ok(true)
+}
+
+/// Whether all lists of four markers have their effects.
+fn all_have_effects(alloc: Global) -> Result<bool> {
+    for first in STATUSES {
+        for second in STATUSES {
+            if !all_behind_have_effects(alloc, first, second)? {
+                return Ok(false);
+            }
+        }
+    }
+    Ok(true)
+}
+
+#[test]
+fn markers_have_their_effects(rt: HostRuntime) {
+    for (statuses, effect) in [
+        (
+            [Begin, Begin, End, End],
+            ([false, true, true, false], Some((2, 3))),
+        ),
+        ([Middle, End, Begin, Middle], ([false; 4], None)),
+        (
+            [Begin, Middle, End, Middle],
+            ([true, true, true, false], Some((1, 3))),
+        ),
+        ([Begin, End, Begin, End], ([true; 4], Some((3, 4)))),
+    ] {
+        let mut held = has_effect(rt.alloc(), statuses, effect);
+        if matches!(held, Err(Error::Memory)) {
+            held = has_effect(rt.alloc(), statuses, effect);
+        }
+        assert!(rt; matches!(held, Ok(true)));
+    }
+    let mut all = all_have_effects(rt.alloc());
+    if matches!(all, Err(Error::Memory)) {
+        all = all_have_effects(rt.alloc());
+    }
+    assert!(rt; matches!(all, Ok(true)));
+}
+
+/// A batch with a put of the group markers' key for each of these groups, and a compaction of region 5.
+fn batch_with_markers(alloc: Global, markers: &[(u64, &[u8])]) -> Result<LogItemBatch> {
+    let mut batch = LogItemBatch::default(alloc);
+    for (group, value) in markers {
+        batch.put(
+            *group,
+            Vec::from_slice(alloc, &ATOMIC_GROUP_KEY)?,
+            Vec::from_slice(alloc, value)?,
+        )?;
+    }
+    batch.add_command(5, Command::Compact { index: 1 })?;
+    Ok(batch)
+}
+
+/// Whether a call was refused as `Failed`; want of memory is handed on.
+fn is_failed<T: Drop>(answer: Result<T>) -> Result<bool> {
+    match answer {
+        Err(Error::Memory) => Err(Error::Memory),
+        Err(Error::Failed) => Ok(true),
+        _ => Ok(false),
+    }
+}
+
+/// Whether a batch is refused as `Corruption`, and every later call as `Failed`.
+fn is_refused(
+    alloc: Global,
+    mut context: MemTableRecoverContext,
+    batch: LogItemBatch,
+    file: FileId,
+) -> Result<bool> {
+    match context.replay(batch, file) {
+        Err(Error::Memory) => return Err(Error::Memory),
+        Err(Error::Corruption(_)) => {}
+        _ => return Ok(false),
+    }
+    let again = context.replay(LogItemBatch::default(alloc), file);
+    Ok(is_failed(again)? && is_failed(context.finish())?)
+}
+
+/// A marker with an unknown status is refused in the rewrite queue alone, one with two bytes is none,
+/// and of two markers in a batch the first counts.
+fn markers_are_read(alloc: Global) -> Result<bool> {
+    let unknown = [(9, [3u8].as_slice())];
+    let context = MemTableRecoverContext::new(alloc)?;
+    let refused = is_refused(
+        alloc,
+        context,
+        batch_with_markers(alloc, &unknown)?,
+        file(1),
+    )?;
+    let mut context = MemTableRecoverContext::new(alloc)?;
+    let appended = FileId::new(LogQueue::Append, 1);
+    context.replay(batch_with_markers(alloc, &unknown)?, appended)?;
+    let skipped = context.finish()?.get(5).is_some();
+    let mut context = MemTableRecoverContext::new(alloc)?;
+    context.replay(
+        batch_with_markers(alloc, &[(9, [0u8, 0].as_slice())])?,
+        file(1),
+    )?;
+    let no_marker = context.finish()?.get(5).is_some();
+    let mut context = MemTableRecoverContext::new(alloc)?;
+    let two = [(9, [0u8].as_slice()), (8, [2u8].as_slice())];
+    context.replay(batch_with_markers(alloc, &two)?, file(1))?;
+    context.replay(
+        batch_with_markers(alloc, &[(9, [2u8].as_slice())])?,
+        file(2),
+    )?;
+    let accessor = context.finish()?;
+    let group = accessor.get(5).and_then(|table| table.atomic_group());
+    Ok(refused && skipped && no_marker && group == Some((1, 2)))
+}
+
+/// A batch of an older file is refused, and one of the other queue.
+fn files_are_in_order(alloc: Global) -> Result<bool> {
+    for older in [file(4), FileId::new(LogQueue::Append, 6)] {
+        let mut context = MemTableRecoverContext::new(alloc)?;
+        context.replay(batch_with_markers(alloc, &[])?, file(5))?;
+        if !is_refused(alloc, context, batch_with_markers(alloc, &[])?, older)? {
+            return Ok(false);
+        }
+    }
+    Ok(true)
+}
+
+#[test]
+fn batches_are_tested(rt: HostRuntime) {
+    let mut all = markers_are_read(rt.alloc());
+    if matches!(all, Err(Error::Memory)) {
+        all = markers_are_read(rt.alloc());
+    }
+    assert!(rt; matches!(all, Ok(true)));
+    let mut all = files_are_in_order(rt.alloc());
+    if matches!(all, Err(Error::Memory)) {
+        all = files_are_in_order(rt.alloc());
+    }
+    assert!(rt; matches!(all, Ok(true)));
+}

@@ -1,0 +1,261 @@
+//! Items written to the tables of several regions, the regions that were cleaned, walks and merges.
+
+use raft_memtable::{
+    EntryIndex, Error, FileBlockHandle, FileId, LogQueue, MemTable, MemTableAccessor, Result,
+    TableChange, slot_of,
+};
+use raft_records::{Command, CompressionType, LogItem, LogItemContent, OpType};
+use std::alloc::Global;
+use std::test::Fail;
+
+const FIRST: FileId = FileId {
+    queue: LogQueue::Append,
+    seq: 1,
+};
+
+/// Entries from `start` to below `end`, each a byte of one block of `file`.
+fn run(alloc: Global, start: u64, end: u64, file: FileId) -> Result<Vec<EntryIndex>> {
+    let mut run = Vec::new(alloc);
+    for index in start..end {
+        run.push(EntryIndex {
+            index,
+            entries: Some(FileBlockHandle {
+                id: file,
+                offset: 0,
+                len: 100,
+            }),
+            compression_type: CompressionType::None,
+            entry_offset: 0,
+            entry_len: 1,
+        })?;
+    }
+    Ok(run)
+}
+
+fn entries(alloc: Global, region: u64, start: u64, end: u64, file: FileId) -> Result<LogItem> {
+    Ok(LogItem::new_entry_indexes(region, run(alloc, start, end, file)?))
+}
+
+fn pair(alloc: Global, region: u64, op_type: OpType, file: FileId) -> Result<LogItem> {
+    let mut value = None;
+    if op_type == OpType::Put {
+        value = Some(Vec::from_slice(alloc, b"v".as_slice())?);
+    }
+    let key = Vec::from_slice(alloc, b"k".as_slice())?;
+    let mut item = LogItem::new_kv(region, op_type, key, value);
+    if let LogItemContent::Kv(kv) = &mut item.content {
+        kv.file_id = Some(file);
+    }
+    Ok(item)
+}
+
+/// The first and the last index of a region's table, and its records in both queues.
+type Shape = (Option<u64>, Option<u64>, u128, u128);
+
+fn shape(accessor: &MemTableAccessor, region: u64) -> Option<Shape> {
+    let table = accessor.get(region)?;
+    Some((
+        table.first_index(),
+        table.last_index(),
+        table.records(LogQueue::Append),
+        table.records(LogQueue::Rewrite),
+    ))
+}
+
+fn live(accessor: &MemTableAccessor) -> (usize, usize) {
+    let stats = accessor.stats();
+    (
+        stats.live_entries(LogQueue::Append),
+        stats.live_entries(LogQueue::Rewrite),
+    )
+}
+
+/// Whether items were refused as `Corruption`; want of memory is handed on.
+fn is_corruption(written: Result<()>) -> Result<bool> {
+    match written {
+        Err(Error::Memory) => Err(Error::Memory),
+        Err(Error::Corruption(_)) => Ok(true),
+        _ => Ok(false),
+    }
+}
+
+/// The items in front of a hole stand, and nothing of those behind it.
+fn write_up_to_a_hole(alloc: Global) -> Result<bool> {
+    let mut accessor = MemTableAccessor::new(alloc)?;
+    let mut items = Vec::new(alloc);
+    items.push(entries(alloc, 1, 1, 4, FIRST)?)?;
+    items.push(entries(alloc, 1, 6, 8, FIRST)?)?;
+    items.push(pair(alloc, 2, OpType::Put, FIRST)?)?;
+    Ok(
+        is_corruption(accessor.apply_append_writes(items))?
+            && shape(&accessor, 1) == Some((Some(1), Some(3), 3, 0))
+            && shape(&accessor, 2) == None
+            && live(&accessor) == (3, 0),
+    )
+}
+
+/// A rewriting refuses deletions and compactions.
+fn rewrite_what_cannot_be(alloc: Global) -> Result<bool> {
+    let mut accessor = MemTableAccessor::new(alloc)?;
+    let mut deletion = Vec::new(alloc);
+    deletion.push(pair(alloc, 1, OpType::Del, FIRST)?)?;
+    let mut compaction = Vec::new(alloc);
+    compaction.push(LogItem::new_command(1, Command::Compact { index: 7 }))?;
+    Ok(
+        is_corruption(accessor.apply_rewrite_writes(deletion, Some(1), 50))?
+            && is_corruption(accessor.apply_rewrite_writes(compaction, Some(1), 50))?
+            && accessor.is_empty(),
+    )
+}
+
+/// Cleaned regions are listed as often as they are cleaned, in order, and handed out once.
+fn clean(alloc: Global) -> Result<bool> {
+    let mut accessor = MemTableAccessor::new(alloc)?;
+    accessor.change(5, TableChange::Append(run(alloc, 10, 20, FIRST)?))?;
+    let mut items = Vec::new(alloc);
+    for region in [3, 5, 3] {
+        items.push(LogItem::new_command(region, Command::Clean))?;
+    }
+    accessor.replay_append_writes(items)?;
+    let listed = accessor.cleaned_regions() == [3, 5, 3].as_slice();
+    let mut logs = accessor.take_cleaned_region_logs()?;
+    let mut regions = Vec::new(alloc);
+    for item in logs.drain() {
+        regions.push(item.raft_group_id)?;
+    }
+    let again = accessor.take_cleaned_region_logs()?;
+    Ok(
+        listed
+            && regions.as_slice() == [3, 5, 3].as_slice()
+            && again.is_empty()
+            && accessor.is_empty()
+            && live(&accessor) == (0, 0),
+    )
+}
+
+/// Tables that are rewritten, replaced, read again and removed stay counted.
+fn count(alloc: Global) -> Result<bool> {
+    let mut accessor = MemTableAccessor::new(alloc)?;
+    let rewritten = FileId::new(LogQueue::Rewrite, 50);
+    accessor.change(1, TableChange::Append(run(alloc, 10, 20, FIRST)?))?;
+    let mut items = Vec::new(alloc);
+    items.push(entries(alloc, 1, 10, 15, rewritten)?)?;
+    accessor.apply_rewrite_writes(items, Some(1), 50)?;
+    let moved = shape(&accessor, 1) == Some((Some(10), Some(19), 5, 5));
+    let counted = live(&accessor) == (5, 5);
+    accessor.apply_rewrite_atomic_group(1, 49, 50)?;
+    let least = match accessor.get(1) {
+        Some(table) => table.min_file_seq(LogQueue::Rewrite),
+        None => None,
+    };
+    let replaced = accessor.insert(1, MemTable::new(alloc, 1))?;
+    let emptied = live(&accessor) == (0, 0);
+    let mut items = Vec::new(alloc);
+    items.push(entries(alloc, 2, 1, 4, rewritten)?)?;
+    items.push(pair(alloc, 2, OpType::Put, rewritten)?)?;
+    accessor.replay_rewrite_writes(items)?;
+    let replayed = live(&accessor) == (0, 4);
+    let removed = accessor.remove(2, false)?;
+    Ok(
+        moved
+            && counted
+            && least == Some(49)
+            && replaced.is_some()
+            && emptied
+            && replayed
+            && removed.is_some()
+            && live(&accessor) == (0, 0)
+            && accessor.cleaned_regions().is_empty(),
+    )
+}
+
+/// A table is made where there is none and handed out, and a walk meets each.
+fn walk(alloc: Global) -> Result<bool> {
+    let mut accessor = MemTableAccessor::new(alloc)?;
+    let made = accessor.get_or_insert(7)?.region_id();
+    accessor.change(7, TableChange::Append(run(alloc, 10, 20, FIRST)?))?;
+    let last = accessor.get_or_insert(7)?.last_index();
+    for region in [8, 9] {
+        accessor.get_or_insert(region)?;
+    }
+    let sum = accessor.fold(0, |sum: u64, table: &MemTable| {
+        sum.wrapping_add(table.region_id())
+    });
+    let kept = accessor.collect(|table: &MemTable| table.first_index().is_none())?;
+    let mut regions = Vec::new(alloc);
+    for table in kept {
+        regions.push(table.region_id())?;
+    }
+    regions.sort()?;
+    Ok(made == 7 && last == Some(19) && sum == 24 && regions.as_slice() == [8, 9].as_slice())
+}
+
+/// The tables of regions with one run each, in files of one queue.
+fn replayed(alloc: Global, file: FileId, runs: &[(u64, u64, u64)]) -> Result<MemTableAccessor> {
+    let mut accessor = MemTableAccessor::new(alloc)?;
+    let mut items = Vec::new(alloc);
+    for (region, start, end) in runs {
+        items.push(entries(alloc, *region, *start, *end, file)?)?;
+    }
+    match file.queue {
+        LogQueue::Append => accessor.replay_append_writes(items)?,
+        LogQueue::Rewrite => accessor.replay_rewrite_writes(items)?,
+    }
+    Ok(accessor)
+}
+
+/// Tables of neighbors are joined region by region, unless a hole is left.
+fn merge_neighbors(alloc: Global) -> Result<bool> {
+    let mut older = replayed(alloc, FIRST, &[(1, 10, 20), (3, 1, 4)])?;
+    older.merge_newer_neighbor(replayed(alloc, FIRST, &[(1, 15, 18), (2, 5, 7)])?)?;
+    let joined = shape(&older, 1) == Some((Some(10), Some(17), 8, 0))
+        && shape(&older, 2) == Some((Some(5), Some(6), 2, 0))
+        && shape(&older, 3) == Some((Some(1), Some(3), 3, 0))
+        && live(&older) == (13, 0);
+    let hole = replayed(alloc, FIRST, &[(1, 25, 30)])?;
+    Ok(joined && is_corruption(older.merge_newer_neighbor(hole))? && live(&older) == (13, 0))
+}
+
+/// An appended table behind a hole takes the place of the rewritten one.
+fn merge_appended(alloc: Global) -> Result<bool> {
+    let rewritten = FileId::new(LogQueue::Rewrite, 50);
+    let mut older = replayed(alloc, rewritten, &[(1, 10, 20), (2, 1, 4)])?;
+    older.merge_append_table(replayed(alloc, FIRST, &[(1, 25, 30)])?)?;
+    Ok(
+        shape(&older, 1) == Some((Some(25), Some(29), 5, 0))
+            && shape(&older, 2) == Some((Some(1), Some(3), 0, 3))
+            && live(&older) == (5, 3),
+    )
+}
+
+/// Numbers as raft-engine gives them.
+#[test]
+fn a_region_has_one_slot(rt: HostRuntime) -> std::result::Result<(), Fail> {
+    for (region, slot) in [(0, 0), (1, 101), (2, 10), (10, 121), (20, 114), (127, 37)] {
+        assert_eq!(rt; slot_of(region), slot);
+    }
+    Ok(())
+}
+
+/// Whether all of it holds.
+fn write_items(alloc: Global) -> Result<bool> {
+    Ok(
+        write_up_to_a_hole(alloc)?
+            && rewrite_what_cannot_be(alloc)?
+            && clean(alloc)?
+            && count(alloc)?
+            && walk(alloc)?
+            && merge_neighbors(alloc)?
+            && merge_appended(alloc)?,
+    )
+}
+
+#[test]
+fn items_are_written_in_order(rt: HostRuntime) -> std::result::Result<(), Fail> {
+    let mut answer = write_items(rt.alloc());
+    if matches!(answer, Err(Error::Memory)) {
+        answer = write_items(rt.alloc());
+    }
+    assert!(rt; matches!(answer, Ok(true)));
+    Ok(())
+}

@@ -1,0 +1,7 @@
+//! Tests of `raft_memtable`.
+#![tactic(auto)]
+
+#[cfg(test)]
+mod groups;
+#[cfg(test)]
+mod items;

@@ -1,0 +1,136 @@
+//! Batches read one after another, whole and damaged.
+
+use raft_records::{
+    Error, FileBlockHandle, FileId, FilePart, LogItemContent, LogQueue, Result, Version, next_batch,
+};
+use std::alloc::Global;
+use std::process::Abort;
+
+/// The batch of region 7 with the indexes 10 and 11 and the bytes "ab" and "c", and that of region 1 with
+/// `Clean`, of a file of version 1.
+const BATCHES: &[u8; 58] =
+    b"\x00\x00\x00\x00\x00\x00\x22\x00\x00\x00\x00\x00\x00\x00\x00\x17abc\xc2\x41\x24\x35\x01\x07\x01\x02\x0a\x02\x03\xa7\xb3\xdf\x17\x00\x00\x00\x00\x00\x00\x18\x00\x00\x00\x00\x00\x00\x00\x00\x10\x01\x01\x02\x01\x5a\x80\x0b\xdd";
+
+/// How long the first of them is.
+const FIRST: usize = 34;
+
+/// A file of the append queue.
+fn file() -> FileId {
+    FileId::new(LogQueue::Append, 12)
+}
+
+/// These bytes of that file, from 100 on.
+fn part(alloc: Global, bytes: &[u8]) -> Result<FilePart> {
+    FilePart::new(file(), Version::V1, 100, Vec::from_slice(alloc, bytes)?)
+}
+
+/// How many items stand at `at`, and where the next batch begins; nothing at the end.
+fn counted(part: &FilePart, at: usize) -> Result<Option<(usize, usize)>> {
+    if at > part.bytes().len() {
+        return Ok(None);
+    }
+    match next_batch(part, at)? {
+        Some((batch, next)) => Ok(Some((batch.iter().count(), next))),
+        None => Ok(None),
+    }
+}
+
+/// Where the first entry's bytes lie.
+fn place(part: &FilePart) -> Result<Option<FileBlockHandle>> {
+    let Some((batch, _)) = next_batch(part, 0)? else {
+        return Ok(None);
+    };
+    for item in batch.iter() {
+        if let LogItemContent::EntryIndexes(entries) = &item.content {
+            return Ok(entries.0.first().and_then(|entry| entry.entries));
+        }
+    }
+    Ok(None)
+}
+
+/// Whether nothing is read at the start of these bytes, for `Corruption`.
+fn is_refused(alloc: Global, bytes: &[u8]) -> Result<bool> {
+    match counted(&part(alloc, bytes)?, 0) {
+        Ok(_read) => Ok(false),
+        Err(Error::Corruption(_text)) => Ok(true),
+        Err(e) => Err(e),
+    }
+}
+
+#[test]
+fn batches(rt: HostRuntime) {
+    let answer = match batches_stand_one_behind_the_other(&rt, rt.alloc()) {
+        Err(Error::Memory) => batches_stand_one_behind_the_other(&rt, rt.alloc()),
+        answer => answer,
+    };
+    assert!(rt; answer.is_ok());
+}
+
+fn batches_stand_one_behind_the_other(rt: &impl Abort, alloc: Global) -> Result<()> {
+    let part = part(alloc, BATCHES)?;
+    assert!(rt; part.id() == file() && part.version() == Version::V1 && part.offset() == 100);
+    assert!(rt; counted(&part, 0)? == Some((1, FIRST)));
+    assert!(rt; counted(&part, FIRST)? == Some((1, 58)));
+    assert!(rt; counted(&part, 58)?.is_none());
+    let wanted = FileBlockHandle {
+        id: file(),
+        offset: 116,
+        len: 7,
+    };
+    assert!(rt; place(&part)? == Some(wanted));
+    Ok(())
+}
+
+#[test]
+fn damaged_batches(rt: HostRuntime) {
+    let answer = match damaged_batches_are_refused(&rt, rt.alloc()) {
+        Err(Error::Memory) => damaged_batches_are_refused(&rt, rt.alloc()),
+        answer => answer,
+    };
+    assert!(rt; answer.is_ok());
+}
+
+/// A batch that is cut short is refused, and one with a flipped bit, but in its entry block, which
+/// isn't read.
+fn damaged_batches_are_refused(rt: &impl Abort, alloc: Global) -> Result<()> {
+    for len in 1..FIRST {
+        let bytes = BATCHES.get(..len).unwrap_or(&[]);
+        assert!(rt; is_refused(alloc, bytes)?, "{len} bytes");
+    }
+    for at in 0..FIRST {
+        let mut bytes = *BATCHES;
+        bytes[at] ^= 1;
+        let bytes = bytes.get(..FIRST).unwrap_or(&[]);
+        if at >= 16 && at < 23 {
+            assert!(rt;
+                counted(&part(alloc, bytes)?, 0)? == Some((1, FIRST)),
+                "at {at}"
+            );
+        } else {
+            assert!(rt; is_refused(alloc, bytes)?, "at {at}");
+        }
+    }
+    Ok(())
+}
+
+#[test]
+fn ends(rt: HostRuntime) {
+    let answer = match parts_end_at_the_last_offset(&rt, rt.alloc()) {
+        Err(Error::Memory) => parts_end_at_the_last_offset(&rt, rt.alloc()),
+        answer => answer,
+    };
+    assert!(rt; answer.is_ok());
+}
+
+fn parts_end_at_the_last_offset(rt: &impl Abort, alloc: Global) -> Result<()> {
+    let end = u64::MAX - 58;
+    for (offset, fits) in [(end, true), (end + 1, false), (u64::MAX, false)] {
+        let bytes = Vec::from_slice(alloc, BATCHES)?;
+        match FilePart::new(file(), Version::V2, offset, bytes) {
+            Ok(_part) => assert!(rt; fits),
+            Err(Error::InvalidArgument(_text)) => assert!(rt; !fits),
+            Err(e) => return Err(e),
+        }
+    }
+    Ok(())
+}

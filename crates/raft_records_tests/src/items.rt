@@ -1,0 +1,407 @@
+//! Items and batches of items, as the Rust crate writes and reads them.
+
+ghost use Rattle.std.specs.Prelude.{◌≡◌};
+
+use raft_records::{
+    Command, CompressionType, EntryIndex, EntryIndexes, Error, FileBlockHandle, FileId, KeyValue,
+    LogFileContext, LogItem, LogItemBatch, LogQueue, OpType, Result, Version,
+};
+use std::alloc::Global;
+use std::process::Abort;
+
+#[test]
+fn commands(rt: HostRuntime) {
+    let answer = match commands_are_their_bytes(&rt, rt.alloc()) {
+        Err(Error::Memory) => commands_are_their_bytes(&rt, rt.alloc()),
+        answer => answer,
+    };
+    assert!(rt; answer.is_ok());
+}
+
+/// Commands are written as these bytes, and read of them.
+fn commands_are_their_bytes(rt: &impl Abort, alloc: Global) -> Result<()> {
+    for (command, bytes) in [
+        (Command::Clean, b"\x01".as_slice()),
+        (Command::Compact { index: 7 }, b"\x02\x07".as_slice()),
+        (Command::Compact { index: 300 }, b"\x02\xac\x02".as_slice()),
+        (
+            Command::Compact { index: u64::MAX },
+            b"\x02\xff\xff\xff\xff\xff\xff\xff\xff\xff\x01".as_slice(),
+        ),
+    ] {
+        let mut buf = Vec::new(alloc);
+        command.encode(&mut buf)?;
+        assert!(rt; buf.as_slice() == bytes);
+        let mut rest = bytes;
+        let read = Command::decode(alloc, &mut rest)?;
+        assert!(rt; read == command && rest.is_empty());
+    }
+    Ok(())
+}
+
+/// A change of one key.
+fn key_value(alloc: Global, op_type: OpType, key: &[u8], value: Option<&[u8]>) -> Result<KeyValue> {
+    let key = Vec::from_slice(alloc, key)?;
+    let value = match value {
+        Some(value) => Some(Vec::from_slice(alloc, value)?),
+        None => None,
+    };
+    Ok(KeyValue::new(op_type, key, value))
+}
+
+#[test]
+fn key_values(rt: HostRuntime) {
+    let answer = match key_values_are_their_bytes(&rt, rt.alloc()) {
+        Err(Error::Memory) => key_values_are_their_bytes(&rt, rt.alloc()),
+        answer => answer,
+    };
+    assert!(rt; answer.is_ok());
+}
+
+/// Key values are written as these bytes and read of them, a `Del` without its value.
+fn key_values_are_their_bytes(rt: &impl Abort, alloc: Global) -> Result<()> {
+    let put = b"\x01\x03\x70\x75\x74\x05\x70\x75\x74\x5f\x76".as_slice();
+    let del = b"\x02\x03\x64\x65\x6c".as_slice();
+    let mut long_put = [0xff; 135];
+    long_put[..5].copy_from_slice(b"\x01\x01k\x82\x01");
+    for (op_type, key, value, bytes) in [
+        (OpType::Put, "put", Some(b"put_v".as_slice()), put),
+        (
+            OpType::Put,
+            "",
+            Some(b"".as_slice()),
+            b"\x01\x00\x00".as_slice(),
+        ),
+        (
+            OpType::Put,
+            "k",
+            Some([0xff; 130].as_slice()),
+            long_put.as_slice(),
+        ),
+        (OpType::Del, "del", None, del),
+        (OpType::Del, "del", Some(b"del_v".as_slice()), del),
+        (OpType::Del, "", None, b"\x02\x00".as_slice()),
+    ] {
+        let mut buf = Vec::new(alloc);
+        key_value(alloc, op_type, key.as_bytes(), value)?.encode(&mut buf)?;
+        assert!(rt; buf.as_slice() == bytes);
+        let mut rest = bytes;
+        let read = KeyValue::decode(alloc, &mut rest)?;
+        let written = if op_type == OpType::Put { value } else { None };
+        assert!(rt; read == key_value(alloc, op_type, key.as_bytes(), written)?);
+    }
+    Ok(())
+}
+
+/// Entries of these lengths, one behind the other, the first with this index.
+fn run_of(alloc: Global, first: u64, lengths: &[u32]) -> Result<EntryIndexes> {
+    let mut entries = Vec::new(alloc);
+    let mut index = first;
+    let mut entry_offset = 0u32;
+    for entry_len in lengths {
+        entries.push(EntryIndex {
+            index,
+            entry_offset,
+            entry_len: *entry_len,
+            ..EntryIndex::default()
+        })?;
+        index = index.wrapping_add(1);
+        entry_offset = entry_offset.saturating_add(*entry_len);
+    }
+    Ok(EntryIndexes(entries))
+}
+
+/// The first index and the lengths of entries, and their bytes.
+const ENTRIES: [(u64, &[u32], &[u8]); 7] = [
+    (0, &[], b"\x00"),
+    (10, &[1, 1, 1], b"\x03\x0a\x01\x02\x03"),
+    (10, &[2, 1], b"\x02\x0a\x02\x03"),
+    (7, &[0, 0, 5, 0], b"\x04\x07\x00\x00\x05\x05"),
+    (
+        300,
+        &[128, 16_384, 1],
+        b"\x03\xac\x02\x80\x01\x80\x81\x01\x81\x81\x01",
+    ),
+    (
+        18_446_744_073_709_551_614,
+        &[1],
+        b"\x01\xfe\xff\xff\xff\xff\xff\xff\xff\xff\x01\x01",
+    ),
+    (
+        1 << 56,
+        &[u32::MAX],
+        b"\x01\x80\x80\x80\x80\x80\x80\x80\x80\x01\xff\xff\xff\xff\x0f",
+    ),
+];
+
+#[test]
+fn entries(rt: HostRuntime) {
+    let answer = match entries_are_their_tail_offsets(&rt, rt.alloc()) {
+        Err(Error::Memory) => entries_are_their_tail_offsets(&rt, rt.alloc()),
+        answer => answer,
+    };
+    assert!(rt; answer.is_ok());
+}
+
+/// Entries are written as these bytes, and read of them.
+fn entries_are_their_tail_offsets(rt: &impl Abort, alloc: Global) -> Result<()> {
+    for (first, lengths, bytes) in ENTRIES {
+        let run = run_of(alloc, first, lengths)?;
+        let mut buf = Vec::new(alloc);
+        run.encode(&mut buf)?;
+        assert!(rt; buf.as_slice() == bytes);
+        let mut rest = bytes;
+        let mut size = 0;
+        let read = EntryIndexes::decode(alloc, &mut rest, &mut size)?;
+        assert!(rt; read == run && rest.is_empty());
+    }
+    Ok(())
+}
+
+/// What is read in front of bytes.
+#[derive(Clone, Copy)]
+enum Read {
+    /// An item, behind which so many entry bytes and so many bytes are.
+    Item(u32, usize),
+    /// A type that none is known of, in the words of the refusal.
+    Unrecognized(&'static str),
+    Corruption,
+    Codec,
+    Io,
+}
+
+/// Whether this is read in front of the bytes, and an item is written as it was read.
+fn is_item_row(alloc: Global, bytes: &[u8], read: Read) -> Result<bool> {
+    let mut rest = bytes;
+    let mut size = 0;
+    match LogItem::decode(alloc, &mut rest, &mut size) {
+        Ok(item) => {
+            let mut buf = Vec::new(alloc);
+            item.encode(&mut buf)?;
+            let front = bytes.strip_suffix(rest).unwrap_or(bytes);
+            let read_so =
+                matches!(read, Read::Item(end, left) if size == end && rest.len() == left);
+            Ok(read_so && buf.as_slice() == front)
+        }
+        Err(Error::Memory) => Err(Error::Memory),
+        Err(e) => Ok(match (read, &e) {
+            (Read::Unrecognized(text), Error::Corruption(found)) => found.as_str() == text,
+            (Read::Corruption, Error::Corruption(_)) => true,
+            (Read::Codec, Error::Codec(_)) => true,
+            (Read::Io, Error::Io(_)) => true,
+            _ => false,
+        }),
+    }
+}
+
+/// Bytes, and what is read in front of them.
+const ITEMS: [(&[u8], Read); 31] = [
+    (b"", Read::Codec),
+    (b"\x01", Read::Io),
+    (b"\x01\x01", Read::Codec),
+    (b"\x01\x01\x02", Read::Codec),
+    (b"\x01\x01\x02\x01", Read::Codec),
+    (b"\x01\x02\x01", Read::Item(0, 0)),
+    (b"\x01\x02\x02", Read::Codec),
+    (
+        b"\x01\x02\x03",
+        Read::Unrecognized("Unrecognized command type: 3"),
+    ),
+    (b"\x01\x01\x02\x07", Read::Codec),
+    (b"\x01\x02", Read::Codec),
+    (
+        b"\x01\x02\x07",
+        Read::Unrecognized("Unrecognized command type: 7"),
+    ),
+    (b"\x01\x02\x02\x07", Read::Item(0, 0)),
+    (b"\x01\x03", Read::Codec),
+    (b"\x01\x03\x01", Read::Codec),
+    (b"\x01\x03\x01\x03put", Read::Codec),
+    (b"\x01\x03\x02\x00", Read::Item(0, 0)),
+    (b"\x01\x03\x02", Read::Codec),
+    (
+        b"\x01\x03\x00",
+        Read::Unrecognized("Unrecognized op type: 0"),
+    ),
+    (
+        b"\x01\x03\x03",
+        Read::Unrecognized("Unrecognized op type: 3"),
+    ),
+    (b"\x01\x03\x01\x03put\x05put_v", Read::Item(0, 0)),
+    (b"\x01\x03\x01\x05p", Read::Corruption),
+    (
+        b"\x01\x04",
+        Read::Unrecognized("Unrecognized log item type: 4"),
+    ),
+    (
+        b"\x01\x00",
+        Read::Unrecognized("Unrecognized log item type: 0"),
+    ),
+    (b"\x80\x01\x02\x01", Read::Item(0, 0)),
+    (b"\x01\x01\x03\x01", Read::Codec),
+    (b"\x01\x01\x00\x0a", Read::Item(0, 1)),
+    (b"\x01\x01\x02\x0a\x01\x05", Read::Item(5, 0)),
+    (b"\x01\x01\x03\x0a\x01\x02\x03", Read::Item(3, 0)),
+    (b"\x01\x01\x02\x05\x03\x02", Read::Corruption),
+    (
+        b"\x01\x01\x01\xfe\xff\xff\xff\xff\xff\xff\xff\xff\x01\x01",
+        Read::Item(1, 0),
+    ),
+    (
+        b"\x01\x01\x02\xfe\xff\xff\xff\xff\xff\xff\xff\xff\x01\x01\x01",
+        Read::Corruption,
+    ),
+];
+
+#[test]
+fn items(rt: HostRuntime) {
+    let answer = match items_are_read_as_in_the_rows(&rt, rt.alloc()) {
+        Err(Error::Memory) => items_are_read_as_in_the_rows(&rt, rt.alloc()),
+        answer => answer,
+    };
+    assert!(rt; answer.is_ok());
+}
+
+fn items_are_read_as_in_the_rows(rt: &impl Abort, alloc: Global) -> Result<()> {
+    for (bytes, read) in ITEMS {
+        assert!(rt; is_item_row(alloc, bytes, read)?, "at {bytes:?}");
+    }
+    Ok(())
+}
+
+/// The batch's bytes in a file of the append queue.
+fn sealed(alloc: Global, batch: &mut LogItemBatch, seq: u64, version: Version) -> Result<Vec<u8>> {
+    let context = LogFileContext::new(FileId::new(LogQueue::Append, seq), version);
+    let mut buf = Vec::new(alloc);
+    batch.encode(&mut buf)?;
+    batch.prepare_write(buf.as_mut_slice(), &context);
+    Ok(buf)
+}
+
+/// Whether these bytes are a batch without items in the file; `Corruption` is an answer.
+fn is_empty_batch(alloc: Global, bytes: &[u8], seq: u64, version: Version) -> Result<bool> {
+    let context = LogFileContext::new(FileId::new(LogQueue::Append, seq), version);
+    let place = FileBlockHandle {
+        id: context.id,
+        offset: 0,
+        len: 0,
+    };
+    let mut rest = bytes;
+    match LogItemBatch::decode(alloc, &mut rest, place, CompressionType::None, &context) {
+        Ok(batch) => Ok(batch.into_items().is_empty() && rest.is_empty()),
+        Err(Error::Corruption(_text)) => Ok(false),
+        Err(e) => Err(e),
+    }
+}
+
+#[test]
+fn empty_batch(rt: HostRuntime) {
+    let answer = match empty_batch_is_signed(&rt, rt.alloc()) {
+        Err(Error::Memory) => empty_batch_is_signed(&rt, rt.alloc()),
+        answer => answer,
+    };
+    assert!(rt; answer.is_ok());
+}
+
+/// A batch without items is these bytes in these files, and is read in them alone.
+fn empty_batch_is_signed(rt: &impl Abort, alloc: Global) -> Result<()> {
+    let mut batch = LogItemBatch::default(alloc);
+    assert!(rt; batch.approximate_size() == 12 && batch.entry_index().is_none());
+    for (seq, version, bytes) in [
+        (12, Version::V1, b"\x00\x8d\xef\x02\xd2"),
+        (12, Version::V2, b"\x00\x81\xef\x02\xd2"),
+        (13, Version::V2, b"\x00\x80\xef\x02\xd2"),
+        (0x1_0000_000c, Version::V2, b"\x00\x81\xef\x02\xd2"),
+        (u64::MAX, Version::V2, b"\x00\x72\x10\xfd\x2d"),
+    ] {
+        let written = sealed(alloc, &mut batch, seq, version)?;
+        assert!(rt; written.as_slice() == bytes.as_slice());
+        assert!(rt; is_empty_batch(alloc, bytes, seq, version)?);
+        assert!(rt; !is_empty_batch(alloc, bytes, seq ^ 1, Version::V2)?);
+    }
+    Ok(())
+}
+
+/// A put and a delete, as one batch.
+fn put_and_delete(alloc: Global) -> Result<LogItemBatch> {
+    let mut batch = LogItemBatch::with_capacity(alloc, 2)?;
+    let key = Vec::from_slice(alloc, b"put")?;
+    batch.put(1, key, Vec::from_slice(alloc, b"put_v")?)?;
+    batch.delete(1, Vec::new(alloc))?;
+    Ok(batch)
+}
+
+/// An entry of one byte.
+fn entry(index: u64) -> EntryIndex
+    ensures index { result.index ≡ index }
+    ensures len { result.entry_len ≡ 1 }
+{
+    EntryIndex {
+        index,
+        entry_len: 1,
+        ..EntryIndex::default()
+    }
+}
+
+/// Three entries of region 7 and, in a batch that was merged into theirs, two of region 8.
+fn merged(alloc: Global) -> Result<LogItemBatch> {
+    let mut batch = LogItemBatch::default(alloc);
+    batch.add_entry_indexes(
+        7,
+        Vec::from_slice(alloc, &[entry(10), entry(11), entry(12)])?,
+    )?;
+    let mut behind = LogItemBatch::default(alloc);
+    behind.add_entry_indexes(8, Vec::from_slice(alloc, &[entry(1), entry(2)])?)?;
+    batch.merge(&mut behind)?;
+    Ok(batch)
+}
+
+/// What is seen of a batch before and after its items are handed out.
+#[derive(Drop)]
+struct Seen {
+    approximate_size: usize,
+    /// The index of the first entry, if the batch has any.
+    first_index: Option<u64>,
+    /// In the file 12.
+    bytes: Vec<u8>,
+    /// How many items are handed out.
+    items: usize,
+}
+
+/// What is seen of a batch.
+fn look_at(alloc: Global, mut batch: LogItemBatch) -> Result<Seen> {
+    Ok(Seen {
+        approximate_size: batch.approximate_size(),
+        first_index: batch.entry_index().map(|entry| entry.index),
+        bytes: sealed(alloc, &mut batch, 12, Version::V1)?,
+        items: batch.drain().count(),
+    })
+}
+
+#[test]
+fn built_batches(rt: HostRuntime) {
+    let answer = match batches_are_as_built(&rt, rt.alloc()) {
+        Err(Error::Memory) => batches_are_as_built(&rt, rt.alloc()),
+        answer => answer,
+    };
+    assert!(rt; answer.is_ok());
+}
+
+/// Two batches have these sizes, first entries and bytes, and two items each.
+fn batches_are_as_built(rt: &impl Abort, alloc: Global) -> Result<()> {
+    let put = look_at(alloc, put_and_delete(alloc)?)?;
+    assert!(rt; put.approximate_size == 72 && put.first_index.is_none() && put.items == 2);
+    assert!(rt;
+        put.bytes.as_slice()
+            == b"\x02\x01\x03\x01\x03put\x05put_v\x01\x03\x02\x00\xf3\xf9\x46\xa8".as_slice()
+    );
+    let merged = look_at(alloc, merged(alloc)?)?;
+    assert!(rt;
+        merged.approximate_size == 102 && merged.first_index == Some(10) && merged.items == 2
+    );
+    assert!(rt;
+        merged.bytes.as_slice()
+            == b"\x02\x07\x01\x03\x0a\x01\x02\x03\x08\x01\x02\x01\x04\x05\xdc\x30\x8b\x52".as_slice()
+    );
+    Ok(())
+}

@@ -1,0 +1,15 @@
+//! Tests of `raft_records`.
+#![tactic(auto)]
+
+#[cfg(test)]
+mod file_parts;
+#[cfg(test)]
+mod groups;
+#[cfg(test)]
+mod items;
+#[cfg(test)]
+mod log_batches;
+#[cfg(test)]
+mod printing;
+#[cfg(test)]
+mod refusals;

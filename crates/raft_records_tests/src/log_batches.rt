@@ -1,0 +1,477 @@
+//! Batches of items and entry bytes, as the Rust crate makes them.
+
+ghost use Rattle.std.specs.Prelude.{◌≡◌, [], IfOk, OnOk, OnErr};
+ghost use Rattle.raft_records.specs.LogBatch.{populating};
+
+mod rows;
+
+use raft_records::{
+    Command, CompressionType, EntryIndex, Error, FileBlockHandle, FileId, LogBatch, LogFileContext,
+    LogItem, LogItemBatch, LogItemContent, LogQueue, Message, MessageError, MessageExt,
+    ReactiveBytes, Result, Version,
+};
+use rows::Row;
+use std::alloc::Global;
+use std::process::Abort;
+
+/// A line of a log, which refuses to write itself where it has no text.
+#[derive(Clone, Copy, PartialEq, Eq, Debug)]
+struct Line {
+    index: u64,
+    text: &'static [u8],
+}
+
+impl Message for Line {
+    ghost bytes_of = { λ line. line.text.now };
+
+    ghost refuses = { λ line code. (line.text.now ≡ []) × (code ≡ 7) };
+
+    fn write_to_vec(&self, buf: &mut Vec<u8>) -> std::result::Result<(), MessageError> {
+        if self.text.is_empty() {
+            return Err(MessageError::Refused(7));
+        }
+        match buf.extend_from_slice(self.text) {
+            Ok(()) => Ok(()),
+            Err(_) => Err(MessageError::Memory),
+        }
+    }
+}
+
+/// Logs of lines.
+struct Lines;
+
+impl MessageExt for Lines {
+    type Entry = Line;
+
+    ghost index_of = { λ line. line.index };
+
+    fn index(line: &Line) -> u64 {
+        line.index
+    }
+}
+
+/// A line of a log.
+const fn line_of(index: u64, text: &'static [u8]) -> Line {
+    Line { index, text }
+}
+
+/// An entry without bytes.
+fn entry(index: u64) -> EntryIndex
+    ensures { result.index ≡ index }
+{
+    EntryIndex {
+        index,
+        ..EntryIndex::default()
+    }
+}
+
+/// A batch with a command.
+fn with_command(alloc: Global, region_id: u64, command: Command) -> Result<LogBatch>
+    ensures { IfOk result (λ batch. batch.stage ≡ populating) }
+{
+    let mut batch = LogBatch::default(alloc);
+    batch.add_command(region_id, command)?;
+    Ok(batch)
+}
+
+/// A batch with a put and a delete.
+fn with_key_values(alloc: Global) -> Result<LogBatch>
+    ensures { IfOk result (λ batch. batch.stage ≡ populating) }
+{
+    let mut batch = LogBatch::with_capacity(alloc, 2)?;
+    let key = Vec::from_slice(alloc, b"put")?;
+    batch.put_message(1, key, &line_of(0, b"put_v"))?;
+    batch.delete(1, Vec::new(alloc))?;
+    Ok(batch)
+}
+
+/// A batch with entries.
+fn with_lines(alloc: Global, region_id: u64, lines: &[Line]) -> Result<LogBatch>
+    ensures { IfOk result (λ batch. batch.stage ≡ populating) }
+{
+    let mut batch = LogBatch::default(alloc);
+    batch.add_entries::<Lines>(region_id, lines)?;
+    Ok(batch)
+}
+
+/// A batch with three entries, of which one has no bytes, and one item of each other kind.
+fn with_one_of_each(alloc: Global) -> Result<LogBatch>
+    ensures { IfOk result (λ batch. batch.stage ≡ populating) }
+{
+    let mut batch = LogBatch::default(alloc);
+    let indexes = Vec::from_slice(alloc, &[entry(10), entry(11), entry(12)])?;
+    let texts = vec![in alloc;
+        Vec::from_slice(alloc, b"ab")?,
+        Vec::new(alloc),
+        Vec::from_slice(alloc, b"c")?,
+    ]?;
+    batch.add_raw_entries(7, indexes, texts)?;
+    batch.add_command(8, Command::Clean)?;
+    batch.add_command(7, Command::Compact { index: 11 })?;
+    batch.put(
+        9,
+        Vec::from_slice(alloc, b"k")?,
+        Vec::from_slice(alloc, b"v")?,
+    )?;
+    batch.delete(9, Vec::from_slice(alloc, b"j")?)?;
+    batch.put_unchecked(
+        9,
+        Vec::from_slice(alloc, b"__\x01")?,
+        Vec::from_slice(alloc, &[0])?,
+    )?;
+    Ok(batch)
+}
+
+/// Three entries of region 7, and two of region 8 in a batch that was merged behind theirs.
+fn merged(alloc: Global) -> Result<LogBatch>
+    ensures { IfOk result (λ batch. batch.stage ≡ populating) }
+{
+    let mut batch = LogBatch::default(alloc);
+    let first = [line_of(10, b"x"), line_of(11, b"x"), line_of(12, b"x")];
+    batch.merge(&mut with_lines(alloc, 7, &first)?)?;
+    let second = [line_of(1, b"x"), line_of(2, b"x")];
+    batch.merge(&mut with_lines(alloc, 8, &second)?)?;
+    Ok(batch)
+}
+
+/// A file of the append queue.
+fn context(seq: u64, version: Version) -> LogFileContext {
+    LogFileContext::new(FileId::new(LogQueue::Append, seq), version)
+}
+
+/// The place of the block between a header at the file's start and an item batch.
+fn block_of(id: FileId, item_offset: usize) -> FileBlockHandle {
+    FileBlockHandle {
+        id,
+        offset: 16,
+        len: item_offset.saturating_sub(16),
+    }
+}
+
+/// Whether these are the bytes of the value in a file.
+fn is_written<T: ReactiveBytes>(
+    value: &mut T,
+    seq: u64,
+    version: Version,
+    front: &[u8],
+    seal: &[u8],
+) -> bool {
+    if !value.ready() {
+        return false;
+    }
+    let bytes = value.as_bytes(&context(seq, version));
+    bytes.len() == front.len() + seal.len() && bytes.starts_with(front) && bytes.ends_with(seal)
+}
+
+/// Whether a sealed batch's header, entry bytes and item batch are read as in the row, in the same file.
+fn is_read_so(
+    alloc: Global,
+    batch: &LogBatch,
+    context: &LogFileContext,
+    row: &Row,
+) -> Result<bool> {
+    if !batch.is_sealed() {
+        return Ok(false);
+    }
+    let bytes = batch.encoded_bytes();
+    if bytes.is_empty() {
+        return Ok(row.front.is_empty());
+    }
+    let mut behind = bytes;
+    let (offset, compression_type, len) = LogBatch::decode_header(alloc, &mut behind)?;
+    if offset != row.offset || offset > len || len != bytes.len() {
+        return Ok(false);
+    }
+    let place = block_of(context.id, offset);
+    let entries = LogBatch::decode_entries_block(alloc, behind, place, compression_type)?;
+    let mut footer = &bytes[offset..];
+    let items = LogItemBatch::decode(alloc, &mut footer, place, compression_type, context)?;
+    Ok(entries.as_slice() == row.entry_bytes && items.approximate_size() == row.item_batch_size)
+}
+
+/// Whether an open batch has the row's approximate size, and then its bytes in five files, which are
+/// read there.
+fn is_made(alloc: Global, batch: &mut LogBatch, row: &Row) -> Result<bool> {
+    if batch.ready() || !batch.is_open() || batch.approximate_size() != row.size {
+        return Ok(false);
+    }
+    let len = batch.finish_populate()?;
+    let mut same = batch.approximate_size() == len
+        && len.checked_sub(row.front.len()) == Some(row.seals[0].len());
+    for (seal, seq, version) in [
+        (row.seals[0], 12, Version::V1),
+        (row.seals[1], 12, Version::V2),
+        (row.seals[2], 13, Version::V2),
+        (row.seals[1], 0x1_0000_000c, Version::V2),
+        (row.seals[3], u64::MAX, Version::V2),
+    ] {
+        same &= is_written(batch, seq, version, row.front, seal);
+        same &= is_read_so(alloc, batch, &context(seq, version), row)?;
+    }
+    Ok(same && batch.is_sealed())
+}
+
+#[test]
+fn rows_of_batches(rt: HostRuntime) {
+    let answer = match batches_are_made_and_read_as_in_the_rows(&rt, rt.alloc()) {
+        Err(Error::Memory) => batches_are_made_and_read_as_in_the_rows(&rt, rt.alloc()),
+        answer => answer,
+    };
+    assert!(rt; answer.is_ok());
+}
+
+fn batches_are_made_and_read_as_in_the_rows(rt: &impl Abort, alloc: Global) -> Result<()> {
+    let lines = [line_of(10, b"ab"), line_of(11, b"c")];
+    for (mut batch, row) in [
+        (LogBatch::default(alloc), rows::EMPTY),
+        (with_command(alloc, 1, Command::Clean)?, rows::CLEAN),
+        (
+            with_command(alloc, 300, Command::Compact { index: 1 << 40 })?,
+            rows::COMPACT,
+        ),
+        (with_key_values(alloc)?, rows::KEY_VALUES),
+        (with_lines(alloc, 7, &lines)?, rows::LINES),
+        (merged(alloc)?, rows::MERGED),
+        (with_one_of_each(alloc)?, rows::ONE_OF_EACH),
+    ] {
+        assert!(rt; is_made(alloc, &mut batch, &row)?, "{}", row.size);
+    }
+    Ok(())
+}
+
+/// Which refusal a call answers, if any.
+#[derive(Clone, Copy, PartialEq, Eq, Debug)]
+enum Refusal {
+    None,
+    InvalidArgument,
+    Message,
+    Other,
+}
+
+/// What comes of a call, if it isn't refused for want of memory.
+fn refusal_of(called: Result<()>) -> Result<Refusal> {
+    match called {
+        Ok(()) => Ok(Refusal::None),
+        Err(Error::InvalidArgument(_text)) => Ok(Refusal::InvalidArgument),
+        Err(Error::Message(MessageError::Refused(7))) => Ok(Refusal::Message),
+        Err(Error::Memory) => Err(Error::Memory),
+        Err(_) => Ok(Refusal::Other),
+    }
+}
+
+/// A put of a message under a key.
+fn put_line(alloc: Global, batch: &mut LogBatch, key: &[u8], text: &'static [u8]) -> Result<()>
+    requires { batch.old.stage ≡ populating }
+{
+    batch.put_message(1, Vec::from_slice(alloc, key)?, &line_of(0, text))
+}
+
+/// A put of an empty value under a key.
+fn put_empty(alloc: Global, batch: &mut LogBatch, key: &[u8]) -> Result<()>
+    requires { batch.old.stage ≡ populating }
+{
+    batch.put(1, Vec::from_slice(alloc, key)?, Vec::new(alloc))
+}
+
+/// One of nine calls, of which the last four are not refused.
+fn attempt(alloc: Global, batch: &mut LogBatch, number: usize) -> Result<()> {
+    if !batch.is_open() {
+        return Ok(());
+    }
+    let last = u64::MAX;
+    match number {
+        0 => batch.add_entries::<Lines>(1, &[line_of(10, b"a"), line_of(12, b"b")]),
+        1 => batch.add_entries::<Lines>(1, &[line_of(last, b"a")]),
+        2 => batch.add_entries::<Lines>(1, &[line_of(10, b"a"), line_of(11, b"")]),
+        3 => put_empty(alloc, batch, b"__\x01"),
+        4 => put_line(alloc, batch, b"__\x01", b"a"),
+        5 => put_line(alloc, batch, b"a", b""),
+        6 => batch.add_entries::<Lines>(1, &[]),
+        7 => put_empty(alloc, batch, b"__\x00"),
+        _ => batch.delete(1, Vec::from_slice(alloc, b"__\x01")?),
+    }
+}
+
+#[test]
+fn refused_additions(rt: HostRuntime) {
+    let answer = match refused_additions_leave_the_batch(&rt, rt.alloc()) {
+        Err(Error::Memory) => refused_additions_leave_the_batch(&rt, rt.alloc()),
+        answer => answer,
+    };
+    assert!(rt; answer.is_ok());
+}
+
+/// What each call is refused for, if it is, and the batch's approximate size behind it.
+fn refused_additions_leave_the_batch(rt: &impl Abort, alloc: Global) -> Result<()> {
+    for (number, refusal, size) in [
+        (0, Refusal::InvalidArgument, 0),
+        (1, Refusal::InvalidArgument, 0),
+        (2, Refusal::Message, 0),
+        (3, Refusal::InvalidArgument, 0),
+        (4, Refusal::InvalidArgument, 0),
+        (5, Refusal::Message, 0),
+        (6, Refusal::None, 0),
+        (7, Refusal::None, 61),
+        (8, Refusal::None, 61),
+    ] {
+        let mut batch = LogBatch::default(alloc);
+        let called = attempt(alloc, &mut batch, number);
+        assert!(rt; refusal_of(called)? == refusal, "of call {number}");
+        assert!(rt;
+            batch.is_open() && batch.approximate_size() == size,
+            "after {number}"
+        );
+    }
+    Ok(())
+}
+
+/// Whether the items of a log batch are read from its bytes in a file, behind these entry bytes.
+fn is_read(alloc: Global, bytes: &[u8], seq: u64, entry_bytes: &[u8]) -> Result<bool> {
+    let mut behind = bytes;
+    let (offset, compression_type, len) = LogBatch::decode_header(alloc, &mut behind)?;
+    if offset > len || len != bytes.len() {
+        return Ok(false);
+    }
+    let context = context(seq, Version::V2);
+    let place = block_of(context.id, offset);
+    let entries = LogBatch::decode_entries_block(alloc, behind, place, compression_type)?;
+    let mut footer = &bytes[offset..];
+    match LogItemBatch::decode(alloc, &mut footer, place, compression_type, &context) {
+        Ok(items) => Ok(entries.as_slice() == entry_bytes && !items.into_items().is_empty()),
+        Err(Error::Corruption(_text)) => Ok(false),
+        Err(e) => Err(e),
+    }
+}
+
+/// Whether a batch that is signed for three files in turn is read each time in that file alone.
+fn is_read_where_signed(alloc: Global) -> Result<bool> {
+    let mut batch = with_one_of_each(alloc)?;
+    batch.finish_populate()?;
+    let mut same = true;
+    for seq in [12, 18, 2001] {
+        if !batch.ready() {
+            return Ok(false);
+        }
+        let bytes = batch.as_bytes(&context(seq, Version::V2));
+        for reader in [12, 18, 2001] {
+            same &= is_read(alloc, bytes, reader, b"abc")? == (seq == reader);
+        }
+    }
+    Ok(same)
+}
+
+#[test]
+fn one_batch_signed_for_three_files(rt: HostRuntime) {
+    let answer = match is_read_where_signed(rt.alloc()) {
+        Err(Error::Memory) => is_read_where_signed(rt.alloc()),
+        answer => answer,
+    };
+    assert!(rt; matches!(answer, Ok(true)));
+}
+
+/// Whether a batch whose bytes are asked for is then as its clone that was signed for the same file.
+fn is_only_signed(alloc: Global) -> Result<bool> {
+    let mut batch = with_one_of_each(alloc)?;
+    batch.finish_populate()?;
+    let mut signed = batch.clone()?;
+    if signed.is_open() || !batch.ready() {
+        return Ok(false);
+    }
+    signed.prepare_write(&context(12, Version::V2));
+    let len = batch.as_bytes(&context(12, Version::V2)).len();
+    if !batch.is_sealed() || !signed.is_sealed() {
+        return Ok(false);
+    }
+    Ok(
+        batch == signed
+            && batch.encoded_bytes() == signed.encoded_bytes()
+            && batch.encoded_bytes().len() == len,
+    )
+}
+
+#[test]
+fn asked_bytes_leave_the_batch(rt: HostRuntime) {
+    let answer = match is_only_signed(rt.alloc()) {
+        Err(Error::Memory) => is_only_signed(rt.alloc()),
+        answer => answer,
+    };
+    assert!(rt; matches!(answer, Ok(true)));
+}
+
+/// Whether this item's entries are in the block, and its key value is in the block's file.
+fn is_placed(item: &LogItem, block: FileBlockHandle) -> bool {
+    match &item.content {
+        LogItemContent::EntryIndexes(entries) => {
+            let compression_type = CompressionType::None;
+            let mut placed = entries.0.len() == 3;
+            for (entry, (entry_offset, entry_len)) in entries
+                .0
+                .iter()
+                .zip(&[(0, 2), (2, 0), (2, 1)])
+            {
+                placed &= entry.entries == Some(block)
+                    && entry.compression_type == compression_type
+                    && (entry.entry_offset, entry.entry_len) == (*entry_offset, *entry_len);
+            }
+            placed
+        }
+        LogItemContent::Command(_) => true,
+        LogItemContent::Kv(kv) => kv.file_id == Some(block.id),
+    }
+}
+
+/// What is left of a batch that was written in the file 12 at 64, once its items are handed out.
+#[derive(Drop)]
+struct Drained {
+    /// How many of the items have their places there.
+    placed: usize,
+    /// Whether the batch is open and empty.
+    is_empty: bool,
+    /// How many bytes it has with a command.
+    len_with_command: usize,
+}
+
+/// A batch is written, and its items are handed out.
+fn written_and_drained(alloc: Global) -> Result<Drained> {
+    let mut batch = with_one_of_each(alloc)?;
+    let len = batch.finish_populate()?;
+    let id = FileId::new(LogQueue::Append, 12);
+    batch.prepare_write(&context(12, Version::V2));
+    batch.finish_write(FileBlockHandle {
+        id,
+        offset: 64,
+        len,
+    });
+    let place = FileBlockHandle {
+        id,
+        offset: 80,
+        len: 7,
+    };
+    let mut placed = 0usize;
+    for item in batch.drain() {
+        if is_placed(&item, place) {
+            placed = placed.saturating_add(1);
+        }
+    }
+    let is_empty = batch.is_open() && batch.is_empty() && batch.approximate_size() == 0;
+    batch.add_command(1, Command::Clean)?;
+    Ok(Drained {
+        placed,
+        is_empty,
+        len_with_command: batch.finish_populate()?,
+    })
+}
+
+#[test]
+fn places_after_a_write(rt: HostRuntime) {
+    let answer = match written_and_drained(rt.alloc()) {
+        Err(Error::Memory) => written_and_drained(rt.alloc()),
+        answer => answer,
+    };
+    let drained = answer.unwrap_or(Drained {
+        placed: 0,
+        is_empty: false,
+        len_with_command: 0,
+    });
+    assert!(rt; drained.placed == 6 && drained.is_empty && drained.len_with_command == 24);
+}

@@ -1,0 +1,292 @@
+//! What is no header, no entry block and no item batch. The words for it are those of raft-engine
+//! 0.4.2, and but for compression type 1, which it knows, and a few more faults, so are the rows.
+
+use raft_records::{
+    CompressionType, Error, FileBlockHandle, FileId, LogBatch, LogFileContext, LogItemBatch,
+    LogQueue, Result, Version,
+};
+use std::alloc::Global;
+use std::process::Abort;
+
+/// Bytes that begin with no header, and why they are refused. More than one thing is wrong in the
+/// last three rows.
+const NO_HEADERS: [(&[u8], &str); 13] = [
+    (b"", "Log batch header too short: 0"),
+    (b"\x8d\xef\x02\xd2", "Log batch header too short: 4"),
+    (b"\x00", "Log batch header too short: 1"),
+    (b"\x00\x8d\xef\x02\xd3", "Log batch header too short: 5"),
+    (
+        b"\x01\x01\x02\x01\x07\x00\x00\x00",
+        "Log batch header too short: 8",
+    ),
+    (
+        b"\x00\x00\x00\x00\x00\x00\x10\x00\x00\x00\x00\x00\x00\x00\x00\x0f",
+        "Log item offset is smaller than log batch header length",
+    ),
+    (
+        b"\x00\x00\x00\x00\x00\x00\x10\x00\x00\x00\x00\x00\x00\x00\x00\x11",
+        "Log item offset exceeds log batch length",
+    ),
+    (
+        b"\x00\x00\x00\x00\x00\x00\x18\x02\x00\x00\x00\x00\x00\x00\x00\x10\x01",
+        "Unrecognized compression type: 2",
+    ),
+    (
+        b"\x00\x00\x00\x00\x00\x00\x18\x00\x00\x00\x00\x00\x00\x00\x10",
+        "Log batch header too short: 15",
+    ),
+    (
+        b"\x00\x00\x00\x00\x00\x00\x18\x01\x00\x00\x00\x00\x00\x00\x00\x10",
+        "Unrecognized compression type: 1",
+    ),
+    (
+        b"\x00\x00\x00\x00\x00\x00\x0a\xff\x00\x00\x00\x00\x00\x00\x00\x0f",
+        "Unrecognized compression type: 255",
+    ),
+    (
+        b"\x00\x00\x00\x00\x00\x00\x0a\x00\x00\x00\x00\x00\x00\x00\x00\x0f",
+        "Log item offset exceeds log batch length",
+    ),
+    (
+        b"\x00\x00\x00\x00\x00\x00\x0a\x02\x00\x00\x00\x00\x00\x00\x00",
+        "Log batch header too short: 15",
+    ),
+];
+
+/// A header of a batch of 24 bytes without entry bytes.
+const HEADER: [u8; 16] = *b"\x00\x00\x00\x00\x00\x00\x18\x00\x00\x00\x00\x00\x00\x00\x00\x10";
+
+/// Bytes, how many of them a block has, and its entry bytes or why it is refused.
+const BLOCKS: [(&[u8], usize, std::result::Result<&[u8], &str>); 8] = [
+    (b"", 0, Ok(b"")),
+    (b"abc\xc2\x41\x24\x35", 0, Ok(b"")),
+    (b"abc\xc2\x41\x24\x35", 7, Ok(b"abc")),
+    (b"abc\xc2\x41\x24\x35\x00", 7, Ok(b"abc")),
+    (b"\xc2", 1, Err("Content too short 1")),
+    (b"\xc2\x41\x24\x35", 4, Err("Content too short 4")),
+    (
+        b"abc\xc2\x41\x24\x36",
+        7,
+        Err("Checksum expected 908345794 but got 891568578"),
+    ),
+    (
+        b"\x00\x8e\xef\x02\xd2",
+        5,
+        Err("Checksum expected 3523407758 but got 3523407757"),
+    ),
+];
+
+/// Bytes, the version and the number of the file that they are read from, and why they are no item
+/// batch; those without a reason are one without items.
+const ITEM_BATCHES: [(&[u8], Version, u64, Option<&str>); 18] = [
+    (
+        b"\x00\x81\xef\x02\xd2",
+        Version::V1,
+        12,
+        Some("Checksum expected 3523407745 but got 3523407757"),
+    ),
+    (b"\x00\x81\xef\x02\xd2", Version::V2, 12, None),
+    (
+        b"\x00\x81\xef\x02\xd2",
+        Version::V1,
+        13,
+        Some("Checksum expected 3523407745 but got 3523407757"),
+    ),
+    (
+        b"\x00\x81\xef\x02\xd2",
+        Version::V2,
+        13,
+        Some("Checksum expected 3523407756 but got 3523407757"),
+    ),
+    (
+        b"\x00\x81\xef\x02\xd2",
+        Version::V1,
+        4_294_967_308,
+        Some("Checksum expected 3523407745 but got 3523407757"),
+    ),
+    (b"\x00\x81\xef\x02\xd2", Version::V2, 4_294_967_308, None),
+    (
+        b"\x00\x81\xef\x02\xd2",
+        Version::V1,
+        0,
+        Some("Checksum expected 3523407745 but got 3523407757"),
+    ),
+    (
+        b"\x00\x81\xef\x02\xd2",
+        Version::V2,
+        0,
+        Some("Checksum expected 3523407745 but got 3523407757"),
+    ),
+    (b"", Version::V1, 12, Some("Content too short 0")),
+    (
+        b"\x8d\xef\x02\xd2",
+        Version::V1,
+        12,
+        Some("Content too short 4"),
+    ),
+    (b"\x00", Version::V1, 12, Some("Content too short 1")),
+    (
+        b"\x00\x8d\xef\x02\xd3",
+        Version::V1,
+        12,
+        Some("Checksum expected 3540184973 but got 3523407757"),
+    ),
+    (
+        b"\x01\x01\x02\x01\x07\x00\x00\x00",
+        Version::V1,
+        12,
+        Some("Checksum expected 7 but got 3708518490"),
+    ),
+    (
+        b"\x00\x00\x00\x00\x00\x00\x18\x00\x00\x00\x00\x00\x00\x00\x00\x10",
+        Version::V1,
+        12,
+        Some("Checksum expected 268435456 but got 2488288921"),
+    ),
+    (
+        b"\x00\x00\x00\x00\x00\x00\x10\x00\x00\x00\x00\x00\x00\x00\x00\x0f",
+        Version::V1,
+        12,
+        Some("Checksum expected 251658240 but got 2013512948"),
+    ),
+    (
+        b"\x00\x00\x00\x00\x00\x00\x10\x00\x00\x00\x00\x00\x00\x00\x00\x11",
+        Version::V1,
+        12,
+        Some("Checksum expected 285212672 but got 2013512948"),
+    ),
+    (
+        b"\x00\x00\x00\x00\x00\x00\x18\x02\x00\x00\x00\x00\x00\x00\x00\x10\x01",
+        Version::V1,
+        12,
+        Some("Checksum expected 17825792 but got 378352928"),
+    ),
+    (
+        b"\x00\x00\x00\x00\x00\x00\x18\x00\x00\x00\x00\x00\x00\x00\x10",
+        Version::V1,
+        12,
+        Some("Checksum expected 268435456 but got 991391151"),
+    ),
+];
+
+/// Whether the bytes are refused as corrupt with this text.
+fn is_corrupt<T: Drop>(answer: Result<T>, text: &str) -> Result<bool> {
+    match answer {
+        Ok(_read) => Ok(false),
+        Err(Error::Corruption(found)) => Ok(found.as_str() == text),
+        Err(e) => Err(e),
+    }
+}
+
+#[test]
+fn headers(rt: HostRuntime) {
+    let answer = match bytes_without_a_header_are_refused_and_left(&rt, rt.alloc()) {
+        Err(Error::Memory) => bytes_without_a_header_are_refused_and_left(&rt, rt.alloc()),
+        answer => answer,
+    };
+    assert!(rt; answer.is_ok());
+    let mut buf = HEADER.as_slice();
+    let read = LogBatch::decode_header(rt.alloc(), &mut buf);
+    assert!(rt; matches!(read, Ok((16, CompressionType::None, 24))));
+    assert!(rt; buf.is_empty());
+}
+
+fn bytes_without_a_header_are_refused_and_left(rt: &impl Abort, alloc: Global) -> Result<()> {
+    for (bytes, text) in NO_HEADERS {
+        let mut buf = bytes;
+        let read = LogBatch::decode_header(alloc, &mut buf);
+        assert!(rt; is_corrupt(read, text)?, "at {bytes:?}");
+        assert!(rt; buf == bytes);
+    }
+    Ok(())
+}
+
+/// The entry bytes in the block of this length in front of bytes.
+fn block(alloc: Global, bytes: &[u8], len: usize) -> Result<Vec<u8>> {
+    let place = FileBlockHandle {
+        id: FileId::new(LogQueue::Append, 12),
+        offset: 16,
+        len,
+    };
+    LogBatch::decode_entries_block(alloc, bytes, place, CompressionType::None)
+}
+
+#[test]
+fn entry_blocks(rt: HostRuntime) {
+    let answer = match entry_blocks_end_in_their_checksum(&rt, rt.alloc()) {
+        Err(Error::Memory) => entry_blocks_end_in_their_checksum(&rt, rt.alloc()),
+        answer => answer,
+    };
+    assert!(rt; answer.is_ok());
+}
+
+/// Blocks are read or refused as in the rows, and corrupt where they are cut short.
+fn entry_blocks_end_in_their_checksum(rt: &impl Abort, alloc: Global) -> Result<()> {
+    for (bytes, len, wanted) in BLOCKS {
+        let read = block(alloc, bytes, len);
+        let same = match wanted {
+            Ok(entry_bytes) => read?.as_slice() == entry_bytes,
+            Err(text) => is_corrupt(read, text)?,
+        };
+        assert!(rt; same, "{len} bytes of {bytes:?}");
+    }
+    for len in [8, 16, usize::MAX] {
+        match block(alloc, b"abc\xc2\x41\x24\x35", len) {
+            Ok(_read) => assert!(rt; false, "{len} bytes of 7"),
+            Err(Error::Corruption(_text)) => {}
+            Err(e) => return Err(e),
+        }
+    }
+    Ok(())
+}
+
+/// The item batch that bytes of the append queue are.
+fn item_batch(alloc: Global, buf: &mut &[u8], version: Version, seq: u64) -> Result<LogItemBatch> {
+    let context = LogFileContext::new(FileId::new(LogQueue::Append, seq), version);
+    let place = FileBlockHandle {
+        id: context.id,
+        offset: 0,
+        len: 0,
+    };
+    LogItemBatch::decode(alloc, buf, place, CompressionType::None, &context)
+}
+
+#[test]
+fn item_batches(rt: HostRuntime) {
+    let answer = match item_batches_are_read_in_their_file_alone(&rt, rt.alloc()) {
+        Err(Error::Memory) => item_batches_are_read_in_their_file_alone(&rt, rt.alloc()),
+        answer => answer,
+    };
+    assert!(rt; answer.is_ok());
+}
+
+fn item_batches_are_read_in_their_file_alone(rt: &impl Abort, alloc: Global) -> Result<()> {
+    for (bytes, version, seq, reason) in ITEM_BATCHES {
+        let mut buf = bytes;
+        let read = item_batch(alloc, &mut buf, version, seq);
+        let told = match reason {
+            Some(text) => is_corrupt(read, text)? && buf == bytes,
+            None => read?.into_items().is_empty(),
+        };
+        assert!(rt; told, "at {bytes:?}");
+    }
+    Ok(())
+}
+
+/// A sealed batch of the file 12 of version 1 that says it has 2^40 items, and has none.
+const COUNT_WITHOUT_ITEMS: &[u8] = b"\x80\x80\x80\x80\x80\x20\xd1\x10\x15\x12";
+
+/// The same of an entries item: 2^40 entries from index 1 on, and none of them.
+const COUNT_WITHOUT_ENTRIES: &[u8] = b"\x01\x01\x01\x80\x80\x80\x80\x80\x20\x01\xa2\xe0\x36\x1e";
+
+#[test]
+fn counts_make_no_room(rt: HostRuntime) {
+    for bytes in [COUNT_WITHOUT_ITEMS, COUNT_WITHOUT_ENTRIES] {
+        let mut buf = bytes;
+        let mut read = item_batch(rt.alloc(), &mut buf, Version::V1, 12);
+        if matches!(read, Err(Error::Memory)) {
+            read = item_batch(rt.alloc(), &mut buf, Version::V1, 12);
+        }
+        assert!(rt; matches!(read, Err(Error::Codec(_))), "at {bytes:?}");
+    }
+}

@@ -1,0 +1,15 @@
+//! Tests of `raft_recover`.
+#![tactic(auto)]
+
+#[cfg(test)]
+mod lines;
+#[cfg(test)]
+mod machines;
+#[cfg(test)]
+mod recovery;
+#[cfg(test)]
+mod runs;
+#[cfg(test)]
+mod shared_accessor;
+#[cfg(test)]
+mod waits;

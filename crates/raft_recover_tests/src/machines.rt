@@ -1,0 +1,285 @@
+//! Tickets, plans, given schedules and workers, over a machine that keeps a list of batches.
+
+mod lists;
+
+use crate::waits::{WaitGate, Waits};
+use lists::{List, Lists};
+use raft_base::{Error, FileId, LogQueue, Result, Version};
+use raft_records::FilePart;
+use raft_recover::{
+    OpenGate, Plan, Segment, Tickets, merge_pieces, piece_count, replay_scheduled, replay_segments,
+};
+use std::alloc::Global;
+use std::sync::Arc;
+use std::sync::atomic::{AtomicU64, Ordering};
+use std::thread::Threads;
+use std::time::Clock;
+
+/// A log batch of version 1: region 1 with `Clean`.
+const CLEAN: &[u8; 24] =
+    b"\x00\x00\x00\x00\x00\x00\x18\x00\x00\x00\x00\x00\x00\x00\x00\x10\x01\x01\x02\x01\x5a\x80\x0b\xdd";
+
+/// Segments of one batch each, in files with these numbers from 0 on.
+fn segments(alloc: Global, count: u64) -> Result<Vec<Segment>> {
+    let mut segments = Vec::new(alloc);
+    for seq in 0..count {
+        let id = FileId::new(LogQueue::Append, seq);
+        let part = FilePart::new(id, Version::V1, 0, Vec::from_slice(alloc, CLEAN)?)?;
+        let mut segment = Vec::new(alloc);
+        segment.push(part)?;
+        segments.push(segment)?;
+    }
+    Ok(segments)
+}
+
+/// Whether the list has the batches of this many segments, in order.
+fn has_all(list: &List, count: u64) -> bool {
+    let mut seq = 0;
+    for kept in &list.kept {
+        if kept.file.seq != seq || seq >= count {
+            return false;
+        }
+        seq += 1;
+    }
+    seq == count
+}
+
+/// Whether nothing is drawn where there are no numbers, by one step.
+fn draws_nothing(alloc: Global) -> Result<bool> {
+    let (tickets, mut seats) = Tickets::open(alloc, 0, 1)?;
+    let Some(mut seat) = seats.pop() else {
+        return Ok(false);
+    };
+    let none = tickets.draw(&mut seat);
+    seats.push(seat)?;
+    Ok(none.is_none() && tickets.close(seats) == 1)
+}
+
+/// Whether two seats draw three numbers in turn, each once, and how many steps that took.
+fn draws(alloc: Global) -> Result<(bool, usize)> {
+    let (tickets, mut seats) = Tickets::open(alloc, 3, 2)?;
+    let (Some(mut second), Some(mut first)) = (seats.pop(), seats.pop()) else {
+        return Ok((false, 0));
+    };
+    let one = (tickets.draw(&mut first), tickets.draw(&mut second));
+    let two = (tickets.draw(&mut first), tickets.draw(&mut second));
+    let last = (tickets.draw(&mut second), tickets.draw(&mut first));
+    seats.push(first)?;
+    seats.push(second)?;
+    let all = one == (Some(0), Some(1)) && two == (Some(2), None) && last == (None, None);
+    Ok((all, tickets.close(seats)))
+}
+
+#[test]
+fn numbers_are_drawn_once(rt: HostRuntime) {
+    let mut drawn = draws(rt.alloc());
+    if matches!(drawn, Err(Error::Memory)) {
+        drawn = draws(rt.alloc());
+    }
+    assert!(rt; matches!(drawn, Ok((true, 5))));
+    let mut nothing = draws_nothing(rt.alloc());
+    if matches!(nothing, Err(Error::Memory)) {
+        nothing = draws_nothing(rt.alloc());
+    }
+    assert!(rt; matches!(nothing, Ok(true)));
+}
+
+#[test]
+fn too_many_seats_are_refused(rt: HostRuntime) {
+    for (total, seats) in [(1 << 62, 1), (3, 0), (3, 1 << 62)] {
+        let refused = Tickets::open(rt.alloc(), total, seats);
+        assert!(rt; matches!(refused, Err(Error::InvalidArgument(_) | Error::Memory)));
+    }
+}
+
+#[test]
+fn pieces_are_counted(rt: HostRuntime) {
+    for (draws, pieces) in [
+        ([0, 1, 1, 0, 1].as_slice(), 4),
+        ([0].as_slice(), 1),
+        ([1].as_slice(), 2),
+    ] {
+        assert_eq!(rt; piece_count(5, draws), pieces);
+        assert_eq!(rt; piece_count(0, draws), 0);
+    }
+}
+
+/// The plan of two plans.
+fn join(alloc: Global, left: Plan, right: Plan) -> Result<Plan> {
+    Ok(Plan::Join(Box::new(alloc, left)?, Box::new(alloc, right)?))
+}
+
+/// Five segments drawn by two workers make four pieces, merged by pairs and one by one.
+fn schedules(alloc: Global) -> Result<bool> {
+    let five = segments(alloc, 5)?;
+    let draws = [0, 1, 1, 0, 1];
+    let one = join(alloc, Plan::One, Plan::One)?;
+    let pairs = join(alloc, one, join(alloc, Plan::One, Plan::One)?)?;
+    let mut chain = Plan::One;
+    for _ in 0..3 {
+        chain = join(alloc, Plan::One, chain)?;
+    }
+    for plan in [&pairs, &chain] {
+        let list = replay_scheduled(
+            alloc,
+            &Lists,
+            five.as_slice(),
+            LogQueue::Append,
+            2,
+            &draws,
+            plan,
+        )?;
+        if !has_all(&list, 5) {
+            return Ok(false);
+        }
+    }
+    let none = segments(alloc, 0)?;
+    let list = replay_scheduled(
+        alloc,
+        &Lists,
+        none.as_slice(),
+        LogQueue::Append,
+        2,
+        &draws,
+        &pairs,
+    )?;
+    Ok(has_all(&list, 0))
+}
+
+/// Whether five segments are refused where the plan is of three pieces, and where a third worker draws.
+fn misfits(alloc: Global) -> Result<bool> {
+    let five = segments(alloc, 5)?;
+    let two = join(alloc, Plan::One, Plan::One)?;
+    let three = join(alloc, Plan::One, two)?;
+    for draws in [[0, 1, 1, 0, 1], [0, 2, 2, 0, 0]] {
+        let refused = replay_scheduled(
+            alloc,
+            &Lists,
+            five.as_slice(),
+            LogQueue::Append,
+            2,
+            &draws,
+            &three,
+        );
+        match refused {
+            Err(Error::InvalidArgument(_)) => {}
+            Err(error) => return Err(error),
+            Ok(_) => return Ok(false),
+        }
+    }
+    Ok(true)
+}
+
+#[test]
+fn schedules_that_dont_fit_are_refused(rt: HostRuntime) {
+    let mut all = misfits(rt.alloc());
+    if matches!(all, Err(Error::Memory)) {
+        all = misfits(rt.alloc());
+    }
+    assert!(rt; matches!(all, Ok(true)));
+}
+
+#[test]
+fn schedules_give_one_reading(rt: HostRuntime) {
+    let mut all = schedules(rt.alloc());
+    if matches!(all, Err(Error::Memory)) {
+        all = schedules(rt.alloc());
+    }
+    assert!(rt; matches!(all, Ok(true)));
+}
+
+/// Twenty segments read by so many workers.
+fn by_workers<R: Threads + Sync>(rt: &R, alloc: Global, workers: usize) -> Result<bool> {
+    let twenty = segments(alloc, 20)?;
+    let list = replay_segments(
+        rt,
+        alloc,
+        &Lists,
+        twenty.as_slice(),
+        LogQueue::Append,
+        workers,
+        &OpenGate,
+    )?;
+    Ok(has_all(&list, 20))
+}
+
+#[test]
+fn workers_give_one_reading(rt: HostRuntime) {
+    for workers in [1, 2, 4, 256] {
+        let mut all = by_workers(&rt, rt.alloc(), workers);
+        if matches!(all, Err(Error::Memory)) {
+            all = by_workers(&rt, rt.alloc(), workers);
+        }
+        assert!(rt; matches!(all, Ok(true)));
+    }
+    for workers in [0, 257] {
+        let refused = by_workers(&rt, rt.alloc(), workers);
+        assert!(rt; matches!(refused, Err(Error::InvalidArgument(_) | Error::Memory)));
+    }
+}
+
+/// Whether two workers pass the workers' gate, which holds one segment up until so many later ones were passed.
+fn passes<R: Threads + Clock + Send + Sync + Copy + Drop>(
+    rt: &R,
+    alloc: Global,
+    held: usize,
+    later: u64,
+) -> Result<bool> {
+    let three = segments(alloc, 3)?;
+    let gate = WaitGate {
+        rt: *rt,
+        held,
+        later,
+        passed: AtomicU64::new(0),
+        seen: AtomicU64::new(0),
+    };
+    let list = replay_segments(
+        rt,
+        alloc,
+        &Lists,
+        three.as_slice(),
+        LogQueue::Append,
+        2,
+        &gate,
+    )?;
+    let seen = gate.seen.load(Ordering::SeqCst);
+    Ok(has_all(&list, 3) && seen == 1)
+}
+
+#[test]
+fn no_worker_waits_for_another(rt: HostRuntime) {
+    for (held, later) in [(0, 2), (1, 1)] {
+        let mut all = passes(&rt, rt.alloc(), held, later);
+        if matches!(all, Err(Error::Memory)) {
+            all = passes(&rt, rt.alloc(), held, later);
+        }
+        assert!(rt; matches!(all, Ok(true)));
+    }
+}
+
+/// How many merges of four machines saw that two had begun.
+fn merges<R: Threads + Clock + Send + Sync + Copy + Drop>(rt: &R, alloc: Global) -> Result<u64> {
+    let begun = Arc::new(alloc, AtomicU64::new(0))?;
+    let seen = Arc::new(alloc, AtomicU64::new(0))?;
+    let mut machines = Vec::new(alloc);
+    for _ in 0..4 {
+        machines.push(Waits {
+            rt: *rt,
+            begun: Arc::try_clone(&begun)?,
+            seen: Arc::try_clone(&seen)?,
+        })?;
+    }
+    let one = join(alloc, Plan::One, Plan::One)?;
+    let pairs = join(alloc, one, join(alloc, Plan::One, Plan::One)?)?;
+    merge_pieces(rt, machines, &pairs, LogQueue::Append)?;
+    Ok(seen.load(Ordering::SeqCst))
+}
+
+#[test]
+fn branches_merge_at_once(rt: HostRuntime) {
+    let mut seen = merges(&rt, rt.alloc());
+    if matches!(seen, Err(Error::Memory)) {
+        seen = merges(&rt, rt.alloc());
+    }
+    assert!(rt; matches!(seen, Ok(3)));
+}

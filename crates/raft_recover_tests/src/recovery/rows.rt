@@ -1,0 +1,449 @@
+//! Files as bytes, and the lines that are owed for them.
+
+use raft_base::{LogQueue, Version};
+
+/// Files of a queue, each with its number and its bytes in base 16, and the lines of their tables; none where they are
+/// refused as `Corruption`.
+pub(crate) struct Row {
+    pub(crate) queue: LogQueue,
+    pub(crate) version: Version,
+    pub(crate) files: &'static [(u64, &'static str)],
+    pub(crate) lines: Option<&'static str>,
+}
+
+pub(crate) const ROWS: [Row; 23] = [
+    // No file.
+    Row {
+        queue: LogQueue::Append,
+        version: Version::V1,
+        files: &[],
+        lines: Some(
+            "\
+cleaned -
+live 0 0
+",
+        ),
+    },
+    // Two entries of one region.
+    Row {
+        queue: LogQueue::Append,
+        version: Version::V1,
+        files: &[(
+            12,
+            "00000000000022000000000000000017616263c2412435010701020a0203a7b3df17",
+        )],
+        lines: Some(
+            "\
+7 entries 10..12 keys 0 append 12 rewrite -
+cleaned -
+live 2 0
+",
+        ),
+    },
+    // A region that had no table is cleaned.
+    Row {
+        queue: LogQueue::Append,
+        version: Version::V1,
+        files: &[(12, "00000000000018000000000000000010010102015a800bdd")],
+        lines: Some(
+            "\
+cleaned 1
+live 0 0
+",
+        ),
+    },
+    // A batch that lacks its last byte.
+    Row {
+        queue: LogQueue::Append,
+        version: Version::V1,
+        files: &[(
+            12,
+            "00000000000022000000000000000017616263c2412435010701020a0203a7b3df",
+        )],
+        lines: None,
+    },
+    // A batch that was signed for another file.
+    Row {
+        queue: LogQueue::Append,
+        version: Version::V2,
+        files: &[(13, "000000000000180000000000000000100101020156800bdd")],
+        lines: None,
+    },
+    // Five files, one of them empty.
+    Row {
+        queue: LogQueue::Append,
+        version: Version::V1,
+        files: &[
+            (
+                1,
+                "000000000000230000000000000000177878780aea9b1c01010103010102035c434291",
+            ),
+            (
+                2,
+                "0000000000002100000000000000001678780f18e1f801010102040102e51e3297",
+            ),
+            (3, ""),
+            (3, "0000000000001900000000000000001001010202039e5e45eb"),
+            (
+                4,
+                "0000000000001c00000000000000001001020301016b01762c33a0d9",
+            ),
+        ],
+        lines: Some(
+            "\
+1 entries 3..6 keys 0 append 1 rewrite -
+2 entries - keys 1 append 4 rewrite -
+cleaned -
+live 4 0
+",
+        ),
+    },
+    // A compaction behind the end of a newer run drops what stood behind it.
+    Row {
+        queue: LogQueue::Append,
+        version: Version::V1,
+        files: &[
+            (
+                1,
+                "0000000000003100000000000000001e787878787878787878787747df8e0101010a0a0102030405060708090a146f83e0",
+            ),
+            (
+                2,
+                "000000000000270000000000000000177878780aea9b1c020101030f01020301020212c9b2a78f",
+            ),
+        ],
+        lines: Some(
+            "\
+1 entries - keys 0 append - rewrite -
+cleaned -
+live 0 0
+",
+        ),
+    },
+    // A run behind entries that were all dropped.
+    Row {
+        queue: LogQueue::Append,
+        version: Version::V1,
+        files: &[
+            (
+                1,
+                "0000000000003100000000000000001e787878787878787878787747df8e0101010a0a0102030405060708090a146f83e0",
+            ),
+            (
+                2,
+                "0000000000002b000000000000000019787878787878e7d1420201020214010105280102030405ebb06e94",
+            ),
+        ],
+        lines: Some(
+            "\
+1 entries 40..45 keys 0 append 2 rewrite -
+cleaned -
+live 5 0
+",
+        ),
+    },
+    // A hole, dropped afterwards.
+    Row {
+        queue: LogQueue::Append,
+        version: Version::V1,
+        files: &[
+            (
+                1,
+                "0000000000003100000000000000001e787878787878787878787747df8e0101010a0a0102030405060708090a146f83e0",
+            ),
+            (
+                2,
+                "0000000000002b000000000000000019787878787878e7d1420201010528010203040501020228507a47d0",
+            ),
+        ],
+        lines: None,
+    },
+    // A hole, cleaned afterwards.
+    Row {
+        queue: LogQueue::Append,
+        version: Version::V1,
+        files: &[
+            (
+                1,
+                "0000000000003100000000000000001e787878787878787878787747df8e0101010a0a0102030405060708090a146f83e0",
+            ),
+            (
+                2,
+                "0000000000002a000000000000000019787878787878e7d1420201010528010203040501020151860fb1",
+            ),
+        ],
+        lines: None,
+    },
+    // Rewritten entries: a gap drops what is older, and a lower start what is newer.
+    Row {
+        queue: LogQueue::Rewrite,
+        version: Version::V1,
+        files: &[
+            (
+                1,
+                "0000000000004500000000000000002878787878787878787878787878787878787878784742ad27010101140a0102030405060708090a0b0c0d0e0f10111213144d842e3a",
+            ),
+            (
+                2,
+                "0000000000003500000000000000001e787878787878787878787747df8e0201010523010203040501010514060708090ac7b0a9c5",
+            ),
+        ],
+        lines: Some(
+            "\
+1 entries 20..25 keys 0 append - rewrite 2
+cleaned -
+live 0 5
+",
+        ),
+    },
+    // Rewritten entries: a gap behind a run that was accepted.
+    Row {
+        queue: LogQueue::Rewrite,
+        version: Version::V1,
+        files: &[
+            (
+                1,
+                "0000000000004500000000000000002878787878787878787878787878787878787878784742ad27010101140a0102030405060708090a0b0c0d0e0f10111213144d842e3a",
+            ),
+            (
+                2,
+                "0000000000003500000000000000001e787878787878787878787747df8e0201010514010203040501010528060708090adad9b7e1",
+            ),
+        ],
+        lines: Some(
+            "\
+1 entries 40..45 keys 0 append - rewrite 2
+cleaned -
+live 0 5
+",
+        ),
+    },
+    // A key that is deleted and put again.
+    Row {
+        queue: LogQueue::Append,
+        version: Version::V1,
+        files: &[
+            (
+                1,
+                "0000000000001c00000000000000001001010301016b0176b12948e8",
+            ),
+            (
+                2,
+                "0000000000002100000000000000001002010302016b010301016b01767257a0b2",
+            ),
+        ],
+        lines: Some(
+            "\
+1 entries - keys 1 append 2 rewrite -
+cleaned -
+live 1 0
+",
+        ),
+    },
+    // A region that is cleaned.
+    Row {
+        queue: LogQueue::Append,
+        version: Version::V1,
+        files: &[
+            (
+                1,
+                "0000000000002400000000000000001678780f18e1f80201010201010201020102b7f7b3",
+            ),
+            (2, ""),
+        ],
+        lines: Some(
+            "\
+cleaned 1
+live 0 0
+",
+        ),
+    },
+    // A group in three files takes effect whole.
+    Row {
+        queue: LogQueue::Rewrite,
+        version: Version::V1,
+        files: &[
+            (
+                1,
+                "0000000000002c0000000000000000177878780aea9b1c02090301035f5f010100050103010102033fa38560",
+            ),
+            (
+                2,
+                "0000000000002500000000000000001002090301035f5f010101060301016b0176d1d3cde4",
+            ),
+            (
+                3,
+                "0000000000001e00000000000000001001090301035f5f0101025eb67dd1",
+            ),
+        ],
+        lines: Some(
+            "\
+5 entries 1..4 keys 0 append - rewrite 1
+6 entries - keys 1 append - rewrite 1
+cleaned -
+live 0 4
+",
+        ),
+    },
+    // A group without its end has no effect.
+    Row {
+        queue: LogQueue::Rewrite,
+        version: Version::V1,
+        files: &[
+            (
+                1,
+                "0000000000002c0000000000000000177878780aea9b1c02090301035f5f010100050103010102033fa38560",
+            ),
+            (
+                2,
+                "0000000000002500000000000000001002090301035f5f010101060301016b0176d1d3cde4",
+            ),
+        ],
+        lines: Some(
+            "\
+cleaned -
+live 0 0
+",
+        ),
+    },
+    // Marks Begin, End, Middle, End: one effect.
+    Row {
+        queue: LogQueue::Rewrite,
+        version: Version::V1,
+        files: &[
+            (
+                1,
+                "0000000000002500000000000000001002090301035f5f01010005030101610176044c1814",
+            ),
+            (
+                2,
+                "0000000000002500000000000000001002090301035f5f0101020503010162017620f57b54",
+            ),
+            (
+                3,
+                "0000000000002500000000000000001002090301035f5f01010105030101630176f49836db",
+            ),
+            (
+                4,
+                "0000000000002500000000000000001002090301035f5f010102050301016401769289f650",
+            ),
+        ],
+        lines: Some(
+            "\
+5 entries - keys 2 append - rewrite 1
+cleaned -
+live 0 2
+",
+        ),
+    },
+    // A newer begin drops the older one.
+    Row {
+        queue: LogQueue::Rewrite,
+        version: Version::V1,
+        files: &[
+            (
+                1,
+                "0000000000002c0000000000000000177878780aea9b1c02090301035f5f010100050103010102033fa38560",
+            ),
+            (
+                2,
+                "0000000000002a00000000000000001678780f18e1f802090301035f5f010100050102010102dffdfb82",
+            ),
+            (
+                3,
+                "0000000000001e00000000000000001001090301035f5f0101025eb67dd1",
+            ),
+        ],
+        lines: Some(
+            "\
+5 entries 1..3 keys 0 append - rewrite 2
+cleaned -
+live 0 2
+",
+        ),
+    },
+    // A group beside another region's batch, and a begin that waits.
+    Row {
+        queue: LogQueue::Rewrite,
+        version: Version::V1,
+        files: &[
+            (
+                1,
+                "0000000000002500000000000000001002090301035f5f010100060301016101769956f025",
+            ),
+            (
+                2,
+                "0000000000001c0000000000000000100107030101780176a201f895",
+            ),
+            (
+                3,
+                "0000000000002500000000000000001002090301035f5f01010206030101620176bdef93650000000000002500000000000000001002090301035f5f01010006030101630176f7827426",
+            ),
+        ],
+        lines: Some(
+            "\
+6 entries - keys 2 append - rewrite 1
+7 entries - keys 1 append - rewrite 2
+cleaned -
+live 0 3
+",
+        ),
+    },
+    // An end alone.
+    Row {
+        queue: LogQueue::Rewrite,
+        version: Version::V1,
+        files: &[(
+            1,
+            "0000000000002500000000000000001002090301035f5f01010205030101610176794b3d56",
+        )],
+        lines: Some(
+            "\
+cleaned -
+live 0 0
+",
+        ),
+    },
+    // A marker with a status over 2.
+    Row {
+        queue: LogQueue::Rewrite,
+        version: Version::V1,
+        files: &[(
+            1,
+            "0000000000001e00000000000000001001090301035f5f010103c8867aa6",
+        )],
+        lines: None,
+    },
+    // The append queue skips markers.
+    Row {
+        queue: LogQueue::Append,
+        version: Version::V1,
+        files: &[(
+            1,
+            "0000000000002500000000000000001002090301035f5f010103050301016b017631ce0097",
+        )],
+        lines: Some(
+            "\
+5 entries - keys 1 append 1 rewrite -
+cleaned -
+live 1 0
+",
+        ),
+    },
+    // Files out of order.
+    Row {
+        queue: LogQueue::Append,
+        version: Version::V1,
+        files: &[
+            (
+                5,
+                "0000000000001c00000000000000001001010301016b0176b12948e8",
+            ),
+            (
+                4,
+                "0000000000001c00000000000000001001010301016b0176b12948e8",
+            ),
+        ],
+        lines: None,
+    },
+];

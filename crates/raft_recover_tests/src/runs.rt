@@ -1,0 +1,267 @@
+//! Whole runs: the status, what is printed, and what stands on the error stream.
+
+use raft_base::Result;
+use raft_recover::run::run;
+use std::alloc::Global;
+use std::io::{ErrorKind, Read, Write};
+use std::rt::Files;
+use std::thread::Threads;
+use std::{fs, io};
+
+const OPEN: &str = "batch append 12 1";
+
+const CORRUPTION: &str = "raftlog: refused: corruption\n";
+
+const WORKERS: &str = "raftlog: refused: invalid-argument\n";
+
+/// Words, the input in base 16, the status, what is printed, and how the error stream begins.
+const ROWS: [(&str, &str, u8, &str, &str); 20] = [
+    (OPEN, "010102015a800bdd", 0, "1 clean\nitems 1 rest 0\n", ""),
+    (
+        "batch append 0012 2",
+        "0081ef02d2",
+        0,
+        "items 0 rest 0\n",
+        "",
+    ),
+    (
+        "batch rewrite 18446744073709551615 1",
+        "01ac020202808080808020d30bf641",
+        0,
+        "300 compact 1099511627776\nitems 1 rest 0\n",
+        "",
+    ),
+    (
+        OPEN,
+        "0201030103707574057075745f7601030200f3f946a8",
+        0,
+        "1 put 707574 7075745f76\n1 del -\nitems 2 rest 0\n",
+        "",
+    ),
+    (
+        OPEN,
+        "020701030a010203080102010405dc308b52",
+        0,
+        "7 entries 3 first 10 tail 3\n8 entries 2 first 1 tail 5\nitems 2 rest 0\n",
+        "",
+    ),
+    (
+        OPEN,
+        "01070100bd9fac85",
+        0,
+        "7 entries 0\nitems 1 rest 0\n",
+        "",
+    ),
+    (OPEN, "00aabb75e71af7", 0, "items 0 rest 2\n", ""),
+    ("batch append 13 2", "0081ef02d2", 1, "", CORRUPTION),
+    (OPEN, "", 1, "", CORRUPTION),
+    (OPEN, "8def02d2", 1, "", CORRUPTION),
+    (OPEN, "010102015a800bde", 1, "", CORRUPTION),
+    (OPEN, "0101020001305d7d37", 1, "", CORRUPTION),
+    (OPEN, "80ad6cba3f", 1, "", "raftlog: refused: codec\n"),
+    ("", "", 2, "", "usage: raftlog"),
+    ("batch append x 1", "", 2, "", "usage: raftlog"),
+    ("batch append +12 1", "", 2, "", "usage: raftlog"),
+    (
+        "batch append 18446744073709551616 1",
+        "",
+        2,
+        "",
+        "usage: raftlog",
+    ),
+    ("batch append 12 01", "", 2, "", "usage: raftlog"),
+    ("batch append 12", "", 2, "", "usage: raftlog"),
+    ("batch append 12 1 1", "", 2, "", "usage: raftlog"),
+];
+
+/// Words without input, the status, what is printed, and how the error stream begins.
+const RECOVERIES: [(&str, u8, &str, &str); 10] = [
+    ("recover append 1 1", 0, "cleaned -\nlive 0 0\n", ""),
+    ("recover rewrite 2 256", 0, "cleaned -\nlive 0 0\n", ""),
+    ("recover append 1 0", 1, "", WORKERS),
+    ("recover append 1 257", 1, "", WORKERS),
+    (
+        "recover append 1 0 12=absent",
+        1,
+        "",
+        "raftlog: refused: io\n",
+    ),
+    ("recover append 3 1", 2, "", "usage: raftlog"),
+    ("recover append 1 -1", 2, "", "usage: raftlog"),
+    ("recover append 1", 2, "", "usage: raftlog"),
+    ("recover append 1 1 absent", 2, "", "usage: raftlog"),
+    ("recover append 1 1 x=absent", 2, "", "usage: raftlog"),
+];
+
+/// What a run left.
+#[derive(Drop)]
+struct Answer {
+    status: u8,
+    out: Vec<u8>,
+    err: Vec<u8>,
+}
+
+impl Answer {
+    fn is(&self, status: u8, out: &str, err: &str) -> bool {
+        self.status == status
+            && self.out.as_slice() == out.as_bytes()
+            && self.err.as_slice().starts_with(err.as_bytes())
+            && self.err.is_empty() == err.is_empty()
+    }
+
+    /// Whether an allocation was refused. Inside a reader or a writer that is an io error.
+    fn found_no_memory(&self) -> bool {
+        self.is(1, "", "raftlog: refused: memory\n") || self.is(1, "", "raftlog: refused: io\n")
+    }
+}
+
+fn words_of(alloc: Global, line: &str) -> Result<Vec<String>> {
+    let mut words = Vec::new(alloc);
+    for word in line.split_whitespace() {
+        words.push(String::from_str(alloc, word)?)?;
+    }
+    Ok(words)
+}
+
+fn run_on<S: Files + AllocGlobal + Threads + Sync>(
+    rt: &S,
+    line: &str,
+    input: &str,
+) -> Option<Answer> {
+    let alloc = rt.alloc();
+    let words = words_of(alloc, line).ok()?;
+    let bytes = hex::decode(alloc, input).ok()?;
+    let mut input = bytes.as_slice();
+    let mut out = Vec::new(alloc);
+    let mut err = Vec::with_capacity(alloc, 256).ok()?;
+    let status = run(rt, words.as_slice(), &mut input, &mut out, &mut err);
+    Some(Answer { status, out, err })
+}
+
+/// Where an allocation is refused the row runs again, and has to find memory.
+#[test]
+fn rows(rt: HostRuntime) {
+    for (line, input, status, out, err) in ROWS {
+        let mut answer = run_on(&rt, line, input);
+        if answer
+            .as_ref()
+            .is_none_or(|answer| answer.found_no_memory())
+        {
+            answer = run_on(&rt, line, input);
+        }
+        assert!(rt;
+            answer.is_some_and(|answer| answer.is(status, out, err)),
+            "{line}: {input}"
+        );
+    }
+}
+
+/// The same of words that ask for the tables of files.
+#[test]
+fn recoveries(rt: HostRuntime) {
+    for (line, status, out, err) in RECOVERIES {
+        let mut answer = run_on(&rt, line, "");
+        if answer
+            .as_ref()
+            .is_none_or(|answer| answer.found_no_memory())
+        {
+            answer = run_on(&rt, line, "");
+        }
+        assert!(rt;
+            answer.is_some_and(|answer| answer.is(status, out, err)),
+            "{line}"
+        );
+    }
+}
+
+/// A reader that gives a byte and then fails.
+#[derive(Drop)]
+struct Torn {
+    read: bool,
+}
+
+impl Read for Torn {
+    fn read(&mut self, buf: &mut [u8]) -> io::Result<usize> {
+        if self.read || buf.is_empty() {
+            return Err(io::Error::new(ErrorKind::Other, "torn"));
+        }
+        self.read = true;
+        buf[0] = 0;
+        Ok(1)
+    }
+}
+
+/// A writer that takes nothing.
+#[derive(Drop)]
+struct Closed;
+
+impl Write for Closed {
+    fn write(&mut self, _buf: &[u8]) -> io::Result<usize> {
+        Err(io::Error::new(ErrorKind::BrokenPipe, "closed"))
+    }
+
+    fn flush(&mut self) -> io::Result<()> {
+        Ok(())
+    }
+}
+
+#[test]
+fn failing_streams(rt: HostRuntime) {
+    let alloc = rt.alloc();
+    let (Ok(words), Ok(mut err)) = (words_of(alloc, OPEN), Vec::with_capacity(alloc, 256)) else {
+        return;
+    };
+    let mut out = Vec::new(alloc);
+    let status = run(
+        &rt,
+        words.as_slice(),
+        &mut Torn { read: false },
+        &mut out,
+        &mut err,
+    );
+    let torn = Answer { status, out, err };
+    assert!(rt; torn.found_no_memory());
+
+    let mut input = b"\x00\x8d\xef\x02\xd2".as_slice();
+    assert_eq!(rt;
+        run(&rt, words.as_slice(), &mut input, &mut Closed, &mut Closed),
+        1
+    );
+    let none = &words.as_slice()[..0];
+    assert_eq!(rt; run(&rt, none, &mut input, &mut Closed, &mut Closed), 2);
+}
+
+/// A log batch of version 1 in file 12: two entries of region 7.
+const TWO_ENTRIES: &str = "00000000000022000000000000000017616263c2412435010701020a0203a7b3df17";
+
+const TWO_LINES: &str = "7 entries 10..12 keys 0 append 12 rewrite -\ncleaned -\nlive 2 0\n";
+
+/// What is answered of a file that holds the first bytes of that batch.
+fn run_on_file<S: Files + AllocGlobal + Threads + Sync>(rt: &S, length: usize) -> Option<Answer> {
+    let mut bytes = hex::decode(rt.alloc(), TWO_ENTRIES).ok()?;
+    bytes.truncate(length);
+    fs::write(rt, "two_entries.log", bytes.as_slice()).ok()?;
+    run_on(rt, "recover append 1 4 012=two_entries.log", "")
+}
+
+/// Where an allocation is refused the row runs again, and has to find memory.
+#[test]
+fn files(rt: HostRuntime) {
+    for (length, status, out, err) in [
+        (0, 0, "cleaned -\nlive 0 0\n", ""),
+        (33, 1, "", CORRUPTION),
+        (34, 0, TWO_LINES, ""),
+    ] {
+        let mut answer = run_on_file(&rt, length);
+        if answer
+            .as_ref()
+            .is_none_or(|answer| answer.found_no_memory())
+        {
+            answer = run_on_file(&rt, length);
+        }
+        assert!(rt;
+            answer.is_some_and(|answer| answer.is(status, out, err)),
+            "{length} bytes"
+        );
+    }
+}

@@ -1,0 +1,138 @@
+//! What threads append at once stands, and closures on tables of different slots run at once.
+
+mod calls;
+
+use crate::waits::is_reached;
+use raft_memtable::{
+    EntryIndex, Error, FileBlockHandle, FileId, LogQueue, MemTable, Result, TableChange, slot_of,
+};
+use raft_recover::SharedAccessor;
+use std::alloc::Global;
+use std::sync::Wait;
+use std::sync::atomic::{AtomicU64, Ordering};
+use std::thread;
+use std::thread::Threads;
+use std::time::Clock;
+
+/// A run from `start` to below `end`, each entry a byte of one block of `file`.
+pub(crate) fn run(alloc: Global, start: u64, end: u64, file: FileId) -> Result<Vec<EntryIndex>> {
+    let mut run = Vec::new(alloc);
+    for index in start..end {
+        run.push(EntryIndex {
+            index,
+            entries: Some(FileBlockHandle {
+                id: file,
+                offset: 0,
+                len: 100,
+            }),
+            entry_len: 1,
+            ..EntryIndex::default()
+        })?;
+    }
+    Ok(run)
+}
+
+/// Appends the entries from 1 to below 101 to a region, one a call.
+fn append_hundred<R: Wait>(
+    rt: &R,
+    alloc: Global,
+    shared: &SharedAccessor,
+    region: u64,
+) -> Result<()> {
+    for index in 1..101 {
+        let one = run(alloc, index, index + 1, FileId::new(LogQueue::Append, 1))?;
+        shared.change(rt, region, TableChange::Append(one))?;
+    }
+    Ok(())
+}
+
+/// Whether all stands that four threads append, each to a region of its own.
+fn append_in_threads<R: Threads + Wait + Sync>(rt: &R, alloc: Global) -> Result<bool> {
+    let shared = SharedAccessor::new(alloc);
+    let append = |region: usize| append_hundred(rt, alloc, &shared, region as u64);
+    for appended in thread::map_indices(rt, alloc, 4, &append)? {
+        appended?;
+    }
+    for region in 0..4 {
+        let range = shared.with_table(
+            rt,
+            region,
+            |table| (table.first_index(), table.last_index()),
+        );
+        if range != Some((Some(1), Some(100))) {
+            return Ok(false);
+        }
+    }
+    Ok(shared.live_entries(rt, LogQueue::Append) == 400)
+}
+
+#[test]
+fn threads_append_at_once(rt: HostRuntime) {
+    let mut all = append_in_threads(&rt, rt.alloc());
+    if matches!(all, Err(Error::Memory)) {
+        all = append_in_threads(&rt, rt.alloc());
+    }
+    assert!(rt; matches!(all, Ok(true)));
+}
+
+/// Raises the own flag, and tells whether the other one is raised in time.
+fn sees<R: Clock>(rt: &R, own: &AtomicU64, other: &AtomicU64) -> bool {
+    own.store(1, Ordering::SeqCst);
+    is_reached(rt, other, 1)
+}
+
+/// Whether a closure on a table of region 1, which may change it, sees that one of region 2 has begun.
+fn change_sees<R: Wait + Clock>(
+    rt: &R,
+    shared: &SharedAccessor,
+    region: u64,
+    own: &AtomicU64,
+    other: &AtomicU64,
+) -> Result<bool> {
+    let mut seen = false;
+    shared.with_table_mut(rt, region, |_: &MemTable| {
+        seen = sees(rt, own, other);
+        TableChange::Keep
+    })?;
+    Ok(seen)
+}
+
+/// Whether two closures that may change tables of different slots see each other.
+fn writers_meet<R: Threads + Wait + Clock + Sync>(rt: &R, alloc: Global) -> Result<bool> {
+    let shared = SharedAccessor::new(alloc);
+    let (one, two) = (AtomicU64::new(0), AtomicU64::new(0));
+    let (first, second) = thread::join(
+        rt,
+        || change_sees(rt, &shared, 1, &one, &two),
+        || change_sees(rt, &shared, 2, &two, &one),
+    );
+    Ok(first? && second?)
+}
+
+/// Whether a closure that reads a table and one that may change a table of another slot see each other.
+fn reader_meets_writer<R: Threads + Wait + Clock + Sync>(rt: &R, alloc: Global) -> Result<bool> {
+    let shared = SharedAccessor::new(alloc);
+    shared.get_or_insert(rt, 1)?;
+    let (one, two) = (AtomicU64::new(0), AtomicU64::new(0));
+    let (read, written) = thread::join(
+        rt,
+        || shared.with_table(rt, 1, |_: &MemTable| sees(rt, &one, &two)),
+        || change_sees(rt, &shared, 2, &two, &one),
+    );
+    Ok(read == Some(true) && written?)
+}
+
+/// Whether both pairs of closures meet.
+fn meet<R: Threads + Wait + Clock + Sync>(rt: &R, alloc: Global) -> Result<bool> {
+    Ok(writers_meet(rt, alloc)? && reader_meets_writer(rt, alloc)?)
+}
+
+#[test]
+fn slots_lock_apart(rt: HostRuntime) {
+    assert!(rt; slot_of(1) != slot_of(2));
+    let mut met = meet(&rt, rt.alloc());
+    if matches!(met, Err(Error::Memory)) {
+        met = meet(&rt, rt.alloc());
+    }
+    assert!(rt; matches!(met, Ok(true)));
+}

@@ -1,0 +1,77 @@
+//! The blocks in which a table keeps its entries.
+
+use crate::store::Answer::{Done, Dropped};
+use crate::store::Call::{Append, Compact, Rewrite};
+use crate::store::{Answer, Call, LogStore};
+use raft_table::{
+    EntryIndex, FileBlockHandle, FileId, FileSeq, LogQueue, MemTable, Result, TableChange,
+};
+use std::alloc::Global;
+
+/// Whether these are the blocks of a table, each told by the number of its file and by how many entries it has.
+fn has_blocks(table: &MemTable, want: &[(FileSeq, usize)]) -> bool {
+    let blocks = table.blocks();
+    blocks.len() == want.len()
+        && blocks.iter().zip(want).all(|(block, want)| block.handle.id.seq == want.0
+            && block.spans.len() == want.1)
+}
+
+/// A call, its answer, and the blocks after it.
+type Row = (Call, Answer, &'static [(FileSeq, usize)]);
+
+const OVERWRITTEN: [Row; 5] = [
+    (Append(10, 20, 1), Done, &[(1, 10)]),
+    (Append(20, 30, 2), Done, &[(1, 10), (2, 10)]),
+    (Append(25, 35, 3), Done, &[(1, 10), (2, 5), (3, 10)]),
+    (Compact(22), Dropped(12), &[(2, 3), (3, 10)]),
+    (Rewrite(22, 27, 50, Some(2)), Done, &[(50, 3), (3, 10)]),
+];
+
+const DIVIDED: [Row; 4] = [
+    (Append(0, 10, 1), Done, &[(1, 10)]),
+    (Append(10, 20, 2), Done, &[(1, 10), (2, 10)]),
+    (Rewrite(0, 15, 50, Some(1)), Done, &[(50, 10), (2, 10)]),
+    (Rewrite(5, 10, 51, None), Done, &[(50, 5), (51, 5), (2, 10)]),
+];
+
+#[test]
+fn calls_divide_blocks(rt: HostRuntime) {
+    for rows in [OVERWRITTEN.as_slice(), DIVIDED.as_slice()] {
+        let mut store = LogStore::new(rt.alloc());
+        for (call, answer, blocks) in rows {
+            assert_eq!(rt; store.apply(*call, true), *answer, "{call:?}");
+            assert!(rt; has_blocks(&store.table, blocks), "{call:?}");
+            assert_eq!(rt; store.table.block_count(), blocks.len(), "{call:?}");
+        }
+    }
+}
+
+/// Two entries from an index on, in one block of the first file.
+fn pair(alloc: Global, first: u64) -> Result<Vec<EntryIndex>> {
+    let block = FileBlockHandle {
+        id: FileId::new(LogQueue::Append, 1),
+        offset: 0,
+        len: 64,
+    };
+    let mut pair = Vec::new(alloc);
+    for index in [first, first.saturating_add(1)] {
+        pair.push(EntryIndex {
+            index,
+            entries: Some(block),
+            ..EntryIndex::default()
+        })?;
+    }
+    Ok(pair)
+}
+
+#[test]
+fn runs_of_one_block_are_joined(rt: HostRuntime) -> Result<()> {
+    let mut store = LogStore::new(rt.alloc());
+    store.make(TableChange::Append(pair(rt.alloc(), 10)?))?;
+    store.make(TableChange::Append(pair(rt.alloc(), 12)?))?;
+    assert!(rt; has_blocks(&store.table, &[(1, 4)]));
+    store.make(TableChange::Append(pair(rt.alloc(), 11)?))?;
+    assert!(rt; has_blocks(&store.table, &[(1, 3)]));
+    assert_eq!(rt; store.table.last_index(), Some(12));
+    Ok(())
+}

@@ -1,0 +1,118 @@
+//! Walks over keys, and the key values of two tables that are joined.
+
+use crate::store::LogStore;
+use raft_table::{Error, FileId, LogQueue, MemTable, Result, TableChange};
+use std::alloc::Global;
+use std::process::Abort;
+
+/// Puts each key with its value, all written to one file.
+fn put(store: &mut LogStore, file_id: FileId, pairs: &[(&[u8], &[u8])]) -> Result<()> {
+    for (key, value) in pairs {
+        let put = TableChange::Put {
+            key: store.bytes(*key)?,
+            value: store.bytes(*value)?,
+            file_id,
+        };
+        store.make(put)?;
+    }
+    Ok(())
+}
+
+/// A bound of a walk.
+type Bound = Option<&'static [u8]>;
+
+const ONE: Bound = Some(b"1");
+
+const TWO: Bound = Some(b"2");
+
+/// Where a walk over the keys 1, 2 and 3 starts and ends, whether it goes back, the number at which it is told
+/// to end, and the decimal number of the keys that it meets, one behind the other.
+const WALKS: [(Bound, Bound, bool, u64, u64); 10] = [
+    (None, None, false, 1000, 123),
+    (None, None, true, 1000, 321),
+    (None, None, false, 10, 12),
+    (None, None, true, 10, 32),
+    (TWO, None, false, 1000, 23),
+    (TWO, None, true, 1000, 32),
+    (None, TWO, false, 1000, 1),
+    (ONE, TWO, true, 1000, 1),
+    (TWO, TWO, false, 1000, 0),
+    (TWO, ONE, false, 1000, 0),
+];
+
+/// The number of the keys that a walk meets.
+fn seen(table: &MemTable, start: Bound, end: Bound, reverse: bool, limit: u64) -> Result<u64> {
+    let mut seen = 0u64;
+    table.scan(start, end, reverse, |key, _| {
+        let digit = key.first().map_or(0, |b| u64::from(*b & 15));
+        seen = seen.wrapping_mul(10).wrapping_add(digit);
+        seen < limit
+    })?;
+    Ok(seen)
+}
+
+#[test]
+fn walks_end_at_bounds_and_when_told(rt: HostRuntime) -> Result<()> {
+    match walk(&rt, rt.alloc()) {
+        Err(Error::Memory) => walk(&rt, rt.alloc()),
+        walked => walked,
+    }
+}
+
+fn walk(rt: &impl Abort, alloc: Global) -> Result<()> {
+    let mut store = LogStore::new(alloc);
+    let file = FileId::new(LogQueue::Append, 1);
+    put(
+        &mut store,
+        file,
+        &[(b"2", b"b"), (b"3", b"c"), (b"1", b"a")],
+    )?;
+    for (start, end, reverse, limit, want) in WALKS {
+        assert_eq!(rt; seen(&store.table, start, end, reverse, limit)?, want);
+    }
+    Ok(())
+}
+
+#[test]
+fn newer_pairs_replace_older_ones(rt: HostRuntime) -> Result<()> {
+    match join(&rt, rt.alloc()) {
+        Err(Error::Memory) => join(&rt, rt.alloc()),
+        joined => joined,
+    }
+}
+
+/// Two rewritten keys under two appended ones, of which one is the same.
+fn joined(alloc: Global) -> Result<LogStore> {
+    let mut store = LogStore::new(alloc);
+    let rewritten = FileId::new(LogQueue::Rewrite, 7);
+    put(&mut store, rewritten, &[(b"j", b"1"), (b"k", b"2")])?;
+    let mut newer = LogStore::new(alloc);
+    let appended = FileId::new(LogQueue::Append, 9);
+    put(&mut newer, appended, &[(b"k", b"3"), (b"l", b"4")])?;
+    let mut table = newer.table;
+    store.merge(&mut table, true)?;
+    Ok(store)
+}
+
+fn join(rt: &impl Abort, alloc: Global) -> Result<()> {
+    let mut store = joined(alloc)?;
+    assert_eq!(rt; store.table.get(b"k"), Some(b"3".as_slice()));
+    assert_eq!(rt; store.table.records(LogQueue::Rewrite), 1);
+    assert_eq!(rt; store.table.min_file_seq(LogQueue::Append), Some(9));
+    let mut pairs = Vec::new(alloc);
+    store.table.fetch_kvs_before(9, &mut pairs)?;
+    assert_eq!(rt; pairs.len(), 2);
+    let rewritten = TableChange::RewriteKey {
+        key: store.bytes(b"l")?,
+        gate: Some(9),
+        seq: 50,
+    };
+    store.make(rewritten)?;
+    assert_eq!(rt; store.table.records(LogQueue::Rewrite), 2);
+    let deleted = TableChange::Delete {
+        key: store.bytes(b"j")?,
+    };
+    store.make(deleted)?;
+    assert_eq!(rt; store.table.key_count(), 2);
+    Ok(())
+}

@@ -1,0 +1,17 @@
+//! Tests of `raft_table`.
+#![tactic(auto)]
+
+#[cfg(test)]
+mod blocks;
+#[cfg(test)]
+mod calls;
+#[cfg(test)]
+mod counts;
+#[cfg(test)]
+mod key_values;
+#[cfg(test)]
+mod lists;
+#[cfg(test)]
+mod queries;
+#[cfg(test)]
+mod store;

@@ -6,12 +6,12 @@ ghost use Rattle.raft_table.specs.TableEntries.{IsRunIn};
 
 use crate::store::LogStore;
 use raft_table::{
-    EntryIndex, Error, FileBlockHandle, FileId, FileSeq, GlobalStats, LogQueue, Mark, MemTable,
-    Result, is_run,
+    EntryIndex, Error, FileBlockHandle, FileId, FileSeq, LogQueue, Mark, MemTable, Result, is_run,
 };
 use std::alloc::Global;
 
 /// Numbers of a linear congruential generator.
+#[derive(Drop)]
 struct Numbers {
     state: u64,
 }
@@ -139,10 +139,9 @@ fn entries_of(alloc: Global, queue: LogQueue, run: Run) -> Result<Vec<EntryIndex
 
 /// The table of a run.
 fn table_of(alloc: Global, queue: LogQueue, run: Run) -> Result<MemTable> {
-    let mut table = MemTable::new(alloc, 7);
-    let mut stats = GlobalStats::default();
-    table.replay_into(queue, entries_of(alloc, queue, run)?, &mut stats)?;
-    Ok(table)
+    let mut store = LogStore::new(alloc);
+    replay(alloc, &mut store, queue, run)?;
+    Ok(store.table)
 }
 
 /// Makes a call.

@@ -112,26 +112,32 @@ fn has_effect(alloc: Global, statuses: [AtomicGroupStatus; 4], owed: Effect) -> 
     )
 }
 
-/// The status that the last digit of a number in base 3 stands for.
-fn status(digits: usize) -> AtomicGroupStatus {
-    match digits % 3 {
-        0 => Begin,
-        1 => Middle,
-        _ => End,
+const STATUSES: [AtomicGroupStatus; 3] = [Begin, Middle, End];
+
+/// Whether all lists of four markers that begin with these two have their effects.
+fn all_behind_have_effects(
+    alloc: Global,
+    first: AtomicGroupStatus,
+    second: AtomicGroupStatus,
+) -> Result<bool> {
+    for third in STATUSES {
+        for fourth in STATUSES {
+            let statuses = [first, second, third, fourth];
+            if !has_effect(alloc, statuses, owed(&statuses))? {
+                return Ok(false);
+            }
+        }
     }
+    Ok(true)
 }
 
 /// Whether all lists of four markers have their effects.
 fn all_have_effects(alloc: Global) -> Result<bool> {
-    for list in 0..81usize {
-        let statuses = [
-            status(list / 27),
-            status(list / 9),
-            status(list / 3),
-            status(list),
-        ];
-        if !has_effect(alloc, statuses, owed(&statuses))? {
-            return Ok(false);
+    for first in STATUSES {
+        for second in STATUSES {
+            if !all_behind_have_effects(alloc, first, second)? {
+                return Ok(false);
+            }
         }
     }
     Ok(true)

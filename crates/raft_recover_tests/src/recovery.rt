@@ -1,6 +1,8 @@
 //! Whole recoveries: files in, lines out, on any number of workers and however the files are cut.
 
+mod bound;
 mod histories;
+mod kept;
 mod rows;
 
 use histories::{APPENDED, APPENDED_LINES, HOLE, REWRITTEN, REWRITTEN_LINES};

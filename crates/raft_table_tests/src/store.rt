@@ -6,8 +6,8 @@ ghost use Rattle.raft_table.specs.TableEntries.{IsRunIn};
 ghost use Rattle.raft_table.specs.Table.{IsCounted};
 
 use raft_table::{
-    EntryIndex, Error, FileBlockHandle, FileId, FileSeq, GlobalStats, LogQueue, MemTable, Result,
-    TableChange, is_run,
+    EntryIndex, Error, FileBlockHandle, FileId, FileSeq, GlobalStats, LogQueue, Mark, MemTable,
+    Result, TableChange, is_run,
 };
 use std::alloc::Global;
 
@@ -235,6 +235,26 @@ impl LogStore {
         } else {
             self.table.merge_newer_neighbor(other, &mut self.stats)
         }
+    }
+
+    /// Merges a table of a queue into this store's, under its mark.
+    pub fn merge_under(
+        &mut self,
+        queue: LogQueue,
+        newer: &mut MemTable,
+        mark: &Mark,
+    ) -> Result<()> {
+        let other = match queue {
+            LogQueue::Append => LogQueue::Rewrite,
+            LogQueue::Rewrite => LogQueue::Append,
+        };
+        if self.table.region_id() != newer.region_id()
+            || newer.records(other) > 0
+            || queue == LogQueue::Rewrite && self.table.records(LogQueue::Append) > 0
+        {
+            return Err(Error::Failed);
+        }
+        self.table.merge_under(queue, newer, mark, &mut self.stats)
     }
 
     pub fn shape(&self) -> Shape {

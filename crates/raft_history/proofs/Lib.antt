@@ -19,6 +19,7 @@ pub mod NewLaws
 pub mod QueueLemmas
 pub mod ReadItemLemmas
 pub mod ReadLemmas
+pub mod ReadRunLemmas
 pub mod ReadingLemmas
 pub mod RecordLemmas
 pub mod RegionLaws

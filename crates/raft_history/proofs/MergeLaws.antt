@@ -6,7 +6,7 @@ use Rattle.std.specs.Option.{unwrap_or, option_and_then}
 use Rattle.std.specs.FinMap as finite
 use Rattle.raft_base.specs.declared.pipe_log.LogQueue.{LogQueue}
 use Rattle.raft_base.specs.declared.pipe_log.LogQueue.TheVariants.{Append, Rewrite}
-use Rattle.raft_records.specs.declared.entry_index.EntryIndex.{EntryIndex}
+use Rattle.raft_base.specs.declared.entry_index.EntryIndex.{EntryIndex}
 use Rattle.raft_table.specs.Marks.{Mark, Stands, applied, table_over, is_there_over}
 use Rattle.raft_table.specs.MarkJoins.{joined_mark, fresh, mark_of}
 use Rattle.raft_table.specs.Steps.{Step, Run, Compact, Put, Del, AtomicGroup, Clean, AreSteps, stepped, is_there_after, there_if, after_step, after, table_of}

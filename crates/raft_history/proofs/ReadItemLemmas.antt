@@ -2,13 +2,13 @@
 use Rattle.std.proofs.Common.{ℕ, List, [], ◌∷◌, ◌≡◌, Option, Some, None, refl, sym, subst}
 use Rattle.std.specs.List.{AllByRecursion}
 use Rattle.raft_base.specs.declared.pipe_log.FileId.{FileId}
-use Rattle.raft_records.specs.declared.entry_index.EntryIndex.{EntryIndex}
+use Rattle.raft_base.specs.declared.entry_index.EntryIndex.{EntryIndex}
 use Rattle.raft_records.specs.declared.key_value.OpType.{OpType}
 use Rattle.raft_records.specs.declared.key_value.OpType.TheVariants.{Put, Del}
 use Rattle.raft_records.specs.Item.{Item, Content, entries, command, pair}
 use Rattle.raft_records.specs.ReadIn.{IsBlockIn, IsReadIn, AreReadIn}
 use Rattle.raft_records.specs.Spelling.{IsWritableWith}
-use Rattle.raft_table.proofs.ReadRunLemmas.{read_run}
+use Rattle.raft_history.proofs.ReadRunLemmas.{read_run}
 use Rattle.raft_history.specs.Histories.{AreBlocksIn, IsPairIn, IsInFile, AreInFile}
 
 blocks_in : (file : FileId) (es : List EntryIndex) → AllByRecursion (λ (e : EntryIndex). IsBlockIn file e.entries) es → AreBlocksIn file es

@@ -4,4 +4,5 @@
 pub mod contexts;
 pub mod effects;
 pub mod histories;
+pub mod read_runs;
 pub mod regions;

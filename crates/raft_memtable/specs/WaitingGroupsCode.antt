@@ -4,8 +4,8 @@ use Rattle.std.specs.Coded.{Coded, code_by, coded×, coded_list, coded_option, c
 use Rattle.std.specs.FinMap as finite
 use Rattle.raft_base.specs.contracts.pipe_log.FileId as file
 use Rattle.raft_base.specs.declared.pipe_log.FileId.{FileId}
-use Rattle.raft_records.specs.contracts.entry_index.EntryIndex as entry
-use Rattle.raft_records.specs.declared.entry_index.EntryIndex.{EntryIndex}
+use Rattle.raft_base.specs.contracts.entry_index.EntryIndex as entry
+use Rattle.raft_base.specs.declared.entry_index.EntryIndex.{EntryIndex}
 use Rattle.raft_table.specs.Steps.{Step, Run, Compact, Put, Del, AtomicGroup, Clean}
 use Rattle.raft_history.specs.RegionSteps.{RegionStep}
 use Rattle.raft_history.specs.WaitingGroup.{GroupFront, Open, Ended, Cut, OpenStretch, WaitingGroup}

@@ -17,8 +17,8 @@ use Rattle.raft_base.proofs.VarintLemmas.{varint_one_front, varint_some}
 use Rattle.raft_base.proofs.ReadingLemmas.{reads_pair, no_first, no_second, pair_one_front}
 use Rattle.raft_base.proofs.FixedLemmas.{IsReadAgain-little_bytes}
 use Rattle.raft_base.proofs.SequenceLemmas.{reads_more, stuck, sequence_one_front, fault_after}
-use Rattle.raft_records.specs.declared.compression_type.CompressionType.{CompressionType}
-use Rattle.raft_records.specs.declared.entry_index.EntryIndex.{EntryIndex}
+use Rattle.raft_base.specs.declared.compression_type.CompressionType.{CompressionType}
+use Rattle.raft_base.specs.declared.entry_index.EntryIndex.{EntryIndex}
 use Rattle.raft_records.specs.declared.key_value.OpType.{OpType}
 use Rattle.raft_records.specs.declared.key_value.OpType.TheVariants.{Put, Del}
 use Rattle.raft_records.specs.declared.log_item.LogItem.{LogItem}

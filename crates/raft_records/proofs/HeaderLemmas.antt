@@ -5,11 +5,13 @@ use Rattle.byteorder.specs.Endian.{big_bytes}
 use Rattle.raft_base.specs.Reading.{Reads, HasNoFront}
 use Rattle.raft_base.specs.Fixed.{IsBig}
 use Rattle.raft_base.proofs.FixedLemmas.{IsReadAgain-big_bytes}
-use Rattle.raft_records.specs.declared.compression_type.CompressionType.{CompressionType}
-use Rattle.raft_records.specs.declared.compression_type.CompressionType.TheVariants.{None}
-use Rattle.raft_records.specs.LogBatch.{header_bytes, compression_byte}
+use Rattle.raft_base.specs.declared.compression_type.CompressionType.{CompressionType}
+use Rattle.raft_base.specs.declared.compression_type.CompressionType.TheVariants.{None}
+use Rattle.raft_base.specs.Compression.{compression_byte}
+use Rattle.raft_records.specs.LogBatch.{header_bytes}
 use Rattle.raft_base.specs.declared.errors.Error.{Error}
-use Rattle.raft_records.specs.Header.{IsHeader, IsCompressionFault, IsOffsetFault, IsWordsFault}
+use Rattle.raft_base.specs.Compression.{IsCompressionFault}
+use Rattle.raft_records.specs.Header.{IsHeader, IsOffsetFault, IsWordsFault}
 use Rattle.raft_records.proofs.BufferLemmas.{header_len}
 
 pub byte_of_type : (c : CompressionType) → compression_byte c ≡ 0

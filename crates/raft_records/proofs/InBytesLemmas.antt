@@ -2,7 +2,7 @@
 use Rattle.std.proofs.Common.{◌≡◌, ℕ, List, [], ◌∷◌, ◌++◌, map, Option, Some, None, refl}
 use Rattle.raft_base.specs.declared.pipe_log.FileBlockHandle.{FileBlockHandle}
 use Rattle.raft_base.specs.declared.pipe_log.FileId.{FileId}
-use Rattle.raft_records.specs.declared.compression_type.CompressionType.{CompressionType}
+use Rattle.raft_base.specs.declared.compression_type.CompressionType.{CompressionType}
 use Rattle.raft_records.specs.declared.key_value.OpType.{OpType}
 use Rattle.raft_records.specs.declared.key_value.OpType.TheVariants.{Put, Del}
 use Rattle.raft_records.specs.Grammar.{IsPairOf, IsContent, IsItem}

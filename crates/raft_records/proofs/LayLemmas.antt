@@ -1,7 +1,7 @@
 -- On entries whose bytes are laid or raised.
 use Rattle.std.proofs.Common.{◌≡◌, ℕ, zero, suc, ◌+◌, ◌^◌, ◌<◌, ◌≤◌, List, [], ◌∷◌, ◌++◌, map, length, take, drop, set, get_or, Option, None, refl, sym, ap, ◌∙◌, subst, append_assoc, arith}
 use Rattle.std.proofs.lemmas.List.{length-map, length-take-le, take_more, drop_more, get_or_at, set_at}
-use Rattle.raft_records.specs.declared.entry_index.EntryIndex.{EntryIndex}
+use Rattle.raft_base.specs.declared.entry_index.EntryIndex.{EntryIndex}
 use Rattle.raft_records.specs.Item.{Item, Content, entries, command, pair}
 use Rattle.raft_records.specs.Entries.{IsConsecutiveFrom, IsConsecutive, Tile}
 use Rattle.raft_records.specs.Grammar.{tail_of, end_behind, behind_item}

@@ -4,9 +4,9 @@ use Rattle.std.proofs.lemmas.List.{map-append, length_push}
 use Rattle.raft_base.specs.declared.pipe_log.FileBlockHandle.{FileBlockHandle}
 use Rattle.raft_base.specs.declared.pipe_log.FileId.{FileId}
 use Rattle.raft_base.specs.Reading.{Reads, IsSequence}
-use Rattle.raft_records.specs.declared.compression_type.CompressionType.{CompressionType}
-use Rattle.raft_records.specs.declared.compression_type.CompressionType.TheVariants as compressions
-use Rattle.raft_records.specs.declared.entry_index.EntryIndex.{EntryIndex}
+use Rattle.raft_base.specs.declared.compression_type.CompressionType.{CompressionType}
+use Rattle.raft_base.specs.declared.compression_type.CompressionType.TheVariants as compressions
+use Rattle.raft_base.specs.declared.entry_index.EntryIndex.{EntryIndex}
 use Rattle.raft_records.specs.declared.entry_index.Placement.{Placement}
 use Rattle.raft_records.specs.declared.key_value.OpType.{OpType}
 use Rattle.raft_records.specs.declared.key_value.OpType.TheVariants.{Put, Del}

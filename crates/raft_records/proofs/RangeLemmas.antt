@@ -5,7 +5,7 @@ use Rattle.raft_base.specs.Reading.{IsSequence}
 use Rattle.raft_base.proofs.VarintLemmas.{varint_lt}
 use Rattle.raft_base.specs.declared.pipe_log.FileBlockHandle.{FileBlockHandle}
 use Rattle.raft_base.specs.declared.pipe_log.FileId.{FileId}
-use Rattle.raft_records.specs.declared.compression_type.CompressionType.{CompressionType}
+use Rattle.raft_base.specs.declared.compression_type.CompressionType.{CompressionType}
 use Rattle.raft_records.specs.declared.command.Command.{Command}
 use Rattle.raft_records.specs.declared.command.Command.TheVariants.{Clean, Compact}
 use Rattle.raft_records.specs.declared.key_value.OpType.{OpType}

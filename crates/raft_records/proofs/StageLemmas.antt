@@ -5,7 +5,7 @@ use Rattle.raft_base.specs.Checksum.{crc32_of}
 use Rattle.raft_records.specs.declared.log_batch.BufState.{BufState}
 use Rattle.raft_records.specs.declared.log_batch.BufState.TheVariants as states
 use Rattle.raft_records.specs.LogBatchModel.{stage_of}
-use Rattle.raft_records.specs.declared.compression_type.CompressionType.TheVariants as compressions
+use Rattle.raft_base.specs.declared.compression_type.CompressionType.TheVariants as compressions
 use Rattle.raft_records.specs.Item.{Item}
 use Rattle.raft_records.specs.Grammar.{behind_item}
 use Rattle.raft_records.specs.ItemBatch.{checksum_bytes, batch_bytes, entry_bytes_of, IsEncoded, signed, no_checksum}

@@ -1,11 +1,8 @@
 -- Lists of entries of one region.
 use Rattle.std.specs.Prelude.{◌≡◌, ℕ, ◌+◌, ◌-◌, ◌^◌, ◌<◌, List, [], ◌∷◌, length, None}
-use Rattle.raft_records.specs.declared.compression_type.CompressionType.TheVariants as compressions
-use Rattle.raft_records.specs.declared.entry_index.EntryIndex.{EntryIndex}
-
--- index 0, without bytes and without a place
-abbrev pub no_entry : EntryIndex
-no_entry = record { index = 0; entries = None; compression_type = compressions.None; entry_offset = 0; entry_len = 0 }
+use Rattle.raft_base.specs.declared.compression_type.CompressionType.TheVariants as compressions
+use Rattle.raft_base.specs.declared.entry_index.EntryIndex.{EntryIndex}
+use Rattle.raft_base.specs.NoEntry.{no_entry}
 
 -- this index, without bytes and without a place
 abbrev pub entry_with_index : ℕ → EntryIndex

@@ -9,7 +9,8 @@ use Rattle.raft_base.specs.declared.message.MessageError.TheVariants as messages
 use Rattle.raft_base.specs.Errors.{IsIoOf}
 use Rattle.raft_base.specs.Reading.{IsFaultBehind, IsSequenceFault}
 use Rattle.raft_base.specs.Varint.{IsVarint, IsVarintFault}
-use Rattle.raft_records.specs.declared.entry_index.EntryIndex.{EntryIndex}
+use Rattle.raft_base.specs.declared.entry_index.EntryIndex.{EntryIndex}
+use Rattle.raft_base.specs.Corruption.{IsCorruption}
 use Rattle.raft_records.specs.Item.{Pair, Item}
 use Rattle.raft_records.specs.Entries.{AreWritable}
 use Rattle.raft_records.specs.Grammar.{IsByteString, IsTail, behind_entry}
@@ -24,12 +25,6 @@ IsMemory _ = ⊥
 abbrev pub IsEof : Error → Type 0
 IsEof (errors.Codec e) = IsIoOf e UnexpectedEof
 IsEof _ = ⊥
-
--- a refusal by this text, or for want of memory for it
-abbrev pub IsCorruption : List ℕ → Error → Type 0
-IsCorruption text (errors.Corruption t) = string_bytes t ≡ text
-IsCorruption text errors.Memory = Unit {0}
-IsCorruption text _ = ⊥
 
 -- no number stands in front
 abbrev pub IsNumberFault : List ℕ → Error → Type 0

@@ -10,7 +10,8 @@ use Rattle.raft_records.specs.declared.atomic_group.AtomicGroupStatus.{AtomicGro
 use Rattle.raft_records.specs.declared.atomic_group.AtomicGroupStatus.TheVariants.{Begin, Middle, End}
 use Rattle.raft_records.specs.declared.key_value.OpType.{OpType}
 use Rattle.raft_records.specs.declared.key_value.OpType.TheVariants.{Put, Del}
-use Rattle.raft_records.specs.Faults.{IsMemory, IsCorruption}
+use Rattle.raft_base.specs.Corruption.{IsCorruption}
+use Rattle.raft_records.specs.Faults.{IsMemory}
 use Rattle.raft_records.specs.Item.{Item, Content, entries, command, pair, Pair, pair_item}
 
 -- the key of every group marker: two underscores and the byte 1

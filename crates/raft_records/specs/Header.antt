@@ -3,8 +3,10 @@ use Rattle.std.specs.Prelude.{◌≡◌, ◌≢◌, ℕ, ◌/◌, ◌%◌, ◌^�
 use Rattle.std.specs.Fmt.{decimal}
 use Rattle.byteorder.specs.Endian.{big_bytes}
 use Rattle.raft_base.specs.declared.errors.Error.{Error}
-use Rattle.raft_records.specs.declared.compression_type.CompressionType.{CompressionType}
-use Rattle.raft_records.specs.Faults.{IsMemory, IsCorruption, IsAnyCorruption}
+use Rattle.raft_base.specs.declared.compression_type.CompressionType.{CompressionType}
+use Rattle.raft_base.specs.Corruption.{IsCorruption}
+use Rattle.raft_base.specs.Compression.{IsCompressionFault}
+use Rattle.raft_records.specs.Faults.{IsMemory, IsAnyCorruption}
 use Rattle.raft_records.specs.ItemBatch.{HasSeal, IsSealFault}
 use Rattle.raft_records.specs.LogBatch.{header_bytes}
 
@@ -14,10 +16,6 @@ pub record IsHeader (bytes : List ℕ) (header : ℕ × CompressionType × ℕ) 
   pub length_fits : header.2 < 2 ^ 56
   pub behind_header : 16 ≤ header.0
   pub inside : header.0 ≤ header.2
-
--- a byte that stands for no compression type
-abbrev pub IsCompressionFault : ℕ → Error → Type 0
-IsCompressionFault byte e = (byte ≢ 0) × IsCorruption (codes "Unrecognized compression type: " ++ decimal byte) e
 
 -- an item batch that would begin behind the end, or inside the header
 abbrev pub IsOffsetFault : ℕ → ℕ → Error → Type 0

@@ -2,12 +2,13 @@
 use Rattle.std.specs.Prelude.{◌≡◌, ℕ, ◌+◌, ◌*◌, ◌^◌, ◌<◌, ◌≤◌, List, [], ◌∷◌, ◌++◌, map, length, Option, None}
 use Rattle.byteorder.specs.Endian.{big_bytes}
 use Rattle.raft_base.specs.declared.pipe_log.FileBlockHandle.{FileBlockHandle}
-use Rattle.raft_records.specs.declared.compression_type.CompressionType.{CompressionType}
-use Rattle.raft_records.specs.declared.compression_type.CompressionType.TheVariants as compressions
+use Rattle.raft_base.specs.declared.compression_type.CompressionType.{CompressionType}
+use Rattle.raft_base.specs.declared.compression_type.CompressionType.TheVariants as compressions
 use Rattle.std.specs.List.{concat}
 use Rattle.raft_base.specs.declared.errors.Error.{Error}
 use Rattle.raft_base.specs.declared.errors.Error.TheVariants as errors
-use Rattle.raft_records.specs.declared.entry_index.EntryIndex.{EntryIndex}
+use Rattle.raft_base.specs.declared.entry_index.EntryIndex.{EntryIndex}
+use Rattle.raft_base.specs.Compression.{compression_byte}
 use Rattle.raft_records.specs.Entries.{IsConsecutive, with_lengths}
 use Rattle.raft_records.specs.Faults.{IsMemoryOrMessage}
 use Rattle.raft_records.specs.Item.{Item, entries_item}
@@ -75,10 +76,6 @@ pub record IsBatchOf (items : List Item) (entry_bytes : List ℕ) : Type 0 where
   pub fits : length entry_bytes < 2 ^ 31
 
 -- ---- bytes
-
--- the byte that stands for a compression type
-abbrev pub compression_byte : CompressionType → ℕ
-compression_byte compressions.None = 0
 
 -- a header: the batch's length with the compression type's byte behind it, and the offset of the item batch; eight bytes each, the highest first
 unfoldable pub header_bytes : ℕ → CompressionType → ℕ → List ℕ

@@ -11,42 +11,9 @@ ghost use Rattle.raft_records.specs.Placement.{entry_between, file_in, entry_in}
 ghost use Rattle.raft_records.specs.Sizes.{entries_size, saturated};
 ghost use Rattle.raft_records.specs.Spelling.{Keeps, tails_bytes, entries_bytes};
 
-use crate::CompressionType;
 use raft_base::codec::BytesSlice;
-use raft_base::{Error, FileBlockHandle, FileId, Result, codec};
+use raft_base::{CompressionType, EntryIndex, Error, FileBlockHandle, FileId, Result, codec};
 use std::alloc::{AllocError, Global};
-
-/// An entry of a region's log: its index, and the place of its bytes.
-#[derive(Clone, Copy, PartialEq, Eq, Debug)]
-pub struct EntryIndex {
-    pub index: u64,
-    /// The block of entry bytes that holds this entry's, once it has been written to a file.
-    pub entries: Option<FileBlockHandle>,
-    /// How that block is compressed.
-    pub compression_type: CompressionType,
-    /// Where this entry's bytes begin in the block.
-    pub entry_offset: u32,
-    /// How many bytes it has.
-    pub entry_len: u32,
-}
-
-impl Default for EntryIndex {
-    ghost use Rattle.std.specs.Prelude.{◌≡◌};
-    ghost use Rattle.raft_records.specs.Entries.{no_entry};
-
-    ghost is_default = { λ e. e ≡ no_entry };
-
-    /// Index 0, no bytes and no place.
-    fn default() -> EntryIndex {
-        EntryIndex {
-            index: 0,
-            entries: None,
-            compression_type: CompressionType::None,
-            entry_offset: 0,
-            entry_len: 0,
-        }
-    }
-}
 
 /// Where entries that are read are placed.
 #[derive(Clone, Copy)]

@@ -9,7 +9,7 @@ ghost use Rattle.raft_records.specs.Buffer.{IsUnsealed, IsHeld, entry_bytes_in};
 ghost use Rattle.raft_records.specs.ItemBatch.{IsEncoded, batch_bytes, checksum_bytes};
 ghost use Rattle.raft_base.specs.Signature.{signature_of};
 ghost use Rattle.raft_records.specs.Spelling.{Keeps};
-ghost use Rattle.raft_records.specs.declared.compression_type.CompressionType.TheVariants as compressions;
+ghost use Rattle.raft_base.specs.declared.compression_type.CompressionType.TheVariants as compressions;
 
 use crate::checksum::{LOG_BATCH_CHECKSUM_LEN, verify_checksum};
 use crate::{CompressionType, LogItemBatch};

@@ -4,7 +4,6 @@
 pub mod atomic_group;
 mod checksum;
 pub mod command;
-pub mod compression_type;
 pub mod entry_index;
 pub mod file_part;
 pub(crate) mod header;
@@ -17,8 +16,7 @@ pub mod print;
 
 pub use atomic_group::{ATOMIC_GROUP_KEY, AtomicGroupBuilder, AtomicGroupStatus, is_reserved};
 pub use command::Command;
-pub use compression_type::CompressionType;
-pub use entry_index::{EntryIndex, EntryIndexes, is_consecutive};
+pub use entry_index::{EntryIndexes, is_consecutive};
 pub use file_part::{FilePart, next_batch};
 pub use key_value::{KeyValue, OpType};
 pub use log_batch::LogBatch;
@@ -26,8 +24,8 @@ pub use log_item::{LogItem, LogItemContent};
 pub use log_item_batch::LogItemBatch;
 pub use print::{batch_text, print_batch};
 pub use raft_base::{
-    B, Error, Factory, FileBlockHandle, FileId, FileSeq, GIB, KIB, LogFileContext, LogQueue, MIB,
-    Message, MessageError, MessageExt, PIB, PipeLog, ReactiveBytes, ReadableSize, Result,
-    SizeError, TIB, Version, codec, errors, hash_u64, message, pipe_log, round_down, round_up,
-    size_from_value, unhash_u64, util,
+    B, CompressionType, EntryIndex, Error, Factory, FileBlockHandle, FileId, FileSeq, GIB, KIB,
+    LogFileContext, LogQueue, MIB, Message, MessageError, MessageExt, PIB, PipeLog, ReactiveBytes,
+    ReadableSize, Result, SizeError, TIB, Version, codec, compression_type, errors, hash_u64,
+    message, pipe_log, round_down, round_up, size_from_value, unhash_u64, util,
 };

@@ -12,7 +12,7 @@ ghost use Rattle.raft_records.specs.Header.{IsHeader, IsHeaderFault, IsBlockOf, 
 ghost use Rattle.raft_records.specs.declared.key_value.OpType.TheVariants.{Put, Del};
 ghost use Rattle.raft_records.specs.Group.{reserved_key, IsKeyRefusal, IsMessageRefusal};
 ghost use Rattle.raft_records.specs.ItemBatch.{placed};
-ghost use Rattle.raft_records.specs.declared.compression_type.CompressionType.TheVariants as compressions;
+ghost use Rattle.raft_base.specs.declared.compression_type.CompressionType.TheVariants as compressions;
 
 use crate::checksum::LOG_BATCH_CHECKSUM_LEN;
 use crate::header::{

@@ -4,8 +4,8 @@ use Rattle.std.proofs.lemmas.List.{nil_from_length, append-nil, append_assoc, le
 use Rattle.raft_base.specs.declared.pipe_log.FileBlockHandle.{FileBlockHandle}
 use Rattle.raft_base.specs.declared.pipe_log.LogQueue.{LogQueue}
 use Rattle.raft_base.specs.declared.pipe_log.LogQueue.TheVariants.{Append, Rewrite}
-use Rattle.raft_records.specs.declared.compression_type.CompressionType.TheVariants as compression
-use Rattle.raft_records.specs.declared.entry_index.EntryIndex.{EntryIndex}
+use Rattle.raft_base.specs.declared.compression_type.CompressionType.TheVariants as compression
+use Rattle.raft_base.specs.declared.entry_index.EntryIndex.{EntryIndex}
 use Rattle.raft_table.specs.Blocks.{BlockSpans, spread, expanded, AreDistinctBlocks}
 use Rattle.raft_table.specs.BlockWords.{count, starts_of, AreKept, advanced, cut_first, cut_last, joined_blocks, seam, IsAt}
 use Rattle.raft_table.specs.TableEntries.{RisesFrom, AreTableEntries, start_of, placed_in, is_placed_in, entry_count}

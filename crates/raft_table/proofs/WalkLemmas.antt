@@ -4,7 +4,7 @@ use Rattle.std.specs.List.{prefix_len}
 use Rattle.std.proofs.lemmas.List.{append-nil, append_assoc, length-append, length-drop, length-take-le, get_or-drop, take_all, take-take, take_more, drop_more, drop-take, drop-append-le, take-append-drop, get_or_default}
 use Rattle.std.proofs.lemmas.Bool.{cases_lt}
 use Rattle.raft_base.specs.declared.pipe_log.FileBlockHandle.{FileBlockHandle}
-use Rattle.raft_records.specs.declared.entry_index.EntryIndex.{EntryIndex}
+use Rattle.raft_base.specs.declared.entry_index.EntryIndex.{EntryIndex}
 use Rattle.raft_table.specs.Blocks.{BlockSpans, spread, expanded, AreDistinctBlocks}
 use Rattle.raft_table.specs.BlockWords.{count, IsAt}
 use Rattle.raft_table.specs.TableEntries.{is_placed_in}

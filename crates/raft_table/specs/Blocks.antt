@@ -1,8 +1,8 @@
 -- Entries kept as blocks: one handle, and for each entry a span of bytes.
 use Rattle.std.specs.Prelude.{◌≡◌, ◌≢◌, ℕ, ◌+◌, ◌<◌, suc, List, [], ◌∷◌, ◌++◌, length, map, Some}
 use Rattle.raft_base.specs.declared.pipe_log.FileBlockHandle.{FileBlockHandle}
-use Rattle.raft_records.specs.declared.compression_type.CompressionType.TheVariants as compression
-use Rattle.raft_records.specs.declared.entry_index.EntryIndex.{EntryIndex}
+use Rattle.raft_base.specs.declared.compression_type.CompressionType.TheVariants as compression
+use Rattle.raft_base.specs.declared.entry_index.EntryIndex.{EntryIndex}
 use Rattle.raft_table.specs.declared.memtable.block.Block.{Block}
 
 -- a block as its handle, and the offset and the length of each of its entries in order

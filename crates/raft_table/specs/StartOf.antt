@@ -1,6 +1,6 @@
 -- Where a run that starts at an index meets the entries.
 use Rattle.std.specs.Prelude.{◌≡◌, ℕ, ◌≤◌, true, false, List, [], length, take}
-use Rattle.raft_records.specs.declared.entry_index.EntryIndex.{EntryIndex}
+use Rattle.raft_base.specs.declared.entry_index.EntryIndex.{EntryIndex}
 use Rattle.raft_table.specs.declared.memtable.entries.Start.{Start}
 use Rattle.raft_table.specs.declared.memtable.entries.Start.TheVariants as starts
 use Rattle.raft_table.specs.TableEntries.{end_of, below}

@@ -1,8 +1,8 @@
 -- The code of tables, by which values of their type are told apart.
 use Rattle.std.specs.Prelude.{ℕ, List, Option, refl}
 use Rattle.std.specs.Coded.{Coded, code_by, coded×, coded_list, coded_option, coded_ℕ}
-use Rattle.raft_records.specs.contracts.entry_index.EntryIndex as entry
-use Rattle.raft_records.specs.declared.entry_index.EntryIndex.{EntryIndex}
+use Rattle.raft_base.specs.contracts.entry_index.EntryIndex as entry
+use Rattle.raft_base.specs.declared.entry_index.EntryIndex.{EntryIndex}
 use Rattle.raft_table.specs.KeyValueCode.{keys_code}
 use Rattle.raft_table.specs.KeyValues.{Keys}
 use Rattle.raft_table.specs.Table.{Table}

@@ -7,7 +7,7 @@ ghost use Rattle.raft_table.specs.Counts.{live, with_added, with_deleted, withou
 ghost use Rattle.raft_table.specs.Table.{live_of, IsCounted, with_table_added, with_table_deleted};
 
 use crate::memtable::MemTable;
-use raft_records::{Error, LogQueue, Result};
+use raft_base::{Error, LogQueue, Result};
 use std::marker::Model;
 
 /// The live records of all regions, counted by queue. A record is an entry or a key value.

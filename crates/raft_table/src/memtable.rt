@@ -21,7 +21,6 @@ mod laws;
 mod mark;
 mod merge;
 mod queries;
-mod read_runs;
 mod region;
 mod table_laws;
 mod under;
@@ -36,8 +35,7 @@ pub use laws::{
     entries_stand_by_index, last_words_stand, marks_stand_for_steps, overlays_by_marks,
 };
 pub use mark::Mark;
-use raft_records::{EntryIndex, Error, FileId, FileSeq, LogQueue, Result};
-pub use read_runs::read_entries_are_runs;
+use raft_base::{EntryIndex, Error, FileId, FileSeq, LogQueue, Result};
 pub use region::{join_cleaned, join_region, replay_clean, replay_delete, replay_run};
 use std::alloc::Global;
 use std::collections::VecDeque;

@@ -1,6 +1,6 @@
 //! A block of a table's entries.
 
-use raft_records::FileBlockHandle;
+use raft_base::FileBlockHandle;
 use std::collections::VecDeque;
 
 /// A longest stretch of neighbouring entries of a table that stand in one block of a file.

@@ -9,7 +9,7 @@ ghost use Rattle.raft_table.specs.Table.{IsCounted, IsRecounted};
 
 use crate::global_stats::GlobalStats;
 use crate::memtable::MemTable;
-use raft_records::{EntryIndex, Error, FileId, FileSeq, LogQueue, Result};
+use raft_base::{EntryIndex, Error, FileId, FileSeq, LogQueue, Result};
 
 /// One change of a table.
 #[derive(Debug, Drop)]

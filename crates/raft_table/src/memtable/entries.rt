@@ -17,7 +17,7 @@ mod walks;
 use crate::global_stats::GlobalStats;
 use crate::memtable::block::Block;
 use crate::memtable::entries::lists::find;
-use raft_records::{CompressionType, EntryIndex, Error, LogQueue, Result};
+use raft_base::{CompressionType, EntryIndex, Error, LogQueue, Result};
 use std::alloc::Global;
 use std::collections::VecDeque;
 use std::marker::Model;
@@ -60,7 +60,7 @@ struct Overlap {
 
 impl Model for Entries {
     ghost use Rattle.std.specs.Prelude.{List};
-    ghost use Rattle.raft_records.specs.declared.entry_index.EntryIndex.{EntryIndex};
+    ghost use Rattle.raft_base.specs.declared.entry_index.EntryIndex.{EntryIndex};
     ghost use Rattle.raft_table.specs.Blocks.{shown, expanded};
     ghost use Rattle.raft_table.specs.BlockWords.{AreKept};
 

@@ -10,7 +10,7 @@ ghost use Rattle.raft_table.specs.KeyValues.{Keys, pair_count, file_weight, valu
 
 mod scan;
 
-use raft_records::{FileId, FileSeq, LogQueue};
+use raft_base::{FileId, FileSeq, LogQueue};
 use scan::{divided, is_forward, sought, visit, visit_back};
 use std::alloc::{AllocError, Global};
 use std::collections::BTreeMap;

@@ -11,7 +11,7 @@ ghost use Rattle.raft_table.specs.Steps.{Compact, Del, Clean};
 
 use crate::memtable::deleted_keys::DeletedKeys;
 use crate::memtable::key_values::lesser;
-use raft_records::{Error, LogQueue, Result};
+use raft_base::{Error, LogQueue, Result};
 use std::alloc::Global;
 use std::marker::Model;
 use std::mem;

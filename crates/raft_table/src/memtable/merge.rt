@@ -14,7 +14,7 @@ ghost use Rattle.raft_table.specs.Table.{empty_table, live_of, IsCounted, IsReco
 use crate::global_stats::GlobalStats;
 use crate::memtable::MemTable;
 use crate::memtable::key_values::KeyValues;
-use raft_records::{Error, LogQueue, Result};
+use raft_base::{Error, LogQueue, Result};
 
 impl MemTable {
     /// Moves the records of the newer table `rhs` of the same region, which the counts don't hold,

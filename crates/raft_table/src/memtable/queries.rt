@@ -14,7 +14,7 @@ ghost use Rattle.raft_table.specs.Least.{least_of, lowered};
 
 use crate::memtable::MemTable;
 use crate::memtable::key_values::lesser;
-use raft_records::{EntryIndex, Error, FileId, FileSeq, LogQueue, Result};
+use raft_base::{EntryIndex, Error, FileId, FileSeq, LogQueue, Result};
 
 impl MemTable {
     /// How many stretches of neighbouring entries in one block of a file there are.

@@ -14,7 +14,7 @@ ghost use Rattle.raft_table.specs.Table.{Table, live_of, IsCounted, IsRecounted}
 use crate::global_stats::GlobalStats;
 use crate::memtable::MemTable;
 use crate::memtable::mark::Mark;
-use raft_records::{EntryIndex, Error, LogQueue, Result};
+use raft_base::{EntryIndex, Error, LogQueue, Result};
 
 /// Puts a newer mark and its table, which the counts don't hold, behind an older mark and its table.
 ///

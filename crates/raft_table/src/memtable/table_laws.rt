@@ -8,7 +8,7 @@ ghost use Rattle.std.specs.Option.{option_or};
 ghost use Rattle.std.specs.FinMap as finite;
 ghost use Rattle.raft_base.specs.declared.errors.Error.{Error};
 ghost use Rattle.raft_base.specs.declared.pipe_log.LogQueue.{LogQueue};
-ghost use Rattle.raft_records.specs.declared.entry_index.EntryIndex.{EntryIndex};
+ghost use Rattle.raft_base.specs.declared.entry_index.EntryIndex.{EntryIndex};
 ghost use Rattle.raft_table.specs.Counts.{Counts, live};
 ghost use Rattle.raft_base.specs.declared.pipe_log.LogQueue.TheVariants.{Append, Rewrite};
 ghost use Rattle.raft_table.specs.TableEntries.{RisesFrom, IsRunIn, AreTableEntries, start_of, end_of, between, entry_count, entry_at};
@@ -19,7 +19,7 @@ ghost use Rattle.raft_table.specs.Scan.{is_between, scanned};
 ghost use Rattle.raft_table.specs.Table.{Table, live_of};
 ghost use Rattle.raft_table.specs.Start.{appended, replayed, IsTableRunFault};
 
-use raft_records::Error;
+use raft_base::Error;
 
 /// A run is refused as `Full` only where the live number of its queue and the run's length together
 /// pass 2^64 - 1.

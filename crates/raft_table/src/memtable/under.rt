@@ -3,7 +3,7 @@
 ghost use Rattle.std.specs.Prelude.{◌≡◌, ◌≢◌, ◌+◌, ◌≤◌, false, [], if◌then◌else◌, MatchBool, OnOk, OnErr, IfErr, Some, None, ◌^◌};
 ghost use Rattle.std.specs.FinMap as finite;
 ghost use Rattle.raft_base.specs.declared.pipe_log.LogQueue.{LogQueue};
-ghost use Rattle.raft_records.specs.declared.entry_index.EntryIndex.{EntryIndex};
+ghost use Rattle.raft_base.specs.declared.entry_index.EntryIndex.{EntryIndex};
 ghost use Rattle.raft_table.specs.Counts.{live};
 ghost use Rattle.raft_table.specs.TableEntries.{IsRun, IsRunIn, end_of};
 ghost use Rattle.raft_table.specs.KeySets.{without};
@@ -22,7 +22,7 @@ use crate::global_stats::GlobalStats;
 use crate::memtable::MemTable;
 use crate::memtable::deleted_keys::DeletedKeys;
 use crate::memtable::mark::Mark;
-use raft_records::{EntryIndex, Error, LogQueue, Result};
+use raft_base::{EntryIndex, Error, LogQueue, Result};
 use std::mem;
 
 impl MemTable {

@@ -11,7 +11,7 @@ use crate::global_stats::GlobalStats;
 use crate::memtable::block::Block;
 use crate::memtable::entries::Entries;
 use crate::memtable::entries::lists::find;
-use raft_records::LogQueue;
+use raft_base::LogQueue;
 use std::collections::VecDeque;
 
 impl Entries {

@@ -10,7 +10,7 @@ ghost use Rattle.raft_table.specs.Rewriting.{may_move};
 use crate::memtable::entries::Entries;
 use crate::memtable::entries::lists::find;
 use crate::memtable::entries::walks::{count_from, movable_from, push_parts};
-use raft_records::{EntryIndex, Error, FileSeq, LogQueue, Result};
+use raft_base::{EntryIndex, Error, FileSeq, LogQueue, Result};
 
 impl Entries {
     /// Appends the entries from `begin` on and below `end`, in order, to `vec`. With a limit it

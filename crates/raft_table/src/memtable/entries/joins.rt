@@ -2,7 +2,7 @@
 
 ghost use Rattle.std.specs.Prelude.{◌≡◌, ◌≢◌, ◌+◌, ◌≤◌, ◌<◌, ℕ, [], ◌++◌, length, take, drop, slice_index_or, Some, MatchBool, OnOk, OnErr, IfErr, IfOk};
 ghost use Rattle.raft_base.specs.declared.pipe_log.LogQueue.TheVariants.{Rewrite};
-ghost use Rattle.raft_records.specs.declared.entry_index.EntryIndex.{EntryIndex};
+ghost use Rattle.raft_base.specs.declared.entry_index.EntryIndex.{EntryIndex};
 ghost use Rattle.raft_table.specs.Blocks.{spread};
 ghost use Rattle.raft_table.specs.BlockWords.{spans_of};
 ghost use Rattle.raft_table.specs.TableEntries.{AreTableEntries};
@@ -13,7 +13,7 @@ use crate::memtable::entries::Entries;
 use crate::memtable::entries::lists::{
     cut_at, find, is_same, push_block, put_blocks, spans_behind,
 };
-use raft_records::{EntryIndex, Error, FileBlockHandle, LogQueue, Result};
+use raft_base::{EntryIndex, Error, FileBlockHandle, LogQueue, Result};
 use std::alloc::Global;
 use std::collections::VecDeque;
 use std::mem::swap;

@@ -8,7 +8,7 @@ ghost use Rattle.raft_table.specs.Blocks.{BlockSpans, block_spans, shown};
 ghost use Rattle.raft_table.specs.BlockWords.{count, starts_of, cut_last, joined_blocks, seam, IsIndexOf, IsAt};
 
 use crate::memtable::block::Block;
-use raft_records::{FileBlockHandle, Result};
+use raft_base::{FileBlockHandle, Result};
 use std::alloc::Global;
 use std::collections::VecDeque;
 

@@ -12,7 +12,7 @@ ghost use Rattle.raft_base.specs.declared.pipe_log.LogQueue.TheVariants.{Append,
 
 use crate::global_stats::GlobalStats;
 use crate::memtable::entries::{Entries, Overlap};
-use raft_records::{EntryIndex, Error, FileSeq, LogQueue, Result};
+use raft_base::{EntryIndex, Error, FileSeq, LogQueue, Result};
 
 impl Entries {
     /// Gives the entries the places of a run of the rewrite queue, from the first shared index on

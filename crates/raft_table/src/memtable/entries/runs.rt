@@ -11,7 +11,7 @@ ghost use Rattle.raft_base.specs.declared.pipe_log.LogQueue.TheVariants.{Append,
 
 use crate::global_stats::GlobalStats;
 use crate::memtable::entries::{Entries, Start};
-use raft_records::{EntryIndex, Error, LogQueue, Result};
+use raft_base::{EntryIndex, Error, LogQueue, Result};
 
 impl Entries {
     /// Puts a new run of the append queue behind the entries below its start. All others go.

@@ -3,14 +3,14 @@
 ghost use Rattle.std.specs.Prelude.{◌≡◌, ◌+◌, ◌-◌, ◌≤◌, ◌<◌, ◌^◌, ◌++◌, ℕ, List, take, drop, slice_index_or, length, Some};
 ghost use Rattle.std.specs.List.{prefix_len};
 ghost use Rattle.std.specs.Vec.{vec_len, vec_capacity};
-ghost use Rattle.raft_records.specs.declared.entry_index.EntryIndex.{EntryIndex};
+ghost use Rattle.raft_base.specs.declared.entry_index.EntryIndex.{EntryIndex};
 ghost use Rattle.raft_table.specs.Blocks.{BlockSpans, block_spans, shown, spread, expanded, AreDistinctBlocks};
 ghost use Rattle.raft_table.specs.BlockWords.{count, IsAt};
 ghost use Rattle.raft_table.specs.Fetches.{IsLimitCount};
 ghost use Rattle.raft_table.specs.Rewriting.{may_move};
 
 use crate::memtable::block::Block;
-use raft_records::{CompressionType, EntryIndex, FileBlockHandle, FileSeq, LogQueue};
+use raft_base::{CompressionType, EntryIndex, FileBlockHandle, FileSeq, LogQueue};
 use std::collections::VecDeque;
 
 /// Appends the entries behind the first `start`, among the first `end`, to a vector with room for

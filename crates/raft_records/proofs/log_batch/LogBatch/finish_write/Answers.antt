@@ -1,6 +1,6 @@
 use Rattle.std.proofs.Common.{◌≡◌, ◌+◌, ◌-◌, ◌∙◌, map, ap}
 use Rattle.raft_base.specs.declared.pipe_log.FileBlockHandle.{FileBlockHandle}
-use Rattle.raft_records.specs.declared.compression_type.CompressionType.TheVariants as compressions
+use Rattle.raft_base.specs.declared.compression_type.CompressionType.TheVariants as compressions
 use Rattle.raft_records.specs.ItemBatch.{placed}
 use Rattle.raft_records.specs.LogBatch.{Batch, IsSealedStage, log_batch_bytes}
 use Rattle.raft_records.specs.LogBatchModel.{stage_of}

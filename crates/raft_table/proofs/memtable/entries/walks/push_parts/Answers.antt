@@ -1,6 +1,6 @@
 use Rattle.std.proofs.Common.{ℕ, suc, ◌≡◌, ◌+◌, ◌-◌, ◌*◌, ◌<◌, ◌≤◌, ◌^◌, List, [], ◌∷◌, ◌++◌, length, take, drop, get_or, arith, refl, sym, ap, subst, ◌∙◌, Some, None, Option}
 use Rattle.std.proofs.lemmas.List.{append_assoc, length-drop, length-take-le, length-take, get_or-drop}
-use Rattle.raft_records.specs.declared.entry_index.EntryIndex.{EntryIndex}
+use Rattle.raft_base.specs.declared.entry_index.EntryIndex.{EntryIndex}
 use Rattle.raft_table.specs.Blocks.{BlockSpans, block_spans, shown, spread, expanded}
 use Rattle.raft_table.specs.BlockWords.{count, IsAt}
 use Rattle.raft_table.proofs.BlockLemmas.{length-expanded}

@@ -1,10 +1,9 @@
 //! How the entry bytes of a batch are compressed.
 
 ghost use Rattle.std.specs.Prelude.{◌≡◌, IfOk, IfErr};
-ghost use Rattle.raft_records.specs.LogBatch.{compression_byte};
-ghost use Rattle.raft_records.specs.Header.{IsCompressionFault};
+ghost use Rattle.raft_base.specs.Compression.{compression_byte, IsCompressionFault};
 
-use raft_base::{Error, Result};
+use crate::{Error, Result};
 use std::alloc::Global;
 
 /// How the entry bytes of a batch are compressed.

@@ -2,7 +2,7 @@
 
 ghost use Rattle.std.specs.Prelude.{ℕ, ◌<◌, ◌^◌, ◌↔◌, List};
 ghost use Rattle.raft_base.specs.declared.pipe_log.FileId.{FileId};
-ghost use Rattle.raft_records.specs.declared.entry_index.EntryIndex.{EntryIndex};
+ghost use Rattle.raft_base.specs.declared.entry_index.EntryIndex.{EntryIndex};
 ghost use Rattle.raft_records.specs.Entries.{IsConsecutive};
 ghost use Rattle.raft_records.specs.ReadIn.{IsReadIn};
 ghost use Rattle.raft_records.specs.Item.{entries};

@@ -1,0 +1,35 @@
+//! Where an entry of a region's log stands.
+
+use crate::{CompressionType, FileBlockHandle};
+
+/// An entry of a region's log: its index, and the place of its bytes.
+#[derive(Clone, Copy, PartialEq, Eq, Debug)]
+pub struct EntryIndex {
+    pub index: u64,
+    /// The block of entry bytes that holds this entry's, once it has been written to a file.
+    pub entries: Option<FileBlockHandle>,
+    /// How that block is compressed.
+    pub compression_type: CompressionType,
+    /// Where this entry's bytes begin in the block.
+    pub entry_offset: u32,
+    /// How many bytes it has.
+    pub entry_len: u32,
+}
+
+impl Default for EntryIndex {
+    ghost use Rattle.std.specs.Prelude.{◌≡◌};
+    ghost use Rattle.raft_base.specs.NoEntry.{no_entry};
+
+    ghost is_default = { λ e. e ≡ no_entry };
+
+    /// Index 0, no bytes and no place.
+    fn default() -> EntryIndex {
+        EntryIndex {
+            index: 0,
+            entries: None,
+            compression_type: CompressionType::None,
+            entry_offset: 0,
+            entry_len: 0,
+        }
+    }
+}

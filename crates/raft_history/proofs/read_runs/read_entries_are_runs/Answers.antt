@@ -1,0 +1,5 @@
+use Rattle.raft_history.proofs.ReadRunLemmas.{read_run}
+use Rattle.raft_history.proofs.read_runs.read_entries_are_runs.Goals as goal
+
+pub returns : goal.returns
+returns c = read_run

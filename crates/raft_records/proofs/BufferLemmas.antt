@@ -6,10 +6,10 @@ use Rattle.raft_base.specs.Checksum.{crc32_of}
 use Rattle.raft_base.proofs.FixedLemmas.{IsReadAgain-big_bytes}
 use Rattle.raft_base.specs.declared.compression_type.CompressionType.{CompressionType}
 use Rattle.raft_base.specs.declared.compression_type.CompressionType.TheVariants as compressions
+use Rattle.raft_base.specs.Compression.{compression_byte}
 use Rattle.raft_records.specs.Item.{Item}
 use Rattle.raft_records.specs.Grammar.{behind_item}
 use Rattle.raft_records.specs.ItemBatch.{checksum_bytes, batch_bytes, entry_bytes_of, IsEncoded, signed, no_checksum}
-use Rattle.raft_base.specs.Compression.{compression_byte}
 use Rattle.raft_records.specs.LogBatch.{Stage, populating, encoded, sealed, header_bytes, entry_block, item_offset, unsealed_bytes, encoded_length, log_batch_bytes}
 use Rattle.raft_records.specs.Buffer.{entry_bytes_in, IsUnsealed, IsEncodedAs, IsHeldAt, IsHeld}
 use Rattle.raft_records.specs.Spelling.{Keeps}

@@ -4,9 +4,9 @@ use Rattle.raft_base.specs.Reading.{Reads, HasNoFront, HasOneFront, IsTagged, Is
 use Rattle.raft_base.specs.Varint.{IsVarint}
 use Rattle.raft_base.proofs.VarintLemmas.{varint_one_front}
 use Rattle.raft_base.proofs.ReadingLemmas.{reads_as, reads_tagged, reads_pair, no_first, no_second, pair_one_front, tagged_at, no_tagged, tagged_same, tagged_one_front}
+use Rattle.raft_base.specs.declared.entry_index.EntryIndex.{EntryIndex}
 use Rattle.raft_records.specs.declared.command.Command.{Command}
 use Rattle.raft_records.specs.declared.command.Command.TheVariants.{Clean, Compact}
-use Rattle.raft_base.specs.declared.entry_index.EntryIndex.{EntryIndex}
 use Rattle.raft_records.specs.Item.{Pair, Content, entries, command, pair, Item}
 use Rattle.raft_records.specs.Grammar.{IsCommand, IsKeyValue, IsEntries, IsContent, IsItem}
 use Rattle.raft_records.proofs.ItemLemmas.{pair_one}

@@ -3,13 +3,13 @@ use Rattle.std.proofs.Common.{◌≡◌, ℕ, Bool, true, ◌&&◌, List, [], �
 use Rattle.std.specs.Bool.{Decides, one_answer}
 use Rattle.std.specs.Cmp.{unsigned_Decides, first_so, second_so}
 use Rattle.std.specs.Cmp.Lexicographic.{pointwise, pointwise_decides}
-use Rattle.raft_records.specs.contracts.command.CommandPartialEq.TheImpl.{eq-value as command_eq}
 use Rattle.raft_base.specs.contracts.entry_index.EntryIndexPartialEq.TheImpl.{eq-value as entry_eq}
+use Rattle.raft_base.specs.declared.entry_index.EntryIndex.{EntryIndex}
+use Rattle.raft_records.specs.contracts.command.CommandPartialEq.TheImpl.{eq-value as command_eq}
 use Rattle.raft_records.specs.contracts.key_value.KeyValuePartialEq.TheImpl.{eq-value as pair_eq}
 use Rattle.raft_records.specs.contracts.log_item.LogItemContentPartialEq.TheImpl.{eq-value as content_eq}
 use Rattle.raft_records.specs.contracts.log_item.LogItemPartialEq.TheImpl.{eq-value as item_eq}
 use Rattle.raft_records.specs.declared.command.Command.{Command}
-use Rattle.raft_base.specs.declared.entry_index.EntryIndex.{EntryIndex}
 use Rattle.raft_records.specs.declared.key_value.KeyValue.{KeyValue}
 use Rattle.raft_records.specs.declared.log_item.LogItem.{LogItem}
 use Rattle.raft_records.specs.declared.log_item.LogItemContent.{LogItemContent}

@@ -9,11 +9,11 @@ use Rattle.raft_base.specs.Varint.{varint}
 use Rattle.raft_base.proofs.FixedLemmas.{IsReadAgain-big_bytes}
 use Rattle.raft_base.specs.declared.compression_type.CompressionType.{CompressionType}
 use Rattle.raft_base.specs.declared.compression_type.CompressionType.TheVariants as compressions
+use Rattle.raft_base.specs.Compression.{compression_byte}
 use Rattle.raft_records.specs.Item.{Item, Content, entries, command, pair, bare}
 use Rattle.raft_records.specs.Range.{AreInRange}
 use Rattle.raft_records.specs.Spelling.{content_bytes, item_bytes}
 use Rattle.raft_records.specs.ItemBatch.{signed, checksum_bytes, batch_bytes, IsItemBatch}
-use Rattle.raft_base.specs.Compression.{compression_byte}
 use Rattle.raft_records.specs.LogBatch.{IsBatchOf, header_bytes, entry_block, item_offset, unsealed_bytes, encoded_length, log_batch_bytes, IsLaidOut, IsLogBatch, IsReadable}
 use Rattle.raft_records.specs.Header.{IsHeader, IsBlockOf}
 use Rattle.raft_records.specs.Parts.{IsFramed, HasParts}

@@ -7,10 +7,9 @@ use Rattle.raft_base.specs.Fixed.{IsBig}
 use Rattle.raft_base.proofs.FixedLemmas.{IsReadAgain-big_bytes}
 use Rattle.raft_base.specs.declared.compression_type.CompressionType.{CompressionType}
 use Rattle.raft_base.specs.declared.compression_type.CompressionType.TheVariants.{None}
-use Rattle.raft_base.specs.Compression.{compression_byte}
-use Rattle.raft_records.specs.LogBatch.{header_bytes}
 use Rattle.raft_base.specs.declared.errors.Error.{Error}
-use Rattle.raft_base.specs.Compression.{IsCompressionFault}
+use Rattle.raft_base.specs.Compression.{compression_byte, IsCompressionFault}
+use Rattle.raft_records.specs.LogBatch.{header_bytes}
 use Rattle.raft_records.specs.Header.{IsHeader, IsOffsetFault, IsWordsFault}
 use Rattle.raft_records.proofs.BufferLemmas.{header_len}
 

@@ -4,8 +4,8 @@ use Rattle.std.specs.List.{flat_map}
 use Rattle.std.proofs.lemmas.List.{length-append}
 use Rattle.raft_base.specs.Varint.{varint}
 use Rattle.raft_base.proofs.VarintLemmas.{varint_spells, varint_some, varint_within}
-use Rattle.raft_records.specs.declared.command.Command.TheVariants.{Clean, Compact}
 use Rattle.raft_base.specs.declared.entry_index.EntryIndex.{EntryIndex}
+use Rattle.raft_records.specs.declared.command.Command.TheVariants.{Clean, Compact}
 use Rattle.raft_records.specs.declared.key_value.OpType.{OpType}
 use Rattle.raft_records.specs.declared.key_value.OpType.TheVariants.{Put, Del}
 use Rattle.raft_records.specs.Item.{Item, Content, entries, command, pair}

@@ -6,11 +6,11 @@ use Rattle.std.specs.Ordering.{nat_cmp, eq_by_cmp}
 use Rattle.raft_base.specs.declared.errors.Error.{Error}
 use Rattle.raft_base.specs.declared.errors.Error.TheVariants as errors
 use Rattle.raft_base.specs.declared.message.MessageError.TheVariants as messages
+use Rattle.raft_base.specs.Corruption.{IsCorruption}
 use Rattle.raft_records.specs.declared.atomic_group.AtomicGroupStatus.{AtomicGroupStatus}
 use Rattle.raft_records.specs.declared.atomic_group.AtomicGroupStatus.TheVariants.{Begin, Middle, End}
 use Rattle.raft_records.specs.declared.key_value.OpType.{OpType}
 use Rattle.raft_records.specs.declared.key_value.OpType.TheVariants.{Put, Del}
-use Rattle.raft_base.specs.Corruption.{IsCorruption}
 use Rattle.raft_records.specs.Faults.{IsMemory}
 use Rattle.raft_records.specs.Item.{Item, Content, entries, command, pair, Pair, pair_item}
 

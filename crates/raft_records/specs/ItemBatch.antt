@@ -10,13 +10,13 @@ use Rattle.raft_base.specs.Checksum.{crc32_of}
 use Rattle.raft_base.specs.Varint.{IsVarint, varint}
 use Rattle.raft_base.specs.declared.compression_type.CompressionType.{CompressionType}
 use Rattle.raft_base.specs.declared.entry_index.EntryIndex.{EntryIndex}
+use Rattle.raft_base.specs.Corruption.{IsCorruption}
 use Rattle.raft_records.specs.Item.{Item, Content, entries, command, pair, AreInBytes}
 use Rattle.raft_records.specs.Entries.{IsConsecutive, Tile}
 use Rattle.raft_records.specs.Grammar.{IsItem, behind_item}
 use Rattle.raft_records.specs.Spelling.{item_bytes, IsWritablePair}
 use Rattle.raft_records.specs.Range.{AreInRange}
 use Rattle.raft_records.specs.Sizes.{items_size, saturated}
-use Rattle.raft_base.specs.Corruption.{IsCorruption}
 use Rattle.raft_records.specs.Faults.{IsMemory, IsNumberFault, IsItemFault}
 
 -- ---- bytes

@@ -4,11 +4,11 @@ use Rattle.std.specs.Option.{option_eq}
 use Rattle.std.specs.Ordering.{on, eq_of_both}
 use Rattle.std.specs.Cmp.Lexicographic.{pointwise}
 use Rattle.raft_base.specs.contracts.pipe_log.FileIdPartialEq.TheImpl.{eq-value as file_ids}
-use Rattle.raft_records.specs.contracts.command.CommandPartialEq.TheImpl.{eq-value as commands}
 use Rattle.raft_base.specs.contracts.entry_index.EntryIndexPartialEq.TheImpl.{eq-value as entry_indexes}
+use Rattle.raft_base.specs.declared.entry_index.EntryIndex.{EntryIndex}
+use Rattle.raft_records.specs.contracts.command.CommandPartialEq.TheImpl.{eq-value as commands}
 use Rattle.raft_records.specs.contracts.key_value.OpTypePartialEq.TheImpl.{eq-value as op_types}
 use Rattle.raft_records.specs.declared.command.Command.{Command}
-use Rattle.raft_base.specs.declared.entry_index.EntryIndex.{EntryIndex}
 use Rattle.raft_records.specs.Item.{Item, Content, entries, command, pair, Pair}
 use Rattle.raft_records.specs.LogBatch.{Batch, stage_number}
 

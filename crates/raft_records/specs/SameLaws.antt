@@ -2,8 +2,8 @@
 use Rattle.std.specs.Cmp.{IsEquivalence, on_equiv, and_equiv, nat_eq_equiv}
 use Rattle.std.specs.Cmp.Lexicographic.{lists_equiv, options_equiv, nat_list_eq_equiv}
 use Rattle.raft_base.specs.contracts.pipe_log.FileIdEq.TheImpl.Laws.{laws-law as file_id_laws}
-use Rattle.raft_records.specs.contracts.command.CommandEq.TheImpl.Laws.{laws-law as command_laws}
 use Rattle.raft_base.specs.contracts.entry_index.EntryIndexEq.TheImpl.Laws.{laws-law as entry_index_laws}
+use Rattle.raft_records.specs.contracts.command.CommandEq.TheImpl.Laws.{laws-law as command_laws}
 use Rattle.raft_records.specs.contracts.key_value.OpTypeEq.TheImpl.Laws.{laws-law as op_type_laws}
 use Rattle.raft_records.specs.Item.{Item, Pair}
 use Rattle.raft_records.specs.LogBatch.{Batch, stage_number}

@@ -3,13 +3,13 @@
 ghost use Rattle.std.specs.Prelude.{◌≡◌, ◌≢◌, ℕ, ◌+◌, ◌≤◌, ◌<◌, ◌^◌, List, ◌++◌, [], length, take, drop, IfOk, IfErr, OnOk, OnErr};
 ghost use Rattle.raft_base.specs.Reading.{Reads, HasNoFront};
 ghost use Rattle.raft_base.specs.Fixed.{IsBig};
+ghost use Rattle.raft_base.specs.declared.compression_type.CompressionType.TheVariants as compressions;
 ghost use Rattle.raft_records.specs.Header.{IsHeader, IsHeaderFault, IsBlockOf, IsBlockFault};
 ghost use Rattle.raft_records.specs.LogBatch.{header_bytes, entry_block, item_offset, encoded, encoded_length, log_batch_bytes};
 ghost use Rattle.raft_records.specs.Buffer.{IsUnsealed, IsHeld, entry_bytes_in};
 ghost use Rattle.raft_records.specs.ItemBatch.{IsEncoded, batch_bytes, checksum_bytes};
 ghost use Rattle.raft_base.specs.Signature.{signature_of};
 ghost use Rattle.raft_records.specs.Spelling.{Keeps};
-ghost use Rattle.raft_base.specs.declared.compression_type.CompressionType.TheVariants as compressions;
 
 use crate::checksum::{LOG_BATCH_CHECKSUM_LEN, verify_checksum};
 use crate::{CompressionType, LogItemBatch};

@@ -6,8 +6,9 @@ ghost use Rattle.raft_base.specs.Reading.{HasNoFront, HasOneFront};
 ghost use Rattle.raft_base.specs.Signature.{signature_in};
 ghost use Rattle.raft_base.specs.declared.pipe_log.FileBlockHandle.{FileBlockHandle};
 ghost use Rattle.raft_base.specs.declared.compression_type.CompressionType.{CompressionType};
-ghost use Rattle.raft_records.specs.declared.command.Command.{Command};
 ghost use Rattle.raft_base.specs.declared.entry_index.EntryIndex.{EntryIndex};
+ghost use Rattle.raft_base.specs.declared.compression_type.CompressionType.TheVariants as compressions;
+ghost use Rattle.raft_records.specs.declared.command.Command.{Command};
 ghost use Rattle.raft_records.specs.FilePart.{Part, part_signature, IsNext};
 ghost use Rattle.raft_records.specs.Item.{Item, bare, Pair, bare_entry, bare_pair, entries, command, pair, AreInBytes};
 ghost use Rattle.raft_records.specs.ItemBatch.{placed, IsItemBatch};
@@ -19,7 +20,6 @@ ghost use Rattle.raft_records.specs.Grammar.{IsCommand, IsEntries, IsItem, IsKey
 ghost use Rattle.raft_records.specs.Entries.{IsConsecutive, Tile};
 ghost use Rattle.raft_records.specs.Spelling.{IsWritablePair, command_bytes, entries_bytes, pair_bytes};
 ghost use Rattle.raft_records.specs.Written.{ItemIsSpelled, BatchIsSpelled};
-ghost use Rattle.raft_base.specs.declared.compression_type.CompressionType.TheVariants as compressions;
 
 /// What is written of an item is a spelling of it, and no spelling of an item begins another, so it is
 /// read again, whatever follows it. What is written and signed of a batch is an item batch of its

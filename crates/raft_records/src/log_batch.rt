@@ -4,6 +4,7 @@ ghost use Rattle.std.specs.Prelude.{◌≡◌, ◌≢◌, ℕ, ◌+◌, ◌-◌,
 ghost use Rattle.raft_base.specs.Reading.{Reads, HasNoFront};
 ghost use Rattle.raft_base.specs.Signature.{signature_of};
 ghost use Rattle.std.specs.Vec.Iter.{into_iter_items};
+ghost use Rattle.raft_base.specs.declared.compression_type.CompressionType.TheVariants as compressions;
 ghost use Rattle.raft_records.specs.Item.{Item, bare, command_item, item_of, pair_item, AreInBytes};
 ghost use Rattle.raft_records.specs.LogBatch.{Stage, populating, encoded, sealed, IsSealedStage, empty_batch, IsBatchOf, encoded_length, log_batch_bytes, IsLogBatch, approximate_length, entry_place};
 ghost use Rattle.raft_records.specs.Sizes.{HaveSmallNumbers};
@@ -12,7 +13,6 @@ ghost use Rattle.raft_records.specs.Header.{IsHeader, IsHeaderFault, IsBlockOf, 
 ghost use Rattle.raft_records.specs.declared.key_value.OpType.TheVariants.{Put, Del};
 ghost use Rattle.raft_records.specs.Group.{reserved_key, IsKeyRefusal, IsMessageRefusal};
 ghost use Rattle.raft_records.specs.ItemBatch.{placed};
-ghost use Rattle.raft_base.specs.declared.compression_type.CompressionType.TheVariants as compressions;
 
 use crate::checksum::LOG_BATCH_CHECKSUM_LEN;
 use crate::header::{

@@ -15,7 +15,7 @@ ghost use Rattle.raft_table.specs.Change.{after_change, IsAnswer, IsChangeFault}
 ghost use Rattle.raft_table.specs.Table.{Table, with_atomic_group, live_of};
 ghost use Rattle.raft_memtable.specs.Accessor.{slot_of, table_in, live_in_all, AreCountsOf};
 ghost use Rattle.raft_memtable.specs.AccessorCalls.{IsTableChanged, IsTableMade, IsWritten};
-ghost use Rattle.raft_memtable.specs.Merges.{with_newer, with_appended, IsMergedAt, AreTablesMerged};
+ghost use Rattle.raft_memtable.specs.Merges.{with_newer, with_appended, IsMergedAt, AreTablesMerged, IsNewerFault, IsAppendedFault, IsMergeRefusal};
 ghost use Rattle.raft_memtable.specs.Walks.{Collects, Makes};
 ghost use Rattle.raft_memtable.specs.Writes.{Appending, Replaying, Rewriting, AreWritten, AreItemsRefused};
 
@@ -247,6 +247,7 @@ impl MemTableAccessor {
     /// is lost.
     pub fn merge_newer_neighbor(&mut self, rhs: MemTableAccessor) -> Result<()>
         ensures ok { OnOk result (AreTablesMerged with_newer self.old.tables rhs.tables self.new.tables) }
+        ensures fault { IfErr result (IsMergeRefusal (IsNewerFault self.new.counts) self.old.tables rhs.tables) }
         ensures cleaned { self.new.cleaned ≡ self.old.cleaned }
     {
         for slot in rhs.slots {
@@ -264,6 +265,7 @@ impl MemTableAccessor {
     /// is lost.
     pub fn merge_append_table(&mut self, rhs: MemTableAccessor) -> Result<()>
         ensures ok { OnOk result (AreTablesMerged with_appended self.old.tables rhs.tables self.new.tables) }
+        ensures fault { IfErr result (IsMergeRefusal (IsAppendedFault self.new.counts) self.old.tables rhs.tables) }
         ensures cleaned { self.new.cleaned ≡ self.old.cleaned }
     {
         for slot in rhs.slots {
@@ -469,6 +471,7 @@ impl MemTableAccessor {
     /// Merges the newer neighbors of one slot.
     fn merge_newer_tables(&mut self, newer: RegionTables) -> Result<()>
         ensures ok { OnOk result (AreTablesMerged with_newer self.old.tables newer self.new.tables) }
+        ensures fault { IfErr result (IsMergeRefusal (IsNewerFault self.new.counts) self.old.tables newer) }
         ensures cleaned { self.new.cleaned ≡ self.old.cleaned }
     {
         for (id, table) in newer.into_entries() {
@@ -480,6 +483,7 @@ impl MemTableAccessor {
     /// Merges the appended tables of one slot.
     fn merge_append_tables(&mut self, newer: RegionTables) -> Result<()>
         ensures ok { OnOk result (AreTablesMerged with_appended self.old.tables newer self.new.tables) }
+        ensures fault { IfErr result (IsMergeRefusal (IsAppendedFault self.new.counts) self.old.tables newer) }
         ensures cleaned { self.new.cleaned ≡ self.old.cleaned }
     {
         for (id, table) in newer.into_entries() {
@@ -493,6 +497,7 @@ impl MemTableAccessor {
         requires { newer.region_id ≡ id }
         ensures ok { OnOk result
             (IsMergedAt with_newer id (finite.get self.old.tables id) (Some newer) (finite.get self.new.tables id)) }
+        ensures fault { IfErr result (IsNewerFault self.new.counts (table_in self.old.tables id) newer) }
         ensures others { self.new.tables ≡ with_table self.old.tables id (finite.get self.new.tables id) }
         ensures cleaned { self.new.cleaned ≡ self.old.cleaned }
     {
@@ -504,6 +509,7 @@ impl MemTableAccessor {
         requires { newer.region_id ≡ id }
         ensures ok { OnOk result
             (IsMergedAt with_appended id (finite.get self.old.tables id) (Some newer) (finite.get self.new.tables id)) }
+        ensures fault { IfErr result (IsAppendedFault self.new.counts (table_in self.old.tables id) newer) }
         ensures others { self.new.tables ≡ with_table self.old.tables id (finite.get self.new.tables id) }
         ensures cleaned { self.new.cleaned ≡ self.old.cleaned }
     {

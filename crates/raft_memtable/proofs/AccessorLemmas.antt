@@ -1,5 +1,5 @@
 -- Calls of one slot, seen as calls of the accessor.
-use Rattle.std.proofs.Common.{◌≡◌, ◌⊎◌, ◌<◌, ◌++◌, ℕ, List, [], ◌∷◌, Option, Some, None, Result, Ok, Err, refl, sym, ap, subst, ◌∙◌, slice_index_or, slice_set, append_assoc, append-nil, IsTrue}
+use Rattle.std.proofs.Common.{◌≡◌, ◌≢◌, ◌⊎◌, ◌<◌, ◌++◌, ℕ, List, [], ◌∷◌, Option, Some, None, Result, Ok, Err, refl, sym, ap, subst, ◌∙◌, slice_index_or, slice_set, append_assoc, append-nil, IsTrue}
 use Rattle.std.specs.FinMap as finite
 use Rattle.std.specs.List.{AllByRecursion}
 use Rattle.std.specs.Option.{option_and_then, is_some}
@@ -89,6 +89,12 @@ module _ (a b : Inside) (id i : ℕ) (d slot : Tables) (after : Counts) (kept : 
         → IfErr res (λ e. (e ≡ Memory) ⊎ IsFault b.stats (table_in r.tables id) e)
     refused-in IsFault outcome res t =
         subst (λ k. IfErr res (λ e. (e ≡ Memory) ⊎ IsFault k (table_in r.tables id) e)) (sym h.stats) (subst (λ o. IfErr res (λ e. (e ≡ Memory) ⊎ IsFault after (table_of id o) e)) (sym was) t.fault)
+
+    -- which leaves the table
+    pub left-in : {R : Type 0} {IsFault : Error → Type 0} (outcome : Option Table) (res : Result R Error) → IsTableMerged outcome IsFault (slice_index_or a.slots i d) id a.stats res slot after
+        → IfErr res (λ e. e ≢ Memory → table_in (together b.slots) id ≡ table_in r.tables id)
+    left-in outcome (Ok x) t = tt
+    left-in outcome (Err x) t = λ k. ap (table_of id) now ∙ t.err k ∙ sym (ap (table_of id) was)
 
     pub alone-in : together b.slots ≡ with_table r.tables id (finite.get (together b.slots) id)
     alone-in = tables-are ∙ ap (with_table r.tables id) (sym now)

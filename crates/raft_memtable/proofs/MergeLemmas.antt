@@ -17,7 +17,7 @@ use Rattle.raft_table.specs.Steps.{table_of}
 use Rattle.raft_table.specs.Table.{Table, live_of, IsRecounted}
 use Rattle.raft_memtable.specs.Accessor.{slot_of, table_in}
 use Rattle.raft_memtable.specs.AccessorView.{slot_entries, together, AreSlots}
-use Rattle.raft_memtable.specs.Merges.{IsMergedAt, AreTablesMerged, IsMergeRefusal, MayAlter, IsAltered}
+use Rattle.raft_memtable.specs.Merges.{IsMergedAt, AreTablesMerged, IsLeftAt, AreTablesLeft, IsMergeRefusal, MayAlter, IsAltered}
 use Rattle.raft_memtable.specs.Updates.{TableCall, TableCalls}
 use Rattle.raft_memtable.proofs.MapLemmas.{none_some, by_id, eq_self, get_own, one_written, one_same, with_other}
 use Rattle.std.specs.Map.{lookup}
@@ -105,6 +105,58 @@ module _ (merge : Table → Table → Option Table) where
   pub joins-none : (m : Tables) (es : List (ℕ × Table)) → es ≡ [] → Joins m es m
   joins-none m es e = λ q. subst (λ l. IsMergedAt merge q (finite.get m q) (find nat_cmp q l) (finite.get m q)) (sym e) refl
 
+  -- ---- what a refusal leaves
+
+  -- each region's table is merged with that of an entry, or left
+  abbrev pub Leaves : Tables → List (ℕ × Table) → Tables → Type 0
+  Leaves m es n = (id : ℕ) → IsLeftAt merge id (finite.get m id) (find nat_cmp id es) (finite.get n id)
+
+  left_alone : (id : ℕ) (x o y : Option Table) → y ≡ x → IsLeftAt merge id x o y
+  left_alone id x None y e = e
+  left_alone id x (Some t) y e = inr (ap (table_of id) e)
+
+  left_more : (id : ℕ) (x o p y : Option Table) → IsLeftAt merge id x o y → IsLeftAt merge id x (option_or o p) y
+  left_more id x None p y h = left_alone id x p y h
+  left_more id x (Some t) p y h = h
+
+  both_left : (id : ℕ) (x y z o p : Option Table) → (o ≢ None → p ≡ None) → IsMergedAt merge id x o y → IsLeftAt merge id y p z → IsLeftAt merge id x (option_or o p) z
+  both_left id x y z None p apart g h = subst (λ y. IsLeftAt merge id y p z) g h
+  both_left id x y z (Some t) p apart g h =
+      let e : z ≡ y = subst (λ p. IsLeftAt merge id y p z) (apart (λ e. none_some (sym e))) h in
+      inl (g.0 ∙ sym e, subst (λ y. IsTrue (is_some y)) (sym e) g.1)
+
+  leaves-append : (m n z : Tables) (xs ys : List (ℕ × Table)) → ((q : ℕ) → find nat_cmp q xs ≢ None → find nat_cmp q ys ≡ None) → Joins m xs n → Leaves n ys z → Leaves m (xs ++ ys) z
+  leaves-append m n z xs ys apart g h = λ q.
+      subst (λ o. IsLeftAt merge q (finite.get m q) o (finite.get z q)) (sym (find-both q xs ys)) (both_left q (finite.get m q) (finite.get n q) (finite.get z q) (find nat_cmp q xs) (find nat_cmp q ys) (apart q) (g q) (h q))
+
+  -- the first entry is refused
+  pub leaves-first : (m n : Tables) (rest es : List (ℕ × Table)) (id : ℕ) (t : Table) → rest ≡ (id, t) ∷ es → table_in n id ≡ table_in m id → n ≡ with_table m id (finite.get n id) → Leaves m rest n
+  leaves-first m n rest es id t is here one = λ q. elim (by_id q id) [
+    | inl p ↦ subst (λ q. IsLeftAt merge q (finite.get m q) (find nat_cmp q rest) (finite.get n q)) (sym p)
+        (subst (λ o. IsLeftAt merge id (finite.get m id) o (finite.get n id)) (sym (ap (λ l. find nat_cmp id l) is ∙ ap (λ b. cond b (Some t) (find nat_cmp id es)) (eq_self id))) (inr here))
+    | inr f ↦ left_alone q (finite.get m q) (find nat_cmp q rest) (finite.get n q) (ap (λ r. finite.get r q) one ∙ with_other m id q (finite.get n id) f)
+  ]
+
+  -- or one behind it
+  pub leaves-step : (m n z : Tables) (rest es : List (ℕ × Table)) (id : ℕ) (t : Table) → rest ≡ (id, t) ∷ es → Once rest → IsMergedAt merge id (finite.get m id) (Some t) (finite.get n id) → n ≡ with_table m id (finite.get n id) → Leaves n es z → Leaves m rest z
+  leaves-step m n z rest es id t is once here e h = subst (λ l. Leaves m l z) (sym is) (leaves-append m n z ((id, t) ∷ []) es (apart_one id t es (subst Once is once)) (joins-one m n id t here e) h)
+
+  -- one of the first slot
+  pub leaves-slot : (m n : Tables) (rest ms : List Tables) (s : Tables) → rest ≡ s ∷ ms → AreTablesLeft merge m s n → Leaves m (slot_entries rest) n
+  leaves-slot m n rest ms s is h = subst (λ l. Leaves m (slot_entries l) n) (sym is) (λ q.
+      subst (λ o. IsLeftAt merge q (finite.get m q) o (finite.get n q)) (sym (find-both q (finite.entries s) (slot_entries ms)))
+      (left_more q (finite.get m q) (find nat_cmp q (finite.entries s)) (find nat_cmp q (slot_entries ms)) (finite.get n q) (subst (λ o. IsLeftAt merge q (finite.get m q) o (finite.get n q)) (finite.get-entries s q) (h q))))
+
+  -- or of one behind it
+  pub leaves-slots : (m n z : Tables) (rest ms : List Tables) (k : ℕ) (s : Tables) → rest ≡ s ∷ ms → AreSlots k rest → AreTablesMerged merge m s n → Leaves n (slot_entries ms) z → Leaves m (slot_entries rest) z
+  leaves-slots m n z rest ms k s is slots here h =
+      subst (λ l. Leaves m (slot_entries l) z) (sym is)
+      (leaves-append m n z (finite.entries s) (slot_entries ms) (apart_slot k s ms (subst (AreSlots k) is slots)) (λ q. subst (λ o. IsMergedAt merge q (finite.get m q) o (finite.get n q)) (finite.get-entries s q) (here q)) h)
+
+  -- one of the entries of a map
+  pub left-of : (m n s : Tables) (es : List (ℕ × Table)) → finite.from_entries {R = nat_cmp} es ≡ s → Leaves m es n → AreTablesLeft merge m s n
+  left-of m n s es e h = λ q. subst (λ o. IsLeftAt merge q (finite.get m q) o (finite.get n q)) (sym (finite.get-from_entries nat_cmp_total es q) ∙ ap (λ r. finite.get r q) e) (h q)
+
   -- an entry that is refused behind others of another slot
   pub refuses-slots : (IsFault : Table → Table → Error → Type 0) (m n : Tables) (rest ms : List Tables) (k : ℕ) (s : Tables) (e : Error) → rest ≡ s ∷ ms → AreSlots k rest → AreTablesMerged merge m s n → Refuses IsFault n (slot_entries ms) e → Refuses IsFault m (slot_entries rest) e
   refuses-slots IsFault m n rest ms k s e is slots here h = subst (λ l. Refuses IsFault m (slot_entries l) e) (sym is) (by (find nat_cmp h.0 (finite.entries s)) refl)
@@ -134,9 +186,9 @@ at_once (Some rule) counts after older newer errors.Full same f = subst (λ k. (
 at_once (Some rule) counts after older newer errors.Memory same f = tt
 at_once (Some rule) counts after older newer _ same f = absurd f
 
-pub refused-now : {A B : Type 0} (rule : Option LogQueue) (counts after : Counts) (older newer : Table) (r : Result Unit Error) → IfErr r (IsTableMergeFault counts older newer rule) → IfErr r (λ e. e ≢ Memory → A × B × (after ≡ counts)) → IfErr r (IsTableMergeFault after older newer rule)
-refused-now rule counts after older newer (Ok x) f same = tt
-refused-now rule counts after older newer (Err e) f same = at_once rule counts after older newer e (λ k. (same k).2) f
+pub refused-now : (A B : Type 0) (rule : Option LogQueue) (counts after : Counts) (older newer : Table) (r : Result Unit Error) → IfErr r (IsTableMergeFault counts older newer rule) → IfErr r (λ e. e ≢ Memory → A × B × (after ≡ counts)) → IfErr r (IsTableMergeFault after older newer rule)
+refused-now A B rule counts after older newer (Ok x) f same = tt
+refused-now A B rule counts after older newer (Err e) f same = at_once rule counts after older newer e (λ k. (same k).2) f
 
 -- want of memory is a fault of every merge
 with_memory : (rule : Option LogQueue) (counts : Counts) (older newer : Table) (e : Error) → (e ≡ Memory) ⊎ IsTableMergeFault counts older newer rule e → IsTableMergeFault counts older newer rule e

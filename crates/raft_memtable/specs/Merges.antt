@@ -1,5 +1,5 @@
 -- Tables merged into those of all regions.
-use Rattle.std.specs.Prelude.{◌≡◌, ◌⊎◌, ℕ, Option, Some, None, IsTrue, Result, IfErr, is_some}
+use Rattle.std.specs.Prelude.{◌≡◌, ◌≢◌, ◌⊎◌, ℕ, Option, Some, None, IsTrue, Result, IfErr, is_some}
 use Rattle.std.specs.Borrow.{MutBor}
 use Rattle.std.specs.FinMap as finite
 use Rattle.std.specs.Result.{OnOk}
@@ -29,6 +29,15 @@ IsMergedAt merge id older (Some newer) after = (merge (table_of id older) newer 
 -- each region's table is merged with its newer one
 abbrev pub AreTablesMerged : (Table → Table → Option Table) → Tables → Tables → Tables → Type 0
 AreTablesMerged merge older newer after = (id : ℕ) → IsMergedAt merge id (finite.get older id) (finite.get newer id) (finite.get after id)
+
+-- what a refused merge may leave of a region's table: without a newer table it stays, with one it is merged, or as it was, with an empty one in place of none
+abbrev pub IsLeftAt : (Table → Table → Option Table) → ℕ → Option Table → Option Table → Option Table → Type 0
+IsLeftAt merge id older None after = after ≡ older
+IsLeftAt merge id older (Some newer) after = IsMergedAt merge id older (Some newer) after ⊎ (table_of id after ≡ table_of id older)
+
+-- each region's table is merged with its newer one, or left
+abbrev pub AreTablesLeft : (Table → Table → Option Table) → Tables → Tables → Tables → Type 0
+AreTablesLeft merge older newer after = (id : ℕ) → IsLeftAt merge id (finite.get older id) (finite.get newer id) (finite.get after id)
 
 -- why a table is refused beside its newer neighbor, at these counts
 abbrev pub IsNewerFault : Counts → Table → Table → Error → Type 0
@@ -65,5 +74,6 @@ pub record IsTableMerged {R : Type 0} (outcome : Option Table) (IsFault : Error 
   pub ok : OnOk r (outcome ≡ Some (table_in new id))
   pub there : OnOk r (finite.get new id ≡ Some (table_in new id))
   pub fault : IfErr r (λ e. (e ≡ Memory) ⊎ IsFault e)
+  pub err : IfErr r (λ e. e ≢ Memory → table_in new id ≡ table_in old id)
   pub one : new ≡ with_table old id (finite.get new id)
   pub recounted : IsRecounted (table_in old id) (table_in new id) counts after

@@ -350,6 +350,7 @@ fn merge_newer(table: &mut MemTable, mut newer: MemTable, stats: &mut GlobalStat
     requires counted { IsCounted table.old stats.old }
     ensures ok { OnOk result (with_newer table.old newer ≡ Some table.new) }
     ensures fault { IfErr result (IsNewerFault stats.new table.old newer) }
+    ensures err { IfErr result (λ e. e ≢ Error.Memory → table.new ≡ table.old) }
     ensures region { table.new.region_id ≡ table.old.region_id }
     ensures recounted { IsRecounted table.old table.new stats.old stats.new }
 {
@@ -362,6 +363,7 @@ fn merge_append(table: &mut MemTable, mut newer: MemTable, stats: &mut GlobalSta
     requires counted { IsCounted table.old stats.old }
     ensures ok { OnOk result (with_appended table.old newer ≡ Some table.new) }
     ensures fault { IfErr result (IsAppendedFault stats.new table.old newer) }
+    ensures err { IfErr result (λ e. e ≢ Error.Memory → table.new ≡ table.old) }
     ensures region { table.new.region_id ≡ table.old.region_id }
     ensures recounted { IsRecounted table.old table.new stats.old stats.new }
 {

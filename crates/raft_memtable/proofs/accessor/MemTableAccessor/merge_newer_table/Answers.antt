@@ -7,7 +7,7 @@ use Rattle.raft_memtable.specs.Accessor.{table_in}
 use Rattle.raft_memtable.specs.AccessorView.{together}
 use Rattle.raft_memtable.specs.Merges.{with_newer, IsNewerFault}
 use Rattle.raft_memtable.specs.declared.accessor.MemTableAccessor.TheInside.{Inside}
-use Rattle.raft_memtable.proofs.AccessorLemmas.{InSlot, kept-in, merged-in, refused-in, alone-in}
+use Rattle.raft_memtable.proofs.AccessorLemmas.{InSlot, kept-in, merged-in, refused-in, left-in, alone-in}
 use Rattle.raft_memtable.proofs.LiveLemmas.{table-counted}
 use Rattle.raft_memtable.proofs.MergeLemmas.{refused-with}
 use Rattle.raft_memtable.proofs.SlotLemmas.{get-shown}
@@ -35,6 +35,9 @@ returns-clause-fault c =
     let old = table_in c.args.self.now.tables c.args.id in
     refused-with (joint_queue old c.args.newer) c.merge_newer_neighbor.new.stats old c.args.newer c.merge_newer_neighbor.result
     (refused-in c.self.inside (after c) c.args.id c.slot_of.result c.index-self-slot_of.result c.merge_newer_neighbor.new.self c.merge_newer_neighbor.new.stats c.self.invariant (slotted c) c.args.self.now c.self.view_is (λ (k : Counts) (t : Table). IsNewerFault k t c.args.newer) _ c.merge_newer_neighbor.result c.merge_newer_neighbor.ensures)
+
+pub returns-clause-err : goal.returns-clause-err
+returns-clause-err c = left-in c.self.inside (after c) c.args.id c.slot_of.result c.index-self-slot_of.result c.merge_newer_neighbor.new.self c.merge_newer_neighbor.new.stats c.self.invariant (slotted c) c.args.self.now c.self.view_is _ c.merge_newer_neighbor.result c.merge_newer_neighbor.ensures
 
 pub returns-clause-others : goal.returns-clause-others
 returns-clause-others c = alone-in c.self.inside (after c) c.args.id c.slot_of.result c.index-self-slot_of.result c.merge_newer_neighbor.new.self c.merge_newer_neighbor.new.stats c.self.invariant (slotted c) c.args.self.now c.self.view_is

@@ -3,7 +3,7 @@ use Rattle.raft_base.specs.declared.errors.Error.{Error}
 use Rattle.raft_history.specs.RegionSteps.{Tables}
 use Rattle.raft_table.specs.Counts.{Counts}
 use Rattle.raft_memtable.specs.Merges.{with_newer, IsNewerFault}
-use Rattle.raft_memtable.proofs.MergeLemmas.{Joins, Refuses, AreOwn}
+use Rattle.raft_memtable.proofs.MergeLemmas.{Joins, Refuses, Leaves, AreOwn}
 use Rattle.raft_memtable.proofs.OrderLemmas.{Once}
 use Rattle.raft_memtable.proofs.accessor.MemTableAccessor.merge_newer_tables.Given as goal
 
@@ -12,3 +12,4 @@ invariant-loop-id l =
     Once l.id-iterator × AreOwn l.id-iterator × (l.self.cleaned ≡ l.fn.self.cleaned)
     × ((z : Tables) → Joins with_newer l.self.tables l.id-iterator z → Joins with_newer l.fn.self.tables l.initial.id-iterator z)
     × ((k : Counts) (e : Error) → Refuses (IsNewerFault k) l.self.tables l.id-iterator e → Refuses (IsNewerFault k) l.fn.self.tables l.initial.id-iterator e)
+    × ((z : Tables) → Leaves with_newer l.self.tables l.id-iterator z → Leaves with_newer l.fn.self.tables l.initial.id-iterator z)

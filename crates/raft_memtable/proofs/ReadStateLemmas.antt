@@ -1,8 +1,7 @@
 -- What was read, with one more batch or with a newer neighbour.
-use Rattle.std.proofs.Common.{◌≡◌, ◌≢◌, ◌⊎◌, ℕ, ◌+◌, ◌<◌, ◌≤◌, ◌^◌, Bool, true, false, List, [], ◌∷◌, ◌++◌, Option, Some, None, refl, sym, ap, subst, ◌∙◌, inl, inr, arith, append-nil}
-use Rattle.std.proofs.lemmas.Bool.Decides.{nat_tests}
+use Rattle.std.proofs.Common.{◌≡◌, ◌≢◌, ℕ, ◌+◌, ◌≤◌, ◌^◌, false, List, [], ◌∷◌, ◌++◌, Option, Some, None, refl, sym, ap, subst, ◌∙◌, inl, inr, arith, append-nil}
 use Rattle.std.specs.Ordering.{nat_cmp}
-use Rattle.std.specs.Prelude.{is_some, option_map, nat_lt}
+use Rattle.std.specs.Prelude.{is_some, option_map}
 use Rattle.std.specs.List.{AllByRecursion}
 use Rattle.std.specs.Option.{unwrap_or}
 use Rattle.std.specs.Cmp.{nat_cmp_total}
@@ -22,7 +21,7 @@ use Rattle.raft_history.specs.Contexts.{Context, FileRange, Suits, files_of, fol
 use Rattle.raft_history.specs.Histories.{IsSoundIn, IsStepOfQueue, records_in, cleaned_in_batch}
 use Rattle.raft_history.specs.Joins.{StandForSteps, AreJoined}
 use Rattle.raft_history.specs.MarkedRegions.{MarkedRegions, region_in, regions_after, region_steps_of_whole, region_steps_of_wholes}
-use Rattle.raft_history.specs.Records.{all_records, waiting_records, records_or, records_in_wholes}
+use Rattle.raft_history.specs.Records.{all_records, waiting_records, records_or}
 use Rattle.raft_history.specs.RegionSteps.{RegionStep, steps_of_items}
 use Rattle.raft_history.specs.WaitingGroup.{WholeGroup, without_marker, joined_group, whole_group, one_marker}
 use Rattle.raft_history.specs.WaitingGroups.{WaitingGroups, known, groups_in, groups_after, whole_groups, joined_groups}
@@ -165,23 +164,33 @@ group_refused c e id s m none =
     let f = found_some e.file.queue e.items id s m in
     ap (taken_by c e) f.1 ∙ none_by c e (Some (record { group = id; status = s })) (ap (λ q. regions_after q c.regions (region_steps_or (whole_group (known c.groups id) (one_marker s (steps_of_items e.items) e.file.seq)))) f.0 ∙ none)
 
+or_records : (w : Option WholeGroup) → records_in (region_steps_or w) ≤ records_or w
+or_records None = omega arith
+or_records (Some w) = omega (arith, whole_group-records w)
+
+-- what takes effect with a batch waited before, or is its own
+pub completed_records : (c : Context) (e : Event) → records_in (completed_steps c.groups (batch_of e) (batch_of e).marker) ≤ waiting_records c.groups + records_in (steps_of_items e.items)
+completed_records c e = go (batch_of e).marker
+  where
+    go : (m : Option GroupMarker) → records_in (completed_steps c.groups (batch_of e) m) ≤ waiting_records c.groups + records_in (steps_of_items e.items)
+    go None = omega arith
+    go (Some m) = omega (arith, or_records (whole_group (known c.groups m.group) (one_marker m.status (steps_of_items e.items) e.file.seq)), whole_records c.groups m.group m.status (steps_of_items e.items) e.file.seq)
+
 -- why a batch is refused that may come next
 pub lone_fault : (c : Context) (e : Event) → IsRead c → MayFollow c e → marker_found e.file.queue e.items ≡ None → (x : Error) → IsStepsFault e.file.queue c.regions (steps_of_items e.items) x → IsBatchFault (reading_on c) e x
 lone_fault c e r n m (errors.Corruption text) f = inr (lone_refused c e m f)
 lone_fault c e r n m (errors.InvalidArgument text) f = absurd (omega (arith, f, alone_of e.file.queue c r n.queue))
-lone_fault c e r n m errors.Full f = (n, omega (arith, f, live-le-all e.file.queue c.regions.tables))
+lone_fault c e r n m errors.Full f = (n, subst (λ m. 2 ^ 64 ≤ live_in_all e.file.queue c.regions.tables + records_in (completed_steps c.groups (batch_of e) m)) (sym (found_none e.file.queue e.items m)) f)
 lone_fault c e r n m errors.Memory f = tt
 lone_fault c e r n m _ f = absurd f
-
-or_records : (w : Option WholeGroup) → records_in (region_steps_or w) ≤ records_or w
-or_records None = omega arith
-or_records (Some w) = omega (arith, whole_group-records w)
 
 pub group_fault : (c : Context) (e : Event) (id : ℕ) (s : AtomicGroupStatus) → IsRead c → MayFollow c e → marker_found e.file.queue e.items ≡ Some (id, s) → (x : Error)
     → IsStepsFault Rewrite c.regions (region_steps_or (whole_group (known c.groups id) (one_marker s (steps_of_items e.items) e.file.seq))) x → IsBatchFault (reading_on c) e x
 group_fault c e id s r n m (errors.Corruption text) f = inr (group_refused c e id s m f)
 group_fault c e id s r n m (errors.InvalidArgument text) f = absurd (omega (arith, f, alone_of Rewrite c r (subst (λ q. Suits q c.files) (found_some e.file.queue e.items id s m).0 n.queue)))
-group_fault c e id s r n m errors.Full f = (n, omega (arith, f, live-le-all Rewrite c.regions.tables, or_records (whole_group (known c.groups id) (one_marker s (steps_of_items e.items) e.file.seq)), whole_records c.groups id s (steps_of_items e.items) e.file.seq))
+group_fault c e id s r n m errors.Full f =
+    let found = found_some e.file.queue e.items id s m in
+    (n, subst (λ m. 2 ^ 64 ≤ live_in_all e.file.queue c.regions.tables + records_in (completed_steps c.groups (batch_of e) m)) (sym found.1) (subst (λ q. 2 ^ 64 ≤ live_in_all q c.regions.tables + records_in (completed_steps c.groups (batch_of e) (Some (record { group = id; status = s })))) (sym found.0) f))
 group_fault c e id s r n m errors.Memory f = tt
 group_fault c e id s r n m _ f = absurd f
 

@@ -17,6 +17,8 @@ use Rattle.raft_history.specs.Kept.{kept_of, kept_by, IsAtMost}
 use Rattle.raft_history.specs.RegionSteps.{Tables}
 use Rattle.raft_history.proofs.KeptLaws.{kept_at_most}
 use Rattle.raft_memtable.specs.ReadStates.{IsRead}
+use Rattle.raft_memtable.proofs.LiveSteps.{live-le-all}
+use Rattle.raft_memtable.proofs.ReadStateLemmas.{completed_records}
 use Rattle.raft_memtable.specs.RecoverContext.{RecoverContext, IsReading, IsReadingExactly, MayFollow, IsTakenIn, reading_on, IsBatchFault, AreNeighbours, IsMergedWith, IsNeighbourFault}
 use Rattle.raft_memtable.specs.declared.context_stage.ContextStage.{ContextStage}
 use Rattle.raft_memtable.specs.declared.context_stage.ContextStage.TheVariants.{Reading}
@@ -60,7 +62,7 @@ replay_exact c d h e t r = record { stage = t.after; exact = taken_exact c.conte
 pub replay_unsound : (c : RecoverContext) (h : List Event) (e : Event) → IsSmall (h ++ e ∷ []) → IsReading c h → (x : Error) → x ≢ errors.Memory → IsBatchFault c e x → Sound (h ++ e ∷ []) → ⊥
 replay_unsound c h e small r (errors.Corruption text) k (inl unfit) sound = unfit (may_of c.context e (next_sound c.context h e r.stands sound))
 replay_unsound c h e small r (errors.Corruption text) k (inr none) sound = taken_none c.context h e (next_sound c.context h e r.stands sound) r.stands none sound
-replay_unsound c h e small r errors.Full k full sound = omega (arith, full.1, small.few, r.stands.few, size-append h (e ∷ []))
+replay_unsound c h e small r errors.Full k full sound = omega (arith, full.1, live-le-all e.file.queue c.context.regions.tables, completed_records c.context e, small.few, r.stands.few, size-append h (e ∷ []))
 replay_unsound c h e small r errors.Failed k stage sound = stage r.stage
 replay_unsound c h e small r errors.Memory k f sound = k refl
 replay_unsound c h e small r _ k f sound = f

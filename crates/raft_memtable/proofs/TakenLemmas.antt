@@ -1,5 +1,5 @@
 -- Steps taken into the marks and tables of all regions, one after another.
-use Rattle.std.proofs.Common.{◌≡◌, ◌≢◌, ◌⊎◌, ℕ, ◌+◌, ◌<◌, ◌≤◌, ◌^◌, List, [], ◌∷◌, ◌++◌, length, Bool, true, cond, append-nil, append_assoc, map, Option, Some, None, Result, Ok, Err, refl, sym, ap, subst, ◌∙◌, inl, inr, arith}
+use Rattle.std.proofs.Common.{◌≡◌, ◌⊎◌, ℕ, ◌+◌, ◌≤◌, List, [], ◌∷◌, ◌++◌, length, Bool, true, cond, append-nil, append_assoc, map, Option, Some, None, Result, Ok, Err, refl, sym, ap, subst, ◌∙◌, inl, inr, arith}
 use Rattle.std.specs.FinMap as finite
 use Rattle.std.specs.Option.{option_map, option_and_then}
 use Rattle.std.specs.Result.{OnOk, IfErr}
@@ -12,13 +12,13 @@ use Rattle.raft_base.specs.declared.pipe_log.LogQueue.TheVariants.{Append, Rewri
 use Rattle.raft_records.specs.declared.entry_index.EntryIndex.{EntryIndex}
 use Rattle.raft_records.specs.declared.log_item.LogItem.{LogItem}
 use Rattle.raft_records.specs.Item.{item_of, entries}
-use Rattle.raft_table.specs.Counts.{Counts, live}
+use Rattle.raft_table.specs.Counts.{live}
 use Rattle.raft_table.specs.TableEntries.{IsRunIn, end_of}
 use Rattle.raft_table.specs.MarkJoins.{joined_mark, joined_at, end_at_reach, fresh, mark_of}
 use Rattle.raft_table.specs.Marks.{Mark}
 use Rattle.raft_table.specs.Queues.{other, count_in, is_same}
 use Rattle.raft_table.specs.Steps.{Step, Run, Put, Clean, table_of, there_if, after_step}
-use Rattle.raft_table.specs.Table.{Table, live_of, after_replay, IsTablePutFault}
+use Rattle.raft_table.specs.Table.{Table, after_replay, IsTablePutFault}
 use Rattle.raft_table.proofs.MarkExact.{joined_fresh}
 use Rattle.raft_table.proofs.MarkTables.{from_whole}
 use Rattle.raft_table.proofs.TableLemmas.{count_in_own}
@@ -33,7 +33,7 @@ use Rattle.raft_memtable.specs.Writes.{Replaying, IsWriteFault}
 use Rattle.raft_memtable.specs.declared.marked_tables.MarkedTables.{MarkedTables}
 use Rattle.raft_memtable.proofs.LiveLemmas.{table_live-le}
 use Rattle.raft_memtable.proofs.MapLemmas.{some_is, none_some}
-use Rattle.raft_memtable.proofs.LiveSteps.{steps_live, live-le-all}
+use Rattle.raft_memtable.proofs.LiveSteps.{steps_live}
 use Rattle.raft_memtable.proofs.WaitingItemLemmas.{steps_both}
 use Rattle.raft_memtable.proofs.WriteLemmas.{replay_fault}
 

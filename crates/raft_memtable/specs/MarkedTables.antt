@@ -9,8 +9,7 @@ use Rattle.raft_base.specs.declared.pipe_log.LogQueue.TheVariants.{Append, Rewri
 use Rattle.raft_records.specs.declared.entry_index.EntryIndex.{EntryIndex}
 use Rattle.raft_history.specs.Histories.{IsStepOfQueue, records_in}
 use Rattle.raft_history.specs.MarkedRegions.{MarkedRegions, regions_after}
-use Rattle.raft_history.specs.Records.{all_records}
-use Rattle.raft_history.specs.RegionSteps.{RegionStep, Tables, cleaned_by_steps}
+use Rattle.raft_history.specs.RegionSteps.{RegionStep, cleaned_by_steps}
 use Rattle.raft_table.specs.Queues.{other}
 use Rattle.raft_table.specs.Steps.{Step}
 use Rattle.raft_memtable.specs.Accessor.{live_in_all}

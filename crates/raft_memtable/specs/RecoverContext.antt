@@ -3,11 +3,11 @@ use Rattle.std.specs.Prelude.{◌≡◌, ◌≢◌, ◌⊎◌, ◌+◌, ◌≤�
 use Rattle.raft_base.specs.declared.errors.Error.{Error}
 use Rattle.raft_base.specs.declared.errors.Error.TheVariants as errors
 use Rattle.raft_base.specs.declared.pipe_log.LogQueue.{LogQueue}
-use Rattle.raft_history.specs.Batches.{Event}
-use Rattle.raft_history.specs.Contexts.{Context, new_context, Suits, files_of, follows, StandsFor, IsExactFor, taken_in, merged_with, AreMerged, AreRegionsRefused}
+use Rattle.raft_history.specs.Batches.{Event, batch_of}
+use Rattle.raft_history.specs.Contexts.{Context, new_context, Suits, files_of, follows, StandsFor, IsExactFor, completed_steps, taken_in, merged_with, AreMerged, AreRegionsRefused}
 use Rattle.raft_history.specs.Histories.{AreInFile, HaveStatus, records_in}
 use Rattle.raft_history.specs.Records.{all_records, waiting_records}
-use Rattle.raft_history.specs.RegionSteps.{steps_of_items}
+use Rattle.raft_memtable.specs.Accessor.{live_in_all}
 use Rattle.raft_memtable.specs.declared.context_stage.ContextStage.{ContextStage}
 use Rattle.raft_memtable.specs.declared.context_stage.ContextStage.TheVariants.{Reading, Overlaid, Failed}
 
@@ -60,10 +60,10 @@ pub record IsTakenIn (e : Event) (old new : RecoverContext) : Type 0 where
   pub taken : taken_in old.context e ≡ Some new.context
   pub after : new.stage ≡ Reading
 
--- why a batch is refused, by the error: it may not come next, or one of its steps is refused; the records would be 2^64 or more; the context doesn't read on; or want of memory
+-- why a batch is refused, by the error: it may not come next, or a step that takes effect with it is refused; the live records and those of these steps are 2^64 or more; the context doesn't read on; or want of memory
 abbrev pub IsBatchFault : RecoverContext → Event → Error → Type 0
 IsBatchFault c e (errors.Corruption text) = (MayFollow c.context e → ⊥) ⊎ (taken_in c.context e ≡ None)
-IsBatchFault c e errors.Full = MayFollow c.context e × (2 ^ 64 ≤ records_held c.context + records_in (steps_of_items e.items))
+IsBatchFault c e errors.Full = MayFollow c.context e × (2 ^ 64 ≤ live_in_all e.file.queue c.context.regions.tables + records_in (completed_steps c.context.groups (batch_of e) (batch_of e).marker))
 IsBatchFault c e errors.Failed = c.stage ≢ Reading
 IsBatchFault c e errors.Memory = Unit {0}
 IsBatchFault c e _ = ⊥

@@ -1,4 +1,3 @@
-use Rattle.raft_memtable.specs.ReadStates.{context_in}
 use Rattle.raft_memtable.proofs.RecoverContextLemmas.{neighbour_fault}
 use Rattle.raft_memtable.proofs.recover_context.MemTableRecoverContext.merge.Goals as goal
 

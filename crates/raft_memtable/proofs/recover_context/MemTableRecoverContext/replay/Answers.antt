@@ -1,6 +1,3 @@
-use Rattle.std.proofs.Common.{subst}
-use Rattle.raft_memtable.specs.ReadStates.{context_in}
-use Rattle.raft_memtable.specs.RecoverContext.{IsBatchFault}
 use Rattle.raft_memtable.specs.ReplayMachine.{event}
 use Rattle.raft_memtable.proofs.RecoverContextLemmas.{batch_fault}
 use Rattle.raft_memtable.proofs.recover_context.MemTableRecoverContext.replay.Goals as goal

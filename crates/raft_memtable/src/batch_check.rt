@@ -30,7 +30,8 @@ pub(crate) fn check_batch(
     ensures items { OnOk result (AreInFile file batch.now) }
     ensures markers { OnOk result (HaveStatus file.queue batch.now) }
     ensures marker { IfOk result (λ marker. marker ≡ marker_found file.queue batch.now) }
-    ensures refused { IfErr result (λ e. e ≢ Error.Memory → AreInFile file batch.now → HaveStatus file.queue batch.now → ⊥) }
+    ensures refused { IfErr result
+        (λ e. e ≢ Error.Memory → AreInFile file batch.now → HaveStatus file.queue batch.now → ⊥) }
     ensures fault { IfErr result IsRefusal }
 {
     let items = batch.iter().as_slice();
@@ -56,7 +57,9 @@ fn check_rewrite_batch(
     ensures items { OnOk result (AreInFile file (map item_of items.now)) }
     ensures markers { OnOk result (AllByRecursion HasStatus (map item_of items.now)) }
     ensures marker { IfOk result (λ marker. marker ≡ first_marker (map item_of items.now)) }
-    ensures refused { IfErr result (λ e. e ≢ Error.Memory → AreInFile file (map item_of items.now) → AllByRecursion HasStatus (map item_of items.now) → ⊥) }
+    ensures refused { IfErr result
+        (λ e. e ≢ Error.Memory
+        → AreInFile file (map item_of items.now) → AllByRecursion HasStatus (map item_of items.now) → ⊥) }
     ensures fault { IfErr result IsRefusal }
 {
     let mut marker = None;

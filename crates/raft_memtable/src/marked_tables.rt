@@ -77,7 +77,8 @@ impl MarkedTables {
             (regions_after Rewrite (regions_in self.old) (region_steps_of_whole (whole_shown whole))
             ≡ Some (regions_in self.new)) }
         ensures cleaned { OnOk result (self.new.accessor.cleaned ≡ self.old.accessor.cleaned) }
-        ensures fault { IfErr result (IsStepsFault Rewrite (regions_in self.old) (region_steps_of_whole (whole_shown whole))) }
+        ensures fault { IfErr result
+            (IsStepsFault Rewrite (regions_in self.old) (region_steps_of_whole (whole_shown whole))) }
         ensures other { OnOk result
             (live_in_all Append self.new.accessor.tables ≤ live_in_all Append self.old.accessor.tables) }
     {

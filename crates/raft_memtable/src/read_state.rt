@@ -126,7 +126,8 @@ impl ReadState {
         ensures merged { OnOk result
             (context_in self.new ≡ merged_with (context_in self.old) (context_in newer) (context_in self.new).regions) }
         ensures read { OnOk result (IsRead (context_in self.new)) }
-        ensures fault { IfErr result (IsNeighbourFault queue (reading_on (context_in self.old)) (reading_on (context_in newer))) }
+        ensures fault { IfErr result
+            (IsNeighbourFault queue (reading_on (context_in self.old)) (reading_on (context_in newer))) }
     {
         self.check_neighbour(&newer, queue)?;
         self.join(newer, queue)
@@ -151,7 +152,8 @@ impl ReadState {
     /// Whether what was read of newer batches may be taken in.
     fn check_neighbour(&self, newer: &ReadState, queue: LogQueue) -> Result<()>
         ensures ok { OnOk result (AreNeighbours queue (context_in self.now) (context_in newer.now)) }
-        ensures fault { IfErr result (IsNeighbourFault queue (reading_on (context_in self.now)) (reading_on (context_in newer.now))) }
+        ensures fault { IfErr result
+            (IsNeighbourFault queue (reading_on (context_in self.now)) (reading_on (context_in newer.now))) }
     {
         if !FileRange::suits(self.files, queue) || !FileRange::suits(newer.files, queue) {
             return Err(Error::InvalidArgument(format!(in self.alloc;
@@ -176,7 +178,8 @@ impl ReadState {
         ensures merged { OnOk result
             (context_in self.new ≡ merged_with (context_in self.old) (context_in newer) (context_in self.new).regions) }
         ensures read { OnOk result (IsRead (context_in self.new)) }
-        ensures fault { IfErr result (IsNeighbourFault queue (reading_on (context_in self.old)) (reading_on (context_in newer))) }
+        ensures fault { IfErr result
+            (IsNeighbourFault queue (reading_on (context_in self.old)) (reading_on (context_in newer))) }
     {
         let ReadState {
             regions,
@@ -199,7 +202,8 @@ fn take_whole(regions: &mut MarkedTables, whole: Option<WholeGroup>) -> Result<(
         (regions_after Rewrite (regions_in regions.old) (region_steps_or (option_map whole_shown whole))
         ≡ Some (regions_in regions.new)) }
     ensures cleaned { OnOk result (regions.new.accessor.cleaned ≡ regions.old.accessor.cleaned) }
-    ensures fault { IfErr result (IsStepsFault Rewrite (regions_in regions.old) (region_steps_or (option_map whole_shown whole))) }
+    ensures fault { IfErr result
+        (IsStepsFault Rewrite (regions_in regions.old) (region_steps_or (option_map whole_shown whole))) }
     ensures other { OnOk result
         (live_in_all Append regions.new.accessor.tables ≤ live_in_all Append regions.old.accessor.tables) }
 {
@@ -216,7 +220,8 @@ fn take_wholes(regions: &mut MarkedTables, wholes: Vec<WholeGroup>) -> Result<()
         (regions_after Rewrite (regions_in regions.old) (region_steps_of_wholes (map whole_shown wholes.items))
         ≡ Some (regions_in regions.new)) }
     ensures cleaned { OnOk result (regions.new.accessor.cleaned ≡ regions.old.accessor.cleaned) }
-    ensures fault { IfErr result (IsStepsFault Rewrite (regions_in regions.old) (region_steps_of_wholes (map whole_shown wholes.items))) }
+    ensures fault { IfErr result
+        (IsStepsFault Rewrite (regions_in regions.old) (region_steps_of_wholes (map whole_shown wholes.items))) }
     ensures other { OnOk result
         (live_in_all Append regions.new.accessor.tables ≤ live_in_all Append regions.old.accessor.tables) }
     ensures none { OnErr result (map whole_shown wholes.items ≢ []) }

@@ -57,7 +57,8 @@ impl MarkedTables {
             → OnOk result (AreJoined queue (regions_in self.old)
             (record { tables = tables.old.tables; marks = marks }) (regions_in self.new)) }
         ensures fault { AreRunsOver queue marks tables.old.tables self.old.accessor.tables
-            → IfErr result (IsJoinFault queue (regions_in self.old) (record { tables = tables.old.tables; marks = marks })) }
+            → IfErr result (IsJoinFault queue (regions_in self.old)
+            (record { tables = tables.old.tables; marks = marks })) }
         ensures other { OnOk result (live_in_all (other queue) self.new.accessor.tables ≡ 0) }
         ensures cleaned { (self.new.accessor.cleaned ≡ self.old.accessor.cleaned)
             × (tables.new.cleaned ≡ tables.old.cleaned) }

@@ -1,5 +1,5 @@
 -- Calls of one slot, seen as calls of the accessor.
-use Rattle.std.proofs.Common.{◌≡◌, ◌⊎◌, ◌<◌, ◌++◌, ℕ, List, [], ◌∷◌, Option, Some, None, Result, Ok, Err, refl, sym, ap, subst, ◌∙◌, slice_index_or, slice_set, append_assoc, append-nil, IsTrue}
+use Rattle.std.proofs.Common.{◌≡◌, ◌≢◌, ◌⊎◌, ◌<◌, ◌++◌, ℕ, List, [], ◌∷◌, Option, Some, None, Result, Ok, Err, refl, sym, ap, subst, ◌∙◌, slice_index_or, slice_set, append_assoc, append-nil, IsTrue}
 use Rattle.std.specs.FinMap as finite
 use Rattle.std.specs.List.{AllByRecursion}
 use Rattle.std.specs.Option.{option_and_then, is_some}
@@ -76,13 +76,25 @@ module _ (a b : Inside) (id i : ℕ) (d slot : Tables) (after : Counts) (kept : 
         }
 
     -- a merge of a table
-    pub merged-in : {R : Type 0} (merge : Table → Table → Option Table) (newer : Table) (res : Result R Error) → IsTableMerged (merge (table_in (slice_index_or a.slots i d) id) newer) (slice_index_or a.slots i d) id a.stats res slot after
+    pub merged-in : {R : Type 0} {IsFault : Error → Type 0} (merge : Table → Table → Option Table) (newer : Table) (res : Result R Error) → IsTableMerged (merge (table_in (slice_index_or a.slots i d) id) newer) IsFault (slice_index_or a.slots i d) id a.stats res slot after
         → OnOk res (IsMergedAt merge id (finite.get r.tables id) (Some newer) (finite.get (together b.slots) id))
     merged-in merge newer (Err x) t = tt
     merged-in merge newer (Ok x) t = (
       ap (λ o. merge (table_of id o) newer) was ∙ t.ok ∙ sym t.there ∙ sym now,
       subst (λ o. IsTrue (is_some o)) (sym (now ∙ t.there)) (some_is_there (table_in slot id)),
     )
+
+    -- or a refusal
+    pub refused-in : {R : Type 0} (IsFault : Counts → Table → Error → Type 0) (outcome : Option Table) (res : Result R Error) → IsTableMerged outcome (IsFault after (table_in (slice_index_or a.slots i d) id)) (slice_index_or a.slots i d) id a.stats res slot after
+        → IfErr res (λ e. (e ≡ Memory) ⊎ IsFault b.stats (table_in r.tables id) e)
+    refused-in IsFault outcome res t =
+        subst (λ k. IfErr res (λ e. (e ≡ Memory) ⊎ IsFault k (table_in r.tables id) e)) (sym h.stats) (subst (λ o. IfErr res (λ e. (e ≡ Memory) ⊎ IsFault after (table_of id o) e)) (sym was) t.fault)
+
+    -- which leaves the table
+    pub left-in : {R : Type 0} {IsFault : Error → Type 0} (outcome : Option Table) (res : Result R Error) → IsTableMerged outcome IsFault (slice_index_or a.slots i d) id a.stats res slot after
+        → IfErr res (λ e. e ≢ Memory → table_in (together b.slots) id ≡ table_in r.tables id)
+    left-in outcome (Ok x) t = tt
+    left-in outcome (Err x) t = λ k. ap (table_of id) now ∙ t.err k ∙ sym (ap (table_of id) was)
 
     pub alone-in : together b.slots ≡ with_table r.tables id (finite.get (together b.slots) id)
     alone-in = tables-are ∙ ap (with_table r.tables id) (sym now)

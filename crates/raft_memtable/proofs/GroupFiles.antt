@@ -1,11 +1,11 @@
 -- The files of a group, set for each region that it names: the order doesn't matter, nor whether a region comes twice.
-use Rattle.std.proofs.Common.{◌≡◌, ◌≢◌, ℕ, ◌≤◌, Bool, true, false, cond, eqb, ◌||◌, List, [], ◌∷◌, ◌++◌, Option, Some, None, Result, Ok, Err, refl, sym, ap, subst, ◌∙◌, inl, inr, arith}
+use Rattle.std.proofs.Common.{◌≡◌, ℕ, ◌≤◌, Bool, true, false, cond, eqb, ◌||◌, List, [], ◌∷◌, ◌++◌, Option, Some, None, Result, Ok, Err, refl, sym, ap, subst, ◌∙◌, inl, inr, arith}
 use Rattle.std.specs.List.{list_any}
 use Rattle.std.specs.FinMap as finite
 use Rattle.std.specs.Result.{OnOk, IfErr}
 use Rattle.std.specs.Option.{option_and_then, unwrap_or}
 use Rattle.raft_base.specs.declared.errors.Error.{Error}
-use Rattle.raft_base.specs.declared.errors.Error.TheVariants.{Memory}
+use Rattle.raft_base.specs.declared.errors.Error.TheVariants as errors
 use Rattle.raft_base.specs.declared.pipe_log.LogQueue.{LogQueue}
 use Rattle.raft_base.specs.declared.pipe_log.LogQueue.TheVariants.{Append, Rewrite}
 use Rattle.raft_table.specs.MarkJoins.{joined_mark, end_at_reach, fresh, mark_of}
@@ -19,11 +19,11 @@ use Rattle.raft_history.specs.WaitingGroup.{WholeGroup}
 use Rattle.raft_history.specs.RegionSteps.{RegionStep, Tables, names}
 use Rattle.raft_history.proofs.MapLemmas.{IsOther, by_region, eqb_self}
 use Rattle.raft_history.proofs.StepListLemmas.{names_none, names_cons}
-use Rattle.raft_memtable.specs.MarkedTables.{regions_in, AreStepsOfQueue, HaveRoom, one_step, AreTaken}
+use Rattle.raft_memtable.specs.MarkedTables.{regions_in, AreStepsOfQueue, IsStepsFault, one_step, AreTaken}
 use Rattle.raft_memtable.specs.Accessor.{live_in_all}
 use Rattle.raft_memtable.specs.declared.marked_tables.MarkedTables.{MarkedTables}
 use Rattle.raft_memtable.proofs.MapLemmas.{same, get_own, get_other, none_some}
-use Rattle.raft_memtable.proofs.TakenLemmas.{after-append, records-append, taken_more, refused_in, other_in}
+use Rattle.raft_memtable.proofs.TakenLemmas.{after-append, records-append, taken_more, other_in}
 
 abbrev pub has : ℕ → List ℕ → Bool
 has r ids = list_any (λ id. eqb r id) ids
@@ -157,12 +157,15 @@ module _ (w : WholeGroup) (ids : List ℕ) (a b : MarkedTables) (r : Result Unit
   pub whole_ok : OnOk r (regions_after Rewrite (regions_in a) (region_steps_of_whole w) ≡ Some (regions_in b))
   whole_ok = elim r as (λ r. OnOk r (regions_after Rewrite (regions_in a) (w.steps ++ on_each ids (AtomicGroup w.start w.end)) ≡ Some (regions_in b)) → OnOk r (regions_after Rewrite (regions_in a) (region_steps_of_whole w) ≡ Some (regions_in b))) [ Ok u ↦ λ e. sym (whole_same Rewrite w ids (regions_in a) h) ∙ e | Err x ↦ λ e. tt ] t.ok
 
-  pub whole_refused : HaveRoom Rewrite a.accessor.tables (records_in w.steps) → IfErr r (λ e. e ≢ Memory → regions_after Rewrite (regions_in a) (region_steps_of_whole w) ≡ None)
-  whole_refused room =
-      elim r as (λ r. IfErr r (λ e. e ≢ Memory → regions_after Rewrite (regions_in a) (w.steps ++ on_each ids (AtomicGroup w.start w.end)) ≡ None) → IfErr r (λ e. e ≢ Memory → regions_after Rewrite (regions_in a) (region_steps_of_whole w) ≡ None)) [
-        | Ok u ↦ λ f. tt
-        | Err x ↦ λ f. λ k. sym (whole_same Rewrite w ids (regions_in a) h) ∙ f k
-      ] (refused_in Rewrite (w.steps ++ on_each ids (AtomicGroup w.start w.end)) (records_in w.steps) a b r (whole_records w ids) t room)
+  same_fault : (e : Error) → IsStepsFault Rewrite (regions_in a) (w.steps ++ on_each ids (AtomicGroup w.start w.end)) e → IsStepsFault Rewrite (regions_in a) (region_steps_of_whole w) e
+  same_fault (errors.Corruption text) f = sym (whole_same Rewrite w ids (regions_in a) h) ∙ f
+  same_fault (errors.InvalidArgument text) f = f
+  same_fault errors.Full f = omega (arith, f, whole_records w ids, whole_records w (named_regions w.steps))
+  same_fault errors.Memory f = tt
+  same_fault _ f = absurd f
+
+  pub whole_fault : IfErr r (IsStepsFault Rewrite (regions_in a) (region_steps_of_whole w))
+  whole_fault = elim r as (λ r. IfErr r (IsStepsFault Rewrite (regions_in a) (w.steps ++ on_each ids (AtomicGroup w.start w.end))) → IfErr r (IsStepsFault Rewrite (regions_in a) (region_steps_of_whole w))) [ Ok u ↦ λ f. tt | Err x ↦ λ f. same_fault x f ] t.fault
 
   pub whole_other : AreStepsOfQueue Rewrite w.steps → OnOk r (live_in_all Append b.accessor.tables ≤ live_in_all Append a.accessor.tables)
   whole_other good = other_in Rewrite (w.steps ++ on_each ids (AtomicGroup w.start w.end)) a b r (whole_of_queue Rewrite w ids good) t.ok

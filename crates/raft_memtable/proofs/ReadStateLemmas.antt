@@ -1,13 +1,14 @@
 -- What was read, with one more batch or with a newer neighbour.
-use Rattle.std.proofs.Common.{◌≡◌, ◌≢◌, ◌⊎◌, ℕ, ◌+◌, ◌<◌, ◌≤◌, ◌^◌, Bool, true, false, List, [], ◌∷◌, ◌++◌, Option, Some, None, refl, sym, ap, subst, ◌∙◌, inl, inr, arith, append-nil}
-use Rattle.std.proofs.lemmas.Bool.Decides.{nat_tests}
+use Rattle.std.proofs.Common.{◌≡◌, ◌≢◌, ℕ, ◌+◌, ◌≤◌, ◌^◌, false, List, [], ◌∷◌, ◌++◌, Option, Some, None, refl, sym, ap, subst, ◌∙◌, inl, inr, arith, append-nil}
 use Rattle.std.specs.Ordering.{nat_cmp}
-use Rattle.std.specs.Prelude.{is_some, option_map, nat_lt}
+use Rattle.std.specs.Prelude.{is_some, option_map}
 use Rattle.std.specs.List.{AllByRecursion}
 use Rattle.std.specs.Option.{unwrap_or}
 use Rattle.std.specs.Cmp.{nat_cmp_total}
 use Rattle.std.specs.FinMap as finite
 use Rattle.std.specs.FinMap.{nat_cmp-IsAntisymmetric}
+use Rattle.raft_base.specs.declared.errors.Error.{Error}
+use Rattle.raft_base.specs.declared.errors.Error.TheVariants as errors
 use Rattle.raft_base.specs.declared.pipe_log.LogQueue.{LogQueue}
 use Rattle.raft_base.specs.declared.pipe_log.LogQueue.TheVariants.{Append, Rewrite}
 use Rattle.raft_records.specs.Item.{Item}
@@ -18,9 +19,9 @@ use Rattle.raft_table.specs.Steps.{after}
 use Rattle.raft_history.specs.Batches.{Event, GroupMarker, batch_of, batches, marker_in}
 use Rattle.raft_history.specs.Contexts.{Context, FileRange, Suits, files_of, follows, joined_files, AreExact, StandsFor, AreMerged, merged_with, completed_steps, region_steps_or, taken_in}
 use Rattle.raft_history.specs.Histories.{IsSoundIn, IsStepOfQueue, records_in, cleaned_in_batch}
-use Rattle.raft_history.specs.Joins.{StandForSteps, AreJoined, IsJoinRefused}
+use Rattle.raft_history.specs.Joins.{StandForSteps, AreJoined}
 use Rattle.raft_history.specs.MarkedRegions.{MarkedRegions, region_in, regions_after, region_steps_of_whole, region_steps_of_wholes}
-use Rattle.raft_history.specs.Records.{all_records, waiting_records, records_or, records_in_wholes}
+use Rattle.raft_history.specs.Records.{all_records, waiting_records, records_or}
 use Rattle.raft_history.specs.RegionSteps.{RegionStep, steps_of_items}
 use Rattle.raft_history.specs.WaitingGroup.{WholeGroup, without_marker, joined_group, whole_group, one_marker}
 use Rattle.raft_history.specs.WaitingGroups.{WaitingGroups, known, groups_in, groups_after, whole_groups, joined_groups}
@@ -28,7 +29,7 @@ use Rattle.raft_history.proofs.ContextLaws.{exact_reading, no_steps, regions_sta
 use Rattle.raft_history.proofs.EffectLemmas.{each-append}
 use Rattle.raft_history.proofs.QueueLemmas.{items_in_queue, whole_in_queue}
 use Rattle.raft_history.proofs.ReadLemmas.{holds_none}
-use Rattle.raft_history.proofs.RecordLemmas.{read_records, wholes-records, one_weight}
+use Rattle.raft_history.proofs.RecordLemmas.{read_records, whole_group-records, wholes-records, one_weight}
 use Rattle.raft_history.proofs.RegionLaws.{stand_after, stand_joined}
 use Rattle.raft_history.proofs.SoundLemmas.{files-back, files_follow}
 use Rattle.raft_history.proofs.TakenLaws.{IsNext, taken_some, taken_stands}
@@ -37,10 +38,13 @@ use Rattle.raft_history.proofs.WithoutMarkers.{named-steps}
 use Rattle.raft_history.proofs.WaitingLemmas.{joined_weight, waiting_known, merged_waiting, weight}
 use Rattle.raft_memtable.specs.Accessor.{live_in_all}
 use Rattle.raft_memtable.specs.BatchChecks.{marker_found}
-use Rattle.raft_memtable.specs.MarkedTables.{AreStepsOfQueue, HaveRoom}
+use Rattle.raft_memtable.specs.MarkedTables.{AreStepsOfQueue, IsStepsFault}
 use Rattle.raft_memtable.specs.ReadStates.{AreAlone, AreOfSteps, IsRead, TakesEffect, MayTakeEffect}
-use Rattle.raft_memtable.specs.RecoverContext.{MayFollow, records_held, IsStepRefused, AreNeighbours, IsNeighbourRefused}
+use Rattle.raft_memtable.specs.RecoverContext.{reading_on, MayFollow, records_held, IsBatchFault, AreNeighbours, IsNeighbourFault}
+use Rattle.raft_memtable.specs.TableJoins.{IsJoinFault}
+use Rattle.raft_memtable.specs.Updates.{IsRefusal}
 use Rattle.raft_memtable.proofs.LiveLemmas.{live-none}
+use Rattle.raft_memtable.proofs.LiveSteps.{live-le-all}
 use Rattle.raft_memtable.proofs.WholeFiles.{batch_takes, wholes_take, no_wholes}
 
 some_is : {X : Type 0} {x y : X} → Some x ≡ Some y → x ≡ y
@@ -90,18 +94,7 @@ steps_of_read q c r u = go c.files refl u r.steps
     go None e u a = blank q c r.history r.stands e
     go (Some f) e u a = subst (λ q. StandForSteps q c.regions) u a
 
--- ---- room for more
-
-pub room : (q : LogQueue) (c : Context) (more : ℕ) → IsRead c → Suits q c.files → all_records c.regions.tables + more < 2 ^ 64 → HaveRoom q c.regions.tables more
-room q c more r u few = record { alone = alone_of q c r u; few = few }
-
--- either there is room, or the records would be 2^64 or more
-pub few_or_many : (n : ℕ) → (n < 2 ^ 64) ⊎ (2 ^ 64 ≤ n)
-few_or_many n = go (nat_lt n (2 ^ 64)) refl
-  where
-    go : (b : Bool) → nat_lt n (2 ^ 64) ≡ b → (n < 2 ^ 64) ⊎ (2 ^ 64 ≤ n)
-    go true e = inl (grind (arith, nat_tests))
-    go false e = inr (grind (arith, nat_tests))
+-- ---- records
 
 known_weight : (groups : WaitingGroups) (g : ℕ) → weight (known groups g) ≤ waiting_records groups
 known_weight groups g = omega (arith, total-insert weight groups g without_marker, waiting_known groups g)
@@ -171,23 +164,41 @@ group_refused c e id s m none =
     let f = found_some e.file.queue e.items id s m in
     ap (taken_by c e) f.1 ∙ none_by c e (Some (record { group = id; status = s })) (ap (λ q. regions_after q c.regions (region_steps_or (whole_group (known c.groups id) (one_marker s (steps_of_items e.items) e.file.seq)))) f.0 ∙ none)
 
--- a step is refused, where a call that had room says so
-pub lone_step : (c : Context) (e : Event) → IsRead c → MayFollow c e → marker_found e.file.queue e.items ≡ None
-    → (HaveRoom e.file.queue c.regions.tables (records_in (steps_of_items e.items)) → regions_after e.file.queue c.regions (steps_of_items e.items) ≡ None) → IsStepRefused c e
-lone_step c e r n m h = go (few_or_many (records_held c + records_in (steps_of_items e.items)))
-  where
-    go : (records_held c + records_in (steps_of_items e.items) < 2 ^ 64) ⊎ (2 ^ 64 ≤ records_held c + records_in (steps_of_items e.items)) → IsStepRefused c e
-    go (inl few) = inl (lone_refused c e m (h (room e.file.queue c (records_in (steps_of_items e.items)) r n.queue (omega (arith, few)))))
-    go (inr many) = inr many
+or_records : (w : Option WholeGroup) → records_in (region_steps_or w) ≤ records_or w
+or_records None = omega arith
+or_records (Some w) = omega (arith, whole_group-records w)
 
-pub group_step : (c : Context) (e : Event) (id : ℕ) (s : AtomicGroupStatus) → IsRead c → MayFollow c e → marker_found e.file.queue e.items ≡ Some (id, s)
-    → (HaveRoom Rewrite c.regions.tables (records_or (whole_group (known c.groups id) (one_marker s (steps_of_items e.items) e.file.seq)))
-    → regions_after Rewrite c.regions (region_steps_or (whole_group (known c.groups id) (one_marker s (steps_of_items e.items) e.file.seq))) ≡ None) → IsStepRefused c e
-group_step c e id s r n m h = go (few_or_many (records_held c + records_in (steps_of_items e.items)))
+-- what takes effect with a batch waited before, or is its own
+pub completed_records : (c : Context) (e : Event) → records_in (completed_steps c.groups (batch_of e) (batch_of e).marker) ≤ waiting_records c.groups + records_in (steps_of_items e.items)
+completed_records c e = go (batch_of e).marker
   where
-    go : (records_held c + records_in (steps_of_items e.items) < 2 ^ 64) ⊎ (2 ^ 64 ≤ records_held c + records_in (steps_of_items e.items)) → IsStepRefused c e
-    go (inl few) = inl (group_refused c e id s m (h (room Rewrite c _ r (subst (λ q. Suits q c.files) (found_some e.file.queue e.items id s m).0 n.queue) (omega (arith, few, whole_records c.groups id s (steps_of_items e.items) e.file.seq)))))
-    go (inr many) = inr many
+    go : (m : Option GroupMarker) → records_in (completed_steps c.groups (batch_of e) m) ≤ waiting_records c.groups + records_in (steps_of_items e.items)
+    go None = omega arith
+    go (Some m) = omega (arith, or_records (whole_group (known c.groups m.group) (one_marker m.status (steps_of_items e.items) e.file.seq)), whole_records c.groups m.group m.status (steps_of_items e.items) e.file.seq)
+
+-- why a batch is refused that may come next
+pub lone_fault : (c : Context) (e : Event) → IsRead c → MayFollow c e → marker_found e.file.queue e.items ≡ None → (x : Error) → IsStepsFault e.file.queue c.regions (steps_of_items e.items) x → IsBatchFault (reading_on c) e x
+lone_fault c e r n m (errors.Corruption text) f = inr (lone_refused c e m f)
+lone_fault c e r n m (errors.InvalidArgument text) f = absurd (omega (arith, f, alone_of e.file.queue c r n.queue))
+lone_fault c e r n m errors.Full f = (n, subst (λ m. 2 ^ 64 ≤ live_in_all e.file.queue c.regions.tables + records_in (completed_steps c.groups (batch_of e) m)) (sym (found_none e.file.queue e.items m)) f)
+lone_fault c e r n m errors.Memory f = tt
+lone_fault c e r n m _ f = absurd f
+
+pub group_fault : (c : Context) (e : Event) (id : ℕ) (s : AtomicGroupStatus) → IsRead c → MayFollow c e → marker_found e.file.queue e.items ≡ Some (id, s) → (x : Error)
+    → IsStepsFault Rewrite c.regions (region_steps_or (whole_group (known c.groups id) (one_marker s (steps_of_items e.items) e.file.seq))) x → IsBatchFault (reading_on c) e x
+group_fault c e id s r n m (errors.Corruption text) f = inr (group_refused c e id s m f)
+group_fault c e id s r n m (errors.InvalidArgument text) f = absurd (omega (arith, f, alone_of Rewrite c r (subst (λ q. Suits q c.files) (found_some e.file.queue e.items id s m).0 n.queue)))
+group_fault c e id s r n m errors.Full f =
+    let found = found_some e.file.queue e.items id s m in
+    (n, subst (λ m. 2 ^ 64 ≤ live_in_all e.file.queue c.regions.tables + records_in (completed_steps c.groups (batch_of e) m)) (sym found.1) (subst (λ q. 2 ^ 64 ≤ live_in_all q c.regions.tables + records_in (completed_steps c.groups (batch_of e) (Some (record { group = id; status = s })))) (sym found.0) f))
+group_fault c e id s r n m errors.Memory f = tt
+group_fault c e id s r n m _ f = absurd f
+
+-- or that may not
+pub unfit_fault : (c : Context) (e : Event) (x : Error) → IsRefusal x → (x ≢ errors.Memory → MayFollow c e → ⊥) → IsBatchFault (reading_on c) e x
+unfit_fault c e (errors.Corruption text) is f = inl (f (λ e. cc))
+unfit_fault c e errors.Memory is f = tt
+unfit_fault c e _ is f = absurd is
 
 -- what a batch with a marker makes whole may be taken in
 pub group_takes : (c : Context) (e : Event) (id : ℕ) (s : AtomicGroupStatus) → IsRead c → MayFollow c e → marker_found e.file.queue e.items ≡ Some (id, s)
@@ -288,28 +299,25 @@ pub middle_records : (q : LogQueue) (c d : Context) (middle : MarkedRegions) →
 middle_records q c d middle m = omega (arith, read_records Rewrite c.regions middle (region_steps_of_wholes (both_wholes c d)) m.taken, wholes-records (both_wholes c d), merged_waiting c.groups d.groups)
 
 -- the groups are refused
-pub wholes_refused : (q : LogQueue) (c d : Context) → IsRead c → IsRead d → AreNeighbours q c d → both_wholes c d ≢ []
-    → (HaveRoom Rewrite c.regions.tables (records_in_wholes (both_wholes c d)) → regions_after Rewrite c.regions (region_steps_of_wholes (both_wholes c d)) ≡ None) → IsNeighbourRefused q c d
-wholes_refused Append c d r s n some h = absurd (some (wholes_none c d s n.newer))
-wholes_refused Rewrite c d r s n some h = go (few_or_many (records_held c + records_held d))
-  where
-    go : (records_held c + records_held d < 2 ^ 64) ⊎ (2 ^ 64 ≤ records_held c + records_held d) → IsNeighbourRefused Rewrite c d
-    go (inl few) = inl (inl (h (room Rewrite c (records_in_wholes (both_wholes c d)) r n.older (omega (arith, few, merged_waiting c.groups d.groups)))))
-    go (inr many) = inr many
+pub wholes_fault : (q : LogQueue) (c d : Context) → IsRead c → IsRead d → AreNeighbours q c d → both_wholes c d ≢ [] → (x : Error) → IsStepsFault Rewrite c.regions (region_steps_of_wholes (both_wholes c d)) x → IsNeighbourFault q (reading_on c) (reading_on d) x
+wholes_fault Append c d r s n some x f = absurd (some (wholes_none c d s n.newer))
+wholes_fault Rewrite c d r s n some (errors.Corruption text) f = inr (inl f)
+wholes_fault Rewrite c d r s n some (errors.InvalidArgument text) f = absurd (omega (arith, f, alone_of Rewrite c r n.older))
+wholes_fault Rewrite c d r s n some errors.Full f = (n, omega (arith, f, live-le-all Rewrite c.regions.tables, wholes-records (both_wholes c d), merged_waiting c.groups d.groups))
+wholes_fault Rewrite c d r s n some errors.Memory f = tt
+wholes_fault Rewrite c d r s n some _ f = absurd f
 
 -- a region's join is refused
-pub join_refused : (q : LogQueue) (c d : Context) (middle : MarkedRegions) → IsMiddle q c d middle
-    → (StandForSteps q middle → StandForSteps q d.regions → HaveRoom q middle.tables (all_records d.regions.tables) → live_in_all (other q) d.regions.tables ≡ 0 → IsJoinRefused q middle d.regions) → IsNeighbourRefused q c d
-join_refused q c d middle m h = go (few_or_many (records_held c + records_held d))
+pub join_fault : (q : LogQueue) (c d : Context) (middle : MarkedRegions) → IsMiddle q c d middle → (x : Error) → (StandForSteps q middle → StandForSteps q d.regions → IsJoinFault q middle d.regions x) → IsNeighbourFault q (reading_on c) (reading_on d) x
+join_fault q c d middle m x h = go x (h (middle_steps q c d middle m) (steps_of_read q d m.newer m.neighbours.newer))
   where
-    go : (records_held c + records_held d < 2 ^ 64) ⊎ (2 ^ 64 ≤ records_held c + records_held d) → IsNeighbourRefused q c d
-    go (inl few) = inl (inr (
-      middle,
-      sym (either_queue q c d m.newer m.neighbours) ∙ m.taken,
-      h (middle_steps q c d middle m) (steps_of_read q d m.newer m.neighbours.newer)
-          (record { alone = middle_alone q c d middle m; few = omega (arith, few, middle_records q c d middle m) }) (alone_of q d m.newer m.neighbours.newer),
-    ))
-    go (inr many) = inr many
+    go : (x : Error) → IsJoinFault q middle d.regions x → IsNeighbourFault q (reading_on c) (reading_on d) x
+    go (errors.Corruption text) f = inr (inr (middle, sym (either_queue q c d m.newer m.neighbours) ∙ m.taken, f))
+    go (errors.InvalidArgument text) (inl f) = absurd (omega (arith, f, middle_alone q c d middle m))
+    go (errors.InvalidArgument text) (inr f) = absurd (omega (arith, f, alone_of q d m.newer m.neighbours.newer))
+    go errors.Full f = (m.neighbours, omega (arith, f, middle_records q c d middle m))
+    go errors.Memory f = tt
+    go _ f = absurd f
 
 -- the regions are joined
 pub join_merged : (q : LogQueue) (c d : Context) (middle new : MarkedRegions) → IsMiddle q c d middle → (StandForSteps q middle → StandForSteps q d.regions → AreJoined q middle d.regions new) → AreMerged q c d new

@@ -1,7 +1,10 @@
 -- Recovery contexts and the histories that they stand for.
-use Rattle.std.proofs.Common.{◌≡◌, ℕ, List, [], ◌∷◌, ◌++◌, Result, Ok, Err, refl, sym, ap, subst, ◌∙◌, inl, inr, arith}
+use Rattle.std.proofs.Common.{◌≡◌, ◌≢◌, ℕ, List, [], ◌∷◌, ◌++◌, Result, Ok, Err, refl, sym, ap, subst, ◌∙◌, inl, inr, arith}
 use Rattle.std.specs.Prelude.{IfOk, IfErr, OnOk}
+use Rattle.raft_base.specs.declared.errors.Error.{Error}
+use Rattle.raft_base.specs.declared.errors.Error.TheVariants as errors
 use Rattle.raft_base.specs.declared.pipe_log.LogQueue.{LogQueue}
+use Rattle.std.proofs.lemmas.Bool.{false≢true}
 use Rattle.raft_history.specs.Batches.{Event, batches}
 use Rattle.raft_history.specs.Contexts.{Context, new_context, Suits, files_of, follows, StandsFor, IsExactFor}
 use Rattle.raft_history.specs.Histories.{IsSmall, Sound, Apart, IsOfQueue, IsOneReading}
@@ -14,7 +17,10 @@ use Rattle.raft_history.specs.Kept.{kept_of, kept_by, IsAtMost}
 use Rattle.raft_history.specs.RegionSteps.{Tables}
 use Rattle.raft_history.proofs.KeptLaws.{kept_at_most}
 use Rattle.raft_memtable.specs.ReadStates.{IsRead}
-use Rattle.raft_memtable.specs.RecoverContext.{RecoverContext, IsReading, IsReadingExactly, MayFollow, IsTakenIn, IsReplayRefused, AreNeighbours, IsMergedWith, IsMergeRefused}
+use Rattle.raft_memtable.proofs.LiveSteps.{live-le-all}
+use Rattle.raft_memtable.proofs.ReadStateLemmas.{completed_records}
+use Rattle.raft_memtable.specs.RecoverContext.{RecoverContext, IsReading, IsReadingExactly, MayFollow, IsTakenIn, reading_on, IsBatchFault, AreNeighbours, IsMergedWith, IsNeighbourFault}
+use Rattle.raft_memtable.specs.declared.context_stage.ContextStage.{ContextStage}
 use Rattle.raft_memtable.specs.declared.context_stage.ContextStage.TheVariants.{Reading}
 
 -- ---- results
@@ -53,11 +59,21 @@ replay_stands c d h e t r = record { stage = t.after; stands = taken_stands c.co
 pub replay_exact : (c d : RecoverContext) (h : List Event) (e : Event) → IsTakenIn e c d → IsReadingExactly c h → IsReadingExactly d (h ++ e ∷ [])
 replay_exact c d h e t r = record { stage = t.after; exact = taken_exact c.context d.context h e (next_of c.context e t.next) r.exact t.taken }
 
-pub replay_unsound : (c : RecoverContext) (h : List Event) (e : Event) → IsSmall (h ++ e ∷ []) → IsReading c h → IsReplayRefused c e → Sound (h ++ e ∷ []) → ⊥
-replay_unsound c h e small r (inl stage) sound = stage r.stage
-replay_unsound c h e small r (inr (inl unfit)) sound = unfit (may_of c.context e (next_sound c.context h e r.stands sound))
-replay_unsound c h e small r (inr (inr (inl none))) sound = taken_none c.context h e (next_sound c.context h e r.stands sound) r.stands none sound
-replay_unsound c h e small r (inr (inr (inr full))) sound = absurd (omega (arith, full, small.few, r.stands.few, size-append h (e ∷ [])))
+pub replay_unsound : (c : RecoverContext) (h : List Event) (e : Event) → IsSmall (h ++ e ∷ []) → IsReading c h → (x : Error) → x ≢ errors.Memory → IsBatchFault c e x → Sound (h ++ e ∷ []) → ⊥
+replay_unsound c h e small r (errors.Corruption text) k (inl unfit) sound = unfit (may_of c.context e (next_sound c.context h e r.stands sound))
+replay_unsound c h e small r (errors.Corruption text) k (inr none) sound = taken_none c.context h e (next_sound c.context h e r.stands sound) r.stands none sound
+replay_unsound c h e small r errors.Full k full sound = omega (arith, full.1, live-le-all e.file.queue c.context.regions.tables, completed_records c.context e, small.few, r.stands.few, size-append h (e ∷ []))
+replay_unsound c h e small r errors.Failed k stage sound = stage r.stage
+replay_unsound c h e small r errors.Memory k f sound = k refl
+replay_unsound c h e small r _ k f sound = f
+
+-- what a context says of the batch that it reads on with
+pub batch_fault : (s : ContextStage) (c : Context) (e : Event) (x : Error) → IsBatchFault (reading_on c) e x → IsBatchFault (record { stage = s; context = c }) e x
+batch_fault s c e (errors.Corruption text) f = f
+batch_fault s c e errors.Full f = f
+batch_fault s c e errors.Failed f = absurd (f refl)
+batch_fault s c e errors.Memory f = f
+batch_fault s c e _ f = absurd f
 
 -- ---- two neighbours
 
@@ -87,12 +103,25 @@ neighbours q c d h g o a b sound = record {
   files = ap (λ x. follows x d.files) a.files ∙ ap (follows (files_of h)) b.files ∙ follow_files sound.queue h g sound.sound.files;
 }
 
-pub merge_unsound : (q : LogQueue) (c d : RecoverContext) (h g : List Event) → IsSmall (h ++ g) → IsOfQueue q (h ++ g) → IsReading c h → IsReading d g → IsMergeRefused q c d → Sound (h ++ g) → ⊥
-merge_unsound q c d h g small o a b (inl stage) sound = stage a.stage
-merge_unsound q c d h g small o a b (inr (inl stage)) sound = stage b.stage
-merge_unsound q c d h g small o a b (inr (inr (inl apart))) sound = apart (neighbours q c.context d.context h g o a.stands b.stands sound)
-merge_unsound q c d h g small o a b (inr (inr (inr (inl refused)))) sound = regions_unsound q c.context d.context h g (merges q c.context d.context h g (neighbours q c.context d.context h g o a.stands b.stands sound) a.stands b.stands) refused sound
-merge_unsound q c d h g small o a b (inr (inr (inr (inr full)))) sound = absurd (omega (arith, full, small.few, a.stands.few, b.stands.few, size-append h g))
+pub merge_unsound : (q : LogQueue) (c d : RecoverContext) (h g : List Event) → IsSmall (h ++ g) → IsOfQueue q (h ++ g) → IsReading c h → IsReading d g → (x : Error) → x ≢ errors.Memory → IsNeighbourFault q c d x → Sound (h ++ g) → ⊥
+merge_unsound q c d h g small o a b (errors.InvalidArgument text) k other sound = let n = neighbours q c.context d.context h g o a.stands b.stands sound in other n.older n.newer
+merge_unsound q c d h g small o a b (errors.Corruption text) k (inl files) sound = false≢true (sym files ∙ (neighbours q c.context d.context h g o a.stands b.stands sound).files)
+merge_unsound q c d h g small o a b (errors.Corruption text) k (inr refused) sound = regions_unsound q c.context d.context h g (merges q c.context d.context h g (neighbours q c.context d.context h g o a.stands b.stands sound) a.stands b.stands) refused sound
+merge_unsound q c d h g small o a b errors.Full k full sound = omega (arith, full.1, small.few, a.stands.few, b.stands.few, size-append h g)
+merge_unsound q c d h g small o a b errors.Failed k (inl stage) sound = stage a.stage
+merge_unsound q c d h g small o a b errors.Failed k (inr stage) sound = stage b.stage
+merge_unsound q c d h g small o a b errors.Memory k f sound = k refl
+merge_unsound q c d h g small o a b _ k f sound = f
+
+-- what a context says of the neighbour that it reads on with
+pub neighbour_fault : (q : LogQueue) (s t : ContextStage) (c d : Context) (x : Error) → IsNeighbourFault q (reading_on c) (reading_on d) x → IsNeighbourFault q (record { stage = s; context = c }) (record { stage = t; context = d }) x
+neighbour_fault q s t c d (errors.InvalidArgument text) f = f
+neighbour_fault q s t c d (errors.Corruption text) f = f
+neighbour_fault q s t c d errors.Full f = f
+neighbour_fault q s t c d errors.Failed (inl f) = absurd (f refl)
+neighbour_fault q s t c d errors.Failed (inr f) = absurd (f refl)
+neighbour_fault q s t c d errors.Memory f = f
+neighbour_fault q s t c d _ f = absurd f
 
 -- ---- what was read
 

@@ -1,5 +1,5 @@
 -- The marks and tables of a newer neighbour joined one after another.
-use Rattle.std.proofs.Common.{◌≡◌, ◌≢◌, ◌<◌, ◌≤◌, ◌+◌, ◌^◌, ℕ, false, cond, ◌||◌, nat_eq, List, [], ◌∷◌, Option, Some, None, Result, Ok, Err, refl, sym, ap, subst, ◌∙◌, inl, inr, arith}
+use Rattle.std.proofs.Common.{◌≡◌, ◌≤◌, ◌+◌, ◌^◌, ℕ, false, cond, ◌||◌, nat_eq, List, [], ◌∷◌, Option, Some, None, Result, Ok, Err, refl, sym, ap, subst, ◌∙◌, inl, inr, arith}
 use Rattle.std.specs.Ordering.{nat_cmp, eq_by_cmp}
 use Rattle.std.specs.Cmp.{nat_cmp_total}
 use Rattle.std.specs.List.{AllByRecursion, IsDistinct}
@@ -29,7 +29,7 @@ use Rattle.raft_history.specs.RegionSteps.{Tables, with_table}
 use Rattle.raft_history.proofs.JoinLemmas.{each_joined, each_refused, each_marked}
 use Rattle.raft_memtable.specs.Accessor.{table_in, live_in, live_of_all, live_in_all, AreCountsOf}
 use Rattle.raft_memtable.specs.RegionMarks.{mark_in}
-use Rattle.raft_memtable.specs.TableJoins.{AreRunsOver}
+use Rattle.raft_memtable.specs.TableJoins.{AreRunsOver, IsMixFault, IsJoinFault}
 use Rattle.raft_memtable.proofs.LiveLemmas.{live-remove, live-with, live-table_of}
 use Rattle.raft_memtable.proofs.MapLemmas.{none_some, by_id, eq_self, self_same, get_own, get_left, with_other}
 use Rattle.raft_memtable.proofs.RegionTablesLemmas.{same_test}
@@ -114,6 +114,13 @@ runs_on queue newer older id t (e ∷ es) f h = (
   runs_on queue newer older id t es f.1 h.1,
 )
 
+-- why all are not joined
+abbrev pub IsLoopFault : LogQueue → Tables → MarkedRegions → List (ℕ × Mark) → Error → Type 0
+IsLoopFault queue newer first all (errors.Corruption text) = joined_each queue newer first all ≡ None
+IsLoopFault queue newer first all errors.Full = 2 ^ 64 ≤ all_records first.tables + all_records newer
+IsLoopFault queue newer first all errors.Memory = Unit {0}
+IsLoopFault queue newer first all _ = ⊥
+
 module _ (queue : LogQueue) (newer : Tables) (first : MarkedRegions) (all : List (ℕ × Mark)) (now : MarkedRegions) (left : Tables) (rest es : List (ℕ × Mark)) (id : ℕ) (m : Mark) (is : rest ≡ (id, m) ∷ es) (at : AreJoining queue newer first all now left rest) where
   there : AreJoining queue newer first all now left ((id, m) ∷ es)
   there = subst (AreJoining queue newer first all now left) is at
@@ -145,23 +152,23 @@ module _ (queue : LogQueue) (newer : Tables) (first : MarkedRegions) (all : List
     each = λ r. each_here r ∙ ap (option_and_then (λ x. joined_each queue newer (with_region now id x) es)) (ok (run_here r)) ∙ ap (λ (n : MarkedRegions). joined_each queue newer n es) (sym one);
   }
 
-  -- one is refused, where the records of both sides are few
-  pub joining_refused : (counts : Counts) (e : Error) → AreCountsOf now.tables counts → all_records first.tables + all_records newer < 2 ^ 64 → AreRunsOf queue newer first.tables all → IsFaultUnder queue counts m (table_of id (finite.get left id)) (table_in now.tables id) e → e ≢ errors.Memory → joined_each queue newer first all ≡ None
-  joining_refused counts (errors.Corruption text) counted small runs r n = each_here runs ∙ ap (option_and_then (λ x. joined_each queue newer (with_region now id x) es)) none
+  -- one is refused
+  pub joining_fault : (counts : Counts) (e : Error) → AreCountsOf now.tables counts → AreRunsOf queue newer first.tables all → IsFaultUnder queue counts m (table_of id (finite.get left id)) (table_in now.tables id) e → IsLoopFault queue newer first all e
+  joining_fault counts (errors.Corruption text) counted runs r = each_here runs ∙ ap (option_and_then (λ x. joined_each queue newer (with_region now id x) es)) none
     where
       gone : applied queue id m (finite.get left id) (finite.get now.tables id) ≡ None
       gone = rw r refl
 
       none : joined_region queue id (region_in now id) record { mark = m; table = finite.get left id } ≡ None
       none = ap (option_map (λ t. record { mark = joined_mark queue id (region_in now id).mark (region_in now id).table m; table = t })) gone
-  joining_refused counts errors.Full counted small runs r n =
-      absurd (let q = r.0 in omega (arith, r.1, counted q, at.few q, live-le-records q first.tables, live-le-records q newer, live-remove q left id, own_live q (finite.get left id)))
+  joining_fault counts errors.Full counted runs r =
+      let q = r.0 in omega (arith, r.1, counted q, at.few q, live-le-records q first.tables, live-le-records q newer, live-remove q left id, own_live q (finite.get left id))
     where
       own_live : (q : LogQueue) (o : Option Table) → live_of q (table_of id o) ≤ live_in q o
       own_live q None = omega (arith, live_of_empty q id)
       own_live q (Some t) = omega arith
-  joining_refused counts errors.Memory counted small runs r n = absurd (n refl)
-  joining_refused counts _ counted small runs r n = absurd r
+  joining_fault counts errors.Memory counted runs r = tt
+  joining_fault counts _ counted runs r = absurd r
 
   -- the same of the table that was taken out
   module _ (t : Option Table) (taken : t ≡ finite.get left id) where
@@ -174,9 +181,9 @@ module _ (queue : LogQueue) (newer : Tables) (first : MarkedRegions) (all : List
         joining_step next after (subst (λ (t : Option Table). IsRunOver queue m (table_of id t) (table_in now.tables id) → joined_region queue id (region_in now id) record { mark = m; table = t } ≡ Some (region_in next id)) taken ok) one
         (λ q. subst (λ (t : Option Table). live_in_all q next.tables ≤ live_in_all q now.tables + live_in q t) taken (more q)) gone
 
-    pub taken_refused : (counts : Counts) (e : Error) → AreCountsOf now.tables counts → all_records first.tables + all_records newer < 2 ^ 64 → AreRunsOf queue newer first.tables all → (IsRunOver queue m (table_of id t) (table_in now.tables id) → IsFaultUnder queue counts m (table_of id t) (table_in now.tables id) e) → e ≢ errors.Memory → joined_each queue newer first all ≡ None
-    taken_refused counts e counted small runs fault =
-        joining_refused counts e counted small runs (subst (λ (t : Option Table). IsRunOver queue m (table_of id t) (table_in now.tables id) → IsFaultUnder queue counts m (table_of id t) (table_in now.tables id) e) taken fault (run_here runs))
+    pub taken_fault : (counts : Counts) (e : Error) → AreCountsOf now.tables counts → AreRunsOf queue newer first.tables all → (IsRunOver queue m (table_of id t) (table_in now.tables id) → IsFaultUnder queue counts m (table_of id t) (table_in now.tables id) e) → IsLoopFault queue newer first all e
+    taken_fault counts e counted runs fault =
+        joining_fault counts e counted runs (subst (λ (t : Option Table). IsRunOver queue m (table_of id t) (table_in now.tables id) → IsFaultUnder queue counts m (table_of id t) (table_in now.tables id) e) taken fault (run_here runs))
 
 -- all are joined
 pub joined_all : (queue : LogQueue) (newer : Tables) (first now : MarkedRegions) (left : Tables) (marks : Marks) (all es : List (ℕ × Mark)) → finite.from_entries {R = nat_cmp} all ≡ marks → IsDistinct nat_eq (keys_of all) → AreJoining queue newer first all now left es → es ≡ [] → AreRunsOver queue marks newer first.tables → AreJoined queue first record { tables = newer; marks = marks } now
@@ -189,10 +196,27 @@ joined_all queue newer first now left marks all es is once at none runs =
     }
 
 -- or some region's join is refused
-pub refused_some : (queue : LogQueue) (newer : Tables) (first : MarkedRegions) (marks : Marks) (all : List (ℕ × Mark)) → finite.from_entries {R = nat_cmp} all ≡ marks → IsDistinct nat_eq (keys_of all) → joined_each queue newer first all ≡ None → IsJoinRefused queue first record { tables = newer; marks = marks }
+refused_some : (queue : LogQueue) (newer : Tables) (first : MarkedRegions) (marks : Marks) (all : List (ℕ × Mark)) → finite.from_entries {R = nat_cmp} all ≡ marks → IsDistinct nat_eq (keys_of all) → joined_each queue newer first all ≡ None → IsJoinRefused queue first record { tables = newer; marks = marks }
 refused_some queue newer first marks all is once e =
     let p = each_refused queue newer first all once e in
     (p.0, subst (λ (o : Option Mark). joined_marked queue p.0 o (finite.get newer p.0) (region_in first p.0) ≡ None) (sym (ap (λ x. finite.get x p.0) (sym is) ∙ finite.get-from_entries nat_cmp_total all p.0)) p.1)
+
+pub fault_some : (queue : LogQueue) (newer : Tables) (first : MarkedRegions) (marks : Marks) (all : List (ℕ × Mark)) (e : Error) → finite.from_entries {R = nat_cmp} all ≡ marks → IsDistinct nat_eq (keys_of all) → IsLoopFault queue newer first all e → IsJoinFault queue first record { tables = newer; marks = marks } e
+fault_some queue newer first marks all (errors.Corruption text) is once f = refused_some queue newer first marks all is once f
+fault_some queue newer first marks all errors.Full is once f = f
+fault_some queue newer first marks all errors.Memory is once f = tt
+fault_some queue newer first marks all _ is once f = absurd f
+
+-- one side has records of the other queue
+pub mixed_older : (queue : LogQueue) (older newer : MarkedRegions) (e : Error) → IsMixFault queue older.tables e → IsJoinFault queue older newer e
+mixed_older queue older newer (errors.InvalidArgument text) f = inl f
+mixed_older queue older newer errors.Memory f = tt
+mixed_older queue older newer _ f = absurd f
+
+pub mixed_newer : (queue : LogQueue) (older newer : MarkedRegions) (e : Error) → IsMixFault queue newer.tables e → IsJoinFault queue older newer e
+mixed_newer queue older newer (errors.InvalidArgument text) f = inr f
+mixed_newer queue older newer errors.Memory f = tt
+mixed_newer queue older newer _ f = absurd f
 
 -- ---- one region
 

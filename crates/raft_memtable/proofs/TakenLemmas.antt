@@ -1,5 +1,5 @@
 -- Steps taken into the marks and tables of all regions, one after another.
-use Rattle.std.proofs.Common.{◌≡◌, ◌≢◌, ◌⊎◌, ℕ, ◌+◌, ◌<◌, ◌≤◌, ◌^◌, List, [], ◌∷◌, ◌++◌, length, Bool, true, cond, append-nil, append_assoc, map, Option, Some, None, Result, Ok, Err, refl, sym, ap, subst, ◌∙◌, inl, inr, arith}
+use Rattle.std.proofs.Common.{◌≡◌, ◌⊎◌, ℕ, ◌+◌, ◌≤◌, List, [], ◌∷◌, ◌++◌, length, Bool, true, cond, append-nil, append_assoc, map, Option, Some, None, Result, Ok, Err, refl, sym, ap, subst, ◌∙◌, inl, inr, arith}
 use Rattle.std.specs.FinMap as finite
 use Rattle.std.specs.Option.{option_map, option_and_then}
 use Rattle.std.specs.Result.{OnOk, IfErr}
@@ -12,13 +12,13 @@ use Rattle.raft_base.specs.declared.pipe_log.LogQueue.TheVariants.{Append, Rewri
 use Rattle.raft_base.specs.declared.entry_index.EntryIndex.{EntryIndex}
 use Rattle.raft_records.specs.declared.log_item.LogItem.{LogItem}
 use Rattle.raft_records.specs.Item.{item_of, entries}
-use Rattle.raft_table.specs.Counts.{Counts, live}
+use Rattle.raft_table.specs.Counts.{live}
 use Rattle.raft_table.specs.TableEntries.{IsRunIn, end_of}
 use Rattle.raft_table.specs.MarkJoins.{joined_mark, joined_at, end_at_reach, fresh, mark_of}
 use Rattle.raft_table.specs.Marks.{Mark}
 use Rattle.raft_table.specs.Queues.{other, count_in, is_same}
 use Rattle.raft_table.specs.Steps.{Step, Run, Put, Clean, table_of, there_if, after_step}
-use Rattle.raft_table.specs.Table.{Table, live_of, after_replay, IsTablePutFault}
+use Rattle.raft_table.specs.Table.{Table, after_replay, IsTablePutFault}
 use Rattle.raft_table.proofs.MarkExact.{joined_fresh}
 use Rattle.raft_table.proofs.MarkTables.{from_whole}
 use Rattle.raft_table.proofs.TableLemmas.{count_in_own}
@@ -26,14 +26,14 @@ use Rattle.raft_history.specs.Histories.{records_in}
 use Rattle.raft_history.specs.MarkedRegions.{Marks, MarkedRegions, MarkedRegion, region_in, with_region, stepped_region, regions_after}
 use Rattle.raft_history.specs.RegionSteps.{RegionStep, Tables, with_table, steps_of_items, cleaned_by}
 use Rattle.raft_memtable.specs.Accessor.{Accessor, table_in, live_in_all, AreCountsOf}
-use Rattle.raft_memtable.specs.MarkedTables.{regions_in, AreStepsOfQueue, HaveRoom, HasLiveRoom, one_step, first_index, listed, AreTaken}
+use Rattle.raft_memtable.specs.MarkedTables.{regions_in, AreStepsOfQueue, IsStepsFault, one_step, first_index, listed, AreTaken}
 use Rattle.raft_memtable.specs.RegionMarks.{mark_in}
 use Rattle.raft_memtable.specs.Updates.{IsReplayFault}
 use Rattle.raft_memtable.specs.Writes.{Replaying, IsWriteFault}
 use Rattle.raft_memtable.specs.declared.marked_tables.MarkedTables.{MarkedTables}
 use Rattle.raft_memtable.proofs.LiveLemmas.{table_live-le}
 use Rattle.raft_memtable.proofs.MapLemmas.{some_is, none_some}
-use Rattle.raft_memtable.proofs.LiveSteps.{steps_live, live-le-all}
+use Rattle.raft_memtable.proofs.LiveSteps.{steps_live}
 use Rattle.raft_memtable.proofs.WaitingItemLemmas.{steps_both}
 use Rattle.raft_memtable.proofs.WriteLemmas.{replay_fault}
 
@@ -64,23 +64,27 @@ of_other : (q : LogQueue) (n : ℕ) → count_in (other q) q n ≡ 0
 of_other Append n = refl
 of_other Rewrite n = refl
 
-room-behind : (q : LogQueue) (rs new : MarkedRegions) (xs ys : List RegionStep) → AreStepsOfQueue q xs → regions_after q rs xs ≡ Some new → HasLiveRoom q rs.tables (records_in (xs ++ ys)) → HasLiveRoom q new.tables (records_in ys)
-room-behind q rs new xs ys h e r = record {
-  alone = omega (arith, steps_live q (other q) rs new xs e h, of_other q (records_in xs), r.alone);
-  few = omega (arith, steps_live q q rs new xs e h, count_in_own q (records_in xs), records-append xs ys, r.few);
-}
+-- a fault of steps behind some that are taken in
+pub fault-behind : (q : LogQueue) (rs new : MarkedRegions) (xs ys : List RegionStep) (e : Error) → AreStepsOfQueue q xs → regions_after q rs xs ≡ Some new → IsStepsFault q new ys e → IsStepsFault q rs (xs ++ ys) e
+fault-behind q rs new xs ys (errors.Corruption text) h is f = after-append q rs xs ys ∙ ap (option_and_then (λ x. regions_after q x ys)) is ∙ f
+fault-behind q rs new xs ys (errors.InvalidArgument text) h is f = omega (arith, f, steps_live q (other q) rs new xs is h, of_other q (records_in xs))
+fault-behind q rs new xs ys errors.Full h is f = omega (arith, f, steps_live q q rs new xs is h, count_in_own q (records_in xs), records-append xs ys)
+fault-behind q rs new xs ys errors.Memory h is f = tt
+fault-behind q rs new xs ys _ h is f = absurd f
 
-room-front : (q : LogQueue) (tables : Tables) (xs ys : List RegionStep) → HasLiveRoom q tables (records_in (xs ++ ys)) → HasLiveRoom q tables (records_in xs)
-room-front q tables xs ys r = record { alone = r.alone; few = omega (arith, records-append xs ys, r.few) }
-
-pub live_room : (q : LogQueue) (tables : Tables) (n m : ℕ) → n ≡ m → HaveRoom q tables n → HasLiveRoom q tables m
-live_room q tables n m e r = record { alone = r.alone; few = omega (arith, live-le-all q tables, e, r.few) }
+-- and of steps in front of others
+pub fault-front : (q : LogQueue) (rs : MarkedRegions) (xs ys : List RegionStep) (e : Error) → IsStepsFault q rs xs e → IsStepsFault q rs (xs ++ ys) e
+fault-front q rs xs ys (errors.Corruption text) f = after-append q rs xs ys ∙ ap (option_and_then (λ x. regions_after q x ys)) f
+fault-front q rs xs ys (errors.InvalidArgument text) f = f
+fault-front q rs xs ys errors.Full f = omega (arith, f, records-append xs ys)
+fault-front q rs xs ys errors.Memory f = tt
+fault-front q rs xs ys _ f = absurd f
 
 pub taken_none : (q : LogQueue) (a : MarkedTables) → AreTaken q [] (Ok tt) a a
-taken_none q a = record { ok = refl; cleaned = sym (ap (λ l. a.accessor.cleaned ++ l) (listed-nil q) ∙ append-nil a.accessor.cleaned); refused = tt }
+taken_none q a = record { ok = refl; cleaned = sym (ap (λ l. a.accessor.cleaned ++ l) (listed-nil q) ∙ append-nil a.accessor.cleaned); fault = tt }
 
 pub taken_memory : (q : LogQueue) (steps : List RegionStep) (a b : MarkedTables) (e : Error) → e ≡ errors.Memory → AreTaken q steps (Err e) a b
-taken_memory q steps a b e is = record { ok = tt; cleaned = tt; refused = λ k. absurd (k is) }
+taken_memory q steps a b e is = record { ok = tt; cleaned = tt; fault = subst (IsStepsFault q (regions_in a) steps) (sym is) tt }
 
 -- steps behind some that are taken in
 pub taken_more : (q : LogQueue) (xs ys : List RegionStep) (a b c : MarkedTables) (r : Result Unit Error) → AreStepsOfQueue q xs → AreTaken q xs (Ok tt) a b → AreTaken q ys r b c → AreTaken q (xs ++ ys) r a c
@@ -92,15 +96,12 @@ taken_more q xs ys a b c r h s t =
         | Ok u ↦ λ e. e ∙ ap (λ l. l ++ listed q ys) s.cleaned ∙ append_assoc a.accessor.cleaned (listed q xs) (listed q ys) ∙ ap (λ l. a.accessor.cleaned ++ l) (sym (listed-append q xs ys))
         | Err x ↦ λ e. tt
       ] t.cleaned;
-      refused = elim r as (λ r. IfErr r (λ e. e ≢ errors.Memory → HasLiveRoom q b.accessor.tables (records_in ys) → regions_after q (regions_in b) ys ≡ None) → IfErr r (λ e. e ≢ errors.Memory → HasLiveRoom q a.accessor.tables (records_in (xs ++ ys)) → regions_after q (regions_in a) (xs ++ ys) ≡ None)) [
-        | Ok u ↦ λ f. tt
-        | Err x ↦ λ f. λ k room. rest ∙ f k (room-behind q (regions_in a) (regions_in b) xs ys h s.ok room)
-      ] t.refused;
+      fault = elim r as (λ r. IfErr r (IsStepsFault q (regions_in b) ys) → IfErr r (IsStepsFault q (regions_in a) (xs ++ ys))) [ Ok u ↦ λ f. tt | Err x ↦ λ f. fault-behind q (regions_in a) (regions_in b) xs ys x h s.ok f ] t.fault;
     }
 
 -- where some are refused, so are they with more behind them
 pub taken_refused : (q : LogQueue) (xs ys : List RegionStep) (a b : MarkedTables) (e : Error) → AreTaken q xs (Err e) a b → AreTaken q (xs ++ ys) (Err e) a b
-taken_refused q xs ys a b e s = record { ok = tt; cleaned = tt; refused = λ k room. after-append q (regions_in a) xs ys ∙ ap (option_and_then (λ x. regions_after q x ys)) (s.refused k (room-front q a.accessor.tables xs ys room)) }
+taken_refused q xs ys a b e s = record { ok = tt; cleaned = tt; fault = fault-front q (regions_in a) xs ys e s.fault }
 
 -- ---- one step
 
@@ -117,12 +118,15 @@ module _ (q : LogQueue) (id : ℕ) (s : Step) (a b : MarkedTables) where
   step_taken (Ok u) t e k l m n = record {
     ok = ap (λ o. option_and_then (λ x. regions_after q (with_region (regions_in a) id x) []) (option_map put o)) e ∙ ap Some (ap (λ ts. made ts (finite.insert a.marks id (put t).mark)) (sym k) ∙ ap (made b.accessor.tables) (sym m));
     cleaned = l;
-    refused = tt;
+    fault = tt;
   }
   step_taken (Err x) t e k l m n = taken_memory q (one_step id s) a b x n
 
-  pub step_refused : (e : Error) → (e ≢ errors.Memory → HasLiveRoom q a.accessor.tables (records_in (one_step id s)) → after_step q id (finite.get a.accessor.tables id) s ≡ None) → AreTaken q (one_step id s) (Err e) a b
-  step_refused e h = record { ok = tt; cleaned = tt; refused = λ k room. ap (λ o. option_and_then (λ x. regions_after q (with_region (regions_in a) id x) []) (option_map put o)) (h k room) }
+  pub step_refused : (e : Error) → IsStepsFault q (regions_in a) (one_step id s) e → AreTaken q (one_step id s) (Err e) a b
+  step_refused e f = record { ok = tt; cleaned = tt; fault = f }
+
+  pub no_step : after_step q id (finite.get a.accessor.tables id) s ≡ None → regions_after q (regions_in a) (one_step id s) ≡ None
+  no_step none = ap (λ o. option_and_then (λ x. regions_after q (with_region (regions_in a) id x) []) (option_map put o)) none
 
 -- a step that changes a table, which is there afterwards
 module _ (q : LogQueue) (id : ℕ) (s : Step) (a : MarkedTables) (mid : Accessor) (marks : Marks) where
@@ -142,24 +146,18 @@ none_of : (o : Option Table) → option_map (λ t. Some t) o ≡ None → o ≡ 
 none_of None e = refl
 none_of (Some t) e = absurd cc
 
-run_by : (q : LogQueue) (id : ℕ) (o : Option Table) (run : List EntryIndex) (n : ℕ) (e : Error) → IsRunIn q run → live_of (other q) (table_of id o) ≡ 0 → n + length run < 2 ^ 64 → e ≢ errors.Memory → IsWriteFault (Replaying q) id o n (entries run) e → after_replay q (table_of id o) run ≡ None
-run_by q id o run n (errors.Corruption text) h alone few k (inl f) = absurd (f h)
-run_by q id o run n (errors.Corruption text) h alone few k (inr f) = none_of _ f
-run_by q id o run n (errors.InvalidArgument text) h alone few k f = absurd (omega (arith, alone, f))
-run_by q id o run n errors.Full h alone few k f = absurd (omega (arith, few, f))
-run_by q id o run n errors.Memory h alone few k f = absurd (k refl)
-run_by q id o run n e h alone few k f = absurd f
+run_by : (q : LogQueue) (id : ℕ) (run : List EntryIndex) (a b : MarkedTables) (n : ℕ) (e : Error) → IsRunIn q run → n ≡ live_in_all q a.accessor.tables → IsWriteFault (Replaying q) id (finite.get a.accessor.tables id) n (entries run) e → IsStepsFault q (regions_in a) (one_step id (Run run)) e
+run_by q id run a b n (errors.Corruption text) h is (inl f) = absurd (f h)
+run_by q id run a b n (errors.Corruption text) h is (inr f) = no_step q id (Run run) a b (ap (there_if true) (none_of _ f))
+run_by q id run a b n (errors.InvalidArgument text) h is f = omega (arith, f, table_live-le (other q) a.accessor.tables id)
+run_by q id run a b n errors.Full h is f = omega (arith, f, is)
+run_by q id run a b n errors.Memory h is f = tt
+run_by q id run a b n _ h is f = absurd f
 
-pub run_refused : (q : LogQueue) (id : ℕ) (o : Option Table) (run : List EntryIndex) (counts : Counts) (e : Error) → IsRunIn q run → live_of (other q) (table_of id o) ≡ 0 → live q counts + length run < 2 ^ 64 → e ≢ errors.Memory → IsReplayFault q run (table_of id o) counts e → after_replay q (table_of id o) run ≡ None
-run_refused q id o run counts e h alone few k f = run_by q id o run (live q counts) e h alone few k (replay_fault q id o run counts e f)
-
-put_by : (q : LogQueue) (counts : Counts) (replaced : Option FileId) (e : Error) → live q counts + 1 < 2 ^ 64 → e ≢ errors.Memory → IsTablePutFault q counts replaced e → ⊥
-put_by q counts replaced errors.Full few k f = omega (arith, few, f.0)
-put_by q counts replaced errors.Memory few k f = k refl
-put_by q counts replaced e few k f = f
-
-pub put_accepted : (q : LogQueue) (file : FileId) (counts : Counts) (replaced : Option FileId) (e : Error) → file.queue ≡ q → live q counts + 1 < 2 ^ 64 → e ≢ errors.Memory → IsTablePutFault file.queue counts replaced e → ⊥
-put_accepted q file counts replaced e is few k f = put_by q counts replaced e few k (subst (λ q. IsTablePutFault q counts replaced e) is f)
+put_by : (q : LogQueue) (id : ℕ) (key value : List ℕ) (file : FileId) (replaced : Option FileId) (a : MarkedTables) (e : Error) → live q a.accessor.counts ≡ live_in_all q a.accessor.tables → IsTablePutFault q a.accessor.counts replaced e → IsStepsFault q (regions_in a) (one_step id (Put key value file)) e
+put_by q id key value file replaced a errors.Full is f = omega (arith, f.0, is)
+put_by q id key value file replaced a errors.Memory is f = tt
+put_by q id key value file replaced a _ is f = absurd f
 
 -- ---- marks of one step
 
@@ -194,13 +192,11 @@ run_step q id o run = go (after_replay q (table_of id o) run)
 
 pub run_taken : (q : LogQueue) (id : ℕ) (run : List EntryIndex) (a b : MarkedTables) (e : Error) → IsRunIn q run → AreCountsOf a.accessor.tables a.accessor.counts → (e ≡ errors.Memory) ⊎ IsReplayFault q run (table_in a.accessor.tables id) a.accessor.counts e → AreTaken q (one_step id (Run run)) (Err e) a b
 run_taken q id run a b e h counted (inl is) = taken_memory q (one_step id (Run run)) a b e is
-run_taken q id run a b e h counted (inr f) =
-    step_refused q id (Run run) a b e (λ k room.
-    ap (there_if true) (run_refused q id (finite.get a.accessor.tables id) run a.accessor.counts e h (omega (arith, table_live-le (other q) a.accessor.tables id, room.alone)) (omega (arith, counted q, room.few)) k f))
+run_taken q id run a b e h counted (inr f) = step_refused q id (Run run) a b e (run_by q id run a b (live q a.accessor.counts) e h (counted q) (replay_fault q id (finite.get a.accessor.tables id) run a.accessor.counts e f))
 
 pub put_taken : (q : LogQueue) (id : ℕ) (key value : List ℕ) (file : FileId) (replaced : Option FileId) (a b : MarkedTables) (e : Error) → file.queue ≡ q → AreCountsOf a.accessor.tables a.accessor.counts → (e ≡ errors.Memory) ⊎ IsTablePutFault file.queue a.accessor.counts replaced e → AreTaken q (one_step id (Put key value file)) (Err e) a b
 put_taken q id key value file replaced a b e h counted (inl is) = taken_memory q (one_step id (Put key value file)) a b e is
-put_taken q id key value file replaced a b e h counted (inr f) = step_refused q id (Put key value file) a b e (λ k room. absurd (put_accepted q file a.accessor.counts replaced e h (omega (arith, counted q, room.few)) k f))
+put_taken q id key value file replaced a b e h counted (inr f) = step_refused q id (Put key value file) a b e (put_by q id key value file replaced a e (counted q) (subst (λ q. IsTablePutFault q a.accessor.counts replaced e) h f))
 
 -- ---- a region that is cleaned
 
@@ -245,10 +241,6 @@ no_items q [] a e = taken_none q a
 no_items q (x ∷ items) a e = absurd (omega (arith, e))
 
 -- ---- what is told of all steps
-
-pub refused_in : (q : LogQueue) (steps : List RegionStep) (n : ℕ) (a b : MarkedTables) (r : Result Unit Error) → n ≡ records_in steps → AreTaken q steps r a b → HaveRoom q a.accessor.tables n → IfErr r (λ e. e ≢ errors.Memory → regions_after q (regions_in a) steps ≡ None)
-refused_in q steps n a b (Ok u) e t room = tt
-refused_in q steps n a b (Err x) e t room = λ k. t.refused k (live_room q a.accessor.tables n (records_in steps) e room)
 
 pub other_in : (q : LogQueue) (steps : List RegionStep) (a b : MarkedTables) (r : Result Unit Error) → AreStepsOfQueue q steps → OnOk r (regions_after q (regions_in a) steps ≡ Some (regions_in b)) → OnOk r (live_in_all (other q) b.accessor.tables ≤ live_in_all (other q) a.accessor.tables)
 other_in q steps a b (Ok u) h e = omega (arith, steps_live q (other q) (regions_in a) (regions_in b) steps e h, of_other q (records_in steps))

@@ -1,5 +1,5 @@
 -- Numbers of the values of a map, added in any order.
-use Rattle.std.proofs.Common.{◌≡◌, ◌≤◌, ◌<◌, ◌+◌, ◌*◌, ◌^◌, ℕ, suc, cond, false, nat_eq, List, [], ◌∷◌, length, map, Option, Some, None, IsPermutation, refl, sym, ap, ◌∙◌, arith}
+use Rattle.std.proofs.Common.{◌≡◌, ◌+◌, ℕ, cond, false, nat_eq, List, [], ◌∷◌, length, map, Some, None, IsPermutation, refl, sym, ap, ◌∙◌, arith}
 use Rattle.std.specs.Ordering.{nat_cmp}
 use Rattle.std.specs.Cmp.{nat_cmp_total}
 use Rattle.std.specs.List.{AllByRecursion, IsDistinct, sum_by}
@@ -8,7 +8,6 @@ use Rattle.std.specs.FinMap as finite
 use Rattle.std.specs.FinMap.{find}
 use Rattle.std.proofs.lemmas.List.Sums.{sum_by-cons}
 use Rattle.std.proofs.lemmas.List.Sorted.{sum_by-IsPermutation}
-use Rattle.std.specs.Option.{is_some}
 use Rattle.raft_history.specs.Records.{total_of, total}
 use Rattle.raft_history.proofs.TotalLemmas.{found, total-insert, total-none, total-ones}
 use Rattle.raft_memtable.proofs.RegionTablesLemmas.{same_test}

@@ -1,16 +1,15 @@
 -- The tables of all regions beside their marks, with steps taken in.
-use Rattle.std.specs.Prelude.{◌≡◌, ◌≢◌, ℕ, ◌+◌, ◌<◌, ◌^◌, List, [], ◌∷◌, ◌++◌, Option, Some, None, Result, IfErr}
+use Rattle.std.specs.Prelude.{◌≡◌, ℕ, ◌+◌, ◌<◌, ◌≤◌, ◌^◌, List, [], ◌∷◌, ◌++◌, Option, Some, None, Result, IfErr}
 use Rattle.std.specs.List.{AllByRecursion}
 use Rattle.std.specs.Result.{OnOk}
 use Rattle.raft_base.specs.declared.errors.Error.{Error}
-use Rattle.raft_base.specs.declared.errors.Error.TheVariants.{Memory}
+use Rattle.raft_base.specs.declared.errors.Error.TheVariants as errors
 use Rattle.raft_base.specs.declared.pipe_log.LogQueue.{LogQueue}
 use Rattle.raft_base.specs.declared.pipe_log.LogQueue.TheVariants.{Append, Rewrite}
 use Rattle.raft_base.specs.declared.entry_index.EntryIndex.{EntryIndex}
 use Rattle.raft_history.specs.Histories.{IsStepOfQueue, records_in}
 use Rattle.raft_history.specs.MarkedRegions.{MarkedRegions, regions_after}
-use Rattle.raft_history.specs.Records.{all_records}
-use Rattle.raft_history.specs.RegionSteps.{RegionStep, Tables, cleaned_by_steps}
+use Rattle.raft_history.specs.RegionSteps.{RegionStep, cleaned_by_steps}
 use Rattle.raft_table.specs.Queues.{other}
 use Rattle.raft_table.specs.Steps.{Step}
 use Rattle.raft_memtable.specs.Accessor.{live_in_all}
@@ -23,16 +22,6 @@ regions_in m = record { tables = m.accessor.tables; marks = m.marks }
 -- each step is such as replays into tables of this queue ask for
 abbrev pub AreStepsOfQueue : LogQueue → List RegionStep → Type 0
 AreStepsOfQueue queue steps = AllByRecursion (λ (s : RegionStep). IsStepOfQueue queue s.step) steps
-
--- the tables have no record of the other queue, and with so many records more they hold fewer than 2^64
-pub record HaveRoom (queue : LogQueue) (tables : Tables) (more : ℕ) : Type 0 where
-  pub alone : live_in_all (other queue) tables ≡ 0
-  pub few : all_records tables + more < 2 ^ 64
-
--- the tables have no live record of the other queue, and with so many more fewer than 2^64 are live
-pub record HasLiveRoom (queue : LogQueue) (tables : Tables) (more : ℕ) : Type 0 where
-  pub alone : live_in_all (other queue) tables ≡ 0
-  pub few : live_in_all queue tables + more < 2 ^ 64
 
 -- one step on a region
 abbrev pub one_step : ℕ → Step → List RegionStep
@@ -48,8 +37,16 @@ abbrev pub listed : LogQueue → List RegionStep → List ℕ
 listed Append steps = cleaned_by_steps steps
 listed Rewrite steps = []
 
--- steps are taken into the marks and the tables; where there is room they are refused for want of memory, or since one reading refuses one of them
+-- why steps are refused: one reading refuses one of them, the tables have a record of the other queue, more than 2^64 - 1 records would be live, or want of memory
+abbrev pub IsStepsFault : LogQueue → MarkedRegions → List RegionStep → Error → Type 0
+IsStepsFault queue rs steps (errors.Corruption text) = regions_after queue rs steps ≡ None
+IsStepsFault queue rs steps (errors.InvalidArgument text) = 0 < live_in_all (other queue) rs.tables
+IsStepsFault queue rs steps errors.Full = 2 ^ 64 ≤ live_in_all queue rs.tables + records_in steps
+IsStepsFault queue rs steps errors.Memory = Unit {0}
+IsStepsFault queue rs steps _ = ⊥
+
+-- steps are taken into the marks and the tables, or refused
 pub record AreTaken (queue : LogQueue) (steps : List RegionStep) (r : Result Unit Error) (old new : MarkedTables) : Type 0 where
   pub ok : OnOk r (regions_after queue (regions_in old) steps ≡ Some (regions_in new))
   pub cleaned : OnOk r (new.accessor.cleaned ≡ old.accessor.cleaned ++ listed queue steps)
-  pub refused : IfErr r (λ e. e ≢ Memory → HasLiveRoom queue old.accessor.tables (records_in steps) → regions_after queue (regions_in old) steps ≡ None)
+  pub fault : IfErr r (IsStepsFault queue (regions_in old) steps)

@@ -1,11 +1,13 @@
 -- A recovery context: what it holds of the batches that it has read, and whether it reads on.
-use Rattle.std.specs.Prelude.{◌≡◌, ◌≢◌, ◌⊎◌, ◌+◌, ◌≤◌, ◌^◌, true, List, [], ◌∷◌, ℕ, Some, None}
+use Rattle.std.specs.Prelude.{◌≡◌, ◌≢◌, ◌⊎◌, ◌+◌, ◌≤◌, ◌^◌, true, false, List, [], ◌∷◌, ℕ, Some, None}
+use Rattle.raft_base.specs.declared.errors.Error.{Error}
+use Rattle.raft_base.specs.declared.errors.Error.TheVariants as errors
 use Rattle.raft_base.specs.declared.pipe_log.LogQueue.{LogQueue}
-use Rattle.raft_history.specs.Batches.{Event}
-use Rattle.raft_history.specs.Contexts.{Context, new_context, Suits, files_of, follows, StandsFor, IsExactFor, taken_in, merged_with, AreMerged, AreRegionsRefused}
+use Rattle.raft_history.specs.Batches.{Event, batch_of}
+use Rattle.raft_history.specs.Contexts.{Context, new_context, Suits, files_of, follows, StandsFor, IsExactFor, completed_steps, taken_in, merged_with, AreMerged, AreRegionsRefused}
 use Rattle.raft_history.specs.Histories.{AreInFile, HaveStatus, records_in}
 use Rattle.raft_history.specs.Records.{all_records, waiting_records}
-use Rattle.raft_history.specs.RegionSteps.{steps_of_items}
+use Rattle.raft_memtable.specs.Accessor.{live_in_all}
 use Rattle.raft_memtable.specs.declared.context_stage.ContextStage.{ContextStage}
 use Rattle.raft_memtable.specs.declared.context_stage.ContextStage.TheVariants.{Reading, Overlaid, Failed}
 
@@ -14,9 +16,13 @@ pub record RecoverContext : Type 0 where
   pub stage : ContextStage
   pub context : Context
 
+-- a context that reads on and holds this
+abbrev pub reading_on : Context → RecoverContext
+reading_on c = record { stage = Reading; context = c }
+
 -- a context that has read nothing
 abbrev pub blank_context : RecoverContext
-blank_context = record { stage = Reading; context = new_context }
+blank_context = reading_on new_context
 
 -- the context reads on, and stands for the history
 pub record IsReading (c : RecoverContext) (h : List Event) : Type 0 where
@@ -54,17 +60,13 @@ pub record IsTakenIn (e : Event) (old new : RecoverContext) : Type 0 where
   pub taken : taken_in old.context e ≡ Some new.context
   pub after : new.stage ≡ Reading
 
--- one of its steps is refused, or the records would be 2^64 or more
-abbrev pub IsStepRefused : Context → Event → Type 0
-IsStepRefused c e = (taken_in c e ≡ None) ⊎ (2 ^ 64 ≤ records_held c + records_in (steps_of_items e.items))
-
--- why a batch isn't taken in, want of memory aside: it may not come next, or a step is refused
-abbrev pub IsBatchRefused : Context → Event → Type 0
-IsBatchRefused c e = (MayFollow c e → ⊥) ⊎ IsStepRefused c e
-
--- why a call of replay is refused, want of memory aside: the context doesn't read on, or the batch is refused
-abbrev pub IsReplayRefused : RecoverContext → Event → Type 0
-IsReplayRefused c e = (c.stage ≢ Reading) ⊎ IsBatchRefused c.context e
+-- why a batch is refused, by the error: it may not come next, or a step that takes effect with it is refused; the live records and those of these steps are 2^64 or more; the context doesn't read on; or want of memory
+abbrev pub IsBatchFault : RecoverContext → Event → Error → Type 0
+IsBatchFault c e (errors.Corruption text) = (MayFollow c.context e → ⊥) ⊎ (taken_in c.context e ≡ None)
+IsBatchFault c e errors.Full = MayFollow c.context e × (2 ^ 64 ≤ live_in_all e.file.queue c.context.regions.tables + records_in (completed_steps c.context.groups (batch_of e) (batch_of e).marker))
+IsBatchFault c e errors.Failed = c.stage ≢ Reading
+IsBatchFault c e errors.Memory = Unit {0}
+IsBatchFault c e _ = ⊥
 
 -- ---- two neighbours
 
@@ -83,14 +85,11 @@ pub record IsMergedWith (queue : LogQueue) (newer old new : RecoverContext) : Ty
   pub merged : new.context ≡ merged_with old.context newer.context new.context.regions
   pub after : new.stage ≡ Reading
 
--- a region's join is refused, or the records would be 2^64 or more
-abbrev pub IsNeighbourRefused : LogQueue → Context → Context → Type 0
-IsNeighbourRefused queue c d = AreRegionsRefused queue c d ⊎ (2 ^ 64 ≤ records_held c + records_held d)
-
--- why two contexts aren't merged, want of memory aside: they aren't neighbours, or a join is refused
-abbrev pub AreNotMerged : LogQueue → Context → Context → Type 0
-AreNotMerged queue c d = (AreNeighbours queue c d → ⊥) ⊎ IsNeighbourRefused queue c d
-
--- why a call of merge is refused, want of memory aside: one of the two doesn't read on, or they aren't merged
-abbrev pub IsMergeRefused : LogQueue → RecoverContext → RecoverContext → Type 0
-IsMergeRefused queue c d = (c.stage ≢ Reading) ⊎ ((d.stage ≢ Reading) ⊎ AreNotMerged queue c.context d.context)
+-- why a newer neighbour is refused, by the error: one of the two is of another queue; the newer one's first file is below the older one's last, or a region's join is refused; the records would be 2^64 or more; one of the two doesn't read on; or want of memory
+abbrev pub IsNeighbourFault : LogQueue → RecoverContext → RecoverContext → Error → Type 0
+IsNeighbourFault queue c d (errors.InvalidArgument text) = Suits queue c.context.files → Suits queue d.context.files → ⊥
+IsNeighbourFault queue c d (errors.Corruption text) = (follows c.context.files d.context.files ≡ false) ⊎ AreRegionsRefused queue c.context d.context
+IsNeighbourFault queue c d errors.Full = AreNeighbours queue c.context d.context × (2 ^ 64 ≤ records_held c.context + records_held d.context)
+IsNeighbourFault queue c d errors.Failed = (c.stage ≢ Reading) ⊎ (d.stage ≢ Reading)
+IsNeighbourFault queue c d errors.Memory = Unit {0}
+IsNeighbourFault queue c d _ = ⊥

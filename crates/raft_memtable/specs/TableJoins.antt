@@ -1,22 +1,40 @@
 -- Tables of all regions joined with those of a newer neighbour, each under its mark.
-use Rattle.std.specs.Prelude.{◌≡◌, ℕ, ◌+◌, ◌≤◌, Option, Some, Result, IfOk, IfErr}
+use Rattle.std.specs.Prelude.{◌≡◌, ◌⊎◌, ℕ, ◌+◌, ◌<◌, ◌≤◌, ◌^◌, Option, Some, Result, IfOk, IfErr}
 use Rattle.std.specs.FinMap as finite
 use Rattle.std.specs.Result.{OnOk}
 use Rattle.raft_base.specs.declared.errors.Error.{Error}
+use Rattle.raft_base.specs.declared.errors.Error.TheVariants as errors
 use Rattle.raft_base.specs.declared.pipe_log.LogQueue.{LogQueue}
-use Rattle.raft_history.specs.MarkedRegions.{Marks}
+use Rattle.raft_history.specs.Joins.{IsJoinRefused}
+use Rattle.raft_history.specs.MarkedRegions.{Marks, MarkedRegions}
+use Rattle.raft_history.specs.Records.{all_records}
 use Rattle.raft_history.specs.RegionSteps.{Tables, with_table}
 use Rattle.raft_table.specs.Counts.{Counts}
 use Rattle.raft_table.specs.MarkJoins.{end_at_reach}
 use Rattle.raft_table.specs.MarkMerge.{IsFaultUnder, IsRunOver}
 use Rattle.raft_table.specs.Marks.{Mark, table_over, applied}
+use Rattle.raft_table.specs.Queues.{other}
 use Rattle.raft_table.specs.Steps.{table_of}
 use Rattle.raft_table.specs.Table.{Table, live_of, IsRecounted}
-use Rattle.raft_memtable.specs.Accessor.{table_in, live_in}
+use Rattle.raft_memtable.specs.Accessor.{table_in, live_in, live_in_all}
 
 -- what each of these marks makes of its region's entries over the older ones is a run, as it is where they stand for steps
 abbrev pub AreRunsOver : LogQueue → Marks → Tables → Tables → Type 0
 AreRunsOver queue marks newer older = (r : ℕ) (m : Mark) → finite.get marks r ≡ Some m → IsRunOver queue m (table_in newer r) (table_in older r)
+
+-- why tables of a queue are refused: they have a record of the other queue, or want of memory
+abbrev pub IsMixFault : LogQueue → Tables → Error → Type 0
+IsMixFault queue tables (errors.InvalidArgument text) = 0 < live_in_all (other queue) tables
+IsMixFault queue tables errors.Memory = Unit {0}
+IsMixFault queue tables _ = ⊥
+
+-- why the regions of two neighbours are not joined: either has a record of the other queue, some region's join is refused, the records would be 2^64 or more, or want of memory
+abbrev pub IsJoinFault : LogQueue → MarkedRegions → MarkedRegions → Error → Type 0
+IsJoinFault queue older newer (errors.InvalidArgument text) = (0 < live_in_all (other queue) older.tables) ⊎ (0 < live_in_all (other queue) newer.tables)
+IsJoinFault queue older newer (errors.Corruption text) = IsJoinRefused queue older newer
+IsJoinFault queue older newer errors.Full = 2 ^ 64 ≤ all_records older.tables + all_records newer.tables
+IsJoinFault queue older newer errors.Memory = Unit {0}
+IsJoinFault queue older newer _ = ⊥
 
 -- a newer table was put over an older one of its region under the newer mark; the answer is where the older entries ended that the mark's first run came behind
 pub record IsPut (queue : LogQueue) (m : Mark) (newer : Table) (counts : Counts) (r : Result ℕ Error) (old new : Table) : Type 0 where

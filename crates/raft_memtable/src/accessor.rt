@@ -12,7 +12,7 @@ ghost use Rattle.raft_table.specs.Change.{after_change, IsAnswer, IsChangeFault}
 ghost use Rattle.raft_table.specs.Table.{Table, with_atomic_group, live_of};
 ghost use Rattle.raft_memtable.specs.Accessor.{slot_of, table_in, live_in_all, AreCountsOf};
 ghost use Rattle.raft_memtable.specs.AccessorCalls.{IsTableChanged, IsTableMade};
-ghost use Rattle.raft_memtable.specs.Merges.{with_newer, with_appended, IsMergedAt, AreTablesMerged};
+ghost use Rattle.raft_memtable.specs.Merges.{with_newer, with_appended, IsMergedAt, AreTablesMerged, AreTablesLeft, IsNewerFault, IsAppendedFault, IsMergeRefusal};
 ghost use Rattle.raft_memtable.specs.Walks.{Collects, Makes};
 
 mod join;
@@ -240,10 +240,13 @@ impl MemTableAccessor {
     ///
     /// # Errors
     ///
-    /// Those of [`MemTable::merge_newer_neighbor`]. Some tables are then merged, and the rest of `rhs`
-    /// is lost.
+    /// Those of [`MemTable::merge_newer_neighbor`] at one table. Other tables are then merged or as they
+    /// were, and so is that one but for want of memory; the rest of `rhs` is lost.
     pub fn merge_newer_neighbor(&mut self, rhs: MemTableAccessor) -> Result<()>
         ensures ok { OnOk result (AreTablesMerged with_newer self.old.tables rhs.tables self.new.tables) }
+        ensures fault { IfErr result (IsMergeRefusal (IsNewerFault self.new.counts) self.old.tables rhs.tables) }
+        ensures err { IfErr result
+            (λ e. e ≢ Error.Memory → AreTablesLeft with_newer self.old.tables rhs.tables self.new.tables) }
         ensures cleaned { self.new.cleaned ≡ self.old.cleaned }
     {
         for slot in rhs.slots {
@@ -257,10 +260,13 @@ impl MemTableAccessor {
     ///
     /// # Errors
     ///
-    /// Those of [`MemTable::merge_append_table`]. Some tables are then merged, and the rest of `rhs`
-    /// is lost.
+    /// Those of [`MemTable::merge_append_table`] at one table. Other tables are then merged or as they
+    /// were, and so is that one but for want of memory; the rest of `rhs` is lost.
     pub fn merge_append_table(&mut self, rhs: MemTableAccessor) -> Result<()>
         ensures ok { OnOk result (AreTablesMerged with_appended self.old.tables rhs.tables self.new.tables) }
+        ensures fault { IfErr result (IsMergeRefusal (IsAppendedFault self.new.counts) self.old.tables rhs.tables) }
+        ensures err { IfErr result
+            (λ e. e ≢ Error.Memory → AreTablesLeft with_appended self.old.tables rhs.tables self.new.tables) }
         ensures cleaned { self.new.cleaned ≡ self.old.cleaned }
     {
         for slot in rhs.slots {
@@ -375,6 +381,9 @@ impl MemTableAccessor {
     /// Merges the newer neighbors of one slot.
     fn merge_newer_tables(&mut self, newer: RegionTables) -> Result<()>
         ensures ok { OnOk result (AreTablesMerged with_newer self.old.tables newer self.new.tables) }
+        ensures fault { IfErr result (IsMergeRefusal (IsNewerFault self.new.counts) self.old.tables newer) }
+        ensures err { IfErr result
+            (λ e. e ≢ Error.Memory → AreTablesLeft with_newer self.old.tables newer self.new.tables) }
         ensures cleaned { self.new.cleaned ≡ self.old.cleaned }
     {
         for (id, table) in newer.into_entries() {
@@ -386,6 +395,9 @@ impl MemTableAccessor {
     /// Merges the appended tables of one slot.
     fn merge_append_tables(&mut self, newer: RegionTables) -> Result<()>
         ensures ok { OnOk result (AreTablesMerged with_appended self.old.tables newer self.new.tables) }
+        ensures fault { IfErr result (IsMergeRefusal (IsAppendedFault self.new.counts) self.old.tables newer) }
+        ensures err { IfErr result
+            (λ e. e ≢ Error.Memory → AreTablesLeft with_appended self.old.tables newer self.new.tables) }
         ensures cleaned { self.new.cleaned ≡ self.old.cleaned }
     {
         for (id, table) in newer.into_entries() {
@@ -399,6 +411,8 @@ impl MemTableAccessor {
         requires { newer.region_id ≡ id }
         ensures ok { OnOk result
             (IsMergedAt with_newer id (finite.get self.old.tables id) (Some newer) (finite.get self.new.tables id)) }
+        ensures fault { IfErr result (IsNewerFault self.new.counts (table_in self.old.tables id) newer) }
+        ensures err { IfErr result (λ e. e ≢ Error.Memory → table_in self.new.tables id ≡ table_in self.old.tables id) }
         ensures others { self.new.tables ≡ with_table self.old.tables id (finite.get self.new.tables id) }
         ensures cleaned { self.new.cleaned ≡ self.old.cleaned }
     {
@@ -410,6 +424,8 @@ impl MemTableAccessor {
         requires { newer.region_id ≡ id }
         ensures ok { OnOk result
             (IsMergedAt with_appended id (finite.get self.old.tables id) (Some newer) (finite.get self.new.tables id)) }
+        ensures fault { IfErr result (IsAppendedFault self.new.counts (table_in self.old.tables id) newer) }
+        ensures err { IfErr result (λ e. e ≢ Error.Memory → table_in self.new.tables id ≡ table_in self.old.tables id) }
         ensures others { self.new.tables ≡ with_table self.old.tables id (finite.get self.new.tables id) }
         ensures cleaned { self.new.cleaned ≡ self.old.cleaned }
     {

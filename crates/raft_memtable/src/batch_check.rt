@@ -8,6 +8,7 @@ ghost use Rattle.raft_records.specs.Item.{item_of, content_of, entries as entrie
 ghost use Rattle.raft_records.specs.ReadIn.{IsBlockIn};
 ghost use Rattle.raft_history.specs.Histories.{IsInFile, AreInFile, HasStatus, HaveStatus};
 ghost use Rattle.raft_memtable.specs.BatchChecks.{marker_found};
+ghost use Rattle.raft_memtable.specs.Updates.{IsRefusal};
 
 use raft_records::{
     AtomicGroupStatus, KeyValue, LogItem, LogItemBatch, LogItemContent, OpType, is_reserved,
@@ -31,6 +32,7 @@ pub(crate) fn check_batch(
     ensures marker { IfOk result (λ marker. marker ≡ marker_found file.queue batch.now) }
     ensures refused { IfErr result
         (λ e. e ≢ Error.Memory → AreInFile file batch.now → HaveStatus file.queue batch.now → ⊥) }
+    ensures fault { IfErr result IsRefusal }
 {
     let items = batch.iter().as_slice();
     match file.queue {
@@ -58,6 +60,7 @@ fn check_rewrite_batch(
     ensures refused { IfErr result
         (λ e. e ≢ Error.Memory
         → AreInFile file (map item_of items.now) → AllByRecursion HasStatus (map item_of items.now) → ⊥) }
+    ensures fault { IfErr result IsRefusal }
 {
     let mut marker = None;
     for item in items {

@@ -3,14 +3,14 @@
 ghost use Rattle.std.specs.Prelude.{◌≡◌, ◌≢◌, ◌≤◌, ◌++◌, [], ◌∷◌, map, OnOk, IfErr, Some, None};
 ghost use Rattle.raft_base.specs.declared.pipe_log.LogQueue.TheVariants.{Append, Rewrite};
 ghost use Rattle.raft_records.specs.Item.{item_of, pair, pair_of};
-ghost use Rattle.raft_history.specs.Histories.{AreInFile, records_in, cleaned_in_batch};
+ghost use Rattle.raft_history.specs.Histories.{AreInFile, cleaned_in_batch};
 ghost use Rattle.raft_history.specs.MarkedRegions.{no_regions, regions_after, on_each, region_steps_of_whole};
 ghost use Rattle.raft_history.specs.RegionSteps.{steps_of_items};
 ghost use Rattle.raft_table.specs.Queues.{other, is_same};
 ghost use Rattle.raft_table.specs.Steps.{Run, Compact, Put, Del, AtomicGroup, Clean};
 ghost use Rattle.raft_memtable.specs.Accessor.{live_in_all};
 ghost use Rattle.raft_memtable.specs.ItemWrites.{pair_change};
-ghost use Rattle.raft_memtable.specs.MarkedTables.{regions_in, AreStepsOfQueue, HaveRoom, one_step, first_index, AreTaken};
+ghost use Rattle.raft_memtable.specs.MarkedTables.{regions_in, AreStepsOfQueue, IsStepsFault, one_step, first_index, AreTaken};
 ghost use Rattle.raft_memtable.specs.WaitingShown.{whole_shown};
 
 mod join;
@@ -55,9 +55,7 @@ impl MarkedTables {
             (regions_after file.queue (regions_in self.old) (steps_of_items items) ≡ Some (regions_in self.new)) }
         ensures cleaned { OnOk result
             (self.new.accessor.cleaned ≡ self.old.accessor.cleaned ++ cleaned_in_batch file.queue items) }
-        ensures refused { HaveRoom file.queue self.old.accessor.tables (records_in (steps_of_items items))
-            → IfErr result (λ e. e ≢ Error.Memory
-            → regions_after file.queue (regions_in self.old) (steps_of_items items) ≡ None) }
+        ensures fault { IfErr result (IsStepsFault file.queue (regions_in self.old) (steps_of_items items)) }
         ensures other { OnOk result
             (live_in_all (other file.queue) self.new.accessor.tables
             ≤ live_in_all (other file.queue) self.old.accessor.tables) }
@@ -79,9 +77,8 @@ impl MarkedTables {
             (regions_after Rewrite (regions_in self.old) (region_steps_of_whole (whole_shown whole))
             ≡ Some (regions_in self.new)) }
         ensures cleaned { OnOk result (self.new.accessor.cleaned ≡ self.old.accessor.cleaned) }
-        ensures refused { HaveRoom Rewrite self.old.accessor.tables (records_in (whole_shown whole).steps)
-            → IfErr result (λ e. e ≢ Error.Memory
-            → regions_after Rewrite (regions_in self.old) (region_steps_of_whole (whole_shown whole)) ≡ None) }
+        ensures fault { IfErr result
+            (IsStepsFault Rewrite (regions_in self.old) (region_steps_of_whole (whole_shown whole))) }
         ensures other { OnOk result
             (live_in_all Append self.new.accessor.tables ≤ live_in_all Append self.old.accessor.tables) }
     {

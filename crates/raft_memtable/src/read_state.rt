@@ -7,13 +7,12 @@ ghost use Rattle.raft_base.specs.declared.pipe_log.LogQueue.TheVariants.{Append,
 ghost use Rattle.raft_history.specs.Contexts.{new_context, taken_in, merged_with, AreMerged, region_steps_or};
 ghost use Rattle.raft_history.specs.Kept.{kept_of};
 ghost use Rattle.raft_history.specs.MarkedRegions.{regions_after, region_steps_of_wholes};
-ghost use Rattle.raft_history.specs.Records.{records_or, records_in_wholes};
 ghost use Rattle.raft_memtable.specs.Accessor.{live_in_all};
 ghost use Rattle.raft_memtable.specs.BatchChecks.{marker_found};
 ghost use Rattle.raft_memtable.specs.KeptShown.{kept_shown};
-ghost use Rattle.raft_memtable.specs.MarkedTables.{regions_in, HaveRoom};
+ghost use Rattle.raft_memtable.specs.MarkedTables.{regions_in, IsStepsFault};
 ghost use Rattle.raft_memtable.specs.ReadStates.{context_in, IsRead, TakesEffect, MayTakeEffect};
-ghost use Rattle.raft_memtable.specs.RecoverContext.{MayFollow, IsBatchRefused, IsStepRefused, AreNeighbours, AreNotMerged, IsNeighbourRefused};
+ghost use Rattle.raft_memtable.specs.RecoverContext.{reading_on, MayFollow, IsBatchFault, AreNeighbours, IsNeighbourFault};
 ghost use Rattle.raft_memtable.specs.ReplayMachine.{event};
 ghost use Rattle.raft_memtable.specs.WaitingShown.{whole_shown};
 
@@ -56,8 +55,7 @@ impl ReadState {
         ensures next { OnOk result (MayFollow (context_in self.old) (event batch file)) }
         ensures taken { OnOk result (taken_in (context_in self.old) (event batch file) ≡ Some (context_in self.new)) }
         ensures read { OnOk result (IsRead (context_in self.new)) }
-        ensures refused { IfErr result
-            (λ e. e ≢ Error.Memory → IsBatchRefused (context_in self.old) (event batch file)) }
+        ensures fault { IfErr result (IsBatchFault (reading_on (context_in self.old)) (event batch file)) }
     {
         match self.check(&batch, file)? {
             None => self.take_lone_batch(batch, file),
@@ -69,8 +67,7 @@ impl ReadState {
     fn check(&self, batch: &LogItemBatch, file: FileId) -> Result<Option<(u64, AtomicGroupStatus)>>
         ensures next { OnOk result (MayFollow (context_in self.now) (event batch.now file)) }
         ensures marker { IfOk result (λ marker. marker ≡ marker_found file.queue batch.now) }
-        ensures refused { IfErr result
-            (λ e. e ≢ Error.Memory → MayFollow (context_in self.now) (event batch.now file) → ⊥) }
+        ensures fault { IfErr result (IsBatchFault (reading_on (context_in self.now)) (event batch.now file)) }
     {
         if !FileRange::suits(self.files, file.queue) {
             return Err(Error::Corruption(format!(in self.alloc; "a batch of the other queue")?));
@@ -90,8 +87,7 @@ impl ReadState {
         requires without_marker { marker_found file.queue batch ≡ None }
         ensures taken { OnOk result (taken_in (context_in self.old) (event batch file) ≡ Some (context_in self.new)) }
         ensures read { OnOk result (IsRead (context_in self.new)) }
-        ensures refused { IfErr result
-            (λ e. e ≢ Error.Memory → IsStepRefused (context_in self.old) (event batch file)) }
+        ensures fault { IfErr result (IsBatchFault (reading_on (context_in self.old)) (event batch file)) }
     {
         self.regions.take_items(file, batch)?;
         self.files = FileRange::joined(self.files, Some(FileRange::of(file)));
@@ -111,8 +107,7 @@ impl ReadState {
         requires with_marker { marker_found file.queue batch ≡ Some (id, status) }
         ensures taken { OnOk result (taken_in (context_in self.old) (event batch file) ≡ Some (context_in self.new)) }
         ensures read { OnOk result (IsRead (context_in self.new)) }
-        ensures refused { IfErr result
-            (λ e. e ≢ Error.Memory → IsStepRefused (context_in self.old) (event batch file)) }
+        ensures fault { IfErr result (IsBatchFault (reading_on (context_in self.old)) (event batch file)) }
     {
         let items = WaitingItems::of_items(batch.into_items());
         let whole = self.groups.take_in(id, status, items, file.seq)?;
@@ -131,8 +126,8 @@ impl ReadState {
         ensures merged { OnOk result
             (context_in self.new ≡ merged_with (context_in self.old) (context_in newer) (context_in self.new).regions) }
         ensures read { OnOk result (IsRead (context_in self.new)) }
-        ensures refused { IfErr result
-            (λ e. e ≢ Error.Memory → AreNotMerged queue (context_in self.old) (context_in newer)) }
+        ensures fault { IfErr result
+            (IsNeighbourFault queue (reading_on (context_in self.old)) (reading_on (context_in newer))) }
     {
         self.check_neighbour(&newer, queue)?;
         self.join(newer, queue)
@@ -157,8 +152,8 @@ impl ReadState {
     /// Whether what was read of newer batches may be taken in.
     fn check_neighbour(&self, newer: &ReadState, queue: LogQueue) -> Result<()>
         ensures ok { OnOk result (AreNeighbours queue (context_in self.now) (context_in newer.now)) }
-        ensures refused { IfErr result
-            (λ e. e ≢ Error.Memory → AreNeighbours queue (context_in self.now) (context_in newer.now) → ⊥) }
+        ensures fault { IfErr result
+            (IsNeighbourFault queue (reading_on (context_in self.now)) (reading_on (context_in newer.now))) }
     {
         if !FileRange::suits(self.files, queue) || !FileRange::suits(newer.files, queue) {
             return Err(Error::InvalidArgument(format!(in self.alloc;
@@ -183,8 +178,8 @@ impl ReadState {
         ensures merged { OnOk result
             (context_in self.new ≡ merged_with (context_in self.old) (context_in newer) (context_in self.new).regions) }
         ensures read { OnOk result (IsRead (context_in self.new)) }
-        ensures refused { IfErr result
-            (λ e. e ≢ Error.Memory → IsNeighbourRefused queue (context_in self.old) (context_in newer)) }
+        ensures fault { IfErr result
+            (IsNeighbourFault queue (reading_on (context_in self.old)) (reading_on (context_in newer))) }
     {
         let ReadState {
             regions,
@@ -207,9 +202,8 @@ fn take_whole(regions: &mut MarkedTables, whole: Option<WholeGroup>) -> Result<(
         (regions_after Rewrite (regions_in regions.old) (region_steps_or (option_map whole_shown whole))
         ≡ Some (regions_in regions.new)) }
     ensures cleaned { OnOk result (regions.new.accessor.cleaned ≡ regions.old.accessor.cleaned) }
-    ensures refused { HaveRoom Rewrite regions.old.accessor.tables (records_or (option_map whole_shown whole))
-        → IfErr result (λ e. e ≢ Error.Memory
-        → regions_after Rewrite (regions_in regions.old) (region_steps_or (option_map whole_shown whole)) ≡ None) }
+    ensures fault { IfErr result
+        (IsStepsFault Rewrite (regions_in regions.old) (region_steps_or (option_map whole_shown whole))) }
     ensures other { OnOk result
         (live_in_all Append regions.new.accessor.tables ≤ live_in_all Append regions.old.accessor.tables) }
 {
@@ -226,10 +220,8 @@ fn take_wholes(regions: &mut MarkedTables, wholes: Vec<WholeGroup>) -> Result<()
         (regions_after Rewrite (regions_in regions.old) (region_steps_of_wholes (map whole_shown wholes.items))
         ≡ Some (regions_in regions.new)) }
     ensures cleaned { OnOk result (regions.new.accessor.cleaned ≡ regions.old.accessor.cleaned) }
-    ensures refused { HaveRoom Rewrite regions.old.accessor.tables (records_in_wholes (map whole_shown wholes.items))
-        → IfErr result (λ e. e ≢ Error.Memory
-        → regions_after Rewrite (regions_in regions.old) (region_steps_of_wholes (map whole_shown wholes.items))
-        ≡ None) }
+    ensures fault { IfErr result
+        (IsStepsFault Rewrite (regions_in regions.old) (region_steps_of_wholes (map whole_shown wholes.items))) }
     ensures other { OnOk result
         (live_in_all Append regions.new.accessor.tables ≤ live_in_all Append regions.old.accessor.tables) }
     ensures none { OnErr result (map whole_shown wholes.items ≢ []) }

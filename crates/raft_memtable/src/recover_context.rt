@@ -10,7 +10,7 @@ ghost use Rattle.raft_history.specs.Kept.{kept_of, kept_by, IsAtMost};
 ghost use Rattle.raft_history.specs.RegionSteps.{Tables};
 ghost use Rattle.raft_memtable.specs.Accessor.{AreCountsOf};
 ghost use Rattle.raft_memtable.specs.KeptShown.{kept_shown, IsKeptFault};
-ghost use Rattle.raft_memtable.specs.RecoverContext.{blank_context, IsReading, IsReadingExactly, IsTakenIn, IsReplayRefused, IsMergedWith, IsMergeRefused, refused_stage};
+ghost use Rattle.raft_memtable.specs.RecoverContext.{blank_context, IsReading, IsReadingExactly, IsTakenIn, IsBatchFault, IsMergedWith, IsNeighbourFault, refused_stage};
 ghost use Rattle.raft_memtable.specs.ReplayMachine.{event};
 ghost use Rattle.raft_memtable.specs.declared.context_stage.ContextStage.TheVariants.{Reading, Overlaid, Failed};
 
@@ -73,7 +73,7 @@ impl MemTableRecoverContext {
     /// hole; `Full` where more than 2^64 - 1 records would be live; `Memory`.
     pub fn replay(&mut self, batch: LogItemBatch, file_id: FileId) -> Result<()>
         ensures ok { OnOk result (IsTakenIn (event batch file_id) self.old self.new) }
-        ensures refused { IfErr result (λ e. e ≢ Error.Memory → IsReplayRefused self.old (event batch file_id)) }
+        ensures fault { IfErr result (IsBatchFault self.old (event batch file_id)) }
         ensures err { OnErr result (self.new.stage ≡ refused_stage self.old.stage) }
         ensures unchanged { self.old.stage ≢ Reading → self.new ≡ self.old }
         ensures failed { self.old.stage ≢ Reading → IfErr result (λ e. e ≡ Error.Failed) }
@@ -101,7 +101,7 @@ impl MemTableRecoverContext {
     /// entries leave a hole; `Full` where more than 2^64 - 1 records would be live; `Memory`.
     pub fn merge(&mut self, rhs: MemTableRecoverContext, queue: LogQueue) -> Result<()>
         ensures ok { OnOk result (IsMergedWith queue rhs self.old self.new) }
-        ensures refused { IfErr result (λ e. e ≢ Error.Memory → IsMergeRefused queue self.old rhs) }
+        ensures fault { IfErr result (IsNeighbourFault queue self.old rhs) }
         ensures err { OnErr result (self.new.stage ≡ refused_stage self.old.stage) }
         ensures unchanged { self.old.stage ≢ Reading → self.new ≡ self.old }
         ensures failed { self.old.stage ≢ Reading → IfErr result (λ e. e ≡ Error.Failed) }

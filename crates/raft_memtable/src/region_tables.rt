@@ -11,7 +11,7 @@ ghost use Rattle.raft_table.specs.Counts.{live};
 ghost use Rattle.raft_table.specs.Steps.{table_of};
 ghost use Rattle.raft_table.specs.Table.{Table, empty_table, live_of, with_atomic_group, IsCounted, IsRecounted};
 ghost use Rattle.raft_memtable.specs.Accessor.{table_in};
-ghost use Rattle.raft_memtable.specs.Merges.{with_newer, with_appended, MayAlter, IsAltered, IsTableMerged};
+ghost use Rattle.raft_memtable.specs.Merges.{with_newer, with_appended, IsNewerFault, IsAppendedFault, MayAlter, IsAltered, IsTableMerged};
 ghost use Rattle.raft_memtable.specs.Updates.{MayChange, IsUpdated, IsTaken};
 ghost use Rattle.raft_memtable.specs.Walks.{KeepsId, Makes};
 
@@ -257,7 +257,7 @@ impl RegionTables {
         requires region { newer.region_id ≡ id }
         requires counted { IsCounted (table_in self.old id) stats.old }
         ensures { IsTableMerged (with_newer (table_in self.old id) newer)
-            self.old id stats.old result self.new stats.new }
+            (IsNewerFault stats.new (table_in self.old id) newer) self.old id stats.old result self.new stats.new }
     {
         self.alter(
             id,
@@ -280,7 +280,7 @@ impl RegionTables {
         requires region { newer.region_id ≡ id }
         requires counted { IsCounted (table_in self.old id) stats.old }
         ensures { IsTableMerged (with_appended (table_in self.old id) newer)
-            self.old id stats.old result self.new stats.new }
+            (IsAppendedFault stats.new (table_in self.old id) newer) self.old id stats.old result self.new stats.new }
     {
         self.alter(
             id,
@@ -349,6 +349,8 @@ fn merge_newer(table: &mut MemTable, mut newer: MemTable, stats: &mut GlobalStat
     requires region { table.old.region_id ≡ newer.region_id }
     requires counted { IsCounted table.old stats.old }
     ensures ok { OnOk result (with_newer table.old newer ≡ Some table.new) }
+    ensures fault { IfErr result (IsNewerFault stats.new table.old newer) }
+    ensures err { IfErr result (λ e. e ≢ Error.Memory → table.new ≡ table.old) }
     ensures region { table.new.region_id ≡ table.old.region_id }
     ensures recounted { IsRecounted table.old table.new stats.old stats.new }
 {
@@ -360,6 +362,8 @@ fn merge_append(table: &mut MemTable, mut newer: MemTable, stats: &mut GlobalSta
     requires region { table.old.region_id ≡ newer.region_id }
     requires counted { IsCounted table.old stats.old }
     ensures ok { OnOk result (with_appended table.old newer ≡ Some table.new) }
+    ensures fault { IfErr result (IsAppendedFault stats.new table.old newer) }
+    ensures err { IfErr result (λ e. e ≢ Error.Memory → table.new ≡ table.old) }
     ensures region { table.new.region_id ≡ table.old.region_id }
     ensures recounted { IsRecounted table.old table.new stats.old stats.new }
 {

@@ -6,8 +6,11 @@ use Rattle.std.specs.Str.Parse.{AllDigits}
 use Rattle.std.proofs.lemmas.Str.Pattern.{IsSplitOnceResult, split_after}
 use Rattle.std.specs.Str.{bytes_eq}
 use Rattle.std.proofs.lemmas.Slice.Eq.{bytes_eq-Decides}
+use Rattle.std.specs.List.{AllByRecursion}
+use Rattle.raft_base.specs.declared.errors.Error.{Error}
+use Rattle.raft_base.specs.declared.errors.Error.TheVariants as errors
 use Rattle.raft_base.specs.declared.pipe_log.LogFileContext.{LogFileContext}
-use Rattle.raft_recover.specs.Requests.{NamesFile, IsPathWord, AsksBatch, File, IsFileOfWord, AreRead}
+use Rattle.raft_recover.specs.Requests.{NamesFile, IsPathWord, AsksBatch, File, IsFileOfWord, AreRead, IsFileFault, IsFilesFault}
 
 -- a list of four is its items
 pub four_items : {X : Type 0} (xs : List X) (a b c d : X) → 4 ≤ length xs → length xs < 5 → a ≡ get_or xs 0 a → b ≡ get_or xs 1 b → c ≡ get_or xs 2 c → d ≡ get_or xs 3 d → xs ≡ a ∷ b ∷ c ∷ d ∷ []
@@ -48,6 +51,13 @@ none_then (Some x) h f = tt
 pub none_holds : {X : Type 0} (r : Option X) {P : Type 0} → P → IfNone r P
 none_holds None p = p
 none_holds (Some x) p = tt
+
+-- the file of one of some words isn't read
+pub files_fault : (words : List (List ℕ)) (word : List ℕ) (e : Error) → (AllByRecursion IsPathWord words → IsPathWord word) → IsFileFault word e → IsFilesFault words e
+files_fault words word (errors.InvalidArgument text) h f = λ all. f (h all)
+files_fault words word (errors.Io e) h f = tt
+files_fault words word errors.Memory h f = tt
+files_fault words word _ h f = absurd f
 
 -- digits are no `=`
 no_equals : (ds : List ℕ) → AllDigits 10 ds → (i : ℕ) → i < length ds → get_or ds i 0 ≢ 61

@@ -4,7 +4,7 @@ ghost use Rattle.std.specs.Prelude.{◌≡◌, ◌≢◌, ◌<◌, ◌++◌, IfE
 ghost use Rattle.raft_base.specs.declared.pipe_log.LogQueue.TheVariants.{Append, Rewrite};
 ghost use Rattle.raft_table.specs.Queues.{other};
 ghost use Rattle.raft_memtable.specs.Accessor.{live_in, live_in_all, AreCountsOf};
-ghost use Rattle.raft_memtable.specs.TableJoins.{IsTableJoined};
+ghost use Rattle.raft_memtable.specs.TableJoins.{IsMixFault, IsTableJoined};
 
 use crate::accessor::{MemTableAccessor, slot_of};
 use raft_table::{Error, LogQueue, Mark, MemTable, Result};
@@ -41,7 +41,7 @@ impl MemTableAccessor {
     /// `InvalidArgument`, and `Memory` for its text.
     pub(crate) fn check_alone(&self, queue: LogQueue) -> Result<()>
         ensures ok { OnOk result (live_in_all (other queue) self.now.tables ≡ 0) }
-        ensures refused { IfErr result (λ e. e ≢ Error.Memory → 0 < live_in_all (other queue) self.now.tables) }
+        ensures fault { IfErr result (IsMixFault queue self.now.tables) }
     {
         let other = match queue {
             LogQueue::Append => LogQueue::Rewrite,

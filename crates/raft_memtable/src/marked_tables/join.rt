@@ -3,15 +3,14 @@
 ghost use Rattle.std.specs.Prelude.{◌≡◌, ◌≢◌, ◌+◌, ◌<◌, ◌≤◌, ◌^◌, ◌++◌, IfErr, IfSome, OnOk, Some};
 ghost use Rattle.raft_base.specs.declared.pipe_log.LogQueue.{LogQueue};
 ghost use Rattle.raft_base.specs.declared.pipe_log.LogQueue.TheVariants.{Append, Rewrite};
-ghost use Rattle.raft_history.specs.Joins.{StandForSteps, AreJoined, IsJoinRefused};
+ghost use Rattle.raft_history.specs.Joins.{StandForSteps, AreJoined};
 ghost use Rattle.raft_history.specs.MarkedRegions.{region_in, with_region, joined_region};
-ghost use Rattle.raft_history.specs.Records.{all_records};
 ghost use Rattle.raft_table.specs.MarkMerge.{IsFaultUnder, IsRunOver};
 ghost use Rattle.raft_table.specs.Queues.{other};
 ghost use Rattle.raft_table.specs.Steps.{table_of};
 ghost use Rattle.raft_memtable.specs.Accessor.{table_in, live_in, live_in_all, AreCountsOf};
-ghost use Rattle.raft_memtable.specs.MarkedTables.{regions_in, HaveRoom};
-ghost use Rattle.raft_memtable.specs.TableJoins.{AreRunsOver};
+ghost use Rattle.raft_memtable.specs.MarkedTables.{regions_in};
+ghost use Rattle.raft_memtable.specs.TableJoins.{AreRunsOver, IsJoinFault};
 
 use crate::accessor::MemTableAccessor;
 use crate::marked_tables::MarkedTables;
@@ -31,10 +30,8 @@ impl MarkedTables {
             → OnOk result (AreJoined queue (regions_in self.old) (regions_in newer) (regions_in self.new)) }
         ensures cleaned { OnOk result
             (self.new.accessor.cleaned ≡ self.old.accessor.cleaned ++ newer.accessor.cleaned) }
-        ensures refused { StandForSteps queue (regions_in self.old) → StandForSteps queue (regions_in newer)
-            → HaveRoom queue self.old.accessor.tables (all_records newer.accessor.tables)
-            → live_in_all (other queue) newer.accessor.tables ≡ 0
-            → IfErr result (λ e. e ≢ Error.Memory → IsJoinRefused queue (regions_in self.old) (regions_in newer)) }
+        ensures fault { StandForSteps queue (regions_in self.old) → StandForSteps queue (regions_in newer)
+            → IfErr result (IsJoinFault queue (regions_in self.old) (regions_in newer)) }
         ensures other { OnOk result (live_in_all (other queue) self.new.accessor.tables ≡ 0) }
     {
         let MarkedTables {
@@ -59,10 +56,9 @@ impl MarkedTables {
         ensures ok { AreRunsOver queue marks tables.old.tables self.old.accessor.tables
             → OnOk result (AreJoined queue (regions_in self.old)
             (record { tables = tables.old.tables; marks = marks }) (regions_in self.new)) }
-        ensures refused { AreRunsOver queue marks tables.old.tables self.old.accessor.tables
-            → all_records self.old.accessor.tables + all_records tables.old.tables < 2 ^ 64
-            → IfErr result (λ e. e ≢ Error.Memory
-            → IsJoinRefused queue (regions_in self.old) (record { tables = tables.old.tables; marks = marks })) }
+        ensures fault { AreRunsOver queue marks tables.old.tables self.old.accessor.tables
+            → IfErr result (IsJoinFault queue (regions_in self.old)
+            (record { tables = tables.old.tables; marks = marks })) }
         ensures other { OnOk result (live_in_all (other queue) self.new.accessor.tables ≡ 0) }
         ensures cleaned { (self.new.accessor.cleaned ≡ self.old.accessor.cleaned)
             × (tables.new.cleaned ≡ tables.old.cleaned) }

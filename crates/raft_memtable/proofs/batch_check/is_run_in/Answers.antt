@@ -1,4 +1,4 @@
-use Rattle.std.proofs.Common.{◌+◌, arith, refl, sym, ap, subst, ◌∙◌, drop}
+use Rattle.std.proofs.Common.{arith, refl, sym, subst, ◌∙◌}
 use Rattle.raft_history.specs.Histories.{AreBlocksIn}
 use Rattle.raft_table.specs.TableEntries.{start_of, placed_in}
 use Rattle.raft_table.proofs.SoundLemmas.{start_of_front}

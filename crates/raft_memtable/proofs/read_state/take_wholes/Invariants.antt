@@ -1,10 +1,10 @@
 use Rattle.std.proofs.Common.{◌≡◌, ◌≤◌, [], map}
 use Rattle.std.specs.List.{AllByRecursion}
+use Rattle.raft_base.specs.declared.errors.Error.{Error}
 use Rattle.raft_base.specs.declared.pipe_log.LogQueue.TheVariants.{Append, Rewrite}
 use Rattle.raft_history.specs.MarkedRegions.{regions_after, region_steps_of_wholes}
-use Rattle.raft_history.specs.Records.{records_in_wholes}
 use Rattle.raft_memtable.specs.Accessor.{live_in_all}
-use Rattle.raft_memtable.specs.MarkedTables.{regions_in, HaveRoom}
+use Rattle.raft_memtable.specs.MarkedTables.{regions_in, IsStepsFault}
 use Rattle.raft_memtable.specs.ReadStates.{TakesEffect}
 use Rattle.raft_memtable.specs.WaitingShown.{whole_shown}
 use Rattle.raft_memtable.proofs.read_state.take_wholes.Given as goal
@@ -16,5 +16,5 @@ invariant-loop-whole l =
     × (regions_after Rewrite (regions_in l.regions) (region_steps_of_wholes (map whole_shown l.whole-iterator.rest.items)) ≡ regions_after Rewrite (regions_in l.fn.regions) (region_steps_of_wholes (map whole_shown l.fn.wholes.items)))
     × (l.regions.accessor.cleaned ≡ l.fn.regions.accessor.cleaned)
     × (live_in_all Append l.regions.accessor.tables ≤ live_in_all Append l.fn.regions.accessor.tables)
-    × (HaveRoom Rewrite l.fn.regions.accessor.tables (records_in_wholes (map whole_shown l.fn.wholes.items)) → HaveRoom Rewrite l.regions.accessor.tables (records_in_wholes (map whole_shown l.whole-iterator.rest.items)))
+    × ((e : Error) → IsStepsFault Rewrite (regions_in l.regions) (region_steps_of_wholes (map whole_shown l.whole-iterator.rest.items)) e → IsStepsFault Rewrite (regions_in l.fn.regions) (region_steps_of_wholes (map whole_shown l.fn.wholes.items)) e)
     × (map whole_shown l.fn.wholes.items ≡ [] → map whole_shown l.whole-iterator.rest.items ≡ [])

@@ -1,11 +1,15 @@
 use Rattle.std.proofs.Common.{refl, ap, subst, slice_set}
+use Rattle.raft_table.specs.Counts.{Counts}
+use Rattle.raft_table.specs.Merge.{append_rule}
 use Rattle.raft_table.specs.Steps.{table_of}
-use Rattle.raft_table.specs.Table.{IsCounted}
+use Rattle.raft_table.specs.Table.{Table, IsCounted}
+use Rattle.raft_memtable.specs.Accessor.{table_in}
 use Rattle.raft_memtable.specs.AccessorView.{together}
-use Rattle.raft_memtable.specs.Merges.{with_appended}
+use Rattle.raft_memtable.specs.Merges.{with_appended, IsAppendedFault}
 use Rattle.raft_memtable.specs.declared.accessor.MemTableAccessor.TheInside.{Inside}
-use Rattle.raft_memtable.proofs.AccessorLemmas.{InSlot, kept-in, merged-in, alone-in}
+use Rattle.raft_memtable.proofs.AccessorLemmas.{InSlot, kept-in, merged-in, refused-in, left-in, alone-in}
 use Rattle.raft_memtable.proofs.LiveLemmas.{table-counted}
+use Rattle.raft_memtable.proofs.MergeLemmas.{refused-with}
 use Rattle.raft_memtable.proofs.SlotLemmas.{get-shown}
 use Rattle.raft_memtable.proofs.accessor.MemTableAccessor.merge_appended.Goals as goal
 
@@ -25,6 +29,15 @@ invariant_of-self c = kept-in c.self.inside (after c) c.args.id c.slot_of.result
 
 pub returns-clause-ok : goal.returns-clause-ok
 returns-clause-ok c = merged-in c.self.inside (after c) c.args.id c.slot_of.result c.index-self-slot_of.result c.merge_append_table.new.self c.merge_append_table.new.stats c.self.invariant (slotted c) c.args.self.now c.self.view_is with_appended c.args.newer c.merge_append_table.result c.merge_append_table.ensures
+
+pub returns-clause-fault : goal.returns-clause-fault
+returns-clause-fault c =
+    let old = table_in c.args.self.now.tables c.args.id in
+    refused-with (append_rule old c.args.newer) c.merge_append_table.new.stats old c.args.newer c.merge_append_table.result
+    (refused-in c.self.inside (after c) c.args.id c.slot_of.result c.index-self-slot_of.result c.merge_append_table.new.self c.merge_append_table.new.stats c.self.invariant (slotted c) c.args.self.now c.self.view_is (λ (k : Counts) (t : Table). IsAppendedFault k t c.args.newer) _ c.merge_append_table.result c.merge_append_table.ensures)
+
+pub returns-clause-err : goal.returns-clause-err
+returns-clause-err c = left-in c.self.inside (after c) c.args.id c.slot_of.result c.index-self-slot_of.result c.merge_append_table.new.self c.merge_append_table.new.stats c.self.invariant (slotted c) c.args.self.now c.self.view_is _ c.merge_append_table.result c.merge_append_table.ensures
 
 pub returns-clause-others : goal.returns-clause-others
 returns-clause-others c = alone-in c.self.inside (after c) c.args.id c.slot_of.result c.index-self-slot_of.result c.merge_append_table.new.self c.merge_append_table.new.stats c.self.invariant (slotted c) c.args.self.now c.self.view_is

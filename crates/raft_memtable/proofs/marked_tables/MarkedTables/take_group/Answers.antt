@@ -6,16 +6,16 @@ use Rattle.raft_history.specs.MarkedRegions.{on_each}
 use Rattle.raft_history.specs.RegionSteps.{RegionStep}
 use Rattle.raft_memtable.specs.MarkedTables.{AreTaken}
 use Rattle.raft_memtable.specs.WaitingShown.{whole_shown}
-use Rattle.raft_memtable.proofs.GroupFiles.{whole_ok, whole_refused, whole_other}
+use Rattle.raft_memtable.proofs.GroupFiles.{whole_ok, whole_fault, whole_other}
 use Rattle.raft_memtable.proofs.TakenLemmas.{taken_more, taken_refused}
 use Rattle.raft_memtable.proofs.marked_tables.MarkedTables.take_group.Goals as goal
 
-pub returns-in_err-take_each-clause-refused : goal.returns-in_err-take_each-clause-refused
-returns-in_err-take_each-clause-refused c = λ room.
+pub returns-in_err-take_each-clause-fault : goal.returns-in_err-take_each-clause-fault
+returns-in_err-take_each-clause-fault c =
     let p = err_from_is_err_and c.from_residual-in_err-take_each.result c.from_residual-in_err-take_each.ensures.1 in
     let files = on_each c.in_ok-regions.regions.items (AtomicGroup c.args.whole.start c.args.whole.end) in
     let items = subst (λ (l : List RegionStep). AreTaken Rewrite l (Err c.in_err-take_each.field-0.0) c.args.self.now c.take_each.new.self) c.into_items.ensures c.in_err-take_each.ensures in
-    rw (p.1, p.2) (whole_refused (whole_shown c.args.whole) c.in_ok-regions.regions.items c.args.self.now c.take_each.new.self (Err c.in_err-take_each.field-0.0) c.in_ok-regions.ensures (taken_refused Rewrite c.args.whole.items files c.args.self.now c.take_each.new.self _ items) room)
+    rw (p.1, p.2) (whole_fault (whole_shown c.args.whole) c.in_ok-regions.regions.items c.args.self.now c.take_each.new.self (Err c.in_err-take_each.field-0.0) c.in_ok-regions.ensures (taken_refused Rewrite c.args.whole.items files c.args.self.now c.take_each.new.self _ items))
 
 taken : (c : goal.After-drop-regions-2) → AreTaken Rewrite (c.args.whole.items ++ on_each c.in_ok-regions.regions.items (AtomicGroup c.args.whole.start c.args.whole.end)) c.take_files.result c.args.self.now c.take_files.new.self
 taken c =
@@ -26,8 +26,8 @@ taken c =
 pub returns-clause-ok : goal.returns-clause-ok
 returns-clause-ok c = whole_ok (whole_shown c.args.whole) c.in_ok-regions.regions.items c.args.self.now c.take_files.new.self c.take_files.result c.in_ok-regions.ensures (taken c)
 
-pub returns-clause-refused : goal.returns-clause-refused
-returns-clause-refused c = whole_refused (whole_shown c.args.whole) c.in_ok-regions.regions.items c.args.self.now c.take_files.new.self c.take_files.result c.in_ok-regions.ensures (taken c)
+pub returns-clause-fault : goal.returns-clause-fault
+returns-clause-fault c = whole_fault (whole_shown c.args.whole) c.in_ok-regions.regions.items c.args.self.now c.take_files.new.self c.take_files.result c.in_ok-regions.ensures (taken c)
 
 pub returns-clause-other : goal.returns-clause-other
 returns-clause-other c = whole_other (whole_shown c.args.whole) c.in_ok-regions.regions.items c.args.self.now c.take_files.new.self c.take_files.result c.in_ok-regions.ensures (taken c) c.requires.steps

@@ -1,25 +1,23 @@
-use Rattle.std.proofs.Common.{◌≡◌, ◌≢◌, ◌++◌, [], Some, None, sym, ap, subst, ◌∙◌}
+use Rattle.std.proofs.Common.{◌≡◌, ◌≢◌, ◌++◌, [], Some, sym, ap, subst, ◌∙◌}
 use Rattle.std.proofs.lemmas.Result.{err_from_is_err_and}
 use Rattle.std.specs.List.{AllByRecursion}
 use Rattle.raft_base.specs.declared.pipe_log.LogQueue.TheVariants.{Rewrite}
 use Rattle.raft_history.specs.MarkedRegions.{regions_after, region_steps_of_wholes}
-use Rattle.raft_history.specs.Records.{records_in_wholes}
-use Rattle.raft_memtable.specs.MarkedTables.{regions_in, HaveRoom}
+use Rattle.raft_memtable.specs.MarkedTables.{regions_in, IsStepsFault}
 use Rattle.raft_memtable.specs.ReadStates.{context_in, TakesEffect}
-use Rattle.raft_memtable.proofs.ReadStateLemmas.{merge_takes, wholes_refused, IsMiddle, join_refused, join_merged, join_read, merged_by}
+use Rattle.raft_memtable.proofs.ReadStateLemmas.{merge_takes, wholes_fault, IsMiddle, join_fault, join_merged, join_read, merged_by}
 use Rattle.raft_memtable.proofs.read_state.ReadState.join.Goals as goal
 
 pub take_wholes-requires : goal.take_wholes-requires
 take_wholes-requires c = subst (AllByRecursion TakesEffect) (sym c.in_ok-wholes.ensures.wholes) (merge_takes c.args.queue (context_in c.args.self.now) (context_in c.args.newer) c.requires.older c.requires.newer c.requires.neighbours)
 
-pub returns-in_err-take_wholes-clause-refused : goal.returns-in_err-take_wholes-clause-refused
-returns-in_err-take_wholes-clause-refused c =
+pub returns-in_err-take_wholes-clause-fault : goal.returns-in_err-take_wholes-clause-fault
+returns-in_err-take_wholes-clause-fault c =
     let whole = c.in_ok-wholes.ensures.wholes in
     let p = err_from_is_err_and c.from_residual-in_err-take_wholes.result c.from_residual-in_err-take_wholes.ensures.1 in
-    rw (p.1, p.2) (λ ne. wholes_refused c.args.queue (context_in c.args.self.now) (context_in c.args.newer) c.requires.older c.requires.newer c.requires.neighbours
-    (subst (λ ws. ws ≢ []) whole c.in_err-take_wholes.ensures.none)
-    (subst (λ ws. HaveRoom Rewrite c.args.self.now.regions.accessor.tables (records_in_wholes ws) → regions_after Rewrite (regions_in c.args.self.now.regions) (region_steps_of_wholes ws) ≡ None) whole
-    (λ room. c.in_err-take_wholes.ensures.refused room ne)))
+    rw (p.1, p.2) (wholes_fault c.args.queue (context_in c.args.self.now) (context_in c.args.newer) c.requires.older c.requires.newer c.requires.neighbours
+    (subst (λ ws. ws ≢ []) whole c.in_err-take_wholes.ensures.none) _
+    (subst (λ ws. IsStepsFault Rewrite (regions_in c.args.self.now.regions) (region_steps_of_wholes ws) c.in_err-take_wholes.field-0.0) whole c.in_err-take_wholes.ensures.fault))
 
 taken_at : (c : goal.After-from_residual-in_err-join) → IsMiddle c.args.queue (context_in c.args.self.now) (context_in c.args.newer) (regions_in c.take_wholes.new.regions)
 taken_at c = record {
@@ -30,11 +28,10 @@ taken_at c = record {
   few = c.in_ok-take_wholes.ensures.other;
 }
 
-pub returns-in_err-join-clause-refused : goal.returns-in_err-join-clause-refused
-returns-in_err-join-clause-refused c =
+pub returns-in_err-join-clause-fault : goal.returns-in_err-join-clause-fault
+returns-in_err-join-clause-fault c =
     let p = err_from_is_err_and c.from_residual-in_err-join.result c.from_residual-in_err-join.ensures.1 in
-    rw (p.1, p.2) (λ ne. join_refused c.args.queue (context_in c.args.self.now) (context_in c.args.newer) (regions_in c.take_wholes.new.regions) (taken_at c)
-    (λ older newer room alone. c.in_err-join.ensures.refused older newer room alone ne))
+    rw (p.1, p.2) (join_fault c.args.queue (context_in c.args.self.now) (context_in c.args.newer) (regions_in c.take_wholes.new.regions) (taken_at c) _ c.in_err-join.ensures.fault)
 
 middle_of : (c : goal.After-self-1) → IsMiddle c.args.queue (context_in c.args.self.now) (context_in c.args.newer) (regions_in c.take_wholes.new.regions)
 middle_of c = record {

@@ -1,20 +1,19 @@
-use Rattle.std.proofs.Common.{◌≡◌, ◌≤◌, sym, ap, subst, ◌∙◌, Some, None}
+use Rattle.std.proofs.Common.{◌≡◌, ◌≤◌, sym, ap, subst, ◌∙◌, Some}
 use Rattle.std.specs.FinMap as finite
 use Rattle.std.proofs.lemmas.Result.{err_from_is_err_and}
 use Rattle.raft_base.specs.declared.pipe_log.LogQueue.TheVariants.{Rewrite}
 use Rattle.raft_table.specs.Queues.{other}
 use Rattle.raft_history.specs.Contexts.{region_steps_or, joined_files}
 use Rattle.raft_history.specs.MarkedRegions.{regions_after}
-use Rattle.raft_history.specs.Records.{records_or}
 use Rattle.raft_history.specs.RegionSteps.{steps_of_items}
 use Rattle.raft_history.specs.WaitingGroup.{joined_group, whole_group, one_marker}
 use Rattle.raft_history.specs.WaitingGroups.{known}
 use Rattle.raft_memtable.specs.Accessor.{live_in_all}
 use Rattle.raft_memtable.specs.FileRanges.{ranges_shown}
-use Rattle.raft_memtable.specs.MarkedTables.{regions_in, HaveRoom}
+use Rattle.raft_memtable.specs.MarkedTables.{regions_in, IsStepsFault}
 use Rattle.raft_memtable.specs.ReadStates.{context_in, MayTakeEffect}
 use Rattle.raft_memtable.specs.ReplayMachine.{event}
-use Rattle.raft_memtable.proofs.ReadStateLemmas.{some_range, found_some, read_more, group_taken, group_step, group_takes}
+use Rattle.raft_memtable.proofs.ReadStateLemmas.{some_range, found_some, read_more, group_taken, group_fault, group_takes}
 use Rattle.raft_memtable.proofs.read_state.ReadState.take_group_batch.Goals as goal
 
 pub take_whole-requires : goal.take_whole-requires
@@ -23,14 +22,13 @@ take_whole-requires c =
     let whole = c.in_ok-whole.ensures.whole ∙ ap (λ is. whole_group (known c.args.self.now.groups c.args.id) (one_marker c.args.status is c.args.file.seq)) steps in
     subst MayTakeEffect (sym whole) (group_takes (context_in c.args.self.now) (event c.args.batch c.args.file) c.args.id c.args.status c.requires.read c.requires.next c.requires.with_marker)
 
-pub returns-in_err-take_whole-clause-refused : goal.returns-in_err-take_whole-clause-refused
-returns-in_err-take_whole-clause-refused c =
+pub returns-in_err-take_whole-clause-fault : goal.returns-in_err-take_whole-clause-fault
+returns-in_err-take_whole-clause-fault c =
     let steps = c.of_items-items.ensures ∙ ap steps_of_items c.into_items.ensures in
     let whole = c.in_ok-whole.ensures.whole ∙ ap (λ is. whole_group (known c.args.self.now.groups c.args.id) (one_marker c.args.status is c.args.file.seq)) steps in
     let p = err_from_is_err_and c.from_residual-in_err-take_whole.result c.from_residual-in_err-take_whole.ensures.1 in
-    rw (p.1, p.2) (λ ne. group_step (context_in c.args.self.now) (event c.args.batch c.args.file) c.args.id c.args.status c.requires.read c.requires.next c.requires.with_marker
-    (subst (λ o. HaveRoom Rewrite c.args.self.now.regions.accessor.tables (records_or o) → regions_after Rewrite (regions_in c.args.self.now.regions) (region_steps_or o) ≡ None) whole
-    (λ room. c.in_err-take_whole.ensures.refused room ne)))
+    rw (p.1, p.2) (group_fault (context_in c.args.self.now) (event c.args.batch c.args.file) c.args.id c.args.status c.requires.read c.requires.next c.requires.with_marker _
+    (subst (λ o. IsStepsFault Rewrite (regions_in c.args.self.now.regions) (region_steps_or o) c.in_err-take_whole.field-0.0) whole c.in_err-take_whole.ensures.fault))
 
 pub returns-clause-read : goal.returns-clause-read
 returns-clause-read c =

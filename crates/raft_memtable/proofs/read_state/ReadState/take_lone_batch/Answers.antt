@@ -4,13 +4,13 @@ use Rattle.raft_history.specs.Contexts.{joined_files}
 use Rattle.raft_memtable.specs.FileRanges.{ranges_shown}
 use Rattle.raft_memtable.specs.ReadStates.{context_in}
 use Rattle.raft_memtable.specs.ReplayMachine.{event}
-use Rattle.raft_memtable.proofs.ReadStateLemmas.{some_range, read_more, lone_taken, lone_step}
+use Rattle.raft_memtable.proofs.ReadStateLemmas.{some_range, read_more, lone_taken, lone_fault}
 use Rattle.raft_memtable.proofs.read_state.ReadState.take_lone_batch.Goals as goal
 
-pub returns-in_err-take_items-clause-refused : goal.returns-in_err-take_items-clause-refused
-returns-in_err-take_items-clause-refused c =
+pub returns-in_err-take_items-clause-fault : goal.returns-in_err-take_items-clause-fault
+returns-in_err-take_items-clause-fault c =
     let p = err_from_is_err_and c.from_residual.result c.from_residual.ensures.1 in
-    rw (p.1, p.2) (λ ne. lone_step (context_in c.args.self.now) (event c.args.batch c.args.file) c.requires.read c.requires.next c.requires.without_marker (λ room. c.in_err-take_items.ensures.refused room ne))
+    rw (p.1, p.2) (lone_fault (context_in c.args.self.now) (event c.args.batch c.args.file) c.requires.read c.requires.next c.requires.without_marker _ c.in_err-take_items.ensures.fault)
 
 pub returns-clause-read : goal.returns-clause-read
 returns-clause-read c =

@@ -1,5 +1,5 @@
-use Rattle.std.proofs.Common.{inr}
+use Rattle.raft_memtable.proofs.RecoverContextLemmas.{neighbour_fault}
 use Rattle.raft_memtable.proofs.recover_context.MemTableRecoverContext.merge.Goals as goal
 
-pub returns-in-Err-clause-refused : goal.returns-in-Err-clause-refused
-returns-in-Err-clause-refused c = λ ne. rw (← c.self.view_is, ← c.rhs.view_is) (inr (inr (c.in-Err.ensures.refused ne)))
+pub returns-in-Err-clause-fault : goal.returns-in-Err-clause-fault
+returns-in-Err-clause-fault c = rw (← c.self.view_is, ← c.rhs.view_is) (neighbour_fault c.args.queue _ _ _ _ _ c.in-Err.ensures.fault)

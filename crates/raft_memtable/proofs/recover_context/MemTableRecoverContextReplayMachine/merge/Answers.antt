@@ -8,4 +8,4 @@ pub returns-clause-exact : goal.returns-clause-exact
 returns-clause-exact c = λ h g small apart a b. on_ok c.merge.result (λ t. merge_exact c.args.queue c.args.self.now c.args.rhs c.merge.new.self h g apart t a b) c.merge.ensures.ok
 
 pub returns-clause-refused : goal.returns-clause-refused
-returns-clause-refused c = on_err c.merge.result (λ e f ne h g small o a b. merge_unsound c.args.queue c.args.self.now c.args.rhs h g small o a b (f ne)) c.merge.ensures.refused
+returns-clause-refused c = on_err c.merge.result (λ e f ne h g small o a b. merge_unsound c.args.queue c.args.self.now c.args.rhs h g small o a b e ne f) c.merge.ensures.fault

@@ -20,6 +20,7 @@ ghost use Rattle.raft_memtable.specs.Walks.{Collects, Makes};
 ghost use Rattle.raft_memtable.specs.Writes.{Appending, Replaying, Rewriting, AreWritten, AreItemsRefused};
 
 mod join;
+mod overlay;
 mod region_steps;
 mod totals;
 

@@ -17,6 +17,8 @@ ghost use Rattle.raft_memtable.specs.RecoverContext.{MayFollow, IsBatchRefused, 
 ghost use Rattle.raft_memtable.specs.ReplayMachine.{event};
 ghost use Rattle.raft_memtable.specs.WaitingShown.{whole_shown};
 
+mod overlay;
+
 use crate::batch_check::check_batch;
 use crate::file_range::FileRange;
 use crate::kept::Kept;

@@ -1,37 +1,32 @@
 -- What was read of the append queue, taken in over what was read of the rewrite queue, and what both queues give.
-use Rattle.std.proofs.Common.{◌≡◌, ◌⊎◌, ◌+◌, ◌≤◌, ◌^◌, ℕ, List, [], ◌∷◌, ◌++◌, length, Option, Some, None, refl, sym, ap, subst, ◌∙◌, inl, inr, arith}
-use Rattle.std.specs.Prelude.{◌≢◌, flat_map}
+use Rattle.std.proofs.Common.{◌≡◌, ◌+◌, ℕ, List, [], ◌∷◌, length, refl, sym, ap, subst, ◌∙◌, arith}
+use Rattle.std.specs.Prelude.{flat_map}
 use Rattle.std.specs.Ordering.{nat_cmp}
 use Rattle.std.specs.FinMap as finite
 use Rattle.std.specs.FinSet as finset
 use Rattle.raft_base.specs.declared.errors.Error.{Error}
 use Rattle.raft_base.specs.declared.errors.Error.TheVariants as errors
-use Rattle.raft_base.specs.declared.pipe_log.LogQueue.{LogQueue}
 use Rattle.raft_base.specs.declared.pipe_log.LogQueue.TheVariants.{Append, Rewrite}
 use Rattle.raft_history.specs.Batches.{Event, batches}
 use Rattle.raft_history.specs.BothQueues.{IsReadingOfBoth}
-use Rattle.raft_history.specs.Contexts.{Context, FileRange, Suits, files_of, StandsFor, IsExactFor}
-use Rattle.raft_history.specs.Histories.{IsSmall, IsOfQueue, IsOneReading, cleaned_in, records_in_history}
+use Rattle.raft_history.specs.Contexts.{Context, IsExactFor}
+use Rattle.raft_history.specs.Histories.{cleaned_in}
 use Rattle.raft_history.specs.Joins.{AreOverlaid}
 use Rattle.raft_history.specs.Kept as numbers
 use Rattle.raft_history.specs.Kept.{kept_of}
-use Rattle.raft_history.specs.MarkedRegions.{Marks}
 use Rattle.raft_history.specs.Records.{all_records, total}
 use Rattle.raft_history.specs.RegionSteps.{Tables}
 use Rattle.raft_history.specs.WaitingGroup.{WaitingGroup}
-use Rattle.raft_history.specs.WaitingGroups.{WaitingGroups, held_steps, waiting_steps}
+use Rattle.raft_history.specs.WaitingGroups.{held_steps, waiting_steps}
 use Rattle.raft_history.proofs.ContextLaws.{exact_reading}
 use Rattle.raft_history.proofs.RegionLaws.{overlay_by_steps}
 use Rattle.raft_history.proofs.TotalLemmas.{total-none}
 use Rattle.raft_table.specs.Marks.{Mark}
 use Rattle.raft_memtable.specs.KeptShown.{kept_shown}
 use Rattle.raft_memtable.specs.declared.kept.Kept.{Kept}
-use Rattle.raft_memtable.specs.OverlaidContext.{AreOfBothQueues, overlaid_with, IsOverlaidWith, IsOfBothExactly, IsOverlayRefused, IsMergeAppendFault}
-use Rattle.raft_memtable.specs.ReadStates.{IsRead}
-use Rattle.raft_memtable.specs.RecoverContext.{RecoverContext, IsReading, IsReadingExactly}
+use Rattle.raft_memtable.specs.OverlaidContext.{AreOfBothQueues, IsOverlaidWith, IsOfBothExactly, IsOverlayRefused}
+use Rattle.raft_memtable.specs.RecoverContext.{RecoverContext, IsReadingExactly}
 use Rattle.raft_memtable.specs.TableOverlays.{AreTooMany}
-use Rattle.raft_memtable.specs.declared.context_stage.ContextStage.TheVariants.{Reading}
-use Rattle.raft_memtable.proofs.RecoverContextLemmas.{one_reading, suits_of}
 
 -- ---- why it is refused
 
@@ -39,31 +34,6 @@ pub too_many : (c d : Context) (e : Error) → AreTooMany (all_records c.regions
 too_many c d errors.Full h = h
 too_many c d errors.Memory h = tt
 too_many c d _ h = absurd h
-
-pub call_refused : (c d : RecoverContext) (e : Error) → c.stage ≡ Reading → d.stage ≡ Reading → IsOverlayRefused c.context d.context e → IsMergeAppendFault c d e
-call_refused c d errors.Failed x y h = absurd h
-call_refused c d e x y h = (record { rewrite_stage = x; append_stage = y }, h)
-
--- contexts of small histories of both queues are refused for want of memory alone
-pub memory_alone : (c d : RecoverContext) (h g : List Event) (e : Error) → IsSmall h → IsSmall g → IsOfQueue Rewrite h → IsOfQueue Append g → IsReading c h → IsReading d g → IsMergeAppendFault c d e → e ≡ errors.Memory
-memory_alone c d h g errors.Failed s t o p a b (inl f) = absurd (f a.stage)
-memory_alone c d h g errors.Failed s t o p a b (inr f) = absurd (f b.stage)
-memory_alone c d h g (errors.InvalidArgument text) s t o p a b f = absurd (f.1 (record { rewrite_suits = subst (Suits Rewrite) (sym a.stands.files) (suits_of Rewrite h o); append_suits = subst (Suits Append) (sym b.stands.files) (suits_of Append g p) }))
-memory_alone c d h g errors.Full s t o p a b f = absurd (omega (arith, f.1, s.few, t.few, a.stands.few, b.stands.few))
-memory_alone c d h g errors.Memory s t o p a b f = refl
-memory_alone c d h g _ s t o p a b f = absurd f.1
-
--- ---- what is taken in
-
-pub overlaid_by : (c d new : Context) → new.regions.marks ≡ finite.empty → new.groups ≡ finite.empty → new.cleaned ≡ d.cleaned → new.files ≡ c.files → new ≡ overlaid_with c d new.regions.tables
-overlaid_by c d new marks groups cleaned files =
-    ap (λ (m : Marks). with_fields new.regions.tables m new.groups new.cleaned new.files) marks
-    ∙ ap (λ g. with_fields new.regions.tables finite.empty g new.cleaned new.files) groups
-    ∙ ap (λ l. with_fields new.regions.tables finite.empty finite.empty l new.files) cleaned
-    ∙ ap (λ f. with_fields new.regions.tables finite.empty finite.empty d.cleaned f) files
-  where
-    with_fields : Tables → Marks → WaitingGroups → List ℕ → Option FileRange → Context
-    with_fields tables marks groups cleaned files = record { regions = record { tables = tables; marks = marks }; groups = groups; cleaned = cleaned; files = files }
 
 -- ---- what both queues give
 

@@ -1,6 +1,6 @@
 -- The tables of the append queue put over the rewritten ones, one region after another.
-use Rattle.std.proofs.Common.{◌≡◌, ◌<◌, ◌≤◌, ◌+◌, ◌^◌, ℕ, false, cond, nat_eq, List, [], ◌∷◌, Option, Some, None, refl, sym, ap, subst, ◌∙◌, inl, inr, arith}
-use Rattle.std.specs.Ordering.{nat_cmp, eq_by_cmp}
+use Rattle.std.proofs.Common.{◌≡◌, ◌≤◌, ◌+◌, ℕ, false, cond, nat_eq, List, [], ◌∷◌, Option, Some, refl, sym, ap, subst, ◌∙◌, inl, inr, arith}
+use Rattle.std.specs.Ordering.{nat_cmp}
 use Rattle.std.specs.Cmp.{nat_cmp_total}
 use Rattle.std.specs.List.{AllByRecursion, IsDistinct}
 use Rattle.std.specs.Map.{keys_of}
@@ -18,13 +18,12 @@ use Rattle.raft_table.specs.Overlay.{IsOverlayFault}
 use Rattle.raft_table.specs.Steps.{table_of}
 use Rattle.raft_table.specs.Table.{Table, live_of}
 use Rattle.raft_table.proofs.OverlayLemmas.{overlay_run}
-use Rattle.raft_table.proofs.TableLemmas.{live_of_empty}
 use Rattle.raft_history.specs.Joins.{StandForSteps, overlaid_region, AreOverlaid}
-use Rattle.raft_history.specs.MarkedRegions.{Marks, MarkedRegions, region_in}
+use Rattle.raft_history.specs.MarkedRegions.{Marks, MarkedRegions}
 use Rattle.raft_history.specs.Records.{all_records}
 use Rattle.raft_history.specs.RegionSteps.{Tables, with_table}
 use Rattle.raft_memtable.specs.Accessor.{table_in, live_in, live_in_all, AreCountsOf}
-use Rattle.raft_memtable.specs.TableOverlays.{IsRunOverlaid, AreRunsOverlaid, IsTableOverlaid, AreTooMany}
+use Rattle.raft_memtable.specs.TableOverlays.{IsRunOverlaid, AreRunsOverlaid, AreTooMany}
 use Rattle.raft_memtable.proofs.LiveLemmas.{live-remove, live-with, live-table_of}
 use Rattle.raft_memtable.proofs.MapLemmas.{by_id, eq_self, with_other}
 use Rattle.raft_memtable.proofs.RegionJoinLemmas.{live-le-records, each_found, other_key, not_there, held_on}

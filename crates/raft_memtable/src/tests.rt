@@ -1,6 +1,7 @@
 //! Items written to the tables of several regions, the regions that were cleaned, walks and merges.
 
 mod groups;
+mod overlays;
 
 use crate::{MemTableAccessor, slot_of};
 use raft_records::{Command, CompressionType, LogItem, LogItemContent, OpType};

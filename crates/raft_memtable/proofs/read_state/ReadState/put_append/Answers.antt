@@ -1,9 +1,8 @@
-use Rattle.std.proofs.Common.{refl}
 use Rattle.std.proofs.lemmas.Result.{err_from_is_err_and}
 use Rattle.raft_base.specs.declared.pipe_log.LogQueue.TheVariants.{Append, Rewrite}
 use Rattle.raft_memtable.specs.ReadStates.{context_in}
 use Rattle.raft_memtable.proofs.ReadStateLemmas.{alone_of, steps_of_read}
-use Rattle.raft_memtable.proofs.ReadOverlayLemmas.{too_many, overlaid_by}
+use Rattle.raft_memtable.proofs.ReadOverlayLemmas.{too_many}
 use Rattle.raft_memtable.proofs.read_state.ReadState.put_append.Goals as goal
 
 pub overlay-requires : goal.overlay-requires

@@ -126,10 +126,13 @@ impl MemTableRecoverContext {
         }
     }
 
-    /// Takes in the context of the append queue over this one of the rewrite queue: each region that the
-    /// append queue names has its table there over the rewritten one, the others keep their rewritten
-    /// tables, and the cleaned regions are those of the append queue. Groups that are not whole are
-    /// dropped. The context is then overlaid: it answers `kept` and `finish` alone.
+    /// Takes in the context of the append queue; this one is that of the rewrite queue. A region that the
+    /// append queue names has then its table there over the rewritten one. Of that the entries stay from
+    /// the region's greatest compaction on and below the least start of its runs, where they reach it, and
+    /// the key values that the append queue neither puts nor deletes; nothing of it stays where the append
+    /// queue cleaned the region. The other regions keep their rewritten tables, and the cleaned regions are
+    /// those of the append queue. Groups that are not whole are dropped. The context then answers `kept`
+    /// and `finish` alone.
     ///
     /// # Errors
     ///

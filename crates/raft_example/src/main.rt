@@ -1,5 +1,5 @@
-//! Writes log files of both queues, reads them back as after a restart, looks records up, and drops those that are done
-//! with.
+//! Writes log files of both queues, reads them back as after a restart, looks records up, drops those that are done
+//! with, and puts the tables of one queue over those of the other.
 #![tactic(auto)]
 
 mod files;
@@ -26,11 +26,24 @@ fn main(rt: HostRuntime) -> Result<()> {
     println!(rt; "region 7: dropped {dropped} below 12")?;
 
     println!(rt; "a group of the rewrite queue, read batch by batch:")?;
+    let group = files::group(alloc)?;
+    let rewritten = read_parts(alloc, &group)?.finish()?;
+    print_recovered(alloc, &rewritten, &mut rt.stdout())?;
+
+    println!(rt; "the append queue over the rewrite queue:")?;
+    let mut context = read_parts(alloc, &group)?;
+    let appended = [files::first(alloc)?, files::second(alloc)?];
+    context.merge_append_context(read_parts(alloc, &appended)?)?;
+    print_recovered(alloc, &context.finish()?, &mut rt.stdout())
+}
+
+/// A context of all batches of these parts.
+fn read_parts(alloc: Global, parts: &[FilePart]) -> Result<MemTableRecoverContext> {
     let mut context = MemTableRecoverContext::new(alloc)?;
-    for part in &files::group(alloc)? {
+    for part in parts {
         replay(&mut context, part)?;
     }
-    print_recovered(alloc, &context.finish()?, &mut rt.stdout())
+    Ok(context)
 }
 
 /// Replays the batches of a part, in order.

@@ -10,3 +10,4 @@ pub mod RegionSteps
 pub mod Stretches
 pub mod WaitingGroup
 pub mod WaitingGroups
+pub mod BothQueues

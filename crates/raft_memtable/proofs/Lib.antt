@@ -26,3 +26,6 @@ mod TotalSums
 mod LiveSteps
 mod TakenLemmas
 mod GroupFiles
+mod TableOverlayLemmas
+mod RegionOverlayLemmas
+mod ReadOverlayLemmas

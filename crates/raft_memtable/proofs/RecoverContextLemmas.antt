@@ -92,7 +92,7 @@ merge_exact q c d new h g apart m a b = record {
   exact = subst (λ x. IsExactFor x (h ++ g)) (sym m.merged) (regions_exact q c.context d.context h g new.context.regions (merges q c.context d.context h g m.neighbours a.exact.stands b.exact.stands) a.exact b.exact apart.apart m.neighbours.files m.regions);
 }
 
-suits_of : (q : LogQueue) (h : List Event) → IsOfQueue q h → Suits q (files_of h)
+pub suits_of : (q : LogQueue) (h : List Event) → IsOfQueue q h → Suits q (files_of h)
 suits_of q [] o = tt
 suits_of q (e ∷ h) o = o.each.0
 

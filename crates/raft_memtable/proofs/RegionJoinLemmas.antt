@@ -48,11 +48,16 @@ live-le-records q m = live_all-le q (finite.entries m)
 -- ---- marks in any order
 
 -- a key behind another one is not that one
-other_key : (id y : ℕ) → nat_eq id y ≡ false → eq_by_cmp nat_cmp y id ≡ false
+pub other_key : (id y : ℕ) → nat_eq id y ≡ false → eq_by_cmp nat_cmp y id ≡ false
 other_key id y f = elim (by_id y id) [
   | inl p ↦ absurd (false≢true (sym f ∙ ap (nat_eq id) p ∙ self_same id))
   | inr g ↦ g
 ]
+
+-- a key that is none of the others' isn't found among them
+pub not_there : (k : ℕ) (es : List (ℕ × Mark)) → AllByRecursion (λ y. nat_eq k y ≡ false) (keys_of es) → find nat_cmp k es ≡ None
+not_there k [] h = refl
+not_there k (e ∷ es) h = ap (λ b. cond b (Some e.1) (find nat_cmp k es)) (same_test k e.0 ∙ h.0) ∙ not_there k es h.1
 
 -- what is said of what is found is said of each
 pub each_found : (P : ℕ → Mark → Type 0) (es : List (ℕ × Mark)) → IsDistinct nat_eq (keys_of es) → ((r : ℕ) (m : Mark) → find nat_cmp r es ≡ Some m → P r m) → AllByRecursion (λ (e : ℕ × Mark). P e.0 e.1) es
@@ -65,10 +70,6 @@ each_found P (e ∷ es) once h = (
     | inr f ↦ h r m (ap (λ b. cond b (Some e.1) (find nat_cmp r es)) f ∙ is)
   ]),
 )
-  where
-    not_there : (k : ℕ) (es : List (ℕ × Mark)) → AllByRecursion (λ y. nat_eq k y ≡ false) (keys_of es) → find nat_cmp k es ≡ None
-    not_there k [] h = refl
-    not_there k (e ∷ es) h = ap (λ b. cond b (Some e.1) (find nat_cmp k es)) (same_test k e.0 ∙ h.0) ∙ not_there k es h.1
 
 abbrev pub AreRunsOf : LogQueue → Tables → Tables → List (ℕ × Mark) → Type 0
 AreRunsOf queue newer older es = AllByRecursion (λ (e : ℕ × Mark). IsRunOver queue e.1 (table_in newer e.0) (table_in older e.0)) es
@@ -102,7 +103,7 @@ joining_none queue newer first all once a b = record { once = once; alone = a; a
     same (e ∷ es) = (refl, same es)
 
 -- the tables that are left behind one that is taken
-held_on : (newer left : Tables) (id : ℕ) (es : List (ℕ × Mark)) → AllByRecursion (λ y. nat_eq id y ≡ false) (keys_of es) → AllByRecursion (λ (e : ℕ × Mark). finite.get left e.0 ≡ finite.get newer e.0) es → AllByRecursion (λ (e : ℕ × Mark). finite.get (finite.remove left id) e.0 ≡ finite.get newer e.0) es
+pub held_on : (newer left : Tables) (id : ℕ) (es : List (ℕ × Mark)) → AllByRecursion (λ y. nat_eq id y ≡ false) (keys_of es) → AllByRecursion (λ (e : ℕ × Mark). finite.get left e.0 ≡ finite.get newer e.0) es → AllByRecursion (λ (e : ℕ × Mark). finite.get (finite.remove left id) e.0 ≡ finite.get newer e.0) es
 held_on newer left id [] f h = tt
 held_on newer left id (e ∷ es) f h = (get_left left id e.0 (other_key id e.0 f.0) ∙ h.0, held_on newer left id es f.1 h.1)
 

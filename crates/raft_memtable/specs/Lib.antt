@@ -28,3 +28,5 @@ pub mod RecoverContextCode
 pub mod RecoverContextView
 pub mod BatchChecks
 pub mod KeptShown
+pub mod TableOverlays
+pub mod OverlaidContext

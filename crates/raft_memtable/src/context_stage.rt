@@ -5,7 +5,7 @@
 pub enum ContextStage {
     /// It takes in batches and newer neighbours.
     Reading,
-    /// It has taken in a context of the append queue: its tables are those of both queues. No call gives this yet.
+    /// It has taken in the context of the append queue: its tables are those of both queues.
     Overlaid,
     /// A call was refused.
     Failed,

@@ -14,6 +14,7 @@ ghost use Rattle.raft_memtable.specs.MarkedTables.{regions_in, AreStepsOfQueue, 
 ghost use Rattle.raft_memtable.specs.WaitingShown.{whole_shown};
 
 mod join;
+mod overlay;
 
 use crate::accessor::MemTableAccessor;
 use crate::region_marks::RegionMarks;

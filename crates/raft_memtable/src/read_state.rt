@@ -16,6 +16,8 @@ ghost use Rattle.raft_memtable.specs.RecoverContext.{reading_on, MayFollow, IsBa
 ghost use Rattle.raft_memtable.specs.ReplayMachine.{event};
 ghost use Rattle.raft_memtable.specs.WaitingShown.{whole_shown};
 
+mod overlay;
+
 use crate::batch_check::check_batch;
 use crate::file_range::FileRange;
 use crate::kept::Kept;

@@ -3,13 +3,16 @@
 ghost use Rattle.std.specs.Prelude.{ℕ, ◌≡◌, ◌≢◌, ◌⊎◌, [], ◌∷◌, ◌++◌, List, IsOk, IfOk, IfErr, OnOk, OnErr};
 ghost use Rattle.raft_base.specs.declared.errors.Error.{Error};
 ghost use Rattle.raft_base.specs.declared.pipe_log.LogQueue.{LogQueue};
+ghost use Rattle.raft_base.specs.declared.pipe_log.LogQueue.TheVariants.{Append, Rewrite};
 ghost use Rattle.raft_history.specs.Batches.{Event};
+ghost use Rattle.raft_history.specs.BothQueues.{IsReadingOfBoth};
 ghost use Rattle.raft_history.specs.Contexts.{Suits};
-ghost use Rattle.raft_history.specs.Histories.{IsOneReading};
+ghost use Rattle.raft_history.specs.Histories.{IsSmall, IsOfQueue, IsOneReading};
 ghost use Rattle.raft_history.specs.Kept.{kept_of, kept_by, IsAtMost};
 ghost use Rattle.raft_history.specs.RegionSteps.{Tables};
 ghost use Rattle.raft_memtable.specs.Accessor.{AreCountsOf};
 ghost use Rattle.raft_memtable.specs.KeptShown.{kept_shown, IsKeptFault};
+ghost use Rattle.raft_memtable.specs.OverlaidContext.{IsOverlaidWith, IsOfBothExactly, IsMergeAppendFault};
 ghost use Rattle.raft_memtable.specs.RecoverContext.{blank_context, IsReading, IsReadingExactly, IsTakenIn, IsBatchFault, IsMergedWith, IsNeighbourFault, refused_stage};
 ghost use Rattle.raft_memtable.specs.ReplayMachine.{event};
 ghost use Rattle.raft_memtable.specs.declared.context_stage.ContextStage.TheVariants.{Reading, Overlaid, Failed};
@@ -123,6 +126,52 @@ impl MemTableRecoverContext {
         }
     }
 
+    /// Takes in the context of the append queue; this one is that of the rewrite queue. A region that the
+    /// append queue names has then its table there over the rewritten one. Of that the entries stay from
+    /// the region's greatest compaction on and below the least start of its runs, where they reach it, and
+    /// the key values that the append queue neither puts nor deletes; nothing of it stays where the append
+    /// queue cleaned the region. The other regions keep their rewritten tables, and the cleaned regions are
+    /// those of the append queue. Groups that are not whole are dropped. The context then answers `kept`
+    /// and `finish` alone.
+    ///
+    /// # Errors
+    ///
+    /// `Failed` where the context doesn't read on, and then it stays as it is. After any other refusal
+    /// it is failed. `Failed` also where `append` doesn't read on; `InvalidArgument` where this context
+    /// is of the append queue, or `append` of the rewrite queue; `Full` where more than 2^64 - 1 records
+    /// would be live; `Memory`.
+    pub fn merge_append_context(&mut self, append: MemTableRecoverContext) -> Result<()>
+        ensures ok { OnOk result (IsOverlaidWith append self.old self.new) }
+        ensures exact { (rewrite appended : List Event) → IsReadingExactly self.old rewrite
+            → IsReadingExactly append appended → OnOk result (IsOfBothExactly self.new rewrite appended) }
+        ensures fault { IfErr result (IsMergeAppendFault self.old append) }
+        ensures memory { (rewrite appended : List Event) → IsSmall rewrite → IsSmall appended
+            → IsOfQueue Rewrite rewrite → IsOfQueue Append appended → IsReading self.old rewrite
+            → IsReading append appended → IfErr result (λ e. e ≡ Error.Memory) }
+        ensures err { OnErr result (self.new.stage ≡ refused_stage self.old.stage) }
+        ensures unchanged { self.old.stage ≢ Reading → self.new ≡ self.old }
+        ensures failed { self.old.stage ≢ Reading → IfErr result (λ e. e ≡ Error.Failed) }
+    {
+        if self.stage != ContextStage::Reading {
+            return Err(Error::Failed);
+        }
+        let MemTableRecoverContext { state, stage } = append;
+        if stage != ContextStage::Reading {
+            self.stage = ContextStage::Failed;
+            return Err(Error::Failed);
+        }
+        match self.state.overlay(state) {
+            Ok(()) => {
+                self.stage = ContextStage::Overlaid;
+                Ok(())
+            }
+            Err(e) => {
+                self.stage = ContextStage::Failed;
+                Err(e)
+            }
+        }
+    }
+
     /// How much the context holds. Where it stands for a history exactly, that is no more than one
     /// reading of the history has, its groups that are not whole, and the keys that it deletes.
     ///
@@ -135,6 +184,8 @@ impl MemTableRecoverContext {
             → IsReadingExactly self.now h
             → Suits queue self.now.context.files → IsOneReading queue h tables cleaned
             → IfOk result (λ kept. IsAtMost (kept_shown kept) (kept_by queue h tables)) }
+        ensures overlaid { (rewrite append : List Event) → IsOfBothExactly self.now rewrite append
+            → IfOk result (λ kept. (kept.marks ≡ 0) × (kept.deleted_keys ≡ 0) × (kept.waiting_items ≡ 0)) }
         ensures accepted { OnOk result (self.now.stage ≢ Failed) }
         ensures failed { self.now.stage ≡ Failed → IfErr result (λ e. e ≡ Error.Failed) }
         ensures fault { IfErr result (IsKeptFault self.now.stage) }
@@ -156,6 +207,8 @@ impl MemTableRecoverContext {
         ensures counted { IfOk result (λ accessor. AreCountsOf accessor.tables accessor.counts) }
         ensures reading { (queue : LogQueue) (h : List Event) → IsReadingExactly self h → Suits queue self.context.files
             → IfOk result (λ accessor. IsOneReading queue h accessor.tables accessor.cleaned) }
+        ensures overlaid { (rewrite append : List Event) → IsOfBothExactly self rewrite append
+            → IfOk result (λ accessor. IsReadingOfBoth rewrite append accessor.tables accessor.cleaned) }
         ensures accepted { OnOk result (self.stage ≢ Failed) }
         ensures failed { IfErr result (λ e. (e ≡ Error.Failed) × (self.stage ≡ Failed)) }
     {

@@ -16,6 +16,7 @@ ghost use Rattle.raft_memtable.specs.Updates.{MayChange, IsUpdated, IsTaken};
 ghost use Rattle.raft_memtable.specs.Walks.{KeepsId, Makes};
 
 mod join;
+mod overlay;
 
 use raft_table::{Error, FileSeq, GlobalStats, MemTable, Result, TableChange};
 use std::alloc::Global;

@@ -5,3 +5,5 @@
 mod groups;
 #[cfg(test)]
 mod items;
+#[cfg(test)]
+mod overlays;

@@ -1,0 +1,359 @@
+//! Contexts of the rewrite queue that take in the context of the append queue.
+
+ghost use Rattle.std.specs.Prelude.{◌≡◌, OnOk};
+ghost use Rattle.raft_records.specs.LogBatch.{populating};
+
+use raft_memtable::{Error, FileId, Kept, LogQueue, MemTableAccessor, MemTableRecoverContext, Result};
+use raft_records::{
+    Command, FilePart, LogBatch, LogFileContext, Message, MessageError, MessageExt, Version,
+    next_batch,
+};
+use std::alloc::Global;
+
+/// An entry of one byte.
+#[derive(Clone, Copy, PartialEq, Debug, Drop)]
+struct Line {
+    index: u64,
+}
+
+impl Message for Line {
+    ghost use Rattle.std.specs.Prelude.{[], ◌∷◌};
+
+    ghost bytes_of = { λ line. 120 ∷ [] };
+
+    ghost refuses = { λ line code. ⊥ };
+
+    fn write_to_vec(&self, buf: &mut Vec<u8>) -> std::result::Result<(), MessageError> {
+        match buf.push(b'x') {
+            Ok(()) => Ok(()),
+            Err(_) => Err(MessageError::Memory),
+        }
+    }
+}
+
+/// Logs of lines.
+struct Lines;
+
+impl MessageExt for Lines {
+    type Entry = Line;
+
+    ghost index_of = { λ line. line.index };
+
+    fn index(line: &Line) -> u64 {
+        line.index
+    }
+}
+
+/// What a batch says of region 1.
+#[derive(Clone, Copy)]
+enum Word {
+    /// Entries from the first index to below the second.
+    Run(u64, u64),
+    Compact(u64),
+    Clean,
+    Put,
+    Delete,
+}
+
+use Word::{Clean, Compact, Delete, Put, Run};
+
+/// Adds what a batch says of a region.
+fn add(alloc: Global, region: u64, word: Word, batch: &mut LogBatch) -> Result<()>
+    requires { batch.old.stage ≡ populating }
+    ensures { OnOk result (batch.new.stage ≡ populating) }
+{
+    match word {
+        Run(start, end) => {
+            let mut lines = Vec::new(alloc);
+            for index in start..end {
+                lines.push(Line { index })?;
+            }
+            batch.add_entries::<Lines>(region, lines.as_slice())
+        }
+        Compact(index) => batch.add_command(region, Command::Compact { index }),
+        Clean => batch.add_command(region, Command::Clean),
+        Put => batch.put(
+            region,
+            Vec::from_slice(alloc, b"k")?,
+            Vec::from_slice(alloc, b"v")?,
+        ),
+        Delete => batch.delete(region, Vec::from_slice(alloc, b"k")?),
+    }
+}
+
+/// The bytes of a batch that says this.
+fn part(alloc: Global, region: u64, word: Word, file: FileId) -> Result<FilePart> {
+    let mut batch = LogBatch::default(alloc);
+    add(alloc, region, word, &mut batch)?;
+    batch.finish_populate()?;
+    batch.prepare_write(&LogFileContext::new(file, Version::V1));
+    let bytes = Vec::from_slice(alloc, batch.encoded_bytes())?;
+    FilePart::new(file, Version::V1, 0, bytes)
+}
+
+/// Replays a batch for each word, each of a file of its own.
+fn replay(
+    alloc: Global,
+    context: &mut MemTableRecoverContext,
+    queue: LogQueue,
+    region: u64,
+    words: &[Word],
+) -> Result<()> {
+    let mut seq = 1u64;
+    for word in words {
+        let part = part(alloc, region, *word, FileId::new(queue, seq))?;
+        if let Some((batch, _)) = next_batch(&part, 0)? {
+            context.replay(batch, part.id())?;
+        }
+        seq = seq.saturating_add(1);
+    }
+    Ok(())
+}
+
+/// A context of these words on region 1.
+fn read(alloc: Global, queue: LogQueue, words: &[Word]) -> Result<MemTableRecoverContext> {
+    let mut context = MemTableRecoverContext::new(alloc)?;
+    replay(alloc, &mut context, queue, 1, words)?;
+    Ok(context)
+}
+
+/// What region 1 has when the append queue is taken in.
+#[derive(Clone, Copy, PartialEq, Debug)]
+struct Shape {
+    /// Whether it has a table.
+    table: bool,
+    first: Option<u64>,
+    last: Option<u64>,
+    key: bool,
+    /// How many records are live in each queue.
+    append: usize,
+    rewrite: usize,
+    cleaned: usize,
+}
+
+/// No table and no record.
+const NONE: Shape = Shape {
+    table: false,
+    first: None,
+    last: None,
+    key: false,
+    append: 0,
+    rewrite: 0,
+    cleaned: 0,
+};
+
+/// What both queues say of region 1, and what it has.
+struct Row {
+    rewritten: &'static [Word],
+    appended: &'static [Word],
+    shape: Shape,
+}
+
+const ROWS: [Row; 10] = [
+    // The entries below the least start stay, whatever the first start is.
+    Row {
+        rewritten: &[Run(10, 20)],
+        appended: &[Run(30, 40), Run(20, 25)],
+        shape: Shape {
+            table: true,
+            first: Some(10),
+            last: Some(24),
+            append: 5,
+            rewrite: 10,
+            ..NONE
+        },
+    },
+    // They don't reach the start.
+    Row {
+        rewritten: &[Run(10, 15)],
+        appended: &[Run(20, 30)],
+        shape: Shape {
+            table: true,
+            first: Some(20),
+            last: Some(29),
+            append: 10,
+            ..NONE
+        },
+    },
+    Row {
+        rewritten: &[Run(10, 20)],
+        appended: &[Clean, Run(30, 35)],
+        shape: Shape {
+            table: true,
+            first: Some(30),
+            last: Some(34),
+            append: 5,
+            cleaned: 1,
+            ..NONE
+        },
+    },
+    // The append queue doesn't name the region.
+    Row {
+        rewritten: &[Run(10, 20), Put],
+        appended: &[],
+        shape: Shape {
+            table: true,
+            first: Some(10),
+            last: Some(19),
+            key: true,
+            rewrite: 11,
+            ..NONE
+        },
+    },
+    Row {
+        rewritten: &[Put],
+        appended: &[Delete],
+        shape: Shape {
+            table: true,
+            ..NONE
+        },
+    },
+    // A compaction drops what was written behind a run that starts below it.
+    Row {
+        rewritten: &[Run(10, 20)],
+        appended: &[Run(15, 18), Compact(18)],
+        shape: Shape {
+            table: true,
+            ..NONE
+        },
+    },
+    Row {
+        rewritten: &[],
+        appended: &[Put],
+        shape: Shape {
+            table: true,
+            key: true,
+            append: 1,
+            ..NONE
+        },
+    },
+    Row {
+        rewritten: &[Run(10, 20), Put],
+        appended: &[Clean],
+        shape: Shape { cleaned: 1, ..NONE },
+    },
+    Row {
+        rewritten: &[Put],
+        appended: &[Put],
+        shape: Shape {
+            table: true,
+            key: true,
+            append: 1,
+            ..NONE
+        },
+    },
+    Row {
+        rewritten: &[Run(10, 20)],
+        appended: &[Compact(15)],
+        shape: Shape {
+            table: true,
+            first: Some(15),
+            last: Some(19),
+            rewrite: 5,
+            ..NONE
+        },
+    },
+];
+
+/// What region 1 has.
+fn shape_of(accessor: &MemTableAccessor) -> Shape {
+    let table = accessor.get(1);
+    Shape {
+        table: table.is_some(),
+        first: table.and_then(|table| table.first_index()),
+        last: table.and_then(|table| table.last_index()),
+        key: table.is_some_and(|table| table.get(b"k").is_some()),
+        append: accessor.stats().live_entries(LogQueue::Append),
+        rewrite: accessor.stats().live_entries(LogQueue::Rewrite),
+        cleaned: accessor.cleaned_regions().len(),
+    }
+}
+
+/// Whether a row's tables are those that it owes.
+fn holds(alloc: Global, row: &Row) -> Result<bool> {
+    let mut context = read(alloc, LogQueue::Rewrite, row.rewritten)?;
+    context.merge_append_context(read(alloc, LogQueue::Append, row.appended)?)?;
+    Ok(shape_of(&context.finish()?) == row.shape)
+}
+
+#[test]
+fn the_append_queue_lies_over_the_rewrite_queue(rt: HostRuntime) {
+    for row in &ROWS {
+        let mut held = holds(rt.alloc(), row);
+        if matches!(held, Err(Error::Memory)) {
+            held = holds(rt.alloc(), row);
+        }
+        assert!(rt; matches!(held, Ok(true)));
+    }
+}
+
+/// Why a call is refused; want of memory is handed on.
+#[derive(Clone, Copy, PartialEq, Eq, Debug)]
+enum Refusal {
+    Failed,
+    InvalidArgument,
+    Other,
+}
+
+fn refusal_of(answer: Result<()>) -> Result<Option<Refusal>> {
+    match answer {
+        Ok(()) => Ok(None),
+        Err(Error::Memory) => Err(Error::Memory),
+        Err(Error::Failed) => Ok(Some(Refusal::Failed)),
+        Err(Error::InvalidArgument(_)) => Ok(Some(Refusal::InvalidArgument)),
+        Err(_) => Ok(Some(Refusal::Other)),
+    }
+}
+
+/// A context of the wrong queue is refused, and the refusal fails the other one.
+fn wrong_queues(alloc: Global) -> Result<bool> {
+    let mut appended = read(alloc, LogQueue::Append, &[Put])?;
+    let taken = refusal_of(appended.merge_append_context(MemTableRecoverContext::new(alloc)?))?;
+    let mut rewritten = read(alloc, LogQueue::Rewrite, &[Put])?;
+    let other = read(alloc, LogQueue::Rewrite, &[Put])?;
+    let refused = refusal_of(rewritten.merge_append_context(other))?;
+    let failed = matches!(rewritten.finish(), Err(Error::Failed));
+    Ok(
+        taken == Some(Refusal::InvalidArgument)
+            && refused == Some(Refusal::InvalidArgument)
+            && failed,
+    )
+}
+
+/// What has taken in an append context takes in nothing more, and is taken in by none.
+fn overlaid_twice(alloc: Global) -> Result<bool> {
+    let mut context = read(alloc, LogQueue::Rewrite, &[Run(10, 20)])?;
+    context.merge_append_context(read(alloc, LogQueue::Append, &[Put])?)?;
+    let again = refusal_of(context.merge_append_context(MemTableRecoverContext::new(alloc)?))?;
+    let replayed = refusal_of(replay(alloc, &mut context, LogQueue::Rewrite, 1, &[Clean]))?;
+    let stays = Kept {
+        entries: 10,
+        keys: 1,
+        marks: 0,
+        deleted_keys: 0,
+        cleaned: 0,
+        waiting_items: 0,
+    };
+    let kept = context.kept()? == stays;
+    let mut older = MemTableRecoverContext::new(alloc)?;
+    let merged = refusal_of(older.merge_append_context(context))?;
+    Ok(
+        kept && [again, replayed, merged]
+            .iter()
+            .all(|answer| *answer == Some(Refusal::Failed)),
+    )
+}
+
+#[test]
+fn contexts_are_taken_in_once(rt: HostRuntime) {
+    let mut held = wrong_queues(rt.alloc());
+    if matches!(held, Err(Error::Memory)) {
+        held = wrong_queues(rt.alloc());
+    }
+    assert!(rt; matches!(held, Ok(true)));
+    let mut held = overlaid_twice(rt.alloc());
+    if matches!(held, Err(Error::Memory)) {
+        held = overlaid_twice(rt.alloc());
+    }
+    assert!(rt; matches!(held, Ok(true)));
+}

@@ -66,6 +66,27 @@ impl Entries {
         Ok(())
     }
 
+    /// Keeps the first `keep` entries, and puts the entries of a run behind them.
+    pub(super) fn lay(&mut self, keep: usize, run: &[EntryIndex]) -> Result<()>
+        requires keep { keep ≤ length self.old }
+        requires run { 0 < length run.now }
+        requires table_entries { AreTableEntries (take keep self.old ++ run.now) }
+        ensures ok { OnOk result (self.new ≡ take keep self.old ++ run.now) }
+        ensures err { OnErr result (self.new ≡ self.old) }
+        ensures memory { IfErr result (λ e. e ≡ Error.Memory) }
+    {
+        let alloc = *self.blocks.allocator();
+        let first = run[0];
+        if let Some(handle) = first.entries {
+            if keep == self.len && count_of(&handle, run, 0) == run.len() {
+                let spans = spans_of(alloc, run)?;
+                return self.push(first.index, handle, spans);
+            }
+        }
+        let mut entries = Entries::from_run(alloc, run)?;
+        self.put_run(keep, &mut entries)
+    }
+
     /// Keeps the first `keep` entries, and moves a run behind them.
     pub(super) fn put_run(&mut self, keep: usize, run: &mut Entries) -> Result<()>
         requires keep { keep ≤ length self.old }
@@ -195,9 +216,9 @@ fn spans_of(alloc: Global, run: &[EntryIndex]) -> Result<VecDeque<(u32, u32)>>
     ensures ok { IfOk result (λ spans. spans.items ≡ spans_of run.now) }
     ensures memory { IfErr result (λ e. e ≡ Error.Memory) }
 {
-    let mut spans = VecDeque::with_capacity(alloc, run.len())?;
+    let mut spans = Vec::with_capacity(alloc, run.len())?;
     for entry in run {
-        spans.push_back_reserved((entry.entry_offset, entry.entry_len));
+        spans.push_reserved((entry.entry_offset, entry.entry_len));
     }
-    Ok(spans)
+    Ok(VecDeque::from_vec(spans))
 }

@@ -33,10 +33,7 @@ impl Entries {
             return Ok(());
         };
         match self.start(first.index) {
-            Start::Joins(keep) => {
-                let mut run = self.run_of(&run, LogQueue::Append)?;
-                self.put_behind(keep, &mut run, LogQueue::Append, stats)
-            }
+            Start::Joins(keep) => self.put_run_behind(keep, &run, LogQueue::Append, stats),
             Start::InFront => Err(self.corruption("a run starts below the first entry")?),
             Start::BehindHole => Err(self.corruption("a run leaves a hole behind the last entry")?),
         }
@@ -58,8 +55,7 @@ impl Entries {
         ensures counts { OnOk result (stats.new ≡ counts_with_run Append self.old run.items stats.old) }
         ensures recounted { AreRecounted self.old self.new stats.old stats.new }
     {
-        let mut run = self.run_of(&run, LogQueue::Append)?;
-        self.replay(LogQueue::Append, &mut run, LogQueue::Append, stats)
+        self.replay_run(&run, LogQueue::Append, stats)
     }
 
     /// Puts a run of the rewrite queue that is read again behind the entries below its start, or
@@ -79,8 +75,7 @@ impl Entries {
         ensures counts { OnOk result (stats.new ≡ counts_with_run Rewrite self.old run.items stats.old) }
         ensures recounted { AreRecounted self.old self.new stats.old stats.new }
     {
-        let mut run = self.run_of(&run, LogQueue::Rewrite)?;
-        self.replay(LogQueue::Rewrite, &mut run, LogQueue::Rewrite, stats)
+        self.replay_run(&run, LogQueue::Rewrite, stats)
     }
 
     /// Moves all entries of `rhs`, which are in one queue, behind the entries below their start, by
@@ -111,13 +106,36 @@ impl Entries {
         self.replay(rule, rhs, queue, stats)
     }
 
-    /// A run of `queue` as entries.
-    fn run_of(&self, run: &[EntryIndex], queue: LogQueue) -> Result<Entries>
-        requires { IsRunIn queue run.now }
-        ensures ok { IfOk result (λ entries. entries ≡ run.now) }
-        ensures memory { IfErr result (λ e. e ≡ Error.Memory) }
+    /// Puts a run of `queue` that is read again behind the entries below its start, by the start rule of
+    /// that queue.
+    fn replay_run(
+        &mut self,
+        run: &[EntryIndex],
+        queue: LogQueue,
+        stats: &mut GlobalStats,
+    ) -> Result<()>
+        requires run { IsRunIn queue run.now }
+        requires rewritten { queue ≡ Rewrite → entry_count Append self.old ≡ 0 }
+        requires counted { AreCounted self.old stats.old }
+        ensures ok { OnOk result (replayed queue self.old run.now ≡ Some self.new) }
+        ensures fault { IfErr result (IsTableRunFault queue stats.old self.old (replayed queue self.old run.now)) }
+        ensures err { OnErr result ((self.new ≡ self.old) × (stats.new ≡ stats.old)) }
+        ensures counts { OnOk result (stats.new ≡ counts_with_run queue self.old run.now stats.old) }
+        ensures recounted { AreRecounted self.old self.new stats.old stats.new }
     {
-        Entries::from_run(*self.blocks.allocator(), run)
+        let Some(first) = run.first() else {
+            return Ok(());
+        };
+        match self.start(first.index) {
+            Start::Joins(keep) => self.put_run_behind(keep, run, queue, stats),
+            Start::InFront => self.put_run_behind(0, run, queue, stats),
+            Start::BehindHole => match queue {
+                LogQueue::Append => {
+                    Err(self.corruption("a run leaves a hole behind the last entry")?)
+                }
+                LogQueue::Rewrite => self.put_run_behind(0, run, queue, stats),
+            },
+        }
     }
 
     /// Moves a run of `queue` behind the entries below its start, by the start rule of the replays
@@ -182,6 +200,38 @@ impl Entries {
             return Err(Error::Full);
         }
         self.put_run(keep, run)?;
+        exchange(stats, rewritten, appended, queue, added);
+        Ok(())
+    }
+
+    /// Keeps the first `keep` entries and puts a run of `queue` behind them.
+    fn put_run_behind(
+        &mut self,
+        keep: usize,
+        run: &[EntryIndex],
+        queue: LogQueue,
+        stats: &mut GlobalStats,
+    ) -> Result<()>
+        requires keep { keep ≤ length self.old }
+        requires filled { 0 < length run.now }
+        requires table_entries { AreTableEntries (take keep self.old ++ run.now) }
+        requires queue { placed_in queue run.now ≡ run.now }
+        requires counted { AreCounted self.old stats.old }
+        ensures ok { OnOk result (self.new ≡ take keep self.old ++ run.now) }
+        ensures err { OnErr result ((self.new ≡ self.old) × (stats.new ≡ stats.old)) }
+        ensures counts { OnOk result (stats.new
+            ≡ with_added queue (length run.now) (counts_without (drop keep self.old) stats.old)) }
+        ensures recounted { AreRecounted self.old self.new stats.old stats.new }
+        ensures fault { IfErr result (IsTableRunFault queue stats.old self.old (Some (take keep self.old ++ run.now))) }
+    {
+        let dropped = self.len - keep;
+        let rewritten = self.rewritten - self.rewritten.min(keep);
+        let appended = dropped - rewritten;
+        let added = run.len();
+        if !has_room(stats, rewritten, appended, queue, added) {
+            return Err(Error::Full);
+        }
+        self.lay(keep, run)?;
         exchange(stats, rewritten, appended, queue, added);
         Ok(())
     }

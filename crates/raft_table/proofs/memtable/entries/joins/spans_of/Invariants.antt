@@ -8,4 +8,4 @@ use Rattle.raft_table.proofs.memtable.entries.joins.spans_of.Given as goal
 
 abbrev pub invariant-loop-entry : goal.invariant-loop-entry
 invariant-loop-entry l =
-    (l.spans.items ≡ spans_of (take l.entry-index l.run)) × (deque_len l.spans ≡ l.entry-index) × (length l.run ≤ deque_capacity l.spans)
+    (l.spans.items ≡ spans_of (take l.entry-index l.run)) × (vec_len l.spans ≡ l.entry-index) × (length l.run ≤ vec_capacity l.spans)

@@ -1,0 +1,55 @@
+use Rattle.std.proofs.Common.{ℕ, suc, ◌≡◌, ◌≢◌, ◌+◌, ◌-◌, ◌<◌, ◌≤◌, ◌^◌, inl, inr, min, max, List, [], ◌∷◌, ◌++◌, length, take, drop, get_or, set, arith, refl, sym, ap, subst, ◌∙◌, Some, None, Option}
+use Rattle.std.specs.Prelude.{map}
+use Rattle.std.proofs.lemmas.List.{nil_from_length, append-nil, append_assoc, length-append, length-map, length-take-le, length-take, length-drop, take_all, drop_all, take-map, drop-map, map-append, map-set, get_or-map, get_or_default, take-append-drop}
+use Rattle.std.proofs.lemmas.Result.{err_from_is_err_and, on_ok_weaker, IfErr-weaker}
+use Rattle.raft_base.specs.declared.pipe_log.LogQueue.TheVariants.{Append, Rewrite}
+use Rattle.raft_table.specs.Blocks.{BlockSpans, block_spans, shown, spread, expanded, AreDistinctBlocks}
+use Rattle.raft_table.specs.BlockWords.{count, starts_of, AreKept, IsAt, IsIndexOf, cut_last, cut_first, joined_blocks, seam}
+use Rattle.raft_table.specs.TableEntries.{AreTableEntries, start_of, end_of, below, from, placed_in, entry_count}
+use Rattle.raft_table.proofs.PlaceLemmas.{each_queue, entry_count-append, entries_in_one}
+use Rattle.raft_table.proofs.SoundLemmas.{CutCounts, cut_counts, sound_rising, AreTableEntries-take, AreTableEntries-drop}
+use Rattle.raft_table.proofs.BlockLemmas.{length-expanded, length-starts, rises_expanded}
+use Rattle.raft_table.proofs.BlockSearch.{at_start, index_some, index_first, index_rises, at_place, entry_at_place, place_within}
+use Rattle.raft_table.proofs.BlockKept.{IsPushed, pushed_fits, kept_push, IsKeptAs, kept_join, sound_fits}
+use Rattle.raft_table.proofs.BlockCuts.{found, index_of, kept_length, kept_front, front_of, KeptFacts, kept_facts, kept_nil, kept_drop, kept_take, IsFront, front_at}
+use Rattle.raft_base.specs.declared.pipe_log.FileBlockHandle.{FileBlockHandle}
+use Rattle.raft_table.specs.BlockWords.{spans_of}
+use Rattle.std.proofs.Math.Seq.{drop-append_seam}
+use Rattle.raft_records.specs.declared.entry_index.EntryIndex.{EntryIndex}
+use Rattle.raft_table.proofs.RunGroups.{group_of}
+use Rattle.raft_table.proofs.memtable.entries.Entries.lay.Goals as goal
+
+-- a run is sound where it is behind others
+sound_behind : (keep : ℕ) (es run : List EntryIndex) → keep ≤ length es → AreTableEntries (take keep es ++ run) → AreTableEntries run
+sound_behind keep es run k h = subst AreTableEntries (drop-append_seam (take keep es) run) (AreTableEntries-drop (length (take keep es)) (take keep es ++ run) h)
+
+pub from_run-requires : goal.from_run-requires
+from_run-requires c = sound_behind c.args.keep c.args.self.now c.args.run.now c.requires.keep c.requires.table_entries
+
+-- the entries of the only block of a run
+only_block : (run : List EntryIndex) (h : FileBlockHandle) (d : EntryIndex) → AreTableEntries run → 0 < length run → ((j : ℕ) (e : EntryIndex) → 0 ≤ j → j < 0 + length run → (get_or run j e).entries ≡ Some h) → spread (get_or run 0 d).index h (spans_of run) ≡ run
+only_block run h d s l a =
+    let e : 0 + length run - 0 ≡ length run = omega arith in
+    let z : 0 + length run ≡ length run = omega arith in
+    let g = group_of run 0 (length run) h d s (omega arith) l a in
+    let t : take (length run) run ≡ run = take_all (length run) run (omega arith) in
+    rw (e, z, t) at g
+
+-- a run of one block behind all entries
+laid : (keep : ℕ) (es run : List EntryIndex) (h : FileBlockHandle) (ss : List (ℕ × ℕ)) (d : EntryIndex) → keep ≡ length es → AreTableEntries (take keep es ++ run) → 0 < length run → ss ≡ spans_of run → ((j : ℕ) (e : EntryIndex) → 0 ≤ j → j < 0 + length run → (get_or run j e).entries ≡ Some h) → take keep es ++ run ≡ es ++ spread (get_or run 0 d).index h ss
+laid keep es run h ss d k s l q a =
+    let t : take keep es ≡ es = take_all keep es (omega arith) in
+    let o = only_block run h d (sound_behind keep es run (omega arith) s) l a in
+    ap (λ xs. xs ++ run) t ∙ ap (λ xs. es ++ xs) (sym o) ∙ ap (λ xs. es ++ spread (get_or run 0 d).index h xs) (sym q)
+
+pub push-requires-clause-table_entries : goal.push-requires-clause-table_entries
+push-requires-clause-table_entries c =
+    let l : c.self.inside.len ≡ length c.args.self.now = sym (rw (← c.self.view_is) (kept_facts c.self.invariant).length) in
+    let e = laid c.args.keep c.args.self.now c.args.run.now c.in-Some.handle c.in_ok-spans.spans.items _ (omega arith) c.requires.table_entries c.requires.run c.in_ok-spans.ensures.ok (λ j x z k. c.count_of.ensures.all j x z (omega arith)) in
+    subst AreTableEntries e c.requires.table_entries
+
+pub returns-then-count_of-run-clause-ok : goal.returns-then-count_of-run-clause-ok
+returns-then-count_of-run-clause-ok c =
+    let l : c.self.inside.len ≡ length c.args.self.now = sym (rw (← c.self.view_is) (kept_facts c.self.invariant).length) in
+    let e = laid c.args.keep c.args.self.now c.args.run.now c.in-Some.handle c.in_ok-spans.spans.items _ (omega arith) c.requires.table_entries c.requires.run c.in_ok-spans.ensures.ok (λ j x z k. c.count_of.ensures.all j x z (omega arith)) in
+    on_ok_weaker c.push.result (λ w. w ∙ sym e) c.push.ensures.ok

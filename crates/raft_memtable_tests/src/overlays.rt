@@ -3,7 +3,9 @@
 ghost use Rattle.std.specs.Prelude.{◌≡◌, OnOk};
 ghost use Rattle.raft_records.specs.LogBatch.{populating};
 
-use raft_memtable::{Error, FileId, Kept, LogQueue, MemTableAccessor, MemTableRecoverContext, Result};
+use raft_memtable::{
+    Error, FileId, Kept, LogQueue, MemTableAccessor, MemTableRecoverContext, Result,
+};
 use raft_records::{
     Command, FilePart, LogBatch, LogFileContext, Message, MessageError, MessageExt, Version,
     next_batch,

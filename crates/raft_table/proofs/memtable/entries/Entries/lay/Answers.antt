@@ -15,7 +15,7 @@ use Rattle.raft_table.proofs.BlockCuts.{found, index_of, kept_length, kept_front
 use Rattle.raft_base.specs.declared.pipe_log.FileBlockHandle.{FileBlockHandle}
 use Rattle.raft_table.specs.BlockWords.{spans_of}
 use Rattle.std.proofs.Math.Seq.{drop-append_seam}
-use Rattle.raft_records.specs.declared.entry_index.EntryIndex.{EntryIndex}
+use Rattle.raft_base.specs.declared.entry_index.EntryIndex.{EntryIndex}
 use Rattle.raft_table.proofs.RunGroups.{group_of}
 use Rattle.raft_table.proofs.memtable.entries.Entries.lay.Goals as goal
 

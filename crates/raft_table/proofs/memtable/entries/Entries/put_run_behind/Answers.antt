@@ -13,7 +13,7 @@ use Rattle.raft_table.proofs.BlockSearch.{at_start, index_some, index_first, ind
 use Rattle.raft_table.proofs.BlockKept.{IsPushed, pushed_fits, kept_push, IsKeptAs, kept_join, sound_fits}
 use Rattle.raft_table.proofs.BlockCuts.{found, index_of, kept_length, kept_front, front_of, KeptFacts, kept_facts, kept_nil, kept_drop, kept_take, IsFront, front_at}
 use Rattle.raft_base.specs.declared.pipe_log.LogQueue.{LogQueue}
-use Rattle.raft_records.specs.declared.entry_index.EntryIndex.{EntryIndex}
+use Rattle.raft_base.specs.declared.entry_index.EntryIndex.{EntryIndex}
 use Rattle.raft_table.specs.Counts.{Counts, live}
 use Rattle.raft_table.specs.Queues.{count_in, of_queue}
 use Rattle.raft_table.proofs.GoneLemmas.{same_exchange}

@@ -1,9 +1,10 @@
-//! Writes log files of both queues, reads them back as after a restart, looks records up, and drops those that are done
-//! with.
+//! Writes log files of both queues, reads them back as after a restart, looks records up, drops those that are done
+//! with, and hands the tables to threads that append and fetch.
 #![tactic(auto)]
 
 mod files;
 mod proposal;
+mod sharing;
 
 use raft_memtable::{MemTable, MemTableRecoverContext, TableChange};
 use raft_records::{EntryIndex, Error, FileId, FilePart, LogBatch, LogQueue, Result, next_batch};
@@ -30,7 +31,10 @@ fn main(rt: HostRuntime) -> Result<()> {
     for part in &files::group(alloc)? {
         replay(&mut context, part)?;
     }
-    print_recovered(alloc, &context.finish()?, &mut rt.stdout())
+    print_recovered(alloc, &context.finish()?, &mut rt.stdout())?;
+
+    println!(rt; "two threads append to shared tables, and fetch:")?;
+    sharing::append_and_fetch(&rt, alloc, tables)
 }
 
 /// Replays the batches of a part, in order.

@@ -37,7 +37,7 @@ edits:
 bench:
 	@mkdir -p crates/raft_bench/out
 	@cd crates/raft_bench && $(RT) run > out/bench.log 2>&1 || { cat out/bench.log; exit 1; }
-	@crates/raft_bench/out/raft_bench crc32 varint batches memtable blocks
+	@crates/raft_bench/out/raft_bench crc32 varint batches memtable blocks shared
 
 # Runs `raftlog recover` over a folder of cases, as `make compare CASES=folder WORKERS=1,2,4,8`, and counts those that it
 # answers otherwise than they say. `make raftlog` builds it first.

@@ -7,6 +7,7 @@ mod blocks;
 mod checksum;
 mod numbers;
 mod recovery;
+mod shared;
 mod tables;
 mod timing;
 
@@ -25,7 +26,12 @@ fn main(rt: HostRuntime) -> io::Result<()> {
         };
     }
     for word in &words {
-        if let Err(e) = time(&rt, word.as_str()) {
+        let timed = if word.as_str() == "shared" {
+            shared::time(&rt, rt.alloc())
+        } else {
+            time(&rt, word.as_str())
+        };
+        if let Err(e) = timed {
             eprintln!(rt; "raft_bench: {e}")?;
         }
     }
@@ -41,7 +47,7 @@ fn time(rt: &HostRuntime, word: &str) -> Result<()> {
         "memtable" => Ok(tables::time(rt)?),
         "blocks" => Ok(blocks::time(rt)?),
         _ => Ok(eprintln!(rt;
-            "usage: raft_bench [crc32] [varint] [batches] [memtable] [blocks], or recover .."
+            "usage: raft_bench [crc32] [varint] [batches] [memtable] [blocks] [shared], or recover .."
         )?),
     }
 }

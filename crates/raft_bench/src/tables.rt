@@ -108,7 +108,7 @@ pub(crate) fn time(rt: &HostRuntime) -> io::Result<()> {
 
 /// Prints a line: how long each of `count` units took at best, in tenths of nanoseconds.
 pub(crate) fn print_each(
-    rt: &HostRuntime,
+    rt: &impl Print,
     name: &str,
     nanoseconds: u64,
     unit: &str,

@@ -5,8 +5,8 @@ ghost use Rattle.raft_records.specs.LogBatch.{populating};
 
 use crate::proposal::{Proposal, Proposals};
 use raft_records::{
-    AtomicGroupBuilder, Command, FileId, FilePart, FileSeq, LogBatch, LogFileContext, LogQueue,
-    Result, Version,
+    AtomicGroupBuilder, Command, FileBlockHandle, FileId, FilePart, FileSeq, LogBatch,
+    LogFileContext, LogQueue, Result, Version,
 };
 use std::alloc::Global;
 
@@ -51,6 +51,27 @@ pub(crate) fn group(alloc: Global) -> Result<Vec<FilePart>> {
     end.add_entries::<Proposals>(7, &[Proposal::new(9, "put y 0")])?;
     let end = file_of(alloc, LogQueue::Rewrite, 2, end)?;
     Ok(vec![in alloc; begin, end]?)
+}
+
+/// Entries of a region in a batch that was written to a file of the append queue.
+pub(crate) fn written(
+    alloc: Global,
+    seq: FileSeq,
+    region: u64,
+    entries: &[Proposal],
+) -> Result<LogBatch> {
+    let file = LogFileContext::new(FileId::new(LogQueue::Append, seq), Version::V2);
+    let mut batch = LogBatch::default(alloc);
+    batch.add_entries::<Proposals>(region, entries)?;
+    let len = batch.finish_populate()?;
+    batch.prepare_write(&file);
+    // An engine writes `batch.encoded_bytes()` to the file here.
+    batch.finish_write(FileBlockHandle {
+        id: file.id,
+        offset: 0,
+        len,
+    });
+    Ok(batch)
 }
 
 /// A file that holds this batch alone, signed for it.

@@ -1,9 +1,10 @@
 //! Writes log files of both queues, reads them back as after a restart, looks records up, drops those that are done
-//! with, and puts the tables of one queue over those of the other.
+//! with, puts the tables of one queue over those of the other, and hands tables to threads that append and fetch.
 #![tactic(auto)]
 
 mod files;
 mod proposal;
+mod sharing;
 
 use raft_memtable::{MemTable, MemTableRecoverContext, TableChange};
 use raft_records::{EntryIndex, Error, FileId, FilePart, LogBatch, LogQueue, Result, next_batch};
@@ -34,7 +35,10 @@ fn main(rt: HostRuntime) -> Result<()> {
     let mut context = read_parts(alloc, &group)?;
     let appended = [files::first(alloc)?, files::second(alloc)?];
     context.merge_append_context(read_parts(alloc, &appended)?)?;
-    print_recovered(alloc, &context.finish()?, &mut rt.stdout())
+    print_recovered(alloc, &context.finish()?, &mut rt.stdout())?;
+
+    println!(rt; "two threads append to shared tables, and fetch:")?;
+    sharing::append_and_fetch(&rt, alloc, tables)
 }
 
 /// A context of all batches of these parts.

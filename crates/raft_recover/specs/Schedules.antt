@@ -1,5 +1,5 @@
 -- Given schedules: who draws each segment, how many pieces that makes, and which plan fits them.
-use Rattle.std.specs.Prelude.{ℕ, zero, suc, ◌≡◌, ◌+◌, ◌<◌, ◌==◌, Bool, false, not, if◌then◌else◌, List, length, EachIndex, slice_index, Vec}
+use Rattle.std.specs.Prelude.{ℕ, zero, suc, ◌≡◌, ◌+◌, ◌<◌, ◌≤◌, ◌==◌, Bool, false, not, if◌then◌else◌, List, length, EachIndex, slice_index, Vec}
 use Rattle.std.specs.Global.{Global}
 use Rattle.raft_base.specs.declared.pipe_log.LogQueue.{LogQueue}
 use Rattle.raft_records.specs.FilePart.{Part}
@@ -22,9 +22,10 @@ abbrev pub pieces_in : ℕ → List ℕ → ℕ
 pieces_in zero draws = 0
 pieces_in (suc n) draws = count_below (switches draws) (suc n) + 1
 
--- segments of this queue, draws by these workers, and a plan of the pieces, if there are any
+-- segments of this queue, draws by these workers, of whom there are 1 to 256, and a plan of the pieces, if there are any
 pub record IsSchedule (segments : List (Vec Part Global)) (queue : LogQueue) (workers : ℕ) (draws : List ℕ) (plan : Plan) : Type 0 where
   pub of_queue : SegmentsAreOf queue segments
   pub some_worker : 0 < workers
+  pub few_workers : workers ≤ 256
   pub known_workers : EachIndex draws (λ n. slice_index draws n < workers)
   pub plan_fits : 0 < length segments → leaves plan ≡ pieces_in (length segments) draws

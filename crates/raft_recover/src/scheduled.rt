@@ -31,6 +31,7 @@ ghost use Rattle.raft_recover.specs.Recovery.{IsReplayed, CannotBeRead, PartsAre
 ghost use Rattle.raft_recover.specs.Schedules.{IsSchedule, switches, count_below, pieces_in};
 
 use crate::pieces::merge_in_turn;
+use crate::workers::MAX_WORKERS;
 use crate::{Plan, Segment, replay_segment};
 use raft_base::{Error, Factory, LogQueue, Result};
 use raft_memtable::ReplayMachine;
@@ -40,9 +41,9 @@ use std::alloc::Global;
 /// Does on the caller's thread what workers would do if `draws` named, segment by segment, who draws next; behind its
 /// end worker 0 draws. A worker that draws the segment after its last one goes on in the same machine, else it begins
 /// another; the pieces are merged by the plan. Without segments it is a new machine, whatever the plan.
-/// `InvalidArgument` for a part of another queue, for a worker that isn't there, and for a plan of another number of
-/// pieces. Any other refusal than that, than `Memory` and than the factory's own comes only where a part isn't a row of
-/// readable batches or all batches, in order, can't be read.
+/// `InvalidArgument` for another number of workers than 1 to 256, for a part of another queue, for a worker that isn't
+/// there, and for a plan of another number of pieces. Any other refusal than that, than `Memory` and than the factory's
+/// own comes only where a part isn't a row of readable batches or all batches, in order, can't be read.
 pub fn replay_scheduled<M: ReplayMachine, F: Factory<M>>(
     alloc: Global,
     factory: &F,
@@ -62,7 +63,7 @@ pub fn replay_scheduled<M: ReplayMachine, F: Factory<M>>(
 {
     if !is_schedule(segments, queue, workers, draws, plan) {
         return Err(Error::InvalidArgument(format!(in alloc;
-            "parts of another queue, a worker that isn't there, or a plan of other pieces"
+            "{workers} workers, parts of another queue, a worker that isn't there, or a plan of other pieces"
         )?));
     }
     let mut machines = Vec::new(alloc);
@@ -112,7 +113,7 @@ fn is_schedule(
 ) -> bool
     ensures { IsTrue result ↔ IsSchedule segments.now queue workers draws.now plan.now }
 {
-    if workers == 0 || !are_of(segments, queue) {
+    if workers == 0 || workers > MAX_WORKERS || !are_of(segments, queue) {
         return false;
     }
     if !are_known(draws, workers) {

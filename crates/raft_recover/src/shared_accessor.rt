@@ -314,7 +314,7 @@ impl SharedAccessor {
     pub fn live_entries<R: Wait>(&self, rt: &R, queue: LogQueue) -> u128 {
         let mut live: u128 = 0;
         for slot in &self.slots {
-            live = live.saturating_add(slot.read(rt).stats().live_entries(queue) as u128);
+            live += slot.read(rt).stats().live_entries(queue) as u128;
         }
         live
     }

@@ -146,25 +146,36 @@ fn schedules(alloc: Global) -> Result<bool> {
     Ok(has_all(&list, 0))
 }
 
-/// Whether five segments are refused where the plan is of three pieces, and where a third worker draws.
+/// Whether five segments and a plan of three pieces are refused where the draws make four, where a third worker draws
+/// and where there are 0 or 257 workers, and are read else.
 fn misfits(alloc: Global) -> Result<bool> {
     let five = segments(alloc, 5)?;
     let two = join(alloc, Plan::One, Plan::One)?;
     let three = join(alloc, Plan::One, two)?;
-    for draws in [[0, 1, 1, 0, 1], [0, 2, 2, 0, 0]] {
-        let refused = replay_scheduled(
+    for (workers, draws, fits) in [
+        (2, [0, 1, 1, 0, 1], false),
+        (2, [0, 2, 2, 0, 0], false),
+        (0, [0, 1, 1, 0, 0], false),
+        (2, [0, 1, 1, 0, 0], true),
+        (256, [0, 1, 1, 0, 0], true),
+        (257, [0, 1, 1, 0, 0], false),
+    ] {
+        let queue = LogQueue::Append;
+        let fit = match replay_scheduled(
             alloc,
             &Lists,
             five.as_slice(),
-            LogQueue::Append,
-            2,
+            queue,
+            workers,
             &draws,
             &three,
-        );
-        match refused {
-            Err(Error::InvalidArgument(_)) => {}
+        ) {
+            Ok(list) => fits && has_all(&list, 5),
+            Err(Error::InvalidArgument(_)) => !fits,
             Err(error) => return Err(error),
-            Ok(_) => return Ok(false),
+        };
+        if !fit {
+            return Ok(false);
         }
     }
     Ok(true)

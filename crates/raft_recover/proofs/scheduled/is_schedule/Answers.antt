@@ -6,6 +6,7 @@ returns c = (
   λ fits. record {
     of_queue = c.if-not-are_of.ensures.0 refl;
     some_worker = omega arith;
+    few_workers = omega arith;
     known_workers = c.if-not-are_known.ensures.0 refl;
     plan_fits = c.fits_pieces.ensures.0 fits;
   },

@@ -1,0 +1,139 @@
+//! Times tables that threads share.
+
+use crate::tables::{print_each, run};
+use crate::timing::{Noise, TIMES, nanoseconds_since};
+use raft_memtable::MemTableAccessor;
+use raft_recover::SharedAccessor;
+use raft_table::{LogQueue, MemTable, Result, TableChange};
+use std::alloc::{AllocError, Global};
+use std::sync::Wait;
+use std::thread;
+use std::thread::Threads;
+use std::time::{Clock, Instant};
+
+/// How many regions there are.
+const REGIONS: u64 = 1_000;
+
+/// How many runs are appended to each region.
+const ROUNDS: u64 = 200;
+
+/// How many entries a run has.
+const RUN: u64 = 8;
+
+/// How many tables are looked up.
+const LOOKUPS: u64 = 1_000_000;
+
+/// Times appends of some threads, and look-ups beside those of an accessor.
+pub(crate) fn time<R: Threads + Wait + Clock + Print + Sync>(rt: &R, alloc: Global) -> Result<()> {
+    for threads in [1, 2, 4] {
+        let best = appended(rt, alloc, threads)?;
+        let name = format!(in alloc;
+            "append to shared tables by {threads} threads, 8 entries a call"
+        )?;
+        print_each(rt, name.as_str(), best, "entry", REGIONS * ROUNDS * RUN)?;
+    }
+    time_looks(rt, alloc)
+}
+
+/// How long some threads take at best to append to all regions, each to its share of them.
+fn appended<R: Threads + Wait + Clock + Sync>(rt: &R, alloc: Global, threads: u64) -> Result<u64> {
+    let mut best = u64::MAX;
+    for _ in 0..TIMES {
+        let shared = SharedAccessor::new(alloc);
+        let append = |thread: usize| append_share(rt, alloc, &shared, thread as u64, threads);
+        let start = Instant::now(rt)?;
+        let all = thread::map_indices(rt, alloc, threads as usize, &append)?;
+        best = best.min(nanoseconds_since(rt, &start)?);
+        for appended in all {
+            appended?;
+        }
+    }
+    Ok(best)
+}
+
+/// Appends to every region whose number leaves this thread's when it is divided by how many there are.
+fn append_share<R: Wait>(
+    rt: &R,
+    alloc: Global,
+    shared: &SharedAccessor,
+    thread: u64,
+    threads: u64,
+) -> Result<()> {
+    for number in 0..ROUNDS * REGIONS {
+        let (round, region) = (number / REGIONS, number % REGIONS);
+        if region % threads.max(1) == thread {
+            let run = run(alloc, 1 + round * RUN, RUN, LogQueue::Append, 1)?;
+            shared.change(rt, region, TableChange::Append(run))?;
+        }
+    }
+    Ok(())
+}
+
+/// Regions without a pattern.
+fn picks(alloc: Global) -> std::result::Result<Vec<u64>, AllocError> {
+    let mut noise = Noise::new();
+    let mut picks = Vec::with_capacity(alloc, LOOKUPS as usize)?;
+    for _ in 0..LOOKUPS {
+        picks.push(noise.next_u64() % REGIONS)?;
+    }
+    Ok(picks)
+}
+
+/// An accessor in which each region has a run.
+fn full(alloc: Global) -> Result<MemTableAccessor> {
+    let mut core = MemTableAccessor::new(alloc)?;
+    for region in 0..REGIONS {
+        let run = run(alloc, 1, RUN, LogQueue::Append, 1)?;
+        core.change(region, TableChange::Append(run))?;
+    }
+    Ok(core)
+}
+
+/// The last indexes of regions, added up.
+fn last_of_all(core: &MemTableAccessor, picks: &[u64]) -> u64 {
+    let mut sum = 0u64;
+    for region in picks {
+        if let Some(last) = core.get(*region).and_then(|table| table.last_index()) {
+            sum = sum.wrapping_add(last);
+        }
+    }
+    sum
+}
+
+/// The last indexes of regions in shared tables, added up.
+fn shared_last_of_all<R: Wait>(rt: &R, shared: &SharedAccessor, picks: &[u64]) -> u64 {
+    let mut sum = 0u64;
+    for region in picks {
+        let last = shared.with_table(rt, *region, |table: &MemTable| table.last_index());
+        if let Some(Some(last)) = last {
+            sum = sum.wrapping_add(last);
+        }
+    }
+    sum
+}
+
+/// Times look-ups of tables.
+fn time_looks<R: Wait + Clock + Print>(rt: &R, alloc: Global) -> Result<()> {
+    let core = full(alloc)?;
+    let shared = SharedAccessor::from_core(alloc, full(alloc)?)?;
+    let picks = picks(alloc)?;
+    let (mut best_get, mut best_with) = (u64::MAX, u64::MAX);
+    let (mut got, mut seen) = (0, 0);
+    for _ in 0..TIMES {
+        let start = Instant::now(rt)?;
+        got = last_of_all(&core, picks.as_slice());
+        best_get = best_get.min(nanoseconds_since(rt, &start)?);
+        let start = Instant::now(rt)?;
+        seen = shared_last_of_all(rt, &shared, picks.as_slice());
+        best_with = best_with.min(nanoseconds_since(rt, &start)?);
+    }
+    let looked = LOOKUPS.min(got).min(seen);
+    print_each(
+        rt,
+        "get of an accessor, at random",
+        best_get,
+        "call",
+        looked,
+    )?;
+    Ok(print_each(rt, "with_table, at random", best_with, "call", looked)?)
+}

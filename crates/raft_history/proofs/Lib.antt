@@ -10,6 +10,7 @@ pub mod JoinedLemmas
 pub mod KeptLaws
 pub mod KnownLemmas
 pub mod LastWords
+pub mod LeastFileLemmas
 pub mod MapLemmas
 pub mod MarkerLemmas
 pub mod MergeLaws

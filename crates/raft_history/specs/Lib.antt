@@ -4,6 +4,7 @@ pub mod Effects
 pub mod Histories
 pub mod Joins
 pub mod Kept
+pub mod LeastFiles
 pub mod MarkedRegions
 pub mod Records
 pub mod RegionSteps

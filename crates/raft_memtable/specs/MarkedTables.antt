@@ -37,7 +37,7 @@ abbrev pub listed : LogQueue → List RegionStep → List ℕ
 listed Append steps = cleaned_by_steps steps
 listed Rewrite steps = []
 
--- why steps are refused: one reading refuses one of them, the tables have a record of the other queue, more than 2^64 - 1 records would be live, or want of memory
+-- why steps are refused: one reading refuses one of them, the tables have a record of the other queue, the live records and those of the steps are 2^64 or more, or want of memory
 abbrev pub IsStepsFault : LogQueue → MarkedRegions → List RegionStep → Error → Type 0
 IsStepsFault queue rs steps (errors.Corruption text) = regions_after queue rs steps ≡ None
 IsStepsFault queue rs steps (errors.InvalidArgument text) = 0 < live_in_all (other queue) rs.tables

@@ -2,7 +2,7 @@
 
 use crate::store::Answer::{Done, Dropped};
 use crate::store::Call::{Append, Compact, Rewrite};
-use crate::store::{Answer, Call, LogStore};
+use crate::store::{Answer, Call, LogStore, Run};
 use raft_table::{
     EntryIndex, FileBlockHandle, FileId, FileSeq, LogQueue, MemTable, Result, TableChange,
 };
@@ -20,18 +20,91 @@ fn has_blocks(table: &MemTable, want: &[(FileSeq, usize)]) -> bool {
 type Row = (Call, Answer, &'static [(FileSeq, usize)]);
 
 const OVERWRITTEN: [Row; 5] = [
-    (Append(10, 20, 1), Done, &[(1, 10)]),
-    (Append(20, 30, 2), Done, &[(1, 10), (2, 10)]),
-    (Append(25, 35, 3), Done, &[(1, 10), (2, 5), (3, 10)]),
+    (
+        Append(Run {
+            first: 10,
+            end: 20,
+            seq: 1,
+        }),
+        Done,
+        &[(1, 10)],
+    ),
+    (
+        Append(Run {
+            first: 20,
+            end: 30,
+            seq: 2,
+        }),
+        Done,
+        &[(1, 10), (2, 10)],
+    ),
+    (
+        Append(Run {
+            first: 25,
+            end: 35,
+            seq: 3,
+        }),
+        Done,
+        &[(1, 10), (2, 5), (3, 10)],
+    ),
     (Compact(22), Dropped(12), &[(2, 3), (3, 10)]),
-    (Rewrite(22, 27, 50, Some(2)), Done, &[(50, 3), (3, 10)]),
+    (
+        Rewrite(
+            Run {
+                first: 22,
+                end: 27,
+                seq: 50,
+            },
+            Some(2),
+        ),
+        Done,
+        &[(50, 3), (3, 10)],
+    ),
 ];
 
 const DIVIDED: [Row; 4] = [
-    (Append(0, 10, 1), Done, &[(1, 10)]),
-    (Append(10, 20, 2), Done, &[(1, 10), (2, 10)]),
-    (Rewrite(0, 15, 50, Some(1)), Done, &[(50, 10), (2, 10)]),
-    (Rewrite(5, 10, 51, None), Done, &[(50, 5), (51, 5), (2, 10)]),
+    (
+        Append(Run {
+            first: 0,
+            end: 10,
+            seq: 1,
+        }),
+        Done,
+        &[(1, 10)],
+    ),
+    (
+        Append(Run {
+            first: 10,
+            end: 20,
+            seq: 2,
+        }),
+        Done,
+        &[(1, 10), (2, 10)],
+    ),
+    (
+        Rewrite(
+            Run {
+                first: 0,
+                end: 15,
+                seq: 50,
+            },
+            Some(1),
+        ),
+        Done,
+        &[(50, 10), (2, 10)],
+    ),
+    (
+        Rewrite(
+            Run {
+                first: 5,
+                end: 10,
+                seq: 51,
+            },
+            None,
+        ),
+        Done,
+        &[(50, 5), (51, 5), (2, 10)],
+    ),
 ];
 
 #[test]

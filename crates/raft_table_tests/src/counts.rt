@@ -1,7 +1,7 @@
 //! Counts of live records.
 
 use crate::store::Call::{Append, Put};
-use crate::store::LogStore;
+use crate::store::{LogStore, of};
 use raft_table::{Error, GlobalStats, LogQueue, Result};
 use std::alloc::Global;
 use std::process::Abort;
@@ -9,7 +9,7 @@ use std::process::Abort;
 /// A table of both queues, counted among all, and twice where there is no room.
 fn count(rt: &impl Abort, alloc: Global) -> Result<()> {
     let mut store = LogStore::new(alloc);
-    store.direct(Append(0, 10, 1))?;
+    store.direct(Append(of(0, 10, 1)))?;
     store.direct(Put(LogQueue::Rewrite, 5))?;
     let mut stats = GlobalStats::default();
     stats.add_table(&store.table)?;

@@ -140,7 +140,7 @@ fn entries_of(alloc: Global, queue: LogQueue, run: Run) -> Result<Vec<EntryIndex
 /// The table of a run.
 fn table_of(alloc: Global, queue: LogQueue, run: Run) -> Result<MemTable> {
     let mut store = LogStore::new(alloc);
-    replay(alloc, &mut store, queue, run)?;
+    store.replay(queue, entries_of(alloc, queue, run)?)?;
     Ok(store.table)
 }
 
@@ -151,8 +151,15 @@ fn make(alloc: Global, store: &mut LogStore, call: Call) -> Result<()> {
             let run = entries_of(alloc, LogQueue::Append, run)?;
             store.table.append(run, &mut store.stats)
         }
-        Call::ReplayAppend(run) => replay(alloc, store, LogQueue::Append, run),
-        Call::ReplayRewrite(run) => replay(alloc, store, LogQueue::Rewrite, run),
+        Call::ReplayAppend(run) => {
+            store.replay(LogQueue::Append, entries_of(alloc, LogQueue::Append, run)?)
+        }
+        Call::ReplayRewrite(run) => {
+            store.replay(
+                LogQueue::Rewrite,
+                entries_of(alloc, LogQueue::Rewrite, run)?,
+            )
+        }
         Call::Rewrite(run, gate) => {
             let run = entries_of(alloc, LogQueue::Rewrite, run)?;
             store.table.rewrite(run, gate, &mut store.stats)
@@ -167,15 +174,6 @@ fn make(alloc: Global, store: &mut LogStore, call: Call) -> Result<()> {
         }
         Call::MergeUnder(queue, floor, run) => merge_under(alloc, store, queue, floor, run),
     }
-}
-
-/// Replays a run; one of the rewrite queue where there are appended entries is refused.
-fn replay(alloc: Global, store: &mut LogStore, queue: LogQueue, run: Run) -> Result<()> {
-    if queue == LogQueue::Rewrite && store.table.records(LogQueue::Append) > 0 {
-        return Err(Error::Failed);
-    }
-    let run = entries_of(alloc, queue, run)?;
-    store.table.replay_into(queue, run, &mut store.stats)
 }
 
 /// Merges the table of a run under its mark.

@@ -2,7 +2,7 @@
 
 use crate::store::Answer::{Compacted, Done, InvalidArgument, NotFound};
 use crate::store::Call::{Append, Group, Rewrite};
-use crate::store::{Answer, LogStore, told};
+use crate::store::{Answer, LogStore, of, told};
 use raft_table::{
     EntryIndex, Error, FileBlockHandle, FileId, LogQueue, Result, TableChange, is_run,
 };
@@ -117,9 +117,9 @@ fn queries_tell_the_queues_apart(rt: HostRuntime) -> Result<()> {
 fn ask_queues(rt: &impl Abort, alloc: Global) -> Result<()> {
     let mut store = LogStore::new(alloc);
     for call in [
-        Append(0, 10, 1),
-        Append(10, 20, 2),
-        Rewrite(0, 15, 50, Some(1)),
+        Append(of(0, 10, 1)),
+        Append(of(10, 20, 2)),
+        Rewrite(of(0, 15, 50), Some(1)),
         Group(3, 7),
     ] {
         store.direct(call)?;

@@ -20,14 +20,27 @@ pub struct LogStore {
     ghost counted: { IsCounted table stats },
 }
 
-/// What is done to a store. A run is told by its first index, the index behind its last, and the number of
-/// its file; there is one key.
+/// A run, told by its first index, the index behind its last, and the number of its file.
+#[derive(Clone, Copy, Debug)]
+pub struct Run {
+    pub first: u64,
+    pub end: u64,
+    pub seq: FileSeq,
+}
+
+/// A run in a file.
+pub fn of(first: u64, end: u64, seq: FileSeq) -> Run {
+    Run { first, end, seq }
+}
+
+/// What is done to a store. There is one key.
 #[derive(Clone, Copy, Debug)]
 pub enum Call {
-    Append(u64, u64, FileSeq),
-    ReplayAppend(u64, u64, FileSeq),
-    ReplayRewrite(u64, u64, FileSeq),
-    Rewrite(u64, u64, FileSeq, Option<FileSeq>),
+    Append(Run),
+    ReplayAppend(Run),
+    ReplayRewrite(Run),
+    /// With the gate.
+    Rewrite(Run, Option<FileSeq>),
     Compact(u64),
     Put(LogQueue, FileSeq),
     Delete,
@@ -51,22 +64,56 @@ pub enum Answer {
     Other,
 }
 
-/// The first index and the one behind the last, 0 without entries.
-#[derive(Clone, Copy, PartialEq, Eq, Debug)]
-pub struct Indexes(pub u64, pub u64);
-
-/// How many records are live in the append queue, were written to the rewrite queue, and were deleted
-/// from it.
-#[derive(Clone, Copy, PartialEq, Eq, Debug)]
-pub struct Counted(pub u64, pub u64, pub u64);
-
-/// The least file of the append queue and that of the rewrite queue, 0 where there is none.
-#[derive(Clone, Copy, PartialEq, Eq, Debug)]
-pub struct Least(pub FileSeq, pub FileSeq);
-
 /// What is seen of a store.
 #[derive(Clone, Copy, PartialEq, Eq, Debug)]
-pub struct Shape(pub Indexes, pub Counted, pub Least);
+pub struct Shape {
+    /// The first index, and the one behind the last; 0 without entries.
+    pub first: u64,
+    pub end: u64,
+    /// How many records are live in the append queue, and their least file, 0 without records.
+    pub live: u64,
+    pub least_appended: FileSeq,
+    /// How many records were written to the rewrite queue and deleted from it, and the least file of
+    /// those that are live, 0 without records.
+    pub written: u64,
+    pub deleted: u64,
+    pub least_rewritten: FileSeq,
+}
+
+/// A store with the entries from an index on and below another, that counts no records.
+pub fn has(first: u64, end: u64) -> Shape {
+    Shape {
+        first,
+        end,
+        live: 0,
+        least_appended: 0,
+        written: 0,
+        deleted: 0,
+        least_rewritten: 0,
+    }
+}
+
+impl Shape {
+    /// With so many live records in the append queue, whose least file is this.
+    pub fn appended(self, live: u64, least_appended: FileSeq) -> Shape {
+        Shape {
+            live,
+            least_appended,
+            ..self
+        }
+    }
+
+    /// With so many records that were written to the rewrite queue and deleted from it, whose least file is
+    /// this.
+    pub fn rewritten(self, written: u64, deleted: u64, least_rewritten: FileSeq) -> Shape {
+        Shape {
+            written,
+            deleted,
+            least_rewritten,
+            ..self
+        }
+    }
+}
 
 /// What a call answered, but for the number of a compaction that drops nothing.
 pub fn answered(given: Result<u64>) -> Answer {
@@ -105,25 +152,25 @@ impl LogStore {
     }
 
     /// Entries of one byte in one block of a file.
-    fn run(&self, queue: LogQueue, first: u64, end: u64, seq: FileSeq) -> Result<Vec<EntryIndex>>
-        ensures { IfOk result (λ run. IsRunIn queue run.items) }
+    fn entries(&self, queue: LogQueue, run: Run) -> Result<Vec<EntryIndex>>
+        ensures { IfOk result (λ entries. IsRunIn queue entries.items) }
     {
         let block = FileBlockHandle {
-            id: FileId::new(queue, seq),
-            offset: first,
+            id: FileId::new(queue, run.seq),
+            offset: run.first,
             len: 64,
         };
-        let mut run = Vec::new(self.alloc);
-        for index in first..end {
-            run.push(EntryIndex {
+        let mut entries = Vec::new(self.alloc);
+        for index in run.first..run.end {
+            entries.push(EntryIndex {
                 index,
                 entries: Some(block),
                 entry_len: 1,
                 ..EntryIndex::default()
             })?;
         }
-        if is_run(&run, queue) {
-            Ok(run)
+        if is_run(&entries, queue) {
+            Ok(entries)
         } else {
             Err(Error::Failed)
         }
@@ -132,14 +179,9 @@ impl LogStore {
     /// The call as a value, if there is one for it.
     fn change(&self, call: Call) -> Result<Option<TableChange>> {
         Ok(match call {
-            Call::Append(first, end, seq) => Some(TableChange::Append(self.run(
-                LogQueue::Append,
-                first,
-                end,
-                seq,
-            )?)),
-            Call::Rewrite(first, end, seq, gate) => Some(TableChange::Rewrite {
-                entries: self.run(LogQueue::Rewrite, first, end, seq)?,
+            Call::Append(run) => Some(TableChange::Append(self.entries(LogQueue::Append, run)?)),
+            Call::Rewrite(run, gate) => Some(TableChange::Rewrite {
+                entries: self.entries(LogQueue::Rewrite, run)?,
                 gate,
             }),
             Call::Compact(index) => Some(TableChange::Compact { index }),
@@ -163,24 +205,21 @@ impl LogStore {
     /// The call itself.
     pub fn direct(&mut self, call: Call) -> Result<u64> {
         match call {
-            Call::Append(first, end, seq) => {
-                let run = self.run(LogQueue::Append, first, end, seq)?;
-                self.table.append(run, &mut self.stats)?;
+            Call::Append(run) => {
+                let entries = self.entries(LogQueue::Append, run)?;
+                self.table.append(entries, &mut self.stats)?;
             }
-            Call::ReplayAppend(first, end, seq) => {
-                let run = self.run(LogQueue::Append, first, end, seq)?;
-                self.table.replay_append(run, &mut self.stats)?;
+            Call::ReplayAppend(run) => {
+                let entries = self.entries(LogQueue::Append, run)?;
+                self.replay(LogQueue::Append, entries)?;
             }
-            Call::ReplayRewrite(first, end, seq) => {
-                let run = self.run(LogQueue::Rewrite, first, end, seq)?;
-                if self.table.records(LogQueue::Append) > 0 {
-                    return Err(Error::Failed);
-                }
-                self.table.replay_rewrite(run, &mut self.stats)?;
+            Call::ReplayRewrite(run) => {
+                let entries = self.entries(LogQueue::Rewrite, run)?;
+                self.replay(LogQueue::Rewrite, entries)?;
             }
-            Call::Rewrite(first, end, seq, gate) => {
-                let run = self.run(LogQueue::Rewrite, first, end, seq)?;
-                self.table.rewrite(run, gate, &mut self.stats)?;
+            Call::Rewrite(run, gate) => {
+                let entries = self.entries(LogQueue::Rewrite, run)?;
+                self.table.rewrite(entries, gate, &mut self.stats)?;
             }
             Call::Compact(index) => return Ok(self.table.compact_to(index, &mut self.stats)),
             Call::Put(queue, seq) => {
@@ -193,15 +232,29 @@ impl LogStore {
                 let key = self.bytes(b"k")?;
                 self.table.rewrite_key(key, gate, seq, &mut self.stats)?;
             }
-            Call::Group(start, end) => {
-                if start > end {
-                    return Err(Error::Failed);
-                }
-                self.table.apply_rewrite_atomic_group(start, end);
-            }
+            Call::Group(start, end) => self.set_group(start, end)?,
             Call::Count(queue, count) => self.stats.add(queue, count as usize)?,
         }
         Ok(0)
+    }
+
+    /// Replays a run; `Failed` for one of the rewrite queue where there are appended records.
+    pub fn replay(&mut self, queue: LogQueue, run: Vec<EntryIndex>) -> Result<()>
+        requires { IsRunIn queue run.items }
+    {
+        if queue == LogQueue::Rewrite && self.table.records(LogQueue::Append) > 0 {
+            return Err(Error::Failed);
+        }
+        self.table.replay_into(queue, run, &mut self.stats)
+    }
+
+    /// Sets the files of the atomic group; `Failed` where the first is above the last.
+    fn set_group(&mut self, start: FileSeq, end: FileSeq) -> Result<()> {
+        if start > end {
+            return Err(Error::Failed);
+        }
+        self.table.apply_rewrite_atomic_group(start, end);
+        Ok(())
     }
 
     /// The call, as a value where there is one for it and that is asked.
@@ -259,20 +312,14 @@ impl LogStore {
 
     pub fn shape(&self) -> Shape {
         let last = self.table.last_index();
-        Shape(
-            Indexes(
-                self.table.first_index().unwrap_or(0),
-                last.map_or(0, |last| last.saturating_add(1)),
-            ),
-            Counted(
-                self.stats.live_entries(LogQueue::Append) as u64,
-                self.stats.rewrite_entries() as u64,
-                self.stats.deleted_rewrite_entries() as u64,
-            ),
-            Least(
-                self.table.min_file_seq(LogQueue::Append).unwrap_or(0),
-                self.table.min_file_seq(LogQueue::Rewrite).unwrap_or(0),
-            ),
-        )
+        Shape {
+            first: self.table.first_index().unwrap_or(0),
+            end: last.map_or(0, |last| last.saturating_add(1)),
+            live: self.stats.live_entries(LogQueue::Append) as u64,
+            least_appended: self.table.min_file_seq(LogQueue::Append).unwrap_or(0),
+            written: self.stats.rewrite_entries() as u64,
+            deleted: self.stats.deleted_rewrite_entries() as u64,
+            least_rewritten: self.table.min_file_seq(LogQueue::Rewrite).unwrap_or(0),
+        }
     }
 }

@@ -24,7 +24,7 @@ use Rattle.raft_history.proofs.ReadLemmas.{holds_none}
 use Rattle.raft_history.proofs.RecordLemmas.{merged_bounded}
 use Rattle.raft_history.proofs.SoundLemmas.{batches-append, in_files-append, status-append, files_follow, follow_files, files-back, files_of-append, cleaned-append, append_apart}
 use Rattle.raft_history.proofs.StretchOfHistory.{size-append}
-use Rattle.raft_history.proofs.UnmarkedLemmas.{named-steps}
+use Rattle.raft_history.proofs.WithoutMarkers.{named-steps}
 
 some_is : {X : Type 0} {x y : X} → Some x ≡ Some y → x ≡ y
 some_is e = cc

@@ -10,8 +10,8 @@ use Rattle.raft_records.specs.declared.atomic_group.AtomicGroupStatus.TheVariant
 use Rattle.raft_history.specs.Batches.{GroupMarker, ReadBatch}
 use Rattle.raft_history.specs.Effects.{Effect, completed, effects_behind, whole_steps, region_steps_in, steps_by, steps_in, all_steps, first_in, last_in, IsGroup, Names, EachApart, steps_of_wholes, IsListed, ListsGroups}
 use Rattle.raft_history.specs.RegionSteps.{RegionStep, names}
-use Rattle.raft_history.specs.WaitingGroup.{Placed, placed_from, is_of, markers_of, are_middles, open_stretch, region_steps_of, GroupFront, Open, Ended, Cut, led_by, front_by, front_of, OpenStretch, stretch_of, group_of, WholeGroup, whole_of, whole_group}
-use Rattle.raft_history.proofs.EffectLemmas.{each_weaker, each-append, each_left, each_right, placed_from-append, from_on, up_to, effects_behind-append, effects_behind-one, effects_behind-none, all_steps-append, all_steps-one, all_steps-none, steps_in-none, all_steps-unnamed, within, apart_left, apart_last, unnamed_between, by_push, each_markers, each_open}
+use Rattle.raft_history.specs.WaitingGroup.{Numbered, numbered_from, is_of, markers_of, are_middles, open_stretch, region_steps_of, GroupFront, Open, Ended, Cut, led_by, front_by, front_of, OpenStretch, stretch_of, group_of, WholeGroup, whole_of, whole_group}
+use Rattle.raft_history.proofs.EffectLemmas.{each_weaker, each-append, each_left, each_right, numbered_from-append, from_on, up_to, effects_behind-append, effects_behind-one, effects_behind-none, all_steps-append, all_steps-one, all_steps-none, steps_in-none, all_steps-unnamed, within, apart_left, apart_last, unnamed_between, by_push, each_markers, each_open}
 use Rattle.raft_history.proofs.MarkerLemmas.{markers_of-append, open_stretch-append, middles_open_none, front_with, front_of-append, FitsFront, fits_front, with_more, whole_is}
 use Rattle.raft_table.specs.Steps.{Step}
 
@@ -21,17 +21,17 @@ steps_or r None = []
 steps_or r (Some w) = whole_steps r w
 
 -- what a group gives at the cut
-abbrev pub given : ℕ → List Placed → List Placed → ℕ → List Step
+abbrev pub given : ℕ → List Numbered → List Numbered → ℕ → List Step
 given r olds news g = steps_or r (whole_of (stretch_of (open_stretch (markers_of g olds))) (front_of (markers_of g news)))
 
-abbrev pub all_given : ℕ → List ℕ → List Placed → List Placed → List Step
+abbrev pub all_given : ℕ → List ℕ → List Numbered → List Numbered → List Step
 all_given r ids olds news = flat_map (given r olds news) ids
 
 -- the groups whole_group at the cut
-abbrev pub wholes_at : List ℕ → List Placed → List Placed → List WholeGroup
+abbrev pub wholes_at : List ℕ → List Numbered → List Numbered → List WholeGroup
 wholes_at ids olds news = filter_map (λ g. whole_group (group_of g olds) (group_of g news)) ids
 
-pub given_wholes : (r : ℕ) (ids : List ℕ) (olds news : List Placed) → steps_of_wholes r (wholes_at ids olds news) ≡ all_given r ids olds news
+pub given_wholes : (r : ℕ) (ids : List ℕ) (olds news : List Numbered) → steps_of_wholes r (wholes_at ids olds news) ≡ all_given r ids olds news
 unfolding steps_of_wholes
 given_wholes r [] olds news = refl
 given_wholes r (g ∷ ids) olds news = rw (whole_is (markers_of g olds) (front_of (markers_of g news))) (go (whole_of (stretch_of (open_stretch (markers_of g olds))) (front_of (markers_of g news))) (given_wholes r ids olds news))
@@ -66,22 +66,22 @@ changed_one f h k (g ∷ ids) one listed same none = go (eqb g k) refl listed (c
     go false e l ih = rw (same g e, head_none (f g) (flat_map f ids) none) (ih l same (tail_none (f g) (flat_map f ids) none))
 
 -- the markers of one batch
-pub markers_none : (g : ℕ) (p : Placed) → is_of g p.batch.marker ≡ false → markers_of g (p ∷ []) ≡ []
+pub markers_none : (g : ℕ) (p : Numbered) → is_of g p.batch.marker ≡ false → markers_of g (p ∷ []) ≡ []
 unfolding markers_of
 markers_none g p h = rw h refl
 
-pub markers_one : (g : ℕ) (p : Placed) → is_of g p.batch.marker ≡ true → markers_of g (p ∷ []) ≡ p ∷ []
+pub markers_one : (g : ℕ) (p : Numbered) → is_of g p.batch.marker ≡ true → markers_of g (p ∷ []) ≡ p ∷ []
 unfolding markers_of
 markers_one g p h = rw h refl
 
-pub markers_other : (g : ℕ) (ps : List Placed) (p : Placed) → is_of g p.batch.marker ≡ false → markers_of g (ps ++ p ∷ []) ≡ markers_of g ps
+pub markers_other : (g : ℕ) (ps : List Numbered) (p : Numbered) → is_of g p.batch.marker ≡ false → markers_of g (ps ++ p ∷ []) ≡ markers_of g ps
 markers_other g ps p h = markers_of-append g ps (p ∷ []) ∙ ap (λ l. markers_of g ps ++ l) (markers_none g p h) ∙ append-nil (markers_of g ps)
 
-pub markers_more : (g : ℕ) (ps : List Placed) (p : Placed) → is_of g p.batch.marker ≡ true → markers_of g (ps ++ p ∷ []) ≡ markers_of g ps ++ p ∷ []
+pub markers_more : (g : ℕ) (ps : List Numbered) (p : Numbered) → is_of g p.batch.marker ≡ true → markers_of g (ps ++ p ∷ []) ≡ markers_of g ps ++ p ∷ []
 markers_more g ps p h = markers_of-append g ps (p ∷ []) ∙ ap (λ l. markers_of g ps ++ l) (markers_one g p h)
 
 -- a batch with its number, by its parts
-abbrev pub placed : ℕ → List RegionStep → Option GroupMarker → ℕ → Placed
+abbrev pub placed : ℕ → List RegionStep → Option GroupMarker → ℕ → Numbered
 placed n is m f = record { number = n; batch = record { steps = is; marker = m; file = f } }
 
 front_of_one : (n : ℕ) (is : List RegionStep) (m : GroupMarker) (f : ℕ) → front_of (placed n is (Some m) f ∷ []) ≡ front_by m.status is f (Open [])
@@ -89,15 +89,15 @@ unfolding front_of
 front_of_one n is m f = refl
 
 -- the open stretch behind an End of a group, in both readings
-abbrev pub cut_stretch : List Placed → List Placed → List Placed
+abbrev pub cut_stretch : List Numbered → List Numbered → List Numbered
 cut_stretch o m = cond (are_middles m) (with_more o m) (open_stretch m)
 
 -- where the batches stand behind a cut, one more batch gives as much in both readings, or ends a group that the cut divides
-pub record Same (r : ℕ) (ids : List ℕ) (olds news : List Placed) (p : Placed) : Type 0 where
+pub record Same (r : ℕ) (ids : List ℕ) (olds news : List Numbered) (p : Numbered) : Type 0 where
   pub steps : all_steps r (completed (olds ++ news) p) ≡ all_steps r (completed news p)
   pub given : all_given r ids olds (news ++ p ∷ []) ≡ all_given r ids olds news
 
-pub record Divided (r : ℕ) (ids : List ℕ) (olds news : List Placed) (p : Placed) : Type 0 where
+pub record Divided (r : ℕ) (ids : List ℕ) (olds news : List Numbered) (p : Numbered) : Type 0 where
   pub group : GroupMarker
   pub effect : Effect
   pub completes : completed (olds ++ news) p ≡ effect ∷ []
@@ -110,18 +110,18 @@ pub record Divided (r : ℕ) (ids : List ℕ) (olds news : List Placed) (p : Pla
   pub others : (g : ℕ) → eqb g group.group ≡ false → given r olds (news ++ p ∷ []) g ≡ given r olds news g
   pub steps : given r olds (news ++ p ∷ []) group.group ≡ steps_in r effect
 
-abbrev pub Grows : ℕ → List ℕ → List Placed → List Placed → Placed → Type 0
+abbrev pub Grows : ℕ → List ℕ → List Numbered → List Numbered → Numbered → Type 0
 Grows r ids olds news p = Same r ids olds news p ⊎ Divided r ids olds news p
 
 -- no part changes
-all_same : (r : ℕ) (ids : List ℕ) (olds news more : List Placed) → ((g : ℕ) → given r olds more g ≡ given r olds news g) → all_given r ids olds more ≡ all_given r ids olds news
+all_same : (r : ℕ) (ids : List ℕ) (olds news more : List Numbered) → ((g : ℕ) → given r olds more g ≡ given r olds news g) → all_given r ids olds more ≡ all_given r ids olds news
 all_same r ids olds news more h = ap (λ (f : ℕ → List Step). flat_map f ids) (λ j g. h g j)
 
-given_other : (r : ℕ) (olds news : List Placed) (p : Placed) (g : ℕ) → is_of g p.batch.marker ≡ false → given r olds (news ++ p ∷ []) g ≡ given r olds news g
+given_other : (r : ℕ) (olds news : List Numbered) (p : Numbered) (g : ℕ) → is_of g p.batch.marker ≡ false → given r olds (news ++ p ∷ []) g ≡ given r olds news g
 given_other r olds news p g h = ap (λ l. steps_or r (whole_of (stretch_of (open_stretch (markers_of g olds))) (front_of l))) (markers_other g news p h)
 
 -- the part of the batch's own group, by what its marker makes of the front
-given_own : (r : ℕ) (olds news : List Placed) (n : ℕ) (is : List RegionStep) (m : GroupMarker) (f g : ℕ) → eqb g m.group ≡ true → given r olds (news ++ placed n is (Some m) f ∷ []) g ≡ steps_or r (whole_of (stretch_of (open_stretch (markers_of g olds))) (front_with (front_of (markers_of g news)) (front_by m.status is f (Open []))))
+given_own : (r : ℕ) (olds news : List Numbered) (n : ℕ) (is : List RegionStep) (m : GroupMarker) (f g : ℕ) → eqb g m.group ≡ true → given r olds (news ++ placed n is (Some m) f ∷ []) g ≡ steps_or r (whole_of (stretch_of (open_stretch (markers_of g olds))) (front_with (front_of (markers_of g news)) (front_by m.status is f (Open []))))
 given_own r olds news n is m f g h = ap (λ l. steps_or r (whole_of (stretch_of (open_stretch (markers_of g olds))) l)) (ap front_of (markers_more g news (placed n is (Some m) f) h) ∙ front_of-append (markers_of g news) (placed n is (Some m) f ∷ []) ∙ ap (front_with (front_of (markers_of g news))) (front_of_one n is m f))
 
 -- what isn't an End makes nothing whole_group
@@ -132,7 +132,7 @@ whole_not_end (Some x) (Ended js k) h none led = refl
 whole_not_end (Some x) Cut h none led = refl
 
 -- one group alone could change, and doesn't
-kept : (r : ℕ) (olds news : List Placed) (n : ℕ) (is : List RegionStep) (m : GroupMarker) (f : ℕ) →
+kept : (r : ℕ) (olds news : List Numbered) (n : ℕ) (is : List RegionStep) (m : GroupMarker) (f : ℕ) →
     steps_or r (whole_of (stretch_of (open_stretch (markers_of m.group olds))) (front_with (front_of (markers_of m.group news)) (front_by m.status is f (Open [])))) ≡ steps_or r (whole_of (stretch_of (open_stretch (markers_of m.group olds))) (front_of (markers_of m.group news))) →
     (g : ℕ) → given r olds (news ++ placed n is (Some m) f ∷ []) g ≡ given r olds news g
 kept r olds news n is m f same g = go (eqb g m.group) refl
@@ -141,15 +141,15 @@ kept r olds news n is m f same g = go (eqb g m.group) refl
     go true h = given_own r olds news n is m f g h ∙ subst (λ x. steps_or r (whole_of (stretch_of (open_stretch (markers_of x olds))) (front_with (front_of (markers_of x news)) (front_by m.status is f (Open [])))) ≡ given r olds news x) (sym (eqb-true g m.group h)) same
     go false h = given_other r olds news (placed n is (Some m) f) g h
 
-open_across : (g : ℕ) (olds news : List Placed) (b : Bool) (o : List Placed) → are_middles (markers_of g news) ≡ b → open_stretch (markers_of g olds) ≡ o → open_stretch (markers_of g (olds ++ news)) ≡ cond b (with_more o (markers_of g news)) (open_stretch (markers_of g news))
+open_across : (g : ℕ) (olds news : List Numbered) (b : Bool) (o : List Numbered) → are_middles (markers_of g news) ≡ b → open_stretch (markers_of g olds) ≡ o → open_stretch (markers_of g (olds ++ news)) ≡ cond b (with_more o (markers_of g news)) (open_stretch (markers_of g news))
 open_across g olds news b o h k = rw (markers_of-append g olds news, open_stretch-append (markers_of g olds) (markers_of g news), h, k) refl
 
 -- an End, where the newer batches have Middles of the group alone and the older ones leave its stretch open
-grows_whole : (r : ℕ) (ids : List ℕ) (olds news : List Placed) (n : ℕ) (is : List RegionStep) (k f : ℕ) (js : List RegionStep) (q : Placed) (qs : List Placed) →
+grows_whole : (r : ℕ) (ids : List ℕ) (olds news : List Numbered) (n : ℕ) (is : List RegionStep) (k f : ℕ) (js : List RegionStep) (q : Numbered) (qs : List Numbered) →
     front_of (markers_of k news) ≡ Open js → FitsFront (Open js) (markers_of k news) → open_stretch (markers_of k olds) ≡ q ∷ qs → Grows r ids olds news (placed n is (Some record { group = k; status = End }) f)
 grows_whole r ids olds news n is k f js q qs e h o = go (names r (region_steps_in effect)) refl
   where
-    p : Placed
+    p : Numbered
     p = placed n is (Some record { group = k; status = End }) f
 
     effect : Effect
@@ -192,13 +192,13 @@ grows_whole r ids olds news n is k f js q qs e h o = go (names r (region_steps_i
         }
 
 -- an End
-grows_end : (r : ℕ) (ids : List ℕ) (olds news : List Placed) (n : ℕ) (is : List RegionStep) (k f : ℕ) → Grows r ids olds news (placed n is (Some record { group = k; status = End }) f)
+grows_end : (r : ℕ) (ids : List ℕ) (olds news : List Numbered) (n : ℕ) (is : List RegionStep) (k f : ℕ) → Grows r ids olds news (placed n is (Some record { group = k; status = End }) f)
 grows_end r ids olds news n is k f = go (front_of (markers_of k news)) refl (fits_front (markers_of k news))
   where
     open_front : (js : List RegionStep) → front_of (markers_of k news) ≡ Open js → FitsFront (Open js) (markers_of k news) → Grows r ids olds news (placed n is (Some record { group = k; status = End }) f)
     open_front js e h = at (open_stretch (markers_of k olds)) refl
       where
-        at : (o : List Placed) → open_stretch (markers_of k olds) ≡ o → Grows r ids olds news (placed n is (Some record { group = k; status = End }) f)
+        at : (o : List Numbered) → open_stretch (markers_of k olds) ≡ o → Grows r ids olds news (placed n is (Some record { group = k; status = End }) f)
         at [] o = inl record {
           steps = rw (open_across k olds news true [] h.0 o, middles_open_none (markers_of k news) h.0) refl;
           given = all_same r ids olds news (news ++ placed n is (Some record { group = k; status = End }) f ∷ []) (kept r olds news n is record { group = k; status = End } f (rw o refl));
@@ -216,7 +216,7 @@ grows_end r ids olds news n is k f = go (front_of (markers_of k news)) refl (fit
     }
     go (Open js) e h = open_front js e h
 
-pub grows : (r : ℕ) (ids : List ℕ) (olds news : List Placed) (n : ℕ) (is : List RegionStep) (m : Option GroupMarker) (f : ℕ) → Grows r ids olds news (placed n is m f)
+pub grows : (r : ℕ) (ids : List ℕ) (olds news : List Numbered) (n : ℕ) (is : List RegionStep) (m : Option GroupMarker) (f : ℕ) → Grows r ids olds news (placed n is m f)
 grows r ids olds news n is None f = inl record { steps = refl; given = all_same r ids olds news (news ++ placed n is None f ∷ []) (λ g. given_other r olds news (placed n is None f) g refl) }
 grows r ids olds news n is (Some m) f = go m.group m.status
   where
@@ -234,7 +234,7 @@ grows r ids olds news n is (Some m) f = go m.group m.status
     go k End = grows_end r ids olds news n is k f
 
 -- one more batch behind a cut
-grow : (r n : ℕ) (ids : List ℕ) (olds news : List Placed) (p : Placed) → AllByRecursion (λ q. q.number < n) olds → AllByRecursion (λ q. n ≤ q.number) news → AllByRecursion (λ q. q.number < p.number) (olds ++ news) →
+grow : (r n : ℕ) (ids : List ℕ) (olds news : List Numbered) (p : Numbered) → AllByRecursion (λ q. q.number < n) olds → AllByRecursion (λ q. n ≤ q.number) news → AllByRecursion (λ q. q.number < p.number) (olds ++ news) →
     IsDistinct eqb ids → IsListed ids p.batch.marker → EachApart (effects_behind olds news ++ completed (olds ++ news) p) →
     all_steps r (effects_behind olds news) ≡ all_given r ids olds news ++ all_steps r (effects_behind [] news) →
     all_steps r (effects_behind olds news) ++ all_steps r (completed (olds ++ news) p) ≡ all_given r ids olds (news ++ p ∷ []) ++ (all_steps r (effects_behind [] news) ++ all_steps r (completed news p))
@@ -260,7 +260,7 @@ grow r n ids olds news p below from to one listed apart ih = go (grows r ids old
         given_one = changed_one (given r olds news) (given r olds (news ++ p ∷ [])) d.group.group ids one (subst (IsListed ids) d.marker listed) d.others (head_none (all_given r ids olds news) (all_steps r (effects_behind [] news)) (sym ih ∙ none)) ∙ d.steps
 
 -- no batches behind the cut
-given_none : (r : ℕ) (olds : List Placed) (g : ℕ) → given r olds [] g ≡ []
+given_none : (r : ℕ) (olds : List Numbered) (g : ℕ) → given r olds [] g ≡ []
 unfolding markers_of front_of
 given_none r olds g = go (stretch_of (open_stretch (markers_of g olds)))
   where
@@ -268,16 +268,16 @@ given_none r olds g = go (stretch_of (open_stretch (markers_of g olds)))
     go None = refl
     go (Some s) = refl
 
-all_given_none : (r : ℕ) (ids : List ℕ) (olds : List Placed) → all_given r ids olds [] ≡ []
+all_given_none : (r : ℕ) (ids : List ℕ) (olds : List Numbered) → all_given r ids olds [] ≡ []
 all_given_none r [] olds = refl
 all_given_none r (g ∷ ids) olds = rw (given_none r olds g) (all_given_none r ids olds)
 
 -- the effects behind a cut are those of the newer batches alone, and before them the groups that become whole_group
-record Holds (r n : ℕ) (ids : List ℕ) (olds : List Placed) (h : List ReadBatch) : Type 0 where
-  steps : ListsGroups ids h → EachApart (effects_behind olds (placed_from n h)) → all_steps r (effects_behind olds (placed_from n h)) ≡ all_given r ids olds (placed_from n h) ++ all_steps r (effects_behind [] (placed_from n h))
+record Holds (r n : ℕ) (ids : List ℕ) (olds : List Numbered) (h : List ReadBatch) : Type 0 where
+  steps : ListsGroups ids h → EachApart (effects_behind olds (numbered_from n h)) → all_steps r (effects_behind olds (numbered_from n h)) ≡ all_given r ids olds (numbered_from n h) ++ all_steps r (effects_behind [] (numbered_from n h))
 
-pub behind_cut : (r n : ℕ) (ids : List ℕ) (olds : List Placed) → AllByRecursion (λ q. q.number < n) olds → IsDistinct eqb ids → (h : List ReadBatch) → ListsGroups ids h → EachApart (effects_behind olds (placed_from n h)) →
-    all_steps r (effects_behind olds (placed_from n h)) ≡ all_given r ids olds (placed_from n h) ++ all_steps r (effects_behind [] (placed_from n h))
+pub behind_cut : (r n : ℕ) (ids : List ℕ) (olds : List Numbered) → AllByRecursion (λ q. q.number < n) olds → IsDistinct eqb ids → (h : List ReadBatch) → ListsGroups ids h → EachApart (effects_behind olds (numbered_from n h)) →
+    all_steps r (effects_behind olds (numbered_from n h)) ≡ all_given r ids olds (numbered_from n h) ++ all_steps r (effects_behind [] (numbered_from n h))
 behind_cut r n ids olds below one h = (by_push (Holds r n ids olds) none more h).steps
   where
     none : Holds r n ids olds []
@@ -285,12 +285,12 @@ behind_cut r n ids olds below one h = (by_push (Holds r n ids olds) none more h)
 
     more : (k : List ReadBatch) (b : ReadBatch) → Holds r n ids olds k → Holds r n ids olds (k ++ b ∷ [])
     more k b ih = record {
-      steps = λ listed. rw (placed_from-append n k (b ∷ []))
-          (go (placed_from n k) record { number = n + length k; batch = b } (from_on n k) (up_to n (n + length k) k (omega arith)) (each_weaker (λ q. q.number < n) (λ q. q.number < n + length k) (λ q h. omega arith) olds below)
+      steps = λ listed. rw (numbered_from-append n k (b ∷ []))
+          (go (numbered_from n k) record { number = n + length k; batch = b } (from_on n k) (up_to n (n + length k) k (omega arith)) (each_weaker (λ q. q.number < n) (λ q. q.number < n + length k) (λ q h. omega arith) olds below)
           (each_right (λ x. IsListed ids x.marker) k (b ∷ []) listed).0 (ih.steps (each_left (λ x. IsListed ids x.marker) k (b ∷ []) listed)));
     }
       where
-        go : (news : List Placed) (p : Placed) → AllByRecursion (λ q. n ≤ q.number) news → AllByRecursion (λ q. q.number < p.number) news → AllByRecursion (λ q. q.number < p.number) olds → IsListed ids p.batch.marker →
+        go : (news : List Numbered) (p : Numbered) → AllByRecursion (λ q. n ≤ q.number) news → AllByRecursion (λ q. q.number < p.number) news → AllByRecursion (λ q. q.number < p.number) olds → IsListed ids p.batch.marker →
             (EachApart (effects_behind olds news) → all_steps r (effects_behind olds news) ≡ all_given r ids olds news ++ all_steps r (effects_behind [] news)) →
             EachApart (effects_behind olds (news ++ p ∷ [])) → all_steps r (effects_behind olds (news ++ p ∷ [])) ≡ all_given r ids olds (news ++ p ∷ []) ++ all_steps r (effects_behind [] (news ++ p ∷ []))
         go news p from to old listed ih = rw (effects_behind-append olds news (p ∷ []), effects_behind-append [] news (p ∷ []), effects_behind-one (olds ++ news) p, effects_behind-one news p, all_steps-append r (effects_behind olds news) (completed (olds ++ news) p), all_steps-append r (effects_behind [] news) (completed news p))

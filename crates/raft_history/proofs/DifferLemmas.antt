@@ -9,17 +9,17 @@ use Rattle.raft_history.specs.Batches.{GroupMarker, ReadBatch}
 use Rattle.raft_history.specs.Effects.{Effect, effects, region_steps_in, first_in, last_in, IsGroup, AreApart, EachApart, BatchesApart, group_in}
 use Rattle.raft_history.specs.RegionSteps.{RegionStep, names}
 use Rattle.raft_history.specs.Stretches.{IsIn, IsMarkerOf}
-use Rattle.raft_history.specs.WaitingGroup.{Placed, placed_from, is_of, markers_of, open_stretch, region_steps_of, GroupFront, Open, Ended, Cut, front_of, front_by, front_behind, led_by, stretch_of, WholeGroup, whole_group, whole_of}
-use Rattle.raft_history.proofs.EffectLemmas.{each-append, each_weaker, each_right, each_markers, placed_from-append, from_on, up_to}
+use Rattle.raft_history.specs.WaitingGroup.{Numbered, numbered_from, is_of, markers_of, open_stretch, region_steps_of, GroupFront, Open, Ended, Cut, front_of, front_by, front_behind, led_by, stretch_of, WholeGroup, whole_group, whole_of}
+use Rattle.raft_history.proofs.EffectLemmas.{each-append, each_weaker, each_right, each_markers, numbered_from-append, from_on, up_to}
 use Rattle.raft_history.proofs.MarkerLemmas.{markers_of-append, whole_is}
 use Rattle.raft_history.proofs.ShiftLemmas.{group_of-placed}
-use Rattle.raft_history.proofs.StretchLemmas.{HasMark, each_marked, IsOpen, open_is, every_stretch}
+use Rattle.raft_history.proofs.StretchLemmas.{HasMarker, each_marked, IsOpen, open_is, every_stretch}
 
 -- an ended front is Middles and an End
-record IsEnded (g : ℕ) (ms : List Placed) (is : List RegionStep) (f : ℕ) : Type 0 where
-  middles : List Placed
-  end : Placed
-  behind : List Placed
+record IsEnded (g : ℕ) (ms : List Numbered) (is : List RegionStep) (f : ℕ) : Type 0 where
+  middles : List Numbered
+  end : Numbered
+  behind : List Numbered
   split : ms ≡ middles ++ end ∷ behind
   goes_on : AllByRecursion (IsMarkerOf g Middle) middles
   ends : IsMarkerOf g End end
@@ -32,12 +32,12 @@ ended_items a b c d e = cc
 ended_file : (a b : List RegionStep) (c d : ℕ) → Ended a c ≡ Ended b d → d ≡ c
 ended_file a b c d e = cc
 
-ended_is : (g : ℕ) (ms : List Placed) (is : List RegionStep) (f : ℕ) → AllByRecursion (HasMark g) ms → front_of ms ≡ Ended is f → IsEnded g ms is f
+ended_is : (g : ℕ) (ms : List Numbered) (is : List RegionStep) (f : ℕ) → AllByRecursion (HasMarker g) ms → front_of ms ≡ Ended is f → IsEnded g ms is f
 unfolding front_of
 ended_is g [] is f h e = cc
 ended_is g (p ∷ ps) is f h e = go p.batch.marker refl h.0 e (ended_is g ps)
   where
-    led : (js : List RegionStep) (t : GroupFront) → led_by js t ≡ Ended is f → front_of ps ≡ t → IsMarkerOf g Middle p → js ≡ p.batch.steps → ((ks : List RegionStep) (l : ℕ) → AllByRecursion (HasMark g) ps → front_of ps ≡ Ended ks l → IsEnded g ps ks l) → IsEnded g (p ∷ ps) is f
+    led : (js : List RegionStep) (t : GroupFront) → led_by js t ≡ Ended is f → front_of ps ≡ t → IsMarkerOf g Middle p → js ≡ p.batch.steps → ((ks : List RegionStep) (l : ℕ) → AllByRecursion (HasMarker g) ps → front_of ps ≡ Ended ks l → IsEnded g ps ks l) → IsEnded g (p ∷ ps) is f
     led js (Open ks) e t m k ih = cc
     led js Cut e t m k ih = cc
     led js (Ended ks l) e t m k ih = record {
@@ -54,7 +54,7 @@ ended_is g (p ∷ ps) is f h e = go p.batch.marker refl h.0 e (ended_is g ps)
         x : IsEnded g ps ks l
         x = ih ks l h.1 t
 
-    go : (m : Option GroupMarker) → p.batch.marker ≡ m → is_of g m ≡ true → front_behind m p.batch.steps p.batch.file (front_of ps) ≡ Ended is f → ((ks : List RegionStep) (l : ℕ) → AllByRecursion (HasMark g) ps → front_of ps ≡ Ended ks l → IsEnded g ps ks l) → IsEnded g (p ∷ ps) is f
+    go : (m : Option GroupMarker) → p.batch.marker ≡ m → is_of g m ≡ true → front_behind m p.batch.steps p.batch.file (front_of ps) ≡ Ended is f → ((ks : List RegionStep) (l : ℕ) → AllByRecursion (HasMarker g) ps → front_of ps ≡ Ended ks l → IsEnded g ps ks l) → IsEnded g (p ∷ ps) is f
     go None m k e ih = cc
     go (Some x) m k e ih = at x.status (m ∙ ap (λ y. Some record { group = y; status = x.status }) (sym (eqb-true g x.group k))) e
       where
@@ -74,11 +74,11 @@ record IsAcross (h k : List ReadBatch) (g : ℕ) (w : WholeGroup) : Type 0 where
   ends : IsMarkerOf g End effect.last
 
 across : (h k : List ReadBatch) (g : ℕ) (w : WholeGroup) → whole_group (group_in g h) (group_in g k) ≡ Some w → IsAcross h k g w
-across h k g w e = go (open_stretch (markers_of g (placed_from 0 h))) refl (front_of (markers_of g (placed_from (0 + length h) k))) refl
-    (ap (whole_of (stretch_of (open_stretch (markers_of g (placed_from 0 h))))) (ap (λ x. x.front) (group_of-placed (0 + length h) g k)) ∙ sym (whole_is (markers_of g (placed_from 0 h)) (group_in g k).front) ∙ e)
+across h k g w e = go (open_stretch (markers_of g (numbered_from 0 h))) refl (front_of (markers_of g (numbered_from (0 + length h) k))) refl
+    (ap (whole_of (stretch_of (open_stretch (markers_of g (numbered_from 0 h))))) (ap (λ x. x.front) (group_of-placed (0 + length h) g k)) ∙ sym (whole_is (markers_of g (numbered_from 0 h)) (group_in g k).front) ∙ e)
   where
-    made : (q : Placed) (qs : List Placed) (is : List RegionStep) (f : ℕ) → ◌≡◌ {A = Option WholeGroup} (Some record { steps = region_steps_of (q ∷ qs) ++ is; start = q.batch.file; end = f }) (Some w) →
-        IsOpen g (markers_of g (placed_from 0 h)) q qs → IsEnded g (markers_of g (placed_from (0 + length h) k)) is f → IsAcross h k g w
+    made : (q : Numbered) (qs : List Numbered) (is : List RegionStep) (f : ℕ) → ◌≡◌ {A = Option WholeGroup} (Some record { steps = region_steps_of (q ∷ qs) ++ is; start = q.batch.file; end = f }) (Some w) →
+        IsOpen g (markers_of g (numbered_from 0 h)) q qs → IsEnded g (markers_of g (numbered_from (0 + length h) k)) is f → IsAcross h k g w
     made q qs is f e y x = record {
       effect = record { earlier = q ∷ (qs ++ x.middles); last = x.end };
       stands = every_stretch (h ++ k) g record { earlier = q ∷ (qs ++ x.middles); last = x.end } record {
@@ -86,18 +86,18 @@ across h k g w e = go (open_stretch (markers_of g (placed_from 0 h))) refl (fron
         begin = q;
         middles = qs ++ x.middles;
         behind = x.behind;
-        neighbours = ap (markers_of g) (placed_from-append 0 h k) ∙ markers_of-append g (placed_from 0 h) (placed_from (0 + length h) k)
-            ∙ ap (λ l. l ++ markers_of g (placed_from (0 + length h) k)) y.split ∙ ap (λ l. (y.before ++ q ∷ qs) ++ l) x.split
+        neighbours = ap (markers_of g) (numbered_from-append 0 h k) ∙ markers_of-append g (numbered_from 0 h) (numbered_from (0 + length h) k)
+            ∙ ap (λ l. l ++ markers_of g (numbered_from (0 + length h) k)) y.split ∙ ap (λ l. (y.before ++ q ∷ qs) ++ l) x.split
             ∙ append_assoc y.before (q ∷ qs) (x.middles ++ x.end ∷ x.behind) ∙ ap (λ l. y.before ++ q ∷ l) (sym (append_assoc qs x.middles (x.end ∷ x.behind)));
         begins = y.begin;
         goes_on = each-append (IsMarkerOf g Middle) qs x.middles y.middles x.goes_on;
         ends = x.ends;
         earlier = refl;
       };
-      steps = ap (λ l. l ++ x.end.batch.steps) (flat_map-append (λ (p : Placed). p.batch.steps) (q ∷ qs) x.middles) ∙ append_assoc (region_steps_of (q ∷ qs)) (region_steps_of x.middles) x.end.batch.steps ∙ ap (λ l. region_steps_of (q ∷ qs) ++ l) (sym x.steps) ∙ whole_items (region_steps_of (q ∷ qs) ++ is) q.batch.file f e;
+      steps = ap (λ l. l ++ x.end.batch.steps) (flat_map-append (λ (p : Numbered). p.batch.steps) (q ∷ qs) x.middles) ∙ append_assoc (region_steps_of (q ∷ qs)) (region_steps_of x.middles) x.end.batch.steps ∙ ap (λ l. region_steps_of (q ∷ qs) ++ l) (sym x.steps) ∙ whole_items (region_steps_of (q ∷ qs) ++ is) q.batch.file f e;
       group = λ z. cc;
-      first = (each_right (λ p. p.number < length h) y.before (q ∷ qs) (subst (AllByRecursion (λ p. p.number < length h)) y.split (each_markers (λ p. p.number < length h) g (placed_from 0 h) (up_to 0 (length h) h (omega arith))))).0;
-      last = (each_right (λ p. length h ≤ p.number) x.middles (x.end ∷ x.behind) (subst (AllByRecursion (λ p. length h ≤ p.number)) x.split (each_markers (λ p. length h ≤ p.number) g (placed_from (0 + length h) k) later))).0;
+      first = (each_right (λ p. p.number < length h) y.before (q ∷ qs) (subst (AllByRecursion (λ p. p.number < length h)) y.split (each_markers (λ p. p.number < length h) g (numbered_from 0 h) (up_to 0 (length h) h (omega arith))))).0;
+      last = (each_right (λ p. length h ≤ p.number) x.middles (x.end ∷ x.behind) (subst (AllByRecursion (λ p. length h ≤ p.number)) x.split (each_markers (λ p. length h ≤ p.number) g (numbered_from (0 + length h) k) later))).0;
       ends = x.ends;
     }
       where
@@ -108,14 +108,14 @@ across h k g w e = go (open_stretch (markers_of g (placed_from 0 h))) refl (fron
             items_or None = []
             items_or (Some x) = x.steps
 
-        later : AllByRecursion (λ p. length h ≤ p.number) (placed_from (0 + length h) k)
-        later = each_weaker (λ p. 0 + length h ≤ p.number) (λ p. length h ≤ p.number) (λ p z. omega arith) (placed_from (0 + length h) k) (from_on (0 + length h) k)
+        later : AllByRecursion (λ p. length h ≤ p.number) (numbered_from (0 + length h) k)
+        later = each_weaker (λ p. 0 + length h ≤ p.number) (λ p. length h ≤ p.number) (λ p z. omega arith) (numbered_from (0 + length h) k) (from_on (0 + length h) k)
 
-    go : (o : List Placed) → open_stretch (markers_of g (placed_from 0 h)) ≡ o → (t : GroupFront) → front_of (markers_of g (placed_from (0 + length h) k)) ≡ t → whole_of (stretch_of o) t ≡ Some w → IsAcross h k g w
+    go : (o : List Numbered) → open_stretch (markers_of g (numbered_from 0 h)) ≡ o → (t : GroupFront) → front_of (markers_of g (numbered_from (0 + length h) k)) ≡ t → whole_of (stretch_of o) t ≡ Some w → IsAcross h k g w
     go [] o t f e = cc
     go (q ∷ qs) o (Open is) f e = cc
     go (q ∷ qs) o Cut f e = cc
-    go (q ∷ qs) o (Ended is l) f e = made q qs is l e (open_is g (markers_of g (placed_from 0 h)) q qs (each_marked g (placed_from 0 h)) o) (ended_is g (markers_of g (placed_from (0 + length h) k)) is l (each_marked g (placed_from (0 + length h) k)) f)
+    go (q ∷ qs) o (Ended is l) f e = made q qs is l e (open_is g (markers_of g (numbered_from 0 h)) q qs (each_marked g (numbered_from 0 h)) o) (ended_is g (markers_of g (numbered_from (0 + length h) k)) is l (each_marked g (numbered_from (0 + length h) k)) f)
 
 -- any two of a list
 pub head_or_tail : (e x : Effect) (xs : List Effect) → IsIn e (x ∷ xs) → (x ≡ e) ⊎ IsIn e xs
@@ -163,7 +163,7 @@ wholes_differ h k apart g l other w v a b r m n = go (apart_any x.effect y.effec
     group_or None = 0
     group_or (Some z) = z.group
 
-    same_group : (g l : ℕ) (p q : Placed) → IsMarkerOf g End p → IsMarkerOf l End q → p ≡ q → g ≡ l
+    same_group : (g l : ℕ) (p q : Numbered) → IsMarkerOf g End p → IsMarkerOf l End q → p ≡ q → g ≡ l
     same_group g l p q a b s = ap group_or (sym a ∙ ap (λ z. z.batch.marker) s ∙ b)
 
     go : AreApart x.effect y.effect ⊎ AreApart y.effect x.effect → ⊥

@@ -9,7 +9,7 @@ use Rattle.raft_records.specs.declared.atomic_group.AtomicGroupStatus.TheVariant
 use Rattle.raft_history.specs.Batches.{GroupMarker, ReadBatch}
 use Rattle.raft_history.specs.Effects.{Effect, ended, completed_as, completed_by, completed, effects_behind, whole_steps, region_steps_in, steps_by, steps_in, all_steps, first_in, last_in, IsGroup, Names, AreApart, EachApart}
 use Rattle.raft_history.specs.RegionSteps.{RegionStep, is_on, names, steps_on}
-use Rattle.raft_history.specs.WaitingGroup.{begins, Placed, placed_from, is_of, markers_of, are_middles, open_stretch, region_steps_of, WholeGroup}
+use Rattle.raft_history.specs.WaitingGroup.{begins, Numbered, numbered_from, is_of, markers_of, are_middles, open_stretch, region_steps_of, WholeGroup}
 
 -- what holds of each
 pub each-append : {X : Type 0} (P : X → Type 0) (xs ys : List X) → AllByRecursion P xs → AllByRecursion P ys → AllByRecursion P (xs ++ ys)
@@ -36,11 +36,11 @@ each_filter {X} P t (x ∷ xs) h = go (t x) (each_filter P t xs h.1)
     go true k = (h.0, k)
     go false k = k
 
-pub each_markers : (P : Placed → Type 0) (g : ℕ) (ps : List Placed) → AllByRecursion P ps → AllByRecursion P (markers_of g ps)
+pub each_markers : (P : Numbered → Type 0) (g : ℕ) (ps : List Numbered) → AllByRecursion P ps → AllByRecursion P (markers_of g ps)
 unfolding markers_of
 each_markers P g ps h = each_filter P (λ p. is_of g p.batch.marker) ps h
 
-pub each_open : (P : Placed → Type 0) (ps : List Placed) → AllByRecursion P ps → AllByRecursion P (open_stretch ps)
+pub each_open : (P : Numbered → Type 0) (ps : List Numbered) → AllByRecursion P ps → AllByRecursion P (open_stretch ps)
 unfolding open_stretch
 each_open P [] h = tt
 each_open P (p ∷ ps) h = go (begins p.batch.marker && are_middles ps) (each_open P ps h.1)
@@ -58,29 +58,29 @@ by_push {X} P none more xs = go [] xs none
     go done (x ∷ todo) h = subst P (append_assoc done (x ∷ []) todo) (go (done ++ x ∷ []) todo (more done x h))
 
 -- numbers
-pub placed_from-append : (n : ℕ) (h k : List ReadBatch) → placed_from n (h ++ k) ≡ placed_from n h ++ placed_from (n + length h) k
-placed_from-append n [] k = ap (λ x. placed_from x k) (omega arith)
-placed_from-append n (b ∷ bs) k = ap (λ l. record { number = n; batch = b } ∷ l) (placed_from-append (suc n) bs k ∙ ap (λ x. placed_from (suc n) bs ++ placed_from x k) (omega arith))
+pub numbered_from-append : (n : ℕ) (h k : List ReadBatch) → numbered_from n (h ++ k) ≡ numbered_from n h ++ numbered_from (n + length h) k
+numbered_from-append n [] k = ap (λ x. numbered_from x k) (omega arith)
+numbered_from-append n (b ∷ bs) k = ap (λ l. record { number = n; batch = b } ∷ l) (numbered_from-append (suc n) bs k ∙ ap (λ x. numbered_from (suc n) bs ++ numbered_from x k) (omega arith))
 
-pub from_on : (n : ℕ) (h : List ReadBatch) → AllByRecursion (λ p. n ≤ p.number) (placed_from n h)
+pub from_on : (n : ℕ) (h : List ReadBatch) → AllByRecursion (λ p. n ≤ p.number) (numbered_from n h)
 from_on n [] = tt
-from_on n (b ∷ bs) = (omega arith, each_weaker (λ p. suc n ≤ p.number) (λ p. n ≤ p.number) (λ p k. omega arith) (placed_from (suc n) bs) (from_on (suc n) bs))
+from_on n (b ∷ bs) = (omega arith, each_weaker (λ p. suc n ≤ p.number) (λ p. n ≤ p.number) (λ p k. omega arith) (numbered_from (suc n) bs) (from_on (suc n) bs))
 
-pub up_to : (n m : ℕ) (h : List ReadBatch) → n + length h ≤ m → AllByRecursion (λ p. p.number < m) (placed_from n h)
+pub up_to : (n m : ℕ) (h : List ReadBatch) → n + length h ≤ m → AllByRecursion (λ p. p.number < m) (numbered_from n h)
 up_to n m [] e = tt
 up_to n m (b ∷ bs) e = (omega arith, up_to (suc n) m bs (omega arith))
 
 -- effects one behind another
-pub effects_behind-append : (olds ps qs : List Placed) → effects_behind olds (ps ++ qs) ≡ effects_behind olds ps ++ effects_behind (olds ++ ps) qs
+pub effects_behind-append : (olds ps qs : List Numbered) → effects_behind olds (ps ++ qs) ≡ effects_behind olds ps ++ effects_behind (olds ++ ps) qs
 unfolding effects_behind
 effects_behind-append olds [] qs = ap (λ l. effects_behind l qs) (sym (append-nil olds))
 effects_behind-append olds (p ∷ ps) qs = ap (λ l. completed olds p ++ l) (effects_behind-append (olds ++ p ∷ []) ps qs ∙ ap (λ l. effects_behind (olds ++ p ∷ []) ps ++ effects_behind l qs) (append_assoc olds (p ∷ []) ps)) ∙ sym (append_assoc (completed olds p) (effects_behind (olds ++ p ∷ []) ps) (effects_behind (olds ++ p ∷ ps) qs))
 
-pub effects_behind-one : (olds : List Placed) (p : Placed) → effects_behind olds (p ∷ []) ≡ completed olds p
+pub effects_behind-one : (olds : List Numbered) (p : Numbered) → effects_behind olds (p ∷ []) ≡ completed olds p
 unfolding effects_behind
 effects_behind-one olds p = append-nil (completed olds p)
 
-pub effects_behind-none : (olds : List Placed) → effects_behind olds [] ≡ []
+pub effects_behind-none : (olds : List Numbered) → effects_behind olds [] ≡ []
 unfolding effects_behind
 effects_behind-none olds = refl
 
@@ -113,7 +113,7 @@ whole_steps-none r w h = rw (steps_on-none r w.steps h, h) refl
 pub steps_in-none : (r : ℕ) (e : Effect) → names r (region_steps_in e) ≡ false → steps_in r e ≡ []
 steps_in-none r e h = go e.earlier h
   where
-    go : (l : List Placed) → names r (region_steps_of l ++ e.last.batch.steps) ≡ false → steps_by r l e.last ≡ []
+    go : (l : List Numbered) → names r (region_steps_of l ++ e.last.batch.steps) ≡ false → steps_by r l e.last ≡ []
     go [] h = steps_on-none r e.last.batch.steps h
     go (q ∷ qs) h = whole_steps-none r record { steps = region_steps_of (q ∷ qs) ++ e.last.batch.steps; start = q.batch.file; end = e.last.batch.file } h
 
@@ -128,10 +128,10 @@ pub record Within (n m : ℕ) (e : Effect) : Type 0 where
   pub last : last_in e < m
   pub from : n ≤ last_in e
 
-within_completed : (n m : ℕ) (olds : List Placed) (p : Placed) → AllByRecursion (λ q. q.number < m) olds → n ≤ p.number → p.number < m → AllByRecursion (Within n m) (completed olds p)
+within_completed : (n m : ℕ) (olds : List Numbered) (p : Numbered) → AllByRecursion (λ q. q.number < m) olds → n ≤ p.number → p.number < m → AllByRecursion (Within n m) (completed olds p)
 within_completed n m olds p below from to = go p.batch.marker
   where
-    end : (l : List Placed) → AllByRecursion (λ q. q.number < m) l → AllByRecursion (Within n m) (ended l p)
+    end : (l : List Numbered) → AllByRecursion (λ q. q.number < m) l → AllByRecursion (Within n m) (ended l p)
     end [] h = tt
     end (q ∷ qs) h = (record { first = h.0; last = to; from = from }, tt)
 
@@ -144,7 +144,7 @@ within_completed n m olds p below from to = go p.batch.marker
         at Middle = tt
         at End = end (open_stretch (markers_of k.group olds)) (each_open (λ q. q.number < m) (markers_of k.group olds) (each_markers (λ q. q.number < m) k.group olds below))
 
-pub within : (n m : ℕ) (olds ps : List Placed) → AllByRecursion (λ q. q.number < m) olds → AllByRecursion (λ q. n ≤ q.number) ps → AllByRecursion (λ q. q.number < m) ps → AllByRecursion (Within n m) (effects_behind olds ps)
+pub within : (n m : ℕ) (olds ps : List Numbered) → AllByRecursion (λ q. q.number < m) olds → AllByRecursion (λ q. n ≤ q.number) ps → AllByRecursion (λ q. q.number < m) ps → AllByRecursion (Within n m) (effects_behind olds ps)
 unfolding effects_behind
 within n m olds [] below from to = tt
 within n m olds (p ∷ ps) below from to = each-append (Within n m) (completed olds p) (effects_behind (olds ++ p ∷ []) ps) (within_completed n m olds p below from.0 to.0)

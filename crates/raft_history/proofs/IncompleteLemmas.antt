@@ -10,18 +10,18 @@ use Rattle.raft_table.specs.Steps.{Step}
 use Rattle.raft_history.specs.Batches.{GroupMarker, ReadBatch}
 use Rattle.raft_history.specs.Effects.{Effect, ended, completed_as, completed_by, completed, effects_behind, effects, steps_by, steps_in, whole_steps, all_steps, steps_of, EndsNoEffect, without_group}
 use Rattle.raft_history.specs.RegionSteps.{RegionStep, steps_on, names}
-use Rattle.raft_history.specs.WaitingGroup.{Placed, placed_from, is_of, markers_of, begins, goes_on, are_middles, open_stretch, region_steps_of}
+use Rattle.raft_history.specs.WaitingGroup.{Numbered, numbered_from, is_of, markers_of, begins, goes_on, are_middles, open_stretch, region_steps_of}
 use Rattle.raft_history.proofs.EffectLemmas.{each_left, each_right, all_steps-append}
 
-abbrev is_other : ℕ → Placed → Bool
+abbrev is_other : ℕ → Numbered → Bool
 is_other g p = not (is_of g p.batch.marker)
 
-unfoldable others : ℕ → List Placed → List Placed
+unfoldable others : ℕ → List Numbered → List Numbered
 others g ps = filter (is_other g) ps
 
 -- ---- the markers of another group
 
-other_markers : (g l : ℕ) (ps : List Placed) → eqb g l ≡ false → markers_of l (others g ps) ≡ markers_of l ps
+other_markers : (g l : ℕ) (ps : List Numbered) → eqb g l ≡ false → markers_of l (others g ps) ≡ markers_of l ps
 unfolding markers_of others
 other_markers g l [] n = refl
 other_markers g l (p ∷ ps) n = go (is_of g p.batch.marker) refl (is_of l p.batch.marker) refl (other_markers g l ps n)
@@ -44,14 +44,14 @@ abbrev EndsNone : ℕ → List Effect → Type 0
 EndsNone g es = AllByRecursion (λ (e : Effect). is_of g e.last.batch.marker ≡ false) es
 
 -- a batch of the group completes nothing
-completes_none : (g : ℕ) (olds : List Placed) (p : Placed) → is_of g p.batch.marker ≡ true → EndsNone g (completed olds p) → completed olds p ≡ []
+completes_none : (g : ℕ) (olds : List Numbered) (p : Numbered) → is_of g p.batch.marker ≡ true → EndsNone g (completed olds p) → completed olds p ≡ []
 completes_none g olds p is h = go p.batch.marker is h
   where
-    at : (ps : List Placed) → EndsNone g (ended ps p) → ended ps p ≡ []
+    at : (ps : List Numbered) → EndsNone g (ended ps p) → ended ps p ≡ []
     at [] h = refl
     at (q ∷ qs) h = absurd (false≢true (sym h.0 ∙ is))
 
-    by : (s : AtomicGroupStatus) (ps : List Placed) → EndsNone g (completed_as s ps p) → completed_as s ps p ≡ []
+    by : (s : AtomicGroupStatus) (ps : List Numbered) → EndsNone g (completed_as s ps p) → completed_as s ps p ≡ []
     by Begin ps h = refl
     by Middle ps h = refl
     by End ps h = at ps h
@@ -61,14 +61,14 @@ completes_none g olds p is h = go p.batch.marker is h
     go (Some m) e h = by m.status (open_stretch (markers_of m.group olds)) h
 
 -- another batch completes the same
-completes_same : (g : ℕ) (olds : List Placed) (p : Placed) → is_of g p.batch.marker ≡ false → completed (others g olds) p ≡ completed olds p
+completes_same : (g : ℕ) (olds : List Numbered) (p : Numbered) → is_of g p.batch.marker ≡ false → completed (others g olds) p ≡ completed olds p
 completes_same g olds p not_own = go p.batch.marker not_own
   where
     go : (m : Option GroupMarker) → is_of g m ≡ false → completed_by m (others g olds) p ≡ completed_by m olds p
     go None e = refl
     go (Some m) e = ap (λ l. completed_as m.status (open_stretch l) p) (other_markers g m.group olds e)
 
-effects_same : (g : ℕ) (olds ps : List Placed) → EndsNone g (effects_behind olds ps) → effects_behind (others g olds) (others g ps) ≡ effects_behind olds ps
+effects_same : (g : ℕ) (olds ps : List Numbered) → EndsNone g (effects_behind olds ps) → effects_behind (others g olds) (others g ps) ≡ effects_behind olds ps
 unfolding effects_behind others
 effects_same g olds [] h = refl
 effects_same g olds (p ∷ ps) h = go (is_of g p.batch.marker) refl (effects_same g (olds ++ p ∷ []) ps (each_right _ (completed olds p) (effects_behind (olds ++ p ∷ []) ps) h))
@@ -82,19 +82,19 @@ effects_same g olds (p ∷ ps) h = go (is_of g p.batch.marker) refl (effects_sam
 
 -- ---- numbers don't matter
 
-abbrev SameBatches : List Placed → List Placed → Type 0
+abbrev SameBatches : List Numbered → List Numbered → Type 0
 SameBatches [] [] = Unit {0}
 SameBatches [] (q ∷ qs) = ⊥
 SameBatches (p ∷ ps) [] = ⊥
 SameBatches (p ∷ ps) (q ∷ qs) = (p.batch ≡ q.batch) × SameBatches ps qs
 
-same-append : (ps qs rs ss : List Placed) → SameBatches ps qs → SameBatches rs ss → SameBatches (ps ++ rs) (qs ++ ss)
+same-append : (ps qs rs ss : List Numbered) → SameBatches ps qs → SameBatches rs ss → SameBatches (ps ++ rs) (qs ++ ss)
 same-append [] [] rs ss h k = k
 same-append [] (q ∷ qs) rs ss h k = absurd h
 same-append (p ∷ ps) [] rs ss h k = absurd h
 same-append (p ∷ ps) (q ∷ qs) rs ss h k = (h.0, same-append ps qs rs ss h.1 k)
 
-same_markers : (g : ℕ) (ps qs : List Placed) → SameBatches ps qs → SameBatches (markers_of g ps) (markers_of g qs)
+same_markers : (g : ℕ) (ps qs : List Numbered) → SameBatches ps qs → SameBatches (markers_of g ps) (markers_of g qs)
 unfolding markers_of
 same_markers g [] [] h = tt
 same_markers g [] (q ∷ qs) h = absurd h
@@ -108,14 +108,14 @@ same_markers g (p ∷ ps) (q ∷ qs) h = go (is_of g p.batch.marker) (is_of g q.
     go false true e k = cc
     go false false e k = k
 
-same_middles : (ps qs : List Placed) → SameBatches ps qs → are_middles ps ≡ are_middles qs
+same_middles : (ps qs : List Numbered) → SameBatches ps qs → are_middles ps ≡ are_middles qs
 unfolding are_middles
 same_middles [] [] h = refl
 same_middles [] (q ∷ qs) h = absurd h
 same_middles (p ∷ ps) [] h = absurd h
 same_middles (p ∷ ps) (q ∷ qs) h = ap (λ (b : ReadBatch). goes_on b.marker && are_middles ps) h.0 ∙ ap (λ b. goes_on q.batch.marker && b) (same_middles ps qs h.1)
 
-same_stretch : (ps qs : List Placed) → SameBatches ps qs → SameBatches (open_stretch ps) (open_stretch qs)
+same_stretch : (ps qs : List Numbered) → SameBatches ps qs → SameBatches (open_stretch ps) (open_stretch qs)
 unfolding open_stretch
 same_stretch [] [] h = tt
 same_stretch [] (q ∷ qs) h = absurd h
@@ -128,13 +128,13 @@ same_stretch (p ∷ ps) (q ∷ qs) h = go (begins p.batch.marker && are_middles 
     go false true e k = cc
     go false false e k = k
 
-same_region_steps : (ps qs : List Placed) → SameBatches ps qs → region_steps_of ps ≡ region_steps_of qs
+same_region_steps : (ps qs : List Numbered) → SameBatches ps qs → region_steps_of ps ≡ region_steps_of qs
 same_region_steps [] [] h = refl
 same_region_steps [] (q ∷ qs) h = absurd h
 same_region_steps (p ∷ ps) [] h = absurd h
 same_region_steps (p ∷ ps) (q ∷ qs) h = ap (λ (b : ReadBatch). b.steps ++ region_steps_of ps) h.0 ∙ ap (λ l. q.batch.steps ++ l) (same_region_steps ps qs h.1)
 
-same_steps : (r : ℕ) (ps qs : List Placed) (p q : Placed) → SameBatches ps qs → p.batch ≡ q.batch → steps_by r ps p ≡ steps_by r qs q
+same_steps : (r : ℕ) (ps qs : List Numbered) (p q : Numbered) → SameBatches ps qs → p.batch ≡ q.batch → steps_by r ps p ≡ steps_by r qs q
 same_steps r [] [] p q h e = ap (λ (b : ReadBatch). steps_on r b.steps) e
 same_steps r [] (y ∷ qs) p q h e = absurd h
 same_steps r (x ∷ ps) [] p q h e = absurd h
@@ -143,17 +143,17 @@ same_steps r (x ∷ ps) (y ∷ qs) p q h e =
     ∙ ap (λ l. whole_steps r record { steps = l ++ q.batch.steps; start = x.batch.file; end = q.batch.file }) (same_region_steps (x ∷ ps) (y ∷ qs) h)
     ∙ ap (λ (b : ReadBatch). whole_steps r record { steps = region_steps_of (y ∷ qs) ++ q.batch.steps; start = b.file; end = q.batch.file }) h.0
 
-same_completed : (r : ℕ) (olds news : List Placed) (p q : Placed) → SameBatches olds news → p.batch ≡ q.batch → all_steps r (completed olds p) ≡ all_steps r (completed news q)
+same_completed : (r : ℕ) (olds news : List Numbered) (p q : Numbered) → SameBatches olds news → p.batch ≡ q.batch → all_steps r (completed olds p) ≡ all_steps r (completed news q)
 unfolding all_steps
 same_completed r olds news p q h e = go p.batch.marker q.batch.marker (ap (λ (b : ReadBatch). b.marker) e)
   where
-    at : (ps qs : List Placed) → SameBatches ps qs → flat_map (steps_in r) (ended ps p) ≡ flat_map (steps_in r) (ended qs q)
+    at : (ps qs : List Numbered) → SameBatches ps qs → flat_map (steps_in r) (ended ps p) ≡ flat_map (steps_in r) (ended qs q)
     at [] [] k = refl
     at [] (y ∷ qs) k = absurd k
     at (x ∷ ps) [] k = absurd k
     at (x ∷ ps) (y ∷ qs) k = ap (λ l. l ++ []) (same_steps r (x ∷ ps) (y ∷ qs) p q k e)
 
-    by : (s : AtomicGroupStatus) (ps qs : List Placed) → SameBatches ps qs → flat_map (steps_in r) (completed_as s ps p) ≡ flat_map (steps_in r) (completed_as s qs q)
+    by : (s : AtomicGroupStatus) (ps qs : List Numbered) → SameBatches ps qs → flat_map (steps_in r) (completed_as s ps p) ≡ flat_map (steps_in r) (completed_as s qs q)
     by Begin ps qs k = refl
     by Middle ps qs k = refl
     by End ps qs k = at ps qs k
@@ -165,7 +165,7 @@ same_completed r olds news p q h e = go p.batch.marker q.batch.marker (ap (λ (b
     go : (m n : Option GroupMarker) → m ≡ n → flat_map (steps_in r) (completed_by m olds p) ≡ flat_map (steps_in r) (completed_by n news q)
     go m n k = own m ∙ ap (λ n. flat_map (steps_in r) (completed_by n news q)) k
 
-same_effects : (r : ℕ) (olds news ps qs : List Placed) → SameBatches olds news → SameBatches ps qs → all_steps r (effects_behind olds ps) ≡ all_steps r (effects_behind news qs)
+same_effects : (r : ℕ) (olds news ps qs : List Numbered) → SameBatches olds news → SameBatches ps qs → all_steps r (effects_behind olds ps) ≡ all_steps r (effects_behind news qs)
 unfolding effects_behind
 same_effects r olds news [] [] h k = refl
 same_effects r olds news [] (q ∷ qs) h k = absurd k
@@ -174,16 +174,16 @@ same_effects r olds news (p ∷ ps) (q ∷ qs) h k =
     all_steps-append r (completed olds p) (effects_behind (olds ++ p ∷ []) ps) ∙ ap (λ l. l ++ all_steps r (effects_behind (olds ++ p ∷ []) ps)) (same_completed r olds news p q h k.0)
     ∙ ap (λ l. all_steps r (completed news q) ++ l) (same_effects r (olds ++ p ∷ []) (news ++ q ∷ []) ps qs (same-append olds news (p ∷ []) (q ∷ []) h (k.0, tt)) k.1) ∙ sym (all_steps-append r (completed news q) (effects_behind (news ++ q ∷ []) qs))
 
-placed_others : (g n m : ℕ) (h : List ReadBatch) → SameBatches (placed_from n (without_group g h)) (others g (placed_from m h))
+placed_others : (g n m : ℕ) (h : List ReadBatch) → SameBatches (numbered_from n (without_group g h)) (others g (numbered_from m h))
 unfolding without_group others
 placed_others g n m [] = tt
 placed_others g n m (b ∷ h) = go (is_of g b.marker) (λ n. placed_others g n (suc m) h)
   where
-    go : (x : Bool) → ((n : ℕ) → SameBatches (placed_from n (filter (λ b. not (is_of g b.marker)) h)) (filter (is_other g) (placed_from (suc m) h)))
-        → SameBatches (placed_from n (cond (not x) (b ∷ filter (λ b. not (is_of g b.marker)) h) (filter (λ b. not (is_of g b.marker)) h))) (cond (not x) (record { number = m; batch = b } ∷ filter (is_other g) (placed_from (suc m) h)) (filter (is_other g) (placed_from (suc m) h)))
+    go : (x : Bool) → ((n : ℕ) → SameBatches (numbered_from n (filter (λ b. not (is_of g b.marker)) h)) (filter (is_other g) (numbered_from (suc m) h)))
+        → SameBatches (numbered_from n (cond (not x) (b ∷ filter (λ b. not (is_of g b.marker)) h) (filter (λ b. not (is_of g b.marker)) h))) (cond (not x) (record { number = m; batch = b } ∷ filter (is_other g) (numbered_from (suc m) h)) (filter (is_other g) (numbered_from (suc m) h)))
     go true ih = ih n
     go false ih = (refl, ih (suc n))
 
 pub incomplete_changes_nothing : (g : ℕ) (h : List ReadBatch) → EndsNoEffect g h → (r : ℕ) → steps_of r (without_group g h) ≡ steps_of r h
 unfolding others
-incomplete_changes_nothing g h n r = same_effects r [] [] (placed_from 0 (without_group g h)) (others g (placed_from 0 h)) tt (placed_others g 0 0 h) ∙ ap (all_steps r) (effects_same g [] (placed_from 0 h) n)
+incomplete_changes_nothing g h n r = same_effects r [] [] (numbered_from 0 (without_group g h)) (others g (numbered_from 0 h)) tt (placed_others g 0 0 h) ∙ ap (all_steps r) (effects_same g [] (numbered_from 0 h) n)

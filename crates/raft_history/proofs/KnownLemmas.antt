@@ -13,7 +13,7 @@ use Rattle.std.specs.FinMap as finite
 use Rattle.std.specs.FinMap.Entries.{find, below_all, is_sorted}
 use Rattle.raft_history.specs.Batches.{GroupMarker, ReadBatch}
 use Rattle.raft_history.specs.Effects.{steps_of, BatchesApart, group_in, wholes, steps_of_wholes, ListsGroups, IsListed}
-use Rattle.raft_history.specs.WaitingGroup.{unmarked, placed_from, is_of, markers_of, open_stretch, front_of, WaitingGroup, whole_group}
+use Rattle.raft_history.specs.WaitingGroup.{without_marker, numbered_from, is_of, markers_of, open_stretch, front_of, WaitingGroup, whole_group}
 use Rattle.raft_history.specs.WaitingGroups.{entry_by, groups_in, known, whole_with, whole_groups}
 use Rattle.raft_history.proofs.EffectLemmas.{each_weaker}
 use Rattle.raft_history.proofs.JoinedLemmas.{joined_steps}
@@ -41,26 +41,26 @@ pub get-groups_in : (g : ℕ) (h : List ReadBatch) → finite.get (groups_in h) 
 unfolding groups_in
 get-groups_in g h = finite.get-from_entries nat_cmp_total (flat_map (λ b. entry_by h b.marker) h) g ∙ find-entries g h h
 
--- a group that isn't marked
-no_markers : (g n : ℕ) (h : List ReadBatch) → has_marker g h ≡ false → markers_of g (placed_from n h) ≡ []
+-- a group without a marker
+no_markers : (g n : ℕ) (h : List ReadBatch) → has_marker g h ≡ false → markers_of g (numbered_from n h) ≡ []
 unfolding markers_of
 no_markers g n [] e = refl
 no_markers g n (b ∷ bs) e = go (is_of g b.marker) e (no_markers g (suc n) bs)
   where
-    go : (t : Bool) → (t || has_marker g bs) ≡ false → (has_marker g bs ≡ false → filter (λ p. is_of g p.batch.marker) (placed_from (suc n) bs) ≡ []) → cond t (record { number = n; batch = b } ∷ filter (λ p. is_of g p.batch.marker) (placed_from (suc n) bs)) (filter (λ p. is_of g p.batch.marker) (placed_from (suc n) bs)) ≡ []
+    go : (t : Bool) → (t || has_marker g bs) ≡ false → (has_marker g bs ≡ false → filter (λ p. is_of g p.batch.marker) (numbered_from (suc n) bs) ≡ []) → cond t (record { number = n; batch = b } ∷ filter (λ p. is_of g p.batch.marker) (numbered_from (suc n) bs)) (filter (λ p. is_of g p.batch.marker) (numbered_from (suc n) bs)) ≡ []
     go true e ih = cc
     go false e ih = ih e
 
-pub group_in-unmarked : (g : ℕ) (h : List ReadBatch) → has_marker g h ≡ false → group_in g h ≡ unmarked
+pub group_in-without_marker : (g : ℕ) (h : List ReadBatch) → has_marker g h ≡ false → group_in g h ≡ without_marker
 unfolding open_stretch front_of
-group_in-unmarked g h e = rw (no_markers g 0 h e) refl
+group_in-without_marker g h e = rw (no_markers g 0 h e) refl
 
 pub known-groups_in : (g : ℕ) (h : List ReadBatch) → known (groups_in h) g ≡ group_in g h
-known-groups_in g h = ap (λ o. unwrap_or o unmarked) (get-groups_in g h) ∙ go (has_marker g h) refl
+known-groups_in g h = ap (λ o. unwrap_or o without_marker) (get-groups_in g h) ∙ go (has_marker g h) refl
   where
-    go : (t : Bool) → has_marker g h ≡ t → unwrap_or (cond t (Some (group_in g h)) None) unmarked ≡ group_in g h
+    go : (t : Bool) → has_marker g h ≡ t → unwrap_or (cond t (Some (group_in g h)) None) without_marker ≡ group_in g h
     go true e = refl
-    go false e = sym (group_in-unmarked g h e)
+    go false e = sym (group_in-without_marker g h e)
 
 -- entries in order
 each_found : {X : Type 0} (es : List (ℕ × X)) → T (is_sorted nat_cmp es) → AllByRecursion (λ e. find nat_cmp e.0 es ≡ Some e.1) es

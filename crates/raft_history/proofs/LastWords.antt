@@ -3,7 +3,7 @@ use Rattle.std.proofs.Common.{◌≡◌, ℕ, List, [], ◌∷◌, ◌++◌, ref
 use Rattle.std.specs.Prelude.{flat_map}
 use Rattle.std.specs.FinMap as finite
 use Rattle.raft_base.specs.declared.pipe_log.LogQueue.TheVariants.{Append}
-use Rattle.raft_table.specs.Entries.{entry_at}
+use Rattle.raft_table.specs.TableEntries.{entry_at}
 use Rattle.raft_table.specs.LastWord.{last_entry, last_pair}
 use Rattle.raft_table.specs.Steps.{Step, table_of}
 use Rattle.raft_table.proofs.LastWordLemmas.{last_entry_stands, last_pair_stands}
@@ -11,15 +11,15 @@ use Rattle.raft_history.specs.Batches.{Event, ReadBatch, batches}
 use Rattle.raft_history.specs.Effects.{steps_of}
 use Rattle.raft_history.specs.Histories.{IsSoundIn, IsOneReading}
 use Rattle.raft_history.specs.RegionSteps.{Tables, steps_on, steps_of_items}
-use Rattle.raft_history.proofs.SoundLemmas.{steps_good, unmarked}
-use Rattle.raft_history.proofs.UnmarkedLemmas.{plain_steps}
+use Rattle.raft_history.proofs.SoundLemmas.{steps_good, without_marker}
+use Rattle.raft_history.proofs.WithoutMarkers.{plain_steps}
 
 in_order : (r : ℕ) (h : List Event) → flat_map (λ (b : ReadBatch). steps_on r b.steps) (batches h) ≡ flat_map (λ (e : Event). steps_on r (steps_of_items e.items)) h
 in_order r [] = refl
 in_order r (e ∷ h) = ap (λ l. steps_on r (steps_of_items e.items) ++ l) (in_order r h)
 
 own_steps : (r : ℕ) (h : List Event) → IsSoundIn Append h → steps_of r (batches h) ≡ flat_map (λ (e : Event). steps_on r (steps_of_items e.items)) h
-own_steps r h s = plain_steps r (batches h) (unmarked 0 h s.files) ∙ in_order r h
+own_steps r h s = plain_steps r (batches h) (without_marker 0 h s.files) ∙ in_order r h
 
 pub entry_stands : (h : List Event) (tables : Tables) (cleaned : List ℕ) → IsSoundIn Append h → IsOneReading Append h tables cleaned → (r i : ℕ) → entry_at i (table_of r (finite.get tables r)).entries ≡ last_entry i (flat_map (λ (e : Event). steps_on r (steps_of_items e.items)) h)
 entry_stands h tables cleaned s one r i = last_entry_stands i r (finite.get tables r) (steps_of r (batches h)) (steps_good r h s.items) (one.tables_read r) ∙ ap (last_entry i) (own_steps r h s)

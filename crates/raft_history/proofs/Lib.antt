@@ -30,5 +30,5 @@ pub mod StretchOfHistory
 pub mod TakenLaws
 pub mod TotalLemmas
 pub mod UniqueLemmas
-pub mod UnmarkedLemmas
+pub mod WithoutMarkers
 pub mod WaitingLemmas

@@ -6,13 +6,13 @@ use Rattle.raft_records.specs.declared.atomic_group.AtomicGroupStatus.{AtomicGro
 use Rattle.raft_records.specs.declared.atomic_group.AtomicGroupStatus.TheVariants.{Begin, Middle, End}
 use Rattle.raft_history.specs.Batches.{GroupMarker}
 use Rattle.raft_history.specs.RegionSteps.{RegionStep}
-use Rattle.raft_history.specs.WaitingGroup.{begins, goes_on, Placed, is_of, markers_of, begins_by, goes_on_by, are_middles, open_stretch, region_steps_of, GroupFront, Open, Ended, Cut, led_by, front_by, front_behind, front_of, stretch_of, WaitingGroup, group_at, group_of, carried, joined_group_by, joined_group, whole_of, whole_group_by}
+use Rattle.raft_history.specs.WaitingGroup.{begins, goes_on, Numbered, is_of, markers_of, begins_by, goes_on_by, are_middles, open_stretch, region_steps_of, GroupFront, Open, Ended, Cut, led_by, front_by, front_behind, front_of, stretch_of, WaitingGroup, group_at, group_of, carried, joined_group_by, joined_group, whole_of, whole_group_by}
 
-pub markers_of-append : (g : ℕ) (ps qs : List Placed) → markers_of g (ps ++ qs) ≡ markers_of g ps ++ markers_of g qs
+pub markers_of-append : (g : ℕ) (ps qs : List Numbered) → markers_of g (ps ++ qs) ≡ markers_of g ps ++ markers_of g qs
 unfolding markers_of
 markers_of-append g ps qs = filter-append (λ p. is_of g p.batch.marker) ps qs
 
-pub are_middles-append : (ps qs : List Placed) → are_middles (ps ++ qs) ≡ (are_middles ps && are_middles qs)
+pub are_middles-append : (ps qs : List Numbered) → are_middles (ps ++ qs) ≡ (are_middles ps && are_middles qs)
 unfolding are_middles
 are_middles-append [] qs = refl
 are_middles-append (p ∷ ps) qs = go (goes_on p.batch.marker) (are_middles-append ps qs)
@@ -22,7 +22,7 @@ are_middles-append (p ∷ ps) qs = go (goes_on p.batch.marker) (are_middles-appe
     go false ih = refl
 
 -- where Middles alone stand, nothing is open
-pub middles_open_none : (ps : List Placed) → are_middles ps ≡ true → open_stretch ps ≡ []
+pub middles_open_none : (ps : List Numbered) → are_middles ps ≡ true → open_stretch ps ≡ []
 unfolding are_middles open_stretch
 middles_open_none [] h = refl
 middles_open_none (p ∷ ps) h = go p.batch.marker h (middles_open_none ps)
@@ -37,11 +37,11 @@ middles_open_none (p ∷ ps) h = go p.batch.marker h (middles_open_none ps)
         at End h = cc
 
 -- a stretch with the markers behind it
-abbrev pub with_more : List Placed → List Placed → List Placed
+abbrev pub with_more : List Numbered → List Numbered → List Numbered
 with_more [] qs = []
 with_more (p ∷ ps) qs = p ∷ (ps ++ qs)
 
-pub open_stretch-append : (ps qs : List Placed) → open_stretch (ps ++ qs) ≡ cond (are_middles qs) (with_more (open_stretch ps) qs) (open_stretch qs)
+pub open_stretch-append : (ps qs : List Numbered) → open_stretch (ps ++ qs) ≡ cond (are_middles qs) (with_more (open_stretch ps) qs) (open_stretch qs)
 unfolding open_stretch
 open_stretch-append [] qs = go (are_middles qs) refl
   where
@@ -67,7 +67,7 @@ front_with (Open is) g = led_by is g
 front_with (Ended is f) g = Ended is f
 front_with Cut g = Cut
 
-pub front_of-append : (ps qs : List Placed) → front_of (ps ++ qs) ≡ front_with (front_of ps) (front_of qs)
+pub front_of-append : (ps qs : List Numbered) → front_of (ps ++ qs) ≡ front_with (front_of ps) (front_of qs)
 unfolding front_of
 front_of-append [] qs = sym (led_none (front_of qs))
   where
@@ -92,12 +92,12 @@ front_of-append (p ∷ ps) qs = go p.batch.marker (front_of-append ps qs)
         at End = refl
 
 -- a front is open where Middles alone stand
-abbrev pub FitsFront : GroupFront → List Placed → Type 0
+abbrev pub FitsFront : GroupFront → List Numbered → Type 0
 FitsFront (Open is) ps = (are_middles ps ≡ true) × (is ≡ region_steps_of ps)
 FitsFront (Ended is f) ps = are_middles ps ≡ false
 FitsFront Cut ps = are_middles ps ≡ false
 
-pub fits_front : (ps : List Placed) → FitsFront (front_of ps) ps
+pub fits_front : (ps : List Numbered) → FitsFront (front_of ps) ps
 unfolding front_of are_middles
 fits_front [] = (refl, refl)
 fits_front (p ∷ ps) = go p.batch.marker refl (front_of ps) (fits_front ps)
@@ -113,12 +113,12 @@ fits_front (p ∷ ps) = go p.batch.marker refl (front_of ps) (fits_front ps)
         at Middle is Cut h = rw is h
         at End is f h = rw is refl
 
-stretch_with : (ps qs : List Placed) → stretch_of (with_more ps qs) ≡ carried (stretch_of ps) (region_steps_of qs)
+stretch_with : (ps qs : List Numbered) → stretch_of (with_more ps qs) ≡ carried (stretch_of ps) (region_steps_of qs)
 stretch_with [] qs = refl
 stretch_with (p ∷ ps) qs = ap (λ l. Some record { file = p.batch.file; steps = l }) (flat_map-append (λ x. x.batch.steps) (p ∷ ps) qs)
 
--- what is known of a group from two segments
-pub group_at-append : (ps qs : List Placed) → group_at (ps ++ qs) ≡ joined_group (group_at ps) (group_at qs)
+-- what is known of a group from two histories
+pub group_at-append : (ps qs : List Numbered) → group_at (ps ++ qs) ≡ joined_group (group_at ps) (group_at qs)
 group_at-append ps qs = rw (front_of-append, open_stretch-append) (go (front_of ps) (front_of qs) (are_middles qs) refl (fits_front ps) (fits_front qs))
   where
     older : WaitingGroup
@@ -141,11 +141,11 @@ group_at-append ps qs = rw (front_of-append, open_stretch-append) (go (front_of 
     go Cut Cut true e h k = cc
     go Cut Cut false e h k = refl
 
-pub group_of-append : (g : ℕ) (ps qs : List Placed) → group_of g (ps ++ qs) ≡ joined_group (group_of g ps) (group_of g qs)
+pub group_of-append : (g : ℕ) (ps qs : List Numbered) → group_of g (ps ++ qs) ≡ joined_group (group_of g ps) (group_of g qs)
 group_of-append g ps qs = rw markers_of-append (group_at-append (markers_of g ps) (markers_of g qs))
 
 -- with an open front there is no open stretch
-pub whole_is : (ps : List Placed) (f : GroupFront) → whole_group_by (front_of ps) (stretch_of (open_stretch ps)) f ≡ whole_of (stretch_of (open_stretch ps)) f
+pub whole_is : (ps : List Numbered) (f : GroupFront) → whole_group_by (front_of ps) (stretch_of (open_stretch ps)) f ≡ whole_of (stretch_of (open_stretch ps)) f
 whole_is ps f = go (front_of ps) (fits_front ps)
   where
     go : (t : GroupFront) → FitsFront t ps → whole_group_by t (stretch_of (open_stretch ps)) f ≡ whole_of (stretch_of (open_stretch ps)) f

@@ -27,7 +27,7 @@ use Rattle.raft_history.proofs.NamedLemmas.{has_steps, has_steps-own, has_steps-
 use Rattle.raft_history.proofs.ReadLemmas.{own-whole_group, own-wholes, holds_joined, read_holds, read_refused, read_marked, refused_more}
 use Rattle.raft_history.proofs.SoundLemmas.{steps_good, batches-append}
 use Rattle.raft_history.proofs.StepListLemmas.{steps-append, steps_left, steps_right, own_none}
-use Rattle.raft_history.proofs.UnmarkedLemmas.{named-steps}
+use Rattle.raft_history.proofs.WithoutMarkers.{named-steps}
 
 some_is : {X : Type 0} {x y : X} → Some x ≡ Some y → x ≡ y
 some_is e = cc

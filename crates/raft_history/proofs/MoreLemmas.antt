@@ -15,17 +15,17 @@ use Rattle.raft_records.specs.declared.atomic_group.AtomicGroupStatus.TheVariant
 use Rattle.raft_history.specs.Batches.{GroupMarker, ReadBatch}
 use Rattle.raft_history.specs.Effects.{ended, completed_as, completed_by, effects_behind, effects, all_steps, steps_of, group_in}
 use Rattle.raft_history.specs.RegionSteps.{RegionStep}
-use Rattle.raft_history.specs.WaitingGroup.{unmarked, Placed, placed_from, is_of, markers_of, open_stretch, are_middles, front_of, Open, Cut, WaitingGroup, joined_group, whole_group, whole_of, OpenStretch, stretch_of, one_marker, group_of}
+use Rattle.raft_history.specs.WaitingGroup.{without_marker, Numbered, numbered_from, is_of, markers_of, open_stretch, are_middles, front_of, Open, Cut, WaitingGroup, joined_group, whole_group, whole_of, OpenStretch, stretch_of, one_marker, group_of}
 use Rattle.raft_history.specs.WaitingGroups.{WaitingGroups, groups_in, known, joined_with, joined_groups, groups_after, steps_or, steps_by_batch}
 use Rattle.raft_history.proofs.EffectLemmas.{effects_behind-one, all_steps-append, all_steps-one, all_steps-none}
 use Rattle.raft_history.proofs.JoinedLemmas.{group_in-append, effects-append}
-use Rattle.raft_history.proofs.KnownLemmas.{has_marker, get-groups_in, group_in-unmarked, known-groups_in, keys_distinct, tied}
+use Rattle.raft_history.proofs.KnownLemmas.{has_marker, get-groups_in, group_in-without_marker, known-groups_in, keys_distinct, tied}
 use Rattle.raft_history.proofs.MarkerLemmas.{whole_is}
 
 -- what a join has at a group
 abbrev joined_at : Option WaitingGroup → Option WaitingGroup → Option WaitingGroup
 joined_at o None = o
-joined_at o (Some n) = Some (joined_group (unwrap_or o unmarked) n)
+joined_at o (Some n) = Some (joined_group (unwrap_or o without_marker) n)
 
 find_none : (q k : ℕ) (es : List (ℕ × WaitingGroup)) → eqb q k ≡ true → AllByRecursion (λ y. eqb k y ≡ false) (map (λ e. e.0) es) → find nat_cmp q es ≡ None
 find_none q k [] e a = refl
@@ -49,16 +49,16 @@ has_marker-append g (b ∷ bs) k = go (is_of g b.marker) (has_marker-append g bs
     go false ih = ih
 
 -- no more markers
-joined_group-unmarked : (g : ℕ) (h k : List ReadBatch) → has_marker g k ≡ false → group_in g (h ++ k) ≡ group_in g h
-joined_group-unmarked g h k e = group_in-append g h k ∙ ap (joined_group (group_in g h)) (group_in-unmarked g k e ∙ sym (group_in-unmarked g [] refl)) ∙ sym (group_in-append g h []) ∙ ap (group_in g) (append-nil h)
+joined_group-without_marker : (g : ℕ) (h k : List ReadBatch) → has_marker g k ≡ false → group_in g (h ++ k) ≡ group_in g h
+joined_group-without_marker g h k e = group_in-append g h k ∙ ap (joined_group (group_in g h)) (group_in-without_marker g k e ∙ sym (group_in-without_marker g [] refl)) ∙ sym (group_in-append g h []) ∙ ap (group_in g) (append-nil h)
 
 pub groups_in-append : (h k : List ReadBatch) → groups_in (h ++ k) ≡ joined_groups (groups_in h) (groups_in k)
 groups_in-append h k = same_map nat_cmp_total nat_cmp-IsAntisymmetric (groups_in (h ++ k)) (joined_groups (groups_in h) (groups_in k)) (λ q. both q ∙ sym (join q))
   where
     go : (q : ℕ) (s : Bool) → has_marker q h ≡ s → (t : Bool) → has_marker q k ≡ t → cond (s || t) (Some (group_in q (h ++ k))) None ≡ joined_at (cond s (Some (group_in q h)) None) (cond t (Some (group_in q k)) None)
     go q true a true b = ap Some (group_in-append q h k)
-    go q true a false b = ap Some (joined_group-unmarked q h k b)
-    go q false a true b = ap Some (group_in-append q h k ∙ ap (λ x. joined_group x (group_in q k)) (group_in-unmarked q h a))
+    go q true a false b = ap Some (joined_group-without_marker q h k b)
+    go q false a true b = ap Some (group_in-append q h k ∙ ap (λ x. joined_group x (group_in q k)) (group_in-without_marker q h a))
     go q false a false b = refl
 
     both : (q : ℕ) → finite.get (groups_in (h ++ k)) q ≡ joined_at (cond (has_marker q h) (Some (group_in q h)) None) (cond (has_marker q k) (Some (group_in q k)) None)
@@ -91,10 +91,10 @@ pub groups_in-one : (h : List ReadBatch) (b : ReadBatch) → groups_in (h ++ b �
 groups_in-one h b = groups_in-append h (b ∷ []) ∙ joined_group-one (groups_in h) b.steps b.marker b.file
 
 -- one more batch's steps, in one context
-completed-steps : (r : ℕ) (olds : List Placed) (p : Placed) (m : GroupMarker) → all_steps r (completed_as m.status (open_stretch (markers_of m.group olds)) p) ≡ steps_or r (whole_group (group_of m.group olds) (one_marker m.status p.batch.steps p.batch.file))
+completed-steps : (r : ℕ) (olds : List Numbered) (p : Numbered) (m : GroupMarker) → all_steps r (completed_as m.status (open_stretch (markers_of m.group olds)) p) ≡ steps_or r (whole_group (group_of m.group olds) (one_marker m.status p.batch.steps p.batch.file))
 completed-steps r olds p m = go m.status
   where
-    stretch : (l : List Placed) → all_steps r (ended l p) ≡ steps_or r (whole_of (stretch_of l) (one_marker End p.batch.steps p.batch.file).front)
+    stretch : (l : List Numbered) → all_steps r (ended l p) ≡ steps_or r (whole_of (stretch_of l) (one_marker End p.batch.steps p.batch.file).front)
     stretch [] = all_steps-none r
     stretch (q ∷ qs) = all_steps-one r record { earlier = q ∷ qs; last = p }
 
@@ -112,9 +112,9 @@ completed-steps r olds p m = go m.status
     go End = rw (whole_is (markers_of m.group olds)) (stretch (open_stretch (markers_of m.group olds)))
 
 pub steps-one : (r : ℕ) (h : List ReadBatch) (b : ReadBatch) → steps_of r (h ++ b ∷ []) ≡ steps_of r h ++ steps_by_batch r (groups_in h) b b.marker
-steps-one r h b = ap (all_steps r) (effects-append h (b ∷ [])) ∙ all_steps-append r (effects h) (effects_behind (placed_from 0 h) (placed_from (length h) (b ∷ [])))
-    ∙ ap (λ l. steps_of r h ++ l) (ap (all_steps r) (effects_behind-one (placed_from 0 h) record { number = length h; batch = b }) ∙ go b.marker)
+steps-one r h b = ap (all_steps r) (effects-append h (b ∷ [])) ∙ all_steps-append r (effects h) (effects_behind (numbered_from 0 h) (numbered_from (length h) (b ∷ [])))
+    ∙ ap (λ l. steps_of r h ++ l) (ap (all_steps r) (effects_behind-one (numbered_from 0 h) record { number = length h; batch = b }) ∙ go b.marker)
   where
-    go : (m : Option GroupMarker) → all_steps r (completed_by m (placed_from 0 h) record { number = length h; batch = b }) ≡ steps_by_batch r (groups_in h) b m
+    go : (m : Option GroupMarker) → all_steps r (completed_by m (numbered_from 0 h) record { number = length h; batch = b }) ≡ steps_by_batch r (groups_in h) b m
     go None = all_steps-one r record { earlier = []; last = record { number = length h; batch = b } }
-    go (Some m) = completed-steps r (placed_from 0 h) record { number = length h; batch = b } m ∙ ap (λ x. steps_or r (whole_group x (one_marker m.status b.steps b.file))) (sym (known-groups_in m.group h))
+    go (Some m) = completed-steps r (numbered_from 0 h) record { number = length h; batch = b } m ∙ ap (λ x. steps_or r (whole_group x (one_marker m.status b.steps b.file))) (sym (known-groups_in m.group h))

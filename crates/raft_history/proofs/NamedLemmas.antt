@@ -10,7 +10,7 @@ use Rattle.raft_history.specs.WaitingGroups.{WaitingGroups, groups_in, known, wh
 use Rattle.raft_history.proofs.EffectLemmas.{steps_on-none}
 use Rattle.raft_history.proofs.KnownLemmas.{steps_across}
 use Rattle.raft_history.proofs.MoreLemmas.{steps-one}
-use Rattle.raft_history.proofs.UnmarkedLemmas.{named-steps, steps_on-some}
+use Rattle.raft_history.proofs.WithoutMarkers.{named-steps, steps_on-some}
 use Rattle.raft_table.specs.Steps.{Step, AtomicGroup}
 
 abbrev pub has_steps : List Step → Bool

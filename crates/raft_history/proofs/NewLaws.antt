@@ -18,7 +18,7 @@ use Rattle.raft_history.specs.WaitingGroup.{WaitingGroup}
 use Rattle.raft_history.specs.WaitingGroups.{groups_in, held_steps}
 use Rattle.raft_history.proofs.ContextLaws.{no_steps, exact_accepted}
 use Rattle.raft_history.proofs.ReadLemmas.{holds_none}
-use Rattle.raft_history.proofs.UnmarkedLemmas.{named-steps}
+use Rattle.raft_history.proofs.WithoutMarkers.{named-steps}
 
 no_groups : finite.empty ≡ groups_in []
 unfolding groups_in

@@ -14,7 +14,7 @@ use Rattle.raft_history.specs.Effects.{group_in}
 use Rattle.raft_history.specs.Histories.{IsInFile, AreInFile, AreInFiles, FilesFrom, IsPutIn, IsPairIn, IsStepOfQueue}
 use Rattle.raft_history.specs.MarkedRegions.{named_regions, on_each, region_steps_of_whole, region_steps_of_wholes}
 use Rattle.raft_history.specs.RegionSteps.{RegionStep, put_step, pair_step, content_step, with_step, steps_of_items}
-use Rattle.raft_history.specs.WaitingGroup.{Placed, placed_from, markers_of, open_stretch, region_steps_of, GroupFront, Open, Ended, Cut, led_by, front_by, front_behind, front_of, OpenStretch, stretch_of, WaitingGroup, group_at, WholeGroup, whole_of, whole_group_by, whole_group, one_marker}
+use Rattle.raft_history.specs.WaitingGroup.{Numbered, numbered_from, markers_of, open_stretch, region_steps_of, GroupFront, Open, Ended, Cut, led_by, front_by, front_behind, front_of, OpenStretch, stretch_of, WaitingGroup, group_at, WholeGroup, whole_of, whole_group_by, whole_group, one_marker}
 use Rattle.raft_history.specs.WaitingGroups.{WaitingGroups, groups_in, known, whole_with, whole_groups, front_steps, stretch_steps}
 use Rattle.raft_history.proofs.EffectLemmas.{each-append, each_left, each_markers, each_open, each_weaker}
 use Rattle.raft_history.proofs.KnownLemmas.{known-groups_in, each_known}
@@ -31,17 +31,17 @@ Are q is = AllByRecursion (λ (i : RegionStep). IsStepOfQueue q i.step) is
 are-append : (q : LogQueue) (is js : List RegionStep) → Are q is → Are q js → Are q (is ++ js)
 are-append q is js a b = each-append (λ (i : RegionStep). IsStepOfQueue q i.step) is js a b
 
-abbrev IsOf : LogQueue → Placed → Type 0
+abbrev IsOf : LogQueue → Numbered → Type 0
 IsOf q p = Are q p.batch.steps
 
-items_are : (q : LogQueue) (ps : List Placed) → AllByRecursion (IsOf q) ps → Are q (region_steps_of ps)
+items_are : (q : LogQueue) (ps : List Numbered) → AllByRecursion (IsOf q) ps → Are q (region_steps_of ps)
 items_are q [] h = tt
 items_are q (p ∷ ps) h = are-append q p.batch.steps (region_steps_of ps) h.0 (items_are q ps h.1)
 
 abbrev pub Holds : LogQueue → WaitingGroup → Type 0
 Holds q g = Are q (front_steps g.front) × Are q (stretch_steps g.stretch)
 
-front_are : (q : LogQueue) (ps : List Placed) → AllByRecursion (IsOf q) ps → Are q (front_steps (front_of ps))
+front_are : (q : LogQueue) (ps : List Numbered) → AllByRecursion (IsOf q) ps → Are q (front_steps (front_of ps))
 unfolding front_of
 front_are q [] h = tt
 front_are q (p ∷ ps) h = go p.batch.marker (front_are q ps h.1)
@@ -60,12 +60,12 @@ front_are q (p ∷ ps) h = go p.batch.marker (front_are q ps h.1)
     go None k = tt
     go (Some m) k = by m.status k
 
-stretch_are : (q : LogQueue) (ps : List Placed) → AllByRecursion (IsOf q) ps → Are q (stretch_steps (stretch_of ps))
+stretch_are : (q : LogQueue) (ps : List Numbered) → AllByRecursion (IsOf q) ps → Are q (stretch_steps (stretch_of ps))
 stretch_are q [] h = tt
 stretch_are q (p ∷ ps) h = items_are q (p ∷ ps) h
 
-group_holds : (q : LogQueue) (g : ℕ) (bs : List ReadBatch) → AllByRecursion (IsOf q) (placed_from 0 bs) → Holds q (group_in g bs)
-group_holds q g bs h = (front_are q (markers_of g (placed_from 0 bs)) (each_markers (IsOf q) g (placed_from 0 bs) h), stretch_are q (open_stretch (markers_of g (placed_from 0 bs))) (each_open (IsOf q) (markers_of g (placed_from 0 bs)) (each_markers (IsOf q) g (placed_from 0 bs) h)))
+group_holds : (q : LogQueue) (g : ℕ) (bs : List ReadBatch) → AllByRecursion (IsOf q) (numbered_from 0 bs) → Holds q (group_in g bs)
+group_holds q g bs h = (front_are q (markers_of g (numbered_from 0 bs)) (each_markers (IsOf q) g (numbered_from 0 bs) h), stretch_are q (open_stretch (markers_of g (numbered_from 0 bs))) (each_open (IsOf q) (markers_of g (numbered_from 0 bs)) (each_markers (IsOf q) g (numbered_from 0 bs) h)))
 
 abbrev pub OrAre : LogQueue → Option WholeGroup → Type 0
 OrAre q None = Unit {0}
@@ -119,7 +119,7 @@ items_in_file file (item ∷ items) h = go (content_step item.content) (λ s e. 
 pub items_in_queue : (q : LogQueue) (file : FileId) (items : List Item) → file.queue ≡ q → AreInFile file items → Are q (steps_of_items items)
 items_in_queue q file items e h = subst (λ q. Are q (steps_of_items items)) e (items_in_file file items h)
 
-placed_are : (q : LogQueue) (n m : ℕ) (h : List Event) → FilesFrom q n h → AreInFiles h → AllByRecursion (IsOf q) (placed_from m (batches h))
+placed_are : (q : LogQueue) (n m : ℕ) (h : List Event) → FilesFrom q n h → AreInFiles h → AllByRecursion (IsOf q) (numbered_from m (batches h))
 placed_are q n m [] f a = tt
 placed_are q n m (e ∷ h) f a = (items_in_queue q e.file e.items f.0 a.0, placed_are q e.file.seq (suc m) h f.2 a.1)
 

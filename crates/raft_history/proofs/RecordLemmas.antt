@@ -17,9 +17,9 @@ use Rattle.std.proofs.lemmas.List.{length-append}
 use Rattle.raft_base.specs.declared.pipe_log.LogQueue.{LogQueue}
 use Rattle.raft_base.specs.declared.pipe_log.LogQueue.TheVariants.{Append, Rewrite}
 use Rattle.raft_records.specs.declared.entry_index.EntryIndex.{EntryIndex}
-use Rattle.raft_table.specs.Entries.{below, from, end_of}
+use Rattle.raft_table.specs.TableEntries.{below, from, end_of}
 use Rattle.raft_table.specs.KeySets.{KeySet, without}
-use Rattle.raft_table.specs.KeyValues.{Keys, Stored, StoredPair, with_pairs, overlaid}
+use Rattle.raft_table.specs.KeyValues.{Keys, Stored, StoredPair, with_pairs, pairs_over}
 use Rattle.raft_table.specs.Marks.{Mark, part, older_entries, entries_over, keys_over, atomic_group_over, table_over, is_first_run_refused, is_missed, is_there_over, applied}
 use Rattle.raft_table.specs.MarkJoins.{joined_mark, mark_of}
 use Rattle.raft_table.specs.Start.{replayed, leaves_hole}
@@ -97,8 +97,8 @@ len_pairs : (m : Keys) (es : List StoredPair) → finite.len (with_pairs m es) �
 len_pairs m [] = omega arith
 len_pairs m (e ∷ es) = omega (arith, len_pairs (finite.insert m e.0 e.1) es, len_insert m e.0 e.1)
 
-len_overlaid : (own older : Keys) → finite.len (overlaid own older) ≤ finite.len older + finite.len own
-len_overlaid own older = omega (arith, len_pairs older (finite.entries own), finite.len-entries own)
+len_pairs_over : (own older : Keys) → finite.len (pairs_over own older) ≤ finite.len older + finite.len own
+len_pairs_over own older = omega (arith, len_pairs older (finite.entries own), finite.len-entries own)
 
 -- ---- one region
 
@@ -168,10 +168,10 @@ older_shorter Rewrite m es = go (is_missed m es)
 over_records : (q : LogQueue) (m : Mark) (t o x : Table) → table_over q m t o ≡ Some x → table_records x ≤ table_records o + table_records t
 over_records q m t o x e = go (is_first_run_refused q m o.entries) m.cleaned refl e
   where
-    go : (b c : Bool) → m.cleaned ≡ c → option_map {U = Table} (λ es. record o { entries = es; keys = cond m.cleaned t.keys (overlaid t.keys (without m.deleted o.keys)); atomic_group = atomic_group_over m t.atomic_group o.atomic_group }) (cond b None (Some (cond c t.entries (older_entries q m o.entries ++ t.entries)))) ≡ Some x → table_records x ≤ table_records o + table_records t
+    go : (b c : Bool) → m.cleaned ≡ c → option_map {U = Table} (λ es. record o { entries = es; keys = cond m.cleaned t.keys (pairs_over t.keys (without m.deleted o.keys)); atomic_group = atomic_group_over m t.atomic_group o.atomic_group }) (cond b None (Some (cond c t.entries (older_entries q m o.entries ++ t.entries)))) ≡ Some x → table_records x ≤ table_records o + table_records t
     go true c k e = absurd cc
-    go false true k e = omega (arith, ap table_records (some_is e), ap (λ c. finite.len (cond c t.keys (overlaid t.keys (without m.deleted o.keys)))) k)
-    go false false k e = omega (arith, ap table_records (some_is e), ap (λ c. finite.len (cond c t.keys (overlaid t.keys (without m.deleted o.keys)))) k, len_overlaid t.keys (without m.deleted o.keys), len_without m.deleted o.keys, length-append (older_entries q m o.entries) t.entries, older_shorter q m o.entries)
+    go false true k e = omega (arith, ap table_records (some_is e), ap (λ c. finite.len (cond c t.keys (pairs_over t.keys (without m.deleted o.keys)))) k)
+    go false false k e = omega (arith, ap table_records (some_is e), ap (λ c. finite.len (cond c t.keys (pairs_over t.keys (without m.deleted o.keys)))) k, len_pairs_over t.keys (without m.deleted o.keys), len_without m.deleted o.keys, length-append (older_entries q m o.entries) t.entries, older_shorter q m o.entries)
 
 join_records : (q : LogQueue) (r : ℕ) (m : Mark) (t o w : Option Table) → applied q r m t o ≡ Some w → recs w ≤ recs o + recs t
 join_records q r m t o w e = there_records (is_there_over m t o) (table_over q m (table_of r t) (table_of r o)) w (recs o + recs t) e (λ x k. omega (arith, over_records q m (table_of r t) (table_of r o) x k, of_table r t, of_table r o))

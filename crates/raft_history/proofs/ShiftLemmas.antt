@@ -8,19 +8,19 @@ use Rattle.raft_records.specs.declared.atomic_group.AtomicGroupStatus.TheVariant
 use Rattle.raft_history.specs.Batches.{GroupMarker, ReadBatch}
 use Rattle.raft_history.specs.Effects.{Effect, ended, completed_as, completed_by, completed, effects_behind, effects, region_steps_in, steps_by, steps_in, all_steps, first_by, first_in, IsGroup, AreApart, EachApart}
 use Rattle.raft_history.specs.RegionSteps.{names}
-use Rattle.raft_history.specs.WaitingGroup.{begins, Placed, placed_from, is_of, markers_of, are_middles, open_stretch, region_steps_of, front_of, front_behind, stretch_of, group_of}
+use Rattle.raft_history.specs.WaitingGroup.{begins, Numbered, numbered_from, is_of, markers_of, are_middles, open_stretch, region_steps_of, front_of, front_behind, stretch_of, group_of}
 
-abbrev pub moved : ℕ → Placed → Placed
+abbrev pub moved : ℕ → Numbered → Numbered
 moved k p = record { number = k + p.number; batch = p.batch }
 
 abbrev pub moved_effect : ℕ → Effect → Effect
 moved_effect k e = record { earlier = map (moved k) e.earlier; last = moved k e.last }
 
-pub placed_from-moved : (k n : ℕ) (h : List ReadBatch) → placed_from (k + n) h ≡ map (moved k) (placed_from n h)
-placed_from-moved k n [] = refl
-placed_from-moved k n (b ∷ bs) = ap (λ l. record { number = k + n; batch = b } ∷ l) (ap (λ x. placed_from x bs) (omega arith) ∙ placed_from-moved k (suc n) bs)
+pub numbered_from-moved : (k n : ℕ) (h : List ReadBatch) → numbered_from (k + n) h ≡ map (moved k) (numbered_from n h)
+numbered_from-moved k n [] = refl
+numbered_from-moved k n (b ∷ bs) = ap (λ l. record { number = k + n; batch = b } ∷ l) (ap (λ x. numbered_from x bs) (omega arith) ∙ numbered_from-moved k (suc n) bs)
 
-pub markers_of-moved : (k g : ℕ) (ps : List Placed) → markers_of g (map (moved k) ps) ≡ map (moved k) (markers_of g ps)
+pub markers_of-moved : (k g : ℕ) (ps : List Numbered) → markers_of g (map (moved k) ps) ≡ map (moved k) (markers_of g ps)
 unfolding markers_of
 markers_of-moved k g [] = refl
 markers_of-moved k g (p ∷ ps) = go (is_of g p.batch.marker) (markers_of-moved k g ps)
@@ -29,12 +29,12 @@ markers_of-moved k g (p ∷ ps) = go (is_of g p.batch.marker) (markers_of-moved 
     go true ih = ap (λ l. moved k p ∷ l) ih
     go false ih = ih
 
-are_middles-moved : (k : ℕ) (ps : List Placed) → are_middles (map (moved k) ps) ≡ are_middles ps
+are_middles-moved : (k : ℕ) (ps : List Numbered) → are_middles (map (moved k) ps) ≡ are_middles ps
 unfolding are_middles
 are_middles-moved k [] = refl
 are_middles-moved k (p ∷ ps) = rw (are_middles-moved k ps) refl
 
-pub open_stretch-moved : (k : ℕ) (ps : List Placed) → open_stretch (map (moved k) ps) ≡ map (moved k) (open_stretch ps)
+pub open_stretch-moved : (k : ℕ) (ps : List Numbered) → open_stretch (map (moved k) ps) ≡ map (moved k) (open_stretch ps)
 unfolding open_stretch
 open_stretch-moved k [] = refl
 open_stretch-moved k (p ∷ ps) = rw (are_middles-moved k ps, open_stretch-moved k ps) (go (begins p.batch.marker && are_middles ps))
@@ -43,30 +43,30 @@ open_stretch-moved k (p ∷ ps) = rw (are_middles-moved k ps, open_stretch-moved
     go true = refl
     go false = refl
 
-pub region_steps_of-moved : (k : ℕ) (ps : List Placed) → region_steps_of (map (moved k) ps) ≡ region_steps_of ps
+pub region_steps_of-moved : (k : ℕ) (ps : List Numbered) → region_steps_of (map (moved k) ps) ≡ region_steps_of ps
 region_steps_of-moved k [] = refl
 region_steps_of-moved k (p ∷ ps) = ap (λ l. p.batch.steps ++ l) (region_steps_of-moved k ps)
 
-pub front_of-moved : (k : ℕ) (ps : List Placed) → front_of (map (moved k) ps) ≡ front_of ps
+pub front_of-moved : (k : ℕ) (ps : List Numbered) → front_of (map (moved k) ps) ≡ front_of ps
 unfolding front_of
 front_of-moved k [] = refl
 front_of-moved k (p ∷ ps) = ap (front_behind p.batch.marker p.batch.steps p.batch.file) (front_of-moved k ps)
 
-stretch_of-moved : (k : ℕ) (ps : List Placed) → stretch_of (map (moved k) ps) ≡ stretch_of ps
+stretch_of-moved : (k : ℕ) (ps : List Numbered) → stretch_of (map (moved k) ps) ≡ stretch_of ps
 stretch_of-moved k [] = refl
 stretch_of-moved k (p ∷ ps) = ap (λ l. Some record { file = p.batch.file; steps = l }) (region_steps_of-moved k (p ∷ ps))
 
-pub group_of-moved : (k g : ℕ) (ps : List Placed) → group_of g (map (moved k) ps) ≡ group_of g ps
+pub group_of-moved : (k g : ℕ) (ps : List Numbered) → group_of g (map (moved k) ps) ≡ group_of g ps
 group_of-moved k g ps = rw (markers_of-moved k g ps, front_of-moved k (markers_of g ps), open_stretch-moved k (markers_of g ps), stretch_of-moved k (open_stretch (markers_of g ps))) refl
 
 -- where the history's batches are numbered from doesn't matter
-pub group_of-placed : (n g : ℕ) (h : List ReadBatch) → group_of g (placed_from n h) ≡ group_of g (placed_from 0 h)
-group_of-placed n g h = ap (λ x. group_of g (placed_from x h)) (omega arith) ∙ ap (group_of g) (placed_from-moved n 0 h) ∙ group_of-moved n g (placed_from 0 h)
+pub group_of-placed : (n g : ℕ) (h : List ReadBatch) → group_of g (numbered_from n h) ≡ group_of g (numbered_from 0 h)
+group_of-placed n g h = ap (λ x. group_of g (numbered_from x h)) (omega arith) ∙ ap (group_of g) (numbered_from-moved n 0 h) ∙ group_of-moved n g (numbered_from 0 h)
 
-completed-moved : (k : ℕ) (olds : List Placed) (p : Placed) → completed (map (moved k) olds) (moved k p) ≡ map (moved_effect k) (completed olds p)
+completed-moved : (k : ℕ) (olds : List Numbered) (p : Numbered) → completed (map (moved k) olds) (moved k p) ≡ map (moved_effect k) (completed olds p)
 completed-moved k olds p = go p.batch.marker
   where
-    end : (l : List Placed) → ended (map (moved k) l) (moved k p) ≡ map (moved_effect k) (ended l p)
+    end : (l : List Numbered) → ended (map (moved k) l) (moved k p) ≡ map (moved_effect k) (ended l p)
     end [] = refl
     end (q ∷ qs) = refl
 
@@ -79,7 +79,7 @@ completed-moved k olds p = go p.batch.marker
         at Middle = refl
         at End = rw (markers_of-moved k m.group olds, open_stretch-moved k (markers_of m.group olds)) (end (open_stretch (markers_of m.group olds)))
 
-pub effects_behind-moved : (k : ℕ) (olds ps : List Placed) → effects_behind (map (moved k) olds) (map (moved k) ps) ≡ map (moved_effect k) (effects_behind olds ps)
+pub effects_behind-moved : (k : ℕ) (olds ps : List Numbered) → effects_behind (map (moved k) olds) (map (moved k) ps) ≡ map (moved_effect k) (effects_behind olds ps)
 unfolding effects_behind
 effects_behind-moved k olds [] = refl
 effects_behind-moved k olds (p ∷ ps) = rw (completed-moved k olds p, ← map-append (moved k) olds (p ∷ []), effects_behind-moved k (olds ++ p ∷ []) ps) (sym (map-append (moved_effect k) (completed olds p) (effects_behind (olds ++ p ∷ []) ps)))
@@ -87,7 +87,7 @@ effects_behind-moved k olds (p ∷ ps) = rw (completed-moved k olds p, ← map-a
 steps_in-moved : (r k : ℕ) (e : Effect) → steps_in r (moved_effect k e) ≡ steps_in r e
 steps_in-moved r k e = go e.earlier
   where
-    go : (l : List Placed) → steps_by r (map (moved k) l) (moved k e.last) ≡ steps_by r l e.last
+    go : (l : List Numbered) → steps_by r (map (moved k) l) (moved k e.last) ≡ steps_by r l e.last
     go [] = refl
     go (q ∷ qs) = rw (region_steps_of-moved k qs) refl
 
@@ -96,24 +96,24 @@ unfolding all_steps
 all_steps-moved r k [] = refl
 all_steps-moved r k (e ∷ es) = rw (steps_in-moved r k e, all_steps-moved r k es) refl
 
-pub effects-placed : (n : ℕ) (h : List ReadBatch) → effects_behind [] (placed_from n h) ≡ map (moved_effect n) (effects h)
-effects-placed n h = ap (λ x. effects_behind [] (placed_from x h)) (omega arith) ∙ ap (effects_behind []) (placed_from-moved n 0 h) ∙ effects_behind-moved n [] (placed_from 0 h)
+pub effects-placed : (n : ℕ) (h : List ReadBatch) → effects_behind [] (numbered_from n h) ≡ map (moved_effect n) (effects h)
+effects-placed n h = ap (λ x. effects_behind [] (numbered_from x h)) (omega arith) ∙ ap (effects_behind []) (numbered_from-moved n 0 h) ∙ effects_behind-moved n [] (numbered_from 0 h)
 
-pub steps-placed : (r n : ℕ) (h : List ReadBatch) → all_steps r (effects_behind [] (placed_from n h)) ≡ all_steps r (effects h)
+pub steps-placed : (r n : ℕ) (h : List ReadBatch) → all_steps r (effects_behind [] (numbered_from n h)) ≡ all_steps r (effects h)
 steps-placed r n h = ap (all_steps r) (effects-placed n h) ∙ all_steps-moved r n (effects h)
 
 -- apart, numbered from elsewhere
 first_in-moved : (k : ℕ) (e : Effect) → first_in (moved_effect k e) ≡ k + first_in e
 first_in-moved k e = go e.earlier
   where
-    go : (l : List Placed) → first_by (map (moved k) l) (moved k e.last) ≡ k + first_by l e.last
+    go : (l : List Numbered) → first_by (map (moved k) l) (moved k e.last) ≡ k + first_by l e.last
     go [] = refl
     go (q ∷ qs) = refl
 
 is_group-moved : (k : ℕ) (e : Effect) → IsGroup e → IsGroup (moved_effect k e)
 is_group-moved k e h = go e.earlier h
   where
-    go : (l : List Placed) → (l ≡ [] → ⊥) → map (moved k) l ≡ [] → ⊥
+    go : (l : List Numbered) → (l ≡ [] → ⊥) → map (moved k) l ≡ [] → ⊥
     go [] h x = h refl
     go (q ∷ qs) h x = cc
 

@@ -20,17 +20,17 @@ use Rattle.raft_history.specs.Contexts.{FileRange, files_of, joined_files, follo
 use Rattle.raft_history.specs.Effects.{Effect, ended, completed_as, completed_by, completed, effects_behind, effects, whole_steps, steps_by, steps_in, all_steps, steps_of, BatchesApart}
 use Rattle.raft_history.specs.Histories.{IsInFile, AreInFile, AreInFiles, AllHaveStatus, FilesFrom, last_from, cleaned_in_batch, cleaned_in}
 use Rattle.raft_history.specs.RegionSteps.{RegionStep, is_on, names, steps_on, put_step, pair_step, content_step, with_step, steps_of_items}
-use Rattle.raft_history.specs.WaitingGroup.{Placed, placed_from, markers_of, open_stretch, region_steps_of}
+use Rattle.raft_history.specs.WaitingGroup.{Numbered, numbered_from, markers_of, open_stretch, region_steps_of}
 use Rattle.raft_history.proofs.EffectLemmas.{each-append, each_left, each_right, each_markers, each_open, all_steps-append}
 use Rattle.raft_history.proofs.StepListLemmas.{steps-append}
-use Rattle.raft_history.proofs.UnmarkedLemmas.{plain_apart}
+use Rattle.raft_history.proofs.WithoutMarkers.{plain_apart}
 
 -- ---- good steps
 
 abbrev AreGood : List RegionStep → Type 0
 AreGood is = AllByRecursion (λ (i : RegionStep). IsStep i.step) is
 
-abbrev IsGood : Placed → Type 0
+abbrev IsGood : Numbered → Type 0
 IsGood p = AreGood p.batch.steps
 
 pub own_good : (r : ℕ) (is : List RegionStep) → AreGood is → AreSteps (steps_on r is)
@@ -42,7 +42,7 @@ own_good r (i ∷ is) h = go (is_on r i) (own_good r is h.1)
     go true k = (h.0, k)
     go false k = k
 
-items_good : (ps : List Placed) → AllByRecursion IsGood ps → AreGood (region_steps_of ps)
+items_good : (ps : List Numbered) → AllByRecursion IsGood ps → AreGood (region_steps_of ps)
 items_good [] h = tt
 items_good (p ∷ ps) h = each-append (λ (i : RegionStep). IsStep i.step) p.batch.steps (region_steps_of ps) h.0 (items_good ps h.1)
 
@@ -53,7 +53,7 @@ whole_good r is start end h = steps-append (steps_on r is) (cond (names r is) (A
     go true = (tt, tt)
     go false = tt
 
-by_good : (r : ℕ) (l : List Placed) (p : Placed) → AllByRecursion IsGood l → IsGood p → AreSteps (steps_by r l p)
+by_good : (r : ℕ) (l : List Numbered) (p : Numbered) → AllByRecursion IsGood l → IsGood p → AreSteps (steps_by r l p)
 unfolding whole_steps
 by_good r [] p h k = own_good r p.batch.steps k
 by_good r (q ∷ qs) p h k = whole_good r (region_steps_of (q ∷ qs) ++ p.batch.steps) q.batch.file p.batch.file (each-append (λ (i : RegionStep). IsStep i.step) (region_steps_of (q ∷ qs)) p.batch.steps (items_good (q ∷ qs) h) k)
@@ -61,12 +61,12 @@ by_good r (q ∷ qs) p h k = whole_good r (region_steps_of (q ∷ qs) ++ p.batch
 all-append : (r : ℕ) (es fs : List Effect) → AreSteps (all_steps r es) → AreSteps (all_steps r fs) → AreSteps (all_steps r (es ++ fs))
 all-append r es fs h k = subst AreSteps (sym (all_steps-append r es fs)) (steps-append (all_steps r es) (all_steps r fs) h k)
 
-ended_good : (r : ℕ) (l : List Placed) (p : Placed) → AllByRecursion IsGood l → IsGood p → AreSteps (all_steps r (ended l p))
+ended_good : (r : ℕ) (l : List Numbered) (p : Numbered) → AllByRecursion IsGood l → IsGood p → AreSteps (all_steps r (ended l p))
 unfolding all_steps
 ended_good r [] p h k = tt
 ended_good r (q ∷ qs) p h k = steps-append (steps_by r (q ∷ qs) p) [] (by_good r (q ∷ qs) p h k) tt
 
-completed_good : (r : ℕ) (olds : List Placed) (p : Placed) → AllByRecursion IsGood olds → IsGood p → AreSteps (all_steps r (completed olds p))
+completed_good : (r : ℕ) (olds : List Numbered) (p : Numbered) → AllByRecursion IsGood olds → IsGood p → AreSteps (all_steps r (completed olds p))
 unfolding all_steps
 completed_good r olds p h k = go p.batch.marker
   where
@@ -79,7 +79,7 @@ completed_good r olds p h k = go p.batch.marker
     go None = steps-append (steps_on r p.batch.steps) [] (own_good r p.batch.steps k) tt
     go (Some m) = at m m.status
 
-effects_good : (r : ℕ) (olds ps : List Placed) → AllByRecursion IsGood olds → AllByRecursion IsGood ps → AreSteps (all_steps r (effects_behind olds ps))
+effects_good : (r : ℕ) (olds ps : List Numbered) → AllByRecursion IsGood olds → AllByRecursion IsGood ps → AreSteps (all_steps r (effects_behind olds ps))
 unfolding effects_behind all_steps
 effects_good r olds [] h k = tt
 effects_good r olds (p ∷ ps) h k = all-append r (completed olds p) (effects_behind (olds ++ p ∷ []) ps) (completed_good r olds p h k.0) (effects_good r (olds ++ p ∷ []) ps (each-append IsGood olds (p ∷ []) h (k.0, tt)) k.1)
@@ -111,12 +111,12 @@ in_file_good file (item ∷ items) h = go (content_step item.content) (λ s e. r
     go None good rest = rest
     go (Some s) good rest = (good s refl, rest)
 
-placed_good : (n : ℕ) (h : List Event) → AreInFiles h → AllByRecursion IsGood (placed_from n (batches h))
+placed_good : (n : ℕ) (h : List Event) → AreInFiles h → AllByRecursion IsGood (numbered_from n (batches h))
 placed_good n [] k = tt
 placed_good n (e ∷ h) k = (in_file_good e.file e.items k.0, placed_good (suc n) h k.1)
 
 pub steps_good : (r : ℕ) (h : List Event) → AreInFiles h → AreSteps (steps_of r (batches h))
-steps_good r h k = effects_good r [] (placed_from 0 (batches h)) tt (placed_good 0 h k)
+steps_good r h k = effects_good r [] (numbered_from 0 (batches h)) tt (placed_good 0 h k)
 
 -- ---- joined histories
 
@@ -169,10 +169,10 @@ pub cleaned-append : (q : LogQueue) (h k : List Event) → cleaned_in q (h ++ k)
 cleaned-append q [] k = refl
 cleaned-append q (e ∷ h) k = ap (λ l. cleaned_in_batch q e.items ++ l) (cleaned-append q h k) ∙ sym (append_assoc (cleaned_in_batch q e.items) (cleaned_in q h) (cleaned_in q k))
 
-pub unmarked : (n : ℕ) (h : List Event) → FilesFrom Append n h → AllByRecursion (λ (b : ReadBatch). b.marker ≡ None) (batches h)
-unmarked n [] f = tt
-unmarked n (e ∷ h) f = (ap (λ q. marker_in q e.items) f.0, unmarked e.file.seq h f.2)
+pub without_marker : (n : ℕ) (h : List Event) → FilesFrom Append n h → AllByRecursion (λ (b : ReadBatch). b.marker ≡ None) (batches h)
+without_marker n [] f = tt
+without_marker n (e ∷ h) f = (ap (λ q. marker_in q e.items) f.0, without_marker e.file.seq h f.2)
 
 -- in the append queue effects are always apart
 pub append_apart : (n : ℕ) (h : List Event) → FilesFrom Append n h → BatchesApart (batches h)
-append_apart n h f = plain_apart (batches h) (unmarked n h f)
+append_apart n h f = plain_apart (batches h) (without_marker n h f)

@@ -8,25 +8,25 @@ use Rattle.raft_records.specs.declared.atomic_group.AtomicGroupStatus.TheVariant
 use Rattle.raft_history.specs.Batches.{GroupMarker, ReadBatch}
 use Rattle.raft_history.specs.Effects.{Effect, ended, completed_as, completed_by, completed, effects_behind, effects}
 use Rattle.raft_history.specs.Stretches.{IsIn, IsMarkerOf, IsStretch, IsAlone, IsEffect, RiseFrom, AreEffects}
-use Rattle.raft_history.specs.WaitingGroup.{begins, goes_on, Placed, placed_from, is_of, markers_of, begins_by, goes_on_by, are_middles, open_stretch}
+use Rattle.raft_history.specs.WaitingGroup.{begins, goes_on, Numbered, numbered_from, is_of, markers_of, begins_by, goes_on_by, are_middles, open_stretch}
 use Rattle.raft_history.proofs.EffectLemmas.{each-append, effects_behind-append}
 use Rattle.raft_history.proofs.MarkerLemmas.{markers_of-append, open_stretch-append}
 
 -- what of markers of one group is a Begin and Middles
-abbrev pub HasMark : ℕ → Placed → Type 0
-HasMark g p = is_of g p.batch.marker ≡ true
+abbrev pub HasMarker : ℕ → Numbered → Type 0
+HasMarker g p = is_of g p.batch.marker ≡ true
 
-pub each_marked : (g : ℕ) (ps : List Placed) → AllByRecursion (HasMark g) (markers_of g ps)
+pub each_marked : (g : ℕ) (ps : List Numbered) → AllByRecursion (HasMarker g) (markers_of g ps)
 unfolding markers_of
 each_marked g [] = tt
 each_marked g (p ∷ ps) = go (is_of g p.batch.marker) refl (each_marked g ps)
   where
-    go : (b : Bool) → is_of g p.batch.marker ≡ b → AllByRecursion (HasMark g) (filter (λ p. is_of g p.batch.marker) ps) → AllByRecursion (HasMark g) (cond b (p ∷ filter (λ p. is_of g p.batch.marker) ps) (filter (λ p. is_of g p.batch.marker) ps))
+    go : (b : Bool) → is_of g p.batch.marker ≡ b → AllByRecursion (HasMarker g) (filter (λ p. is_of g p.batch.marker) ps) → AllByRecursion (HasMarker g) (cond b (p ∷ filter (λ p. is_of g p.batch.marker) ps) (filter (λ p. is_of g p.batch.marker) ps))
     go true e h = (e, h)
     go false e h = h
 
 -- the marker of a batch, by the tests
-is_begin : (g : ℕ) (p : Placed) → HasMark g p → begins p.batch.marker ≡ true → IsMarkerOf g Begin p
+is_begin : (g : ℕ) (p : Numbered) → HasMarker g p → begins p.batch.marker ≡ true → IsMarkerOf g Begin p
 is_begin g p h b = go p.batch.marker h b
   where
     go : (m : Option GroupMarker) → is_of g m ≡ true → begins m ≡ true → m ≡ Some record { group = g; status = Begin }
@@ -38,7 +38,7 @@ is_begin g p h b = go p.batch.marker h b
         at Middle b = cc
         at End b = cc
 
-pub is_middle : (g : ℕ) (p : Placed) → HasMark g p → goes_on p.batch.marker ≡ true → IsMarkerOf g Middle p
+pub is_middle : (g : ℕ) (p : Numbered) → HasMarker g p → goes_on p.batch.marker ≡ true → IsMarkerOf g Middle p
 is_middle g p h b = go p.batch.marker h b
   where
     go : (m : Option GroupMarker) → is_of g m ≡ true → goes_on m ≡ true → m ≡ Some record { group = g; status = Middle }
@@ -50,7 +50,7 @@ is_middle g p h b = go p.batch.marker h b
         at Middle b = ap (λ x. Some record { group = x; status = Middle }) (sym (eqb-true g m.group h))
         at End b = cc
 
-each_middle : (g : ℕ) (ps : List Placed) → AllByRecursion (HasMark g) ps → are_middles ps ≡ true → AllByRecursion (IsMarkerOf g Middle) ps
+each_middle : (g : ℕ) (ps : List Numbered) → AllByRecursion (HasMarker g) ps → are_middles ps ≡ true → AllByRecursion (IsMarkerOf g Middle) ps
 unfolding are_middles
 each_middle g [] h e = tt
 each_middle g (p ∷ ps) h e = go (goes_on p.batch.marker) refl e (each_middle g ps h.1)
@@ -59,19 +59,19 @@ each_middle g (p ∷ ps) h e = go (goes_on p.batch.marker) refl e (each_middle g
     go true x e ih = (is_middle g p h.0 x, ih e)
     go false x e ih = cc
 
-middles_are : (g : ℕ) (ps : List Placed) → AllByRecursion (IsMarkerOf g Middle) ps → are_middles ps ≡ true
+middles_are : (g : ℕ) (ps : List Numbered) → AllByRecursion (IsMarkerOf g Middle) ps → are_middles ps ≡ true
 unfolding are_middles
 middles_are g [] h = refl
 middles_are g (p ∷ ps) h = rw h.0 (middles_are g ps h.1)
 
 -- what is open is a Begin and Middles at the end of the markers
-pub record IsOpen (g : ℕ) (ms : List Placed) (q : Placed) (qs : List Placed) : Type 0 where
-  pub before : List Placed
+pub record IsOpen (g : ℕ) (ms : List Numbered) (q : Numbered) (qs : List Numbered) : Type 0 where
+  pub before : List Numbered
   pub split : ms ≡ before ++ q ∷ qs
   pub begin : IsMarkerOf g Begin q
   pub middles : AllByRecursion (IsMarkerOf g Middle) qs
 
-pub open_is : (g : ℕ) (ms : List Placed) (q : Placed) (qs : List Placed) → AllByRecursion (HasMark g) ms → open_stretch ms ≡ q ∷ qs → IsOpen g ms q qs
+pub open_is : (g : ℕ) (ms : List Numbered) (q : Numbered) (qs : List Numbered) → AllByRecursion (HasMarker g) ms → open_stretch ms ≡ q ∷ qs → IsOpen g ms q qs
 unfolding open_stretch
 open_is g [] q qs h e = cc
 open_is g (m ∷ ms) q qs h e = go (begins m.batch.marker) refl (are_middles ms) refl e (open_is g ms q qs h.1)
@@ -82,28 +82,28 @@ open_is g (m ∷ ms) q qs h e = go (begins m.batch.marker) refl (are_middles ms)
     go : (b : Bool) → begins m.batch.marker ≡ b → (c : Bool) → are_middles ms ≡ c → cond (b && c) (m ∷ ms) (open_stretch ms) ≡ q ∷ qs → (open_stretch ms ≡ q ∷ qs → IsOpen g ms q qs) → IsOpen g (m ∷ ms) q qs
     go true x true y e ih = record { before = []; split = e; begin = subst (IsMarkerOf g Begin) (head m q ms qs e) (is_begin g m h.0 x); middles = subst (AllByRecursion (IsMarkerOf g Middle)) (tail m q ms qs e) (each_middle g ms h.1 y) }
       where
-        head : (a b : Placed) (xs ys : List Placed) → a ∷ xs ≡ b ∷ ys → a ≡ b
+        head : (a b : Numbered) (xs ys : List Numbered) → a ∷ xs ≡ b ∷ ys → a ≡ b
         head a b xs ys e = cc
 
-        tail : (a b : Placed) (xs ys : List Placed) → a ∷ xs ≡ b ∷ ys → xs ≡ ys
+        tail : (a b : Numbered) (xs ys : List Numbered) → a ∷ xs ≡ b ∷ ys → xs ≡ ys
         tail a b xs ys e = cc
     go true x false y e ih = rest (ih e)
     go false x c y e ih = rest (ih e)
 
 -- a Begin and Middles at the end of the markers are open
-is_open : (g : ℕ) (before : List Placed) (q : Placed) (qs : List Placed) → IsMarkerOf g Begin q → AllByRecursion (IsMarkerOf g Middle) qs → open_stretch (before ++ q ∷ qs) ≡ q ∷ qs
+is_open : (g : ℕ) (before : List Numbered) (q : Numbered) (qs : List Numbered) → IsMarkerOf g Begin q → AllByRecursion (IsMarkerOf g Middle) qs → open_stretch (before ++ q ∷ qs) ≡ q ∷ qs
 unfolding open_stretch are_middles
 is_open g before q qs b m = open_stretch-append before (q ∷ qs) ∙ rw (b, middles_are g qs m) refl
 
 -- only effects
-marks_at : (g : ℕ) (before : List Placed) (p : Placed) (behind : List Placed) → HasMark g p → markers_of g (before ++ p ∷ behind) ≡ markers_of g before ++ p ∷ markers_of g behind
+marks_at : (g : ℕ) (before : List Numbered) (p : Numbered) (behind : List Numbered) → HasMarker g p → markers_of g (before ++ p ∷ behind) ≡ markers_of g before ++ p ∷ markers_of g behind
 unfolding markers_of
 marks_at g before p behind h = markers_of-append g before (p ∷ behind) ∙ rw h refl
 
-only_completed : (h : List ReadBatch) (before : List Placed) (p : Placed) (behind : List Placed) → placed_from 0 h ≡ before ++ p ∷ behind → AllByRecursion (IsEffect h) (completed before p)
+only_completed : (h : List ReadBatch) (before : List Numbered) (p : Numbered) (behind : List Numbered) → numbered_from 0 h ≡ before ++ p ∷ behind → AllByRecursion (IsEffect h) (completed before p)
 only_completed h before p behind is = go p.batch.marker refl
   where
-    end : (g : ℕ) → IsMarkerOf g End p → HasMark g p → (l : List Placed) → open_stretch (markers_of g before) ≡ l → AllByRecursion (IsEffect h) (ended l p)
+    end : (g : ℕ) → IsMarkerOf g End p → HasMarker g p → (l : List Numbered) → open_stretch (markers_of g before) ≡ l → AllByRecursion (IsEffect h) (ended l p)
     end g m k [] e = tt
     end g m k (q ∷ qs) e = (
       inr (
@@ -127,7 +127,7 @@ only_completed h before p behind is = go p.batch.marker refl
         o = open_is g (markers_of g before) q qs (each_marked g before) e
 
     go : (m : Option GroupMarker) → p.batch.marker ≡ m → AllByRecursion (IsEffect h) (completed_by m before p)
-    go None e = (inl record { stands = record { before = before; behind = behind; split = is }; unmarked = e; none = refl }, tt)
+    go None e = (inl record { stands = record { before = before; behind = behind; split = is }; without_marker = e; none = refl }, tt)
     go (Some m) e = at m.status e
       where
         at : (s : AtomicGroupStatus) → ◌≡◌ {A = Option GroupMarker} p.batch.marker (Some record { group = m.group; status = s }) → AllByRecursion (IsEffect h) (completed_as s (open_stretch (markers_of m.group before)) p)
@@ -135,40 +135,40 @@ only_completed h before p behind is = go p.batch.marker refl
         at Middle e = tt
         at End e = end m.group e (ap (is_of m.group) e ∙ eq-eqb m.group m.group refl) (open_stretch (markers_of m.group before)) refl
 
-only_effects : (h : List ReadBatch) (before ps : List Placed) → placed_from 0 h ≡ before ++ ps → AllByRecursion (IsEffect h) (effects_behind before ps)
+only_effects : (h : List ReadBatch) (before ps : List Numbered) → numbered_from 0 h ≡ before ++ ps → AllByRecursion (IsEffect h) (effects_behind before ps)
 unfolding effects_behind
 only_effects h before [] is = tt
 only_effects h before (p ∷ ps) is = each-append (IsEffect h) (completed before p) (effects_behind (before ++ p ∷ []) ps) (only_completed h before p ps is) (only_effects h (before ++ p ∷ []) ps (is ∙ sym (append_assoc before (p ∷ []) ps)))
 
 -- every effect
-record Parts (t : Placed → Bool) (h xs : List Placed) (y : Placed) : Type 0 where
-  before : List Placed
-  behind : List Placed
+record Parts (t : Numbered → Bool) (h xs : List Numbered) (y : Numbered) : Type 0 where
+  before : List Numbered
+  behind : List Numbered
   split : h ≡ before ++ y ∷ behind
   kept : filter t before ≡ xs
 
-parts_of : (t : Placed → Bool) (h xs : List Placed) (y : Placed) (ys : List Placed) → filter t h ≡ xs ++ y ∷ ys → Parts t h xs y
+parts_of : (t : Numbered → Bool) (h xs : List Numbered) (y : Numbered) (ys : List Numbered) → filter t h ≡ xs ++ y ∷ ys → Parts t h xs y
 parts_of t [] [] y ys e = cc
 parts_of t [] (x ∷ xs) y ys e = cc
 parts_of t (p ∷ ps) xs y ys e = go (t p) refl e (parts_of t ps)
   where
-    later : (zs : List Placed) (d : Parts t ps zs y) → t p ≡ true → Parts t (p ∷ ps) (p ∷ zs) y
+    later : (zs : List Numbered) (d : Parts t ps zs y) → t p ≡ true → Parts t (p ∷ ps) (p ∷ zs) y
     later zs d k = record { before = p ∷ d.before; behind = d.behind; split = ap (λ l. p ∷ l) d.split; kept = rw k (ap (λ l. p ∷ l) d.kept) }
 
-    front : (xs : List Placed) → t p ≡ true → p ∷ filter t ps ≡ xs ++ y ∷ ys → ((zs : List Placed) (z : Placed) (rest : List Placed) → filter t ps ≡ zs ++ z ∷ rest → Parts t ps zs z) → Parts t (p ∷ ps) xs y
+    front : (xs : List Numbered) → t p ≡ true → p ∷ filter t ps ≡ xs ++ y ∷ ys → ((zs : List Numbered) (z : Numbered) (rest : List Numbered) → filter t ps ≡ zs ++ z ∷ rest → Parts t ps zs z) → Parts t (p ∷ ps) xs y
     front [] k e ih = record { before = []; behind = ps; split = ap (λ x. x ∷ ps) (head p y (filter t ps) ys e); kept = refl }
       where
-        head : (a b : Placed) (xs ys : List Placed) → a ∷ xs ≡ b ∷ ys → a ≡ b
+        head : (a b : Numbered) (xs ys : List Numbered) → a ∷ xs ≡ b ∷ ys → a ≡ b
         head a b xs ys e = cc
     front (x ∷ xs) k e ih = subst (λ z. Parts t (p ∷ ps) (z ∷ xs) y) (head p x (filter t ps) (xs ++ y ∷ ys) e) (later xs (ih xs y ys (tail p x (filter t ps) (xs ++ y ∷ ys) e)) k)
       where
-        head : (a b : Placed) (xs ys : List Placed) → a ∷ xs ≡ b ∷ ys → a ≡ b
+        head : (a b : Numbered) (xs ys : List Numbered) → a ∷ xs ≡ b ∷ ys → a ≡ b
         head a b xs ys e = cc
 
-        tail : (a b : Placed) (xs ys : List Placed) → a ∷ xs ≡ b ∷ ys → xs ≡ ys
+        tail : (a b : Numbered) (xs ys : List Numbered) → a ∷ xs ≡ b ∷ ys → xs ≡ ys
         tail a b xs ys e = cc
 
-    go : (b : Bool) → t p ≡ b → cond b (p ∷ filter t ps) (filter t ps) ≡ xs ++ y ∷ ys → ((zs : List Placed) (z : Placed) (rest : List Placed) → filter t ps ≡ zs ++ z ∷ rest → Parts t ps zs z) → Parts t (p ∷ ps) xs y
+    go : (b : Bool) → t p ≡ b → cond b (p ∷ filter t ps) (filter t ps) ≡ xs ++ y ∷ ys → ((zs : List Numbered) (z : Numbered) (rest : List Numbered) → filter t ps ≡ zs ++ z ∷ rest → Parts t ps zs z) → Parts t (p ∷ ps) xs y
     go true k e ih = front xs k e ih
     go false k e ih = record { before = p ∷ d.before; behind = d.behind; split = ap (λ l. p ∷ l) d.split; kept = rw k d.kept }
       where
@@ -176,7 +176,7 @@ parts_of t (p ∷ ps) xs y ys e = go (t p) refl e (parts_of t ps)
         d = ih xs y ys e
 
 -- the effect that a batch completes stands among all
-completed_in : (h : List ReadBatch) (before : List Placed) (p : Placed) (behind : List Placed) (e : Effect) → placed_from 0 h ≡ before ++ p ∷ behind → completed before p ≡ e ∷ [] → IsIn e (effects h)
+completed_in : (h : List ReadBatch) (before : List Numbered) (p : Numbered) (behind : List Numbered) (e : Effect) → numbered_from 0 h ≡ before ++ p ∷ behind → completed before p ≡ e ∷ [] → IsIn e (effects h)
 unfolding effects_behind
 completed_in h before p behind e is one = record {
   before = effects_behind [] before;
@@ -184,44 +184,44 @@ completed_in h before p behind e is one = record {
   split = ap (effects_behind []) is ∙ effects_behind-append [] before (p ∷ behind) ∙ ap (λ l. effects_behind [] before ++ (l ++ effects_behind (before ++ p ∷ []) behind)) one;
 }
 
-same_effect : (e : Effect) (l : List Placed) → e.earlier ≡ l → record { earlier = l; last = e.last } ≡ e
+same_effect : (e : Effect) (l : List Numbered) → e.earlier ≡ l → record { earlier = l; last = e.last } ≡ e
 same_effect e l h = ap (λ x. record { earlier = x; last = e.last }) (sym h)
 
 every_alone : (h : List ReadBatch) (e : Effect) → IsAlone h e → IsIn e (effects h)
-every_alone h e a = completed_in h a.stands.before e.last a.stands.behind e a.stands.split (ap (λ m. completed_by m a.stands.before e.last) a.unmarked ∙ ap (λ x. x ∷ []) (same_effect e [] a.none))
+every_alone h e a = completed_in h a.stands.before e.last a.stands.behind e a.stands.split (ap (λ m. completed_by m a.stands.before e.last) a.without_marker ∙ ap (λ x. x ∷ []) (same_effect e [] a.none))
 
 pub every_stretch : (h : List ReadBatch) (g : ℕ) (e : Effect) → IsStretch h g e → IsIn e (effects h)
 unfolding markers_of
 every_stretch h g e s = completed_in h d.before e.last d.behind e d.split (ap (λ m. completed_by m d.before e.last) s.ends ∙ ap (λ l. ended l e.last) (ap open_stretch d.kept ∙ is_open g s.before s.begin s.middles s.begins s.goes_on) ∙ ap (λ x. x ∷ []) (same_effect e (s.begin ∷ s.middles) s.earlier))
   where
-    d : Parts (λ p. is_of g p.batch.marker) (placed_from 0 h) (s.before ++ s.begin ∷ s.middles) e.last
-    d = parts_of (λ p. is_of g p.batch.marker) (placed_from 0 h) (s.before ++ s.begin ∷ s.middles) e.last s.behind (s.neighbours ∙ sym (append_assoc s.before (s.begin ∷ s.middles) (e.last ∷ s.behind)))
+    d : Parts (λ p. is_of g p.batch.marker) (numbered_from 0 h) (s.before ++ s.begin ∷ s.middles) e.last
+    d = parts_of (λ p. is_of g p.batch.marker) (numbered_from 0 h) (s.before ++ s.begin ∷ s.middles) e.last s.behind (s.neighbours ∙ sym (append_assoc s.before (s.begin ∷ s.middles) (e.last ∷ s.behind)))
 
 -- in order
 rise_lower : (n m : ℕ) (es : List Effect) → n ≤ m → RiseFrom m es → RiseFrom n es
 rise_lower n m [] k h = tt
 rise_lower n m (e ∷ es) k h = (omega (arith, h.0), h.1)
 
-rise_behind : (n : ℕ) (olds : List Placed) (h : List ReadBatch) → RiseFrom n (effects_behind olds (placed_from n h))
+rise_behind : (n : ℕ) (olds : List Numbered) (h : List ReadBatch) → RiseFrom n (effects_behind olds (numbered_from n h))
 unfolding effects_behind
 rise_behind n olds [] = tt
 rise_behind n olds (b ∷ bs) = go b.marker (rise_behind (suc n) (olds ++ record { number = n; batch = b } ∷ []) bs)
   where
-    end : (l : List Placed) (es : List Effect) → RiseFrom (suc n) es → RiseFrom n (ended l record { number = n; batch = b } ++ es)
+    end : (l : List Numbered) (es : List Effect) → RiseFrom (suc n) es → RiseFrom n (ended l record { number = n; batch = b } ++ es)
     end [] es ih = rise_lower n (suc n) es (omega arith) ih
     end (q ∷ qs) es ih = (omega arith, ih)
 
-    go : (m : Option GroupMarker) → RiseFrom (suc n) (effects_behind (olds ++ record { number = n; batch = b } ∷ []) (placed_from (suc n) bs)) → RiseFrom n (completed_by m olds record { number = n; batch = b } ++ effects_behind (olds ++ record { number = n; batch = b } ∷ []) (placed_from (suc n) bs))
+    go : (m : Option GroupMarker) → RiseFrom (suc n) (effects_behind (olds ++ record { number = n; batch = b } ∷ []) (numbered_from (suc n) bs)) → RiseFrom n (completed_by m olds record { number = n; batch = b } ++ effects_behind (olds ++ record { number = n; batch = b } ∷ []) (numbered_from (suc n) bs))
     go None ih = (omega arith, ih)
     go (Some m) ih = at m.status
       where
-        at : (s : AtomicGroupStatus) → RiseFrom n (completed_as s (open_stretch (markers_of m.group olds)) record { number = n; batch = b } ++ effects_behind (olds ++ record { number = n; batch = b } ∷ []) (placed_from (suc n) bs))
-        at Begin = rise_lower n (suc n) (effects_behind (olds ++ record { number = n; batch = b } ∷ []) (placed_from (suc n) bs)) (omega arith) ih
-        at Middle = rise_lower n (suc n) (effects_behind (olds ++ record { number = n; batch = b } ∷ []) (placed_from (suc n) bs)) (omega arith) ih
-        at End = end (open_stretch (markers_of m.group olds)) (effects_behind (olds ++ record { number = n; batch = b } ∷ []) (placed_from (suc n) bs)) ih
+        at : (s : AtomicGroupStatus) → RiseFrom n (completed_as s (open_stretch (markers_of m.group olds)) record { number = n; batch = b } ++ effects_behind (olds ++ record { number = n; batch = b } ∷ []) (numbered_from (suc n) bs))
+        at Begin = rise_lower n (suc n) (effects_behind (olds ++ record { number = n; batch = b } ∷ []) (numbered_from (suc n) bs)) (omega arith) ih
+        at Middle = rise_lower n (suc n) (effects_behind (olds ++ record { number = n; batch = b } ∷ []) (numbered_from (suc n) bs)) (omega arith) ih
+        at End = end (open_stretch (markers_of m.group olds)) (effects_behind (olds ++ record { number = n; batch = b } ∷ []) (numbered_from (suc n) bs)) ih
 
 pub effects_are : (h : List ReadBatch) → AreEffects h (effects h)
-effects_are h = record { only = only_effects h [] (placed_from 0 h) refl; every = every; rise = rise_behind 0 [] h }
+effects_are h = record { only = only_effects h [] (numbered_from 0 h) refl; every = every; rise = rise_behind 0 [] h }
   where
     every : (e : Effect) → IsEffect h e → IsIn e (effects h)
     every e (inl a) = every_alone h e a

@@ -13,11 +13,11 @@ use Rattle.raft_history.specs.Batches.{Event, ReadBatch, batches}
 use Rattle.raft_history.specs.Effects.{effects, effects_behind, all_steps, steps_of, BatchesApart}
 use Rattle.raft_history.specs.Histories.{records_in, records_in_history, IsSmall, AreInFiles, AllHaveStatus, FilesFrom, last_from, IsSoundIn, Sound, Apart, AreOfQueue, IsOfQueue}
 use Rattle.raft_history.specs.RegionSteps.{steps_on, steps_of_items}
-use Rattle.raft_history.specs.WaitingGroup.{placed_from}
+use Rattle.raft_history.specs.WaitingGroup.{numbered_from}
 use Rattle.raft_history.proofs.EffectLemmas.{all_steps-append}
 use Rattle.raft_history.proofs.JoinedLemmas.{effects-append}
-use Rattle.raft_history.proofs.SoundLemmas.{batches-append, files-back, steps_good, unmarked}
-use Rattle.raft_history.proofs.UnmarkedLemmas.{plain_steps}
+use Rattle.raft_history.proofs.SoundLemmas.{batches-append, files-back, steps_good, without_marker}
+use Rattle.raft_history.proofs.WithoutMarkers.{plain_steps}
 use Rattle.raft_history.proofs.JoinedLemmas as joined
 
 -- ---- sizes
@@ -98,7 +98,7 @@ parted q r ss rs t is = go (after q r None ss) refl (sym (after-append q r None 
     go (Some u) e k = (u, e, k)
 
 steps_parted : (r : ℕ) (h k : List ReadBatch) → (rs : List Step) × (steps_of r (h ++ k) ≡ steps_of r h ++ rs)
-steps_parted r h k = (all_steps r (effects_behind (placed_from 0 h) (placed_from (length h) k)), ap (all_steps r) (effects-append h k) ∙ all_steps-append r (effects h) _)
+steps_parted r h k = (all_steps r (effects_behind (numbered_from 0 h) (numbered_from (length h) k)), ap (all_steps r) (effects-append h k) ∙ all_steps-append r (effects h) _)
 
 accepted_front : (q : LogQueue) (r : ℕ) (h k : List Event) (t : Option Table) → after q r None (steps_of r (batches (h ++ k))) ≡ Some t → (u : Option Table) × (after q r None (steps_of r (batches h)) ≡ Some u)
 accepted_front q r h k t is =
@@ -109,8 +109,8 @@ accepted_front q r h k t is =
 -- in the append queue each batch's steps stand alone
 pub plain-append : (r : ℕ) (h k : List Event) → FilesFrom Append 0 h → FilesFrom Append 0 k → FilesFrom Append 0 (h ++ k) → steps_of r (batches (h ++ k)) ≡ steps_of r (batches h) ++ steps_of r (batches k)
 plain-append r h k a b c =
-    plain_steps r (batches (h ++ k)) (unmarked 0 (h ++ k) c) ∙ ap (flat_map (λ (b : ReadBatch). steps_on r b.steps)) (batches-append h k) ∙ flat_map-append (λ (b : ReadBatch). steps_on r b.steps) (batches h) (batches k)
-    ∙ ap (λ l. l ++ flat_map (λ (b : ReadBatch). steps_on r b.steps) (batches k)) (sym (plain_steps r (batches h) (unmarked 0 h a))) ∙ ap (λ l. steps_of r (batches h) ++ l) (sym (plain_steps r (batches k) (unmarked 0 k b)))
+    plain_steps r (batches (h ++ k)) (without_marker 0 (h ++ k) c) ∙ ap (flat_map (λ (b : ReadBatch). steps_on r b.steps)) (batches-append h k) ∙ flat_map-append (λ (b : ReadBatch). steps_on r b.steps) (batches h) (batches k)
+    ∙ ap (λ l. l ++ flat_map (λ (b : ReadBatch). steps_on r b.steps) (batches k)) (sym (plain_steps r (batches h) (without_marker 0 h a))) ∙ ap (λ l. steps_of r (batches h) ++ l) (sym (plain_steps r (batches k) (without_marker 0 k b)))
 
 accepted_back : (q : LogQueue) (r : ℕ) (h k : List Event) (t : Option Table) → FilesFrom q 0 h → FilesFrom q 0 k → FilesFrom q 0 (h ++ k) → AreInFiles k → after q r None (steps_of r (batches (h ++ k))) ≡ Some t
     → (u : Option Table) × (after q r None (steps_of r (batches k)) ≡ Some u)

@@ -9,7 +9,7 @@ use Rattle.std.specs.FinMap as finite
 use Rattle.raft_history.specs.Histories.{records_of, records_in}
 use Rattle.raft_history.specs.Records.{total, total_of, records_or, records_in_wholes, waiting_records}
 use Rattle.raft_history.specs.RegionSteps.{RegionStep}
-use Rattle.raft_history.specs.WaitingGroup.{unmarked, joined_group, GroupFront, Open, Ended, Cut, OpenStretch, WaitingGroup, WholeGroup, whole_group}
+use Rattle.raft_history.specs.WaitingGroup.{without_marker, joined_group, GroupFront, Open, Ended, Cut, OpenStretch, WaitingGroup, WholeGroup, whole_group}
 use Rattle.raft_history.specs.WaitingGroups.{WaitingGroups, known, joined_with, joined_groups, whole_with, whole_groups, held_steps}
 use Rattle.raft_history.proofs.KnownLemmas.{tied, keys_distinct}
 use Rattle.raft_history.proofs.MapLemmas.{get_other}
@@ -67,13 +67,13 @@ joined_weight a b = go a.front b.front a.stretch b.stretch
 pub waiting_known : (m : WaitingGroups) (k : ℕ) → found weight (finite.get m k) ≡ weight (known m k)
 waiting_known m k = go (finite.get m k)
   where
-    go : (o : Option WaitingGroup) → found weight o ≡ weight (unwrap_or o unmarked)
+    go : (o : Option WaitingGroup) → found weight o ≡ weight (unwrap_or o without_marker)
     go None = refl
     go (Some g) = refl
 
 known_other : (m : WaitingGroups) (k : ℕ) (x : WaitingGroup) (es : List (ℕ × WaitingGroup)) → AllByRecursion (λ y. eqb k y ≡ false) (map (λ (e : ℕ × WaitingGroup). e.0) es) → whole_with (finite.insert m k x) es ≡ whole_with m es
 known_other m k x [] h = refl
-known_other m k x (e ∷ es) h = ap (λ o. cons_option (whole_group o e.1) (whole_with (finite.insert m k x) es)) (ap (λ o. unwrap_or o unmarked) (get_other m k e.0 x (tied e.0 k ∙ flip e.0 k h.0))) ∙ ap (cons_option (whole_group (known m e.0) e.1)) (known_other m k x es h.1)
+known_other m k x (e ∷ es) h = ap (λ o. cons_option (whole_group o e.1) (whole_with (finite.insert m k x) es)) (ap (λ o. unwrap_or o without_marker) (get_other m k e.0 x (tied e.0 k ∙ flip e.0 k h.0))) ∙ ap (cons_option (whole_group (known m e.0) e.1)) (known_other m k x es h.1)
   where
     flip : (a b : ℕ) → eqb b a ≡ false → eqb a b ≡ false
     flip a b e = grind (arith, nat_tests)

@@ -35,8 +35,8 @@ pub record ReadBatch : Type 0 where
   pub file : ℕ
 
 -- a batch with a marker
-abbrev pub marked_batch : List RegionStep → ℕ → AtomicGroupStatus → ℕ → ReadBatch
-marked_batch steps group status file = record { steps = steps; marker = Some (record { group = group; status = status }); file = file }
+abbrev pub batch_with_marker : List RegionStep → ℕ → AtomicGroupStatus → ℕ → ReadBatch
+batch_with_marker steps group status file = record { steps = steps; marker = Some (record { group = group; status = status }); file = file }
 
 -- what is read of a batch
 abbrev pub batch_of : Event → ReadBatch

@@ -6,41 +6,41 @@ use Rattle.raft_records.specs.declared.atomic_group.AtomicGroupStatus.{AtomicGro
 use Rattle.raft_records.specs.declared.atomic_group.AtomicGroupStatus.TheVariants.{Begin, Middle, End}
 use Rattle.raft_history.specs.Batches.{GroupMarker, ReadBatch}
 use Rattle.raft_history.specs.RegionSteps.{RegionStep, names, steps_on}
-use Rattle.raft_history.specs.WaitingGroup.{Placed, placed_from, is_of, markers_of, open_stretch, region_steps_of, WaitingGroup, group_of, WholeGroup, whole_group}
+use Rattle.raft_history.specs.WaitingGroup.{Numbered, numbered_from, is_of, markers_of, open_stretch, region_steps_of, WaitingGroup, group_of, WholeGroup, whole_group}
 
--- The batches of one effect: the last, and those before it. An unmarked batch has none before it, a group's End has its Begin and Middles.
+-- The batches of one effect: the last, and those before it. A batch without a marker has none before it, a group's End has its Begin and Middles.
 pub record Effect : Type 0 where
-  pub earlier : List Placed
-  pub last : Placed
+  pub earlier : List Numbered
+  pub last : Numbered
 
 -- what an End completes behind the open stretch of its group
-abbrev pub ended : List Placed → Placed → List Effect
+abbrev pub ended : List Numbered → Numbered → List Effect
 ended [] p = []
 ended (q ∷ qs) p = record { earlier = q ∷ qs; last = p } ∷ []
 
 -- what a marker of this status completes behind the open stretch of its group: an End alone something
-abbrev pub completed_as : AtomicGroupStatus → List Placed → Placed → List Effect
+abbrev pub completed_as : AtomicGroupStatus → List Numbered → Numbered → List Effect
 completed_as Begin stretch p = []
 completed_as Middle stretch p = []
 completed_as End stretch p = ended stretch p
 
 -- what a batch with this marker completes behind those before it: without one itself
-abbrev pub completed_by : Option GroupMarker → List Placed → Placed → List Effect
+abbrev pub completed_by : Option GroupMarker → List Numbered → Numbered → List Effect
 completed_by None before p = record { earlier = []; last = p } ∷ []
 completed_by (Some m) before p = completed_as m.status (open_stretch (markers_of m.group before)) p
 
 -- what a batch completes behind those before it
-abbrev pub completed : List Placed → Placed → List Effect
+abbrev pub completed : List Numbered → Numbered → List Effect
 completed before p = completed_by p.batch.marker before p
 
 -- what the batches complete, one after another, behind those before them
-unfoldable pub effects_behind : List Placed → List Placed → List Effect
+unfoldable pub effects_behind : List Numbered → List Numbered → List Effect
 effects_behind before [] = []
 effects_behind before (p ∷ ps) = completed before p ++ effects_behind (before ++ p ∷ []) ps
 
 -- the effects of a history, in the order of their last batches
 abbrev pub effects : List ReadBatch → List Effect
-effects h = effects_behind [] (placed_from 0 h)
+effects h = effects_behind [] (numbered_from 0 h)
 
 -- a group's steps on a region: those of its steps, and the files of its Begin and End, where it names the region
 unfoldable pub whole_steps : ℕ → WholeGroup → List Step
@@ -51,7 +51,7 @@ abbrev pub region_steps_in : Effect → List RegionStep
 region_steps_in e = region_steps_of e.earlier ++ e.last.batch.steps
 
 -- the steps on a region of the batches before the last and the last: of one batch its own, of a group those of all its batches and its files
-abbrev pub steps_by : ℕ → List Placed → Placed → List Step
+abbrev pub steps_by : ℕ → List Numbered → Numbered → List Step
 steps_by r [] last = steps_on r last.batch.steps
 steps_by r (q ∷ qs) last = whole_steps r record { steps = region_steps_of (q ∷ qs) ++ last.batch.steps; start = q.batch.file; end = last.batch.file }
 
@@ -72,7 +72,7 @@ abbrev pub is_named : ℕ → List ReadBatch → Bool
 is_named r h = list_any (λ e. names r (region_steps_in e)) (effects h)
 
 -- the number of an effect's first batch, told by those before the last and the last
-abbrev pub first_by : List Placed → Placed → ℕ
+abbrev pub first_by : List Numbered → Numbered → ℕ
 first_by [] last = last.number
 first_by (q ∷ qs) last = q.number
 
@@ -112,7 +112,7 @@ pub record BatchesApart (h : List ReadBatch) : Type 0 where
 
 -- what is known of a group from a history
 abbrev pub group_in : ℕ → List ReadBatch → WaitingGroup
-group_in g h = group_of g (placed_from 0 h)
+group_in g h = group_of g (numbered_from 0 h)
 
 -- of the groups in the list those that become whole between two histories
 abbrev pub wholes : List ℕ → List ReadBatch → List ReadBatch → List WholeGroup

@@ -11,7 +11,7 @@ use Rattle.raft_records.specs.declared.key_value.OpType.TheVariants as operation
 use Rattle.raft_records.specs.Group.{is_reserved, IsGroupMarkerContent}
 use Rattle.raft_records.specs.Item.{Item, Content, entries, command, pair}
 use Rattle.raft_records.specs.ReadIn.{IsBlockIn}
-use Rattle.raft_table.specs.Entries.{IsRunIn}
+use Rattle.raft_table.specs.TableEntries.{IsRunIn}
 use Rattle.raft_table.specs.Steps.{Step, Run, Put, Del, after}
 use Rattle.raft_table.specs.Table.{Table}
 use Rattle.raft_history.specs.Batches.{Event, batches}

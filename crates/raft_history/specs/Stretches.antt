@@ -5,7 +5,7 @@ use Rattle.raft_records.specs.declared.atomic_group.AtomicGroupStatus.{AtomicGro
 use Rattle.raft_records.specs.declared.atomic_group.AtomicGroupStatus.TheVariants.{Begin, Middle, End}
 use Rattle.raft_history.specs.Batches.{ReadBatch}
 use Rattle.raft_history.specs.Effects.{Effect, last_in}
-use Rattle.raft_history.specs.WaitingGroup.{Placed, placed_from, markers_of}
+use Rattle.raft_history.specs.WaitingGroup.{Numbered, numbered_from, markers_of}
 
 -- x stands in the list
 pub record IsIn {X : Type 0} (x : X) (xs : List X) : Type 0 where
@@ -14,28 +14,28 @@ pub record IsIn {X : Type 0} (x : X) (xs : List X) : Type 0 where
   pub split : xs ≡ before ++ x ∷ behind
 
 -- a marker of the group with that status
-abbrev pub IsMarkerOf : ℕ → AtomicGroupStatus → Placed → Type 0
+abbrev pub IsMarkerOf : ℕ → AtomicGroupStatus → Numbered → Type 0
 IsMarkerOf g s p = p.batch.marker ≡ Some record { group = g; status = s }
 
 -- among the group's markers, neighbours: a Begin, Middles, and an End
 pub record IsStretch (h : List ReadBatch) (g : ℕ) (e : Effect) : Type 0 where
-  pub before : List Placed
-  pub begin : Placed
-  pub middles : List Placed
-  pub behind : List Placed
-  pub neighbours : markers_of g (placed_from 0 h) ≡ before ++ begin ∷ (middles ++ e.last ∷ behind)
+  pub before : List Numbered
+  pub begin : Numbered
+  pub middles : List Numbered
+  pub behind : List Numbered
+  pub neighbours : markers_of g (numbered_from 0 h) ≡ before ++ begin ∷ (middles ++ e.last ∷ behind)
   pub begins : IsMarkerOf g Begin begin
   pub goes_on : AllByRecursion (IsMarkerOf g Middle) middles
   pub ends : IsMarkerOf g End e.last
   pub earlier : e.earlier ≡ begin ∷ middles
 
--- an unmarked batch
+-- a batch without a marker
 pub record IsAlone (h : List ReadBatch) (e : Effect) : Type 0 where
-  pub stands : IsIn e.last (placed_from 0 h)
-  pub unmarked : e.last.batch.marker ≡ None
+  pub stands : IsIn e.last (numbered_from 0 h)
+  pub without_marker : e.last.batch.marker ≡ None
   pub none : e.earlier ≡ []
 
--- an effect of the history: an unmarked batch of it, or a stretch of some group's markers
+-- an effect of the history: a batch of it without a marker, or a stretch of some group's markers
 abbrev pub IsEffect : List ReadBatch → Effect → Type 0
 IsEffect h e = IsAlone h e ⊎ ((g : ℕ) × IsStretch h g e)
 

@@ -6,14 +6,14 @@ use Rattle.raft_history.specs.Batches.{GroupMarker, ReadBatch}
 use Rattle.raft_history.specs.RegionSteps.{RegionStep}
 
 -- a batch with its number in the history
-pub record Placed : Type 0 where
+pub record Numbered : Type 0 where
   pub number : ℕ
   pub batch : ReadBatch
 
 -- the batches with their numbers, the first of which is this one
-abbrev pub placed_from : ℕ → List ReadBatch → List Placed
-placed_from n [] = []
-placed_from n (b ∷ bs) = record { number = n; batch = b } ∷ placed_from (suc n) bs
+abbrev pub numbered_from : ℕ → List ReadBatch → List Numbered
+numbered_from n [] = []
+numbered_from n (b ∷ bs) = record { number = n; batch = b } ∷ numbered_from (suc n) bs
 
 -- whether a marker is there and of the group
 abbrev pub is_of : ℕ → Option GroupMarker → Bool
@@ -21,7 +21,7 @@ is_of g None = false
 is_of g (Some m) = eqb g m.group
 
 -- the markers of a group: its batches, in order
-unfoldable pub markers_of : ℕ → List Placed → List Placed
+unfoldable pub markers_of : ℕ → List Numbered → List Numbered
 markers_of g ps = filter (λ p. is_of g p.batch.marker) ps
 
 -- whether a status is Begin
@@ -47,17 +47,17 @@ goes_on None = false
 goes_on (Some m) = goes_on_by m.status
 
 -- Middles alone
-unfoldable pub are_middles : List Placed → Bool
+unfoldable pub are_middles : List Numbered → Bool
 are_middles [] = true
 are_middles (p ∷ ps) = goes_on p.batch.marker && are_middles ps
 
 -- behind these markers of one group: the last Begin and the Middles behind it, where nothing else follows it; else nothing
-unfoldable pub open_stretch : List Placed → List Placed
+unfoldable pub open_stretch : List Numbered → List Numbered
 open_stretch [] = []
 open_stretch (p ∷ ps) = cond (begins p.batch.marker && are_middles ps) (p ∷ ps) (open_stretch ps)
 
 -- the steps of batches, in order
-abbrev pub region_steps_of : List Placed → List RegionStep
+abbrev pub region_steps_of : List Numbered → List RegionStep
 region_steps_of ps = flat_map (λ p. p.batch.steps) ps
 
 -- what stands before a group's first Begin, up to the first End. (Of markers of a group, each batch has one.)
@@ -84,7 +84,7 @@ front_behind None is f rest = Cut
 front_behind (Some m) is f rest = front_by m.status is f rest
 
 -- the front of a group, by its markers in order
-unfoldable pub front_of : List Placed → GroupFront
+unfoldable pub front_of : List Numbered → GroupFront
 front_of [] = Open []
 front_of (p ∷ ps) = front_behind p.batch.marker p.batch.steps p.batch.file (front_of ps)
 
@@ -94,7 +94,7 @@ pub record OpenStretch : Type 0 where
   pub steps : List RegionStep
 
 -- the open stretch of these batches, if there are any
-abbrev pub stretch_of : List Placed → Option OpenStretch
+abbrev pub stretch_of : List Numbered → Option OpenStretch
 stretch_of [] = None
 stretch_of (p ∷ ps) = Some record { file = p.batch.file; steps = region_steps_of (p ∷ ps) }
 
@@ -104,11 +104,11 @@ pub record WaitingGroup : Type 0 where
   pub stretch : Option OpenStretch
 
 -- what the markers of a group say of it
-abbrev pub group_at : List Placed → WaitingGroup
+abbrev pub group_at : List Numbered → WaitingGroup
 group_at ms = record { front = front_of ms; stretch = stretch_of (open_stretch ms) }
 
 -- what batches say of a group
-abbrev pub group_of : ℕ → List Placed → WaitingGroup
+abbrev pub group_of : ℕ → List Numbered → WaitingGroup
 group_of g ps = group_at (markers_of g ps)
 
 -- a group that is whole: its steps, and the files of its Begin and End
@@ -117,40 +117,40 @@ pub record WholeGroup : Type 0 where
   pub start : ℕ
   pub end : ℕ
 
--- an older open stretch, if there is one, with the steps that go on with it in a newer segment
+-- an older open stretch, if there is one, with the steps that go on with it in a newer history
 abbrev pub carried : Option OpenStretch → List RegionStep → Option OpenStretch
 carried None is = None
 carried (Some s) is = Some record { file = s.file; steps = s.steps ++ is }
 
--- what is known of a group from an older and a newer segment, by the front that it has in each
+-- what is known of a group from an older and a newer history, by the front that it has in each
 abbrev pub joined_group_by : GroupFront → GroupFront → WaitingGroup → WaitingGroup → WaitingGroup
 joined_group_by (Open is) front older newer = record { front = led_by is front; stretch = newer.stretch }
 joined_group_by front (Open is) older newer = record { front = front; stretch = carried older.stretch is }
 joined_group_by front _ older newer = record { front = front; stretch = newer.stretch }
 
--- what is known of a group from an older and a newer segment
+-- what is known of a group from an older and a newer history
 abbrev pub joined_group : WaitingGroup → WaitingGroup → WaitingGroup
 joined_group older newer = joined_group_by older.front newer.front older newer
 
--- the group that becomes whole, if it does, by the older segment's open stretch and the newer one's front
+-- the group that becomes whole, if it does, by the older history's open stretch and the newer one's front
 abbrev pub whole_of : Option OpenStretch → GroupFront → Option WholeGroup
 whole_of None front = None
 whole_of (Some s) (Open is) = None
 whole_of (Some s) (Ended is f) = Some record { steps = s.steps ++ is; start = s.file; end = f }
 whole_of (Some s) Cut = None
 
--- the same, by the older segment's front too: where that is open, the group has no open stretch there
+-- the same, by the older history's front too: where that is open, the group has no open stretch there
 abbrev pub whole_group_by : GroupFront → Option OpenStretch → GroupFront → Option WholeGroup
 whole_group_by (Open is) s front = None
 whole_group_by _ s front = whole_of s front
 
--- the group that becomes whole between an older and a newer segment of a history, if it does
+-- the group that becomes whole between an older and a newer history, if it does
 abbrev pub whole_group : WaitingGroup → WaitingGroup → Option WholeGroup
 whole_group older newer = whole_group_by older.front older.stretch newer.front
 
 -- what is known of a group without a marker
-abbrev pub unmarked : WaitingGroup
-unmarked = record { front = Open []; stretch = None }
+abbrev pub without_marker : WaitingGroup
+without_marker = record { front = Open []; stretch = None }
 
 -- what is known of a group with one marker of this status, in a batch of these steps in this file
 abbrev pub one_marker : AtomicGroupStatus → List RegionStep → ℕ → WaitingGroup

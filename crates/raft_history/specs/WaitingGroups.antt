@@ -1,4 +1,4 @@
--- What is known of all groups: a map from the groups that are marked.
+-- What is known of all groups: a map from the groups that have a marker.
 use Rattle.std.specs.Prelude.{ℕ, Bool, false, List, [], ◌∷◌, ◌++◌, flat_map, filter_map, length, Option, Some, None}
 use Rattle.std.specs.Option.{unwrap_or}
 use Rattle.std.specs.Ordering.{nat_cmp}
@@ -8,7 +8,7 @@ use Rattle.raft_table.specs.Steps.{Step}
 use Rattle.raft_history.specs.Batches.{GroupMarker, ReadBatch}
 use Rattle.raft_history.specs.Effects.{whole_steps, group_in}
 use Rattle.raft_history.specs.RegionSteps.{RegionStep, steps_on, names}
-use Rattle.raft_history.specs.WaitingGroup.{unmarked, GroupFront, Open, Ended, Cut, OpenStretch, WaitingGroup, joined_group, WholeGroup, whole_group, one_marker}
+use Rattle.raft_history.specs.WaitingGroup.{without_marker, GroupFront, Open, Ended, Cut, OpenStretch, WaitingGroup, joined_group, WholeGroup, whole_group, one_marker}
 
 -- each group that has a marker, with what is known of it
 abbrev pub WaitingGroups : Type 0
@@ -25,22 +25,22 @@ groups_in h = finite.from_entries (flat_map (λ b. entry_by h b.marker) h)
 
 -- what is known of a group
 abbrev pub known : WaitingGroups → ℕ → WaitingGroup
-known groups g = unwrap_or (finite.get groups g) unmarked
+known groups g = unwrap_or (finite.get groups g) without_marker
 
--- an older segment's groups with some of a newer one's, one after another
+-- an older history's groups with some of a newer one's, one after another
 abbrev pub joined_with : WaitingGroups → List (ℕ × WaitingGroup) → WaitingGroups
 joined_with older [] = older
 joined_with older (e ∷ es) = joined_with (finite.insert older e.0 (joined_group (known older e.0) e.1)) es
 
--- the groups of an older and a newer segment of a history, one behind the other
+-- the groups of an older and a newer history, one behind the other
 abbrev pub joined_groups : WaitingGroups → WaitingGroups → WaitingGroups
 joined_groups older newer = joined_with older (finite.entries newer)
 
--- of some of a newer segment's groups, those that become whole with what an older one knows
+-- of some of a newer history's groups, those that become whole with what an older one knows
 abbrev pub whole_with : WaitingGroups → List (ℕ × WaitingGroup) → List WholeGroup
 whole_with older es = filter_map (λ e. whole_group (known older e.0) e.1) es
 
--- the groups that become whole between an older and a newer segment
+-- the groups that become whole between an older and a newer history
 abbrev pub whole_groups : WaitingGroups → WaitingGroups → List WholeGroup
 whole_groups older newer = whole_with older (finite.entries newer)
 

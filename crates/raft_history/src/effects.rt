@@ -45,7 +45,7 @@ pub fn wholes_name_different_regions()
 
 /// Where no batch has a marker, as in the append queue, each batch is an effect, and the effects are
 /// apart.
-pub fn unmarked_batches_are_effects()
+pub fn batches_without_markers_are_effects()
     ensures apart { (h : List ReadBatch) → AllByRecursion (λ b. b.marker ≡ None) h → BatchesApart h }
     ensures steps { (r : ℕ) (h : List ReadBatch) → AllByRecursion (λ b. b.marker ≡ None) h
         → steps_of r h ≡ flat_map (λ b. steps_on r b.steps) h }

@@ -7,7 +7,7 @@ ghost use Rattle.raft_base.specs.declared.pipe_log.LogQueue.{LogQueue};
 ghost use Rattle.raft_base.specs.declared.pipe_log.LogQueue.TheVariants.{Append};
 ghost use Rattle.raft_records.specs.Item.{Item};
 ghost use Rattle.raft_records.specs.ReadIn.{AreReadIn};
-ghost use Rattle.raft_table.specs.Entries.{entry_at};
+ghost use Rattle.raft_table.specs.TableEntries.{entry_at};
 ghost use Rattle.raft_table.specs.LastWord.{last_entry, last_pair};
 ghost use Rattle.raft_table.specs.Steps.{after, table_of};
 ghost use Rattle.raft_history.specs.RegionSteps.{RegionStep, Tables, steps_on, steps_of_items, reading};

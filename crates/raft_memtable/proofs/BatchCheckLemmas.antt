@@ -13,7 +13,7 @@ use Rattle.raft_records.specs.Group.{status_byte, first_marker, or_marker, IsGro
 use Rattle.raft_records.specs.Item.{Item, Content, entries, command, pair}
 use Rattle.raft_records.specs.ReadIn.{IsBlockIn}
 use Rattle.raft_records.proofs.GroupLemmas.{marker_is}
-use Rattle.raft_table.specs.Entries.{is_block_in, is_placed_in}
+use Rattle.raft_table.specs.TableEntries.{is_block_in, is_placed_in}
 use Rattle.raft_table.specs.Queues.{is_same}
 use Rattle.raft_history.specs.Histories.{IsInFile, AreInFile, AreBlocksIn, HasStatus}
 

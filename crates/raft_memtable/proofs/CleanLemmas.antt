@@ -5,7 +5,7 @@ use Rattle.raft_base.specs.declared.errors.Error.TheVariants as errors
 use Rattle.raft_records.specs.declared.command.Command.TheVariants.{Clean}
 use Rattle.raft_records.specs.Item.{Item, command_item}
 use Rattle.raft_records.specs.ItemBatch.{raised}
-use Rattle.raft_records.specs.LogBatch.{Batch, empty_batch, joined}
+use Rattle.raft_records.specs.LogBatch.{Batch, empty_batch, with_batch}
 
 abbrev pub cleans : List ℕ → List Item
 cleans ids = map (λ id. command_item id Clean) ids
@@ -14,9 +14,9 @@ raised-cleans : (s : ℕ) (ids : List ℕ) → map (raised s) (cleans ids) ≡ c
 raised-cleans s [] = refl
 raised-cleans s (id ∷ ids) = ap (λ l. command_item id Clean ∷ l) (raised-cleans s ids)
 
-pub joined-cleans : (b c : Batch) (ids : List ℕ) → c ≡ record empty_batch { items = cleans ids } → joined b c ≡ record b { items = b.items ++ cleans ids }
+pub joined-cleans : (b c : Batch) (ids : List ℕ) → c ≡ record empty_batch { items = cleans ids } → with_batch b c ≡ record b { items = b.items ++ cleans ids }
 joined-cleans b c ids e =
-    ap (joined b) e ∙ ap (λ l. record b { items = b.items ++ l; entry_bytes = b.entry_bytes ++ [] }) (raised-cleans (length b.entry_bytes) ids)
+    ap (with_batch b) e ∙ ap (λ l. record b { items = b.items ++ l; entry_bytes = b.entry_bytes ++ [] }) (raised-cleans (length b.entry_bytes) ids)
     ∙ ap (λ l. record b { items = b.items ++ cleans ids; entry_bytes = l }) (append-nil b.entry_bytes)
 
 -- an error that can be no other

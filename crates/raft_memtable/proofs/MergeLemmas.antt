@@ -15,7 +15,7 @@ use Rattle.raft_table.specs.Table.{Table, IsRecounted}
 use Rattle.raft_memtable.specs.Accessor.{slot_of, table_in}
 use Rattle.raft_memtable.specs.AccessorView.{slot_entries, together, AreSlots}
 use Rattle.raft_memtable.specs.Merges.{IsMergedAt, AreTablesMerged, MayAlter, IsAltered}
-use Rattle.raft_memtable.specs.Updates.{Change, Changes}
+use Rattle.raft_memtable.specs.Updates.{TableCall, TableCalls}
 use Rattle.raft_memtable.proofs.MapLemmas.{none_some, by_id, eq_self, get_own, one_written, one_same, with_other}
 use Rattle.std.specs.Map.{lookup}
 use Rattle.raft_memtable.proofs.OrderLemmas.{Once}
@@ -24,12 +24,12 @@ use Rattle.raft_memtable.proofs.SlotLemmas.{find-both, find-later, same_slot}
 
 -- ---- one table
 
-module _ {F R : Type 0} (g : Change F R) (f : F) (m : Tables) (id : ℕ) (counts : Counts) where
+module _ {F R : Type 0} (g : TableCall F R) (f : F) (m : Tables) (id : ℕ) (counts : Counts) where
   -- the table was there, or was made
-  pub altered : (r : Result R Error) (new : Table) (after : Counts) (n : Tables) → MayAlter g f (table_in m id) counts → Changes g f (table_in m id) counts r new after → n ≡ finite.insert m id new → IsAltered g f m id counts r n after
+  pub altered : (r : Result R Error) (new : Table) (after : Counts) (n : Tables) → MayAlter g f (table_in m id) counts → TableCalls g f (table_in m id) counts r new after → n ≡ finite.insert m id new → IsAltered g f m id counts r n after
   altered r new after n may ch e =
       let now : table_in n id ≡ new = ap (λ x. table_in x id) e ∙ ap (table_of id) (get_own m id new) in
-      let here : Changes g f (table_in m id) counts r (table_in n id) after = subst (λ x. Changes g f (table_in m id) counts r x after) (sym now) ch in
+      let here : TableCalls g f (table_in m id) counts r (table_in n id) after = subst (λ x. TableCalls g f (table_in m id) counts r x after) (sym now) ch in
       record {
         changed = inl here;
         there = elim r as (λ r. OnOk r (finite.get n id ≡ Some (table_in n id))) [ Ok a ↦ ap (λ x. finite.get x id) e ∙ get_own m id new ∙ ap Some (sym now) | Err x ↦ tt ];

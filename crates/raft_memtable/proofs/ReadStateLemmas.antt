@@ -22,7 +22,7 @@ use Rattle.raft_history.specs.Joins.{StandForSteps, AreJoined, IsJoinRefused}
 use Rattle.raft_history.specs.MarkedRegions.{MarkedRegions, region_in, regions_after, region_steps_of_whole, region_steps_of_wholes}
 use Rattle.raft_history.specs.Records.{all_records, waiting_records, records_or, records_in_wholes}
 use Rattle.raft_history.specs.RegionSteps.{RegionStep, steps_of_items}
-use Rattle.raft_history.specs.WaitingGroup.{WholeGroup, unmarked, joined_group, whole_group, one_marker}
+use Rattle.raft_history.specs.WaitingGroup.{WholeGroup, without_marker, joined_group, whole_group, one_marker}
 use Rattle.raft_history.specs.WaitingGroups.{WaitingGroups, known, groups_in, groups_after, whole_groups, joined_groups}
 use Rattle.raft_history.proofs.ContextLaws.{exact_reading, no_steps, regions_stand}
 use Rattle.raft_history.proofs.EffectLemmas.{each-append}
@@ -33,7 +33,7 @@ use Rattle.raft_history.proofs.RegionLaws.{stand_after, stand_joined}
 use Rattle.raft_history.proofs.SoundLemmas.{files-back, files_follow}
 use Rattle.raft_history.proofs.TakenLaws.{IsNext, taken_some, taken_stands}
 use Rattle.raft_history.proofs.TotalLemmas.{total-insert}
-use Rattle.raft_history.proofs.UnmarkedLemmas.{named-steps}
+use Rattle.raft_history.proofs.WithoutMarkers.{named-steps}
 use Rattle.raft_history.proofs.WaitingLemmas.{joined_weight, waiting_known, merged_waiting, weight}
 use Rattle.raft_memtable.specs.Accessor.{live_in_all}
 use Rattle.raft_memtable.specs.BatchChecks.{marker_found}
@@ -104,7 +104,7 @@ few_or_many n = go (nat_lt n (2 ^ 64)) refl
     go false e = inr (grind (arith, nat_tests))
 
 known_weight : (groups : WaitingGroups) (g : ℕ) → weight (known groups g) ≤ waiting_records groups
-known_weight groups g = omega (arith, total-insert weight groups g unmarked, waiting_known groups g)
+known_weight groups g = omega (arith, total-insert weight groups g without_marker, waiting_known groups g)
 
 -- what a batch makes whole waited before, or is its own
 pub whole_records : (groups : WaitingGroups) (g : ℕ) (s : AtomicGroupStatus) (is : List RegionStep) (f : ℕ) → records_or (whole_group (known groups g) (one_marker s is f)) ≤ waiting_records groups + records_in is
@@ -146,53 +146,53 @@ none_by : (c : Context) (e : Event) (m : Option GroupMarker) → regions_after e
 none_by c e m none = ap (option_map {U = Context} (λ rs. record { regions = rs; groups = groups_after c.groups (batch_of e) m; cleaned = c.cleaned ++ cleaned_in_batch e.file.queue e.items; files = joined_files c.files (files_of (e ∷ [])) })) none
 
 -- a batch without a marker
-pub unmarked_taken : (c d : Context) (e : Event) → marker_found e.file.queue e.items ≡ None
+pub lone_taken : (c d : Context) (e : Event) → marker_found e.file.queue e.items ≡ None
     → regions_after e.file.queue c.regions (steps_of_items e.items) ≡ Some d.regions → d.groups ≡ c.groups
     → d.cleaned ≡ c.cleaned ++ cleaned_in_batch e.file.queue e.items → d.files ≡ joined_files c.files (files_of (e ∷ [])) → taken_in c e ≡ Some d
-unmarked_taken c d e m regions groups cleaned files = ap (taken_by c e) (found_none e.file.queue e.items m) ∙ some_by c d e None regions ∙ by_fields d c.groups _ _ groups cleaned files
+lone_taken c d e m regions groups cleaned files = ap (taken_by c e) (found_none e.file.queue e.items m) ∙ some_by c d e None regions ∙ by_fields d c.groups _ _ groups cleaned files
 
-pub unmarked_refused : (c : Context) (e : Event) → marker_found e.file.queue e.items ≡ None → regions_after e.file.queue c.regions (steps_of_items e.items) ≡ None → taken_in c e ≡ None
-unmarked_refused c e m none = ap (taken_by c e) (found_none e.file.queue e.items m) ∙ none_by c e None none
+pub lone_refused : (c : Context) (e : Event) → marker_found e.file.queue e.items ≡ None → regions_after e.file.queue c.regions (steps_of_items e.items) ≡ None → taken_in c e ≡ None
+lone_refused c e m none = ap (taken_by c e) (found_none e.file.queue e.items m) ∙ none_by c e None none
 
 -- a batch with a marker
-pub marked_taken : (c d : Context) (e : Event) (id : ℕ) (s : AtomicGroupStatus) → marker_found e.file.queue e.items ≡ Some (id, s)
+pub group_taken : (c d : Context) (e : Event) (id : ℕ) (s : AtomicGroupStatus) → marker_found e.file.queue e.items ≡ Some (id, s)
     → regions_after Rewrite c.regions (region_steps_or (whole_group (known c.groups id) (one_marker s (steps_of_items e.items) e.file.seq))) ≡ Some d.regions
     → d.groups ≡ finite.insert c.groups id (joined_group (known c.groups id) (one_marker s (steps_of_items e.items) e.file.seq))
     → d.cleaned ≡ c.cleaned → d.files ≡ joined_files c.files (files_of (e ∷ [])) → taken_in c e ≡ Some d
-marked_taken c d e id s m regions groups cleaned files =
+group_taken c d e id s m regions groups cleaned files =
     let f = found_some e.file.queue e.items id s m in
     ap (taken_by c e) f.1
     ∙ some_by c d e (Some (record { group = id; status = s })) (ap (λ q. regions_after q c.regions (region_steps_or (whole_group (known c.groups id) (one_marker s (steps_of_items e.items) e.file.seq)))) f.0 ∙ regions)
     ∙ by_fields d _ _ _ groups (cleaned ∙ sym (append-nil c.cleaned) ∙ ap (λ q. c.cleaned ++ cleaned_in_batch q e.items) (sym f.0)) files
 
-pub marked_refused : (c : Context) (e : Event) (id : ℕ) (s : AtomicGroupStatus) → marker_found e.file.queue e.items ≡ Some (id, s)
+pub group_refused : (c : Context) (e : Event) (id : ℕ) (s : AtomicGroupStatus) → marker_found e.file.queue e.items ≡ Some (id, s)
     → regions_after Rewrite c.regions (region_steps_or (whole_group (known c.groups id) (one_marker s (steps_of_items e.items) e.file.seq))) ≡ None → taken_in c e ≡ None
-marked_refused c e id s m none =
+group_refused c e id s m none =
     let f = found_some e.file.queue e.items id s m in
     ap (taken_by c e) f.1 ∙ none_by c e (Some (record { group = id; status = s })) (ap (λ q. regions_after q c.regions (region_steps_or (whole_group (known c.groups id) (one_marker s (steps_of_items e.items) e.file.seq)))) f.0 ∙ none)
 
 -- a step is refused, where a call that had room says so
-pub unmarked_step : (c : Context) (e : Event) → IsRead c → MayFollow c e → marker_found e.file.queue e.items ≡ None
+pub lone_step : (c : Context) (e : Event) → IsRead c → MayFollow c e → marker_found e.file.queue e.items ≡ None
     → (HaveRoom e.file.queue c.regions.tables (records_in (steps_of_items e.items)) → regions_after e.file.queue c.regions (steps_of_items e.items) ≡ None) → IsStepRefused c e
-unmarked_step c e r n m h = go (few_or_many (records_held c + records_in (steps_of_items e.items)))
+lone_step c e r n m h = go (few_or_many (records_held c + records_in (steps_of_items e.items)))
   where
     go : (records_held c + records_in (steps_of_items e.items) < 2 ^ 64) ⊎ (2 ^ 64 ≤ records_held c + records_in (steps_of_items e.items)) → IsStepRefused c e
-    go (inl few) = inl (unmarked_refused c e m (h (room e.file.queue c (records_in (steps_of_items e.items)) r n.queue (omega (arith, few)))))
+    go (inl few) = inl (lone_refused c e m (h (room e.file.queue c (records_in (steps_of_items e.items)) r n.queue (omega (arith, few)))))
     go (inr many) = inr many
 
-pub marked_step : (c : Context) (e : Event) (id : ℕ) (s : AtomicGroupStatus) → IsRead c → MayFollow c e → marker_found e.file.queue e.items ≡ Some (id, s)
+pub group_step : (c : Context) (e : Event) (id : ℕ) (s : AtomicGroupStatus) → IsRead c → MayFollow c e → marker_found e.file.queue e.items ≡ Some (id, s)
     → (HaveRoom Rewrite c.regions.tables (records_or (whole_group (known c.groups id) (one_marker s (steps_of_items e.items) e.file.seq)))
     → regions_after Rewrite c.regions (region_steps_or (whole_group (known c.groups id) (one_marker s (steps_of_items e.items) e.file.seq))) ≡ None) → IsStepRefused c e
-marked_step c e id s r n m h = go (few_or_many (records_held c + records_in (steps_of_items e.items)))
+group_step c e id s r n m h = go (few_or_many (records_held c + records_in (steps_of_items e.items)))
   where
     go : (records_held c + records_in (steps_of_items e.items) < 2 ^ 64) ⊎ (2 ^ 64 ≤ records_held c + records_in (steps_of_items e.items)) → IsStepRefused c e
-    go (inl few) = inl (marked_refused c e id s m (h (room Rewrite c _ r (subst (λ q. Suits q c.files) (found_some e.file.queue e.items id s m).0 n.queue) (omega (arith, few, whole_records c.groups id s (steps_of_items e.items) e.file.seq)))))
+    go (inl few) = inl (group_refused c e id s m (h (room Rewrite c _ r (subst (λ q. Suits q c.files) (found_some e.file.queue e.items id s m).0 n.queue) (omega (arith, few, whole_records c.groups id s (steps_of_items e.items) e.file.seq)))))
     go (inr many) = inr many
 
 -- what a batch with a marker makes whole may be taken in
-pub marked_takes : (c : Context) (e : Event) (id : ℕ) (s : AtomicGroupStatus) → IsRead c → MayFollow c e → marker_found e.file.queue e.items ≡ Some (id, s)
+pub group_takes : (c : Context) (e : Event) (id : ℕ) (s : AtomicGroupStatus) → IsRead c → MayFollow c e → marker_found e.file.queue e.items ≡ Some (id, s)
     → MayTakeEffect (whole_group (known c.groups id) (one_marker s (steps_of_items e.items) e.file.seq))
-marked_takes c e id s r n m = batch_takes c r.history e (record { group = id; status = s }) r.stands (next_of c e n) (found_some e.file.queue e.items id s m).0
+group_takes c e id s r n m = batch_takes c r.history e (record { group = id; status = s }) r.stands (next_of c e n) (found_some e.file.queue e.items id s m).0
 
 -- the steps that take effect with a batch are of its queue
 completed_in_queue : (c : Context) (e : Event) → IsRead c → MayFollow c e → AreStepsOfQueue e.file.queue (completed_steps c.groups (batch_of e) (batch_of e).marker)

@@ -15,7 +15,7 @@ use Rattle.raft_history.specs.RegionSteps.{Tables}
 use Rattle.raft_history.proofs.KeptLaws.{kept_at_most}
 use Rattle.raft_memtable.specs.ReadStates.{IsRead}
 use Rattle.raft_memtable.specs.RecoverContext.{RecoverContext, IsReading, IsReadingExactly, MayFollow, IsTakenIn, IsReplayRefused, AreNeighbours, IsMergedWith, IsMergeRefused}
-use Rattle.raft_memtable.specs.declared.stage.Stage.TheVariants.{Reading}
+use Rattle.raft_memtable.specs.declared.context_stage.ContextStage.TheVariants.{Reading}
 
 -- ---- results
 

@@ -12,7 +12,7 @@ use Rattle.raft_table.specs.MarkMerge.{IsFaultUnder, IsFirstRunFault, IsRunOver}
 use Rattle.raft_table.specs.Marks.{Mark, is_first_run_refused, table_over, applied}
 use Rattle.raft_table.specs.Steps.{table_of, there_if}
 use Rattle.raft_table.specs.Table.{Table, empty_table, live_of, IsRecounted}
-use Rattle.raft_table.specs.Entries.{end_of, from}
+use Rattle.raft_table.specs.TableEntries.{end_of, from}
 use Rattle.raft_table.proofs.MarkTables.{applied_none}
 use Rattle.raft_table.proofs.RegionLemmas.{applied_own}
 use Rattle.raft_table.proofs.TableLemmas.{live_of_empty}

@@ -9,15 +9,15 @@ use Rattle.raft_table.specs.Steps.{table_of}
 use Rattle.raft_table.specs.Table.{Table, IsRecounted}
 use Rattle.raft_history.specs.RegionSteps.{Tables}
 use Rattle.raft_memtable.specs.Accessor.{table_in}
-use Rattle.raft_memtable.specs.Updates.{Change, Changes, MayChange, IsUpdated}
+use Rattle.raft_memtable.specs.Updates.{TableCall, TableCalls, MayChange, IsUpdated}
 use Rattle.raft_memtable.proofs.MapLemmas.{get_own, insert_same, one_written, one_same}
 
-module _ {F R : Type 0} (g : Change F R) (f : F) (m : Tables) (id : ℕ) (counts : Counts) where
+module _ {F R : Type 0} (g : TableCall F R) (f : F) (m : Tables) (id : ℕ) (counts : Counts) where
   -- the table was there
-  pub updated : (u : Table) (r : Result R Error) (new : Table) (after : Counts) (n : Tables) → finite.get m id ≡ Some u → MayChange g f (table_in m id) counts → Changes g f (table_in m id) counts r new after → n ≡ finite.insert m id new → IsUpdated g f m id counts r n after
+  pub updated : (u : Table) (r : Result R Error) (new : Table) (after : Counts) (n : Tables) → finite.get m id ≡ Some u → MayChange g f (table_in m id) counts → TableCalls g f (table_in m id) counts r new after → n ≡ finite.insert m id new → IsUpdated g f m id counts r n after
   updated u r new after n is may ch e =
       let now : table_in n id ≡ new = ap (λ x. table_in x id) e ∙ ap (table_of id) (get_own m id new) in
-      let here : Changes g f (table_in m id) counts r (table_in n id) after = subst (λ x. Changes g f (table_in m id) counts r x after) (sym now) ch in
+      let here : TableCalls g f (table_in m id) counts r (table_in n id) after = subst (λ x. TableCalls g f (table_in m id) counts r x after) (sym now) ch in
       record {
         changed = inl here;
         ok = elim r as (λ r. OnOk r (n ≡ finite.insert m id (table_in n id))) [ Ok a ↦ e ∙ ap (finite.insert m id) (sym now) | Err x ↦ tt ];
@@ -28,10 +28,10 @@ module _ {F R : Type 0} (g : Change F R) (f : F) (m : Tables) (id : ℕ) (counts
       }
 
   -- the table was made
-  pub made : (a : R) (new : Table) (after : Counts) (n : Tables) → MayChange g f (table_in m id) counts → Changes g f (table_in m id) counts (Ok a) new after → n ≡ finite.insert m id new → IsUpdated g f m id counts (Ok a) n after
+  pub made : (a : R) (new : Table) (after : Counts) (n : Tables) → MayChange g f (table_in m id) counts → TableCalls g f (table_in m id) counts (Ok a) new after → n ≡ finite.insert m id new → IsUpdated g f m id counts (Ok a) n after
   made a new after n may ch e =
       let now : table_in n id ≡ new = ap (λ x. table_in x id) e ∙ ap (table_of id) (get_own m id new) in
-      let here : Changes g f (table_in m id) counts (Ok a) (table_in n id) after = subst (λ x. Changes g f (table_in m id) counts (Ok a) x after) (sym now) ch in
+      let here : TableCalls g f (table_in m id) counts (Ok a) (table_in n id) after = subst (λ x. TableCalls g f (table_in m id) counts (Ok a) x after) (sym now) ch in
       record {
         changed = inl here;
         ok = e ∙ ap (finite.insert m id) (sym now);
@@ -42,11 +42,11 @@ module _ {F R : Type 0} (g : Change F R) (f : F) (m : Tables) (id : ℕ) (counts
       }
 
   -- the table that would have been made was refused
-  pub refused : (x : Error) (new : Table) (after : Counts) (n : Tables) → MayChange g f (table_in m id) counts → Changes g f (table_in m id) counts (Err x) new after → n ≡ m → IsUpdated g f m id counts (Err x) n after
+  pub refused : (x : Error) (new : Table) (after : Counts) (n : Tables) → MayChange g f (table_in m id) counts → TableCalls g f (table_in m id) counts (Err x) new after → n ≡ m → IsUpdated g f m id counts (Err x) n after
   refused x new after n may ch e =
       let kept : new ≡ table_in m id = may.kept (Err x) new after ch in
       let now : table_in n id ≡ new = ap (λ y. table_in y id) e ∙ sym kept in
-      let here : Changes g f (table_in m id) counts (Err x) (table_in n id) after = subst (λ y. Changes g f (table_in m id) counts (Err x) y after) (sym now) ch in
+      let here : TableCalls g f (table_in m id) counts (Err x) (table_in n id) after = subst (λ y. TableCalls g f (table_in m id) counts (Err x) y after) (sym now) ch in
       record {
         changed = inl here;
         ok = tt;

@@ -8,7 +8,7 @@ use Rattle.std.specs.FinMap as finite
 use Rattle.std.proofs.lemmas.Bool.Decides.{nat_tests}
 use Rattle.raft_records.specs.declared.atomic_group.AtomicGroupStatus.{AtomicGroupStatus}
 use Rattle.raft_history.specs.RegionSteps.{RegionStep}
-use Rattle.raft_history.specs.Batches.{ReadBatch, marked_batch}
+use Rattle.raft_history.specs.Batches.{ReadBatch, batch_with_marker}
 use Rattle.raft_history.specs.Effects.{BatchesApart, steps_of, steps_of_wholes}
 use Rattle.raft_history.specs.WaitingGroup.{WaitingGroup, joined_group, WholeGroup, whole_group, one_marker}
 use Rattle.raft_history.specs.WaitingGroups.{WaitingGroups, groups_in, steps_or, known, joined_groups, whole_with, whole_groups}
@@ -46,12 +46,12 @@ none_left n h = go (ltb 0 n) refl
     go true e = absurd (false≢true (h.1 (ltb-true 0 n e)))
     go false e = omega (arith, ltb-false 0 n e)
 
--- one more marked_batch, and a newer segment, behind a history
-pub stands-one : (m n : WaitingGroups) (h : List ReadBatch) (is : List RegionStep) (g : ℕ) (s : AtomicGroupStatus) (f : ℕ) (x : WaitingGroup) → m ≡ groups_in h → x ≡ one_marker s is f → n ≡ finite.insert m g (joined_group (known m g) x) → n ≡ groups_in (h ++ marked_batch is g s f ∷ [])
-stands-one m n h is g s f x e k put = put ∙ ap (λ y. finite.insert m g (joined_group (known m g) y)) k ∙ ap (λ y. finite.insert y g (joined_group (known y g) (one_marker s is f))) e ∙ sym (groups_in-one h (marked_batch is g s f))
+-- one more batch with a marker, and a newer history, behind a history
+pub stands-one : (m n : WaitingGroups) (h : List ReadBatch) (is : List RegionStep) (g : ℕ) (s : AtomicGroupStatus) (f : ℕ) (x : WaitingGroup) → m ≡ groups_in h → x ≡ one_marker s is f → n ≡ finite.insert m g (joined_group (known m g) x) → n ≡ groups_in (h ++ batch_with_marker is g s f ∷ [])
+stands-one m n h is g s f x e k put = put ∙ ap (λ y. finite.insert m g (joined_group (known m g) y)) k ∙ ap (λ y. finite.insert y g (joined_group (known y g) (one_marker s is f))) e ∙ sym (groups_in-one h (batch_with_marker is g s f))
 
-pub steps-marked : (m : WaitingGroups) (h : List ReadBatch) (r : ℕ) (is : List RegionStep) (g : ℕ) (s : AtomicGroupStatus) (f : ℕ) (x : WaitingGroup) (w : Option WholeGroup) → m ≡ groups_in h → x ≡ one_marker s is f → w ≡ whole_group (known m g) x → steps_of r (h ++ marked_batch is g s f ∷ []) ≡ steps_of r h ++ steps_or r w
-steps-marked m h r is g s f x w e k is_whole = steps-one r h (marked_batch is g s f) ∙ ap (λ y. steps_of r h ++ steps_or r y) (sym (is_whole ∙ ap (whole_group (known m g)) k ∙ ap (λ y. whole_group (known y g) (one_marker s is f)) e))
+pub steps-with_marker : (m : WaitingGroups) (h : List ReadBatch) (r : ℕ) (is : List RegionStep) (g : ℕ) (s : AtomicGroupStatus) (f : ℕ) (x : WaitingGroup) (w : Option WholeGroup) → m ≡ groups_in h → x ≡ one_marker s is f → w ≡ whole_group (known m g) x → steps_of r (h ++ batch_with_marker is g s f ∷ []) ≡ steps_of r h ++ steps_or r w
+steps-with_marker m h r is g s f x w e k is_whole = steps-one r h (batch_with_marker is g s f) ∙ ap (λ y. steps_of r h ++ steps_or r y) (sym (is_whole ∙ ap (whole_group (known m g)) k ∙ ap (λ y. whole_group (known y g) (one_marker s is f)) e))
 
 pub stands-joined : (m n o : WaitingGroups) (h k : List ReadBatch) → o ≡ joined_groups m n → m ≡ groups_in h → n ≡ groups_in k → o ≡ groups_in (h ++ k)
 stands-joined m n o h k j e f = j ∙ ap (λ x. joined_groups x n) e ∙ ap (joined_groups (groups_in h)) f ∙ sym (groups_in-append h k)

@@ -14,7 +14,7 @@ use Rattle.std.specs.FinMap as finite
 use Rattle.std.specs.FinMap.{nat_cmp-IsAntisymmetric, same_map}
 use Rattle.std.specs.FinMap.Entries.{find, find-where_key}
 use Rattle.raft_history.specs.WaitingGroup as groups
-use Rattle.raft_history.specs.WaitingGroup.{unmarked, joined_group}
+use Rattle.raft_history.specs.WaitingGroup.{without_marker, joined_group}
 use Rattle.raft_history.specs.WaitingGroups.{WaitingGroups, known, held_steps, waiting_steps}
 use Rattle.raft_table.proofs.Shown.{shown, is_sorted-shown, find-shown, shown-insert_entry, shown-remove_entry}
 use Rattle.raft_memtable.specs.declared.waiting_group.WaitingGroup.{WaitingGroup}
@@ -61,8 +61,8 @@ seen-replace es k v h g = same_map nat_cmp_total nat_cmp-IsAntisymmetric _ _ (λ
     go q true e = refl
     go q false e = rw (unsigned_tied k q, flip k q (sym (unsigned_tied q k) ∙ e)) refl
 
-pub known-seen : (es : List (ℕ × WaitingGroup)) (q : ℕ) (o : Option WaitingGroup) → Ordered es → o ≡ lookup (is_at (nat_cmp q)) es → known (seen es) q ≡ unwrap_or (option_map group_shown o) unmarked
-known-seen es q o h e = ap (λ x. unwrap_or x unmarked) (get-seen es q h ∙ ap (option_map group_shown) (sym e))
+pub known-seen : (es : List (ℕ × WaitingGroup)) (q : ℕ) (o : Option WaitingGroup) → Ordered es → o ≡ lookup (is_at (nat_cmp q)) es → known (seen es) q ≡ unwrap_or (option_map group_shown o) without_marker
+known-seen es q o h e = ap (λ x. unwrap_or x without_marker) (get-seen es q h ∙ ap (option_map group_shown) (sym e))
 
 pub seen-none : (es : List (ℕ × WaitingGroup)) → Ordered es → es ≡ [] → seen es ≡ finite.empty
 seen-none es h e = finite.empty_of_len (seen es) (finite.len-entries (seen es) ∙ ap length (entries-seen es h ∙ ap (map (λ e. (e.0, group_shown e.1))) e))

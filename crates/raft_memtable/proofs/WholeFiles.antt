@@ -13,12 +13,12 @@ use Rattle.raft_history.specs.Contexts.{Context, Suits, StandsFor, StandsIn, fil
 use Rattle.raft_history.specs.Effects.{group_in}
 use Rattle.raft_history.specs.Histories.{FilesFrom, AreInFiles, last_from, IsStepOfQueue}
 use Rattle.raft_history.specs.RegionSteps.{RegionStep, steps_of_items}
-use Rattle.raft_history.specs.WaitingGroup.{Placed, placed_from, markers_of, open_stretch, GroupFront, Open, Ended, Cut, led_by, front_by, front_behind, front_of, OpenStretch, stretch_of, WaitingGroup, WholeGroup, whole_of, whole_group_by, whole_group, one_marker}
+use Rattle.raft_history.specs.WaitingGroup.{Numbered, numbered_from, markers_of, open_stretch, GroupFront, Open, Ended, Cut, led_by, front_by, front_behind, front_of, OpenStretch, stretch_of, WaitingGroup, WholeGroup, whole_of, whole_group_by, whole_group, one_marker}
 use Rattle.raft_history.specs.WaitingGroups.{WaitingGroups, groups_in, known, whole_with, whole_groups, front_steps, stretch_steps, entry_by}
 use Rattle.raft_history.proofs.EffectLemmas.{each-append, each_weaker, each_markers, each_open}
 use Rattle.raft_history.proofs.KnownLemmas.{known-groups_in, each_known}
 use Rattle.raft_history.proofs.QueueLemmas.{Holds, items_in_queue, known_holds}
-use Rattle.raft_history.proofs.SoundLemmas.{files-back, files_follow, unmarked}
+use Rattle.raft_history.proofs.SoundLemmas.{files-back, files_follow, without_marker}
 use Rattle.raft_history.proofs.TakenLaws.{IsNext}
 use Rattle.raft_memtable.specs.MarkedTables.{AreStepsOfQueue}
 use Rattle.raft_memtable.specs.ReadStates.{TakesEffect, MayTakeEffect}
@@ -34,17 +34,17 @@ FrontFrom n (Open is) = Unit {0}
 FrontFrom n (Ended is f) = n ≤ f
 FrontFrom n Cut = Unit {0}
 
-abbrev UpTo : ℕ → Placed → Type 0
+abbrev UpTo : ℕ → Numbered → Type 0
 UpTo n p = p.batch.file ≤ n
 
-abbrev FromOn : ℕ → Placed → Type 0
+abbrev FromOn : ℕ → Numbered → Type 0
 FromOn n p = n ≤ p.batch.file
 
-stretch_up_to : (n : ℕ) (ps : List Placed) → AllByRecursion (UpTo n) ps → StretchUpTo n (stretch_of ps)
+stretch_up_to : (n : ℕ) (ps : List Numbered) → AllByRecursion (UpTo n) ps → StretchUpTo n (stretch_of ps)
 stretch_up_to n [] h = tt
 stretch_up_to n (p ∷ ps) h = h.0
 
-front_from : (n : ℕ) (ps : List Placed) → AllByRecursion (FromOn n) ps → FrontFrom n (front_of ps)
+front_from : (n : ℕ) (ps : List Numbered) → AllByRecursion (FromOn n) ps → FrontFrom n (front_of ps)
 unfolding front_of
 front_from n [] h = tt
 front_from n (p ∷ ps) h = go p.batch.marker (front_from n ps h.1)
@@ -67,20 +67,20 @@ last_le : (q : LogQueue) (n : ℕ) (h : List Event) → FilesFrom q n h → n �
 last_le q n [] f = omega arith
 last_le q n (e ∷ h) f = omega (arith, f.1, last_le q e.file.seq h f.2)
 
-placed_up_to : (q : LogQueue) (n m : ℕ) (h : List Event) → FilesFrom q n h → AllByRecursion (UpTo (last_from n h)) (placed_from m (batches h))
+placed_up_to : (q : LogQueue) (n m : ℕ) (h : List Event) → FilesFrom q n h → AllByRecursion (UpTo (last_from n h)) (numbered_from m (batches h))
 placed_up_to q n m [] f = tt
 placed_up_to q n m (e ∷ h) f = (last_le q e.file.seq h f.2, placed_up_to q e.file.seq (suc m) h f.2)
 
-placed_from_on : (q : LogQueue) (n m : ℕ) (h : List Event) → FilesFrom q n h → AllByRecursion (FromOn n) (placed_from m (batches h))
-placed_from_on q n m [] f = tt
-placed_from_on q n m (e ∷ h) f = (f.1, each_weaker (FromOn e.file.seq) (FromOn n) (λ p k. omega (arith, k, f.1)) (placed_from (suc m) (batches h)) (placed_from_on q e.file.seq (suc m) h f.2))
+numbered_from_on : (q : LogQueue) (n m : ℕ) (h : List Event) → FilesFrom q n h → AllByRecursion (FromOn n) (numbered_from m (batches h))
+numbered_from_on q n m [] f = tt
+numbered_from_on q n m (e ∷ h) f = (f.1, each_weaker (FromOn e.file.seq) (FromOn n) (λ p k. omega (arith, k, f.1)) (numbered_from (suc m) (batches h)) (numbered_from_on q e.file.seq (suc m) h f.2))
 
 known_up_to : (q : LogQueue) (g : ℕ) (h : List Event) → FilesFrom q 0 h → StretchUpTo (last_from 0 h) (known (groups_in (batches h)) g).stretch
 known_up_to q g h f = subst (λ (w : WaitingGroup). StretchUpTo (last_from 0 h) w.stretch) (sym (known-groups_in g (batches h)))
-    (stretch_up_to (last_from 0 h) (open_stretch (markers_of g (placed_from 0 (batches h)))) (each_open (UpTo (last_from 0 h)) (markers_of g (placed_from 0 (batches h))) (each_markers (UpTo (last_from 0 h)) g (placed_from 0 (batches h)) (placed_up_to q 0 0 h f))))
+    (stretch_up_to (last_from 0 h) (open_stretch (markers_of g (numbered_from 0 (batches h)))) (each_open (UpTo (last_from 0 h)) (markers_of g (numbered_from 0 (batches h))) (each_markers (UpTo (last_from 0 h)) g (numbered_from 0 (batches h)) (placed_up_to q 0 0 h f))))
 
 group_from : (q : LogQueue) (g n : ℕ) (h : List Event) → FilesFrom q n h → FrontFrom n (group_in g (batches h)).front
-group_from q g n h f = front_from n (markers_of g (placed_from 0 (batches h))) (each_markers (FromOn n) g (placed_from 0 (batches h)) (placed_from_on q n 0 h f))
+group_from q g n h f = front_from n (markers_of g (numbered_from 0 (batches h))) (each_markers (FromOn n) g (numbered_from 0 (batches h)) (numbered_from_on q n 0 h f))
 
 -- ---- what takes effect
 
@@ -149,7 +149,7 @@ wholes_take h k f a g b behind = all (finite.entries (groups_in (batches k))) (e
 -- the append queue has no groups
 pub no_wholes : (older : WaitingGroups) (k : List Event) → FilesFrom Append 0 k → whole_groups older (groups_in (batches k)) ≡ []
 unfolding groups_in
-no_wholes older k f = ap (whole_with older) (none (batches k) (unmarked 0 k f))
+no_wholes older k f = ap (whole_with older) (none (batches k) (without_marker 0 k f))
   where
     flat : (all bs : List ReadBatch) → AllByRecursion (λ (b : ReadBatch). b.marker ≡ None) bs → flat_map (λ (b : ReadBatch). entry_by all b.marker) bs ≡ []
     flat all [] u = refl

@@ -10,7 +10,7 @@ use Rattle.raft_table.specs.Merge.{after_newer, joint_queue, after_appended, app
 use Rattle.raft_table.specs.Steps.{table_of}
 use Rattle.raft_table.specs.Table.{Table, IsRecounted}
 use Rattle.raft_memtable.specs.Accessor.{table_in}
-use Rattle.raft_memtable.specs.Updates.{Change, Changes, IsChangedBy}
+use Rattle.raft_memtable.specs.Updates.{TableCall, TableCalls, IsChangedBy}
 
 -- a table merged with its newer neighbor
 abbrev pub with_newer : Table → Table → Option Table
@@ -32,13 +32,13 @@ AreTablesMerged merge older newer after = (id : ℕ) → IsMergedAt merge id (fi
 -- ---- one table
 
 -- the call may be made at a table and counts; it keeps the table's region, and counts what it changes
-pub record MayAlter {F R : Type 0} (g : Change F R) (f : F) (old : Table) (counts : Counts) : Type 0 where
+pub record MayAlter {F R : Type 0} (g : TableCall F R) (f : F) (old : Table) (counts : Counts) : Type 0 where
   pub pre : (table : MutBor Table) (stats : MutBor Counts) → table.now ≡ old → stats.now ≡ counts → g.pre f (table, (stats, tt))
-  pub region : (r : Result R Error) (new : Table) (after : Counts) → Changes g f old counts r new after → new.region_id ≡ old.region_id
-  pub counted : (r : Result R Error) (new : Table) (after : Counts) → Changes g f old counts r new after → IsRecounted old new counts after
+  pub region : (r : Result R Error) (new : Table) (after : Counts) → TableCalls g f old counts r new after → new.region_id ≡ old.region_id
+  pub counted : (r : Result R Error) (new : Table) (after : Counts) → TableCalls g f old counts r new after → IsRecounted old new counts after
 
 -- a region's table was changed by a call, or made and changed, and nothing else was, also where the call refused
-pub record IsAltered {F R : Type 0} (g : Change F R) (f : F) (old : Tables) (id : ℕ) (counts : Counts) (r : Result R Error) (new : Tables) (after : Counts) : Type 0 where
+pub record IsAltered {F R : Type 0} (g : TableCall F R) (f : F) (old : Tables) (id : ℕ) (counts : Counts) (r : Result R Error) (new : Tables) (after : Counts) : Type 0 where
   pub changed : IsChangedBy g f (table_in old id) counts r (table_in new id) after
   pub there : OnOk r (finite.get new id ≡ Some (table_in new id))
   pub one : new ≡ with_table old id (finite.get new id)

@@ -6,12 +6,12 @@ use Rattle.raft_history.specs.Contexts.{Context, new_context, Suits, files_of, f
 use Rattle.raft_history.specs.Histories.{AreInFile, HaveStatus, records_in}
 use Rattle.raft_history.specs.Records.{all_records, waiting_records}
 use Rattle.raft_history.specs.RegionSteps.{steps_of_items}
-use Rattle.raft_memtable.specs.declared.stage.Stage.{Stage}
-use Rattle.raft_memtable.specs.declared.stage.Stage.TheVariants.{Reading, Overlaid, Failed}
+use Rattle.raft_memtable.specs.declared.context_stage.ContextStage.{ContextStage}
+use Rattle.raft_memtable.specs.declared.context_stage.ContextStage.TheVariants.{Reading, Overlaid, Failed}
 
 -- what a context holds, and whether it reads on
 pub record RecoverContext : Type 0 where
-  pub stage : Stage
+  pub stage : ContextStage
   pub context : Context
 
 -- a context that has read nothing
@@ -29,7 +29,7 @@ pub record IsReadingExactly (c : RecoverContext) (h : List Event) : Type 0 where
   pub exact : IsExactFor c.context h
 
 -- what a refused call makes of a context that reads on; it leaves any other
-abbrev pub refused_stage : Stage → Stage
+abbrev pub refused_stage : ContextStage → ContextStage
 refused_stage Reading = Failed
 refused_stage Overlaid = Overlaid
 refused_stage Failed = Failed

@@ -12,8 +12,8 @@ use Rattle.raft_history.specs.WaitingGroups.{WaitingGroups}
 use Rattle.raft_memtable.specs.AccessorCode.{tables_code}
 use Rattle.raft_memtable.specs.RecoverContext.{RecoverContext}
 use Rattle.raft_memtable.specs.WaitingGroupsCode.{groups_code}
-use Rattle.raft_memtable.specs.contracts.stage.Stage as stage
-use Rattle.raft_memtable.specs.declared.stage.Stage.{Stage}
+use Rattle.raft_memtable.specs.contracts.context_stage.ContextStage as stage
+use Rattle.raft_memtable.specs.declared.context_stage.ContextStage.{ContextStage}
 
 -- regions as their tables and their marks
 abbrev pub regions_code : Coded MarkedRegions
@@ -31,4 +31,4 @@ context_code =
 
 -- the stage and what is held
 abbrev pub recover_context_code : Coded RecoverContext
-recover_context_code = code_by (Stage × Context) (coded× stage.the_row.coded context_code) (λ c. (c.stage, c.context)) (λ p. record { stage = p.0; context = p.1 }) (λ _. refl)
+recover_context_code = code_by (ContextStage × Context) (coded× stage.the_row.coded context_code) (λ c. (c.stage, c.context)) (λ p. record { stage = p.0; context = p.1 }) (λ _. refl)

@@ -1,7 +1,7 @@
 -- A recovery context's fields as its contracts see them.
 use Rattle.std.specs.Prelude.{◌≡◌}
 use Rattle.raft_memtable.specs.declared.recover_context.MemTableRecoverContext.TheInside.{Inside}
-use Rattle.raft_memtable.specs.declared.stage.Stage.TheVariants.{Reading}
+use Rattle.raft_memtable.specs.declared.context_stage.ContextStage.TheVariants.{Reading}
 use Rattle.raft_memtable.specs.ReadStates.{context_in, IsRead}
 use Rattle.raft_memtable.specs.RecoverContext.{RecoverContext}
 

@@ -10,5 +10,5 @@ abbrev pub groups_seen : Inside → WaitingGroups
 groups_seen a = seen_entries a.groups.entries
 
 -- the keys of the map of groups are in order
-pub record IsSound (a : Inside) : Type 0 where
+pub record AreGroupsOrdered (a : Inside) : Type 0 where
   pub ordered : IsOrdered nat_cmp a.groups

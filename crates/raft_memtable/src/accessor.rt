@@ -336,7 +336,7 @@ impl MemTableAccessor {
     }
 
     /// Writes items that were rewritten to the file `new_file` of the rewrite queue to the tables, in
-    /// order: with a watermark the places that move are those in append files at or below it, without one
+    /// order: with a gate the places that move are those in append files at or below it, without one
     /// those that are rewritten already.
     ///
     /// # Errors
@@ -345,20 +345,20 @@ impl MemTableAccessor {
     pub fn apply_rewrite_writes<I: IntoIterator<Item = LogItem>>(
         &mut self,
         items: I,
-        watermark: Option<FileSeq>,
+        gate: Option<FileSeq>,
         new_file: FileSeq,
     ) -> Result<()>
         requires { (it : I.IntoIter) → I.into_iter_gives items it
             → I.IntoIter.can_next it × IsFinite (I.IntoIter.remaining it) }
         ensures ok { OnOk result ((it : I.IntoIter) × (xs : List LogItem) × I.into_iter_gives items it
             × Drains I.IntoIter.next_gives it xs
-            × AreWritten (Rewriting watermark new_file) (map item_of xs) self.old self.new) }
+            × AreWritten (Rewriting gate new_file) (map item_of xs) self.old self.new) }
         ensures refused { IfErr result (λ e. (it : I.IntoIter) × (xs : List LogItem) × (u : I.IntoIter)
             × I.into_iter_gives items it × Yields I.IntoIter.next_gives it xs u
-            × AreItemsRefused (Rewriting watermark new_file) (map item_of xs) self.old self.new e) }
+            × AreItemsRefused (Rewriting gate new_file) (map item_of xs) self.old self.new e) }
     {
         for item in items {
-            self.rewrite_item(item, watermark, new_file)?;
+            self.rewrite_item(item, gate, new_file)?;
         }
         Ok(())
     }

@@ -29,7 +29,8 @@ pub(crate) fn check_batch(
     ensures items { OnOk result (AreInFile file batch.now) }
     ensures markers { OnOk result (HaveStatus file.queue batch.now) }
     ensures marker { IfOk result (λ marker. marker ≡ marker_found file.queue batch.now) }
-    ensures refused { IfErr result (λ e. e ≢ Error.Memory → AreInFile file batch.now → HaveStatus file.queue batch.now → ⊥) }
+    ensures refused { IfErr result
+        (λ e. e ≢ Error.Memory → AreInFile file batch.now → HaveStatus file.queue batch.now → ⊥) }
 {
     let items = batch.iter().as_slice();
     match file.queue {
@@ -41,12 +42,12 @@ pub(crate) fn check_batch(
             }
             Ok(None)
         }
-        LogQueue::Rewrite => check_marked(alloc, items, file),
+        LogQueue::Rewrite => check_rewrite_batch(alloc, items, file),
     }
 }
 
 /// The same of the items of a batch of the rewrite queue.
-fn check_marked(
+fn check_rewrite_batch(
     alloc: Global,
     items: &[LogItem],
     file: FileId,
@@ -54,7 +55,9 @@ fn check_marked(
     ensures items { OnOk result (AreInFile file (map item_of items.now)) }
     ensures markers { OnOk result (AllByRecursion HasStatus (map item_of items.now)) }
     ensures marker { IfOk result (λ marker. marker ≡ first_marker (map item_of items.now)) }
-    ensures refused { IfErr result (λ e. e ≢ Error.Memory → AreInFile file (map item_of items.now) → AllByRecursion HasStatus (map item_of items.now) → ⊥) }
+    ensures refused { IfErr result
+        (λ e. e ≢ Error.Memory
+        → AreInFile file (map item_of items.now) → AllByRecursion HasStatus (map item_of items.now) → ⊥) }
 {
     let mut marker = None;
     for item in items {
@@ -83,7 +86,8 @@ fn are_in_file(items: &[LogItem], file: FileId) -> bool
 
 /// Whether an item may stand in a batch of the file.
 fn is_in_file(item: &LogItem, file: FileId) -> bool
-    ensures { MatchBool result (IsInFile file (content_of item.now.content)) (IsInFile file (content_of item.now.content) → ⊥) }
+    ensures { MatchBool result (IsInFile file (content_of item.now.content))
+        (IsInFile file (content_of item.now.content) → ⊥) }
 {
     match &item.content {
         LogItemContent::EntryIndexes(entries) => is_run_in(&entries.0, file),

@@ -6,7 +6,7 @@ ghost use Rattle.raft_base.specs.declared.pipe_log.LogQueue.TheVariants.{Append,
 ghost use Rattle.raft_records.specs.Item.{Item, item_of, entries_item, command_item, pair, pair_of};
 ghost use Rattle.raft_records.specs.declared.command.Command.TheVariants.{Clean};
 ghost use Rattle.raft_table.specs.Counts.{Counts};
-ghost use Rattle.raft_table.specs.Entries.{IsRunIn};
+ghost use Rattle.raft_table.specs.TableEntries.{IsRunIn};
 ghost use Rattle.raft_table.specs.KeyValues.{file_at};
 ghost use Rattle.raft_table.specs.Queues.{other};
 ghost use Rattle.raft_table.specs.Rewriting.{rewritten, IsRewriteFault};

@@ -3,6 +3,7 @@
 
 pub mod accessor;
 mod batch_check;
+pub mod context_stage;
 mod file_range;
 pub mod item_writes;
 pub mod kept;
@@ -14,7 +15,6 @@ pub mod region_marks;
 pub mod region_tables;
 pub mod replay_machine;
 pub mod slot;
-pub mod stage;
 #[cfg(test)]
 mod tests;
 pub mod waiting_group;
@@ -22,6 +22,7 @@ pub mod waiting_groups;
 pub mod waiting_items;
 
 pub use accessor::{MemTableAccessor, slot_of};
+pub use context_stage::ContextStage;
 pub use kept::Kept;
 pub use raft_table::{
     Block, EntryIndex, Error, FileBlockHandle, FileId, FileSeq, GlobalStats, LogQueue, MemTable,
@@ -32,4 +33,3 @@ pub use region_marks::RegionMarks;
 pub use region_tables::RegionTables;
 pub use replay_machine::ReplayMachine;
 pub use slot::Slot;
-pub use stage::Stage;

@@ -51,11 +51,16 @@ impl MarkedTables {
     /// Some items are then taken in.
     pub(crate) fn take_items(&mut self, file: FileId, items: LogItemBatch) -> Result<()>
         requires { AreInFile file items }
-        ensures ok { OnOk result (regions_after file.queue (regions_in self.old) (steps_of_items items) ≡ Some (regions_in self.new)) }
-        ensures cleaned { OnOk result (self.new.accessor.cleaned ≡ self.old.accessor.cleaned ++ cleaned_in_batch file.queue items) }
+        ensures ok { OnOk result
+            (regions_after file.queue (regions_in self.old) (steps_of_items items) ≡ Some (regions_in self.new)) }
+        ensures cleaned { OnOk result
+            (self.new.accessor.cleaned ≡ self.old.accessor.cleaned ++ cleaned_in_batch file.queue items) }
         ensures refused { HaveRoom file.queue self.old.accessor.tables (records_in (steps_of_items items))
-            → IfErr result (λ e. e ≢ Error.Memory → regions_after file.queue (regions_in self.old) (steps_of_items items) ≡ None) }
-        ensures other { OnOk result (live_in_all (other file.queue) self.new.accessor.tables ≤ live_in_all (other file.queue) self.old.accessor.tables) }
+            → IfErr result (λ e. e ≢ Error.Memory
+            → regions_after file.queue (regions_in self.old) (steps_of_items items) ≡ None) }
+        ensures other { OnOk result
+            (live_in_all (other file.queue) self.new.accessor.tables
+            ≤ live_in_all (other file.queue) self.old.accessor.tables) }
     {
         self.take_each(file.queue, items.into_items())
     }
@@ -70,11 +75,15 @@ impl MarkedTables {
     pub(crate) fn take_group(&mut self, whole: WholeGroup) -> Result<()>
         requires steps { AreStepsOfQueue Rewrite (whole_shown whole).steps }
         requires files { (whole_shown whole).start ≤ (whole_shown whole).end }
-        ensures ok { OnOk result (regions_after Rewrite (regions_in self.old) (region_steps_of_whole (whole_shown whole)) ≡ Some (regions_in self.new)) }
+        ensures ok { OnOk result
+            (regions_after Rewrite (regions_in self.old) (region_steps_of_whole (whole_shown whole))
+            ≡ Some (regions_in self.new)) }
         ensures cleaned { OnOk result (self.new.accessor.cleaned ≡ self.old.accessor.cleaned) }
         ensures refused { HaveRoom Rewrite self.old.accessor.tables (records_in (whole_shown whole).steps)
-            → IfErr result (λ e. e ≢ Error.Memory → regions_after Rewrite (regions_in self.old) (region_steps_of_whole (whole_shown whole)) ≡ None) }
-        ensures other { OnOk result (live_in_all Append self.new.accessor.tables ≤ live_in_all Append self.old.accessor.tables) }
+            → IfErr result (λ e. e ≢ Error.Memory
+            → regions_after Rewrite (regions_in self.old) (region_steps_of_whole (whole_shown whole)) ≡ None) }
+        ensures other { OnOk result
+            (live_in_all Append self.new.accessor.tables ≤ live_in_all Append self.old.accessor.tables) }
     {
         let WholeGroup { items, start, end } = whole;
         let regions = items.regions()?;

@@ -56,11 +56,12 @@ impl ReadState {
         ensures next { OnOk result (MayFollow (context_in self.old) (event batch file)) }
         ensures taken { OnOk result (taken_in (context_in self.old) (event batch file) ≡ Some (context_in self.new)) }
         ensures read { OnOk result (IsRead (context_in self.new)) }
-        ensures refused { IfErr result (λ e. e ≢ Error.Memory → IsBatchRefused (context_in self.old) (event batch file)) }
+        ensures refused { IfErr result
+            (λ e. e ≢ Error.Memory → IsBatchRefused (context_in self.old) (event batch file)) }
     {
         match self.check(&batch, file)? {
-            None => self.take_unmarked(batch, file),
-            Some((id, status)) => self.take_marked(id, status, batch, file),
+            None => self.take_lone_batch(batch, file),
+            Some((id, status)) => self.take_group_batch(id, status, batch, file),
         }
     }
 
@@ -68,7 +69,8 @@ impl ReadState {
     fn check(&self, batch: &LogItemBatch, file: FileId) -> Result<Option<(u64, AtomicGroupStatus)>>
         ensures next { OnOk result (MayFollow (context_in self.now) (event batch.now file)) }
         ensures marker { IfOk result (λ marker. marker ≡ marker_found file.queue batch.now) }
-        ensures refused { IfErr result (λ e. e ≢ Error.Memory → MayFollow (context_in self.now) (event batch.now file) → ⊥) }
+        ensures refused { IfErr result
+            (λ e. e ≢ Error.Memory → MayFollow (context_in self.now) (event batch.now file) → ⊥) }
     {
         if !FileRange::suits(self.files, file.queue) {
             return Err(Error::Corruption(format!(in self.alloc; "a batch of the other queue")?));
@@ -82,13 +84,14 @@ impl ReadState {
     }
 
     /// Takes in a batch without a group marker, which takes effect at once.
-    fn take_unmarked(&mut self, batch: LogItemBatch, file: FileId) -> Result<()>
+    fn take_lone_batch(&mut self, batch: LogItemBatch, file: FileId) -> Result<()>
         requires read { IsRead (context_in self.old) }
         requires next { MayFollow (context_in self.old) (event batch file) }
-        requires unmarked { marker_found file.queue batch ≡ None }
+        requires without_marker { marker_found file.queue batch ≡ None }
         ensures taken { OnOk result (taken_in (context_in self.old) (event batch file) ≡ Some (context_in self.new)) }
         ensures read { OnOk result (IsRead (context_in self.new)) }
-        ensures refused { IfErr result (λ e. e ≢ Error.Memory → IsStepRefused (context_in self.old) (event batch file)) }
+        ensures refused { IfErr result
+            (λ e. e ≢ Error.Memory → IsStepRefused (context_in self.old) (event batch file)) }
     {
         self.regions.take_items(file, batch)?;
         self.files = FileRange::joined(self.files, Some(FileRange::of(file)));
@@ -96,7 +99,7 @@ impl ReadState {
     }
 
     /// Takes in a batch with a group marker: what it makes whole takes effect.
-    fn take_marked(
+    fn take_group_batch(
         &mut self,
         id: u64,
         status: AtomicGroupStatus,
@@ -105,10 +108,11 @@ impl ReadState {
     ) -> Result<()>
         requires read { IsRead (context_in self.old) }
         requires next { MayFollow (context_in self.old) (event batch file) }
-        requires marked { marker_found file.queue batch ≡ Some (id, status) }
+        requires with_marker { marker_found file.queue batch ≡ Some (id, status) }
         ensures taken { OnOk result (taken_in (context_in self.old) (event batch file) ≡ Some (context_in self.new)) }
         ensures read { OnOk result (IsRead (context_in self.new)) }
-        ensures refused { IfErr result (λ e. e ≢ Error.Memory → IsStepRefused (context_in self.old) (event batch file)) }
+        ensures refused { IfErr result
+            (λ e. e ≢ Error.Memory → IsStepRefused (context_in self.old) (event batch file)) }
     {
         let items = WaitingItems::of_items(batch.into_items());
         let whole = self.groups.take_in(id, status, items, file.seq)?;
@@ -122,10 +126,13 @@ impl ReadState {
         requires older { IsRead (context_in self.old) }
         requires newer { IsRead (context_in newer) }
         ensures neighbours { OnOk result (AreNeighbours queue (context_in self.old) (context_in newer)) }
-        ensures regions { OnOk result (AreMerged queue (context_in self.old) (context_in newer) (context_in self.new).regions) }
-        ensures merged { OnOk result (context_in self.new ≡ merged_with (context_in self.old) (context_in newer) (context_in self.new).regions) }
+        ensures regions { OnOk result
+            (AreMerged queue (context_in self.old) (context_in newer) (context_in self.new).regions) }
+        ensures merged { OnOk result
+            (context_in self.new ≡ merged_with (context_in self.old) (context_in newer) (context_in self.new).regions) }
         ensures read { OnOk result (IsRead (context_in self.new)) }
-        ensures refused { IfErr result (λ e. e ≢ Error.Memory → AreNotMerged queue (context_in self.old) (context_in newer)) }
+        ensures refused { IfErr result
+            (λ e. e ≢ Error.Memory → AreNotMerged queue (context_in self.old) (context_in newer)) }
     {
         self.check_neighbour(&newer, queue)?;
         self.join(newer, queue)
@@ -150,7 +157,8 @@ impl ReadState {
     /// Whether what was read of newer batches may be taken in.
     fn check_neighbour(&self, newer: &ReadState, queue: LogQueue) -> Result<()>
         ensures ok { OnOk result (AreNeighbours queue (context_in self.now) (context_in newer.now)) }
-        ensures refused { IfErr result (λ e. e ≢ Error.Memory → AreNeighbours queue (context_in self.now) (context_in newer.now) → ⊥) }
+        ensures refused { IfErr result
+            (λ e. e ≢ Error.Memory → AreNeighbours queue (context_in self.now) (context_in newer.now) → ⊥) }
     {
         if !FileRange::suits(self.files, queue) || !FileRange::suits(newer.files, queue) {
             return Err(Error::InvalidArgument(format!(in self.alloc;
@@ -170,10 +178,13 @@ impl ReadState {
         requires older { IsRead (context_in self.old) }
         requires newer { IsRead (context_in newer) }
         requires neighbours { AreNeighbours queue (context_in self.old) (context_in newer) }
-        ensures regions { OnOk result (AreMerged queue (context_in self.old) (context_in newer) (context_in self.new).regions) }
-        ensures merged { OnOk result (context_in self.new ≡ merged_with (context_in self.old) (context_in newer) (context_in self.new).regions) }
+        ensures regions { OnOk result
+            (AreMerged queue (context_in self.old) (context_in newer) (context_in self.new).regions) }
+        ensures merged { OnOk result
+            (context_in self.new ≡ merged_with (context_in self.old) (context_in newer) (context_in self.new).regions) }
         ensures read { OnOk result (IsRead (context_in self.new)) }
-        ensures refused { IfErr result (λ e. e ≢ Error.Memory → IsNeighbourRefused queue (context_in self.old) (context_in newer)) }
+        ensures refused { IfErr result
+            (λ e. e ≢ Error.Memory → IsNeighbourRefused queue (context_in self.old) (context_in newer)) }
     {
         let ReadState {
             regions,
@@ -192,11 +203,15 @@ impl ReadState {
 /// Takes in a group that is whole, if there is one.
 fn take_whole(regions: &mut MarkedTables, whole: Option<WholeGroup>) -> Result<()>
     requires { MayTakeEffect (option_map whole_shown whole) }
-    ensures taken { OnOk result (regions_after Rewrite (regions_in regions.old) (region_steps_or (option_map whole_shown whole)) ≡ Some (regions_in regions.new)) }
+    ensures taken { OnOk result
+        (regions_after Rewrite (regions_in regions.old) (region_steps_or (option_map whole_shown whole))
+        ≡ Some (regions_in regions.new)) }
     ensures cleaned { OnOk result (regions.new.accessor.cleaned ≡ regions.old.accessor.cleaned) }
     ensures refused { HaveRoom Rewrite regions.old.accessor.tables (records_or (option_map whole_shown whole))
-        → IfErr result (λ e. e ≢ Error.Memory → regions_after Rewrite (regions_in regions.old) (region_steps_or (option_map whole_shown whole)) ≡ None) }
-    ensures other { OnOk result (live_in_all Append regions.new.accessor.tables ≤ live_in_all Append regions.old.accessor.tables) }
+        → IfErr result (λ e. e ≢ Error.Memory
+        → regions_after Rewrite (regions_in regions.old) (region_steps_or (option_map whole_shown whole)) ≡ None) }
+    ensures other { OnOk result
+        (live_in_all Append regions.new.accessor.tables ≤ live_in_all Append regions.old.accessor.tables) }
 {
     match whole {
         Some(whole) => regions.take_group(whole),
@@ -207,11 +222,16 @@ fn take_whole(regions: &mut MarkedTables, whole: Option<WholeGroup>) -> Result<(
 /// Takes in groups that are whole, one after another.
 fn take_wholes(regions: &mut MarkedTables, wholes: Vec<WholeGroup>) -> Result<()>
     requires { AllByRecursion TakesEffect (map whole_shown wholes.items) }
-    ensures taken { OnOk result (regions_after Rewrite (regions_in regions.old) (region_steps_of_wholes (map whole_shown wholes.items)) ≡ Some (regions_in regions.new)) }
+    ensures taken { OnOk result
+        (regions_after Rewrite (regions_in regions.old) (region_steps_of_wholes (map whole_shown wholes.items))
+        ≡ Some (regions_in regions.new)) }
     ensures cleaned { OnOk result (regions.new.accessor.cleaned ≡ regions.old.accessor.cleaned) }
     ensures refused { HaveRoom Rewrite regions.old.accessor.tables (records_in_wholes (map whole_shown wholes.items))
-        → IfErr result (λ e. e ≢ Error.Memory → regions_after Rewrite (regions_in regions.old) (region_steps_of_wholes (map whole_shown wholes.items)) ≡ None) }
-    ensures other { OnOk result (live_in_all Append regions.new.accessor.tables ≤ live_in_all Append regions.old.accessor.tables) }
+        → IfErr result (λ e. e ≢ Error.Memory
+        → regions_after Rewrite (regions_in regions.old) (region_steps_of_wholes (map whole_shown wholes.items))
+        ≡ None) }
+    ensures other { OnOk result
+        (live_in_all Append regions.new.accessor.tables ≤ live_in_all Append regions.old.accessor.tables) }
     ensures none { OnErr result (map whole_shown wholes.items ≢ []) }
 {
     for whole in wholes {

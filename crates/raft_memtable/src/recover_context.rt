@@ -12,13 +12,13 @@ ghost use Rattle.raft_memtable.specs.Accessor.{AreCountsOf};
 ghost use Rattle.raft_memtable.specs.KeptShown.{kept_shown, IsKeptFault};
 ghost use Rattle.raft_memtable.specs.RecoverContext.{blank_context, IsReading, IsReadingExactly, IsTakenIn, IsReplayRefused, IsMergedWith, IsMergeRefused, refused_stage};
 ghost use Rattle.raft_memtable.specs.ReplayMachine.{event};
-ghost use Rattle.raft_memtable.specs.declared.stage.Stage.TheVariants.{Reading, Overlaid, Failed};
+ghost use Rattle.raft_memtable.specs.declared.context_stage.ContextStage.TheVariants.{Reading, Overlaid, Failed};
 
 use crate::accessor::MemTableAccessor;
+use crate::context_stage::ContextStage;
 use crate::kept::Kept;
 use crate::read_state::ReadState;
 use crate::replay_machine::ReplayMachine;
-use crate::stage::Stage;
 use raft_records::{Factory, LogItemBatch};
 use raft_table::{Error, FileId, LogQueue, Result};
 use std::alloc::Global;
@@ -29,7 +29,7 @@ use std::marker::Model;
 #[derive(Drop)]
 pub struct MemTableRecoverContext {
     state: ReadState,
-    stage: Stage,
+    stage: ContextStage,
 }
 
 impl Model for MemTableRecoverContext {
@@ -56,7 +56,7 @@ impl MemTableRecoverContext {
     {
         Ok(MemTableRecoverContext {
             state: ReadState::new(alloc),
-            stage: Stage::Reading,
+            stage: ContextStage::Reading,
         })
     }
 
@@ -78,13 +78,13 @@ impl MemTableRecoverContext {
         ensures unchanged { self.old.stage ≢ Reading → self.new ≡ self.old }
         ensures failed { self.old.stage ≢ Reading → IfErr result (λ e. e ≡ Error.Failed) }
     {
-        if self.stage != Stage::Reading {
+        if self.stage != ContextStage::Reading {
             return Err(Error::Failed);
         }
         match self.state.replay(batch, file_id) {
             Ok(()) => Ok(()),
             Err(e) => {
-                self.stage = Stage::Failed;
+                self.stage = ContextStage::Failed;
                 Err(e)
             }
         }
@@ -106,18 +106,18 @@ impl MemTableRecoverContext {
         ensures unchanged { self.old.stage ≢ Reading → self.new ≡ self.old }
         ensures failed { self.old.stage ≢ Reading → IfErr result (λ e. e ≡ Error.Failed) }
     {
-        if self.stage != Stage::Reading {
+        if self.stage != ContextStage::Reading {
             return Err(Error::Failed);
         }
         let MemTableRecoverContext { state, stage } = rhs;
-        if stage != Stage::Reading {
-            self.stage = Stage::Failed;
+        if stage != ContextStage::Reading {
+            self.stage = ContextStage::Failed;
             return Err(Error::Failed);
         }
         match self.state.merge(state, queue) {
             Ok(()) => Ok(()),
             Err(e) => {
-                self.stage = Stage::Failed;
+                self.stage = ContextStage::Failed;
                 Err(e)
             }
         }
@@ -131,14 +131,15 @@ impl MemTableRecoverContext {
     /// `Failed` after a refusal, `Memory`.
     pub fn kept(&self) -> Result<Kept>
         ensures ok { IfOk result (λ kept. kept_shown kept ≡ kept_of self.now.context) }
-        ensures little { (queue : LogQueue) (h : List Event) (tables : Tables) (cleaned : List ℕ) → IsReadingExactly self.now h
+        ensures little { (queue : LogQueue) (h : List Event) (tables : Tables) (cleaned : List ℕ)
+            → IsReadingExactly self.now h
             → Suits queue self.now.context.files → IsOneReading queue h tables cleaned
             → IfOk result (λ kept. IsAtMost (kept_shown kept) (kept_by queue h tables)) }
         ensures accepted { OnOk result (self.now.stage ≢ Failed) }
         ensures failed { self.now.stage ≡ Failed → IfErr result (λ e. e ≡ Error.Failed) }
         ensures fault { IfErr result (IsKeptFault self.now.stage) }
     {
-        if self.stage == Stage::Failed {
+        if self.stage == ContextStage::Failed {
             return Err(Error::Failed);
         }
         self.state.kept()
@@ -159,7 +160,7 @@ impl MemTableRecoverContext {
         ensures failed { IfErr result (λ e. (e ≡ Error.Failed) × (self.stage ≡ Failed)) }
     {
         let MemTableRecoverContext { state, stage } = self;
-        if stage == Stage::Failed {
+        if stage == ContextStage::Failed {
             return Err(Error::Failed);
         }
         let accessor = state.regions.accessor;

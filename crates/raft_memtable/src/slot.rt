@@ -248,7 +248,7 @@ impl Slot {
     }
 
     /// Writes an item that was rewritten to the file `new_file` of the rewrite queue to its region's
-    /// table: with a watermark the places that move are those in append files at or below it, without
+    /// table: with a gate the places that move are those in append files at or below it, without
     /// one those that are rewritten already.
     ///
     /// # Errors
@@ -257,15 +257,15 @@ impl Slot {
     pub fn apply_rewrite_write(
         &mut self,
         item: LogItem,
-        watermark: Option<FileSeq>,
+        gate: Option<FileSeq>,
         new_file: FileSeq,
     ) -> Result<()>
         requires { slot_of item.raft_group_id ≡ self.old.number }
-        ensures written { IsWritten (Rewriting watermark new_file) (item_of item) result self.old.part self.new.part }
+        ensures written { IsWritten (Rewriting gate new_file) (item_of item) result self.old.part self.new.part }
         ensures number { self.new.number ≡ self.old.number }
     {
         self.tables
-            .rewrite_item(item, watermark, new_file, &mut self.stats)
+            .rewrite_item(item, gate, new_file, &mut self.stats)
     }
 
     /// Moves the cleaned regions into an open batch as a `Clean` for each, in order. The list is then

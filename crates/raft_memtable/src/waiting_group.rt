@@ -2,7 +2,7 @@
 
 ghost use Rattle.std.specs.Prelude.{◌≡◌, ◌<◌, ◌^◌, length, IfOk};
 ghost use Rattle.std.specs.Option.{option_map};
-ghost use Rattle.raft_history.specs.WaitingGroup.{Ended, joined_group, whole_group, whole_of, one_marker, led_by, carried, unmarked};
+ghost use Rattle.raft_history.specs.WaitingGroup.{Ended, joined_group, whole_group, whole_of, one_marker, led_by, carried, without_marker};
 ghost use Rattle.raft_history.specs.WaitingGroups.{held_steps, front_steps};
 ghost use Rattle.raft_memtable.specs.WaitingShown.{front_shown, stretch_shown, group_shown, whole_shown};
 
@@ -76,8 +76,8 @@ impl GroupFront {
 
 impl WaitingGroup {
     /// What is known of a group without a marker.
-    pub fn unmarked(alloc: Global) -> WaitingGroup
-        ensures { group_shown result ≡ unmarked }
+    pub fn without_marker(alloc: Global) -> WaitingGroup
+        ensures { group_shown result ≡ without_marker }
     {
         WaitingGroup {
             front: GroupFront::Open(WaitingItems::new(alloc)),
@@ -86,7 +86,7 @@ impl WaitingGroup {
     }
 
     /// What is known of a group from one batch with its marker.
-    pub fn marked(status: AtomicGroupStatus, items: WaitingItems, file: FileSeq) -> WaitingGroup
+    pub fn one_marker(status: AtomicGroupStatus, items: WaitingItems, file: FileSeq) -> WaitingGroup
         ensures { group_shown result ≡ one_marker status items file }
     {
         match status {

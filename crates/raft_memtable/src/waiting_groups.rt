@@ -6,7 +6,7 @@ ghost use Rattle.std.specs.FinMap as finite;
 ghost use Rattle.std.specs.Ordering.{nat_cmp};
 ghost use Rattle.std.specs.BTreeMap.{IsOrdered, is_at};
 ghost use Rattle.std.specs.Map.{remove_entry};
-ghost use Rattle.raft_history.specs.Batches.{ReadBatch, marked_batch};
+ghost use Rattle.raft_history.specs.Batches.{ReadBatch, batch_with_marker};
 ghost use Rattle.raft_history.specs.Effects.{BatchesApart, steps_of, steps_of_wholes};
 ghost use Rattle.raft_history.specs.WaitingGroup.{joined_group, whole_group, one_marker};
 ghost use Rattle.raft_history.specs.WaitingGroups.{groups_in, waiting_steps, steps_or, known, joined_groups, whole_groups};
@@ -34,11 +34,11 @@ impl Model for WaitingGroups {
 
     ghost coded = { groups_code };
 
-    ghost use Rattle.raft_memtable.specs.WaitingGroupsView.{groups_seen, IsSound};
+    ghost use Rattle.raft_memtable.specs.WaitingGroupsView.{groups_seen, AreGroupsOrdered};
 
     ghost view = { groups_seen };
 
-    ghost invariant = { IsSound };
+    ghost invariant = { AreGroupsOrdered };
 }
 
 impl WaitingGroups {
@@ -88,12 +88,12 @@ impl WaitingGroups {
         ensures whole { IfOk result (λ w. option_map whole_shown w
             ≡ whole_group (known self.old id) (one_marker status items file)) }
         ensures stands { (h : List ReadBatch) → self.old ≡ groups_in h
-            → OnOk result (self.new ≡ groups_in (h ++ marked_batch items id status file ∷ [])) }
+            → OnOk result (self.new ≡ groups_in (h ++ batch_with_marker items id status file ∷ [])) }
         ensures steps { (h : List ReadBatch) (r : ℕ) → self.old ≡ groups_in h
-            → IfOk result (λ w. steps_of r (h ++ marked_batch items id status file ∷ [])
+            → IfOk result (λ w. steps_of r (h ++ batch_with_marker items id status file ∷ [])
             ≡ steps_of r h ++ steps_or r (option_map whole_shown w)) }
     {
-        let whole = self.join_one(id, WaitingGroup::marked(status, items, file))?;
+        let whole = self.join_one(id, WaitingGroup::one_marker(status, items, file))?;
         Ok(whole)
     }
 
@@ -165,7 +165,7 @@ fn take_out(groups: &mut BTreeMap<u64, WaitingGroup>, alloc: Global, id: u64) ->
 {
     match groups.remove(&id) {
         Some(group) => group,
-        None => WaitingGroup::unmarked(alloc),
+        None => WaitingGroup::without_marker(alloc),
     }
 }
 

@@ -11,7 +11,7 @@ use Rattle.raft_base.specs.declared.pipe_log.FileId.{FileId}
 use Rattle.std.proofs.lemmas.List.{append_cancel_left, length-append, length-map, drop_more, flat_map_more}
 use Rattle.std.proofs.lemmas.List.Edits.{map_over_more}
 use Rattle.raft_base.specs.declared.errors.Error.{Error}
-use Rattle.raft_base.specs.Reading.{Reads, HasNoFront, HasOneFront, IsPair, IsSequence, state_after}
+use Rattle.raft_base.specs.Reading.{Reads, HasNoFront, HasOneFront, IsFollowedBy, IsSequence, state_after}
 use Rattle.raft_base.specs.Varint.{IsVarint, varint}
 use Rattle.raft_base.proofs.VarintLemmas.{varint_one_front, varint_some}
 use Rattle.raft_base.proofs.ReadingLemmas.{reads_pair, no_first, no_second, pair_one_front}
@@ -152,7 +152,7 @@ items_one_front n a b more rest xs ys p q e = sequence_one_front behind_item IsI
 pub counted_read : (n : ℕ) (content mid rest : List ℕ) (xs : List Item) → Reads IsVarint content mid n → Reads (AreItems n) mid rest xs → Reads IsCountAndItems content rest xs
 counted_read n content mid rest xs r t =
     let both = reads_pair IsVarint AreItems n xs r t in
-    record { front = both.front; spells = subst (λ (k : ℕ). IsPair IsVarint AreItems both.front k xs) (sym t.spells.count) both.spells; split = both.split }
+    record { front = both.front; spells = subst (λ (k : ℕ). IsFollowedBy IsVarint AreItems both.front k xs) (sym t.spells.count) both.spells; split = both.split }
 
 pub batch_read : (signature : Option ℕ) (bytes content rest : List ℕ) (xs : List Item) → HasSeal signature bytes content → Reads IsCountAndItems content rest xs → IsItemBatch bytes signature xs rest
 batch_read signature bytes content rest xs s r =

@@ -1,6 +1,6 @@
 -- On the bytes of items and their contents.
 use Rattle.std.proofs.Common.{◌≡◌, ℕ, List, ◌∷◌, ◌++◌, refl, sym, ap, ◌∙◌, subst, arith}
-use Rattle.raft_base.specs.Reading.{Reads, HasNoFront, HasOneFront, IsTagged, IsPair}
+use Rattle.raft_base.specs.Reading.{Reads, HasNoFront, HasOneFront, IsTagged, IsFollowedBy}
 use Rattle.raft_base.specs.Varint.{IsVarint}
 use Rattle.raft_base.proofs.VarintLemmas.{varint_one_front}
 use Rattle.raft_base.proofs.ReadingLemmas.{reads_as, reads_tagged, reads_pair, no_first, no_second, pair_one_front, tagged_at, no_tagged, tagged_same, tagged_one_front}
@@ -67,7 +67,7 @@ content_one_front s a b more rest (pair x) (command y) p q e = absurd (omega (ar
 pub item_read : (s region : ℕ) (bytes mid rest : List ℕ) (c : Content) → Reads IsVarint bytes mid region → Reads (IsContent s) mid rest c → Reads (IsItem s) bytes rest (record { raft_group_id = region; content = c })
 item_read s region bytes mid rest c r t =
     let item : Item = record { raft_group_id = region; content = c } in
-    reads_as (λ a (v : Content). IsPair IsVarint (λ _. IsContent s) a region v) (IsItem s) c item (λ a p. p) (reads_pair IsVarint (λ _. IsContent s) region c r t)
+    reads_as (λ a (v : Content). IsFollowedBy IsVarint (λ _. IsContent s) a region v) (IsItem s) c item (λ a p. p) (reads_pair IsVarint (λ _. IsContent s) region c r t)
 
 pub no_region : (s : ℕ) (bytes : List ℕ) → HasNoFront IsVarint bytes → HasNoFront (IsItem s) bytes
 no_region s bytes none front rest x p e = no_first IsVarint (λ _. IsContent s) none front rest x.raft_group_id x.content p e

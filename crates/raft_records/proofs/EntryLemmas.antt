@@ -1,7 +1,7 @@
 -- On the bytes of entries.
 use Rattle.std.proofs.Common.{◌≡◌, ℕ, suc, ◌+◌, ◌-◌, ◌^◌, ◌<◌, ◌≤◌, ◌⊎◌, ◌↔◌, List, [], ◌∷◌, ◌++◌, length, get_or, drop, None, refl, sym, ap, ◌∙◌, subst, arith, inl, inr}
 use Rattle.std.proofs.lemmas.List.{drop_more, length-append}
-use Rattle.raft_base.specs.Reading.{Reads, HasNoFront, HasOneFront, IsPair, IsSequence, state_after, IsSequenceFault}
+use Rattle.raft_base.specs.Reading.{Reads, HasNoFront, HasOneFront, IsFollowedBy, IsSequence, state_after, IsSequenceFault}
 use Rattle.raft_base.specs.Varint.{IsVarint}
 use Rattle.raft_base.specs.declared.errors.Error.{Error}
 use Rattle.raft_base.proofs.VarintLemmas.{varint_one_front, varint_some}
@@ -115,7 +115,7 @@ run_read s count first bytes mid rest [] some r t = let len : 0 ≡ count = t.sp
 run_read s count first bytes mid rest (e ∷ es) some r t =
     let index : e.index ≡ first = t.spells.tails.first_spells.index in
     let both = reads_pair IsVarint (λ first. AreTails count (first, s)) first (e ∷ es) r t in
-    record { front = both.front; spells = subst (λ (i : ℕ). IsPair IsVarint (λ first. AreTails count (first, s)) both.front i (e ∷ es)) (sym index) both.spells; split = both.split }
+    record { front = both.front; spells = subst (λ (i : ℕ). IsFollowedBy IsVarint (λ first. AreTails count (first, s)) both.front i (e ∷ es)) (sym index) both.spells; split = both.split }
 
 pub no_first_index : (s count : ℕ) (bytes : List ℕ) → 0 < count → HasNoFront IsVarint bytes → HasNoFront (AreIndexAndTails s count) bytes
 no_first_index s count bytes some none front rest [] p e = let zero_is : count ≡ 0 = p.1 in absurd (omega arith)
@@ -140,7 +140,7 @@ run_length s n bytes (e ∷ es) p = sym p.second_spells.count
 pub entries_read : (s count : ℕ) (bytes mid rest : List ℕ) (es : List EntryIndex) → Reads IsVarint bytes mid count → Reads (AreIndexAndTails s count) mid rest es → Reads (IsEntries s) bytes rest es
 entries_read s count bytes mid rest es r t =
     let both = reads_pair IsVarint (AreIndexAndTails s) count es r t in
-    record { front = both.front; spells = subst (λ (n : ℕ). IsPair IsVarint (AreIndexAndTails s) both.front n es) (run_length s count t.front es t.spells) both.spells; split = both.split }
+    record { front = both.front; spells = subst (λ (n : ℕ). IsFollowedBy IsVarint (AreIndexAndTails s) both.front n es) (run_length s count t.front es t.spells) both.spells; split = both.split }
 
 pub empty_run : (s : ℕ) (rest : List ℕ) → Reads (AreIndexAndTails s 0) rest rest []
 empty_run s rest = record { front = []; spells = (refl, refl); split = refl }

@@ -1,7 +1,7 @@
 -- On the bytes of commands and key values.
 use Rattle.std.proofs.Common.{◌≡◌, ℕ, ◌+◌, ◌<◌, ◌≤◌, List, [], ◌∷◌, ◌++◌, length, take, drop, Option, Some, None, refl, sym, ap, ◌∙◌, subst, append_assoc, arith}
 use Rattle.std.proofs.lemmas.List.{take-append-drop, length-take-le, length-append, take_at}
-use Rattle.raft_base.specs.Reading.{Reads, HasNoFront, HasOneFront, IsTagged, IsPair}
+use Rattle.raft_base.specs.Reading.{Reads, HasNoFront, HasOneFront, IsTagged, IsFollowedBy}
 use Rattle.raft_base.specs.Varint.{IsVarint}
 use Rattle.raft_base.proofs.VarintLemmas.{varint_one_front}
 use Rattle.raft_base.proofs.ReadingLemmas.{reads_as, reads_tagged, reads_pair, no_first, no_second, second_at, pair_one_front, heads, tagged_at, no_tagged, tagged_same, tagged_one_front}
@@ -35,7 +35,7 @@ pub text_read : (bytes mid : List ℕ) (n : ℕ) → n ≤ length mid → Reads 
 text_read bytes mid n le r =
     let len : length (take n mid) ≡ n = length-take-le n mid le in
     let text : Reads (IsText n) mid (drop n mid) (take n mid) = record { front = take n mid; spells = (refl, len); split = sym (take-append-drop n mid) } in
-    reads_as (λ a (t : List ℕ). IsPair IsVarint IsText a n t) IsByteString (take n mid) (take n mid) (λ a p. subst (λ (k : ℕ). IsPair IsVarint IsText a k (take n mid)) (sym len) p) (reads_pair IsVarint IsText n (take n mid) r text)
+    reads_as (λ a (t : List ℕ). IsFollowedBy IsVarint IsText a n t) IsByteString (take n mid) (take n mid) (λ a p. subst (λ (k : ℕ). IsFollowedBy IsVarint IsText a k (take n mid)) (sym len) p) (reads_pair IsVarint IsText n (take n mid) r text)
 
 pub no_length : {bytes : List ℕ} → HasNoFront IsVarint bytes → HasNoFront IsByteString bytes
 no_length none front rest text p e = no_first IsVarint IsText none front rest (length text) text p e
@@ -79,7 +79,7 @@ no_value r none front rest both p e = no_second IsByteString (λ _. IsByteString
 
 pub both_read : (key value : List ℕ) {bytes mid rest : List ℕ} → Reads IsByteString bytes mid key → Reads IsByteString mid rest value → Reads IsKeyAndValue bytes rest (key, value)
 both_read key value r s =
-    reads_as (λ a (v : List ℕ). IsPair IsByteString (λ _. IsByteString) a key v) IsKeyAndValue value (key, value) (λ a p. p) (reads_pair IsByteString (λ _. IsByteString) key value r s)
+    reads_as (λ a (v : List ℕ). IsFollowedBy IsByteString (λ _. IsByteString) a key v) IsKeyAndValue value (key, value) (λ a p. p) (reads_pair IsByteString (λ _. IsByteString) key value r s)
 
 pub put_read : (bytes behind rest : List ℕ) (p : Pair) → bytes ≡ 1 ∷ behind → IsPutRead behind rest p → Reads IsKeyValue bytes rest p
 put_read bytes behind rest p e r =

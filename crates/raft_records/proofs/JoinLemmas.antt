@@ -3,7 +3,7 @@ use Rattle.std.proofs.Common.{◌≡◌, ℕ, ◌+◌, ◌-◌, ◌^◌, ◌<◌
 use Rattle.std.proofs.lemmas.List.{length-append, length-drop, drop_all, drop-append-le}
 use Rattle.raft_records.specs.Item.{Item}
 use Rattle.raft_records.specs.ItemBatch.{entry_bytes_of, raised}
-use Rattle.raft_records.specs.LogBatch.{Stage, Batch, populating, joined}
+use Rattle.raft_records.specs.LogBatch.{Stage, Batch, populating, with_batch}
 use Rattle.raft_records.specs.Buffer.{entry_bytes_in, IsHeld}
 use Rattle.raft_records.proofs.LayLemmas.{merged_end}
 use Rattle.raft_records.proofs.BufferLemmas.{open_entries, held_open}
@@ -33,10 +33,10 @@ joined_held stage stage' own others items buf rest new e e' h h' lt joins bytes 
     )
 
 -- their value
-pub joined_view : (now more : Batch) (stage stage' : Stage) (own others items : List Item) (es es' new : List ℕ) → batch_with own es stage ≡ now → batch_with others es' stage' ≡ more → length es ≡ entry_bytes_of own → items ≡ own ++ map (raised (entry_bytes_of own)) others → new ≡ es ++ es' → batch_with items new stage ≡ joined now more
+pub joined_view : (now more : Batch) (stage stage' : Stage) (own others items : List Item) (es es' new : List ℕ) → batch_with own es stage ≡ now → batch_with others es' stage' ≡ more → length es ≡ entry_bytes_of own → items ≡ own ++ map (raised (entry_bytes_of own)) others → new ≡ es ++ es' → batch_with items new stage ≡ with_batch now more
 joined_view now more stage stage' own others items es es' new view view' whole joins bytes =
     ap (λ (xs : List Item). batch_with xs new stage) joins
     ∙ ap (λ (n : ℕ). batch_with (own ++ map (raised n) others) new stage) (sym whole)
     ∙ ap (λ (t : List ℕ). batch_with (own ++ map (raised (length es)) others) t stage) bytes
-    ∙ ap (λ (b : Batch). joined b (batch_with others es' stage')) view
-    ∙ ap (joined now) view'
+    ∙ ap (λ (b : Batch). with_batch b (batch_with others es' stage')) view
+    ∙ ap (with_batch now) view'

@@ -12,7 +12,7 @@ use Rattle.raft_records.specs.Item.{Item, Content, entries, command, pair}
 use Rattle.raft_records.specs.Entries.{Tile}
 use Rattle.raft_records.specs.Grammar.{tail_of, behind_item}
 use Rattle.raft_records.specs.Spelling.{byte_string, value_bytes, tails_bytes, entries_bytes, content_bytes, item_bytes}
-use Rattle.raft_records.specs.Sizes.{entries_size, value_length, content_size, item_size, items_size, batch_size, saturated, AreSmallIndexes, HasSmallIndexes, AreSmall}
+use Rattle.raft_records.specs.Sizes.{entries_size, value_length, content_size, item_size, items_size, batch_size, saturated, AreSmallIndexes, HasSmallIndexes, HaveSmallNumbers}
 use Rattle.raft_records.specs.ItemBatch.{FitsBehind, FitTogether, checksum_bytes, batch_bytes}
 use Rattle.raft_records.specs.LogBatch.{item_offset, encoded_length}
 use Rattle.raft_records.proofs.BufferLemmas.{checksum_len}
@@ -65,7 +65,7 @@ item_len s x h id small lt =
     omega (arith, whole, eight x.raft_group_id id, content_len s x.content h small (omega (arith, whole, lt)))
 
 -- an item takes a byte at least
-items_len : (s : ℕ) (xs : List Item) → FitTogether s xs → AreSmall xs → length (flat_map item_bytes xs) < 2 ^ 56 → (length xs ≤ length (flat_map item_bytes xs)) × (length (flat_map item_bytes xs) ≤ items_size xs)
+items_len : (s : ℕ) (xs : List Item) → FitTogether s xs → HaveSmallNumbers xs → length (flat_map item_bytes xs) < 2 ^ 56 → (length xs ≤ length (flat_map item_bytes xs)) × (length (flat_map item_bytes xs) ≤ items_size xs)
 items_len s [] h small lt = (omega arith, omega arith)
 items_len s (x ∷ xs) h small lt =
     let whole = length-append (item_bytes x) (flat_map item_bytes xs) in
@@ -74,7 +74,7 @@ items_len s (x ∷ xs) h small lt =
     (omega (arith, whole, rest.0, id, one x.raft_group_id (omega (arith, small.0))), omega (arith, whole, rest.1, item_len s x h.0 small.0 small.1 (omega (arith, whole, lt))))
 
 -- the approximate size of a batch that is no longer than log batches can be covers its bytes
-pub size_covers : (xs : List Item) → FitTogether 0 xs → AreSmall xs → length (batch_bytes xs) < 2 ^ 56 → length (batch_bytes xs) + 4 ≤ saturated (batch_size xs)
+pub size_covers : (xs : List Item) → FitTogether 0 xs → HaveSmallNumbers xs → length (batch_bytes xs) < 2 ^ 56 → length (batch_bytes xs) + 4 ≤ saturated (batch_size xs)
 unfolding batch_bytes
 size_covers xs h small lt =
     let whole = length-append (varint (length xs)) (flat_map item_bytes xs) in

@@ -2,7 +2,7 @@
 use Rattle.std.proofs.Common.{◌≡◌, ℕ, ◌+◌, ◌-◌, ◌^◌, ◌<◌, List, [], ◌∷◌, ◌++◌, map, length, Option, Some, None, refl, sym, ap, subst, arith}
 use Rattle.std.specs.List.{flat_map}
 use Rattle.std.proofs.lemmas.List.{append-nil, length-map}
-use Rattle.raft_base.specs.Reading.{IsPair, IsSequence}
+use Rattle.raft_base.specs.Reading.{IsFollowedBy, IsSequence}
 use Rattle.raft_base.specs.Varint.{IsVarint, varint}
 use Rattle.raft_base.proofs.VarintLemmas.{varint_spells}
 use Rattle.raft_records.specs.declared.command.Command.{Command}
@@ -61,8 +61,8 @@ run_spelled s (e ∷ es) h t =
 
 pub entries_spelled : (s : ℕ) (es : List EntryIndex) → length es < 2 ^ 64 → IsConsecutive es → Tile s es → IsEntries s (entries_bytes es) (map bare_entry es)
 entries_spelled s es lt h t =
-    let counted : IsPair IsVarint (AreIndexAndTails s) (entries_bytes es) (length es) (map bare_entry es) = record { first = varint (length es); second = run_bytes es; first_spells = varint_spells (length es) lt; second_spells = run_spelled s es h t; split = refl } in
-    subst (λ (n : ℕ). IsPair IsVarint (AreIndexAndTails s) (entries_bytes es) n (map bare_entry es)) (sym (length-map es bare_entry)) counted
+    let counted : IsFollowedBy IsVarint (AreIndexAndTails s) (entries_bytes es) (length es) (map bare_entry es) = record { first = varint (length es); second = run_bytes es; first_spells = varint_spells (length es) lt; second_spells = run_spelled s es h t; split = refl } in
+    subst (λ (n : ℕ). IsFollowedBy IsVarint (AreIndexAndTails s) (entries_bytes es) n (map bare_entry es)) (sym (length-map es bare_entry)) counted
 
 content_spelled : (s : ℕ) (c : Content) → FitsBehind s c → IsContentInRange c → IsContent s (content_bytes c) (bare_content c)
 content_spelled s (entries es) f r = (entries_bytes es, refl, entries_spelled s es r f.0 f.1)
@@ -96,9 +96,9 @@ items_spelled s (x ∷ xs) f r =
 pub batch_spelled : (signature : Option ℕ) (items : List Item) → FitTogether 0 items → AreInRange items → length items < 2 ^ 64 → IsItemBatch (batch_bytes items ++ checksum_bytes signature (batch_bytes items)) signature (map bare items) []
 unfolding batch_bytes
 batch_spelled signature items f r lt =
-    let counted : IsPair IsVarint AreItems (batch_bytes items) (length items) (map bare items) = record { first = varint (length items); second = flat_map item_bytes items; first_spells = varint_spells (length items) lt; second_spells = record { items_spelled = items_spelled 0 items f r; count = length-map items bare }; split = refl } in
+    let counted : IsFollowedBy IsVarint AreItems (batch_bytes items) (length items) (map bare items) = record { first = varint (length items); second = flat_map item_bytes items; first_spells = varint_spells (length items) lt; second_spells = record { items_spelled = items_spelled 0 items f r; count = length-map items bare }; split = refl } in
     record {
       front = batch_bytes items;
-      counted = subst (λ (n : ℕ). IsPair IsVarint AreItems (batch_bytes items) n (map bare items)) (sym (length-map items bare)) counted;
+      counted = subst (λ (n : ℕ). IsFollowedBy IsVarint AreItems (batch_bytes items) n (map bare items)) (sym (length-map items bare)) counted;
       split = ap (λ (t : List ℕ). t ++ checksum_bytes signature t) (sym (append-nil (batch_bytes items)));
     }

@@ -1,6 +1,6 @@
 -- The bytes of log items, by cases.
 use Rattle.std.specs.Prelude.{◌≡◌, ℕ, ◌+◌, ◌-◌, ◌^◌, ◌<◌, List, [], ◌∷◌, length, Option, Some, None}
-use Rattle.raft_base.specs.Reading.{Reads, IsTagged, IsPair, IsSequence}
+use Rattle.raft_base.specs.Reading.{Reads, IsTagged, IsFollowedBy, IsSequence}
 use Rattle.raft_base.specs.Varint.{IsVarint}
 use Rattle.raft_base.specs.declared.pipe_log.FileId.{FileId}
 use Rattle.raft_records.specs.declared.command.Command.{Command}
@@ -26,11 +26,11 @@ IsText n bytes text = (bytes ≡ text) × (length text ≡ n)
 
 -- a length, and that many bytes
 abbrev pub IsByteString : List ℕ → List ℕ → Type 0
-IsByteString bytes text = IsPair IsVarint IsText bytes (length text) text
+IsByteString bytes text = IsFollowedBy IsVarint IsText bytes (length text) text
 
 -- a key and its value
 abbrev pub IsKeyAndValue : List ℕ → List ℕ × List ℕ → Type 0
-IsKeyAndValue bytes both = IsPair IsByteString (λ _. IsByteString) bytes both.0 both.1
+IsKeyAndValue bytes both = IsFollowedBy IsByteString (λ _. IsByteString) bytes both.0 both.1
 
 -- a Put has an op type byte, key and value, a Del an op type byte and a key; the file is not in the bytes
 abbrev pub IsPairOf : OpType → Option (List ℕ) → Option FileId → List ℕ → List ℕ → Type 0
@@ -76,11 +76,11 @@ pub record AreTails (n : ℕ) (next : ℕ × ℕ) (bytes : List ℕ) (es : List 
 -- n entries behind s entry bytes: the first index and the tail offsets; nothing where there are none
 abbrev pub AreIndexAndTails : ℕ → ℕ → List ℕ → List EntryIndex → Type 0
 AreIndexAndTails s n bytes [] = (bytes ≡ []) × (n ≡ 0)
-AreIndexAndTails s n bytes (e ∷ es) = IsPair IsVarint (λ first. AreTails n (first, s)) bytes e.index (e ∷ es)
+AreIndexAndTails s n bytes (e ∷ es) = IsFollowedBy IsVarint (λ first. AreTails n (first, s)) bytes e.index (e ∷ es)
 
 -- the count of entries and the entries, read after s entry bytes
 abbrev pub IsEntries : ℕ → List ℕ → List EntryIndex → Type 0
-IsEntries s bytes es = IsPair IsVarint (AreIndexAndTails s) bytes (length es) es
+IsEntries s bytes es = IsFollowedBy IsVarint (AreIndexAndTails s) bytes (length es) es
 
 -- a type byte and what it says
 abbrev pub IsContent : ℕ → List ℕ → Content → Type 0
@@ -90,7 +90,7 @@ IsContent s bytes (pair p) = IsTagged 3 IsKeyValue bytes p
 
 -- the region and the content of an item, read after s entry bytes
 abbrev pub IsItem : ℕ → List ℕ → Item → Type 0
-IsItem s bytes item = IsPair IsVarint (λ _. IsContent s) bytes item.raft_group_id item.content
+IsItem s bytes item = IsFollowedBy IsVarint (λ _. IsContent s) bytes item.raft_group_id item.content
 
 -- the entry bytes up to the end of these entries, which come behind s of them
 abbrev pub end_behind : ℕ → List EntryIndex → ℕ

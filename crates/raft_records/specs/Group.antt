@@ -108,12 +108,12 @@ IsRunning (Some Begin) = Unit {0}
 IsRunning (Some Middle) = Unit {0}
 IsRunning _ = ⊥
 
--- no value is put under the key of the group markers
+-- why a value isn't put under a key: it is that of the group markers, or there is no memory
 abbrev pub IsKeyRefusal : List ℕ → Error → Type 0
 IsKeyRefusal key (errors.InvalidArgument text) = key ≡ reserved_key
 IsKeyRefusal key e = IsMemory e
 
--- nor a message; under another key it may refuse to write itself with one of these codes
+-- why a message isn't put under a key: the same, or under another key it refuses to write itself with one of these codes
 abbrev pub IsMessageRefusal : (ℕ → Type 0) → List ℕ → Error → Type 0
 IsMessageRefusal refuses key (errors.Message (messages.Refused code)) = (key ≢ reserved_key) × refuses code
 IsMessageRefusal refuses key e = IsKeyRefusal key e

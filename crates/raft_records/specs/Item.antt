@@ -79,13 +79,13 @@ command_item region c = record { raft_group_id = region; content = command c }
 abbrev pub pair_item : ℕ → OpType → List ℕ → Option (List ℕ) → Item
 pair_item region op_type key value = record { raft_group_id = region; content = pair (record { op_type = op_type; key = key; value = value; file_id = None }) }
 
--- bytes hold all of a content but its places and files: no Del has a value
+-- the value of a change of a key is the one that its bytes hold, so a Del has none
 abbrev pub IsInBytes : Content → Type 0
 IsInBytes (entries es) = Unit {0}
 IsInBytes (command c) = Unit {0}
 IsInBytes (pair p) = written_value p.op_type p.value ≡ p.value
 
--- the same of each item
+-- the value of each item's change of a key is the one that its bytes hold
 abbrev pub AreInBytes : List Item → Type 0
 AreInBytes [] = Unit {0}
 AreInBytes (item ∷ items) = IsInBytes item.content × AreInBytes items

@@ -5,7 +5,7 @@ use Rattle.std.specs.List.{flat_map}
 use Rattle.byteorder.specs.Endian.{little_bytes}
 use Rattle.raft_base.specs.declared.errors.Error.{Error}
 use Rattle.raft_base.specs.declared.pipe_log.FileBlockHandle.{FileBlockHandle}
-use Rattle.raft_base.specs.Reading.{IsPair, IsSequence, IsFaultBehind, IsSequenceFault}
+use Rattle.raft_base.specs.Reading.{IsFollowedBy, IsSequence, IsFaultBehind, IsSequenceFault}
 use Rattle.raft_base.specs.Checksum.{crc32_of}
 use Rattle.raft_base.specs.Varint.{IsVarint, varint}
 use Rattle.raft_records.specs.declared.compression_type.CompressionType.{CompressionType}
@@ -27,7 +27,7 @@ pub record AreItems (n : ℕ) (bytes : List ℕ) (items : List Item) : Type 0 wh
 
 -- the count of items and the items
 abbrev pub IsCountAndItems : List ℕ → List Item → Type 0
-IsCountAndItems bytes items = IsPair IsVarint AreItems bytes (length items) items
+IsCountAndItems bytes items = IsFollowedBy IsVarint AreItems bytes (length items) items
 
 -- a CRC as it is written: xored with the file's signature where there is one
 abbrev pub signed : Option ℕ → ℕ → ℕ

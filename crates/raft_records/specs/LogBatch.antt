@@ -31,25 +31,25 @@ abbrev pub IsSealedStage : Stage → Type 0
 IsSealedStage (sealed signature) = Unit {0}
 IsSealedStage _ = ⊥
 
--- the steps of a batch in order, whatever signature it has
-abbrev pub step_of : Stage → ℕ
-step_of populating = 0
-step_of encoded = 1
-step_of (sealed signature) = 2
+-- the stages numbered in order, whatever signature a batch has
+abbrev pub stage_number : Stage → ℕ
+stage_number populating = 0
+stage_number encoded = 1
+stage_number (sealed signature) = 2
 
 -- batches of the same items and entry bytes that have come as far; for which file they are signed is not looked at
 pub record AreEqual (a b : Batch) : Type 0 where
   pub items : a.items ≡ b.items
   pub entry_bytes : a.entry_bytes ≡ b.entry_bytes
-  pub step : step_of a.stage ≡ step_of b.stage
+  pub stage : stage_number a.stage ≡ stage_number b.stage
 
 -- a batch without items
 abbrev pub empty_batch : Batch
 empty_batch = record { items = []; entry_bytes = []; stage = populating }
 
 -- all of another batch behind this one: its entries' bytes stand behind the first one's
-abbrev pub joined : Batch → Batch → Batch
-joined b more =
+abbrev pub with_batch : Batch → Batch → Batch
+with_batch b more =
     record b { items = b.items ++ map (raised (length b.entry_bytes)) more.items; entry_bytes = b.entry_bytes ++ more.entry_bytes }
 
 -- a batch and these entries of a region, whose bytes are these strings and stand behind the batch's own; no entries add nothing

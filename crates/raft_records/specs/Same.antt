@@ -10,7 +10,7 @@ use Rattle.raft_records.specs.contracts.key_value.OpTypePartialEq.TheImpl.{eq-va
 use Rattle.raft_records.specs.declared.command.Command.{Command}
 use Rattle.raft_records.specs.declared.entry_index.EntryIndex.{EntryIndex}
 use Rattle.raft_records.specs.Item.{Item, Content, entries, command, pair, Pair}
-use Rattle.raft_records.specs.LogBatch.{Batch, step_of}
+use Rattle.raft_records.specs.LogBatch.{Batch, stage_number}
 
 -- the entries of a content, where it has entries
 abbrev pub entries_part : Content → Option (List EntryIndex)
@@ -32,7 +32,7 @@ abbrev pub same_pair : Pair → Pair → Bool
 same_pair =
     eq_of_both (on (λ p. p.op_type) op_types.it) (eq_of_both (on (λ p. p.key) (pointwise nat_eq)) (eq_of_both (on (λ p. p.value) (option_eq (pointwise nat_eq))) (on (λ p. p.file_id) (option_eq file_ids.it))))
 
--- they have the same of each kind
+-- the entries, the command and the change of a key are the same, of which each content has one
 abbrev pub same_content : Content → Content → Bool
 same_content =
     eq_of_both (on entries_part (option_eq (pointwise entry_indexes.it))) (eq_of_both (on command_part (option_eq commands.it)) (on pair_part (option_eq same_pair)))
@@ -41,11 +41,11 @@ same_content =
 abbrev pub same_item : Item → Item → Bool
 same_item = eq_of_both (on (λ x. x.raft_group_id) nat_eq) (on (λ x. x.content) same_content)
 
--- as many items, each the same as that in its place
+-- as many items, the same ones in the same order
 abbrev pub same_items : List Item → List Item → Bool
 same_items = pointwise same_item
 
--- items, entry bytes and step are the same
+-- items, entry bytes and stage are the same, whatever the signature
 abbrev pub same_batch : Batch → Batch → Bool
 same_batch =
-    eq_of_both (on (λ b. b.items) same_items) (eq_of_both (on (λ b. b.entry_bytes) (pointwise nat_eq)) (on (λ b. step_of b.stage) nat_eq))
+    eq_of_both (on (λ b. b.items) same_items) (eq_of_both (on (λ b. b.entry_bytes) (pointwise nat_eq)) (on (λ b. stage_number b.stage) nat_eq))

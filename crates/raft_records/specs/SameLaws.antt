@@ -6,7 +6,7 @@ use Rattle.raft_records.specs.contracts.command.CommandEq.TheImpl.Laws.{laws-law
 use Rattle.raft_records.specs.contracts.entry_index.EntryIndexEq.TheImpl.Laws.{laws-law as entry_index_laws}
 use Rattle.raft_records.specs.contracts.key_value.OpTypeEq.TheImpl.Laws.{laws-law as op_type_laws}
 use Rattle.raft_records.specs.Item.{Item, Pair}
-use Rattle.raft_records.specs.LogBatch.{Batch, step_of}
+use Rattle.raft_records.specs.LogBatch.{Batch, stage_number}
 use Rattle.raft_records.specs.Same.{entries_part, command_part, pair_part, same_pair, same_content, same_item, same_items, same_batch}
 
 -- `same_pair` is reflexive, symmetric and transitive
@@ -28,7 +28,7 @@ same_item_is_equivalence =
 pub same_items_is_equivalence : IsEquivalence same_items
 same_items_is_equivalence = lists_equiv same_item_is_equivalence
 
--- so is `same_batch`, by items, entry bytes and step
+-- so is `same_batch`, by items, entry bytes and stage
 pub same_batch_is_equivalence : IsEquivalence same_batch
 same_batch_is_equivalence =
-    and_equiv (on_equiv (λ (b : Batch). b.items) same_items_is_equivalence) (and_equiv (on_equiv (λ (b : Batch). b.entry_bytes) nat_list_eq_equiv) (on_equiv (λ (b : Batch). step_of b.stage) nat_eq_equiv))
+    and_equiv (on_equiv (λ (b : Batch). b.items) same_items_is_equivalence) (and_equiv (on_equiv (λ (b : Batch). b.entry_bytes) nat_list_eq_equiv) (on_equiv (λ (b : Batch). stage_number b.stage) nat_eq_equiv))

@@ -66,6 +66,6 @@ HasSmallIndexes (command c) = HasSmallIndex c
 HasSmallIndexes (pair p) = Unit {0}
 
 -- the region ids and the indexes are below 2^56
-abbrev pub AreSmall : List Item → Type 0
-AreSmall [] = Unit {0}
-AreSmall (item ∷ items) = (item.raft_group_id < 2 ^ 56) × HasSmallIndexes item.content × AreSmall items
+abbrev pub HaveSmallNumbers : List Item → Type 0
+HaveSmallNumbers [] = Unit {0}
+HaveSmallNumbers (item ∷ items) = (item.raft_group_id < 2 ^ 56) × HasSmallIndexes item.content × HaveSmallNumbers items

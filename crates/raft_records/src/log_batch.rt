@@ -6,7 +6,7 @@ ghost use Rattle.raft_base.specs.Signature.{signature_of};
 ghost use Rattle.std.specs.Vec.Iter.{into_iter_items};
 ghost use Rattle.raft_records.specs.Item.{Item, bare, command_item, item_of, pair_item, AreInBytes};
 ghost use Rattle.raft_records.specs.LogBatch.{Stage, populating, encoded, sealed, IsSealedStage, empty_batch, IsBatchOf, encoded_length, log_batch_bytes, IsLogBatch, approximate_length, entry_place};
-ghost use Rattle.raft_records.specs.Sizes.{AreSmall};
+ghost use Rattle.raft_records.specs.Sizes.{HaveSmallNumbers};
 ghost use Rattle.raft_records.specs.Range.{AreInRange};
 ghost use Rattle.raft_records.specs.Header.{IsHeader, IsHeaderFault, IsBlockOf, IsBlockFault};
 ghost use Rattle.raft_records.specs.declared.key_value.OpType.TheVariants.{Put, Del};
@@ -48,12 +48,12 @@ enum BufState {
 
 impl BufState {
     ghost use Rattle.std.specs.Prelude.{◌≡◌, ◌↔◌, IsTrue};
-    ghost use Rattle.raft_records.specs.LogBatch.{step_of};
+    ghost use Rattle.raft_records.specs.LogBatch.{stage_number};
     ghost use Rattle.raft_records.specs.LogBatchModel.{stage_of};
 
-    /// Whether both are states of the same step.
-    fn is_same_step(self, other: BufState) -> bool
-        ensures { IsTrue result ↔ (step_of (stage_of self) ≡ step_of (stage_of other)) }
+    /// Whether both are states of the same stage.
+    fn is_same_stage(self, other: BufState) -> bool
+        ensures { IsTrue result ↔ (stage_number (stage_of self) ≡ stage_number (stage_of other)) }
     {
         match (self, other) {
             (BufState::Open, BufState::Open)
@@ -141,7 +141,7 @@ impl LogBatch {
     /// are below 2^56, unless the batch is too long to be encoded.
     pub fn approximate_size(&self) -> usize
         ensures size { result ≡ approximate_length self.now.stage self.now.items self.now.entry_bytes }
-        ensures covers { AreSmall self.now.items →
+        ensures covers { HaveSmallNumbers self.now.items →
             encoded_length self.now.items self.now.entry_bytes < 2 ^ 56 →
             encoded_length self.now.items self.now.entry_bytes ≤ result }
     {
@@ -426,7 +426,7 @@ impl PartialEq for LogBatch {
         ensures tested { result ≡ same_batch self.now other.now }
         ensures exact { IsTrue result ↔ AreEqual self.now other.now }
     {
-        self.state.is_same_step(other.state)
+        self.state.is_same_stage(other.state)
             && self.item_batch == other.item_batch
             && self.entry_bytes() == other.entry_bytes()
     }

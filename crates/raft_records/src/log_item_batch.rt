@@ -13,7 +13,7 @@ ghost use Rattle.raft_records.specs.Entries.{IsConsecutive, Tile};
 ghost use Rattle.raft_records.specs.ItemBatch.{AreItems, IsItemBatch, IsDecoded, AreItemsFault, IsItemBatchFault, checksum_bytes, batch_bytes, placed, raised, laid, entry_lengths, entry_bytes_of, end_of_items, FitsBehind, IsEncoded, no_checksum, FitTogether, first_entry};
 ghost use Rattle.raft_records.specs.Faults.{IsMemoryOrMessage};
 ghost use Rattle.raft_records.specs.Spelling.{Keeps, IsWritablePair, command_bytes, entries_bytes, pair_bytes};
-ghost use Rattle.raft_records.specs.Sizes.{items_size, batch_size, saturated, AreSmall};
+ghost use Rattle.raft_records.specs.Sizes.{items_size, batch_size, saturated, HaveSmallNumbers};
 ghost use Rattle.raft_records.specs.Range.{IsContentInRange, AreInRange};
 ghost use Rattle.raft_records.specs.Written.{ItemIsSpelled, BatchIsSpelled};
 ghost use Rattle.raft_records.specs.declared.key_value.OpType.TheVariants.{Put, Del};
@@ -122,7 +122,7 @@ impl LogItemBatch {
     /// where all region ids and indexes are below 2^56, of bytes that a log batch can hold.
     pub fn approximate_size(&self) -> usize
         ensures size { result ≡ saturated (batch_size self.now) }
-        ensures covers { AreSmall self.now → length (batch_bytes self.now) < 2 ^ 56 →
+        ensures covers { HaveSmallNumbers self.now → length (batch_bytes self.now) < 2 ^ 56 →
             length (batch_bytes self.now) + 4 ≤ result }
     {
         self.item_size.saturating_add(8 + LOG_BATCH_CHECKSUM_LEN)

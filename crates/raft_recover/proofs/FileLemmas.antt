@@ -12,7 +12,7 @@ use Rattle.raft_recover.specs.Recovery.{PartsAreOf, SegmentsAreOf}
 use Rattle.raft_recover.specs.RequestView.{file_shown}
 use Rattle.raft_recover.specs.Requests.{File}
 use Rattle.raft_recover.specs.Segments.{IsReadBehind, ReadsPart, ReadsParts, ReadsSegments}
-use Rattle.raft_recover.proofs.CutLemmas.{uncut}
+use Rattle.raft_recover.proofs.CutPartLemmas.{uncut}
 
 -- ---- files as parts
 

@@ -1,5 +1,5 @@
 pub mod CoverLemmas
-pub mod CutLemmas
+pub mod CutPartLemmas
 pub mod DrawingLemmas
 pub mod FileLemmas
 pub mod MachineOrderLemmas

@@ -14,7 +14,7 @@ use Rattle.raft_history.proofs.StretchOfHistory.{small_front, small_back}
 use Rattle.raft_recover.specs.declared.piece.Piece.{Piece}
 use Rattle.raft_recover.specs.Covers.{IsPieceOf, covers, covering, CoverOnce}
 use Rattle.raft_recover.specs.MachineOrder.{AreInOrder}
-use Rattle.raft_recover.specs.Merges.{concatenated}
+use Rattle.raft_recover.specs.PieceMerges.{concatenated}
 use Rattle.raft_recover.specs.Segments.{ReadsParts, ReadsSegments}
 use Rattle.raft_recover.specs.Weights.{weigh}
 use Rattle.raft_recover.proofs.CoverLemmas.{covers_inside, covers_below, covers_behind, covers_none}

@@ -12,7 +12,7 @@ use Rattle.raft_records.specs.FilePart.{Part}
 use Rattle.raft_history.specs.Batches.{Event}
 use Rattle.raft_history.specs.Histories.{IsSmall, Sound, AreOfQueue, IsOfQueue}
 use Rattle.raft_history.proofs.StretchOfHistory.{small_front, small_back, sound_front, sound_back, of_both}
-use Rattle.raft_recover.specs.Merges.{concatenated, StandForEach, IsMerged, CannotMerge, Merges}
+use Rattle.raft_recover.specs.PieceMerges.{concatenated, StandForEach, IsMerged, CannotMerge, Merges}
 use Rattle.raft_recover.specs.Replays.{HasReplayed, CannotFollow}
 use Rattle.raft_recover.specs.Segments.{IsReadBehind, ReadsFrom, ReadsPart, ReadsEach, ReadsParts, ReadsSegments}
 use Rattle.raft_recover.specs.Recovery.{IsReplayed, CannotBeRead, PartsAreOf, SegmentsAreOf}

@@ -7,7 +7,7 @@ use Rattle.raft_history.proofs.StretchOfHistory.{small_front, small_back, sound_
 use Rattle.raft_recover.specs.declared.plan.Plan.{Plan}
 use Rattle.raft_recover.specs.declared.plan.Plan.TheVariants.{One, Join'}
 use Rattle.raft_recover.specs.Plans.{leaves}
-use Rattle.raft_recover.specs.Merges.{concatenated, StandForEach, IsMerged, CannotMerge}
+use Rattle.raft_recover.specs.PieceMerges.{concatenated, StandForEach, IsMerged, CannotMerge}
 
 pub leaves_positive : (p : Plan) → 0 < leaves p
 leaves_positive One = omega arith

@@ -14,8 +14,8 @@ use Rattle.raft_history.specs.Contexts.{Suits, files_of}
 use Rattle.raft_history.specs.Histories.{IsSmall, Sound, IsSoundIn, Apart, IsOneReading, IsOfQueue}
 use Rattle.raft_memtable.specs.Accessor.{Accessor, AreCountsOf}
 use Rattle.raft_memtable.specs.RecoverContext.{RecoverContext, IsReading, IsReadingExactly}
-use Rattle.raft_memtable.specs.declared.stage.Stage.{Stage}
-use Rattle.raft_memtable.specs.declared.stage.Stage.TheVariants as stages
+use Rattle.raft_memtable.specs.declared.context_stage.ContextStage.{ContextStage}
+use Rattle.raft_memtable.specs.declared.context_stage.ContextStage.TheVariants as stages
 use Rattle.raft_recover.specs.Files.{ReadsFiles, FilesCannotBeRead, HaveTables, IsPrintFailure, PrintsRecovered}
 use Rattle.raft_recover.specs.Recovery.{IsRecovered, IsReplayed, CannotBeRead, PartsAreOf, SegmentsAreOf}
 use Rattle.raft_recover.specs.Requests.{File}
@@ -30,7 +30,7 @@ suits : (queue : LogQueue) (h : List Event) → IsOfQueue queue h → Suits queu
 suits queue [] all = tt
 suits queue (e ∷ h) all = all.each.0
 
-abbrev is_failed : Stage → Type 0
+abbrev is_failed : ContextStage → Type 0
 is_failed stages.Failed = Unit {0}
 is_failed _ = ⊥
 

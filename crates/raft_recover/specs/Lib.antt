@@ -4,7 +4,7 @@ pub mod Draws
 pub mod Drawing
 pub mod MachineOrder
 pub mod Files
-pub mod Merges
+pub mod PieceMerges
 pub mod Plans
 pub mod Recovery
 pub mod Replays

@@ -4,7 +4,7 @@ use Rattle.std.specs.Global.{Global}
 use Rattle.raft_records.specs.FilePart.{Part}
 use Rattle.raft_history.specs.Batches.{Event}
 use Rattle.raft_history.specs.Histories.{IsSmall}
-use Rattle.raft_recover.specs.Merges.{concatenated, StandForEach}
+use Rattle.raft_recover.specs.PieceMerges.{concatenated, StandForEach}
 use Rattle.raft_recover.specs.Segments.{ReadsSegments}
 
 -- the machines stand exactly for histories which, one behind the other, are what the segments read as

@@ -10,7 +10,7 @@ use Rattle.raft_records.specs.declared.entry_index.EntryIndex.{EntryIndex}
 use Rattle.raft_history.specs.RegionSteps.{Tables}
 use Rattle.raft_memtable.specs.Accessor.{Accessor}
 use Rattle.raft_table.specs.Counts.{Counts, live}
-use Rattle.raft_table.specs.Entries.{start_of, end_of}
+use Rattle.raft_table.specs.TableEntries.{start_of, end_of}
 use Rattle.raft_table.specs.Least.{least_of}
 use Rattle.raft_table.specs.Table.{Table}
 

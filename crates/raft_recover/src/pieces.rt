@@ -4,7 +4,7 @@ ghost use Rattle.std.specs.Prelude.{◌≡◌, ◌≢◌, ◌+◌, ◌<◌, ◌�
 ghost use Rattle.std.specs.Thread.{IsSync};
 ghost use denote.Param.Send.{IsSend};
 ghost use Rattle.raft_table.specs.Start.{IsInvalidArgument};
-ghost use Rattle.raft_recover.specs.Merges.{IsMerged, CannotMerge, Merges};
+ghost use Rattle.raft_recover.specs.PieceMerges.{IsMerged, CannotMerge, Merges};
 ghost use Rattle.raft_recover.specs.Plans.{leaves};
 
 use crate::Plan;

@@ -53,8 +53,9 @@ pub fn recover<R: Threads + Sync>(
 ) -> Result<MemTableAccessor>
     ensures ok { IfOk result (IsRecovered queue (ReadsSegments segments.entry.now)) }
     ensures accepted { OnOk result ((0 < workers) × (workers ≤ 256) × SegmentsAreOf queue segments.entry.now) }
-    ensures refused { (0 < workers) × (workers ≤ 256) × (length segments.entry.now < 2 ^ 62) ×
-        SegmentsAreOf queue segments.entry.now → IfErr result (λ e. e ≢ Error.Memory → CannotBeRead segments.entry.now) }
+    ensures refused { (0 < workers) × (workers ≤ 256) × (length segments.entry.now < 2 ^ 62)
+        × SegmentsAreOf queue segments.entry.now
+        → IfErr result (λ e. e ≢ Error.Memory → CannotBeRead segments.entry.now) }
     ensures fault { ((0 < workers) × (workers ≤ 256) × (length segments.entry.now < 2 ^ 62) ×
         SegmentsAreOf queue segments.entry.now → ⊥) → IfErr result (λ e. e ≢ Error.Memory → IsInvalidArgument e) }
 {
@@ -78,12 +79,15 @@ pub fn recover_bytes<R: Threads + Sync, W: Write>(
     files: Vec<(FileSeq, Vec<u8>)>,
     writer: &mut W,
 ) -> Result<()>
-    ensures ok { OnOk result (PrintsRecovered queue version (map file_shown files.items) (W.contents writer.old) (W.contents writer.new)) }
+    ensures ok { OnOk result
+        (PrintsRecovered queue version (map file_shown files.items) (W.contents writer.old) (W.contents writer.new)) }
     ensures accepted { OnOk result ((0 < workers) × (workers ≤ 256)) }
     ensures silent { IfErr result (λ e. Keeps (W.contents writer.old) (W.contents writer.new)
         ⊎ IsPrintFailure queue version (map file_shown files.items) e) }
-    ensures refused { (0 < workers) × (workers ≤ 256) × (length files.items < 2 ^ 62) → IfErr result (λ e. e ≢ Error.Memory →
-        FilesCannotBeRead queue version (map file_shown files.items) ⊎ IsPrintFailure queue version (map file_shown files.items) e) }
+    ensures refused { (0 < workers) × (workers ≤ 256) × (length files.items < 2 ^ 62)
+        → IfErr result (λ e. e ≢ Error.Memory
+        → FilesCannotBeRead queue version (map file_shown files.items)
+        ⊎ IsPrintFailure queue version (map file_shown files.items) e) }
     ensures fault { ((0 < workers) × (workers ≤ 256) × (length files.items < 2 ^ 62) → ⊥) →
         IfErr result (λ e. e ≢ Error.Memory → IsInvalidArgument e) }
 {

@@ -44,5 +44,6 @@ fn replay_part<M: ReplayMachine>(machine: &mut M, part: &FilePart) -> Result<()>
 
 /// The parts of segments read as one history at most.
 pub fn segments_read_as_one_history()
-    ensures { (segments : List (Vec Part Global)) (g h : List Event) → ReadsSegments segments g → ReadsSegments segments h → g ≡ h }
+    ensures { (segments : List (Vec Part Global)) (g h : List Event)
+        → ReadsSegments segments g → ReadsSegments segments h → g ≡ h }
 {}

@@ -221,7 +221,7 @@ impl SharedAccessor {
     }
 
     /// Writes items that were rewritten to the file `new_file` of the rewrite queue to the tables, in
-    /// order: with a watermark the places that move are those in append files at or below it, without
+    /// order: with a gate the places that move are those in append files at or below it, without
     /// one those that are rewritten already.
     ///
     /// # Errors
@@ -231,14 +231,14 @@ impl SharedAccessor {
         &self,
         rt: &R,
         items: I,
-        watermark: Option<FileSeq>,
+        gate: Option<FileSeq>,
         new_file: FileSeq,
     ) -> Result<()>
         requires { (it : I.IntoIter) → I.into_iter_gives items it
             → I.IntoIter.can_next it × IsFinite (I.IntoIter.remaining it) }
     {
         for item in items {
-            self.rewrite_item(rt, item, watermark, new_file)?;
+            self.rewrite_item(rt, item, gate, new_file)?;
         }
         Ok(())
     }
@@ -314,7 +314,7 @@ impl SharedAccessor {
     pub fn live_entries<R: Wait>(&self, rt: &R, queue: LogQueue) -> u128 {
         let mut live: u128 = 0;
         for slot in &self.slots {
-            live = live.saturating_add(slot.read(rt).stats().live_entries(queue) as u128);
+            live += slot.read(rt).stats().live_entries(queue) as u128;
         }
         live
     }
@@ -357,7 +357,7 @@ impl SharedAccessor {
         &self,
         rt: &R,
         item: LogItem,
-        watermark: Option<FileSeq>,
+        gate: Option<FileSeq>,
         new_file: FileSeq,
     ) -> Result<()> {
         let number = slot_of(item.raft_group_id);
@@ -365,7 +365,7 @@ impl SharedAccessor {
         if slot.number() != number {
             return Err(Error::Failed);
         }
-        slot.apply_rewrite_write(item, watermark, new_file)
+        slot.apply_rewrite_write(item, gate, new_file)
     }
 }
 

@@ -230,7 +230,7 @@ fn workers_give_one_reading(rt: HostRuntime) {
     }
 }
 
-/// Whether two workers pass a gate that holds one segment up until so many later ones were passed.
+/// Whether two workers pass the workers' gate, which holds one segment up until so many later ones were passed.
 fn passes<R: Threads + Clock + Send + Sync + Copy + Drop>(
     rt: &R,
     alloc: Global,

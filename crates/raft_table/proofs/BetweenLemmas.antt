@@ -6,7 +6,7 @@ use Rattle.raft_base.specs.declared.pipe_log.LogQueue.TheVariants.{Append, Rewri
 use Rattle.raft_records.specs.declared.entry_index.EntryIndex.{EntryIndex}
 use Rattle.raft_table.specs.Blocks.{BlockSpans, spread, expanded, AreDistinctBlocks}
 use Rattle.raft_table.specs.BlockWords.{count, starts_of, AreKept, advanced, cut_last, cut_first, joined_blocks, seam, IsAt}
-use Rattle.raft_table.specs.Entries.{AreTableEntries, start_of, entry_count}
+use Rattle.raft_table.specs.TableEntries.{AreTableEntries, start_of, entry_count}
 use Rattle.raft_table.specs.Fetches.{is_same_block}
 use Rattle.raft_table.proofs.RunLemmas.{RisesFrom-drop, start-of_rising}
 use Rattle.raft_table.proofs.PlaceLemmas.{entries_in_front, entry_count-append, entry_count-cut}
@@ -107,8 +107,8 @@ kept_between {i} {n} {j} {m} {bs} {ys} {ss} {us} {r} {q} h g p k w o x front b t
     ∙ ap (λ z. top ++ mid ++ z) tail ∙ ap (λ z. top ++ expanded z ys ++ drop d es) (sym y) in
     let ca = entry_count-append Rewrite (top ++ expanded j ys) (drop d es) in
     let cb = entry_count-append Rewrite top (expanded j ys) in
-    let cf = entries_in_front p es h.sound.in_front in
-    let cd = entries_in_front d es h.sound.in_front in
+    let cf = entries_in_front p es h.table_entries.in_front in
+    let cd = entries_in_front d es h.table_entries.in_front in
     let ce = entry_count-cut Rewrite d es in
     let r0 = h.rewritten in
     let q0 = g.rewritten in

@@ -4,7 +4,7 @@ use Rattle.std.proofs.lemmas.List.{nil_from_length, append-nil, length-append, l
 use Rattle.raft_base.specs.declared.pipe_log.LogQueue.TheVariants.{Append, Rewrite}
 use Rattle.raft_table.specs.Blocks.{BlockSpans, spread, expanded, Differs, AreDistinctBlocks}
 use Rattle.raft_table.specs.BlockWords.{count, starts_of, AreKept, shortened, advanced, cut_last, cut_first, IsAt, IsIndexOf}
-use Rattle.raft_table.specs.Entries.{AreTableEntries, start_of, end_of, placed_in, entry_count}
+use Rattle.raft_table.specs.TableEntries.{AreTableEntries, start_of, end_of, placed_in, entry_count}
 use Rattle.raft_table.proofs.PlaceLemmas.{entries_in_both}
 use Rattle.raft_table.proofs.RunLemmas.{start-of_rising, end_of-run}
 use Rattle.raft_table.proofs.SoundLemmas.{AreTableEntries-nil, AreTableEntries-drop, AreTableEntries-take, cut_counts}
@@ -23,7 +23,7 @@ pub record KeptFacts (i n : ℕ) (bs : List BlockSpans) (r : ℕ) : Type 0 where
 pub kept_facts : {i n : ℕ} {bs : List BlockSpans} {ss : List ℕ} {r : ℕ} → AreKept i n bs ss r → KeptFacts i n bs r
 kept_facts {i} {n} {bs} {ss} {r} k =
     let l : length (expanded i bs) ≡ n = length-expanded i bs ∙ sym k.len in
-    let b = entries_in_both (expanded i bs) k.sound.in_front in
+    let b = entries_in_both (expanded i bs) k.table_entries.in_front in
     let h = k.rewritten in
     let e : 0 < n → end_of (expanded i bs) ≡ i + n = λ p. end_of-run i (expanded i bs) (rises_expanded i bs) (omega arith) ∙ omega arith in
     record {
@@ -32,7 +32,7 @@ kept_facts {i} {n} {bs} {ss} {r} k =
       empty = λ e. nil_from_length (expanded i bs) (l ∙ e);
       start = λ p. start-of_rising i (expanded i bs) (rises_expanded i bs) (omega arith);
       end = e;
-      bounded = λ p. let q = e p in let s = k.sound.bounded in omega arith;
+      bounded = λ p. let q = e p in let s = k.table_entries.bounded in omega arith;
     }
 
 -- what a search finds
@@ -47,7 +47,7 @@ kept_length {i} {n} {bs} h = ap length h.starts ∙ length-starts i bs
 
 pub kept_nil : (i n : ℕ) (bs : List BlockSpans) (ss : List ℕ) (r : ℕ) → bs ≡ [] → ss ≡ [] → n ≡ 0 → r ≡ 0 → AreKept i n bs ss r
 unfolding placed_in
-kept_nil i n bs ss r e f g h = rw (e, f, g, h) record { sound = AreTableEntries-nil; distinct = tt; starts = refl; len = refl; rewritten = refl }
+kept_nil i n bs ss r e f g h = rw (e, f, g, h) record { table_entries = AreTableEntries-nil; distinct = tt; starts = refl; len = refl; rewritten = refl }
 
 pub split_drop : {X : Type 0} (k : ℕ) (bs : List X) (b : X) (rest : List X) (d : X) → drop k bs ≡ b ∷ rest → (get_or bs k d ≡ b) × (drop (suc k) bs ≡ rest)
 split_drop zero [] b rest d h = absurd (omega (arith, ap length h))
@@ -86,14 +86,14 @@ kept_drop i n p k o bs ss r h a = at (drop k bs) refl
         let cut : drop p es ≡ expanded (i + p) (advanced o b ∷ rest) = rw pos whole in
         let kl = h.len in
         let le : p ≤ length es = rw (length-expanded i bs) (omega arith) in
-        let counts = cut_counts p es h.sound le in
+        let counts = cut_counts p es h.table_entries le in
         let kr = h.rewritten in
         let str : AreDistinctBlocks (b ∷ rest) = subst AreDistinctBlocks q (distinct-drop k bs h.distinct) in
         let ds : drop k ss ≡ (i + count (take k bs)) ∷ starts_of (i + count (take k bs) + length b.spans) rest =
         ap (drop k) h.starts ∙ starts_drop k i bs ∙ ap (starts_of (i + count (take k bs))) q in
         let ps : i + count (take k bs) + length b.spans ≡ i + p + length (drop o b.spans) = omega arith in (
           record {
-            sound = subst AreTableEntries cut (AreTableEntries-drop p es h.sound);
+            table_entries = subst AreTableEntries cut (AreTableEntries-drop p es h.table_entries);
             distinct = (omega arith, Differs-same b (advanced o b) rest refl str.1, str.2);
             starts = rw (ds, ps) refl;
             len = omega arith;
@@ -167,10 +167,10 @@ kept_take i n p k o bs ss r h a =
     let es = expanded i bs in
     let c = f.count in
     let le : suc p ≤ length es = rw (length-expanded i bs) (place_within p k o bs a) in
-    let counts = cut_counts (suc p) es h.sound le in
+    let counts = cut_counts (suc p) es h.table_entries le in
     let kr = h.rewritten in (
       record {
-        sound = rw f.entries (AreTableEntries-take (suc p) es h.sound);
+        table_entries = rw f.entries (AreTableEntries-take (suc p) es h.table_entries);
         distinct = f.distinct;
         starts = ap (take (suc k)) h.starts ∙ sym f.starts;
         len = sym c;

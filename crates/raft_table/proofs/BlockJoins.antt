@@ -8,7 +8,7 @@ use Rattle.raft_base.specs.declared.pipe_log.LogQueue.{LogQueue}
 use Rattle.raft_base.specs.declared.pipe_log.LogQueue.TheVariants.{Append, Rewrite}
 use Rattle.raft_table.specs.Blocks.{BlockSpans, spread, expanded, Differs, AreDistinctBlocks}
 use Rattle.raft_table.specs.BlockWords.{count, starts_of, AreKept, lengthened, shortened, cut_last, joined_blocks, seam}
-use Rattle.raft_table.specs.Entries.{AreTableEntries, entry_count}
+use Rattle.raft_table.specs.TableEntries.{AreTableEntries, entry_count}
 use Rattle.raft_table.specs.Fetches.{is_same_block}
 use Rattle.raft_table.specs.Queues.{is_same}
 use Rattle.raft_table.proofs.BlockLemmas.{length-spread, spread-append, length-expanded, count-append, expanded-append, starts-append, length-starts}
@@ -162,7 +162,7 @@ kept_put i p k n bs front y rest ss tt rs r f e g h l str len sound q =
     let starts : take k ss ++ drop (seam front y) tt ++ rs ≡ starts_of i (joined_blocks front y ++ rest) =
     sym (starts-append i (joined_blocks front y) rest ∙ rw (m, joined_starts i front y, f.starts, c, e, g, h) refl) in (
       record {
-        sound = subst AreTableEntries (sym whole) sound;
+        table_entries = subst AreTableEntries (sym whole) sound;
         distinct = subst AreDistinctBlocks (sym (joined_append front y rest l)) (joined_stretches front (y ++ rest) f.distinct str);
         starts = starts;
         len = len ∙ sym (count-append (joined_blocks front y) rest ∙ omega (arith, joined_count front y));

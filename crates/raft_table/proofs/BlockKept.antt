@@ -8,7 +8,7 @@ use Rattle.raft_records.specs.declared.compression_type.CompressionType.TheVaria
 use Rattle.raft_records.specs.declared.entry_index.EntryIndex.{EntryIndex}
 use Rattle.raft_table.specs.Blocks.{BlockSpans, spread, expanded, AreDistinctBlocks}
 use Rattle.raft_table.specs.BlockWords.{count, starts_of, AreKept, advanced, cut_first, cut_last, joined_blocks, seam, IsAt}
-use Rattle.raft_table.specs.Entries.{RisesFrom, AreTableEntries, start_of, placed_in, is_placed_in, entry_count}
+use Rattle.raft_table.specs.TableEntries.{RisesFrom, AreTableEntries, start_of, placed_in, is_placed_in, entry_count}
 use Rattle.raft_table.specs.Queues.{is_same, count_in}
 use Rattle.raft_table.proofs.RunLemmas.{start-of_rising, end_of-run}
 use Rattle.raft_table.proofs.PlaceLemmas.{entries_in_both, entry_count-append, entries_in_one}
@@ -48,7 +48,7 @@ count_in_le Append Rewrite n = omega arith
 count_in_le Rewrite Append n = omega arith
 count_in_le Rewrite Rewrite n = omega arith
 
--- sound entries that begin at an index end below 2^64
+-- a table's entries that begin at an index end below 2^64
 pub sound_fits : (i : ℕ) (es : List EntryIndex) → AreTableEntries es → RisesFrom i es → 0 < length es → i + length es < 2 ^ 64
 sound_fits i es h r l = let e = end_of-run i es r l in let b = h.bounded in omega arith
 
@@ -89,7 +89,7 @@ kept_push {i} {n} {bs = []} {ss} {r} h j x t l s e f =
     let v = append-nil (spread x t.handle t.spans) in
     rw (z, q, g, e z) (record {
       kept = record {
-        sound = rw v s;
+        table_entries = rw v s;
         distinct = (l, tt, tt);
         starts = refl;
         len = omega arith;
@@ -140,7 +140,7 @@ kept_join {i} {n} {j} {m} {bs} {ys} {ss} {tt} {r} {q} h g w k o rest l d f p s e
     let n1 : drop rest bs ≡ [] = drop_all rest bs (omega arith) in
     let n2 : drop rest ss ≡ [] = drop_all rest ss (let z = kept_length h in omega arith) in
     let whole : take w es ++ expanded (i + w) ys ++ [] ≡ take w es ++ expanded j ys = append-nil (take w es ++ expanded (i + w) ys) ∙ ap (λ z. take w es ++ expanded z ys) (sym y) in
-    let cc = cut_counts w es h.sound (omega arith) in
+    let cc = cut_counts w es h.table_entries (omega arith) in
     let c1 = entry_count-append Rewrite (take w es) (expanded j ys) in
     let c2 = h.rewritten in
     let c3 = g.rewritten in

@@ -5,7 +5,7 @@ use Rattle.std.specs.List.Sorted.{IsNonDecreasingBy}
 use Rattle.raft_base.specs.declared.pipe_log.FileBlockHandle.{FileBlockHandle}
 use Rattle.raft_table.specs.Blocks.{BlockSpans, spread, expanded}
 use Rattle.raft_table.specs.BlockWords.{count, starts_of}
-use Rattle.raft_table.specs.Entries.{RisesFrom}
+use Rattle.raft_table.specs.TableEntries.{RisesFrom}
 use Rattle.raft_table.proofs.RunLemmas.{RisesFrom-append}
 
 pub length-spread : (i : ℕ) (h : FileBlockHandle) (ss : List (ℕ × ℕ)) → length (spread i h ss) ≡ length ss

@@ -7,7 +7,7 @@ use Rattle.raft_records.specs.declared.compression_type.CompressionType.TheVaria
 use Rattle.raft_records.specs.declared.entry_index.EntryIndex.{EntryIndex}
 use Rattle.raft_table.specs.Blocks.{BlockSpans, spread, expanded, Differs, AreDistinctBlocks}
 use Rattle.raft_table.specs.BlockWords.{count, IsAt}
-use Rattle.raft_table.specs.Entries.{start_of}
+use Rattle.raft_table.specs.TableEntries.{start_of}
 use Rattle.raft_table.specs.Fetches.{change_count, block_count, entry_seq, is_same_place, is_same_block}
 use Rattle.raft_table.proofs.RunLemmas.{start-of_rising}
 use Rattle.raft_table.proofs.FetchLemmas.{slice_get_drop}

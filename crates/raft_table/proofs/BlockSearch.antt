@@ -9,7 +9,7 @@ use Rattle.raft_records.specs.declared.compression_type.CompressionType.TheVaria
 use Rattle.raft_records.specs.declared.entry_index.EntryIndex.{EntryIndex}
 use Rattle.raft_table.specs.Blocks.{BlockSpans, spread, expanded}
 use Rattle.raft_table.specs.BlockWords.{count, starts_of, IsIndexOf, IsAt}
-use Rattle.raft_table.specs.Entries.{RisesFrom, entry_at}
+use Rattle.raft_table.specs.TableEntries.{RisesFrom, entry_at}
 use Rattle.raft_table.proofs.RunLemmas.{RisesFrom-take}
 use Rattle.raft_table.proofs.BlockLemmas.{length-spread, spread_take, spread_drop, length-expanded, length-starts, start_at, starts_rise, count_take_more, rises_expanded}
 

@@ -7,7 +7,7 @@ use Rattle.std.proofs.lemmas.Bool.{cases_lt}
 use Rattle.std.proofs.lemmas.Bool.Decides.{nat_tests}
 use Rattle.raft_base.specs.declared.pipe_log.LogQueue.TheVariants.{Append, Rewrite}
 use Rattle.raft_records.specs.declared.entry_index.EntryIndex.{EntryIndex}
-use Rattle.raft_table.specs.Entries.{AreTableEntries, start_of, from, between, placed_in, entry_count}
+use Rattle.raft_table.specs.TableEntries.{AreTableEntries, start_of, from, between, placed_in, entry_count}
 use Rattle.raft_table.specs.Fetches.{total_len, is_too_many, IsLimitCount, FetchesWithin, NotFound, Compacted, Found, range_answer, appended_before, block_count, change_count, entry_seq, first_seq}
 use Rattle.raft_table.specs.Rewriting.{is_placed_before}
 use Rattle.raft_table.proofs.RunLemmas.{RisesFrom-take}
@@ -83,7 +83,7 @@ pub part_at : (a b i : ℕ) (xs : List EntryIndex) (d : EntryIndex) → a ≤ i 
 part_at a b i xs d h l =
     get_or-drop a (take b xs) (i - a) d ∙ ap (λ k. get_or (take b xs) k d) (let e : a + (i - a) ≡ i = omega arith in e) ∙ get_or-take b xs i d l
 
--- sound entries by queue
+-- a table's entries by queue
 pub rewritten_is : (es : List EntryIndex) → AreTableEntries es → placed_in Rewrite es ≡ take (entry_count Rewrite es) es
 rewritten_is es h = sym (ap (take (entry_count Rewrite es)) h.in_front ∙ take_at (placed_in Rewrite es) (placed_in Append es) (entry_count Rewrite es) refl)
 
@@ -115,7 +115,7 @@ pub appended_before_is : (gate n r : ℕ) (es : List EntryIndex) → AreTableEnt
 appended_before_is gate n r es h k e =
     ap (take_while (is_placed_before gate)) (appended_is es h ∙ ap (λ i. drop i es) (sym k)) ∙ ap (λ i. take i (drop r es)) (sym e) ∙ sym (drop-take r n es)
 
--- what a range answers, over entries that are sound
+-- what a range answers, over a table's entries
 pub range_none : (begin end : ℕ) → begin < end → range_answer begin end [] ≡ NotFound
 range_none begin end l = grind (arith, nat_tests)
 

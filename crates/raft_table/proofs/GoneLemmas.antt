@@ -8,7 +8,7 @@ use Rattle.raft_base.specs.declared.pipe_log.LogQueue.{LogQueue}
 use Rattle.raft_base.specs.declared.pipe_log.LogQueue.TheVariants.{Append, Rewrite}
 use Rattle.raft_records.specs.declared.entry_index.EntryIndex.{EntryIndex}
 use Rattle.raft_table.specs.Counts.{Counts, with_added, with_deleted}
-use Rattle.raft_table.specs.Entries.{AreTableEntries, start_of, end_of, below, from, placed_in}
+use Rattle.raft_table.specs.TableEntries.{AreTableEntries, start_of, end_of, below, from, placed_in}
 use Rattle.raft_table.specs.Start.{leaves_hole, counts_without, counts_with_run}
 use Rattle.raft_table.proofs.SoundLemmas.{sound_rising}
 use Rattle.raft_table.proofs.RewriteLemmas.{below_is, from_is}

@@ -8,7 +8,7 @@ use Rattle.std.specs.FinMap.{find, is_sorted}
 use lib.Dec.{T}
 use Rattle.std.proofs.lemmas.Bool.{cases_lt}
 use Rattle.std.proofs.lemmas.List.Elements.{All-cons}
-use Rattle.raft_table.specs.KeyValues.{Keys, StoredPair, least, lesser, overlaid, with_pairs}
+use Rattle.raft_table.specs.KeyValues.{Keys, StoredPair, least, lesser, pairs_over, with_pairs}
 use Rattle.raft_table.proofs.Shown.{find-below, below_all-equal, first_of_both, second_of_both, equal}
 
 get-with_pairs : (es : List StoredPair) (keys : Keys) (q : List ℕ) → T (is_sorted (slice_cmp nat_cmp) es) → finite.get (with_pairs keys es) q ≡ option_or (find (slice_cmp nat_cmp) q es) (finite.get keys q)
@@ -21,8 +21,8 @@ get-with_pairs (e ∷ es) keys q h =
     ] refl rest
 
 -- the newer pairs win
-pub get-overlaid : (newer older : Keys) (q : List ℕ) → finite.get (overlaid newer older) q ≡ option_or (finite.get newer q) (finite.get older q)
-get-overlaid newer older q = get-with_pairs (finite.entries newer) older q (finite.entries_sorted newer) ∙ ap (λ o. option_or o (finite.get older q)) (sym (finite.get-entries newer q))
+pub get-pairs_over : (newer older : Keys) (q : List ℕ) → finite.get (pairs_over newer older) q ≡ option_or (finite.get newer q) (finite.get older q)
+get-pairs_over newer older q = get-with_pairs (finite.entries newer) older q (finite.entries_sorted newer) ∙ ap (λ o. option_or o (finite.get older q)) (sym (finite.get-entries newer q))
 
 pub least-none : (ns : List ℕ) → least ns ≡ None → ns ≡ []
 least-none [] e = refl

@@ -12,7 +12,7 @@ use Rattle.raft_base.specs.declared.pipe_log.LogQueue.{LogQueue}
 use Rattle.raft_table.specs.declared.memtable.key_values.KeyValues.TheInside.{Inside}
 use Rattle.raft_table.specs.declared.memtable.key_values.StoredValue.{StoredValue}
 use Rattle.raft_table.specs.Queues.{is_same, count_in}
-use Rattle.raft_table.specs.KeyValues.{Keys, StoredPair, Stored, pair_count, files_in, is_up_to, fetched, key_value, overlaid, with_pairs}
+use Rattle.raft_table.specs.KeyValues.{Keys, StoredPair, Stored, pair_count, files_in, is_up_to, fetched, key_value, pairs_over, with_pairs}
 use Rattle.raft_table.specs.KeyValueView.{keys_shown, stored_of, IsOrderedAndCounted}
 use Rattle.raft_table.proofs.KeyValueMaps.{entries-map_of}
 use Rattle.raft_table.specs.Scan.{is_between, is_forward, IsDivided, scanned}
@@ -93,8 +93,8 @@ pub entries-empty : finite.entries (finite.empty {K = List ℕ} {X = Stored} {R 
 entries-empty = no_length _ (sym (finite.len-entries _) ∙ finite.len-empty (slice_cmp nat_cmp) Stored)
 
 -- no pairs put over some leave these
-pub overlaid-empty : (newer older : Keys) → newer ≡ finite.empty → overlaid newer older ≡ older
-overlaid-empty newer older e = ap (with_pairs older) (ap finite.entries e ∙ entries-empty)
+pub pairs_over-empty : (newer older : Keys) → newer ≡ finite.empty → pairs_over newer older ≡ older
+pairs_over-empty newer older e = ap (with_pairs older) (ap finite.entries e ∙ entries-empty)
 
 pub len-first : (keys rest : Keys) (e : StoredPair) → finite.entries keys ≡ e ∷ finite.entries rest → finite.len rest < finite.len keys
 len-first keys rest e first = omega (arith, finite.len-entries keys, finite.len-entries rest, ap length first)

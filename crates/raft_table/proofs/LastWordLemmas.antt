@@ -9,7 +9,7 @@ use Rattle.std.proofs.lemmas.Bool.Decides.{nat_tests}
 use Rattle.raft_base.specs.declared.pipe_log.LogQueue.{LogQueue}
 use Rattle.raft_base.specs.declared.pipe_log.LogQueue.TheVariants.{Append, Rewrite}
 use Rattle.raft_records.specs.declared.entry_index.EntryIndex.{EntryIndex}
-use Rattle.raft_table.specs.Entries.{IsRun, start_of, end_of, below, from, entry_at}
+use Rattle.raft_table.specs.TableEntries.{IsRun, start_of, end_of, below, from, entry_at}
 use Rattle.raft_table.specs.KeyValues.{Stored}
 use Rattle.raft_table.specs.LastWord.{last_that, speaks_of_index, said_of_index, last_entry, is_same_key, speaks_of_key, said_of_key, last_pair}
 use Rattle.raft_table.specs.Start.{leaves_hole, replayed}

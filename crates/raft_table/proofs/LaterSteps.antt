@@ -7,7 +7,7 @@ use Rattle.std.proofs.lemmas.Bool.Decides.{nat_tests}
 use Rattle.raft_base.specs.declared.pipe_log.LogQueue.{LogQueue}
 use Rattle.raft_base.specs.declared.pipe_log.LogQueue.TheVariants.{Append, Rewrite}
 use Rattle.raft_records.specs.declared.entry_index.EntryIndex.{EntryIndex}
-use Rattle.raft_table.specs.Entries.{RisesFrom, IsRun, end_of, below, from}
+use Rattle.raft_table.specs.TableEntries.{RisesFrom, IsRun, end_of, below, from}
 use Rattle.raft_table.specs.Marks.{part}
 use Rattle.raft_table.specs.Start.{leaves_hole, replayed}
 use Rattle.raft_table.specs.Steps.{Step, Run, Compact, Put, Del, AtomicGroup, Clean, stepped, is_there_after, table_of, there_if, after_step, after, IsStep, AreSteps}

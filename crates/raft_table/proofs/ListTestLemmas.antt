@@ -4,7 +4,7 @@ use Rattle.std.specs.List.{slice_get}
 use Rattle.std.proofs.lemmas.List.{take_more, take_all, length-take-le}
 use Rattle.raft_base.specs.declared.pipe_log.LogQueue.{LogQueue}
 use Rattle.raft_records.specs.declared.entry_index.EntryIndex.{EntryIndex}
-use Rattle.raft_table.specs.Entries.{RisesFrom, IsRunIn, start_of, end_of, placed_in, is_placed_in}
+use Rattle.raft_table.specs.TableEntries.{RisesFrom, IsRunIn, start_of, end_of, placed_in, is_placed_in}
 use Rattle.raft_table.proofs.RunLemmas.{RisesFrom-append, placed_in-append, end_of-run}
 use Rattle.raft_table.proofs.PlaceLemmas.{AllTest, AllTest-filter}
 use Rattle.raft_table.proofs.LookupLemmas.{index_at}

@@ -8,7 +8,7 @@ use Rattle.std.proofs.lemmas.Bool.Decides.{nat_tests}
 use Rattle.raft_base.specs.declared.pipe_log.LogQueue.{LogQueue}
 use Rattle.raft_base.specs.declared.pipe_log.LogQueue.TheVariants.{Append, Rewrite}
 use Rattle.raft_records.specs.declared.entry_index.EntryIndex.{EntryIndex}
-use Rattle.raft_table.specs.Entries.{end_of, from}
+use Rattle.raft_table.specs.TableEntries.{end_of, from}
 use Rattle.raft_table.specs.Marks.{Mark, part, misses, is_missed, older_entries, is_first_run_refused, entries_over, ReachesCut, OwnReachCut}
 use Rattle.raft_table.specs.MarkJoins.{joined_first, joined_floor, joined_later, joined_live, joined_at}
 use Rattle.raft_table.specs.KeyValues.{lesser}

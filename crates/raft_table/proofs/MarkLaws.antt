@@ -5,7 +5,7 @@ use Rattle.std.specs.Option.{option_and_then}
 use Rattle.std.proofs.lemmas.Bool.{false≢true}
 use Rattle.raft_base.specs.declared.pipe_log.LogQueue.{LogQueue}
 use Rattle.raft_records.specs.declared.entry_index.EntryIndex.{EntryIndex}
-use Rattle.raft_table.specs.Entries.{IsRun}
+use Rattle.raft_table.specs.TableEntries.{IsRun}
 use Rattle.raft_table.specs.Steps.{Step, Run, Compact, Put, Del, AtomicGroup, Clean, table_of, there_if, after_step, after, IsStep, AreSteps, IsTableOf}
 use Rattle.raft_table.specs.Table.{Table, empty_table}
 use Rattle.raft_table.specs.Marks.{Mark, entries_over, table_over, is_there_over, applied, ReachesCut, OwnReachCut, Stands}

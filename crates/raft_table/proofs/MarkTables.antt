@@ -12,16 +12,16 @@ use Rattle.std.proofs.lemmas.List.{append-nil}
 use Rattle.raft_base.specs.declared.pipe_log.LogQueue.{LogQueue}
 use Rattle.raft_base.specs.declared.pipe_log.LogQueue.TheVariants.{Append, Rewrite}
 use Rattle.raft_records.specs.declared.entry_index.EntryIndex.{EntryIndex}
-use Rattle.raft_table.specs.Entries.{end_of, below, from}
+use Rattle.raft_table.specs.TableEntries.{end_of, below, from}
 use Rattle.raft_table.specs.KeySets.{KeySet, without}
-use Rattle.raft_table.specs.KeyValues.{Keys, Stored, overlaid}
+use Rattle.raft_table.specs.KeyValues.{Keys, Stored, pairs_over}
 use Rattle.raft_table.specs.Merge.{newer_atomic_group}
 use Rattle.raft_table.specs.Start.{leaves_hole, replayed}
 use Rattle.raft_table.specs.Steps.{Step, Run, Compact, Put, Del, AtomicGroup, Clean, stepped, is_there_after, table_of, there_if, after_step, IsTableOf}
 use Rattle.raft_table.specs.Table.{Table, empty_table}
 use Rattle.raft_table.specs.Marks.{Mark, part, misses, is_missed, older_entries, is_first_run_refused, entries_over, keys_over, atomic_group_over, table_over, is_there_over, applied, ReachesCut, OwnReachCut}
 use Rattle.raft_table.specs.MarkJoins.{joined_deleted, joined_live, joined_at, joined_mark, end_at_reach, fresh, mark_of, own_of}
-use Rattle.raft_table.proofs.KeyValueLaws.{get-overlaid}
+use Rattle.raft_table.proofs.KeyValueLaws.{get-pairs_over}
 use Rattle.raft_table.proofs.MarkWords.{part-whole, part-from, part-below, part-nil}
 use Rattle.raft_table.proofs.MarkEntries.{same_some, accepted, pick_true, pick_false, join_entries, over_nil}
 
@@ -44,13 +44,13 @@ over_both None o None d false = or_false d
     or_false false = refl
 over_both (Some t) o None d false = refl
 
-join_live_keys : (d e : KeySet) (t u o : Keys) → overlaid u (without e (overlaid t (without d o))) ≡ overlaid (overlaid u (without e t)) (without (finset.union d e) o)
+join_live_keys : (d e : KeySet) (t u o : Keys) → pairs_over u (without e (pairs_over t (without d o))) ≡ pairs_over (pairs_over u (without e t)) (without (finset.union d e) o)
 join_live_keys d e t u o = same_keys _ _ (λ q.
-    rw (get-overlaid, get-without, get-overlaid, get-without, get-overlaid, get-overlaid, get-without, get-without, finset.contains-union nat_list_cmp_total)
+    rw (get-pairs_over, get-without, get-pairs_over, get-without, get-pairs_over, get-pairs_over, get-without, get-without, finset.contains-union nat_list_cmp_total)
     (over_both (finite.get t q) (finite.get o q) (finite.get u q) (finset.contains d q) (finset.contains e q)))
 
-join_keys : (a b : Bool) (d e : KeySet) (t u o : Keys) → cond b u (overlaid u (without e (cond a t (overlaid t (without d o)))))
-    ≡ cond (cond a true b) (cond b u (overlaid u (without e t))) (overlaid (cond b u (overlaid u (without e t))) (without (cond a d (cond b e (finset.union d e))) o))
+join_keys : (a b : Bool) (d e : KeySet) (t u o : Keys) → cond b u (pairs_over u (without e (cond a t (pairs_over t (without d o)))))
+    ≡ cond (cond a true b) (cond b u (pairs_over u (without e t))) (pairs_over (cond b u (pairs_over u (without e t))) (without (cond a d (cond b e (finset.union d e))) o))
 join_keys true b d e t u o = refl
 join_keys false true d e t u o = refl
 join_keys false false d e t u o = join_live_keys d e t u o
@@ -135,8 +135,8 @@ table_of-there id false x h = sym (h refl)
 empty_parts : (id : ℕ) (older : Table) (es : List EntryIndex) (keys : Keys) (atomic_group : Option (ℕ × ℕ)) → older.region_id ≡ id → es ≡ [] → keys ≡ finite.empty → atomic_group ≡ None → rebuilt older keys atomic_group es ≡ empty_table id
 empty_parts id older es keys atomic_group e f g k = rw (e, f, g, k) refl
 
-no_keys : (d : KeySet) → overlaid finite.empty (without d finite.empty) ≡ finite.empty
-no_keys d = same_keys _ _ (λ q. rw (get-overlaid, get-without, finite.get-empty {X = Stored} (slice_cmp nat_cmp) q) (either (finset.contains d q)))
+no_keys : (d : KeySet) → pairs_over finite.empty (without d finite.empty) ≡ finite.empty
+no_keys d = same_keys _ _ (λ q. rw (get-pairs_over, get-without, finite.get-empty {X = Stored} (slice_cmp nat_cmp) q) (either (finset.contains d q)))
   where
     either : (b : Bool) → ◌≡◌ {A = Option Stored} (cond (not b) None None) None
     either true = refl
@@ -232,18 +232,18 @@ kept_over Rewrite floor deleted o = ap (λ x. Some x) (append-nil (part floor No
 untouched : (q : LogQueue) (deleted : KeySet) (o : List EntryIndex) → entries_over q (record fresh { deleted = deleted }) [] o ≡ Some o
 untouched q deleted o = kept_over q 0 deleted o ∙ ap (λ x. Some x) (from_whole o)
 
-keys_kept : (o : Keys) → overlaid finite.empty (without finset.empty o) ≡ o
-keys_kept o = same_keys _ _ (λ q. rw (get-overlaid, get-without, finite.get-empty {X = Stored} (slice_cmp nat_cmp) q, finset.contains-empty (slice_cmp nat_cmp) q) refl)
+keys_kept : (o : Keys) → pairs_over finite.empty (without finset.empty o) ≡ o
+keys_kept o = same_keys _ _ (λ q. rw (get-pairs_over, get-without, finite.get-empty {X = Stored} (slice_cmp nat_cmp) q, finset.contains-empty (slice_cmp nat_cmp) q) refl)
 
-key_put : (o : Keys) (key : List ℕ) (s : Stored) → overlaid (finite.insert finite.empty key s) (without finset.empty o) ≡ finite.insert o key s
-key_put o key s = same_keys _ _ (λ q. rw (get-overlaid, get-without, finite.get-insert nat_list_cmp_total finite.empty key s q, finite.get-insert nat_list_cmp_total o key s q, finite.get-empty {X = Stored} (slice_cmp nat_cmp) q, finset.contains-empty (slice_cmp nat_cmp) q) (go (eq_by_cmp (slice_cmp nat_cmp) q key) (finite.get o q)))
+key_put : (o : Keys) (key : List ℕ) (s : Stored) → pairs_over (finite.insert finite.empty key s) (without finset.empty o) ≡ finite.insert o key s
+key_put o key s = same_keys _ _ (λ q. rw (get-pairs_over, get-without, finite.get-insert nat_list_cmp_total finite.empty key s q, finite.get-insert nat_list_cmp_total o key s q, finite.get-empty {X = Stored} (slice_cmp nat_cmp) q, finset.contains-empty (slice_cmp nat_cmp) q) (go (eq_by_cmp (slice_cmp nat_cmp) q key) (finite.get o q)))
   where
     go : (b : Bool) (x : Option Stored) → option_or (cond b (Some s) None) x ≡ cond b (Some s) x
     go true x = refl
     go false x = refl
 
-key_deleted : (o : Keys) (key : List ℕ) → overlaid finite.empty (without (finset.insert finset.empty key) o) ≡ finite.remove o key
-key_deleted o key = same_keys _ _ (λ q. rw (get-overlaid, get-without, finite.get-remove nat_list_cmp_total o key q, finset.contains-insert nat_list_cmp_total finset.empty key q, finite.get-empty {X = Stored} (slice_cmp nat_cmp) q, finset.contains-empty (slice_cmp nat_cmp) q) (go (eq_by_cmp (slice_cmp nat_cmp) q key) (finite.get o q)))
+key_deleted : (o : Keys) (key : List ℕ) → pairs_over finite.empty (without (finset.insert finset.empty key) o) ≡ finite.remove o key
+key_deleted o key = same_keys _ _ (λ q. rw (get-pairs_over, get-without, finite.get-remove nat_list_cmp_total o key q, finset.contains-insert nat_list_cmp_total finset.empty key q, finite.get-empty {X = Stored} (slice_cmp nat_cmp) q, finset.contains-empty (slice_cmp nat_cmp) q) (go (eq_by_cmp (slice_cmp nat_cmp) q key) (finite.get o q)))
   where
     go : (b : Bool) (x : Option Stored) → cond (not (b || false)) x None ≡ cond b None x
     go true x = refl
@@ -272,9 +272,9 @@ pub one_step : (q : LogQueue) (id : ℕ) (s : Step) (o : Option Table) → IsTab
 one_step q id s o h = rw (one_there id s o, one_table q id s (table_of id o) h.region) refl
 
 -- over no table stands the own one
-pub own_keys : (b : Bool) (d : KeySet) (t : Keys) → cond b t (overlaid t (without d finite.empty)) ≡ t
+pub own_keys : (b : Bool) (d : KeySet) (t : Keys) → cond b t (pairs_over t (without d finite.empty)) ≡ t
 own_keys true d t = refl
-own_keys false d t = same_keys _ _ (λ q. rw (get-overlaid, get-without, finite.get-empty {X = Stored} (slice_cmp nat_cmp) q) (go (finite.get t q) (finset.contains d q)))
+own_keys false d t = same_keys _ _ (λ q. rw (get-pairs_over, get-without, finite.get-empty {X = Stored} (slice_cmp nat_cmp) q) (go (finite.get t q) (finset.contains d q)))
   where
     go : (x : Option Stored) (b : Bool) → option_or x (cond (not b) None None) ≡ x
     go None true = refl

@@ -7,13 +7,13 @@ use Rattle.raft_base.specs.declared.errors.Error.TheVariants as errors
 use Rattle.raft_base.specs.declared.pipe_log.LogQueue.{LogQueue}
 use Rattle.raft_base.specs.declared.pipe_log.LogQueue.TheVariants.{Append, Rewrite}
 use Rattle.raft_records.specs.declared.entry_index.EntryIndex.{EntryIndex}
-use Rattle.raft_table.specs.Entries.{below, end_of, placed_in, entry_count}
+use Rattle.raft_table.specs.TableEntries.{below, end_of, placed_in, entry_count}
 use Rattle.raft_table.specs.Queues.{count_in, is_same}
 use Rattle.raft_table.specs.Counts.{Counts}
 use Rattle.raft_table.specs.Merge.{after_join, IsTableMergeFault}
 use Rattle.raft_table.specs.Start.{replayed, leaves_hole, IsTableRunFault}
 use Rattle.raft_table.specs.Table.{Table, live_of}
-use Rattle.raft_table.specs.KeyValues.{Keys, StoredPair, overlaid, with_pairs, pair_count}
+use Rattle.raft_table.specs.KeyValues.{Keys, StoredPair, pairs_over, with_pairs, pair_count}
 use Rattle.raft_table.proofs.KeyValueCounts.{length-cond, pair_count-with_put}
 use Rattle.raft_table.proofs.RunLemmas.{below-placed_in}
 use Rattle.raft_table.proofs.PlaceLemmas.{entry_count-append}
@@ -89,7 +89,7 @@ pairs_bound q keys (e ∷ es) =
 pub joined_live : (rule q : LogQueue) (older newer w : Table) → after_join rule older newer ≡ Some w → live_of q w ≤ live_of q older + live_of q newer
 joined_live rule q older newer w e = go (replayed rule older.entries newer.entries) refl e
   where
-    go : (o : Option (List EntryIndex)) → replayed rule older.entries newer.entries ≡ o → option_map {U = Table} (λ es. record older { entries = es; keys = overlaid newer.keys older.keys }) o ≡ Some w → live_of q w ≤ live_of q older + live_of q newer
+    go : (o : Option (List EntryIndex)) → replayed rule older.entries newer.entries ≡ o → option_map {U = Table} (λ es. record older { entries = es; keys = pairs_over newer.keys older.keys }) o ≡ Some w → live_of q w ≤ live_of q older + live_of q newer
     go None k e = absurd cc
-    go (Some es) k e = subst (λ w. live_of q w ≤ live_of q older + live_of q newer) (of_some (record older { entries = es; keys = overlaid newer.keys older.keys }) w e)
+    go (Some es) k e = subst (λ w. live_of q w ≤ live_of q older + live_of q newer) (of_some (record older { entries = es; keys = pairs_over newer.keys older.keys }) w e)
         (omega (arith, joined_bound rule q older.entries newer.entries es k, pairs_bound q older.keys (finite.entries newer.keys)))

@@ -1,4 +1,4 @@
--- What a rewriting leaves of sound entries: they are sound, and as many are in each queue as moved.
+-- What a rewriting leaves of a table's entries: they are such again, and as many are in each queue as moved.
 use Rattle.std.proofs.Common.{◌≡◌, ℕ, suc, ◌+◌, ◌≤◌, min, Bool, true, false, List, [], ◌∷◌, ◌++◌, length, take, drop, Option, Some, None, refl, sym, ap, ◌∙◌, subst, arith}
 use Rattle.std.specs.List.{prefix_len}
 use Rattle.std.proofs.lemmas.List.{append_assoc, length-take-le, length-append, length-drop, drop-take, take-take, take_at, drop_at}
@@ -7,7 +7,7 @@ use Rattle.std.proofs.lemmas.Bool.Decides.{nat_tests}
 use Rattle.raft_base.specs.declared.pipe_log.LogQueue.{LogQueue}
 use Rattle.raft_base.specs.declared.pipe_log.LogQueue.TheVariants.{Append, Rewrite}
 use Rattle.raft_records.specs.declared.entry_index.EntryIndex.{EntryIndex}
-use Rattle.raft_table.specs.Entries.{RisesFrom, AreTableEntries, RewrittenInFront, start_of, end_of, placed_in, is_placed_in, entry_count}
+use Rattle.raft_table.specs.TableEntries.{RisesFrom, AreTableEntries, RewrittenInFront, start_of, end_of, placed_in, is_placed_in, entry_count}
 use Rattle.raft_table.specs.Rewriting.{may_move, is_misplaced, newly_rewritten}
 use Rattle.raft_table.proofs.RunLemmas.{RisesFrom-take, RisesFrom-append, RisesFrom-drop, end_of-run, placed_in-append}
 use Rattle.raft_table.proofs.PlaceLemmas.{AllTest, AllTest-filter, AllTest-take, AllTest-drop, filter_all, entry_count-append, entries_in_one, placed_in_other}
@@ -76,7 +76,7 @@ all_rewritten None at k es h l t m e =
 
 pub record Moves (gate : Option ℕ) (at m : ℕ) (es places : List EntryIndex) : Type 0 where
   pub within : m ≤ length places
-  pub sound : AreTableEntries (take at es ++ take m places ++ drop (at + m) es)
+  pub table_entries : AreTableEntries (take at es ++ take m places ++ drop (at + m) es)
   pub rewritten : entry_count Rewrite (take at es ++ take m places ++ drop (at + m) es) ≡ entry_count Rewrite es + newly_rewritten gate m
   pub appended : entry_count Append (take at es ++ take m places ++ drop (at + m) es) + newly_rewritten gate m ≡ entry_count Append es
 
@@ -109,7 +109,7 @@ moves gate at m es places h l r q t e =
     let w1 = w.1 in
     record {
       within = mk;
-      sound = record {
+      table_entries = record {
         run = record { start = s; rising = rise };
         in_front = in_front_of ab (drop (at + m) es) both (AreTableEntries-drop (at + m) es h).in_front;
         bounded = omega arith;
@@ -118,7 +118,7 @@ moves gate at m es places h l r q t e =
       appended = omega arith;
     }
 
--- what stands between others is sound
+-- what stands between others is a table's entries
 pub middle_sound : (a b c : List EntryIndex) → AreTableEntries (a ++ b ++ c) → AreTableEntries b
 middle_sound a b c h =
     let n = length (a ++ b) in

@@ -9,9 +9,9 @@ use Rattle.std.proofs.lemmas.Bool.{cases_lt, ltb-false}
 use Rattle.std.proofs.lemmas.Bool.Decides.{nat_tests}
 use Rattle.raft_base.specs.declared.pipe_log.LogQueue.TheVariants.{Append, Rewrite}
 use Rattle.raft_records.specs.declared.entry_index.EntryIndex.{EntryIndex}
-use Rattle.raft_table.specs.Entries.{RisesFrom, IsRun, end_of, from}
+use Rattle.raft_table.specs.TableEntries.{RisesFrom, IsRun, end_of, from}
 use Rattle.raft_table.specs.KeySets.{without}
-use Rattle.raft_table.specs.KeyValues.{overlaid}
+use Rattle.raft_table.specs.KeyValues.{pairs_over}
 use Rattle.raft_table.specs.MarkMerge.{left_by}
 use Rattle.raft_table.specs.Marks.{Mark, part, misses, is_missed, entries_over, keys_over, atomic_group_over, table_over, is_there_over, ReachesCut, Stands}
 use Rattle.raft_table.specs.Merge.{after_join}
@@ -34,7 +34,7 @@ overlay_exact m ss a r h = go m.cleaned refl
     clean b e = sym h.holds.cleaned ∙ e
 
     go : (b : Bool) → m.cleaned ≡ b
-        → ◌≡◌ {A = Table} (record r { entries = cond m.cleaned a.entries (rewritten_part m.floor m.cut r.entries ++ a.entries); keys = cond m.cleaned a.keys (overlaid a.keys (without m.deleted r.keys)); atomic_group = cond m.cleaned a.atomic_group r.atomic_group }) (overlay ss a r)
+        → ◌≡◌ {A = Table} (record r { entries = cond m.cleaned a.entries (rewritten_part m.floor m.cut r.entries ++ a.entries); keys = cond m.cleaned a.keys (pairs_over a.keys (without m.deleted r.keys)); atomic_group = cond m.cleaned a.atomic_group r.atomic_group }) (overlay ss a r)
     go true e = rw (e, clean true e) refl
     go false e =
         let d : m.deleted ≡ deleted_of finset.empty ss = sym (h.holds.deleted e finset.empty ∙ empty_union m.deleted) in
@@ -52,7 +52,7 @@ over_rewritten m a r run =
     entries true = refl
     entries false = refl
 
-    keys : (b : Bool) → cond b a.keys (overlaid a.keys (without m.deleted r.keys)) ≡ overlaid a.keys (cond b finite.empty (without m.deleted r.keys))
+    keys : (b : Bool) → cond b a.keys (pairs_over a.keys (without m.deleted r.keys)) ≡ pairs_over a.keys (cond b finite.empty (without m.deleted r.keys))
     keys true = sym (whole_keys a.keys)
     keys false = refl
 

@@ -5,7 +5,7 @@ use Rattle.raft_base.specs.declared.pipe_log.LogQueue.{LogQueue}
 use Rattle.raft_base.specs.declared.pipe_log.LogQueue.TheVariants.{Append, Rewrite}
 use Rattle.raft_base.specs.declared.pipe_log.FileBlockHandle.{FileBlockHandle}
 use Rattle.raft_records.specs.declared.entry_index.EntryIndex.{EntryIndex}
-use Rattle.raft_table.specs.Entries.{placed_in, is_placed_in, is_block_in, entry_count, RewrittenInFront}
+use Rattle.raft_table.specs.TableEntries.{placed_in, is_placed_in, is_block_in, entry_count, RewrittenInFront}
 use Rattle.raft_table.specs.Queues.{is_same, count_in}
 use Rattle.raft_table.proofs.RunLemmas.{placed_in-append}
 

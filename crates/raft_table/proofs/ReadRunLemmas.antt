@@ -10,7 +10,7 @@ use Rattle.raft_records.specs.Entries.{IsConsecutiveFrom, IsConsecutive}
 use Rattle.raft_records.specs.ReadIn.{IsBlockIn, IsReadIn}
 use Rattle.raft_records.specs.Item.{entries}
 use Rattle.raft_table.specs.Queues.{is_same}
-use Rattle.raft_table.specs.Entries.{RisesFrom, IsRun, IsRunIn, end_of, is_block_in, is_placed_in, placed_in}
+use Rattle.raft_table.specs.TableEntries.{RisesFrom, IsRun, IsRunIn, end_of, is_block_in, is_placed_in, placed_in}
 
 next_is : (i : ℕ) → i + 1 ≡ suc i
 next_is i = omega arith

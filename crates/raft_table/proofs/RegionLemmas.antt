@@ -8,7 +8,7 @@ use Rattle.raft_base.specs.declared.errors.Error.TheVariants as errors
 use Rattle.raft_base.specs.declared.pipe_log.LogQueue.{LogQueue}
 use Rattle.raft_records.specs.declared.entry_index.EntryIndex.{EntryIndex}
 use Rattle.raft_table.specs.Counts.{Counts}
-use Rattle.raft_table.specs.Entries.{IsRun, start_of, end_of, from}
+use Rattle.raft_table.specs.TableEntries.{IsRun, start_of, end_of, from}
 use Rattle.raft_table.specs.MarkMerge.{IsRunOver, IsFaultUnder, IsFirstRunFault}
 use Rattle.raft_table.specs.Marks.{Mark, is_first_run_refused, entries_over, keys_over, atomic_group_over, table_over, is_there_over, applied, Stands}
 use Rattle.raft_table.specs.MarkJoins.{joined_at, end_at_reach, fresh, mark_of}

@@ -1,4 +1,4 @@
--- Where a run meets sound entries, and what rewriting to its places gives.
+-- Where a run meets a table's entries, and what rewriting to its places gives.
 use Rattle.std.proofs.Common.{◌≡◌, ℕ, ◌+◌, ◌-◌, ◌<◌, ◌≤◌, min, true, false, cond, ltb, List, [], ◌∷◌, ◌++◌, length, take, drop, Option, Some, None, refl, sym, ap, ◌∙◌, arith, inl, inr}
 use Rattle.std.specs.List.{prefix_len}
 use Rattle.std.proofs.lemmas.List.{nil_from_length, length-take-le, length-take, length-drop, take-take, take_min}
@@ -10,7 +10,7 @@ use Rattle.raft_base.specs.declared.pipe_log.LogQueue.TheVariants.{Append, Rewri
 use Rattle.raft_records.specs.declared.entry_index.EntryIndex.{EntryIndex}
 use Rattle.raft_table.specs.declared.memtable.entries.Overlap.{Overlap}
 use Rattle.raft_table.specs.Counts.{Counts, with_added, with_deleted}
-use Rattle.raft_table.specs.Entries.{RisesFrom, IsRunIn, AreTableEntries, start_of, end_of, below, from, placed_in, entry_count}
+use Rattle.raft_table.specs.TableEntries.{RisesFrom, IsRunIn, AreTableEntries, start_of, end_of, below, from, placed_in, entry_count}
 use Rattle.raft_table.specs.Overlaps.{IsOverlap, AreDisjoint}
 use Rattle.raft_table.specs.Rewriting.{may_move, overlap, moved_count, is_misplaced, with_places, rewritten_from, rewritten, with_rewritten, recounted}
 use Rattle.raft_table.proofs.RunLemmas.{below_take, below_start, from_drop, from_start, end_of-run, RisesFrom-take, RisesFrom-drop, RisesFrom-start}

@@ -9,7 +9,7 @@ use Rattle.raft_records.specs.declared.compression_type.CompressionType.TheVaria
 use Rattle.raft_records.specs.declared.entry_index.EntryIndex.{EntryIndex}
 use Rattle.raft_table.specs.Blocks.{spread}
 use Rattle.raft_table.specs.BlockWords.{spans_of}
-use Rattle.raft_table.specs.Entries.{RisesFrom, AreTableEntries, start_of, placed_in, is_placed_in, is_block_in}
+use Rattle.raft_table.specs.TableEntries.{RisesFrom, AreTableEntries, start_of, placed_in, is_placed_in, is_block_in}
 use Rattle.raft_table.proofs.RunLemmas.{RisesFrom-take, RisesFrom-drop}
 use Rattle.raft_table.proofs.PlaceLemmas.{AllTest, AllTest-filter, AllTest-weaker}
 use Rattle.raft_table.proofs.ListTestLemmas.{at_test}
@@ -33,7 +33,7 @@ placed_has q e h = at e.entries h
     at None h = cc
     at (Some b) h = refl
 
--- each of sound entries has a place
+-- each of a table's entries has a place
 pub has_place : (es : List EntryIndex) (j : ℕ) (d : EntryIndex) → AreTableEntries es → j < length es → (get_or es j d).entries ≡ None → ⊥
 unfolding placed_in
 has_place es j d h l n =

@@ -1,11 +1,11 @@
--- What cuts and joins leave of a sound list of entries.
+-- What cuts and joins leave of a table's entries.
 use Rattle.std.proofs.Common.{◌≡◌, ℕ, ◌+◌, ◌-◌, ◌<◌, ◌≤◌, min, true, false, List, [], ◌∷◌, ◌++◌, length, get_or, take, drop, refl, sym, ap, ◌∙◌, subst, arith, lit<, None}
 use Rattle.std.specs.List.{slice_get}
 use Rattle.std.proofs.lemmas.Bool.{false≢true}
 use Rattle.std.proofs.lemmas.List.{take_min, drop_min, length-take-le}
 use Rattle.raft_base.specs.declared.pipe_log.LogQueue.TheVariants.{Append, Rewrite}
 use Rattle.raft_records.specs.declared.entry_index.EntryIndex.{EntryIndex}
-use Rattle.raft_table.specs.Entries.{RisesFrom, AreTableEntries, RewrittenInFront, start_of, end_of, below, from, placed_in, entry_count}
+use Rattle.raft_table.specs.TableEntries.{RisesFrom, AreTableEntries, RewrittenInFront, start_of, end_of, below, from, placed_in, entry_count}
 use Rattle.raft_table.proofs.RunLemmas.{below-append, from-append, below-placed_in, from-placed_in, below_take, from_drop, RisesFrom-take, RisesFrom-start, IsRun-drop, end_of-take, end_of-drop}
 use Rattle.raft_table.proofs.PlaceLemmas.{entries_in_front, entries_in_both, entry_count-cut}
 

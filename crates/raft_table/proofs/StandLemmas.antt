@@ -5,7 +5,7 @@ use Rattle.std.proofs.lemmas.Bool.Decides.{nat_tests}
 use Rattle.raft_base.specs.declared.pipe_log.LogQueue.{LogQueue}
 use Rattle.raft_base.specs.declared.pipe_log.LogQueue.TheVariants.{Append, Rewrite}
 use Rattle.raft_records.specs.declared.entry_index.EntryIndex.{EntryIndex}
-use Rattle.raft_table.specs.Entries.{IsRun, IsRunIn, start_of, end_of, below, from, entry_at, StandsBehind}
+use Rattle.raft_table.specs.TableEntries.{IsRun, IsRunIn, start_of, end_of, below, from, entry_at, StandsBehind}
 use Rattle.raft_table.specs.Start.{leaves_hole, appended, replayed}
 use Rattle.raft_table.proofs.RunLemmas.{RisesFrom-start}
 use Rattle.raft_table.proofs.LookupLemmas.{entry_at_low}

@@ -6,7 +6,7 @@ use Rattle.raft_base.specs.declared.pipe_log.LogQueue.{LogQueue}
 use Rattle.raft_base.specs.declared.pipe_log.LogQueue.TheVariants.{Append, Rewrite}
 use Rattle.raft_records.specs.declared.entry_index.EntryIndex.{EntryIndex}
 use Rattle.raft_table.specs.declared.memtable.entries.Start.TheVariants.{Joins, InFront, BehindHole}
-use Rattle.raft_table.specs.Entries.{RisesFrom, IsRunIn, AreTableEntries, RewrittenInFront, start_of, end_of, below, placed_in, entry_count}
+use Rattle.raft_table.specs.TableEntries.{RisesFrom, IsRunIn, AreTableEntries, RewrittenInFront, start_of, end_of, below, placed_in, entry_count}
 use Rattle.raft_table.specs.Start.{leaves_hole, starts_in_front}
 use Rattle.raft_table.specs.StartOf.{IsStart}
 use Rattle.raft_table.specs.Queues.{other}
@@ -14,7 +14,7 @@ use Rattle.raft_table.proofs.RunLemmas.{below_take, below_start, end_of-run, end
 use Rattle.raft_table.proofs.PlaceLemmas.{placed_in_other, entry_count-cut}
 use Rattle.raft_table.proofs.SoundLemmas.{sound_rising, AreTableEntries-take}
 
--- the end of a sound list that has entries
+-- the end of a table's entries, where there are some
 pub sound_end : (es : List EntryIndex) → AreTableEntries es → 0 < length es → end_of es ≡ start_of es + length es
 sound_end es h l = end_of-run (start_of es) es (sound_rising es h) l
 
@@ -54,7 +54,7 @@ in_front_rewritten a run h n k =
     let whole : placed_in Rewrite a ≡ a = sym (h ∙ ap (λ xs. placed_in Rewrite a ++ xs) n ∙ append-nil (placed_in Rewrite a)) in
     sym (rw (placed_in-append Rewrite a run, placed_in-append Append a run, none, n, k, whole) (append-nil (a ++ run)))
 
--- a run in front of nothing is sound by itself
+-- a run in front of nothing is a table's entries by itself
 pub sound_run : (q : LogQueue) (run : List EntryIndex) → IsRunIn q run → AreTableEntries run
 sound_run Append run r = record {
   run = r.run;
@@ -88,7 +88,7 @@ start_place i n es h p s =
     let t = ap length (sym s.0 ∙ below_take i (i - start_of es) (start_of es) es (omega arith) (sound_rising es h)) in
     omega (arith, t, length-take-le n es s.1, length-take-le (i - start_of es) es (omega arith))
 
--- what is joined is sound
+-- what is joined is a table's entries
 pub sound_joined : (q : LogQueue) (n : ℕ) (es run : List EntryIndex) → AreTableEntries es → MayJoin q es → IsRunIn q run → 0 < length run → IsStart es (start_of run) (Joins n) → AreTableEntries (take n es ++ run)
 sound_joined q zero es run h m r l s = sound_run q run r
 sound_joined q (suc n) es run h m r l s =
@@ -109,7 +109,7 @@ sound_joined q (suc n) es run h m r l s =
       bounded = omega arith;
     }
 
--- a sound list with nothing in the other queue is a run of its queue
+-- a table's entries with nothing in the other queue are a run of its queue
 pub run_alone : (q : LogQueue) (es : List EntryIndex) → AreTableEntries es → entry_count (other q) es ≡ 0 → IsRunIn q es
 run_alone Append es h n = record {
   run = h.run;

@@ -14,15 +14,15 @@ use Rattle.raft_base.specs.declared.pipe_log.LogQueue.{LogQueue}
 use Rattle.raft_base.specs.declared.pipe_log.LogQueue.TheVariants.{Append, Rewrite}
 use Rattle.raft_records.specs.declared.entry_index.EntryIndex.{EntryIndex}
 use Rattle.raft_table.specs.Counts.{Counts, live}
-use Rattle.raft_table.specs.Entries.{RisesFrom, IsRun, end_of, below, from}
+use Rattle.raft_table.specs.TableEntries.{RisesFrom, IsRun, end_of, below, from}
 use Rattle.raft_table.specs.KeySets.{KeySet, without}
-use Rattle.raft_table.specs.KeyValues.{Keys, Stored, overlaid}
+use Rattle.raft_table.specs.KeyValues.{Keys, Stored, pairs_over}
 use Rattle.raft_table.specs.MarkMerge.{left_by, IsFaultUnder}
 use Rattle.raft_table.specs.Marks.{Mark, part, is_missed, older_entries, is_first_run_refused, entries_over, keys_over, atomic_group_over, table_over}
 use Rattle.raft_table.specs.Merge.{after_join, newer_atomic_group, with_newer_atomic_group, IsTableMergeFault}
 use Rattle.raft_table.specs.Start.{leaves_hole, replayed}
 use Rattle.raft_table.specs.Table.{Table, empty_table, live_of}
-use Rattle.raft_table.proofs.KeyValueLaws.{get-overlaid}
+use Rattle.raft_table.proofs.KeyValueLaws.{get-pairs_over}
 use Rattle.raft_table.proofs.RunLemmas.{below_take, end_of-run, RisesFrom-append}
 use Rattle.raft_table.proofs.MarkWords.{end_of-nil, nil_of_end}
 use Rattle.raft_table.proofs.MarkEntries.{same_some}
@@ -73,8 +73,8 @@ left_entries q m own older e = rw e (ap (λ x. Some x) (go m.cleaned q e))
     go false Append e = rw e refl
     go false Rewrite e = refl
 
-pub whole_keys : (t : Keys) → overlaid t finite.empty ≡ t
-whole_keys t = same_keys _ _ (λ q. get-overlaid t finite.empty q ∙ ap (option_or (finite.get t q)) (finite.get-empty {X = Stored} (slice_cmp nat_cmp) q) ∙ either (finite.get t q))
+pub whole_keys : (t : Keys) → pairs_over t finite.empty ≡ t
+whole_keys t = same_keys _ _ (λ q. get-pairs_over t finite.empty q ∙ ap (option_or (finite.get t q)) (finite.get-empty {X = Stored} (slice_cmp nat_cmp) q) ∙ either (finite.get t q))
   where
     either : (x : Option Stored) → option_or x None ≡ x
     either None = refl
@@ -83,8 +83,8 @@ whole_keys t = same_keys _ _ (λ q. get-overlaid t finite.empty q ∙ ap (option
 pub over_left : (q : LogQueue) (m : Mark) (own older : Table) → is_first_run_refused q m older.entries ≡ false → ((es : List EntryIndex) → entries_over q m own.entries older.entries ≡ Some es → IsRun es)
     → let left = left_by (is_missed m older.entries) m older in
     let es = left.entries ++ own.entries in
-    (after_join q left own ≡ Some (record left { entries = es; keys = overlaid own.keys left.keys }))
-    × (table_over q m own older ≡ Some (with_newer_atomic_group own (record left { entries = es; keys = overlaid own.keys left.keys })))
+    (after_join q left own ≡ Some (record left { entries = es; keys = pairs_over own.keys left.keys }))
+    × (table_over q m own older ≡ Some (with_newer_atomic_group own (record left { entries = es; keys = pairs_over own.keys left.keys })))
 over_left q m own older e run =
     let left = left_by (is_missed m older.entries) m older in
     let over = left_entries q m own older e in (
@@ -92,7 +92,7 @@ over_left q m own older e run =
       rw (over, keys m.cleaned, atomic_group m.cleaned) refl,
     )
   where
-    keys : (b : Bool) → cond b own.keys (overlaid own.keys (without m.deleted older.keys)) ≡ overlaid own.keys (cond b finite.empty (without m.deleted older.keys))
+    keys : (b : Bool) → cond b own.keys (pairs_over own.keys (without m.deleted older.keys)) ≡ pairs_over own.keys (cond b finite.empty (without m.deleted older.keys))
     keys true = sym (whole_keys own.keys)
     keys false = refl
 

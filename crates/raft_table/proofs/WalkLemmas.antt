@@ -7,7 +7,7 @@ use Rattle.raft_base.specs.declared.pipe_log.FileBlockHandle.{FileBlockHandle}
 use Rattle.raft_records.specs.declared.entry_index.EntryIndex.{EntryIndex}
 use Rattle.raft_table.specs.Blocks.{BlockSpans, spread, expanded, AreDistinctBlocks}
 use Rattle.raft_table.specs.BlockWords.{count, IsAt}
-use Rattle.raft_table.specs.Entries.{is_placed_in}
+use Rattle.raft_table.specs.TableEntries.{is_placed_in}
 use Rattle.raft_table.specs.Rewriting.{may_move, is_placed_before}
 use Rattle.raft_table.proofs.BlockLemmas.{length-expanded, spread-append, count_take_more}
 use Rattle.raft_table.proofs.FetchLemmas.{part_at}

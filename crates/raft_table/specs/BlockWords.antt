@@ -3,7 +3,7 @@ use Rattle.std.specs.Prelude.{◌≡◌, ℕ, ◌+◌, ◌<◌, ◌≤◌, List,
 use Rattle.raft_base.specs.declared.pipe_log.LogQueue.TheVariants.{Rewrite}
 use Rattle.raft_records.specs.declared.entry_index.EntryIndex.{EntryIndex}
 use Rattle.raft_table.specs.Blocks.{BlockSpans, expanded, AreDistinctBlocks}
-use Rattle.raft_table.specs.Entries.{AreTableEntries, entry_count}
+use Rattle.raft_table.specs.TableEntries.{AreTableEntries, entry_count}
 use Rattle.raft_table.specs.Fetches.{is_same_block}
 
 -- how many entries blocks have
@@ -20,9 +20,9 @@ abbrev pub starts_of : ℕ → List BlockSpans → List ℕ
 starts_of i [] = []
 starts_of i (b ∷ bs) = i ∷ starts_of (i + length b.spans) bs
 
--- what a table keeps: sound entries in longest stretches, their first indexes, and how many are rewritten
+-- what a table keeps: its entries in longest blocks, the first index of each block, how many entries there are, and how many of them are rewritten
 pub record AreKept (i n : ℕ) (bs : List BlockSpans) (ss : List ℕ) (r : ℕ) : Type 0 where
-  pub sound : AreTableEntries (expanded i bs)
+  pub table_entries : AreTableEntries (expanded i bs)
   pub distinct : AreDistinctBlocks bs
   pub starts : ss ≡ starts_of i bs
   pub len : n ≡ count bs

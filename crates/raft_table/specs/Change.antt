@@ -8,7 +8,7 @@ use Rattle.raft_records.specs.declared.entry_index.EntryIndex.{EntryIndex}
 use Rattle.raft_table.specs.declared.memtable.change.TableChange.{TableChange}
 use Rattle.raft_table.specs.declared.memtable.change.TableChange.TheVariants as changes
 use Rattle.raft_table.specs.Counts.{Counts, with_added}
-use Rattle.raft_table.specs.Entries.{IsRunIn, below}
+use Rattle.raft_table.specs.TableEntries.{IsRunIn, below}
 use Rattle.raft_table.specs.KeyValues.{file_at}
 use Rattle.raft_table.specs.Rewriting.{rewritten, recounted, IsRewriteFault}
 use Rattle.raft_table.specs.Start.{appended, counts_with_run, counts_without, IsTableRunFault}

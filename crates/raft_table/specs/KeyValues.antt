@@ -94,5 +94,5 @@ with_pairs keys [] = keys
 with_pairs keys (e ∷ es) = with_pairs (finite.insert keys e.0 e.1) es
 
 -- the newer pairs put over the older ones
-abbrev pub overlaid : Keys → Keys → Keys
-overlaid newer older = with_pairs older (finite.entries newer)
+abbrev pub pairs_over : Keys → Keys → Keys
+pairs_over newer older = with_pairs older (finite.entries newer)

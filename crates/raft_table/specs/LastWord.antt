@@ -4,7 +4,7 @@ use Rattle.std.specs.Option.{option_or, option_and_then}
 use Rattle.std.specs.Ordering.{nat_cmp, eq_by_cmp}
 use Rattle.std.specs.Cmp.Lexicographic.{slice_cmp}
 use Rattle.raft_records.specs.declared.entry_index.EntryIndex.{EntryIndex}
-use Rattle.raft_table.specs.Entries.{entry_at}
+use Rattle.raft_table.specs.TableEntries.{entry_at}
 use Rattle.raft_table.specs.KeyValues.{Stored}
 use Rattle.raft_table.specs.Steps.{Step, Run, Compact, Put, Del, AtomicGroup, Clean}
 

@@ -3,7 +3,7 @@ use Rattle.std.specs.Prelude.{ℕ, max, Bool, true, false, not, ◌&&◌, ◌||�
 use Rattle.std.specs.FinSet as finset
 use Rattle.raft_base.specs.declared.pipe_log.LogQueue.{LogQueue}
 use Rattle.raft_base.specs.declared.pipe_log.LogQueue.TheVariants.{Append, Rewrite}
-use Rattle.raft_table.specs.Entries.{end_of, from}
+use Rattle.raft_table.specs.TableEntries.{end_of, from}
 use Rattle.raft_table.specs.KeySets.{KeySet}
 use Rattle.raft_table.specs.KeyValues.{lesser}
 use Rattle.raft_table.specs.Marks.{Mark, misses}

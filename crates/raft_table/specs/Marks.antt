@@ -4,9 +4,9 @@ use Rattle.std.specs.FinSet as finset
 use Rattle.raft_base.specs.declared.pipe_log.LogQueue.{LogQueue}
 use Rattle.raft_base.specs.declared.pipe_log.LogQueue.TheVariants.{Append, Rewrite}
 use Rattle.raft_records.specs.declared.entry_index.EntryIndex.{EntryIndex}
-use Rattle.raft_table.specs.Entries.{end_of, from}
+use Rattle.raft_table.specs.TableEntries.{end_of, from}
 use Rattle.raft_table.specs.KeySets.{KeySet, without}
-use Rattle.raft_table.specs.KeyValues.{Keys, overlaid}
+use Rattle.raft_table.specs.KeyValues.{Keys, pairs_over}
 use Rattle.raft_table.specs.Merge.{newer_atomic_group}
 use Rattle.raft_table.specs.Start.{leaves_hole}
 use Rattle.raft_table.specs.Steps.{Step, table_of, there_if, after, IsTableOf}
@@ -55,7 +55,7 @@ entries_over queue m own older = if is_first_run_refused queue m older then None
 
 -- own pairs over older ones
 abbrev pub keys_over : Mark → Keys → Keys → Keys
-keys_over m own older = if m.cleaned then own else overlaid own (without m.deleted older)
+keys_over m own older = if m.cleaned then own else pairs_over own (without m.deleted older)
 
 -- the own atomic group, or the older one
 abbrev pub atomic_group_over : Mark → Option (ℕ × ℕ) → Option (ℕ × ℕ) → Option (ℕ × ℕ)

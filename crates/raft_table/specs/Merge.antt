@@ -5,13 +5,13 @@ use Rattle.raft_base.specs.declared.errors.Error.TheVariants as errors
 use Rattle.raft_base.specs.declared.pipe_log.LogQueue.{LogQueue}
 use Rattle.raft_base.specs.declared.pipe_log.LogQueue.TheVariants.{Append, Rewrite}
 use Rattle.raft_table.specs.Counts.{Counts, live, with_added, with_deleted}
-use Rattle.raft_table.specs.KeyValues.{Keys, overlaid, pair_count}
+use Rattle.raft_table.specs.KeyValues.{Keys, pairs_over, pair_count}
 use Rattle.raft_table.specs.Start.{replayed, counts_with_run}
 use Rattle.raft_table.specs.Table.{Table, live_of}
 
 -- a table with the run of a newer one, by the start rule of the replays into a queue, and its pairs over the own ones; none where that rule refuses the run
 abbrev pub after_join : LogQueue → Table → Table → Option Table
-after_join rule older newer = option_map (λ es. record older { entries = es; keys = overlaid newer.keys older.keys }) (replayed rule older.entries newer.entries)
+after_join rule older newer = option_map (λ es. record older { entries = es; keys = pairs_over newer.keys older.keys }) (replayed rule older.entries newer.entries)
 
 -- the newer of two atomic groups, if there is one
 abbrev pub newer_atomic_group : Option (ℕ × ℕ) → Option (ℕ × ℕ) → Option (ℕ × ℕ)
@@ -57,7 +57,7 @@ counts_with_keys before after counts =
 abbrev pub counts_after_merge : Option LogQueue → Table → Table → Counts → Counts
 counts_after_merge None older newer counts = counts
 counts_after_merge (Some queue) older newer counts =
-    counts_with_keys older.keys (overlaid newer.keys older.keys) (counts_with_run queue older.entries newer.entries counts)
+    counts_with_keys older.keys (pairs_over newer.keys older.keys) (counts_with_run queue older.entries newer.entries counts)
 
 -- why a merge by this start rule is refused: there is none, it refuses the run, the live number of a queue and the newer records there would pass 2^64 - 1, or want of memory
 abbrev pub IsTableMergeFault : Counts → Table → Table → Option LogQueue → Error → Type 0

@@ -6,9 +6,9 @@ use Rattle.raft_base.specs.declared.errors.Error.TheVariants as errors
 use Rattle.raft_base.specs.declared.pipe_log.LogQueue.{LogQueue}
 use Rattle.raft_records.specs.declared.entry_index.EntryIndex.{EntryIndex}
 use Rattle.raft_table.specs.Counts.{Counts, live}
-use Rattle.raft_table.specs.Entries.{end_of}
+use Rattle.raft_table.specs.TableEntries.{end_of}
 use Rattle.raft_table.specs.KeySets.{KeySet, without}
-use Rattle.raft_table.specs.KeyValues.{overlaid, lesser}
+use Rattle.raft_table.specs.KeyValues.{pairs_over, lesser}
 use Rattle.raft_table.specs.Marks.{Mark, part}
 use Rattle.raft_table.specs.Steps.{Step, Run, Compact, Put, Del, AtomicGroup, Clean, table_of}
 use Rattle.raft_table.specs.Table.{Table, live_of}
@@ -51,7 +51,7 @@ rewritten_part floor cut es = if is_short cut (end_of es) then [] else part floo
 abbrev pub overlay : List Step → Table → Table → Table
 overlay ss appended rewritten = record rewritten {
   entries = if has_clean ss then appended.entries else rewritten_part (greatest_compaction ss) (least_start ss) rewritten.entries ++ appended.entries;
-  keys = if has_clean ss then appended.keys else overlaid appended.keys (without (deleted_of finset.empty ss) rewritten.keys);
+  keys = if has_clean ss then appended.keys else pairs_over appended.keys (without (deleted_of finset.empty ss) rewritten.keys);
   atomic_group = if has_clean ss then appended.atomic_group else rewritten.atomic_group;
 }
 
@@ -59,7 +59,7 @@ overlay ss appended rewritten = record rewritten {
 abbrev pub overlay_under : Mark → Table → Table → Table
 overlay_under m appended rewritten = record rewritten {
   entries = if m.cleaned then appended.entries else rewritten_part m.floor m.cut rewritten.entries ++ appended.entries;
-  keys = if m.cleaned then appended.keys else overlaid appended.keys (without m.deleted rewritten.keys);
+  keys = if m.cleaned then appended.keys else pairs_over appended.keys (without m.deleted rewritten.keys);
   atomic_group = if m.cleaned then appended.atomic_group else rewritten.atomic_group;
 }
 

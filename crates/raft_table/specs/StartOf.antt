@@ -3,7 +3,7 @@ use Rattle.std.specs.Prelude.{◌≡◌, ℕ, ◌≤◌, true, false, List, [], 
 use Rattle.raft_records.specs.declared.entry_index.EntryIndex.{EntryIndex}
 use Rattle.raft_table.specs.declared.memtable.entries.Start.{Start}
 use Rattle.raft_table.specs.declared.memtable.entries.Start.TheVariants as starts
-use Rattle.raft_table.specs.Entries.{end_of, below}
+use Rattle.raft_table.specs.TableEntries.{end_of, below}
 use Rattle.raft_table.specs.Start.{leaves_hole, starts_in_front}
 
 -- a start that joins the entries, and how many stand below it; one in front of all; one behind a hole

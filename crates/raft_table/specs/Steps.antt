@@ -4,7 +4,7 @@ use Rattle.std.specs.Option.{option_and_then}
 use Rattle.raft_base.specs.declared.pipe_log.FileId.{FileId}
 use Rattle.raft_base.specs.declared.pipe_log.LogQueue.{LogQueue}
 use Rattle.raft_records.specs.declared.entry_index.EntryIndex.{EntryIndex}
-use Rattle.raft_table.specs.Entries.{IsRun}
+use Rattle.raft_table.specs.TableEntries.{IsRun}
 use Rattle.raft_table.specs.Table.{Table, empty_table, after_replay, compacted, with_pair, without_key, with_atomic_group}
 
 -- a run of entries (one without entries makes the table present and changes nothing else), a compaction, a key put or deleted, an atomic group from its first file to its last, a region cleaned

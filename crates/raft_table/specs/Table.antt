@@ -8,7 +8,7 @@ use Rattle.raft_base.specs.declared.pipe_log.LogQueue.{LogQueue}
 use Rattle.raft_base.specs.declared.pipe_log.LogQueue.TheVariants.{Append, Rewrite}
 use Rattle.raft_records.specs.declared.entry_index.EntryIndex.{EntryIndex}
 use Rattle.raft_table.specs.Counts.{Counts, live, with_added, with_deleted}
-use Rattle.raft_table.specs.Entries.{entry_count, from}
+use Rattle.raft_table.specs.TableEntries.{entry_count, from}
 use Rattle.raft_table.specs.KeyValues.{Keys, value_at, file_at, with_put, with_moved, pair_count, file_weight}
 use Rattle.raft_table.specs.Queues.{is_same}
 use Rattle.raft_table.specs.Rewriting.{rewritten}

@@ -3,7 +3,7 @@
 ghost use Rattle.std.specs.Prelude.{◌≡◌, ◌≢◌, ◌+◌, ◌≤◌, ◌^◌, false, length, MatchOption, OnOk, OnErr, IfErr, IfOk, Some, [], option_map, MatchBool};
 ghost use Rattle.raft_base.specs.declared.pipe_log.LogQueue.{LogQueue};
 ghost use Rattle.raft_base.specs.declared.pipe_log.LogQueue.TheVariants.{Append, Rewrite};
-ghost use Rattle.raft_table.specs.Entries.{IsRunIn, AreTableEntries, start_of, end_of, entry_at, entry_count, below};
+ghost use Rattle.raft_table.specs.TableEntries.{IsRunIn, AreTableEntries, start_of, end_of, entry_at, entry_count, below};
 ghost use Rattle.raft_table.specs.Blocks.{shown, expanded, AreDistinctBlocks};
 ghost use Rattle.raft_table.specs.Counts.{Counts, live, with_added};
 ghost use Rattle.raft_table.specs.KeyValues.{value_at, file_at, file_weight};

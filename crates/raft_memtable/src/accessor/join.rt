@@ -26,7 +26,8 @@ impl MemTableAccessor {
         requires region { IfSome newer (λ t. t.region_id ≡ id) }
         requires own { live_in (other queue) newer ≡ 0 }
         requires older { queue ≡ Rewrite → live_in_all Append self.old.tables ≡ 0 }
-        ensures joined { IsTableJoined queue mark.now newer self.old.tables id self.old.counts result self.new.tables self.new.counts }
+        ensures joined { IsTableJoined queue mark.now newer self.old.tables id self.old.counts
+            result self.new.tables self.new.counts }
         ensures counted { AreCountsOf self.old.tables self.old.counts }
         ensures cleaned { self.new.cleaned ≡ self.old.cleaned }
     {

@@ -1,7 +1,7 @@
 //! Steps on one region's table, whose runs and files were tested before.
 
 ghost use Rattle.std.specs.Prelude.{◌≡◌, ◌⊎◌, ℕ, List, IfOk, Some};
-ghost use Rattle.raft_table.specs.Entries.{IsRunIn, end_of};
+ghost use Rattle.raft_table.specs.TableEntries.{IsRunIn, end_of};
 ghost use Rattle.raft_table.specs.KeyValues.{file_at};
 ghost use Rattle.raft_table.specs.Table.{after_replay, compacted, with_pair, without_key, IsTablePutFault, IsCounted};
 ghost use Rattle.raft_memtable.specs.Accessor.{table_in, AreCountsOf};
@@ -22,7 +22,9 @@ impl MemTableAccessor {
         run: Vec<EntryIndex>,
     ) -> Result<u64>
         requires { IsRunIn queue run.items }
-        ensures changed { IsTableChanged (after_replay queue (table_in self.old.tables id) run.items) (IsReplayFault queue run.items (table_in self.old.tables id) self.old.counts) id result self.old self.new }
+        ensures changed { IsTableChanged (after_replay queue (table_in self.old.tables id) run.items)
+            (IsReplayFault queue run.items (table_in self.old.tables id) self.old.counts)
+            id result self.old self.new }
         ensures end { IfOk result (λ end. end ≡ end_of (table_in self.old.tables id).entries) }
         ensures counted { AreCountsOf self.old.tables self.old.counts }
     {
@@ -31,14 +33,17 @@ impl MemTableAccessor {
 
     /// Drops the entries below an index.
     pub(crate) fn compact(&mut self, id: u64, index: u64) -> Result<()>
-        ensures { IsTableChanged (Some (compacted index (table_in self.old.tables id))) (λ e. ⊥) id result self.old self.new }
+        ensures { IsTableChanged (Some (compacted index (table_in self.old.tables id)))
+            (λ e. ⊥) id result self.old self.new }
     {
         self.slots[slot_of(id)].compact(id, index, &mut self.stats)
     }
 
     /// Puts a key.
     pub(crate) fn put(&mut self, id: u64, key: Vec<u8>, value: Vec<u8>, file: FileId) -> Result<()>
-        ensures changed { IsTableChanged (Some (with_pair (table_in self.old.tables id) key.items value.items file)) (IsTablePutFault file.queue self.old.counts (file_at (table_in self.old.tables id).keys key.items)) id result self.old self.new }
+        ensures changed { IsTableChanged (Some (with_pair (table_in self.old.tables id) key.items value.items file))
+            (IsTablePutFault file.queue self.old.counts (file_at (table_in self.old.tables id).keys key.items))
+            id result self.old self.new }
         ensures counted { AreCountsOf self.old.tables self.old.counts }
     {
         self.slots[slot_of(id)].put(id, key, value, file, &mut self.stats)
@@ -46,7 +51,8 @@ impl MemTableAccessor {
 
     /// Deletes a key.
     pub(crate) fn delete(&mut self, id: u64, key: &[u8]) -> Result<()>
-        ensures { IsTableChanged (Some (without_key (table_in self.old.tables id) key.now)) (λ e. ⊥) id result self.old self.new }
+        ensures { IsTableChanged (Some (without_key (table_in self.old.tables id) key.now))
+            (λ e. ⊥) id result self.old self.new }
     {
         self.slots[slot_of(id)].delete(id, key, &mut self.stats)
     }
@@ -63,7 +69,9 @@ impl RegionTables {
     ) -> Result<u64>
         requires run { IsRunIn queue run.items }
         requires counted { IsCounted (table_in self.old id) stats.old }
-        ensures taken { IsTaken (after_replay queue (table_in self.old id) run.items) (IsReplayFault queue run.items (table_in self.old id) stats.old) self.old id stats.old result self.new stats.new }
+        ensures taken { IsTaken (after_replay queue (table_in self.old id) run.items)
+            (IsReplayFault queue run.items (table_in self.old id) stats.old)
+            self.old id stats.old result self.new stats.new }
         ensures end { IfOk result (λ end. end ≡ end_of (table_in self.old id).entries) }
     {
         let alloc = self.allocator();

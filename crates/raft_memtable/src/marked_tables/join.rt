@@ -29,7 +29,8 @@ impl MarkedTables {
     pub(crate) fn join(&mut self, queue: LogQueue, newer: MarkedTables) -> Result<()>
         ensures ok { StandForSteps queue (regions_in self.old) → StandForSteps queue (regions_in newer)
             → OnOk result (AreJoined queue (regions_in self.old) (regions_in newer) (regions_in self.new)) }
-        ensures cleaned { OnOk result (self.new.accessor.cleaned ≡ self.old.accessor.cleaned ++ newer.accessor.cleaned) }
+        ensures cleaned { OnOk result
+            (self.new.accessor.cleaned ≡ self.old.accessor.cleaned ++ newer.accessor.cleaned) }
         ensures refused { StandForSteps queue (regions_in self.old) → StandForSteps queue (regions_in newer)
             → HaveRoom queue self.old.accessor.tables (all_records newer.accessor.tables)
             → live_in_all (other queue) newer.accessor.tables ≡ 0
@@ -56,12 +57,15 @@ impl MarkedTables {
         requires older { live_in_all (other queue) self.old.accessor.tables ≡ 0 }
         requires newer { live_in_all (other queue) tables.old.tables ≡ 0 }
         ensures ok { AreRunsOver queue marks tables.old.tables self.old.accessor.tables
-            → OnOk result (AreJoined queue (regions_in self.old) (record { tables = tables.old.tables; marks = marks }) (regions_in self.new)) }
+            → OnOk result (AreJoined queue (regions_in self.old)
+            (record { tables = tables.old.tables; marks = marks }) (regions_in self.new)) }
         ensures refused { AreRunsOver queue marks tables.old.tables self.old.accessor.tables
             → all_records self.old.accessor.tables + all_records tables.old.tables < 2 ^ 64
-            → IfErr result (λ e. e ≢ Error.Memory → IsJoinRefused queue (regions_in self.old) (record { tables = tables.old.tables; marks = marks })) }
+            → IfErr result (λ e. e ≢ Error.Memory
+            → IsJoinRefused queue (regions_in self.old) (record { tables = tables.old.tables; marks = marks })) }
         ensures other { OnOk result (live_in_all (other queue) self.new.accessor.tables ≡ 0) }
-        ensures cleaned { (self.new.accessor.cleaned ≡ self.old.accessor.cleaned) × (tables.new.cleaned ≡ tables.old.cleaned) }
+        ensures cleaned { (self.new.accessor.cleaned ≡ self.old.accessor.cleaned)
+            × (tables.new.cleaned ≡ tables.old.cleaned) }
     {
         for (id, mark) in marks.into_entries() {
             let table = tables.take(id);
@@ -82,12 +86,17 @@ impl MarkedTables {
         requires own { live_in (other queue) newer ≡ 0 }
         requires older { queue ≡ Rewrite → live_in_all Append self.old.accessor.tables ≡ 0 }
         ensures ok { IsRunOver queue mark (table_of id newer) (table_in self.old.accessor.tables id)
-            → OnOk result (joined_region queue id (region_in (regions_in self.old) id) (record { mark = mark; table = newer }) ≡ Some (region_in (regions_in self.new) id)) }
-        ensures others { OnOk result (regions_in self.new ≡ with_region (regions_in self.old) id (region_in (regions_in self.new) id)) }
+            → OnOk result (joined_region queue id (region_in (regions_in self.old) id)
+            (record { mark = mark; table = newer })
+            ≡ Some (region_in (regions_in self.new) id)) }
+        ensures others { OnOk result
+            (regions_in self.new ≡ with_region (regions_in self.old) id (region_in (regions_in self.new) id)) }
         ensures fault { IsRunOver queue mark (table_of id newer) (table_in self.old.accessor.tables id)
-            → IfErr result (IsFaultUnder queue self.old.accessor.counts mark (table_of id newer) (table_in self.old.accessor.tables id)) }
+            → IfErr result (IsFaultUnder queue self.old.accessor.counts mark (table_of id newer)
+            (table_in self.old.accessor.tables id)) }
         ensures counted { AreCountsOf self.old.accessor.tables self.old.accessor.counts }
-        ensures few { OnOk result ((q : LogQueue) → live_in_all q self.new.accessor.tables ≤ live_in_all q self.old.accessor.tables + live_in q newer) }
+        ensures few { OnOk result ((q : LogQueue)
+            → live_in_all q self.new.accessor.tables ≤ live_in_all q self.old.accessor.tables + live_in q newer) }
         ensures cleaned { self.new.accessor.cleaned ≡ self.old.accessor.cleaned }
     {
         let end = self.accessor.join_table(queue, id, newer, &mark)?;

@@ -165,7 +165,7 @@ fn markers_have_their_effects(rt: HostRuntime) {
 }
 
 /// A batch with a put of the group markers' key for each of these groups, and a compaction of region 5.
-fn marked(alloc: Global, markers: &[(u64, &[u8])]) -> Result<LogItemBatch> {
+fn batch_with_markers(alloc: Global, markers: &[(u64, &[u8])]) -> Result<LogItemBatch> {
     let mut batch = LogItemBatch::default(alloc);
     for (group, value) in markers {
         batch.put(
@@ -208,29 +208,40 @@ fn is_refused(
 fn markers_are_read(alloc: Global) -> Result<bool> {
     let unknown = [(9, [3u8].as_slice())];
     let context = MemTableRecoverContext::new(alloc)?;
-    let refused = is_refused(alloc, context, marked(alloc, &unknown)?, file(1))?;
+    let refused = is_refused(
+        alloc,
+        context,
+        batch_with_markers(alloc, &unknown)?,
+        file(1),
+    )?;
     let mut context = MemTableRecoverContext::new(alloc)?;
     let appended = FileId::new(LogQueue::Append, 1);
-    context.replay(marked(alloc, &unknown)?, appended)?;
+    context.replay(batch_with_markers(alloc, &unknown)?, appended)?;
     let skipped = context.finish()?.get(5).is_some();
     let mut context = MemTableRecoverContext::new(alloc)?;
-    context.replay(marked(alloc, &[(9, [0u8, 0].as_slice())])?, file(1))?;
-    let unmarked = context.finish()?.get(5).is_some();
+    context.replay(
+        batch_with_markers(alloc, &[(9, [0u8, 0].as_slice())])?,
+        file(1),
+    )?;
+    let no_marker = context.finish()?.get(5).is_some();
     let mut context = MemTableRecoverContext::new(alloc)?;
     let two = [(9, [0u8].as_slice()), (8, [2u8].as_slice())];
-    context.replay(marked(alloc, &two)?, file(1))?;
-    context.replay(marked(alloc, &[(9, [2u8].as_slice())])?, file(2))?;
+    context.replay(batch_with_markers(alloc, &two)?, file(1))?;
+    context.replay(
+        batch_with_markers(alloc, &[(9, [2u8].as_slice())])?,
+        file(2),
+    )?;
     let accessor = context.finish()?;
     let group = accessor.get(5).and_then(|table| table.atomic_group());
-    Ok(refused && skipped && unmarked && group == Some((1, 2)))
+    Ok(refused && skipped && no_marker && group == Some((1, 2)))
 }
 
 /// A batch of an older file is refused, and one of the other queue.
 fn files_are_in_order(alloc: Global) -> Result<bool> {
     for older in [file(4), FileId::new(LogQueue::Append, 6)] {
         let mut context = MemTableRecoverContext::new(alloc)?;
-        context.replay(marked(alloc, &[])?, file(5))?;
-        if !is_refused(alloc, context, marked(alloc, &[])?, older)? {
+        context.replay(batch_with_markers(alloc, &[])?, file(5))?;
+        if !is_refused(alloc, context, batch_with_markers(alloc, &[])?, older)? {
             return Ok(false);
         }
     }

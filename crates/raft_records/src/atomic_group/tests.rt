@@ -85,7 +85,7 @@ fn group_begins(rt: HostRuntime) {
 }
 
 /// The batches of a group, and the group markers in them.
-fn marked_batches(alloc: Global) -> Result<[(LogBatch, &'static [u8]); 3]> {
+fn batches_with_markers(alloc: Global) -> Result<[(LogBatch, &'static [u8]); 3]> {
     let mut builder = AtomicGroupBuilder::with_id(9);
     let mut first = LogBatch::default(alloc);
     builder.begin(&mut first)?;
@@ -111,18 +111,18 @@ fn is_only_item(mut batch: LogBatch, item: &[u8]) -> Result<bool> {
 }
 
 /// Whether each batch of a group has its marker as its only item.
-fn are_marked(alloc: Global) -> Result<bool> {
-    let mut marked = true;
-    for (batch, item) in marked_batches(alloc)? {
-        marked &= is_only_item(batch, item)?;
+fn have_markers(alloc: Global) -> Result<bool> {
+    let mut all = true;
+    for (batch, item) in batches_with_markers(alloc)? {
+        all &= is_only_item(batch, item)?;
     }
-    Ok(marked)
+    Ok(all)
 }
 
 #[test]
 fn batches_of_a_group_have_its_markers(rt: HostRuntime) {
-    let answer = match are_marked(rt.alloc()) {
-        Err(Error::Memory) => are_marked(rt.alloc()),
+    let answer = match have_markers(rt.alloc()) {
+        Err(Error::Memory) => have_markers(rt.alloc()),
         answer => answer,
     };
     assert!(rt; matches!(answer, Ok(true)));

@@ -6,7 +6,7 @@ ghost use Rattle.raft_records.specs.Entries.{IsConsecutive, entry_with_index, wi
 ghost use Rattle.raft_records.specs.Faults.{OneRefuses};
 ghost use Rattle.raft_records.specs.Item.{entries_item};
 ghost use Rattle.raft_records.specs.ItemBatch.{entry_bytes_of, laid};
-ghost use Rattle.raft_records.specs.LogBatch.{populating, with_entries_added, IsBytesFault, IsAddFault, empty_batch, joined};
+ghost use Rattle.raft_records.specs.LogBatch.{populating, with_entries_added, IsBytesFault, IsAddFault, empty_batch, with_batch};
 ghost use Rattle.raft_records.specs.Spelling.{Keeps};
 
 use super::{MAX_LOG_BATCH_BUFFER_CAP, MAX_LOG_ENTRIES_SIZE_PER_BATCH};
@@ -100,7 +100,7 @@ impl LogBatch {
     pub fn merge(&mut self, rhs: &mut LogBatch) -> Result<()>
         requires open { self.old.stage ≡ populating }
         requires rhs_open { rhs.old.stage ≡ populating }
-        ensures ok { OnOk result (self.new ≡ joined self.old rhs.old) }
+        ensures ok { OnOk result (self.new ≡ with_batch self.old rhs.old) }
         ensures emptied { OnOk result (rhs.new ≡ empty_batch) }
         ensures accepted { OnOk result (length self.old.entry_bytes + length rhs.old.entry_bytes < 2 ^ 31) }
         ensures err { OnErr result (self.new ≡ self.old) }

@@ -238,7 +238,9 @@ fn run_on_file<S: Files + AllocGlobal + Threads + Sync>(rt: &S, length: usize) -
     let mut bytes = hex::decode(rt.alloc(), TWO_ENTRIES).ok()?;
     bytes.truncate(length);
     fs::write(rt, "two_entries.log", bytes.as_slice()).ok()?;
-    run_on(rt, "recover append 1 4 012=two_entries.log", "")
+    let answer = run_on(rt, "recover append 1 4 012=two_entries.log", "");
+    fs::remove_file(rt, "two_entries.log").ok()?;
+    answer
 }
 
 /// Where an allocation is refused the row runs again, and has to find memory.

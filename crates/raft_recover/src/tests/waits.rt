@@ -1,4 +1,4 @@
-//! A gate and a machine that wait for one another's threads.
+//! A workers' gate and a machine that wait for one another's threads.
 
 use crate::Gate;
 use raft_base::{FileId, LogQueue, Result};

@@ -4,7 +4,7 @@ ghost use Rattle.std.specs.Prelude.{◌≡◌, ◌≢◌, OnOk, OnErr, IfOk, IfE
 ghost use Rattle.raft_base.specs.declared.pipe_log.LogQueue.{LogQueue};
 ghost use Rattle.raft_table.specs.Counts.{live};
 ghost use Rattle.raft_table.specs.Change.{after_change, AreCountedAfter, IsAllowed, IsAnswer, IsChangeFault, IsListFault};
-ghost use Rattle.raft_table.specs.Entries.{IsRunIn, is_placed_in};
+ghost use Rattle.raft_table.specs.TableEntries.{IsRunIn, is_placed_in};
 ghost use Rattle.raft_table.specs.Table.{IsCounted, IsRecounted};
 
 use crate::global_stats::GlobalStats;
@@ -135,7 +135,7 @@ pub fn is_run(entries: &[EntryIndex], queue: LogQueue) -> bool
 }
 
 /// Whether an entry's place is in `queue`.
-#[tactic(auto, unfolding(crate::specs::Entries::is_placed_in))]
+#[tactic(auto, unfolding(crate::specs::TableEntries::is_placed_in))]
 fn is_placed_in(entry: &EntryIndex, queue: LogQueue) -> bool
     ensures { result ≡ is_placed_in queue entry.now }
 {

@@ -3,7 +3,7 @@
 ghost use Rattle.std.specs.Prelude.{◌≡◌, ◌≢◌, ◌+◌, ◌<◌, ◌≤◌, [], length, take, drop, MatchOption, IfOk, IfErr};
 ghost use Rattle.raft_table.specs.Blocks.{shown, expanded, AreDistinctBlocks};
 ghost use Rattle.raft_table.specs.Start.{counts_without, IsCorruptionError, IsInvalidArgument};
-ghost use Rattle.raft_table.specs.Entries.{AreTableEntries, start_of, end_of, entry_at, entry_count, below, from, AreCounted, AreRecounted};
+ghost use Rattle.raft_table.specs.TableEntries.{AreTableEntries, start_of, end_of, entry_at, entry_count, below, from, AreCounted, AreRecounted};
 ghost use Rattle.raft_base.specs.declared.pipe_log.LogQueue.TheVariants.{Rewrite};
 
 mod cuts;

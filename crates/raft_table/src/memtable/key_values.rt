@@ -6,7 +6,7 @@ ghost use Rattle.std.specs.Fn.{CalledAtTwo};
 ghost use Rattle.std.specs.FinMap as finite;
 ghost use Rattle.raft_base.specs.declared.pipe_log.LogQueue.{LogQueue};
 ghost use Rattle.raft_table.specs.Scan.{VisitsUntilFalse, scanned};
-ghost use Rattle.raft_table.specs.KeyValues.{Keys, pair_count, file_weight, value_at, file_at, with_put, with_moved, files_in, least, lesser, is_up_to, fetched, pairs_shown, overlaid};
+ghost use Rattle.raft_table.specs.KeyValues.{Keys, pair_count, file_weight, value_at, file_at, with_put, with_moved, files_in, least, lesser, is_up_to, fetched, pairs_shown, pairs_over};
 
 mod scan;
 
@@ -234,7 +234,7 @@ impl KeyValues {
     /// Where there is no memory for all of them. Some of them have then been put, and the others
     /// are left in `rhs`, but for one that may be lost.
     pub fn absorb(&mut self, rhs: &mut KeyValues) -> Result<(), AllocError>
-        ensures ok { OnOk result (self.new ≡ overlaid rhs.old self.old) }
+        ensures ok { OnOk result (self.new ≡ pairs_over rhs.old self.old) }
         ensures emptied { OnOk result (rhs.new ≡ finite.empty) }
         ensures bounded { (queue : LogQueue)
             → pair_count queue self.new ≤ pair_count queue self.old + pair_count queue rhs.old }

@@ -5,7 +5,7 @@ ghost use Rattle.std.specs.FinSet as finset;
 ghost use Rattle.raft_base.specs.declared.pipe_log.LogQueue.{LogQueue};
 ghost use Rattle.raft_base.specs.declared.pipe_log.LogQueue.TheVariants.{Append, Rewrite};
 ghost use Rattle.raft_records.specs.declared.entry_index.EntryIndex.{EntryIndex};
-ghost use Rattle.raft_table.specs.Entries.{IsRun, IsRunIn, StandsBehind, start_of, end_of, entry_at, from};
+ghost use Rattle.raft_table.specs.TableEntries.{IsRun, IsRunIn, StandsBehind, start_of, end_of, entry_at, from};
 ghost use Rattle.std.specs.FinMap as finite;
 ghost use Rattle.raft_table.specs.LastWord.{last_entry, last_pair};
 ghost use Rattle.raft_table.specs.Marks.{Mark, Stands, applied};

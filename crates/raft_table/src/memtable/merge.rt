@@ -5,8 +5,8 @@ ghost use Rattle.std.specs.FinMap as finite;
 ghost use Rattle.raft_base.specs.declared.pipe_log.LogQueue.{LogQueue};
 ghost use Rattle.raft_base.specs.declared.pipe_log.LogQueue.TheVariants.{Append, Rewrite};
 ghost use Rattle.raft_table.specs.Counts.{live};
-ghost use Rattle.raft_table.specs.Entries.{entry_count};
-ghost use Rattle.raft_table.specs.KeyValues.{overlaid, pair_count};
+ghost use Rattle.raft_table.specs.TableEntries.{entry_count};
+ghost use Rattle.raft_table.specs.KeyValues.{pairs_over, pair_count};
 ghost use Rattle.raft_table.specs.Merge.{counts_after_merge, counts_with_keys, counts_with_others, joint_queue, append_rule, after_join, after_newer, after_appended, IsTableMergeFault};
 ghost use Rattle.raft_table.specs.Queues.{count_in, other};
 ghost use Rattle.raft_table.specs.Table.{empty_table, live_of, IsCounted, IsRecounted};
@@ -147,7 +147,7 @@ impl MemTable {
 fn absorb_keys(keys: &mut KeyValues, newer: &mut KeyValues, stats: &mut GlobalStats) -> Result<()>
     requires room { (q : LogQueue) → live q stats.old + pair_count q newer.old < 2 ^ 64 }
     requires counted { (q : LogQueue) → pair_count q keys.old ≤ live q stats.old }
-    ensures ok { OnOk result (keys.new ≡ overlaid newer.old keys.old) }
+    ensures ok { OnOk result (keys.new ≡ pairs_over newer.old keys.old) }
     ensures emptied { OnOk result (newer.new ≡ finite.empty) }
     ensures memory { IfErr result (λ e. e ≡ Error.Memory) }
     ensures counts { stats.new ≡ counts_with_keys keys.old keys.new stats.old }

@@ -6,7 +6,7 @@ ghost use Rattle.std.specs.FinMap as finite;
 ghost use Rattle.std.specs.List.{slice_get};
 ghost use Rattle.std.specs.Option.{option_copied};
 ghost use Rattle.raft_base.specs.declared.pipe_log.LogQueue.TheVariants.{Append, Rewrite};
-ghost use Rattle.raft_table.specs.Entries.{placed_in};
+ghost use Rattle.raft_table.specs.TableEntries.{placed_in};
 ghost use Rattle.raft_table.specs.Fetches.{Fetches, IsFetchFault, range_answer, appended_before, block_count, entry_seq, is_some_before};
 ghost use Rattle.raft_table.specs.KeyValues.{pairs_shown, fetched};
 ghost use Rattle.raft_table.specs.Scan.{VisitsUntilFalse, scanned};

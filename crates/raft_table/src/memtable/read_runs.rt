@@ -6,7 +6,7 @@ ghost use Rattle.raft_records.specs.declared.entry_index.EntryIndex.{EntryIndex}
 ghost use Rattle.raft_records.specs.Entries.{IsConsecutive};
 ghost use Rattle.raft_records.specs.ReadIn.{IsReadIn};
 ghost use Rattle.raft_records.specs.Item.{entries};
-ghost use Rattle.raft_table.specs.Entries.{IsRun, IsRunIn, end_of};
+ghost use Rattle.raft_table.specs.TableEntries.{IsRun, IsRunIn, end_of};
 
 /// The entries of an item that was read from a file are a run of the file's queue, as tables ask for:
 /// nobody tests it again.

@@ -11,9 +11,9 @@ ghost use Rattle.raft_base.specs.declared.pipe_log.LogQueue.{LogQueue};
 ghost use Rattle.raft_records.specs.declared.entry_index.EntryIndex.{EntryIndex};
 ghost use Rattle.raft_table.specs.Counts.{Counts, live};
 ghost use Rattle.raft_base.specs.declared.pipe_log.LogQueue.TheVariants.{Append, Rewrite};
-ghost use Rattle.raft_table.specs.Entries.{RisesFrom, IsRunIn, AreTableEntries, start_of, end_of, between, entry_count, entry_at};
+ghost use Rattle.raft_table.specs.TableEntries.{RisesFrom, IsRunIn, AreTableEntries, start_of, end_of, between, entry_count, entry_at};
 ghost use Rattle.raft_table.specs.Fetches.{Found, range_answer, total_len, IsLimitCount, FetchesWithin};
-ghost use Rattle.raft_table.specs.KeyValues.{Keys, value_at, least, overlaid};
+ghost use Rattle.raft_table.specs.KeyValues.{Keys, value_at, least, pairs_over};
 ghost use Rattle.raft_table.specs.Rewriting.{overlap, moved_count, rewritten};
 ghost use Rattle.raft_table.specs.Scan.{is_between, scanned};
 ghost use Rattle.raft_table.specs.Table.{Table, live_of};
@@ -99,5 +99,5 @@ pub fn least_is_lowest()
 /// they hold nothing, what the older ones do.
 pub fn newer_pairs_win()
     ensures { (newer older : Keys) (key : List ℕ)
-        → finite.get (overlaid newer older) key ≡ option_or (finite.get newer key) (finite.get older key) }
+        → finite.get (pairs_over newer older) key ≡ option_or (finite.get newer key) (finite.get older key) }
 {}

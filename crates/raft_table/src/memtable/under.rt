@@ -5,7 +5,7 @@ ghost use Rattle.std.specs.FinMap as finite;
 ghost use Rattle.raft_base.specs.declared.pipe_log.LogQueue.{LogQueue};
 ghost use Rattle.raft_records.specs.declared.entry_index.EntryIndex.{EntryIndex};
 ghost use Rattle.raft_table.specs.Counts.{live};
-ghost use Rattle.raft_table.specs.Entries.{IsRun, IsRunIn, end_of};
+ghost use Rattle.raft_table.specs.TableEntries.{IsRun, IsRunIn, end_of};
 ghost use Rattle.raft_table.specs.KeySets.{without};
 ghost use Rattle.raft_table.specs.KeyValues.{pair_count};
 ghost use Rattle.raft_table.specs.MarkMerge.{IsFirstRunFault, IsFaultUnder, IsRunOver, left_by};
@@ -162,7 +162,9 @@ impl MemTable {
 
     /// Takes the atomic group of an appended table away, and over where the region was cleaned.
     fn take_appended_group(&mut self, rhs: &mut MemTable, mark: &Mark)
-        ensures atomic_group { self.new ≡ record self.old { atomic_group = if mark.now.cleaned then rhs.old.atomic_group else self.old.atomic_group } }
+        ensures atomic_group { self.new ≡ record self.old {
+          atomic_group = if mark.now.cleaned then rhs.old.atomic_group else self.old.atomic_group;
+        } }
         ensures emptied { rhs.new ≡ record rhs.old { atomic_group = None } }
     {
         let atomic_group = rhs.atomic_group.take();

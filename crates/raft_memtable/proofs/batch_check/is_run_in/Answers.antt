@@ -1,6 +1,6 @@
 use Rattle.std.proofs.Common.{◌+◌, arith, refl, sym, ap, subst, ◌∙◌, drop}
 use Rattle.raft_history.specs.Histories.{AreBlocksIn}
-use Rattle.raft_table.specs.Entries.{start_of, placed_in}
+use Rattle.raft_table.specs.TableEntries.{start_of, placed_in}
 use Rattle.raft_table.proofs.SoundLemmas.{start_of_front}
 use Rattle.raft_table.proofs.ListTestLemmas.{no_entries_run, rising_more, placed_more, all_run, run_index, run_bound}
 use Rattle.raft_memtable.proofs.BatchCheckLemmas.{next_at, none_left, block_placed, no_blocks}

@@ -1,6 +1,6 @@
 use Rattle.std.proofs.Common.{◌≡◌, ◌+◌, take, drop}
 use Rattle.raft_history.specs.Histories.{AreBlocksIn}
-use Rattle.raft_table.specs.Entries.{RisesFrom, start_of, placed_in}
+use Rattle.raft_table.specs.TableEntries.{RisesFrom, start_of, placed_in}
 use Rattle.raft_memtable.proofs.batch_check.is_run_in.Given as goal
 
 -- the entries so far are a run in the queue, and all are in the file where those that are left are, and the other way round

@@ -1,13 +1,13 @@
 use Rattle.std.proofs.Common.{◌≡◌, ◌≢◌, ◌≤◌, ◌+◌, ◌^◌, Ok, Err, ◌++◌, ◌∙◌, length, ap, arith}
 use Rattle.std.specs.Result.{OnOk, IfErr}
 use Rattle.raft_base.specs.declared.errors.Error.TheVariants as errors
-use Rattle.raft_records.specs.LogBatch.{Batch, joined}
+use Rattle.raft_records.specs.LogBatch.{Batch, with_batch}
 use Rattle.raft_memtable.proofs.CleanLemmas.{cleans, joined-cleans, only-memory}
 use Rattle.raft_memtable.proofs.slot.move_cleans.Goals as goal
 
 pub returns-clause-ok : goal.returns-clause-ok
 returns-clause-ok c =
-    elim c.merge.result as (λ r. OnOk r (c.merge.new.self ≡ joined c.args.logs.now c.in_ok-cleans.cleans) → OnOk r (c.merge.new.self ≡ record c.args.logs.now { items = c.args.logs.now.items ++ cleans c.args.ids.now })) [
+    elim c.merge.result as (λ r. OnOk r (c.merge.new.self ≡ with_batch c.args.logs.now c.in_ok-cleans.cleans) → OnOk r (c.merge.new.self ≡ record c.args.logs.now { items = c.args.logs.now.items ++ cleans c.args.ids.now })) [
       | Ok x ↦ λ e. e ∙ joined-cleans c.args.logs.now c.in_ok-cleans.cleans c.args.ids.now c.in_ok-cleans.ensures.ok
       | Err x ↦ λ e. tt
     ] c.merge.ensures.ok

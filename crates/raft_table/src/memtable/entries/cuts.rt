@@ -3,7 +3,7 @@
 ghost use Rattle.std.specs.Prelude.{◌≡◌, ◌+◌, ◌≤◌, ◌<◌, [], length, take, drop, slice_index_or};
 ghost use Rattle.raft_table.specs.Blocks.{shown};
 ghost use Rattle.raft_table.specs.BlockWords.{cut_last, cut_first};
-ghost use Rattle.raft_table.specs.Entries.{end_of, below, from, AreCounted, AreRecounted};
+ghost use Rattle.raft_table.specs.TableEntries.{end_of, below, from, AreCounted, AreRecounted};
 ghost use Rattle.raft_table.specs.Start.{counts_without};
 ghost use Rattle.raft_table.specs.Marks.{part};
 

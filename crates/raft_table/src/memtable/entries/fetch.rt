@@ -3,7 +3,7 @@
 ghost use Rattle.std.specs.Prelude.{◌≡◌, ◌+◌, ◌-◌, ◌≤◌, ◌<◌, ◌^◌, ◌++◌, take, drop, slice_index_or, length, OnOk, OnErr, IfErr};
 ghost use Rattle.std.specs.List.{prefix_len, slice_get};
 ghost use Rattle.raft_base.specs.declared.pipe_log.LogQueue.TheVariants.{Append, Rewrite};
-ghost use Rattle.raft_table.specs.Entries.{placed_in};
+ghost use Rattle.raft_table.specs.TableEntries.{placed_in};
 ghost use Rattle.raft_table.specs.Fetches.{Fetches, IsFetchFault, IsLimitCount, range_answer, appended_before, block_count, entry_seq, first_seq};
 ghost use Rattle.raft_table.specs.Rewriting.{may_move};
 

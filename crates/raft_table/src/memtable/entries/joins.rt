@@ -5,7 +5,7 @@ ghost use Rattle.raft_base.specs.declared.pipe_log.LogQueue.TheVariants.{Rewrite
 ghost use Rattle.raft_records.specs.declared.entry_index.EntryIndex.{EntryIndex};
 ghost use Rattle.raft_table.specs.Blocks.{spread};
 ghost use Rattle.raft_table.specs.BlockWords.{spans_of};
-ghost use Rattle.raft_table.specs.Entries.{AreTableEntries};
+ghost use Rattle.raft_table.specs.TableEntries.{AreTableEntries};
 ghost use Rattle.raft_table.specs.Queues.{count_in};
 
 use crate::memtable::block::Block;
@@ -47,7 +47,7 @@ impl Entries {
         spans: VecDeque<(u32, u32)>,
     ) -> Result<()>
         requires filled { 0 < length spans.items }
-        requires sound { AreTableEntries (self.old ++ spread index handle spans.items) }
+        requires table_entries { AreTableEntries (self.old ++ spread index handle spans.items) }
         ensures ok { OnOk result (self.new ≡ self.old ++ spread index handle spans.items) }
         ensures err { OnErr result (self.new ≡ self.old) }
         ensures memory { IfErr result (λ e. e ≡ Error.Memory) }
@@ -70,7 +70,7 @@ impl Entries {
     pub(super) fn put_run(&mut self, keep: usize, run: &mut Entries) -> Result<()>
         requires keep { keep ≤ length self.old }
         requires run { 0 < length run.old }
-        requires sound { AreTableEntries (take keep self.old ++ run.old) }
+        requires table_entries { AreTableEntries (take keep self.old ++ run.old) }
         ensures ok { OnOk result ((self.new ≡ take keep self.old ++ run.old) × (run.new ≡ [])) }
         ensures err { OnErr result ((self.new ≡ self.old) × (run.new ≡ run.old)) }
         ensures memory { IfErr result (λ e. e ≡ Error.Memory) }
@@ -87,7 +87,7 @@ impl Entries {
     fn join(&mut self, keep: usize, run: &mut Entries) -> Result<()>
         requires keep { (0 < keep) × (keep ≤ length self.old) }
         requires run { 0 < length run.old }
-        requires sound { AreTableEntries (take keep self.old ++ run.old) }
+        requires table_entries { AreTableEntries (take keep self.old ++ run.old) }
         ensures ok { OnOk result ((self.new ≡ take keep self.old ++ run.old) × (run.new ≡ [])) }
         ensures err { OnErr result ((self.new ≡ self.old) × (run.new ≡ run.old)) }
         ensures memory { IfErr result (λ e. e ≡ Error.Memory) }
@@ -113,7 +113,7 @@ impl Entries {
     pub(super) fn put_between(&mut self, at: usize, run: Entries) -> Result<()>
         requires run { 0 < length run }
         requires behind { at + length run < length self.old }
-        requires sound { AreTableEntries (take at self.old ++ run ++ drop (at + length run) self.old) }
+        requires table_entries { AreTableEntries (take at self.old ++ run ++ drop (at + length run) self.old) }
         ensures ok { OnOk result (self.new ≡ take at self.old ++ run ++ drop (at + length run) self.old) }
         ensures err { OnErr result (self.new ≡ self.old) }
         ensures memory { IfErr result (λ e. e ≡ Error.Memory) }

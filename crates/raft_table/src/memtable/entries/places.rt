@@ -3,7 +3,7 @@
 ghost use Rattle.std.specs.Prelude.{◌≡◌, ◌≢◌, ◌⊎◌, ◌+◌, ◌<◌, ◌≤◌, ◌^◌, ◌++◌, length, take, drop, MatchOption, OnOk, OnErr, IfErr, false};
 ghost use Rattle.std.specs.List.{prefix_len};
 ghost use Rattle.raft_table.specs.Counts.{live, with_added, with_deleted};
-ghost use Rattle.raft_table.specs.Entries.{AreTableEntries, IsRunIn, RisesFrom, start_of, placed_in, entry_count, AreCounted, AreRecounted};
+ghost use Rattle.raft_table.specs.TableEntries.{AreTableEntries, IsRunIn, RisesFrom, start_of, placed_in, entry_count, AreCounted, AreRecounted};
 ghost use Rattle.raft_table.specs.Queues.{count_in};
 ghost use Rattle.raft_table.specs.Overlaps.{IsOverlap, AreDisjoint};
 ghost use Rattle.raft_table.specs.Rewriting.{may_move, is_misplaced, newly_rewritten, with_rewritten, rewritten, recounted, IsRewriteFault, MovesPlacesAlone};
@@ -58,7 +58,7 @@ impl Entries {
         ensures meets { MatchOption result
             (AreDisjoint (start_of self.now) (length self.now) start len)
             (IsOverlap (start_of self.now) (length self.now) start len) }
-        ensures sound { AreTableEntries self.now }
+        ensures table_entries { AreTableEntries self.now }
     {
         if self.len == 0 {
             return None;
@@ -121,7 +121,8 @@ impl Entries {
     /// Gives the entries behind the first `at` these places.
     fn set_places(&mut self, at: usize, places: &[EntryIndex]) -> Result<()>
         requires within { at + length places.now ≤ length self.old }
-        requires sound { AreTableEntries (take at self.old ++ places.now ++ drop (at + length places.now) self.old) }
+        requires table_entries { AreTableEntries
+            (take at self.old ++ places.now ++ drop (at + length places.now) self.old) }
         ensures ok { OnOk result (self.new ≡ take at self.old ++ places.now ++ drop (at + length places.now) self.old) }
         ensures err { OnErr result (self.new ≡ self.old) }
         ensures memory { IfErr result (λ e. e ≡ Error.Memory) }

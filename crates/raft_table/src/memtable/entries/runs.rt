@@ -3,7 +3,7 @@
 ghost use Rattle.std.specs.Prelude.{◌≡◌, ◌+◌, ◌≤◌, ◌<◌, ◌^◌, [], ◌++◌, length, take, drop, OnOk, OnErr, IfOk, IfErr, MatchBool, Some};
 ghost use Rattle.raft_table.specs.Counts.{live, with_added, with_deleted};
 ghost use Rattle.raft_table.specs.Queues.{count_in, of_queue, other};
-ghost use Rattle.raft_table.specs.Entries.{AreTableEntries, IsRunIn, placed_in, entry_count, AreCounted, AreRecounted};
+ghost use Rattle.raft_table.specs.TableEntries.{AreTableEntries, IsRunIn, placed_in, entry_count, AreCounted, AreRecounted};
 ghost use Rattle.raft_table.specs.Start.{appended, replayed, counts_with_run, counts_without, IsTableRunFault};
 ghost use Rattle.raft_table.specs.StartOf.{IsStart};
 ghost use Rattle.raft_base.specs.declared.pipe_log.LogQueue.{LogQueue};
@@ -164,7 +164,7 @@ impl Entries {
     ) -> Result<()>
         requires keep { keep ≤ length self.old }
         requires filled { 0 < length run.old }
-        requires sound { AreTableEntries (take keep self.old ++ run.old) }
+        requires table_entries { AreTableEntries (take keep self.old ++ run.old) }
         requires queue { placed_in queue run.old ≡ run.old }
         requires counted { AreCounted self.old stats.old }
         ensures ok { OnOk result ((self.new ≡ take keep self.old ++ run.old) × (run.new ≡ [])) }
@@ -189,7 +189,7 @@ impl Entries {
     /// Where a run that starts at `index` meets the entries.
     fn start(&self, index: u64) -> Start
         ensures meets { IsStart self.now index result }
-        ensures sound { AreTableEntries self.now }
+        ensures table_entries { AreTableEntries self.now }
     {
         if self.len == 0 {
             return Start::Joins(0);

@@ -49,7 +49,8 @@ fn push_part(vec: &mut Vec<EntryIndex>, first: u64, block: &Block, at: usize, co
     requires within { at + count ≤ length block.now.spans.items }
     requires bounded { first + count < 2 ^ 64 }
     requires room { vec_len vec.old + count ≤ vec_capacity vec.old }
-    ensures items { vec.new.items ≡ vec.old.items ++ spread first block.now.handle (take count (drop at block.now.spans.items)) }
+    ensures items { vec.new.items
+        ≡ vec.old.items ++ spread first block.now.handle (take count (drop at block.now.spans.items)) }
     ensures len { vec_len vec.new ≡ vec_len vec.old + count }
     ensures capacity { vec_capacity vec.new ≡ vec_capacity vec.old }
 {
@@ -78,7 +79,8 @@ pub(super) fn movable_from(
     requires distinct { AreDistinctBlocks (shown blocks.now.items) }
     requires order { start ≤ end }
     requires within { end ≤ count (shown blocks.now.items) }
-    ensures { (i : ℕ) → result ≡ prefix_len (may_move gate) (drop start (take end (expanded i (shown blocks.now.items)))) }
+    ensures { (i : ℕ)
+        → result ≡ prefix_len (may_move gate) (drop start (take end (expanded i (shown blocks.now.items)))) }
 {
     let (mut whole, mut at) = place;
     let mut done = start;
@@ -95,7 +97,7 @@ pub(super) fn movable_from(
 }
 
 /// Whether the entries of a block of a file may move.
-#[tactic(auto, unfolding(crate::specs::Entries::is_placed_in, crate::specs::Rewriting::is_placed_before))]
+#[tactic(auto, unfolding(crate::specs::TableEntries::is_placed_in, crate::specs::Rewriting::is_placed_before))]
 fn is_movable(handle: &FileBlockHandle, gate: Option<FileSeq>) -> bool
     ensures { (e : EntryIndex) → e.entries ≡ Some handle.now → result ≡ may_move gate e }
 {
@@ -139,7 +141,8 @@ fn next(block: &Block, place: (usize, usize)) -> (usize, usize)
     requires within { place.0 + 1 < 2 ^ 64 }
     requires inside { place.1 < length block.now.spans.items }
     ensures { (p : ℕ) (bs : List BlockSpans) → IsAt p bs place.0 place.1 → AreDistinctBlocks bs
-        → block_spans block.now ≡ slice_index_or bs place.0 (block_spans block.now) → p + 1 < count bs → IsAt (p + 1) bs result.0 result.1 }
+        → block_spans block.now ≡ slice_index_or bs place.0 (block_spans block.now) → p + 1 < count bs
+        → IsAt (p + 1) bs result.0 result.1 }
 {
     let (whole, at) = place;
     if at + 1 < block.spans.len() {

@@ -1,5 +1,5 @@
 use Rattle.std.proofs.Common.{◌≡◌, refl, ap, subst, slice_set}
-use Rattle.raft_table.specs.Entries.{end_of}
+use Rattle.raft_table.specs.TableEntries.{end_of}
 use Rattle.raft_table.specs.Table.{after_replay, IsCounted}
 use Rattle.raft_memtable.specs.Accessor.{Accessor, AreCountsOf}
 use Rattle.raft_memtable.specs.Updates.{IsReplayFault}

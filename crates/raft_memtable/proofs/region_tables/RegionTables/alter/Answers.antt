@@ -7,7 +7,7 @@ use Rattle.raft_table.specs.Steps.{table_of}
 use Rattle.raft_table.specs.Table.{Table}
 use Rattle.raft_memtable.specs.Accessor.{table_in}
 use Rattle.raft_memtable.specs.Merges.{MayAlter}
-use Rattle.raft_memtable.specs.Updates.{Changes}
+use Rattle.raft_memtable.specs.Updates.{TableCalls}
 use Rattle.raft_memtable.specs.declared.region_tables.RegionTables.TheInside.{Inside}
 use Rattle.raft_memtable.proofs.MapLemmas.{some_is}
 use Rattle.raft_memtable.proofs.MergeLemmas.{altered, not_altered}
@@ -26,7 +26,7 @@ may g c = c.requires.may (region-in c.self.inside c.args.self.now c.args.id c.se
 was : (g : given.Over) (c : goal.After-self-in-Some-1 g) → finite.get c.args.self.now c.args.id ≡ Some c.in-Some.table.now
 was g c = there c.self.inside c.args.self.now c.args.id _ _ c.self.view_is c.get_mut.ensures.value c.in-Some.is
 
-gave : (g : given.Over) (c : goal.After-self-in-Some-1 g) → Changes g.F.FnOnce c.args.change (table_in c.args.self.now c.args.id) c.args.stats.now c.change.result c.change.new.arg2 c.change.new.arg3
+gave : (g : given.Over) (c : goal.After-self-in-Some-1 g) → TableCalls g.F.FnOnce c.args.change (table_in c.args.self.now c.args.id) c.args.stats.now c.change.result c.change.new.arg2 c.change.new.arg3
 gave g c = record { table = c.in-Some.table; stats = _; shows = (sym (ap (table_of c.args.id) (was g c)), refl); left = _; left_stats = _; met = c.change.ensures; leaves = (refl, refl) }
 
 abbrev after : (g : given.Over) → goal.After-self-in-Some-1 g → Inside
@@ -52,7 +52,7 @@ returns-in_err-reserve g c =
 pub change-answer-requires : goal.change-answer-requires
 change-answer-requires g c = (c.requires.may (region-in c.self.inside c.args.self.now c.args.id c.self.invariant c.self.view_is)).pre _ _ (c.new-table.ensures.empty ∙ sym (ap (table_of c.args.id) (absent c.self.inside c.args.self.now c.args.id _ c.self.view_is c.get_mut.ensures.value c.in_default.is))) refl
 
-made-by : (g : given.Over) (c : goal.Joined-this g) → Changes g.F.FnOnce c.args.change (table_in c.args.self.now c.args.id) c.args.stats.now c.change-answer.result c.change-answer.new.arg2 c.change-answer.new.arg3
+made-by : (g : given.Over) (c : goal.Joined-this g) → TableCalls g.F.FnOnce c.args.change (table_in c.args.self.now c.args.id) c.args.stats.now c.change-answer.result c.change-answer.new.arg2 c.change-answer.new.arg3
 made-by g c =
     let none : finite.get c.args.self.now c.args.id ≡ None = absent c.self.inside c.args.self.now c.args.id _ c.self.view_is c.get_mut.ensures.value c.in_default.is in
     record { table = _; stats = _; shows = (c.new-table.ensures.empty ∙ sym (ap (table_of c.args.id) none), refl); left = _; left_stats = _; met = c.change-answer.ensures; leaves = (refl, refl) }

@@ -1,7 +1,7 @@
 use Rattle.std.proofs.Common.{refl, subst, inl}
 use Rattle.std.specs.FinMap as finite
 use Rattle.raft_records.specs.Item.{entries, entries_item}
-use Rattle.raft_table.specs.Entries.{IsRunIn}
+use Rattle.raft_table.specs.TableEntries.{IsRunIn}
 use Rattle.raft_table.specs.Table.{after_replay}
 use Rattle.raft_memtable.specs.Accessor.{table_in}
 use Rattle.raft_memtable.specs.Writes.{Replaying}

@@ -2,7 +2,7 @@ use Rattle.std.proofs.Common.{subst, inl}
 use Rattle.std.specs.FinMap as finite
 use Rattle.raft_base.specs.declared.pipe_log.LogQueue.TheVariants.{Rewrite}
 use Rattle.raft_records.specs.Item.{entries, entries_item}
-use Rattle.raft_table.specs.Entries.{IsRunIn}
+use Rattle.raft_table.specs.TableEntries.{IsRunIn}
 use Rattle.raft_memtable.specs.Writes.{Rewriting}
 use Rattle.raft_memtable.proofs.WriteLemmas.{refused_by, no_outcome}
 use Rattle.raft_memtable.proofs.region_tables.RegionTables.rewrite_entries.Goals as goal

@@ -6,7 +6,7 @@ use Rattle.std.specs.Option.{is_some, option_copied_mut}
 use Rattle.raft_table.specs.Steps.{table_of}
 use Rattle.raft_table.specs.Table.{Table}
 use Rattle.raft_memtable.specs.Accessor.{table_in}
-use Rattle.raft_memtable.specs.Updates.{Changes}
+use Rattle.raft_memtable.specs.Updates.{TableCalls}
 use Rattle.raft_memtable.specs.declared.region_tables.RegionTables.TheInside.{Inside}
 use Rattle.raft_memtable.proofs.MapLemmas.{some_is}
 use Rattle.raft_memtable.proofs.RegionTablesLemmas.{kept-with, kept-same, shown-with, shown-same, there, absent, region-in}
@@ -22,7 +22,7 @@ change-requires g c = c.requires.may.pre _ _ (sym (ap (table_of c.args.id) (ther
 was : (g : given.Over) (c : goal.After-self-in-Some-1 g) → finite.get c.args.self.now c.args.id ≡ Some c.in-Some.table.now
 was g c = there c.self.inside c.args.self.now c.args.id _ _ c.self.view_is c.get_mut.ensures.value c.in-Some.is
 
-gave : (g : given.Over) (c : goal.After-self-in-Some-1 g) → Changes g.F.FnOnce c.args.change (table_in c.args.self.now c.args.id) c.args.stats.now c.change.result c.change.new.arg2 c.change.new.arg3
+gave : (g : given.Over) (c : goal.After-self-in-Some-1 g) → TableCalls g.F.FnOnce c.args.change (table_in c.args.self.now c.args.id) c.args.stats.now c.change.result c.change.new.arg2 c.change.new.arg3
 gave g c = record { table = c.in-Some.table; stats = _; shows = (sym (ap (table_of c.args.id) (was g c)), refl); left = _; left_stats = _; met = c.change.ensures; leaves = (refl, refl) }
 
 abbrev after : (g : given.Over) → goal.After-self-in-Some-1 g → Inside
@@ -52,14 +52,14 @@ pub returns-in_err-answer : goal.returns-in_err-answer
 returns-in_err-answer g c =
     let p = err_from_is_err_and c.from_residual-in_err-answer.result c.from_residual-in_err-answer.ensures.1 in
     let none : finite.get c.args.self.now c.args.id ≡ None = absent c.self.inside c.args.self.now c.args.id _ c.self.view_is c.get_mut.ensures.value c.in_default.is in
-    let gave : Changes g.F.FnOnce c.args.change (table_in c.args.self.now c.args.id) c.args.stats.now c.change-2.result c.change-2.new.arg2 c.change-2.new.arg3 = record { table = _; stats = _; shows = (c.new-table.ensures.empty ∙ sym (ap (table_of c.args.id) none), refl); left = _; left_stats = _; met = c.change-2.ensures; leaves = (refl, refl) } in
-    rw (p.1, p.2) (refused g.F.FnOnce c.args.change c.args.self.now c.args.id c.args.stats.now _ c.change-2.new.arg2 c.change-2.new.arg3 _ c.requires.may (subst (λ r. Changes g.F.FnOnce c.args.change (table_in c.args.self.now c.args.id) c.args.stats.now r c.change-2.new.arg2 c.change-2.new.arg3) c.in_err-answer.was gave)
+    let gave : TableCalls g.F.FnOnce c.args.change (table_in c.args.self.now c.args.id) c.args.stats.now c.change-2.result c.change-2.new.arg2 c.change-2.new.arg3 = record { table = _; stats = _; shows = (c.new-table.ensures.empty ∙ sym (ap (table_of c.args.id) none), refl); left = _; left_stats = _; met = c.change-2.ensures; leaves = (refl, refl) } in
+    rw (p.1, p.2) (refused g.F.FnOnce c.args.change c.args.self.now c.args.id c.args.stats.now _ c.change-2.new.arg2 c.change-2.new.arg3 _ c.requires.may (subst (λ r. TableCalls g.F.FnOnce c.args.change (table_in c.args.self.now c.args.id) c.args.stats.now r c.change-2.new.arg2 c.change-2.new.arg3) c.in_err-answer.was gave)
     (shown-same c.self.inside (record c.self.inside { tables = c.reserve.new.self }) c.args.self.now c.self.view_is (λ q. c.reserve.ensures.entries.2 q ∙ ap (λ m. lookup (nat_eq q) m.entries) c.get_mut.follows.holds-at-none)))
 
-made-by : (g : given.Over) (c : goal.Joined-this g) → Changes g.F.FnOnce c.args.change (table_in c.args.self.now c.args.id) c.args.stats.now (Ok c.in_ok-answer.answer) c.change-2.new.arg2 c.change-2.new.arg3
+made-by : (g : given.Over) (c : goal.Joined-this g) → TableCalls g.F.FnOnce c.args.change (table_in c.args.self.now c.args.id) c.args.stats.now (Ok c.in_ok-answer.answer) c.change-2.new.arg2 c.change-2.new.arg3
 made-by g c =
     let none : finite.get c.args.self.now c.args.id ≡ None = absent c.self.inside c.args.self.now c.args.id _ c.self.view_is c.get_mut.ensures.value c.in_default.is in
-    subst (λ r. Changes g.F.FnOnce c.args.change (table_in c.args.self.now c.args.id) c.args.stats.now r c.change-2.new.arg2 c.change-2.new.arg3) c.in_ok-answer.was
+    subst (λ r. TableCalls g.F.FnOnce c.args.change (table_in c.args.self.now c.args.id) c.args.stats.now r c.change-2.new.arg2 c.change-2.new.arg3) c.in_ok-answer.was
     (record { table = _; stats = _; shows = (c.new-table.ensures.empty ∙ sym (ap (table_of c.args.id) none), refl); left = _; left_stats = _; met = c.change-2.ensures; leaves = (refl, refl) })
 
 abbrev reserved : (g : given.Over) → goal.Joined-this g → Inside

@@ -1,5 +1,5 @@
 use Rattle.std.proofs.Common.{arith, refl, sym, ◌∙◌}
-use Rattle.raft_table.specs.Entries.{start_of, placed_in}
+use Rattle.raft_table.specs.TableEntries.{start_of, placed_in}
 use Rattle.raft_table.proofs.SoundLemmas.{start_of_front}
 use Rattle.raft_table.proofs.ListTestLemmas.{no_entries_run, rising_more, placed_more, all_run, run_index, run_bound, run_placed}
 use Rattle.std.proofs.lemmas.Bool.{false≢true}

@@ -1,5 +1,5 @@
 use Rattle.std.proofs.Common.{◌≡◌, ◌+◌, take}
-use Rattle.raft_table.specs.Entries.{RisesFrom, start_of, placed_in}
+use Rattle.raft_table.specs.TableEntries.{RisesFrom, start_of, placed_in}
 use Rattle.raft_table.proofs.memtable.change.is_run.Given as goal
 
 abbrev pub invariant-loop-entry : goal.invariant-loop-entry

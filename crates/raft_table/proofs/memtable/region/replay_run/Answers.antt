@@ -1,6 +1,6 @@
 use Rattle.std.proofs.Common.{ap, sym, subst, ◌∙◌, ◌≡◌, ◌<◌, length, Some, []}
 use Rattle.std.proofs.lemmas.Result.{err_from_is_err_and}
-use Rattle.raft_table.specs.Entries.{start_of, end_of}
+use Rattle.raft_table.specs.TableEntries.{start_of, end_of}
 use Rattle.raft_table.specs.Marks.{Stands}
 use Rattle.raft_table.specs.Steps.{Run}
 use Rattle.raft_table.specs.Table.{Table, after_replay}

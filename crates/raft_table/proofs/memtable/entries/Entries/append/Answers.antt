@@ -5,7 +5,7 @@ use Rattle.std.proofs.lemmas.Result.{err_from_is_err_and, on_ok_weaker, IfErr-we
 use Rattle.raft_base.specs.declared.pipe_log.LogQueue.TheVariants.{Append, Rewrite}
 use Rattle.raft_table.specs.Blocks.{BlockSpans, block_spans, shown, spread, expanded, AreDistinctBlocks}
 use Rattle.raft_table.specs.BlockWords.{count, starts_of, AreKept, IsAt, IsIndexOf, cut_last, cut_first, joined_blocks, seam}
-use Rattle.raft_table.specs.Entries.{AreTableEntries, start_of, end_of, below, from, placed_in, entry_count}
+use Rattle.raft_table.specs.TableEntries.{AreTableEntries, start_of, end_of, below, from, placed_in, entry_count}
 use Rattle.raft_table.proofs.PlaceLemmas.{each_queue, entry_count-append, entries_in_one}
 use Rattle.raft_table.proofs.SoundLemmas.{CutCounts, cut_counts, sound_rising, AreTableEntries-take, AreTableEntries-drop, start_of_front}
 use Rattle.raft_table.proofs.BlockLemmas.{length-expanded, length-starts, rises_expanded}
@@ -18,14 +18,14 @@ use Rattle.raft_table.proofs.StartLemmas.{sound_joined}
 use Rattle.raft_table.proofs.GoneLemmas.{counts_joined, on_ok}
 use Rattle.raft_table.proofs.memtable.entries.Entries.append.Goals as goal
 
-pub put_behind-requires-clause-sound : goal.put_behind-requires-clause-sound
-put_behind-requires-clause-sound c =
+pub put_behind-requires-clause-table_entries : goal.put_behind-requires-clause-table_entries
+put_behind-requires-clause-table_entries c =
     let run = c.args.run.items in
     let h : c.deref.result.now ≡ run = c.deref.ensures.value in
     let l : 0 < length run = rw (← h) c.in-Some.ensures.item.3.0 in
     let s : start_of run ≡ c.in-Some.first.now.index = start_of_front run c.in-Some.first.now l (rw (← h) c.in-Some.ensures.item.1) in
     rw (c.in_ok-run-in-Joins.ensures.ok, c.deref-in-Joins.ensures.value)
-    (sound_joined Append c.in-Joins.keep c.args.self.now run c.start.ensures.sound tt c.requires.run l (rw s c.in-Joins.ensures.meets))
+    (sound_joined Append c.in-Joins.keep c.args.self.now run c.start.ensures.table_entries tt c.requires.run l (rw s c.in-Joins.ensures.meets))
 
 pub returns-in-Joins-clause-counts : goal.returns-in-Joins-clause-counts
 returns-in-Joins-clause-counts c =
@@ -35,5 +35,5 @@ returns-in-Joins-clause-counts c =
     let s : start_of run ≡ c.in-Some.first.now.index = start_of_front run c.in-Some.first.now l (rw (← h) c.in-Some.ensures.item.1) in
     let m : IsStart c.args.self.now (start_of run) (Joins c.in-Joins.keep) = rw s c.in-Joins.ensures.meets in
     on_ok c.put_behind.result
-    (λ w. counts_joined Append c.args.self.now run c.in-Joins.keep c.args.stats.now c.put_behind.new.stats c.start.ensures.sound l m.2 m.0 m.1 (rw (c.in_ok-run-in-Joins.ensures.ok, c.deref-in-Joins.ensures.value) at w))
+    (λ w. counts_joined Append c.args.self.now run c.in-Joins.keep c.args.stats.now c.put_behind.new.stats c.start.ensures.table_entries l m.2 m.0 m.1 (rw (c.in_ok-run-in-Joins.ensures.ok, c.deref-in-Joins.ensures.value) at w))
     c.put_behind.ensures.counts

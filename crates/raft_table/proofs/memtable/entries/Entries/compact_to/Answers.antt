@@ -5,7 +5,7 @@ use Rattle.std.proofs.lemmas.Result.{err_from_is_err_and, on_ok_weaker, IfErr-we
 use Rattle.raft_base.specs.declared.pipe_log.LogQueue.TheVariants.{Append, Rewrite}
 use Rattle.raft_table.specs.Blocks.{BlockSpans, block_spans, shown, spread, expanded, AreDistinctBlocks}
 use Rattle.raft_table.specs.BlockWords.{count, starts_of, AreKept, IsAt, IsIndexOf, cut_last, cut_first, joined_blocks, seam}
-use Rattle.raft_table.specs.Entries.{AreTableEntries, start_of, end_of, below, from, placed_in, entry_count}
+use Rattle.raft_table.specs.TableEntries.{AreTableEntries, start_of, end_of, below, from, placed_in, entry_count}
 use Rattle.raft_table.proofs.PlaceLemmas.{each_queue, entry_count-append, entries_in_one}
 use Rattle.raft_table.proofs.SoundLemmas.{CutCounts, cut_counts, sound_rising, AreTableEntries-take, AreTableEntries-drop, from_cut, below_cut}
 use Rattle.raft_table.proofs.BlockLemmas.{length-expanded, length-starts, rises_expanded}
@@ -28,7 +28,7 @@ drop_front-requires c = let l = (kept_facts c.self.invariant).length in rw (← 
 pub delete-requires-2 : goal.delete-requires-2
 delete-requires-2 c =
     let l = (kept_facts c.self.invariant).length in
-    let k = cut_counts c.min-count.result (expanded c.self.inside.first (shown c.self.inside.blocks.items)) c.self.invariant.sound (omega arith) in
+    let k = cut_counts c.min-count.result (expanded c.self.inside.first (shown c.self.inside.blocks.items)) c.self.invariant.table_entries (omega arith) in
     let r = c.self.invariant.rewritten in let a = rw (← c.self.view_is) at (c.requires Append) in omega (arith, c.delete.ensures.live Append)
 
 cut : (c : goal.After-delete-2) → c.drop_front.new.self ≡ drop c.min-count.result (expanded c.self.inside.first (shown c.self.inside.blocks.items))
@@ -38,7 +38,7 @@ pub returns-clause-entries : goal.returns-clause-entries
 returns-clause-entries c =
     let l = (kept_facts c.self.invariant).length in
     let s = (kept_facts c.self.invariant).start (omega arith) in
-    rw (← c.self.view_is, cut c) (from_cut c.args.index c.min-count.result (expanded c.self.inside.first (shown c.self.inside.blocks.items)) c.self.invariant.sound (omega arith) (rw (s, l) c.min-count.ensures))
+    rw (← c.self.view_is, cut c) (from_cut c.args.index c.min-count.result (expanded c.self.inside.first (shown c.self.inside.blocks.items)) c.self.invariant.table_entries (omega arith) (rw (s, l) c.min-count.ensures))
 
 pub returns-clause-dropped : goal.returns-clause-dropped
 returns-clause-dropped c = let l = (kept_facts c.self.invariant).length in rw (← c.self.view_is, cut c, length-drop c.min-count.result (expanded c.self.inside.first (shown c.self.inside.blocks.items))) (omega arith)
@@ -46,7 +46,7 @@ returns-clause-dropped c = let l = (kept_facts c.self.invariant).length in rw (�
 pub returns-clause-recounted : goal.returns-clause-recounted
 returns-clause-recounted c =
     let l = (kept_facts c.self.invariant).length in
-    let k = cut_counts c.min-count.result (expanded c.self.inside.first (shown c.self.inside.blocks.items)) c.self.invariant.sound (omega arith) in
+    let k = cut_counts c.min-count.result (expanded c.self.inside.first (shown c.self.inside.blocks.items)) c.self.invariant.table_entries (omega arith) in
     let r = c.self.invariant.rewritten in
     rw (← c.self.view_is, cut c)
     (each_queue _
@@ -67,9 +67,9 @@ returns-clause-counts c =
     let es = expanded c.self.inside.first (shown c.self.inside.blocks.items) in
     let l = (kept_facts c.self.invariant).length in
     let s = (kept_facts c.self.invariant).start (omega arith) in
-    let k = cut_counts c.min-count.result es c.self.invariant.sound (omega arith) in
+    let k = cut_counts c.min-count.result es c.self.invariant.table_entries (omega arith) in
     let r = c.self.invariant.rewritten in
-    let t = below_cut c.args.index c.min-count.result es c.self.invariant.sound (omega arith) (rw (s, l) c.min-count.ensures) in
+    let t = below_cut c.args.index c.min-count.result es c.self.invariant.table_entries (omega arith) (rw (s, l) c.min-count.ensures) in
     rw (← c.self.view_is, ← t)
     (same_deleted c.args.stats.now c.delete.new.self c.delete-2.new.self _ _ _ _ c.delete.ensures.after c.delete-2.ensures.after
     (omega (arith, k.rewritten, r)) (omega (arith, k.rewritten, k.both, r)))

@@ -5,7 +5,7 @@ use Rattle.std.proofs.lemmas.Result.{err_from_is_err_and, on_ok_weaker, IfErr-we
 use Rattle.raft_base.specs.declared.pipe_log.LogQueue.TheVariants.{Append, Rewrite}
 use Rattle.raft_table.specs.Blocks.{BlockSpans, block_spans, shown, spread, expanded, AreDistinctBlocks}
 use Rattle.raft_table.specs.BlockWords.{count, starts_of, AreKept, IsAt, IsIndexOf, cut_last, cut_first, joined_blocks, seam}
-use Rattle.raft_table.specs.Entries.{AreTableEntries, start_of, end_of, below, from, placed_in, entry_count}
+use Rattle.raft_table.specs.TableEntries.{AreTableEntries, start_of, end_of, below, from, placed_in, entry_count}
 use Rattle.raft_table.proofs.PlaceLemmas.{each_queue, entry_count-append, entries_in_one}
 use Rattle.raft_table.proofs.SoundLemmas.{CutCounts, cut_counts, sound_rising, AreTableEntries-take, AreTableEntries-drop}
 use Rattle.raft_table.proofs.BlockLemmas.{length-expanded, length-starts, rises_expanded}
@@ -49,4 +49,4 @@ returns-clause-ok c =
     let n : c.movable-count.result ≡ prefix_len (is_placed_before c.args.gate) (drop c.self.inside.rewritten (expanded c.self.inside.first (shown c.self.inside.blocks.items))) =
     (rw (← c.self.view_is) at c.movable-count.ensures) ∙ ap (λ xs. prefix_len (is_placed_before c.args.gate) (drop c.self.inside.rewritten xs)) (take_all c.self.inside.len (expanded c.self.inside.first (shown c.self.inside.blocks.items)) (omega arith)) in
     rw (← c.self.view_is)
-    (on_ok_weaker c.extend.result (λ h. (rw (← c.self.view_is) at h) ∙ ap (λ xs. c.args.vec.now.items ++ xs) (sym (appended_before_is c.args.gate c.movable-count.result c.self.inside.rewritten (expanded c.self.inside.first (shown c.self.inside.blocks.items)) c.self.invariant.sound c.self.invariant.rewritten n))) c.extend.ensures.ok)
+    (on_ok_weaker c.extend.result (λ h. (rw (← c.self.view_is) at h) ∙ ap (λ xs. c.args.vec.now.items ++ xs) (sym (appended_before_is c.args.gate c.movable-count.result c.self.inside.rewritten (expanded c.self.inside.first (shown c.self.inside.blocks.items)) c.self.invariant.table_entries c.self.invariant.rewritten n))) c.extend.ensures.ok)

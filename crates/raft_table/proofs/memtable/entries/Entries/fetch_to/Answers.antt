@@ -5,7 +5,7 @@ use Rattle.std.proofs.lemmas.Result.{err_from_is_err_and, on_ok_weaker, IfErr-we
 use Rattle.raft_base.specs.declared.pipe_log.LogQueue.TheVariants.{Append, Rewrite}
 use Rattle.raft_table.specs.Blocks.{BlockSpans, block_spans, shown, spread, expanded, AreDistinctBlocks}
 use Rattle.raft_table.specs.BlockWords.{count, starts_of, AreKept, IsAt, IsIndexOf, cut_last, cut_first, joined_blocks, seam}
-use Rattle.raft_table.specs.Entries.{AreTableEntries, start_of, end_of, below, from, placed_in, entry_count}
+use Rattle.raft_table.specs.TableEntries.{AreTableEntries, start_of, end_of, below, from, placed_in, entry_count}
 use Rattle.raft_table.proofs.PlaceLemmas.{each_queue, entry_count-append, entries_in_one}
 use Rattle.raft_table.proofs.SoundLemmas.{CutCounts, cut_counts, sound_rising, AreTableEntries-take, AreTableEntries-drop}
 use Rattle.raft_table.proofs.BlockLemmas.{length-expanded, length-starts, rises_expanded}
@@ -30,7 +30,7 @@ pub returns-then-end-self-clause-fault : goal.returns-then-end-self-clause-fault
 returns-then-end-self-clause-fault c =
     let l = (kept_facts c.self.invariant).length in
     let s = (kept_facts c.self.invariant).start (omega arith) in
-    rw (← c.self.view_is, range_behind c.args.begin c.args.end (expanded c.self.inside.first (shown c.self.inside.blocks.items)) c.self.invariant.sound (omega arith) (omega arith) (omega arith) (omega arith)) tt
+    rw (← c.self.view_is, range_behind c.args.begin c.args.end (expanded c.self.inside.first (shown c.self.inside.blocks.items)) c.self.invariant.table_entries (omega arith) (omega arith) (omega arith) (omega arith)) tt
 
 pub count_within-count-requires-clause-within : goal.count_within-count-requires-clause-within
 count_within-count-requires-clause-within c = let l = (kept_facts c.self.invariant).length in rw (← c.self.view_is) (omega arith)
@@ -48,7 +48,7 @@ is_found : (c : goal.After-extend) → range_answer c.args.begin c.args.end c.ar
 is_found c =
     let l = (kept_facts c.self.invariant).length in
     let s = (kept_facts c.self.invariant).start (omega arith) in
-    rw (← c.self.view_is) (range_found c.args.begin c.args.end (expanded c.self.inside.first (shown c.self.inside.blocks.items)) c.self.invariant.sound (omega arith) (omega arith) (omega arith) (omega arith))
+    rw (← c.self.view_is) (range_found c.args.begin c.args.end (expanded c.self.inside.first (shown c.self.inside.blocks.items)) c.self.invariant.table_entries (omega arith) (omega arith) (omega arith) (omega arith))
 
 pub returns-clause-ok : goal.returns-clause-ok
 returns-clause-ok c =
@@ -56,7 +56,7 @@ returns-clause-ok c =
     let s : start_of (expanded c.self.inside.first (shown c.self.inside.blocks.items)) ≡ c.self.inside.first = (kept_facts c.self.invariant).start (omega arith) in
     let w = rw (← c.self.view_is) at c.count_within-count.ensures in
     rw (is_found c, ← c.self.view_is)
-    (on_ok_weaker c.extend.result (λ h. fetched_part c.args.limit c.args.begin c.args.end c.count_within-count.result (expanded c.self.inside.first (shown c.self.inside.blocks.items)) c.args.vec.now.items c.extend.new.vec.items c.self.invariant.sound (omega arith) (omega arith) (rw s w) (rw (s, c.self.view_is) h)) c.extend.ensures.ok)
+    (on_ok_weaker c.extend.result (λ h. fetched_part c.args.limit c.args.begin c.args.end c.count_within-count.result (expanded c.self.inside.first (shown c.self.inside.blocks.items)) c.args.vec.now.items c.extend.new.vec.items c.self.invariant.table_entries (omega arith) (omega arith) (rw s w) (rw (s, c.self.view_is) h)) c.extend.ensures.ok)
 
 pub returns-clause-fault : goal.returns-clause-fault
 returns-clause-fault c =

@@ -5,7 +5,7 @@ use Rattle.std.proofs.lemmas.Result.{err_from_is_err_and, on_ok_weaker, IfErr-we
 use Rattle.raft_base.specs.declared.pipe_log.LogQueue.TheVariants.{Append, Rewrite}
 use Rattle.raft_table.specs.Blocks.{BlockSpans, block_spans, shown, spread, expanded, AreDistinctBlocks}
 use Rattle.raft_table.specs.BlockWords.{count, starts_of, AreKept, IsAt, IsIndexOf, cut_last, cut_first, joined_blocks, seam}
-use Rattle.raft_table.specs.Entries.{AreTableEntries, start_of, end_of, below, from, placed_in, entry_count}
+use Rattle.raft_table.specs.TableEntries.{AreTableEntries, start_of, end_of, below, from, placed_in, entry_count}
 use Rattle.raft_table.proofs.PlaceLemmas.{each_queue, entry_count-append, entries_in_one}
 use Rattle.raft_table.proofs.SoundLemmas.{CutCounts, cut_counts, sound_rising, AreTableEntries-take, AreTableEntries-drop}
 use Rattle.raft_table.proofs.BlockLemmas.{length-expanded, length-starts, rises_expanded}
@@ -24,8 +24,8 @@ push-requires-clause-filled c =
     let n = spans_length c.args.run.now c.loop-at.at c.count_of.result c.count_of.ensures.within in
     rw c.in_ok-spans.ensures.ok (omega arith)
 
-pub push-requires-clause-sound : goal.push-requires-clause-sound
-push-requires-clause-sound c =
+pub push-requires-clause-table_entries : goal.push-requires-clause-table_entries
+push-requires-clause-table_entries c =
     rw (c.loop-at.invariant.0, c.in_ok-spans.ensures.ok, (group_of c.args.run.now c.loop-at.at c.count_of.result c.in-Some.handle _ c.requires c.count_of.ensures.within c.loop-at-test.true c.count_of.ensures.all)) (AreTableEntries-take (c.loop-at.at + c.count_of.result) c.args.run.now c.requires)
 
 pub loop-at-smaller : goal.loop-at-smaller

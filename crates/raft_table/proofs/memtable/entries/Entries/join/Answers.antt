@@ -5,7 +5,7 @@ use Rattle.std.proofs.lemmas.Result.{err_from_is_err_and, on_ok_weaker, IfErr-we
 use Rattle.raft_base.specs.declared.pipe_log.LogQueue.TheVariants.{Append, Rewrite}
 use Rattle.raft_table.specs.Blocks.{BlockSpans, block_spans, shown, spread, expanded, AreDistinctBlocks}
 use Rattle.raft_table.specs.BlockWords.{count, starts_of, AreKept, IsAt, IsIndexOf, cut_last, cut_first, joined_blocks, seam}
-use Rattle.raft_table.specs.Entries.{AreTableEntries, start_of, end_of, below, from, placed_in, entry_count}
+use Rattle.raft_table.specs.TableEntries.{AreTableEntries, start_of, end_of, below, from, placed_in, entry_count}
 use Rattle.raft_table.proofs.PlaceLemmas.{each_queue, entry_count-append, entries_in_one}
 use Rattle.raft_table.proofs.SoundLemmas.{CutCounts, cut_counts, sound_rising, AreTableEntries-take, AreTableEntries-drop}
 use Rattle.raft_table.proofs.BlockLemmas.{length-expanded, length-starts, rises_expanded}
@@ -49,7 +49,7 @@ put_blocks-requires-clause-more c =
 pub overflow_add-self : goal.overflow_add-self
 overflow_add-self c =
     let es = take c.args.keep (expanded c.self.inside.first (shown c.self.inside.blocks.items)) ++ expanded c.run.inside.first (shown c.run.inside.blocks.items) in
-    let s : AreTableEntries es = rw (c.self.view_is, c.run.view_is) c.requires.sound in
+    let s : AreTableEntries es = rw (c.self.view_is, c.run.view_is) c.requires.table_entries in
     let l = (kept_facts c.self.invariant).length in
     let m = (kept_facts c.run.invariant).length in
     let h = rw (← c.self.view_is) at c.requires.keep.1 in
@@ -62,7 +62,7 @@ overflow_add-self c =
 pub overflow_add-self-2 : goal.overflow_add-self-2
 overflow_add-self-2 c =
     let es = take c.args.keep (expanded c.self.inside.first (shown c.self.inside.blocks.items)) ++ expanded c.run.inside.first (shown c.run.inside.blocks.items) in
-    let s : AreTableEntries es = rw (c.self.view_is, c.run.view_is) c.requires.sound in
+    let s : AreTableEntries es = rw (c.self.view_is, c.run.view_is) c.requires.table_entries in
     let l = (kept_facts c.self.invariant).length in
     let m = (kept_facts c.run.invariant).length in
     let m2 = (kept_facts c.run.invariant).both in
@@ -77,7 +77,7 @@ put : (c : goal.After-run-2-1) → IsKeptAs c.self.inside.first (c.args.keep + c
     (take (c.find-whole.result.0 + 1) c.self.inside.starts.items ++ drop (seam (take (c.find-whole.result.0 + 1) (shown c.self.inside.blocks.items)) (shown c.run.inside.blocks.items)) c.run.inside.starts.items ++ drop c.len-rest.result c.self.inside.starts.items)
     (min c.self.inside.rewritten c.args.keep + c.run.inside.rewritten) (take c.args.keep (expanded c.self.inside.first (shown c.self.inside.blocks.items)) ++ expanded c.run.inside.first (shown c.run.inside.blocks.items))
 put c =
-    let s : AreTableEntries (take c.args.keep (expanded c.self.inside.first (shown c.self.inside.blocks.items)) ++ expanded c.run.inside.first (shown c.run.inside.blocks.items)) = rw (c.self.view_is, c.run.view_is) c.requires.sound in
+    let s : AreTableEntries (take c.args.keep (expanded c.self.inside.first (shown c.self.inside.blocks.items)) ++ expanded c.run.inside.first (shown c.run.inside.blocks.items)) = rw (c.self.view_is, c.run.view_is) c.requires.table_entries in
     kept_join c.self.invariant c.run.invariant c.args.keep (c.find-whole.result.0 + 1) (c.find-whole.result.1 + 1) c.len-rest.result c.requires.keep.0
     (let l = (kept_facts c.self.invariant).length in let h = rw (← c.self.view_is) at c.requires.keep.1 in omega arith)
     (front_of c.self.inside.first c.args.keep c.find-whole.result.0 c.find-whole.result.1 (shown c.self.inside.blocks.items) c.self.invariant.distinct c.requires.keep.0 (found c.self.invariant c.find-whole.ensures (c.args.keep - 1) refl (let l = (kept_facts c.self.invariant).length in let h = (rw (← c.self.view_is) at c.requires.keep.1) in let p = c.requires.keep.0 in omega arith)))

@@ -5,7 +5,7 @@ use Rattle.std.proofs.lemmas.Result.{err_from_is_err_and, on_ok_weaker, IfErr-we
 use Rattle.raft_base.specs.declared.pipe_log.LogQueue.TheVariants.{Append, Rewrite}
 use Rattle.raft_table.specs.Blocks.{BlockSpans, block_spans, shown, spread, expanded, AreDistinctBlocks}
 use Rattle.raft_table.specs.BlockWords.{count, starts_of, AreKept, IsAt, IsIndexOf, cut_last, cut_first, joined_blocks, seam}
-use Rattle.raft_table.specs.Entries.{AreTableEntries, start_of, end_of, below, from, placed_in, entry_count}
+use Rattle.raft_table.specs.TableEntries.{AreTableEntries, start_of, end_of, below, from, placed_in, entry_count}
 use Rattle.raft_table.proofs.PlaceLemmas.{each_queue, entry_count-append, entries_in_one}
 use Rattle.raft_table.proofs.SoundLemmas.{CutCounts, cut_counts, sound_rising, AreTableEntries-take, AreTableEntries-drop}
 use Rattle.raft_table.proofs.BlockLemmas.{length-expanded, length-starts, rises_expanded}
@@ -27,7 +27,7 @@ overflow_sub-dropped-2 c = let b = (kept_facts c.self.invariant).both in omega a
 pub delete-requires-2 : goal.delete-requires-2
 delete-requires-2 c =
     let l = (kept_facts c.self.invariant).length in
-    let k = cut_counts c.min-keep.result (expanded c.self.inside.first (shown c.self.inside.blocks.items)) c.self.invariant.sound (omega arith) in
+    let k = cut_counts c.min-keep.result (expanded c.self.inside.first (shown c.self.inside.blocks.items)) c.self.invariant.table_entries (omega arith) in
     let r = c.self.invariant.rewritten in let a = rw (← c.self.view_is) at (c.requires Append) in omega (arith, c.delete.ensures.live Append)
 
 cut : (c : goal.After-delete-2) → c.keep_front.new.self ≡ take c.min-keep.result (expanded c.self.inside.first (shown c.self.inside.blocks.items))
@@ -37,12 +37,12 @@ pub returns-clause-entries : goal.returns-clause-entries
 returns-clause-entries c =
     let l = (kept_facts c.self.invariant).length in
     let s = (kept_facts c.self.invariant).start (omega arith) in
-    rw (← c.self.view_is, cut c) (front_below c.args.index c.self.inside.first c.min-keep.result (expanded c.self.inside.first (shown c.self.inside.blocks.items)) c.self.invariant.sound s (omega arith))
+    rw (← c.self.view_is, cut c) (front_below c.args.index c.self.inside.first c.min-keep.result (expanded c.self.inside.first (shown c.self.inside.blocks.items)) c.self.invariant.table_entries s (omega arith))
 
 pub returns-clause-recounted : goal.returns-clause-recounted
 returns-clause-recounted c =
     let l = (kept_facts c.self.invariant).length in
-    let k = cut_counts c.min-keep.result (expanded c.self.inside.first (shown c.self.inside.blocks.items)) c.self.invariant.sound (omega arith) in
+    let k = cut_counts c.min-keep.result (expanded c.self.inside.first (shown c.self.inside.blocks.items)) c.self.invariant.table_entries (omega arith) in
     let r = c.self.invariant.rewritten in
     rw (← c.self.view_is, cut c)
     (each_queue _

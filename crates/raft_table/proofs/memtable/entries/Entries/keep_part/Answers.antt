@@ -1,5 +1,5 @@
 use Rattle.std.proofs.Common.{sym, ap, ◌∙◌}
-use Rattle.raft_table.specs.Entries.{below}
+use Rattle.raft_table.specs.TableEntries.{below}
 use Rattle.raft_table.specs.Marks.{part}
 use Rattle.raft_table.proofs.MarkWords.{part-from}
 use Rattle.raft_table.proofs.CutLemmas.{part-cut}

@@ -5,7 +5,7 @@ use Rattle.std.proofs.lemmas.Result.{err_from_is_err_and, on_ok_weaker, IfErr-we
 use Rattle.raft_base.specs.declared.pipe_log.LogQueue.TheVariants.{Append, Rewrite}
 use Rattle.raft_table.specs.Blocks.{BlockSpans, block_spans, shown, spread, expanded, AreDistinctBlocks}
 use Rattle.raft_table.specs.BlockWords.{count, starts_of, AreKept, IsAt, IsIndexOf, cut_last, cut_first, joined_blocks, seam}
-use Rattle.raft_table.specs.Entries.{AreTableEntries, start_of, end_of, below, from, placed_in, entry_count}
+use Rattle.raft_table.specs.TableEntries.{AreTableEntries, start_of, end_of, below, from, placed_in, entry_count}
 use Rattle.raft_table.proofs.PlaceLemmas.{each_queue, entry_count-append, entries_in_one}
 use Rattle.raft_table.proofs.SoundLemmas.{CutCounts, cut_counts, sound_rising, AreTableEntries-take, AreTableEntries-drop}
 use Rattle.raft_table.proofs.BlockLemmas.{length-expanded, length-starts, rises_expanded}
@@ -21,8 +21,8 @@ slice_bounds-set_places-end c = sym (length-take-le c.movable-moved.result c.arg
 pub set_places-requires-clause-within : goal.set_places-requires-clause-within
 set_places-requires-clause-within c = let n = (length-take-le c.movable-moved.result c.args.places.now (moves c.args.gate c.args.at c.movable-moved.result c.args.self.now c.args.places.now c.holds_one_run.ensures c.requires.within c.requires.rising c.requires.placed c.requires.well_placed c.movable-moved.ensures).within) in let w = (moves c.args.gate c.args.at c.movable-moved.result c.args.self.now c.args.places.now c.holds_one_run.ensures c.requires.within c.requires.rising c.requires.placed c.requires.well_placed c.movable-moved.ensures).within in omega (arith, c.requires.within)
 
-pub set_places-requires-clause-sound : goal.set_places-requires-clause-sound
-set_places-requires-clause-sound c = subst (λ k. AreTableEntries (take c.args.at c.args.self.now ++ take c.movable-moved.result c.args.places.now ++ drop (c.args.at + k) c.args.self.now)) (sym (length-take-le c.movable-moved.result c.args.places.now (moves c.args.gate c.args.at c.movable-moved.result c.args.self.now c.args.places.now c.holds_one_run.ensures c.requires.within c.requires.rising c.requires.placed c.requires.well_placed c.movable-moved.ensures).within)) (moves c.args.gate c.args.at c.movable-moved.result c.args.self.now c.args.places.now c.holds_one_run.ensures c.requires.within c.requires.rising c.requires.placed c.requires.well_placed c.movable-moved.ensures).sound
+pub set_places-requires-clause-table_entries : goal.set_places-requires-clause-table_entries
+set_places-requires-clause-table_entries c = subst (λ k. AreTableEntries (take c.args.at c.args.self.now ++ take c.movable-moved.result c.args.places.now ++ drop (c.args.at + k) c.args.self.now)) (sym (length-take-le c.movable-moved.result c.args.places.now (moves c.args.gate c.args.at c.movable-moved.result c.args.self.now c.args.places.now c.holds_one_run.ensures c.requires.within c.requires.rising c.requires.placed c.requires.well_placed c.movable-moved.ensures).within)) (moves c.args.gate c.args.at c.movable-moved.result c.args.self.now c.args.places.now c.holds_one_run.ensures c.requires.within c.requires.rising c.requires.placed c.requires.well_placed c.movable-moved.ensures).table_entries
 
 pub count_moved-requires-clause-moved : goal.count_moved-requires-clause-moved
 count_moved-requires-clause-moved c = let w = (moves c.args.gate c.args.at c.movable-moved.result c.args.self.now c.args.places.now c.holds_one_run.ensures c.requires.within c.requires.rising c.requires.placed c.requires.well_placed c.movable-moved.ensures).within in omega (arith, c.requires.written)

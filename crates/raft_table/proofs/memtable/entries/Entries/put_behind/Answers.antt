@@ -5,7 +5,7 @@ use Rattle.std.proofs.lemmas.Result.{err_from_is_err_and, on_ok_weaker, IfErr-we
 use Rattle.raft_base.specs.declared.pipe_log.LogQueue.TheVariants.{Append, Rewrite}
 use Rattle.raft_table.specs.Blocks.{BlockSpans, block_spans, shown, spread, expanded, AreDistinctBlocks}
 use Rattle.raft_table.specs.BlockWords.{count, starts_of, AreKept, IsAt, IsIndexOf, cut_last, cut_first, joined_blocks, seam}
-use Rattle.raft_table.specs.Entries.{AreTableEntries, start_of, end_of, below, from, placed_in, entry_count}
+use Rattle.raft_table.specs.TableEntries.{AreTableEntries, start_of, end_of, below, from, placed_in, entry_count}
 use Rattle.raft_table.proofs.PlaceLemmas.{each_queue, entry_count-append, entries_in_one}
 use Rattle.raft_table.proofs.SoundLemmas.{CutCounts, cut_counts, sound_rising, AreTableEntries-take, AreTableEntries-drop}
 use Rattle.raft_table.proofs.BlockLemmas.{length-expanded, length-starts, rises_expanded}
@@ -30,7 +30,7 @@ has_room-requires-clause-appended c =
     let l = (kept_facts c.self.invariant).length in
     let b = (kept_facts c.self.invariant).both in
     let h = rw (← c.self.view_is) at c.requires.keep in
-    let k = cut_counts c.args.keep (expanded c.self.inside.first (shown c.self.inside.blocks.items)) c.self.invariant.sound h in
+    let k = cut_counts c.args.keep (expanded c.self.inside.first (shown c.self.inside.blocks.items)) c.self.invariant.table_entries h in
     let r = c.self.invariant.rewritten in
     omega (arith, rw (← c.self.view_is) at (c.requires.counted Append))
 
@@ -39,7 +39,7 @@ exchange-requires-clause-appended c =
     let l = (kept_facts c.self.invariant).length in
     let b = (kept_facts c.self.invariant).both in
     let h = rw (← c.self.view_is) at c.requires.keep in
-    let k = cut_counts c.args.keep (expanded c.self.inside.first (shown c.self.inside.blocks.items)) c.self.invariant.sound h in
+    let k = cut_counts c.args.keep (expanded c.self.inside.first (shown c.self.inside.blocks.items)) c.self.invariant.table_entries h in
     let r = c.self.invariant.rewritten in
     omega (arith, rw (← c.self.view_is) at (c.requires.counted Append))
 
@@ -52,7 +52,7 @@ returns-then-not-has_room-clause-fault c =
     let l = (kept_facts c.self.invariant).length in
     let b = (kept_facts c.self.invariant).both in
     let h = rw (← c.self.view_is) at c.requires.keep in
-    let k = cut_counts c.args.keep (expanded c.self.inside.first (shown c.self.inside.blocks.items)) c.self.invariant.sound h in
+    let k = cut_counts c.args.keep (expanded c.self.inside.first (shown c.self.inside.blocks.items)) c.self.invariant.table_entries h in
     let r = c.self.invariant.rewritten in
     let m : c.run.inside.len ≡ length c.args.run.now = sym (rw (← c.run.view_is) (kept_facts c.run.invariant).length) in
     rw (← c.self.view_is)
@@ -71,7 +71,7 @@ returns-clause-recounted c =
     let l = (kept_facts c.self.invariant).length in
     let b = (kept_facts c.self.invariant).both in
     let h = rw (← c.self.view_is) at c.requires.keep in
-    let k = cut_counts c.args.keep (expanded c.self.inside.first (shown c.self.inside.blocks.items)) c.self.invariant.sound h in
+    let k = cut_counts c.args.keep (expanded c.self.inside.first (shown c.self.inside.blocks.items)) c.self.invariant.table_entries h in
     let r = c.self.invariant.rewritten in
     let m : c.run.inside.len ≡ length c.args.run.now = sym (rw (← c.run.view_is) (kept_facts c.run.invariant).length) in
     let i = in_queue c in
@@ -86,7 +86,7 @@ returns-clause-counts c =
     let l = (kept_facts c.self.invariant).length in
     let b = (kept_facts c.self.invariant).both in
     let h = rw (← c.self.view_is) at c.requires.keep in
-    let k = cut_counts c.args.keep (expanded c.self.inside.first (shown c.self.inside.blocks.items)) c.self.invariant.sound h in
+    let k = cut_counts c.args.keep (expanded c.self.inside.first (shown c.self.inside.blocks.items)) c.self.invariant.table_entries h in
     let r = c.self.invariant.rewritten in
     let m : c.run.inside.len ≡ length c.args.run.now = sym (rw (← c.run.view_is) (kept_facts c.run.invariant).length) in
     rw (← c.self.view_is)

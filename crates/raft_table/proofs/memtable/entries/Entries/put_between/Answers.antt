@@ -5,7 +5,7 @@ use Rattle.std.proofs.lemmas.Result.{on_ok_weaker}
 use Rattle.raft_table.specs.declared.memtable.block.Block.{Block}
 use Rattle.raft_table.specs.Blocks.{BlockSpans, block_spans, shown, expanded}
 use Rattle.raft_table.specs.BlockWords.{count, starts_of, AreKept, IsAt, IsIndexOf, advanced, cut_last, joined_blocks, seam}
-use Rattle.raft_table.specs.Entries.{AreTableEntries}
+use Rattle.raft_table.specs.TableEntries.{AreTableEntries}
 use Rattle.raft_table.proofs.BlockLemmas.{length-expanded, length-starts}
 use Rattle.raft_table.proofs.BlockCuts.{found, index_of, kept_length, kept_facts}
 use Rattle.raft_table.proofs.BlockQueues.{block_at, block_within, place_inside}
@@ -78,7 +78,7 @@ put c =
     let es = expanded c.self.inside.first (shown c.self.inside.blocks.items) in
     let fs = expanded c.run.inside.first (shown c.run.inside.blocks.items) in
     let b = block_at c.self.inside.blocks.items c.index-block.result.now (found c.self.invariant c.find-whole.ensures (c.args.at + c.run.inside.len) refl (between_fits c.self.invariant c.run.invariant c.args.at (rw (← c.run.view_is) at c.requires.run) (rw (← c.self.view_is, ← c.run.view_is) at c.requires.behind)).1) c.index-block.ensures in
-    let s : AreTableEntries (take c.args.at es ++ fs ++ drop (c.args.at + length fs) es) = rw (c.self.view_is, c.run.view_is) c.requires.sound in
+    let s : AreTableEntries (take c.args.at es ++ fs ++ drop (c.args.at + length fs) es) = rw (c.self.view_is, c.run.view_is) c.requires.table_entries in
     put_between c.self.invariant c.run.invariant c.args.at c.cut_at-place.result.0 c.cut_at-place.result.1 c.find-whole.result.0 c.find-whole.result.1 (c.self.inside.first + (c.args.at + c.run.inside.len)) (block_spans c.index-block.result.now) (record { handle = c.index-block.result.now.handle; spans = c.in_ok-spans.spans.items })
     c.cut_at-place.ensures.none (λ l. c.cut_at-place.ensures.some (shown c.self.inside.blocks.items) l c.self.invariant.starts (let f = (between_fits c.self.invariant c.run.invariant c.args.at (rw (← c.run.view_is) at c.requires.run) (rw (← c.self.view_is, ← c.run.view_is) at c.requires.behind)) in let g = f.1 in let n = c.self.invariant.len in omega arith)) (found c.self.invariant c.find-whole.ensures (c.args.at + c.run.inside.len) refl (between_fits c.self.invariant c.run.invariant c.args.at (rw (← c.run.view_is) at c.requires.run) (rw (← c.self.view_is, ← c.run.view_is) at c.requires.behind)).1) (between_fits c.self.invariant c.run.invariant c.args.at (rw (← c.run.view_is) at c.requires.run) (rw (← c.self.view_is, ← c.run.view_is) at c.requires.behind)).0 refl b.same
     (ap (λ (ss : List (ℕ × ℕ)). advanced 0 (record { handle = c.index-block.result.now.handle; spans = ss })) c.in_ok-spans.ensures.ok)

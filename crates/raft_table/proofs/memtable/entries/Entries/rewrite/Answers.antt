@@ -6,7 +6,7 @@ use Rattle.raft_base.specs.declared.pipe_log.LogQueue.TheVariants.{Rewrite}
 use Rattle.raft_records.specs.declared.entry_index.EntryIndex.{EntryIndex}
 use Rattle.raft_table.specs.Counts.{Counts, live, with_deleted}
 use Rattle.raft_table.specs.Start.{IsCorruptionError}
-use Rattle.raft_table.specs.Entries.{start_of}
+use Rattle.raft_table.specs.TableEntries.{start_of}
 use Rattle.raft_table.specs.Rewriting.{rewritten, with_rewritten, IsRewriteFault, MovesPlacesAlone}
 use Rattle.raft_table.proofs.SoundLemmas.{start_of_front, no_first}
 use Rattle.raft_table.proofs.RewriteLemmas.{RewritesAt, rewrites_at, rewritten_none, rewritten_apart, recounted_apart, recounted_is, run_end}
@@ -36,7 +36,7 @@ start_apart : (c : goal.After-count_unmoved) → start_of c.args.run.now ≡ c.i
 start_apart c = start_of_front c.args.run.now c.in-Some.head.now c.in-Some.ensures.item.3.0 c.in-Some.ensures.item.1
 
 apart : (c : goal.After-count_unmoved) → rewritten c.args.gate c.args.run.now c.args.self.now ≡ Some c.args.self.now
-apart c = rewritten_apart c.args.gate Rewrite c.args.run.now c.args.self.now c.overlap.ensures.sound c.requires.run c.in-Some.ensures.item.3.0 (rw (start_apart c) c.in_default-overlap.ensures.meets)
+apart c = rewritten_apart c.args.gate Rewrite c.args.run.now c.args.self.now c.overlap.ensures.table_entries c.requires.run c.in-Some.ensures.item.3.0 (rw (start_apart c) c.in_default-overlap.ensures.meets)
 
 pub returns-in_default-overlap-clause-ok : goal.returns-in_default-overlap-clause-ok
 returns-in_default-overlap-clause-ok c = on_ok_weaker c.count_unmoved.result (λ h. apart c) c.count_unmoved.ensures.ok
@@ -44,7 +44,7 @@ returns-in_default-overlap-clause-ok c = on_ok_weaker c.count_unmoved.result (λ
 pub returns-in_default-overlap-clause-counts : goal.returns-in_default-overlap-clause-counts
 returns-in_default-overlap-clause-counts c =
     on_ok_weaker c.count_unmoved.result
-    (λ h. h ∙ sym (recounted_apart c.args.gate Rewrite c.args.run.now c.args.self.now c.args.stats.now c.overlap.ensures.sound c.requires.run c.in-Some.ensures.item.3.0 (rw (start_apart c) c.in_default-overlap.ensures.meets)))
+    (λ h. h ∙ sym (recounted_apart c.args.gate Rewrite c.args.run.now c.args.self.now c.args.stats.now c.overlap.ensures.table_entries c.requires.run c.in-Some.ensures.item.3.0 (rw (start_apart c) c.in_default-overlap.ensures.meets)))
     c.count_unmoved.ensures.ok
 
 pub returns-in_default-overlap-clause-fault : goal.returns-in_default-overlap-clause-fault
@@ -56,7 +56,7 @@ start_memory : (c : goal.After-from_residual) → start_of c.args.run.now ≡ c.
 start_memory c = start_of_front c.args.run.now c.in-Some.head.now c.in-Some.ensures.item.3.0 c.in-Some.ensures.item.1
 
 at_memory : (c : goal.After-from_residual) → RewritesAt c.args.gate c.args.run.now c.args.self.now c.in-Some-overlap.overlap.at c.in-Some-overlap.overlap.skipped c.in-Some-overlap.overlap.count
-at_memory c = rewrites_at c.args.gate c.args.run.now c.args.self.now c.in-Some-overlap.overlap c.overlap.ensures.sound c.requires.run c.in-Some.ensures.item.3.0 (rw (start_memory c) c.in-Some-overlap.ensures.meets)
+at_memory c = rewrites_at c.args.gate c.args.run.now c.args.self.now c.in-Some-overlap.overlap c.overlap.ensures.table_entries c.requires.run c.in-Some.ensures.item.3.0 (rw (start_memory c) c.in-Some-overlap.ensures.meets)
 
 pub returns-in_err-corruption-clause-fault : goal.returns-in_err-corruption-clause-fault
 returns-in_err-corruption-clause-fault c =
@@ -72,7 +72,7 @@ start_refused : (c : goal.In_ok-corruption) → start_of c.args.run.now ≡ c.in
 start_refused c = start_of_front c.args.run.now c.in-Some.head.now c.in-Some.ensures.item.3.0 c.in-Some.ensures.item.1
 
 at_refused : (c : goal.In_ok-corruption) → RewritesAt c.args.gate c.args.run.now c.args.self.now c.in-Some-overlap.overlap.at c.in-Some-overlap.overlap.skipped c.in-Some-overlap.overlap.count
-at_refused c = rewrites_at c.args.gate c.args.run.now c.args.self.now c.in-Some-overlap.overlap c.overlap.ensures.sound c.requires.run c.in-Some.ensures.item.3.0 (rw (start_refused c) c.in-Some-overlap.ensures.meets)
+at_refused c = rewrites_at c.args.gate c.args.run.now c.args.self.now c.in-Some-overlap.overlap c.overlap.ensures.table_entries c.requires.run c.in-Some.ensures.item.3.0 (rw (start_refused c) c.in-Some-overlap.ensures.meets)
 
 pub returns-then-is_misplaced-clause-fault : goal.returns-then-is_misplaced-clause-fault
 returns-then-is_misplaced-clause-fault c =
@@ -83,7 +83,7 @@ start_places : (c : goal.After-move_places-arg-2-1) → start_of c.args.run.now 
 start_places c = start_of_front c.args.run.now c.in-Some.head.now c.in-Some.ensures.item.3.0 c.in-Some.ensures.item.1
 
 at_places : (c : goal.After-move_places-arg-2-1) → RewritesAt c.args.gate c.args.run.now c.args.self.now c.in-Some-overlap.overlap.at c.in-Some-overlap.overlap.skipped c.in-Some-overlap.overlap.count
-at_places c = rewrites_at c.args.gate c.args.run.now c.args.self.now c.in-Some-overlap.overlap c.overlap.ensures.sound c.requires.run c.in-Some.ensures.item.3.0 (rw (start_places c) c.in-Some-overlap.ensures.meets)
+at_places c = rewrites_at c.args.gate c.args.run.now c.args.self.now c.in-Some-overlap.overlap c.overlap.ensures.table_entries c.requires.run c.in-Some.ensures.item.3.0 (rw (start_places c) c.in-Some-overlap.ensures.meets)
 
 pub move_places-requires-clause-rising : goal.move_places-requires-clause-rising
 move_places-requires-clause-rising c = (at_places c).rising
@@ -95,7 +95,7 @@ start_moved : (c : goal.After-move_places) → start_of c.args.run.now ≡ c.in-
 start_moved c = start_of_front c.args.run.now c.in-Some.head.now c.in-Some.ensures.item.3.0 c.in-Some.ensures.item.1
 
 at_moved : (c : goal.After-move_places) → RewritesAt c.args.gate c.args.run.now c.args.self.now c.in-Some-overlap.overlap.at c.in-Some-overlap.overlap.skipped c.in-Some-overlap.overlap.count
-at_moved c = rewrites_at c.args.gate c.args.run.now c.args.self.now c.in-Some-overlap.overlap c.overlap.ensures.sound c.requires.run c.in-Some.ensures.item.3.0 (rw (start_moved c) c.in-Some-overlap.ensures.meets)
+at_moved c = rewrites_at c.args.gate c.args.run.now c.args.self.now c.in-Some-overlap.overlap c.overlap.ensures.table_entries c.requires.run c.in-Some.ensures.item.3.0 (rw (start_moved c) c.in-Some-overlap.ensures.meets)
 
 pub returns-clause-ok : goal.returns-clause-ok
 returns-clause-ok c =
@@ -128,5 +128,5 @@ pub returns-clause-places_alone : goal.returns-clause-places_alone
 returns-clause-places_alone c =
     let met = c.in-Some-overlap.overlap in
     on_ok_weaker c.move_places.result
-    (λ h. subst (MovesPlacesAlone c.args.run.now c.args.self.now) (sym h.0) (moved_alone c.args.gate c.args.run.now c.args.self.now met.at met.skipped met.count c.overlap.ensures.sound (at_moved c)))
+    (λ h. subst (MovesPlacesAlone c.args.run.now c.args.self.now) (sym h.0) (moved_alone c.args.gate c.args.run.now c.args.self.now met.at met.skipped met.count c.overlap.ensures.table_entries (at_moved c)))
     c.move_places.ensures.ok

@@ -5,7 +5,7 @@ use Rattle.std.proofs.lemmas.Result.{on_ok_weaker}
 use Rattle.raft_table.specs.declared.memtable.block.Block.{Block}
 use Rattle.raft_table.specs.Blocks.{BlockSpans, block_spans, shown, expanded}
 use Rattle.raft_table.specs.BlockWords.{count, starts_of, AreKept, IsAt, IsIndexOf, advanced, cut_last, joined_blocks, seam}
-use Rattle.raft_table.specs.Entries.{AreTableEntries}
+use Rattle.raft_table.specs.TableEntries.{AreTableEntries}
 use Rattle.raft_table.proofs.BlockLemmas.{length-expanded, length-starts}
 use Rattle.raft_table.proofs.BlockCuts.{found, index_of, kept_length, kept_facts}
 use Rattle.raft_table.proofs.BlockQueues.{block_at, block_within, place_inside}
@@ -18,7 +18,7 @@ pub overflow_add-at : goal.overflow_add-at
 overflow_add-at c = let l = (kept_facts c.self.invariant).length in let h = rw (← c.self.view_is) at c.requires.within in let r = c.self.ranges in omega (arith, c.self.ranges)
 
 pub from_run-requires : goal.from_run-requires
-from_run-requires c = middle_sound (take c.args.at c.args.self.now) c.args.places.now (drop (c.args.at + length c.args.places.now) c.args.self.now) c.requires.sound
+from_run-requires c = middle_sound (take c.args.at c.args.self.now) c.args.places.now (drop (c.args.at + length c.args.places.now) c.args.self.now) c.requires.table_entries
 
 pub put_between-requires-clause-behind : goal.put_between-requires-clause-behind
 put_between-requires-clause-behind c =
@@ -29,12 +29,12 @@ put_between-requires-clause-behind c =
 behind : (at m n : ℕ) {X : Type 0} (xs : List X) → length xs ≡ n → n ≤ at + m → drop (at + m) xs ≡ []
 behind at m n xs e l = drop_all (at + m) xs (omega arith)
 
-pub put_run-requires-clause-sound : goal.put_run-requires-clause-sound
-put_run-requires-clause-sound c =
+pub put_run-requires-clause-table_entries : goal.put_run-requires-clause-table_entries
+put_run-requires-clause-table_entries c =
     let l = (kept_facts c.self.invariant).length in
     let e = rw c.self.view_is at (behind c.args.at (length c.args.places.now) c.self.inside.len (expanded c.self.inside.first (shown c.self.inside.blocks.items)) l c.if-at-places.false) in
     subst (λ xs. AreTableEntries (take c.args.at c.args.self.now ++ xs)) (sym c.in_ok-run.ensures.ok)
-    (subst AreTableEntries (ap (λ zs. take c.args.at c.args.self.now ++ c.args.places.now ++ zs) e ∙ append-nil (take c.args.at c.args.self.now ++ c.args.places.now)) c.requires.sound)
+    (subst AreTableEntries (ap (λ zs. take c.args.at c.args.self.now ++ c.args.places.now ++ zs) e ∙ append-nil (take c.args.at c.args.self.now ++ c.args.places.now)) c.requires.table_entries)
 
 pub returns-clause-ok : goal.returns-clause-ok
 returns-clause-ok c =

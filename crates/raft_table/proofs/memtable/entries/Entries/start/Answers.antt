@@ -5,7 +5,7 @@ use Rattle.std.proofs.lemmas.Result.{err_from_is_err_and, on_ok_weaker, IfErr-we
 use Rattle.raft_base.specs.declared.pipe_log.LogQueue.TheVariants.{Append, Rewrite}
 use Rattle.raft_table.specs.Blocks.{BlockSpans, block_spans, shown, spread, expanded, AreDistinctBlocks}
 use Rattle.raft_table.specs.BlockWords.{count, starts_of, AreKept, IsAt, IsIndexOf, cut_last, cut_first, joined_blocks, seam}
-use Rattle.raft_table.specs.Entries.{AreTableEntries, start_of, end_of, below, from, placed_in, entry_count}
+use Rattle.raft_table.specs.TableEntries.{AreTableEntries, start_of, end_of, below, from, placed_in, entry_count}
 use Rattle.raft_table.proofs.PlaceLemmas.{each_queue, entry_count-append, entries_in_one}
 use Rattle.raft_table.proofs.SoundLemmas.{CutCounts, cut_counts, sound_rising, AreTableEntries-take, AreTableEntries-drop}
 use Rattle.raft_table.proofs.BlockLemmas.{length-expanded, length-starts, rises_expanded}
@@ -21,16 +21,16 @@ pub returns-then-index-self-clause-meets : goal.returns-then-index-self-clause-m
 returns-then-index-self-clause-meets c =
     let l = (kept_facts c.self.invariant).length in
     let s = (kept_facts c.self.invariant).start (omega arith) in
-    rw (← c.self.view_is) (start_in_front c.args.index (expanded c.self.inside.first (shown c.self.inside.blocks.items)) c.self.invariant.sound (omega arith) (omega arith))
+    rw (← c.self.view_is) (start_in_front c.args.index (expanded c.self.inside.first (shown c.self.inside.blocks.items)) c.self.invariant.table_entries (omega arith) (omega arith))
 
 pub returns-then-below-self-clause-meets : goal.returns-then-below-self-clause-meets
 returns-then-below-self-clause-meets c =
     let l = (kept_facts c.self.invariant).length in
     let s = (kept_facts c.self.invariant).start (omega arith) in
-    rw (← c.self.view_is) (start_behind c.args.index (expanded c.self.inside.first (shown c.self.inside.blocks.items)) c.self.invariant.sound (omega arith) (omega arith))
+    rw (← c.self.view_is) (start_behind c.args.index (expanded c.self.inside.first (shown c.self.inside.blocks.items)) c.self.invariant.table_entries (omega arith) (omega arith))
 
 pub returns-clause-meets : goal.returns-clause-meets
 returns-clause-meets c =
     let l = (kept_facts c.self.invariant).length in
     let s = (kept_facts c.self.invariant).start (omega arith) in
-    rw (← c.self.view_is) (start_joins c.args.index (c.args.index - c.self.inside.first) (expanded c.self.inside.first (shown c.self.inside.blocks.items)) c.self.invariant.sound (omega arith) (omega arith) (omega arith))
+    rw (← c.self.view_is) (start_joins c.args.index (c.args.index - c.self.inside.first) (expanded c.self.inside.first (shown c.self.inside.blocks.items)) c.self.invariant.table_entries (omega arith) (omega arith) (omega arith))

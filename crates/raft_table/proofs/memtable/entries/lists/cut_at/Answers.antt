@@ -5,7 +5,7 @@ use Rattle.std.proofs.lemmas.Result.{on_ok_weaker}
 use Rattle.raft_table.specs.declared.memtable.block.Block.{Block}
 use Rattle.raft_table.specs.Blocks.{BlockSpans, block_spans, shown, expanded}
 use Rattle.raft_table.specs.BlockWords.{count, starts_of, AreKept, IsAt, IsIndexOf, advanced, cut_last, joined_blocks, seam}
-use Rattle.raft_table.specs.Entries.{AreTableEntries}
+use Rattle.raft_table.specs.TableEntries.{AreTableEntries}
 use Rattle.raft_table.proofs.BlockLemmas.{length-expanded, length-starts}
 use Rattle.raft_table.proofs.BlockCuts.{found, index_of, kept_length, kept_facts}
 use Rattle.raft_table.proofs.BlockQueues.{block_at, block_within, place_inside}

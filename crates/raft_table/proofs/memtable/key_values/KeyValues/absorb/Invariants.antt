@@ -1,12 +1,12 @@
 use Rattle.std.proofs.Common.{◌≡◌, ◌+◌, ◌≤◌}
 use Rattle.std.specs.FinMap as finite
 use Rattle.raft_base.specs.declared.pipe_log.LogQueue.{LogQueue}
-use Rattle.raft_table.specs.KeyValues.{overlaid, pair_count}
+use Rattle.raft_table.specs.KeyValues.{pairs_over, pair_count}
 use Rattle.raft_table.proofs.memtable.key_values.KeyValues.absorb.Given as goal
 
 abbrev pub invariant-loop-key : goal.invariant-loop-key
 invariant-loop-key l =
-    (overlaid l.rhs l.self ≡ overlaid l.initial.rhs l.initial.self)
+    (pairs_over l.rhs l.self ≡ pairs_over l.initial.rhs l.initial.self)
     × ((q : LogQueue) → pair_count q l.self + pair_count q l.rhs ≤ pair_count q l.initial.self + pair_count q l.initial.rhs)
 
 abbrev pub decreases-loop-key : goal.decreases-loop-key

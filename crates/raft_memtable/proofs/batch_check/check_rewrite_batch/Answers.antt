@@ -2,7 +2,7 @@ use Rattle.std.proofs.Common.{◌+◌, ap, subst, sym, ◌∙◌, map, drop}
 use Rattle.raft_records.specs.Group.{first_marker, or_marker}
 use Rattle.raft_records.specs.Item.{item_of}
 use Rattle.raft_memtable.proofs.BatchCheckLemmas.{IsTested, next_item, none_left, one_more, or_none}
-use Rattle.raft_memtable.proofs.batch_check.check_marked.Goals as goal
+use Rattle.raft_memtable.proofs.batch_check.check_rewrite_batch.Goals as goal
 
 pub loop-item-preserved : goal.loop-item-preserved
 loop-item-preserved c =

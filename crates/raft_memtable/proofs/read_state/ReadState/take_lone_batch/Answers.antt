@@ -4,17 +4,17 @@ use Rattle.raft_history.specs.Contexts.{joined_files}
 use Rattle.raft_memtable.specs.FileRanges.{ranges_shown}
 use Rattle.raft_memtable.specs.ReadStates.{context_in}
 use Rattle.raft_memtable.specs.ReplayMachine.{event}
-use Rattle.raft_memtable.proofs.ReadStateLemmas.{some_range, read_more, unmarked_taken, unmarked_step}
-use Rattle.raft_memtable.proofs.read_state.ReadState.take_unmarked.Goals as goal
+use Rattle.raft_memtable.proofs.ReadStateLemmas.{some_range, read_more, lone_taken, lone_step}
+use Rattle.raft_memtable.proofs.read_state.ReadState.take_lone_batch.Goals as goal
 
 pub returns-in_err-take_items-clause-refused : goal.returns-in_err-take_items-clause-refused
 returns-in_err-take_items-clause-refused c =
     let p = err_from_is_err_and c.from_residual.result c.from_residual.ensures.1 in
-    rw (p.1, p.2) (λ ne. unmarked_step (context_in c.args.self.now) (event c.args.batch c.args.file) c.requires.read c.requires.next c.requires.unmarked (λ room. c.in_err-take_items.ensures.refused room ne))
+    rw (p.1, p.2) (λ ne. lone_step (context_in c.args.self.now) (event c.args.batch c.args.file) c.requires.read c.requires.next c.requires.without_marker (λ room. c.in_err-take_items.ensures.refused room ne))
 
 pub returns-clause-read : goal.returns-clause-read
 returns-clause-read c =
     read_more (context_in c.args.self.now) _ (event c.args.batch c.args.file) c.requires.read c.requires.next
-    (unmarked_taken (context_in c.args.self.now) _ (event c.args.batch c.args.file) c.requires.unmarked c.in_ok-take_items.ensures.ok refl c.in_ok-take_items.ensures.cleaned
+    (lone_taken (context_in c.args.self.now) _ (event c.args.batch c.args.file) c.requires.without_marker c.in_ok-take_items.ensures.ok refl c.in_ok-take_items.ensures.cleaned
     (c.joined-self.ensures ∙ ap (λ f. joined_files (ranges_shown c.args.self.now.files) (some_range f)) c.of.ensures))
     c.in_ok-take_items.ensures.other

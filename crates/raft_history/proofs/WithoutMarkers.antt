@@ -5,7 +5,7 @@ use Rattle.std.specs.List.{AllByRecursion, list_any}
 use Rattle.raft_history.specs.Batches.{ReadBatch}
 use Rattle.raft_history.specs.Effects.{Effect, completed_by, effects_behind, effects, whole_steps, region_steps_in, steps_by, steps_in, all_steps, steps_of, AreApart, EachApart, BatchesApart, is_named}
 use Rattle.raft_history.specs.RegionSteps.{RegionStep, is_on, names, steps_on}
-use Rattle.raft_history.specs.WaitingGroup.{Placed, placed_from, region_steps_of}
+use Rattle.raft_history.specs.WaitingGroup.{Numbered, numbered_from, region_steps_of}
 use Rattle.raft_history.proofs.EffectLemmas.{steps_in-none}
 use Rattle.raft_table.specs.Steps.{Step}
 
@@ -31,7 +31,7 @@ steps_in-some : (r : ℕ) (e : Effect) → steps_in r e ≡ [] → names r (regi
 unfolding whole_steps
 steps_in-some r e h = go e.earlier h
   where
-    go : (l : List Placed) → steps_by r l e.last ≡ [] → names r (region_steps_of l ++ e.last.batch.steps) ≡ false
+    go : (l : List Numbered) → steps_by r l e.last ≡ [] → names r (region_steps_of l ++ e.last.batch.steps) ≡ false
     go [] h = steps_on-some r e.last.batch.steps h
     go (q ∷ qs) h = steps_on-some r (region_steps_of (q ∷ qs) ++ e.last.batch.steps) (head_none _ _ h)
 
@@ -50,32 +50,32 @@ no_steps_unnamed r [] h = refl
 no_steps_unnamed r (e ∷ es) h = rw (steps_in-some r e (head_none _ _ h)) (no_steps_unnamed r es (tail_none (steps_in r e) (flat_map (steps_in r) es) h))
 
 -- without markers (as in the append queue) each batch is an effect, and the effects are apart
-alone : (olds : List Placed) (h : List ReadBatch) (n : ℕ) → AllByRecursion (λ b. b.marker ≡ None) h → effects_behind olds (placed_from n h) ≡ map (λ p. record { earlier = []; last = p }) (placed_from n h)
+alone : (olds : List Numbered) (h : List ReadBatch) (n : ℕ) → AllByRecursion (λ b. b.marker ≡ None) h → effects_behind olds (numbered_from n h) ≡ map (λ p. record { earlier = []; last = p }) (numbered_from n h)
 unfolding effects_behind
 alone olds [] n k = refl
-alone olds (b ∷ bs) n k = ap (λ m. completed_by m olds record { number = n; batch = b } ++ effects_behind (olds ++ record { number = n; batch = b } ∷ []) (placed_from (suc n) bs)) k.0
+alone olds (b ∷ bs) n k = ap (λ m. completed_by m olds record { number = n; batch = b } ++ effects_behind (olds ++ record { number = n; batch = b } ∷ []) (numbered_from (suc n) bs)) k.0
     ∙ ap (λ l. record { earlier = []; last = record { number = n; batch = b } } ∷ l) (alone (olds ++ record { number = n; batch = b } ∷ []) bs (suc n) k.1)
 
-singles_apart : (ps : List Placed) → EachApart (map (λ p. record { earlier = []; last = p }) ps)
+singles_apart : (ps : List Numbered) → EachApart (map (λ p. record { earlier = []; last = p }) ps)
 singles_apart [] = tt
 singles_apart (p ∷ ps) = (each p ps, singles_apart ps)
   where
-    none : (p q : Placed) → AreApart record { earlier = []; last = p } record { earlier = []; last = q }
+    none : (p q : Numbered) → AreApart record { earlier = []; last = p } record { earlier = []; last = q }
     none p q meets (inl g) r a b = g refl
     none p q meets (inr g) r a b = g refl
 
-    each : (p : Placed) (qs : List Placed) → AllByRecursion (AreApart record { earlier = []; last = p }) (map (λ p. record { earlier = []; last = p }) qs)
+    each : (p : Numbered) (qs : List Numbered) → AllByRecursion (AreApart record { earlier = []; last = p }) (map (λ p. record { earlier = []; last = p }) qs)
     each p [] = tt
     each p (q ∷ qs) = (none p q, each p qs)
 
 pub plain_apart : (h : List ReadBatch) → AllByRecursion (λ b. b.marker ≡ None) h → BatchesApart h
-plain_apart h k = record { each = subst EachApart (sym (alone [] h 0 k)) (singles_apart (placed_from 0 h)) }
+plain_apart h k = record { each = subst EachApart (sym (alone [] h 0 k)) (singles_apart (numbered_from 0 h)) }
 
 pub plain_steps : (r : ℕ) (h : List ReadBatch) → AllByRecursion (λ b. b.marker ≡ None) h → steps_of r h ≡ flat_map (λ b. steps_on r b.steps) h
 unfolding all_steps
 plain_steps r h k = ap (all_steps r) (alone [] h 0 k) ∙ go 0 h
   where
-    go : (n : ℕ) (h : List ReadBatch) → flat_map (steps_in r) (map (λ p. record { earlier = []; last = p }) (placed_from n h)) ≡ flat_map (λ b. steps_on r b.steps) h
+    go : (n : ℕ) (h : List ReadBatch) → flat_map (steps_in r) (map (λ p. record { earlier = []; last = p }) (numbered_from n h)) ≡ flat_map (λ b. steps_on r b.steps) h
     go n [] = refl
     go n (b ∷ bs) = ap (λ l. steps_on r b.steps ++ l) (go (suc n) bs)
 

@@ -2,7 +2,7 @@
 
 /// Whether a context reads on.
 #[derive(Clone, Copy, PartialEq, Eq, Debug)]
-pub enum Stage {
+pub enum ContextStage {
     /// It takes in batches and newer neighbours.
     Reading,
     /// It has taken in a context of the append queue: its tables are those of both queues. No call gives this yet.

@@ -14,21 +14,21 @@ use Rattle.raft_memtable.specs.FileRanges.{ranges_shown}
 use Rattle.raft_memtable.specs.MarkedTables.{regions_in, HaveRoom}
 use Rattle.raft_memtable.specs.ReadStates.{context_in, MayTakeEffect}
 use Rattle.raft_memtable.specs.ReplayMachine.{event}
-use Rattle.raft_memtable.proofs.ReadStateLemmas.{some_range, found_some, read_more, marked_taken, marked_step, marked_takes}
-use Rattle.raft_memtable.proofs.read_state.ReadState.take_marked.Goals as goal
+use Rattle.raft_memtable.proofs.ReadStateLemmas.{some_range, found_some, read_more, group_taken, group_step, group_takes}
+use Rattle.raft_memtable.proofs.read_state.ReadState.take_group_batch.Goals as goal
 
 pub take_whole-requires : goal.take_whole-requires
 take_whole-requires c =
     let steps = c.of_items-items.ensures ∙ ap steps_of_items c.into_items.ensures in
     let whole = c.in_ok-whole.ensures.whole ∙ ap (λ is. whole_group (known c.args.self.now.groups c.args.id) (one_marker c.args.status is c.args.file.seq)) steps in
-    subst MayTakeEffect (sym whole) (marked_takes (context_in c.args.self.now) (event c.args.batch c.args.file) c.args.id c.args.status c.requires.read c.requires.next c.requires.marked)
+    subst MayTakeEffect (sym whole) (group_takes (context_in c.args.self.now) (event c.args.batch c.args.file) c.args.id c.args.status c.requires.read c.requires.next c.requires.with_marker)
 
 pub returns-in_err-take_whole-clause-refused : goal.returns-in_err-take_whole-clause-refused
 returns-in_err-take_whole-clause-refused c =
     let steps = c.of_items-items.ensures ∙ ap steps_of_items c.into_items.ensures in
     let whole = c.in_ok-whole.ensures.whole ∙ ap (λ is. whole_group (known c.args.self.now.groups c.args.id) (one_marker c.args.status is c.args.file.seq)) steps in
     let p = err_from_is_err_and c.from_residual-in_err-take_whole.result c.from_residual-in_err-take_whole.ensures.1 in
-    rw (p.1, p.2) (λ ne. marked_step (context_in c.args.self.now) (event c.args.batch c.args.file) c.args.id c.args.status c.requires.read c.requires.next c.requires.marked
+    rw (p.1, p.2) (λ ne. group_step (context_in c.args.self.now) (event c.args.batch c.args.file) c.args.id c.args.status c.requires.read c.requires.next c.requires.with_marker
     (subst (λ o. HaveRoom Rewrite c.args.self.now.regions.accessor.tables (records_or o) → regions_after Rewrite (regions_in c.args.self.now.regions) (region_steps_or o) ≡ None) whole
     (λ room. c.in_err-take_whole.ensures.refused room ne)))
 
@@ -37,10 +37,10 @@ returns-clause-read c =
     let steps = c.of_items-items.ensures ∙ ap steps_of_items c.into_items.ensures in
     let whole = c.in_ok-whole.ensures.whole ∙ ap (λ is. whole_group (known c.args.self.now.groups c.args.id) (one_marker c.args.status is c.args.file.seq)) steps in
     read_more (context_in c.args.self.now) _ (event c.args.batch c.args.file) c.requires.read c.requires.next
-    (marked_taken (context_in c.args.self.now) _ (event c.args.batch c.args.file) c.args.id c.args.status c.requires.marked
+    (group_taken (context_in c.args.self.now) _ (event c.args.batch c.args.file) c.args.id c.args.status c.requires.with_marker
     (subst (λ o. regions_after Rewrite (regions_in c.args.self.now.regions) (region_steps_or o) ≡ Some (regions_in c.take_whole.new.regions)) whole c.in_ok-take_whole.ensures.taken)
     (c.in_ok-whole.ensures.known ∙ ap (λ is. finite.insert c.args.self.now.groups c.args.id (joined_group (known c.args.self.now.groups c.args.id) (one_marker c.args.status is c.args.file.seq))) steps)
     c.in_ok-take_whole.ensures.cleaned
     (c.joined-self.ensures ∙ ap (λ f. joined_files (ranges_shown c.args.self.now.files) (some_range f)) c.of.ensures))
     (subst (λ q. live_in_all (other q) c.take_whole.new.regions.accessor.tables ≤ live_in_all (other q) c.args.self.now.regions.accessor.tables)
-    (sym (found_some c.args.file.queue c.args.batch c.args.id c.args.status c.requires.marked).0) c.in_ok-take_whole.ensures.other)
+    (sym (found_some c.args.file.queue c.args.batch c.args.id c.args.status c.requires.with_marker).0) c.in_ok-take_whole.ensures.other)

@@ -30,7 +30,7 @@ pub fn cut_part(alloc: Global, part: FilePart, count: usize) -> Result<Vec<FileP
     ensures few { 0 < count → IfOk result (λ parts. vec_len parts ≤ count) }
     ensures memory { IfErr result (λ e. e ≡ Error.Memory) }
 {
-    let least = part.bytes().len() / count.max(1);
+    let least = (part.bytes().len() / count.max(1)).max(1);
     let mut parts = Vec::new(alloc);
     let mut left = part;
     while parts.len() + 1 < count {

@@ -226,3 +226,20 @@ cut_among old new part cut same h = (to, from)
         let behind : ReadsParts (part ∷ new) (s.first ++ s.rest) = record { first = s.first; rest = s.rest; first_reads = (same s.first).1 s.first_reads; rest_reads = s.rest_reads; split = refl } in
         subst (ReadsParts (old ++ part ∷ new)) (ap (λ (t : List Event). r.first ++ t) (sym s.split) ∙ sym r.split)
         (each_join ReadsPart old (part ∷ new) r.first (s.first ++ s.rest) r.first_reads behind)
+
+-- one part more is cut off the last
+pub cut_again : (part left front rest : Part) (old new : List Part) (at : ℕ) → AreCutFrom part (old ++ left ∷ []) → at ≤ length left.bytes → BatchesMeet left at
+    → front ≡ front_of left at → rest ≡ rest_of left at → new ≡ old ++ front ∷ [] → AreCutFrom part (new ++ rest ∷ [])
+cut_again part left front rest old new at before inside meet front_is rest_is new_is h =
+    let cut = front_of left at ∷ rest_of left at ∷ [] in
+    let one = before h in
+    let two = cut_among old [] left cut (cut_in_two left at inside meet) h in
+    let same : old ++ cut ++ [] ≡ new ++ rest ∷ [] =
+    append-nil (old ++ cut)
+    ∙ sym (append_assoc old (front_of left at ∷ []) (rest_of left at ∷ []))
+    ∙ ap (λ (p : Part). old ++ p ∷ [] ++ rest_of left at ∷ []) (sym front_is)
+    ∙ ap (λ (l : List Part). l ++ rest_of left at ∷ []) (sym new_is)
+    ∙ ap (λ (p : Part). new ++ p ∷ []) (sym rest_is) in (
+      λ reads. subst (λ (ps : List Part). ReadsParts ps h) same (two.0 (one.0 reads)),
+      λ reads. one.1 (two.1 (subst (λ (ps : List Part). ReadsParts ps h) (sym same) reads)),
+    )

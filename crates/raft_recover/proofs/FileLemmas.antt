@@ -1,8 +1,10 @@
 -- Files as parts, and parts as segments.
-use Rattle.std.proofs.Common.{◌≡◌, ◌↔◌, ℕ, ◌+◌, ◌-◌, ◌*◌, ◌<◌, ◌≤◌, List, [], ◌∷◌, ◌++◌, Vec, length, map, get_or, drop, refl, sym, ap, ◌∙◌, subst, arith}
+use Rattle.std.proofs.Common.{◌≡◌, ◌↔◌, ℕ, ◌+◌, ◌-◌, ◌*◌, ◌<◌, ◌≤◌, List, [], ◌∷◌, ◌++◌, Vec, length, map, get_or, drop, refl, sym, ap, ◌∙◌, subst, arith, append-nil}
 use Rattle.std.specs.Global.{Global}
 use Rattle.std.specs.List.{AllByRecursion, All}
-use Rattle.std.proofs.lemmas.List.Elements.{All-from_recursion, recursion_from_All}
+use Rattle.std.proofs.lemmas.List.Elements.{All-from_recursion, recursion_from_All, All-append}
+use Rattle.std.proofs.lemmas.List.{length-append}
+use Rattle.raft_base.specs.declared.pipe_log.FileId.{FileId}
 use Rattle.raft_base.specs.declared.pipe_log.LogQueue.{LogQueue}
 use Rattle.raft_base.specs.declared.pipe_log.Version.{Version}
 use Rattle.raft_records.specs.FilePart.{Part}
@@ -11,8 +13,8 @@ use Rattle.raft_recover.specs.Files.{whole_file, segment_shown, ReadsFiles}
 use Rattle.raft_recover.specs.Recovery.{PartsAreOf, SegmentsAreOf}
 use Rattle.raft_recover.specs.RequestView.{file_shown}
 use Rattle.raft_recover.specs.Requests.{File}
-use Rattle.raft_recover.specs.Segments.{IsReadBehind, ReadsPart, ReadsParts, ReadsSegments}
-use Rattle.raft_recover.proofs.CutPartLemmas.{uncut}
+use Rattle.raft_recover.specs.Segments.{ReadsPart, ReadsParts, ReadsSegments, AreCutFrom}
+use Rattle.raft_recover.proofs.CutPartLemmas.{uncut, cut_among}
 
 -- ---- files as parts
 
@@ -47,6 +49,49 @@ pub record AreParts (queue : LogQueue) (version : Version) (count : ℕ) (files 
   pub many : length files ≤ length parts + length left
   pub few : length parts + 257 * length left ≤ 257 * length files
   pub whole : count ≡ 1 → length parts + length left ≤ length files
+
+all_same : (queue : LogQueue) (whole : Part) (cut : List Part) → whole.id.queue ≡ queue → AllByRecursion (λ (p : Part). p.id ≡ whole.id) cut → AllByRecursion (λ (p : Part). p.id.queue ≡ queue) cut
+all_same queue whole [] is all = tt
+all_same queue whole (p ∷ ps) is all = (ap (λ (id : FileId). id.queue) all.0 ∙ is, all_same queue whole ps is all.1)
+
+module _ (queue : LogQueue) (version : Version) (count : ℕ) (files : List (ℕ × Vec ℕ Global)) where
+  pub no_parts : AreParts queue version count files files []
+  no_parts = record {
+    read = λ h. (λ reads. reads, λ reads. reads);
+    of_queue = All-from_recursion (λ part. part.id.queue ≡ queue) [] tt;
+    many = omega arith;
+    few = omega arith;
+    whole = λ one. omega arith;
+  }
+
+  -- one file more is cut into parts
+  pub more_parts : (f : ℕ × Vec ℕ Global) (left : List (ℕ × Vec ℕ Global)) (parts cut new : List Part) (whole : Part) → AreParts queue version count files (f ∷ left) parts
+      → whole ≡ whole_file queue version (file_shown f) → AreCutFrom whole cut → All (λ p. p.id ≡ whole.id) cut → 0 < length cut → length cut ≤ count → count ≤ 257
+      → new ≡ parts ++ cut → AreParts queue version count files left new
+  more_parts f left parts cut new whole before is same ids some few most new_is = record {
+    read = λ h.
+        let one = before.read h in
+        let two = cut_among parts (whole_parts queue version left) (whole_file queue version (file_shown f)) cut (subst (λ (p : Part). AreCutFrom p cut) is same) h in (
+          λ reads. subst (λ (ps : List Part). ReadsParts (ps ++ whole_parts queue version left) h) (sym new_is) (two.0 (one.0 reads)),
+          λ reads. one.1 (two.1 (subst (λ (ps : List Part). ReadsParts (ps ++ whole_parts queue version left) h) new_is reads)),
+        );
+    of_queue = subst (PartsAreOf queue) (sym new_is)
+        (All-append (λ part. part.id.queue ≡ queue) parts cut before.of_queue
+        (All-from_recursion (λ part. part.id.queue ≡ queue) cut (all_same queue whole cut (ap (λ (p : Part). p.id.queue) is) (recursion_from_All (λ p. p.id ≡ whole.id) cut ids))));
+    many = let b = before.many in omega (arith, longer, some);
+    few = let b = before.few in omega (arith, longer, few, most);
+    whole = λ one. let b = before.whole one in omega (arith, longer, few, one);
+  }
+    where
+      longer : length new ≡ length parts + length cut
+      longer = ap length new_is ∙ length-append parts cut
+
+  -- all files are cut into parts
+  pub all_parts : (parts : List Part) → AreParts queue version count files [] parts → (h : List Event) → ReadsParts (whole_parts queue version files) h ↔ ReadsParts parts h
+  all_parts parts done h = (
+    λ reads. subst (λ (ps : List Part). ReadsParts ps h) (append-nil parts) ((done.read h).0 reads),
+    λ reads. (done.read h).1 (subst (λ (ps : List Part). ReadsParts ps h) (sym (append-nil parts)) reads),
+  )
 
 -- ---- parts as segments
 

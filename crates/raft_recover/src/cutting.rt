@@ -1,6 +1,6 @@
 //! Files as segments, and parts of files that are cut between batches, so that several workers read one file.
 
-ghost use Rattle.std.specs.Prelude.{◌≡◌, ◌↔◌, ◌*◌, ◌^◌, ◌<◌, ◌≤◌, ℕ, List, [], ◌∷◌, All, IfOk, IfErr, IfSome, length, map, vec_len};
+ghost use Rattle.std.specs.Prelude.{◌≡◌, ◌↔◌, ◌*◌, ◌^◌, ◌<◌, ◌≤◌, ℕ, List, [], ◌∷◌, All, IfOk, IfErr, IfSome, length, map};
 ghost use Rattle.raft_records.specs.FilePart.{HasHeader};
 ghost use Rattle.raft_history.specs.Batches.{Event};
 ghost use Rattle.raft_recover.specs.Cuts.{BatchesMeet};
@@ -26,8 +26,8 @@ use std::mem;
 pub fn cut_part(alloc: Global, part: FilePart, count: usize) -> Result<Vec<FilePart>>
     ensures read { IfOk result (λ parts. AreCutFrom part parts.items) }
     ensures file { IfOk result (λ parts. All (λ p. p.id ≡ part.id) parts.items) }
-    ensures some { IfOk result (λ parts. 0 < vec_len parts) }
-    ensures few { 0 < count → IfOk result (λ parts. vec_len parts ≤ count) }
+    ensures some { IfOk result (λ parts. 0 < length parts.items) }
+    ensures few { 0 < count → IfOk result (λ parts. length parts.items ≤ count) }
     ensures memory { IfErr result (λ e. e ≡ Error.Memory) }
 {
     let least = (part.bytes().len() / count.max(1)).max(1);
@@ -115,9 +115,9 @@ fn file_parts(
     ensures read { IfOk result (λ parts. (h : List Event) →
         ReadsParts (map (λ file. whole_file queue version (file_shown file)) files.items) h ↔ ReadsParts parts.items h) }
     ensures of_queue { IfOk result (λ parts. PartsAreOf queue parts.items) }
-    ensures many { IfOk result (λ parts. length files.items ≤ vec_len parts) }
-    ensures few { IfOk result (λ parts. vec_len parts ≤ 257 * length files.items) }
-    ensures whole { count ≡ 1 → IfOk result (λ parts. vec_len parts ≤ length files.items) }
+    ensures many { IfOk result (λ parts. length files.items ≤ length parts.items) }
+    ensures few { IfOk result (λ parts. length parts.items ≤ 257 * length files.items) }
+    ensures whole { count ≡ 1 → IfOk result (λ parts. length parts.items ≤ length files.items) }
     ensures memory { IfErr result (λ e. e ≡ Error.Memory) }
 {
     let alloc = *files.allocator();

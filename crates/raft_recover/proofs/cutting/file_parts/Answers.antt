@@ -15,7 +15,7 @@ loop-seq-preserved c =
     let whole = c.in_ok-whole.whole in
     let is : whole ≡ whole_file c.args.queue c.args.version (file_shown file) =
     c.in_ok-whole.ensures.ok ∙ ap (λ (id : FileId). record { id = id; version = c.args.version; offset = 0; bytes = c.in-Some.bytes.items }) c.new.ensures in
-    let before = subst (λ (l : List (ℕ × Vec ℕ Global)). AreParts c.args.queue c.args.version c.args.count c.args.files.items l parts) c.in-Some.ensures.steps c.loop-seq.invariant in
+    let before = subst (λ (l : List (ℕ × Vec ℕ Global)). AreParts c.args.queue c.args.version c.args.count c.args.files.items l parts) c.in-Some.ensures.steps.0 c.loop-seq.invariant in
     let cut = c.in_ok-cut_part.ensures in
     more_parts c.args.queue c.args.version c.args.count c.args.files.items file left parts c.in_ok-cut_part.field-0.items c.append.new.self.items whole before is
     cut.read cut.file cut.some (cut.few c.requires.0) c.requires.1 c.in_ok-append.ensures.items

@@ -1,6 +1,6 @@
 -- What is read of a part that is cut between two batches.
 use Rattle.std.proofs.Common.{◌≡◌, ◌↔◌, ℕ, ◌+◌, ◌-◌, ◌<◌, ◌≤◌, List, [], ◌∷◌, ◌++◌, length, map, take, drop, refl, sym, ap, ◌∙◌, subst, arith, append_assoc, append-nil}
-use Rattle.std.proofs.lemmas.List.{drop-take, drop-drop, take-take, length-take, length-take-le, length-drop, length-append, take-append-drop, drop-append-le}
+use Rattle.std.proofs.lemmas.List.{drop-take, drop-drop, take-take, length-take-le, length-drop, take-append-drop, drop-append-le}
 use Rattle.std.proofs.Math.Seq.{take-append-add}
 use Rattle.raft_base.specs.declared.pipe_log.FileBlockHandle.{FileBlockHandle}
 use Rattle.raft_records.specs.declared.compression_type.CompressionType.{CompressionType}

@@ -1,5 +1,5 @@
 -- Files as parts, and parts as segments.
-use Rattle.std.proofs.Common.{◌≡◌, ◌↔◌, ℕ, ◌+◌, ◌-◌, ◌*◌, ◌<◌, ◌≤◌, List, [], ◌∷◌, ◌++◌, Vec, length, map, get_or, drop, refl, sym, ap, ◌∙◌, subst, arith, append-nil}
+use Rattle.std.proofs.Common.{◌≡◌, ◌↔◌, ℕ, ◌+◌, ◌*◌, ◌<◌, ◌≤◌, List, [], ◌∷◌, ◌++◌, Vec, length, map, get_or, drop, refl, sym, ap, ◌∙◌, subst, arith, append-nil}
 use Rattle.std.specs.Global.{Global}
 use Rattle.std.specs.List.{AllByRecursion, All}
 use Rattle.std.proofs.lemmas.List.Elements.{All-from_recursion, recursion_from_All, All-append}
@@ -12,8 +12,7 @@ use Rattle.raft_history.specs.Batches.{Event}
 use Rattle.raft_recover.specs.Files.{whole_file, segment_shown, ReadsFiles}
 use Rattle.raft_recover.specs.Recovery.{PartsAreOf, SegmentsAreOf}
 use Rattle.raft_recover.specs.RequestView.{file_shown}
-use Rattle.raft_recover.specs.Requests.{File}
-use Rattle.raft_recover.specs.Segments.{ReadsPart, ReadsParts, ReadsSegments, AreCutFrom}
+use Rattle.raft_recover.specs.Segments.{ReadsParts, ReadsSegments, AreCutFrom}
 use Rattle.raft_recover.proofs.CutPartLemmas.{uncut, cut_among}
 
 -- ---- files as parts

@@ -1,8 +1,6 @@
 -- What a context that has replayed all segments gives, and files as segments.
-use Rattle.std.proofs.Common.{◌≡◌, ◌≢◌, ◌⊎◌, ◌↔◌, inl, inr, ℕ, List, [], ◌∷◌, ◌++◌, Option, Result, Ok, Err, IfOk, IfErr, OnOk, Vec, length, map, get_or, drop, refl, sym, ap, ◌∙◌, subst, arith, append-nil}
+use Rattle.std.proofs.Common.{◌≡◌, ◌≢◌, ◌⊎◌, ◌↔◌, inl, inr, ℕ, List, [], ◌∷◌, Option, Result, Ok, Err, IfOk, IfErr, OnOk, Vec, sym, subst}
 use Rattle.std.specs.Global.{Global}
-use Rattle.std.specs.List.{AllByRecursion, All}
-use Rattle.std.proofs.lemmas.List.Elements.{All-from_recursion}
 use Rattle.raft_base.specs.declared.errors.Error.{Error}
 use Rattle.raft_base.specs.declared.errors.Error.TheVariants as errors
 use Rattle.raft_base.specs.declared.pipe_log.LogQueue.{LogQueue}
@@ -11,13 +9,13 @@ use Rattle.raft_records.specs.FilePart.{Part}
 use Rattle.raft_records.specs.Lines.{IsIoError}
 use Rattle.raft_history.specs.Batches.{Event}
 use Rattle.raft_history.specs.Contexts.{Suits, files_of}
-use Rattle.raft_history.specs.Histories.{IsSmall, Sound, IsSoundIn, Apart, IsOneReading, IsOfQueue}
+use Rattle.raft_history.specs.Histories.{IsSmall, IsOneReading, IsOfQueue}
 use Rattle.raft_memtable.specs.Accessor.{Accessor, AreCountsOf}
 use Rattle.raft_memtable.specs.RecoverContext.{RecoverContext, IsReading, IsReadingExactly}
 use Rattle.raft_memtable.specs.declared.context_stage.ContextStage.{ContextStage}
 use Rattle.raft_memtable.specs.declared.context_stage.ContextStage.TheVariants as stages
 use Rattle.raft_recover.specs.Files.{ReadsFiles, FilesCannotBeRead, HaveTables, IsPrintFailure, PrintsRecovered}
-use Rattle.raft_recover.specs.Recovery.{IsRecovered, IsReplayed, CannotBeRead, PartsAreOf, SegmentsAreOf}
+use Rattle.raft_recover.specs.Recovery.{IsRecovered, IsReplayed, CannotBeRead, SegmentsAreOf}
 use Rattle.raft_recover.specs.Requests.{File}
 use Rattle.raft_recover.specs.Segments.{ReadsSegments}
 use Rattle.raft_recover.specs.TableLines.{PrintsTables}

@@ -1,4 +1,3 @@
-use Rattle.std.proofs.Common.{length}
 use Rattle.raft_recover.proofs.FileLemmas.{AreParts}
 use Rattle.raft_recover.proofs.cutting.file_parts.Given as goal
 

@@ -2,8 +2,8 @@
 
 use crate::timing::nanoseconds_since;
 use raft_records::Result;
+use raft_recover::cutting::file_segments;
 use raft_recover::recover;
-use raft_recover::recovery::whole_files;
 use raft_recover::request::{Recovery, Request, read_files};
 use std::io;
 use std::rt::Files;
@@ -44,7 +44,7 @@ fn time_files<R: Threads + Files + AllocGlobal + Clock + Sync>(
 ) -> Result<Timed> {
     let alloc = rt.alloc();
     let files = read_files(rt, asked.files)?;
-    let segments = whole_files(asked.queue, asked.version, files)?;
+    let segments = file_segments(asked.queue, asked.version, asked.workers, files)?;
     let mut runs = Vec::with_capacity(alloc, RUNS)?;
     let mut regions = 0;
     for _ in 0..RUNS {

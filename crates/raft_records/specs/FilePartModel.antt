@@ -5,8 +5,8 @@ use Rattle.raft_records.specs.FilePart.{Part}
 
 -- the part: what is kept of it, and its bytes
 abbrev pub part_in : Inside → Part
-part_in p = record { id = p.id; version = p.version; offset = p.offset; bytes = p.bytes.items }
+part_in p = record { id = p.id; version = p.version; offset = p.offset; bytes = p.bytes }
 
 -- a part's bytes end at the last offset at most
 abbrev pub EndsWithin : Inside → Type 0
-EndsWithin p = p.offset + length p.bytes.items < 2 ^ 64
+EndsWithin p = p.offset + length p.bytes < 2 ^ 64

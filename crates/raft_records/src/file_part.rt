@@ -1,6 +1,6 @@
 //! Parts of files, and the batches in them.
 
-ghost use Rattle.std.specs.Prelude.{◌≡◌, ◌≢◌, ℕ, ◌+◌, ◌^◌, ◌<◌, ◌≤◌, length, drop, IfOk, IfErr, IfSome, OnOk, OnErr};
+ghost use Rattle.std.specs.Prelude.{◌≡◌, ◌≢◌, ℕ, ◌+◌, ◌^◌, ◌<◌, ◌≤◌, length, take, drop, IfOk, IfErr, IfSome, OnOk, OnErr};
 ghost use Rattle.raft_base.specs.Reading.{HasNoFront};
 ghost use Rattle.raft_records.specs.FilePart.{IsPartRefusal, IsNext, IsNextFault, part_signature};
 ghost use Rattle.raft_records.specs.ReadIn.{AreReadIn};
@@ -8,7 +8,9 @@ ghost use Rattle.raft_records.specs.LogBatch.{IsReadable};
 
 use crate::LogItemBatch;
 use crate::header::{LOG_BATCH_HEADER_LEN, parse_header};
+use bytes::Bytes;
 use raft_base::{Error, FileBlockHandle, FileId, LogFileContext, Result, Version};
+use std::alloc::Global;
 use std::marker::Model;
 
 /// Bytes of a file, from an offset in it on: log batches one behind the other.
@@ -17,7 +19,8 @@ pub struct FilePart {
     id: FileId,
     version: Version,
     offset: u64,
-    bytes: Vec<u8>,
+    bytes: Bytes,
+    alloc: Global,
 }
 
 impl Model for FilePart {
@@ -33,16 +36,18 @@ impl Model for FilePart {
 }
 
 impl FilePart {
-    /// The bytes of the file `id` from `offset` on. `InvalidArgument` where they end past 2^64 - 1.
+    /// The bytes of the file `id` from `offset` on, which aren't copied. `InvalidArgument` where they end past 2^64 - 1.
+    /// `Memory`.
     pub fn new(id: FileId, version: Version, offset: u64, bytes: Vec<u8>) -> Result<FilePart>
         ensures ok { IfOk result (λ part. part
             ≡ record { id = id; version = version; offset = offset; bytes = bytes.items }) }
         ensures accepted { OnOk result (offset + length bytes.items < 2 ^ 64) }
-        ensures refused { OnErr result (2 ^ 64 ≤ offset + length bytes.items) }
+        ensures refused { IfErr result (λ e. e ≢ Error.Memory → 2 ^ 64 ≤ offset + length bytes.items) }
         ensures fault { IfErr result (IsPartRefusal (offset + length bytes.items)) }
     {
+        let alloc = *bytes.allocator();
         if bytes.len() as u64 > u64::MAX - offset {
-            return Err(Error::InvalidArgument(format!(in *bytes.allocator();
+            return Err(Error::InvalidArgument(format!(in alloc;
                 "a part from {offset} on ends past the last offset"
             )?));
         }
@@ -50,7 +55,32 @@ impl FilePart {
             id,
             version,
             offset,
+            bytes: Bytes::from_vec(bytes)?,
+            alloc,
+        })
+    }
+
+    /// Cuts the part: the bytes in front of `at` stay, and those from there on are handed out as a part of their own. No
+    /// byte is copied.
+    ///
+    /// # Errors
+    ///
+    /// `Memory`. The part is then as it was.
+    pub fn split_off(&mut self, at: usize) -> Result<FilePart>
+        requires { at ≤ length self.old.bytes }
+        ensures front { OnOk result (self.new ≡ record self.old { bytes = take at self.old.bytes }) }
+        ensures rest { IfOk result (λ rest. rest
+            ≡ record self.old { offset = self.old.offset + at; bytes = drop at self.old.bytes }) }
+        ensures err { OnErr result (self.new ≡ self.old) }
+        ensures memory { IfErr result (λ e. e ≡ Error.Memory) }
+    {
+        let bytes = self.bytes.split_off(at)?;
+        Ok(FilePart {
+            id: self.id,
+            version: self.version,
+            offset: self.offset + at as u64,
             bytes,
+            alloc: self.alloc,
         })
     }
 
@@ -99,7 +129,7 @@ pub fn next_batch(part: &FilePart, at: usize) -> Result<Option<(LogItemBatch, us
     if at == part.bytes.len() {
         return Ok(None);
     }
-    let alloc = *part.bytes.allocator();
+    let alloc = part.alloc;
     let (_, rest) = part.bytes().split_at(at);
     let ((offset, compression_type, len), _) = parse_header(alloc, rest)?;
     if len > rest.len() {

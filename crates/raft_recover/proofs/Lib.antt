@@ -1,5 +1,7 @@
 pub mod CoverLemmas
+pub mod CutPartLemmas
 pub mod DrawingLemmas
+pub mod FileLemmas
 pub mod MachineOrderLemmas
 pub mod LiningLemmas
 pub mod OrderLemmas

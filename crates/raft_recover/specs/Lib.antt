@@ -1,4 +1,5 @@
 pub mod Covers
+pub mod Cuts
 pub mod Draws
 pub mod Drawing
 pub mod MachineOrder

@@ -1,5 +1,5 @@
 -- What is read of segments: the batches of their parts, in order.
-use Rattle.std.specs.Prelude.{◌≡◌, ℕ, List, [], ◌∷◌, ◌++◌, length, Vec}
+use Rattle.std.specs.Prelude.{◌≡◌, ◌↔◌, ℕ, List, [], ◌∷◌, ◌++◌, length, Vec}
 use Rattle.std.specs.Global.{Global}
 use Rattle.raft_records.specs.FilePart.{Part, IsBatchAt}
 use Rattle.raft_history.specs.Batches.{Event}
@@ -33,3 +33,7 @@ ReadsParts parts h = ReadsEach ReadsPart parts h
 -- the batches of segments
 abbrev pub ReadsSegments : List (Vec Part Global) → List Event → Type 0
 ReadsSegments segments h = ReadsEach (λ segment. ReadsParts segment.items) segments h
+
+-- the same is read of a part and, one behind the other, of the parts that it is cut into
+abbrev pub AreCutFrom : Part → List Part → Type 0
+AreCutFrom part parts = (h : List Event) → ReadsPart part h ↔ ReadsParts parts h

@@ -1,6 +1,7 @@
 //! Recovery of tables from log files, on 1 to 256 threads, and the program over it.
 #![tactic(auto)]
 
+pub mod cutting;
 mod drawing;
 pub mod gate;
 mod piece;
@@ -17,6 +18,7 @@ pub mod ticket_seat;
 pub mod tickets;
 pub mod workers;
 
+pub use cutting::cut_part;
 pub use gate::{Gate, OpenGate};
 pub use pieces::merge_pieces;
 pub use plan::Plan;

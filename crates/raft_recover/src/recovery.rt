@@ -7,8 +7,6 @@ ghost use Rattle.std.specs.Prelude.{
   ◌^◌,
   ◌<◌,
   ◌≤◌,
-  [],
-  ◌∷◌,
   length,
   IfOk,
   IfErr,
@@ -17,18 +15,18 @@ ghost use Rattle.std.specs.Prelude.{
 };
 ghost use Rattle.std.specs.Io.KnownBytes.{Keeps};
 ghost use Rattle.raft_table.specs.Start.{IsInvalidArgument};
-ghost use Rattle.raft_recover.specs.Files.{whole_file, segment_shown, ReadsFiles, FilesCannotBeRead, IsPrintFailure, PrintsRecovered};
+ghost use Rattle.raft_recover.specs.Files.{FilesCannotBeRead, IsPrintFailure, PrintsRecovered};
 ghost use Rattle.raft_recover.specs.Recovery.{IsRecovered, CannotBeRead, SegmentsAreOf};
 ghost use Rattle.raft_recover.specs.RequestView.{file_shown};
 ghost use Rattle.raft_recover.specs.Segments.{ReadsSegments};
 
+use crate::cutting::file_segments;
 use crate::gate::OpenGate;
 use crate::recovered::print_recovered;
 use crate::segment::Segment;
 use crate::workers::replay_segments;
-use raft_base::{Error, FileId, FileSeq, LogQueue, Result, Version};
+use raft_base::{Error, FileSeq, LogQueue, Result, Version};
 use raft_memtable::{MemTableAccessor, MemTableRecoverContextFactory};
-use raft_records::FilePart;
 use std::alloc::Global;
 use std::io::Write;
 use std::thread::Threads;
@@ -66,8 +64,8 @@ pub fn recover<R: Threads + Sync>(
     context.finish()
 }
 
-/// Prints the tables that the files of a queue give, each file read as one segment: what `raftlog recover` does once it
-/// has read them. The lines are those of [`print_recovered`].
+/// Prints the tables that the files of a queue give: what `raftlog recover` does once it has read them. Where there are
+/// fewer files than workers, files are cut between batches. The lines are those of [`print_recovered`].
 ///
 /// # Errors
 ///
@@ -93,36 +91,8 @@ pub fn recover_bytes<R: Threads + Sync, W: Write>(
     ensures fault { ((0 < workers) × (workers ≤ 256) × (length files.items < 2 ^ 62) → ⊥) →
         IfErr result (λ e. e ≢ Error.Memory → IsInvalidArgument e) }
 {
-    let segments = whole_files(queue, version, files)?;
+    let segments = file_segments(queue, version, workers, files)?;
     let accessor = recover(rt, alloc, segments.as_slice(), queue, workers)?;
     print_recovered(alloc, &accessor, writer)
 }
 
-/// Files of a queue as segments, each of one part with all the file's bytes.
-pub fn whole_files(
-    queue: LogQueue,
-    version: Version,
-    files: Vec<(FileSeq, Vec<u8>)>,
-) -> Result<Vec<Segment>>
-    ensures ok { IfOk result (λ segments. map segment_shown segments.items
-        ≡ map (λ file. whole_file queue version (file_shown file) ∷ []) files.items) }
-    ensures memory { IfErr result (λ e. e ≡ Error.Memory) }
-{
-    let alloc = *files.allocator();
-    let mut segments = Vec::with_capacity(alloc, files.len())?;
-    for (seq, bytes) in files {
-        segments.push(whole_file(FileId::new(queue, seq), version, bytes)?)?;
-    }
-    Ok(segments)
-}
-
-/// All of a file's bytes as a segment.
-fn whole_file(id: FileId, version: Version, bytes: Vec<u8>) -> Result<Segment>
-    ensures ok { IfOk result (λ segment. segment.items
-        ≡ record { id = id; version = version; offset = 0; bytes = bytes.items } ∷ []) }
-    ensures memory { IfErr result (λ e. e ≡ Error.Memory) }
-{
-    let alloc = *bytes.allocator();
-    let part = FilePart::new(id, version, 0, bytes)?;
-    Ok(vec![in alloc; part]?)
-}

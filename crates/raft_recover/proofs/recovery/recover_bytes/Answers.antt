@@ -1,30 +1,29 @@
-use Rattle.std.proofs.Common.{length, ◌<◌, arith, inl}
+use Rattle.std.proofs.Common.{map, inl}
 use Rattle.std.proofs.lemmas.Result.{err_from_is_err_and}
-use Rattle.raft_recover.proofs.RecoveryLemmas.{whole_are_of, as_many, files_refused, tables_printed, tables_found, print_failed}
+use Rattle.raft_recover.specs.RequestView.{file_shown}
+use Rattle.raft_recover.proofs.RecoveryLemmas.{files_refused, tables_printed, tables_found, print_failed}
 use Rattle.raft_recover.proofs.recovery.recover_bytes.Goals as goal
 
 pub returns-in_err-accessor-clause-refused : goal.returns-in_err-accessor-clause-refused
 returns-in_err-accessor-clause-refused g c good =
     let p = err_from_is_err_and c.from_residual-in_err-accessor.result c.from_residual-in_err-accessor.ensures.1 in
-    let whole = c.in_ok-segments.ensures.ok in
-    let many = as_many c.args.queue c.args.version c.in_ok-segments.segments.items c.args.files.items whole in
-    let few : length c.in_ok-segments.segments.items < 4611686018427387904 = let least = good.2 in omega (arith, many) in
-    let of_queue = whole_are_of c.args.queue c.args.version c.in_ok-segments.segments.items c.args.files.items whole in
+    let made = c.in_ok-segments.ensures in
     let refused = rw (c.as_slice.ensures.value) at c.in_err-accessor.ensures.refused in
     rw (p.1, p.2)
-    (λ not_memory. inl (files_refused c.args.queue c.args.version c.in_ok-segments.segments.items c.args.files.items whole (refused (good.0, good.1, few, of_queue) not_memory)))
+    (λ not_memory. inl (files_refused c.args.queue c.args.version c.in_ok-segments.segments.items (map file_shown c.args.files.items) made.read
+    (refused (good.0, good.1, made.count.1 good.2, made.of_queue) not_memory)))
 
 pub returns-clause-ok : goal.returns-clause-ok
 returns-clause-ok g c =
     let recovered = rw (c.as_slice.ensures.value) at c.in_ok-accessor.ensures.ok in
-    tables_printed c.args.queue c.args.version c.in_ok-segments.segments.items c.args.files.items c.in_ok-segments.ensures.ok c.in_ok-accessor.accessor recovered c.print_recovered.result (g.W.Write.contents c.args.writer.now) _ c.print_recovered.ensures.ok
+    tables_printed c.args.queue c.args.version c.in_ok-segments.segments.items (map file_shown c.args.files.items) c.in_ok-segments.ensures.read c.in_ok-accessor.accessor recovered c.print_recovered.result (g.W.Write.contents c.args.writer.now) _ c.print_recovered.ensures.ok
 
 pub returns-clause-silent : goal.returns-clause-silent
 returns-clause-silent g c =
     let recovered = rw (c.as_slice.ensures.value) at c.in_ok-accessor.ensures.ok in
-    tables_found c.args.queue c.args.version c.in_ok-segments.segments.items c.args.files.items c.in_ok-segments.ensures.ok c.in_ok-accessor.accessor recovered c.print_recovered.result _ c.print_recovered.ensures.silent
+    tables_found c.args.queue c.args.version c.in_ok-segments.segments.items (map file_shown c.args.files.items) c.in_ok-segments.ensures.read c.in_ok-accessor.accessor recovered c.print_recovered.result _ c.print_recovered.ensures.silent
 
 pub returns-clause-refused : goal.returns-clause-refused
 returns-clause-refused g c good =
     let recovered = rw (c.as_slice.ensures.value) at c.in_ok-accessor.ensures.ok in
-    print_failed c.args.queue c.args.version c.in_ok-segments.segments.items c.args.files.items c.in_ok-segments.ensures.ok c.in_ok-accessor.accessor recovered c.print_recovered.result c.print_recovered.ensures.fault
+    print_failed c.args.queue c.args.version c.in_ok-segments.segments.items (map file_shown c.args.files.items) c.in_ok-segments.ensures.read c.in_ok-accessor.accessor recovered c.print_recovered.result c.print_recovered.ensures.fault

@@ -95,4 +95,3 @@ pub fn recover_bytes<R: Threads + Sync, W: Write>(
     let accessor = recover(rt, alloc, segments.as_slice(), queue, workers)?;
     print_recovered(alloc, &accessor, writer)
 }
-

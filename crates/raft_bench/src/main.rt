@@ -1,10 +1,11 @@
 //! Times the record layer. Without words it does nothing; each word names what it times, and `recover` with the words
-//! behind it, which are those of `raftlog recover`, times the recovery of files.
+//! behind it, which are those of `raftlog recover`, times the recovery of files, `merge` before them the merging of contexts.
 #![tactic(auto)]
 
 mod batches;
 mod blocks;
 mod checksum;
+mod merges;
 mod numbers;
 mod recovery;
 mod shared;
@@ -24,6 +25,14 @@ fn main(rt: HostRuntime) -> io::Result<()> {
             Ok(timed) => recovery::print(&rt, timed),
             Err(e) => eprintln!(rt; "raft_bench: {e}"),
         };
+    }
+    if let Some((word, behind)) = words.as_slice().split_first() {
+        if word.as_str() == "merge" {
+            return match merges::time(&rt, behind) {
+                Ok(timed) => merges::print(&rt, timed),
+                Err(e) => eprintln!(rt; "raft_bench: {e}"),
+            };
+        }
     }
     for word in &words {
         let timed = if word.as_str() == "shared" {
@@ -47,7 +56,7 @@ fn time(rt: &HostRuntime, word: &str) -> Result<()> {
         "memtable" => Ok(tables::time(rt)?),
         "blocks" => Ok(blocks::time(rt)?),
         _ => Ok(eprintln!(rt;
-            "usage: raft_bench [crc32] [varint] [batches] [memtable] [blocks] [shared], or recover .."
+            "usage: raft_bench [crc32] [varint] [batches] [memtable] [blocks] [shared], or recover .., or merge .."
         )?),
     }
 }

@@ -85,6 +85,6 @@ pub(crate) fn print(rt: &HostRuntime, timed: Option<Timed>) -> io::Result<()> {
 }
 
 /// Nanoseconds as milliseconds and tenths.
-fn milliseconds(nanoseconds: u64) -> (u64, u64) {
+pub(crate) fn milliseconds(nanoseconds: u64) -> (u64, u64) {
     (nanoseconds / 1_000_000, nanoseconds / 100_000 % 10)
 }

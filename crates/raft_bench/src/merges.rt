@@ -1,0 +1,118 @@
+//! Times the merging of contexts beside the reading of their batches, all on one thread.
+
+use crate::recovery::milliseconds;
+use crate::timing::nanoseconds_since;
+use raft_memtable::{LogQueue, MemTableRecoverContext};
+use raft_records::Result;
+use raft_recover::cutting::file_segments;
+use raft_recover::request::{Recovery, Request, read_files};
+use raft_recover::{Segment, replay_segment};
+use std::alloc::Global;
+use std::io;
+use std::rt::Files;
+use std::time::{Clock, Instant};
+
+/// How often contexts are read and merged.
+const RUNS: usize = 7;
+
+/// How many contexts are merged, by halves.
+const CONTEXTS: usize = 4;
+
+/// The least times, in nanoseconds.
+#[derive(Drop)]
+pub(crate) struct Timed {
+    reading: u64,
+    merging: u64,
+}
+
+/// Times how long four contexts take to read a quarter of the files each, and to be merged by halves. The words are those
+/// of `raftlog recover`; nothing is timed where they are others, or where the files have fewer than four batches.
+pub(crate) fn time<R: Files + AllocGlobal + Clock>(
+    rt: &R,
+    words: &[String],
+) -> Result<Option<Timed>> {
+    let Some(request) = Request::parse(words) else {
+        return Ok(None);
+    };
+    match request {
+        Request::Recover(asked) => time_files(rt, asked),
+        Request::Batch(_) => Ok(None),
+    }
+}
+
+/// Times the reading and merging of files.
+fn time_files<R: Files + AllocGlobal + Clock>(
+    rt: &R,
+    asked: Recovery<'_>,
+) -> Result<Option<Timed>> {
+    let alloc = rt.alloc();
+    let files = read_files(rt, asked.files)?;
+    let segments = file_segments(asked.queue, asked.version, CONTEXTS, files)?;
+    let mut least = Timed {
+        reading: u64::MAX,
+        merging: u64::MAX,
+    };
+    for _ in 0..RUNS {
+        let start = Instant::now(rt)?;
+        let contexts = read_quarters(alloc, segments.as_slice())?;
+        let reading = nanoseconds_since(rt, &start)?;
+        let start = Instant::now(rt)?;
+        if merge_by_halves(contexts, asked.queue)?.is_none() {
+            return Ok(None);
+        }
+        least.merging = least.merging.min(nanoseconds_since(rt, &start)?);
+        least.reading = least.reading.min(reading);
+    }
+    Ok(Some(least))
+}
+
+/// A context for each quarter of the segments.
+fn read_quarters(alloc: Global, segments: &[Segment]) -> Result<Vec<MemTableRecoverContext>> {
+    let quarter = segments.len().div_ceil(CONTEXTS).max(1);
+    let mut contexts = Vec::new(alloc);
+    for share in segments.chunks(quarter) {
+        contexts.push(read(alloc, share)?)?;
+    }
+    Ok(contexts)
+}
+
+/// A context of these segments.
+fn read(alloc: Global, segments: &[Segment]) -> Result<MemTableRecoverContext> {
+    let mut context = MemTableRecoverContext::new(alloc)?;
+    for segment in segments {
+        replay_segment(&mut context, segment)?;
+    }
+    Ok(context)
+}
+
+/// Four contexts as one, if there are four.
+fn merge_by_halves(
+    contexts: Vec<MemTableRecoverContext>,
+    queue: LogQueue,
+) -> Result<Option<MemTableRecoverContext>> {
+    let mut contexts = contexts.into_iter();
+    let (Some(mut first), Some(second), Some(mut third), Some(fourth)) = (
+        contexts.next(),
+        contexts.next(),
+        contexts.next(),
+        contexts.next(),
+    ) else {
+        return Ok(None);
+    };
+    first.merge(second, queue)?;
+    third.merge(fourth, queue)?;
+    first.merge(third, queue)?;
+    Ok(Some(first))
+}
+
+/// Prints the times in milliseconds, or what the words have to be.
+pub(crate) fn print(rt: &HostRuntime, timed: Option<Timed>) -> io::Result<()> {
+    let Some(Timed { reading, merging }) = timed else {
+        return eprintln!(rt; "usage: raft_bench merge recover <queue> <version> <workers> <seq>=<path>..");
+    };
+    let (reading, reading_tenths) = milliseconds(reading);
+    let (merging, merging_tenths) = milliseconds(merging);
+    println!(rt;
+        "four contexts on one thread: reading best ms {reading}.{reading_tenths}, merging best ms {merging}.{merging_tenths}"
+    )
+}

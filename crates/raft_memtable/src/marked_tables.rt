@@ -1,6 +1,6 @@
 //! The tables of all regions beside their marks.
 
-ghost use Rattle.std.specs.Prelude.{◌≡◌, ◌≢◌, ◌≤◌, ◌++◌, [], ◌∷◌, map, OnOk, IfErr, Some, None};
+ghost use Rattle.std.specs.Prelude.{◌≡◌, ◌≤◌, ◌++◌, [], ◌∷◌, map, OnOk, IfErr, Some, None};
 ghost use Rattle.raft_base.specs.declared.pipe_log.LogQueue.TheVariants.{Append, Rewrite};
 ghost use Rattle.raft_records.specs.Item.{item_of, pair, pair_of};
 ghost use Rattle.raft_history.specs.Histories.{AreInFile, cleaned_in_batch};
@@ -19,7 +19,7 @@ use crate::accessor::MemTableAccessor;
 use crate::region_marks::RegionMarks;
 use crate::waiting_group::WholeGroup;
 use raft_records::{Command, KeyValue, LogItem, LogItemBatch, LogItemContent, OpType, is_reserved};
-use raft_table::{EntryIndex, Error, FileId, FileSeq, LogQueue, Result};
+use raft_table::{EntryIndex, FileId, FileSeq, LogQueue, Result};
 use std::alloc::Global;
 
 /// The tables of all regions, and the mark of each region that a step named.

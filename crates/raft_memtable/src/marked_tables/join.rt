@@ -1,6 +1,6 @@
 //! The tables and marks of all regions joined with those of a newer neighbor.
 
-ghost use Rattle.std.specs.Prelude.{◌≡◌, ◌≢◌, ◌+◌, ◌<◌, ◌≤◌, ◌^◌, ◌++◌, IfErr, IfSome, OnOk, Some};
+ghost use Rattle.std.specs.Prelude.{◌≡◌, ◌+◌, ◌≤◌, ◌++◌, IfErr, IfSome, OnOk, Some};
 ghost use Rattle.raft_base.specs.declared.pipe_log.LogQueue.{LogQueue};
 ghost use Rattle.raft_base.specs.declared.pipe_log.LogQueue.TheVariants.{Append, Rewrite};
 ghost use Rattle.raft_history.specs.Joins.{StandForSteps, AreJoined};
@@ -15,7 +15,7 @@ ghost use Rattle.raft_memtable.specs.TableJoins.{AreRunsOver, IsJoinFault};
 use crate::accessor::MemTableAccessor;
 use crate::marked_tables::MarkedTables;
 use crate::region_marks::RegionMarks;
-use raft_table::{Error, LogQueue, Mark, MemTable, Result};
+use raft_table::{LogQueue, Mark, MemTable, Result};
 
 impl MarkedTables {
     /// Joins the tables and marks of a newer neighbor in a queue, and lists its cleaned regions.

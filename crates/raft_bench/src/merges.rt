@@ -108,7 +108,9 @@ fn merge_by_halves(
 /// Prints the times in milliseconds, or what the words have to be.
 pub(crate) fn print(rt: &HostRuntime, timed: Option<Timed>) -> io::Result<()> {
     let Some(Timed { reading, merging }) = timed else {
-        return eprintln!(rt; "usage: raft_bench merge recover <queue> <version> <workers> <seq>=<path>..");
+        return eprintln!(rt;
+            "usage: raft_bench merge recover <queue> <version> <workers> <seq>=<path>.."
+        );
     };
     let (reading, reading_tenths) = milliseconds(reading);
     let (merging, merging_tenths) = milliseconds(merging);

@@ -172,7 +172,7 @@ fn misfits(alloc: Global) -> Result<bool> {
             &three,
         ) {
             Ok(list) => fits && has_all(&list, 5),
-            Err(Error::InvalidArgument(_)) => !fits,
+            Err(Error::InvalidArgument(_text)) => !fits,
             Err(error) => return Err(error),
         };
         if !fit {

@@ -12,3 +12,4 @@ pub mod Stretches
 pub mod WaitingGroup
 pub mod WaitingGroups
 pub mod BothQueues
+pub mod ReplayMachine

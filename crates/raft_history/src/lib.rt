@@ -1,4 +1,5 @@
-//! Histories of log batches: what they do to the tables of all regions, and the laws of reading them in pieces.
+//! Histories of log batches: what they do to the tables of all regions, and the laws of reading them in pieces, which
+//! machines keep.
 #![tactic(auto)]
 
 pub mod contexts;
@@ -6,3 +7,6 @@ pub mod effects;
 pub mod histories;
 pub mod read_runs;
 pub mod regions;
+pub mod replay_machine;
+
+pub use replay_machine::ReplayMachine;

@@ -13,7 +13,6 @@ pub mod RegionMarks
 pub mod RegionMarksView
 pub mod Merges
 pub mod RegionTablesView
-pub mod ReplayMachine
 pub mod TableJoins
 pub mod Updates
 pub mod Walks

@@ -3,8 +3,8 @@
 ghost use Rattle.std.specs.Prelude.{◌≡◌, ◌↔◌, [], ◌∷◌, IsTrue};
 ghost use Rattle.std.specs.Option.{option_map};
 ghost use Rattle.raft_history.specs.Contexts.{Suits, files_of, follows, joined_files};
+ghost use Rattle.raft_history.specs.ReplayMachine.{event};
 ghost use Rattle.raft_memtable.specs.FileRanges.{range_shown, ranges_shown};
-ghost use Rattle.raft_memtable.specs.ReplayMachine.{event};
 
 use raft_table::{FileId, FileSeq, LogQueue};
 

@@ -13,7 +13,6 @@ pub mod reading;
 pub mod recover_context;
 pub mod region_marks;
 pub mod region_tables;
-pub mod replay_machine;
 pub mod slot;
 pub mod waiting_group;
 pub mod waiting_groups;
@@ -22,6 +21,7 @@ pub mod waiting_items;
 pub use accessor::{MemTableAccessor, slot_of};
 pub use context_stage::ContextStage;
 pub use kept::Kept;
+pub use raft_history::ReplayMachine;
 pub use raft_table::{
     Block, EntryIndex, Error, FileBlockHandle, FileId, FileSeq, GlobalStats, LogQueue, MemTable,
     Result, TableChange, global_stats, is_run, memtable,
@@ -29,5 +29,4 @@ pub use raft_table::{
 pub use recover_context::{MemTableRecoverContext, MemTableRecoverContextFactory};
 pub use region_marks::RegionMarks;
 pub use region_tables::RegionTables;
-pub use replay_machine::ReplayMachine;
 pub use slot::Slot;

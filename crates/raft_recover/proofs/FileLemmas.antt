@@ -3,17 +3,27 @@ use Rattle.std.proofs.Common.{◌≡◌, ◌↔◌, ℕ, ◌+◌, ◌*◌, ◌<�
 use Rattle.std.specs.Global.{Global}
 use Rattle.std.specs.List.{AllByRecursion, All}
 use Rattle.std.proofs.lemmas.List.Elements.{All-from_recursion, recursion_from_All, All-append}
+use Rattle.std.proofs.lemmas.Grind.{div_ceil_times}
 use Rattle.std.proofs.lemmas.List.{length-append}
+use Rattle.std.proofs.Math.Nat.{lt_of_mul-lt-mul_right}
+use Rattle.std.specs.Int.{div_ceil}
 use Rattle.raft_base.specs.declared.pipe_log.FileId.{FileId}
 use Rattle.raft_base.specs.declared.pipe_log.LogQueue.{LogQueue}
 use Rattle.raft_base.specs.declared.pipe_log.Version.{Version}
 use Rattle.raft_records.specs.FilePart.{Part}
 use Rattle.raft_history.specs.Batches.{Event}
+use Rattle.raft_replay.specs.Segments.{ReadsParts, ReadsSegments, AreCutFrom, PartsAreOf, SegmentsAreOf}
+use Rattle.raft_replay.proofs.CutPartLemmas.{uncut, cut_among}
 use Rattle.raft_recover.specs.Files.{whole_file, segment_shown, ReadsFiles}
-use Rattle.raft_recover.specs.Recovery.{PartsAreOf, SegmentsAreOf}
 use Rattle.raft_recover.specs.RequestView.{file_shown}
-use Rattle.raft_recover.specs.Segments.{ReadsParts, ReadsSegments, AreCutFrom}
-use Rattle.raft_recover.proofs.CutPartLemmas.{uncut, cut_among}
+
+-- ---- how many parts
+
+-- the parts of each file are no more than the greatest number of workers
+pub few_each : (workers files : ℕ) → 0 < files → workers ≤ 256 → div_ceil workers files ≤ 256
+few_each workers files some most =
+    let times = (div_ceil_times workers files some).1 in
+    let less : div_ceil workers files < 257 = lt_of_mul-lt-mul_right files (omega (arith, times, some, most)) in omega (arith, less)
 
 -- ---- files as parts
 
@@ -46,7 +56,7 @@ pub record AreParts (queue : LogQueue) (version : Version) (count : ℕ) (files 
   pub read : (h : List Event) → ReadsParts (whole_parts queue version files) h ↔ ReadsParts (parts ++ whole_parts queue version left) h
   pub of_queue : PartsAreOf queue parts
   pub many : length files ≤ length parts + length left
-  pub few : length parts + 257 * length left ≤ 257 * length files
+  pub few : length parts + 256 * length left ≤ 256 * length files
   pub whole : count ≡ 1 → length parts + length left ≤ length files
 
 all_same : (queue : LogQueue) (whole : Part) (cut : List Part) → whole.id.queue ≡ queue → AllByRecursion (λ (p : Part). p.id ≡ whole.id) cut → AllByRecursion (λ (p : Part). p.id.queue ≡ queue) cut
@@ -65,7 +75,7 @@ module _ (queue : LogQueue) (version : Version) (count : ℕ) (files : List (ℕ
 
   -- one file more is cut into parts
   pub more_parts : (f : ℕ × Vec ℕ Global) (left : List (ℕ × Vec ℕ Global)) (parts cut new : List Part) (whole : Part) → AreParts queue version count files (f ∷ left) parts
-      → whole ≡ whole_file queue version (file_shown f) → AreCutFrom whole cut → All (λ p. p.id ≡ whole.id) cut → 0 < length cut → length cut ≤ count → count ≤ 257
+      → whole ≡ whole_file queue version (file_shown f) → AreCutFrom whole cut → All (λ p. p.id ≡ whole.id) cut → 0 < length cut → length cut ≤ count → count ≤ 256
       → new ≡ parts ++ cut → AreParts queue version count files left new
   more_parts f left parts cut new whole before is same ids some few most new_is = record {
     read = λ h.

@@ -1,14 +1,4 @@
-pub mod CoverLemmas
-pub mod CutPartLemmas
-pub mod DrawingLemmas
 pub mod FileLemmas
-pub mod MachineOrderLemmas
-pub mod LiningLemmas
 pub mod OrderLemmas
 pub mod RecoveryLemmas
 pub mod RequestLemmas
-pub mod MergeLemmas
-pub mod MidwayLemmas
-pub mod SegmentLemmas
-pub mod WeightLemmas
-pub mod WorkedLemmas

@@ -14,13 +14,14 @@ use Rattle.raft_memtable.specs.Accessor.{Accessor, AreCountsOf}
 use Rattle.raft_memtable.specs.RecoverContext.{RecoverContext, IsReading, IsReadingExactly}
 use Rattle.raft_memtable.specs.declared.context_stage.ContextStage.{ContextStage}
 use Rattle.raft_memtable.specs.declared.context_stage.ContextStage.TheVariants as stages
+use Rattle.raft_replay.specs.Replays.{IsReplayed}
+use Rattle.raft_replay.specs.Segments.{ReadsSegments, CannotBeRead, SegmentsAreOf}
+use Rattle.raft_replay.proofs.MachineOrderLemmas.{segments_of}
+use Rattle.raft_replay.proofs.SegmentLemmas.{segments_unique}
 use Rattle.raft_recover.specs.Files.{ReadsFiles, FilesCannotBeRead, HaveTables, IsPrintFailure, PrintsRecovered}
-use Rattle.raft_recover.specs.Recovery.{IsRecovered, IsReplayed, CannotBeRead, SegmentsAreOf}
+use Rattle.raft_recover.specs.Recovery.{IsRecovered}
 use Rattle.raft_recover.specs.Requests.{File}
-use Rattle.raft_recover.specs.Segments.{ReadsSegments}
 use Rattle.raft_recover.specs.TableLines.{PrintsTables}
-use Rattle.raft_recover.proofs.MachineOrderLemmas.{segments_of}
-use Rattle.raft_recover.proofs.SegmentLemmas.{segments_unique}
 
 -- ---- the context of all segments
 

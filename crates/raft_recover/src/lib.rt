@@ -2,31 +2,17 @@
 #![tactic(auto)]
 
 pub mod cutting;
-mod drawing;
-pub mod gate;
-mod piece;
-pub mod pieces;
-pub mod plan;
 pub mod recovered;
 pub mod recovery;
 pub mod request;
 pub mod run;
-pub mod scheduled;
-pub mod segment;
 pub mod shared_accessor;
-pub mod ticket_seat;
-pub mod tickets;
-pub mod workers;
 
-pub use cutting::cut_part;
-pub use gate::{Gate, OpenGate};
-pub use pieces::merge_pieces;
-pub use plan::Plan;
+pub use raft_replay::{
+    Gate, MAX_WORKERS, OpenGate, Plan, Segment, TicketSeat, Tickets, cut_part, gate, merge_pieces,
+    piece_count, pieces, plan, replay_scheduled, replay_segment, replay_segments, scheduled,
+    segment, segments_read_as_one_history, ticket_seat, tickets, workers,
+};
 pub use recovered::print_recovered;
 pub use recovery::{recover, recover_bytes};
-pub use scheduled::{piece_count, replay_scheduled};
-pub use segment::{Segment, replay_segment, segments_read_as_one_history};
 pub use shared_accessor::SharedAccessor;
-pub use ticket_seat::TicketSeat;
-pub use tickets::Tickets;
-pub use workers::{MAX_WORKERS, replay_segments};

@@ -15,18 +15,16 @@ ghost use Rattle.std.specs.Prelude.{
 };
 ghost use Rattle.std.specs.Io.KnownBytes.{Keeps};
 ghost use Rattle.raft_table.specs.Start.{IsInvalidArgument};
+ghost use Rattle.raft_replay.specs.Segments.{ReadsSegments, CannotBeRead, SegmentsAreOf};
 ghost use Rattle.raft_recover.specs.Files.{FilesCannotBeRead, IsPrintFailure, PrintsRecovered};
-ghost use Rattle.raft_recover.specs.Recovery.{IsRecovered, CannotBeRead, SegmentsAreOf};
+ghost use Rattle.raft_recover.specs.Recovery.{IsRecovered};
 ghost use Rattle.raft_recover.specs.RequestView.{file_shown};
-ghost use Rattle.raft_recover.specs.Segments.{ReadsSegments};
 
 use crate::cutting::file_segments;
-use crate::gate::OpenGate;
 use crate::recovered::print_recovered;
-use crate::segment::Segment;
-use crate::workers::replay_segments;
 use raft_base::{Error, FileSeq, LogQueue, Result, Version};
 use raft_memtable::{MemTableAccessor, MemTableRecoverContextFactory};
+use raft_replay::{OpenGate, Segment, replay_segments};
 use std::alloc::Global;
 use std::io::Write;
 use std::thread::Threads;

@@ -22,7 +22,7 @@ pub(crate) struct List {
 
 impl ReplayMachine for List {
     ghost use Rattle.std.specs.Prelude.{◌≡◌, map};
-    ghost use Rattle.raft_memtable.specs.ReplayMachine.{event};
+    ghost use Rattle.raft_history.specs.ReplayMachine.{event};
 
     ghost stands_for = { λ m h. map (λ k. event k.batch k.file) m.kept.items ≡ h };
 

@@ -1,5 +1,5 @@
+use Rattle.raft_replay.proofs.MachineOrderLemmas.{if_ok}
 use Rattle.raft_recover.proofs.FileLemmas.{files_as_parts, parts_as_files, segments_as_parts, parts_as_segments, segments_are_of}
-use Rattle.raft_recover.proofs.MachineOrderLemmas.{if_ok}
 use Rattle.raft_recover.proofs.cutting.file_segments.Goals as goal
 
 pub returns-clause-read : goal.returns-clause-read

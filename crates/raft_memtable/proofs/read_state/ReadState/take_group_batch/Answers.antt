@@ -8,11 +8,11 @@ use Rattle.raft_history.specs.MarkedRegions.{regions_after}
 use Rattle.raft_history.specs.RegionSteps.{steps_of_items}
 use Rattle.raft_history.specs.WaitingGroup.{joined_group, whole_group, one_marker}
 use Rattle.raft_history.specs.WaitingGroups.{known}
+use Rattle.raft_history.specs.ReplayMachine.{event}
 use Rattle.raft_memtable.specs.Accessor.{live_in_all}
 use Rattle.raft_memtable.specs.FileRanges.{ranges_shown}
 use Rattle.raft_memtable.specs.MarkedTables.{regions_in, IsStepsFault}
 use Rattle.raft_memtable.specs.ReadStates.{context_in, MayTakeEffect}
-use Rattle.raft_memtable.specs.ReplayMachine.{event}
 use Rattle.raft_memtable.proofs.ReadStateLemmas.{some_range, found_some, read_more, group_taken, group_fault, group_takes}
 use Rattle.raft_memtable.proofs.read_state.ReadState.take_group_batch.Goals as goal
 

@@ -1,9 +1,9 @@
 use Rattle.std.proofs.Common.{refl, ap, ◌∙◌}
 use Rattle.std.proofs.lemmas.Result.{err_from_is_err_and}
 use Rattle.raft_history.specs.Contexts.{joined_files}
+use Rattle.raft_history.specs.ReplayMachine.{event}
 use Rattle.raft_memtable.specs.FileRanges.{ranges_shown}
 use Rattle.raft_memtable.specs.ReadStates.{context_in}
-use Rattle.raft_memtable.specs.ReplayMachine.{event}
 use Rattle.raft_memtable.proofs.ReadStateLemmas.{some_range, read_more, lone_taken, lone_fault}
 use Rattle.raft_memtable.proofs.read_state.ReadState.take_lone_batch.Goals as goal
 

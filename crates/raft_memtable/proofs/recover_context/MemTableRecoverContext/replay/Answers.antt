@@ -1,4 +1,4 @@
-use Rattle.raft_memtable.specs.ReplayMachine.{event}
+use Rattle.raft_history.specs.ReplayMachine.{event}
 use Rattle.raft_memtable.proofs.RecoverContextLemmas.{batch_fault}
 use Rattle.raft_memtable.proofs.recover_context.MemTableRecoverContext.replay.Goals as goal
 

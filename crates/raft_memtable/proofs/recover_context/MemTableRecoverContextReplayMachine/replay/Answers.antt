@@ -1,4 +1,4 @@
-use Rattle.raft_memtable.specs.ReplayMachine.{event}
+use Rattle.raft_history.specs.ReplayMachine.{event}
 use Rattle.raft_memtable.proofs.RecoverContextLemmas.{on_ok, on_err, replay_stands, replay_exact, replay_unsound}
 use Rattle.raft_memtable.proofs.recover_context.MemTableRecoverContextReplayMachine.replay.Goals as goal
 

@@ -1,9 +1,0 @@
-use Rattle.std.proofs.Common.{sym}
-use Rattle.raft_recover.specs.declared.piece.Piece.{Piece}
-use Rattle.raft_recover.specs.Covers.{covers}
-use Rattle.raft_recover.proofs.DrawingLemmas.{one_fewer}
-use Rattle.raft_recover.proofs.piece.Piece.at.Goals as goal
-
-pub returns-then-number-last-clause-covered : goal.returns-then-number-last-clause-covered
-returns-then-number-last-clause-covered g c x =
-    sym (one_fewer (λ (p : Piece g.row.M.Denot). covers p.from p.count x) c.args.pieces.now.items c.pop.new.self.items c.in-Some.last c.in-Some.ensures.items)

@@ -1,6 +1,0 @@
-use Rattle.std.proofs.Common.{◌≡◌, ◌+◌, ◌≤◌}
-use Rattle.raft_recover.specs.Schedules.{switches, count_below}
-use Rattle.raft_recover.proofs.scheduled.piece_count.Given as goal
-
-abbrev pub invariant-loop-n : goal.invariant-loop-n
-invariant-loop-n l = record { counted : l.pieces ≡ count_below (switches l.draws) l.n + 1; few : l.pieces ≤ l.n }

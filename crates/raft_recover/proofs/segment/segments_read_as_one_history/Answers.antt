@@ -1,5 +1,0 @@
-use Rattle.raft_recover.proofs.SegmentLemmas.{segments_unique}
-use Rattle.raft_recover.proofs.segment.segments_read_as_one_history.Goals as goal
-
-pub returns : goal.returns
-returns c = segments_unique

@@ -1,0 +1,245 @@
+-- What is read of a part that is cut between two batches.
+use Rattle.std.proofs.Common.{◌≡◌, ◌↔◌, ℕ, ◌+◌, ◌-◌, ◌<◌, ◌≤◌, List, [], ◌∷◌, ◌++◌, length, map, take, drop, refl, sym, ap, ◌∙◌, subst, arith, append_assoc, append-nil}
+use Rattle.std.proofs.lemmas.List.{drop-take, drop-drop, take-take, length-take-le, length-drop, take-append-drop, drop-append-le}
+use Rattle.std.proofs.Math.Seq.{take-append-add}
+use Rattle.raft_base.specs.declared.pipe_log.FileBlockHandle.{FileBlockHandle}
+use Rattle.raft_base.specs.declared.compression_type.CompressionType.{CompressionType}
+use Rattle.raft_records.specs.FilePart.{Part, IsBatchAt, HasHeader, entries_place}
+use Rattle.raft_records.specs.Item.{Item}
+use Rattle.raft_records.specs.ItemBatch.{placed}
+use Rattle.raft_records.proofs.FrameLemmas.{header_one}
+use Rattle.raft_history.specs.Batches.{Event}
+use Rattle.raft_replay.specs.Cuts.{front_of, rest_of, BatchesMeet}
+use Rattle.raft_replay.specs.Segments.{IsReadBehind, ReadsFrom, ReadsPart, ReadsParts, AreCutFrom}
+use Rattle.raft_replay.proofs.MachineOrderLemmas.{each_join, each_cut, each_single}
+use Rattle.raft_replay.proofs.SegmentLemmas.{batch_inside}
+
+-- ---- one batch
+
+-- a batch that ends in front of a place stands in the bytes in front of it
+in_front : (part : Part) (at i next : ℕ) (items : List Item) → next ≤ at → IsBatchAt part i items next → IsBatchAt (front_of part at) i items next
+in_front part at i next items before b = record {
+  bytes = b.bytes;
+  read = b.read;
+  offset = b.offset;
+  frame = b.frame;
+  stands = stands;
+  ends = b.ends;
+  places = b.places;
+}
+  where
+    xs : List ℕ
+    xs = part.bytes
+
+    more : ℕ
+    more = at - next
+
+    all : i + (length b.bytes + more) ≡ at
+    all = let e = b.ends in omega (arith, before)
+
+    rest : next + more ≡ at
+    rest = omega (arith, before)
+
+    stands : drop i (take at xs) ≡ b.bytes ++ drop next (take at xs)
+    stands =
+        ap (λ n. drop i (take n xs)) (sym all)
+        ∙ drop-take i (length b.bytes + more) xs
+        ∙ ap (take (length b.bytes + more)) b.stands
+        ∙ take-append-add b.bytes (drop next xs) more
+        ∙ ap (λ (t : List ℕ). b.bytes ++ t) (sym (drop-take next more xs) ∙ ap (λ n. drop next (take n xs)) rest)
+
+-- a batch in the bytes in front of a place stands in the part
+of_front : (part : Part) (at i next : ℕ) (items : List Item) → IsBatchAt (front_of part at) i items next → IsBatchAt part i items next
+of_front part at i next items b = record {
+  bytes = b.bytes;
+  read = b.read;
+  offset = b.offset;
+  frame = b.frame;
+  stands = stands;
+  ends = b.ends;
+  places = b.places;
+}
+  where
+    xs : List ℕ
+    xs = part.bytes
+
+    inside : next ≤ length (take at xs)
+    inside = (batch_inside (front_of part at) i items next b).1
+
+    begins : i ≤ length (take at xs)
+    begins = let e = batch_inside (front_of part at) i items next b in omega (arith, e.0, e.1)
+
+    stands : drop i xs ≡ b.bytes ++ drop next xs
+    stands =
+        ap (drop i) (sym (take-append-drop at xs))
+        ∙ drop-append-le i (take at xs) (drop at xs) begins
+        ∙ ap (λ (t : List ℕ). t ++ drop at xs) b.stands
+        ∙ append_assoc b.bytes (drop next (take at xs)) (drop at xs)
+        ∙ ap (λ (t : List ℕ). b.bytes ++ t) (sym (drop-append-le next (take at xs) (drop at xs) inside) ∙ ap (drop next) (take-append-drop at xs))
+
+-- where the entries of a batch lie does not hang on where the part begins
+place_from : (part : Part) (at j offset : ℕ) → entries_place (rest_of part at) j offset ≡ entries_place part (at + j) offset
+place_from part at j offset =
+    let same : part.offset + at + j + 16 ≡ part.offset + (at + j) + 16 = omega arith in
+    ap (λ (n : ℕ). record { id = part.id; offset = n; len = offset - 16 }) same
+
+-- a batch behind a place stands in the bytes from there on
+in_rest : (part : Part) (at j k : ℕ) (items : List Item) → IsBatchAt part (at + j) items (at + k) → IsBatchAt (rest_of part at) j items k
+in_rest part at j k items b = record {
+  bytes = b.bytes;
+  read = b.read;
+  offset = b.offset;
+  frame = b.frame;
+  stands = drop-drop j at part.bytes ∙ b.stands ∙ ap (λ (t : List ℕ). b.bytes ++ t) (sym (drop-drop k at part.bytes));
+  ends = let e = b.ends in omega arith;
+  places = b.places ∙ ap (λ (p : FileBlockHandle). map (placed p b.frame.compression) b.read) (sym (place_from part at j b.offset));
+}
+
+of_rest : (part : Part) (at j k : ℕ) (items : List Item) → IsBatchAt (rest_of part at) j items k → IsBatchAt part (at + j) items (at + k)
+of_rest part at j k items b = record {
+  bytes = b.bytes;
+  read = b.read;
+  offset = b.offset;
+  frame = b.frame;
+  stands = sym (drop-drop j at part.bytes) ∙ b.stands ∙ ap (λ (t : List ℕ). b.bytes ++ t) (drop-drop k at part.bytes);
+  ends = let e = b.ends in omega arith;
+  places = b.places ∙ ap (λ (p : FileBlockHandle). map (placed p b.frame.compression) b.read) (place_from part at j b.offset);
+}
+
+-- the batch that stands at a place is as long as the header there says
+header_ends : (part : Part) (i next offset len : ℕ) (items : List Item) → HasHeader (drop i part.bytes) offset len → IsBatchAt part i items next → next ≡ i + len
+header_ends part i next offset len items h b =
+    let f = b.frame.header in
+    let split = sym h.header.split ∙ b.stands ∙ ap (λ (t : List ℕ). t ++ drop next part.bytes) f.split ∙ append_assoc f.front (drop 16 b.bytes) (drop next part.bytes) in
+    let same = (header_one h.header.front f.front h.rest (drop 16 b.bytes ++ drop next part.bytes) (offset, h.compression, len)
+    (b.offset, b.frame.compression, length b.bytes) h.header.spells f.spells split).1 in
+    let long : len ≡ length b.bytes = ap (λ (t : ℕ × CompressionType × ℕ). t.2) same in
+    let ends = b.ends in
+    omega (arith, long)
+
+-- ---- what is read in front of a place and from there on
+
+rest_read : (part : Part) (at j : ℕ) (h : List Event) → at ≤ length part.bytes → ReadsFrom part (at + j) h → ReadsFrom (rest_of part at) j h
+rest_read part at j [] inside ends = let n = length-drop at part.bytes in omega (arith, n, inside)
+rest_read part at j (e ∷ h) inside reads =
+    let b = reads.1.1 in
+    let k : ℕ = j + length b.bytes in
+    let next : reads.1.0 ≡ at + k = let ends = b.ends in omega arith in
+    (reads.0, (k, in_rest part at j k e.items (subst (λ (n : ℕ). IsBatchAt part (at + j) e.items n) next b), rest_read part at k h inside (subst (λ (n : ℕ). ReadsFrom part n h) next reads.1.2)))
+
+read_rest : (part : Part) (at j : ℕ) (h : List Event) → at ≤ length part.bytes → ReadsFrom (rest_of part at) j h → ReadsFrom part (at + j) h
+read_rest part at j [] inside ends = let n = length-drop at part.bytes in omega (arith, n, inside)
+read_rest part at j (e ∷ h) inside reads =
+    (reads.0, (at + reads.1.0, of_rest part at j reads.1.0 e.items reads.1.1, read_rest part at reads.1.0 h inside reads.1.2))
+
+-- what is read in front of a place, and then from there on
+front_joined : (part : Part) (at i : ℕ) (h g : List Event) → at ≤ length part.bytes → ReadsFrom (front_of part at) i h → ReadsFrom part at g → ReadsFrom part i (h ++ g)
+front_joined part at i [] g inside ends reads = subst (λ (n : ℕ). ReadsFrom part n g) (sym (ends ∙ length-take-le at part.bytes inside)) reads
+front_joined part at i (e ∷ h) g inside first reads =
+    (first.0, (first.1.0, of_front part at i first.1.0 e.items first.1.1, front_joined part at first.1.0 h g inside first.1.2 reads))
+
+-- ---- where the headers lead
+
+-- nothing is read in front of the first byte
+pub meet_first : (part : Part) → BatchesMeet part 0
+meet_first part h reads = record { first = []; rest = h; first_reads = sym (length-take-le 0 part.bytes (omega arith)); rest_reads = reads; split = refl }
+
+-- one batch more is read in front of the next place
+module _ (part : Part) (i len : ℕ) (inside : i + len ≤ length part.bytes) where
+  grown : (first : List Event) (e : Event) → ReadsPart (front_of part i) first → e.file ≡ part.id → IsBatchAt part i e.items (i + len)
+      → ReadsPart (front_of part (i + len)) (first ++ e ∷ [])
+  grown first e reads file b =
+      let at = i + len in
+      let few : i ≤ length (take at part.bytes) = let n = length-take-le at part.bytes inside in omega (arith, n) in
+      let same = sym (take-take i at part.bytes (omega arith)) in
+      let old = subst (λ (xs : List ℕ). ReadsFrom (record part { bytes = xs }) 0 first) same reads in
+      front_joined (front_of part at) i 0 first (e ∷ []) few old
+      (file, (at, in_front part at i at e.items (omega arith) b, sym (length-take-le at part.bytes inside)))
+
+  pub meet_next : (offset : ℕ) → 0 < len → HasHeader (drop i part.bytes) offset len → BatchesMeet part i → BatchesMeet part (i + len)
+  meet_next offset some header meet h reads = let r = meet h reads in behind r r.rest refl
+    where
+      behind : (r : IsReadBehind (ReadsPart (front_of part i)) (ReadsFrom part i) h) (left : List Event) → r.rest ≡ left
+          → IsReadBehind (ReadsPart (front_of part (i + len))) (ReadsFrom part (i + len)) h
+      behind r [] none =
+          let ends : i ≡ length part.bytes = subst (ReadsFrom part i) none r.rest_reads in
+          absurd (omega (arith, ends, inside, some))
+      behind r (e ∷ g) is =
+          let left = subst (ReadsFrom part i) is r.rest_reads in
+          let next = header_ends part i left.1.0 offset len e.items header left.1.1 in
+          record {
+            first = r.first ++ e ∷ [];
+            rest = g;
+            first_reads = grown r.first e r.first_reads left.0 (subst (λ (n : ℕ). IsBatchAt part i e.items n) next left.1.1);
+            rest_reads = subst (λ (n : ℕ). ReadsFrom part n g) next left.1.2;
+            split = r.split ∙ ap (λ (t : List Event). r.first ++ t) is ∙ sym (append_assoc r.first (e ∷ []) g);
+          }
+
+-- ---- parts in place of one
+
+-- one part alone
+one_part : (p : Part) (h : List Event) → ReadsParts (p ∷ []) h → ReadsPart p h
+one_part p h r = subst (ReadsPart p) (sym (r.split ∙ ap (λ t. r.first ++ t) r.rest_reads ∙ append-nil r.first)) r.first_reads
+
+pub uncut : (part : Part) → AreCutFrom part (part ∷ [])
+uncut part h = (each_single ReadsPart part h, one_part part h)
+
+-- a part that is cut where batches meet
+pub cut_in_two : (part : Part) (at : ℕ) → at ≤ length part.bytes → BatchesMeet part at → AreCutFrom part (front_of part at ∷ rest_of part at ∷ [])
+cut_in_two part at inside meet h = (to, from)
+  where
+    to : ReadsPart part h → ReadsParts (front_of part at ∷ rest_of part at ∷ []) h
+    to reads =
+        let r = meet h reads in
+        let first : at + 0 ≡ at = omega arith in
+        record {
+          first = r.first;
+          rest = r.rest;
+          first_reads = r.first_reads;
+          rest_reads = each_single ReadsPart (rest_of part at) r.rest (rest_read part at 0 r.rest inside (subst (λ (n : ℕ). ReadsFrom part n r.rest) (sym first) r.rest_reads));
+          split = r.split;
+        }
+
+    from : ReadsParts (front_of part at ∷ rest_of part at ∷ []) h → ReadsPart part h
+    from r =
+        let first : at + 0 ≡ at = omega arith in
+        let rest = subst (λ (n : ℕ). ReadsFrom part n r.rest) first (read_rest part at 0 r.rest inside (one_part (rest_of part at) r.rest r.rest_reads)) in
+        subst (ReadsPart part) (sym r.split) (front_joined part at 0 r.first r.rest inside r.first_reads rest)
+
+-- the same is read where a part among others is cut
+pub cut_among : (old new : List Part) (part : Part) (cut : List Part) → AreCutFrom part cut
+    → (h : List Event) → ReadsParts (old ++ part ∷ new) h ↔ ReadsParts (old ++ cut ++ new) h
+cut_among old new part cut same h = (to, from)
+  where
+    to : ReadsParts (old ++ part ∷ new) h → ReadsParts (old ++ cut ++ new) h
+    to reads =
+        let r = each_cut ReadsPart old (part ∷ new) h reads in
+        let s = r.rest_reads in
+        let behind = each_join ReadsPart cut new s.first s.rest ((same s.first).0 s.first_reads) s.rest_reads in
+        subst (ReadsParts (old ++ cut ++ new)) (ap (λ (t : List Event). r.first ++ t) (sym s.split) ∙ sym r.split)
+        (subst (λ (ps : List Part). ReadsParts ps (r.first ++ (s.first ++ s.rest))) (sym (append_assoc old cut new)) (each_join ReadsPart old (cut ++ new) r.first (s.first ++ s.rest) r.first_reads behind))
+
+    from : ReadsParts (old ++ cut ++ new) h → ReadsParts (old ++ part ∷ new) h
+    from reads =
+        let r = each_cut ReadsPart old (cut ++ new) h (subst (λ (ps : List Part). ReadsParts ps h) (append_assoc old cut new) reads) in
+        let s = each_cut ReadsPart cut new r.rest r.rest_reads in
+        let behind : ReadsParts (part ∷ new) (s.first ++ s.rest) = record { first = s.first; rest = s.rest; first_reads = (same s.first).1 s.first_reads; rest_reads = s.rest_reads; split = refl } in
+        subst (ReadsParts (old ++ part ∷ new)) (ap (λ (t : List Event). r.first ++ t) (sym s.split) ∙ sym r.split)
+        (each_join ReadsPart old (part ∷ new) r.first (s.first ++ s.rest) r.first_reads behind)
+
+-- one part more is cut off the last
+pub cut_again : (part left front rest : Part) (old new : List Part) (at : ℕ) → AreCutFrom part (old ++ left ∷ []) → at ≤ length left.bytes → BatchesMeet left at
+    → front ≡ front_of left at → rest ≡ rest_of left at → new ≡ old ++ front ∷ [] → AreCutFrom part (new ++ rest ∷ [])
+cut_again part left front rest old new at before inside meet front_is rest_is new_is h =
+    let cut = front_of left at ∷ rest_of left at ∷ [] in
+    let one = before h in
+    let two = cut_among old [] left cut (cut_in_two left at inside meet) h in
+    let same : old ++ cut ++ [] ≡ new ++ rest ∷ [] =
+    append-nil (old ++ cut)
+    ∙ sym (append_assoc old (front_of left at ∷ []) (rest_of left at ∷ []))
+    ∙ ap (λ (p : Part). old ++ p ∷ [] ++ rest_of left at ∷ []) (sym front_is)
+    ∙ ap (λ (l : List Part). l ++ rest_of left at ∷ []) (sym new_is)
+    ∙ ap (λ (p : Part). new ++ p ∷ []) (sym rest_is) in (
+      λ reads. subst (λ (ps : List Part). ReadsParts ps h) same (two.0 (one.0 reads)),
+      λ reads. one.1 (two.1 (subst (λ (ps : List Part). ReadsParts ps h) (sym same) reads)),
+    )

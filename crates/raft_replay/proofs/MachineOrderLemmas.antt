@@ -1,0 +1,255 @@
+-- Machines in the order of what they have replayed: one goes on, another begins, all are merged, one is refused.
+use Rattle.std.proofs.Common.{◌≡◌, ◌≢◌, ℕ, zero, suc, ◌+◌, ◌<◌, ◌≤◌, min, IsTrue, nat_eq, List, [], ◌∷◌, ◌++◌, Bool, true, false, cond, Result, Ok, Err, IfOk, IfErr, Vec, sym, refl, ap, ◌∙◌, subst, arith, append_assoc, append-nil, add-one}
+use mir.Val.{bool_byte}
+use Rattle.std.proofs.lemmas.Bool.Decides.{Decides-eqb}
+use Rattle.std.specs.Global.{Global}
+use Rattle.std.specs.List.{AllByRecursion}
+use Rattle.std.proofs.lemmas.List.Elements.{recursion_from_All}
+use Rattle.raft_base.specs.declared.errors.Error.{Error}
+use Rattle.raft_base.specs.declared.errors.Error.TheVariants.{Memory}
+use Rattle.raft_base.specs.declared.pipe_log.LogQueue.{LogQueue}
+use Rattle.raft_records.specs.FilePart.{Part}
+use Rattle.raft_history.specs.Batches.{Event}
+use Rattle.raft_history.specs.Histories.{IsSmall, Sound, AreOfQueue, IsOfQueue}
+use Rattle.raft_history.proofs.StretchOfHistory.{small_front, small_back, sound_front, sound_back, of_both}
+use Rattle.raft_replay.specs.PieceMerges.{concatenated, StandForEach, IsMerged, CannotMerge, Merges}
+use Rattle.raft_replay.specs.Replays.{HasReplayed, CannotFollow, IsReplayed}
+use Rattle.raft_replay.specs.Segments.{IsReadBehind, ReadsFrom, ReadsPart, ReadsEach, ReadsParts, ReadsSegments, CannotBeRead, PartsAreOf, SegmentsAreOf}
+use Rattle.raft_replay.specs.Schedules.{switches, count_below, pieces_in}
+use Rattle.raft_replay.specs.MachineOrder.{AreInOrder, IsUnderway}
+use Rattle.raft_replay.proofs.MergeLemmas.{joined-append, each-append}
+use Rattle.raft_replay.proofs.SegmentLemmas.{segments_unique}
+
+-- ---- what is read of two lists, one behind the other
+
+module _ {A : Type 0} (Reads : A → List Event → Type 0) where
+  pub each_join : (xs ys : List A) (g h : List Event) → ReadsEach Reads xs g → ReadsEach Reads ys h → ReadsEach Reads (xs ++ ys) (g ++ h)
+  each_join [] ys g h first second = subst (λ (t : List Event). ReadsEach Reads ys (t ++ h)) (sym first) second
+  each_join (x ∷ xs) ys g h first second = record {
+    first = first.first;
+    rest = first.rest ++ h;
+    first_reads = first.first_reads;
+    rest_reads = each_join xs ys first.rest h first.rest_reads second;
+    split = ap (λ (t : List Event). t ++ h) first.split ∙ append_assoc first.first first.rest h;
+  }
+
+  pub each_cut : (xs ys : List A) (h : List Event) → ReadsEach Reads (xs ++ ys) h
+      → IsReadBehind (λ g. ReadsEach Reads xs g) (λ g. ReadsEach Reads ys g) h
+  each_cut [] ys h all = record { first = []; rest = h; first_reads = refl; rest_reads = all; split = refl }
+  each_cut (x ∷ xs) ys h all =
+      let cut = each_cut xs ys all.rest all.rest_reads in
+      record {
+        first = all.first ++ cut.first;
+        rest = cut.rest;
+        first_reads = record { first = all.first; rest = cut.first; first_reads = all.first_reads; rest_reads = cut.first_reads; split = refl };
+        rest_reads = cut.rest_reads;
+        split = all.split ∙ ap (λ (t : List Event). all.first ++ t) cut.split ∙ sym (append_assoc all.first cut.first cut.rest);
+      }
+
+  pub each_single : (x : A) (h : List Event) → Reads x h → ReadsEach Reads (x ∷ []) h
+  each_single x h reads = record { first = h; rest = []; first_reads = reads; rest_reads = refl; split = sym (append-nil h) }
+
+abbrev SegmentReads : Vec Part Global → List Event → Type 0
+SegmentReads segment h = ReadsParts segment.items h
+
+-- ---- what is read of parts of a queue is of the queue
+
+part_of : (queue : LogQueue) (part : Part) (at : ℕ) → part.id.queue ≡ queue → (h : List Event) → ReadsFrom part at h → AreOfQueue queue h
+part_of queue part at is [] reads = tt
+part_of queue part at is (e ∷ h) reads = (ap (λ (file : _). file.queue) reads.0 ∙ is, part_of queue part reads.1.0 is h reads.1.2)
+
+each_of : {A : Type 0} (Reads : A → List Event → Type 0) (P : A → Type 0) (queue : LogQueue) → ((x : A) → P x → (h : List Event) → Reads x h → IsOfQueue queue h)
+    → (xs : List A) → AllByRecursion P xs → (h : List Event) → ReadsEach Reads xs h → IsOfQueue queue h
+each_of Reads P queue one [] all h reads = subst (IsOfQueue queue) (sym reads) record { each = tt }
+each_of Reads P queue one (x ∷ xs) all h reads =
+    subst (IsOfQueue queue) (sym reads.split)
+    (of_both queue reads.first reads.rest (one x all.0 reads.first reads.first_reads) (each_of Reads P queue one xs all.1 reads.rest reads.rest_reads))
+
+parts_of : (queue : LogQueue) (parts : List Part) → PartsAreOf queue parts → (h : List Event) → ReadsParts parts h → IsOfQueue queue h
+parts_of queue parts all =
+    each_of ReadsPart (λ part. part.id.queue ≡ queue) queue (λ part is h reads. record { each = part_of queue part 0 is h reads }) parts (recursion_from_All _ parts all)
+
+pub segments_of : (queue : LogQueue) (segments : List (Vec Part Global)) → SegmentsAreOf queue segments → (h : List Event) → ReadsSegments segments h → IsOfQueue queue h
+segments_of queue segments all =
+    each_of SegmentReads (λ segment. PartsAreOf queue segment.items) queue (λ segment is h reads. parts_of queue segment.items is h reads) segments
+    (recursion_from_All _ segments all)
+
+-- ---- machines in line
+
+module _ {M : Type 0} (stands_for stands_exactly : M → List Event → Type 0) (exact_stands : (m : M) (h : List Event) → stands_exactly m h → stands_for m h) where
+  each_stands : (ms : List M) (hs : List (List Event)) → StandForEach stands_exactly ms hs → StandForEach stands_for ms hs
+  each_stands [] [] all = tt
+  each_stands [] (h ∷ hs) all = absurd all
+  each_stands (m ∷ ms) [] all = absurd all
+  each_stands (m ∷ ms) (h ∷ hs) all = (exact_stands m h all.0, each_stands ms hs all.1)
+
+  -- a machine that has replayed nothing
+  pub begun : (m : M) → stands_exactly m [] → IsUnderway stands_exactly [] [] m
+  begun m new = record { histories = []; last = []; reads = refl; stand = λ small. tt; exact = λ small. new }
+
+  module _ (segments : List (Vec Part Global)) (ms : List M) (m : M) (underway : IsUnderway stands_exactly segments ms m) where
+    -- it goes on by one segment
+    pub gone_on : (segment : Vec Part Global) (n : M) → HasReplayed (ReadsParts segment.items) stands_for stands_exactly m n
+        → IsUnderway stands_exactly (segments ++ segment ∷ []) ms n
+    gone_on segment n more =
+        let two = append_assoc (concatenated underway.histories) underway.last more.history in
+        record {
+          histories = underway.histories;
+          last = underway.last ++ more.history;
+          reads =
+              subst (ReadsSegments (segments ++ segment ∷ [])) two
+              (each_join SegmentReads segments (segment ∷ []) (concatenated underway.histories ++ underway.last) more.history underway.reads
+              (each_single SegmentReads segment more.history more.reads));
+          stand = λ small. underway.stand (small_front (concatenated underway.histories ++ underway.last) more.history (subst IsSmall (sym two) small));
+          exact = λ small.
+              let before = small_front (concatenated underway.histories ++ underway.last) more.history (subst IsSmall (sym two) small) in
+              more.exact underway.last (small_back (concatenated underway.histories) (underway.last ++ more.history) small) (underway.exact before);
+        }
+
+    one_more : concatenated (underway.histories ++ underway.last ∷ []) ≡ concatenated underway.histories ++ underway.last
+    one_more = joined-append underway.histories (underway.last ∷ []) ∙ ap (λ (t : List Event). concatenated underway.histories ++ t) (append-nil underway.last)
+
+    -- it is the last in line
+    pub finished : AreInOrder stands_exactly segments (ms ++ m ∷ [])
+    finished = record {
+      histories = underway.histories ++ underway.last ∷ [];
+      reads = subst (ReadsSegments segments) (sym one_more) underway.reads;
+      stand = λ small.
+          let few = subst IsSmall one_more small in
+          each-append stands_exactly ms (m ∷ []) underway.histories (underway.last ∷ []) (underway.stand few) (underway.exact few, tt);
+    }
+
+    -- another begins behind it
+    pub next_begun : (n : M) → stands_exactly n [] → IsUnderway stands_exactly segments (ms ++ m ∷ []) n
+    next_begun n new = record {
+      histories = finished.histories;
+      last = [];
+      reads = subst (ReadsSegments segments) (sym (append-nil (concatenated finished.histories))) finished.reads;
+      stand = λ small. finished.stand (subst IsSmall (append-nil (concatenated finished.histories)) small);
+      exact = λ small. new;
+    }
+
+    -- what can't follow it can't be read behind its segments
+    pub stopped : (all rest : List (Vec Part Global)) (segment : Vec Part Global) → all ≡ segments ++ segment ∷ rest
+        → CannotFollow (ReadsParts segment.items) (stands_for m) → CannotBeRead all
+    stopped all rest segment is cannot = record {
+      unsound = λ h reads small sound.
+          let cut = each_cut SegmentReads segments (segment ∷ rest) h (subst (λ (l : List (Vec Part Global)). ReadsSegments l h) is reads) in
+          let same = segments_unique segments cut.first (concatenated underway.histories ++ underway.last) cut.first_reads underway.reads in
+          let next = cut.rest_reads in
+          let whole : h ≡ concatenated underway.histories ++ underway.last ++ next.first ++ next.rest =
+          cut.split ∙ ap (λ (t : List Event). t ++ cut.rest) same ∙ ap (λ (t : List Event). concatenated underway.histories ++ underway.last ++ t) next.split
+          ∙ sym (append_assoc (concatenated underway.histories ++ underway.last) next.first next.rest) in
+          let few = small_front (concatenated underway.histories ++ underway.last ++ next.first) next.rest (subst IsSmall whole small) in
+          let good = sound_front (concatenated underway.histories ++ underway.last ++ next.first) next.rest (subst Sound whole sound) in
+          let two = append_assoc (concatenated underway.histories) underway.last next.first in
+          let stands = exact_stands m underway.last (underway.exact (small_front (concatenated underway.histories ++ underway.last) next.first few)) in
+          cannot.unsound underway.last next.first next.first_reads (small_back (concatenated underway.histories) (underway.last ++ next.first) (subst IsSmall two few)) stands
+          (sound_back (concatenated underway.histories) (underway.last ++ next.first) (subst Sound two good));
+    }
+
+  -- one machine alone
+  pub replayed_alone : (segments : List (Vec Part Global)) (m : M) → IsUnderway stands_exactly segments [] m → IsReplayed stands_for stands_exactly segments m
+  replayed_alone segments m underway = alone underway.histories underway.last underway.reads underway.stand underway.exact
+    where
+      alone : (hs : List (List Event)) (last : List Event) → ReadsSegments segments (concatenated hs ++ last)
+          → (IsSmall (concatenated hs ++ last) → StandForEach stands_exactly [] hs) → (IsSmall (concatenated hs ++ last) → stands_exactly m last)
+          → IsReplayed stands_for stands_exactly segments m
+      alone [] last reads none exact = record {
+        history = last;
+        reads = reads;
+        stands = λ small. exact_stands m last (exact small);
+        exact = λ small apart. exact small;
+      }
+      alone (h ∷ hs) last reads none exact = record {
+        history = h ++ concatenated hs ++ last;
+        reads = reads;
+        stands = λ small. absurd (none small);
+        exact = λ small apart. absurd (none small);
+      }
+
+  module _ (segments : List (Vec Part Global)) (ms : List M) (line : AreInOrder stands_exactly segments ms) (queue : LogQueue) (of : SegmentsAreOf queue segments) where
+    -- all of them merged
+    pub replayed_merged : (m : M) → IsMerged stands_for stands_exactly ms m → IsReplayed stands_for stands_exactly segments m
+    replayed_merged m merged = record {
+      history = concatenated line.histories;
+      reads = line.reads;
+      stands = λ small. merged.stands line.histories small (each_stands ms line.histories (line.stand small));
+      exact = λ small apart. merged.exact line.histories small apart (line.stand small);
+    }
+
+    -- machines that can't be merged
+    pub unmerged : CannotMerge stands_for queue ms → CannotBeRead segments
+    unmerged cannot = record {
+      unsound = λ h reads small sound.
+          let same = segments_unique segments h (concatenated line.histories) reads line.reads in
+          let few = subst IsSmall same small in
+          cannot.unsound line.histories few (segments_of queue segments of (concatenated line.histories) line.reads)
+          (each_stands ms line.histories (line.stand few)) (subst Sound same sound);
+    }
+
+    pub merged_ok : (r : Result M Error) → Merges stands_for stands_exactly queue ms r → IfOk r (IsReplayed stands_for stands_exactly segments)
+    merged_ok (Ok m) merged = replayed_merged m merged
+    merged_ok (Err e) cannot = tt
+
+    pub merged_err : (Own : Error → Type 0) (r : Result M Error) → Merges stands_for stands_exactly queue ms r
+        → IfErr r (λ e. e ≢ Memory → ¬ (Own e) → CannotBeRead segments)
+    merged_err Own (Ok m) merged = tt
+    merged_err Own (Err e) cannot = λ not_memory not_own. unmerged (cannot not_memory)
+
+-- what holds of the value of an Ok gives what follows from it
+pub if_ok : {T E : Type 0} {P Q : T → Type 0} (r : Result T E) → ((t : T) → P t → Q t) → IfOk r P → IfOk r Q
+if_ok (Ok t) step p = step t p
+if_ok (Err e) step p = tt
+
+module _ {M : Type 0} (stands_for stands_exactly : M → List Event → Type 0) (exact_stands : (m : M) (h : List Event) → stands_exactly m h → stands_for m h) where
+  -- no machine in line, and one that has replayed nothing
+  pub replayed_none : (segments : List (Vec Part Global)) (m : M) → AreInOrder stands_exactly segments [] → stands_exactly m [] → IsReplayed stands_for stands_exactly segments m
+  replayed_none segments m line new = none_of line.histories line.reads line.stand
+    where
+      none_of : (hs : List (List Event)) → ReadsSegments segments (concatenated hs) → (IsSmall (concatenated hs) → StandForEach stands_exactly [] hs)
+          → IsReplayed stands_for stands_exactly segments m
+      none_of [] reads none = record { history = []; reads = reads; stands = λ small. exact_stands m [] new; exact = λ small apart. new }
+      none_of (h ∷ hs) reads none = record {
+        history = h ++ concatenated hs;
+        reads = reads;
+        stands = λ small. absurd (none small);
+        exact = λ small apart. absurd (none small);
+      }
+
+-- ---- counts
+
+pub count_more : (test : ℕ → Bool) (n : ℕ) → count_below test (n + 1) ≡ count_below test n + cond (test n) 1 0
+count_more test n = rw add-one refl
+
+pub pieces_some : (n : ℕ) (draws : List ℕ) → 0 < n → pieces_in n draws ≡ count_below (switches draws) n + 1
+pieces_some zero draws some_left = absurd (omega arith)
+pieces_some (suc n) draws some_left = refl
+
+pub one_at_most : (b : Bool) → cond b 1 0 ≤ 1
+one_at_most true = omega arith
+one_at_most false = omega arith
+
+pub one_more_is : {x y : Bool} {n : ℕ} → n ≡ bool_byte x → x ≡ y → n ≡ cond y 1 0
+one_more_is {x} {y} {n} number same = number ∙ by x ∙ ap (λ (b : Bool). cond b 1 0) same
+  where
+    by : (b : Bool) → bool_byte b ≡ cond b 1 0
+    by true = refl
+    by false = refl
+
+switches_few : (draws : List ℕ) (n : ℕ) → count_below (switches draws) (suc n) ≤ n
+switches_few draws zero = omega arith
+switches_few draws (suc n) = let r = switches_few draws n in let most = one_at_most (switches draws (suc n)) in omega arith
+
+pub pieces_few : (n : ℕ) (draws : List ℕ) → pieces_in n draws ≤ n
+pieces_few zero draws = omega arith
+pieces_few (suc n) draws = let r = switches_few draws n in omega arith
+
+pub fits_is : (ls pieces n held count : ℕ) → held ≡ min ls 18446744073709551615 → count ≡ pieces → pieces ≤ n → n + 1 < 18446744073709551616 → 0 < n
+    → (IsTrue (nat_eq held count) → 0 < n → ls ≡ pieces) × ((0 < n → ls ≡ pieces) → IsTrue (nat_eq held count))
+fits_is ls pieces n held count least is few small some_left =
+    let d = Decides-eqb held count in
+    ((λ same some_of. let e = d.0 same in omega arith), λ fits. d.1 (let e = fits some_left in omega arith))
+
+pub one_same : {x y : Bool} → x ≡ y → (let n : ℕ = cond x 1 0 in n ≡ cond y 1 0)
+one_same same = ap (λ (b : Bool). let n : ℕ = cond b 1 0 in n) same

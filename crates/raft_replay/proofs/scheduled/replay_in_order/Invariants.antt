@@ -1,0 +1,10 @@
+use Rattle.std.proofs.Common.{◌≡◌, take, vec_len}
+use Rattle.raft_replay.specs.MachineOrder.{IsUnderway}
+use Rattle.raft_replay.specs.Schedules.{switches, count_below}
+use Rattle.raft_replay.proofs.scheduled.replay_in_order.Given as goal
+
+abbrev pub invariant-loop-n : goal.invariant-loop-n
+invariant-loop-n g l = record {
+  line : IsUnderway g.M.ReplayMachine.stands_exactly (take l.n l.segments) l.machines.items l.current;
+  count : vec_len l.machines ≡ count_below (switches l.draws) l.n;
+}

@@ -1,0 +1,17 @@
+-- Where a part may be cut.
+use Rattle.std.specs.Prelude.{ℕ, ◌+◌, List, take, drop}
+use Rattle.raft_records.specs.FilePart.{Part}
+use Rattle.raft_history.specs.Batches.{Event}
+use Rattle.raft_replay.specs.Segments.{IsReadBehind, ReadsFrom, ReadsPart}
+
+-- the bytes in front of a place
+abbrev pub front_of : Part → ℕ → Part
+front_of part at = record part { bytes = take at part.bytes }
+
+-- the bytes from a place on
+abbrev pub rest_of : Part → ℕ → Part
+rest_of part at = record part { offset = part.offset + at; bytes = drop at part.bytes }
+
+-- whatever is read of a part, it is what is read in front of this place and what is read from there on
+abbrev pub BatchesMeet : Part → ℕ → Type 0
+BatchesMeet part at = (h : List Event) → ReadsPart part h → IsReadBehind (ReadsPart (front_of part at)) (ReadsFrom part at) h

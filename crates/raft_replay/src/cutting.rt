@@ -1,0 +1,64 @@
+//! Parts of files, cut between batches, so that several workers read one file.
+
+ghost use Rattle.std.specs.Prelude.{◌≡◌, ◌<◌, ◌≤◌, ℕ, All, IfOk, IfErr, IfSome, length};
+ghost use Rattle.raft_records.specs.FilePart.{HasHeader};
+ghost use Rattle.raft_replay.specs.Cuts.{BatchesMeet};
+ghost use Rattle.raft_replay.specs.Segments.{AreCutFrom};
+
+use raft_base::{Error, Result};
+use raft_records::{FilePart, LogBatch};
+use std::alloc::Global;
+use std::mem;
+
+/// Cuts a part between batches into at most `count` parts of about one length, one behind the other, and at least into
+/// one. What is read of them is what is read of the part, also where it can't be read: a cut lies where the headers from
+/// the front on say that a batch begins, and none behind what is no header. No byte is copied.
+///
+/// # Errors
+///
+/// `Memory`.
+pub fn cut_part(alloc: Global, part: FilePart, count: usize) -> Result<Vec<FilePart>>
+    ensures read { IfOk result (λ parts. AreCutFrom part parts.items) }
+    ensures file { IfOk result (λ parts. All (λ p. p.id ≡ part.id) parts.items) }
+    ensures some { IfOk result (λ parts. 0 < length parts.items) }
+    ensures few { 0 < count → IfOk result (λ parts. length parts.items ≤ count) }
+    ensures memory { IfErr result (λ e. e ≡ Error.Memory) }
+{
+    let least = (part.bytes().len() / count.max(1)).max(1);
+    let mut parts = Vec::new(alloc);
+    let mut left = part;
+    while parts.len() + 1 < count {
+        let Some(at) = batch_end(alloc, &left, least) else {
+            break;
+        };
+        let behind = left.split_off(at)?;
+        parts.push(mem::replace(&mut left, behind))?;
+    }
+    parts.push(left)?;
+    Ok(parts)
+}
+
+/// Where a batch ends, the first at `least` or behind it, if headers lead there from the front on and more bytes follow.
+fn batch_end(alloc: Global, part: &FilePart, least: usize) -> Option<usize>
+    ensures inside { IfSome result (λ at. at < length part.now.bytes) }
+    ensures met { IfSome result (BatchesMeet part.now) }
+{
+    let bytes = part.bytes();
+    let mut at = 0;
+    while at < least {
+        let (_, left) = bytes.split_at(at);
+        at += batch_length(alloc, left)?;
+    }
+    if at < bytes.len() { Some(at) } else { None }
+}
+
+/// How long the batch in front is, if it has a header and is whole.
+fn batch_length(alloc: Global, bytes: &[u8]) -> Option<usize>
+    ensures header { IfSome result (λ len. (offset : ℕ) × HasHeader bytes.now offset len) }
+    ensures some { IfSome result (λ len. 0 < len) }
+    ensures whole { IfSome result (λ len. len ≤ length bytes.now) }
+{
+    let mut rest = bytes;
+    let (_, _, len) = LogBatch::decode_header(alloc, &mut rest).ok()?;
+    if len <= bytes.len() { Some(len) } else { None }
+}

@@ -1,0 +1,60 @@
+//! The rule of the word from which seats draw numbers.
+
+ghost use Rattle.std.specs.Prelude.{◌≡◌, [], ◌++◌, take, drop, replicate};
+
+use atomic_table::{Join, Play, Split, TableRule};
+use std::collections::LinkedList;
+
+/// The numbers that seats drew, a list for each. No value of it is made.
+pub(crate) type Lists = LinkedList<LinkedList<u64>>;
+
+/// How many numbers are answered, and how many seats draw.
+#[derive(Drop)]
+pub(crate) struct Sizes {
+    pub(crate) total: u64,
+    pub(crate) seats: u64,
+}
+
+/// The numbers below the word were drawn, each once.
+pub(crate) struct Drawing;
+
+impl TableRule<(), Lists, Sizes> for Drawing {
+    ghost use Rattle.std.specs.Prelude.{[], replicate};
+    ghost use Rattle.raft_replay.specs.Drawing.{IsDrawn};
+
+    ghost holds = { λ sizes s. IsDrawn sizes.total sizes.seats s.words s.views };
+
+    ghost first = { λ sizes. replicate sizes.seats [] };
+}
+
+/// A seat draws the number that it finds.
+pub(crate) struct Draws;
+
+impl Play<(), Lists> for Draws {
+    ghost use Rattle.std.specs.Prelude.{◌≡◌};
+    ghost use Rattle.raft_replay.specs.Drawing.{HasDrawn};
+
+    ghost then = { λ _ me n after. HasDrawn me.0 n after.0 × (after.1 ≡ me.1) };
+}
+
+/// The first list goes to a new seat.
+pub(crate) struct First;
+
+impl Split<Lists> for First {
+    ghost use Rattle.std.specs.Prelude.{take, drop};
+
+    ghost left = { λ view. drop 1 view };
+
+    ghost right = { λ view. take 1 view };
+}
+
+/// All lists of both go to one seat.
+pub(crate) struct Both;
+
+impl Join<Lists> for Both {
+    ghost use Rattle.std.specs.Prelude.{[], ◌++◌};
+
+    ghost both = { λ view other. view ++ other };
+
+    ghost spent = { [] };
+}

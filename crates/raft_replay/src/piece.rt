@@ -1,0 +1,130 @@
+//! Pieces of a queue that workers make.
+
+ghost use Rattle.std.specs.Prelude.{
+  ◌≡◌,
+  ◌≢◌,
+  ℕ,
+  ◌+◌,
+  ◌<◌,
+  ◌≤◌,
+  List,
+  [],
+  length,
+  All,
+  IfOk,
+  IfErr,
+  Vec,
+  vec_len,
+  map,
+};
+ghost use Rattle.std.specs.Global.{Global};
+ghost use Rattle.raft_records.specs.FilePart.{Part};
+ghost use Rattle.raft_replay.specs.MachineOrder.{AreInOrder};
+ghost use Rattle.raft_replay.specs.Segments.{CannotBeRead};
+
+use crate::{Segment, replay_segment};
+use raft_base::{Error, Factory, Result};
+use raft_history::ReplayMachine;
+use std::alloc::Global;
+
+/// A machine that has replayed so many segments, from this one on. It stands behind a pointer, so that
+/// pieces are sorted by moving pointers.
+#[derive(Drop)]
+pub(crate) struct Piece<M> {
+    from: usize,
+    count: usize,
+    machine: Box<M>,
+}
+
+impl<M: ReplayMachine> Piece<M> {
+    ghost use Rattle.raft_replay.specs.Covers.{IsPieceOf, CoverOnce, covers, covering};
+
+    /// The piece that goes on with this segment: the last one where it ends there, else a new one.
+    pub(crate) fn at<F: Factory<M>>(
+        alloc: Global,
+        factory: &F,
+        pieces: &mut Vec<Piece<M>>,
+        number: usize,
+    ) -> Result<Piece<M>>
+        requires { (m : M) → F.gives factory.now m → M.stands_exactly m [] }
+        ensures next { IfOk result (λ p. p.from + p.count ≡ number) }
+        ensures piece { (segments : List (Vec Part Global)) → number ≤ length segments →
+            All (IsPieceOf M.stands_exactly segments) pieces.old.items →
+            IfOk result (λ p. IsPieceOf M.stands_exactly segments p
+            × All (IsPieceOf M.stands_exactly segments) pieces.new.items) }
+        ensures covered { IfOk result (λ p. (x : ℕ) →
+            covering x pieces.new.items + covers p.from p.count x ≡ covering x pieces.old.items) }
+        ensures err { IfErr result (λ e. e ≢ Error.Memory → F.may_refuse factory.entry.now e) }
+    {
+        let Some(last) = pieces.pop() else {
+            return Piece::begin(alloc, factory, number);
+        };
+        if last.from <= number && number - last.from == last.count {
+            return Ok(last);
+        }
+        pieces.push(last)?;
+        Piece::begin(alloc, factory, number)
+    }
+
+    /// A piece of no segments.
+    fn begin<F: Factory<M>>(alloc: Global, factory: &F, from: usize) -> Result<Piece<M>>
+        requires { (m : M) → F.gives factory.now m → M.stands_exactly m [] }
+        ensures empty { IfOk result (λ p. (p.from ≡ from) × (p.count ≡ 0)) }
+        ensures piece { (segments : List (Vec Part Global)) → from ≤ length segments
+            → IfOk result (IsPieceOf M.stands_exactly segments) }
+        ensures err { IfErr result (λ e. e ≢ Error.Memory → F.may_refuse factory.entry.now e) }
+    {
+        let machine = factory.new_target(alloc)?;
+        let machine = Box::new(alloc, machine)?;
+        Ok(Piece {
+            from,
+            count: 0,
+            machine,
+        })
+    }
+
+    /// The piece with one segment more.
+    pub(crate) fn with_next(self, segments: &[Segment]) -> Result<Piece<M>>
+        requires inside { self.from + self.count < length segments.now }
+        requires piece { IsPieceOf M.stands_exactly segments.now self }
+        ensures next { IfOk result (λ p. (p.from ≡ self.from) × (p.count ≡ self.count + 1)) }
+        ensures piece { IfOk result (IsPieceOf M.stands_exactly segments.entry.now) }
+        ensures refused { IfErr result (λ e. e ≢ Error.Memory → CannotBeRead segments.entry.now) }
+    {
+        let Piece {
+            from,
+            count,
+            mut machine,
+        } = self;
+        replay_segment(&mut *machine, &segments[from + count])?;
+        Ok(Piece {
+            from,
+            count: count + 1,
+            machine,
+        })
+    }
+
+    /// The machines of pieces, in the order of what they have replayed.
+    pub(crate) fn line_up(alloc: Global, mut pieces: Vec<Piece<M>>) -> Result<Vec<M>>
+        ensures ok { (segments : List (Vec Part Global)) → All (IsPieceOf M.stands_exactly segments) pieces.items →
+            CoverOnce segments pieces.items → IfOk result (λ v. AreInOrder M.stands_exactly segments v.items) }
+        ensures fault { IfErr result (λ e. e ≡ Error.Memory) }
+    {
+        pieces.sort_by_key(|piece| piece.from)?;
+        Piece::machines(alloc, pieces)
+    }
+
+    /// The machines of the pieces.
+    fn machines(alloc: Global, mut pieces: Vec<Piece<M>>) -> Result<Vec<M>>
+        ensures ok { IfOk result (λ v. v.items ≡ map (λ p. p.machine.value) pieces.items) }
+        ensures fault { IfErr result (λ e. e ≡ Error.Memory) }
+    {
+        let mut machines = Vec::with_capacity(alloc, pieces.len())?;
+        pieces.reverse();
+        while let Some(piece) = pieces.pop() {
+            let Piece { machine, .. } = piece;
+            machines.push(Box::into_inner(machine))?;
+        }
+        Ok(machines)
+    }
+}

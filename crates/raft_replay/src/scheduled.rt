@@ -1,0 +1,210 @@
+//! Given schedules, on one thread.
+
+ghost use Rattle.std.specs.Prelude.{
+  ◌≡◌,
+  ◌≢◌,
+  ℕ,
+  ◌+◌,
+  ◌^◌,
+  ◌<◌,
+  ◌↔◌,
+  EachIndex,
+  List,
+  [],
+  length,
+  take,
+  slice_index,
+  IfOk,
+  IfErr,
+  OnOk,
+  IsTrue,
+  if◌then◌else◌,
+  vec_len,
+  Vec,
+};
+ghost use Rattle.std.specs.Global.{Global};
+ghost use Rattle.raft_records.specs.FilePart.{Part};
+ghost use Rattle.raft_table.specs.Start.{IsInvalidArgument};
+ghost use Rattle.raft_replay.specs.Plans.{leaves};
+ghost use Rattle.raft_replay.specs.MachineOrder.{IsUnderway};
+ghost use Rattle.raft_replay.specs.Segments.{CannotBeRead, PartsAreOf, SegmentsAreOf};
+ghost use Rattle.raft_replay.specs.Replays.{IsReplayed};
+ghost use Rattle.raft_replay.specs.Schedules.{IsSchedule, switches, count_below, pieces_in};
+
+use crate::pieces::merge_in_turn;
+use crate::workers::MAX_WORKERS;
+use crate::{Plan, Segment, replay_segment};
+use raft_base::{Error, Factory, LogQueue, Result};
+use raft_history::ReplayMachine;
+use raft_records::FilePart;
+use std::alloc::Global;
+
+/// Does on the caller's thread what workers would do if `draws` named, segment by segment, who draws next; behind its
+/// end worker 0 draws. A worker that draws the segment after its last one goes on in the same machine, else it begins
+/// another; the pieces are merged by the plan. Without segments it is a new machine, whatever the plan.
+/// `InvalidArgument` for another number of workers than 1 to 256, for a part of another queue, for a worker that isn't
+/// there, and for a plan of another number of pieces. Any other refusal than that, than `Memory` and than the factory's
+/// own comes only where a part isn't a row of readable batches or all batches, in order, can't be read.
+pub fn replay_scheduled<M: ReplayMachine, F: Factory<M>>(
+    alloc: Global,
+    factory: &F,
+    segments: &[Segment],
+    queue: LogQueue,
+    workers: usize,
+    draws: &[usize],
+    plan: &Plan,
+) -> Result<M>
+    requires { (m : M) → F.gives factory.now m → M.stands_exactly m [] }
+    ensures ok { IfOk result (IsReplayed M.stands_for M.stands_exactly segments.entry.now) }
+    ensures accepted { OnOk result (IsSchedule segments.entry.now queue workers draws.entry.now plan.entry.now) }
+    ensures refused { IsSchedule segments.entry.now queue workers draws.entry.now plan.entry.now →
+        IfErr result (λ e. e ≢ Error.Memory → ¬ (F.may_refuse factory.entry.now e) → CannotBeRead segments.entry.now) }
+    ensures fault { (IsSchedule segments.entry.now queue workers draws.entry.now plan.entry.now → ⊥) →
+        IfErr result (λ e. e ≢ Error.Memory → IsInvalidArgument e) }
+{
+    if !is_schedule(segments, queue, workers, draws, plan) {
+        return Err(Error::InvalidArgument(format!(in alloc;
+            "{workers} workers, parts of another queue, a worker that isn't there, or a plan of other pieces"
+        )?));
+    }
+    let mut machines = Vec::new(alloc);
+    let last = replay_in_order(alloc, factory, segments, draws, &mut machines)?;
+    if segments.is_empty() {
+        return Ok(last);
+    }
+    machines.push(last)?;
+    merge_in_turn(machines, plan, queue)
+}
+
+/// The number of pieces that this many segments make if `draws` names who draws next.
+pub fn piece_count(segments: usize, draws: &[usize]) -> usize
+    ensures { result ≡ pieces_in segments draws.now }
+{
+    if segments == 0 {
+        return 0;
+    }
+    let mut pieces = 1;
+    for n in 1..segments {
+        pieces += usize::from(changes(draws, n));
+    }
+    pieces
+}
+
+/// Whether another worker draws this segment than the one before it.
+fn changes(draws: &[usize], n: usize) -> bool
+    ensures { result ≡ switches draws.now n }
+{
+    n > 0 && drawer(draws, n) != drawer(draws, n - 1)
+}
+
+/// Who draws the segment.
+fn drawer(draws: &[usize], n: usize) -> usize
+    ensures { result ≡ slice_index draws.now n }
+{
+    if n < draws.len() { draws[n] } else { 0 }
+}
+
+/// Whether the arguments fit one another.
+fn is_schedule(
+    segments: &[Segment],
+    queue: LogQueue,
+    workers: usize,
+    draws: &[usize],
+    plan: &Plan,
+) -> bool
+    ensures { IsTrue result ↔ IsSchedule segments.now queue workers draws.now plan.now }
+{
+    if workers == 0 || workers > MAX_WORKERS || !are_of(segments, queue) {
+        return false;
+    }
+    if !are_known(draws, workers) {
+        return false;
+    }
+    fits_pieces(plan, segments.len(), draws)
+}
+
+/// Whether each of the workers is one of so many.
+fn are_known(draws: &[usize], workers: usize) -> bool
+    ensures { IsTrue result ↔ EachIndex draws.now (λ n. slice_index draws.now n < workers) }
+{
+    draws.iter().all(|worker| *worker < workers)
+}
+
+/// Whether the plan is of the pieces that so many segments make, if there are any.
+fn fits_pieces(plan: &Plan, segments: usize, draws: &[usize]) -> bool
+    requires { segments + 1 < 2 ^ 64 }
+    ensures { IsTrue result ↔ (0 < segments → leaves plan.now ≡ pieces_in segments draws.now) }
+{
+    segments == 0 || plan.leaves() == piece_count(segments, draws)
+}
+
+/// Whether every part of every segment is of the queue.
+pub(crate) fn are_of(segments: &[Segment], queue: LogQueue) -> bool
+    ensures { IsTrue result ↔ SegmentsAreOf queue segments.now }
+{
+    for segment in segments {
+        if !parts_are_of(segment, queue) {
+            return false;
+        }
+    }
+    true
+}
+
+/// Whether every part is of the queue.
+fn parts_are_of(parts: &Vec<FilePart>, queue: LogQueue) -> bool
+    ensures { IsTrue result ↔ PartsAreOf queue parts.now.items }
+{
+    for part in parts {
+        if part.id().queue != queue {
+            return false;
+        }
+    }
+    true
+}
+
+/// Replays all segments; the machines in front of the last one are put into the list.
+fn replay_in_order<M: ReplayMachine, F: Factory<M>>(
+    alloc: Global,
+    factory: &F,
+    segments: &[Segment],
+    draws: &[usize],
+    machines: &mut Vec<M>,
+) -> Result<M>
+    requires factory { (m : M) → F.gives factory.now m → M.stands_exactly m [] }
+    requires none { machines.old.items ≡ [] }
+    ensures ok { IfOk result (IsUnderway M.stands_exactly segments.entry.now machines.new.items) }
+    ensures count { OnOk result (vec_len machines.new
+        ≡ count_below (switches draws.entry.now) (length segments.entry.now)) }
+    ensures refused { IfErr result (λ e. e ≢ Error.Memory → ¬ (F.may_refuse factory.entry.now e) →
+        CannotBeRead segments.entry.now) }
+{
+    let mut current = factory.new_target(alloc)?;
+    for (n, segment) in segments.iter().enumerate() {
+        current = piece_behind(alloc, factory, machines, current, changes(draws, n))?;
+        replay_segment(&mut current, segment)?;
+    }
+    Ok(current)
+}
+
+/// The machine that goes on: the current one, or a new one where another worker draws, behind which the current one is
+/// in line.
+fn piece_behind<M: ReplayMachine, F: Factory<M>>(
+    alloc: Global,
+    factory: &F,
+    machines: &mut Vec<M>,
+    current: M,
+    changes: bool,
+) -> Result<M>
+    requires { (m : M) → F.gives factory.now m → M.stands_exactly m [] }
+    ensures ok { IfOk result (λ m. (segments : List (Vec Part Global)) →
+        IsUnderway M.stands_exactly segments machines.old.items current →
+        IsUnderway M.stands_exactly segments machines.new.items m) }
+    ensures count { OnOk result (vec_len machines.new ≡ vec_len machines.old + (if changes then 1 else 0)) }
+    ensures err { IfErr result (λ e. e ≢ Error.Memory → F.may_refuse factory.entry.now e) }
+{
+    if !changes {
+        return Ok(current);
+    }
+    machines.push(current)?;
+    factory.new_target(alloc)
+}

@@ -1,0 +1,49 @@
+//! Segments of a queue, and their replay into a machine.
+
+ghost use Rattle.std.specs.Prelude.{◌≡◌, ◌≢◌, List, Vec, OnOk, IfErr};
+ghost use Rattle.std.specs.Global.{Global};
+ghost use Rattle.raft_records.specs.FilePart.{Part};
+ghost use Rattle.raft_history.specs.Batches.{Event};
+ghost use Rattle.raft_replay.specs.Replays.{HasReplayed, CannotFollow};
+ghost use Rattle.raft_replay.specs.Segments.{ReadsPart, ReadsParts, ReadsSegments};
+
+use raft_base::{Error, Result};
+use raft_history::ReplayMachine;
+use raft_records::{FilePart, next_batch};
+
+/// A stretch of a queue: parts of files, one behind the other.
+pub type Segment = Vec<FilePart>;
+
+/// Replays every batch of every part, in order. A refusal other than `Memory` comes only where a part isn't a row of
+/// readable batches, or where the batches behind those that the machine stands for can't be read.
+pub fn replay_segment<M: ReplayMachine>(machine: &mut M, segment: &Segment) -> Result<()>
+    ensures ok { OnOk result (HasReplayed (ReadsParts segment.entry.now.items) M.stands_for M.stands_exactly
+        machine.old machine.new) }
+    ensures refused { IfErr result (λ e. e ≢ Error.Memory →
+        CannotFollow (ReadsParts segment.entry.now.items) (M.stands_for machine.old)) }
+{
+    for part in segment {
+        replay_part(machine, part)?;
+    }
+    Ok(())
+}
+
+/// Replays the batches of a part.
+fn replay_part<M: ReplayMachine>(machine: &mut M, part: &FilePart) -> Result<()>
+    ensures ok { OnOk result (HasReplayed (ReadsPart part.now) M.stands_for M.stands_exactly machine.old machine.new) }
+    ensures refused { IfErr result (λ e. e ≢ Error.Memory →
+        CannotFollow (ReadsPart part.now) (M.stands_for machine.old)) }
+{
+    let mut at = 0;
+    while let Some((batch, next)) = next_batch(part, at)? {
+        machine.replay(batch, part.id())?;
+        at = next;
+    }
+    Ok(())
+}
+
+/// The parts of segments read as one history at most.
+pub fn segments_read_as_one_history()
+    ensures { (segments : List (Vec Part Global)) (g h : List Event)
+        → ReadsSegments segments g → ReadsSegments segments h → g ≡ h }
+{}

@@ -1,0 +1,216 @@
+//! Segments that any number of workers replay, each the next one that is left.
+
+ghost use Rattle.std.specs.Prelude.{
+  ◌≡◌,
+  ◌≢◌,
+  ℕ,
+  ◌+◌,
+  ◌^◌,
+  ◌<◌,
+  ◌≤◌,
+  ◌↔◌,
+  IsTrue,
+  List,
+  [],
+  length,
+  All,
+  IfOk,
+  IfErr,
+  OnOk,
+  Vec,
+  vec_len,
+};
+ghost use Rattle.std.specs.Global.{Global};
+ghost use Rattle.raft_records.specs.FilePart.{Part};
+ghost use Rattle.raft_table.specs.Start.{IsInvalidArgument};
+ghost use Rattle.raft_replay.specs.Covers.{IsPieceOf, CoverOnce, AreDone, Gives};
+ghost use Rattle.raft_replay.specs.Draws.{TicketBook, IsSeatOf, IsNewSeatOf};
+ghost use Rattle.raft_replay.specs.WorkedWords.{IsBack, HasRefusal};
+ghost use Rattle.raft_replay.specs.Segments.{CannotBeRead, SegmentsAreOf};
+ghost use Rattle.raft_replay.specs.Replays.{IsReplayed};
+
+use crate::piece::Piece;
+use crate::pieces::merge_at_once;
+use crate::scheduled::are_of;
+use crate::{Gate, Plan, Segment, TicketSeat, Tickets};
+use raft_base::{Error, Factory, LogQueue, Result};
+use raft_history::ReplayMachine;
+use std::alloc::Global;
+use std::thread;
+use std::thread::Threads;
+
+/// The greatest number of workers.
+pub const MAX_WORKERS: usize = 256;
+
+/// More segments than any machine has files.
+const SEGMENT_LIMIT: usize = 1 << 62;
+
+/// Replays all segments by 1 to 256 workers, each of which draws the next segment that is left, and merges the pieces
+/// by halves. A worker for which no thread can be started is replaced by the caller. Whatever the workers' turns, the
+/// machine stands for all batches in order, exactly where groups keep apart. `InvalidArgument` for another number of
+/// workers and for a part of another queue. Any other refusal than that, than `Memory` and than the factory's own comes
+/// only where a part isn't a row of readable batches or all batches, in order, can't be read.
+pub fn replay_segments<M: ReplayMachine, F: Factory<M>, G: Gate, R: Threads + Sync>(
+    rt: &R,
+    alloc: Global,
+    factory: &F,
+    segments: &[Segment],
+    queue: LogQueue,
+    workers: usize,
+    gate: &G,
+) -> Result<M>
+    requires { (m : M) → F.gives factory.now m → M.stands_exactly m [] }
+    ensures ok { IfOk result (IsReplayed M.stands_for M.stands_exactly segments.entry.now) }
+    ensures accepted { OnOk result ((0 < workers) × (workers ≤ 256) × SegmentsAreOf queue segments.entry.now) }
+    ensures refused { (0 < workers) × (workers ≤ 256) × (length segments.entry.now < 2 ^ 62) ×
+        SegmentsAreOf queue segments.entry.now → IfErr result (λ e. e ≢ Error.Memory →
+        ¬ (F.may_refuse factory.entry.now e) → CannotBeRead segments.entry.now) }
+    ensures fault { ((0 < workers) × (workers ≤ 256) × (length segments.entry.now < 2 ^ 62) ×
+        SegmentsAreOf queue segments.entry.now → ⊥) → IfErr result (λ e. e ≢ Error.Memory → IsInvalidArgument e) }
+{
+    if !is_work(segments, queue, workers) {
+        return Err(Error::InvalidArgument(format!(in alloc;
+            "{workers} workers, or parts of another queue"
+        )?));
+    }
+    let pieces = drawn_pieces(rt, alloc, factory, segments, workers, gate)?;
+    let machines = Piece::line_up(alloc, pieces)?;
+    if machines.is_empty() {
+        return factory.new_target(alloc);
+    }
+    let plan = Plan::halves(alloc, machines.len())?;
+    merge_at_once(rt, machines, &plan, queue)
+}
+
+/// Whether so many workers replay segments of this queue.
+fn is_work(segments: &[Segment], queue: LogQueue, workers: usize) -> bool
+    ensures { IsTrue result ↔ ((0 < workers) × (workers ≤ 256) × (length segments.now < 2 ^ 62) ×
+        SegmentsAreOf queue segments.now) }
+{
+    if workers == 0 || workers > MAX_WORKERS || segments.len() >= SEGMENT_LIMIT {
+        return false;
+    }
+    are_of(segments, queue)
+}
+
+/// The pieces that the workers make: each segment is in one of them.
+fn drawn_pieces<M: ReplayMachine, F: Factory<M>, G: Gate, R: Threads + Sync>(
+    rt: &R,
+    alloc: Global,
+    factory: &F,
+    segments: &[Segment],
+    workers: usize,
+    gate: &G,
+) -> Result<Vec<Piece<M>>>
+    requires factory { (m : M) → F.gives factory.now m → M.stands_exactly m [] }
+    requires workers { (0 < workers) × (workers ≤ 256) × (length segments.now < 2 ^ 62) }
+    ensures pieces { IfOk result (λ v. All (IsPieceOf M.stands_exactly segments.entry.now) v.items) }
+    ensures tile { IfOk result (λ v. CoverOnce segments.entry.now v.items) }
+    ensures refused { IfErr result (λ e. e ≢ Error.Memory → ¬ (F.may_refuse factory.entry.now e) →
+        CannotBeRead segments.entry.now) }
+{
+    let (tickets, seats) = Tickets::open(alloc, segments.len(), workers)?;
+    let worked = run_workers(rt, alloc, factory, segments, &tickets, gate, seats)?;
+    let (seats, pieces) = gather(alloc, worked)?;
+    tickets.close(seats);
+    Ok(pieces)
+}
+
+/// The seats and the pieces of all workers, or the refusal of one.
+fn gather<M: ReplayMachine>(
+    alloc: Global,
+    mut worked: Vec<Worked<M>>,
+) -> Result<(Vec<TicketSeat>, Vec<Piece<M>>)>
+    ensures ok { (segments : List (Vec Part Global)) (tickets : TicketBook) →
+        All (IsBack M.stands_exactly segments tickets) worked.items →
+        IfOk result (λ r. AreDone M.stands_exactly segments tickets r.0.items r.1.items) }
+    ensures count { IfOk result (λ r. vec_len r.0 ≡ vec_len worked) }
+    ensures refused { IfErr result (λ e. e ≢ Error.Memory → HasRefusal worked.items e) }
+{
+    let mut seats = Vec::with_capacity(alloc, worked.len())?;
+    let mut pieces = Vec::new(alloc);
+    while let Some(last) = worked.pop() {
+        let Worked { seat, pieces: made } = last;
+        let mut made = made?;
+        pieces.append(&mut made)?;
+        seats.push(seat)?;
+    }
+    Ok((seats, pieces))
+}
+
+/// What a worker gives back.
+#[derive(Drop)]
+struct Worked<M: ReplayMachine> {
+    seat: TicketSeat,
+    pieces: Result<Vec<Piece<M>>>,
+}
+
+/// Each seat's worker at once.
+fn run_workers<M: ReplayMachine, F: Factory<M>, G: Gate, R: Threads + Sync>(
+    rt: &R,
+    alloc: Global,
+    factory: &F,
+    segments: &[Segment],
+    tickets: &Tickets,
+    gate: &G,
+    seats: Vec<TicketSeat>,
+) -> Result<Vec<Worked<M>>>
+    requires factory { (m : M) → F.gives factory.now m → M.stands_exactly m [] }
+    requires seats { All (IsNewSeatOf tickets.now) seats.items }
+    requires total { tickets.now.total ≡ length segments.now }
+    ensures given { IfOk result (λ v. All (λ w. IsSeatOf tickets.entry.now w.seat ×
+        Gives M.stands_exactly (F.may_refuse factory.entry.now) segments.entry.now w.seat.drawn w.pieces) v.items) }
+    ensures count { IfOk result (λ v. vec_len v ≡ vec_len seats) }
+    ensures fault { IfErr result (λ e. e ≡ Error.Memory) }
+{
+    let one = |seat: TicketSeat| -> Worked<M>
+        requires { IsNewSeatOf tickets.now seat × (tickets.now.total ≡ length segments.now) ×
+            ((m : M) → F.gives factory.now m → M.stands_exactly m []) }
+        ensures { IsSeatOf tickets.entry.now result.seat ×
+            Gives M.stands_exactly (F.may_refuse factory.entry.now) segments.entry.now result.seat.drawn result.pieces }
+    { work(alloc, factory, segments, tickets, gate, seat) };
+    Ok(thread::map_vec(rt, seats, &one)?)
+}
+
+/// A worker, which gives its seat back.
+fn work<M: ReplayMachine, F: Factory<M>, G: Gate>(
+    alloc: Global,
+    factory: &F,
+    segments: &[Segment],
+    tickets: &Tickets,
+    gate: &G,
+    mut seat: TicketSeat,
+) -> Worked<M>
+    requires factory { (m : M) → F.gives factory.now m → M.stands_exactly m [] }
+    requires seat { IsNewSeatOf tickets.now seat }
+    requires total { tickets.now.total ≡ length segments.now }
+    ensures { IsSeatOf tickets.entry.now result.seat ×
+        Gives M.stands_exactly (F.may_refuse factory.entry.now) segments.entry.now result.seat.drawn result.pieces }
+{
+    let pieces = replay_drawn(alloc, factory, segments, tickets, gate, &mut seat);
+    Worked { seat, pieces }
+}
+
+/// Replays the segments that the seat draws, until none is left.
+fn replay_drawn<M: ReplayMachine, F: Factory<M>, G: Gate>(
+    alloc: Global,
+    factory: &F,
+    segments: &[Segment],
+    tickets: &Tickets,
+    gate: &G,
+    seat: &mut TicketSeat,
+) -> Result<Vec<Piece<M>>>
+    requires factory { (m : M) → F.gives factory.now m → M.stands_exactly m [] }
+    requires seat { IsNewSeatOf tickets.now seat.old }
+    requires total { tickets.now.total ≡ length segments.now }
+    ensures seat { IsSeatOf tickets.entry.now seat.new }
+    ensures given { Gives M.stands_exactly (F.may_refuse factory.entry.now) segments.entry.now seat.new.drawn result }
+{
+    let mut pieces = Vec::new(alloc);
+    while let Some(number) = tickets.draw(seat) {
+        gate.pass(number);
+        let piece = Piece::at(alloc, factory, &mut pieces, number)?;
+        pieces.push(piece.with_next(segments)?)?;
+    }
+    Ok(pieces)
+}

@@ -18,4 +18,3 @@ pub mod TicketModel
 pub mod TicketSeatModel
 pub mod Weights
 pub mod WorkedWords
-pub mod SharedCalls

@@ -5,7 +5,7 @@ use Rattle.raft_base.specs.declared.pipe_log.LogQueue.{LogQueue}
 use Rattle.raft_records.specs.FilePart.{Part}
 use Rattle.raft_history.specs.Batches.{Event}
 use Rattle.raft_history.specs.Histories.{IsSmall, Sound, IsSoundIn, Apart, IsOneReading}
-use Rattle.raft_memtable.specs.Accessor.{Accessor, AreCountsOf}
+use Rattle.raft_accessor.specs.Accessor.{Accessor, AreCountsOf}
 use Rattle.raft_recover.specs.Segments.{ReadsSegments}
 
 -- what recovery gives of the batches that are read: the live counts are those of the tables; where the batches name fewer than 2^63 records, they are a history of the queue that can be read, and, where groups keep apart, tables and cleaned regions are those of one reading of it

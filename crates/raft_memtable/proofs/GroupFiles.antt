@@ -20,9 +20,9 @@ use Rattle.raft_history.specs.RegionSteps.{RegionStep, Tables, names}
 use Rattle.raft_history.proofs.MapLemmas.{IsOther, by_region, eqb_self}
 use Rattle.raft_history.proofs.StepListLemmas.{names_none, names_cons}
 use Rattle.raft_memtable.specs.MarkedTables.{regions_in, AreStepsOfQueue, IsStepsFault, one_step, AreTaken}
-use Rattle.raft_memtable.specs.Accessor.{live_in_all}
+use Rattle.raft_accessor.specs.Accessor.{live_in_all}
 use Rattle.raft_memtable.specs.declared.marked_tables.MarkedTables.{MarkedTables}
-use Rattle.raft_memtable.proofs.MapLemmas.{same, get_own, get_other, none_some}
+use Rattle.raft_accessor.proofs.MapLemmas.{same, get_own, get_other, none_some}
 use Rattle.raft_memtable.proofs.TakenLemmas.{after-append, records-append, taken_more, other_in}
 
 abbrev pub has : ℕ → List ℕ → Bool

@@ -21,10 +21,10 @@ use Rattle.raft_history.specs.Histories.{records_of, records_in, IsStepOfQueue}
 use Rattle.raft_history.specs.MarkedRegions.{MarkedRegions, MarkedRegion, region_in, with_region, regions_after}
 use Rattle.raft_history.specs.Records.{total_of, total, table_records, all_records}
 use Rattle.raft_history.specs.RegionSteps.{RegionStep, Tables, with_table}
-use Rattle.raft_memtable.specs.Accessor.{live_in, live_of_all, live_in_all}
+use Rattle.raft_accessor.specs.Accessor.{live_in, live_of_all, live_in_all}
 use Rattle.raft_memtable.specs.MarkedTables.{AreStepsOfQueue}
-use Rattle.raft_memtable.proofs.LiveLemmas.{live-with, live-table_of}
-use Rattle.raft_memtable.proofs.MapLemmas.{some_is}
+use Rattle.raft_accessor.proofs.LiveLemmas.{live-with, live-table_of}
+use Rattle.raft_accessor.proofs.MapLemmas.{some_is}
 
 -- ---- one step
 

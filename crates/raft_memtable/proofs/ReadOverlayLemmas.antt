@@ -26,7 +26,7 @@ use Rattle.raft_memtable.specs.KeptShown.{kept_shown}
 use Rattle.raft_memtable.specs.declared.kept.Kept.{Kept}
 use Rattle.raft_memtable.specs.OverlaidContext.{AreOfBothQueues, IsOverlaidWith, IsOfBothExactly, IsOverlayRefused}
 use Rattle.raft_memtable.specs.RecoverContext.{RecoverContext, IsReadingExactly}
-use Rattle.raft_memtable.specs.TableOverlays.{AreTooMany}
+use Rattle.raft_memtable.specs.RegionOverlays.{AreTooMany}
 
 -- ---- why it is refused
 

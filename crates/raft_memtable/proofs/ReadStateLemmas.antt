@@ -36,14 +36,14 @@ use Rattle.raft_history.proofs.TakenLaws.{IsNext, taken_some, taken_stands}
 use Rattle.raft_history.proofs.TotalLemmas.{total-insert}
 use Rattle.raft_history.proofs.WithoutMarkers.{named-steps}
 use Rattle.raft_history.proofs.WaitingLemmas.{joined_weight, waiting_known, merged_waiting, weight}
-use Rattle.raft_memtable.specs.Accessor.{live_in_all}
+use Rattle.raft_accessor.specs.Accessor.{live_in_all}
 use Rattle.raft_memtable.specs.BatchChecks.{marker_found}
 use Rattle.raft_memtable.specs.MarkedTables.{AreStepsOfQueue, IsStepsFault}
 use Rattle.raft_memtable.specs.ReadStates.{AreAlone, AreOfSteps, IsRead, TakesEffect, MayTakeEffect}
 use Rattle.raft_memtable.specs.RecoverContext.{reading_on, MayFollow, records_held, IsBatchFault, AreNeighbours, IsNeighbourFault}
-use Rattle.raft_memtable.specs.TableJoins.{IsJoinFault}
-use Rattle.raft_memtable.specs.Updates.{IsRefusal}
-use Rattle.raft_memtable.proofs.LiveLemmas.{live-none}
+use Rattle.raft_memtable.specs.RegionJoins.{IsJoinFault}
+use Rattle.raft_accessor.specs.Updates.{IsRefusal}
+use Rattle.raft_accessor.proofs.LiveLemmas.{live-none}
 use Rattle.raft_memtable.proofs.LiveSteps.{live-le-all}
 use Rattle.raft_memtable.proofs.WholeFiles.{batch_takes, wholes_take, no_wholes}
 

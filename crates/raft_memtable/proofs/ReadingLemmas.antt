@@ -13,8 +13,8 @@ use Rattle.raft_records.specs.Item.{Item, Content, entries, command, pair}
 use Rattle.raft_history.specs.RegionSteps.{Tables, RegionStep, with_table, with_step, content_step, pair_step, steps_of_items, reading, cleaned_by_steps}
 use Rattle.raft_table.specs.Steps.{table_of, there_if}
 use Rattle.raft_table.specs.Table.{after_replay}
-use Rattle.raft_memtable.specs.Writes.{Replaying, after_content, after_items, after_pair, with_change, listed_by, listed_by_items}
-use Rattle.raft_memtable.proofs.MapLemmas.{none_some, with_same}
+use Rattle.raft_accessor.specs.Writes.{Replaying, after_content, after_items, after_pair, with_change, listed_by, listed_by_items}
+use Rattle.raft_accessor.proofs.MapLemmas.{none_some, with_same}
 
 module _ (q : LogQueue) (m n : Tables) (id : ℕ) (rest : List RegionStep) (later : Tables → Option Tables) (h : (k : Tables) → later k ≡ Some n → reading q k rest ≡ Some n) where
   pair-read : (op : OpType) (key : List ℕ) (value : Option (List ℕ)) (file : Option FileId) → option_and_then (λ t. later (with_table m id t)) (option_map Some (after_pair (table_of id (finite.get m id)) op key value file)) ≡ Some n → reading q m (with_step id (pair_step op key value file) rest) ≡ Some n

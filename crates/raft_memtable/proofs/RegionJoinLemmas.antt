@@ -27,12 +27,13 @@ use Rattle.raft_history.specs.MarkedRegions.{Marks, MarkedRegions, region_in, wi
 use Rattle.raft_history.specs.Records.{total_of, total, table_records, all_records}
 use Rattle.raft_history.specs.RegionSteps.{Tables, with_table}
 use Rattle.raft_history.proofs.JoinLemmas.{each_joined, each_refused, each_marked}
-use Rattle.raft_memtable.specs.Accessor.{table_in, live_in, live_of_all, live_in_all, AreCountsOf}
+use Rattle.raft_accessor.specs.Accessor.{table_in, live_in, live_of_all, live_in_all, AreCountsOf}
 use Rattle.raft_memtable.specs.RegionMarks.{mark_in}
-use Rattle.raft_memtable.specs.TableJoins.{AreRunsOver, IsMixFault, IsJoinFault}
-use Rattle.raft_memtable.proofs.LiveLemmas.{live-remove, live-with, live-table_of}
-use Rattle.raft_memtable.proofs.MapLemmas.{none_some, by_id, eq_self, self_same, get_own, get_left, with_other}
-use Rattle.raft_memtable.proofs.RegionTablesLemmas.{same_test}
+use Rattle.raft_accessor.specs.TableJoins.{IsMixFault}
+use Rattle.raft_memtable.specs.RegionJoins.{AreRunsOver, IsJoinFault}
+use Rattle.raft_accessor.proofs.LiveLemmas.{live-remove, live-with, live-table_of}
+use Rattle.raft_accessor.proofs.MapLemmas.{none_some, by_id, eq_self, self_same, get_own, get_left, with_other}
+use Rattle.raft_accessor.proofs.RegionTablesLemmas.{same_test}
 use Rattle.std.proofs.lemmas.Bool.{false≢true}
 
 -- ---- how many records are live

@@ -15,8 +15,8 @@ use Rattle.raft_table.specs.Marks.{Mark}
 use Rattle.raft_memtable.specs.declared.region_marks.RegionMarks.TheInside.{Inside}
 use Rattle.raft_memtable.specs.RegionMarks.{mark_in, MarkChange, ChangesMark, MayChangeMark, IsMarkUpdated}
 use Rattle.raft_memtable.specs.RegionMarksView.{marks_shown}
-use Rattle.raft_memtable.proofs.MapLemmas.{same, by_id, not_same, self_same, get_own, get_other, insert_same}
-use Rattle.raft_memtable.proofs.RegionTablesLemmas.{same_test}
+use Rattle.raft_accessor.proofs.MapLemmas.{same, by_id, not_same, self_same, get_own, get_other, insert_same}
+use Rattle.raft_accessor.proofs.RegionTablesLemmas.{same_test}
 
 found : (q : ℕ) (es : List (ℕ × Mark)) → find nat_cmp q es ≡ lookup (nat_eq q) es
 found q [] = refl

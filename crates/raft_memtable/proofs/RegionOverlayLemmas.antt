@@ -22,10 +22,11 @@ use Rattle.raft_history.specs.Joins.{StandForSteps, overlaid_region, AreOverlaid
 use Rattle.raft_history.specs.MarkedRegions.{Marks, MarkedRegions}
 use Rattle.raft_history.specs.Records.{all_records}
 use Rattle.raft_history.specs.RegionSteps.{Tables, with_table}
-use Rattle.raft_memtable.specs.Accessor.{table_in, live_in, live_in_all, AreCountsOf}
-use Rattle.raft_memtable.specs.TableOverlays.{IsRunOverlaid, AreRunsOverlaid, AreTooMany}
-use Rattle.raft_memtable.proofs.LiveLemmas.{live-remove, live-with, live-table_of}
-use Rattle.raft_memtable.proofs.MapLemmas.{by_id, eq_self, with_other}
+use Rattle.raft_accessor.specs.Accessor.{table_in, live_in, live_in_all, AreCountsOf}
+use Rattle.raft_accessor.specs.TableOverlays.{IsRunOverlaid}
+use Rattle.raft_memtable.specs.RegionOverlays.{AreRunsOverlaid, AreTooMany}
+use Rattle.raft_accessor.proofs.LiveLemmas.{live-remove, live-with, live-table_of}
+use Rattle.raft_accessor.proofs.MapLemmas.{by_id, eq_self, with_other}
 use Rattle.raft_memtable.proofs.RegionJoinLemmas.{live-le-records, each_found, other_key, not_there, held_on}
 
 -- ---- runs

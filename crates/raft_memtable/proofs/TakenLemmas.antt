@@ -25,17 +25,17 @@ use Rattle.raft_table.proofs.TableLemmas.{count_in_own}
 use Rattle.raft_history.specs.Histories.{records_in}
 use Rattle.raft_history.specs.MarkedRegions.{Marks, MarkedRegions, MarkedRegion, region_in, with_region, stepped_region, regions_after}
 use Rattle.raft_history.specs.RegionSteps.{RegionStep, Tables, with_table, steps_of_items, cleaned_by}
-use Rattle.raft_memtable.specs.Accessor.{Accessor, table_in, live_in_all, AreCountsOf}
+use Rattle.raft_accessor.specs.Accessor.{Accessor, table_in, live_in_all, AreCountsOf}
 use Rattle.raft_memtable.specs.MarkedTables.{regions_in, AreStepsOfQueue, IsStepsFault, one_step, first_index, listed, AreTaken}
 use Rattle.raft_memtable.specs.RegionMarks.{mark_in}
-use Rattle.raft_memtable.specs.Updates.{IsReplayFault}
-use Rattle.raft_memtable.specs.Writes.{Replaying, IsWriteFault}
+use Rattle.raft_accessor.specs.Updates.{IsReplayFault}
+use Rattle.raft_accessor.specs.Writes.{Replaying, IsWriteFault}
 use Rattle.raft_memtable.specs.declared.marked_tables.MarkedTables.{MarkedTables}
-use Rattle.raft_memtable.proofs.LiveLemmas.{table_live-le}
-use Rattle.raft_memtable.proofs.MapLemmas.{some_is, none_some}
+use Rattle.raft_accessor.proofs.LiveLemmas.{table_live-le}
+use Rattle.raft_accessor.proofs.MapLemmas.{some_is, none_some}
 use Rattle.raft_memtable.proofs.LiveSteps.{steps_live}
 use Rattle.raft_memtable.proofs.WaitingItemLemmas.{steps_both}
-use Rattle.raft_memtable.proofs.WriteLemmas.{replay_fault}
+use Rattle.raft_accessor.proofs.WriteLemmas.{replay_fault}
 
 -- ---- steps behind steps
 

@@ -12,7 +12,7 @@ use Rattle.raft_history.specs.MarkedRegions.{MarkedRegions, regions_after}
 use Rattle.raft_history.specs.RegionSteps.{RegionStep, cleaned_by_steps}
 use Rattle.raft_table.specs.Queues.{other}
 use Rattle.raft_table.specs.Steps.{Step}
-use Rattle.raft_memtable.specs.Accessor.{live_in_all}
+use Rattle.raft_accessor.specs.Accessor.{live_in_all}
 use Rattle.raft_memtable.specs.declared.marked_tables.MarkedTables.{MarkedTables}
 
 -- the marks and the tables, without the counts

@@ -8,7 +8,7 @@ use Rattle.raft_history.specs.MarkedRegions.{MarkedRegions}
 use Rattle.raft_history.specs.RegionSteps.{Tables}
 use Rattle.raft_history.specs.WaitingGroup.{WholeGroup}
 use Rattle.raft_table.specs.Queues.{other}
-use Rattle.raft_memtable.specs.Accessor.{live_in_all}
+use Rattle.raft_accessor.specs.Accessor.{live_in_all}
 use Rattle.raft_memtable.specs.FileRanges.{ranges_shown}
 use Rattle.raft_memtable.specs.MarkedTables.{regions_in, AreStepsOfQueue}
 use Rattle.raft_memtable.specs.declared.read_state.ReadState.{ReadState}

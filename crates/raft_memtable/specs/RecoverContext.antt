@@ -7,7 +7,7 @@ use Rattle.raft_history.specs.Batches.{Event, batch_of}
 use Rattle.raft_history.specs.Contexts.{Context, new_context, Suits, files_of, follows, StandsFor, IsExactFor, completed_steps, taken_in, merged_with, AreMerged, AreRegionsRefused}
 use Rattle.raft_history.specs.Histories.{AreInFile, HaveStatus, records_in}
 use Rattle.raft_history.specs.Records.{all_records, waiting_records}
-use Rattle.raft_memtable.specs.Accessor.{live_in_all}
+use Rattle.raft_accessor.specs.Accessor.{live_in_all}
 use Rattle.raft_memtable.specs.declared.context_stage.ContextStage.{ContextStage}
 use Rattle.raft_memtable.specs.declared.context_stage.ContextStage.TheVariants.{Reading, Overlaid, Failed}
 

@@ -9,7 +9,7 @@ use Rattle.raft_history.specs.Contexts.{Context, FileRange}
 use Rattle.raft_history.specs.MarkedRegions.{MarkedRegions, Marks}
 use Rattle.raft_history.specs.RegionSteps.{Tables}
 use Rattle.raft_history.specs.WaitingGroups.{WaitingGroups}
-use Rattle.raft_memtable.specs.AccessorCode.{tables_code}
+use Rattle.raft_accessor.specs.AccessorCode.{tables_code}
 use Rattle.raft_memtable.specs.RecoverContext.{RecoverContext}
 use Rattle.raft_memtable.specs.WaitingGroupsCode.{groups_code}
 use Rattle.raft_memtable.specs.contracts.context_stage.ContextStage as stage

@@ -8,7 +8,7 @@ ghost use Rattle.raft_records.specs.Item.{item_of, content_of, entries as entrie
 ghost use Rattle.raft_records.specs.ReadIn.{IsBlockIn};
 ghost use Rattle.raft_history.specs.Histories.{IsInFile, AreInFile, HasStatus, HaveStatus};
 ghost use Rattle.raft_memtable.specs.BatchChecks.{marker_found};
-ghost use Rattle.raft_memtable.specs.Updates.{IsRefusal};
+ghost use Rattle.raft_accessor.specs.Updates.{IsRefusal};
 
 use raft_records::{
     AtomicGroupStatus, KeyValue, LogItem, LogItemBatch, LogItemContent, OpType, is_reserved,

@@ -1,26 +1,24 @@
-//! The tables of all regions, and the contexts that rebuild them from log files.
+//! The contexts that rebuild the tables of all regions from log files.
 #![tactic(auto)]
 
-pub mod accessor;
 mod batch_check;
 pub mod context_stage;
 mod file_range;
-pub mod item_writes;
 pub mod kept;
 mod marked_tables;
 mod read_state;
 pub mod reading;
 pub mod recover_context;
 pub mod region_marks;
-pub mod region_tables;
-pub mod slot;
 pub mod waiting_group;
 pub mod waiting_groups;
 pub mod waiting_items;
 
-pub use accessor::{MemTableAccessor, slot_of};
 pub use context_stage::ContextStage;
 pub use kept::Kept;
+pub use raft_accessor::{
+    MemTableAccessor, RegionTables, Slot, accessor, item_writes, region_tables, slot, slot_of,
+};
 pub use raft_history::ReplayMachine;
 pub use raft_table::{
     Block, EntryIndex, Error, FileBlockHandle, FileId, FileSeq, GlobalStats, LogQueue, MemTable,
@@ -28,5 +26,3 @@ pub use raft_table::{
 };
 pub use recover_context::{MemTableRecoverContext, MemTableRecoverContextFactory};
 pub use region_marks::RegionMarks;
-pub use region_tables::RegionTables;
-pub use slot::Slot;

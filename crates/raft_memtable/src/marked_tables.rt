@@ -8,17 +8,17 @@ ghost use Rattle.raft_history.specs.MarkedRegions.{no_regions, regions_after, on
 ghost use Rattle.raft_history.specs.RegionSteps.{steps_of_items};
 ghost use Rattle.raft_table.specs.Queues.{other, is_same};
 ghost use Rattle.raft_table.specs.Steps.{Run, Compact, Put, Del, AtomicGroup, Clean};
-ghost use Rattle.raft_memtable.specs.Accessor.{live_in_all};
-ghost use Rattle.raft_memtable.specs.ItemWrites.{pair_change};
+ghost use Rattle.raft_accessor.specs.Accessor.{live_in_all};
+ghost use Rattle.raft_accessor.specs.ItemWrites.{pair_change};
 ghost use Rattle.raft_memtable.specs.MarkedTables.{regions_in, AreStepsOfQueue, IsStepsFault, one_step, first_index, AreTaken};
 ghost use Rattle.raft_memtable.specs.WaitingShown.{whole_shown};
 
 mod join;
 mod overlay;
 
-use crate::accessor::MemTableAccessor;
 use crate::region_marks::RegionMarks;
 use crate::waiting_group::WholeGroup;
+use raft_accessor::MemTableAccessor;
 use raft_records::{Command, KeyValue, LogItem, LogItemBatch, LogItemContent, OpType, is_reserved};
 use raft_table::{EntryIndex, FileId, FileSeq, LogQueue, Result};
 use std::alloc::Global;

@@ -8,7 +8,7 @@ ghost use Rattle.raft_history.specs.Contexts.{new_context, taken_in, merged_with
 ghost use Rattle.raft_history.specs.Kept.{kept_of};
 ghost use Rattle.raft_history.specs.MarkedRegions.{regions_after, region_steps_of_wholes};
 ghost use Rattle.raft_history.specs.ReplayMachine.{event};
-ghost use Rattle.raft_memtable.specs.Accessor.{live_in_all};
+ghost use Rattle.raft_accessor.specs.Accessor.{live_in_all};
 ghost use Rattle.raft_memtable.specs.BatchChecks.{marker_found};
 ghost use Rattle.raft_memtable.specs.KeptShown.{kept_shown};
 ghost use Rattle.raft_memtable.specs.MarkedTables.{regions_in, IsStepsFault};

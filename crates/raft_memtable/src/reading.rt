@@ -5,7 +5,7 @@ ghost use Rattle.raft_base.specs.declared.pipe_log.LogQueue.{LogQueue};
 ghost use Rattle.raft_base.specs.declared.pipe_log.LogQueue.TheVariants.{Append};
 ghost use Rattle.raft_records.specs.Item.{Item};
 ghost use Rattle.raft_history.specs.RegionSteps.{Tables, steps_of_items, reading, cleaned_by_steps};
-ghost use Rattle.raft_memtable.specs.Writes.{Replaying, after_items, listed_by_items};
+ghost use Rattle.raft_accessor.specs.Writes.{Replaying, after_items, listed_by_items};
 
 /// Items that are read again leave the tables that their steps leave in a history, and list the
 /// regions that these clean. This is a law: it computes nothing.

@@ -11,16 +11,16 @@ ghost use Rattle.raft_history.specs.Histories.{IsSmall, IsOfQueue, IsOneReading}
 ghost use Rattle.raft_history.specs.Kept.{kept_of, kept_by, IsAtMost};
 ghost use Rattle.raft_history.specs.RegionSteps.{Tables};
 ghost use Rattle.raft_history.specs.ReplayMachine.{event};
-ghost use Rattle.raft_memtable.specs.Accessor.{AreCountsOf};
+ghost use Rattle.raft_accessor.specs.Accessor.{AreCountsOf};
 ghost use Rattle.raft_memtable.specs.KeptShown.{kept_shown, IsKeptFault};
 ghost use Rattle.raft_memtable.specs.OverlaidContext.{IsOverlaidWith, IsOfBothExactly, IsMergeAppendFault};
 ghost use Rattle.raft_memtable.specs.RecoverContext.{blank_context, IsReading, IsReadingExactly, IsTakenIn, IsBatchFault, IsMergedWith, IsNeighbourFault, refused_stage};
 ghost use Rattle.raft_memtable.specs.declared.context_stage.ContextStage.TheVariants.{Reading, Overlaid, Failed};
 
-use crate::accessor::MemTableAccessor;
 use crate::context_stage::ContextStage;
 use crate::kept::Kept;
 use crate::read_state::ReadState;
+use raft_accessor::MemTableAccessor;
 use raft_history::ReplayMachine;
 use raft_records::{Factory, LogItemBatch};
 use raft_table::{Error, FileId, LogQueue, Result};

@@ -10,7 +10,7 @@ use Rattle.raft_records.specs.Lines.{IsIoError}
 use Rattle.raft_history.specs.Batches.{Event}
 use Rattle.raft_history.specs.Contexts.{Suits, files_of}
 use Rattle.raft_history.specs.Histories.{IsSmall, IsOneReading, IsOfQueue}
-use Rattle.raft_memtable.specs.Accessor.{Accessor, AreCountsOf}
+use Rattle.raft_accessor.specs.Accessor.{Accessor, AreCountsOf}
 use Rattle.raft_memtable.specs.RecoverContext.{RecoverContext, IsReading, IsReadingExactly}
 use Rattle.raft_memtable.specs.declared.context_stage.ContextStage.{ContextStage}
 use Rattle.raft_memtable.specs.declared.context_stage.ContextStage.TheVariants as stages

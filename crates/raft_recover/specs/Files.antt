@@ -8,7 +8,7 @@ use Rattle.raft_records.specs.FilePart.{Part}
 use Rattle.raft_records.specs.Lines.{IsIoError}
 use Rattle.raft_history.specs.Batches.{Event}
 use Rattle.raft_history.specs.Histories.{IsSmall, Sound}
-use Rattle.raft_memtable.specs.Accessor.{Accessor}
+use Rattle.raft_accessor.specs.Accessor.{Accessor}
 use Rattle.raft_replay.specs.Segments.{ReadsPart, ReadsEach}
 use Rattle.raft_recover.specs.Recovery.{IsRecovered}
 use Rattle.raft_recover.specs.Requests.{File}

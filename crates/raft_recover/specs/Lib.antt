@@ -4,4 +4,3 @@ pub mod RequestView
 pub mod Requests
 pub mod Runs
 pub mod TableLines
-pub mod SharedCalls

@@ -3,7 +3,7 @@ use Rattle.std.specs.Prelude.{List}
 use Rattle.raft_base.specs.declared.pipe_log.LogQueue.{LogQueue}
 use Rattle.raft_history.specs.Batches.{Event}
 use Rattle.raft_history.specs.Histories.{IsSmall, IsSoundIn, Apart, IsOneReading}
-use Rattle.raft_memtable.specs.Accessor.{Accessor, AreCountsOf}
+use Rattle.raft_accessor.specs.Accessor.{Accessor, AreCountsOf}
 
 -- what recovery gives of the batches that are read: the live counts are those of the tables; where the batches name fewer than 2^63 records, they are a history of the queue that can be read, and, where groups keep apart, tables and cleaned regions are those of one reading of it
 pub record IsRecovered (queue : LogQueue) (Reads : List Event → Type 0) (accessor : Accessor) : Type 0 where

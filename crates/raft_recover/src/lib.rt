@@ -6,8 +6,8 @@ pub mod recovered;
 pub mod recovery;
 pub mod request;
 pub mod run;
-pub mod shared_accessor;
 
+pub use raft_accessor::{SharedAccessor, shared_accessor};
 pub use raft_replay::{
     Gate, MAX_WORKERS, OpenGate, Plan, Segment, TicketSeat, Tickets, cut_part, gate, merge_pieces,
     piece_count, pieces, plan, replay_scheduled, replay_segment, replay_segments, scheduled,
@@ -15,4 +15,3 @@ pub use raft_replay::{
 };
 pub use recovered::print_recovered;
 pub use recovery::{recover, recover_bytes};
-pub use shared_accessor::SharedAccessor;

@@ -8,13 +8,13 @@ ghost use Rattle.raft_history.specs.MarkedRegions.{region_in, with_region, joine
 ghost use Rattle.raft_table.specs.MarkMerge.{IsFaultUnder, IsRunOver};
 ghost use Rattle.raft_table.specs.Queues.{other};
 ghost use Rattle.raft_table.specs.Steps.{table_of};
-ghost use Rattle.raft_memtable.specs.Accessor.{table_in, live_in, live_in_all, AreCountsOf};
+ghost use Rattle.raft_accessor.specs.Accessor.{table_in, live_in, live_in_all, AreCountsOf};
 ghost use Rattle.raft_memtable.specs.MarkedTables.{regions_in};
-ghost use Rattle.raft_memtable.specs.TableJoins.{AreRunsOver, IsJoinFault};
+ghost use Rattle.raft_memtable.specs.RegionJoins.{AreRunsOver, IsJoinFault};
 
-use crate::accessor::MemTableAccessor;
 use crate::marked_tables::MarkedTables;
 use crate::region_marks::RegionMarks;
+use raft_accessor::MemTableAccessor;
 use raft_table::{LogQueue, Mark, MemTable, Result};
 
 impl MarkedTables {

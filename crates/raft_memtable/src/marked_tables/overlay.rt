@@ -4,13 +4,13 @@ ghost use Rattle.std.specs.Prelude.{◌≡◌, ◌+◌, IfErr, OnOk};
 ghost use Rattle.raft_base.specs.declared.pipe_log.LogQueue.TheVariants.{Append, Rewrite};
 ghost use Rattle.raft_history.specs.Joins.{StandForSteps, AreOverlaid};
 ghost use Rattle.raft_history.specs.Records.{all_records};
-ghost use Rattle.raft_memtable.specs.Accessor.{live_in_all};
+ghost use Rattle.raft_accessor.specs.Accessor.{live_in_all};
 ghost use Rattle.raft_memtable.specs.MarkedTables.{regions_in};
-ghost use Rattle.raft_memtable.specs.TableOverlays.{AreRunsOverlaid, AreTooMany};
+ghost use Rattle.raft_memtable.specs.RegionOverlays.{AreRunsOverlaid, AreTooMany};
 
-use crate::accessor::MemTableAccessor;
 use crate::marked_tables::MarkedTables;
 use crate::region_marks::RegionMarks;
+use raft_accessor::MemTableAccessor;
 use raft_table::Result;
 
 impl MarkedTables {

@@ -1,7 +1,7 @@
 use Rattle.std.proofs.Common.{Some, refl, sym, ap, ◌∙◌}
 use Rattle.raft_table.specs.Steps.{Del}
 use Rattle.raft_table.specs.Table.{without_key}
-use Rattle.raft_memtable.specs.Accessor.{table_in}
+use Rattle.raft_accessor.specs.Accessor.{table_in}
 use Rattle.raft_memtable.proofs.TakenLemmas.{changed_taken}
 use Rattle.raft_memtable.proofs.marked_tables.MarkedTables.take_delete.Goals as goal
 

@@ -6,7 +6,7 @@ use Rattle.raft_base.specs.declared.pipe_log.LogQueue.TheVariants.{Rewrite}
 use Rattle.raft_history.specs.MarkedRegions.{on_each}
 use Rattle.raft_table.specs.Steps.{AtomicGroup}
 use Rattle.raft_table.specs.Table.{with_atomic_group}
-use Rattle.raft_memtable.specs.Accessor.{table_in}
+use Rattle.raft_accessor.specs.Accessor.{table_in}
 use Rattle.raft_memtable.specs.MarkedTables.{AreTaken}
 use Rattle.raft_memtable.proofs.GroupFiles.{file_more}
 use Rattle.raft_memtable.proofs.TakenLemmas.{changed_taken, fresh_marked, taken_none}

@@ -4,7 +4,7 @@ use Rattle.std.proofs.lemmas.Result.{err_from_is_err_and}
 use Rattle.raft_table.specs.KeyValues.{file_at}
 use Rattle.raft_table.specs.Steps.{Put}
 use Rattle.raft_table.specs.Table.{with_pair}
-use Rattle.raft_memtable.specs.Accessor.{table_in}
+use Rattle.raft_accessor.specs.Accessor.{table_in}
 use Rattle.raft_memtable.proofs.TakenLemmas.{changed_taken, fresh_marked, put_taken}
 use Rattle.raft_memtable.proofs.marked_tables.MarkedTables.take_put.Goals as goal
 

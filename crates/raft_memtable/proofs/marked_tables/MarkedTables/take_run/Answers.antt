@@ -3,7 +3,7 @@ use Rattle.std.specs.FinMap as finite
 use Rattle.std.proofs.lemmas.Result.{err_from_is_err_and}
 use Rattle.raft_table.specs.Steps.{Run}
 use Rattle.raft_table.specs.Table.{after_replay}
-use Rattle.raft_memtable.specs.Accessor.{table_in}
+use Rattle.raft_accessor.specs.Accessor.{table_in}
 use Rattle.raft_memtable.specs.MarkedTables.{first_index}
 use Rattle.raft_memtable.proofs.TakenLemmas.{changed_taken, fresh_marked, run_marked, no_run, run_step, run_taken}
 use Rattle.raft_memtable.proofs.marked_tables.MarkedTables.take_run.Goals as goal

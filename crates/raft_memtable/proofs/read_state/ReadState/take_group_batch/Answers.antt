@@ -9,7 +9,7 @@ use Rattle.raft_history.specs.RegionSteps.{steps_of_items}
 use Rattle.raft_history.specs.WaitingGroup.{joined_group, whole_group, one_marker}
 use Rattle.raft_history.specs.WaitingGroups.{known}
 use Rattle.raft_history.specs.ReplayMachine.{event}
-use Rattle.raft_memtable.specs.Accessor.{live_in_all}
+use Rattle.raft_accessor.specs.Accessor.{live_in_all}
 use Rattle.raft_memtable.specs.FileRanges.{ranges_shown}
 use Rattle.raft_memtable.specs.MarkedTables.{regions_in, IsStepsFault}
 use Rattle.raft_memtable.specs.ReadStates.{context_in, MayTakeEffect}

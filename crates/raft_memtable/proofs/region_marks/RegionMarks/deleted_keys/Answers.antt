@@ -2,7 +2,7 @@ use Rattle.std.proofs.Common.{◌≡◌, map, ap, ◌∙◌, arith}
 use Rattle.std.specs.FinSet as finset
 use Rattle.raft_history.specs.Records.{total}
 use Rattle.raft_table.specs.Marks.{Mark}
-use Rattle.raft_memtable.proofs.TotalSums.{added, total-from}
+use Rattle.raft_accessor.proofs.TotalSums.{added, total-from}
 use Rattle.raft_memtable.proofs.region_marks.RegionMarks.deleted_keys.Goals as goal
 
 pub returns : goal.returns

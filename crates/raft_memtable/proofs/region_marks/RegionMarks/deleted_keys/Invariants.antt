@@ -1,7 +1,7 @@
 use Rattle.std.proofs.Common.{◌≡◌, ◌≤◌, ◌+◌, ◌*◌, ◌^◌, length}
 use Rattle.std.specs.FinSet as finset
 use Rattle.raft_table.specs.Marks.{Mark}
-use Rattle.raft_memtable.proofs.TotalSums.{added}
+use Rattle.raft_accessor.proofs.TotalSums.{added}
 use Rattle.raft_memtable.proofs.region_marks.RegionMarks.deleted_keys.Given as goal
 
 abbrev pub invariant-loop-mark : goal.invariant-loop-mark

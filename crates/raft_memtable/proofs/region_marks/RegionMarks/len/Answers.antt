@@ -1,6 +1,6 @@
 use Rattle.std.proofs.Common.{sym, ap, ◌∙◌}
 use Rattle.std.specs.FinMap as finite
-use Rattle.raft_memtable.proofs.TotalSums.{len-from}
+use Rattle.raft_accessor.proofs.TotalSums.{len-from}
 use Rattle.raft_memtable.proofs.region_marks.RegionMarks.len.Goals as goal
 
 pub returns : goal.returns

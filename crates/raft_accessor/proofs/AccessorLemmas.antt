@@ -1,0 +1,175 @@
+-- Calls of one slot, seen as calls of the accessor.
+use Rattle.std.proofs.Common.{◌≡◌, ◌≢◌, ◌⊎◌, ◌<◌, ◌++◌, ℕ, List, [], ◌∷◌, Option, Some, None, Result, Ok, Err, refl, sym, ap, subst, ◌∙◌, slice_index_or, slice_set, append_assoc, append-nil, IsTrue}
+use Rattle.std.specs.FinMap as finite
+use Rattle.std.specs.List.{AllByRecursion}
+use Rattle.std.specs.Option.{option_and_then, is_some}
+use Rattle.std.specs.Result.{OnOk, OnErr, IfOk, IfErr}
+use Rattle.raft_base.specs.declared.errors.Error.{Error}
+use Rattle.raft_base.specs.declared.errors.Error.TheVariants.{Memory}
+use Rattle.raft_records.specs.Item.{Item}
+use Rattle.raft_history.specs.RegionSteps.{Tables, with_table}
+use Rattle.raft_table.specs.Counts.{Counts, live}
+use Rattle.raft_table.specs.Steps.{table_of}
+use Rattle.raft_table.specs.Table.{Table, IsRecounted}
+use Rattle.raft_accessor.specs.declared.accessor.MemTableAccessor.TheInside.{Inside}
+use Rattle.raft_accessor.specs.Accessor.{Accessor, slot_of, table_in, live_in_all}
+use Rattle.raft_accessor.specs.AccessorCalls.{IsTableChanged, IsWritten}
+use Rattle.raft_accessor.specs.AccessorView.{together, accessor_shown, IsAccessorKept}
+use Rattle.raft_accessor.specs.ItemWrites.{IsItemWritten}
+use Rattle.raft_accessor.specs.Merges.{IsMergedAt, IsTableMerged}
+use Rattle.raft_accessor.specs.Updates.{IsTaken}
+use Rattle.raft_accessor.specs.Writes.{Writing, queue_of, after_content, after_items, listed_by, listed_by_items, IsFor, MixesQueues, NoneMixesQueues, IsWriteFault, AreWritten, AreItemsRefused}
+use Rattle.raft_accessor.proofs.MapLemmas.{with_own, with_same, some_is}
+use Rattle.raft_accessor.proofs.SlotLemmas.{get-shown, IsChanged, shown-changed, kept-changed}
+
+some_is_there : (t : Table) → IsTrue (is_some (Some t))
+some_is_there t = refl
+
+-- a call of a region's slot changed that region alone
+pub record InSlot (a b : Inside) (id i : ℕ) (d slot : Tables) (after : Counts) : Type 0 where
+  pub at : i ≡ slot_of id
+  pub bound : i < 128
+  pub slots : b.slots ≡ slice_set a.slots i slot
+  pub stats : b.stats ≡ after
+  pub one : slot ≡ with_table (slice_index_or a.slots i d) id (finite.get slot id)
+  pub recounted : IsRecounted (table_in (slice_index_or a.slots i d) id) (table_in slot id) a.stats after
+
+module _ (a b : Inside) (id i : ℕ) (d slot : Tables) (after : Counts) (kept : IsAccessorKept a) (h : InSlot a b id i d slot after) where
+  changed : IsChanged a b id i d (finite.get slot id)
+  changed = record { at = h.at; bound = h.bound; slots = h.slots ∙ ap (slice_set a.slots i) h.one; counts = subst (λ s. IsRecounted (table_in (slice_index_or a.slots i d) id) (table_in slot id) a.stats s) (sym h.stats) h.recounted }
+
+  pub kept-in : IsAccessorKept b
+  kept-in = kept-changed a b id i d (finite.get slot id) kept changed
+
+  module _ (r : Accessor) (is : accessor_shown a ≡ r) where
+    pub was : finite.get r.tables id ≡ finite.get (slice_index_or a.slots i d) id
+    was = get-shown a r id i d kept is h.at h.bound
+
+    pub tables-are : together b.slots ≡ with_table r.tables id (finite.get slot id)
+    tables-are = shown-changed a b r id i d (finite.get slot id) kept is changed
+
+    pub now : finite.get (together b.slots) id ≡ finite.get slot id
+    now = ap (λ m. finite.get m id) tables-are ∙ with_own r.tables id (finite.get slot id)
+
+    pub unchanged : slot ≡ slice_index_or a.slots i d → together b.slots ≡ r.tables
+    unchanged e = tables-are ∙ ap (with_table r.tables id) (ap (λ m. finite.get m id) e ∙ sym was) ∙ with_same r.tables id
+
+    -- what is said of the table before and after
+    pub answers-in : {R : Type 0} (P : Table → Table → R → Type 0) (res : Result R Error) → IfOk res (P (table_in (slice_index_or a.slots i d) id) (table_in slot id)) → IfOk res (P (table_in r.tables id) (table_in (together b.slots) id))
+    answers-in P res p = subst (λ t. IfOk res (P t (table_in (together b.slots) id))) (sym (ap (table_of id) was)) (subst (λ t. IfOk res (P (table_in (slice_index_or a.slots i d) id) t)) (sym (ap (table_of id) now)) p)
+
+    -- a change of a table
+    pub changed-in : {R : Type 0} (outcome : Table → Option Table) (IsFault : Table → Counts → Error → Type 0) (res : Result R Error) → IsTaken (outcome (table_in (slice_index_or a.slots i d) id)) (IsFault (table_in (slice_index_or a.slots i d) id) a.stats) (slice_index_or a.slots i d) id a.stats res slot after
+        → b.cleaned.items ≡ a.cleaned.items → IsTableChanged (outcome (table_in r.tables id)) (IsFault (table_in r.tables id) r.counts) id res r (accessor_shown b)
+    changed-in outcome IsFault res t l =
+        let old : table_in (slice_index_or a.slots i d) id ≡ table_in r.tables id = sym (ap (table_of id) was) in
+        let new : table_in (together b.slots) id ≡ table_in slot id = ap (table_of id) now in
+        record {
+          ok = subst (λ t. OnOk res (outcome t ≡ Some (table_in (together b.slots) id))) old (subst (λ t. OnOk res (outcome (table_in (slice_index_or a.slots i d) id) ≡ Some t)) (sym new) t.ok);
+          others = elim res as (λ res. OnOk res (finite.get slot id ≡ Some (table_in slot id)) → OnOk res (together b.slots ≡ finite.insert r.tables id (table_in (together b.slots) id))) [
+            | Ok x ↦ λ e. tables-are ∙ ap (with_table r.tables id) e ∙ ap (finite.insert r.tables id) (sym new)
+            | Err x ↦ λ e. tt
+          ] t.there;
+          err = elim res as (λ res. OnErr res (slot ≡ slice_index_or a.slots i d) → OnErr res (together b.slots ≡ r.tables)) [ Ok x ↦ λ e. tt | Err x ↦ λ e. unchanged e ] t.err;
+          fault = subst (λ c. IfErr res (λ e. (e ≡ Memory) ⊎ IsFault (table_in r.tables id) c e)) (ap (λ (x : Accessor). x.counts) is) (subst (λ u. IfErr res (λ e. (e ≡ Memory) ⊎ IsFault u a.stats e)) old t.fault);
+          cleaned = l ∙ ap (λ (x : Accessor). x.cleaned) is;
+        }
+
+    -- a merge of a table
+    pub merged-in : {R : Type 0} {IsFault : Error → Type 0} (merge : Table → Table → Option Table) (newer : Table) (res : Result R Error) → IsTableMerged (merge (table_in (slice_index_or a.slots i d) id) newer) IsFault (slice_index_or a.slots i d) id a.stats res slot after
+        → OnOk res (IsMergedAt merge id (finite.get r.tables id) (Some newer) (finite.get (together b.slots) id))
+    merged-in merge newer (Err x) t = tt
+    merged-in merge newer (Ok x) t = (
+      ap (λ o. merge (table_of id o) newer) was ∙ t.ok ∙ sym t.there ∙ sym now,
+      subst (λ o. IsTrue (is_some o)) (sym (now ∙ t.there)) (some_is_there (table_in slot id)),
+    )
+
+    -- or a refusal
+    pub refused-in : {R : Type 0} (IsFault : Counts → Table → Error → Type 0) (outcome : Option Table) (res : Result R Error) → IsTableMerged outcome (IsFault after (table_in (slice_index_or a.slots i d) id)) (slice_index_or a.slots i d) id a.stats res slot after
+        → IfErr res (λ e. (e ≡ Memory) ⊎ IsFault b.stats (table_in r.tables id) e)
+    refused-in IsFault outcome res t =
+        subst (λ k. IfErr res (λ e. (e ≡ Memory) ⊎ IsFault k (table_in r.tables id) e)) (sym h.stats) (subst (λ o. IfErr res (λ e. (e ≡ Memory) ⊎ IsFault after (table_of id o) e)) (sym was) t.fault)
+
+    -- which leaves the table
+    pub left-in : {R : Type 0} {IsFault : Error → Type 0} (outcome : Option Table) (res : Result R Error) → IsTableMerged outcome IsFault (slice_index_or a.slots i d) id a.stats res slot after
+        → IfErr res (λ e. e ≢ Memory → table_in (together b.slots) id ≡ table_in r.tables id)
+    left-in outcome (Ok x) t = tt
+    left-in outcome (Err x) t = λ k. ap (table_of id) now ∙ t.err k ∙ sym (ap (table_of id) was)
+
+    pub alone-in : together b.slots ≡ with_table r.tables id (finite.get (together b.slots) id)
+    alone-in = tables-are ∙ ap (with_table r.tables id) (sym now)
+
+-- an item written to its region's table
+module _ (a b : Inside) (item : Item) (i : ℕ) (d slot : Tables) (after : Counts) (kept : IsAccessorKept a) (h : InSlot a b item.raft_group_id i d slot after) (r : Accessor) (is : accessor_shown a ≡ r) where
+  here : finite.get r.tables item.raft_group_id ≡ finite.get (slice_index_or a.slots i d) item.raft_group_id
+  here = get-shown a r item.raft_group_id i d kept is h.at h.bound
+
+  pub written-in : (w : Writing) (res : Result Unit Error) → IsItemWritten w item (slice_index_or a.slots i d) a.stats a.cleaned.items res slot after b.cleaned.items → IsWritten w item res r (accessor_shown b)
+  written-in w res t = record {
+    ok = elim res as (λ res. IsItemWritten w item (slice_index_or a.slots i d) a.stats a.cleaned.items res slot after b.cleaned.items → OnOk res (AreWritten w (item ∷ []) r (accessor_shown b))) [
+      | Ok x ↦ λ t. record {
+        asked = (t.asked, tt);
+        accepted = (subst (λ o. MixesQueues w (table_of item.raft_group_id o) item.content → ⊥) (sym here) t.accepted, λ u e. tt);
+        tables = ap (option_and_then (λ o. Some (with_table r.tables item.raft_group_id o))) (ap (λ o. after_content w item.raft_group_id o item.content) here ∙ t.ok) ∙ ap Some (sym (tables-are a b item.raft_group_id i d slot after kept h r is));
+        cleaned = t.cleaned ∙ ap (λ l. l ++ listed_by w item) (ap (λ (x : Accessor). x.cleaned) is) ∙ ap (λ l. r.cleaned ++ l) (sym (append-nil (listed_by w item)));
+      }
+      | Err x ↦ λ t. tt
+    ] t;
+    err = elim res as (λ res. OnErr res (slot ≡ slice_index_or a.slots i d) → OnErr res (together b.slots ≡ r.tables)) [
+      | Ok x ↦ λ e. tt
+      | Err x ↦ λ e. tables-are a b item.raft_group_id i d slot after kept h r is ∙ ap (with_table r.tables item.raft_group_id) (ap (λ m. finite.get m item.raft_group_id) e ∙ sym here) ∙ with_same r.tables item.raft_group_id
+    ] t.err;
+    cleaned = elim res as (λ res. OnErr res (b.cleaned.items ≡ a.cleaned.items) → OnErr res (b.cleaned.items ≡ r.cleaned)) [ Ok x ↦ λ e. tt | Err x ↦ λ e. e ∙ ap (λ (x : Accessor). x.cleaned) is ] t.cleaned_err;
+    fault = subst (λ n. IfErr res (IsWriteFault w item.raft_group_id (finite.get r.tables item.raft_group_id) n item.content)) (kept.counted (queue_of w) ∙ ap (λ (x : Accessor). live_in_all (queue_of w) x.tables) is)
+        (subst (λ o. IfErr res (IsWriteFault w item.raft_group_id o (live (queue_of w) a.stats) item.content)) (sym here) t.fault);
+  }
+
+-- ---- items in order
+
+after_items-append : (w : Writing) (m : Tables) (xs ys : List Item) → after_items w m (xs ++ ys) ≡ option_and_then (λ n. after_items w n ys) (after_items w m xs)
+after_items-append w m [] ys = refl
+after_items-append w m (x ∷ xs) ys =
+    elim (after_content w x.raft_group_id (finite.get m x.raft_group_id) x.content) as (λ o. option_and_then (λ t. after_items w (with_table m x.raft_group_id t) (xs ++ ys)) o ≡ option_and_then (λ n. after_items w n ys) (option_and_then (λ t. after_items w (with_table m x.raft_group_id t) xs) o)) [
+      | None ↦ refl
+      | Some t ↦ after_items-append w (with_table m x.raft_group_id t) xs ys
+    ]
+
+listed-append : (w : Writing) (xs ys : List Item) → listed_by_items w (xs ++ ys) ≡ listed_by_items w xs ++ listed_by_items w ys
+listed-append w [] ys = refl
+listed-append w (x ∷ xs) ys = ap (λ l. listed_by w x ++ l) (listed-append w xs ys) ∙ sym (append_assoc (listed_by w x) (listed_by_items w xs) (listed_by_items w ys))
+
+asked-append : (w : Writing) (xs ys : List Item) → AllByRecursion (λ (item : Item). IsFor w item.content) xs → AllByRecursion (λ (item : Item). IsFor w item.content) ys → AllByRecursion (λ (item : Item). IsFor w item.content) (xs ++ ys)
+asked-append w [] ys g h = h
+asked-append w (x ∷ xs) ys g h = (g.0, asked-append w xs ys g.1 h)
+
+none-append : (w : Writing) (xs ys : List Item) (m n : Tables) → NoneMixesQueues w m xs → after_items w m xs ≡ Some n → NoneMixesQueues w n ys → NoneMixesQueues w m (xs ++ ys)
+none-append w [] ys m n g e h = subst (λ k. NoneMixesQueues w k ys) (sym (some_is e)) h
+none-append w (x ∷ xs) ys m n g e h = (
+  g.0,
+  λ t is. none-append w xs ys (with_table m x.raft_group_id t) n (g.1 t is) (subst (λ o. option_and_then (λ t. after_items w (with_table m x.raft_group_id t) xs) o ≡ Some n) is e) h,
+)
+
+pub written_none : (w : Writing) (r : Accessor) → AreWritten w [] r r
+written_none w r = record { asked = tt; accepted = tt; tables = refl; cleaned = sym (append-nil r.cleaned) }
+
+pub written_append : (w : Writing) (xs ys : List Item) (a b c : Accessor) → AreWritten w xs a b → AreWritten w ys b c → AreWritten w (xs ++ ys) a c
+written_append w xs ys a b c g h = record {
+  asked = asked-append w xs ys g.asked h.asked;
+  accepted = none-append w xs ys a.tables b.tables g.accepted g.tables h.accepted;
+  tables = after_items-append w a.tables xs ys ∙ ap (option_and_then (λ n. after_items w n ys)) g.tables ∙ h.tables;
+  cleaned = h.cleaned ∙ ap (λ l. l ++ listed_by_items w ys) g.cleaned ∙ append_assoc a.cleaned (listed_by_items w xs) (listed_by_items w ys) ∙ ap (λ l. a.cleaned ++ l) (sym (listed-append w xs ys));
+}
+
+written_same : (w : Writing) (xs : List Item) (a b c : Accessor) → AreWritten w xs a b → c.tables ≡ b.tables → c.cleaned ≡ b.cleaned → AreWritten w xs a c
+written_same w xs a b c h e f = record { asked = h.asked; accepted = h.accepted; tables = h.tables ∙ ap Some (sym e); cleaned = f ∙ h.cleaned }
+
+-- the last item is refused
+pub refused_last : (w : Writing) (front : List Item) (item : Item) (all : List Item) (a b c : Accessor) (e : Error) → all ≡ front ++ item ∷ [] → AreWritten w front a b → c.tables ≡ b.tables → c.cleaned ≡ b.cleaned
+    → IsWriteFault w item.raft_group_id (finite.get b.tables item.raft_group_id) (live_in_all (queue_of w) b.tables) item.content e → AreItemsRefused w all a c e
+refused_last w front item all a b c e split h t l f = record {
+  front = front;
+  item = item;
+  split = split;
+  written = written_same w front a b c h t l;
+  fault = subst (λ m. IsWriteFault w item.raft_group_id (finite.get m item.raft_group_id) (live_in_all (queue_of w) m) item.content e) (sym t) f;
+}

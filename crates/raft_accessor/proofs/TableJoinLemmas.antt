@@ -1,0 +1,121 @@
+-- A newer table of one region, or its absence, over the older one.
+use Rattle.std.proofs.Common.{◌≡◌, ◌≤◌, ◌+◌, ℕ, Bool, true, false, cond, ◌||◌, Option, Some, None, Result, Ok, Err, refl, sym, ap, subst, ◌∙◌, arith}
+use Rattle.std.specs.FinMap as finite
+use Rattle.std.specs.Result.{OnOk, IfOk, IfErr}
+use Rattle.raft_base.specs.declared.errors.Error.{Error}
+use Rattle.raft_base.specs.declared.errors.Error.TheVariants as errors
+use Rattle.raft_base.specs.declared.pipe_log.LogQueue.{LogQueue}
+use Rattle.raft_history.specs.RegionSteps.{Tables, with_table}
+use Rattle.raft_table.specs.Counts.{Counts}
+use Rattle.raft_table.specs.MarkJoins.{end_at_reach}
+use Rattle.raft_table.specs.MarkMerge.{IsFaultUnder, IsFirstRunFault, IsRunOver}
+use Rattle.raft_table.specs.Marks.{Mark, is_first_run_refused, table_over, applied}
+use Rattle.raft_table.specs.Steps.{table_of, there_if}
+use Rattle.raft_table.specs.Table.{Table, empty_table, live_of, IsRecounted}
+use Rattle.raft_table.specs.TableEntries.{end_of, from}
+use Rattle.raft_table.proofs.MarkTables.{applied_none}
+use Rattle.raft_table.proofs.RegionLemmas.{applied_own}
+use Rattle.raft_table.proofs.TableLemmas.{live_of_empty}
+use Rattle.raft_accessor.specs.Accessor.{table_in, live_in}
+use Rattle.std.proofs.lemmas.Bool.{false≢true}
+use Rattle.raft_accessor.proofs.MapLemmas.{get_gone, with_same}
+use Rattle.raft_accessor.specs.TableJoins.{IsPut, IsTableJoined}
+
+pub put_joined : (queue : LogQueue) (m : Mark) (newer : Table) (old : Tables) (id : ℕ) (counts : Counts) (r : Result ℕ Error) (new : Tables) (after : Counts) → IsPut queue m newer counts r (table_in old id) (table_in new id)
+    → OnOk r (finite.get new id ≡ Some (table_in new id)) → new ≡ with_table old id (finite.get new id) → IsRecounted (table_in old id) (table_in new id) counts after → IsTableJoined queue m (Some newer) old id counts r new after
+put_joined queue m newer old id counts (Ok end) new after p there one recounted = record {
+  ok = λ run. applied_own queue id m newer (table_in new id) (finite.get old id) (p.ok run) ∙ ap Some (sym there);
+  answer = p.answer;
+  fault = λ run. tt;
+  few = p.few;
+  one = one;
+  recounted = recounted;
+}
+put_joined queue m newer old id counts (Err e) new after p there one recounted = record { ok = λ run. tt; answer = tt; fault = p.fault; few = tt; one = one; recounted = recounted }
+
+-- the same told of a call
+pub put_by : (queue : LogQueue) (m : Mark) (newer : Table) (old : Tables) (id : ℕ) (counts : Counts) (r : Result ℕ Error) (new : Tables) (after : Counts) (t n : Table) (k : Counts) → t ≡ table_in old id → n ≡ table_in new id → k ≡ counts → IsPut queue m newer k r t n
+    → OnOk r (finite.get new id ≡ Some (table_in new id)) → new ≡ with_table old id (finite.get new id) → IsRecounted (table_in old id) (table_in new id) counts after → IsTableJoined queue m (Some newer) old id counts r new after
+put_by queue m newer old id counts r new after t n k e f g p =
+    put_joined queue m newer old id counts r new after (subst (λ t. IsPut queue m newer counts r t (table_in new id)) e (subst (λ n. IsPut queue m newer counts r t n) f (subst (λ k. IsPut queue m newer k r t n) g p)))
+
+-- there was no memory for a table
+pub not_joined : (queue : LogQueue) (m : Mark) (newer : Option Table) (old : Tables) (id : ℕ) (counts : Counts) (r : Result ℕ Error) (new : Tables) (after : Counts) → r ≡ Err errors.Memory → new ≡ with_table old id (finite.get new id) → IsRecounted (table_in old id) (table_in new id) counts after
+    → IsTableJoined queue m newer old id counts r new after
+not_joined queue m newer old id counts r new after e one recounted = subst (λ r. IsTableJoined queue m newer old id counts r new after) (sym e) record { ok = λ run. tt; answer = tt; fault = λ run. tt; few = tt; one = one; recounted = recounted }
+
+-- ---- a newer mark whose region has no table
+
+there_now : (old : Tables) (id : ℕ) (t : Table) → finite.get old id ≡ Some t → table_in old id ≡ t
+there_now old id t e = ap (table_of id) e
+
+nothing_at_reach : (m : Mark) (id : ℕ) → 0 ≡ end_at_reach m (empty_table id)
+unfolding from end_of
+nothing_at_reach m id = refl
+
+-- nor is there an older one
+pub nothing_joined : (queue : LogQueue) (m : Mark) (old : Tables) (id : ℕ) (counts : Counts) → finite.get old id ≡ None → IsTableJoined queue m None old id counts (Ok 0) old counts
+nothing_joined queue m old id counts e = record {
+  ok = λ run. subst (λ o. applied queue id m None o ≡ Some o) (sym e) (applied_none queue id m None refl);
+  answer = nothing_at_reach m id ∙ ap (λ o. end_at_reach m (table_of id o)) (sym e);
+  fault = λ run. tt;
+  few = λ q. omega arith;
+  one = sym (with_same old id);
+  recounted = λ q. refl;
+}
+
+-- an empty newer table says the same, where the region was not cleaned
+pub empty_joined : (queue : LogQueue) (m : Mark) (old : Tables) (id : ℕ) (counts : Counts) (t : Table) (r : Result ℕ Error) (new : Tables) (after : Counts) → finite.get old id ≡ Some t → m.cleaned ≡ false → IsTableJoined queue m (Some (empty_table id)) old id counts r new after → IsTableJoined queue m None old id counts r new after
+empty_joined queue m old id counts t r new after e live p = record {
+  ok = λ run. subst (λ x. OnOk r (x ≡ Some (finite.get new id))) (sym same) (p.ok run);
+  answer = p.answer;
+  fault = p.fault;
+  few = elim r as (λ r. OnOk r ((q : LogQueue) → live_of q (table_in new id) ≤ live_of q (table_in old id) + live_in q (Some (empty_table id))) → OnOk r ((q : LogQueue) → live_of q (table_in new id) ≤ live_of q (table_in old id) + live_in q None)) [
+    | Ok x ↦ λ f q. omega (arith, f q, live_of_empty q id)
+    | Err x ↦ λ f. tt
+  ] p.few;
+  one = p.one;
+  recounted = p.recounted;
+}
+  where
+    there : (b : Bool) → b ≡ false → cond b false (false || true) ≡ cond b true (true || true)
+    there false e = refl
+    there true e = absurd (false≢true (sym e))
+
+    same : applied queue id m None (finite.get old id) ≡ applied queue id m (Some (empty_table id)) (finite.get old id)
+    same = subst (λ o. applied queue id m None o ≡ applied queue id m (Some (empty_table id)) o) (sym e) (ap (λ b. there_if b (table_over queue m (empty_table id) t)) (there m.cleaned live))
+
+-- the older one goes
+pub cleaned_joined : (queue : LogQueue) (m : Mark) (old : Tables) (id : ℕ) (counts : Counts) (t : Table) (end : ℕ) (new : Tables) (after : Counts) → finite.get old id ≡ Some t → m.cleaned ≡ true → is_first_run_refused queue m t.entries ≡ false → end ≡ end_at_reach m t → new ≡ finite.remove old id
+    → IsRecounted (table_in old id) (empty_table id) counts after → IsTableJoined queue m None old id counts (Ok end) new after
+cleaned_joined queue m old id counts t end new after e cleaned accepted answer gone recounted =
+    let none : finite.get new id ≡ None = ap (λ n. finite.get n id) gone ∙ get_gone old id in
+    record {
+      ok = λ run. subst (λ o. applied queue id m None o ≡ Some (finite.get new id)) (sym e) (rw (accepted, cleaned) (ap Some (sym none)));
+      answer = answer ∙ ap (end_at_reach m) (sym (there_now old id t e));
+      fault = λ run. tt;
+      few = λ q. omega (arith, ap (λ o. live_of q (table_of id o)) none, live_of_empty q id);
+      one = gone ∙ ap (with_table old id) (sym none);
+      recounted = subst (λ u. IsRecounted (table_in old id) u counts after) (sym (ap (table_of id) none)) recounted;
+    }
+
+-- or the meeting is refused
+pub first_run_refused : (queue : LogQueue) (m : Mark) (old : Tables) (id : ℕ) (counts : Counts) (t : Table) (x : Error) → finite.get old id ≡ Some t → IsFirstRunFault (is_first_run_refused queue m t.entries) x → IsTableJoined queue m None old id counts (Err x) old counts
+first_run_refused queue m old id counts t x e f = record { ok = λ run. tt; answer = tt; fault = λ run. go x f; few = tt; one = sym (with_same old id); recounted = λ q. refl }
+  where
+    go : (x : Error) → IsFirstRunFault (is_first_run_refused queue m t.entries) x → IsFaultUnder queue counts m (empty_table id) (table_in old id) x
+    go (errors.Corruption text) f = ap (λ (u : Table). is_first_run_refused queue m u.entries) (there_now old id t e) ∙ f
+    go errors.Memory f = tt
+    go _ f = absurd f
+
+-- the same, where the region has these tables elsewhere
+pub joined_elsewhere : (queue : LogQueue) (m : Mark) (newer : Option Table) (old older : Tables) (id : ℕ) (counts before : Counts) (r : Result ℕ Error) (new next : Tables) (after : Counts) → finite.get older id ≡ finite.get old id → before ≡ counts → finite.get next id ≡ finite.get new id → next ≡ with_table older id (finite.get next id)
+    → IsTableJoined queue m newer old id counts r new after → IsTableJoined queue m newer older id before r next after
+joined_elsewhere queue m newer old older id counts before r new next after e k f one p = record {
+  ok = λ run. subst (λ o. OnOk r (applied queue id m newer o ≡ Some (finite.get next id))) (sym e) (subst (λ n. OnOk r (applied queue id m newer (finite.get old id) ≡ Some n)) (sym f) (p.ok (subst (λ o. IsRunOver queue m (table_of id newer) (table_of id o)) e run)));
+  answer = subst (λ o. IfOk r (λ end. end ≡ end_at_reach m (table_of id o))) (sym e) p.answer;
+  fault = λ run. subst (λ c. IfErr r (IsFaultUnder queue c m (table_of id newer) (table_in older id))) (sym k) (subst (λ o. IfErr r (IsFaultUnder queue counts m (table_of id newer) (table_of id o))) (sym e) (p.fault (subst (λ o. IsRunOver queue m (table_of id newer) (table_of id o)) e run)));
+  few = subst (λ o. OnOk r ((q : LogQueue) → live_of q (table_in next id) ≤ live_of q (table_of id o) + live_in q newer)) (sym e) (subst (λ n. OnOk r ((q : LogQueue) → live_of q (table_of id n) ≤ live_of q (table_in old id) + live_in q newer)) (sym f) p.few);
+  one = one;
+  recounted = subst (λ c. IsRecounted (table_in older id) (table_in next id) c after) (sym k) (subst (λ o. IsRecounted (table_of id o) (table_in next id) counts after) (sym e) (subst (λ n. IsRecounted (table_in old id) (table_of id n) counts after) (sym f) p.recounted));
+}

@@ -1,0 +1,222 @@
+-- One item written to its region's table.
+use Rattle.std.proofs.Common.{◌≡◌, ◌⊎◌, ◌<◌, ℕ, true, false, cond, arith, List, [], ◌++◌, length, append-nil, Option, Some, None, Result, Ok, Err, refl, sym, ap, subst, ◌∙◌, inl, inr}
+use Rattle.std.specs.FinMap as finite
+use Rattle.std.specs.Option.{option_map, is_some}
+use Rattle.std.specs.declared.alloc.Global.{Global}
+use Rattle.std.specs.declared.vec.Vec.{Vec}
+use Rattle.std.specs.Result.{OnOk, OnErr, IfErr}
+use Rattle.std.proofs.lemmas.Bool.{false≢true}
+use Rattle.raft_base.specs.declared.errors.Error.{Error}
+use Rattle.raft_base.specs.declared.errors.Error.TheVariants as errors
+use Rattle.raft_base.specs.declared.pipe_log.LogQueue.{LogQueue}
+use Rattle.raft_base.specs.declared.pipe_log.LogQueue.TheVariants.{Append, Rewrite}
+use Rattle.raft_base.specs.declared.entry_index.EntryIndex.{EntryIndex}
+use Rattle.raft_base.specs.declared.pipe_log.FileId.{FileId}
+use Rattle.raft_records.specs.declared.command.Command.{Command}
+use Rattle.raft_records.specs.declared.command.Command.TheVariants as commands
+use Rattle.raft_records.specs.Group.{is_reserved}
+use Rattle.raft_records.specs.Item.{Item, Content, Pair, entries, command, pair, command_item}
+use Rattle.raft_history.specs.RegionSteps.{Tables, with_table}
+use Rattle.raft_table.specs.Counts.{Counts, live}
+use Rattle.raft_table.specs.Rewriting.{rewritten, IsRewriteFault}
+use Rattle.raft_table.specs.Start.{appended, replayed, IsTableRunFault}
+use Rattle.raft_table.specs.Steps.{table_of}
+use Rattle.raft_table.specs.Table.{Table, empty_table, table_with_entries, IsTablePutFault, IsKeyRewriteFault, IsRecounted}
+use Rattle.raft_table.proofs.RunCounts.{append_full, replay_full}
+use Rattle.raft_accessor.specs.Accessor.{table_in}
+use Rattle.raft_accessor.specs.ItemWrites.{IsItemWritten, pair_change}
+use Rattle.raft_accessor.specs.Updates.{IsTaken, IsReplayFault, IsRefusal}
+use Rattle.raft_accessor.specs.Writes.{Writing, Appending, Replaying, Rewriting, queue_of, after_content, after_rewrite_put, with_change, lists, listed_by, cleaned_by_content, IsFor, MixesQueues, IsWriteFault}
+use Rattle.raft_accessor.proofs.MapLemmas.{get_gone, one_same}
+
+-- new items meet no records of the other queue, and those that are read again only where there are some
+pub none_met : {R : Type 0} (r : Result R Error) → OnOk r (⊥ → ⊥)
+none_met (Ok x) = λ m. m
+none_met (Err e) = tt
+
+pub never_met : {R : Type 0} (n : ℕ) (r : Result R Error) → OnOk r (n ≡ 0) → OnOk r (0 < n → ⊥)
+never_met n (Ok x) z = λ m. omega (arith, z, m)
+never_met n (Err e) z = tt
+
+-- what is done to the table is what the content asks for, and no region is listed
+pub written_by : (w : Writing) (item : Item) (outcome : Option Table) (IsFault : Error → Type 0) (old : Tables) (counts : Counts) (list : List ℕ) (r : Result Unit Error) (new : Tables) (after : Counts) → IsTaken outcome IsFault old item.raft_group_id counts r new after
+    → IsFor w item.content → OnOk r (MixesQueues w (table_in old item.raft_group_id) item.content → ⊥) → listed_by w item ≡ [] → after_content w item.raft_group_id (finite.get old item.raft_group_id) item.content ≡ option_map Some outcome
+    → ((e : Error) → IsFault e → IsWriteFault w item.raft_group_id (finite.get old item.raft_group_id) (live (queue_of w) counts) item.content e) → IsItemWritten w item old counts list r new after list
+written_by w item outcome IsFault old counts list r new after h asked alone none is fault = record {
+  accepted = alone;
+  asked = elim r as (λ r. OnOk r (IsFor w item.content)) [ Ok a ↦ asked | Err x ↦ tt ];
+  ok = elim r as (λ r. OnOk r (outcome ≡ Some (table_in new item.raft_group_id)) → OnOk r (finite.get new item.raft_group_id ≡ Some (table_in new item.raft_group_id)) → OnOk r (after_content w item.raft_group_id (finite.get old item.raft_group_id) item.content ≡ Some (finite.get new item.raft_group_id))) [
+    | Ok a ↦ λ e t. is ∙ ap (option_map Some) e ∙ ap Some (sym t)
+    | Err x ↦ λ e t. tt
+  ] h.ok h.there;
+  cleaned = elim r as (λ r. OnOk r (list ≡ list ++ listed_by w item)) [ Ok a ↦ sym (append-nil list) ∙ sym (ap (λ l. list ++ l) none) | Err x ↦ tt ];
+  err = h.err;
+  cleaned_err = elim r as (λ r. OnErr r (list ≡ list)) [ Ok a ↦ tt | Err x ↦ refl ];
+  fault = elim r as (λ r. IfErr r (λ e. (e ≡ errors.Memory) ⊎ IsFault e) → IfErr r (IsWriteFault w item.raft_group_id (finite.get old item.raft_group_id) (live (queue_of w) counts) item.content)) [
+    | Ok a ↦ λ f. tt
+    | Err x ↦ λ f. elim f [ inl e ↦ subst (IsWriteFault w item.raft_group_id (finite.get old item.raft_group_id) (live (queue_of w) counts) item.content) (sym e) tt | inr g ↦ fault x g ]
+  ] h.fault;
+  one = h.one;
+  recounted = h.recounted;
+}
+
+-- an item that is refused changes nothing
+pub refused_by : (w : Writing) (item : Item) (old : Tables) (counts : Counts) (list : List ℕ) (e : Error) → IsWriteFault w item.raft_group_id (finite.get old item.raft_group_id) (live (queue_of w) counts) item.content e → IsItemWritten w item old counts list (Err e) old counts list
+refused_by w item old counts list e fault = record {
+  accepted = tt;
+  asked = tt;
+  ok = tt;
+  cleaned = tt;
+  err = refl;
+  cleaned_err = refl;
+  fault = fault;
+  one = one_same old old item.raft_group_id refl;
+  recounted = λ q. refl;
+}
+
+-- nor does one that is skipped
+pub skipped_by : (w : Writing) (item : Item) (old : Tables) (counts : Counts) (list : List ℕ) → IsFor w item.content → (MixesQueues w (table_in old item.raft_group_id) item.content → ⊥) → listed_by w item ≡ [] → after_content w item.raft_group_id (finite.get old item.raft_group_id) item.content ≡ Some (finite.get old item.raft_group_id) → IsItemWritten w item old counts list (Ok tt) old counts list
+skipped_by w item old counts list asked alone none is = record {
+  accepted = alone;
+  asked = asked;
+  ok = is;
+  cleaned = sym (append-nil list) ∙ sym (ap (λ l. list ++ l) none);
+  err = tt;
+  cleaned_err = tt;
+  fault = tt;
+  one = one_same old old item.raft_group_id refl;
+  recounted = λ q. refl;
+}
+
+-- ---- why runs are refused
+
+by_append : (id : ℕ) (o : Option Table) (rs : List EntryIndex) (p : Option (List EntryIndex)) (counts : Counts) (e : Error) → appended (table_of id o).entries rs ≡ p → IsTableRunFault Append counts (table_of id o).entries p e → IsWriteFault Appending id o (live Append counts) (entries rs) e
+by_append id o rs None counts (errors.Corruption text) is h = inr (ap (λ p. option_map Some (option_map (table_with_entries (table_of id o)) p)) is)
+by_append id o rs None counts errors.Memory is h = tt
+by_append id o rs (Some after) counts errors.Full is h = append_full Append counts (table_of id o).entries rs (subst (λ p. IsTableRunFault Append counts (table_of id o).entries p errors.Full) (sym is) h)
+by_append id o rs (Some after) counts errors.Memory is h = tt
+by_append id o rs p counts e is h = absurd h
+
+pub append_fault : (id : ℕ) (o : Option Table) (rs : List EntryIndex) (counts : Counts) (e : Error) → IsTableRunFault Append counts (table_of id o).entries (appended (table_of id o).entries rs) e → IsWriteFault Appending id o (live Append counts) (entries rs) e
+append_fault id o rs counts e h = by_append id o rs _ counts e refl h
+
+by_replay : (q : LogQueue) (id : ℕ) (o : Option Table) (rs : List EntryIndex) (p : Option (List EntryIndex)) (counts : Counts) (e : Error) → replayed q (table_of id o).entries rs ≡ p → IsTableRunFault q counts (table_of id o).entries p e → IsWriteFault (Replaying q) id o (live q counts) (entries rs) e
+by_replay q id o rs None counts (errors.Corruption text) is h = inr (ap (λ p. option_map Some (option_map (table_with_entries (table_of id o)) p)) is)
+by_replay q id o rs None counts errors.Memory is h = tt
+by_replay q id o rs (Some after) counts errors.Full is h = replay_full q q counts (table_of id o).entries rs (subst (λ p. IsTableRunFault q counts (table_of id o).entries p errors.Full) (sym is) h)
+by_replay q id o rs (Some after) counts errors.Memory is h = tt
+by_replay q id o rs p counts e is h = absurd h
+
+pub replay_fault : (q : LogQueue) (id : ℕ) (o : Option Table) (rs : List EntryIndex) (counts : Counts) (e : Error) → IsReplayFault q rs (table_of id o) counts e → IsWriteFault (Replaying q) id o (live q counts) (entries rs) e
+replay_fault q id o rs counts (errors.InvalidArgument text) h = h
+replay_fault q id o rs counts errors.Memory h = tt
+replay_fault q id o rs counts e h = by_replay q id o rs _ counts e refl h
+
+by_rewrite : (gate : Option ℕ) (seq id : ℕ) (o : Option Table) (rs : List EntryIndex) (p : Option (List EntryIndex)) (counts : Counts) (e : Error) → rewritten gate rs (table_of id o).entries ≡ p → IsRewriteFault (length rs) counts p e → IsWriteFault (Rewriting gate seq) id o (live Rewrite counts) (entries rs) e
+by_rewrite gate seq id o rs None counts (errors.Corruption text) is h = inr (ap (λ p. option_map Some (option_map (table_with_entries (table_of id o)) p)) is)
+by_rewrite gate seq id o rs None counts errors.Memory is h = tt
+by_rewrite gate seq id o rs (Some after) counts errors.Full is h = h
+by_rewrite gate seq id o rs p counts errors.Memory is h = tt
+by_rewrite gate seq id o rs p counts e is h = absurd h
+
+pub rewrite_fault : (gate : Option ℕ) (seq id : ℕ) (o : Option Table) (rs : List EntryIndex) (counts : Counts) (e : Error) → IsRewriteFault (length rs) counts (rewritten gate rs (table_of id o).entries) e → IsWriteFault (Rewriting gate seq) id o (live Rewrite counts) (entries rs) e
+rewrite_fault gate seq id o rs counts e h = by_rewrite gate seq id o rs _ counts e refl h
+
+-- what isn't as asked, or has no outcome
+pub no_outcome : (w : Writing) (id : ℕ) (o : Option Table) (live : ℕ) (content : Content) (e : Error) → IsRefusal e → (IsFor w content → ⊥) ⊎ (after_content w id o content ≡ None) → IsWriteFault w id o live content e
+no_outcome w id o live content (errors.Corruption text) h k = k
+no_outcome w id o live content errors.Memory h k = tt
+no_outcome w id o live content e h k = absurd h
+
+-- ---- why changes of keys are refused
+
+put_at : (q : LogQueue) (id : ℕ) (o : Option Table) (p : Pair) (counts : Counts) (replaced : Option FileId) (e : Error) → IsTablePutFault q counts replaced e → IsWriteFault (Replaying q) id o (live q counts) (pair p) e
+put_at q id o p counts replaced errors.Full h = h.0
+put_at q id o p counts replaced errors.Memory h = tt
+put_at q id o p counts replaced e h = absurd h
+
+pub put_fault : (q : LogQueue) (id : ℕ) (o : Option Table) (p : Pair) (counts : Counts) (file : FileId) (replaced : Option FileId) (e : Error) → file.queue ≡ q → IsTablePutFault file.queue counts replaced e → IsWriteFault (Replaying q) id o (live q counts) (pair p) e
+put_fault q id o p counts file replaced e is h = put_at q id o p counts replaced e (subst (λ q. IsTablePutFault q counts replaced e) is h)
+
+key_by : (gate : Option ℕ) (seq id : ℕ) (o : Option Table) (p : Pair) (counts : Counts) (t : Option Table) (e : Error) → after_content (Rewriting gate seq) id o (pair p) ≡ option_map Some t → IsKeyRewriteFault counts t e → IsWriteFault (Rewriting gate seq) id o (live Rewrite counts) (pair p) e
+key_by gate seq id o p counts None (errors.Corruption text) is h = inr is
+key_by gate seq id o p counts None errors.Memory is h = tt
+key_by gate seq id o p counts (Some u) errors.Full is h = h
+key_by gate seq id o p counts t e is h = absurd h
+
+pub key_fault : (gate : Option ℕ) (seq id : ℕ) (o : Option Table) (p : Pair) (counts : Counts) (t : Option Table) (e : Error) → after_content (Rewriting gate seq) id o (pair p) ≡ option_map Some t → IsKeyRewriteFault counts t e → IsWriteFault (Rewriting gate seq) id o (live Rewrite counts) (pair p) e
+key_fault gate seq id o p counts t e is h = key_by gate seq id o p counts t e is h
+
+-- a rewriting of a key without a value has no outcome
+pub no_value : (gate : Option ℕ) (seq : ℕ) (t : Table) (key : List ℕ) (v : Option (Vec ℕ Global)) → is_some v ≡ false → after_rewrite_put gate seq t key (option_map (λ v. v.items) v) ≡ None
+no_value gate seq t key None e = refl
+no_value gate seq t key (Some v) e = absurd (false≢true (sym e))
+
+-- the reserved key is skipped
+pub reserved_step : (w : Writing) (id : ℕ) (o : Option Table) (p : Pair) → is_reserved p.key ≡ true → after_content w id o (pair p) ≡ Some o
+reserved_step w id o p e = ap (λ b. cond b (Some o) (option_map Some (with_change w (table_of id o) p))) e
+
+pub change_step : (w : Writing) (id : ℕ) (o : Option Table) (p : Pair) → is_reserved p.key ≡ false → after_content w id o (pair p) ≡ option_map Some (with_change w (table_of id o) p)
+change_step w id o p e = ap (λ b. cond b (Some o) (option_map Some (with_change w (table_of id o) p))) e
+
+-- only a Clean is listed
+pub none_listed : (w : Writing) (item : Item) → cleaned_by_content item.raft_group_id item.content ≡ [] → listed_by w item ≡ []
+none_listed w item e = elim (lists w) as (λ b. cond b (cleaned_by_content item.raft_group_id item.content) [] ≡ []) [ true ↦ e | false ↦ refl ]
+
+-- ---- a Clean
+
+pub cleaned_by : (q : LogQueue) (id : ℕ) (old : Tables) (counts : Counts) (list : List ℕ) (new : Tables) (after : Counts) (listed : List ℕ) → new ≡ finite.remove old id → IsRecounted (table_in old id) (empty_table id) counts after
+    → listed ≡ list ++ listed_by (Replaying q) (command_item id commands.Clean) → IsItemWritten (Replaying q) (command_item id commands.Clean) old counts list (Ok tt) new after listed
+cleaned_by q id old counts list new after listed e r l =
+    let gone : finite.get new id ≡ None = ap (λ m. finite.get m id) e ∙ get_gone old id in
+    record {
+      asked = tt;
+      accepted = λ m. m;
+      ok = ap Some (sym gone);
+      cleaned = l;
+      err = tt;
+      cleaned_err = tt;
+      fault = tt;
+      one = e ∙ ap (with_table old id) (sym gone);
+      recounted = subst (λ t. IsRecounted (table_in old id) t counts after) (ap (table_of id) (sym gone)) r;
+    }
+
+-- ---- new commands and changes of keys are as those that are read again
+
+command_as_new : (id : ℕ) (o : Option Table) (live : ℕ) (c : Command) (e : Error) → IsWriteFault (Replaying Append) id o live (command c) e → IsWriteFault Appending id o live (command c) e
+command_as_new id o live c (errors.Corruption text) h = h
+command_as_new id o live c errors.Full h = h
+command_as_new id o live c errors.Memory h = tt
+command_as_new id o live c e h = absurd h
+
+pair_as_new : (id : ℕ) (o : Option Table) (live : ℕ) (p : Pair) (e : Error) → IsWriteFault (Replaying Append) id o live (pair p) e → IsWriteFault Appending id o live (pair p) e
+pair_as_new id o live p (errors.Corruption text) h = h
+pair_as_new id o live p errors.Full h = h
+pair_as_new id o live p errors.Memory h = tt
+pair_as_new id o live p e h = absurd h
+
+pub new_command : (id : ℕ) (c : Command) (old : Tables) (counts : Counts) (list : List ℕ) (r : Result Unit Error) (new : Tables) (after : Counts) (listed : List ℕ) → IsItemWritten (Replaying Append) (command_item id c) old counts list r new after listed → IsItemWritten Appending (command_item id c) old counts list r new after listed
+new_command id c old counts list r new after listed h = record {
+  asked = elim r as (λ r. OnOk r Unit) [ Ok a ↦ tt | Err x ↦ tt ];
+  accepted = elim r as (λ r. OnOk r (⊥ → ⊥)) [ Ok a ↦ λ m. m | Err x ↦ tt ];
+  ok = h.ok;
+  cleaned = h.cleaned;
+  err = h.err;
+  cleaned_err = h.cleaned_err;
+  fault = elim r as (λ r. IfErr r (IsWriteFault (Replaying Append) id (finite.get old id) (live Append counts) (command c)) → IfErr r (IsWriteFault Appending id (finite.get old id) (live Append counts) (command c))) [ Ok a ↦ λ f. tt | Err x ↦ λ f. command_as_new id (finite.get old id) (live Append counts) c x f ] h.fault;
+  one = h.one;
+  recounted = h.recounted;
+}
+
+pub new_pair : (id : ℕ) (p : Pair) (old : Tables) (counts : Counts) (list : List ℕ) (r : Result Unit Error) (new : Tables) (after : Counts) (listed : List ℕ) → IsItemWritten (Replaying Append) (pair_change id p) old counts list r new after listed → IsItemWritten Appending (pair_change id p) old counts list r new after listed
+new_pair id p old counts list r new after listed h = record {
+  asked = h.asked;
+  accepted = elim r as (λ r. OnOk r (⊥ → ⊥)) [ Ok a ↦ λ m. m | Err x ↦ tt ];
+  ok = h.ok;
+  cleaned = h.cleaned;
+  err = h.err;
+  cleaned_err = h.cleaned_err;
+  fault = elim r as (λ r. IfErr r (IsWriteFault (Replaying Append) id (finite.get old id) (live Append counts) (pair p)) → IfErr r (IsWriteFault Appending id (finite.get old id) (live Append counts) (pair p))) [ Ok a ↦ λ f. tt | Err x ↦ λ f. pair_as_new id (finite.get old id) (live Append counts) p x f ] h.fault;
+  one = h.one;
+  recounted = h.recounted;
+}

@@ -1,0 +1,11 @@
+use Rattle.std.proofs.Common.{◌++◌, List, drop, map, IsPermutation}
+use Rattle.std.specs.List.{FoldsTo}
+use Rattle.raft_table.specs.Table.{Table}
+use Rattle.raft_accessor.specs.AccessorView.{slot_entries}
+use Rattle.raft_accessor.specs.Walks.{Makes}
+use Rattle.raft_accessor.proofs.accessor.MemTableAccessor.fold.Given as goal
+
+abbrev pub invariant-loop-slot : goal.invariant-loop-slot
+invariant-loop-slot g l =
+    (done : List Table) × FoldsTo (Makes g.F.FnMut) (l.fn.f, l.fn.init) done (l.f, l.answer)
+    × IsPermutation (done ++ map (λ e. e.1) (slot_entries (drop l.slot-index l.slot-items))) (map (λ e. e.1) (slot_entries l.slot-items))

@@ -1,0 +1,19 @@
+use Rattle.std.proofs.Common.{IsTrue, refl, sym, ap, subst, ◌∙◌}
+use Rattle.std.specs.FinMap as finite
+use Rattle.std.specs.Option.{is_some}
+use Rattle.raft_table.specs.Steps.{table_of}
+use Rattle.raft_accessor.specs.Accessor.{table_in}
+use Rattle.raft_accessor.proofs.MapLemmas.{get_own}
+use Rattle.raft_accessor.proofs.accessor.MemTableAccessor.get_or_insert.Goals as goal
+
+pub made-requires : goal.made-requires
+made-requires c =
+    subst (λ o. IsTrue (is_some o)) (sym (ap (λ m. finite.get m c.args.id) c.in_ok-make_table.ensures.ok ∙ get_own c.args.self.now.tables c.args.id (table_in c.args.self.now.tables c.args.id)))
+    refl
+
+pub returns : goal.returns
+returns c =
+    let made = c.in_ok-make_table.ensures in (
+      (refl, λ _. tt, record { ok = made.ok; err = tt; cleaned = made.cleaned }),
+      record { ends = tt; table = c.made.ensures ∙ ap (table_of c.args.id) (ap (λ m. finite.get m c.args.id) made.ok ∙ get_own c.args.self.now.tables c.args.id (table_in c.args.self.now.tables c.args.id)) },
+    )

@@ -1,0 +1,40 @@
+use Rattle.std.proofs.Common.{suc, ap, subst, ◌∙◌}
+use Rattle.std.specs.FinMap as finite
+use Rattle.std.proofs.lemmas.Result.{err_from_is_err_and}
+use Rattle.raft_accessor.specs.Accessor.{Accessor}
+use Rattle.raft_accessor.specs.AccessorView.{slot_entries, AreSlots}
+use Rattle.raft_accessor.specs.Merges.{with_newer, IsNewerFault}
+use Rattle.raft_accessor.proofs.MergeLemmas.{refuses-slot, refuses-slots, refusal-of, leaves-slot, leaves-slots, left-of, slots-step, slots-are, no_slots, joins-none, merged-of}
+use Rattle.raft_accessor.proofs.accessor.MemTableAccessor.merge_newer_neighbor.Goals as goal
+
+pub loop-slot-preserved : goal.loop-slot-preserved
+loop-slot-preserved c =
+    let at = c.loop-slot.invariant in
+    let is = c.in-Some.ensures.steps in (
+      (suc at.0.0, (subst (AreSlots at.0.0) is at.0.1).1),
+      c.merge_newer_tables.ensures.cleaned ∙ at.1,
+      λ z h. at.2 z (slots-step with_newer c.loop-slot.self.tables c.merge_newer_tables.new.self.tables z _ _ at.0.0 _ is at.0.1 c.in_ok-merge_newer_tables.ensures.ok h),
+      λ k e h. at.3 k e (refuses-slots with_newer (IsNewerFault k) c.loop-slot.self.tables c.merge_newer_tables.new.self.tables _ _ at.0.0 _ e is at.0.1 c.in_ok-merge_newer_tables.ensures.ok h),
+      λ z h. at.4 z (leaves-slots with_newer c.loop-slot.self.tables c.merge_newer_tables.new.self.tables z _ _ at.0.0 _ is at.0.1 c.in_ok-merge_newer_tables.ensures.ok h),
+    )
+
+pub returns-in_err-merge_newer_tables-clause-fault : goal.returns-in_err-merge_newer_tables-clause-fault
+returns-in_err-merge_newer_tables-clause-fault c =
+    let p = err_from_is_err_and c.from_residual.result c.from_residual.ensures.1 in
+    let k = c.merge_newer_tables.new.self.counts in
+    rw (p.1, p.2) (refusal-of (IsNewerFault k) c.args.self.now.tables c.args.rhs.tables _ _
+    (ap (λ ms. finite.from_entries (slot_entries ms)) c.into_iter-slot-iterator.ensures.into_iter_gives.0 ∙ slots-are c.rhs.inside.slots c.args.rhs.tables (ap (λ (x : Accessor). x.tables) c.rhs.view_is))
+    (c.loop-slot.invariant.3 k _ (refuses-slot (IsNewerFault k) c.loop-slot.self.tables _ _ _ _ c.in-Some.ensures.steps c.in_err-merge_newer_tables.ensures.fault)))
+
+pub returns-in_err-merge_newer_tables-clause-err : goal.returns-in_err-merge_newer_tables-clause-err
+returns-in_err-merge_newer_tables-clause-err c =
+    let p = err_from_is_err_and c.from_residual.result c.from_residual.ensures.1 in
+    rw (p.1, p.2) (λ k. left-of with_newer c.args.self.now.tables c.merge_newer_tables.new.self.tables c.args.rhs.tables _
+    (ap (λ ms. finite.from_entries (slot_entries ms)) c.into_iter-slot-iterator.ensures.into_iter_gives.0 ∙ slots-are c.rhs.inside.slots c.args.rhs.tables (ap (λ (x : Accessor). x.tables) c.rhs.view_is))
+    (c.loop-slot.invariant.4 c.merge_newer_tables.new.self.tables (leaves-slot with_newer c.loop-slot.self.tables c.merge_newer_tables.new.self.tables _ _ _ c.in-Some.ensures.steps (c.in_err-merge_newer_tables.ensures.err k))))
+
+pub returns-clause-ok : goal.returns-clause-ok
+returns-clause-ok c =
+    merged-of with_newer c.args.self.now.tables c.loop-slot.self.tables c.args.rhs.tables _
+    (ap (λ ms. finite.from_entries (slot_entries ms)) c.into_iter-slot-iterator.ensures.into_iter_gives.0 ∙ slots-are c.rhs.inside.slots c.args.rhs.tables (ap (λ (x : Accessor). x.tables) c.rhs.view_is))
+    (c.loop-slot.invariant.2 c.loop-slot.self.tables (joins-none with_newer c.loop-slot.self.tables _ (no_slots _ c.in-None.ensures.steps.0)))

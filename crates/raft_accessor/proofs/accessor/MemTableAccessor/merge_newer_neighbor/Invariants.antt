@@ -1,0 +1,16 @@
+use Rattle.std.proofs.Common.{◌≡◌, ℕ}
+use Rattle.std.specs.Array.Iter.{array_into_iter_items}
+use Rattle.raft_base.specs.declared.errors.Error.{Error}
+use Rattle.raft_history.specs.RegionSteps.{Tables}
+use Rattle.raft_table.specs.Counts.{Counts}
+use Rattle.raft_accessor.specs.AccessorView.{slot_entries, AreSlots}
+use Rattle.raft_accessor.specs.Merges.{with_newer, IsNewerFault}
+use Rattle.raft_accessor.proofs.MergeLemmas.{Joins, Refuses, Leaves}
+use Rattle.raft_accessor.proofs.accessor.MemTableAccessor.merge_newer_neighbor.Given as goal
+
+abbrev pub invariant-loop-slot : goal.invariant-loop-slot
+invariant-loop-slot l =
+    ((k : ℕ) × AreSlots k (array_into_iter_items l.slot-iterator)) × (l.self.cleaned ≡ l.fn.self.cleaned)
+    × ((z : Tables) → Joins with_newer l.self.tables (slot_entries (array_into_iter_items l.slot-iterator)) z → Joins with_newer l.fn.self.tables (slot_entries (array_into_iter_items l.initial.slot-iterator)) z)
+    × ((k : Counts) (e : Error) → Refuses (IsNewerFault k) l.self.tables (slot_entries (array_into_iter_items l.slot-iterator)) e → Refuses (IsNewerFault k) l.fn.self.tables (slot_entries (array_into_iter_items l.initial.slot-iterator)) e)
+    × ((z : Tables) → Leaves with_newer l.self.tables (slot_entries (array_into_iter_items l.slot-iterator)) z → Leaves with_newer l.fn.self.tables (slot_entries (array_into_iter_items l.initial.slot-iterator)) z)

@@ -1,0 +1,75 @@
+use Rattle.std.specs.Map.{lookup}
+use Rattle.std.proofs.Common.{nat_eq, ◌≡◌, Some, None, refl, sym, ap, ◌∙◌}
+use Rattle.std.specs.FinMap as finite
+use Rattle.std.proofs.lemmas.Result.{err_from_is_err_and}
+use Rattle.std.specs.Option.{is_some, option_copied_mut}
+use Rattle.raft_table.specs.Steps.{table_of}
+use Rattle.raft_table.specs.Table.{Table}
+use Rattle.raft_accessor.specs.Accessor.{table_in}
+use Rattle.raft_accessor.specs.Merges.{MayAlter}
+use Rattle.raft_accessor.specs.Updates.{TableCalls}
+use Rattle.raft_accessor.specs.declared.region_tables.RegionTables.TheInside.{Inside}
+use Rattle.raft_accessor.proofs.MapLemmas.{some_is}
+use Rattle.raft_accessor.proofs.MergeLemmas.{altered, not_altered}
+use Rattle.raft_accessor.proofs.RegionTablesLemmas.{kept-with, kept-same, shown-with, shown-same, there, absent, region-in}
+use Rattle.raft_accessor.proofs.region_tables.RegionTables.alter.Given as given
+use Rattle.raft_accessor.proofs.region_tables.RegionTables.alter.Goals as goal
+
+-- ---- the table is there
+
+pub change-requires : goal.change-requires
+change-requires g c = (c.requires.may (region-in c.self.inside c.args.self.now c.args.id c.self.invariant c.self.view_is)).pre _ _ (sym (ap (table_of c.args.id) (there c.self.inside c.args.self.now c.args.id _ _ c.self.view_is c.get_mut.ensures.value c.in-Some.is))) refl
+
+may : (g : given.Over) (c : goal.After-self-in-Some-1 g) → MayAlter g.F.FnOnce c.args.change (table_in c.args.self.now c.args.id) c.args.stats.now
+may g c = c.requires.may (region-in c.self.inside c.args.self.now c.args.id c.self.invariant c.self.view_is)
+
+was : (g : given.Over) (c : goal.After-self-in-Some-1 g) → finite.get c.args.self.now c.args.id ≡ Some c.in-Some.table.now
+was g c = there c.self.inside c.args.self.now c.args.id _ _ c.self.view_is c.get_mut.ensures.value c.in-Some.is
+
+gave : (g : given.Over) (c : goal.After-self-in-Some-1 g) → TableCalls g.F.FnOnce c.args.change (table_in c.args.self.now c.args.id) c.args.stats.now c.change.result c.change.new.arg2 c.change.new.arg3
+gave g c = record { table = c.in-Some.table; stats = _; shows = (sym (ap (table_of c.args.id) (was g c)), refl); left = _; left_stats = _; met = c.change.ensures; leaves = (refl, refl) }
+
+abbrev after : (g : given.Over) → goal.After-self-in-Some-1 g → Inside
+after g c = record c.self.inside { tables = c.get_mut.follows.lender c.change.new.arg2 }
+
+pub invariant_of-self : goal.invariant_of-self
+invariant_of-self g c =
+    kept-with c.self.inside (after g c) c.args.id (Some c.change.new.arg2) c.self.invariant (λ u e. ap (λ (o : Table). o.region_id) (sym (some_is e)) ∙ (may g c).region _ _ _ (gave g c) ∙ region-in c.self.inside c.args.self.now c.args.id c.self.invariant c.self.view_is)
+    ((c.get_mut.follows.holds c.change.new.arg2).3 (ap is_some (sym c.get_mut.ensures.value ∙ ap option_copied_mut c.in-Some.is))).0
+
+pub returns-in-Some : goal.returns-in-Some
+returns-in-Some g c =
+    altered g.F.FnOnce c.args.change c.args.self.now c.args.id c.args.stats.now c.change.result c.change.new.arg2 c.change.new.arg3 _ (may g c) (gave g c)
+    (shown-with c.self.inside (after g c) c.args.self.now c.args.id (Some c.change.new.arg2) c.self.view_is ((c.get_mut.follows.holds c.change.new.arg2).3 (ap is_some (sym c.get_mut.ensures.value ∙ ap option_copied_mut c.in-Some.is))).0)
+
+-- ---- the table is made
+
+pub returns-in_err-reserve : goal.returns-in_err-reserve
+returns-in_err-reserve g c =
+    let p = err_from_is_err_and c.from_residual.result c.from_residual.ensures.1 in
+    rw (p.1, p.2) (not_altered g.F.FnOnce c.args.change c.args.self.now c.args.id c.args.stats.now _ (shown-same c.self.inside (record c.self.inside { tables = c.reserve.new.self }) c.args.self.now c.self.view_is (λ q. c.reserve.ensures.entries.2 q ∙ ap (λ m. lookup (nat_eq q) m.entries) c.get_mut.follows.holds-at-none)))
+
+pub change-answer-requires : goal.change-answer-requires
+change-answer-requires g c = (c.requires.may (region-in c.self.inside c.args.self.now c.args.id c.self.invariant c.self.view_is)).pre _ _ (c.new-table.ensures.empty ∙ sym (ap (table_of c.args.id) (absent c.self.inside c.args.self.now c.args.id _ c.self.view_is c.get_mut.ensures.value c.in_default.is))) refl
+
+made-by : (g : given.Over) (c : goal.Joined-this g) → TableCalls g.F.FnOnce c.args.change (table_in c.args.self.now c.args.id) c.args.stats.now c.change-answer.result c.change-answer.new.arg2 c.change-answer.new.arg3
+made-by g c =
+    let none : finite.get c.args.self.now c.args.id ≡ None = absent c.self.inside c.args.self.now c.args.id _ c.self.view_is c.get_mut.ensures.value c.in_default.is in
+    record { table = _; stats = _; shows = (c.new-table.ensures.empty ∙ sym (ap (table_of c.args.id) none), refl); left = _; left_stats = _; met = c.change-answer.ensures; leaves = (refl, refl) }
+
+abbrev reserved : (g : given.Over) → goal.Joined-this g → Inside
+reserved g c = record c.self.inside { tables = c.reserve.new.self }
+
+abbrev with_made : (g : given.Over) → goal.Joined-this g → Inside
+with_made g c = record c.self.inside { tables = c.insert.new.self }
+
+pub invariant_of-self-2 : goal.invariant_of-self-2
+invariant_of-self-2 g c =
+    let own = region-in c.self.inside c.args.self.now c.args.id c.self.invariant c.self.view_is in
+    kept-with (reserved g c) (with_made g c) c.args.id (Some c.change-answer.new.arg2) (kept-same c.self.inside (reserved g c) c.self.invariant (λ q. c.reserve.ensures.entries.2 q ∙ ap (λ m. lookup (nat_eq q) m.entries) c.get_mut.follows.holds-at-none))
+    (λ u e. ap (λ (o : Table). o.region_id) (sym (some_is e)) ∙ (c.requires.may own).region _ _ _ (made-by g c) ∙ own) c.in-Ok.ensures.updates.0
+
+pub returns : goal.returns
+returns g c =
+    altered g.F.FnOnce c.args.change c.args.self.now c.args.id c.args.stats.now c.change-answer.result c.change-answer.new.arg2 c.change-answer.new.arg3 _ (c.requires.may (region-in c.self.inside c.args.self.now c.args.id c.self.invariant c.self.view_is)) (made-by g c)
+    (shown-with (reserved g c) (with_made g c) c.args.self.now c.args.id (Some c.change-answer.new.arg2) (shown-same c.self.inside (reserved g c) c.args.self.now c.self.view_is (λ q. c.reserve.ensures.entries.2 q ∙ ap (λ m. lookup (nat_eq q) m.entries) c.get_mut.follows.holds-at-none)) c.in-Ok.ensures.updates.0)

@@ -1,0 +1,19 @@
+use Rattle.std.proofs.Common.{refl, subst, inl}
+use Rattle.std.specs.FinMap as finite
+use Rattle.raft_base.specs.declared.pipe_log.LogQueue.TheVariants.{Append}
+use Rattle.raft_records.specs.Item.{entries, entries_item}
+use Rattle.raft_table.specs.TableEntries.{IsRunIn}
+use Rattle.raft_table.specs.Table.{after_append}
+use Rattle.raft_accessor.specs.Accessor.{table_in}
+use Rattle.raft_accessor.specs.Writes.{Appending}
+use Rattle.raft_accessor.proofs.WriteLemmas.{written_by, refused_by, no_outcome, append_fault, none_listed, none_met}
+use Rattle.raft_accessor.proofs.region_tables.RegionTables.append_entries.Goals as goal
+
+pub returns-then-not-is_run : goal.returns-then-not-is_run
+returns-then-not-is_run c = λ list.
+    refused_by Appending (entries_item c.args.id c.args.run.items) c.args.self.now c.args.stats.now list c.corruption.result (no_outcome Appending c.args.id (finite.get c.args.self.now c.args.id) _ (entries c.args.run.items) c.corruption.result c.corruption.ensures (inl (subst (λ es. IsRunIn Append es → ⊥) c.deref.ensures.value c.if-not-is_run.ensures)))
+
+pub returns : goal.returns
+returns c = λ list.
+    written_by Appending (entries_item c.args.id c.args.run.items) (after_append (table_in c.args.self.now c.args.id) c.args.run.items) _ c.args.self.now c.args.stats.now list c.append_run.result c.append_run.new.self c.append_run.new.stats c.append_run.ensures (subst (IsRunIn Append) c.deref.ensures.value c.if-not-is_run.ensures) (none_met c.append_run.result)
+    (none_listed Appending (entries_item c.args.id c.args.run.items) refl) refl (λ e f. append_fault c.args.id (finite.get c.args.self.now c.args.id) c.args.run.items c.args.stats.now e f)

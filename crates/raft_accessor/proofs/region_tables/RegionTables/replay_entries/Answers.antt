@@ -1,0 +1,18 @@
+use Rattle.std.proofs.Common.{refl, subst, inl}
+use Rattle.std.specs.FinMap as finite
+use Rattle.raft_records.specs.Item.{entries, entries_item}
+use Rattle.raft_table.specs.TableEntries.{IsRunIn}
+use Rattle.raft_table.specs.Table.{after_replay}
+use Rattle.raft_accessor.specs.Accessor.{table_in}
+use Rattle.raft_accessor.specs.Writes.{Replaying}
+use Rattle.raft_accessor.proofs.WriteLemmas.{written_by, refused_by, no_outcome, replay_fault, none_listed, never_met}
+use Rattle.raft_accessor.proofs.region_tables.RegionTables.replay_entries.Goals as goal
+
+pub returns-then-not-is_run : goal.returns-then-not-is_run
+returns-then-not-is_run c = λ list.
+    refused_by (Replaying c.args.queue) (entries_item c.args.id c.args.run.items) c.args.self.now c.args.stats.now list c.corruption.result (no_outcome (Replaying c.args.queue) c.args.id (finite.get c.args.self.now c.args.id) _ (entries c.args.run.items) c.corruption.result c.corruption.ensures (inl (subst (λ es. IsRunIn c.args.queue es → ⊥) c.deref.ensures.value c.if-not-is_run.ensures)))
+
+pub returns : goal.returns
+returns c = λ list.
+    written_by (Replaying c.args.queue) (entries_item c.args.id c.args.run.items) (after_replay c.args.queue (table_in c.args.self.now c.args.id) c.args.run.items) _ c.args.self.now c.args.stats.now list c.replay_run.result c.replay_run.new.self c.replay_run.new.stats c.replay_run.ensures.taken (subst (IsRunIn c.args.queue) c.deref.ensures.value c.if-not-is_run.ensures) (never_met _ c.replay_run.result c.replay_run.ensures.accepted)
+    (none_listed (Replaying c.args.queue) (entries_item c.args.id c.args.run.items) refl) refl (λ e f. replay_fault c.args.queue c.args.id (finite.get c.args.self.now c.args.id) c.args.run.items c.args.stats.now e f)

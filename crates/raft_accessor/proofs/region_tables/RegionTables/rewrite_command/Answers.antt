@@ -1,0 +1,15 @@
+use Rattle.std.proofs.Common.{refl, inr}
+use Rattle.std.specs.FinMap as finite
+use Rattle.raft_base.specs.declared.pipe_log.LogQueue.TheVariants.{Rewrite}
+use Rattle.raft_records.specs.declared.command.Command.TheVariants as commands
+use Rattle.raft_records.specs.Item.{command, command_item}
+use Rattle.raft_table.specs.Counts.{live}
+use Rattle.raft_accessor.specs.Writes.{Rewriting}
+use Rattle.raft_accessor.proofs.WriteLemmas.{refused_by, skipped_by, no_outcome}
+use Rattle.raft_accessor.proofs.region_tables.RegionTables.rewrite_command.Goals as goal
+
+pub returns-in-Clean : goal.returns-in-Clean
+returns-in-Clean c = λ gate seq counts list. rw c.in-Clean.is (skipped_by (Rewriting gate seq) (command_item c.args.id commands.Clean) c.args.self.now counts list tt (λ m. m) refl refl)
+
+pub returns-in-Compact : goal.returns-in-Compact
+returns-in-Compact c = λ gate seq counts list. rw c.in-Compact.is (refused_by (Rewriting gate seq) (command_item c.args.id _) c.args.self.now counts list _ (no_outcome (Rewriting gate seq) c.args.id (finite.get c.args.self.now c.args.id) (live Rewrite counts) (command (commands.Compact c.in-Compact.index)) _ c.corruption.ensures (inr refl)))

@@ -1,0 +1,27 @@
+-- One item written to its region's table.
+use Rattle.std.specs.Prelude.{◌≡◌, ℕ, List, ◌++◌, Some, Result, IfErr}
+use Rattle.std.specs.FinMap as finite
+use Rattle.std.specs.Result.{OnOk, OnErr}
+use Rattle.raft_base.specs.declared.errors.Error.{Error}
+use Rattle.raft_records.specs.Item.{Item, Pair, pair}
+use Rattle.raft_table.specs.Counts.{Counts, live}
+use Rattle.raft_table.specs.Table.{IsRecounted}
+use Rattle.raft_history.specs.RegionSteps.{Tables, with_table}
+use Rattle.raft_accessor.specs.Accessor.{table_in}
+use Rattle.raft_accessor.specs.Writes.{Writing, queue_of, after_content, listed_by, IsFor, MixesQueues, IsWriteFault}
+
+-- the change of a key of a region
+abbrev pub pair_change : ℕ → Pair → Item
+pair_change id p = record { raft_group_id = id; content = pair p }
+
+-- an item is written to its region's table
+pub record IsItemWritten (w : Writing) (item : Item) (old : Tables) (counts : Counts) (list : List ℕ) (r : Result Unit Error) (new : Tables) (after : Counts) (listed : List ℕ) : Type 0 where
+  pub asked : OnOk r (IsFor w item.content)
+  pub accepted : OnOk r (MixesQueues w (table_in old item.raft_group_id) item.content → ⊥)
+  pub ok : OnOk r (after_content w item.raft_group_id (finite.get old item.raft_group_id) item.content ≡ Some (finite.get new item.raft_group_id))
+  pub cleaned : OnOk r (listed ≡ list ++ listed_by w item)
+  pub err : OnErr r (new ≡ old)
+  pub cleaned_err : OnErr r (listed ≡ list)
+  pub fault : IfErr r (IsWriteFault w item.raft_group_id (finite.get old item.raft_group_id) (live (queue_of w) counts) item.content)
+  pub one : new ≡ with_table old item.raft_group_id (finite.get new item.raft_group_id)
+  pub recounted : IsRecounted (table_in old item.raft_group_id) (table_in new item.raft_group_id) counts after

@@ -1,0 +1,16 @@
+pub mod Accessor
+pub mod AccessorCalls
+pub mod AccessorCode
+pub mod AccessorView
+pub mod ItemWrites
+pub mod Merges
+pub mod RegionTablesView
+pub mod SharedCalls
+pub mod Slot
+pub mod SlotCode
+pub mod SlotView
+pub mod TableJoins
+pub mod TableOverlays
+pub mod Updates
+pub mod Walks
+pub mod Writes

@@ -1,0 +1,458 @@
+//! The tables of all regions.
+
+ghost use Rattle.std.specs.Prelude.{◌≡◌, ◌≢◌, ◌≤◌, ◌<◌, ◌^◌, ◌+◌, ◌⊎◌, ◌↔◌, List, [], ◌∷◌, ◌++◌, map, replicate, IsPermutation, IsTrue, IsOk, OnOk, OnErr, IfOk, IfErr, IfSome, Some, None, option_map, is_some, if◌then◌else◌};
+ghost use Rattle.std.specs.FinMap as finite;
+ghost use Rattle.std.specs.List.{FoldsTo};
+ghost use Rattle.raft_base.specs.declared.pipe_log.LogQueue.{LogQueue};
+ghost use Rattle.raft_records.specs.Item.{command_item};
+ghost use Rattle.raft_records.specs.LogBatch.{empty_batch};
+ghost use Rattle.raft_records.specs.declared.command.Command.TheVariants.{Clean};
+ghost use Rattle.raft_history.specs.RegionSteps.{with_table};
+ghost use Rattle.raft_table.specs.Change.{after_change, IsAnswer, IsChangeFault};
+ghost use Rattle.raft_table.specs.Table.{Table, with_atomic_group, live_of};
+ghost use Rattle.raft_accessor.specs.Accessor.{slot_of, table_in, live_in_all, AreCountsOf};
+ghost use Rattle.raft_accessor.specs.AccessorCalls.{IsTableChanged, IsTableMade};
+ghost use Rattle.raft_accessor.specs.Merges.{with_newer, with_appended, IsMergedAt, AreTablesMerged, AreTablesLeft, IsNewerFault, IsAppendedFault, IsMergeRefusal};
+ghost use Rattle.raft_accessor.specs.Walks.{Collects, Makes};
+
+mod join;
+mod overlay;
+mod region_steps;
+mod totals;
+mod writes;
+
+use crate::region_tables::RegionTables;
+use raft_records::{Command, LogBatch, hash_u64};
+use raft_table::{Error, FileSeq, GlobalStats, MemTable, Result, TableChange};
+use std::alloc::{AllocError, Global};
+use std::marker::Model;
+
+/// The number of the slot that holds a region's table: the low 7 bits of the number's hash.
+#[tactic(auto, unfolding(crate::specs::Accessor::slot_of))]
+pub fn slot_of(id: u64) -> usize
+    ensures value { result ≡ slot_of id }
+    ensures bound { result < 128 }
+{
+    (hash_u64(id) % 128) as usize
+}
+
+/// The tables of all regions, how many of their records are live, and the regions that were cleaned.
+#[derive(Drop)]
+pub struct MemTableAccessor {
+    slots: [RegionTables; 128],
+    stats: GlobalStats,
+    cleaned: Vec<u64>,
+}
+
+impl Model for MemTableAccessor {
+    ghost use Rattle.raft_accessor.specs.Accessor.{Accessor};
+    ghost use Rattle.raft_accessor.specs.AccessorCode.{accessor_code};
+
+    ghost Value = { Accessor };
+
+    ghost coded = { accessor_code };
+
+    ghost use Rattle.raft_accessor.specs.AccessorView.{accessor_shown, IsAccessorKept};
+
+    ghost view = { accessor_shown };
+
+    ghost invariant = { IsAccessorKept };
+}
+
+impl MemTableAccessor {
+    ghost use Rattle.std.specs.Prelude.{⊤};
+    ghost use Rattle.std.specs.Borrow.{sem};
+    ghost use mathlib.Core.Option.{none};
+    ghost use denote.Follow.{follows_so};
+    ghost use Rattle.raft_accessor.specs.contracts.accessor.MemTableAccessor.{the_row};
+
+    /// No tables. It takes no memory and never fails.
+    pub fn new(alloc: Global) -> Result<MemTableAccessor>
+        ensures ok { IsOk result }
+        ensures tables { IfOk result (λ accessor. accessor.tables ≡ finite.empty) }
+        ensures cleaned { IfOk result (λ accessor. accessor.cleaned ≡ []) }
+        ensures counts { IfOk result (λ accessor. accessor.counts ≡ record { append = 0; written = 0; deleted = 0 }) }
+    {
+        Ok(MemTableAccessor::empty(alloc))
+    }
+
+    /// No tables, without a `Result`.
+    pub fn empty(alloc: Global) -> MemTableAccessor
+        ensures tables { result.tables ≡ finite.empty }
+        ensures cleaned { result.cleaned ≡ [] }
+        ensures counts { result.counts ≡ record { append = 0; written = 0; deleted = 0 } }
+    {
+        MemTableAccessor {
+            slots: empty_slots(alloc),
+            stats: GlobalStats::default(),
+            cleaned: Vec::new(alloc),
+        }
+    }
+
+    /// How many records of all tables are live in each queue.
+    pub fn stats(&self) -> &GlobalStats
+        ensures { result.now ≡ self.now.counts }
+    {
+        &self.stats
+    }
+
+    /// The regions that were cleaned, in order.
+    pub fn cleaned_regions(&self) -> &[u64]
+        ensures { result.now ≡ self.now.cleaned }
+    {
+        self.cleaned.as_slice()
+    }
+
+    /// The live numbers are those of the tables. This is a law: it computes nothing.
+    pub fn counts_are_exact(&self)
+        ensures { AreCountsOf self.now.tables self.now.counts }
+    {
+        let _ = &self.stats;
+    }
+
+    /// The table of a region.
+    pub fn get(&self, id: u64) -> Option<&MemTable>
+        ensures value { option_map (λ t. t.now) result ≡ finite.get self.now.tables id }
+        ensures own { IfSome result (λ t. t.now.region_id ≡ id) }
+    {
+        self.slots[slot_of(id)].get(id)
+    }
+
+    /// The table of a region, an empty one that is made where there is none.
+    ///
+    /// # Errors
+    ///
+    /// `AllocError`. All tables are then as they were.
+    pub fn get_or_insert(&mut self, id: u64) -> std::result::Result<&MemTable, AllocError>
+        ensures* ends { sem 𝓛 (follows_so the_row the_row self.entry.ghost_name none (λ _ _. ⊤)
+            (λ new. IsTableMade id result self.old new)) }
+        ensures table { IfOk result (λ t. t.now ≡ table_in self.old.tables id) }
+    {
+        self.make_table(id)?;
+        Ok(self.made(id))
+    }
+
+    /// Makes an empty table for a region that has none. All tables stay where there is no memory for it.
+    fn make_table(&mut self, id: u64) -> std::result::Result<(), AllocError>
+        ensures { IsTableMade id result self.old self.new }
+    {
+        match self.make(id) {
+            Ok(()) => Ok(()),
+            Err(_) => Err(AllocError),
+        }
+    }
+
+    /// The table of a region that has one.
+    fn made(&self, id: u64) -> &MemTable
+        requires { IsTrue (is_some (finite.get self.now.tables id)) }
+        ensures { result.now ≡ table_in self.now.tables id }
+    {
+        match self.get(id) {
+            Some(table) => table,
+            None => unreachable!(),
+        }
+    }
+
+    /// Makes an empty table for a region that has none.
+    ///
+    /// # Errors
+    ///
+    /// `Memory`. The accessor is then as it was.
+    fn make(&mut self, id: u64) -> Result<()>
+        ensures { IsTableChanged (Some (table_in self.old.tables id)) (λ e. ⊥) id result self.old self.new }
+    {
+        self.slots[slot_of(id)].make(id, &mut self.stats)
+    }
+
+    /// Does what a change says to a region's table, which is made where there is none. The number is
+    /// how many entries a compaction drops, else 0.
+    ///
+    /// # Errors
+    ///
+    /// Those of [`MemTable::change`], and `Memory`. All tables are then as they were.
+    pub fn change(&mut self, id: u64, change: TableChange) -> Result<u64>
+        ensures changed { IsTableChanged (after_change (table_in self.old.tables id) change)
+            (IsChangeFault (table_in self.old.tables id) self.old.counts change) id result self.old self.new }
+        ensures answer { IfOk result (IsAnswer change (table_in self.old.tables id) (table_in self.new.tables id)) }
+    {
+        self.slots[slot_of(id)].change(id, change, &mut self.stats)
+    }
+
+    /// Sets the first and the last file of a region's atomic group; its table is made where there is
+    /// none.
+    ///
+    /// # Errors
+    ///
+    /// `Memory`. All tables are then as they were.
+    pub fn apply_rewrite_atomic_group(
+        &mut self,
+        id: u64,
+        start: FileSeq,
+        end: FileSeq,
+    ) -> Result<()>
+        requires { start ≤ end }
+        ensures { IsTableChanged (Some (with_atomic_group (table_in self.old.tables id) start end))
+            (λ e. ⊥) id result self.old self.new }
+    {
+        self.slots[slot_of(id)].apply_rewrite_atomic_group(id, start, end, &mut self.stats)
+    }
+
+    /// Puts a table under its region's number and counts its records. The table that stood there is
+    /// taken off the counts and handed back.
+    ///
+    /// # Errors
+    ///
+    /// `Full` where more than 2^64 - 1 records would be live in a queue beside the table that is
+    /// replaced, and `Memory`. All tables are then as they were.
+    pub fn insert(&mut self, id: u64, table: MemTable) -> Result<Option<MemTable>>
+        requires { table.region_id ≡ id }
+        ensures ok { OnOk result (self.new.tables ≡ finite.insert self.old.tables id table) }
+        ensures replaced { IfOk result (λ t. t ≡ finite.get self.old.tables id) }
+        ensures err { OnErr result (self.new.tables ≡ self.old.tables) }
+        ensures fault { IfErr result (λ e. (e ≡ Error.Memory)
+            ⊎ ((e ≡ Error.Full) × ((q : LogQueue) × (2 ^ 64 ≤ live_in_all q self.old.tables + live_of q table)))) }
+        ensures cleaned { self.new.cleaned ≡ self.old.cleaned }
+    {
+        self.slots[slot_of(id)].insert(id, table, &mut self.stats)
+    }
+
+    /// Takes a region's table away, and lists the region where that is asked for, also where it has
+    /// no table.
+    ///
+    /// # Errors
+    ///
+    /// `Memory`, where the region is to be listed. The accessor is then as it was.
+    pub fn remove(&mut self, id: u64, record_tombstone: bool) -> Result<Option<MemTable>>
+        ensures tables { OnOk result (self.new.tables ≡ finite.remove self.old.tables id) }
+        ensures taken { IfOk result (λ t. t ≡ finite.get self.old.tables id) }
+        ensures cleaned { OnOk result (self.new.cleaned
+            ≡ (if record_tombstone then self.old.cleaned ++ id ∷ [] else self.old.cleaned)) }
+        ensures err { OnErr result (self.new ≡ self.old) }
+        ensures fault { IfErr result (λ e. (e ≡ Error.Memory) × IsTrue record_tombstone) }
+    {
+        if record_tombstone {
+            self.list(id)?;
+        }
+        Ok(self.take(id))
+    }
+
+    /// Merges the tables of a newer neighbor, each into the table of its region, which is made where
+    /// there is none. The list of `rhs` is dropped.
+    ///
+    /// # Errors
+    ///
+    /// Those of [`MemTable::merge_newer_neighbor`] at one table. Other tables are then merged or as they
+    /// were, and so is that one but for want of memory; the rest of `rhs` is lost.
+    pub fn merge_newer_neighbor(&mut self, rhs: MemTableAccessor) -> Result<()>
+        ensures ok { OnOk result (AreTablesMerged with_newer self.old.tables rhs.tables self.new.tables) }
+        ensures fault { IfErr result (IsMergeRefusal (IsNewerFault self.new.counts) self.old.tables rhs.tables) }
+        ensures err { IfErr result
+            (λ e. e ≢ Error.Memory → AreTablesLeft with_newer self.old.tables rhs.tables self.new.tables) }
+        ensures cleaned { self.new.cleaned ≡ self.old.cleaned }
+    {
+        for slot in rhs.slots {
+            self.merge_newer_tables(slot)?;
+        }
+        Ok(())
+    }
+
+    /// Merges appended tables, each into the rewritten table of its region, which is made where there
+    /// is none. The list of `rhs` is dropped.
+    ///
+    /// # Errors
+    ///
+    /// Those of [`MemTable::merge_append_table`] at one table. Other tables are then merged or as they
+    /// were, and so is that one but for want of memory; the rest of `rhs` is lost.
+    pub fn merge_append_table(&mut self, rhs: MemTableAccessor) -> Result<()>
+        ensures ok { OnOk result (AreTablesMerged with_appended self.old.tables rhs.tables self.new.tables) }
+        ensures fault { IfErr result (IsMergeRefusal (IsAppendedFault self.new.counts) self.old.tables rhs.tables) }
+        ensures err { IfErr result
+            (λ e. e ≢ Error.Memory → AreTablesLeft with_appended self.old.tables rhs.tables self.new.tables) }
+        ensures cleaned { self.new.cleaned ≡ self.old.cleaned }
+    {
+        for slot in rhs.slots {
+            self.merge_append_tables(slot)?;
+        }
+        Ok(())
+    }
+
+    /// Hands out the cleaned regions as a batch with a `Clean` for each, in order. The list is then
+    /// empty.
+    ///
+    /// # Errors
+    ///
+    /// `Memory`. The accessor is then as it was.
+    pub fn take_cleaned_region_logs(&mut self) -> Result<LogBatch>
+        ensures logs { IfOk result (λ logs. logs
+            ≡ record empty_batch { items = map (λ id. command_item id Clean) self.old.cleaned }) }
+        ensures ok { OnOk result (self.new ≡ record self.old { cleaned = [] }) }
+        ensures err { OnErr result (self.new ≡ self.old) }
+        ensures memory { IfErr result (λ e. e ≡ Error.Memory) }
+    {
+        let logs = clean_logs(*self.cleaned.allocator(), &self.cleaned)?;
+        self.cleaned.clear();
+        Ok(logs)
+    }
+
+    /// Whether there are no tables.
+    pub fn is_empty(&self) -> bool
+        ensures { IsTrue result ↔ (self.now.tables ≡ finite.empty) }
+    {
+        for slot in &self.slots {
+            if !slot.is_empty() {
+                return false;
+            }
+        }
+        true
+    }
+
+    /// What `f` makes of `init` and each table, in open order: it is called at each table once.
+    pub fn fold<B: Drop, F: FnMut(B, &MemTable) -> B>(&self, init: B, mut f: F) -> B
+    where
+        F: Drop,
+        requires { (state : F) (x : _) (t : _) → F.pre state x t }
+        ensures { (ts : List Table) × (last : F) × IsPermutation ts (finite.values self.now.tables)
+            × FoldsTo (Makes F.FnMut) (f, init) ts (last, result) }
+    {
+        let mut answer = init;
+        for slot in &self.slots {
+            answer = slot.fold(answer, &mut f);
+        }
+        answer
+    }
+
+    /// All tables, in open order.
+    ///
+    /// # Errors
+    ///
+    /// `Memory`.
+    pub fn tables(&self) -> Result<Vec<&MemTable>>
+        ensures tables { IfOk result
+            (λ tables. IsPermutation (map (λ t. t.now) tables.items) (finite.values self.now.tables)) }
+        ensures memory { IfErr result (λ e. e ≡ Error.Memory) }
+    {
+        let mut tables = Vec::new(*self.cleaned.allocator());
+        for slot in &self.slots {
+            slot.push_tables(&mut tables)?;
+        }
+        Ok(tables)
+    }
+
+    /// The tables for which `f` answers true; it is called at each table once, in open order.
+    ///
+    /// # Errors
+    ///
+    /// `Memory`.
+    pub fn collect<F: FnMut(&MemTable) -> bool>(&self, mut f: F) -> Result<Vec<&MemTable>>
+        requires { F.IsAlwaysCallable f }
+        ensures ok { IfOk result (λ kept. (ts : List Table) × (last : F)
+            × IsPermutation ts (finite.values self.now.tables)
+            × FoldsTo (Collects F.FnMut) (f, []) ts (last, map (λ t. t.now) kept.items)) }
+        ensures memory { IfErr result (λ e. e ≡ Error.Memory) }
+    {
+        let mut kept = Vec::new(*self.cleaned.allocator());
+        for table in self.tables()? {
+            if f(table) {
+                kept.push(table)?;
+            }
+        }
+        Ok(kept)
+    }
+
+    /// Lists a region as cleaned.
+    fn list(&mut self, id: u64) -> Result<()>
+        ensures ok { OnOk result (self.new ≡ record self.old { cleaned = self.old.cleaned ++ id ∷ [] }) }
+        ensures err { OnErr result (self.new ≡ self.old) }
+        ensures memory { IfErr result (λ e. e ≡ Error.Memory) }
+    {
+        self.cleaned.push(id)?;
+        Ok(())
+    }
+
+    /// Takes a region's table away, and its records off the counts.
+    pub fn take(&mut self, id: u64) -> Option<MemTable>
+        ensures tables { self.new.tables ≡ finite.remove self.old.tables id }
+        ensures taken { result ≡ finite.get self.old.tables id }
+        ensures own { IfSome result (λ t. t.region_id ≡ id) }
+        ensures cleaned { self.new.cleaned ≡ self.old.cleaned }
+    {
+        self.slots[slot_of(id)].remove(id, &mut self.stats)
+    }
+
+    /// Merges the newer neighbors of one slot.
+    fn merge_newer_tables(&mut self, newer: RegionTables) -> Result<()>
+        ensures ok { OnOk result (AreTablesMerged with_newer self.old.tables newer self.new.tables) }
+        ensures fault { IfErr result (IsMergeRefusal (IsNewerFault self.new.counts) self.old.tables newer) }
+        ensures err { IfErr result
+            (λ e. e ≢ Error.Memory → AreTablesLeft with_newer self.old.tables newer self.new.tables) }
+        ensures cleaned { self.new.cleaned ≡ self.old.cleaned }
+    {
+        for (id, table) in newer.into_entries() {
+            self.merge_newer_table(id, table)?;
+        }
+        Ok(())
+    }
+
+    /// Merges the appended tables of one slot.
+    fn merge_append_tables(&mut self, newer: RegionTables) -> Result<()>
+        ensures ok { OnOk result (AreTablesMerged with_appended self.old.tables newer self.new.tables) }
+        ensures fault { IfErr result (IsMergeRefusal (IsAppendedFault self.new.counts) self.old.tables newer) }
+        ensures err { IfErr result
+            (λ e. e ≢ Error.Memory → AreTablesLeft with_appended self.old.tables newer self.new.tables) }
+        ensures cleaned { self.new.cleaned ≡ self.old.cleaned }
+    {
+        for (id, table) in newer.into_entries() {
+            self.merge_appended(id, table)?;
+        }
+        Ok(())
+    }
+
+    /// Merges a newer neighbor into the table of its region.
+    fn merge_newer_table(&mut self, id: u64, newer: MemTable) -> Result<()>
+        requires { newer.region_id ≡ id }
+        ensures ok { OnOk result
+            (IsMergedAt with_newer id (finite.get self.old.tables id) (Some newer) (finite.get self.new.tables id)) }
+        ensures fault { IfErr result (IsNewerFault self.new.counts (table_in self.old.tables id) newer) }
+        ensures err { IfErr result (λ e. e ≢ Error.Memory → table_in self.new.tables id ≡ table_in self.old.tables id) }
+        ensures others { self.new.tables ≡ with_table self.old.tables id (finite.get self.new.tables id) }
+        ensures cleaned { self.new.cleaned ≡ self.old.cleaned }
+    {
+        self.slots[slot_of(id)].merge_newer_neighbor(id, newer, &mut self.stats)
+    }
+
+    /// Merges an appended table into the table of its region.
+    fn merge_appended(&mut self, id: u64, newer: MemTable) -> Result<()>
+        requires { newer.region_id ≡ id }
+        ensures ok { OnOk result
+            (IsMergedAt with_appended id (finite.get self.old.tables id) (Some newer) (finite.get self.new.tables id)) }
+        ensures fault { IfErr result (IsAppendedFault self.new.counts (table_in self.old.tables id) newer) }
+        ensures err { IfErr result (λ e. e ≢ Error.Memory → table_in self.new.tables id ≡ table_in self.old.tables id) }
+        ensures others { self.new.tables ≡ with_table self.old.tables id (finite.get self.new.tables id) }
+        ensures cleaned { self.new.cleaned ≡ self.old.cleaned }
+    {
+        self.slots[slot_of(id)].merge_append_table(id, newer, &mut self.stats)
+    }
+}
+
+/// A batch with a `Clean` for each region, in order.
+pub(crate) fn clean_logs(alloc: Global, ids: &[u64]) -> Result<LogBatch>
+    ensures ok { IfOk result (λ logs. logs ≡ record empty_batch { items = map (λ id. command_item id Clean) ids.now }) }
+    ensures memory { IfErr result (λ e. e ≡ Error.Memory) }
+{
+    let mut logs = LogBatch::with_capacity(alloc, ids.len())?;
+    for id in ids {
+        logs.add_command(*id, Command::Clean)?;
+    }
+    Ok(logs)
+}
+
+/// Slots without tables.
+fn empty_slots(alloc: Global) -> [RegionTables; 128]
+    ensures { result ≡ replicate 128 finite.empty }
+{
+    std::array::from_fn(
+        |_: usize| -> RegionTables
+            ensures { result ≡ finite.empty }
+        { RegionTables::new(alloc) },
+    )
+}

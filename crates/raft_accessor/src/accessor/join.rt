@@ -1,0 +1,72 @@
+//! Tables of all regions joined with those of newer neighbors, each under its mark.
+
+ghost use Rattle.std.specs.Prelude.{◌≡◌, ◌<◌, ◌++◌, IfErr, IfSome, OnOk};
+ghost use Rattle.raft_base.specs.declared.pipe_log.LogQueue.TheVariants.{Append, Rewrite};
+ghost use Rattle.raft_table.specs.Queues.{other};
+ghost use Rattle.raft_accessor.specs.Accessor.{live_in, live_in_all, AreCountsOf};
+ghost use Rattle.raft_accessor.specs.TableJoins.{IsMixFault, IsTableJoined};
+
+use crate::accessor::{MemTableAccessor, slot_of};
+use raft_table::{Error, LogQueue, Mark, MemTable, Result};
+
+impl MemTableAccessor {
+    /// Puts a newer neighbor's table of a region, or its absence, over the older one, as the newer mark
+    /// says. The answer is where the older entries end that the mark's first run comes behind.
+    ///
+    /// # Errors
+    ///
+    /// Those of [`MemTable::merge_under`].
+    pub fn join_table(
+        &mut self,
+        queue: LogQueue,
+        id: u64,
+        newer: Option<MemTable>,
+        mark: &Mark,
+    ) -> Result<u64>
+        requires region { IfSome newer (λ t. t.region_id ≡ id) }
+        requires own { live_in (other queue) newer ≡ 0 }
+        requires older { queue ≡ Rewrite → live_in_all Append self.old.tables ≡ 0 }
+        ensures joined { IsTableJoined queue mark.now newer self.old.tables id self.old.counts
+            result self.new.tables self.new.counts }
+        ensures counted { AreCountsOf self.old.tables self.old.counts }
+        ensures cleaned { self.new.cleaned ≡ self.old.cleaned }
+    {
+        self.slots[slot_of(id)].join_table(queue, id, newer, mark, &mut self.stats)
+    }
+
+    /// Refuses tables that have records of the other queue.
+    ///
+    /// # Errors
+    ///
+    /// `InvalidArgument`, and `Memory` for its text.
+    pub fn check_alone(&self, queue: LogQueue) -> Result<()>
+        ensures ok { OnOk result (live_in_all (other queue) self.now.tables ≡ 0) }
+        ensures fault { IfErr result (IsMixFault queue self.now.tables) }
+    {
+        let other = match queue {
+            LogQueue::Append => LogQueue::Rewrite,
+            LogQueue::Rewrite => LogQueue::Append,
+        };
+        if self.stats.live_entries(other) > 0 {
+            return Err(Error::InvalidArgument(String::from_str(
+                *self.cleaned.allocator(),
+                "the tables have records of the other queue",
+            )?));
+        }
+        Ok(())
+    }
+
+    /// Lists the cleaned regions of another accessor behind the own ones.
+    ///
+    /// # Errors
+    ///
+    /// `Memory`. The lists are then as they were.
+    pub fn append_cleaned(&mut self, rhs: &mut MemTableAccessor) -> Result<()>
+        ensures ok { OnOk result (self.new.cleaned ≡ self.old.cleaned ++ rhs.old.cleaned) }
+        ensures tables { self.new.tables ≡ self.old.tables }
+        ensures memory { IfErr result (λ e. e ≡ Error.Memory) }
+    {
+        self.cleaned.append(&mut rhs.cleaned)?;
+        Ok(())
+    }
+}

@@ -1,0 +1,102 @@
+//! Steps on one region's table, which is made where there is none; runs and files were tested before.
+
+ghost use Rattle.std.specs.Prelude.{◌≡◌, ◌⊎◌, ℕ, List, IfOk, Some};
+ghost use Rattle.raft_table.specs.TableEntries.{IsRunIn, end_of};
+ghost use Rattle.raft_table.specs.KeyValues.{file_at};
+ghost use Rattle.raft_table.specs.Table.{after_replay, compacted, with_pair, without_key, IsTablePutFault, IsCounted};
+ghost use Rattle.raft_accessor.specs.Accessor.{table_in, AreCountsOf};
+ghost use Rattle.raft_accessor.specs.AccessorCalls.{IsTableChanged};
+ghost use Rattle.raft_accessor.specs.Updates.{IsTaken, IsReplayFault};
+
+use crate::accessor::{MemTableAccessor, slot_of};
+use crate::item_writes::replay_into;
+use crate::region_tables::RegionTables;
+use raft_table::{EntryIndex, FileId, GlobalStats, LogQueue, MemTable, Result};
+
+impl MemTableAccessor {
+    /// Puts a run that is read again, and answers where the entries of its table ended before.
+    ///
+    /// # Errors
+    ///
+    /// `Corruption` where the start rule refuses the run, `InvalidArgument` where the table has records of
+    /// the other queue, `Full` where more than 2^64 - 1 records would be live, `Memory`. All tables are then
+    /// as they were.
+    pub fn replay_run(&mut self, queue: LogQueue, id: u64, run: Vec<EntryIndex>) -> Result<u64>
+        requires { IsRunIn queue run.items }
+        ensures changed { IsTableChanged (after_replay queue (table_in self.old.tables id) run.items)
+            (IsReplayFault queue run.items (table_in self.old.tables id) self.old.counts)
+            id result self.old self.new }
+        ensures end { IfOk result (λ end. end ≡ end_of (table_in self.old.tables id).entries) }
+        ensures counted { AreCountsOf self.old.tables self.old.counts }
+    {
+        self.slots[slot_of(id)].replay_run_behind(queue, id, run, &mut self.stats)
+    }
+
+    /// Drops the entries below an index.
+    ///
+    /// # Errors
+    ///
+    /// `Memory`. All tables are then as they were.
+    pub fn compact(&mut self, id: u64, index: u64) -> Result<()>
+        ensures { IsTableChanged (Some (compacted index (table_in self.old.tables id)))
+            (λ e. ⊥) id result self.old self.new }
+    {
+        self.slots[slot_of(id)].compact(id, index, &mut self.stats)
+    }
+
+    /// Puts a key.
+    ///
+    /// # Errors
+    ///
+    /// `Full` where more than 2^64 - 1 records would be live in the file's queue, `Memory`. All tables are
+    /// then as they were.
+    pub fn put(&mut self, id: u64, key: Vec<u8>, value: Vec<u8>, file: FileId) -> Result<()>
+        ensures changed { IsTableChanged (Some (with_pair (table_in self.old.tables id) key.items value.items file))
+            (IsTablePutFault file.queue self.old.counts (file_at (table_in self.old.tables id).keys key.items))
+            id result self.old self.new }
+        ensures counted { AreCountsOf self.old.tables self.old.counts }
+    {
+        self.slots[slot_of(id)].put(id, key, value, file, &mut self.stats)
+    }
+
+    /// Deletes a key.
+    ///
+    /// # Errors
+    ///
+    /// `Memory`. All tables are then as they were.
+    pub fn delete(&mut self, id: u64, key: &[u8]) -> Result<()>
+        ensures { IsTableChanged (Some (without_key (table_in self.old.tables id) key.now))
+            (λ e. ⊥) id result self.old self.new }
+    {
+        self.slots[slot_of(id)].delete(id, key, &mut self.stats)
+    }
+}
+
+impl RegionTables {
+    /// Puts a run that is read again, and answers where the entries of its table ended before.
+    fn replay_run_behind(
+        &mut self,
+        queue: LogQueue,
+        id: u64,
+        run: Vec<EntryIndex>,
+        stats: &mut GlobalStats,
+    ) -> Result<u64>
+        requires run { IsRunIn queue run.items }
+        requires counted { IsCounted (table_in self.old id) stats.old }
+        ensures taken { IsTaken (after_replay queue (table_in self.old id) run.items)
+            (IsReplayFault queue run.items (table_in self.old id) stats.old)
+            self.old id stats.old result self.new stats.new }
+        ensures end { IfOk result (λ end. end ≡ end_of (table_in self.old id).entries) }
+    {
+        let alloc = self.allocator();
+        self.update(
+            id,
+            stats,
+            move |table: &mut MemTable, stats: &mut GlobalStats| {
+                let end = table.end();
+                replay_into(alloc, queue, table, run, stats)?;
+                Ok(end)
+            },
+        )
+    }
+}

@@ -1,0 +1,131 @@
+//! Items written to the tables of their regions.
+
+ghost use Rattle.std.specs.Prelude.{List, map, OnOk, IfErr};
+ghost use Rattle.std.specs.Iterator.{Drains, Yields, IsFinite};
+ghost use Rattle.raft_base.specs.declared.pipe_log.LogQueue.{LogQueue};
+ghost use Rattle.raft_base.specs.declared.pipe_log.LogQueue.TheVariants.{Append, Rewrite};
+ghost use Rattle.raft_records.specs.declared.log_item.LogItem.{LogItem};
+ghost use Rattle.raft_records.specs.Item.{item_of};
+ghost use Rattle.raft_accessor.specs.AccessorCalls.{IsWritten};
+ghost use Rattle.raft_accessor.specs.Writes.{Appending, Replaying, Rewriting, AreWritten, AreItemsRefused};
+
+use crate::accessor::{MemTableAccessor, slot_of};
+use raft_records::LogItem;
+use raft_table::{FileSeq, LogQueue, Result};
+
+impl MemTableAccessor {
+    /// Writes new items of the append queue to the tables, in order.
+    ///
+    /// # Errors
+    ///
+    /// Those of the first item that is refused. The items in front of it are written, and nothing else.
+    pub fn apply_append_writes<I: IntoIterator<Item = LogItem>>(&mut self, items: I) -> Result<()>
+        requires { (it : I.IntoIter) → I.into_iter_gives items it
+            → I.IntoIter.can_next it × IsFinite (I.IntoIter.remaining it) }
+        ensures ok { OnOk result ((it : I.IntoIter) × (xs : List LogItem) × I.into_iter_gives items it
+            × Drains I.IntoIter.next_gives it xs
+            × AreWritten Appending (map item_of xs) self.old self.new) }
+        ensures refused { IfErr result (λ e. (it : I.IntoIter) × (xs : List LogItem) × (u : I.IntoIter)
+            × I.into_iter_gives items it × Yields I.IntoIter.next_gives it xs u
+            × AreItemsRefused Appending (map item_of xs) self.old self.new e) }
+    {
+        for item in items {
+            self.append_item(item)?;
+        }
+        Ok(())
+    }
+
+    /// Writes items of the append queue that are read again to the tables, in order.
+    ///
+    /// # Errors
+    ///
+    /// Those of the first item that is refused. The items in front of it are written, and nothing else.
+    pub fn replay_append_writes<I: IntoIterator<Item = LogItem>>(&mut self, items: I) -> Result<()>
+        requires { (it : I.IntoIter) → I.into_iter_gives items it
+            → I.IntoIter.can_next it × IsFinite (I.IntoIter.remaining it) }
+        ensures ok { OnOk result ((it : I.IntoIter) × (xs : List LogItem) × I.into_iter_gives items it
+            × Drains I.IntoIter.next_gives it xs
+            × AreWritten (Replaying Append) (map item_of xs) self.old self.new) }
+        ensures refused { IfErr result (λ e. (it : I.IntoIter) × (xs : List LogItem) × (u : I.IntoIter)
+            × I.into_iter_gives items it × Yields I.IntoIter.next_gives it xs u
+            × AreItemsRefused (Replaying Append) (map item_of xs) self.old self.new e) }
+    {
+        for item in items {
+            self.replay_item(LogQueue::Append, item)?;
+        }
+        Ok(())
+    }
+
+    /// Writes items of the rewrite queue that are read again to the tables, in order.
+    ///
+    /// # Errors
+    ///
+    /// Those of the first item that is refused. The items in front of it are written, and nothing else.
+    pub fn replay_rewrite_writes<I: IntoIterator<Item = LogItem>>(&mut self, items: I) -> Result<()>
+        requires { (it : I.IntoIter) → I.into_iter_gives items it
+            → I.IntoIter.can_next it × IsFinite (I.IntoIter.remaining it) }
+        ensures ok { OnOk result ((it : I.IntoIter) × (xs : List LogItem) × I.into_iter_gives items it
+            × Drains I.IntoIter.next_gives it xs
+            × AreWritten (Replaying Rewrite) (map item_of xs) self.old self.new) }
+        ensures refused { IfErr result (λ e. (it : I.IntoIter) × (xs : List LogItem) × (u : I.IntoIter)
+            × I.into_iter_gives items it × Yields I.IntoIter.next_gives it xs u
+            × AreItemsRefused (Replaying Rewrite) (map item_of xs) self.old self.new e) }
+    {
+        for item in items {
+            self.replay_item(LogQueue::Rewrite, item)?;
+        }
+        Ok(())
+    }
+
+    /// Writes items that were rewritten to the file `new_file` of the rewrite queue to the tables, in
+    /// order: with a gate the places that move are those in append files at or below it, without one
+    /// those that are rewritten already.
+    ///
+    /// # Errors
+    ///
+    /// Those of the first item that is refused. The items in front of it are written, and nothing else.
+    pub fn apply_rewrite_writes<I: IntoIterator<Item = LogItem>>(
+        &mut self,
+        items: I,
+        gate: Option<FileSeq>,
+        new_file: FileSeq,
+    ) -> Result<()>
+        requires { (it : I.IntoIter) → I.into_iter_gives items it
+            → I.IntoIter.can_next it × IsFinite (I.IntoIter.remaining it) }
+        ensures ok { OnOk result ((it : I.IntoIter) × (xs : List LogItem) × I.into_iter_gives items it
+            × Drains I.IntoIter.next_gives it xs
+            × AreWritten (Rewriting gate new_file) (map item_of xs) self.old self.new) }
+        ensures refused { IfErr result (λ e. (it : I.IntoIter) × (xs : List LogItem) × (u : I.IntoIter)
+            × I.into_iter_gives items it × Yields I.IntoIter.next_gives it xs u
+            × AreItemsRefused (Rewriting gate new_file) (map item_of xs) self.old self.new e) }
+    {
+        for item in items {
+            self.rewrite_item(item, gate, new_file)?;
+        }
+        Ok(())
+    }
+
+    /// Writes a new item of the append queue.
+    fn append_item(&mut self, item: LogItem) -> Result<()>
+        ensures { IsWritten Appending (item_of item) result self.old self.new }
+    {
+        let id = item.raft_group_id;
+        self.slots[slot_of(id)].append_item(item, &mut self.stats, &mut self.cleaned)
+    }
+
+    /// Writes an item that is read again.
+    fn replay_item(&mut self, queue: LogQueue, item: LogItem) -> Result<()>
+        ensures { IsWritten (Replaying queue) (item_of item) result self.old self.new }
+    {
+        let id = item.raft_group_id;
+        self.slots[slot_of(id)].replay_item(queue, item, &mut self.stats, &mut self.cleaned)
+    }
+
+    /// Writes a rewritten item.
+    fn rewrite_item(&mut self, item: LogItem, gate: Option<FileSeq>, seq: FileSeq) -> Result<()>
+        ensures { IsWritten (Rewriting gate seq) (item_of item) result self.old self.new }
+    {
+        let id = item.raft_group_id;
+        self.slots[slot_of(id)].rewrite_item(item, gate, seq, &mut self.stats)
+    }
+}

@@ -1,0 +1,382 @@
+//! The tables of some regions.
+
+ghost use Rattle.std.specs.Prelude.{◌≡◌, ◌≢◌, ◌≤◌, ◌<◌, ◌^◌, ◌+◌, ◌↔◌, ◌⊎◌, ℕ, nat_eq, List, ◌++◌, map, IsPermutation, IsTrue, OnOk, OnErr, IfOk, IfErr, IfSome, Some, None, option_map};
+ghost use Rattle.std.specs.FinMap as finite;
+ghost use Rattle.std.specs.List.{IsDistinct, FoldsTo};
+ghost use Rattle.std.specs.Map.{keys_of, lookup};
+ghost use Rattle.raft_base.specs.declared.pipe_log.LogQueue.{LogQueue};
+ghost use Rattle.raft_history.specs.RegionSteps.{Tables, with_table};
+ghost use Rattle.raft_table.specs.Change.{after_change, IsAnswer, IsChangeFault};
+ghost use Rattle.raft_table.specs.Counts.{live};
+ghost use Rattle.raft_table.specs.Steps.{table_of};
+ghost use Rattle.raft_table.specs.Table.{Table, empty_table, live_of, with_atomic_group, IsCounted, IsRecounted};
+ghost use Rattle.raft_accessor.specs.Accessor.{table_in};
+ghost use Rattle.raft_accessor.specs.Merges.{with_newer, with_appended, IsNewerFault, IsAppendedFault, MayAlter, IsAltered, IsTableMerged};
+ghost use Rattle.raft_accessor.specs.Updates.{MayChange, IsUpdated, IsTaken};
+ghost use Rattle.raft_accessor.specs.Walks.{KeepsId, Makes};
+
+mod join;
+mod overlay;
+
+use raft_table::{Error, FileSeq, GlobalStats, MemTable, Result, TableChange};
+use std::alloc::Global;
+use std::collections::HashMap;
+use std::collections::hash_map::IntoIter;
+use std::marker::Model;
+
+/// The tables of some regions, each under its region's id.
+#[derive(Drop)]
+pub struct RegionTables {
+    tables: HashMap<u64, MemTable>,
+    alloc: Global,
+}
+
+impl Model for RegionTables {
+    ghost use Rattle.std.specs.FinMap as finite;
+    ghost use Rattle.std.specs.Coded.{coded_ℕ};
+    ghost use Rattle.raft_table.specs.TableCode.{table_code};
+    ghost use Rattle.raft_history.specs.RegionSteps.{Tables};
+
+    ghost Value = { Tables };
+
+    ghost coded = { finite.code coded_ℕ table_code };
+
+    ghost use Rattle.raft_accessor.specs.RegionTablesView.{tables_shown, AreTablesKept};
+
+    ghost view = { tables_shown };
+
+    ghost invariant = { AreTablesKept };
+}
+
+impl RegionTables {
+    /// No tables.
+    pub fn new(alloc: Global) -> RegionTables
+        ensures { result ≡ finite.empty }
+    {
+        RegionTables {
+            tables: HashMap::new(alloc),
+            alloc,
+        }
+    }
+
+    /// The allocator that the tables were made with.
+    pub(crate) fn allocator(&self) -> Global {
+        self.alloc
+    }
+
+    /// Whether there are no tables.
+    pub fn is_empty(&self) -> bool
+        ensures { IsTrue result ↔ (self.now ≡ finite.empty) }
+    {
+        self.tables.is_empty()
+    }
+
+    /// The table of a region.
+    pub fn get(&self, id: u64) -> Option<&MemTable>
+        ensures value { option_map (λ t. t.now) result ≡ finite.get self.now id }
+        ensures own { IfSome result (λ t. t.now.region_id ≡ id) }
+    {
+        self.tables.get(&id)
+    }
+
+    /// Pushes all tables, in open order.
+    pub(crate) fn push_tables<'a>(&'a self, tables: &mut Vec<&'a MemTable>) -> Result<()>
+        ensures ok { OnOk result ((ts : List Table) × IsPermutation ts (finite.values self.now)
+            × (map (λ t. t.now) tables.new.items ≡ map (λ t. t.now) tables.old.items ++ ts)) }
+        ensures memory { IfErr result (λ e. e ≡ Error.Memory) }
+    {
+        for table in self.tables.values() {
+            tables.push(table)?;
+        }
+        Ok(())
+    }
+
+    /// What `f` makes of `init` and each table, in open order.
+    pub(crate) fn fold<B: Drop, F: FnMut(B, &MemTable) -> B>(&self, init: B, f: &mut F) -> B
+        requires { (state : F) (x : _) (t : _) → F.pre state x t }
+        ensures { (ts : List Table) × IsPermutation ts (finite.values self.now)
+            × FoldsTo (Makes F.FnMut) (f.old, init) ts (f.new, result) }
+    {
+        let mut answer = init;
+        for table in self.tables.values() {
+            answer = f(answer, table);
+        }
+        answer
+    }
+
+    /// Pushes the ids of the tables at which `wanted` answers true, in open order.
+    pub(crate) fn push_ids<F: FnMut(&MemTable) -> bool>(
+        &self,
+        wanted: &mut F,
+        ids: &mut Vec<u64>,
+    ) -> Result<()>
+        requires { (state : F) (x : _) → F.pre state x }
+        ensures ok { OnOk result ((ts : List Table) × IsPermutation ts (finite.values self.now)
+            × FoldsTo (KeepsId F.FnMut) (wanted.old, ids.old.items) ts (wanted.new, ids.new.items)) }
+        ensures memory { IfErr result (λ e. e ≡ Error.Memory) }
+    {
+        for table in self.tables.values() {
+            if wanted(table) {
+                ids.push(table.region_id())?;
+            }
+        }
+        Ok(())
+    }
+
+    /// Each table stands under its own region's id. This is a law: it computes nothing.
+    pub fn tables_are_own(&self)
+        ensures { (id : ℕ) (t : Table) → finite.get self.now id ≡ Some t → t.region_id ≡ id }
+    {
+        let _ = &self.tables;
+    }
+
+    /// Makes an empty table for a region that has none.
+    ///
+    /// # Errors
+    ///
+    /// `Memory`. The tables are then as they were.
+    pub fn make(&mut self, id: u64, stats: &mut GlobalStats) -> Result<()>
+        requires { IsCounted (table_in self.old id) stats.old }
+        ensures { IsTaken (Some (table_in self.old id)) (λ e. ⊥) self.old id stats.old result self.new stats.new }
+    {
+        self.update(id, stats, |_: &mut MemTable, _: &mut GlobalStats| Ok(()))
+    }
+
+    /// Does what a change says to a region's table, which is made where there is none. The number is
+    /// how many entries a compaction drops, else 0.
+    ///
+    /// # Errors
+    ///
+    /// Those of [`MemTable::change`]. The tables are then as they were.
+    pub fn change(&mut self, id: u64, change: TableChange, stats: &mut GlobalStats) -> Result<u64>
+        requires { IsCounted (table_in self.old id) stats.old }
+        ensures taken { IsTaken (after_change (table_in self.old id) change)
+            (IsChangeFault (table_in self.old id) stats.old change) self.old id stats.old result self.new stats.new }
+        ensures answer { IfOk result (IsAnswer change (table_in self.old id) (table_in self.new id)) }
+    {
+        self.update(
+            id,
+            stats,
+            move |table: &mut MemTable, stats: &mut GlobalStats| table.change(change, stats),
+        )
+    }
+
+    /// Sets the files of a region's atomic group; its table is made where there is none.
+    ///
+    /// # Errors
+    ///
+    /// `Memory`. The tables are then as they were.
+    pub fn apply_rewrite_atomic_group(
+        &mut self,
+        id: u64,
+        start: FileSeq,
+        end: FileSeq,
+        stats: &mut GlobalStats,
+    ) -> Result<()>
+        requires files { start ≤ end }
+        requires counted { IsCounted (table_in self.old id) stats.old }
+        ensures { IsTaken (Some (with_atomic_group (table_in self.old id) start end)) (λ e. ⊥)
+            self.old id stats.old result self.new stats.new }
+    {
+        self.update(
+            id,
+            stats,
+            move |table: &mut MemTable, _: &mut GlobalStats| {
+                table.apply_rewrite_atomic_group(start, end);
+                Ok(())
+            },
+        )
+    }
+
+    /// Puts a table under its region's number and counts its records. The table that stood there is
+    /// taken off the counts and handed back.
+    ///
+    /// # Errors
+    ///
+    /// `Full` where more than 2^64 - 1 records would be live in a queue beside the table that is
+    /// replaced, and `Memory`. The tables and the counts are then as they were.
+    pub fn insert(
+        &mut self,
+        id: u64,
+        table: MemTable,
+        stats: &mut GlobalStats,
+    ) -> Result<Option<MemTable>>
+        requires region { table.region_id ≡ id }
+        requires counted { IsCounted (table_in self.old id) stats.old }
+        ensures ok { OnOk result (self.new ≡ finite.insert self.old id table) }
+        ensures replaced { IfOk result (λ t. t ≡ finite.get self.old id) }
+        ensures err { OnErr result (self.new ≡ self.old) }
+        ensures fault { IfErr result (λ e. (e ≡ Error.Memory)
+            ⊎ ((e ≡ Error.Full) × ((q : LogQueue) × (2 ^ 64 ≤ live q stats.old + live_of q table)))) }
+        ensures one { self.new ≡ with_table self.old id (finite.get self.new id) }
+        ensures recounted { IsRecounted (table_in self.old id) (table_in self.new id) stats.old stats.new }
+    {
+        self.tables.reserve(1)?;
+        stats.add_table(&table)?;
+        match self.tables.insert(id, table) {
+            Ok(replaced) => {
+                delete_replaced(id, &replaced, stats);
+                Ok(replaced)
+            }
+            Err(_) => unreachable!(),
+        }
+    }
+
+    /// Takes a region's table away, and its records off the counts.
+    pub fn remove(&mut self, id: u64, stats: &mut GlobalStats) -> Option<MemTable>
+        requires { IsCounted (table_in self.old id) stats.old }
+        ensures taken { result ≡ finite.get self.old id }
+        ensures own { IfSome result (λ t. t.region_id ≡ id) }
+        ensures after { self.new ≡ finite.remove self.old id }
+        ensures recounted { IsRecounted (table_in self.old id) (empty_table id) stats.old stats.new }
+    {
+        let removed = self.tables.remove(&id);
+        delete_replaced(id, &removed, stats);
+        removed
+    }
+
+    /// The tables, each with its region, in open order.
+    pub(crate) fn into_entries(self) -> IntoIter<u64, MemTable>
+        ensures entries { finite.from_entries result ≡ self }
+        ensures once { IsDistinct nat_eq (keys_of result) }
+        ensures own { (id : ℕ) (t : Table) → lookup (nat_eq id) result ≡ Some t → t.region_id ≡ id }
+    {
+        self.tables.into_iter()
+    }
+
+    /// Merges a newer neighbor into the table of its region, which is made where there is none.
+    ///
+    /// # Errors
+    ///
+    /// Those of [`MemTable::merge_newer_neighbor`]. The counts then agree with the tables.
+    pub(crate) fn merge_newer_neighbor(
+        &mut self,
+        id: u64,
+        newer: MemTable,
+        stats: &mut GlobalStats,
+    ) -> Result<()>
+        requires region { newer.region_id ≡ id }
+        requires counted { IsCounted (table_in self.old id) stats.old }
+        ensures { IsTableMerged (with_newer (table_in self.old id) newer)
+            (IsNewerFault stats.new (table_in self.old id) newer) self.old id stats.old result self.new stats.new }
+    {
+        self.alter(
+            id,
+            stats,
+            move |table: &mut MemTable, stats: &mut GlobalStats| merge_newer(table, newer, stats),
+        )
+    }
+
+    /// Merges an appended table into the table of its region, which is made where there is none.
+    ///
+    /// # Errors
+    ///
+    /// Those of [`MemTable::merge_append_table`]. The counts then agree with the tables.
+    pub(crate) fn merge_append_table(
+        &mut self,
+        id: u64,
+        newer: MemTable,
+        stats: &mut GlobalStats,
+    ) -> Result<()>
+        requires region { newer.region_id ≡ id }
+        requires counted { IsCounted (table_in self.old id) stats.old }
+        ensures { IsTableMerged (with_appended (table_in self.old id) newer)
+            (IsAppendedFault stats.new (table_in self.old id) newer) self.old id stats.old result self.new stats.new }
+    {
+        self.alter(
+            id,
+            stats,
+            move |table: &mut MemTable, stats: &mut GlobalStats| merge_append(table, newer, stats),
+        )
+    }
+
+    /// Changes a region's table, which is made where there is none, and keeps what a refused change
+    /// leaves. It is looked up once.
+    #[inline(always)]
+    fn alter<R: Drop, F: FnOnce(&mut MemTable, &mut GlobalStats) -> Result<R>>(
+        &mut self,
+        id: u64,
+        stats: &mut GlobalStats,
+        change: F,
+    ) -> Result<R>
+    where
+        F: Drop,
+        requires counted { IsCounted (table_in self.old id) stats.old }
+        requires may { (table_in self.old id).region_id ≡ id
+            → MayAlter F.FnOnce change (table_in self.old id) stats.old }
+        ensures { IsAltered F.FnOnce change self.old id stats.old result self.new stats.new }
+    {
+        if let Some(table) = self.tables.get_mut(&id) {
+            return change(table, stats);
+        }
+        self.tables.reserve(1)?;
+        let mut table = MemTable::new(self.alloc, id);
+        let answer = change(&mut table, stats);
+        match self.tables.insert(id, table) {
+            Ok(_) => answer,
+            Err(_) => unreachable!(),
+        }
+    }
+
+    /// Changes a region's table, which is made where there is none. It is looked up once.
+    #[inline(always)]
+    pub(crate) fn update<R: Drop, F: FnOnce(&mut MemTable, &mut GlobalStats) -> Result<R>>(
+        &mut self,
+        id: u64,
+        stats: &mut GlobalStats,
+        change: F,
+    ) -> Result<R>
+    where
+        F: Drop,
+        requires counted { IsCounted (table_in self.old id) stats.old }
+        requires may { MayChange F.FnOnce change (table_in self.old id) stats.old }
+        ensures { IsUpdated F.FnOnce change self.old id stats.old result self.new stats.new }
+    {
+        if let Some(table) = self.tables.get_mut(&id) {
+            return change(table, stats);
+        }
+        self.tables.reserve(1)?;
+        let mut table = MemTable::new(self.alloc, id);
+        let answer = change(&mut table, stats)?;
+        match self.tables.insert(id, table) {
+            Ok(_) => Ok(answer),
+            Err(_) => unreachable!(),
+        }
+    }
+}
+
+/// Merges a newer neighbor into a table.
+fn merge_newer(table: &mut MemTable, mut newer: MemTable, stats: &mut GlobalStats) -> Result<()>
+    requires region { table.old.region_id ≡ newer.region_id }
+    requires counted { IsCounted table.old stats.old }
+    ensures ok { OnOk result (with_newer table.old newer ≡ Some table.new) }
+    ensures fault { IfErr result (IsNewerFault stats.new table.old newer) }
+    ensures err { IfErr result (λ e. e ≢ Error.Memory → table.new ≡ table.old) }
+    ensures region { table.new.region_id ≡ table.old.region_id }
+    ensures recounted { IsRecounted table.old table.new stats.old stats.new }
+{
+    table.merge_newer_neighbor(&mut newer, stats)
+}
+
+/// Merges an appended table into a table.
+fn merge_append(table: &mut MemTable, mut newer: MemTable, stats: &mut GlobalStats) -> Result<()>
+    requires region { table.old.region_id ≡ newer.region_id }
+    requires counted { IsCounted table.old stats.old }
+    ensures ok { OnOk result (with_appended table.old newer ≡ Some table.new) }
+    ensures fault { IfErr result (IsAppendedFault stats.new table.old newer) }
+    ensures err { IfErr result (λ e. e ≢ Error.Memory → table.new ≡ table.old) }
+    ensures region { table.new.region_id ≡ table.old.region_id }
+    ensures recounted { IsRecounted table.old table.new stats.old stats.new }
+{
+    table.merge_append_table(&mut newer, stats)
+}
+
+/// Takes the records of a table that may have stood there off the counts.
+fn delete_replaced(id: u64, table: &Option<MemTable>, stats: &mut GlobalStats)
+    requires { (q : LogQueue) → live_of q (table_of id table.now) ≤ live q stats.old }
+    ensures { (q : LogQueue) → live q stats.new + live_of q (table_of id table.now) ≡ live q stats.old }
+{
+    if let Some(table) = table {
+        stats.delete_table(table);
+    }
+}

@@ -1,0 +1,120 @@
+//! Tables of some regions joined with those of newer neighbors, each under its mark.
+
+ghost use Rattle.std.specs.Prelude.{◌≡◌, ◌+◌, ◌≤◌, IfOk, IfErr, IfSome, OnOk, Some};
+ghost use Rattle.std.specs.FinMap as finite;
+ghost use Rattle.raft_base.specs.declared.pipe_log.LogQueue.{LogQueue};
+ghost use Rattle.raft_base.specs.declared.pipe_log.LogQueue.TheVariants.{Append, Rewrite};
+ghost use Rattle.raft_table.specs.MarkJoins.{end_at_reach};
+ghost use Rattle.raft_table.specs.MarkMerge.{IsFaultUnder, IsRunOver};
+ghost use Rattle.raft_table.specs.Marks.{table_over};
+ghost use Rattle.raft_table.specs.Queues.{other};
+ghost use Rattle.raft_table.specs.Table.{live_of, IsCounted, IsRecounted};
+ghost use Rattle.raft_accessor.specs.Accessor.{table_in, live_in};
+ghost use Rattle.raft_accessor.specs.TableJoins.{IsPut, IsTableJoined};
+
+use crate::region_tables::RegionTables;
+use raft_table::{GlobalStats, LogQueue, Mark, MemTable, Result};
+
+impl RegionTables {
+    /// Puts a newer neighbor's table of a region, or its absence, over the older one, as the newer mark
+    /// says. The answer is where the older entries end that the mark's first run comes behind.
+    ///
+    /// # Errors
+    ///
+    /// Those of [`MemTable::merge_under`]. The counts then agree with the tables.
+    pub(crate) fn join_table(
+        &mut self,
+        queue: LogQueue,
+        id: u64,
+        newer: Option<MemTable>,
+        mark: &Mark,
+        stats: &mut GlobalStats,
+    ) -> Result<u64>
+        requires region { IfSome newer (λ t. t.region_id ≡ id) }
+        requires own { live_in (other queue) newer ≡ 0 }
+        requires older { queue ≡ Rewrite → live_of Append (table_in self.old id) ≡ 0 }
+        requires counted { IsCounted (table_in self.old id) stats.old }
+        ensures { IsTableJoined queue mark.now newer self.old id stats.old result self.new stats.new }
+    {
+        match newer {
+            Some(newer) => self.put_over(queue, id, newer, mark, stats),
+            None => self.drop_under(queue, id, mark, stats),
+        }
+    }
+
+    /// Puts a newer table over that of its region, which is made where there is none.
+    fn put_over(
+        &mut self,
+        queue: LogQueue,
+        id: u64,
+        newer: MemTable,
+        mark: &Mark,
+        stats: &mut GlobalStats,
+    ) -> Result<u64>
+        requires region { newer.region_id ≡ id }
+        requires own { live_of (other queue) newer ≡ 0 }
+        requires older { queue ≡ Rewrite → live_of Append (table_in self.old id) ≡ 0 }
+        requires counted { IsCounted (table_in self.old id) stats.old }
+        ensures { IsTableJoined queue mark.now (Some newer) self.old id stats.old result self.new stats.new }
+    {
+        self.alter(
+            id,
+            stats,
+            move |table: &mut MemTable, stats: &mut GlobalStats| -> Result<u64>
+                requires region { table.old.region_id ≡ newer.region_id }
+                requires own { live_of (other queue) newer ≡ 0 }
+                requires older { queue ≡ Rewrite → live_of Append table.old ≡ 0 }
+                requires counted { IsCounted table.old stats.old }
+                ensures put { IsPut queue mark.entry.now newer stats.old result table.old table.new }
+                ensures region { table.new.region_id ≡ table.old.region_id }
+                ensures recounted { IsRecounted table.old table.new stats.old stats.new }
+            { merge_under(queue, table, newer, mark, stats) },
+        )
+    }
+
+    /// Drops of a region's table what a newer mark drops whose region has no table.
+    fn drop_under(
+        &mut self,
+        queue: LogQueue,
+        id: u64,
+        mark: &Mark,
+        stats: &mut GlobalStats,
+    ) -> Result<u64>
+        requires older { queue ≡ Rewrite → live_of Append (table_in self.old id) ≡ 0 }
+        requires counted { IsCounted (table_in self.old id) stats.old }
+        ensures { IsTableJoined queue mark.now None self.old id stats.old result self.new stats.new }
+    {
+        let Some(table) = self.get(id) else {
+            return Ok(0);
+        };
+        if !mark.is_cleaned() {
+            return self.put_over(queue, id, MemTable::new(self.alloc, id), mark, stats);
+        }
+        table.check_first_run(queue, mark)?;
+        let end = table.end_at_reach(mark);
+        self.remove(id, stats);
+        Ok(end)
+    }
+}
+
+/// Puts a newer table over an older one, and answers where the older entries ended that the mark's first
+/// run came behind.
+fn merge_under(
+    queue: LogQueue,
+    table: &mut MemTable,
+    mut newer: MemTable,
+    mark: &Mark,
+    stats: &mut GlobalStats,
+) -> Result<u64>
+    requires region { table.old.region_id ≡ newer.region_id }
+    requires own { live_of (other queue) newer ≡ 0 }
+    requires older { queue ≡ Rewrite → live_of Append table.old ≡ 0 }
+    requires counted { IsCounted table.old stats.old }
+    ensures put { IsPut queue mark.now newer stats.old result table.old table.new }
+    ensures region { table.new.region_id ≡ table.old.region_id }
+    ensures recounted { IsRecounted table.old table.new stats.old stats.new }
+{
+    let end = table.end_at_reach(mark);
+    table.merge_under(queue, &mut newer, mark, stats)?;
+    Ok(end)
+}

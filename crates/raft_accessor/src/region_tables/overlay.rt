@@ -1,0 +1,95 @@
+//! Tables of some regions under those of the append queue, each under its mark.
+
+ghost use Rattle.std.specs.Prelude.{◌≡◌, IfSome, Some, None};
+ghost use Rattle.raft_base.specs.declared.pipe_log.LogQueue.TheVariants.{Rewrite};
+ghost use Rattle.raft_table.specs.Table.{live_of, IsCounted, IsRecounted};
+ghost use Rattle.raft_accessor.specs.Accessor.{table_in, live_in};
+ghost use Rattle.raft_accessor.specs.TableOverlays.{IsPutOver, IsTableOverlaid};
+
+use crate::region_tables::RegionTables;
+use raft_table::{GlobalStats, Mark, MemTable, Result};
+
+impl RegionTables {
+    /// Puts an appended table of a region, or its absence, over the rewritten one, as the mark of the
+    /// append queue says.
+    ///
+    /// # Errors
+    ///
+    /// Those of [`MemTable::overlay`]. The counts then agree with the tables.
+    pub(crate) fn overlay_table(
+        &mut self,
+        id: u64,
+        appended: Option<MemTable>,
+        mark: &Mark,
+        stats: &mut GlobalStats,
+    ) -> Result<()>
+        requires region { IfSome appended (λ t. t.region_id ≡ id) }
+        requires own { live_in Rewrite appended ≡ 0 }
+        requires counted { IsCounted (table_in self.old id) stats.old }
+        ensures { IsTableOverlaid mark.now appended self.old id stats.old result self.new stats.new }
+    {
+        match appended {
+            Some(appended) => self.put_appended(id, appended, mark, stats),
+            None => self.drop_rewritten(id, mark, stats),
+        }
+    }
+
+    /// Puts an appended table over that of its region, which is made where there is none.
+    fn put_appended(
+        &mut self,
+        id: u64,
+        appended: MemTable,
+        mark: &Mark,
+        stats: &mut GlobalStats,
+    ) -> Result<()>
+        requires region { appended.region_id ≡ id }
+        requires own { live_of Rewrite appended ≡ 0 }
+        requires counted { IsCounted (table_in self.old id) stats.old }
+        ensures { IsTableOverlaid mark.now (Some appended) self.old id stats.old result self.new stats.new }
+    {
+        self.alter(
+            id,
+            stats,
+            move |table: &mut MemTable, stats: &mut GlobalStats| -> Result<()>
+                requires region { table.old.region_id ≡ appended.region_id }
+                requires own { live_of Rewrite appended ≡ 0 }
+                requires counted { IsCounted table.old stats.old }
+                ensures put { IsPutOver mark.entry.now appended stats.old result table.old table.new }
+                ensures region { table.new.region_id ≡ table.old.region_id }
+                ensures recounted { IsRecounted table.old table.new stats.old stats.new }
+            { overlay(table, appended, mark, stats) },
+        )
+    }
+
+    /// Drops of a region's table what the mark of the append queue drops, where that has no table of it.
+    fn drop_rewritten(&mut self, id: u64, mark: &Mark, stats: &mut GlobalStats) -> Result<()>
+        requires counted { IsCounted (table_in self.old id) stats.old }
+        ensures { IsTableOverlaid mark.now None self.old id stats.old result self.new stats.new }
+    {
+        if mark.is_cleaned() {
+            self.remove(id, stats);
+            return Ok(());
+        }
+        if self.get(id).is_none() {
+            return Ok(());
+        }
+        self.put_appended(id, MemTable::new(self.alloc, id), mark, stats)
+    }
+}
+
+/// Puts an appended table over a rewritten one.
+fn overlay(
+    table: &mut MemTable,
+    mut appended: MemTable,
+    mark: &Mark,
+    stats: &mut GlobalStats,
+) -> Result<()>
+    requires region { table.old.region_id ≡ appended.region_id }
+    requires own { live_of Rewrite appended ≡ 0 }
+    requires counted { IsCounted table.old stats.old }
+    ensures put { IsPutOver mark.now appended stats.old result table.old table.new }
+    ensures region { table.new.region_id ≡ table.old.region_id }
+    ensures recounted { IsRecounted table.old table.new stats.old stats.new }
+{
+    table.overlay(&mut appended, mark, stats)
+}

@@ -1,6 +1,0 @@
-use Rattle.std.proofs.Common.{sym, ◌∙◌}
-use Rattle.raft_memtable.proofs.SlotLemmas.{get-shown}
-use Rattle.raft_memtable.proofs.accessor.MemTableAccessor.get.Goals as goal
-
-pub returns-clause-value : goal.returns-clause-value
-returns-clause-value c = c.get.ensures.value ∙ sym (get-shown c.self.inside c.args.self.now c.args.id c.slot_of.result _ c.self.invariant c.self.view_is c.slot_of.ensures.value c.slot_of.ensures.bound)

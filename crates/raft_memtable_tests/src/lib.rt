@@ -4,6 +4,4 @@
 #[cfg(test)]
 mod groups;
 #[cfg(test)]
-mod items;
-#[cfg(test)]
 mod overlays;

@@ -2,14 +2,10 @@
 #![tactic(auto)]
 
 #[cfg(test)]
-mod lines;
+mod files;
 #[cfg(test)]
-mod machines;
+mod lines;
 #[cfg(test)]
 mod recovery;
 #[cfg(test)]
 mod runs;
-#[cfg(test)]
-mod shared_accessor;
-#[cfg(test)]
-mod waits;

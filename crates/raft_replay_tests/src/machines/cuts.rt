@@ -3,8 +3,7 @@
 use super::CLEAN;
 use raft_base::{Error, FileId, LogQueue, Result, Version};
 use raft_records::FilePart;
-use raft_recover::cut_part;
-use raft_recover::cutting::file_segments;
+use raft_replay::cut_part;
 use std::alloc::Global;
 
 /// How many batches of 24 bytes stand in a part, how many bytes that are no header behind them, into how many parts it is
@@ -56,40 +55,5 @@ fn parts_are_cut_between_batches(rt: HostRuntime) {
             cut = is_cut(rt.alloc(), batches, behind, count, lengths);
         }
         assert!(rt; matches!(cut, Ok(true)), "{batches} {behind} {count}");
-    }
-}
-
-/// How many files of four batches each there are, for how many workers, and how many segments that makes.
-const FILES: [(u64, usize, usize); 6] = [
-    (0, 4, 0),
-    (1, 1, 1),
-    (1, 2, 2),
-    (1, 256, 4),
-    (2, 3, 4),
-    (3, 3, 3),
-];
-
-/// Whether so many files are so many segments for these workers.
-fn are_segments(alloc: Global, count: u64, workers: usize, segments: usize) -> Result<bool> {
-    let mut files = Vec::new(alloc);
-    for seq in 0..count {
-        let mut bytes = Vec::new(alloc);
-        for _ in 0..4 {
-            bytes.extend_from_slice(CLEAN.as_slice())?;
-        }
-        files.push((seq, bytes))?;
-    }
-    let made = file_segments(LogQueue::Append, Version::V1, workers, files)?;
-    Ok(made.len() == segments)
-}
-
-#[test]
-fn files_are_cut_where_workers_would_wait(rt: HostRuntime) {
-    for (count, workers, segments) in FILES {
-        let mut made = are_segments(rt.alloc(), count, workers, segments);
-        if matches!(made, Err(Error::Memory)) {
-            made = are_segments(rt.alloc(), count, workers, segments);
-        }
-        assert!(rt; matches!(made, Ok(true)), "{count} {workers}");
     }
 }

@@ -1,6 +1,6 @@
 //! Items written to the tables of several regions, the regions that were cleaned, walks and merges.
 
-use raft_memtable::{
+use raft_accessor::{
     EntryIndex, Error, FileBlockHandle, FileId, LogQueue, MemTable, MemTableAccessor, Result,
     TableChange, slot_of,
 };

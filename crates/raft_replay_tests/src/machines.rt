@@ -7,7 +7,7 @@ use crate::waits::{WaitGate, Waits};
 use lists::{List, Lists};
 use raft_base::{Error, FileId, LogQueue, Result, Version};
 use raft_records::FilePart;
-use raft_recover::{
+use raft_replay::{
     OpenGate, Plan, Segment, Tickets, merge_pieces, piece_count, replay_scheduled, replay_segments,
 };
 use std::alloc::Global;

@@ -1,11 +1,11 @@
 //! Each call leaves in shared tables what the accessor's call of this name leaves in those of an accessor.
 
 use super::run;
-use raft_memtable::{
-    Error, FileId, FileSeq, LogQueue, MemTable, MemTableAccessor, Result, TableChange,
+use raft_accessor::{
+    Error, FileId, FileSeq, LogQueue, MemTable, MemTableAccessor, Result, SharedAccessor,
+    TableChange,
 };
 use raft_records::{Command, LogBatch, LogItem, LogItemContent, OpType};
-use raft_recover::SharedAccessor;
 use std::alloc::Global;
 use std::sync::Wait;
 

@@ -1,9 +1,8 @@
 //! A workers' gate and a machine that wait for one another's threads.
 
 use raft_base::{FileId, LogQueue, Result};
-use raft_memtable::ReplayMachine;
 use raft_records::LogItemBatch;
-use raft_recover::Gate;
+use raft_replay::{Gate, ReplayMachine};
 use std::alloc::Global;
 use std::sync::Arc;
 use std::sync::atomic::{AtomicU64, Ordering};
@@ -11,7 +10,7 @@ use std::thread;
 use std::time::{Clock, Duration};
 
 /// Whether the number is reached within ten thousand sleeps of a millisecond.
-pub(crate) fn is_reached<R: Clock>(rt: &R, number: &AtomicU64, goal: u64) -> bool {
+fn is_reached<R: Clock>(rt: &R, number: &AtomicU64, goal: u64) -> bool {
     for _ in 0..10_000 {
         if number.load(Ordering::SeqCst) >= goal {
             return true;

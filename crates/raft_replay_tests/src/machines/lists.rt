@@ -3,8 +3,8 @@
 ghost use Rattle.std.specs.Prelude.{◌≡◌, map};
 
 use raft_base::{Factory, FileId, LogQueue, Result};
-use raft_memtable::ReplayMachine;
 use raft_records::LogItemBatch;
+use raft_replay::ReplayMachine;
 use std::alloc::Global;
 
 /// A batch, and the file that it was written to.

@@ -2,17 +2,16 @@
 
 mod calls;
 
-use crate::waits::is_reached;
-use raft_memtable::{
-    EntryIndex, Error, FileBlockHandle, FileId, LogQueue, MemTable, Result, TableChange, slot_of,
+use raft_accessor::{
+    EntryIndex, Error, FileBlockHandle, FileId, LogQueue, MemTable, Result, SharedAccessor,
+    TableChange, slot_of,
 };
-use raft_recover::SharedAccessor;
 use std::alloc::Global;
 use std::sync::Wait;
 use std::sync::atomic::{AtomicU64, Ordering};
 use std::thread;
 use std::thread::Threads;
-use std::time::Clock;
+use std::time::{Clock, Duration};
 
 /// A run from `start` to below `end`, each entry a byte of one block of `file`.
 pub(crate) fn run(alloc: Global, start: u64, end: u64, file: FileId) -> Result<Vec<EntryIndex>> {
@@ -73,6 +72,17 @@ fn threads_append_at_once(rt: HostRuntime) {
         all = append_in_threads(&rt, rt.alloc());
     }
     assert!(rt; matches!(all, Ok(true)));
+}
+
+/// Whether the number is reached within ten thousand sleeps of a millisecond.
+fn is_reached<R: Clock>(rt: &R, number: &AtomicU64, goal: u64) -> bool {
+    for _ in 0..10_000 {
+        if number.load(Ordering::SeqCst) >= goal {
+            return true;
+        }
+        thread::sleep(rt, Duration::from_millis(1));
+    }
+    false
 }
 
 /// Raises the own flag, and tells whether the other one is raised in time.

@@ -1,0 +1,7 @@
+//! Tests of `raft_accessor`.
+#![tactic(auto)]
+
+#[cfg(test)]
+mod items;
+#[cfg(test)]
+mod shared_accessor;

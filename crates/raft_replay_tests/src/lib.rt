@@ -1,0 +1,7 @@
+//! Tests of `raft_replay`.
+#![tactic(auto)]
+
+#[cfg(test)]
+mod machines;
+#[cfg(test)]
+mod waits;

@@ -286,7 +286,7 @@ own_span true t = refl
 own_span false None = refl
 own_span false (Some s) = refl
 
-own_alone : (q : LogQueue) (id : ℕ) (m : Mark) (t : Table) → t.region_id ≡ id → table_over q m t (empty_table id) ≡ Some t
+pub own_alone : (q : LogQueue) (id : ℕ) (m : Mark) (t : Table) → t.region_id ≡ id → table_over q m t (empty_table id) ≡ Some t
 own_alone q id m t r = rw (over_nil q m t.entries, own_keys m.cleaned m.deleted t.keys, own_span m.cleaned t.atomic_group, ← r) refl
 
 pub applied_none : (q : LogQueue) (id : ℕ) (m : Mark) (t : Option Table) → (table_of id t).region_id ≡ id → applied q id m t None ≡ Some t

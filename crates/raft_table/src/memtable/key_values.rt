@@ -15,6 +15,7 @@ use scan::{divided, is_forward, sought, visit, visit_back};
 use std::alloc::{AllocError, Global};
 use std::collections::BTreeMap;
 use std::marker::Model;
+use std::mem::swap;
 
 /// A value, and the file that it was written to with its key.
 #[derive(Debug, Drop)]
@@ -239,6 +240,10 @@ impl KeyValues {
         ensures bounded { (queue : LogQueue)
             → pair_count queue self.new ≤ pair_count queue self.old + pair_count queue rhs.old }
     {
+        if self.is_empty() {
+            swap(self, rhs);
+            return Ok(());
+        }
         while let Some((key, pair)) = rhs.take_first() {
             self.insert(key, pair.value, pair.file)?;
         }

@@ -64,6 +64,9 @@ impl MemTable {
         ensures recounted { IsRecounted self.old self.new stats.old stats.new }
         ensures regions { (self.new.region_id ≡ self.old.region_id) × (rhs.new.region_id ≡ rhs.old.region_id) }
     {
+        if self.is_blank() {
+            return self.take_whole(rhs, stats);
+        }
         if !stats.has_room(rhs, LogQueue::Append) || !stats.has_room(rhs, LogQueue::Rewrite) {
             return Err(Error::Full);
         }

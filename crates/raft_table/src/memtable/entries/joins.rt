@@ -1,6 +1,6 @@
 //! Runs that become entries, and entries behind or between others.
 
-ghost use Rattle.std.specs.Prelude.{◌≡◌, ◌≢◌, ◌+◌, ◌≤◌, ◌<◌, ℕ, [], ◌++◌, length, take, drop, slice_index_or, Some, MatchBool, OnOk, OnErr, IfErr, IfOk};
+ghost use Rattle.std.specs.Prelude.{◌≡◌, ◌≢◌, ◌+◌, ◌≤◌, ◌<◌, ℕ, [], ◌++◌, length, take, drop, slice_index_or, Some, MatchBool, OnOk, OnErr, IfOk};
 ghost use Rattle.raft_base.specs.declared.pipe_log.LogQueue.TheVariants.{Rewrite};
 ghost use Rattle.raft_base.specs.declared.entry_index.EntryIndex.{EntryIndex};
 ghost use Rattle.raft_table.specs.Blocks.{spread};
@@ -13,17 +13,16 @@ use crate::memtable::entries::Entries;
 use crate::memtable::entries::lists::{
     cut_at, find, is_same, push_block, put_blocks, spans_behind,
 };
-use raft_base::{EntryIndex, Error, FileBlockHandle, LogQueue, Result};
-use std::alloc::Global;
+use raft_base::{EntryIndex, FileBlockHandle, LogQueue};
+use std::alloc::{AllocError, Global};
 use std::collections::VecDeque;
 use std::mem::swap;
 
 impl Entries {
     /// The entries of a run.
-    pub(super) fn from_run(alloc: Global, run: &[EntryIndex]) -> Result<Entries>
+    pub(super) fn from_run(alloc: Global, run: &[EntryIndex]) -> Result<Entries, AllocError>
         requires { AreTableEntries run.now }
         ensures ok { IfOk result (λ entries. entries ≡ run.now) }
-        ensures memory { IfErr result (λ e. e ≡ Error.Memory) }
     {
         let mut entries = Entries::new(alloc);
         let mut at = 0;
@@ -45,12 +44,11 @@ impl Entries {
         index: u64,
         handle: FileBlockHandle,
         spans: VecDeque<(u32, u32)>,
-    ) -> Result<()>
+    ) -> Result<(), AllocError>
         requires filled { 0 < length spans.items }
         requires table_entries { AreTableEntries (self.old ++ spread index handle spans.items) }
         ensures ok { OnOk result (self.new ≡ self.old ++ spread index handle spans.items) }
         ensures err { OnErr result (self.new ≡ self.old) }
-        ensures memory { IfErr result (λ e. e ≡ Error.Memory) }
     {
         let count = spans.len();
         let rewritten = rewritten_in(handle.id.queue, count);
@@ -67,13 +65,12 @@ impl Entries {
     }
 
     /// Keeps the first `keep` entries, and puts the entries of a run behind them.
-    pub(super) fn lay(&mut self, keep: usize, run: &[EntryIndex]) -> Result<()>
+    pub(super) fn lay(&mut self, keep: usize, run: &[EntryIndex]) -> Result<(), AllocError>
         requires keep { keep ≤ length self.old }
         requires run { 0 < length run.now }
         requires table_entries { AreTableEntries (take keep self.old ++ run.now) }
         ensures ok { OnOk result (self.new ≡ take keep self.old ++ run.now) }
         ensures err { OnErr result (self.new ≡ self.old) }
-        ensures memory { IfErr result (λ e. e ≡ Error.Memory) }
     {
         let alloc = *self.blocks.allocator();
         let first = run[0];
@@ -88,13 +85,12 @@ impl Entries {
     }
 
     /// Keeps the first `keep` entries, and moves a run behind them.
-    pub(super) fn put_run(&mut self, keep: usize, run: &mut Entries) -> Result<()>
+    pub(super) fn put_run(&mut self, keep: usize, run: &mut Entries) -> Result<(), AllocError>
         requires keep { keep ≤ length self.old }
         requires run { 0 < length run.old }
         requires table_entries { AreTableEntries (take keep self.old ++ run.old) }
         ensures ok { OnOk result ((self.new ≡ take keep self.old ++ run.old) × (run.new ≡ [])) }
         ensures err { OnErr result ((self.new ≡ self.old) × (run.new ≡ run.old)) }
-        ensures memory { IfErr result (λ e. e ≡ Error.Memory) }
     {
         if keep == 0 {
             swap(self, run);
@@ -105,13 +101,12 @@ impl Entries {
     }
 
     /// Keeps the first `keep` entries, of which there are some, and moves a run behind them.
-    fn join(&mut self, keep: usize, run: &mut Entries) -> Result<()>
+    fn join(&mut self, keep: usize, run: &mut Entries) -> Result<(), AllocError>
         requires keep { (0 < keep) × (keep ≤ length self.old) }
         requires run { 0 < length run.old }
         requires table_entries { AreTableEntries (take keep self.old ++ run.old) }
         ensures ok { OnOk result ((self.new ≡ take keep self.old ++ run.old) × (run.new ≡ [])) }
         ensures err { OnErr result ((self.new ≡ self.old) × (run.new ≡ run.old)) }
-        ensures memory { IfErr result (λ e. e ≡ Error.Memory) }
     {
         let (whole, last) = find(&self.starts, self.first + (keep - 1) as u64);
         let rest = self.blocks.len();
@@ -131,13 +126,12 @@ impl Entries {
     }
 
     /// Puts a run in place of as many entries behind the first `at`. Others stand behind those.
-    pub(super) fn put_between(&mut self, at: usize, run: Entries) -> Result<()>
+    pub(super) fn put_between(&mut self, at: usize, run: Entries) -> Result<(), AllocError>
         requires run { 0 < length run }
         requires behind { at + length run < length self.old }
         requires table_entries { AreTableEntries (take at self.old ++ run ++ drop (at + length run) self.old) }
         ensures ok { OnOk result (self.new ≡ take at self.old ++ run ++ drop (at + length run) self.old) }
         ensures err { OnErr result (self.new ≡ self.old) }
-        ensures memory { IfErr result (λ e. e ≡ Error.Memory) }
     {
         let kept = self.rewritten.min(at);
         let end = at + run.len;
@@ -212,9 +206,8 @@ fn stands_in(entry: &EntryIndex, handle: &FileBlockHandle) -> bool
 }
 
 /// Where entries stand in their block.
-fn spans_of(alloc: Global, run: &[EntryIndex]) -> Result<VecDeque<(u32, u32)>>
+fn spans_of(alloc: Global, run: &[EntryIndex]) -> Result<VecDeque<(u32, u32)>, AllocError>
     ensures ok { IfOk result (λ spans. spans.items ≡ spans_of run.now) }
-    ensures memory { IfErr result (λ e. e ≡ Error.Memory) }
 {
     let mut spans = Vec::with_capacity(alloc, run.len())?;
     for entry in run {

@@ -1,15 +1,14 @@
 //! Queues of blocks and of their first indexes.
 
-ghost use Rattle.std.specs.Prelude.{◌≡◌, ◌≢◌, ◌+◌, ◌-◌, ◌≤◌, ◌<◌, ℕ, List, [], ◌∷◌, ◌++◌, length, take, drop, slice_index_or, ◌^◌, MatchBool, OnOk, OnErr, IfOk, IfErr};
+ghost use Rattle.std.specs.Prelude.{◌≡◌, ◌≢◌, ◌+◌, ◌-◌, ◌≤◌, ◌<◌, ℕ, List, [], ◌∷◌, ◌++◌, length, take, drop, slice_index_or, ◌^◌, MatchBool, OnOk, OnErr, IfOk};
 ghost use Rattle.std.specs.List.Sorted.{IsNonDecreasingBy};
 ghost use Rattle.std.specs.VecDeque.{deque_len, deque_capacity};
-ghost use Rattle.raft_base.specs.declared.errors.Error.TheVariants.{Memory};
 ghost use Rattle.raft_table.specs.Blocks.{BlockSpans, block_spans, shown};
 ghost use Rattle.raft_table.specs.BlockWords.{count, starts_of, cut_last, joined_blocks, seam, IsIndexOf, IsAt};
 
 use crate::memtable::block::Block;
-use raft_base::{FileBlockHandle, Result};
-use std::alloc::Global;
+use raft_base::FileBlockHandle;
+use std::alloc::{AllocError, Global};
 use std::collections::VecDeque;
 
 /// How many starts are at or below an index.
@@ -77,10 +76,9 @@ pub(super) fn spans_behind(
     alloc: Global,
     spans: &VecDeque<(u32, u32)>,
     part: usize,
-) -> Result<VecDeque<(u32, u32)>>
+) -> Result<VecDeque<(u32, u32)>, AllocError>
     requires { part ≤ length spans.now.items }
     ensures ok { IfOk result (λ behind. behind.items ≡ drop part spans.now.items) }
-    ensures memory { IfErr result (λ e. e ≡ Memory) }
 {
     let mut behind = VecDeque::with_capacity(alloc, spans.len() - part)?;
     for i in part..spans.len() {
@@ -106,7 +104,7 @@ pub(super) fn put_blocks(
     rest: usize,
     more: &mut VecDeque<Block>,
     more_starts: &mut VecDeque<u64>,
-) -> Result<()>
+) -> Result<(), AllocError>
     requires order { place.0 ≤ rest }
     requires within { rest ≤ length blocks.old.items }
     requires part { (d : Block) → 0 < place.0
@@ -123,7 +121,6 @@ pub(super) fn put_blocks(
     ensures err { OnErr result ((shown blocks.new.items ≡ shown blocks.old.items)
         × (starts.new.items ≡ starts.old.items)
         × (shown more.new.items ≡ shown more.old.items) × (more_starts.new.items ≡ more_starts.old.items)) }
-    ensures memory { IfErr result (λ e. e ≡ Memory) }
 {
     blocks.reserve(more.len())?;
     starts.reserve(more_starts.len())?;
@@ -140,7 +137,7 @@ fn meet(
     place: (usize, usize),
     more: &mut VecDeque<Block>,
     more_starts: &mut VecDeque<u64>,
-) -> Result<()>
+) -> Result<(), AllocError>
     requires within { place.0 ≤ length blocks.old.items }
     requires part { (d : Block) → 0 < place.0
         → place.1 ≤ length (slice_index_or blocks.old.items (place.0 - 1) d).spans.items }
@@ -158,7 +155,6 @@ fn meet(
     ensures err { OnErr result ((shown blocks.new.items ≡ shown blocks.old.items)
         × (shown more.new.items ≡ shown more.old.items)
         × (more_starts.new.items ≡ more_starts.old.items)) }
-    ensures memory { IfErr result (λ e. e ≡ Memory) }
 {
     let (kept, part) = place;
     if kept == 0 {
@@ -190,14 +186,13 @@ pub(super) fn push_block(
     starts: &mut VecDeque<u64>,
     index: u64,
     block: Block,
-) -> Result<()>
+) -> Result<(), AllocError>
     ensures blocks { OnOk result (shown blocks.new.items
         ≡ joined_blocks (shown blocks.old.items) (block_spans block ∷ [])) }
     ensures starts { OnOk result (starts.new.items
         ≡ starts.old.items ++ drop (seam (shown blocks.old.items) (block_spans block ∷ [])) (index ∷ [])) }
     ensures err { OnErr result ((shown blocks.new.items ≡ shown blocks.old.items)
         × (starts.new.items ≡ starts.old.items)) }
-    ensures memory { IfErr result (λ e. e ≡ Memory) }
 {
     let mut block = block;
     let len = blocks.len();
@@ -215,12 +210,15 @@ pub(super) fn push_block(
 }
 
 /// Keeps so many entries of a block, and moves more behind them.
-fn lengthen(block: &mut Block, part: usize, more: &mut VecDeque<(u32, u32)>) -> Result<()>
+fn lengthen(
+    block: &mut Block,
+    part: usize,
+    more: &mut VecDeque<(u32, u32)>,
+) -> Result<(), AllocError>
     requires { part ≤ length block.old.spans.items }
     ensures handle { block.new.handle ≡ block.old.handle }
     ensures ok { OnOk result (block.new.spans.items ≡ take part block.old.spans.items ++ more.old.items) }
     ensures err { OnErr result ((block.new.spans.items ≡ block.old.spans.items) × (more.new.items ≡ more.old.items)) }
-    ensures memory { IfErr result (λ e. e ≡ Memory) }
 {
     let len = block.spans.len();
     block.spans.reserve(more.len().saturating_sub(len - part))?;

@@ -13,6 +13,7 @@ ghost use Rattle.raft_base.specs.declared.pipe_log.LogQueue.TheVariants.{Append,
 use crate::global_stats::GlobalStats;
 use crate::memtable::entries::{Entries, Overlap};
 use raft_base::{EntryIndex, Error, FileSeq, LogQueue, Result};
+use std::alloc::AllocError;
 
 impl Entries {
     /// Gives the entries the places of a run of the rewrite queue, from the first shared index on
@@ -119,13 +120,16 @@ impl Entries {
     }
 
     /// Gives the entries behind the first `at` these places.
-    fn set_places(&mut self, at: usize, places: &[EntryIndex]) -> Result<()>
+    fn set_places(
+        &mut self,
+        at: usize,
+        places: &[EntryIndex],
+    ) -> std::result::Result<(), AllocError>
         requires within { at + length places.now ≤ length self.old }
         requires table_entries { AreTableEntries
             (take at self.old ++ places.now ++ drop (at + length places.now) self.old) }
         ensures ok { OnOk result (self.new ≡ take at self.old ++ places.now ++ drop (at + length places.now) self.old) }
         ensures err { OnErr result (self.new ≡ self.old) }
-        ensures memory { IfErr result (λ e. e ≡ Error.Memory) }
     {
         if places.is_empty() {
             return Ok(());

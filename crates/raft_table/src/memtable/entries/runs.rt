@@ -5,7 +5,7 @@ ghost use Rattle.raft_table.specs.Counts.{live, with_added, with_deleted};
 ghost use Rattle.raft_table.specs.Queues.{count_in, of_queue, other};
 ghost use Rattle.raft_table.specs.TableEntries.{AreTableEntries, IsRunIn, placed_in, entry_count, AreCounted, AreRecounted};
 ghost use Rattle.raft_table.specs.Start.{appended, replayed, counts_with_run, counts_without, IsTableRunFault};
-ghost use Rattle.raft_table.specs.StartOf.{IsStart};
+ghost use Rattle.raft_table.specs.StartOf.{IsStart, IsKeptUnder, IsStartFault};
 ghost use Rattle.raft_base.specs.declared.pipe_log.LogQueue.{LogQueue};
 ghost use Rattle.raft_base.specs.declared.pipe_log.LogQueue.TheVariants.{Append, Rewrite};
 
@@ -126,16 +126,8 @@ impl Entries {
         let Some(first) = run.first() else {
             return Ok(());
         };
-        match self.start(first.index) {
-            Start::Joins(keep) => self.put_run_behind(keep, run, queue, stats),
-            Start::InFront => self.put_run_behind(0, run, queue, stats),
-            Start::BehindHole => match queue {
-                LogQueue::Append => {
-                    Err(self.corruption("a run leaves a hole behind the last entry")?)
-                }
-                LogQueue::Rewrite => self.put_run_behind(0, run, queue, stats),
-            },
-        }
+        let keep = self.kept_under(queue, first.index)?;
+        self.put_run_behind(keep, run, queue, stats)
     }
 
     /// Moves a run of `queue` behind the entries below its start, by the start rule of the replays
@@ -160,14 +152,29 @@ impl Entries {
         let Some(first) = run.first_index() else {
             return Ok(());
         };
-        match self.start(first) {
-            Start::Joins(keep) => self.put_behind(keep, run, queue, stats),
-            Start::InFront => self.put_behind(0, run, queue, stats),
+        let keep = self.kept_under(rule, first)?;
+        self.put_behind(keep, run, queue, stats)
+    }
+
+    /// How many entries, from the first on, stay under a run from `index` on that is read again, by
+    /// the start rule of the replays into `rule`.
+    ///
+    /// # Errors
+    ///
+    /// `Corruption` where that rule refuses the run.
+    fn kept_under(&self, rule: LogQueue, index: u64) -> Result<usize>
+        ensures ok { IfOk result (IsKeptUnder rule self.now index) }
+        ensures fault { IfErr result (λ e. IsStart self.now index Start.BehindHole × (rule ≡ Append) × IsStartFault e) }
+        ensures table_entries { AreTableEntries self.now }
+    {
+        match self.start(index) {
+            Start::Joins(keep) => Ok(keep),
+            Start::InFront => Ok(0),
             Start::BehindHole => match rule {
                 LogQueue::Append => {
                     Err(self.corruption("a run leaves a hole behind the last entry")?)
                 }
-                LogQueue::Rewrite => self.put_behind(0, run, queue, stats),
+                LogQueue::Rewrite => Ok(0),
             },
         }
     }
@@ -192,10 +199,8 @@ impl Entries {
         ensures recounted { AreRecounted self.old self.new stats.old stats.new }
         ensures fault { IfErr result (IsTableRunFault queue stats.old self.old (Some (take keep self.old ++ run.old))) }
     {
-        let dropped = self.len - keep;
-        let rewritten = self.rewritten - self.rewritten.min(keep);
-        let appended = dropped - rewritten;
-        let added = run.len;
+        let (rewritten, appended) = self.count_behind(keep);
+        let added = run.len();
         if !has_room(stats, rewritten, appended, queue, added) {
             return Err(Error::Full);
         }
@@ -224,9 +229,7 @@ impl Entries {
         ensures recounted { AreRecounted self.old self.new stats.old stats.new }
         ensures fault { IfErr result (IsTableRunFault queue stats.old self.old (Some (take keep self.old ++ run.now))) }
     {
-        let dropped = self.len - keep;
-        let rewritten = self.rewritten - self.rewritten.min(keep);
-        let appended = dropped - rewritten;
+        let (rewritten, appended) = self.count_behind(keep);
         let added = run.len();
         if !has_room(stats, rewritten, appended, queue, added) {
             return Err(Error::Full);
@@ -234,6 +237,17 @@ impl Entries {
         self.lay(keep, run)?;
         exchange(stats, rewritten, appended, queue, added);
         Ok(())
+    }
+
+    /// How many of the entries behind the first `keep` are rewritten, and how many are not.
+    fn count_behind(&self, keep: usize) -> (usize, usize)
+        requires { keep ≤ length self.now }
+        ensures rewritten { result.0 ≡ entry_count Rewrite (drop keep self.now) }
+        ensures appended { result.1 ≡ entry_count Append (drop keep self.now) }
+        ensures table_entries { AreTableEntries self.now }
+    {
+        let rewritten = self.rewritten - self.rewritten.min(keep);
+        (rewritten, self.len - keep - rewritten)
     }
 
     /// Where a run that starts at `index` meets the entries.

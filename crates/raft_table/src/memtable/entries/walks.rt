@@ -54,15 +54,17 @@ fn push_part(vec: &mut Vec<EntryIndex>, first: u64, block: &Block, at: usize, co
     ensures len { vec_len vec.new ≡ vec_len vec.old + count }
     ensures capacity { vec_capacity vec.new ≡ vec_capacity vec.old }
 {
-    for i in 0..count {
-        let span = block.spans[at + i];
+    let handle = block.handle;
+    let mut index = first;
+    for span in block.spans.range(at..at + count) {
         vec.push_reserved(EntryIndex {
-            index: first + i as u64,
-            entries: Some(block.handle),
+            index,
+            entries: Some(handle),
             compression_type: CompressionType::None,
             entry_offset: span.0,
             entry_len: span.1,
         });
+        index += 1;
     }
 }
 

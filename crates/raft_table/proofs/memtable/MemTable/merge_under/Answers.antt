@@ -10,7 +10,38 @@ use Rattle.raft_table.proofs.PlaceLemmas.{each_queue}
 use Rattle.raft_table.proofs.MarkEntries.{same_some}
 use Rattle.raft_table.proofs.MergeLemmas.{joined_live}
 use Rattle.raft_table.proofs.UnderLemmas.{over_left, join_memory}
+use Rattle.std.specs.declared.result.Result.{Result}
+use Rattle.std.specs.declared.result.Result.TheVariants.{Ok, Err}
+use Rattle.std.specs.Result.{IfErr, OnErr}
+use Rattle.std.proofs.lemmas.Result.{IfErr-weaker}
+use Rattle.raft_table.specs.Marks.{table_over}
+use Rattle.raft_table.specs.MarkMerge.{IsFaultUnder}
+use Rattle.raft_table.proofs.GoneLemmas.{on_ok}
+use Rattle.raft_table.proofs.MarkTables.{own_alone}
 use Rattle.raft_table.proofs.memtable.MemTable.merge_under.Goals as goal
+
+pub returns-then-is_blank-clause-ok : goal.returns-then-is_blank-clause-ok
+returns-then-is_blank-clause-ok c = λ run.
+    on_ok c.take_whole.result
+    (λ w.
+    ap (table_over c.args.queue c.args.mark.now c.args.rhs.now) c.if-is_blank.ensures
+    ∙ own_alone c.args.queue c.args.self.now.region_id c.args.mark.now c.args.rhs.now (sym c.requires.region)
+    ∙ ap (λ (t : Table). Some t) (sym w))
+    c.take_whole.ensures.ok
+
+pub returns-then-is_blank-clause-fault : goal.returns-then-is_blank-clause-fault
+returns-then-is_blank-clause-fault c = λ run. IfErr-weaker c.take_whole.result _ _ (λ e w. rw w.0 w.1) c.take_whole.ensures.fault
+
+-- what stays after every error
+stays : {T E : Type 0} (A : Type 0) (P : E → Type 0) (r : Result T E) → OnErr r A → IfErr r (λ e. P e → A)
+stays A P (Ok x) h = h
+stays A P (Err e) h = λ _. h
+
+pub returns-then-is_blank-clause-err : goal.returns-then-is_blank-clause-err
+returns-then-is_blank-clause-err c = λ run. stays _ _ c.take_whole.result c.take_whole.ensures.err
+
+pub returns-then-is_blank-clause-few : goal.returns-then-is_blank-clause-few
+returns-then-is_blank-clause-few c = on_ok c.take_whole.result (λ w q. omega (arith, ap (live_of q) w)) c.take_whole.ensures.ok
 
 pub returns-in_err-join-clause-fault : goal.returns-in_err-join-clause-fault
 returns-in_err-join-clause-fault c = λ run.

@@ -1,4 +1,6 @@
-use Rattle.std.proofs.Common.{sym, ◌∙◌}
+use Rattle.std.proofs.Common.{arith, sym, ap, ◌∙◌}
+use Rattle.raft_table.specs.KeyValues.{pairs_over, pair_count}
+use Rattle.raft_table.proofs.UnderLemmas.{whole_keys}
 use Rattle.raft_table.proofs.KeyValueReads.{pairs_over-empty, len-first}
 use Rattle.raft_table.proofs.memtable.key_values.KeyValues.absorb.Goals as goal
 
@@ -7,3 +9,9 @@ loop-key-smaller c = len-first c.loop-key.rhs c.take_first.new.self _ c.in-Some.
 
 pub returns-clause-ok : goal.returns-clause-ok
 returns-clause-ok c = sym (pairs_over-empty c.loop-key.rhs c.loop-key.self c.in_default.ensures.none) ∙ c.loop-key.invariant.0
+
+pub returns-then-is_empty-clause-ok : goal.returns-then-is_empty-clause-ok
+returns-then-is_empty-clause-ok c = c.swap.ensures.x_after ∙ sym (ap (pairs_over c.args.rhs.now) (c.is_empty.ensures.0 c.if-is_empty.true) ∙ whole_keys c.args.rhs.now)
+
+pub returns-then-is_empty-clause-bounded : goal.returns-then-is_empty-clause-bounded
+returns-then-is_empty-clause-bounded c = λ q. omega (arith, ap (pair_count q) c.swap.ensures.x_after)

@@ -1,0 +1,31 @@
+use Rattle.std.proofs.Common.{arith}
+use Rattle.raft_table.specs.Blocks.{shown, expanded}
+use Rattle.raft_table.proofs.BlockCuts.{kept_facts}
+use Rattle.raft_table.proofs.SoundLemmas.{cut_counts}
+use Rattle.raft_table.proofs.memtable.entries.Entries.count_behind.Goals as goal
+
+pub overflow_sub-result : goal.overflow_sub-result
+overflow_sub-result c = let l = (kept_facts c.self.invariant).length in let h = rw (← c.self.view_is) at c.requires in omega arith
+
+pub overflow_sub-result-2 : goal.overflow_sub-result-2
+overflow_sub-result-2 c =
+    let l = (kept_facts c.self.invariant).length in
+    let b = (kept_facts c.self.invariant).both in
+    let h = rw (← c.self.view_is) at c.requires in
+    omega arith
+
+pub returns-clause-rewritten : goal.returns-clause-rewritten
+returns-clause-rewritten c =
+    let l = (kept_facts c.self.invariant).length in
+    let h = rw (← c.self.view_is) at c.requires in
+    let k = cut_counts c.args.keep (expanded c.self.inside.first (shown c.self.inside.blocks.items)) c.self.invariant.table_entries h in
+    let r = c.self.invariant.rewritten in
+    rw (← c.self.view_is) (omega (arith, k.rewritten, k.rewritten_behind))
+
+pub returns-clause-appended : goal.returns-clause-appended
+returns-clause-appended c =
+    let l = (kept_facts c.self.invariant).length in
+    let h = rw (← c.self.view_is) at c.requires in
+    let k = cut_counts c.args.keep (expanded c.self.inside.first (shown c.self.inside.blocks.items)) c.self.invariant.table_entries h in
+    let r = c.self.invariant.rewritten in
+    rw (← c.self.view_is) (omega (arith, k.rewritten, k.both, k.rewritten_behind, k.appended_behind, k.all))

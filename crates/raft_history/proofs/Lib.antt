@@ -2,7 +2,9 @@ pub mod AgreeLaws
 pub mod ContextLaws
 pub mod CutLemmas
 pub mod DifferLemmas
+pub mod EffectFileLemmas
 pub mod EffectLemmas
+pub mod FileOrderLemmas
 pub mod FoldLaws
 pub mod IncompleteLemmas
 pub mod JoinLemmas

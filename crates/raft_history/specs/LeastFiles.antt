@@ -1,20 +1,28 @@
--- What the least file of a table is at or below.
-use Rattle.std.specs.Prelude.{ℕ, ◌≤◌, Option, Some, None, IfSome}
+-- The files of all records of a table, and that its least files are the least of them.
+use Rattle.std.specs.Prelude.{◌≡◌, ℕ, ◌≤◌, List, ◌++◌, filter_map, Option, Some, None}
 use Rattle.std.specs.List.{AllByRecursion}
 use Rattle.raft_base.specs.declared.pipe_log.LogQueue.{LogQueue}
-use Rattle.raft_base.specs.declared.entry_index.EntryIndex.{EntryIndex}
+use Rattle.raft_base.specs.declared.pipe_log.LogQueue.TheVariants.{Append, Rewrite}
 use Rattle.raft_table.specs.Fetches.{block_seq}
-use Rattle.raft_table.specs.KeyValues.{files_in}
-use Rattle.raft_table.specs.Least.{least_of}
+use Rattle.raft_table.specs.KeyValues.{least, files_in}
+use Rattle.raft_table.specs.Least.{lowered, least_of}
 use Rattle.raft_table.specs.Table.{Table}
 use Rattle.raft_table.specs.TableEntries.{placed_in}
+
+-- the numbers of the files of a table's entries and pairs in a queue
+abbrev pub record_files : LogQueue → Table → List ℕ
+record_files queue t = filter_map (λ e. block_seq e.entries) (placed_in queue t.entries) ++ files_in queue t.keys
+
+-- the least file in each queue is the least of all records' files there, lowered by the atomic group alone
+pub record AreLeastFiles (t : Table) : Type 0 where
+  pub append : least_of Append t ≡ least (record_files Append t)
+  pub rewrite : least_of Rewrite t ≡ lowered t.atomic_group (least (record_files Rewrite t))
 
 -- a least number, if there is one, is at or below this one
 abbrev pub IsAtOrBelow : Option ℕ → ℕ → Type 0
 IsAtOrBelow None n = ⊥
 IsAtOrBelow (Some least) n = least ≤ n
 
--- no entry of a queue and no pair of it is in a file below the table's least one
-pub record IsLeastFile (queue : LogQueue) (t : Table) : Type 0 where
-  pub entries : AllByRecursion (λ (e : EntryIndex). IfSome (block_seq e.entries) (IsAtOrBelow (least_of queue t))) (placed_in queue t.entries)
-  pub pairs : AllByRecursion (IsAtOrBelow (least_of queue t)) (files_in queue t.keys)
+-- none of a table's records in a queue is in a file below its least one there
+abbrev pub HasNoneBelow : LogQueue → Table → Type 0
+HasNoneBelow queue t = AllByRecursion (IsAtOrBelow (least_of queue t)) (record_files queue t)

@@ -12,7 +12,7 @@ ghost use Rattle.raft_table.specs.LastWord.{last_entry, last_pair};
 ghost use Rattle.raft_table.specs.Steps.{after, table_of};
 ghost use Rattle.raft_history.specs.RegionSteps.{RegionStep, Tables, steps_on, steps_of_items, reading};
 ghost use Rattle.raft_history.specs.Batches.{Event};
-ghost use Rattle.raft_history.specs.LeastFiles.{IsLeastFile};
+ghost use Rattle.raft_history.specs.LeastFiles.{AreLeastFiles, HasNoneBelow};
 ghost use Rattle.raft_history.specs.Histories.{IsSmall, Sound, IsSoundIn, Apart, AreInFile, IsOfQueue, IsOneReading};
 
 /// What holds of two histories, one behind the other, holds of each: so it holds of every stretch of
@@ -57,11 +57,16 @@ pub fn last_words_stand()
         ≡ last_pair key (flat_map (λ e. steps_on r (steps_of_items e.items)) h) }
 {}
 
-/// The least file of a region's table, in one reading of a sound history of the append queue, is that of
-/// all its records there: none of them is in a file below it.
+/// The least files of a region's table, in one reading of a sound history whose effects are apart, are
+/// those of all its records, lowered in the rewrite queue by its atomic group alone: no record is in a
+/// file below the least one of its queue.
 pub fn least_files_are_least()
-    ensures { (h : List Event) (tables : Tables) (cleaned : List ℕ) → IsSoundIn Append h
-        → IsOneReading Append h tables cleaned → (r : ℕ) → IsLeastFile Append (table_of r (finite.get tables r)) }
+    ensures equal { (queue : LogQueue) (h : List Event) (tables : Tables) (cleaned : List ℕ) → IsSoundIn queue h
+        → Apart h → IsOneReading queue h tables cleaned
+        → (r : ℕ) → AreLeastFiles (table_of r (finite.get tables r)) }
+    ensures lowest { (queue : LogQueue) (h : List Event) (tables : Tables) (cleaned : List ℕ) → IsSoundIn queue h
+        → Apart h → IsOneReading queue h tables cleaned
+        → (r : ℕ) (q : LogQueue) → HasNoneBelow q (table_of r (finite.get tables r)) }
 {}
 
 /// What `next_batch` answers is as histories ask it of a batch of that file, so a test of it refuses

@@ -1,5 +1,5 @@
 -- What was read of the append queue, taken in over what was read of the rewrite queue, and what both queues give.
-use Rattle.std.proofs.Common.{◌≡◌, ◌+◌, ℕ, List, [], ◌∷◌, length, refl, sym, ap, subst, ◌∙◌, arith}
+use Rattle.std.proofs.Common.{◌≡◌, ◌+◌, ℕ, List, [], ◌∷◌, length, refl, sym, ap, subst, ◌∙◌, inl, inr, arith}
 use Rattle.std.specs.Prelude.{flat_map}
 use Rattle.std.specs.Ordering.{nat_cmp}
 use Rattle.std.specs.FinMap as finite
@@ -24,16 +24,26 @@ use Rattle.raft_history.proofs.TotalLemmas.{total-none}
 use Rattle.raft_table.specs.Marks.{Mark}
 use Rattle.raft_memtable.specs.KeptShown.{kept_shown}
 use Rattle.raft_memtable.specs.declared.kept.Kept.{Kept}
-use Rattle.raft_memtable.specs.OverlaidContext.{AreOfBothQueues, IsOverlaidWith, IsOfBothExactly, IsOverlayRefused}
-use Rattle.raft_memtable.specs.RecoverContext.{RecoverContext, IsReadingExactly}
+use Rattle.raft_memtable.specs.OverlaidContext.{AreOfBothQueues, IsOverlaidWith, IsOfBothExactly, IsMergeAppendFault}
+use Rattle.raft_memtable.specs.RecoverContext.{RecoverContext, reading_on, IsReadingExactly}
+use Rattle.raft_memtable.specs.declared.context_stage.ContextStage.{ContextStage}
 use Rattle.raft_memtable.specs.RegionOverlays.{AreTooMany}
 
 -- ---- why it is refused
 
-pub too_many : (c d : Context) (e : Error) → AreTooMany (all_records c.regions.tables + all_records d.regions.tables) e → IsOverlayRefused c d e
+pub too_many : (c d : Context) (e : Error) → AreTooMany (all_records c.regions.tables + all_records d.regions.tables) e → IsMergeAppendFault (reading_on c) (reading_on d) e
 too_many c d errors.Full h = h
 too_many c d errors.Memory h = tt
 too_many c d _ h = absurd h
+
+-- what was refused of states that read on is why the contexts are refused
+pub append_fault : (s t : ContextStage) (c d : Context) (e : Error) → IsMergeAppendFault (reading_on c) (reading_on d) e → IsMergeAppendFault (record { stage = s; context = c }) (record { stage = t; context = d }) e
+append_fault s t c d (errors.InvalidArgument text) h = h
+append_fault s t c d errors.Full h = h
+append_fault s t c d errors.Failed (inl h) = absurd (h refl)
+append_fault s t c d errors.Failed (inr h) = absurd (h refl)
+append_fault s t c d errors.Memory h = tt
+append_fault s t c d _ h = absurd h
 
 -- ---- what both queues give
 

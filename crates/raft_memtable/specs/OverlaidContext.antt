@@ -38,19 +38,10 @@ pub record IsOfBothExactly (c : RecoverContext) (rewrite append : List Event) : 
   pub no_marks : c.context.regions.marks ≡ finite.empty
   pub no_groups : c.context.groups ≡ finite.empty
 
--- why what was read of the append queue isn't taken in: one of the two is of the other queue, the records would be 2^64 or more, or want of memory
-abbrev pub IsOverlayRefused : Context → Context → Error → Type 0
-IsOverlayRefused rewrite append (errors.InvalidArgument text) = AreOfBothQueues rewrite append → ⊥
-IsOverlayRefused rewrite append errors.Full = 2 ^ 64 ≤ all_records rewrite.regions.tables + all_records append.regions.tables
-IsOverlayRefused rewrite append errors.Memory = Unit {0}
-IsOverlayRefused rewrite append _ = ⊥
-
--- both read on
-pub record ReadOn (rewrite append : RecoverContext) : Type 0 where
-  pub rewrite_stage : rewrite.stage ≡ Reading
-  pub append_stage : append.stage ≡ Reading
-
--- why the call is refused: one of the two doesn't read on, or both do and what was read isn't taken in
+-- why the context of the append queue isn't taken in, by the error: one of the two is of the other queue; the records would be 2^64 or more; one of the two doesn't read on; or want of memory
 abbrev pub IsMergeAppendFault : RecoverContext → RecoverContext → Error → Type 0
+IsMergeAppendFault rewrite append (errors.InvalidArgument text) = AreOfBothQueues rewrite.context append.context → ⊥
+IsMergeAppendFault rewrite append errors.Full = 2 ^ 64 ≤ all_records rewrite.context.regions.tables + all_records append.context.regions.tables
 IsMergeAppendFault rewrite append errors.Failed = (rewrite.stage ≢ Reading) ⊎ (append.stage ≢ Reading)
-IsMergeAppendFault rewrite append e = ReadOn rewrite append × IsOverlayRefused rewrite.context append.context e
+IsMergeAppendFault rewrite append errors.Memory = Unit {0}
+IsMergeAppendFault rewrite append _ = ⊥

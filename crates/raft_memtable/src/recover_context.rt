@@ -107,7 +107,7 @@ impl MemTableRecoverContext {
         ensures fault { IfErr result (IsNeighbourFault queue self.old rhs) }
         ensures err { OnErr result (self.new.stage ≡ refused_stage self.old.stage) }
         ensures unchanged { self.old.stage ≢ Reading → self.new ≡ self.old }
-        ensures failed { self.old.stage ≢ Reading → IfErr result (λ e. e ≡ Error.Failed) }
+        ensures failed { (self.old.stage ≢ Reading) ⊎ (rhs.stage ≢ Reading) → IfErr result (λ e. e ≡ Error.Failed) }
     {
         if self.stage != ContextStage::Reading {
             return Err(Error::Failed);
@@ -150,7 +150,7 @@ impl MemTableRecoverContext {
             → IsReading append appended → IfErr result (λ e. e ≡ Error.Memory) }
         ensures err { OnErr result (self.new.stage ≡ refused_stage self.old.stage) }
         ensures unchanged { self.old.stage ≢ Reading → self.new ≡ self.old }
-        ensures failed { self.old.stage ≢ Reading → IfErr result (λ e. e ≡ Error.Failed) }
+        ensures failed { (self.old.stage ≢ Reading) ⊎ (append.stage ≢ Reading) → IfErr result (λ e. e ≡ Error.Failed) }
     {
         if self.stage != ContextStage::Reading {
             return Err(Error::Failed);

@@ -2,8 +2,9 @@
 
 ghost use Rattle.std.specs.Prelude.{◌≡◌, OnOk, IfErr};
 ghost use Rattle.raft_history.specs.Joins.{AreOverlaid};
-ghost use Rattle.raft_memtable.specs.OverlaidContext.{AreOfBothQueues, overlaid_with, IsOverlayRefused};
+ghost use Rattle.raft_memtable.specs.OverlaidContext.{AreOfBothQueues, overlaid_with, IsMergeAppendFault};
 ghost use Rattle.raft_memtable.specs.ReadStates.{context_in, IsRead};
+ghost use Rattle.raft_memtable.specs.RecoverContext.{reading_on};
 
 use crate::file_range::FileRange;
 use crate::read_state::ReadState;
@@ -22,7 +23,8 @@ impl ReadState {
             (context_in self.new).regions.tables) }
         ensures overlaid { OnOk result (context_in self.new
             ≡ overlaid_with (context_in self.old) (context_in append) (context_in self.new).regions.tables) }
-        ensures fault { IfErr result (IsOverlayRefused (context_in self.old) (context_in append)) }
+        ensures fault { IfErr result
+            (IsMergeAppendFault (reading_on (context_in self.old)) (reading_on (context_in append))) }
     {
         self.check_append(&append)?;
         self.put_append(append)
@@ -31,7 +33,8 @@ impl ReadState {
     /// Whether this was read of the rewrite queue, and the other of the append queue.
     fn check_append(&self, append: &ReadState) -> Result<()>
         ensures queues { OnOk result (AreOfBothQueues (context_in self.now) (context_in append.now)) }
-        ensures fault { IfErr result (IsOverlayRefused (context_in self.now) (context_in append.now)) }
+        ensures fault { IfErr result
+            (IsMergeAppendFault (reading_on (context_in self.now)) (reading_on (context_in append.now))) }
     {
         if !FileRange::suits(self.files, LogQueue::Rewrite)
             || !FileRange::suits(append.files, LogQueue::Append)
@@ -52,7 +55,8 @@ impl ReadState {
             (context_in self.new).regions.tables) }
         ensures overlaid { OnOk result (context_in self.new
             ≡ overlaid_with (context_in self.old) (context_in append) (context_in self.new).regions.tables) }
-        ensures fault { IfErr result (IsOverlayRefused (context_in self.old) (context_in append)) }
+        ensures fault { IfErr result
+            (IsMergeAppendFault (reading_on (context_in self.old)) (reading_on (context_in append))) }
     {
         self.regions.overlay(append.regions)?;
         self.regions.marks = RegionMarks::new(self.alloc);

@@ -17,7 +17,7 @@ use Rattle.raft_table.specs.Steps.{table_of}
 use Rattle.raft_table.specs.Table.{Table, live_of, IsRecounted}
 use Rattle.raft_accessor.specs.Accessor.{slot_of, table_in}
 use Rattle.raft_accessor.specs.AccessorView.{slot_entries, together, AreSlots}
-use Rattle.raft_accessor.specs.Merges.{IsMergedAt, AreTablesMerged, IsLeftAt, AreTablesLeft, IsMergeRefusal, MayAlter, IsAltered}
+use Rattle.raft_accessor.specs.Merges.{IsMergedAt, AreTablesMerged, IsLeftAt, AreTablesLeft, AreOthersLeft, IsMergeRefusal, MayAlter, IsAltered}
 use Rattle.raft_accessor.specs.Updates.{TableCall, TableCalls}
 use Rattle.raft_accessor.proofs.MapLemmas.{none_some, by_id, eq_self, get_own, one_written, one_same, with_other}
 use Rattle.std.specs.Map.{lookup}
@@ -56,6 +56,35 @@ module _ {F R : Type 0} (g : TableCall F R) (f : F) (m : Tables) (id : ℕ) (cou
 -- some entry's table is refused beside the older one of its region
 abbrev pub Refuses : (Table → Table → Error → Type 0) → Tables → List (ℕ × Table) → Error → Type 0
 Refuses IsFault m es e = (id : ℕ) × (t : Table) × (find nat_cmp id es ≡ Some t) × IsFault (table_in m id) t e
+
+-- another region than the one that is gone, if one is
+abbrev pub IsOther : Option ℕ → ℕ → Type 0
+IsOther None id = Unit {0}
+IsOther (Some at) id = id ≢ at
+
+-- the one that is gone has an entry
+abbrev pub HasEntry : Option ℕ → List (ℕ × Table) → Type 0
+HasEntry None es = Unit {0}
+HasEntry (Some at) es = find nat_cmp at es ≢ None
+
+or_some : (o p : Option Table) → p ≢ None → option_or o p ≢ None
+or_some None p f = f
+or_some (Some t) p f = λ none. none_some (sym none)
+
+entry-behind : (gone : Option ℕ) (xs ys : List (ℕ × Table)) → HasEntry gone ys → HasEntry gone (xs ++ ys)
+entry-behind None xs ys h = tt
+entry-behind (Some at) xs ys h = λ none. or_some (find nat_cmp at xs) (find nat_cmp at ys) h (sym (find-both at xs ys) ∙ none)
+
+some_or : (o p : Option Table) → o ≢ None → option_or o p ≢ None
+some_or None p f = absurd (f refl)
+some_or (Some t) p f = λ none. none_some (sym none)
+
+entry-in-front : (gone : Option ℕ) (xs ys : List (ℕ × Table)) → HasEntry gone xs → HasEntry gone (xs ++ ys)
+entry-in-front None xs ys h = tt
+entry-in-front (Some at) xs ys h = λ none. some_or (find nat_cmp at xs) (find nat_cmp at ys) h (sym (find-both at xs ys) ∙ none)
+
+first-found : (rest es : List (ℕ × Table)) (id : ℕ) (t : Table) → rest ≡ (id, t) ∷ es → find nat_cmp id rest ≡ Some t
+first-found rest es id t is = ap (λ l. find nat_cmp id l) is ∙ ap (λ b. cond b (Some t) (find nat_cmp id es)) (eq_self id)
 
 module _ (merge : Table → Table → Option Table) where
   -- each region's table is merged with that of an entry
@@ -107,9 +136,9 @@ module _ (merge : Table → Table → Option Table) where
 
   -- ---- what a refusal leaves
 
-  -- each region's table is merged with that of an entry, or left
-  abbrev pub Leaves : Tables → List (ℕ × Table) → Tables → Type 0
-  Leaves m es n = (id : ℕ) → IsLeftAt merge id (finite.get m id) (find nat_cmp id es) (finite.get n id)
+  -- each region's table is merged with that of an entry, or left; if one is gone, that one aside, which has an entry
+  abbrev pub Leaves : Option ℕ → Tables → List (ℕ × Table) → Tables → Type 0
+  Leaves gone m es n = HasEntry gone es × ((id : ℕ) → IsOther gone id → IsLeftAt merge id (finite.get m id) (find nat_cmp id es) (finite.get n id))
 
   left_alone : (id : ℕ) (x o y : Option Table) → y ≡ x → IsLeftAt merge id x o y
   left_alone id x None y e = e
@@ -125,37 +154,72 @@ module _ (merge : Table → Table → Option Table) where
       let e : z ≡ y = subst (λ p. IsLeftAt merge id y p z) (apart (λ e. none_some (sym e))) h in
       inl (g.0 ∙ sym e, subst (λ y. IsTrue (is_some y)) (sym e) g.1)
 
-  leaves-append : (m n z : Tables) (xs ys : List (ℕ × Table)) → ((q : ℕ) → find nat_cmp q xs ≢ None → find nat_cmp q ys ≡ None) → Joins m xs n → Leaves n ys z → Leaves m (xs ++ ys) z
-  leaves-append m n z xs ys apart g h = λ q.
-      subst (λ o. IsLeftAt merge q (finite.get m q) o (finite.get z q)) (sym (find-both q xs ys)) (both_left q (finite.get m q) (finite.get n q) (finite.get z q) (find nat_cmp q xs) (find nat_cmp q ys) (apart q) (g q) (h q))
+  leaves-append : (gone : Option ℕ) (m n z : Tables) (xs ys : List (ℕ × Table)) → ((q : ℕ) → find nat_cmp q xs ≢ None → find nat_cmp q ys ≡ None) → Joins m xs n → Leaves gone n ys z → Leaves gone m (xs ++ ys) z
+  leaves-append gone m n z xs ys apart g h = (
+    entry-behind gone xs ys h.0,
+    λ q other.
+        subst (λ o. IsLeftAt merge q (finite.get m q) o (finite.get z q)) (sym (find-both q xs ys)) (both_left q (finite.get m q) (finite.get n q) (finite.get z q) (find nat_cmp q xs) (find nat_cmp q ys) (apart q) (g q) (h.1 q other)),
+  )
 
-  -- the first entry is refused
-  pub leaves-first : (m n : Tables) (rest es : List (ℕ × Table)) (id : ℕ) (t : Table) → rest ≡ (id, t) ∷ es → table_in n id ≡ table_in m id → n ≡ with_table m id (finite.get n id) → Leaves m rest n
-  leaves-first m n rest es id t is here one = λ q. elim (by_id q id) [
-    | inl p ↦ subst (λ q. IsLeftAt merge q (finite.get m q) (find nat_cmp q rest) (finite.get n q)) (sym p)
-        (subst (λ o. IsLeftAt merge id (finite.get m id) o (finite.get n id)) (sym (ap (λ l. find nat_cmp id l) is ∙ ap (λ b. cond b (Some t) (find nat_cmp id es)) (eq_self id))) (inr here))
-    | inr f ↦ left_alone q (finite.get m q) (find nat_cmp q rest) (finite.get n q) (ap (λ r. finite.get r q) one ∙ with_other m id q (finite.get n id) f)
-  ]
+  -- the first entry is refused, and its table left
+  pub leaves-first : (m n : Tables) (rest es : List (ℕ × Table)) (id : ℕ) (t : Table) → rest ≡ (id, t) ∷ es → table_in n id ≡ table_in m id → n ≡ with_table m id (finite.get n id) → Leaves None m rest n
+  leaves-first m n rest es id t is here one = (
+    tt,
+    λ q other. elim (by_id q id) [
+      | inl p ↦ subst (λ q. IsLeftAt merge q (finite.get m q) (find nat_cmp q rest) (finite.get n q)) (sym p)
+          (subst (λ o. IsLeftAt merge id (finite.get m id) o (finite.get n id)) (sym (first-found rest es id t is)) (inr here))
+      | inr f ↦ left_alone q (finite.get m q) (find nat_cmp q rest) (finite.get n q) (ap (λ r. finite.get r q) one ∙ with_other m id q (finite.get n id) f)
+    ],
+  )
+
+  -- or whatever becomes of it
+  pub leaves-others : (m n : Tables) (rest es : List (ℕ × Table)) (id : ℕ) (t : Table) → rest ≡ (id, t) ∷ es → n ≡ with_table m id (finite.get n id) → Leaves (Some id) m rest n
+  leaves-others m n rest es id t is one = (
+    λ none. none_some (sym none ∙ first-found rest es id t is),
+    λ q other. elim (by_id q id) [
+      | inl p ↦ absurd (other p)
+      | inr f ↦ left_alone q (finite.get m q) (find nat_cmp q rest) (finite.get n q) (ap (λ r. finite.get r q) one ∙ with_other m id q (finite.get n id) f)
+    ],
+  )
+
+  -- or one behind it is refused
+  pub leaves-step : (gone : Option ℕ) (m n z : Tables) (rest es : List (ℕ × Table)) (id : ℕ) (t : Table) → rest ≡ (id, t) ∷ es → Once rest → IsMergedAt merge id (finite.get m id) (Some t) (finite.get n id) → n ≡ with_table m id (finite.get n id) → Leaves gone n es z → Leaves gone m rest z
+  leaves-step gone m n z rest es id t is once here e h = subst (λ l. Leaves gone m l z) (sym is) (leaves-append gone m n z ((id, t) ∷ []) es (apart_one id t es (subst Once is once)) (joins-one m n id t here e) h)
+
+  -- the same of the slots of a map: one in front
+  leaves-slot : (gone : Option ℕ) (m n : Tables) (rest ms : List Tables) (s : Tables) → rest ≡ s ∷ ms → HasEntry gone (finite.entries s) → ((q : ℕ) → IsOther gone q → IsLeftAt merge q (finite.get m q) (finite.get s q) (finite.get n q)) → Leaves gone m (slot_entries rest) n
+  leaves-slot gone m n rest ms s is has h = subst (λ l. Leaves gone m (slot_entries l) n) (sym is) (
+    entry-in-front gone (finite.entries s) (slot_entries ms) has,
+    λ q other.
+        subst (λ o. IsLeftAt merge q (finite.get m q) o (finite.get n q)) (sym (find-both q (finite.entries s) (slot_entries ms)))
+        (left_more q (finite.get m q) (find nat_cmp q (finite.entries s)) (find nat_cmp q (slot_entries ms)) (finite.get n q) (subst (λ o. IsLeftAt merge q (finite.get m q) o (finite.get n q)) (finite.get-entries s q) (h q other))),
+  )
+
+  pub left-slot : (m n : Tables) (rest ms : List Tables) (s : Tables) → rest ≡ s ∷ ms → AreTablesLeft merge m s n → Leaves None m (slot_entries rest) n
+  left-slot m n rest ms s is h = leaves-slot None m n rest ms s is tt (λ q other. h q)
+
+  pub others-slot : (m n : Tables) (rest ms : List Tables) (s : Tables) → rest ≡ s ∷ ms → (h : AreOthersLeft merge m s n) → Leaves (Some h.at) m (slot_entries rest) n
+  others-slot m n rest ms s is h = leaves-slot (Some h.at) m n rest ms s is (λ none. h.there (finite.get-entries s h.at ∙ none)) h.others
 
   -- or one behind it
-  pub leaves-step : (m n z : Tables) (rest es : List (ℕ × Table)) (id : ℕ) (t : Table) → rest ≡ (id, t) ∷ es → Once rest → IsMergedAt merge id (finite.get m id) (Some t) (finite.get n id) → n ≡ with_table m id (finite.get n id) → Leaves n es z → Leaves m rest z
-  leaves-step m n z rest es id t is once here e h = subst (λ l. Leaves m l z) (sym is) (leaves-append m n z ((id, t) ∷ []) es (apart_one id t es (subst Once is once)) (joins-one m n id t here e) h)
+  pub leaves-slots : (gone : Option ℕ) (m n z : Tables) (rest ms : List Tables) (k : ℕ) (s : Tables) → rest ≡ s ∷ ms → AreSlots k rest → AreTablesMerged merge m s n → Leaves gone n (slot_entries ms) z → Leaves gone m (slot_entries rest) z
+  leaves-slots gone m n z rest ms k s is slots here h =
+      subst (λ l. Leaves gone m (slot_entries l) z) (sym is)
+      (leaves-append gone m n z (finite.entries s) (slot_entries ms) (apart_slot k s ms (subst (AreSlots k) is slots)) (λ q. subst (λ o. IsMergedAt merge q (finite.get m q) o (finite.get n q)) (finite.get-entries s q) (here q)) h)
 
-  -- one of the first slot
-  pub leaves-slot : (m n : Tables) (rest ms : List Tables) (s : Tables) → rest ≡ s ∷ ms → AreTablesLeft merge m s n → Leaves m (slot_entries rest) n
-  leaves-slot m n rest ms s is h = subst (λ l. Leaves m (slot_entries l) n) (sym is) (λ q.
-      subst (λ o. IsLeftAt merge q (finite.get m q) o (finite.get n q)) (sym (find-both q (finite.entries s) (slot_entries ms)))
-      (left_more q (finite.get m q) (find nat_cmp q (finite.entries s)) (find nat_cmp q (slot_entries ms)) (finite.get n q) (subst (λ o. IsLeftAt merge q (finite.get m q) o (finite.get n q)) (finite.get-entries s q) (h q))))
+  -- the entries of a map
+  entries-are : (s : Tables) (es : List (ℕ × Table)) → finite.from_entries {R = nat_cmp} es ≡ s → (q : ℕ) → find nat_cmp q es ≡ finite.get s q
+  entries-are s es e q = sym (finite.get-from_entries nat_cmp_total es q) ∙ ap (λ r. finite.get r q) e
 
-  -- or of one behind it
-  pub leaves-slots : (m n z : Tables) (rest ms : List Tables) (k : ℕ) (s : Tables) → rest ≡ s ∷ ms → AreSlots k rest → AreTablesMerged merge m s n → Leaves n (slot_entries ms) z → Leaves m (slot_entries rest) z
-  leaves-slots m n z rest ms k s is slots here h =
-      subst (λ l. Leaves m (slot_entries l) z) (sym is)
-      (leaves-append m n z (finite.entries s) (slot_entries ms) (apart_slot k s ms (subst (AreSlots k) is slots)) (λ q. subst (λ o. IsMergedAt merge q (finite.get m q) o (finite.get n q)) (finite.get-entries s q) (here q)) h)
+  pub left-of : (m n s : Tables) (es : List (ℕ × Table)) → finite.from_entries {R = nat_cmp} es ≡ s → Leaves None m es n → AreTablesLeft merge m s n
+  left-of m n s es e h = λ q. subst (λ o. IsLeftAt merge q (finite.get m q) o (finite.get n q)) (entries-are s es e q) (h.1 q tt)
 
-  -- one of the entries of a map
-  pub left-of : (m n s : Tables) (es : List (ℕ × Table)) → finite.from_entries {R = nat_cmp} es ≡ s → Leaves m es n → AreTablesLeft merge m s n
-  left-of m n s es e h = λ q. subst (λ o. IsLeftAt merge q (finite.get m q) o (finite.get n q)) (sym (finite.get-from_entries nat_cmp_total es q) ∙ ap (λ r. finite.get r q) e) (h q)
+  pub others-of : (at : ℕ) (m n s : Tables) (es : List (ℕ × Table)) → finite.from_entries {R = nat_cmp} es ≡ s → Leaves (Some at) m es n → AreOthersLeft merge m s n
+  others-of at m n s es e h = record {
+    at = at;
+    there = λ none. h.0 (entries-are s es e at ∙ none);
+    others = λ q other. subst (λ o. IsLeftAt merge q (finite.get m q) o (finite.get n q)) (entries-are s es e q) (h.1 q other);
+  }
 
   -- an entry that is refused behind others of another slot
   pub refuses-slots : (IsFault : Table → Table → Error → Type 0) (m n : Tables) (rest ms : List Tables) (k : ℕ) (s : Tables) (e : Error) → rest ≡ s ∷ ms → AreSlots k rest → AreTablesMerged merge m s n → Refuses IsFault n (slot_entries ms) e → Refuses IsFault m (slot_entries rest) e

@@ -39,6 +39,12 @@ IsLeftAt merge id older (Some newer) after = IsMergedAt merge id older (Some new
 abbrev pub AreTablesLeft : (Table → Table → Option Table) → Tables → Tables → Tables → Type 0
 AreTablesLeft merge older newer after = (id : ℕ) → IsLeftAt merge id (finite.get older id) (finite.get newer id) (finite.get after id)
 
+-- one region has a newer table; each other region's table is merged with its newer one, or left
+pub record AreOthersLeft (merge : Table → Table → Option Table) (older newer after : Tables) : Type 0 where
+  pub at : ℕ
+  pub there : finite.get newer at ≢ None
+  pub others : (id : ℕ) → id ≢ at → IsLeftAt merge id (finite.get older id) (finite.get newer id) (finite.get after id)
+
 -- why a table is refused beside its newer neighbor, at these counts
 abbrev pub IsNewerFault : Counts → Table → Table → Error → Type 0
 IsNewerFault counts older newer e = IsTableMergeFault counts older newer (joint_queue older newer) e

@@ -12,7 +12,7 @@ ghost use Rattle.raft_table.specs.Change.{after_change, IsAnswer, IsChangeFault}
 ghost use Rattle.raft_table.specs.Table.{Table, with_atomic_group, live_of};
 ghost use Rattle.raft_accessor.specs.Accessor.{slot_of, table_in, live_in_all, AreCountsOf};
 ghost use Rattle.raft_accessor.specs.AccessorCalls.{IsTableChanged, IsTableMade};
-ghost use Rattle.raft_accessor.specs.Merges.{with_newer, with_appended, IsMergedAt, AreTablesMerged, AreTablesLeft, IsNewerFault, IsAppendedFault, IsMergeRefusal};
+ghost use Rattle.raft_accessor.specs.Merges.{with_newer, with_appended, IsMergedAt, AreTablesMerged, AreTablesLeft, AreOthersLeft, IsNewerFault, IsAppendedFault, IsMergeRefusal};
 ghost use Rattle.raft_accessor.specs.Walks.{Collects, Makes};
 
 mod join;
@@ -248,6 +248,7 @@ impl MemTableAccessor {
         ensures fault { IfErr result (IsMergeRefusal (IsNewerFault self.new.counts) self.old.tables rhs.tables) }
         ensures err { IfErr result
             (λ e. e ≢ Error.Memory → AreTablesLeft with_newer self.old.tables rhs.tables self.new.tables) }
+        ensures others { OnErr result (AreOthersLeft with_newer self.old.tables rhs.tables self.new.tables) }
         ensures cleaned { self.new.cleaned ≡ self.old.cleaned }
     {
         for slot in rhs.slots {
@@ -268,6 +269,7 @@ impl MemTableAccessor {
         ensures fault { IfErr result (IsMergeRefusal (IsAppendedFault self.new.counts) self.old.tables rhs.tables) }
         ensures err { IfErr result
             (λ e. e ≢ Error.Memory → AreTablesLeft with_appended self.old.tables rhs.tables self.new.tables) }
+        ensures others { OnErr result (AreOthersLeft with_appended self.old.tables rhs.tables self.new.tables) }
         ensures cleaned { self.new.cleaned ≡ self.old.cleaned }
     {
         for slot in rhs.slots {
@@ -385,6 +387,7 @@ impl MemTableAccessor {
         ensures fault { IfErr result (IsMergeRefusal (IsNewerFault self.new.counts) self.old.tables newer) }
         ensures err { IfErr result
             (λ e. e ≢ Error.Memory → AreTablesLeft with_newer self.old.tables newer self.new.tables) }
+        ensures others { OnErr result (AreOthersLeft with_newer self.old.tables newer self.new.tables) }
         ensures cleaned { self.new.cleaned ≡ self.old.cleaned }
     {
         for (id, table) in newer.into_entries() {
@@ -399,6 +402,7 @@ impl MemTableAccessor {
         ensures fault { IfErr result (IsMergeRefusal (IsAppendedFault self.new.counts) self.old.tables newer) }
         ensures err { IfErr result
             (λ e. e ≢ Error.Memory → AreTablesLeft with_appended self.old.tables newer self.new.tables) }
+        ensures others { OnErr result (AreOthersLeft with_appended self.old.tables newer self.new.tables) }
         ensures cleaned { self.new.cleaned ≡ self.old.cleaned }
     {
         for (id, table) in newer.into_entries() {

@@ -205,6 +205,7 @@ impl RegionTables {
         requires counted { IsCounted (table_in self.old id) stats.old }
         ensures ok { OnOk result (self.new ≡ finite.insert self.old id table) }
         ensures replaced { IfOk result (λ t. t ≡ finite.get self.old id) }
+        ensures own { IfOk result (λ t. IfSome t (λ t. t.region_id ≡ id)) }
         ensures err { OnErr result (self.new ≡ self.old) }
         ensures fault { IfErr result (λ e. (e ≡ Error.Memory)
             ⊎ ((e ≡ Error.Full) × ((q : LogQueue) × (2 ^ 64 ≤ live q stats.old + live_of q table)))) }

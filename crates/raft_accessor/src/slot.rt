@@ -202,6 +202,7 @@ impl Slot {
         requires region { table.region_id ≡ id }
         ensures ok { OnOk result (self.new.part.tables ≡ finite.insert self.old.part.tables id table) }
         ensures replaced { IfOk result (λ t. t ≡ finite.get self.old.part.tables id) }
+        ensures own { IfOk result (λ t. IfSome t (IsSlotTable self.old.number id)) }
         ensures err { OnErr result (self.new.part.tables ≡ self.old.part.tables) }
         ensures fault { IfErr result (λ e. (e ≡ Error.Memory) ⊎ ((e ≡ Error.Full) × ((q : LogQueue) ×
             (2 ^ 64 ≤ live_in_all q self.old.part.tables + live_of q table)))) }
@@ -221,6 +222,7 @@ impl Slot {
         requires { slot_of id ≡ self.old.number }
         ensures tables { OnOk result (self.new.part.tables ≡ finite.remove self.old.part.tables id) }
         ensures taken { IfOk result (λ t. t ≡ finite.get self.old.part.tables id) }
+        ensures own { IfOk result (λ t. IfSome t (IsSlotTable self.old.number id)) }
         ensures cleaned { OnOk result (self.new.part.cleaned
             ≡ (if record_tombstone then self.old.part.cleaned ++ id ∷ [] else self.old.part.cleaned)) }
         ensures err { OnErr result (self.new ≡ self.old) }
@@ -307,6 +309,7 @@ impl Slot {
         requires { slot_of id ≡ self.old.number }
         ensures tables { self.new.part.tables ≡ finite.remove self.old.part.tables id }
         ensures taken { result ≡ finite.get self.old.part.tables id }
+        ensures own { IfSome result (IsSlotTable self.old.number id) }
         ensures cleaned { self.new.part.cleaned ≡ self.old.part.cleaned }
         ensures number { self.new.number ≡ self.old.number }
     {

@@ -77,7 +77,8 @@ impl DeletedKeys {
     ///
     /// Where there is no memory for all of them. Both sets then have some of the keys, and one is lost.
     pub fn absorb(&mut self, rhs: &mut DeletedKeys) -> Result<(), AllocError>
-        ensures { OnOk result (self.new ≡ finset.union self.old rhs.old) }
+        ensures ok { OnOk result (self.new ≡ finset.union self.old rhs.old) }
+        ensures emptied { OnOk result (rhs.new ≡ finset.empty) }
     {
         if self.len() < rhs.len() {
             mem::swap(self, rhs);
@@ -90,7 +91,8 @@ impl DeletedKeys {
 
     /// Takes over one key of `rhs` after another.
     fn take_each(&mut self, rhs: &mut DeletedKeys) -> Result<(), AllocError>
-        ensures { OnOk result (self.new ≡ finset.union self.old rhs.old) }
+        ensures ok { OnOk result (self.new ≡ finset.union self.old rhs.old) }
+        ensures emptied { OnOk result (rhs.new ≡ finset.empty) }
     {
         while let Some(key) = rhs.take_first() {
             self.insert(key)?;
@@ -102,7 +104,7 @@ impl DeletedKeys {
     fn take_first(&mut self) -> Option<Vec<u8>>
         ensures first { IfSome result (λ k. self.old ≡ finset.insert self.new k.items) }
         ensures fewer { IfSome result (λ k. finset.len self.new < finset.len self.old) }
-        ensures none { IfNone result (self.old ≡ finset.empty) }
+        ensures none { IfNone result ((self.old ≡ finset.empty) × (self.new ≡ finset.empty)) }
     {
         let (key, _) = self.keys.pop_first()?;
         Some(key)

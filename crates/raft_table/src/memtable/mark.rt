@@ -104,15 +104,16 @@ impl Mark {
     }
 
     /// Joins the mark of newer steps, whose first run comes behind own entries that end at
-    /// `end_at_reach`. `newer` is left without deleted keys.
+    /// `end_at_reach`. `newer` keeps its bounds and gives its deleted keys away.
     ///
     /// # Errors
     ///
-    /// Where there is no memory for the newer deleted keys. Bounds and the clean are then as they were,
+    /// Where there is no memory for the newer deleted keys. Bounds and cleans are then as they were,
     /// and the deleted keys are divided between both marks, but for one that is lost: neither serves on.
     pub fn join(&mut self, queue: LogQueue, end_at_reach: u64, newer: &mut Mark) -> Result<()>
         ensures ok { OnOk result (self.new ≡ joined_at queue end_at_reach self.old newer.old) }
         ensures err { OnErr result (self.new ≡ record self.old { deleted = self.new.deleted }) }
+        ensures newer { newer.new ≡ record newer.old { deleted = newer.new.deleted } }
         ensures memory { IfErr result (λ e. e ≡ Error.Memory) }
     {
         if self.cleaned || self.reach.is_some() && self.cut.is_none() {
@@ -220,7 +221,7 @@ impl Mark {
     fn join_deleted(&mut self, newer: &mut Mark) -> Result<()>
         ensures err { OnErr result (self.new ≡ record self.old { deleted = self.new.deleted }) }
         ensures ok { OnOk result (self.new ≡ record self.old { deleted = joined_deleted self.old newer.old }) }
-        ensures newer { OnOk result (newer.new ≡ record newer.old { deleted = newer.new.deleted }) }
+        ensures newer { newer.new ≡ record newer.old { deleted = newer.new.deleted } }
         ensures memory { IfErr result (λ e. e ≡ Error.Memory) }
     {
         if newer.cleaned {

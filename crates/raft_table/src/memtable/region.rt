@@ -9,7 +9,7 @@ ghost use Rattle.raft_table.specs.Marks.{is_first_run_refused, Stands};
 ghost use Rattle.raft_table.specs.Queues.{other};
 ghost use Rattle.raft_table.specs.Start.{replayed, IsCorruptionError, IsTableRunFault};
 ghost use Rattle.raft_table.specs.Steps.{Step, Run, Del, Clean, AreSteps, table_of, after};
-ghost use Rattle.raft_table.specs.Table.{Table, live_of, IsCounted, IsRecounted};
+ghost use Rattle.raft_table.specs.Table.{Table, empty_table, live_of, IsCounted, IsRecounted};
 
 use crate::global_stats::GlobalStats;
 use crate::memtable::MemTable;
@@ -17,6 +17,7 @@ use crate::memtable::mark::Mark;
 use raft_base::{EntryIndex, Error, LogQueue, Result};
 
 /// Puts a newer mark and its table, which the counts don't hold, behind an older mark and its table.
+/// `rhs` is left empty; `newer` keeps its bounds and gives its deleted keys away.
 ///
 /// # Errors
 ///
@@ -42,6 +43,8 @@ pub fn join_region(
         → IfErr result (λ e. IsCorruptionError e → after queue id None (ss ++ rs) ≡ None) }
     ensures fault { IsRunOver queue newer.old rhs.old table.old
         → IfErr result (IsFaultUnder queue stats.old newer.old rhs.old table.old) }
+    ensures emptied { OnOk result (rhs.new ≡ empty_table rhs.old.region_id) }
+    ensures newer { newer.new ≡ record newer.old { deleted = newer.new.deleted } }
     ensures recounted { IsRecounted table.old table.new stats.old stats.new }
     ensures regions { (table.new.region_id ≡ table.old.region_id) × (rhs.new.region_id ≡ rhs.old.region_id) }
 {
@@ -121,7 +124,7 @@ pub fn replay_clean(mark: &mut Mark)
 }
 
 /// Puts a newer mark of a region that was cleaned, and has no table since, behind an older mark and
-/// its table, which goes.
+/// its table, which goes. `newer` keeps its bounds and gives its deleted keys away.
 ///
 /// # Errors
 ///
@@ -139,6 +142,7 @@ pub fn join_cleaned(
     ensures refused { (id : ℕ) (own : Option Table) (ss rs : List Step) → table_of id own ≡ table.now
         → Stands queue id mark.old own ss → Stands queue id newer.old None rs
         → IfErr result (λ e. IsCorruptionError e → after queue id None (ss ++ rs) ≡ None) }
+    ensures newer { newer.new ≡ record newer.old { deleted = newer.new.deleted } }
     ensures fault { IfErr result (IsFirstRunFault (is_first_run_refused queue newer.old table.now.entries)) }
 {
     table.check_first_run(queue, newer)?;

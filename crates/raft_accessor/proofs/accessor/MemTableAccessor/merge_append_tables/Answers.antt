@@ -1,15 +1,15 @@
-use Rattle.std.proofs.Common.{refl, sym, ap, subst, ◌∙◌}
+use Rattle.std.proofs.Common.{Some, None, refl, sym, ap, subst, ◌∙◌}
 use Rattle.std.specs.FinMap as finite
 use Rattle.std.proofs.lemmas.Result.{err_from_is_err_and}
 use Rattle.raft_accessor.specs.Merges.{with_appended, IsAppendedFault}
-use Rattle.raft_accessor.proofs.MergeLemmas.{AreOwn, refuses-first, refuses-step, refusal-of, leaves-first, leaves-step, left-of, joins-step, joins-none, merged-of, once-tail, own-head, own-tail, own-entries}
+use Rattle.raft_accessor.proofs.MergeLemmas.{AreOwn, refuses-first, refuses-step, refusal-of, leaves-first, leaves-others, leaves-step, left-of, others-of, joins-step, joins-none, merged-of, once-tail, own-head, own-tail, own-entries}
 use Rattle.raft_accessor.proofs.OrderLemmas.{Once, once-distinct}
 use Rattle.raft_accessor.proofs.accessor.MemTableAccessor.merge_append_tables.Goals as goal
 
 pub loop-id-init : goal.loop-id-init
 loop-id-init c =
     let gives = c.into_iter-id-iterator.ensures.into_iter_gives in
-    (subst Once (sym gives) (once-distinct _ c.into_entries-id-items.ensures.once), subst AreOwn (sym gives) (own-entries _ c.into_entries-id-items.ensures.own), refl, λ z h. h, λ k e h. h, λ z h. h)
+    (subst Once (sym gives) (once-distinct _ c.into_entries-id-items.ensures.once), subst AreOwn (sym gives) (own-entries _ c.into_entries-id-items.ensures.own), refl, λ z h. h, λ k e h. h, λ gone z h. h)
 
 pub merge_appended-requires : goal.merge_appended-requires
 merge_appended-requires c = own-head _ _ _ c.in-Some.ensures.steps c.loop-id.invariant.1
@@ -23,7 +23,7 @@ loop-id-preserved c =
       c.merge_appended.ensures.cleaned ∙ at.2,
       λ z h. at.3 z (joins-step with_appended c.loop-id.self.tables c.merge_appended.new.self.tables z _ _ _ _ is at.0 c.in_ok-merge_appended.ensures.ok c.merge_appended.ensures.others h),
       λ k e h. at.4 k e (refuses-step (IsAppendedFault k) c.loop-id.self.tables c.merge_appended.new.self.tables _ _ _ _ e is at.0 c.merge_appended.ensures.others h),
-      λ z h. at.5 z (leaves-step with_appended c.loop-id.self.tables c.merge_appended.new.self.tables z _ _ _ _ is at.0 c.in_ok-merge_appended.ensures.ok c.merge_appended.ensures.others h),
+      λ gone z h. at.5 gone z (leaves-step with_appended gone c.loop-id.self.tables c.merge_appended.new.self.tables z _ _ _ _ is at.0 c.in_ok-merge_appended.ensures.ok c.merge_appended.ensures.others h),
     )
 
 pub returns-in_err-merge_appended-clause-fault : goal.returns-in_err-merge_appended-clause-fault
@@ -37,7 +37,13 @@ pub returns-in_err-merge_appended-clause-err : goal.returns-in_err-merge_appende
 returns-in_err-merge_appended-clause-err c =
     let p = err_from_is_err_and c.from_residual.result c.from_residual.ensures.1 in
     rw (p.1, p.2) (λ k. left-of with_appended c.args.self.now.tables c.merge_appended.new.self.tables c.args.newer _ (ap (λ es. finite.from_entries es) c.into_iter-id-iterator.ensures.into_iter_gives ∙ c.into_entries-id-items.ensures.entries)
-    (c.loop-id.invariant.5 c.merge_appended.new.self.tables (leaves-first with_appended c.loop-id.self.tables c.merge_appended.new.self.tables _ _ _ _ c.in-Some.ensures.steps (c.in_err-merge_appended.ensures.err k) c.merge_appended.ensures.others)))
+    (c.loop-id.invariant.5 None c.merge_appended.new.self.tables (leaves-first with_appended c.loop-id.self.tables c.merge_appended.new.self.tables _ _ _ _ c.in-Some.ensures.steps (c.in_err-merge_appended.ensures.err k) c.merge_appended.ensures.others)))
+
+pub returns-in_err-merge_appended-clause-others : goal.returns-in_err-merge_appended-clause-others
+returns-in_err-merge_appended-clause-others c =
+    let p = err_from_is_err_and c.from_residual.result c.from_residual.ensures.1 in
+    rw p.1 (others-of with_appended _ c.args.self.now.tables c.merge_appended.new.self.tables c.args.newer _ (ap (λ es. finite.from_entries es) c.into_iter-id-iterator.ensures.into_iter_gives ∙ c.into_entries-id-items.ensures.entries)
+    (c.loop-id.invariant.5 (Some _) c.merge_appended.new.self.tables (leaves-others with_appended c.loop-id.self.tables c.merge_appended.new.self.tables _ _ _ _ c.in-Some.ensures.steps c.merge_appended.ensures.others)))
 
 pub returns-clause-ok : goal.returns-clause-ok
 returns-clause-ok c =

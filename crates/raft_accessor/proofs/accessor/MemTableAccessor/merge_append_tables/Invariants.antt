@@ -1,4 +1,4 @@
-use Rattle.std.proofs.Common.{◌≡◌}
+use Rattle.std.proofs.Common.{◌≡◌, ℕ, Option}
 use Rattle.raft_base.specs.declared.errors.Error.{Error}
 use Rattle.raft_history.specs.RegionSteps.{Tables}
 use Rattle.raft_table.specs.Counts.{Counts}
@@ -12,4 +12,4 @@ invariant-loop-id l =
     Once l.id-iterator × AreOwn l.id-iterator × (l.self.cleaned ≡ l.fn.self.cleaned)
     × ((z : Tables) → Joins with_appended l.self.tables l.id-iterator z → Joins with_appended l.fn.self.tables l.initial.id-iterator z)
     × ((k : Counts) (e : Error) → Refuses (IsAppendedFault k) l.self.tables l.id-iterator e → Refuses (IsAppendedFault k) l.fn.self.tables l.initial.id-iterator e)
-    × ((z : Tables) → Leaves with_appended l.self.tables l.id-iterator z → Leaves with_appended l.fn.self.tables l.initial.id-iterator z)
+    × ((gone : Option ℕ) (z : Tables) → Leaves with_appended gone l.self.tables l.id-iterator z → Leaves with_appended gone l.fn.self.tables l.initial.id-iterator z)

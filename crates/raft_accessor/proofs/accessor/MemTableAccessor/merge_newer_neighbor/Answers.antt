@@ -1,10 +1,10 @@
-use Rattle.std.proofs.Common.{suc, ap, subst, ◌∙◌}
+use Rattle.std.proofs.Common.{suc, Some, None, ap, subst, ◌∙◌}
 use Rattle.std.specs.FinMap as finite
 use Rattle.std.proofs.lemmas.Result.{err_from_is_err_and}
 use Rattle.raft_accessor.specs.Accessor.{Accessor}
 use Rattle.raft_accessor.specs.AccessorView.{slot_entries, AreSlots}
 use Rattle.raft_accessor.specs.Merges.{with_newer, IsNewerFault}
-use Rattle.raft_accessor.proofs.MergeLemmas.{refuses-slot, refuses-slots, refusal-of, leaves-slot, leaves-slots, left-of, slots-step, slots-are, no_slots, joins-none, merged-of}
+use Rattle.raft_accessor.proofs.MergeLemmas.{refuses-slot, refuses-slots, refusal-of, left-slot, others-slot, leaves-slots, left-of, others-of, slots-step, slots-are, no_slots, joins-none, merged-of}
 use Rattle.raft_accessor.proofs.accessor.MemTableAccessor.merge_newer_neighbor.Goals as goal
 
 pub loop-slot-preserved : goal.loop-slot-preserved
@@ -15,7 +15,7 @@ loop-slot-preserved c =
       c.merge_newer_tables.ensures.cleaned ∙ at.1,
       λ z h. at.2 z (slots-step with_newer c.loop-slot.self.tables c.merge_newer_tables.new.self.tables z _ _ at.0.0 _ is at.0.1 c.in_ok-merge_newer_tables.ensures.ok h),
       λ k e h. at.3 k e (refuses-slots with_newer (IsNewerFault k) c.loop-slot.self.tables c.merge_newer_tables.new.self.tables _ _ at.0.0 _ e is at.0.1 c.in_ok-merge_newer_tables.ensures.ok h),
-      λ z h. at.4 z (leaves-slots with_newer c.loop-slot.self.tables c.merge_newer_tables.new.self.tables z _ _ at.0.0 _ is at.0.1 c.in_ok-merge_newer_tables.ensures.ok h),
+      λ gone z h. at.4 gone z (leaves-slots with_newer gone c.loop-slot.self.tables c.merge_newer_tables.new.self.tables z _ _ at.0.0 _ is at.0.1 c.in_ok-merge_newer_tables.ensures.ok h),
     )
 
 pub returns-in_err-merge_newer_tables-clause-fault : goal.returns-in_err-merge_newer_tables-clause-fault
@@ -31,7 +31,14 @@ returns-in_err-merge_newer_tables-clause-err c =
     let p = err_from_is_err_and c.from_residual.result c.from_residual.ensures.1 in
     rw (p.1, p.2) (λ k. left-of with_newer c.args.self.now.tables c.merge_newer_tables.new.self.tables c.args.rhs.tables _
     (ap (λ ms. finite.from_entries (slot_entries ms)) c.into_iter-slot-iterator.ensures.into_iter_gives.0 ∙ slots-are c.rhs.inside.slots c.args.rhs.tables (ap (λ (x : Accessor). x.tables) c.rhs.view_is))
-    (c.loop-slot.invariant.4 c.merge_newer_tables.new.self.tables (leaves-slot with_newer c.loop-slot.self.tables c.merge_newer_tables.new.self.tables _ _ _ c.in-Some.ensures.steps (c.in_err-merge_newer_tables.ensures.err k))))
+    (c.loop-slot.invariant.4 None c.merge_newer_tables.new.self.tables (left-slot with_newer c.loop-slot.self.tables c.merge_newer_tables.new.self.tables _ _ _ c.in-Some.ensures.steps (c.in_err-merge_newer_tables.ensures.err k))))
+
+pub returns-in_err-merge_newer_tables-clause-others : goal.returns-in_err-merge_newer_tables-clause-others
+returns-in_err-merge_newer_tables-clause-others c =
+    let p = err_from_is_err_and c.from_residual.result c.from_residual.ensures.1 in
+    rw p.1 (others-of with_newer _ c.args.self.now.tables c.merge_newer_tables.new.self.tables c.args.rhs.tables _
+    (ap (λ ms. finite.from_entries (slot_entries ms)) c.into_iter-slot-iterator.ensures.into_iter_gives.0 ∙ slots-are c.rhs.inside.slots c.args.rhs.tables (ap (λ (x : Accessor). x.tables) c.rhs.view_is))
+    (c.loop-slot.invariant.4 (Some _) c.merge_newer_tables.new.self.tables (others-slot with_newer c.loop-slot.self.tables c.merge_newer_tables.new.self.tables _ _ _ c.in-Some.ensures.steps c.in_err-merge_newer_tables.ensures.others)))
 
 pub returns-clause-ok : goal.returns-clause-ok
 returns-clause-ok c =

@@ -1,4 +1,4 @@
-use Rattle.std.proofs.Common.{◌≡◌}
+use Rattle.std.proofs.Common.{◌≡◌, ℕ, Option}
 use Rattle.raft_base.specs.declared.errors.Error.{Error}
 use Rattle.raft_history.specs.RegionSteps.{Tables}
 use Rattle.raft_table.specs.Counts.{Counts}
@@ -12,4 +12,4 @@ invariant-loop-id l =
     Once l.id-iterator × AreOwn l.id-iterator × (l.self.cleaned ≡ l.fn.self.cleaned)
     × ((z : Tables) → Joins with_newer l.self.tables l.id-iterator z → Joins with_newer l.fn.self.tables l.initial.id-iterator z)
     × ((k : Counts) (e : Error) → Refuses (IsNewerFault k) l.self.tables l.id-iterator e → Refuses (IsNewerFault k) l.fn.self.tables l.initial.id-iterator e)
-    × ((z : Tables) → Leaves with_newer l.self.tables l.id-iterator z → Leaves with_newer l.fn.self.tables l.initial.id-iterator z)
+    × ((gone : Option ℕ) (z : Tables) → Leaves with_newer gone l.self.tables l.id-iterator z → Leaves with_newer gone l.fn.self.tables l.initial.id-iterator z)

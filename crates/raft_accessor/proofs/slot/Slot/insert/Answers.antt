@@ -1,11 +1,12 @@
-use Rattle.std.proofs.Common.{◌≡◌, ◌⊎◌, ◌+◌, ◌≤◌, ◌^◌, Ok, Err, refl, sym, ap, subst, ◌∙◌, inl, inr}
-use Rattle.std.specs.Result.{IfErr}
+use Rattle.std.proofs.Common.{◌≡◌, ◌⊎◌, ◌+◌, ◌≤◌, ◌^◌, Ok, Err, Some, None, IfSome, refl, sym, ap, subst, ◌∙◌, inl, inr}
+use Rattle.std.specs.FinMap as finite
+use Rattle.std.specs.Result.{IfOk, IfErr}
 use Rattle.raft_base.specs.declared.errors.Error.TheVariants as errors
 use Rattle.raft_base.specs.declared.pipe_log.LogQueue.{LogQueue}
 use Rattle.raft_table.specs.Counts.{live}
 use Rattle.raft_table.specs.Table.{live_of}
 use Rattle.raft_accessor.specs.Accessor.{live_in_all}
-use Rattle.raft_accessor.specs.Slot.{SlotContent}
+use Rattle.raft_accessor.specs.Slot.{SlotContent, IsSlotTable}
 use Rattle.raft_accessor.specs.declared.slot.Slot.TheInside.{Inside}
 use Rattle.raft_accessor.proofs.LiveLemmas.{table-counted}
 use Rattle.raft_accessor.proofs.SlotKeeping.{kept-with}
@@ -19,6 +20,14 @@ after c = record c.self.inside { tables = c.insert.new.self; stats = c.insert.ne
 
 pub invariant_of-self : goal.invariant_of-self
 invariant_of-self c = kept-with c.self.inside (after c) c.args.id c.self.invariant (c.requires.slot ∙ sym (ap (λ (s : SlotContent). s.number) c.self.view_is)) refl c.insert.ensures.one c.insert.ensures.recounted c.self.invariant.cleaned
+
+pub returns-clause-own : goal.returns-clause-own
+returns-clause-own c =
+    rw (← c.self.view_is) (elim c.insert.result as (λ r. IfOk r (λ o. o ≡ finite.get c.self.inside.tables c.args.id) → IfOk r (λ o. IfSome o (λ t. t.region_id ≡ c.args.id)) → IfOk r (λ o. IfSome o (IsSlotTable c.self.inside.number c.args.id))) [
+      | Ok None ↦ λ e o. tt
+      | Ok (Some t) ↦ λ e o. record { own = o; slot = c.self.invariant.regions c.args.id t (sym e) }
+      | Err x ↦ λ e o. tt
+    ] c.insert.ensures.replaced c.insert.ensures.own)
 
 pub returns-clause-fault : goal.returns-clause-fault
 returns-clause-fault c =

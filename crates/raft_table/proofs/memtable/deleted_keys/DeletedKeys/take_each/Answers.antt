@@ -10,5 +10,5 @@ loop-key-preserved c =
     ∙ union-insert c.loop-key.self c.take_first.new.self c.in-Some.key.items
     ∙ ap (finset.union c.loop-key.self) (sym c.in-Some.ensures.first) ∙ c.loop-key.invariant
 
-pub returns : goal.returns
-returns c = sym (union_empty c.loop-key.self) ∙ ap (finset.union c.loop-key.self) (sym c.in_default.ensures.none) ∙ c.loop-key.invariant
+pub returns-clause-ok : goal.returns-clause-ok
+returns-clause-ok c = sym (union_empty c.loop-key.self) ∙ ap (finset.union c.loop-key.self) (sym c.in_default.ensures.none.0) ∙ c.loop-key.invariant

@@ -53,152 +53,152 @@ files_never_fall q seq (e ∷ h) f (suc i) (suc j) l = files_never_fall q e.file
 -- ---- a batch stands in its file
 
 -- these steps stand in this file
-abbrev AreHere : ℕ → List RegionStep → Type 0
-AreHere file steps = AllByRecursion (λ (s : RegionStep). StepRises file file s.step) steps
+abbrev AreHere : LogQueue → ℕ → List RegionStep → Type 0
+AreHere q file steps = AllByRecursion (λ (s : RegionStep). StepRises q file file s.step) steps
 
 -- a batch has the file of its number, and its steps stand there
-record IsFiled (file : ℕ → ℕ) (p : Numbered) : Type 0 where
+record IsFiled (q : LogQueue) (file : ℕ → ℕ) (p : Numbered) : Type 0 where
   number : p.batch.file ≡ file p.number
-  here : AreHere p.batch.file p.batch.steps
+  here : AreHere q p.batch.file p.batch.steps
 
-content_here : (file : FileId) (content : Content) (s : Step) → IsInFile file content → content_step content ≡ Some s → StepRises file.seq file.seq s
-content_here file (entries es) s h e = subst (StepRises file.seq file.seq) (same_some (Run es) s e) (run_here file es h.1)
-content_here file (command commands.Clean) s h e = subst (StepRises file.seq file.seq) (same_some Clean s e) (omega arith)
-content_here file (command (commands.Compact index)) s h e = subst (StepRises file.seq file.seq) (same_some (Compact index) s e) (omega arith)
+content_here : (file : FileId) (content : Content) (s : Step) → IsInFile file content → content_step content ≡ Some s → StepRises file.queue file.seq file.seq s
+content_here file (entries es) s h e = subst (StepRises file.queue file.seq file.seq) (same_some (Run es) s e) (run_here file es h.1)
+content_here file (command commands.Clean) s h e = subst (StepRises file.queue file.seq file.seq) (same_some Clean s e) (omega arith)
+content_here file (command (commands.Compact index)) s h e = subst (StepRises file.queue file.seq file.seq) (same_some (Compact index) s e) (omega arith)
 content_here file (pair p) s h e = go (is_reserved p.key) e
   where
-    put : (value : Option (List ℕ)) (id : Option FileId) → put_step p.key value id ≡ Some s → StepRises file.seq file.seq s
-    put (Some value) (Some id) e = subst (StepRises file.seq file.seq) (same_some (Put p.key value id) s e) (omega arith)
+    put : (value : Option (List ℕ)) (id : Option FileId) → put_step p.key value id ≡ Some s → StepRises file.queue file.seq file.seq s
+    put (Some value) (Some id) e = subst (StepRises file.queue file.seq file.seq) (same_some (Put p.key value id) s e) (omega arith)
     put (Some value) None e = absurd cc
     put None id e = absurd cc
 
-    of : (o : OpType) → pair_step o p.key p.value p.file_id ≡ Some s → StepRises file.seq file.seq s
+    of : (o : OpType) → pair_step o p.key p.value p.file_id ≡ Some s → StepRises file.queue file.seq file.seq s
     of operations.Put e = put p.value p.file_id e
-    of operations.Del e = subst (StepRises file.seq file.seq) (same_some (Del p.key) s e) (omega arith)
+    of operations.Del e = subst (StepRises file.queue file.seq file.seq) (same_some (Del p.key) s e) (omega arith)
 
-    go : (b : Bool) → cond b None (pair_step p.op_type p.key p.value p.file_id) ≡ Some s → StepRises file.seq file.seq s
+    go : (b : Bool) → cond b None (pair_step p.op_type p.key p.value p.file_id) ≡ Some s → StepRises file.queue file.seq file.seq s
     go true e = absurd cc
     go false e = of p.op_type e
 
-items_here : (file : FileId) (items : List Item) → AreInFile file items → AreHere file.seq (steps_of_items items)
+items_here : (file : FileId) (items : List Item) → AreInFile file items → AreHere file.queue file.seq (steps_of_items items)
 items_here file [] h = tt
 items_here file (item ∷ items) h = go (content_step item.content) (λ s e. content_here file item.content s h.0 e) (items_here file items h.1)
   where
-    go : (o : Option Step) → ((s : Step) → o ≡ Some s → StepRises file.seq file.seq s) → AreHere file.seq (steps_of_items items) → AreHere file.seq (with_step item.raft_group_id o (steps_of_items items))
+    go : (o : Option Step) → ((s : Step) → o ≡ Some s → StepRises file.queue file.seq file.seq s) → AreHere file.queue file.seq (steps_of_items items) → AreHere file.queue file.seq (with_step item.raft_group_id o (steps_of_items items))
     go None each rest = rest
     go (Some s) each rest = (each s refl, rest)
 
-all_filed : (q : LogQueue) (file : ℕ → ℕ) (seq n : ℕ) (h : List Event) → ((i : ℕ) → file (n + i) ≡ file_of seq h i) → FilesFrom q seq h → AreInFiles h → AllByRecursion (IsFiled file) (numbered_from n (batches h))
+all_filed : (q : LogQueue) (file : ℕ → ℕ) (seq n : ℕ) (h : List Event) → ((i : ℕ) → file (n + i) ≡ file_of seq h i) → FilesFrom q seq h → AreInFiles h → AllByRecursion (IsFiled q file) (numbered_from n (batches h))
 unfolding file_of
 all_filed q file seq n [] is f a = tt
 all_filed q file seq n (e ∷ h) is f a = (
-  record { number = sym (ap file (omega arith) ∙ is 0); here = items_here e.file e.items a.0 },
+  record { number = sym (ap file (omega arith) ∙ is 0); here = subst (λ q. AreHere q e.file.seq (steps_of_items e.items)) f.0 (items_here e.file e.items a.0) },
   all_filed q file e.file.seq (suc n) h (λ i. ap file (omega arith) ∙ is (suc i)) f.2 a.1,
 )
 
 -- ---- rows of batches
 
 -- batches of a history in order, their numbers from one to another
-abbrev IsRow : (ℕ → ℕ) → ℕ → ℕ → List Numbered → Type 0
-IsRow file n m [] = n ≤ m
-IsRow file n m (p ∷ ps) = (n ≤ p.number) × IsFiled file p × IsRow file p.number m ps
+abbrev IsRow : LogQueue → (ℕ → ℕ) → ℕ → ℕ → List Numbered → Type 0
+IsRow q file n m [] = n ≤ m
+IsRow q file n m (p ∷ ps) = (n ≤ p.number) × IsFiled q file p × IsRow q file p.number m ps
 
-row_lower : (file : ℕ → ℕ) (k n m : ℕ) (ps : List Numbered) → k ≤ n → IsRow file n m ps → IsRow file k m ps
-row_lower file k n m [] l h = omega (arith, l, h)
-row_lower file k n m (p ∷ ps) l h = (omega (arith, l, h.0), h.1, h.2)
+row_lower : (q : LogQueue) (file : ℕ → ℕ) (k n m : ℕ) (ps : List Numbered) → k ≤ n → IsRow q file n m ps → IsRow q file k m ps
+row_lower q file k n m [] l h = omega (arith, l, h)
+row_lower q file k n m (p ∷ ps) l h = (omega (arith, l, h.0), h.1, h.2)
 
-row_order : (file : ℕ → ℕ) (n m : ℕ) (ps : List Numbered) → IsRow file n m ps → n ≤ m
-row_order file n m [] h = h
-row_order file n m (p ∷ ps) h = omega (arith, h.0, row_order file p.number m ps h.2)
+row_order : (q : LogQueue) (file : ℕ → ℕ) (n m : ℕ) (ps : List Numbered) → IsRow q file n m ps → n ≤ m
+row_order q file n m [] h = h
+row_order q file n m (p ∷ ps) h = omega (arith, h.0, row_order q file p.number m ps h.2)
 
 -- with one batch more behind
-row_push : (file : ℕ → ℕ) (n m k : ℕ) (ps : List Numbered) (p : Numbered) → IsRow file n m ps → m ≤ p.number → p.number ≤ k → IsFiled file p → IsRow file n k (ps ++ p ∷ [])
-row_push file n m k [] p h l u f = (omega (arith, h, l), f, u)
-row_push file n m k (q ∷ ps) p h l u f = (h.0, h.1, row_push file q.number m k ps p h.2 l u f)
+row_push : (q : LogQueue) (file : ℕ → ℕ) (n m k : ℕ) (ps : List Numbered) (p : Numbered) → IsRow q file n m ps → m ≤ p.number → p.number ≤ k → IsFiled q file p → IsRow q file n k (ps ++ p ∷ [])
+row_push q file n m k [] p h l u f = (omega (arith, h, l), f, u)
+row_push q file n m k (o ∷ ps) p h l u f = (h.0, h.1, row_push q file o.number m k ps p h.2 l u f)
 
-row_filter : (file : ℕ → ℕ) (t : Numbered → Bool) (n m : ℕ) (ps : List Numbered) → IsRow file n m ps → IsRow file n m (filter t ps)
-row_filter file t n m [] h = h
-row_filter file t n m (p ∷ ps) h = elim (t p) as (λ b. IsRow file n m (cond b (p ∷ filter t ps) (filter t ps))) [
-  | true ↦ (h.0, h.1, row_filter file t p.number m ps h.2)
-  | false ↦ row_lower file n p.number m (filter t ps) h.0 (row_filter file t p.number m ps h.2)
+row_filter : (q : LogQueue) (file : ℕ → ℕ) (t : Numbered → Bool) (n m : ℕ) (ps : List Numbered) → IsRow q file n m ps → IsRow q file n m (filter t ps)
+row_filter q file t n m [] h = h
+row_filter q file t n m (p ∷ ps) h = elim (t p) as (λ b. IsRow q file n m (cond b (p ∷ filter t ps) (filter t ps))) [
+  | true ↦ (h.0, h.1, row_filter q file t p.number m ps h.2)
+  | false ↦ row_lower q file n p.number m (filter t ps) h.0 (row_filter q file t p.number m ps h.2)
 ]
 
-row_open : (file : ℕ → ℕ) (n m : ℕ) (ps : List Numbered) → IsRow file n m ps → IsRow file n m (open_stretch ps)
+row_open : (q : LogQueue) (file : ℕ → ℕ) (n m : ℕ) (ps : List Numbered) → IsRow q file n m ps → IsRow q file n m (open_stretch ps)
 unfolding open_stretch
-row_open file n m [] h = h
-row_open file n m (p ∷ ps) h = elim (begins p.batch.marker && are_middles ps) as (λ b. IsRow file n m (cond b (p ∷ ps) (open_stretch ps))) [
+row_open q file n m [] h = h
+row_open q file n m (p ∷ ps) h = elim (begins p.batch.marker && are_middles ps) as (λ b. IsRow q file n m (cond b (p ∷ ps) (open_stretch ps))) [
   | true ↦ h
-  | false ↦ row_lower file n p.number m (open_stretch ps) h.0 (row_open file p.number m ps h.2)
+  | false ↦ row_lower q file n p.number m (open_stretch ps) h.0 (row_open q file p.number m ps h.2)
 ]
 
-here_rises : (file r : ℕ) (steps : List RegionStep) → AreHere file steps → StepsRise file file (steps_on r steps)
+here_rises : (q : LogQueue) (file r : ℕ) (steps : List RegionStep) → AreHere q file steps → StepsRise q file file (steps_on r steps)
 unfolding steps_on
-here_rises file r [] h = omega arith
-here_rises file r (s ∷ steps) h = elim (is_on r s) as (λ b. StepsRise file file (map (λ (s : RegionStep). s.step) (cond b (s ∷ filter (is_on r) steps) (filter (is_on r) steps)))) [
-  | true ↦ (file, h.0, here_rises file r steps h.1)
-  | false ↦ here_rises file r steps h.1
+here_rises q file r [] h = omega arith
+here_rises q file r (s ∷ steps) h = elim (is_on r s) as (λ b. StepsRise q file file (map (λ (s : RegionStep). s.step) (cond b (s ∷ filter (is_on r) steps) (filter (is_on r) steps)))) [
+  | true ↦ (file, h.0, here_rises q file r steps h.1)
+  | false ↦ here_rises q file r steps h.1
 ]
 
-row_rises : (file : ℕ → ℕ) (r n m : ℕ) (ps : List Numbered) → NeverFalls file → IsRow file n m ps → StepsRise (file n) (file m) (steps_on r (region_steps_of ps))
+row_rises : (q : LogQueue) (file : ℕ → ℕ) (r n m : ℕ) (ps : List Numbered) → NeverFalls file → IsRow q file n m ps → StepsRise q (file n) (file m) (steps_on r (region_steps_of ps))
 unfolding steps_on
-row_rises file r n m [] up h = up n m h
-row_rises file r n m (p ∷ ps) up h = subst (StepsRise (file n) (file m)) (sym (own-append r p.batch.steps (region_steps_of ps)))
-    (rise-append (file n) (file p.number) (file m) (steps_on r p.batch.steps) (steps_on r (region_steps_of ps))
-    (steps_lower (file n) (file p.number) (file p.number) (steps_on r p.batch.steps) (up n p.number h.0) (subst (λ x. StepsRise x x (steps_on r p.batch.steps)) h.1.number (here_rises p.batch.file r p.batch.steps h.1.here)))
-    (row_rises file r p.number m ps up h.2))
+row_rises q file r n m [] up h = up n m h
+row_rises q file r n m (p ∷ ps) up h = subst (StepsRise q (file n) (file m)) (sym (own-append r p.batch.steps (region_steps_of ps)))
+    (rise-append q (file n) (file p.number) (file m) (steps_on r p.batch.steps) (steps_on r (region_steps_of ps))
+    (steps_lower q (file n) (file p.number) (file p.number) (steps_on r p.batch.steps) (up n p.number h.0) (subst (λ x. StepsRise q x x (steps_on r p.batch.steps)) h.1.number (here_rises q p.batch.file r p.batch.steps h.1.here)))
+    (row_rises q file r p.number m ps up h.2))
 
 -- ---- effects
 
 -- the batches of an effect are a row
-abbrev HasRow : (ℕ → ℕ) → Effect → Type 0
-HasRow file e = IsRow file (first_in e) (last_in e) (e.earlier ++ e.last ∷ [])
+abbrev HasRow : LogQueue → (ℕ → ℕ) → Effect → Type 0
+HasRow q file e = IsRow q file (first_in e) (last_in e) (e.earlier ++ e.last ∷ [])
 
-effect_order : (file : ℕ → ℕ) (e : Effect) → HasRow file e → first_in e ≤ last_in e
-effect_order file e h = row_order file (first_in e) (last_in e) (e.earlier ++ e.last ∷ []) h
+effect_order : (q : LogQueue) (file : ℕ → ℕ) (e : Effect) → HasRow q file e → first_in e ≤ last_in e
+effect_order q file e h = row_order q file (first_in e) (last_in e) (e.earlier ++ e.last ∷ []) h
 
-effect_rises : (file : ℕ → ℕ) (r : ℕ) (e : Effect) → NeverFalls file → HasRow file e → StepsRise (file (first_in e)) (file (last_in e)) (steps_in r e)
+effect_rises : (q : LogQueue) (file : ℕ → ℕ) (r : ℕ) (e : Effect) → NeverFalls file → HasRow q file e → StepsRise q (file (first_in e)) (file (last_in e)) (steps_in r e)
 unfolding whole_steps
-effect_rises file r e up h = go e.earlier h
+effect_rises q file r e up h = go e.earlier h
   where
-    go : (l : List Numbered) → IsRow file (first_by l e.last) (last_in e) (l ++ e.last ∷ []) → StepsRise (file (first_by l e.last)) (file (last_in e)) (steps_by r l e.last)
-    go [] h = subst (λ is. StepsRise (file (last_in e)) (file (last_in e)) (steps_on r is)) (append-nil e.last.batch.steps) (row_rises file r (last_in e) (last_in e) (e.last ∷ []) up h)
-    go (q ∷ qs) h = rise-append (file q.number) (file (last_in e)) (file (last_in e)) (steps_on r all) (cond (names r all) (AtomicGroup q.batch.file e.last.batch.file ∷ []) [])
-        (subst (λ is. StepsRise (file q.number) (file (last_in e)) (steps_on r is)) same (row_rises file r q.number (last_in e) ((q ∷ qs) ++ e.last ∷ []) up h))
+    go : (l : List Numbered) → IsRow q file (first_by l e.last) (last_in e) (l ++ e.last ∷ []) → StepsRise q (file (first_by l e.last)) (file (last_in e)) (steps_by r l e.last)
+    go [] h = subst (λ is. StepsRise q (file (last_in e)) (file (last_in e)) (steps_on r is)) (append-nil e.last.batch.steps) (row_rises q file r (last_in e) (last_in e) (e.last ∷ []) up h)
+    go (o ∷ os) h = rise-append q (file o.number) (file (last_in e)) (file (last_in e)) (steps_on r all) (cond (names r all) (AtomicGroup o.batch.file e.last.batch.file ∷ []) [])
+        (subst (λ is. StepsRise q (file o.number) (file (last_in e)) (steps_on r is)) same (row_rises q file r o.number (last_in e) ((o ∷ os) ++ e.last ∷ []) up h))
         (ends (names r all))
       where
         all : List RegionStep
-        all = region_steps_of (q ∷ qs) ++ e.last.batch.steps
+        all = region_steps_of (o ∷ os) ++ e.last.batch.steps
 
-        same : region_steps_of ((q ∷ qs) ++ e.last ∷ []) ≡ all
-        same = flat_map-append (λ (p : Numbered). p.batch.steps) (q ∷ qs) (e.last ∷ []) ∙ ap (λ l. region_steps_of (q ∷ qs) ++ l) (append-nil e.last.batch.steps)
+        same : region_steps_of ((o ∷ os) ++ e.last ∷ []) ≡ all
+        same = flat_map-append (λ (p : Numbered). p.batch.steps) (o ∷ os) (e.last ∷ []) ∙ ap (λ l. region_steps_of (o ∷ os) ++ l) (append-nil e.last.batch.steps)
 
-        ends : (b : Bool) → StepsRise (file (last_in e)) (file (last_in e)) (cond b (AtomicGroup q.batch.file e.last.batch.file ∷ []) [])
+        ends : (b : Bool) → StepsRise q (file (last_in e)) (file (last_in e)) (cond b (AtomicGroup o.batch.file e.last.batch.file ∷ []) [])
         ends true = (file (last_in e), omega arith, omega arith)
         ends false = omega arith
 
-completed_rows : (file : ℕ → ℕ) (n : ℕ) (olds : List Numbered) (p : Numbered) → IsRow file 0 n olds → n ≤ p.number → IsFiled file p → AllByRecursion (HasRow file) (completed olds p)
+completed_rows : (q : LogQueue) (file : ℕ → ℕ) (n : ℕ) (olds : List Numbered) (p : Numbered) → IsRow q file 0 n olds → n ≤ p.number → IsFiled q file p → AllByRecursion (HasRow q file) (completed olds p)
 unfolding markers_of
-completed_rows file n olds p h l f = go p.batch.marker
+completed_rows q file n olds p h l f = go p.batch.marker
   where
-    end : (l : List Numbered) → IsRow file 0 n l → AllByRecursion (HasRow file) (ended l p)
+    end : (l : List Numbered) → IsRow q file 0 n l → AllByRecursion (HasRow q file) (ended l p)
     end [] h = tt
-    end (q ∷ qs) h = ((omega arith, h.1, row_push file q.number n p.number qs p h.2 l (omega arith) f), tt)
+    end (o ∷ os) h = ((omega arith, h.1, row_push q file o.number n p.number os p h.2 l (omega arith) f), tt)
 
-    go : (m : Option GroupMarker) → AllByRecursion (HasRow file) (completed_by m olds p)
+    go : (m : Option GroupMarker) → AllByRecursion (HasRow q file) (completed_by m olds p)
     go None = ((omega arith, f, omega arith), tt)
     go (Some m) = at m.status
       where
-        at : (s : AtomicGroupStatus) → AllByRecursion (HasRow file) (completed_as s (open_stretch (markers_of m.group olds)) p)
+        at : (s : AtomicGroupStatus) → AllByRecursion (HasRow q file) (completed_as s (open_stretch (markers_of m.group olds)) p)
         at Begin = tt
         at Middle = tt
-        at End = end (open_stretch (markers_of m.group olds)) (row_open file 0 n (markers_of m.group olds) (row_filter file _ 0 n olds h))
+        at End = end (open_stretch (markers_of m.group olds)) (row_open q file 0 n (markers_of m.group olds) (row_filter q file _ 0 n olds h))
 
-all_rows : (file : ℕ → ℕ) (n : ℕ) (olds : List Numbered) (bs : List ReadBatch) → IsRow file 0 n olds → AllByRecursion (IsFiled file) (numbered_from n bs) → AllByRecursion (HasRow file) (effects_behind olds (numbered_from n bs))
+all_rows : (q : LogQueue) (file : ℕ → ℕ) (n : ℕ) (olds : List Numbered) (bs : List ReadBatch) → IsRow q file 0 n olds → AllByRecursion (IsFiled q file) (numbered_from n bs) → AllByRecursion (HasRow q file) (effects_behind olds (numbered_from n bs))
 unfolding effects_behind
-all_rows file n olds [] h k = tt
-all_rows file n olds (b ∷ bs) h k = each-append (HasRow file) (completed olds (record { number = n; batch = b })) (effects_behind (olds ++ record { number = n; batch = b } ∷ []) (numbered_from (suc n) bs))
-    (completed_rows file n olds (record { number = n; batch = b }) h (omega arith) k.0)
-    (all_rows file (suc n) (olds ++ record { number = n; batch = b } ∷ []) bs (row_push file 0 n (suc n) olds (record { number = n; batch = b }) h (omega arith) (omega arith) k.0) k.1)
+all_rows q file n olds [] h k = tt
+all_rows q file n olds (b ∷ bs) h k = each-append (HasRow q file) (completed olds (record { number = n; batch = b })) (effects_behind (olds ++ record { number = n; batch = b } ∷ []) (numbered_from (suc n) bs))
+    (completed_rows q file n olds (record { number = n; batch = b }) h (omega arith) k.0)
+    (all_rows q file (suc n) (olds ++ record { number = n; batch = b } ∷ []) bs (row_push q file 0 n (suc n) olds (record { number = n; batch = b }) h (omega arith) (omega arith) k.0) k.1)
 
 -- ---- effects that are apart
 
@@ -234,29 +234,29 @@ all_follow file r e (f ∷ es) up low a l = (λ x y. up (last_in e) (first_in f)
     below : {i j : ℕ} → i < j → i ≤ j
     below h = omega (arith, h)
 
-each_follows : (file : ℕ → ℕ) (r n : ℕ) (es : List Effect) → NeverFalls file → RiseFrom n es → EachApart es → AllByRecursion (HasRow file) es → EachFollows file r es
-each_follows file r n [] up rise apart rows = tt
-each_follows file r n (e ∷ es) up rise apart rows = (
-  all_follow file r e es up (effect_order file e rows.0) apart.0 (rise_all (suc (last_in e)) es rise.1),
-  each_follows file r (suc (last_in e)) es up rise.1 apart.1 rows.1,
+each_follows : (q : LogQueue) (file : ℕ → ℕ) (r n : ℕ) (es : List Effect) → NeverFalls file → RiseFrom n es → EachApart es → AllByRecursion (HasRow q file) es → EachFollows file r es
+each_follows q file r n [] up rise apart rows = tt
+each_follows q file r n (e ∷ es) up rise apart rows = (
+  all_follow file r e es up (effect_order q file e rows.0) apart.0 (rise_all (suc (last_in e)) es rise.1),
+  each_follows q file r (suc (last_in e)) es up rise.1 apart.1 rows.1,
 )
 
-effects_rise : (file : ℕ → ℕ) (r low : ℕ) (es : List Effect) → NeverFalls file → AllByRecursion (HasRow file) es → AllByRecursion (λ e. Names r e → low ≤ file (first_in e)) es → EachFollows file r es → (high : ℕ) × StepsRise low high (all_steps r es)
+effects_rise : (q : LogQueue) (file : ℕ → ℕ) (r low : ℕ) (es : List Effect) → NeverFalls file → AllByRecursion (HasRow q file) es → AllByRecursion (λ e. Names r e → low ≤ file (first_in e)) es → EachFollows file r es → (high : ℕ) × StepsRise q low high (all_steps r es)
 unfolding all_steps
-effects_rise file r low [] up rows from follows = (low, omega arith)
-effects_rise file r low (e ∷ es) up rows from follows = go (names r (region_steps_in e)) refl (λ l k. effects_rise file r l es up rows.1 k follows.1)
+effects_rise q file r low [] up rows from follows = (low, omega arith)
+effects_rise q file r low (e ∷ es) up rows from follows = go (names r (region_steps_in e)) refl (λ l k. effects_rise q file r l es up rows.1 k follows.1)
   where
-    go : (b : Bool) → names r (region_steps_in e) ≡ b → ((l : ℕ) → AllByRecursion (λ e. Names r e → l ≤ file (first_in e)) es → (high : ℕ) × StepsRise l high (all_steps r es)) → (high : ℕ) × StepsRise low high (steps_in r e ++ all_steps r es)
+    go : (b : Bool) → names r (region_steps_in e) ≡ b → ((l : ℕ) → AllByRecursion (λ e. Names r e → l ≤ file (first_in e)) es → (high : ℕ) × StepsRise q l high (all_steps r es)) → (high : ℕ) × StepsRise q low high (steps_in r e ++ all_steps r es)
     go true is rest =
         let behind = rest (file (last_in e)) (each_weaker (Follows file r e) (λ f. Names r f → file (last_in e) ≤ file (first_in f)) (λ f k. k is) es follows.0) in
-        (behind.0, rise-append low (file (last_in e)) behind.0 (steps_in r e) (all_steps r es) (steps_lower low (file (first_in e)) (file (last_in e)) (steps_in r e) (from.0 is) (effect_rises file r e up rows.0)) behind.1)
+        (behind.0, rise-append q low (file (last_in e)) behind.0 (steps_in r e) (all_steps r es) (steps_lower q low (file (first_in e)) (file (last_in e)) (steps_in r e) (from.0 is) (effect_rises q file r e up rows.0)) behind.1)
     go false is rest =
         let behind = rest low from.1 in
-        (behind.0, subst (λ l. StepsRise low behind.0 (l ++ all_steps r es)) (sym (steps_in-none r e is)) behind.1)
+        (behind.0, subst (λ l. StepsRise q low behind.0 (l ++ all_steps r es)) (sym (steps_in-none r e is)) behind.1)
 
-pub history_rises : (q : LogQueue) (h : List Event) → IsSoundIn q h → Apart h → (r : ℕ) → (high : ℕ) × StepsRise 0 high (steps_of r (batches h))
-history_rises q h s a r = effects_rise file r 0 (effects (batches h)) up rows (each_weaker (HasRow file) (λ e. Names r e → 0 ≤ file (first_in e)) (λ e k n. omega arith) (effects (batches h)) rows)
-    (each_follows file r 0 (effects (batches h)) up (effects_are (batches h)).rise a.apart.each rows)
+pub history_rises : (q : LogQueue) (h : List Event) → IsSoundIn q h → Apart h → (r : ℕ) → (high : ℕ) × StepsRise q 0 high (steps_of r (batches h))
+history_rises q h s a r = effects_rise q file r 0 (effects (batches h)) up rows (each_weaker (HasRow q file) (λ e. Names r e → 0 ≤ file (first_in e)) (λ e k n. omega arith) (effects (batches h)) rows)
+    (each_follows q file r 0 (effects (batches h)) up (effects_are (batches h)).rise a.apart.each rows)
   where
     file : ℕ → ℕ
     file = file_of 0 h
@@ -264,5 +264,5 @@ history_rises q h s a r = effects_rise file r 0 (effects (batches h)) up rows (e
     up : NeverFalls file
     up = files_never_fall q 0 h s.files
 
-    rows : AllByRecursion (HasRow file) (effects (batches h))
-    rows = all_rows file 0 [] (batches h) (omega arith) (all_filed q file 0 0 h (λ i. ap (file_of 0 h) (omega arith)) s.files s.items)
+    rows : AllByRecursion (HasRow q file) (effects (batches h))
+    rows = all_rows q file 0 [] (batches h) (omega arith) (all_filed q file 0 0 h (λ i. ap (file_of 0 h) (omega arith)) s.files s.items)

@@ -1,26 +1,32 @@
--- The least files of the tables of one reading: those of all records, since entries stand in the order of their files.
-use Rattle.std.proofs.Common.{◌≡◌, ℕ, ◌≤◌, Bool, true, false, cond, List, [], ◌∷◌, ◌++◌, filter, min, nat_le, Option, Some, None, refl, sym, ap, subst, ◌∙◌, arith}
-use Rattle.std.specs.Prelude.{filter_map}
+-- The least files of the tables of one reading, and of both queues: those of all records, since entries stand in the order of their files.
+use Rattle.std.proofs.Common.{◌≡◌, ℕ, ◌≤◌, Bool, true, false, cond, ◌||◌, List, [], ◌∷◌, ◌++◌, min, nat_le, Option, Some, None, refl, sym, ap, subst, ◌∙◌, append-nil, arith}
+use Rattle.std.proofs.lemmas.List.Elements.{filter-append}
+use Rattle.std.specs.Prelude.{filter_map, is_some}
 use Rattle.std.specs.List.{AllByRecursion, slice_get, cons_option}
 use Rattle.std.specs.FinMap as finite
 use Rattle.raft_base.specs.declared.pipe_log.FileBlockHandle.{FileBlockHandle}
 use Rattle.raft_base.specs.declared.pipe_log.LogQueue.{LogQueue}
 use Rattle.raft_base.specs.declared.pipe_log.LogQueue.TheVariants.{Append, Rewrite}
 use Rattle.raft_base.specs.declared.entry_index.EntryIndex.{EntryIndex}
-use Rattle.raft_table.specs.Fetches.{block_seq, entry_seq, first_seq}
+use Rattle.raft_table.specs.Fetches.{block_seq, entry_seq}
 use Rattle.raft_table.specs.KeyValues.{lesser, least, files_in}
-use Rattle.raft_table.specs.Least.{least_file, lowered, least_of}
-use Rattle.raft_table.specs.Steps.{table_of}
+use Rattle.raft_table.specs.Marks.{part}
+use Rattle.raft_table.specs.Least.{least_file, lowered}
+use Rattle.raft_table.specs.Overlay.{has_clean, greatest_compaction, least_start, is_short, rewritten_part, overlay, kept_if, overlaid_table}
+use Rattle.raft_table.specs.Queues.{is_same, other}
+use Rattle.raft_table.specs.Steps.{Step, table_of}
 use Rattle.raft_table.specs.Table.{Table}
-use Rattle.raft_table.specs.TableEntries.{is_block_in, is_placed_in, placed_in}
+use Rattle.raft_table.specs.TableEntries.{end_of, is_block_in, is_placed_in, placed_in}
 use Rattle.raft_history.specs.Batches.{Event, batches}
-use Rattle.raft_history.specs.Effects.{steps_of}
+use Rattle.raft_history.specs.BothQueues.{IsReadingOfBoth}
+use Rattle.raft_history.specs.Effects.{steps_of, is_named}
 use Rattle.raft_history.specs.Histories.{IsSoundIn, Apart, IsOneReading}
 use Rattle.raft_history.specs.LeastFiles.{record_files, AreLeastFiles, IsAtOrBelow, HasNoneBelow}
 use Rattle.raft_history.specs.RegionSteps.{Tables}
 use Rattle.raft_history.proofs.EffectFileLemmas.{history_rises}
 use Rattle.raft_history.proofs.EffectLemmas.{each_weaker}
 use Rattle.raft_history.proofs.FileOrderLemmas.{seq_of, InOrder, lower, some_of, steps_order}
+use Rattle.raft_history.proofs.SoundLemmas.{append_apart}
 
 -- ---- least numbers
 
@@ -66,52 +72,121 @@ least_behind low (n ∷ ns) ms h = absorbed low n (least (ns ++ ms)) h.0 ∙ lea
 entry_files : List EntryIndex → List ℕ
 entry_files es = filter_map (λ e. block_seq e.entries) es
 
-files_from : (low high : ℕ) (es : List EntryIndex) → InOrder low high es → From low (entry_files es)
+files_from : (q : LogQueue) (low high : ℕ) (es : List EntryIndex) → InOrder q low high es → From low (entry_files es)
 unfolding entry_files
-files_from low high [] h = tt
-files_from low high (e ∷ es) h = go e.entries h.0 (files_from low high es (lower low (seq_of e.entries) high es h.0 h.1))
+files_from q low high [] h = tt
+files_from q low high (e ∷ es) h = go e.entries h.1 (files_from q low high es (lower q low (seq_of e.entries) high es h.1 h.2))
   where
     go : (o : Option FileBlockHandle) → low ≤ seq_of o → From low (filter_map (λ (e : EntryIndex). block_seq e.entries) es) → From low (cons_option (block_seq o) (filter_map (λ (e : EntryIndex). block_seq e.entries) es))
     go None l rest = rest
     go (Some block) l rest = (l, rest)
 
-placed_there : (q : LogQueue) (es : List EntryIndex) → AllByRecursion (λ (e : EntryIndex). is_placed_in q e ≡ true) (placed_in q es)
-unfolding placed_in
-placed_there q [] = tt
-placed_there q (e ∷ es) = go (is_placed_in q e) refl (placed_there q es)
-  where
-    go : (b : Bool) → is_placed_in q e ≡ b → AllByRecursion (λ (e : EntryIndex). is_placed_in q e ≡ true) (filter (is_placed_in q) es) → AllByRecursion (λ (e : EntryIndex). is_placed_in q e ≡ true) (cond b (e ∷ filter (is_placed_in q) es) (filter (is_placed_in q) es))
-    go true is rest = (is, rest)
-    go false is rest = rest
-
-first_is_least : (q : LogQueue) (low high : ℕ) (ms : List ℕ) (es : List EntryIndex) → AllByRecursion (λ (e : EntryIndex). is_placed_in q e ≡ true) es → InOrder low high es → lesser (entry_seq (slice_get es 0)) (least ms) ≡ least (entry_files es ++ ms)
+first_is_least : (q : LogQueue) (low high : ℕ) (ms : List ℕ) (es : List EntryIndex) → InOrder q low high es → lesser (entry_seq (slice_get es 0)) (least ms) ≡ least (entry_files es ++ ms)
 unfolding is_placed_in entry_files
-first_is_least q low high ms [] p h = refl
-first_is_least q low high ms (e ∷ es) p h = go e.entries p.0 (λ l. files_from l high es) h.1
+first_is_least q low high ms [] h = refl
+first_is_least q low high ms (e ∷ es) h = go e.entries h.0 (λ l. files_from q l high es) h.2
   where
-    go : (o : Option FileBlockHandle) → is_block_in q o ≡ true → ((l : ℕ) → InOrder l high es → From l (filter_map (λ (e : EntryIndex). block_seq e.entries) es)) → InOrder (seq_of o) high es
+    go : (o : Option FileBlockHandle) → is_block_in q o ≡ true → ((l : ℕ) → InOrder q l high es → From l (filter_map (λ (e : EntryIndex). block_seq e.entries) es)) → InOrder q (seq_of o) high es
         → lesser (block_seq o) (least ms) ≡ least (cons_option (block_seq o) (filter_map (λ (e : EntryIndex). block_seq e.entries) es) ++ ms)
     go None is from h = absurd cc
     go (Some block) is from h = sym (least_behind block.id.seq (filter_map (λ (e : EntryIndex). block_seq e.entries) es) ms (from block.id.seq h))
 
-least_is : (q : LogQueue) (high : ℕ) (t : Table) → InOrder 0 high t.entries → least_file q t ≡ least (record_files q t)
-unfolding placed_in entry_files
-least_is q high t h = first_is_least q 0 high (files_in q t.keys) (placed_in q t.entries) (placed_there q t.entries) (some_of _ 0 high t.entries h)
+-- in each queue the entries stand in the order of their files
+abbrev AreInOrder : List EntryIndex → Type 0
+AreInOrder es = (q : LogQueue) → (high : ℕ) × InOrder q 0 high (placed_in q es)
 
-least_files : (high : ℕ) (t : Table) → InOrder 0 high t.entries → AreLeastFiles t
-least_files high t h = record { append = least_is Append high t h; rewrite = ap (lowered t.atomic_group) (least_is Rewrite high t h) }
+least_is : (q : LogQueue) (t : Table) → AreInOrder t.entries → least_file q t ≡ least (record_files q t)
+unfolding entry_files
+least_is q t h = first_is_least q 0 (h q).0 (files_in q t.keys) (placed_in q t.entries) (h q).1
 
-none_below : (q : LogQueue) (t : Table) → AreLeastFiles t → HasNoneBelow q t
+least_files : (t : Table) → AreInOrder t.entries → AreLeastFiles t
+least_files t h = record { append = least_is Append t h; rewrite = ap (lowered t.atomic_group) (least_is Rewrite t h) }
+
+pub none_below : (q : LogQueue) (t : Table) → AreLeastFiles t → HasNoneBelow q t
 none_below Append t h = subst (λ k. AllByRecursion (IsAtOrBelow k) (record_files Append t)) (sym h.append) (least_each (record_files Append t))
 none_below Rewrite t h = subst (λ k. AllByRecursion (IsAtOrBelow k) (record_files Rewrite t)) (sym h.rewrite)
     (each_weaker (IsAtOrBelow (least (record_files Rewrite t))) (IsAtOrBelow (lowered t.atomic_group (least (record_files Rewrite t)))) (lowered_least t.atomic_group (least (record_files Rewrite t))) (record_files Rewrite t) (least_each (record_files Rewrite t)))
 
+-- ---- entries of one queue, and of both
+
+own_placed : (q : LogQueue) (low high : ℕ) (es : List EntryIndex) → InOrder q low high es → placed_in q es ≡ es
+unfolding placed_in
+own_placed q low high [] h = refl
+own_placed q low high (e ∷ es) h = rw h.0 (ap (λ l. e ∷ l) (own_placed q (seq_of e.entries) high es h.2))
+
+none_placed : (q : LogQueue) (low high : ℕ) (es : List EntryIndex) → InOrder q low high es → placed_in (other q) es ≡ []
+unfolding placed_in is_placed_in
+none_placed q low high [] h = refl
+none_placed q low high (e ∷ es) h = rw (elsewhere q e.entries h.0) (none_placed q (seq_of e.entries) high es h.2)
+  where
+    apart : (q p : LogQueue) → is_same p q ≡ true → is_same p (other q) ≡ false
+    apart Append Append is = refl
+    apart Append Rewrite is = cc
+    apart Rewrite Append is = cc
+    apart Rewrite Rewrite is = refl
+
+    elsewhere : (q : LogQueue) (o : Option FileBlockHandle) → is_block_in q o ≡ true → is_block_in (other q) o ≡ false
+    elsewhere q None is = refl
+    elsewhere q (Some block) is = apart q block.id.queue is
+
+of_one : (q : LogQueue) (high : ℕ) (es : List EntryIndex) → InOrder q 0 high es → AreInOrder es
+of_one Append high es h Append = (high, subst (InOrder Append 0 high) (sym (own_placed Append 0 high es h)) h)
+of_one Append high es h Rewrite = (0, subst (InOrder Rewrite 0 0) (sym (none_placed Append 0 high es h)) (omega arith))
+of_one Rewrite high es h Append = (0, subst (InOrder Append 0 0) (sym (none_placed Rewrite 0 high es h)) (omega arith))
+of_one Rewrite high es h Rewrite = (high, subst (InOrder Rewrite 0 high) (sym (own_placed Rewrite 0 high es h)) h)
+
+placed-append : (q : LogQueue) (xs ys : List EntryIndex) → placed_in q (xs ++ ys) ≡ placed_in q xs ++ placed_in q ys
+unfolding placed_in
+placed-append q xs ys = filter-append (is_placed_in q) xs ys
+
+of_two : (low high : ℕ) (xs ys : List EntryIndex) → InOrder Rewrite 0 low xs → InOrder Append 0 high ys → AreInOrder (xs ++ ys)
+of_two low high xs ys h k Append = (high, subst (InOrder Append 0 high) (sym (placed-append Append xs ys ∙ ap (λ l. l ++ placed_in Append ys) (none_placed Rewrite 0 low xs h) ∙ own_placed Append 0 high ys k)) k)
+of_two low high xs ys h k Rewrite = (low, subst (InOrder Rewrite 0 low) (sym (placed-append Rewrite xs ys ∙ ap (λ l. placed_in Rewrite xs ++ l) (none_placed Append 0 high ys k) ∙ append-nil (placed_in Rewrite xs) ∙ own_placed Rewrite 0 low xs h)) h)
+
 -- ---- a history
+
+reading_order : (q : LogQueue) (h : List Event) (tables : Tables) (cleaned : List ℕ) → IsSoundIn q h → Apart h → IsOneReading q h tables cleaned → (r : ℕ) → (high : ℕ) × InOrder q 0 high (table_of r (finite.get tables r)).entries
+reading_order q h tables cleaned s a one r =
+    let rises = history_rises q h s a r in
+    (rises.0, steps_order q 0 rises.0 r None (finite.get tables r) (steps_of r (batches h)) rises.1 (omega arith) (one.tables_read r))
 
 pub least_read : (q : LogQueue) (h : List Event) (tables : Tables) (cleaned : List ℕ) → IsSoundIn q h → Apart h → IsOneReading q h tables cleaned → (r : ℕ) → AreLeastFiles (table_of r (finite.get tables r))
 least_read q h tables cleaned s a one r =
-    let rises = history_rises q h s a r in
-    least_files rises.0 (table_of r (finite.get tables r)) (steps_order q 0 rises.0 r None (finite.get tables r) (steps_of r (batches h)) rises.1 (omega arith) (one.tables_read r))
+    let order = reading_order q h tables cleaned s a one r in
+    least_files (table_of r (finite.get tables r)) (of_one q order.0 (table_of r (finite.get tables r)).entries order.1)
 
-pub none_below_read : (q : LogQueue) (h : List Event) (tables : Tables) (cleaned : List ℕ) → IsSoundIn q h → Apart h → IsOneReading q h tables cleaned → (r : ℕ) (p : LogQueue) → HasNoneBelow p (table_of r (finite.get tables r))
-none_below_read q h tables cleaned s a one r p = none_below p (table_of r (finite.get tables r)) (least_read q h tables cleaned s a one r)
+-- ---- both queues
+
+overlay_order : (ss : List Step) (low high : ℕ) (appended rewritten : Table) → InOrder Rewrite 0 low rewritten.entries → InOrder Append 0 high appended.entries → AreInOrder (overlay ss appended rewritten).entries
+unfolding part
+overlay_order ss low high appended rewritten h k = go (has_clean ss)
+  where
+    kept : InOrder Rewrite 0 low (rewritten_part (greatest_compaction ss) (least_start ss) rewritten.entries)
+    kept = elim (is_short (least_start ss) (end_of rewritten.entries)) as (λ b. InOrder Rewrite 0 low (cond b [] (part (greatest_compaction ss) (least_start ss) rewritten.entries))) [
+      | true ↦ omega arith
+      | false ↦ some_of Rewrite _ 0 low rewritten.entries h
+    ]
+
+    go : (b : Bool) → AreInOrder (cond b appended.entries (rewritten_part (greatest_compaction ss) (least_start ss) rewritten.entries ++ appended.entries))
+    go true = of_one Append high appended.entries k
+    go false = of_two low high (rewritten_part (greatest_compaction ss) (least_start ss) rewritten.entries) appended.entries kept k
+
+kept_order : (b : Bool) (r : ℕ) (t : Table) → AreInOrder t.entries → AreInOrder (table_of r (kept_if b t)).entries
+kept_order true r t h = h
+kept_order false r t h = of_one Append 0 [] (omega arith)
+
+pub least_of_both : (h g : List Event) (tables : Tables) (cleaned : List ℕ) → IsSoundIn Rewrite h → Apart h → IsSoundIn Append g → IsReadingOfBoth h g tables cleaned → (r : ℕ) → AreLeastFiles (table_of r (finite.get tables r))
+least_of_both h g tables cleaned s a t b r = subst (λ (o : Option Table). AreLeastFiles (table_of r o)) (sym (b.overlaid r)) (go (is_named r (batches g)))
+  where
+    old : (low : ℕ) × InOrder Rewrite 0 low (table_of r (finite.get b.rewritten r)).entries
+    old = reading_order Rewrite h b.rewritten [] s a b.rewrite_read r
+
+    new : (high : ℕ) × InOrder Append 0 high (table_of r (finite.get b.appended r)).entries
+    new = reading_order Append g b.appended cleaned t (record { apart = append_apart 0 g t.files }) b.append_read r
+
+    go : (n : Bool) → AreLeastFiles (table_of r (cond n (overlaid_table r (steps_of r (batches g)) (finite.get b.appended r) (finite.get b.rewritten r)) (finite.get b.rewritten r)))
+    go true = least_files (table_of r (overlaid_table r (steps_of r (batches g)) (finite.get b.appended r) (finite.get b.rewritten r)))
+        (kept_order (cond (has_clean (steps_of r (batches g))) (is_some (finite.get b.appended r)) (is_some (finite.get b.appended r) || is_some (finite.get b.rewritten r))) r
+        (overlay (steps_of r (batches g)) (table_of r (finite.get b.appended r)) (table_of r (finite.get b.rewritten r)))
+        (overlay_order (steps_of r (batches g)) old.0 new.0 (table_of r (finite.get b.appended r)) (table_of r (finite.get b.rewritten r)) old.1 new.1))
+    go false = least_files (table_of r (finite.get b.rewritten r)) (of_one Rewrite old.0 (table_of r (finite.get b.rewritten r)).entries old.1)

@@ -21,7 +21,7 @@ pub record AreLeastFiles (t : Table) : Type 0 where
 -- a least number, if there is one, is at or below this one
 abbrev pub IsAtOrBelow : Option ℕ → ℕ → Type 0
 IsAtOrBelow None n = ⊥
-IsAtOrBelow (Some least) n = least ≤ n
+IsAtOrBelow (Some low) n = low ≤ n
 
 -- none of a table's records in a queue is in a file below its least one there
 abbrev pub HasNoneBelow : LogQueue → Table → Type 0

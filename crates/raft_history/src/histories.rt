@@ -4,7 +4,7 @@ ghost use Rattle.std.specs.Prelude.{◌≡◌, ℕ, List, ◌++◌, Some, None, 
 ghost use Rattle.std.specs.FinMap as finite;
 ghost use Rattle.raft_base.specs.declared.pipe_log.FileId.{FileId};
 ghost use Rattle.raft_base.specs.declared.pipe_log.LogQueue.{LogQueue};
-ghost use Rattle.raft_base.specs.declared.pipe_log.LogQueue.TheVariants.{Append};
+ghost use Rattle.raft_base.specs.declared.pipe_log.LogQueue.TheVariants.{Append, Rewrite};
 ghost use Rattle.raft_records.specs.Item.{Item};
 ghost use Rattle.raft_records.specs.ReadIn.{AreReadIn};
 ghost use Rattle.raft_table.specs.TableEntries.{entry_at};
@@ -12,6 +12,7 @@ ghost use Rattle.raft_table.specs.LastWord.{last_entry, last_pair};
 ghost use Rattle.raft_table.specs.Steps.{after, table_of};
 ghost use Rattle.raft_history.specs.RegionSteps.{RegionStep, Tables, steps_on, steps_of_items, reading};
 ghost use Rattle.raft_history.specs.Batches.{Event};
+ghost use Rattle.raft_history.specs.BothQueues.{IsReadingOfBoth};
 ghost use Rattle.raft_history.specs.LeastFiles.{AreLeastFiles, HasNoneBelow};
 ghost use Rattle.raft_history.specs.Histories.{IsSmall, Sound, IsSoundIn, Apart, AreInFile, IsOfQueue, IsOneReading};
 
@@ -66,6 +67,17 @@ pub fn least_files_are_least()
         → (r : ℕ) → AreLeastFiles (table_of r (finite.get tables r)) }
     ensures lowest { (queue : LogQueue) (h : List Event) (tables : Tables) (cleaned : List ℕ) → IsSoundIn queue h
         → Apart h → IsOneReading queue h tables cleaned
+        → (r : ℕ) (q : LogQueue) → HasNoneBelow q (table_of r (finite.get tables r)) }
+{}
+
+/// So are those of a region's table in what both queues give together, where each history is sound and the
+/// effects of the rewrite queue's are apart.
+pub fn least_files_of_both_are_least()
+    ensures equal { (rewrite append : List Event) (tables : Tables) (cleaned : List ℕ) → IsSoundIn Rewrite rewrite
+        → Apart rewrite → IsSoundIn Append append → IsReadingOfBoth rewrite append tables cleaned
+        → (r : ℕ) → AreLeastFiles (table_of r (finite.get tables r)) }
+    ensures lowest { (rewrite append : List Event) (tables : Tables) (cleaned : List ℕ) → IsSoundIn Rewrite rewrite
+        → Apart rewrite → IsSoundIn Append append → IsReadingOfBoth rewrite append tables cleaned
         → (r : ℕ) (q : LogQueue) → HasNoneBelow q (table_of r (finite.get tables r)) }
 {}
 

@@ -10,7 +10,7 @@ use Rattle.std.specs.List.{AllByRecursion}
 use Rattle.raft_base.specs.declared.errors.Error.{Error}
 use Rattle.raft_base.specs.declared.errors.Error.TheVariants as errors
 use Rattle.raft_base.specs.declared.pipe_log.LogFileContext.{LogFileContext}
-use Rattle.raft_recover.specs.Requests.{NamesFile, IsPathWord, AsksBatch, File, IsFileOfWord, AreRead, IsFileFault, IsFilesFault}
+use Rattle.raft_recover.specs.Requests.{NamesFile, IsPathWord, AsksBatch, File, IsFileOfWord, AreRead, IsFilesFault}
 
 -- a list of four is its items
 pub four_items : {X : Type 0} (xs : List X) (a b c d : X) → 4 ≤ length xs → length xs < 5 → a ≡ get_or xs 0 a → b ≡ get_or xs 1 b → c ≡ get_or xs 2 c → d ≡ get_or xs 3 d → xs ≡ a ∷ b ∷ c ∷ d ∷ []
@@ -53,8 +53,8 @@ none_holds None p = p
 none_holds (Some x) p = tt
 
 -- the file of one of some words isn't read
-pub files_fault : (words : List (List ℕ)) (word : List ℕ) (e : Error) → (AllByRecursion IsPathWord words → IsPathWord word) → IsFileFault word e → IsFilesFault words e
-files_fault words word (errors.InvalidArgument text) h f = λ all. f (h all)
+pub files_fault : (words : List (List ℕ)) (word : List ℕ) (e : Error) → (AllByRecursion IsPathWord words → IsPathWord word) → IsFilesFault (word ∷ []) e → IsFilesFault words e
+files_fault words word (errors.InvalidArgument text) h f = λ all. f (h all, tt)
 files_fault words word (errors.Io e) h f = tt
 files_fault words word errors.Memory h f = tt
 files_fault words word _ h f = absurd f

@@ -68,13 +68,6 @@ AreRead [] (file ∷ files) = ⊥
 AreRead (word ∷ words) [] = ⊥
 AreRead (word ∷ words) (file ∷ files) = IsFileOfWord word file × AreRead words files
 
--- why the file of a word isn't read: the word names none, the reading failed, or want of memory
-abbrev pub IsFileFault : List ℕ → Error → Type 0
-IsFileFault word (errors.InvalidArgument text) = IsPathWord word → ⊥
-IsFileFault word (errors.Io e) = Unit {0}
-IsFileFault word errors.Memory = Unit {0}
-IsFileFault word _ = ⊥
-
 -- why files are not read: some word names none, a reading failed, or want of memory
 abbrev pub IsFilesFault : List (List ℕ) → Error → Type 0
 IsFilesFault words (errors.InvalidArgument text) = AllByRecursion IsPathWord words → ⊥

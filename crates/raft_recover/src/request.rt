@@ -1,11 +1,11 @@
 //! What the words of a command line ask for.
 
-ghost use Rattle.std.specs.Prelude.{◌≡◌, ℕ, List, IfOk, IfErr, IfSome, IfNone, MatchBool, map, string_bytes};
+ghost use Rattle.std.specs.Prelude.{◌≡◌, ℕ, List, [], ◌∷◌, IfOk, IfErr, IfSome, IfNone, MatchBool, map, string_bytes};
 ghost use Rattle.std.specs.List.{AllByRecursion};
 ghost use Rattle.raft_base.specs.declared.pipe_log.LogFileContext.{LogFileContext};
 ghost use Rattle.raft_base.specs.declared.pipe_log.LogQueue.{LogQueue};
 ghost use Rattle.raft_base.specs.declared.pipe_log.Version.{Version};
-ghost use Rattle.raft_recover.specs.Requests.{queue_word, version_word, IsNumberWord, NamesFile, NamesPath, IsPathWord, IsFileOfWord, AreRead, IsFileFault, IsFilesFault, AskedRecovery, AsksBatch, AsksRecovery, AsksNothing};
+ghost use Rattle.raft_recover.specs.Requests.{queue_word, version_word, IsNumberWord, NamesFile, NamesPath, IsPathWord, IsFileOfWord, AreRead, IsFilesFault, AskedRecovery, AsksBatch, AsksRecovery, AsksNothing};
 ghost use Rattle.raft_recover.specs.RequestView.{IsAsked, asks_for, file_shown};
 
 use raft_base::{Error, FileId, FileSeq, LogFileContext, LogQueue, Result, Version};
@@ -134,7 +134,7 @@ pub fn read_files<R: Files + AllocGlobal>(
 /// Reads the file that a word names.
 fn read_file<R: Files + AllocGlobal>(rt: &R, word: &str) -> Result<(FileSeq, Vec<u8>)>
     ensures ok { IfOk result (λ file. IsFileOfWord word.now (file_shown file)) }
-    ensures fault { IfErr result (IsFileFault word.now) }
+    ensures fault { IfErr result (IsFilesFault (word.now ∷ [])) }
 {
     let Some((seq, path)) = path_named(word) else {
         return Err(Error::InvalidArgument(format!(in rt.alloc(); "no file is named: {word}")?));

@@ -1,8 +1,8 @@
-use Rattle.std.proofs.Common.{List, ◌∷◌, ◌++◌, ◌+◌, map, string_bytes, drop, ap, sym, subst, ◌∙◌}
+use Rattle.std.proofs.Common.{List, [], ◌∷◌, ◌++◌, ◌+◌, map, string_bytes, drop, ap, sym, subst, ◌∙◌}
 use Rattle.std.proofs.lemmas.List.{map_push}
 use Rattle.std.proofs.lemmas.Result.{err_from_is_err_and}
 use Rattle.std.specs.List.{AllByRecursion}
-use Rattle.raft_recover.specs.Requests.{File, IsPathWord, IsFileOfWord, AreRead, IsFileFault}
+use Rattle.raft_recover.specs.Requests.{File, IsPathWord, IsFileOfWord, AreRead, IsFilesFault}
 use Rattle.raft_recover.specs.RequestView.{file_shown}
 use Rattle.raft_recover.proofs.RequestLemmas.{files_fault, next_item, none_left, one_more, all_read}
 use Rattle.raft_recover.proofs.request.read_files.Goals as goal
@@ -23,7 +23,7 @@ returns-in_err-read_file-clause-fault g c =
     let next = next_item c.args.words.now c.loop-word.word-index c.word-item.result c.loop-word-test.true c.word-item.is in
     rw (p.1, p.2) (files_fault (map string_bytes c.args.words.now) (string_bytes c.word-item.result) _
     (λ all. (subst (λ ws. AllByRecursion IsPathWord (map string_bytes ws)) next (c.loop-word.invariant.1 all)).0)
-    (subst (λ w. IsFileFault w c.in_err-read_file.field-0.0) c.as_str.ensures.value c.in_err-read_file.ensures.fault))
+    (subst (λ w. IsFilesFault (w ∷ []) c.in_err-read_file.field-0.0) c.as_str.ensures.value c.in_err-read_file.ensures.fault))
 
 pub returns-clause-ok : goal.returns-clause-ok
 returns-clause-ok g c =

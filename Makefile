@@ -33,11 +33,14 @@ wrong-bodies:
 edits:
 	@tools/wrong_bodies.py --applies
 
-# Times checksums, numbers, batches, tables and those that threads share.
+# Times checksums, numbers, batches, tables and those that threads share, and as `make bench LOG='append 2 1 1=a.log ..'`, with
+# the words of `raftlog recover`, the recovery of files and the merging of their contexts.
+LOG ?=
 bench:
 	@mkdir -p crates/raft_bench/out
 	@cd crates/raft_bench && $(RT) run > out/bench.log 2>&1 || { cat out/bench.log; exit 1; }
 	@crates/raft_bench/out/raft_bench crc32 varint batches memtable blocks shared
+	@test -z "$(LOG)" || { crates/raft_bench/out/raft_bench recover $(LOG) && crates/raft_bench/out/raft_bench merge recover $(LOG); }
 
 # Runs `raftlog recover` over a folder of cases, as `make compare CASES=folder WORKERS=1,2,4,8`, and counts those that it
 # answers otherwise than they say. `make raftlog` builds it first.

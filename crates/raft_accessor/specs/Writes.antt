@@ -160,7 +160,7 @@ NoneMixesQueues w m (item ∷ items) =
     (MixesQueues w (table_of item.raft_group_id (finite.get m item.raft_group_id)) item.content → ⊥)
     × ((t : Option Table) → after_content w item.raft_group_id (finite.get m item.raft_group_id) item.content ≡ Some t → NoneMixesQueues w (with_table m item.raft_group_id t) items)
 
--- why a content is refused, `live` records being live in the queue: it isn't as asked, or its change is refused; it would be read again into a table of the other queue; more than 2^64 - 1 records would be live; or want of memory
+-- why a content is refused, `live` records being live in the queue: it isn't as asked, or its change is refused; it would be read again into a table of the other queue; the live records and those that it names are more than 2^64 - 1; or want of memory
 abbrev pub IsWriteFault : Writing → ℕ → Option Table → ℕ → Content → Error → Type 0
 IsWriteFault w id o live content (errors.Corruption text) = (IsFor w content → ⊥) ⊎ (after_content w id o content ≡ None)
 IsWriteFault w id o live content (errors.InvalidArgument text) = MixesQueues w (table_of id o) content

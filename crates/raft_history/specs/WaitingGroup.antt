@@ -60,7 +60,7 @@ open_stretch (p ∷ ps) = cond (begins p.batch.marker && are_middles ps) (p ∷ 
 abbrev pub region_steps_of : List Numbered → List RegionStep
 region_steps_of ps = flat_map (λ p. p.batch.steps) ps
 
--- what stands before a group's first Begin, up to the first End. (Of markers of a group, each batch has one.)
+-- what stands before a group's first Begin, up to the first End: open with the steps so far where neither came yet, ended with the steps up to an End that came first and its file, or cut where a Begin came first, before which nothing stands. (Of markers of a group, each batch has one.)
 pub data GroupFront : Type 0 where
   Open : List RegionStep → GroupFront
   Ended : List RegionStep → ℕ → GroupFront

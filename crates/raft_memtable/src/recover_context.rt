@@ -73,7 +73,8 @@ impl MemTableRecoverContext {
     /// it is failed. `Corruption` where a place isn't in the file, a `Put` that isn't skipped lacks its
     /// value or has another file, entries are not consecutive, the file is of another queue than the
     /// files before or below the last of them, a group marker's status is unknown, or entries leave a
-    /// hole; `Full` where more than 2^64 - 1 records would be live; `Memory`.
+    /// hole; `Full` where the live records and those that the batch, or the group that it ends, names are more
+    /// than 2^64 - 1; `Memory`.
     pub fn replay(&mut self, batch: LogItemBatch, file_id: FileId) -> Result<()>
         ensures ok { OnOk result (IsTakenIn (event batch file_id) self.old self.new) }
         ensures fault { IfErr result (IsBatchFault self.old (event batch file_id)) }
@@ -101,7 +102,7 @@ impl MemTableRecoverContext {
     /// `Failed` where the context doesn't read on, and then it stays as it is. After any other refusal
     /// it is failed. `Failed` also where `rhs` doesn't read on; `InvalidArgument` for another queue
     /// than that of either; `Corruption` where the first file of `rhs` is below the last one, or
-    /// entries leave a hole; `Full` where more than 2^64 - 1 records would be live; `Memory`.
+    /// entries leave a hole; `Full` where both hold more than 2^64 - 1 records; `Memory`.
     pub fn merge(&mut self, rhs: MemTableRecoverContext, queue: LogQueue) -> Result<()>
         ensures ok { OnOk result (IsMergedWith queue rhs self.old self.new) }
         ensures fault { IfErr result (IsNeighbourFault queue self.old rhs) }
@@ -138,8 +139,8 @@ impl MemTableRecoverContext {
     ///
     /// `Failed` where the context doesn't read on, and then it stays as it is. After any other refusal
     /// it is failed. `Failed` also where `append` doesn't read on; `InvalidArgument` where this context
-    /// is of the append queue, or `append` of the rewrite queue; `Full` where more than 2^64 - 1 records
-    /// would be live; `Memory`.
+    /// is of the append queue, or `append` of the rewrite queue; `Full` where both hold more than 2^64 - 1
+    /// records; `Memory`.
     pub fn merge_append_context(&mut self, append: MemTableRecoverContext) -> Result<()>
         ensures ok { OnOk result (IsOverlaidWith append self.old self.new) }
         ensures exact { (rewrite appended : List Event) → IsReadingExactly self.old rewrite

@@ -9,7 +9,7 @@ use Rattle.raft_records.specs.Item.{Item}
 use Rattle.raft_records.specs.ItemBatch.{placed}
 use Rattle.raft_records.proofs.FrameLemmas.{header_one}
 use Rattle.raft_history.specs.Batches.{Event}
-use Rattle.raft_replay.specs.Cuts.{front_of, rest_of, BatchesMeet}
+use Rattle.raft_replay.specs.Cuts.{bytes_before, rest_of, BatchesMeet}
 use Rattle.raft_replay.specs.Segments.{IsReadBehind, ReadsFrom, ReadsPart, ReadsParts, AreCutFrom}
 use Rattle.raft_replay.proofs.MachineOrderLemmas.{each_join, each_cut, each_single}
 use Rattle.raft_replay.proofs.SegmentLemmas.{batch_inside}
@@ -17,7 +17,7 @@ use Rattle.raft_replay.proofs.SegmentLemmas.{batch_inside}
 -- ---- one batch
 
 -- a batch that ends in front of a place stands in the bytes in front of it
-in_front : (part : Part) (at i next : ℕ) (items : List Item) → next ≤ at → IsBatchAt part i items next → IsBatchAt (front_of part at) i items next
+in_front : (part : Part) (at i next : ℕ) (items : List Item) → next ≤ at → IsBatchAt part i items next → IsBatchAt (bytes_before part at) i items next
 in_front part at i next items before b = record {
   bytes = b.bytes;
   read = b.read;
@@ -49,7 +49,7 @@ in_front part at i next items before b = record {
         ∙ ap (λ (t : List ℕ). b.bytes ++ t) (sym (drop-take next more xs) ∙ ap (λ n. drop next (take n xs)) rest)
 
 -- a batch in the bytes in front of a place stands in the part
-of_front : (part : Part) (at i next : ℕ) (items : List Item) → IsBatchAt (front_of part at) i items next → IsBatchAt part i items next
+of_front : (part : Part) (at i next : ℕ) (items : List Item) → IsBatchAt (bytes_before part at) i items next → IsBatchAt part i items next
 of_front part at i next items b = record {
   bytes = b.bytes;
   read = b.read;
@@ -64,10 +64,10 @@ of_front part at i next items b = record {
     xs = part.bytes
 
     inside : next ≤ length (take at xs)
-    inside = (batch_inside (front_of part at) i items next b).1
+    inside = (batch_inside (bytes_before part at) i items next b).1
 
     begins : i ≤ length (take at xs)
-    begins = let e = batch_inside (front_of part at) i items next b in omega (arith, e.0, e.1)
+    begins = let e = batch_inside (bytes_before part at) i items next b in omega (arith, e.0, e.1)
 
     stands : drop i xs ≡ b.bytes ++ drop next xs
     stands =
@@ -133,7 +133,7 @@ read_rest part at j (e ∷ h) inside reads =
     (reads.0, (at + reads.1.0, of_rest part at j reads.1.0 e.items reads.1.1, read_rest part at reads.1.0 h inside reads.1.2))
 
 -- what is read in front of a place, and then from there on
-front_joined : (part : Part) (at i : ℕ) (h g : List Event) → at ≤ length part.bytes → ReadsFrom (front_of part at) i h → ReadsFrom part at g → ReadsFrom part i (h ++ g)
+front_joined : (part : Part) (at i : ℕ) (h g : List Event) → at ≤ length part.bytes → ReadsFrom (bytes_before part at) i h → ReadsFrom part at g → ReadsFrom part i (h ++ g)
 front_joined part at i [] g inside ends reads = subst (λ (n : ℕ). ReadsFrom part n g) (sym (ends ∙ length-take-le at part.bytes inside)) reads
 front_joined part at i (e ∷ h) g inside first reads =
     (first.0, (first.1.0, of_front part at i first.1.0 e.items first.1.1, front_joined part at first.1.0 h g inside first.1.2 reads))
@@ -146,21 +146,21 @@ meet_first part h reads = record { first = []; rest = h; first_reads = sym (leng
 
 -- one batch more is read in front of the next place
 module _ (part : Part) (i len : ℕ) (inside : i + len ≤ length part.bytes) where
-  grown : (first : List Event) (e : Event) → ReadsPart (front_of part i) first → e.file ≡ part.id → IsBatchAt part i e.items (i + len)
-      → ReadsPart (front_of part (i + len)) (first ++ e ∷ [])
+  grown : (first : List Event) (e : Event) → ReadsPart (bytes_before part i) first → e.file ≡ part.id → IsBatchAt part i e.items (i + len)
+      → ReadsPart (bytes_before part (i + len)) (first ++ e ∷ [])
   grown first e reads file b =
       let at = i + len in
       let few : i ≤ length (take at part.bytes) = let n = length-take-le at part.bytes inside in omega (arith, n) in
       let same = sym (take-take i at part.bytes (omega arith)) in
       let old = subst (λ (xs : List ℕ). ReadsFrom (record part { bytes = xs }) 0 first) same reads in
-      front_joined (front_of part at) i 0 first (e ∷ []) few old
+      front_joined (bytes_before part at) i 0 first (e ∷ []) few old
       (file, (at, in_front part at i at e.items (omega arith) b, sym (length-take-le at part.bytes inside)))
 
   pub meet_next : (offset : ℕ) → 0 < len → HasHeader (drop i part.bytes) offset len → BatchesMeet part i → BatchesMeet part (i + len)
   meet_next offset some header meet h reads = let r = meet h reads in behind r r.rest refl
     where
-      behind : (r : IsReadBehind (ReadsPart (front_of part i)) (ReadsFrom part i) h) (left : List Event) → r.rest ≡ left
-          → IsReadBehind (ReadsPart (front_of part (i + len))) (ReadsFrom part (i + len)) h
+      behind : (r : IsReadBehind (ReadsPart (bytes_before part i)) (ReadsFrom part i) h) (left : List Event) → r.rest ≡ left
+          → IsReadBehind (ReadsPart (bytes_before part (i + len))) (ReadsFrom part (i + len)) h
       behind r [] none =
           let ends : i ≡ length part.bytes = subst (ReadsFrom part i) none r.rest_reads in
           absurd (omega (arith, ends, inside, some))
@@ -185,10 +185,10 @@ pub uncut : (part : Part) → AreCutFrom part (part ∷ [])
 uncut part h = (each_single ReadsPart part h, one_part part h)
 
 -- a part that is cut where batches meet
-pub cut_in_two : (part : Part) (at : ℕ) → at ≤ length part.bytes → BatchesMeet part at → AreCutFrom part (front_of part at ∷ rest_of part at ∷ [])
+pub cut_in_two : (part : Part) (at : ℕ) → at ≤ length part.bytes → BatchesMeet part at → AreCutFrom part (bytes_before part at ∷ rest_of part at ∷ [])
 cut_in_two part at inside meet h = (to, from)
   where
-    to : ReadsPart part h → ReadsParts (front_of part at ∷ rest_of part at ∷ []) h
+    to : ReadsPart part h → ReadsParts (bytes_before part at ∷ rest_of part at ∷ []) h
     to reads =
         let r = meet h reads in
         let first : at + 0 ≡ at = omega arith in
@@ -200,7 +200,7 @@ cut_in_two part at inside meet h = (to, from)
           split = r.split;
         }
 
-    from : ReadsParts (front_of part at ∷ rest_of part at ∷ []) h → ReadsPart part h
+    from : ReadsParts (bytes_before part at ∷ rest_of part at ∷ []) h → ReadsPart part h
     from r =
         let first : at + 0 ≡ at = omega arith in
         let rest = subst (λ (n : ℕ). ReadsFrom part n r.rest) first (read_rest part at 0 r.rest inside (one_part (rest_of part at) r.rest r.rest_reads)) in
@@ -229,14 +229,14 @@ cut_among old new part cut same h = (to, from)
 
 -- one part more is cut off the last
 pub cut_again : (part left front rest : Part) (old new : List Part) (at : ℕ) → AreCutFrom part (old ++ left ∷ []) → at ≤ length left.bytes → BatchesMeet left at
-    → front ≡ front_of left at → rest ≡ rest_of left at → new ≡ old ++ front ∷ [] → AreCutFrom part (new ++ rest ∷ [])
+    → front ≡ bytes_before left at → rest ≡ rest_of left at → new ≡ old ++ front ∷ [] → AreCutFrom part (new ++ rest ∷ [])
 cut_again part left front rest old new at before inside meet front_is rest_is new_is h =
-    let cut = front_of left at ∷ rest_of left at ∷ [] in
+    let cut = bytes_before left at ∷ rest_of left at ∷ [] in
     let one = before h in
     let two = cut_among old [] left cut (cut_in_two left at inside meet) h in
     let same : old ++ cut ++ [] ≡ new ++ rest ∷ [] =
     append-nil (old ++ cut)
-    ∙ sym (append_assoc old (front_of left at ∷ []) (rest_of left at ∷ []))
+    ∙ sym (append_assoc old (bytes_before left at ∷ []) (rest_of left at ∷ []))
     ∙ ap (λ (p : Part). old ++ p ∷ [] ++ rest_of left at ∷ []) (sym front_is)
     ∙ ap (λ (l : List Part). l ++ rest_of left at ∷ []) (sym new_is)
     ∙ ap (λ (p : Part). new ++ p ∷ []) (sym rest_is) in (

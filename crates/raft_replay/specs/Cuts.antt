@@ -5,8 +5,8 @@ use Rattle.raft_history.specs.Batches.{Event}
 use Rattle.raft_replay.specs.Segments.{IsReadBehind, ReadsFrom, ReadsPart}
 
 -- the bytes in front of a place
-abbrev pub front_of : Part → ℕ → Part
-front_of part at = record part { bytes = take at part.bytes }
+abbrev pub bytes_before : Part → ℕ → Part
+bytes_before part at = record part { bytes = take at part.bytes }
 
 -- the bytes from a place on
 abbrev pub rest_of : Part → ℕ → Part
@@ -14,4 +14,4 @@ rest_of part at = record part { offset = part.offset + at; bytes = drop at part.
 
 -- whatever is read of a part, it is what is read in front of this place and what is read from there on
 abbrev pub BatchesMeet : Part → ℕ → Type 0
-BatchesMeet part at = (h : List Event) → ReadsPart part h → IsReadBehind (ReadsPart (front_of part at)) (ReadsFrom part at) h
+BatchesMeet part at = (h : List Event) → ReadsPart part h → IsReadBehind (ReadsPart (bytes_before part at)) (ReadsFrom part at) h

@@ -85,7 +85,7 @@ ReachesCut (Some reach) (Some cut) floor own = (cut ≤ floor) ⊎ (cut < end_of
 abbrev pub OwnReachCut : Mark → List EntryIndex → Type 0
 OwnReachCut m own = m.cleaned ≡ false → ReachesCut m.reach m.cut m.floor own
 
--- the mark and the own table stand for the steps: over every older table of the region the steps give what the mark says, or both are refused
+-- the mark and the own table stand for the steps: over every older table of the region the steps give what the mark says, or both are refused; the own table is the region's, and where a run came its entries go on past the cut
 pub record Stands (queue : LogQueue) (id : ℕ) (m : Mark) (own : Option Table) (ss : List Step) : Type 0 where
   pub own_table : IsTableOf id (table_of id own)
   pub past_cut : OwnReachCut m (table_of id own).entries

@@ -10,5 +10,6 @@ pub mod RequestLemmas
 pub mod MergeLemmas
 pub mod MidwayLemmas
 pub mod SegmentLemmas
+pub mod SharedLemmas
 pub mod WeightLemmas
 pub mod WorkedLemmas

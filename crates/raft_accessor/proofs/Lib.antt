@@ -13,3 +13,4 @@ pub mod TotalSums
 mod UpdateLemmas
 mod WalkLemmas
 pub mod WriteLemmas
+mod SharedLemmas

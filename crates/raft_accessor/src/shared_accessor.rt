@@ -11,7 +11,7 @@ ghost use Rattle.raft_table.specs.Table.{Table};
 ghost use Rattle.raft_accessor.specs.Accessor.{slot_of, table_in};
 ghost use Rattle.raft_accessor.specs.Slot.{IsSlotTable};
 ghost use Rattle.raft_accessor.specs.Walks.{KeepsId, Makes};
-ghost use Rattle.raft_accessor.specs.SharedCalls.{IsChangeAnswer};
+ghost use Rattle.raft_accessor.specs.SharedCalls.{IsChangeAnswer, IsNumberOf, HasCleans};
 
 use crate::accessor::{MemTableAccessor, slot_of};
 use crate::slot::Slot;
@@ -118,13 +118,17 @@ impl SharedAccessor {
     /// # Errors
     ///
     /// Those of [`Slot::change`]. The tables are then as they were.
-    pub fn change<R: Wait>(&self, rt: &R, id: u64, change: TableChange) -> Result<u64> {
-        let number = slot_of(id);
-        let mut slot = self.slots[number].write(rt);
-        if slot.number() != number {
-            return Err(Error::Failed);
-        }
-        slot.change(id, change)
+    #[tactic(auto, using(crate::proofs::SharedLemmas::number_of))]
+    pub fn change<R: Wait>(&self, rt: &R, id: u64, change: TableChange) -> Result<u64>
+        ensures { IfOk result (IsNumberOf change id) }
+    {
+        self.with_table_mut(
+            rt,
+            id,
+            move |_: &MemTable| -> TableChange
+                ensures { result ≡ change }
+            { change },
+        )
     }
 
     /// Makes an empty table for a region that has none.
@@ -149,6 +153,7 @@ impl SharedAccessor {
     /// Those of [`Slot::insert`]. The tables are then as they were.
     pub fn insert<R: Wait>(&self, rt: &R, id: u64, table: MemTable) -> Result<Option<MemTable>>
         requires { table.region_id ≡ id }
+        ensures { IfOk result (λ t. IfSome t (IsSlotTable (slot_of id) id)) }
     {
         let number = slot_of(id);
         let mut slot = self.slots[number].write(rt);
@@ -169,7 +174,9 @@ impl SharedAccessor {
         rt: &R,
         id: u64,
         record_tombstone: bool,
-    ) -> Result<Option<MemTable>> {
+    ) -> Result<Option<MemTable>>
+        ensures { IfOk result (λ t. IfSome t (IsSlotTable (slot_of id) id)) }
+    {
         let number = slot_of(id);
         let mut slot = self.slots[number].write(rt);
         if slot.number() != number {
@@ -250,6 +257,8 @@ impl SharedAccessor {
     /// `Memory`. Each cleaned region is then still listed, or in the batch.
     pub fn take_cleaned_region_logs<R: Wait>(&self, rt: &R, logs: &mut LogBatch) -> Result<()>
         requires { logs.old.stage ≡ populating }
+        ensures logs { HasCleans logs.old logs.new }
+        ensures memory { IfErr result (λ e. e ≡ Error.Memory) }
     {
         for slot in &self.slots {
             slot.write(rt).take_cleaned_region_logs(logs)?;

@@ -1,7 +1,7 @@
 //! Plans of merging pieces.
 
 ghost use Rattle.std.specs.Prelude.{◌≡◌, ◌-◌, ◌^◌, ◌<◌, min, IfOk, IfErr};
-ghost use Rattle.raft_replay.specs.Plans.{leaves};
+ghost use Rattle.raft_replay.specs.Plans.{leaves, IsByHalves};
 
 use raft_base::{Error, Result};
 use std::alloc::Global;
@@ -30,6 +30,7 @@ impl Plan {
     pub fn halves(alloc: Global, count: usize) -> Result<Plan>
         requires { 0 < count }
         ensures ok { IfOk result (λ plan. leaves plan ≡ count) }
+        ensures halved { IfOk result IsByHalves }
         ensures fault { IfErr result (λ e. e ≡ Error.Memory) }
     {
         if count == 1 {

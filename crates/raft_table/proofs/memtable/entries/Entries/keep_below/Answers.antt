@@ -2,8 +2,8 @@ use Rattle.std.proofs.Common.{◌≡◌, take, arith, refl}
 use Rattle.raft_base.specs.declared.pipe_log.LogQueue.TheVariants.{Append, Rewrite}
 use Rattle.raft_table.specs.Blocks.{shown, expanded}
 use Rattle.raft_table.specs.TableEntries.{below}
-use Rattle.raft_table.proofs.PlaceLemmas.{each_queue}
-use Rattle.raft_table.proofs.SoundLemmas.{cut_counts}
+use Rattle.raft_table.proofs.PlaceLemmas.{each_queue, entry_count-cut}
+use Rattle.raft_table.proofs.KeptUnderLemmas.{few_behind}
 use Rattle.raft_table.proofs.BlockCuts.{kept_facts}
 use Rattle.raft_table.proofs.CutLemmas.{front_below}
 use Rattle.raft_table.proofs.memtable.entries.Entries.keep_below.Goals as goal
@@ -12,17 +12,17 @@ pub returns-then-self-eq0-clause-entries : goal.returns-then-self-eq0-clause-ent
 unfolding below
 returns-then-self-eq0-clause-entries c = rw (← c.self.view_is, (kept_facts c.self.invariant).empty (omega arith)) refl
 
+pub count_behind-rewritten-requires : goal.count_behind-rewritten-requires
+count_behind-rewritten-requires c = let l = (kept_facts c.self.invariant).length in rw (← c.self.view_is) (omega arith)
+
 pub keep_front-requires : goal.keep_front-requires
 keep_front-requires c = let l = (kept_facts c.self.invariant).length in rw (← c.self.view_is) (omega arith)
 
-pub overflow_sub-dropped-2 : goal.overflow_sub-dropped-2
-overflow_sub-dropped-2 c = let b = (kept_facts c.self.invariant).both in omega arith
+pub delete-requires : goal.delete-requires
+delete-requires c = rw c.count_behind-rewritten.ensures.rewritten (few_behind Rewrite c.min-keep.result c.args.self.now c.args.stats.now c.requires)
 
 pub delete-requires-2 : goal.delete-requires-2
-delete-requires-2 c =
-    let l = (kept_facts c.self.invariant).length in
-    let k = cut_counts c.min-keep.result (expanded c.self.inside.first (shown c.self.inside.blocks.items)) c.self.invariant.table_entries (omega arith) in
-    let r = c.self.invariant.rewritten in let a = rw (← c.self.view_is) at (c.requires Append) in omega (arith, c.delete.ensures.live Append)
+delete-requires-2 c = omega (arith, c.count_behind-rewritten.ensures.appended, few_behind Append c.min-keep.result c.args.self.now c.args.stats.now c.requires, c.delete.ensures.live Append)
 
 cut : (c : goal.After-delete-2) → c.keep_front.new.self ≡ take c.min-keep.result (expanded c.self.inside.first (shown c.self.inside.blocks.items))
 cut c = rw (c.self.view_is) c.keep_front.ensures
@@ -35,10 +35,7 @@ returns-clause-entries c =
 
 pub returns-clause-recounted : goal.returns-clause-recounted
 returns-clause-recounted c =
-    let l = (kept_facts c.self.invariant).length in
-    let k = cut_counts c.min-keep.result (expanded c.self.inside.first (shown c.self.inside.blocks.items)) c.self.invariant.table_entries (omega arith) in
-    let r = c.self.invariant.rewritten in
-    rw (← c.self.view_is, cut c)
+    rw c.keep_front.ensures
     (each_queue _
-    (omega (arith, c.delete.ensures.live Append, c.delete-2.ensures.live Append))
-    (omega (arith, c.delete.ensures.live Rewrite, c.delete-2.ensures.live Rewrite)))
+    (omega (arith, c.delete.ensures.live Append, c.delete-2.ensures.live Append, c.count_behind-rewritten.ensures.appended, entry_count-cut Append c.min-keep.result c.args.self.now))
+    (omega (arith, c.delete.ensures.live Rewrite, c.delete-2.ensures.live Rewrite, c.count_behind-rewritten.ensures.rewritten, entry_count-cut Rewrite c.min-keep.result c.args.self.now)))

@@ -1,17 +1,16 @@
 -- Blocks put between others.
-use Rattle.std.proofs.Common.{◌≡◌, ◌≢◌, ℕ, zero, suc, ◌+◌, ◌-◌, ◌<◌, ◌≤◌, ◌^◌, min, Bool, true, false, List, [], ◌∷◌, ◌++◌, length, get_or, set, take, drop, refl, sym, ap, ◌∙◌, subst, arith, inl, inr}
-use Rattle.std.proofs.lemmas.List.{append-nil, append_assoc, length-append, length-drop, length-take-le, take_all, take_more, drop_more, drop-append-le, take-append-drop}
+use Rattle.std.proofs.Common.{◌≡◌, ℕ, zero, suc, ◌+◌, ◌-◌, ◌<◌, ◌≤◌, ◌^◌, min, Bool, true, false, List, [], ◌∷◌, ◌++◌, length, get_or, take, drop, refl, sym, ap, ◌∙◌, subst, arith, inl, inr}
+use Rattle.std.proofs.lemmas.List.{append_assoc, length-append, length-drop, length-take-le, take_more, drop_more, drop-append-le}
 use Rattle.std.proofs.lemmas.Bool.{cases_lt}
 use Rattle.raft_base.specs.declared.pipe_log.LogQueue.TheVariants.{Append, Rewrite}
-use Rattle.raft_base.specs.declared.entry_index.EntryIndex.{EntryIndex}
-use Rattle.raft_table.specs.Blocks.{BlockSpans, spread, expanded, AreDistinctBlocks}
+use Rattle.raft_table.specs.Blocks.{BlockSpans, expanded, AreDistinctBlocks}
 use Rattle.raft_table.specs.BlockWords.{count, starts_of, AreKept, advanced, cut_last, cut_first, joined_blocks, seam, IsAt}
-use Rattle.raft_table.specs.TableEntries.{AreTableEntries, start_of, entry_count}
+use Rattle.raft_table.specs.TableEntries.{AreTableEntries, entry_count}
 use Rattle.raft_table.specs.Fetches.{is_same_block}
 use Rattle.raft_table.proofs.RunLemmas.{RisesFrom-drop, start-of_rising}
 use Rattle.raft_table.proofs.PlaceLemmas.{entries_in_front, entry_count-append, entry_count-cut}
 use Rattle.raft_table.proofs.MovesLemmas.{behind_sound}
-use Rattle.raft_table.proofs.BlockLemmas.{length-expanded, length-starts, expanded-append, starts_drop, count_cut, count_take_more, count_take-le, rises_expanded}
+use Rattle.raft_table.proofs.BlockLemmas.{length-starts, expanded-append, starts_drop, count_cut, count_take_more, count_take-le, rises_expanded}
 use Rattle.raft_table.proofs.BlockSearch.{place_within}
 use Rattle.raft_table.proofs.BlockCuts.{IsFront, kept_facts, kept_drop, front_of}
 use Rattle.raft_table.proofs.BlockKept.{IsKeptAs, behind_index}

@@ -1,6 +1,6 @@
 -- What a cut leaves of blocks.
-use Rattle.std.proofs.Common.{◌≡◌, ◌≢◌, ◌^◌, ℕ, zero, suc, ◌+◌, ◌-◌, ◌<◌, ◌≤◌, min, List, [], ◌∷◌, ◌++◌, length, get_or, set, take, drop, refl, sym, ap, ◌∙◌, subst, arith}
-use Rattle.std.proofs.lemmas.List.{nil_from_length, append-nil, length-append, length-drop, length-take-le, take-append-drop}
+use Rattle.std.proofs.Common.{◌≡◌, ◌^◌, ℕ, zero, suc, ◌+◌, ◌-◌, ◌<◌, ◌≤◌, min, List, [], ◌∷◌, ◌++◌, length, get_or, set, take, drop, refl, sym, ap, ◌∙◌, subst, arith}
+use Rattle.std.proofs.lemmas.List.{nil_from_length, append-nil, length-drop, length-take-le, take-append-drop}
 use Rattle.raft_base.specs.declared.pipe_log.LogQueue.TheVariants.{Append, Rewrite}
 use Rattle.raft_table.specs.Blocks.{BlockSpans, spread, expanded, Differs, AreDistinctBlocks}
 use Rattle.raft_table.specs.BlockWords.{count, starts_of, AreKept, shortened, advanced, cut_last, cut_first, IsAt, IsIndexOf}
@@ -8,7 +8,7 @@ use Rattle.raft_table.specs.TableEntries.{AreTableEntries, start_of, end_of, pla
 use Rattle.raft_table.proofs.PlaceLemmas.{entries_in_both}
 use Rattle.raft_table.proofs.RunLemmas.{start-of_rising, end_of-run}
 use Rattle.raft_table.proofs.SoundLemmas.{AreTableEntries-nil, AreTableEntries-drop, AreTableEntries-take, cut_counts}
-use Rattle.raft_table.proofs.BlockLemmas.{length-spread, length-starts, length-expanded, count-append, expanded-append, starts-append, starts_drop, starts_take, count_cut, rises_expanded}
+use Rattle.raft_table.proofs.BlockLemmas.{length-starts, length-expanded, count-append, expanded-append, starts_drop, count_cut, rises_expanded}
 use Rattle.raft_table.proofs.BlockSearch.{at_place, below_place, place_within}
 
 -- what the numbers that are kept say

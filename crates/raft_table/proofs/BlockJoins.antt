@@ -1,17 +1,16 @@
 -- Blocks behind others, joined where two that meet have the same handle.
-use Rattle.std.proofs.Common.{◌≡◌, ◌≢◌, ℕ, zero, suc, ◌+◌, ◌<◌, ◌≤◌, Bool, true, false, eqb, List, [], ◌∷◌, ◌++◌, length, take, drop, refl, sym, ap, ◌∙◌, subst, arith}
-use Rattle.std.proofs.lemmas.List.{append-nil, append_assoc, length-append, drop-append-le}
-use Rattle.std.proofs.lemmas.Bool.{eqb-true}
+use Rattle.std.proofs.Common.{◌≡◌, ◌≢◌, ℕ, ◌+◌, ◌<◌, Bool, true, false, eqb, List, [], ◌∷◌, ◌++◌, length, take, drop, refl, sym, ap, ◌∙◌, subst, arith}
+use Rattle.std.proofs.lemmas.List.{append-nil, append_assoc, length-append}
 use Rattle.std.proofs.lemmas.Bool.Decides.{nat_tests}
 use Rattle.raft_base.specs.declared.pipe_log.FileBlockHandle.{FileBlockHandle}
 use Rattle.raft_base.specs.declared.pipe_log.LogQueue.{LogQueue}
 use Rattle.raft_base.specs.declared.pipe_log.LogQueue.TheVariants.{Append, Rewrite}
 use Rattle.raft_table.specs.Blocks.{BlockSpans, spread, expanded, Differs, AreDistinctBlocks}
-use Rattle.raft_table.specs.BlockWords.{count, starts_of, AreKept, lengthened, shortened, cut_last, joined_blocks, seam}
+use Rattle.raft_table.specs.BlockWords.{count, starts_of, AreKept, lengthened, cut_last, joined_blocks, seam}
 use Rattle.raft_table.specs.TableEntries.{AreTableEntries, entry_count}
 use Rattle.raft_table.specs.Fetches.{is_same_block}
 use Rattle.raft_table.specs.Queues.{is_same}
-use Rattle.raft_table.proofs.BlockLemmas.{length-spread, spread-append, length-expanded, count-append, expanded-append, starts-append, length-starts}
+use Rattle.raft_table.proofs.BlockLemmas.{spread-append, length-expanded, count-append, expanded-append, starts-append}
 use Rattle.raft_table.proofs.BlockCuts.{IsFront, Differs-same}
 
 same_queue : (q r : LogQueue) → is_same q r ≡ true → q ≡ r

@@ -1,22 +1,21 @@
 -- What is kept of entries behind or between others.
-use Rattle.std.proofs.Common.{◌≡◌, ◌≢◌, ◌^◌, true, Some, ℕ, zero, suc, ◌+◌, ◌-◌, ◌<◌, ◌≤◌, min, List, [], ◌∷◌, ◌++◌, length, get_or, take, drop, refl, sym, ap, ◌∙◌, subst, arith}
-use Rattle.std.proofs.lemmas.List.{nil_from_length, append-nil, append_assoc, length-append, length-drop, length-take-le, take_all, drop_all, drop-append-le, drop_more}
+use Rattle.std.proofs.Common.{◌≡◌, ◌^◌, true, Some, ℕ, suc, ◌+◌, ◌<◌, ◌≤◌, min, List, [], ◌∷◌, ◌++◌, length, take, drop, refl, sym, ap, ◌∙◌, subst, arith}
+use Rattle.std.proofs.lemmas.List.{append-nil, length-append, length-take-le, take_all, drop_all}
 use Rattle.raft_base.specs.declared.pipe_log.FileBlockHandle.{FileBlockHandle}
 use Rattle.raft_base.specs.declared.pipe_log.LogQueue.{LogQueue}
 use Rattle.raft_base.specs.declared.pipe_log.LogQueue.TheVariants.{Append, Rewrite}
 use Rattle.raft_base.specs.declared.compression_type.CompressionType.TheVariants as compression
 use Rattle.raft_base.specs.declared.entry_index.EntryIndex.{EntryIndex}
 use Rattle.raft_table.specs.Blocks.{BlockSpans, spread, expanded, AreDistinctBlocks}
-use Rattle.raft_table.specs.BlockWords.{count, starts_of, AreKept, advanced, cut_first, cut_last, joined_blocks, seam, IsAt}
+use Rattle.raft_table.specs.BlockWords.{count, starts_of, AreKept, cut_last, joined_blocks, seam}
 use Rattle.raft_table.specs.TableEntries.{RisesFrom, AreTableEntries, start_of, placed_in, is_placed_in, entry_count}
 use Rattle.raft_table.specs.Queues.{is_same, count_in}
 use Rattle.raft_table.proofs.RunLemmas.{start-of_rising, end_of-run}
-use Rattle.raft_table.proofs.PlaceLemmas.{entries_in_both, entry_count-append, entries_in_one}
+use Rattle.raft_table.proofs.PlaceLemmas.{entry_count-append, entries_in_one}
 use Rattle.raft_table.proofs.SoundLemmas.{sound_rising, cut_counts}
-use Rattle.raft_table.proofs.BlockLemmas.{length-spread, rises_spread, length-expanded, length-starts, starts_drop, count_cut, rises_expanded}
-use Rattle.raft_table.proofs.BlockSearch.{place_within}
-use Rattle.raft_table.proofs.BlockCuts.{IsFront, kept_facts, kept_drop, kept_length, split_drop}
-use Rattle.raft_table.proofs.BlockJoins.{joined_append, joined_expanded, joined_starts, joined_count, joined_stretches, seam_cut, kept_put}
+use Rattle.raft_table.proofs.BlockLemmas.{length-spread, rises_spread, length-expanded, length-starts, rises_expanded}
+use Rattle.raft_table.proofs.BlockCuts.{IsFront, kept_facts, kept_length}
+use Rattle.raft_table.proofs.BlockJoins.{seam_cut, kept_put}
 
 rises_behind : (s : ℕ) (a b : List EntryIndex) → RisesFrom s (a ++ b) → RisesFrom (s + length a) b
 rises_behind s [] b h = let e : s + 0 ≡ s = omega arith in rw e h

@@ -1,14 +1,13 @@
 -- What stands in a block, and what changes from one to the next.
-use Rattle.std.proofs.Common.{◌≡◌, ◌≢◌, ℕ, zero, suc, ◌+◌, ◌-◌, ◌<◌, ◌≤◌, Bool, true, false, cond, List, [], ◌∷◌, ◌++◌, length, get_or, take, drop, refl, sym, ap, ◌∙◌, subst, arith, Option, Some, None}
-use Rattle.std.specs.List.{prefix_len, slice_get}
-use Rattle.std.proofs.lemmas.List.{append-nil, append_assoc, length-append, length-drop, drop_more, take-append-le, take_at, drop-append-le, drop-take}
+use Rattle.std.proofs.Common.{◌≡◌, ◌≢◌, ℕ, zero, suc, ◌+◌, ◌<◌, ◌≤◌, true, false, List, [], ◌∷◌, ◌++◌, length, get_or, take, drop, refl, sym, ap, ◌∙◌, subst, arith, Some}
+use Rattle.std.specs.List.{slice_get}
+use Rattle.std.proofs.lemmas.List.{append-nil, length-append, length-drop, take-append-le, drop-take}
 use Rattle.raft_base.specs.declared.pipe_log.FileBlockHandle.{FileBlockHandle}
-use Rattle.raft_base.specs.declared.compression_type.CompressionType.TheVariants as compression
 use Rattle.raft_base.specs.declared.entry_index.EntryIndex.{EntryIndex}
-use Rattle.raft_table.specs.Blocks.{BlockSpans, spread, expanded, Differs, AreDistinctBlocks}
+use Rattle.raft_table.specs.Blocks.{BlockSpans, spread, expanded, AreDistinctBlocks}
 use Rattle.raft_table.specs.BlockWords.{count, IsAt}
 use Rattle.raft_table.specs.TableEntries.{start_of}
-use Rattle.raft_table.specs.Fetches.{change_count, block_count, entry_seq, is_same_place, is_same_block}
+use Rattle.raft_table.specs.Fetches.{change_count, block_count, entry_seq, is_same_place}
 use Rattle.raft_table.proofs.RunLemmas.{start-of_rising}
 use Rattle.raft_table.proofs.FetchLemmas.{slice_get_drop}
 use Rattle.raft_table.proofs.BlockLemmas.{length-spread, spread_take, rises_expanded}

@@ -1,7 +1,6 @@
 -- Queues of blocks, as what their blocks hold.
-use Rattle.std.proofs.Common.{◌≡◌, ◌≢◌, true, false, ℕ, zero, suc, ◌+◌, ◌-◌, ◌<◌, ◌≤◌, List, [], ◌∷◌, ◌++◌, length, get_or, set, take, drop, refl, sym, ap, ◌∙◌, subst, arith}
-use Rattle.std.specs.Prelude.{map}
-use Rattle.std.proofs.lemmas.List.{append_assoc, length-drop, length-map, length-take-le, take-take, take_at, drop_at, take-map, drop-map, map-set, get_or-map, get_or_default, take_more, take_more_set, take_all, length-set, map-append, drop-set-lt}
+use Rattle.std.proofs.Common.{◌≡◌, ◌≢◌, ◌⊎◌, inl, inr, true, false, ℕ, zero, suc, ◌+◌, ◌-◌, ◌<◌, ◌≤◌, List, [], ◌∷◌, ◌++◌, length, get_or, set, take, drop, refl, sym, ap, ◌∙◌, subst, arith}
+use Rattle.std.proofs.lemmas.List.{append_assoc, length-append, length-drop, length-map, length-take-le, take-take, take_at, drop_at, take-map, drop-map, map-set, get_or-map, get_or_default, take_more, take_more_set, take_all, length-set, map-append, drop-set-lt}
 use Rattle.raft_base.specs.declared.pipe_log.FileBlockHandle.{FileBlockHandle}
 use Rattle.raft_table.specs.declared.memtable.block.Block.{Block}
 use Rattle.raft_table.specs.Blocks.{BlockSpans, block_spans, shown}
@@ -21,6 +20,27 @@ spliced kept rest n xs more a b c d k l e f g h j =
     j ∙ ap (λ ys. drop n ys ++ take n ys) whole
     ∙ ap (λ ys. ys ++ take n (drop rest xs ++ (take kept xs ++ more))) (drop_at (drop rest xs) (take kept xs ++ more) n m)
     ∙ ap (λ ys. (take kept xs ++ more) ++ ys) (take_at (drop rest xs) (take kept xs ++ more) n m)
+
+-- the same, put in front of what comes last
+pub spliced_round : {X : Type 0} (kept rest n w : ℕ) (xs more a b c d : List X) → kept ≤ rest → rest ≤ length xs → n ≡ length xs - rest → w ≡ length c - kept → a ≡ drop rest xs ++ take rest xs → b ≡ take (n + kept) a → c ≡ more ++ b → d ≡ drop w c ++ take w c → d ≡ take kept xs ++ more ++ drop rest xs
+spliced_round kept rest n w xs more a b c d k l e u f g h j =
+    let m : length (drop rest xs) ≡ n = length-drop rest xs ∙ sym e in
+    let cut : b ≡ drop rest xs ++ take kept xs =
+    g ∙ ap (take (n + kept)) f ∙ ap (λ i. take (i + kept) (drop rest xs ++ take rest xs)) (sym m) ∙ take_past (drop rest xs) (take rest xs) kept
+    ∙ ap (λ ys. drop rest xs ++ ys) (take-take kept rest xs k) in
+    let front = more ++ drop rest xs in
+    let whole : c ≡ front ++ take kept xs = h ∙ ap (λ ys. more ++ ys) cut ∙ sym (append_assoc more (drop rest xs) (take kept xs)) in
+    let p : length (take kept xs) ≡ kept = length-take-le kept xs (omega arith) in
+    let q : length front ≡ w = omega (arith, ap length whole, length-append front (take kept xs)) in
+    j ∙ ap (λ ys. drop w ys ++ take w ys) whole
+    ∙ ap (λ ys. ys ++ take w (front ++ take kept xs)) (drop_at front (take kept xs) w q)
+    ∙ ap (λ ys. take kept xs ++ ys) (take_at front (take kept xs) w q)
+    ∙ sym (append_assoc (take kept xs) more (drop rest xs))
+
+-- room in one of two queues, also where the second has fewer
+pub room_left : (a b d e c f g h : ℕ) → (a + b ≤ c) ⊎ (a + b ≤ f) → d ≡ a → e ≤ b → g ≡ c → h ≡ f → (d + e ≤ g) ⊎ (d + e ≤ h)
+room_left a b d e c f g h (inl r) p q s t = inl (omega arith)
+room_left a b d e c f g h (inr r) p q s t = inr (omega arith)
 
 pub shown_at : (bs : List Block) (k : ℕ) (b : Block) → k < length bs → b ≡ get_or bs k b → block_spans b ≡ get_or (shown bs) k (block_spans b)
 shown_at bs k b l e = ap block_spans e ∙ sym (get_or-map block_spans bs k b (block_spans b) l)

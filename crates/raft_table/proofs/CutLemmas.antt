@@ -1,5 +1,5 @@
 -- What a cut of a table's entries leaves, and how many.
-use Rattle.std.proofs.Common.{◌≡◌, ℕ, ◌+◌, ◌-◌, ◌<◌, ◌≤◌, max, min, Bool, true, false, cond, ltb, List, [], ◌∷◌, length, take, Option, Some, None, refl, sym, ap, subst, ◌∙◌, inl, inr, arith}
+use Rattle.std.proofs.Common.{◌≡◌, ℕ, ◌+◌, ◌-◌, ◌<◌, ◌≤◌, min, Bool, true, false, cond, ltb, List, [], ◌∷◌, length, take, Option, Some, None, refl, sym, ap, subst, ◌∙◌, inl, inr, arith}
 use Rattle.std.specs.Prelude.{filter}
 use Rattle.std.proofs.lemmas.Bool.{cases_lt}
 use Rattle.std.proofs.lemmas.Bool.Decides.{nat_tests}
@@ -8,7 +8,7 @@ use Rattle.raft_base.specs.declared.entry_index.EntryIndex.{EntryIndex}
 use Rattle.raft_table.specs.TableEntries.{AreTableEntries, start_of, end_of, below, from, is_placed_in, placed_in, entry_count}
 use Rattle.std.specs.FinMap as finite
 use Rattle.raft_table.specs.KeyValues.{Keys, pair_count}
-use Rattle.raft_table.specs.Marks.{part, is_under}
+use Rattle.raft_table.specs.Marks.{part}
 use Rattle.raft_table.proofs.KeyValueReads.{entries-empty}
 use Rattle.raft_table.proofs.RunLemmas.{filter_comm, below_start}
 use Rattle.raft_table.proofs.SoundLemmas.{sound_rising, below_cut}

@@ -1,19 +1,18 @@
 -- What stands after steps is the last word on it.
-use Rattle.std.proofs.Common.{◌≡◌, ℕ, Bool, true, false, cond, ltb, leb, List, [], ◌∷◌, ◌++◌, Option, Some, None, refl, sym, ap, subst, ◌∙◌, arith}
+use Rattle.std.proofs.Common.{◌≡◌, ℕ, Bool, true, false, cond, ltb, leb, List, [], ◌∷◌, ◌++◌, Option, Some, None, refl, sym, ap, ◌∙◌, arith}
 use Rattle.std.specs.Prelude.{nat_lt, nat_le}
 use Rattle.std.specs.Option.{option_or, option_and_then, option_map}
-use Rattle.std.specs.Ordering.{nat_cmp, eq_by_cmp}
+use Rattle.std.specs.Ordering.{nat_cmp}
 use Rattle.std.specs.Cmp.Lexicographic.{slice_cmp, nat_list_cmp_total}
 use Rattle.std.specs.FinMap as finite
 use Rattle.std.proofs.lemmas.Bool.Decides.{nat_tests}
 use Rattle.raft_base.specs.declared.pipe_log.LogQueue.{LogQueue}
-use Rattle.raft_base.specs.declared.pipe_log.LogQueue.TheVariants.{Append, Rewrite}
+use Rattle.raft_base.specs.declared.pipe_log.LogQueue.TheVariants.{Append}
 use Rattle.raft_base.specs.declared.entry_index.EntryIndex.{EntryIndex}
-use Rattle.raft_table.specs.TableEntries.{IsRun, start_of, end_of, below, from, entry_at}
-use Rattle.raft_table.specs.KeyValues.{Stored}
+use Rattle.raft_table.specs.TableEntries.{IsRun, end_of, below, entry_at}
 use Rattle.raft_table.specs.LastWord.{last_that, speaks_of_index, said_of_index, last_entry, is_same_key, speaks_of_key, said_of_key, last_pair}
 use Rattle.raft_table.specs.Start.{leaves_hole, replayed}
-use Rattle.raft_table.specs.Steps.{Step, Run, Compact, Put, Del, AtomicGroup, Clean, stepped, is_there_after, table_of, there_if, after_step, after, IsStep, AreSteps}
+use Rattle.raft_table.specs.Steps.{Step, Run, Compact, Put, Del, AtomicGroup, Clean, table_of, there_if, after_step, after, IsStep, AreSteps}
 use Rattle.raft_table.specs.Table.{Table, table_with_entries}
 use Rattle.raft_table.proofs.MarkEntries.{same_some, accepted}
 use Rattle.raft_table.proofs.StandLemmas.{run_stands, entry_with_index-from}

@@ -1,9 +1,9 @@
 -- Entries under two marks, one after the other, and under the joined one.
-use Rattle.std.proofs.Common.{◌≡◌, ◌⊎◌, ℕ, ◌<◌, ◌≤◌, max, min, Bool, true, false, cond, ltb, leb, List, [], ◌∷◌, ◌++◌, Option, Some, None, refl, sym, ap, subst, ◌∙◌, inl, inr, arith}
+use Rattle.std.proofs.Common.{◌≡◌, ◌⊎◌, ℕ, ◌<◌, ◌≤◌, max, min, Bool, true, false, cond, ltb, List, [], ◌++◌, Option, Some, None, refl, sym, ap, ◌∙◌, inl, inr, arith}
 use Rattle.std.specs.Prelude.{is_some}
 use Rattle.std.specs.Option.{option_and_then}
 use Rattle.std.proofs.lemmas.List.{append-nil}
-use Rattle.std.proofs.lemmas.Bool.{false≢true, ltb-true, ltb-false, cases_lt}
+use Rattle.std.proofs.lemmas.Bool.{false≢true, cases_lt}
 use Rattle.std.proofs.lemmas.Bool.Decides.{nat_tests}
 use Rattle.raft_base.specs.declared.pipe_log.LogQueue.{LogQueue}
 use Rattle.raft_base.specs.declared.pipe_log.LogQueue.TheVariants.{Append, Rewrite}
@@ -13,7 +13,7 @@ use Rattle.raft_table.specs.Marks.{Mark, part, misses, is_missed, older_entries,
 use Rattle.raft_table.specs.MarkJoins.{joined_first, joined_floor, joined_later, joined_live, joined_at}
 use Rattle.raft_table.specs.KeyValues.{lesser}
 use Rattle.raft_table.proofs.RunLemmas.{end_of-append}
-use Rattle.raft_table.proofs.MarkWords.{part-both, part-part, part-nil, part-empty, part-from, end_of-nil, end_of-from, met_first, met_later}
+use Rattle.raft_table.proofs.MarkWords.{part-both, part-part, part-nil, part-empty, part-from, end_of-from, met_first, met_later}
 
 pub same_some : {X : Type 0} (x y : X) → Some x ≡ Some y → x ≡ y
 same_some x y e = cc

@@ -1,5 +1,5 @@
 -- Tables under two marks, one after the other, and under the joined one; and one step as a mark.
-use Rattle.std.proofs.Common.{◌≡◌, ℕ, ◌≤◌, max, Bool, true, false, cond, not, ◌&&◌, ◌||◌, List, [], ◌∷◌, ◌++◌, Option, Some, None, refl, sym, ap, subst, ◌∙◌, arith}
+use Rattle.std.proofs.Common.{◌≡◌, ℕ, Bool, true, false, cond, not, ◌||◌, List, [], ◌∷◌, ◌++◌, Option, Some, None, refl, sym, ap, ◌∙◌}
 use Rattle.std.specs.Prelude.{is_some}
 use Rattle.std.specs.Option.{option_and_then, option_map, option_or}
 use Rattle.std.specs.Ordering.{nat_cmp, eq_by_cmp}
@@ -19,11 +19,11 @@ use Rattle.raft_table.specs.Merge.{newer_atomic_group}
 use Rattle.raft_table.specs.Start.{leaves_hole, replayed}
 use Rattle.raft_table.specs.Steps.{Step, Run, Compact, Put, Del, AtomicGroup, Clean, stepped, is_there_after, table_of, there_if, after_step, IsTableOf}
 use Rattle.raft_table.specs.Table.{Table, empty_table}
-use Rattle.raft_table.specs.Marks.{Mark, part, misses, is_missed, older_entries, is_first_run_refused, entries_over, keys_over, atomic_group_over, table_over, is_there_over, applied, ReachesCut, OwnReachCut}
+use Rattle.raft_table.specs.Marks.{Mark, part, misses, is_first_run_refused, entries_over, keys_over, atomic_group_over, table_over, is_there_over, applied, ReachesCut, OwnReachCut}
 use Rattle.raft_table.specs.MarkJoins.{joined_deleted, joined_live, joined_at, joined_mark, end_at_reach, fresh, mark_of, own_of}
 use Rattle.raft_table.proofs.KeyValueLaws.{get-pairs_over}
-use Rattle.raft_table.proofs.MarkWords.{part-whole, part-from, part-below, part-nil}
-use Rattle.raft_table.proofs.MarkEntries.{same_some, accepted, pick_true, pick_false, join_entries, over_nil}
+use Rattle.raft_table.proofs.MarkWords.{part-whole, part-from, part-below}
+use Rattle.raft_table.proofs.MarkEntries.{same_some, join_entries, over_nil}
 
 pub get-without : (d : KeySet) (o : Keys) (q : List ℕ) → finite.get (without d o) q ≡ cond (not (finset.contains d q)) (finite.get o q) None
 unfolding without

@@ -10,7 +10,7 @@ use Rattle.raft_base.specs.declared.entry_index.EntryIndex.{EntryIndex}
 use Rattle.raft_table.specs.Counts.{Counts}
 use Rattle.raft_table.specs.TableEntries.{IsRun, start_of, end_of, from}
 use Rattle.raft_table.specs.MarkMerge.{IsRunOver, IsFaultUnder, IsFirstRunFault}
-use Rattle.raft_table.specs.Marks.{Mark, is_first_run_refused, entries_over, keys_over, atomic_group_over, table_over, is_there_over, applied, Stands}
+use Rattle.raft_table.specs.Marks.{Mark, is_first_run_refused, keys_over, atomic_group_over, table_over, is_there_over, applied, Stands}
 use Rattle.raft_table.specs.MarkJoins.{joined_at, end_at_reach, fresh, mark_of}
 use Rattle.raft_table.specs.Start.{replayed, IsTableRunFault, IsCorruptionError}
 use Rattle.raft_table.specs.Steps.{Step, Run, Del, Clean, stepped, is_there_after, table_of, there_if, after, IsStep, AreSteps, IsTableOf}

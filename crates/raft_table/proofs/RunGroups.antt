@@ -1,5 +1,5 @@
 -- Stretches of a run that stand in one block.
-use Rattle.std.proofs.Common.{◌≡◌, ◌≢◌, ℕ, zero, suc, ◌+◌, ◌-◌, ◌<◌, ◌≤◌, Bool, true, false, List, [], ◌∷◌, ◌++◌, length, get_or, take, drop, refl, sym, ap, ◌∙◌, subst, arith, Option, Some, None}
+use Rattle.std.proofs.Common.{◌≡◌, ℕ, suc, ◌+◌, ◌-◌, ◌<◌, ◌≤◌, Bool, true, false, List, [], ◌∷◌, ◌++◌, length, get_or, take, drop, refl, sym, ap, ◌∙◌, subst, arith, Option, Some, None}
 use Rattle.std.proofs.lemmas.List.{drop-take, take-append-drop, length-take-le, get_or-take, get_or-drop, take-take, length-drop, length-map}
 use Rattle.raft_base.specs.declared.pipe_log.FileBlockHandle.{FileBlockHandle}
 use Rattle.raft_base.specs.declared.pipe_log.LogQueue.{LogQueue}
@@ -14,7 +14,7 @@ use Rattle.raft_table.proofs.RunLemmas.{RisesFrom-take, RisesFrom-drop}
 use Rattle.raft_table.proofs.PlaceLemmas.{AllTest, AllTest-filter, AllTest-weaker}
 use Rattle.raft_table.proofs.ListTestLemmas.{at_test}
 use Rattle.raft_table.proofs.LookupLemmas.{index_at}
-use Rattle.raft_table.proofs.SoundLemmas.{sound_rising, AreTableEntries-take}
+use Rattle.raft_table.proofs.SoundLemmas.{sound_rising}
 
 abbrev pub has_block : Option FileBlockHandle → Bool
 has_block None = false

@@ -1,12 +1,11 @@
 -- A table put over what a mark leaves of an older one.
-use Rattle.std.proofs.Common.{◌≡◌, ◌⊎◌, ℕ, ◌+◌, ◌-◌, ◌<◌, ◌≤◌, ◌^◌, min, max, Bool, true, false, cond, not, ◌&&◌, ltb, leb, List, [], ◌∷◌, ◌++◌, length, Option, Some, None, refl, sym, ap, subst, ◌∙◌, inl, inr, arith}
+use Rattle.std.proofs.Common.{◌≡◌, ℕ, ◌+◌, ◌<◌, ◌≤◌, ◌^◌, Bool, true, false, cond, List, [], ◌∷◌, ◌++◌, length, Option, Some, None, refl, sym, ap, subst, ◌∙◌, arith}
 use Rattle.std.specs.Prelude.{IsTrue, MatchBool, ◌↔◌}
-use Rattle.std.specs.Option.{option_map, option_or}
+use Rattle.std.specs.Option.{option_or}
 use Rattle.std.specs.Ordering.{nat_cmp}
 use Rattle.std.specs.Cmp.Lexicographic.{slice_cmp}
 use Rattle.std.specs.FinMap as finite
 use Rattle.std.proofs.lemmas.List.{append-nil, take_all}
-use Rattle.std.proofs.lemmas.Bool.{cases_lt, false≢true}
 use Rattle.std.proofs.lemmas.Bool.Decides.{nat_tests}
 use Rattle.raft_base.specs.declared.errors.Error.{Error}
 use Rattle.raft_base.specs.declared.errors.Error.TheVariants as errors
@@ -14,18 +13,17 @@ use Rattle.raft_base.specs.declared.pipe_log.LogQueue.{LogQueue}
 use Rattle.raft_base.specs.declared.pipe_log.LogQueue.TheVariants.{Append, Rewrite}
 use Rattle.raft_base.specs.declared.entry_index.EntryIndex.{EntryIndex}
 use Rattle.raft_table.specs.Counts.{Counts, live}
-use Rattle.raft_table.specs.TableEntries.{RisesFrom, IsRun, end_of, below, from}
-use Rattle.raft_table.specs.KeySets.{KeySet, without}
+use Rattle.raft_table.specs.TableEntries.{RisesFrom, IsRun, end_of, below}
+use Rattle.raft_table.specs.KeySets.{without}
 use Rattle.raft_table.specs.KeyValues.{Keys, Stored, pairs_over}
-use Rattle.raft_table.specs.MarkMerge.{left_by, IsFaultUnder}
-use Rattle.raft_table.specs.Marks.{Mark, part, is_missed, older_entries, is_first_run_refused, entries_over, keys_over, atomic_group_over, table_over}
+use Rattle.raft_table.specs.MarkMerge.{left_by}
+use Rattle.raft_table.specs.Marks.{Mark, part, is_missed, older_entries, is_first_run_refused, entries_over, table_over}
 use Rattle.raft_table.specs.Merge.{after_join, newer_atomic_group, with_newer_atomic_group, IsTableMergeFault}
 use Rattle.raft_table.specs.Start.{leaves_hole, replayed}
 use Rattle.raft_table.specs.Table.{Table, empty_table, live_of}
 use Rattle.raft_table.proofs.KeyValueLaws.{get-pairs_over}
-use Rattle.raft_table.proofs.RunLemmas.{below_take, end_of-run, RisesFrom-append}
+use Rattle.raft_table.proofs.RunLemmas.{below_take, end_of-run}
 use Rattle.raft_table.proofs.MarkWords.{end_of-nil, nil_of_end}
-use Rattle.raft_table.proofs.MarkEntries.{same_some}
 use Rattle.raft_table.proofs.MarkTables.{own_span, same_keys}
 
 -- two lists one behind the other that rise

@@ -1,14 +1,13 @@
 -- Walks over blocks, from the place of an entry on.
-use Rattle.std.proofs.Common.{◌≡◌, ℕ, zero, suc, ◌+◌, ◌-◌, ◌<◌, ◌≤◌, Bool, true, false, List, [], ◌∷◌, ◌++◌, length, get_or, take, drop, min, refl, sym, ap, ◌∙◌, subst, arith, inl, inr, Option, Some, None}
+use Rattle.std.proofs.Common.{◌≡◌, ℕ, zero, suc, ◌+◌, ◌-◌, ◌<◌, ◌≤◌, true, false, List, [], ◌∷◌, ◌++◌, length, get_or, take, drop, min, refl, sym, ap, ◌∙◌, subst, arith, inl, inr, Option, Some}
 use Rattle.std.specs.List.{prefix_len}
-use Rattle.std.proofs.lemmas.List.{append-nil, append_assoc, length-append, length-drop, length-take-le, get_or-drop, take_all, take-take, take_more, drop_more, drop-take, drop-append-le, take-append-drop, get_or_default}
+use Rattle.std.proofs.lemmas.List.{length-drop, length-take-le, take_all, take-take, take_more, drop-append-le, take-append-drop, get_or_default}
 use Rattle.std.proofs.lemmas.Bool.{cases_lt}
 use Rattle.raft_base.specs.declared.pipe_log.FileBlockHandle.{FileBlockHandle}
 use Rattle.raft_base.specs.declared.entry_index.EntryIndex.{EntryIndex}
 use Rattle.raft_table.specs.Blocks.{BlockSpans, spread, expanded, AreDistinctBlocks}
 use Rattle.raft_table.specs.BlockWords.{count, IsAt}
-use Rattle.raft_table.specs.TableEntries.{is_placed_in}
-use Rattle.raft_table.specs.Rewriting.{may_move, is_placed_before}
+use Rattle.raft_table.specs.Rewriting.{may_move}
 use Rattle.raft_table.proofs.BlockLemmas.{length-expanded, spread-append, count_take_more}
 use Rattle.raft_table.proofs.FetchLemmas.{part_at}
 use Rattle.raft_table.proofs.BlockSearch.{entry_of, entry_is}

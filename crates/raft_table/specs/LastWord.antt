@@ -6,7 +6,7 @@ use Rattle.std.specs.Cmp.Lexicographic.{slice_cmp}
 use Rattle.raft_base.specs.declared.entry_index.EntryIndex.{EntryIndex}
 use Rattle.raft_table.specs.TableEntries.{entry_at}
 use Rattle.raft_table.specs.KeyValues.{Stored}
-use Rattle.raft_table.specs.Steps.{Step, Run, Compact, Put, Del, AtomicGroup, Clean}
+use Rattle.raft_table.specs.Steps.{Step, Run, Compact, Put, Del, Clean}
 
 -- the last step that passes a test, if there is one
 abbrev pub last_that : (Step → Bool) → List Step → Option Step

@@ -10,7 +10,7 @@ use Rattle.raft_table.specs.TableEntries.{end_of}
 use Rattle.raft_table.specs.KeySets.{KeySet, without}
 use Rattle.raft_table.specs.KeyValues.{pairs_over, lesser}
 use Rattle.raft_table.specs.Marks.{Mark, part}
-use Rattle.raft_table.specs.Steps.{Step, Run, Compact, Put, Del, AtomicGroup, Clean, table_of}
+use Rattle.raft_table.specs.Steps.{Step, Run, Compact, Del, Clean, table_of}
 use Rattle.raft_table.specs.Table.{Table, live_of}
 
 -- whether the region is cleaned

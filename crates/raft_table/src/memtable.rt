@@ -197,7 +197,7 @@ impl MemTable {
         ensures recounted { IsRecounted self.old self.new stats.old stats.new }
         ensures region { self.new.region_id ≡ self.old.region_id }
     {
-        self.entries.replay_append(run, stats)
+        self.entries.replay_run(&run, LogQueue::Append, stats)
     }
 
     /// Puts a run of the rewrite queue that is read again behind the entries below its start, or
@@ -219,7 +219,7 @@ impl MemTable {
         ensures recounted { IsRecounted self.old self.new stats.old stats.new }
         ensures region { self.new.region_id ≡ self.old.region_id }
     {
-        self.entries.replay_rewrite(run, stats)
+        self.entries.replay_run(&run, LogQueue::Rewrite, stats)
     }
 
     /// Gives the entries the places of a run of the rewrite queue, from the first shared index on

@@ -47,11 +47,10 @@ impl Entries {
             return;
         }
         let keep = index.saturating_sub(self.first).min(self.len as u64) as usize;
-        let dropped = self.len - keep;
-        let rewritten = self.rewritten - self.rewritten.min(keep);
+        let (rewritten, appended) = self.count_behind(keep);
         self.keep_front(keep);
         stats.delete(LogQueue::Rewrite, rewritten);
-        stats.delete(LogQueue::Append, dropped - rewritten);
+        stats.delete(LogQueue::Append, appended);
     }
 
     /// Drops the entries below an index, and those at or above a bound, if there is one.

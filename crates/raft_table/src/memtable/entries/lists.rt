@@ -1,6 +1,6 @@
 //! Queues of blocks and of their first indexes.
 
-ghost use Rattle.std.specs.Prelude.{◌≡◌, ◌≢◌, ◌+◌, ◌-◌, ◌≤◌, ◌<◌, ℕ, List, [], ◌∷◌, ◌++◌, length, take, drop, slice_index_or, ◌^◌, MatchBool, OnOk, OnErr, IfOk};
+ghost use Rattle.std.specs.Prelude.{◌≡◌, ◌≢◌, ◌+◌, ◌⊎◌, ◌-◌, ◌≤◌, ◌<◌, ℕ, List, [], ◌∷◌, ◌++◌, length, take, drop, slice_index_or, ◌^◌, MatchBool, OnOk, OnErr, IfOk};
 ghost use Rattle.std.specs.List.Sorted.{IsNonDecreasingBy};
 ghost use Rattle.std.specs.VecDeque.{deque_len, deque_capacity};
 ghost use Rattle.raft_table.specs.Blocks.{BlockSpans, block_spans, shown};
@@ -10,6 +10,7 @@ use crate::memtable::block::Block;
 use raft_base::FileBlockHandle;
 use std::alloc::{AllocError, Global};
 use std::collections::VecDeque;
+use std::mem::swap;
 
 /// How many starts are at or below an index.
 pub(super) fn count_at_or_below(starts: &VecDeque<u64>, index: u64) -> usize
@@ -122,12 +123,27 @@ pub(super) fn put_blocks(
         × (starts.new.items ≡ starts.old.items)
         × (shown more.new.items ≡ shown more.old.items) × (more_starts.new.items ≡ more_starts.old.items)) }
 {
-    blocks.reserve(more.len())?;
-    starts.reserve(more_starts.len())?;
+    make_room(blocks, more)?;
+    make_room(starts, more_starts)?;
     meet(blocks, place, more, more_starts)?;
     splice(blocks, place.0, rest, more);
     splice(starts, place.0, rest, more_starts);
     Ok(())
+}
+
+/// Makes room for the elements of two queues in one of them: in the longer one where the first
+/// lacks it.
+fn make_room<T>(deque: &mut VecDeque<T>, more: &mut VecDeque<T>) -> Result<(), AllocError>
+    ensures items { (deque.new.items ≡ deque.old.items) × (more.new.items ≡ more.old.items) }
+    ensures len { (deque_len deque.new ≡ deque_len deque.old) × (deque_len more.new ≡ deque_len more.old) }
+    ensures ok { OnOk result ((deque_len deque.new + deque_len more.new ≤ deque_capacity deque.new)
+        ⊎ (deque_len deque.new + deque_len more.new ≤ deque_capacity more.new)) }
+{
+    let missing = deque.capacity() - deque.len() < more.len();
+    if missing && deque.len() < more.len() {
+        return more.reserve(deque.len());
+    }
+    deque.reserve(more.len())
 }
 
 /// Keeps so many entries of the last of so many blocks, if there are any, and moves the entries of
@@ -152,6 +168,8 @@ fn meet(
         × (deque_capacity blocks.new ≡ deque_capacity blocks.old) }
     ensures fewer { (deque_len more.new ≤ deque_len more.old)
         × (deque_len more_starts.new ≤ deque_len more_starts.old) }
+    ensures kept_room { (deque_capacity more.new ≡ deque_capacity more.old)
+        × (deque_capacity more_starts.new ≡ deque_capacity more_starts.old) }
     ensures err { OnErr result ((shown blocks.new.items ≡ shown blocks.old.items)
         × (shown more.new.items ≡ shown more.old.items)
         × (more_starts.new.items ≡ more_starts.old.items)) }
@@ -175,6 +193,7 @@ fn meet(
 fn drop_front<T: Drop>(deque: &mut VecDeque<T>)
     ensures items { deque.new.items ≡ drop 1 deque.old.items }
     ensures fewer { deque_len deque.new ≤ deque_len deque.old }
+    ensures capacity { deque_capacity deque.new ≡ deque_capacity deque.old }
 {
     drop(deque.pop_front());
 }
@@ -237,19 +256,38 @@ fn shorten(block: &mut Block, part: usize)
     block.spans.truncate(part);
 }
 
-/// Keeps the first `kept` elements and those from `rest` on, and moves more between them.
+/// Keeps the first `kept` elements and those from `rest` on, and puts more between them. The shorter
+/// part is moved where either queue has room.
 fn splice<T: Drop>(deque: &mut VecDeque<T>, kept: usize, rest: usize, more: &mut VecDeque<T>)
     requires order { kept ≤ rest }
     requires within { rest ≤ deque_len deque.old }
-    requires room { deque_len deque.old + deque_len more.old ≤ deque_capacity deque.old }
+    requires room { (deque_len deque.old + deque_len more.old ≤ deque_capacity deque.old)
+        ⊎ (deque_len deque.old + deque_len more.old ≤ deque_capacity more.old) }
     ensures items { deque.new.items ≡ take kept deque.old.items ++ more.old.items ++ drop rest deque.old.items }
     ensures emptied { more.new.items ≡ [] }
 {
     let behind = deque.len() - rest;
+    let has_room = more.len() <= deque.capacity() - deque.len();
     deque.rotate_left(rest);
     deque.truncate(behind + kept);
+    if has_room {
+        append(deque, more);
+        deque.rotate_left(behind);
+        return;
+    }
+    append(more, deque);
+    more.rotate_right(kept);
+    swap(deque, more);
+}
+
+/// Moves more elements behind those of a queue that has room for them.
+fn append<T>(deque: &mut VecDeque<T>, more: &mut VecDeque<T>)
+    requires room { deque_len deque.old + deque_len more.old ≤ deque_capacity deque.old }
+    ensures items { deque.new.items ≡ deque.old.items ++ more.old.items }
+    ensures len { deque_len deque.new ≡ deque_len deque.old + deque_len more.old }
+    ensures emptied { more.new.items ≡ [] }
+{
     if deque.append(more).is_err() {
         unreachable!()
     }
-    deque.rotate_left(behind);
 }

@@ -39,45 +39,6 @@ impl Entries {
         }
     }
 
-    /// Puts a run of the append queue that is read again behind the entries below its start. All
-    /// others go.
-    ///
-    /// # Errors
-    ///
-    /// `Corruption` where the run leaves a hole behind the entries, `Full` where more than
-    /// 2^64 - 1 records would be live in the append queue.
-    pub fn replay_append(&mut self, run: Vec<EntryIndex>, stats: &mut GlobalStats) -> Result<()>
-        requires run { IsRunIn Append run.items }
-        requires counted { AreCounted self.old stats.old }
-        ensures ok { OnOk result (replayed Append self.old run.items ≡ Some self.new) }
-        ensures fault { IfErr result (IsTableRunFault Append stats.old self.old (replayed Append self.old run.items)) }
-        ensures err { OnErr result ((self.new ≡ self.old) × (stats.new ≡ stats.old)) }
-        ensures counts { OnOk result (stats.new ≡ counts_with_run Append self.old run.items stats.old) }
-        ensures recounted { AreRecounted self.old self.new stats.old stats.new }
-    {
-        self.replay_run(&run, LogQueue::Append, stats)
-    }
-
-    /// Puts a run of the rewrite queue that is read again behind the entries below its start, or
-    /// in place of all entries where it leaves a hole behind them. All others go.
-    ///
-    /// # Errors
-    ///
-    /// `Full` where more than 2^64 - 1 records would be live in the rewrite queue.
-    pub fn replay_rewrite(&mut self, run: Vec<EntryIndex>, stats: &mut GlobalStats) -> Result<()>
-        requires run { IsRunIn Rewrite run.items }
-        requires rewritten { entry_count Append self.old ≡ 0 }
-        requires counted { AreCounted self.old stats.old }
-        ensures ok { OnOk result (replayed Rewrite self.old run.items ≡ Some self.new) }
-        ensures fault { IfErr result
-            (IsTableRunFault Rewrite stats.old self.old (replayed Rewrite self.old run.items)) }
-        ensures err { OnErr result ((self.new ≡ self.old) × (stats.new ≡ stats.old)) }
-        ensures counts { OnOk result (stats.new ≡ counts_with_run Rewrite self.old run.items stats.old) }
-        ensures recounted { AreRecounted self.old self.new stats.old stats.new }
-    {
-        self.replay_run(&run, LogQueue::Rewrite, stats)
-    }
-
     /// Moves all entries of `rhs`, which are in one queue, behind the entries below their start, by
     /// the start rule of the replays into `rule`. All others go, and `rhs` is left empty.
     ///
@@ -106,9 +67,14 @@ impl Entries {
         self.replay(rule, rhs, queue, stats)
     }
 
-    /// Puts a run of `queue` that is read again behind the entries below its start, by the start rule of
-    /// that queue.
-    fn replay_run(
+    /// Puts a run of `queue` that is read again behind the entries below its start, or, in the rewrite
+    /// queue, in place of all entries where it leaves a hole behind them. All others go.
+    ///
+    /// # Errors
+    ///
+    /// `Corruption` where a run of the append queue leaves such a hole, `Full` where more than
+    /// 2^64 - 1 records would be live in the queue.
+    pub fn replay_run(
         &mut self,
         run: &[EntryIndex],
         queue: LogQueue,
@@ -240,7 +206,7 @@ impl Entries {
     }
 
     /// How many of the entries behind the first `keep` are rewritten, and how many are not.
-    fn count_behind(&self, keep: usize) -> (usize, usize)
+    pub(super) fn count_behind(&self, keep: usize) -> (usize, usize)
         requires { keep ≤ length self.now }
         ensures rewritten { result.0 ≡ entry_count Rewrite (drop keep self.now) }
         ensures appended { result.1 ≡ entry_count Append (drop keep self.now) }

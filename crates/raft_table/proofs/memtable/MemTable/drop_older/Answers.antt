@@ -1,6 +1,5 @@
-use Rattle.std.proofs.Common.{arith, refl, sym, ap, ◌≡◌, ◌∙◌, None, true}
+use Rattle.std.proofs.Common.{arith, refl, sym, ap, ◌∙◌, None}
 use Rattle.raft_table.specs.KeyValues.{pair_count}
-use Rattle.raft_table.specs.MarkMerge.{left_by}
 use Rattle.raft_table.specs.Table.{Table}
 use Rattle.raft_table.proofs.CutLemmas.{below_zero, none-fewer, kept-fewer, pair_count-empty}
 use Rattle.raft_table.proofs.memtable.MemTable.drop_older.Goals as goal

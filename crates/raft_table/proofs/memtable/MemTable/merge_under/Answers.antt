@@ -15,7 +15,6 @@ use Rattle.std.specs.declared.result.Result.TheVariants.{Ok, Err}
 use Rattle.std.specs.Result.{IfErr, OnErr}
 use Rattle.std.proofs.lemmas.Result.{IfErr-weaker}
 use Rattle.raft_table.specs.Marks.{table_over}
-use Rattle.raft_table.specs.MarkMerge.{IsFaultUnder}
 use Rattle.raft_table.proofs.GoneLemmas.{on_ok}
 use Rattle.raft_table.proofs.MarkTables.{own_alone}
 use Rattle.raft_table.proofs.memtable.MemTable.merge_under.Goals as goal

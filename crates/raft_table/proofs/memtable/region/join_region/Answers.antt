@@ -1,9 +1,8 @@
-use Rattle.std.proofs.Common.{ap, ◌∙◌, ◌≡◌, Some, sym, subst, rules}
+use Rattle.std.proofs.Common.{ap, ◌∙◌, Some, sym, subst}
 use Rattle.std.proofs.lemmas.Result.{err_from_is_err_and}
 use Rattle.raft_table.specs.Marks.{table_over}
 use Rattle.raft_table.specs.MarkJoins.{joined_at, end_at_reach}
-use Rattle.raft_table.specs.MarkMerge.{IsRunOver, IsFaultUnder}
-use Rattle.raft_table.specs.Table.{Table}
+use Rattle.raft_table.specs.MarkMerge.{IsRunOver}
 use Rattle.raft_table.proofs.RegionLemmas.{stands_run, join_stands, join_refused}
 use Rattle.raft_table.proofs.memtable.region.join_region.Goals as goal
 

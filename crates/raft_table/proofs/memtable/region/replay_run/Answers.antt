@@ -1,8 +1,6 @@
-use Rattle.std.proofs.Common.{ap, sym, subst, ◌∙◌, ◌≡◌, ◌<◌, length, Some, []}
+use Rattle.std.proofs.Common.{ap, sym, ◌∙◌, ◌≡◌, ◌<◌, length, []}
 use Rattle.std.proofs.lemmas.Result.{err_from_is_err_and}
 use Rattle.raft_table.specs.TableEntries.{start_of, end_of}
-use Rattle.raft_table.specs.Marks.{Stands}
-use Rattle.raft_table.specs.Steps.{Run}
 use Rattle.raft_table.specs.Table.{Table, after_replay}
 use Rattle.raft_table.proofs.SoundLemmas.{start_of_front, no_first}
 use Rattle.raft_table.proofs.RegionLemmas.{run_stands, none_stands, run_refused}

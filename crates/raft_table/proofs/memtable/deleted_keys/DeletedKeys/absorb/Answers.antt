@@ -1,4 +1,4 @@
-use Rattle.std.proofs.Common.{ap, sym, ◌∙◌}
+use Rattle.std.proofs.Common.{ap, ◌∙◌}
 use Rattle.std.specs.FinSet as finset
 use Rattle.raft_table.proofs.KeySetLemmas.{union-swap}
 use Rattle.raft_table.proofs.memtable.deleted_keys.DeletedKeys.absorb.Goals as goal

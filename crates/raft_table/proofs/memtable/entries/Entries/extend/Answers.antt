@@ -1,9 +1,4 @@
-use Rattle.std.proofs.Common.{ℕ, ◌≡◌, ◌+◌, ◌-◌, ◌<◌, ◌≤◌, ◌^◌, List, [], ◌∷◌, ◌++◌, length, take, drop, arith, refl, sym, ap, subst, ◌∙◌}
-use Rattle.std.proofs.lemmas.List.{nil_from_length, append-nil, length-take-le, length-drop, drop_all}
-use Rattle.std.specs.List.{prefix_len}
-use Rattle.raft_table.specs.Blocks.{shown, expanded}
-use Rattle.raft_table.specs.BlockWords.{IsAt}
-use Rattle.raft_table.specs.Rewriting.{may_move}
+use Rattle.std.proofs.Common.{arith, refl}
 use Rattle.raft_table.proofs.BlockCuts.{found, index_of, kept_facts}
 use Rattle.raft_table.proofs.memtable.entries.Entries.extend.Goals as goal
 

@@ -1,16 +1,10 @@
-use Rattle.std.proofs.Common.{ℕ, suc, ◌≡◌, ◌≢◌, ◌+◌, ◌-◌, ◌<◌, ◌≤◌, ◌^◌, inl, inr, min, max, List, [], ◌∷◌, ◌++◌, length, take, drop, get_or, set, arith, refl, sym, ap, subst, ◌∙◌, Some, None, Option}
-use Rattle.std.specs.Prelude.{map}
-use Rattle.std.proofs.lemmas.List.{nil_from_length, append-nil, append_assoc, length-append, length-map, length-take-le, length-take, length-drop, take_all, drop_all, take-map, drop-map, map-append, map-set, get_or-map, get_or_default, take-append-drop}
-use Rattle.std.proofs.lemmas.Result.{err_from_is_err_and, on_ok_weaker, IfErr-weaker}
+use Rattle.std.proofs.Common.{◌≡◌, take, arith, refl}
 use Rattle.raft_base.specs.declared.pipe_log.LogQueue.TheVariants.{Append, Rewrite}
-use Rattle.raft_table.specs.Blocks.{BlockSpans, block_spans, shown, spread, expanded, AreDistinctBlocks}
-use Rattle.raft_table.specs.BlockWords.{count, starts_of, AreKept, IsAt, IsIndexOf, cut_last, cut_first, joined_blocks, seam}
-use Rattle.raft_table.specs.TableEntries.{AreTableEntries, start_of, end_of, below, from, placed_in, entry_count}
-use Rattle.raft_table.proofs.PlaceLemmas.{each_queue, entry_count-append, entries_in_one}
-use Rattle.raft_table.proofs.SoundLemmas.{CutCounts, cut_counts, sound_rising, AreTableEntries-take, AreTableEntries-drop}
-use Rattle.raft_table.proofs.BlockLemmas.{length-expanded, length-starts, rises_expanded}
-use Rattle.raft_table.proofs.BlockSearch.{at_start, index_some, index_first, index_rises, at_place, entry_at_place, place_within}
-use Rattle.raft_table.proofs.BlockCuts.{found, index_of, kept_length, kept_front, front_of, KeptFacts, kept_facts, kept_nil, kept_drop, kept_take, IsFront, front_at}
+use Rattle.raft_table.specs.Blocks.{shown, expanded}
+use Rattle.raft_table.specs.TableEntries.{below}
+use Rattle.raft_table.proofs.PlaceLemmas.{each_queue, entry_count-cut}
+use Rattle.raft_table.proofs.KeptUnderLemmas.{few_behind}
+use Rattle.raft_table.proofs.BlockCuts.{kept_facts}
 use Rattle.raft_table.proofs.CutLemmas.{front_below}
 use Rattle.raft_table.proofs.memtable.entries.Entries.keep_below.Goals as goal
 
@@ -18,17 +12,17 @@ pub returns-then-self-eq0-clause-entries : goal.returns-then-self-eq0-clause-ent
 unfolding below
 returns-then-self-eq0-clause-entries c = rw (← c.self.view_is, (kept_facts c.self.invariant).empty (omega arith)) refl
 
+pub count_behind-rewritten-requires : goal.count_behind-rewritten-requires
+count_behind-rewritten-requires c = let l = (kept_facts c.self.invariant).length in rw (← c.self.view_is) (omega arith)
+
 pub keep_front-requires : goal.keep_front-requires
 keep_front-requires c = let l = (kept_facts c.self.invariant).length in rw (← c.self.view_is) (omega arith)
 
-pub overflow_sub-dropped-2 : goal.overflow_sub-dropped-2
-overflow_sub-dropped-2 c = let b = (kept_facts c.self.invariant).both in omega arith
+pub delete-requires : goal.delete-requires
+delete-requires c = rw c.count_behind-rewritten.ensures.rewritten (few_behind Rewrite c.min-keep.result c.args.self.now c.args.stats.now c.requires)
 
 pub delete-requires-2 : goal.delete-requires-2
-delete-requires-2 c =
-    let l = (kept_facts c.self.invariant).length in
-    let k = cut_counts c.min-keep.result (expanded c.self.inside.first (shown c.self.inside.blocks.items)) c.self.invariant.table_entries (omega arith) in
-    let r = c.self.invariant.rewritten in let a = rw (← c.self.view_is) at (c.requires Append) in omega (arith, c.delete.ensures.live Append)
+delete-requires-2 c = omega (arith, c.count_behind-rewritten.ensures.appended, few_behind Append c.min-keep.result c.args.self.now c.args.stats.now c.requires, c.delete.ensures.live Append)
 
 cut : (c : goal.After-delete-2) → c.keep_front.new.self ≡ take c.min-keep.result (expanded c.self.inside.first (shown c.self.inside.blocks.items))
 cut c = rw (c.self.view_is) c.keep_front.ensures
@@ -41,10 +35,7 @@ returns-clause-entries c =
 
 pub returns-clause-recounted : goal.returns-clause-recounted
 returns-clause-recounted c =
-    let l = (kept_facts c.self.invariant).length in
-    let k = cut_counts c.min-keep.result (expanded c.self.inside.first (shown c.self.inside.blocks.items)) c.self.invariant.table_entries (omega arith) in
-    let r = c.self.invariant.rewritten in
-    rw (← c.self.view_is, cut c)
+    rw c.keep_front.ensures
     (each_queue _
-    (omega (arith, c.delete.ensures.live Append, c.delete-2.ensures.live Append))
-    (omega (arith, c.delete.ensures.live Rewrite, c.delete-2.ensures.live Rewrite)))
+    (omega (arith, c.delete.ensures.live Append, c.delete-2.ensures.live Append, c.count_behind-rewritten.ensures.appended, entry_count-cut Append c.min-keep.result c.args.self.now))
+    (omega (arith, c.delete.ensures.live Rewrite, c.delete-2.ensures.live Rewrite, c.count_behind-rewritten.ensures.rewritten, entry_count-cut Rewrite c.min-keep.result c.args.self.now)))

@@ -1,4 +1,4 @@
-use Rattle.std.proofs.Common.{refl, sym}
+use Rattle.std.proofs.Common.{sym}
 use Rattle.raft_table.proofs.BlockCuts.{kept_facts}
 use Rattle.raft_table.proofs.memtable.entries.Entries.len.Goals as goal
 

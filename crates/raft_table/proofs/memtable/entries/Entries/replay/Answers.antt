@@ -1,9 +1,8 @@
 use Rattle.std.proofs.Common.{◌≡◌, ◌<◌, length, Some, sym, ap, ◌∙◌}
-use Rattle.std.proofs.lemmas.Result.{err_from_is_err_and}
 use Rattle.raft_table.specs.TableEntries.{start_of}
 use Rattle.raft_table.proofs.RunGroups.{not_nil}
 use Rattle.raft_table.proofs.GoneLemmas.{on_ok}
-use Rattle.raft_table.proofs.KeptUnderLemmas.{IsReplay, is_replay, sound_under, counts_under, fault_under}
+use Rattle.raft_table.proofs.KeptUnderLemmas.{IsReplay, is_replay, sound_under, counts_under}
 use Rattle.raft_table.proofs.StartLemmas.{may_join}
 use Rattle.raft_table.proofs.memtable.entries.Entries.replay.Goals as goal
 

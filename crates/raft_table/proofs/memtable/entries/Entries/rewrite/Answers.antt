@@ -4,7 +4,7 @@ use Rattle.raft_base.specs.declared.errors.Error.{Error}
 use Rattle.raft_base.specs.declared.errors.Error.TheVariants as errors
 use Rattle.raft_base.specs.declared.pipe_log.LogQueue.TheVariants.{Rewrite}
 use Rattle.raft_base.specs.declared.entry_index.EntryIndex.{EntryIndex}
-use Rattle.raft_table.specs.Counts.{Counts, live, with_deleted}
+use Rattle.raft_table.specs.Counts.{Counts, live}
 use Rattle.raft_table.specs.Start.{IsCorruptionError}
 use Rattle.raft_table.specs.TableEntries.{start_of}
 use Rattle.raft_table.specs.Rewriting.{rewritten, with_rewritten, IsRewriteFault, MovesPlacesAlone}

@@ -1,17 +1,5 @@
-use Rattle.std.proofs.Common.{ℕ, suc, ◌≡◌, ◌+◌, ◌-◌, ◌<◌, ◌≤◌, ◌^◌, inl, inr, min, List, [], ◌∷◌, ◌++◌, length, take, drop, get_or, arith, refl, sym, ap, subst, ◌∙◌}
-use Rattle.std.proofs.lemmas.List.{append-nil, append_assoc, length-append, length-map, length-take-le, length-drop, take_all, drop_all, get_or-map}
-use Rattle.std.proofs.lemmas.Bool.{cases_lt}
-use Rattle.std.proofs.lemmas.Result.{on_ok_weaker}
-use Rattle.raft_table.specs.declared.memtable.block.Block.{Block}
-use Rattle.raft_table.specs.Blocks.{BlockSpans, block_spans, shown, expanded}
-use Rattle.raft_table.specs.BlockWords.{count, starts_of, AreKept, IsAt, IsIndexOf, advanced, cut_last, joined_blocks, seam}
-use Rattle.raft_table.specs.TableEntries.{AreTableEntries}
-use Rattle.raft_table.proofs.BlockLemmas.{length-expanded, length-starts}
-use Rattle.raft_table.proofs.BlockCuts.{found, index_of, kept_length, kept_facts}
-use Rattle.raft_table.proofs.BlockQueues.{block_at, block_within, place_inside}
-use Rattle.raft_table.proofs.BlockKept.{IsKeptAs}
-use Rattle.raft_table.proofs.BetweenLemmas.{part_more, joined_some, pushed_length, between_fits, put_between, cut_order}
-use Rattle.raft_table.proofs.MovesLemmas.{middle_sound}
+use Rattle.std.proofs.Common.{length, arith, ap, ◌∙◌}
+use Rattle.raft_table.proofs.BlockLemmas.{length-starts}
 use Rattle.raft_table.proofs.memtable.entries.lists.cut_at.Goals as goal
 
 pub overflow_add-result : goal.overflow_add-result

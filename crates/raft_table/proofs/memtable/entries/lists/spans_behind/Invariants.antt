@@ -1,4 +1,4 @@
-use Rattle.std.proofs.Common.{◌≡◌, ◌+◌, ◌-◌, ◌≤◌, ◌<◌, ℕ, length, take, drop}
+use Rattle.std.proofs.Common.{◌≡◌, ◌-◌, ◌≤◌, length, take, drop}
 use Rattle.std.specs.VecDeque.{deque_len, deque_capacity}
 use Rattle.raft_table.proofs.memtable.entries.lists.spans_behind.Given as goal
 

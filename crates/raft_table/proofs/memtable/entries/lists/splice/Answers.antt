@@ -1,23 +1,17 @@
-use Rattle.std.proofs.Common.{ℕ, suc, ◌≡◌, ◌≢◌, ◌+◌, ◌-◌, ◌<◌, ◌≤◌, ◌^◌, inl, inr, min, max, List, [], ◌∷◌, ◌++◌, length, take, drop, get_or, set, arith, refl, sym, ap, subst, ◌∙◌, Some, None, Option}
-use Rattle.std.specs.Prelude.{map}
-use Rattle.std.proofs.lemmas.List.{nil_from_length, append-nil, append_assoc, length-append, length-map, length-take-le, length-take, length-drop, take_all, drop_all, take-map, drop-map, map-append, map-set, get_or-map, get_or_default, take-append-drop}
-use Rattle.std.proofs.lemmas.Result.{err_from_is_err_and, on_ok_weaker, IfErr-weaker}
-use Rattle.raft_base.specs.declared.pipe_log.LogQueue.TheVariants.{Append, Rewrite}
-use Rattle.raft_table.specs.Blocks.{BlockSpans, block_spans, shown, spread, expanded, AreDistinctBlocks}
-use Rattle.raft_table.specs.BlockWords.{count, starts_of, AreKept, IsAt, IsIndexOf, cut_last, cut_first, joined_blocks, seam}
-use Rattle.raft_table.specs.TableEntries.{AreTableEntries, start_of, end_of, below, from, placed_in, entry_count}
-use Rattle.raft_table.proofs.PlaceLemmas.{each_queue, entry_count-append, entries_in_one}
-use Rattle.raft_table.proofs.SoundLemmas.{CutCounts, cut_counts, sound_rising, AreTableEntries-take, AreTableEntries-drop}
-use Rattle.raft_table.proofs.BlockLemmas.{length-expanded, length-starts, rises_expanded}
-use Rattle.raft_table.proofs.BlockSearch.{at_start, index_some, index_first, index_rises, at_place, entry_at_place, place_within}
-use Rattle.raft_table.proofs.BlockCuts.{KeptFacts, kept_facts, kept_nil, kept_drop, kept_take, IsFront, front_at}
-use Rattle.std.proofs.lemmas.Grind.{common_steps}
-use Rattle.raft_table.proofs.BlockQueues.{spliced}
+use Rattle.std.proofs.Common.{arith, ap, ◌∙◌}
+use Rattle.raft_table.proofs.BlockQueues.{spliced, spliced_round}
 use Rattle.raft_table.proofs.memtable.entries.lists.splice.Goals as goal
 
-pub returns-clause-items : goal.returns-clause-items
-returns-clause-items c d =
+pub returns-then-has_room-clause-items : goal.returns-then-has_room-clause-items
+returns-then-has_room-clause-items g d =
     let n = d.args.deque.now.ok.0 in
-    let more : d.append.new.self.items ≡ d.truncate.new.self.items ++ d.args.more.now.items = grind (arith, common_steps) in
-    spliced d.args.kept d.args.rest _ d.args.deque.now.items d.args.more.now.items d.rotate_left.new.self.items d.truncate.new.self.items d.append.new.self.items d.rotate_left-2.new.self.items
-    d.requires.order (omega arith) (omega arith) d.rotate_left.ensures.items d.truncate.ensures.items more d.rotate_left-2.ensures.items
+    spliced d.args.kept d.args.rest _ d.args.deque.now.items d.args.more.now.items d.rotate_left.new.self.items d.truncate.new.self.items d.append.new.deque.items d.rotate_left-then-has_room.new.self.items
+    d.requires.order (omega arith) (omega arith) d.rotate_left.ensures.items d.truncate.ensures.items d.append.ensures.items d.rotate_left-then-has_room.ensures.items
+
+pub returns-clause-items : goal.returns-clause-items
+returns-clause-items g d =
+    let n = d.args.deque.now.ok.0 in
+    let m = d.append-2.new.deque.ok.0 in
+    ap (λ q. q.items) d.swap.ensures.x_after
+    ∙ spliced_round d.args.kept d.args.rest _ _ d.args.deque.now.items d.args.more.now.items d.rotate_left.new.self.items d.truncate.new.self.items d.append-2.new.deque.items d.rotate_right.new.self.items
+    d.requires.order (omega arith) (omega arith) (omega arith) d.rotate_left.ensures.items d.truncate.ensures.items d.append-2.ensures.items d.rotate_right.ensures.items

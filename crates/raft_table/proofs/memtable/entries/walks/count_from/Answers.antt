@@ -1,13 +1,11 @@
-use Rattle.std.proofs.Common.{ℕ, suc, ◌≡◌, ◌+◌, ◌-◌, ◌*◌, ◌<◌, ◌≤◌, ◌^◌, List, [], ◌∷◌, ◌++◌, length, take, drop, get_or, arith, refl, sym, ap, subst, ◌∙◌, Some, None, Option}
-use Rattle.std.proofs.lemmas.List.{append_assoc, length-drop, length-take-le, length-take, get_or-drop}
-use Rattle.raft_base.specs.declared.entry_index.EntryIndex.{EntryIndex}
-use Rattle.raft_table.specs.Blocks.{BlockSpans, block_spans, shown, spread, expanded}
-use Rattle.raft_table.specs.BlockWords.{count, IsAt}
+use Rattle.std.proofs.Common.{ℕ, suc, ◌≡◌, ◌+◌, ◌-◌, take, drop, arith}
+use Rattle.std.proofs.lemmas.List.{length-drop, length-take}
+use Rattle.raft_table.specs.Blocks.{block_spans, shown, expanded}
 use Rattle.raft_table.proofs.BlockLemmas.{length-expanded}
-use Rattle.raft_table.proofs.BlockQueues.{IsBlockAt, block_at, block_within}
+use Rattle.raft_table.proofs.BlockQueues.{block_at}
 use Rattle.raft_table.proofs.BlockSearch.{entry_of}
 use Rattle.raft_table.proofs.FetchLemmas.{limit_stops, limit_more}
-use Rattle.raft_table.proofs.WalkLemmas.{IsStep, walk_step, walk_more, walk_stops, walk_goes, walk_len, walk_next_block, walk_next_span, spread_more}
+use Rattle.raft_table.proofs.WalkLemmas.{walk_len}
 use Rattle.raft_table.proofs.memtable.entries.walks.count_from.Goals as goal
 
 pub index-requires : goal.index-requires

@@ -1,4 +1,4 @@
-use Rattle.std.proofs.Common.{◌≡◌, ◌+◌, ◌-◌, ◌*◌, ◌^◌, ◌≤◌, ◌<◌, false, ℕ, length, take, drop, Some}
+use Rattle.std.proofs.Common.{◌≡◌, ◌-◌, ◌*◌, ◌^◌, ◌≤◌, ◌<◌, false, ℕ, take, drop, Some}
 use Rattle.raft_table.specs.Blocks.{shown, expanded}
 use Rattle.raft_table.specs.BlockWords.{IsAt}
 use Rattle.raft_table.specs.Fetches.{total_len, is_too_many}

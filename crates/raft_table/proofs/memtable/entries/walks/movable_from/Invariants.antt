@@ -1,4 +1,4 @@
-use Rattle.std.proofs.Common.{◌≡◌, ◌+◌, ◌-◌, ◌≤◌, ◌<◌, ℕ, length, take, drop}
+use Rattle.std.proofs.Common.{◌≡◌, ◌+◌, ◌-◌, ◌≤◌, ◌<◌, ℕ, take, drop}
 use Rattle.std.specs.List.{prefix_len}
 use Rattle.raft_table.specs.Blocks.{shown, expanded}
 use Rattle.raft_table.specs.BlockWords.{IsAt}

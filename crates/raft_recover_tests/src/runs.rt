@@ -15,8 +15,15 @@ const CORRUPTION: &str = "raftlog: refused: corruption\n";
 const WORKERS: &str = "raftlog: refused: invalid-argument\n";
 
 /// Words, the input in base 16, the status, what is printed, and how the error stream begins.
-const ROWS: [(&str, &str, u8, &str, &str); 20] = [
+const ROWS: [(&str, &str, u8, &str, &str); 21] = [
     (OPEN, "010102015a800bdd", 0, "1 clean\nitems 1 rest 0\n", ""),
+    (
+        "batch append 0 1",
+        "010102015a800bdd",
+        0,
+        "1 clean\nitems 1 rest 0\n",
+        "",
+    ),
     (
         "batch append 0012 2",
         "0081ef02d2",

@@ -162,7 +162,7 @@ impl MemTable {
     /// # Errors
     ///
     /// `Corruption` where the run starts below all entries or leaves a hole behind them, `Full`
-    /// where more than 2^64 - 1 records would be live in the append queue. The table and the
+    /// where more than 2^64 - 1 records would be live in the append queue, `Memory`. The table and the
     /// counts are then as they were.
     pub fn append(&mut self, run: Vec<EntryIndex>, stats: &mut GlobalStats) -> Result<()>
         requires run { IsRunIn Append run.items }
@@ -184,7 +184,7 @@ impl MemTable {
     /// # Errors
     ///
     /// `Corruption` where the run leaves a hole behind the entries, `Full` where more than
-    /// 2^64 - 1 records would be live in the append queue. The table and the counts are then as
+    /// 2^64 - 1 records would be live in the append queue, `Memory`. The table and the counts are then as
     /// they were.
     pub fn replay_append(&mut self, run: Vec<EntryIndex>, stats: &mut GlobalStats) -> Result<()>
         requires run { IsRunIn Append run.items }
@@ -205,7 +205,7 @@ impl MemTable {
     ///
     /// # Errors
     ///
-    /// `Full` where more than 2^64 - 1 records would be live in the rewrite queue. The table and
+    /// `Full` where more than 2^64 - 1 records would be live in the rewrite queue, `Memory`. The table and
     /// the counts are then as they were.
     pub fn replay_rewrite(&mut self, run: Vec<EntryIndex>, stats: &mut GlobalStats) -> Result<()>
         requires run { IsRunIn Rewrite run.items }
@@ -271,7 +271,7 @@ impl MemTable {
     ///
     /// # Errors
     ///
-    /// `Full` where more than 2^64 - 1 records would be live in the file's queue. The table and the
+    /// `Full` where more than 2^64 - 1 records would be live in the file's queue, `Memory`. The table and the
     /// counts are then as they were.
     pub fn put(
         &mut self,

@@ -211,6 +211,8 @@ struct Seen {
     found: Option<Shape>,
     tables: Vec<Shape>,
     walked: u64,
+    /// The sum of the ids of the regions that a walk meets.
+    regions: u64,
     live: (u128, u128),
     is_empty: bool,
     cleaned: Vec<u64>,
@@ -229,14 +231,17 @@ fn regions_of(alloc: Global, mut logs: LogBatch) -> Result<Vec<u64>> {
 /// What an accessor shows. Its cleaned regions are taken.
 fn see_core(alloc: Global, core: &mut MemTableAccessor) -> Result<Seen> {
     let mut tables = Vec::new(alloc);
+    let mut regions = 0u64;
     for table in core.tables()? {
         tables.push(shape(table))?;
+        regions = regions.wrapping_add(table.region_id());
     }
     tables.sort()?;
     let stats = core.stats();
     Ok(Seen {
         found: core.get(REGION).map(shape),
         walked: tables.len() as u64,
+        regions,
         tables,
         live: (
             stats.live_entries(LogQueue::Append) as u128,
@@ -262,6 +267,9 @@ fn see_shared<R: Wait>(rt: &R, alloc: Global, shared: &SharedAccessor) -> Result
         found: shared.with_table(rt, REGION, shape),
         tables,
         walked: shared.fold(rt, 0u64, |walked, _: &MemTable| walked.wrapping_add(1)),
+        regions: shared.fold(rt, 0u64, |regions, table: &MemTable| {
+            regions.wrapping_add(table.region_id())
+        }),
         live: (
             shared.live_entries(rt, LogQueue::Append),
             shared.live_entries(rt, LogQueue::Rewrite),

@@ -47,7 +47,7 @@ fn holds<R: Threads + Sync>(rt: &R, alloc: Global, row: &Row, workers: usize) ->
 #[test]
 fn files_have_their_lines(rt: HostRuntime) {
     for row in &ROWS {
-        for workers in [1, 2, 4, 8] {
+        for workers in [1, 2, 4, 8, 256] {
             let mut held = holds(&rt, rt.alloc(), row, workers);
             if matches!(held, Err(Error::Memory)) {
                 held = holds(&rt, rt.alloc(), row, workers);

@@ -108,7 +108,8 @@ struct Reading<'a> {
 }
 
 impl<'a> Reading<'a> {
-    /// The reading of batches in order, none of whose runs leaves a hole.
+    /// The reading of batches in order. Where a run leaves a hole it is that of the rewrite queue: the append queue
+    /// refuses the run.
     fn of(alloc: Global, batches: &'a [Written]) -> Result<Reading<'a>> {
         let mut reading = Reading {
             entries: Vec::new(alloc),
@@ -168,14 +169,26 @@ impl<'a> Reading<'a> {
         }
     }
 
-    /// A run takes the place of the region's entries from its start on.
+    /// Whether a run from this index on leaves a hole behind the region's entries.
+    fn leaves_hole(&self, region: u64, start: u64) -> bool {
+        let mut hole = false;
+        for entry in &self.entries {
+            if entry.region == region {
+                hole = entry.index.saturating_add(1) < start;
+            }
+        }
+        hole
+    }
+
+    /// A run takes the place of the region's entries from its start on, and of all that a hole parts from it.
     fn put_run(&mut self, region: u64, run: &[EntryIndex]) -> Result<()> {
         let Some(first) = run.first() else {
             return Ok(());
         };
         let start = first.index;
+        let hole = self.leaves_hole(region, start);
         self.entries
-            .retain(|e| e.region != region || e.index < start);
+            .retain(|e| e.region != region || (!hole && e.index < start));
         for entry in run {
             self.entries.push(Entry {
                 region,

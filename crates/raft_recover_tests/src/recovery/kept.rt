@@ -1,7 +1,8 @@
-//! What contexts hold: those of two histories at every cutting, however they are merged, and some others.
+//! What contexts hold: those of histories at every cutting, however they are merged, and some others.
 
 use super::bound::{Written, bound_of};
 use super::histories::{APPENDED, APPENDED_LINES, REWRITTEN, REWRITTEN_LINES};
+use super::rows::{self, BESIDE};
 use super::{bytes_of, recovered_text};
 use raft_base::{Error, FileId, FileSeq, LogQueue, Result, Version};
 use raft_memtable::{Kept, MemTableRecoverContext};
@@ -24,6 +25,25 @@ struct Piece {
     end: usize,
 }
 
+/// In which order pieces are merged.
+#[derive(Clone, Copy, Debug)]
+enum Order {
+    FromLeft,
+    FromRight,
+    ByHalves,
+    OldestLast,
+    NewestLast,
+}
+
+/// All orders that there are for four pieces, and some for more.
+const ORDERS: [Order; 5] = [
+    Order::FromLeft,
+    Order::FromRight,
+    Order::ByHalves,
+    Order::OldestLast,
+    Order::NewestLast,
+];
+
 /// Whether a context holds the entries and key values of one reading, and otherwise no more than it may.
 fn is_within(kept: Kept, bound: Kept) -> bool {
     kept.entries == bound.entries
@@ -35,21 +55,42 @@ fn is_within(kept: Kept, bound: Kept) -> bool {
 }
 
 impl History {
-    /// The batches that digits in base 16 spell, each with the number of its file.
-    fn read(alloc: Global, queue: LogQueue, rows: &[(FileSeq, &str)]) -> Result<History> {
-        let mut batches = Vec::new(alloc);
-        for (seq, digits) in rows {
-            let file = FileId::new(queue, *seq);
-            let part = FilePart::new(file, Version::V1, 0, bytes_of(alloc, digits)?)?;
-            if let Some((batch, _)) = next_batch(&part, 0)? {
-                batches.push(Written::new(alloc, batch, file)?)?;
-            }
-        }
-        Ok(History {
+    /// The batches of files that digits in base 16 spell.
+    fn read(
+        alloc: Global,
+        queue: LogQueue,
+        version: Version,
+        files: &[(FileSeq, &str)],
+    ) -> Result<History> {
+        let mut history = History {
             alloc,
             queue,
-            batches,
-        })
+            batches: Vec::new(alloc),
+        };
+        for (seq, digits) in files {
+            let file = FileId::new(queue, *seq);
+            history.push_file(&FilePart::new(file, version, 0, bytes_of(alloc, digits)?)?)?;
+        }
+        Ok(history)
+    }
+
+    fn push_file(&mut self, part: &FilePart) -> Result<()> {
+        let mut at = 0;
+        while let Some((batch, next)) = next_batch(part, at)? {
+            self.batches
+                .push(Written::new(self.alloc, batch, part.id())?)?;
+            at = next;
+        }
+        Ok(())
+    }
+
+    /// In how many ways the history can be cut.
+    fn cuttings(&self) -> u64 {
+        let mut cuttings = 1u64;
+        for _ in 1..self.batches.len() {
+            cuttings = cuttings.saturating_mul(2);
+        }
+        cuttings
     }
 
     /// The piece, if its context holds no more than it may.
@@ -83,13 +124,14 @@ impl History {
     fn pieces(&self, cuts: u64) -> Result<Vec<Piece>> {
         let count = self.batches.len();
         let (mut pieces, mut first, mut left) = (Vec::new(self.alloc), 0, cuts);
-        for end in 1..=count {
-            if left % 2 == 1 || end == count {
+        for end in 1..count {
+            if left % 2 == 1 {
                 pieces.push(self.replayed(first, end)?)?;
                 first = end;
             }
             left /= 2;
         }
+        pieces.push(self.replayed(first, count)?)?;
         Ok(pieces)
     }
 
@@ -156,6 +198,32 @@ impl History {
         self.from_left(pieces)
     }
 
+    /// Merges all pieces but the oldest from the left, and the oldest with them.
+    fn oldest_last(&self, pieces: Vec<Piece>) -> Result<Option<Piece>> {
+        let mut oldest: Option<Piece> = None;
+        let mut others = Vec::new(self.alloc);
+        for piece in pieces {
+            match oldest {
+                Some(_) => others.push(piece)?,
+                None => oldest = Some(piece),
+            }
+        }
+        match (oldest, self.from_left(others)?) {
+            (Some(oldest), Some(newer)) => Ok(Some(self.merged(oldest, newer)?)),
+            (oldest, _) => Ok(oldest),
+        }
+    }
+
+    /// Merges all pieces but the newest from the right, and them with the newest.
+    fn newest_last(&self, pieces: Vec<Piece>) -> Result<Option<Piece>> {
+        let mut pieces = pieces;
+        let newest = pieces.pop();
+        match (self.from_right(pieces)?, newest) {
+            (Some(older), Some(newest)) => Ok(Some(self.merged(older, newest)?)),
+            (_, newest) => Ok(newest),
+        }
+    }
+
     /// Whether a piece is the whole history, and its tables have these lines.
     fn has_lines(&self, whole: Option<Piece>, lines: &str) -> Result<bool> {
         let Some(whole) = whole else {
@@ -168,42 +236,123 @@ impl History {
         Ok(recovered_text(self.alloc, &tables)?.as_str() == lines)
     }
 
-    /// Whether the history has these lines at each cutting, merged in three ways.
-    fn at_each_cutting(&self, lines: &str) -> Result<bool> {
-        for cuts in 0..128 {
-            let left = self.from_left(self.pieces(cuts)?)?;
-            let right = self.from_right(self.pieces(cuts)?)?;
-            let halves = self.by_halves(self.pieces(cuts)?)?;
-            if !self.has_lines(left, lines)?
-                || !self.has_lines(right, lines)?
-                || !self.has_lines(halves, lines)?
-            {
-                return Ok(false);
+    /// The history, cut behind the batches whose bits are set and merged in this order.
+    fn whole(&self, cuts: u64, order: Order) -> Result<Option<Piece>> {
+        let pieces = self.pieces(cuts)?;
+        match order {
+            Order::FromLeft => self.from_left(pieces),
+            Order::FromRight => self.from_right(pieces),
+            Order::ByHalves => self.by_halves(pieces),
+            Order::OldestLast => self.oldest_last(pieces),
+            Order::NewestLast => self.newest_last(pieces),
+        }
+    }
+
+    /// Whether the history, cut and merged so, has these lines; where there are none, whether it is refused there.
+    fn holds(&self, cuts: u64, order: Order, lines: Option<&str>) -> Result<bool> {
+        match (self.whole(cuts, order), lines) {
+            (Ok(whole), Some(lines)) => self.has_lines(whole, lines),
+            (Ok(_), None) => Ok(false),
+            (Err(Error::Corruption(_)), None) => Ok(true),
+            (Err(error), _) => Err(error),
+        }
+    }
+
+    /// Whether the history has these lines, or is refused, at each cutting, merged in each order.
+    fn at_each_cutting(&self, lines: Option<&str>) -> Result<bool> {
+        for cuts in 0..self.cuttings() {
+            for order in ORDERS {
+                if !self.holds(cuts, order, lines)? {
+                    return Ok(false);
+                }
+            }
+        }
+        Ok(true)
+    }
+
+    /// Whether at most one item waits in the whole, at each cutting, merged in each order.
+    fn leaves_one_item(&self) -> Result<bool> {
+        for cuts in 0..self.cuttings() {
+            for order in ORDERS {
+                let Some(whole) = self.whole(cuts, order)? else {
+                    return Ok(false);
+                };
+                if whole.context.kept()?.waiting_items > 1 {
+                    return Ok(false);
+                }
             }
         }
         Ok(true)
     }
 }
 
-/// Whether all contexts on the way hold little, and the merged ones have these lines.
+/// Whether all contexts on the way hold little, and the merged ones have these lines; where there are none, whether
+/// the files can't be read or, at each cutting, a replay or a merge is refused.
 fn all_hold_little(
     alloc: Global,
     queue: LogQueue,
-    rows: &[(FileSeq, &str)],
+    version: Version,
+    files: &[(FileSeq, &str)],
+    lines: Option<&str>,
+) -> Result<bool> {
+    match History::read(alloc, queue, version, files) {
+        Ok(history) => history.at_each_cutting(lines),
+        Err(Error::Corruption(_)) => Ok(lines.is_none()),
+        Err(error) => Err(error),
+    }
+}
+
+/// Whether all contexts of a row's files hold little, and the merged ones have its lines.
+fn row_holds_little(alloc: Global, row: &rows::Row) -> Result<bool> {
+    all_hold_little(alloc, row.queue, row.version, row.files, row.lines)
+}
+
+#[test]
+fn merged_rows_hold_little(rt: HostRuntime) {
+    for row in &rows::ROWS {
+        let mut all = row_holds_little(rt.alloc(), row);
+        if matches!(all, Err(Error::Memory)) {
+            all = row_holds_little(rt.alloc(), row);
+        }
+        assert!(rt; matches!(all, Ok(true)));
+    }
+}
+
+/// Whether one item is left to wait where groups are cut.
+fn one_item_is_left(alloc: Global, files: &[(FileSeq, &str)]) -> Result<bool> {
+    History::read(alloc, LogQueue::Rewrite, Version::V1, files)?.leaves_one_item()
+}
+
+#[test]
+fn merged_groups_hold_little(rt: HostRuntime) {
+    for files in [BESIDE.as_slice(), REWRITTEN.as_slice()] {
+        let mut one = one_item_is_left(rt.alloc(), files);
+        if matches!(one, Err(Error::Memory)) {
+            one = one_item_is_left(rt.alloc(), files);
+        }
+        assert!(rt; matches!(one, Ok(true)));
+    }
+}
+
+/// Whether all contexts of batches hold little, and the merged ones have these lines.
+fn batches_hold_little(
+    alloc: Global,
+    queue: LogQueue,
+    batches: &[(FileSeq, &str)],
     lines: &str,
 ) -> Result<bool> {
-    History::read(alloc, queue, rows)?.at_each_cutting(lines)
+    all_hold_little(alloc, queue, Version::V1, batches, Some(lines))
 }
 
 #[test]
 fn merged_contexts_hold_little(rt: HostRuntime) {
-    for (queue, rows, lines) in [
+    for (queue, batches, lines) in [
         (LogQueue::Append, &APPENDED, APPENDED_LINES),
         (LogQueue::Rewrite, &REWRITTEN, REWRITTEN_LINES),
     ] {
-        let mut all = all_hold_little(rt.alloc(), queue, rows.as_slice(), lines);
+        let mut all = batches_hold_little(rt.alloc(), queue, batches.as_slice(), lines);
         if matches!(all, Err(Error::Memory)) {
-            all = all_hold_little(rt.alloc(), queue, rows.as_slice(), lines);
+            all = batches_hold_little(rt.alloc(), queue, batches.as_slice(), lines);
         }
         assert!(rt; matches!(all, Ok(true)));
     }
@@ -269,17 +418,26 @@ const ROWS: [Row; 3] = [
     ),
 ];
 
-/// Whether a context holds no more than its row says.
-fn holds_no_more(alloc: Global, row: &Row) -> Result<bool> {
-    let (queue, batch, times, bound) = row;
-    let history = History::read(alloc, *queue, &[*batch])?;
+/// The context that replayed a row's batch as often as it says.
+fn replayed_often(alloc: Global, row: &Row) -> Result<MemTableRecoverContext> {
+    let (queue, batch, times, _) = row;
+    let history = History::read(alloc, *queue, Version::V1, &[*batch])?;
     let mut context = MemTableRecoverContext::new(alloc)?;
     for written in &history.batches {
         for _ in 0..*times {
             context.replay(written.batch.clone()?, written.file)?;
         }
     }
-    Ok(is_within(context.kept()?, *bound))
+    Ok(context)
+}
+
+/// Whether a context holds no more than its row says, and no more once it is merged with another like it.
+fn holds_no_more(alloc: Global, row: &Row) -> Result<bool> {
+    let (queue, _, _, bound) = row;
+    let mut context = replayed_often(alloc, row)?;
+    let alone = is_within(context.kept()?, *bound);
+    context.merge(replayed_often(alloc, row)?, *queue)?;
+    Ok(alone && is_within(context.kept()?, *bound))
 }
 
 #[test]
@@ -307,7 +465,7 @@ const APART: [(FileSeq, &str); 2] = [
 
 /// Whether a context that refused its neighbor answers `Failed` from then on.
 fn stays_failed(alloc: Global) -> Result<bool> {
-    let history = History::read(alloc, LogQueue::Append, &APART)?;
+    let history = History::read(alloc, LogQueue::Append, Version::V1, &APART)?;
     let Piece { mut context, .. } = history.replayed(0, 1)?;
     let newer = history.replayed(1, 2)?;
     match context.merge(newer.context, LogQueue::Append) {

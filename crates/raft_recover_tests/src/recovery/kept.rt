@@ -31,18 +31,9 @@ enum Order {
     FromLeft,
     FromRight,
     ByHalves,
-    OldestLast,
-    NewestLast,
 }
 
-/// All orders that there are for four pieces, and some for more.
-const ORDERS: [Order; 5] = [
-    Order::FromLeft,
-    Order::FromRight,
-    Order::ByHalves,
-    Order::OldestLast,
-    Order::NewestLast,
-];
+const ORDERS: [Order; 3] = [Order::FromLeft, Order::FromRight, Order::ByHalves];
 
 /// Whether a context holds the entries and key values of one reading, and otherwise no more than it may.
 fn is_within(kept: Kept, bound: Kept) -> bool {
@@ -198,32 +189,6 @@ impl History {
         self.from_left(pieces)
     }
 
-    /// Merges all pieces but the oldest from the left, and the oldest with them.
-    fn oldest_last(&self, pieces: Vec<Piece>) -> Result<Option<Piece>> {
-        let mut oldest: Option<Piece> = None;
-        let mut others = Vec::new(self.alloc);
-        for piece in pieces {
-            match oldest {
-                Some(_) => others.push(piece)?,
-                None => oldest = Some(piece),
-            }
-        }
-        match (oldest, self.from_left(others)?) {
-            (Some(oldest), Some(newer)) => Ok(Some(self.merged(oldest, newer)?)),
-            (oldest, _) => Ok(oldest),
-        }
-    }
-
-    /// Merges all pieces but the newest from the right, and them with the newest.
-    fn newest_last(&self, pieces: Vec<Piece>) -> Result<Option<Piece>> {
-        let mut pieces = pieces;
-        let newest = pieces.pop();
-        match (self.from_right(pieces)?, newest) {
-            (Some(older), Some(newest)) => Ok(Some(self.merged(older, newest)?)),
-            (_, newest) => Ok(newest),
-        }
-    }
-
     /// Whether a piece is the whole history, and its tables have these lines.
     fn has_lines(&self, whole: Option<Piece>, lines: &str) -> Result<bool> {
         let Some(whole) = whole else {
@@ -243,8 +208,6 @@ impl History {
             Order::FromLeft => self.from_left(pieces),
             Order::FromRight => self.from_right(pieces),
             Order::ByHalves => self.by_halves(pieces),
-            Order::OldestLast => self.oldest_last(pieces),
-            Order::NewestLast => self.newest_last(pieces),
         }
     }
 

@@ -1,12 +1,15 @@
 -- Changes under the lock of a slot.
-use Rattle.std.specs.Prelude.{◌≡◌, ℕ, List, ◌++◌, map, Some}
+use Rattle.std.specs.Prelude.{◌≡◌, ◌⊎◌, ℕ, List, ◌++◌, map, Some}
 use Rattle.std.specs.Fn.{Once, FnOnceReturnsAt}
 use Rattle.std.specs.Borrow.{Bor}
+use Rattle.raft_base.specs.declared.errors.Error.{Error}
+use Rattle.raft_base.specs.declared.errors.Error.TheVariants as errors
 use Rattle.raft_records.specs.Item.{command_item}
 use Rattle.raft_records.specs.LogBatch.{Batch}
 use Rattle.raft_records.specs.declared.command.Command.TheVariants.{Clean}
 use Rattle.raft_table.specs.declared.memtable.change.TableChange.{TableChange}
-use Rattle.raft_table.specs.Change.{after_change, IsAnswer}
+use Rattle.raft_table.specs.Change.{after_change, IsAnswer, IsChangeFault}
+use Rattle.raft_table.specs.Counts.{Counts}
 use Rattle.raft_table.specs.Table.{Table}
 use Rattle.raft_accessor.specs.Accessor.{slot_of}
 use Rattle.raft_accessor.specs.Slot.{IsSlotTable}
@@ -15,9 +18,21 @@ use Rattle.raft_accessor.specs.Slot.{IsSlotTable}
 abbrev pub IsChangeAnswer : {F : Type 0} → Once F (Bor Table × Unit {0}) TableChange → F → ℕ → ℕ → Type 0
 IsChangeAnswer g f id n = (t : Table) × (u : Table) × (change : TableChange) × IsSlotTable (slot_of id) id t × FnOnceReturnsAt g f t change × (after_change t change ≡ Some u) × IsAnswer change t u n
 
+-- want of memory, or a lock whose slot has another number
+abbrev pub IsLockFault : Error → Type 0
+IsLockFault e = (e ≡ errors.Memory) ⊎ (e ≡ errors.Failed)
+
+-- the change that the call answers for a table that may stand under the id is refused of it, at some counts, or the lock refuses
+abbrev pub IsChangeRefusal : {F : Type 0} → Once F (Bor Table × Unit {0}) TableChange → F → ℕ → Error → Type 0
+IsChangeRefusal g f id e = IsLockFault e ⊎ ((t : Table) × (counts : Counts) × (change : TableChange) × IsSlotTable (slot_of id) id t × FnOnceReturnsAt g f t change × IsChangeFault t counts change e)
+
 -- the number is that of this change of a table that may stand under the id
 abbrev pub IsNumberOf : TableChange → ℕ → ℕ → Type 0
 IsNumberOf change id n = (t : Table) × (u : Table) × IsSlotTable (slot_of id) id t × (after_change t change ≡ Some u) × IsAnswer change t u n
+
+-- this change is refused of a table that may stand under the id, at some counts, or the lock refuses
+abbrev pub IsRefusalOf : TableChange → ℕ → Error → Type 0
+IsRefusalOf change id e = IsLockFault e ⊎ ((t : Table) × (counts : Counts) × IsSlotTable (slot_of id) id t × IsChangeFault t counts change e)
 
 -- a batch with a `Clean` for each of some regions more
 pub record HasCleans (old new : Batch) : Type 0 where

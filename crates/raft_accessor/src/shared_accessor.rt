@@ -1,6 +1,6 @@
 //! The tables of all regions, shared by threads.
 
-ghost use Rattle.std.specs.Prelude.{◌≡◌, ◌≤◌, ◌<◌, List, [], Some, IfOk, IfErr, IfSome};
+ghost use Rattle.std.specs.Prelude.{◌≡◌, ◌⊎◌, ◌≤◌, ◌<◌, List, [], Some, IsTrue, IfOk, IfErr, IfSome};
 ghost use Rattle.std.specs.List.{FoldsTo};
 ghost use Rattle.std.specs.Fn.{FnOnceReturnsAt};
 ghost use Rattle.std.specs.Iterator.{IsFinite};
@@ -11,7 +11,7 @@ ghost use Rattle.raft_table.specs.Table.{Table};
 ghost use Rattle.raft_accessor.specs.Accessor.{slot_of, table_in};
 ghost use Rattle.raft_accessor.specs.Slot.{IsSlotTable};
 ghost use Rattle.raft_accessor.specs.Walks.{KeepsId, Makes};
-ghost use Rattle.raft_accessor.specs.SharedCalls.{IsChangeAnswer, IsNumberOf, HasCleans};
+ghost use Rattle.raft_accessor.specs.SharedCalls.{IsChangeAnswer, IsChangeRefusal, IsLockFault, IsNumberOf, IsRefusalOf, HasCleans};
 
 use crate::accessor::{MemTableAccessor, slot_of};
 use crate::slot::Slot;
@@ -102,7 +102,8 @@ impl SharedAccessor {
     where
         F: Drop,
         requires { F.IsAlwaysCallable f }
-        ensures { IfOk result (IsChangeAnswer F.FnOnce f id) }
+        ensures number { IfOk result (IsChangeAnswer F.FnOnce f id) }
+        ensures fault { IfErr result (IsChangeRefusal F.FnOnce f id) }
     {
         let number = slot_of(id);
         let mut slot = self.slots[number].write(rt);
@@ -118,9 +119,10 @@ impl SharedAccessor {
     /// # Errors
     ///
     /// Those of [`Slot::change`]. The tables are then as they were.
-    #[tactic(auto, using(crate::proofs::SharedLemmas::number_of))]
+    #[tactic(auto, using(crate::proofs::SharedLemmas::number_of, crate::proofs::SharedLemmas::refusal_of))]
     pub fn change<R: Wait>(&self, rt: &R, id: u64, change: TableChange) -> Result<u64>
-        ensures { IfOk result (IsNumberOf change id) }
+        ensures number { IfOk result (IsNumberOf change id) }
+        ensures fault { IfErr result (IsRefusalOf change id) }
     {
         self.with_table_mut(
             rt,
@@ -136,7 +138,9 @@ impl SharedAccessor {
     /// # Errors
     ///
     /// `Memory`. The tables are then as they were.
-    pub fn get_or_insert<R: Wait>(&self, rt: &R, id: u64) -> Result<()> {
+    pub fn get_or_insert<R: Wait>(&self, rt: &R, id: u64) -> Result<()>
+        ensures { IfErr result IsLockFault }
+    {
         let number = slot_of(id);
         let mut slot = self.slots[number].write(rt);
         if slot.number() != number {
@@ -153,7 +157,8 @@ impl SharedAccessor {
     /// Those of [`Slot::insert`]. The tables are then as they were.
     pub fn insert<R: Wait>(&self, rt: &R, id: u64, table: MemTable) -> Result<Option<MemTable>>
         requires { table.region_id ≡ id }
-        ensures { IfOk result (λ t. IfSome t (IsSlotTable (slot_of id) id)) }
+        ensures handed_back { IfOk result (λ t. IfSome t (IsSlotTable (slot_of id) id)) }
+        ensures fault { IfErr result (λ e. IsLockFault e ⊎ (e ≡ Error.Full)) }
     {
         let number = slot_of(id);
         let mut slot = self.slots[number].write(rt);
@@ -175,7 +180,8 @@ impl SharedAccessor {
         id: u64,
         record_tombstone: bool,
     ) -> Result<Option<MemTable>>
-        ensures { IfOk result (λ t. IfSome t (IsSlotTable (slot_of id) id)) }
+        ensures handed_back { IfOk result (λ t. IfSome t (IsSlotTable (slot_of id) id)) }
+        ensures fault { IfErr result (λ e. ((e ≡ Error.Memory) × IsTrue record_tombstone) ⊎ (e ≡ Error.Failed)) }
     {
         let number = slot_of(id);
         let mut slot = self.slots[number].write(rt);
@@ -199,6 +205,7 @@ impl SharedAccessor {
         end: FileSeq,
     ) -> Result<()>
         requires { start ≤ end }
+        ensures { IfErr result IsLockFault }
     {
         let number = slot_of(id);
         let mut slot = self.slots[number].write(rt);
@@ -401,7 +408,8 @@ where
     F: Drop,
     requires callable { F.IsAlwaysCallable f }
     requires slot { slot_of id ≡ slot.old.number }
-    ensures { IfOk result (IsChangeAnswer F.FnOnce f id) }
+    ensures number { IfOk result (IsChangeAnswer F.FnOnce f id) }
+    ensures fault { IfErr result (IsChangeRefusal F.FnOnce f id) }
 {
     let change = answer_at(slot, alloc, id, f);
     slot.change(id, change)

@@ -1,5 +1,6 @@
 //! Tickets, plans, given schedules and workers, over a machine that keeps a list of batches.
 
+mod brackets;
 mod cuts;
 mod lists;
 

@@ -2,9 +2,8 @@
 
 use crate::machines::{join, segments};
 use raft_base::{Error, Factory, FileId, LogQueue, Result};
-use raft_memtable::ReplayMachine;
 use raft_records::LogItemBatch;
-use raft_recover::{Plan, merge_pieces, replay_scheduled};
+use raft_replay::{Plan, ReplayMachine, merge_pieces, replay_scheduled};
 use std::alloc::Global;
 use std::thread::Threads;
 

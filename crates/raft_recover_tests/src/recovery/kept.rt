@@ -67,7 +67,13 @@ impl History {
 
     fn push_file(&mut self, part: &FilePart) -> Result<()> {
         let mut at = 0;
-        while let Some((batch, next)) = next_batch(part, at)? {
+        for _ in 0..part.bytes().len() {
+            if at > part.bytes().len() {
+                break;
+            }
+            let Some((batch, next)) = next_batch(part, at)? else {
+                break;
+            };
             self.batches
                 .push(Written::new(self.alloc, batch, part.id())?)?;
             at = next;

@@ -149,9 +149,6 @@ none-append w (x ∷ xs) ys m n g e h = (
   λ t is. none-append w xs ys (with_table m x.raft_group_id t) n (g.1 t is) (subst (λ o. option_and_then (λ t. after_items w (with_table m x.raft_group_id t) xs) o ≡ Some n) is e) h,
 )
 
-pub written_none : (w : Writing) (r : Accessor) → AreWritten w [] r r
-written_none w r = record { asked = tt; accepted = tt; tables = refl; cleaned = sym (append-nil r.cleaned) }
-
 pub written_append : (w : Writing) (xs ys : List Item) (a b c : Accessor) → AreWritten w xs a b → AreWritten w ys b c → AreWritten w (xs ++ ys) a c
 written_append w xs ys a b c g h = record {
   asked = asked-append w xs ys g.asked h.asked;

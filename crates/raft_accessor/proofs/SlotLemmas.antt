@@ -119,9 +119,6 @@ together-with ms id t d s lt =
 pub slots-with : (ms : List Tables) (id : ℕ) (t : Option Table) (d : Tables) → AreSlots 0 ms → slot_of id < length ms → AreSlots 0 (slice_set ms (slot_of id) (with_table (slice_index_or ms (slot_of id) d) id t))
 slots-with ms id t d s lt = set-at ms (slot_of id) _ s (own-with (slot_of id) _ id t (own-at ms (slot_of id) d s lt) refl)
 
-pub length-with : (ms : List Tables) (i : ℕ) (m : Tables) → length (slice_set ms i m) ≡ length ms
-length-with ms i m = length-set ms i m
-
 -- ---- the accessor
 
 pub get-shown : (a : Inside) (r : Accessor) (id i : ℕ) (d : Tables) → IsAccessorKept a → accessor_shown a ≡ r → i ≡ slot_of id → i < 128 → finite.get r.tables id ≡ finite.get (slice_index_or a.slots i d) id

@@ -112,16 +112,6 @@ replay_fault q id o rs counts (errors.InvalidArgument text) h = h
 replay_fault q id o rs counts errors.Memory h = tt
 replay_fault q id o rs counts e h = by_replay q id o rs _ counts e refl h
 
-by_rewrite : (gate : Option ℕ) (seq id : ℕ) (o : Option Table) (rs : List EntryIndex) (p : Option (List EntryIndex)) (counts : Counts) (e : Error) → rewritten gate rs (table_of id o).entries ≡ p → IsRewriteFault (length rs) counts p e → IsWriteFault (Rewriting gate seq) id o (live Rewrite counts) (entries rs) e
-by_rewrite gate seq id o rs None counts (errors.Corruption text) is h = inr (ap (λ p. option_map Some (option_map (table_with_entries (table_of id o)) p)) is)
-by_rewrite gate seq id o rs None counts errors.Memory is h = tt
-by_rewrite gate seq id o rs (Some after) counts errors.Full is h = h
-by_rewrite gate seq id o rs p counts errors.Memory is h = tt
-by_rewrite gate seq id o rs p counts e is h = absurd h
-
-pub rewrite_fault : (gate : Option ℕ) (seq id : ℕ) (o : Option Table) (rs : List EntryIndex) (counts : Counts) (e : Error) → IsRewriteFault (length rs) counts (rewritten gate rs (table_of id o).entries) e → IsWriteFault (Rewriting gate seq) id o (live Rewrite counts) (entries rs) e
-rewrite_fault gate seq id o rs counts e h = by_rewrite gate seq id o rs _ counts e refl h
-
 -- what isn't as asked, or has no outcome
 pub no_outcome : (w : Writing) (id : ℕ) (o : Option Table) (live : ℕ) (content : Content) (e : Error) → IsRefusal e → (IsFor w content → ⊥) ⊎ (after_content w id o content ≡ None) → IsWriteFault w id o live content e
 no_outcome w id o live content (errors.Corruption text) h k = k
@@ -129,23 +119,6 @@ no_outcome w id o live content errors.Memory h k = tt
 no_outcome w id o live content e h k = absurd h
 
 -- ---- why changes of keys are refused
-
-put_at : (q : LogQueue) (id : ℕ) (o : Option Table) (p : Pair) (counts : Counts) (replaced : Option FileId) (e : Error) → IsTablePutFault q counts replaced e → IsWriteFault (Replaying q) id o (live q counts) (pair p) e
-put_at q id o p counts replaced errors.Full h = h.0
-put_at q id o p counts replaced errors.Memory h = tt
-put_at q id o p counts replaced e h = absurd h
-
-pub put_fault : (q : LogQueue) (id : ℕ) (o : Option Table) (p : Pair) (counts : Counts) (file : FileId) (replaced : Option FileId) (e : Error) → file.queue ≡ q → IsTablePutFault file.queue counts replaced e → IsWriteFault (Replaying q) id o (live q counts) (pair p) e
-put_fault q id o p counts file replaced e is h = put_at q id o p counts replaced e (subst (λ q. IsTablePutFault q counts replaced e) is h)
-
-key_by : (gate : Option ℕ) (seq id : ℕ) (o : Option Table) (p : Pair) (counts : Counts) (t : Option Table) (e : Error) → after_content (Rewriting gate seq) id o (pair p) ≡ option_map Some t → IsKeyRewriteFault counts t e → IsWriteFault (Rewriting gate seq) id o (live Rewrite counts) (pair p) e
-key_by gate seq id o p counts None (errors.Corruption text) is h = inr is
-key_by gate seq id o p counts None errors.Memory is h = tt
-key_by gate seq id o p counts (Some u) errors.Full is h = h
-key_by gate seq id o p counts t e is h = absurd h
-
-pub key_fault : (gate : Option ℕ) (seq id : ℕ) (o : Option Table) (p : Pair) (counts : Counts) (t : Option Table) (e : Error) → after_content (Rewriting gate seq) id o (pair p) ≡ option_map Some t → IsKeyRewriteFault counts t e → IsWriteFault (Rewriting gate seq) id o (live Rewrite counts) (pair p) e
-key_fault gate seq id o p counts t e is h = key_by gate seq id o p counts t e is h
 
 -- a rewriting of a key without a value has no outcome
 pub no_value : (gate : Option ℕ) (seq : ℕ) (t : Table) (key : List ℕ) (v : Option (Vec ℕ Global)) → is_some v ≡ false → after_rewrite_put gate seq t key (option_map (λ v. v.items) v) ≡ None
@@ -183,29 +156,12 @@ cleaned_by q id old counts list new after listed e r l =
 
 -- ---- new commands and changes of keys are as those that are read again
 
-command_as_new : (id : ℕ) (o : Option Table) (live : ℕ) (c : Command) (e : Error) → IsWriteFault (Replaying Append) id o live (command c) e → IsWriteFault Appending id o live (command c) e
-command_as_new id o live c (errors.Corruption text) h = h
-command_as_new id o live c errors.Full h = h
-command_as_new id o live c errors.Memory h = tt
-command_as_new id o live c e h = absurd h
-
 pair_as_new : (id : ℕ) (o : Option Table) (live : ℕ) (p : Pair) (e : Error) → IsWriteFault (Replaying Append) id o live (pair p) e → IsWriteFault Appending id o live (pair p) e
 pair_as_new id o live p (errors.Corruption text) h = h
 pair_as_new id o live p errors.Full h = h
 pair_as_new id o live p errors.Memory h = tt
 pair_as_new id o live p e h = absurd h
 
-pub new_command : (id : ℕ) (c : Command) (old : Tables) (counts : Counts) (list : List ℕ) (r : Result Unit Error) (new : Tables) (after : Counts) (listed : List ℕ) → IsItemWritten (Replaying Append) (command_item id c) old counts list r new after listed → IsItemWritten Appending (command_item id c) old counts list r new after listed
-new_command id c old counts list r new after listed h = record {
-  asked = elim r as (λ r. OnOk r Unit) [ Ok a ↦ tt | Err x ↦ tt ];
-  accepted = elim r as (λ r. OnOk r (⊥ → ⊥)) [ Ok a ↦ λ m. m | Err x ↦ tt ];
-  ok = h.ok;
-  cleaned = h.cleaned;
-  err = h.err;
-  cleaned_err = h.cleaned_err;
-  fault = elim r as (λ r. IfErr r (IsWriteFault (Replaying Append) id (finite.get old id) (live Append counts) (command c)) → IfErr r (IsWriteFault Appending id (finite.get old id) (live Append counts) (command c))) [ Ok a ↦ λ f. tt | Err x ↦ λ f. command_as_new id (finite.get old id) (live Append counts) c x f ] h.fault;
-  one = h.one;
-  recounted = h.recounted;
 }
 
 pub new_pair : (id : ℕ) (p : Pair) (old : Tables) (counts : Counts) (list : List ℕ) (r : Result Unit Error) (new : Tables) (after : Counts) (listed : List ℕ) → IsItemWritten (Replaying Append) (pair_change id p) old counts list r new after listed → IsItemWritten Appending (pair_change id p) old counts list r new after listed

@@ -92,7 +92,8 @@ impl SharedAccessor {
     ///
     /// # Errors
     ///
-    /// Those of [`Slot::change`]. The tables are then as they were.
+    /// Those of [`Slot::change`], and `Failed` where a slot has another number, which no run meets. The
+    /// tables are then as they were.
     pub fn with_table_mut<F: FnOnce(&MemTable) -> TableChange, R: Wait>(
         &self,
         rt: &R,
@@ -118,7 +119,8 @@ impl SharedAccessor {
     ///
     /// # Errors
     ///
-    /// Those of [`Slot::change`]. The tables are then as they were.
+    /// Those of [`Slot::change`], and `Failed` where a slot has another number, which no run meets. The
+    /// tables are then as they were.
     #[tactic(auto, using(crate::proofs::SharedLemmas::number_of, crate::proofs::SharedLemmas::refusal_of))]
     pub fn change<R: Wait>(&self, rt: &R, id: u64, change: TableChange) -> Result<u64>
         ensures number { IfOk result (IsNumberOf change id) }
@@ -137,7 +139,8 @@ impl SharedAccessor {
     ///
     /// # Errors
     ///
-    /// `Memory`. The tables are then as they were.
+    /// `Memory`, and `Failed` where a slot has another number, which no run meets. The tables are then as
+    /// they were.
     pub fn get_or_insert<R: Wait>(&self, rt: &R, id: u64) -> Result<()>
         ensures { IfErr result IsLockFault }
     {
@@ -154,7 +157,8 @@ impl SharedAccessor {
     ///
     /// # Errors
     ///
-    /// Those of [`Slot::insert`]. The tables are then as they were.
+    /// Those of [`Slot::insert`], and `Failed` where a slot has another number, which no run meets. The
+    /// tables are then as they were.
     pub fn insert<R: Wait>(&self, rt: &R, id: u64, table: MemTable) -> Result<Option<MemTable>>
         requires { table.region_id ≡ id }
         ensures handed_back { IfOk result (λ t. IfSome t (IsSlotTable (slot_of id) id)) }
@@ -173,7 +177,8 @@ impl SharedAccessor {
     ///
     /// # Errors
     ///
-    /// `Memory`, where the region is to be listed. All is then as it was.
+    /// `Memory`, where the region is to be listed, and `Failed` where a slot has another number, which no
+    /// run meets. All is then as it was.
     pub fn remove<R: Wait>(
         &self,
         rt: &R,
@@ -196,7 +201,8 @@ impl SharedAccessor {
     ///
     /// # Errors
     ///
-    /// `Memory`. The tables are then as they were.
+    /// `Memory`, and `Failed` where a slot has another number, which no run meets. The tables are then as
+    /// they were.
     pub fn apply_rewrite_atomic_group<R: Wait>(
         &self,
         rt: &R,
@@ -219,7 +225,8 @@ impl SharedAccessor {
     ///
     /// # Errors
     ///
-    /// Those of the first item that is refused. The items in front of it are written.
+    /// Those of the first item that is refused, and `Failed` where a slot has another number, which no run
+    /// meets. The items in front of it are written.
     pub fn apply_append_writes<I: IntoIterator<Item = LogItem>, R: Wait>(
         &self,
         rt: &R,
@@ -240,7 +247,8 @@ impl SharedAccessor {
     ///
     /// # Errors
     ///
-    /// Those of the first item that is refused. The items in front of it are written.
+    /// Those of the first item that is refused, and `Failed` where a slot has another number, which no run
+    /// meets. The items in front of it are written.
     pub fn apply_rewrite_writes<I: IntoIterator<Item = LogItem>, R: Wait>(
         &self,
         rt: &R,

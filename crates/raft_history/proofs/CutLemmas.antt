@@ -88,10 +88,6 @@ front_of_one : (n : ℕ) (is : List RegionStep) (m : GroupMarker) (f : ℕ) → 
 unfolding front_of
 front_of_one n is m f = refl
 
--- the open stretch behind an End of a group, in both readings
-abbrev pub cut_stretch : List Numbered → List Numbered → List Numbered
-cut_stretch o m = cond (are_middles m) (with_more o m) (open_stretch m)
-
 -- where the batches stand behind a cut, one more batch gives as much in both readings, or ends a group that the cut divides
 pub record Same (r : ℕ) (ids : List ℕ) (olds news : List Numbered) (p : Numbered) : Type 0 where
   pub steps : all_steps r (completed (olds ++ news) p) ≡ all_steps r (completed news p)

@@ -91,9 +91,6 @@ each_known h = go (finite.entries (groups_in h)) (each_weaker (λ e. find nat_cm
     go [] k = tt
     go (e ∷ es) k = (is e.0 e.1 (has_marker e.0 h) refl (sym (get-groups_in e.0 h) ∙ k.0), go es k.1)
 
-abbrev keys_of : {X : Type 0} → List (ℕ × X) → List ℕ
-keys_of es = map (λ e. e.0) es
-
 -- the groups' ids are distinct, and they are those of all markers
 pub keys_distinct : {X : Type 0} (es : List (ℕ × X)) → T (is_sorted nat_cmp es) → IsDistinct eqb (map (λ e. e.0) es)
 unfolding IsDistinct
@@ -111,9 +108,6 @@ keys_distinct {X} (e ∷ es) h = (first es (first_of_both _ _ h), keys_distinct 
     first : (fs : List (ℕ × X)) → T (below_all nat_cmp e.0 fs) → AllByRecursion (λ y. eqb e.0 y ≡ false) (map (λ x. x.0) fs)
     first [] b = tt
     first (f ∷ fs) b = (apart e.0 f.0 (first_of_both _ _ b), first fs (second_of_both _ _ b))
-
-ids_of : List ReadBatch → List ℕ
-ids_of h = finite.keys (groups_in h)
 
 lists_marked : (g : ℕ) (h : List ReadBatch) → has_marker g h ≡ true → list_any (λ x. eqb x g) (finite.keys (groups_in h)) ≡ true
 lists_marked g h e = ap (λ (t : ℕ → Bool). list_any t (finite.keys (groups_in h))) (λ j x. turn x j) ∙ sym (finite.contains_key-keys (groups_in h) g) ∙ ap is_some (get-groups_in g h) ∙ ap (λ b. is_some (cond b (Some (group_in g h)) None)) e

@@ -194,12 +194,6 @@ group_fault c e id s r n m errors.Full f =
 group_fault c e id s r n m errors.Memory f = tt
 group_fault c e id s r n m _ f = absurd f
 
--- or that may not
-pub unfit_fault : (c : Context) (e : Event) (x : Error) → IsRefusal x → (x ≢ errors.Memory → MayFollow c e → ⊥) → IsBatchFault (reading_on c) e x
-unfit_fault c e (errors.Corruption text) is f = inl (f (λ e. cc))
-unfit_fault c e errors.Memory is f = tt
-unfit_fault c e _ is f = absurd is
-
 -- what a batch with a marker makes whole may be taken in
 pub group_takes : (c : Context) (e : Event) (id : ℕ) (s : AtomicGroupStatus) → IsRead c → MayFollow c e → marker_found e.file.queue e.items ≡ Some (id, s)
     → MayTakeEffect (whole_group (known c.groups id) (one_marker s (steps_of_items e.items) e.file.seq))

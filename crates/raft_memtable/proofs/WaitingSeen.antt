@@ -91,8 +91,5 @@ held-list (e ∷ es) = ap (λ l. held_steps (group_shown e.1) ++ l) (held-list e
 pub waiting-seen : (es : List (ℕ × WaitingGroup)) (now : WaitingGroups) → Ordered es → seen es ≡ now → waiting_steps now ≡ length (flat_map (λ s. held_steps (group_shown s)) (values_of es))
 waiting-seen es now h is = ap waiting_steps (sym is) ∙ ap (λ l. length (flat_map (λ (e : ℕ × groups.WaitingGroup). held_steps e.1) l)) (entries-seen es h) ∙ ap length (held-list es)
 
-pub held-more : (s : WaitingGroup) (ss : List WaitingGroup) → length (flat_map (λ s. held_steps (group_shown s)) (s ∷ ss)) ≡ length (held_steps (group_shown s)) + length (flat_map (λ s. held_steps (group_shown s)) ss)
-held-more s ss = length-append (held_steps (group_shown s)) (flat_map (λ s. held_steps (group_shown s)) ss)
-
 pub len-seen : (es : List (ℕ × WaitingGroup)) (now : WaitingGroups) → Ordered es → seen es ≡ now → finite.len now ≡ length es
 len-seen es now h is = ap finite.len (sym is) ∙ finite.len-entries (seen es) ∙ ap length (entries-seen es h) ∙ length-map es (λ e. (e.0, group_shown e.1))

@@ -170,10 +170,6 @@ batch_content signature bytes content rest xs s b =
 counted_some : (front : List ℕ) (xs : List Item) → IsCountAndItems front xs → 0 < length front
 counted_some front xs p = omega (arith, ap length p.split, length-append p.first p.second, varint_some p.first (length xs) p.first_spells)
 
-pub no_seal : (signature : Option ℕ) (bytes : List ℕ) → ((content : List ℕ) → HasSeal signature bytes content → ⊥) → (xs : List Item) (rest : List ℕ) → IsItemBatch bytes signature xs rest → ⊥
-no_seal signature bytes none xs rest b =
-    none (b.front ++ rest) (record { some = omega (arith, length-append b.front rest, counted_some b.front xs b.counted); split = b.split })
-
 pub no_items_count : (signature : Option ℕ) (bytes content : List ℕ) → HasSeal signature bytes content → HasNoFront IsVarint content → (xs : List Item) (rest : List ℕ) → IsItemBatch bytes signature xs rest → ⊥
 no_items_count signature bytes content s none xs rest b =
     no_first IsVarint AreItems none b.front rest (length xs) xs b.counted (batch_content signature bytes content rest xs s b)
@@ -203,10 +199,6 @@ map_view_more {X} {Y} g f xs ys i old new lt len e at step =
     map-set' g [] i v = refl
     map-set' g (y ∷ ys) zero v = refl
     map-set' {X} {Y} g (y ∷ ys) (suc i) v = ap (λ (t : List Y). g y ∷ t) (map-set' g ys i v)
-
-pub bytes_more : (count : List ℕ) (old buf new : List ℕ) (xs : List Item) (x : Item) → buf ≡ old ++ (count ++ flat_map item_bytes xs) → new ≡ buf ++ item_bytes x → new ≡ old ++ (count ++ flat_map item_bytes (xs ++ x ∷ []))
-bytes_more count old buf new xs x e f =
-    f ∙ ap (λ (t : List ℕ). t ++ item_bytes x) e ∙ append_assoc old (count ++ flat_map item_bytes xs) (item_bytes x) ∙ ap (λ (t : List ℕ). old ++ t) (flat_map_more item_bytes count xs x)
 
 -- ---- what places leave as it is
 
@@ -266,10 +258,6 @@ placed_kept block c xs size bytes crc k =
     }
 
 -- ---- the first entry
-
-pub first_entry_step : (xs : List LogItem) (i : ℕ) (x : LogItem) → i < length xs → x ≡ get_or xs i x → first_entry (map item_of (drop i xs)) ≡ first_entry_or (content_of x.content) (first_entry (map item_of (drop (i + 1) xs)))
-first_entry_step xs i x lt at =
-    ap (λ (t : List LogItem). first_entry (map item_of t)) (drop_more xs i x lt ∙ ap (λ (v : LogItem). v ∷ drop (i + 1) xs) (sym at))
 
 -- ---- one batch
 

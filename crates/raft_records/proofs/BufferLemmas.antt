@@ -29,18 +29,6 @@ block_begins : (es : List ℕ) → (more : List ℕ) × (entry_block es ≡ es +
 block_begins [] = ([], refl)
 block_begins (e ∷ es) = (checksum_bytes None (e ∷ es), refl)
 
-pub block_len : (es : List ℕ) (n : ℕ) → length es ≡ suc n → length (entry_block es) ≡ suc n + 4
-block_len [] n h = absurd (omega (arith, h))
-block_len (e ∷ es) n h = omega (arith, h, length-append (e ∷ es) (checksum_bytes None (e ∷ es)), checksum_len None (e ∷ es))
-
-pub no_block_len : (es : List ℕ) → length es ≡ 0 → item_offset es ≡ 16
-no_block_len [] h = refl
-no_block_len (e ∷ es) h = absurd (omega (arith, h))
-
-pub some_block_len : (es : List ℕ) (n : ℕ) → length es ≡ n → n ≢ 0 → item_offset es ≡ 16 + n + 4
-some_block_len [] n h ne = absurd (ne (sym h))
-some_block_len (e ∷ es) n h ne = omega (arith, h, length-append (e ∷ es) (checksum_bytes None (e ∷ es)), checksum_len None (e ∷ es))
-
 -- ---- entry bytes in a buffer
 
 -- behind the header of a batch stand its entry bytes
@@ -93,13 +81,6 @@ unsealed_at encoded [] es buf ne some h = absurd (some refl)
 unsealed_at encoded (x ∷ xs) es buf ne some h = h
 unsealed_at (sealed s) [] es buf ne some h = absurd (some refl)
 unsealed_at (sealed s) (x ∷ xs) es buf ne some h = record { seal = checksum_bytes s (batch_bytes (x ∷ xs)); four = checksum_len s (batch_bytes (x ∷ xs)); split = h }
-
-pub none_at : (stage : Stage) (items : List Item) (es buf : List ℕ) → stage ≢ populating → items ≡ [] → IsHeldAt stage items es buf → buf ≡ []
-none_at populating items es buf ne none h = absurd (ne refl)
-none_at encoded [] es buf ne none h = h
-none_at encoded (x ∷ xs) es buf ne none h = absurd cc
-none_at (sealed s) [] es buf ne none h = h
-none_at (sealed s) (x ∷ xs) es buf ne none h = absurd cc
 
 -- the item batch begins at its offset
 unsealed_parts : (items : List Item) (es buf : List ℕ) (offset : ℕ) → (u : IsUnsealed items es buf) → offset ≡ item_offset es → (front : List ℕ) × (length front ≡ offset) × (buf ≡ front ++ (batch_bytes items ++ u.seal)) × (unsealed_bytes (encoded_length items es) items es ≡ front ++ batch_bytes items)

@@ -26,20 +26,6 @@ tail_read bytes rest index offset tail e fits le lt r made =
     } in
     subst (λ (x : EntryIndex). Reads (IsTail (index, offset)) bytes rest x) (sym made) whole
 
--- behind a number fewer bytes are left
-pub behind_number : (bytes rest : List ℕ) (n : ℕ) → Reads IsVarint bytes rest n → length rest < length bytes
-behind_number bytes rest n r = omega (arith, ap length r.split ∙ length-append r.front rest, varint_some r.front n r.spells)
-
--- and behind a tail offset
-pub behind_tail : (bytes rest : List ℕ) (next : ℕ × ℕ) (e : EntryIndex) → Reads (IsTail next) bytes rest e → length rest < length bytes
-behind_tail bytes rest next e r = omega (arith, ap length r.split ∙ length-append r.front rest, varint_some r.front (tail_of e) r.spells.tail)
-
-pub no_index : (bytes : List ℕ) (index offset : ℕ) → 2 ^ 64 - 1 ≤ index → HasNoFront (IsTail (index, offset)) bytes
-no_index bytes index offset le front rest e t split = let same : e.index ≡ index = t.index in let lt : e.index < 2 ^ 64 - 1 = t.index_fits in absurd (omega arith)
-
-pub no_tail_number : (bytes : List ℕ) (index offset : ℕ) → HasNoFront IsVarint bytes → HasNoFront (IsTail (index, offset)) bytes
-no_tail_number bytes index offset none front rest e t split = none front rest (tail_of e) t.tail split
-
 pub no_tail : (bytes mid : List ℕ) (index offset tail : ℕ) → Reads IsVarint bytes mid tail → (tail < offset) ⊎ (2 ^ 32 ≤ tail) → HasNoFront (IsTail (index, offset)) bytes
 no_tail bytes mid index offset tail r out front rest e t split =
     let same = varint_one_front r.front front mid rest tail (tail_of e) r.spells t.tail (sym r.split ∙ split) in
@@ -69,11 +55,6 @@ pub record AreReadSoFar (first s : ℕ) (bytes rest : List ℕ) (es : List Entry
   pub reads : Reads (IsSequence behind_entry IsTail (first, s)) bytes rest es
   pub state : state_after behind_entry (first, s) es ≡ (index, offset)
 
-pub none_read : (first s : ℕ) (bytes : List ℕ) (es : List EntryIndex) → es ≡ [] → AreReadSoFar first s bytes bytes es first s
-none_read first s bytes es e =
-    let start : AreReadSoFar first s bytes bytes [] first s = record { reads = record { front = []; spells = refl; split = refl }; state = refl } in
-    subst (λ (xs : List EntryIndex). AreReadSoFar first s bytes bytes xs first s) (sym e) start
-
 tail_at : (first s : ℕ) (es : List EntryIndex) (index offset : ℕ) (bytes rest : List ℕ) (e : EntryIndex) → state_after behind_entry (first, s) es ≡ (index, offset) → Reads (IsTail (index, offset)) bytes rest e → Reads (IsTail (state_after behind_entry (first, s) es)) bytes rest e
 tail_at first s es index offset bytes rest e state r = subst (λ (p : ℕ × ℕ). Reads (IsTail p) bytes rest e) (sym state) r
 
@@ -101,9 +82,6 @@ end_is next (e ∷ es) = end_is (behind_entry next e) es
 
 pub end_read : (first s : ℕ) (bytes rest : List ℕ) (es : List EntryIndex) (index offset : ℕ) → AreReadSoFar first s bytes rest es index offset → offset ≡ end_behind s es
 end_read first s bytes rest es index offset so = sym (end_is (first, s) es ∙ ap (λ (p : ℕ × ℕ). p.1) so.state)
-
-pub all_read : (first s count : ℕ) (bytes rest : List ℕ) (es : List EntryIndex) (index offset : ℕ) → AreReadSoFar first s bytes rest es index offset → length es ≡ count → Reads (AreTails count (first, s)) bytes rest es
-all_read first s count bytes rest es index offset so len = record { front = so.reads.front; spells = record { tails = so.reads.spells; count = len }; split = so.reads.split }
 
 tails_one_front : (n : ℕ) (next : ℕ × ℕ) → HasOneFront (AreTails n next)
 tails_one_front n next a b more rest xs ys p q e = sequence_one_front behind_entry IsTail tail_one_front next xs ys a b more rest (p.count ∙ sym q.count) p.tails q.tails e
@@ -142,9 +120,6 @@ entries_read s count bytes mid rest es r t =
     let both = reads_pair IsVarint (AreIndexAndTails s) count es r t in
     record { front = both.front; spells = subst (λ (n : ℕ). IsFollowedBy IsVarint (AreIndexAndTails s) both.front n es) (run_length s count t.front es t.spells) both.spells; split = both.split }
 
-pub empty_run : (s : ℕ) (rest : List ℕ) → Reads (AreIndexAndTails s 0) rest rest []
-empty_run s rest = record { front = []; spells = (refl, refl); split = refl }
-
 pub no_count : (s : ℕ) (bytes : List ℕ) → HasNoFront IsVarint bytes → HasNoFront (IsEntries s) bytes
 no_count s bytes none front rest es p e = no_first IsVarint (AreIndexAndTails s) none front rest (length es) es p e
 
@@ -170,38 +145,4 @@ entries_one_front s a b more rest x y p q e =
 
 -- ---- consecutive indexes
 
-pub consecutive_step : (es : List EntryIndex) (i index : ℕ) (e : EntryIndex) → i < length es → e ≡ get_or es i e → e.index ≡ index → index < 2 ^ 64 - 1 → IsConsecutiveFrom index (drop i es) ↔ IsConsecutiveFrom (index + 1) (drop (i + 1) es)
-consecutive_step es i index e lt at same fits =
-    let split : drop i es ≡ e ∷ drop (i + 1) es = drop_more es i e lt ∙ ap (λ (x : EntryIndex). x ∷ drop (i + 1) es) (sym at) in
-    rw split (λ h. h.2, λ h. (same, fits, h))
-
-pub not_consecutive : (es : List EntryIndex) (i index : ℕ) (e : EntryIndex) → i < length es → e ≡ get_or es i e → (e.index ≡ index → index < 2 ^ 64 - 1 → ⊥) → IsConsecutiveFrom index (drop i es) → ⊥
-not_consecutive es i index e lt at out h =
-    let split : drop i es ≡ e ∷ drop (i + 1) es = drop_more es i e lt ∙ ap (λ (x : EntryIndex). x ∷ drop (i + 1) es) (sym at) in
-    let first = subst (λ (xs : List EntryIndex). IsConsecutiveFrom index xs) split h in
-    out first.0 first.1
-
-pub consecutive_start : (es : List EntryIndex) (e : EntryIndex) → e ≡ get_or es 0 e → 0 < length es → IsConsecutive es ↔ IsConsecutiveFrom e.index es
-consecutive_start [] e at lt = absurd (omega arith)
-consecutive_start (x ∷ xs) e at lt =
-    let same : e.index ≡ x.index = ap (λ (y : EntryIndex). y.index) at in
-    (λ h. subst (λ (k : ℕ). IsConsecutiveFrom k (x ∷ xs)) (sym same) h, λ h. subst (λ (k : ℕ). IsConsecutiveFrom k (x ∷ xs)) same h)
-
 -- ---- bytes that run on
-
-pub tile_step : (es : List EntryIndex) (i offset : ℕ) (e : EntryIndex) → i < length es → e ≡ get_or es i e → e.entry_offset ≡ offset → offset + e.entry_len < 2 ^ 32 → Tile offset (drop i es) ↔ Tile (offset + e.entry_len) (drop (i + 1) es)
-tile_step es i offset e lt at same fits =
-    let split : drop i es ≡ e ∷ drop (i + 1) es = drop_more es i e lt ∙ ap (λ (x : EntryIndex). x ∷ drop (i + 1) es) (sym at) in
-    rw split (λ h. h.2, λ h. (same, fits, h))
-
-pub not_tiled : (es : List EntryIndex) (i offset : ℕ) (e : EntryIndex) → i < length es → e ≡ get_or es i e → (e.entry_offset ≡ offset → offset + e.entry_len < 2 ^ 32 → ⊥) → Tile offset (drop i es) → ⊥
-not_tiled es i offset e lt at out h =
-    let split : drop i es ≡ e ∷ drop (i + 1) es = drop_more es i e lt ∙ ap (λ (x : EntryIndex). x ∷ drop (i + 1) es) (sym at) in
-    let first = subst (λ (xs : List EntryIndex). Tile offset xs) split h in
-    out first.0 first.1
-
-pub tile_start : (es : List EntryIndex) (e : EntryIndex) → e ≡ get_or es 0 e → 0 < length es → RunOn es ↔ Tile e.entry_offset es
-tile_start [] e at lt = absurd (omega arith)
-tile_start (x ∷ xs) e at lt =
-    let same : e.entry_offset ≡ x.entry_offset = ap (λ (y : EntryIndex). y.entry_offset) at in
-    (λ h. subst (λ (k : ℕ). Tile k (x ∷ xs)) (sym same) h, λ h. subst (λ (k : ℕ). Tile k (x ∷ xs)) same h)

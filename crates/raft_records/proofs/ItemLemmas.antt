@@ -139,14 +139,3 @@ pub pair_one : HasOneFront IsKeyValue
 pair_one a b more rest x y p q e = pair_one_of a b more rest x.key y.key x.op_type y.op_type x.value y.value x.file_id y.file_id p q e
 
 -- ---- what is written
-
-pub keeps_all : (old new behind : List ℕ) → new ≡ old ++ behind → Keeps old new
-keeps_all old new behind e = record { behind = behind; split = e }
-
--- what stands in front of bytes that are kept is kept
-pub keeps_front : (old mid new more : List ℕ) → mid ≡ old ++ more → Keeps mid new → Keeps old new
-keeps_front old mid new more e k = record { behind = more ++ k.behind; split = k.split ∙ ap (λ (t : List ℕ). t ++ k.behind) e ∙ append_assoc old more k.behind }
-
--- cut back to their length, the old bytes are there again
-pub cut_back : (old new : List ℕ) → Keeps old new → take (length old) new ≡ old
-cut_back old new k = rw k.split (take_at old k.behind (length old) refl)

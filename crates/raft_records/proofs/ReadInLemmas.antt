@@ -31,6 +31,3 @@ batch_in_file block c bytes rest signature items b = items_in_file block c 0 b.c
 
 pub decoded_in_file : (old new : List ℕ) (signature : Option ℕ) (block : FileBlockHandle) (c : CompressionType) (items : List Item) → IsDecoded old signature block c items new → AreReadIn block.id items
 decoded_in_file old new signature block c items d = rw d.places (batch_in_file block c old new signature d.read d.batch)
-
-pub next_in_file : (part : Part) (at : ℕ) (items : List Item) (next : ℕ) → IsBatchAt part at items next → AreReadIn part.id items
-next_in_file part at items next b = rw b.places (batch_in_file (entries_place part at b.offset) b.frame.compression _ b.frame.rest _ b.read b.frame.item_batch)

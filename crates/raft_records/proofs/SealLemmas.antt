@@ -26,11 +26,6 @@ pub signed_twice : (signature : Option ℕ) (n : ℕ) → signed signature (sign
 signed_twice None n = refl
 signed_twice (Some s) n = xor_assoc n s s ∙ ap (bit_xor n) (xor_self s) ∙ xor_zero_r n
 
-pub too_short : (signature : Option ℕ) (bytes content : List ℕ) → length bytes ≤ 4 → HasSeal signature bytes content → ⊥
-too_short signature bytes content le s =
-    let some : 0 < length content = s.some in
-    absurd (omega (arith, ap length s.split, length-append content (checksum_bytes signature content), four (signed signature (crc32_of content))))
-
 pub sealed_by : (signature : Option ℕ) (bytes content seal : List ℕ) (found actual : ℕ) → 0 < length content → bytes ≡ content ++ seal → seal ≡ little_bytes 4 found → actual ≡ crc32_of content → found ≡ signed signature actual → HasSeal signature bytes content
 sealed_by signature bytes content seal found actual some split read crc same =
     record { some = some; split = split ∙ ap (λ (t : List ℕ). content ++ t) (read ∙ ap (little_bytes 4) (same ∙ ap (signed signature) crc)) }

@@ -14,10 +14,6 @@ use Rattle.raft_records.proofs.StageLemmas.{batch_with, open_held, entries_are, 
 use Rattle.raft_records.specs.Entries.{entry_with_index, with_lengths, IsConsecutiveFrom, IsConsecutive}
 use Rattle.raft_records.specs.Spelling.{Keeps}
 
--- an entry with its length
-abbrev pub sized : ℕ → List ℕ → EntryIndex
-sized index bytes = record (entry_with_index index) { entry_len = length bytes }
-
 -- the first i of these messages are written behind the bytes that were there
 pub record IsWriting {X : Type 0} (bytes_of : X → List ℕ) (index_of : X → ℕ) (xs : List X) (i : ℕ) (start buf : List ℕ) (done : List EntryIndex) : Type 0 where
   pub keeps : Keeps start buf
@@ -35,32 +31,12 @@ keeps_all start = record { behind = []; split = sym (append-nil start) }
 next_is : {X : Type 0} (xs : List X) (i : ℕ) (x : X) → i < length xs → x ≡ get_or xs i x → drop i xs ≡ x ∷ drop (i + 1) xs
 next_is xs i x lt at = drop_more xs i x lt ∙ ap (λ y. y ∷ drop (i + 1) xs) (sym at)
 
-pub written_more : {X : Type 0} (bytes_of : X → List ℕ) (index_of : X → ℕ) (xs : List X) (i : ℕ) (start buf new : List ℕ) (done more : List EntryIndex) (x : X) → IsWriting bytes_of index_of xs i start buf done → i < length xs → x ≡ get_or xs i x → new ≡ buf ++ bytes_of x → length new < 16 + 2 ^ 31 → more ≡ done ++ sized (index_of x) (bytes_of x) ∷ [] → IsWriting bytes_of index_of xs (i + 1) start new more
-written_more {X} bytes_of index_of xs i start buf new done more x w lt at e fits pushed =
-    let next = next_is xs i x lt at in
-    let rest = concat (map bytes_of (drop (i + 1) xs)) in
-    let behind = with_lengths (map (λ y. entry_with_index (index_of y)) (drop (i + 1) xs)) (map bytes_of (drop (i + 1) xs)) in
-    record {
-      keeps = keeps_more start buf (bytes_of x) new w.keeps e;
-      bytes = ap (λ (t : List ℕ). t ++ rest) e ∙ append_assoc buf (bytes_of x) rest ∙ ap (λ (ys : List X). buf ++ concat (map bytes_of ys)) (sym next) ∙ w.bytes;
-      lengths = ap (λ (t : List EntryIndex). t ++ behind) pushed ∙ append_assoc done (sized (index_of x) (bytes_of x) ∷ []) behind ∙ ap (λ (ys : List X). done ++ with_lengths (map (λ y. entry_with_index (index_of y)) ys) (map bytes_of ys)) (sym next) ∙ w.lengths;
-      small = λ some. fits;
-    }
-
 pub written_past : {X : Type 0} (bytes_of : X → List ℕ) (index_of : X → ℕ) (xs : List X) (i : ℕ) (start buf new : List ℕ) (done : List EntryIndex) (x : X) → IsWriting bytes_of index_of xs i start buf done → i < length xs → x ≡ get_or xs i x → new ≡ buf ++ bytes_of x → 16 ≤ length start → 16 + 2 ^ 31 ≤ length new → 2 ^ 31 ≤ length start - 16 + length (concat (map bytes_of xs))
 written_past bytes_of index_of xs i start buf new done x w lt at e room past =
     let next = next_is xs i x lt at in
     let rest = concat (map bytes_of (drop (i + 1) xs)) in
     let whole = ap (λ ys. length (buf ++ concat (map bytes_of ys))) (sym next) ∙ ap length w.bytes in
     omega (arith, room, past, ap length e, whole, length-append buf (bytes_of x), length-append buf (bytes_of x ++ rest), length-append (bytes_of x) rest, length-append start (concat (map bytes_of xs)))
-
--- all of them are written
-pub written_all : {X : Type 0} (bytes_of : X → List ℕ) (index_of : X → ℕ) (xs : List X) (i : ℕ) (start buf : List ℕ) (done : List EntryIndex) → IsWriting bytes_of index_of xs i start buf done → length xs ≤ i → (buf ≡ start ++ concat (map bytes_of xs)) × (done ≡ with_lengths (map (λ x. entry_with_index (index_of x)) xs) (map bytes_of xs))
-written_all {X} bytes_of index_of xs i start buf done w le =
-    let none = drop_all i xs le in (
-      sym (append-nil buf) ∙ ap (λ (ys : List X). buf ++ concat (map bytes_of ys)) (sym none) ∙ w.bytes,
-      sym (append-nil done) ∙ ap (λ (ys : List X). done ++ with_lengths (map (λ x. entry_with_index (index_of x)) ys) (map bytes_of ys)) (sym none) ∙ w.lengths,
-    )
 
 -- ---- lengths
 
@@ -165,13 +141,6 @@ strung_past bytes_of es xs i start buf now x w lt there room past =
     let rest = concat (map bytes_of (drop (i + 1) xs)) in
     let whole = ap (λ ys. length (buf ++ concat (map bytes_of ys))) (sym next) ∙ ap length w.bytes in
     omega (arith, room, past, whole, length-append buf (bytes_of x ++ rest), length-append (bytes_of x) rest, length-append start (concat (map bytes_of xs)))
-
-pub strung_all : {X : Type 0} (bytes_of : X → List ℕ) (es : List EntryIndex) (xs : List X) (i : ℕ) (start buf : List ℕ) (now : List EntryIndex) → IsStringing bytes_of es xs i start buf now → length es ≡ length xs → length xs ≤ i → (buf ≡ start ++ concat (map bytes_of xs)) × (now ≡ with_lengths es (map bytes_of xs))
-strung_all {X} bytes_of es xs i start buf now w count le =
-    let none = drop_all i xs le in (
-      sym (append-nil buf) ∙ ap (λ (ys : List X). buf ++ concat (map bytes_of ys)) (sym none) ∙ w.bytes,
-      w.lengths ∙ ap (λ (t : List EntryIndex). with_lengths (take i es) (map bytes_of xs) ++ t) (drop_all i es (omega (arith, count, le))) ∙ append-nil (with_lengths (take i es) (map bytes_of xs)) ∙ ap (λ (t : List EntryIndex). with_lengths t (map bytes_of xs)) (take_all i es (omega (arith, count, le))),
-    )
 
 pub some_counted : {X Y : Type 0} (xs : List X) (ys : List Y) → length xs ≡ length ys → xs ≢ [] → ys ≢ []
 some_counted [] ys e some none = some refl

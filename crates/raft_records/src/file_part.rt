@@ -121,7 +121,7 @@ pub fn next_batch(part: &FilePart, at: usize) -> Result<Option<(LogItemBatch, us
     requires { at ≤ length part.now.bytes }
     ensures ok { IfOk result (IsNext part.now at) }
     ensures in_file { IfOk result (λ next. IfSome next (λ batch. AreReadIn part.now.id batch.0)) }
-    ensures left { OnErr result (at < length part.now.bytes) }
+    ensures some { OnErr result (at < length part.now.bytes) }
     ensures refused { IfErr result (λ e. e ≢ Error.Memory →
         HasNoFront (λ bytes. IsReadable bytes (part_signature part.now)) (drop at part.now.bytes)) }
     ensures fault { IfErr result (IsNextFault (part_signature part.now) (drop at part.now.bytes)) }

@@ -82,11 +82,6 @@ all_drawn total word (s ∷ seats) some_seats all drawn x small =
     let reached = below_once ended.last word (omega arith) in
     drawn x ∙ once_of_below x word (omega arith)
 
--- some piece has the first segment
-pub tile_some : {M : Type 0} (segments : List (Vec Part Global)) (pieces : List (Piece M)) → 0 < length segments → CoverOnce segments pieces → 0 < length pieces
-tile_some segments [] some_left tile = let none = tile 0 some_left in absurd (omega arith)
-tile_some segments (p ∷ ps) some_left tile = omega arith
-
 -- tickets for good arguments are refused for want of memory alone
 pub open_refused : (total seats : ℕ) (e : Error) → IsOpenRefusal total seats e → e ≢ Memory → 0 < seats → seats < 2 ^ 62 → total < 2 ^ 62 → ⊥
 open_refused total seats (errors.InvalidArgument text) (inl none_of) not_memory some_seats few_seats few = omega arith

@@ -76,9 +76,6 @@ pub found_some : (ss : List ℕ) (x k : ℕ) → IsIndexOf ss x → ((j d : ℕ)
 found_some ss x zero h up = let a = up 0 0 (omega arith) (index_some ss x h) in let b = index_first ss x h 0 in absurd (omega arith)
 found_some ss x (suc k) h up = omega arith
 
-pub at_same : {bs : List BlockSpans} {k o : ℕ} (p q : ℕ) → p ≡ q → IsAt p bs k o → IsAt q bs k o
-at_same {bs} {k} {o} p q e a = subst (λ n. IsAt n bs k o) e a
-
 -- what stands from a place on
 pub at_place : (i p k o : ℕ) (bs : List BlockSpans) (d : BlockSpans) → IsAt p bs k o → drop p (expanded i bs) ≡ spread (i + p) (get_or bs k d).handle (drop o (get_or bs k d).spans) ++ expanded (i + count (take (suc k) bs)) (drop (suc k) bs)
 at_place i p k o [] d a = absurd (let l = a.block in omega arith)

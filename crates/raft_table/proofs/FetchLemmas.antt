@@ -33,26 +33,9 @@ drop_append n [] ys = none n
 drop_append zero (x ∷ xs) ys = let e : 0 - suc (length xs) ≡ 0 = omega arith in rw e refl
 drop_append (suc n) (x ∷ xs) ys = let e : suc n - suc (length xs) ≡ n - length xs = omega arith in rw e (drop_append n xs ys)
 
-take_same : {X : Type 0} (a b : ℕ) (xs : List X) → min a (length xs) ≡ min b (length xs) → take a xs ≡ take b xs
-take_same a b xs h = sym (take_min a xs) ∙ ap (λ k. take k xs) h ∙ take_min b xs
-
 -- a part of a list, by where it begins and how long it is
 pub part_is : {X : Type 0} (a b : ℕ) (xs : List X) → a ≤ b → drop a (take b xs) ≡ take (b - a) (drop a xs)
 part_is a b xs h = ap (λ k. drop a (take k xs)) (let e : b ≡ a + (b - a) = omega arith in e) ∙ drop-take a (b - a) xs
-
--- a part of two lists, one behind the other
-pub part_of_two : {X : Type 0} (a b : ℕ) (xs ys : List X) → a ≤ b → let m = length xs in drop a (take b (xs ++ ys)) ≡ take (min b m - min a m) (drop (min a m) xs) ++ take (max b m - m - (max a m - m)) (drop (max a m - m) ys)
-part_of_two a b xs ys h =
-    let m = length xs in
-    let lt = length-take b xs in
-    let ld = length-drop a xs in
-    let x : a - length (take b xs) ≡ max a m - m = omega arith in
-    let first : drop a (take b xs) ≡ take (min b m - min a m) (drop (min a m) xs) =
-    part_is a b xs h ∙ take_same (b - a) (min b m - min a m) (drop a xs) (omega arith) ∙ ap (take (min b m - min a m)) (sym (drop_min a xs)) in
-    let second : drop (a - length (take b xs)) (take (b - m) ys) ≡ take (max b m - m - (max a m - m)) (drop (max a m - m) ys) =
-    ap (λ k. drop k (take (b - m) ys)) x ∙ part_is (max a m - m) (b - m) ys (omega arith)
-    ∙ ap (λ k. take k (drop (max a m - m) ys)) (let e : b - m - (max a m - m) ≡ max b m - m - (max a m - m) = omega arith in e) in
-    ap (drop a) (take_append b xs ys) ∙ drop_append a (take b xs) (take (b - m) ys) ∙ rw (first, second) refl
 
 -- the total with one more length
 pub total_more : (xs : List EntryIndex) (n : ℕ) (d : EntryIndex) → n < length xs → total_len (suc n) xs ≡ total_len n xs + (get_or xs n d).entry_len
@@ -83,10 +66,6 @@ pub part_at : (a b i : ℕ) (xs : List EntryIndex) (d : EntryIndex) → a ≤ i 
 part_at a b i xs d h l =
     get_or-drop a (take b xs) (i - a) d ∙ ap (λ k. get_or (take b xs) k d) (let e : a + (i - a) ≡ i = omega arith in e) ∙ get_or-take b xs i d l
 
--- a table's entries by queue
-pub rewritten_is : (es : List EntryIndex) → AreTableEntries es → placed_in Rewrite es ≡ take (entry_count Rewrite es) es
-rewritten_is es h = sym (ap (take (entry_count Rewrite es)) h.in_front ∙ take_at (placed_in Rewrite es) (placed_in Append es) (entry_count Rewrite es) refl)
-
 pub appended_is : (es : List EntryIndex) → AreTableEntries es → placed_in Append es ≡ drop (entry_count Rewrite es) es
 appended_is es h = sym (ap (drop (entry_count Rewrite es)) h.in_front ∙ drop_at (placed_in Rewrite es) (placed_in Append es) (entry_count Rewrite es) refl)
 
@@ -95,20 +74,6 @@ slice_get_drop zero [] = refl
 slice_get_drop zero (x ∷ xs) = refl
 slice_get_drop (suc n) [] = refl
 slice_get_drop (suc n) (x ∷ xs) = slice_get_drop n xs
-
-slice_get_take : {X : Type 0} (n : ℕ) (xs : List X) → 0 < n → slice_get (take n xs) 0 ≡ slice_get xs 0
-slice_get_take zero xs l = absurd (omega arith)
-slice_get_take (suc n) [] l = refl
-slice_get_take (suc n) (x ∷ xs) l = refl
-
-pub first_appended : (es : List EntryIndex) → AreTableEntries es → first_seq Append es ≡ entry_seq (slice_get es (entry_count Rewrite es))
-first_appended es h = ap entry_seq (ap (λ xs. slice_get xs 0) (appended_is es h) ∙ slice_get_drop (entry_count Rewrite es) es)
-
-pub first_rewritten : (es : List EntryIndex) → AreTableEntries es → 0 < entry_count Rewrite es → first_seq Rewrite es ≡ entry_seq (slice_get es 0)
-first_rewritten es h l = ap entry_seq (ap (λ xs. slice_get xs 0) (rewritten_is es h) ∙ slice_get_take (entry_count Rewrite es) es l)
-
-pub none_rewritten : (es : List EntryIndex) → AreTableEntries es → entry_count Rewrite es ≡ 0 → first_seq Rewrite es ≡ None
-none_rewritten es h n = ap entry_seq (ap (λ xs. slice_get xs 0) (rewritten_is es h ∙ ap (λ k. take k es) n))
 
 -- the appended entries at or below a gate
 pub appended_before_is : (gate n r : ℕ) (es : List EntryIndex) → AreTableEntries es → r ≡ entry_count Rewrite es → n ≡ prefix_len (is_placed_before gate) (drop r es) → appended_before gate es ≡ drop r (take (r + n) es)
@@ -157,7 +122,3 @@ change_count_last [] n e = absurd (omega arith)
 change_count_last (x ∷ []) zero e = refl
 change_count_last (x ∷ y ∷ es) zero e = absurd (omega arith)
 change_count_last (x ∷ es) (suc n) e = change_count_last es n (omega arith)
-
-pub block_count_is : (es : List EntryIndex) → 0 < length es → block_count es ≡ suc (change_count es)
-block_count_is [] l = absurd (omega arith)
-block_count_is (e ∷ es) l = refl

@@ -48,11 +48,3 @@ from_rest i n es h e l =
 pub counts_joined : (q : LogQueue) (es run : List EntryIndex) (n : ℕ) (c new : Counts) → AreTableEntries es → 0 < length run → leaves_hole (end_of es) (start_of run) ≡ false → below (start_of run) es ≡ take n es → n ≤ length es → new ≡ with_added q (length run) (counts_without (drop n es) c) → new ≡ counts_with_run q es run c
 counts_joined q es [] n c new h l f e k w = absurd (omega arith)
 counts_joined q es (x ∷ run) n c new h l f e k w = rw (f, from_rest x.index n es h e k) w
-
-pub counts_behind : (q : LogQueue) (es run : List EntryIndex) (c new : Counts) → 0 < length run → leaves_hole (end_of es) (start_of run) ≡ true → new ≡ with_added q (length run) (counts_without es c) → new ≡ counts_with_run q es run c
-counts_behind q es [] c new l f w = absurd (omega arith)
-counts_behind q es (x ∷ run) c new l f w = rw f w
-
--- one without entries
-pub counts_none : (q : LogQueue) (es run : List EntryIndex) (c : Counts) → run ≡ [] → c ≡ counts_with_run q es run c
-counts_none q es run c e = rw e refl

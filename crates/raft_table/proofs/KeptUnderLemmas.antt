@@ -58,16 +58,6 @@ pub counts_under : (rule q : LogQueue) (es run : List EntryIndex) (n : ℕ) (c n
 counts_under rule q es [] n c new l h w = absurd (omega arith)
 counts_under rule q es (e ∷ run) n c new l h w = w ∙ ap (λ xs. with_added q (length (e ∷ run)) (counts_without xs c)) (sym h.gone)
 
--- a refusal by the start rule is one of the run
-pub fault_under : (rule q : LogQueue) (c : Counts) (es run : List EntryIndex) (e : Error) → 0 < length run → IsStart es (start_of run) starts.BehindHole → rule ≡ Append → IsStartFault e → IsTableRunFault q c es (replayed rule es run) e
-fault_under rule q c es [] e l b r f = absurd (omega arith)
-fault_under rule q c es (x ∷ run) e l b r f = rw (r, b.0) (go e f)
-  where
-    go : (e : Error) → IsStartFault e → IsTableRunFault q c es None e
-    go (errors.Corruption text) f = tt
-    go errors.Memory f = tt
-    go _ f = absurd f
-
 -- those behind a front are counted with the others
 pub few_behind : (q : LogQueue) (n : ℕ) (es : List EntryIndex) (c : Counts) → AreCounted es c → entry_count q (drop n es) ≤ live q c
 few_behind q n es c h = omega (arith, h q, entry_count-cut q n es)

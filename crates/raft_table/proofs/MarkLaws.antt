@@ -81,10 +81,6 @@ stands_join q id m n t u w ss rs good good' h k is = record {
     inner o r None e = refl
     inner o r (Some v) e = k.every v (table_after q id o v ss good r e)
 
--- one more step, over the table as it is
-pub stands_step : (q : LogQueue) (id : ℕ) (m : Mark) (t w : Option Table) (ss : List Step) (s : Step) → AreSteps ss → IsStep s → Stands q id m t ss → after_step q id t s ≡ Some w → Stands q id (joined_mark q id m t (mark_of s)) w (ss ++ s ∷ [])
-stands_step q id m t w ss s good good' h is = stands_join q id m (mark_of s) t (own_of id s) w ss (s ∷ []) good (good', tt) h (stands_one q id s good') (one_step q id s t h.own_table ∙ is)
-
 -- the own table is what one reading of the steps gives
 pub stands_alone : (q : LogQueue) (id : ℕ) (m : Mark) (t : Option Table) (ss : List Step) → Stands q id m t ss → after q id None ss ≡ Some t
 stands_alone q id m t ss h = h.every None (no_table id) ∙ applied_none q id m t h.own_table.region

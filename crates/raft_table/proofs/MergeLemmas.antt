@@ -18,19 +18,6 @@ use Rattle.raft_table.proofs.KeyValueCounts.{length-cond, pair_count-with_put}
 use Rattle.raft_table.proofs.RunLemmas.{below-placed_in}
 use Rattle.raft_table.proofs.PlaceLemmas.{entry_count-append}
 
--- fewer or more records of one queue in place of others
-pub fewer_counted : (q queue : LogQueue) (before after x y : ℕ) → after ≤ before → x + count_in q queue (before - after) ≡ y → x + count_in q queue before ≡ y + count_in q queue after
-fewer_counted Append Append before after x y l h = omega arith
-fewer_counted Append Rewrite before after x y l h = omega arith
-fewer_counted Rewrite Append before after x y l h = omega arith
-fewer_counted Rewrite Rewrite before after x y l h = omega arith
-
-pub more_counted : (q queue : LogQueue) (before after x y : ℕ) → before ≤ after → x ≡ y + count_in q queue (after - before) → x + count_in q queue before ≡ y + count_in q queue after
-more_counted Append Append before after x y l h = omega arith
-more_counted Append Rewrite before after x y l h = omega arith
-more_counted Rewrite Append before after x y l h = omega arith
-more_counted Rewrite Rewrite before after x y l h = omega arith
-
 length-below : (i : ℕ) (es : List EntryIndex) → length (below i es) ≤ length es
 unfolding below
 length-below i [] = omega arith

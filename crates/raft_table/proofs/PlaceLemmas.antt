@@ -77,10 +77,7 @@ placed_apart q r d e h = at e.entries h
     at None k = refl
     at (Some b) k = same b.id.queue q r d k
 
-pub placed_in_again : (q : LogQueue) (es : List EntryIndex) → placed_in q (placed_in q es) ≡ placed_in q es
 unfolding placed_in
-placed_in_again q es = filter_all (is_placed_in q) (placed_in q es) (AllTest-filter (is_placed_in q) es)
-
 pub placed_in_other : (q r : LogQueue) → is_same q r ≡ false → (es : List EntryIndex) → placed_in r (placed_in q es) ≡ []
 unfolding placed_in
 placed_in_other q r d es =

@@ -96,13 +96,3 @@ sought-tested key s s' s'' e e' e'' es p q =
 
 pub none-between : {X : Type 0} (key : X → List ℕ) (s e : Option (List ℕ)) (es : List X) → is_forward s e ≡ false → filter (λ x. is_between s e (key x)) es ≡ []
 none-between key s e es backwards = filter-none _ es (λ x. between-backwards s e (key x) backwards)
-
--- what is sought is in order where the bounds are
-pub forward-divided : (s s' s'' e e' e'' : Option (List ℕ)) → IsDivided s s' s'' → IsDivided e e' e'' → is_forward s e ≡ true → is_forward s' e' ≡ true
-forward-divided s s' s'' e e' e'' (inl p) (inl q) h = rw (p.0, q.0) h
-forward-divided s s' s'' e e' e'' (inl p) (inr q) h = rw q.0 (go s')
-  where
-    go : (x : Option (List ℕ)) → is_forward x None ≡ true
-    go None = refl
-    go (Some x) = refl
-forward-divided s s' s'' e e' e'' (inr p) q h = rw p.0 refl

@@ -81,11 +81,6 @@ cut_counts n es h le = record {
   all = entries_in_both es h.in_front;
 }
 
--- no front: no entries
-pub no_front : (es : List EntryIndex) (n : ℕ) → n ≡ length es → (0 < n → false ≡ true) → es ≡ []
-no_front [] n e h = refl
-no_front (x ∷ es) n e h = absurd (false≢true (h (omega arith)))
-
 pub AreTableEntries-nil : AreTableEntries []
 unfolding placed_in end_of
 AreTableEntries-nil = record { run = record { start = 0; rising = tt }; in_front = refl; bounded = lit< tt }

@@ -27,7 +27,3 @@ pair_counted keys key file h =
 pub live_of_empty : (q : LogQueue) (id : ℕ) → live_of q (empty_table id) ≡ 0
 unfolding placed_in
 live_of_empty q id = rw entries-empty refl
-
--- counts that follow a table's records keep holding them
-pub kept_counted : (before after : Table) (old new : Counts) → IsCounted before old → IsRecounted before after old new → IsCounted after new
-kept_counted before after old new h k = λ q. omega (arith, h q, k q)

@@ -58,13 +58,6 @@ walk_more i s p k o n bs b g a q l c =
     part_split s p (p + n) (expanded i bs) g (omega arith) (rw (length-expanded i bs) c)
     ∙ ap (λ xs. drop s (take p (expanded i bs)) ++ xs) (block_part i p k o n bs b a q l)
 
--- one span more
-pub spread_more : (i n : ℕ) (h : FileBlockHandle) (ss : List (ℕ × ℕ)) (s : ℕ × ℕ) → n < length ss → s ≡ get_or ss n s → spread i h (take (n + 1) ss) ≡ spread i h (take n ss) ++ entry_of (i + n) h s ∷ []
-spread_more i n h ss s l e =
-    ap (spread i h) (take_more ss n s l ∙ ap (λ y. take n ss ++ y ∷ []) (sym e))
-    ∙ spread-append i h (take n ss) (s ∷ [])
-    ∙ ap (λ m. spread i h (take n ss) ++ entry_of (i + m) h s ∷ []) (length-take-le n ss (omega arith))
-
 -- the entries of one block move together
 pub moves_all : (gate : Option ℕ) (i : ℕ) (h : FileBlockHandle) (ss : List (ℕ × ℕ)) (rest : List EntryIndex) → ((e : EntryIndex) → e.entries ≡ Some h → true ≡ may_move gate e) → prefix_len (may_move gate) (spread i h ss ++ rest) ≡ length ss + prefix_len (may_move gate) rest
 moves_all gate i h [] rest m = omega arith

@@ -6,6 +6,7 @@ ghost use Rattle.raft_base.specs.declared.pipe_log.LogQueue.TheVariants.{Append,
 ghost use Rattle.raft_table.specs.TableEntries.{IsRunIn, AreTableEntries, start_of, end_of, entry_at, entry_count, below};
 ghost use Rattle.raft_table.specs.Blocks.{shown, expanded, AreDistinctBlocks};
 ghost use Rattle.raft_table.specs.Counts.{Counts, live, with_added};
+ghost use Rattle.raft_table.specs.Fetches.{block_count};
 ghost use Rattle.raft_table.specs.KeyValues.{value_at, file_at, file_weight};
 ghost use Rattle.raft_table.specs.Table.{empty_table, live_of, IsCounted, IsRecounted, after_append, after_replay, after_rewrite, after_rewrite_key, compacted, with_pair, without_key, with_atomic_group, table_with_entries, table_with_keys, with_pair_deleted, with_rewritten_key, MovesKeyAlone, leaves_append, IsTablePutFault, IsKeyRewriteFault};
 ghost use Rattle.raft_table.specs.Rewriting.{rewritten, recounted, IsRewriteFault, MovesPlacesAlone};
@@ -21,7 +22,6 @@ mod laws;
 mod mark;
 mod merge;
 mod queries;
-mod region;
 mod table_laws;
 mod under;
 
@@ -36,7 +36,6 @@ pub use laws::{
 };
 pub use mark::Mark;
 use raft_base::{EntryIndex, Error, FileId, FileSeq, LogQueue, Result};
-pub use region::{join_cleaned, join_region, replay_clean, replay_delete, replay_run};
 use std::alloc::Global;
 use std::collections::VecDeque;
 use std::marker::Model;
@@ -125,6 +124,7 @@ impl MemTable {
     pub fn blocks(&self) -> &VecDeque<Block>
         ensures entries { expanded (start_of self.now.entries) (shown result.now.items) ≡ self.now.entries }
         ensures distinct { AreDistinctBlocks (shown result.now.items) }
+        ensures count { length result.now.items ≡ block_count self.now.entries }
     {
         self.entries.blocks()
     }

@@ -421,7 +421,7 @@ fn contexts_hold_little(rt: HostRuntime) {
 }
 
 /// A run of region 1, and one that leaves a hole behind it.
-const APART: [(FileSeq, &str); 2] = [
+const WITH_A_HOLE: [(FileSeq, &str); 2] = [
     (
         1,
         "0000000000003100000000000000001e787878787878787878787747df8e0101010a0a0102030405060708090a146f83e0",
@@ -434,7 +434,7 @@ const APART: [(FileSeq, &str); 2] = [
 
 /// Whether a context that refused its neighbor answers `Failed` from then on.
 fn stays_failed(alloc: Global) -> Result<bool> {
-    let history = History::read(alloc, LogQueue::Append, Version::V1, &APART)?;
+    let history = History::read(alloc, LogQueue::Append, Version::V1, &WITH_A_HOLE)?;
     let Piece { mut context, .. } = history.replayed(0, 1)?;
     let newer = history.replayed(1, 2)?;
     match context.merge(newer.context, LogQueue::Append) {

@@ -322,7 +322,7 @@ live 0 0
 ",
         ),
     },
-    // Marks Begin, End, Middle, End: one effect.
+    // Markers Begin, End, Middle, End: one effect.
     Row {
         queue: LogQueue::Rewrite,
         version: Version::V1,

@@ -2,6 +2,7 @@
 
 ghost use Rattle.std.specs.Prelude.{◌≡◌, ◌≢◌, ◌+◌, ◌<◌, ◌≤◌, [], length, take, drop, MatchOption, IfOk, IfErr};
 ghost use Rattle.raft_table.specs.Blocks.{shown, expanded, AreDistinctBlocks};
+ghost use Rattle.raft_table.specs.Fetches.{block_count};
 ghost use Rattle.raft_table.specs.Start.{counts_without, IsCorruptionError, IsInvalidArgument};
 ghost use Rattle.raft_table.specs.TableEntries.{AreTableEntries, start_of, end_of, entry_at, entry_count, below, from, AreCounted, AreRecounted};
 ghost use Rattle.raft_base.specs.declared.pipe_log.LogQueue.TheVariants.{Rewrite};
@@ -97,6 +98,7 @@ impl Entries {
     pub fn blocks(&self) -> &VecDeque<Block>
         ensures entries { expanded (start_of self.now) (shown result.now.items) ≡ self.now }
         ensures distinct { AreDistinctBlocks (shown result.now.items) }
+        ensures count { length result.now.items ≡ block_count self.now }
     {
         &self.blocks
     }

@@ -10,7 +10,7 @@ returns-in_err-batch-clause-refused g c =
     let p = err_from_is_err_and c.from_residual.result c.from_residual.ensures.1 in
     rw (p.1, p.2)
     (λ not_memory. refused c.loop-batch.invariant.midway
-    (unreadable c.args.part.now c.loop-batch.at _ c.in_err-batch.ensures.left (c.in_err-batch.ensures.refused not_memory)))
+    (unreadable c.args.part.now c.loop-batch.at _ c.in_err-batch.ensures.some (c.in_err-batch.ensures.refused not_memory)))
 
 pub returns-in_err-replay-clause-refused : goal.returns-in_err-replay-clause-refused
 returns-in_err-replay-clause-refused g c =

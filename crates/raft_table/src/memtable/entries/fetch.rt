@@ -13,15 +13,7 @@ use crate::memtable::entries::walks::{count_from, movable_from, push_parts};
 use raft_base::{EntryIndex, Error, FileSeq, LogQueue, Result};
 
 impl Entries {
-    /// Appends the entries from `begin` on and below `end`, in order, to `vec`. With a limit it
-    /// stops before the first one with which the total of lengths passes the limit and exceeds
-    /// that entry's own length.
-    ///
-    /// # Errors
-    ///
-    /// Where the range isn't empty: `EntryNotFound` without entries, `EntryCompacted` where it
-    /// begins below the first entry, `EntryNotFound` where it ends behind the last. The vector is
-    /// then as it was.
+    /// What [`MemTable::fetch_entries_to`](crate::MemTable::fetch_entries_to) answers of the entries.
     pub fn fetch_to(
         &self,
         begin: u64,

@@ -16,15 +16,7 @@ use raft_base::{EntryIndex, Error, FileSeq, LogQueue, Result};
 use std::alloc::AllocError;
 
 impl Entries {
-    /// Gives the entries the places of a run of the rewrite queue, from the first shared index on
-    /// and as far as they may move: with a gate those in files at or below it, without one those
-    /// that are rewritten already. Indexes stay.
-    ///
-    /// # Errors
-    ///
-    /// `Corruption` where more entries stand below the first shared index than are rewritten, and
-    /// with a gate also where fewer do; `Full` where the live number of the rewrite queue and the
-    /// run together would pass 2^64 - 1.
+    /// What [`MemTable::rewrite`](crate::MemTable::rewrite) does to the entries.
     pub fn rewrite(
         &mut self,
         run: &[EntryIndex],

@@ -14,12 +14,7 @@ use crate::memtable::entries::{Entries, Start};
 use raft_base::{EntryIndex, Error, LogQueue, Result};
 
 impl Entries {
-    /// Puts a new run of the append queue behind the entries below its start. All others go.
-    ///
-    /// # Errors
-    ///
-    /// `Corruption` where the run starts below all entries or leaves a hole behind them, `Full`
-    /// where more than 2^64 - 1 records would be live in the append queue.
+    /// What [`MemTable::append`](crate::MemTable::append) does to the entries.
     pub fn append(&mut self, run: Vec<EntryIndex>, stats: &mut GlobalStats) -> Result<()>
         requires run { IsRunIn Append run.items }
         requires counted { AreCounted self.old stats.old }
@@ -67,13 +62,7 @@ impl Entries {
         self.replay(rule, rhs, queue, stats)
     }
 
-    /// Puts a run of `queue` that is read again behind the entries below its start, or, in the rewrite
-    /// queue, in place of all entries where it leaves a hole behind them. All others go.
-    ///
-    /// # Errors
-    ///
-    /// `Corruption` where a run of the append queue leaves such a hole, `Full` where more than
-    /// 2^64 - 1 records would be live in the queue.
+    /// What the replays of [`MemTable`](crate::MemTable) do to the entries with a run of `queue`.
     pub fn replay_run(
         &mut self,
         run: &[EntryIndex],

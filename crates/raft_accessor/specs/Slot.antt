@@ -16,7 +16,7 @@ pub record IsSlotTable (number id : ℕ) (t : Table) : Type 0 where
   pub slot : slot_of id ≡ number
 
 -- what a slot's lock keeps: every table stands under its own id, which is of this slot; the counts are those of the tables; every cleaned region is of this slot
-pub record SlotKeeps (s : SlotContent) : Type 0 where
+pub record HoldsOwnTables (s : SlotContent) : Type 0 where
   pub tables : (id : ℕ) (t : Table) → finite.get s.part.tables id ≡ Some t → IsSlotTable s.number id t
   pub counted : AreCountsOf s.part.tables s.part.counts
   pub cleaned : AllByRecursion (λ id. slot_of id ≡ s.number) s.part.cleaned

@@ -11,7 +11,7 @@ ghost use Rattle.raft_table.specs.Change.{after_change, IsAnswer, IsChangeFault}
 ghost use Rattle.raft_table.specs.Table.{Table, with_atomic_group, live_of};
 ghost use Rattle.raft_accessor.specs.Accessor.{slot_of, table_in, live_in_all};
 ghost use Rattle.raft_accessor.specs.AccessorCalls.{IsTableChanged, IsWritten};
-ghost use Rattle.raft_accessor.specs.Slot.{IsSlotTable, SlotKeeps};
+ghost use Rattle.raft_accessor.specs.Slot.{IsSlotTable, HoldsOwnTables};
 ghost use Rattle.raft_accessor.specs.Walks.{KeepsId, Makes};
 ghost use Rattle.raft_accessor.specs.Writes.{Appending, Rewriting};
 
@@ -129,8 +129,8 @@ impl Slot {
 
     /// What every slot keeps: its tables stand under their own ids, which are of the slot as the
     /// cleaned regions are, and are counted exactly. This is a law: it computes nothing.
-    pub fn is_kept(&self)
-        ensures { SlotKeeps self.now }
+    pub fn holds_own_tables(&self)
+        ensures { HoldsOwnTables self.now }
     {
         self.tables.tables_are_own();
     }

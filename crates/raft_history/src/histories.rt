@@ -18,7 +18,7 @@ ghost use Rattle.raft_history.specs.Histories.{IsSmall, Sound, IsSoundIn, Apart,
 
 /// What holds of two histories, one behind the other, holds of each: so it holds of every stretch of
 /// a history.
-pub fn stretches_keep_what_histories_are()
+pub fn neighbours_keep_what_histories_are()
     ensures small { (h k : List Event) → IsSmall (h ++ k) → IsSmall h × IsSmall k }
     ensures sound { (h k : List Event) → Sound (h ++ k) → Sound h × Sound k }
     ensures apart { (h k : List Event) → Apart (h ++ k) → Apart h × Apart k }
@@ -33,7 +33,7 @@ pub fn histories_of_the_append_queue_are_apart()
 
 /// Steps on the tables of all regions give each region the table of its own steps, in order; and
 /// where they are refused, some region's own steps are.
-pub fn regions_are_read_apart()
+pub fn regions_are_read_one_by_one()
     ensures by_region { (queue : LogQueue) (before after_all : Tables) (steps : List RegionStep)
         → reading queue before steps ≡ Some after_all
         → (r : ℕ) → after queue r (finite.get before r) (steps_on r steps) ≡ Some (finite.get after_all r) }

@@ -205,7 +205,7 @@ impl MemTableRecoverContext {
     pub fn finish(self) -> Result<MemTableAccessor>
         ensures tables { IfOk result (λ accessor. accessor.tables ≡ self.context.regions.tables) }
         ensures cleaned { IfOk result (λ accessor. accessor.cleaned ≡ self.context.cleaned) }
-        ensures counted { IfOk result (λ accessor. AreCountsOf accessor.tables accessor.counts) }
+        ensures exact_counts { IfOk result (λ accessor. AreCountsOf accessor.tables accessor.counts) }
         ensures reading { (queue : LogQueue) (h : List Event) → IsReadingExactly self h → Suits queue self.context.files
             → IfOk result (λ accessor. IsOneReading queue h accessor.tables accessor.cleaned) }
         ensures overlaid { (rewrite append : List Event) → IsOfBothExactly self rewrite append

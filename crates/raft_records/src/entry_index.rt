@@ -266,7 +266,7 @@ fn short_tail(bytes: &[u8], index: u64, offset: u32) -> Option<(u32, &[u8])>
     ensures read { IfSome result (λ read.
         Reads (IsTail (index, offset)) bytes.now read.1.now (entry_between index offset read.0)) }
     ensures ends { IfSome result (λ read. offset ≤ read.0) }
-    ensures counted { IfSome result (λ read. index < 2 ^ 64 - 1) }
+    ensures bounded { IfSome result (λ read. index < 2 ^ 64 - 1) }
     ensures shorter { IfSome result (λ read. length read.1.now < length bytes.now) }
 {
     match codec::parse_short_var_u64(bytes) {
@@ -283,7 +283,7 @@ fn parse_tail(alloc: Global, bytes: &[u8], index: u64, offset: u32) -> Result<(u
     ensures ok { IfOk result (λ read.
         Reads (IsTail (index, offset)) bytes.now read.1.now (entry_between index offset read.0)) }
     ensures ends { IfOk result (λ read. offset ≤ read.0) }
-    ensures counted { OnOk result (index < 2 ^ 64 - 1) }
+    ensures bounded { OnOk result (index < 2 ^ 64 - 1) }
     ensures shorter { IfOk result (λ read. length read.1.now < length bytes.now) }
     ensures refused { OnErr result (HasNoFront (IsTail (index, offset)) bytes.now) }
     ensures fault { IfErr result (IsTailFault (index, offset) bytes.now) }

@@ -15,7 +15,7 @@ use Rattle.raft_history.specs.Batches.{Event}
 use Rattle.raft_replay.specs.Segments.{ReadsParts, ReadsSegments, AreCutFrom, PartsAreOf, SegmentsAreOf}
 use Rattle.raft_replay.proofs.CutPartLemmas.{uncut, cut_among}
 use Rattle.raft_recover.specs.Files.{whole_file, segment_shown, ReadsFiles}
-use Rattle.raft_recover.specs.RequestView.{file_shown}
+use Rattle.raft_recover.specs.AskedRequests.{file_shown}
 
 -- ---- how many parts
 

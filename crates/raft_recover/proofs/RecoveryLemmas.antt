@@ -48,7 +48,7 @@ module _ (queue : LogQueue) (segments : List (Vec Part Global)) (of_queue : Segm
     reads = replayed.reads;
     sound = λ small. ((replayed.stands small).stands.stands queue (suited small)).sound;
     one_reading = λ small apart. one queue replayed.history (replayed.exact small apart) (suited small);
-    counted = counted;
+    exact_counts = counted;
   }
   recovered (Err e) one counted = tt
 
@@ -71,7 +71,7 @@ module _ (queue : LogQueue) (version : Version) (ss : List (Vec Part Global)) (f
     reads = (same r.history).1 r.reads;
     sound = r.sound;
     one_reading = r.one_reading;
-    counted = r.counted;
+    exact_counts = r.exact_counts;
   }
 
   pub files_refused : CannotBeRead ss → FilesCannotBeRead queue version files

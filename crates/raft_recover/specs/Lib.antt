@@ -1,6 +1,6 @@
 pub mod Files
 pub mod Recovery
-pub mod RequestView
+pub mod AskedRequests
 pub mod Requests
-pub mod Runs
+pub mod Programs
 pub mod TableLines

@@ -11,4 +11,4 @@ pub record IsRecovered (queue : LogQueue) (Reads : List Event → Type 0) (acces
   pub reads : Reads history
   pub sound : IsSmall history → IsSoundIn queue history
   pub one_reading : IsSmall history → Apart history → IsOneReading queue history accessor.tables accessor.cleaned
-  pub counted : AreCountsOf accessor.tables accessor.counts
+  pub exact_counts : AreCountsOf accessor.tables accessor.counts

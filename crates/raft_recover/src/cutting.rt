@@ -4,7 +4,7 @@ ghost use Rattle.std.specs.Prelude.{◌≡◌, ◌↔◌, ◌*◌, ◌^◌, ◌<
 ghost use Rattle.raft_history.specs.Batches.{Event};
 ghost use Rattle.raft_replay.specs.Segments.{ReadsParts, ReadsSegments, PartsAreOf, SegmentsAreOf};
 ghost use Rattle.raft_recover.specs.Files.{whole_file, segment_shown, ReadsFiles};
-ghost use Rattle.raft_recover.specs.RequestView.{file_shown};
+ghost use Rattle.raft_recover.specs.AskedRequests.{file_shown};
 
 use raft_base::{Error, FileId, FileSeq, LogQueue, Result, Version};
 use raft_records::FilePart;

@@ -18,7 +18,7 @@ ghost use Rattle.raft_table.specs.Start.{IsInvalidArgument};
 ghost use Rattle.raft_replay.specs.Segments.{ReadsSegments, CannotBeRead, SegmentsAreOf};
 ghost use Rattle.raft_recover.specs.Files.{FilesCannotBeRead, IsPrintFailure, PrintsRecovered};
 ghost use Rattle.raft_recover.specs.Recovery.{IsRecovered};
-ghost use Rattle.raft_recover.specs.RequestView.{file_shown};
+ghost use Rattle.raft_recover.specs.AskedRequests.{file_shown};
 
 use crate::cutting::file_segments;
 use crate::recovered::print_recovered;

@@ -3,8 +3,8 @@
 ghost use Rattle.std.specs.Prelude.{◌≡◌, ◌≤◌, ◌↔◌, ◌⊎◌, ℕ, List, OnOk, IfErr, map, string_bytes};
 ghost use Rattle.std.specs.Io.KnownBytes.{Keeps};
 ghost use Rattle.raft_recover.specs.Requests.{AsksRecovery, AsksNothing, refusal_word};
-ghost use Rattle.raft_recover.specs.RequestView.{IsAsked, asks_for};
-ghost use Rattle.raft_recover.specs.Runs.{IsRecoveryPrinted, IsRecoveryFound, IsPrinted, IsFound};
+ghost use Rattle.raft_recover.specs.AskedRequests.{IsAsked, asks_for};
+ghost use Rattle.raft_recover.specs.Programs.{IsRecoveryPrinted, IsRecoveryFound, IsPrinted, IsFound};
 
 use crate::recovery::recover_bytes;
 use crate::request::{Recovery, Request, read_files};

@@ -9,8 +9,8 @@ use Rattle.raft_base.specs.declared.pipe_log.LogQueue.{LogQueue}
 use Rattle.raft_base.specs.declared.pipe_log.LogQueue.TheVariants.{Append, Rewrite}
 use Rattle.raft_base.specs.declared.entry_index.EntryIndex.{EntryIndex}
 use Rattle.raft_table.specs.TableEntries.{end_of, from}
-use Rattle.raft_table.specs.Marks.{Mark, part, misses, is_missed, older_entries, is_first_run_refused, entries_over, ReachesCut, OwnReachCut}
-use Rattle.raft_table.specs.MarkJoins.{joined_first, joined_floor, joined_later, joined_live, joined_at}
+use Rattle.raft_table.specs.Marks.{Mark, part, misses, is_missed, older_entries, is_first_run_refused, entries_over, GoesPastCut, OwnGoesPastCut}
+use Rattle.raft_table.specs.MarkJoins.{joined_first, joined_floor, joined_later, joined_uncleaned, joined_at}
 use Rattle.raft_table.specs.KeyValues.{lesser}
 use Rattle.raft_table.proofs.RunLemmas.{end_of-append}
 use Rattle.raft_table.proofs.MarkWords.{part-both, part-part, part-nil, part-empty, part-from, end_of-from, met_first, met_later}
@@ -128,7 +128,7 @@ over_run Rewrite m n c t u w o e h r is = go (is_missed m o) refl
     go true k = over_alone Rewrite m n c t u w o r (rw k refl) (rw k refl) is
     go false k = over_later Rewrite m n c t u w o r (rw (k, e) refl) (rw k refl) h is
 
-pub join_entries : (q : LogQueue) (m n : Mark) (t u w o : List EntryIndex) → OwnReachCut m t → entries_over q n u t ≡ Some w
+pub join_entries : (q : LogQueue) (m n : Mark) (t u w o : List EntryIndex) → OwnGoesPastCut m t → entries_over q n u t ≡ Some w
     → option_and_then (λ v. entries_over q n u v) (entries_over q m t o) ≡ entries_over q (joined_at q (end_of (from n.reach_floor t)) m n) w o
 join_entries q m n t u w o fits is = by_cleaned m.cleaned refl
   where
@@ -154,18 +154,18 @@ join_entries q m n t u w o fits is = by_cleaned m.cleaned refl
         let own : u ≡ w = same_some u w (sym (over_nil q n u) ∙ (rw none at is)) in
         rw (unrefused q e, unmissed q e k, none, ← own) (over_first q m n u o k)
 
-    by_run : (x y : Option ℕ) → m.reach ≡ x → m.cut ≡ y → m.cleaned ≡ false → ReachesCut x y m.floor t → option_and_then (λ v. entries_over q n u v) (cond (is_first_run_refused q m o) None (Some (older_entries q m o ++ t))) ≡ entries_over q (joined_live x y q (end_of (from n.reach_floor t)) m n) w o
+    by_run : (x y : Option ℕ) → m.reach ≡ x → m.cut ≡ y → m.cleaned ≡ false → GoesPastCut x y m.floor t → option_and_then (λ v. entries_over q n u v) (cond (is_first_run_refused q m o) None (Some (older_entries q m o ++ t))) ≡ entries_over q (joined_uncleaned x y q (end_of (from n.reach_floor t)) m n) w o
     by_run None None e k z h = first e k h
     by_run None (Some c) e k z h = absurd h
     by_run (Some r) None e k z h = absurd h
     by_run (Some r) (Some c) e k z h = later c z k h (is_first_run_refused q m o) refl
 
-    by_cleaned : (b : Bool) → m.cleaned ≡ b → option_and_then (λ v. entries_over q n u v) (cond (is_first_run_refused q m o) None (Some (cond b t (older_entries q m o ++ t)))) ≡ entries_over q (cond b m (joined_live m.reach m.cut q (end_of (from n.reach_floor t)) m n)) w o
+    by_cleaned : (b : Bool) → m.cleaned ≡ b → option_and_then (λ v. entries_over q n u v) (cond (is_first_run_refused q m o) None (Some (cond b t (older_entries q m o ++ t)))) ≡ entries_over q (cond b m (joined_uncleaned m.reach m.cut q (end_of (from n.reach_floor t)) m n)) w o
     by_cleaned true e = by_meeting (is_first_run_refused q m o) refl e
     by_cleaned false e = by_run m.reach m.cut refl refl e (fits e)
 
 -- the joined mark fits the joined entries
-more_lo : (x y : Option ℕ) (floor floor' : ℕ) (u : List EntryIndex) → floor ≤ floor' → ReachesCut x y floor u → ReachesCut x y floor' u
+more_lo : (x y : Option ℕ) (floor floor' : ℕ) (u : List EntryIndex) → floor ≤ floor' → GoesPastCut x y floor u → GoesPastCut x y floor' u
 more_lo None None floor floor' u h f = f
 more_lo None (Some c) floor floor' u h f = f
 more_lo (Some r) None floor floor' u h f = f
@@ -188,7 +188,7 @@ older_whole : (q : LogQueue) (n : Mark) (t : List EntryIndex) → n.reach ≡ No
 older_whole Append n t e k = rw k (part-from n.floor t)
 older_whole Rewrite n t e k = rw (e, k) (part-from n.floor t)
 
-pub fits_join : (q : LogQueue) (m n : Mark) (t u w : List EntryIndex) → OwnReachCut m t → OwnReachCut n u → entries_over q n u t ≡ Some w → OwnReachCut (joined_at q (end_of (from n.reach_floor t)) m n) w
+pub fits_join : (q : LogQueue) (m n : Mark) (t u w : List EntryIndex) → OwnGoesPastCut m t → OwnGoesPastCut n u → entries_over q n u t ≡ Some w → OwnGoesPastCut (joined_at q (end_of (from n.reach_floor t)) m n) w
 fits_join q m n t u w f f' is = by_cleaned m.cleaned refl
   where
     x : ℕ
@@ -197,7 +197,7 @@ fits_join q m n t u w f f' is = by_cleaned m.cleaned refl
     own : n.cleaned ≡ false → older_entries q n t ++ u ≡ w
     own e = sym (pick_false n.cleaned u (older_entries q n t ++ u) e) ∙ (accepted (is_first_run_refused q n t) (cond n.cleaned u (older_entries q n t ++ u)) w is).1
 
-    by_newer : (r c : ℕ) → (c ≤ m.floor) ⊎ (c < end_of t) → n.cleaned ≡ false → (y z : Option ℕ) → n.reach ≡ y → n.cut ≡ z → ReachesCut y z n.floor u → ReachesCut (Some r) (lesser (Some c) z) (joined_floor q (misses n.reach x) (max m.floor n.floor) c) w
+    by_newer : (r c : ℕ) → (c ≤ m.floor) ⊎ (c < end_of t) → n.cleaned ≡ false → (y z : Option ℕ) → n.reach ≡ y → n.cut ≡ z → GoesPastCut y z n.floor u → GoesPastCut (Some r) (lesser (Some c) z) (joined_floor q (misses n.reach x) (max m.floor n.floor) c) w
     by_newer r c h e None None is_y is_z k =
         rw (← own e, k, append-nil (older_entries q n t), older_whole q n t is_y is_z)
         (more_lo (Some r) (Some c) (max m.floor n.floor) _ (from n.floor t) (joined_floor-le q _ _ c) (from_reaches m.floor n.floor c t h))
@@ -206,7 +206,7 @@ fits_join q m n t u w f f' is = by_cleaned m.cleaned refl
     by_newer r c h e (Some s) (Some d) is_y is_z (inl k) = inl (omega (arith, joined_floor-le q (misses n.reach x) (max m.floor n.floor) c))
     by_newer r c h e (Some s) (Some d) is_y is_z (inr k) = inr (rw (← own e) (omega (arith, end_of-append (older_entries q n t) u)))
 
-    by_run : (y z : Option ℕ) → m.reach ≡ y → m.cut ≡ z → ReachesCut y z m.floor t → OwnReachCut (joined_live y z q x m n) w
+    by_run : (y z : Option ℕ) → m.reach ≡ y → m.cut ≡ z → GoesPastCut y z m.floor t → OwnGoesPastCut (joined_uncleaned y z q x m n) w
     by_run None None e k h = λ live.
         let same : u ≡ w = same_some u w (sym (over_nil q n u) ∙ (rw h at is)) in
         rw (k, ← same) (more_lo n.reach n.cut n.floor (max m.floor n.floor) u (omega arith) (f' live))
@@ -214,6 +214,6 @@ fits_join q m n t u w f f' is = by_cleaned m.cleaned refl
     by_run (Some r) None e k h = absurd h
     by_run (Some r) (Some c) e k h = λ live. rw e (by_newer r c h live n.reach n.cut refl refl (f' live))
 
-    by_cleaned : (b : Bool) → m.cleaned ≡ b → OwnReachCut (cond b m (joined_live m.reach m.cut q x m n)) w
+    by_cleaned : (b : Bool) → m.cleaned ≡ b → OwnGoesPastCut (cond b m (joined_uncleaned m.reach m.cut q x m n)) w
     by_cleaned true e = λ live. absurd (false≢true (sym live ∙ e))
     by_cleaned false e = by_run m.reach m.cut refl refl (f e)

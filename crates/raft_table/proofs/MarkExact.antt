@@ -10,8 +10,8 @@ use Rattle.raft_base.specs.declared.pipe_log.LogQueue.TheVariants.{Append, Rewri
 use Rattle.raft_base.specs.declared.entry_index.EntryIndex.{EntryIndex}
 use Rattle.raft_table.specs.KeySets.{KeySet}
 use Rattle.raft_table.specs.Steps.{Step, Run, Compact, Put, Del, AtomicGroup, Clean}
-use Rattle.raft_table.specs.Marks.{Mark, ReachesCut, OwnReachCut}
-use Rattle.raft_table.specs.MarkJoins.{joined_deleted, joined_live, joined_at, fresh, mark_of}
+use Rattle.raft_table.specs.Marks.{Mark, GoesPastCut, OwnGoesPastCut}
+use Rattle.raft_table.specs.MarkJoins.{joined_deleted, joined_uncleaned, joined_at, fresh, mark_of}
 use Rattle.raft_table.specs.KeyValues.{lesser}
 use Rattle.raft_table.specs.Overlay.{has_clean, greatest_compaction, least_start, deleted_of, HoldsDeleted, IsExactMark}
 
@@ -143,7 +143,7 @@ deleted_count m ss h = go m.cleaned refl
     go true e = omega (arith, ap finset.len (h.none_deleted e), finset.len-empty (slice_cmp nat_cmp))
     go false e = omega (arith, ap finset.len (h.deleted e finset.empty ∙ empty_union m.deleted))
 
-pub exact_join : (x : ℕ) (m n : Mark) (t : List EntryIndex) (ss rs : List Step) → OwnReachCut m t → IsExactMark m ss → IsExactMark n rs → IsExactMark (joined_at Append x m n) (ss ++ rs)
+pub exact_join : (x : ℕ) (m n : Mark) (t : List EntryIndex) (ss rs : List Step) → OwnGoesPastCut m t → IsExactMark m ss → IsExactMark n rs → IsExactMark (joined_at Append x m n) (ss ++ rs)
 exact_join x m n t ss rs fits h k = by_cleaned m.cleaned refl
   where
     live_parts : (j : Mark) → m.cleaned ≡ false → j.cleaned ≡ n.cleaned → j.floor ≡ max m.floor n.floor → j.cut ≡ lesser m.cut n.cut → j.deleted ≡ joined_deleted m n → IsExactMark j (ss ++ rs)
@@ -157,13 +157,13 @@ exact_join x m n t ss rs fits h k = by_cleaned m.cleaned refl
         pick true x y z = absurd (false≢true (sym z))
         pick false x y z = refl
 
-    by_run : (y z : Option ℕ) → m.cleaned ≡ false → m.cut ≡ z → ReachesCut y z m.floor t → IsExactMark (joined_live y z Append x m n) (ss ++ rs)
+    by_run : (y z : Option ℕ) → m.cleaned ≡ false → m.cut ≡ z → GoesPastCut y z m.floor t → IsExactMark (joined_uncleaned y z Append x m n) (ss ++ rs)
     by_run None None e u f = live_parts _ e refl refl refl refl
     by_run None (Some c) e u f = absurd f
     by_run (Some r) None e u f = absurd f
     by_run (Some r) (Some c) e u f = live_parts _ e refl refl (ap (λ d. lesser d n.cut) (sym u)) refl
 
-    by_cleaned : (b : Bool) → m.cleaned ≡ b → IsExactMark (cond b m (joined_live m.reach m.cut Append x m n)) (ss ++ rs)
+    by_cleaned : (b : Bool) → m.cleaned ≡ b → IsExactMark (cond b m (joined_uncleaned m.reach m.cut Append x m n)) (ss ++ rs)
     by_cleaned true e = record {
       holds = holds_join m n m ss rs h.holds k.holds (e ∙ sym (chosen m.cleaned true n.cleaned e)) (sym (chosen m.cleaned m.deleted (joined_deleted m n) e));
       greatest = λ z. clash e z;
@@ -186,7 +186,7 @@ same_cut (Some c) = refl
 pub joined_fresh : (q : LogQueue) (x : ℕ) (m : Mark) → joined_at q x m fresh ≡ m
 joined_fresh q x m = go q m.cleaned m.reach m.cut refl refl refl
   where
-    go : (q : LogQueue) (b : Bool) (y z : Option ℕ) → m.cleaned ≡ b → m.reach ≡ y → m.cut ≡ z → ◌≡◌ {A = Mark} (cond b m (joined_live y z q x m fresh)) m
+    go : (q : LogQueue) (b : Bool) (y z : Option ℕ) → m.cleaned ≡ b → m.reach ≡ y → m.cut ≡ z → ◌≡◌ {A = Mark} (cond b m (joined_uncleaned y z q x m fresh)) m
     go q true y z e f g = refl
     go q false None z e f g = λ i. record { cleaned = sym e i; reach = sym f i; reach_floor = m.reach_floor; floor = omega_max m.floor i; cut = same_cut m.cut i; deleted = union_empty m.deleted i }
     go q false (Some r) None e f g = refl

@@ -6,7 +6,7 @@ use Rattle.raft_base.specs.declared.pipe_log.LogQueue.{LogQueue}
 use Rattle.raft_base.specs.declared.entry_index.EntryIndex.{EntryIndex}
 use Rattle.raft_table.specs.Steps.{Step, Run, Compact, Put, Del, AtomicGroup, Clean, table_of, after_step, after, IsStep, AreSteps, IsTableOf}
 use Rattle.raft_table.specs.Table.{Table}
-use Rattle.raft_table.specs.Marks.{Mark, entries_over, table_over, applied, OwnReachCut, Stands}
+use Rattle.raft_table.specs.Marks.{Mark, entries_over, table_over, applied, OwnGoesPastCut, Stands}
 use Rattle.raft_table.specs.MarkJoins.{joined_mark, fresh, mark_of, own_of}
 use Rattle.raft_table.proofs.MarkWords.{end_of-first}
 use Rattle.raft_table.proofs.MarkEntries.{same_some, fits_join}
@@ -39,7 +39,7 @@ one_after q id o s = go (after_step q id o s)
     go None = refl
     go (Some u) = refl
 
-fits_one : (id : ℕ) (s : Step) → OwnReachCut (mark_of s) (table_of id (own_of id s)).entries
+fits_one : (id : ℕ) (s : Step) → OwnGoesPastCut (mark_of s) (table_of id (own_of id s)).entries
 fits_one id (Run []) e = refl
 fits_one id (Run (x ∷ run)) e = inr (end_of-first x run)
 fits_one id (Compact i) e = refl

@@ -19,8 +19,8 @@ use Rattle.raft_table.specs.Merge.{newer_atomic_group}
 use Rattle.raft_table.specs.Start.{leaves_hole, replayed}
 use Rattle.raft_table.specs.Steps.{Step, Run, Compact, Put, Del, AtomicGroup, Clean, stepped, is_there_after, table_of, there_if, after_step, IsTableOf}
 use Rattle.raft_table.specs.Table.{Table, empty_table}
-use Rattle.raft_table.specs.Marks.{Mark, part, misses, is_first_run_refused, entries_over, keys_over, atomic_group_over, table_over, is_there_over, applied, ReachesCut, OwnReachCut}
-use Rattle.raft_table.specs.MarkJoins.{joined_deleted, joined_live, joined_at, joined_mark, end_at_reach, fresh, mark_of, own_of}
+use Rattle.raft_table.specs.Marks.{Mark, part, misses, is_first_run_refused, entries_over, keys_over, atomic_group_over, table_over, is_there_over, applied, GoesPastCut, OwnGoesPastCut}
+use Rattle.raft_table.specs.MarkJoins.{joined_deleted, joined_uncleaned, joined_at, joined_mark, end_at_reach, fresh, mark_of, own_of}
 use Rattle.raft_table.proofs.KeyValueLaws.{get-pairs_over}
 use Rattle.raft_table.proofs.MarkWords.{part-whole, part-from, part-below}
 use Rattle.raft_table.proofs.MarkEntries.{same_some, join_entries, over_nil}
@@ -68,16 +68,16 @@ join_there false false t true o = refl
 join_there false false t false o = refl
 
 -- what the joined mark has of the two beside its numbers
-pub joined_parts : (q : LogQueue) (x : ℕ) (m n : Mark) (t : List EntryIndex) → OwnReachCut m t → ((joined_at q x m n).cleaned ≡ cond m.cleaned true n.cleaned) × ((joined_at q x m n).deleted ≡ cond m.cleaned m.deleted (joined_deleted m n))
+pub joined_parts : (q : LogQueue) (x : ℕ) (m n : Mark) (t : List EntryIndex) → OwnGoesPastCut m t → ((joined_at q x m n).cleaned ≡ cond m.cleaned true n.cleaned) × ((joined_at q x m n).deleted ≡ cond m.cleaned m.deleted (joined_deleted m n))
 joined_parts q x m n t fits = by_cleaned m.cleaned refl
   where
-    by_run : (y z : Option ℕ) → ReachesCut y z m.floor t → ((joined_live y z q x m n).cleaned ≡ n.cleaned) × ((joined_live y z q x m n).deleted ≡ joined_deleted m n)
+    by_run : (y z : Option ℕ) → GoesPastCut y z m.floor t → ((joined_uncleaned y z q x m n).cleaned ≡ n.cleaned) × ((joined_uncleaned y z q x m n).deleted ≡ joined_deleted m n)
     by_run None None h = (refl, refl)
     by_run None (Some c) h = absurd h
     by_run (Some r) None h = absurd h
     by_run (Some r) (Some c) h = (refl, refl)
 
-    by_cleaned : (b : Bool) → m.cleaned ≡ b → ((cond b m (joined_live m.reach m.cut q x m n)).cleaned ≡ cond b true n.cleaned) × ((cond b m (joined_live m.reach m.cut q x m n)).deleted ≡ cond b m.deleted (joined_deleted m n))
+    by_cleaned : (b : Bool) → m.cleaned ≡ b → ((cond b m (joined_uncleaned m.reach m.cut q x m n)).cleaned ≡ cond b true n.cleaned) × ((cond b m (joined_uncleaned m.reach m.cut q x m n)).deleted ≡ cond b m.deleted (joined_deleted m n))
     by_cleaned true e = (e, refl)
     by_cleaned false e = by_run m.reach m.cut (fits e)
 
@@ -86,7 +86,7 @@ abbrev rebuilt : Table → Keys → Option (ℕ × ℕ) → List EntryIndex → 
 rebuilt o keys atomic_group es = record o { entries = es; keys = keys; atomic_group = atomic_group }
 
 -- tables, one over the other
-pub join_tables : (q : LogQueue) (m n : Mark) (t u w o : Table) → OwnReachCut m t.entries → table_over q n u t ≡ Some w
+pub join_tables : (q : LogQueue) (m n : Mark) (t u w o : Table) → OwnGoesPastCut m t.entries → table_over q n u t ≡ Some w
     → option_and_then (λ v. table_over q n u v) (table_over q m t o) ≡ table_over q (joined_at q (end_at_reach n t) m n) w o
 join_tables q m n t u w o fits is = by_own (entries_over q n u.entries t.entries) refl is
   where
@@ -184,7 +184,7 @@ table-applied q id m t o w h is = go (table_over q m (table_of id t) (table_of i
         (e ∙ ap (λ y. Some y) (sym whole), ap is_some (sym same) ∙ is_some-there (is_there_over m t o) x)
 
 -- tables that may be absent, one over the other
-pub join_applied : (q : LogQueue) (id : ℕ) (m n : Mark) (t u w o : Option Table) → OwnReachCut m (table_of id t).entries → IsTableOf id (table_of id t) → IsTableOf id (table_of id o) → applied q id n u t ≡ Some w
+pub join_applied : (q : LogQueue) (id : ℕ) (m n : Mark) (t u w o : Option Table) → OwnGoesPastCut m (table_of id t).entries → IsTableOf id (table_of id t) → IsTableOf id (table_of id o) → applied q id n u t ≡ Some w
     → option_and_then (λ v. applied q id n u v) (applied q id m t o) ≡ applied q id (joined_mark q id m t n) w o
 join_applied q id m n t u w o fits own h is = go (table_over q m (table_of id t) (table_of id o)) refl
   where

@@ -73,8 +73,8 @@ pairs_bound q keys (e ∷ es) =
     omega (arith, pairs_bound q (finite.insert keys e.0 e.1) es, pair_count-with_put q keys e.0 e.1.value e.1.file, length-cond (is_same q e.1.file.queue) e (filter (λ e. is_same q e.1.file.queue) es))
 
 -- a joined table has at most the records of both in each queue
-pub joined_live : (rule q : LogQueue) (older newer w : Table) → after_join rule older newer ≡ Some w → live_of q w ≤ live_of q older + live_of q newer
-joined_live rule q older newer w e = go (replayed rule older.entries newer.entries) refl e
+pub joined_uncleaned : (rule q : LogQueue) (older newer w : Table) → after_join rule older newer ≡ Some w → live_of q w ≤ live_of q older + live_of q newer
+joined_uncleaned rule q older newer w e = go (replayed rule older.entries newer.entries) refl e
   where
     go : (o : Option (List EntryIndex)) → replayed rule older.entries newer.entries ≡ o → option_map {U = Table} (λ es. record older { entries = es; keys = pairs_over newer.keys older.keys }) o ≡ Some w → live_of q w ≤ live_of q older + live_of q newer
     go None k e = absurd cc

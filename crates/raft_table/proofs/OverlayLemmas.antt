@@ -13,7 +13,7 @@ use Rattle.raft_table.specs.TableEntries.{RisesFrom, IsRun, end_of, from}
 use Rattle.raft_table.specs.KeySets.{without}
 use Rattle.raft_table.specs.KeyValues.{pairs_over}
 use Rattle.raft_table.specs.MarkMerge.{left_by}
-use Rattle.raft_table.specs.Marks.{Mark, part, misses, is_missed, entries_over, keys_over, atomic_group_over, table_over, is_there_over, ReachesCut, Stands}
+use Rattle.raft_table.specs.Marks.{Mark, part, misses, is_missed, entries_over, keys_over, atomic_group_over, table_over, is_there_over, GoesPastCut, Stands}
 use Rattle.raft_table.specs.Merge.{after_join}
 use Rattle.raft_table.specs.Overlay.{has_clean, deleted_of, is_short, rewritten_part, overlay, overlay_under, IsExactMark}
 use Rattle.raft_table.specs.Steps.{Step, table_of, AreSteps, IsTableOf}
@@ -172,7 +172,7 @@ overlay_run id m a ss r good h k = by_cleaned m.cleaned refl
     by_end start c is_r is_c e true t = h.own_table.run
     by_end start c is_r is_c e false t = reaching id m a ss r start c good h k e is_r is_c (ltb-false (end_of r.entries) c t) r.entries refl
 
-    by_run : (y z : Option ℕ) → m.reach ≡ y → m.cut ≡ z → m.cleaned ≡ false → ReachesCut y z m.floor own → IsRun (rewritten_part m.floor z r.entries ++ own)
+    by_run : (y z : Option ℕ) → m.reach ≡ y → m.cut ≡ z → m.cleaned ≡ false → GoesPastCut y z m.floor own → IsRun (rewritten_part m.floor z r.entries ++ own)
     by_run None None is_r is_c e f = subst (λ xs. IsRun (part m.floor None r.entries ++ xs)) (sym f) (subst IsRun (sym (append-nil (part m.floor None r.entries) ∙ part-from m.floor r.entries)) (run_from m.floor r.entries k.run))
     by_run None (Some c) is_r is_c e f = absurd f
     by_run (Some start) None is_r is_c e f = absurd f

@@ -12,7 +12,7 @@ use Rattle.raft_table.specs.declared.memtable.entries.Overlap.{Overlap}
 use Rattle.raft_table.specs.Counts.{Counts, with_added, with_deleted}
 use Rattle.raft_table.specs.TableEntries.{RisesFrom, IsRunIn, AreTableEntries, start_of, end_of, below, from, placed_in, entry_count}
 use Rattle.raft_table.specs.Overlaps.{IsOverlap, AreDisjoint}
-use Rattle.raft_table.specs.Rewriting.{may_move, overlap, moved_count, is_misplaced, with_places, rewritten_from, rewritten, with_rewritten, recounted}
+use Rattle.raft_table.specs.Rewriting.{may_move, overlap, moved_count, is_misplaced, with_places, rewritten_from, rewritten, with_rewritten, counts_after_rewrite}
 use Rattle.raft_table.proofs.RunLemmas.{below_take, below_start, from_drop, from_start, end_of-run, RisesFrom-take, RisesFrom-drop, RisesFrom-start}
 use Rattle.raft_table.proofs.SoundLemmas.{sound_rising}
 use Rattle.raft_table.proofs.MovesLemmas.{placed_in-take, placed_in-drop}
@@ -66,7 +66,7 @@ meeting_apart q run es h r l a =
 pub rewritten_apart : (gate : Option ℕ) (q : LogQueue) (run es : List EntryIndex) → AreTableEntries es → IsRunIn q run → 0 < length run → AreDisjoint (start_of es) (length es) (start_of run) (length run) → rewritten gate run es ≡ Some es
 rewritten_apart gate q run es h r l a = ap (rewritten_from gate run es) (meeting_apart q run es h r l a)
 
-pub recounted_is : (gate : Option ℕ) (run es : List EntryIndex) (counts : Counts) → 0 < length run → recounted gate run es counts ≡ with_rewritten gate (length run) (moved_count gate run es) counts
+pub recounted_is : (gate : Option ℕ) (run es : List EntryIndex) (counts : Counts) → 0 < length run → counts_after_rewrite gate run es counts ≡ with_rewritten gate (length run) (moved_count gate run es) counts
 recounted_is gate [] es counts l = absurd (omega arith)
 recounted_is gate (e ∷ run) es counts l = refl
 
@@ -80,7 +80,7 @@ pub with_rewritten_none : (gate : Option ℕ) (n : ℕ) (counts : Counts) → wi
 with_rewritten_none (Some gate) n counts = none_deleted n (with_added Rewrite n counts)
 with_rewritten_none None n counts = refl
 
-pub recounted_apart : (gate : Option ℕ) (q : LogQueue) (run es : List EntryIndex) (counts : Counts) → AreTableEntries es → IsRunIn q run → 0 < length run → AreDisjoint (start_of es) (length es) (start_of run) (length run) → recounted gate run es counts ≡ with_deleted Rewrite (length run) (with_added Rewrite (length run) counts)
+pub recounted_apart : (gate : Option ℕ) (q : LogQueue) (run es : List EntryIndex) (counts : Counts) → AreTableEntries es → IsRunIn q run → 0 < length run → AreDisjoint (start_of es) (length es) (start_of run) (length run) → counts_after_rewrite gate run es counts ≡ with_deleted Rewrite (length run) (with_added Rewrite (length run) counts)
 recounted_apart gate q run es counts h r l a =
     recounted_is gate run es counts l
     ∙ ap (λ met. with_rewritten gate (length run) (prefix_len (may_move gate) met) counts) (meeting_apart q run es h r l a)

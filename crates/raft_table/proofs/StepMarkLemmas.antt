@@ -7,14 +7,14 @@ use Rattle.raft_base.specs.declared.pipe_log.LogQueue.{LogQueue}
 use Rattle.raft_base.specs.declared.pipe_log.LogQueue.TheVariants.{Append, Rewrite}
 use Rattle.raft_table.specs.KeySets.{KeySet}
 use Rattle.raft_table.specs.Marks.{Mark}
-use Rattle.raft_table.specs.MarkJoins.{fresh, is_settled, joined_live, joined_at}
+use Rattle.raft_table.specs.MarkJoins.{fresh, is_settled, joined_uncleaned, joined_at}
 use Rattle.raft_table.proofs.MarkExact.{union_empty, union_one}
 
 pub run_added : (q : LogQueue) (x start : ℕ) (m : Mark) → let n : Mark = record fresh { reach = Some start; cut = Some start } in record (joined_at q x m n) { deleted = m.deleted } ≡ joined_at q x m n
 run_added q x start m = go m.cleaned m.reach m.cut
   where
     go : (b : Bool) (y z : Option ℕ) → let n : Mark = record fresh { reach = Some start; cut = Some start } in
-        ◌≡◌ {A = Mark} (record (cond b m (joined_live y z q x m n)) { deleted = m.deleted }) (cond b m (joined_live y z q x m n))
+        ◌≡◌ {A = Mark} (record (cond b m (joined_uncleaned y z q x m n)) { deleted = m.deleted }) (cond b m (joined_uncleaned y z q x m n))
     go true y z = refl
     go false None z = rw (union_empty m.deleted) refl
     go false (Some r) None = refl
@@ -24,7 +24,7 @@ pub compaction_added : (q : LogQueue) (x i : ℕ) (m : Mark) → let n : Mark = 
 compaction_added q x i m = go q m.cleaned m.reach m.cut
   where
     go : (q : LogQueue) (b : Bool) (y z : Option ℕ) → let n : Mark = record fresh { floor = i } in
-        ◌≡◌ {A = Mark} (record (cond b m (joined_live y z Append 0 m n)) { deleted = m.deleted }) (cond b m (joined_live y z q x m n))
+        ◌≡◌ {A = Mark} (record (cond b m (joined_uncleaned y z Append 0 m n)) { deleted = m.deleted }) (cond b m (joined_uncleaned y z q x m n))
     go q true y z = refl
     go q false None z = rw (union_empty m.deleted) refl
     go q false (Some r) None = refl
@@ -39,7 +39,7 @@ deleted_added q x m key d e live = rw (e, union_one m.deleted key) (go q m.clean
     n = record fresh { deleted = finset.insert finset.empty key }
 
     go : (q : LogQueue) (b : Bool) (y z : Option ℕ) → (b || (is_some y && not (is_some z))) ≡ false
-        → ◌≡◌ {A = Mark} (record (cond b (record m { deleted = finset.union m.deleted n.deleted }) (joined_live y z Append 0 (record m { deleted = finset.union m.deleted n.deleted }) fresh)) { deleted = finset.union m.deleted n.deleted }) (cond b m (joined_live y z q x m n))
+        → ◌≡◌ {A = Mark} (record (cond b (record m { deleted = finset.union m.deleted n.deleted }) (joined_uncleaned y z Append 0 (record m { deleted = finset.union m.deleted n.deleted }) fresh)) { deleted = finset.union m.deleted n.deleted }) (cond b m (joined_uncleaned y z q x m n))
     go q true y z h = absurd (false≢true (sym h))
     go q false None z h = refl
     go q false (Some r) None h = absurd (false≢true (sym h))

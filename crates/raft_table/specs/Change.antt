@@ -10,7 +10,7 @@ use Rattle.raft_table.specs.declared.memtable.change.TableChange.TheVariants as 
 use Rattle.raft_table.specs.Counts.{Counts, with_added}
 use Rattle.raft_table.specs.TableEntries.{IsRunIn, below}
 use Rattle.raft_table.specs.KeyValues.{file_at}
-use Rattle.raft_table.specs.Rewriting.{rewritten, recounted, IsRewriteFault}
+use Rattle.raft_table.specs.Rewriting.{rewritten, counts_after_rewrite, IsRewriteFault}
 use Rattle.raft_table.specs.Start.{appended, counts_with_run, counts_without, IsTableRunFault}
 use Rattle.raft_table.specs.Table.{Table, after_append, after_rewrite, after_rewrite_key, compacted, with_pair, without_key, with_pair_deleted, with_rewritten_key, leaves_append, IsTablePutFault, IsKeyRewriteFault}
 
@@ -45,14 +45,14 @@ IsAnswer (changes.Rewrite run gate) old new n = n ≡ 0
 IsAnswer (changes.RewriteKey key gate seq) old new n = n ≡ 0
 
 -- what a change makes of the counts
-abbrev pub AreCountedAfter : TableChange → Table → Counts → Counts → Type 0
-AreCountedAfter changes.Keep t old new = new ≡ old
-AreCountedAfter (changes.Append run) t old new = new ≡ counts_with_run Append t.entries run.items old
-AreCountedAfter (changes.Put key value file) t old new = new ≡ with_added file.queue 1 (with_pair_deleted (file_at t.keys key.items) old)
-AreCountedAfter (changes.Delete key) t old new = new ≡ with_pair_deleted (file_at t.keys key.items) old
-AreCountedAfter (changes.Compact index) t old new = new ≡ counts_without (below index t.entries) old
-AreCountedAfter (changes.Rewrite run gate) t old new = new ≡ recounted gate run.items t.entries old
-AreCountedAfter (changes.RewriteKey key gate seq) t old new = new ≡ with_rewritten_key (leaves_append gate (file_at t.keys key.items)) old
+abbrev pub AreCountsAfter : TableChange → Table → Counts → Counts → Type 0
+AreCountsAfter changes.Keep t old new = new ≡ old
+AreCountsAfter (changes.Append run) t old new = new ≡ counts_with_run Append t.entries run.items old
+AreCountsAfter (changes.Put key value file) t old new = new ≡ with_added file.queue 1 (with_pair_deleted (file_at t.keys key.items) old)
+AreCountsAfter (changes.Delete key) t old new = new ≡ with_pair_deleted (file_at t.keys key.items) old
+AreCountsAfter (changes.Compact index) t old new = new ≡ counts_without (below index t.entries) old
+AreCountsAfter (changes.Rewrite run gate) t old new = new ≡ counts_after_rewrite gate run.items t.entries old
+AreCountsAfter (changes.RewriteKey key gate seq) t old new = new ≡ with_rewritten_key (leaves_append gate (file_at t.keys key.items)) old
 
 -- why a list of entries is refused: it is no run of the queue, or that and want of memory for the refusal's text
 abbrev pub IsListFault : LogQueue → List EntryIndex → Error → Type 0

@@ -28,14 +28,14 @@ abbrev pub joined_later : LogQueue → ℕ → ℕ → Mark → Mark → Mark
 joined_later queue c x m n = record { cleaned = n.cleaned; reach = m.reach; reach_floor = m.reach_floor; floor = joined_floor queue (misses n.reach x) (max m.floor n.floor) c; cut = lesser (Some c) n.cut; deleted = joined_deleted m n }
 
 -- the marks of two neighbours joined, told by the first run and the cut of the older one, where its region wasn't cleaned
-abbrev pub joined_live : Option ℕ → Option ℕ → LogQueue → ℕ → Mark → Mark → Mark
-joined_live None cut queue x m n = joined_first m n
-joined_live (Some reach) None queue x m n = m
-joined_live (Some reach) (Some cut) queue x m n = joined_later queue cut x m n
+abbrev pub joined_uncleaned : Option ℕ → Option ℕ → LogQueue → ℕ → Mark → Mark → Mark
+joined_uncleaned None cut queue x m n = joined_first m n
+joined_uncleaned (Some reach) None queue x m n = m
+joined_uncleaned (Some reach) (Some cut) queue x m n = joined_later queue cut x m n
 
 -- the marks of two neighbours joined: the older m, and the newer n, whose first run comes behind entries of the older table that end at x
 abbrev pub joined_at : LogQueue → ℕ → Mark → Mark → Mark
-joined_at queue x m n = if m.cleaned then m else joined_live m.reach m.cut queue x m n
+joined_at queue x m n = if m.cleaned then m else joined_uncleaned m.reach m.cut queue x m n
 
 -- where the entries end that the first run of a mark comes behind
 abbrev pub end_at_reach : Mark → Table → ℕ

@@ -74,18 +74,18 @@ abbrev pub applied : LogQueue → ℕ → Mark → Option Table → Option Table
 applied queue id m own older = there_if (is_there_over m own older) (table_over queue m (table_of id own) (table_of id older))
 
 -- without a run there are no own entries; behind one the own entries go on past the cut, but where a compaction at or above it drops all older ones
-abbrev pub ReachesCut : Option ℕ → Option ℕ → ℕ → List EntryIndex → Type 0
-ReachesCut None None floor own = own ≡ []
-ReachesCut None (Some cut) floor own = ⊥
-ReachesCut (Some reach) None floor own = ⊥
-ReachesCut (Some reach) (Some cut) floor own = (cut ≤ floor) ⊎ (cut < end_of own)
+abbrev pub GoesPastCut : Option ℕ → Option ℕ → ℕ → List EntryIndex → Type 0
+GoesPastCut None None floor own = own ≡ []
+GoesPastCut None (Some cut) floor own = ⊥
+GoesPastCut (Some reach) None floor own = ⊥
+GoesPastCut (Some reach) (Some cut) floor own = (cut ≤ floor) ⊎ (cut < end_of own)
 
 -- where the region was not cleaned, the own entries go on past the mark's cut, if a run came
-abbrev pub OwnReachCut : Mark → List EntryIndex → Type 0
-OwnReachCut m own = m.cleaned ≡ false → ReachesCut m.reach m.cut m.floor own
+abbrev pub OwnGoesPastCut : Mark → List EntryIndex → Type 0
+OwnGoesPastCut m own = m.cleaned ≡ false → GoesPastCut m.reach m.cut m.floor own
 
 -- the mark and the own table stand for the steps: over every older table of the region the steps give what the mark says, or both are refused; the own table is the region's, and where a run came its entries go on past the cut
 pub record Stands (queue : LogQueue) (id : ℕ) (m : Mark) (own : Option Table) (ss : List Step) : Type 0 where
   pub own_table : IsTableOf id (table_of id own)
-  pub past_cut : OwnReachCut m (table_of id own).entries
+  pub past_cut : OwnGoesPastCut m (table_of id own).entries
   pub every : (older : Option Table) → IsTableOf id (table_of id older) → after queue id older ss ≡ applied queue id m own older

@@ -59,9 +59,9 @@ newly_rewritten (Some gate) m = m
 newly_rewritten None m = 0
 
 -- the counts after a rewriting to the places of a run; one without entries changes nothing
-abbrev pub recounted : Option ℕ → List EntryIndex → List EntryIndex → Counts → Counts
-recounted gate [] es counts = counts
-recounted gate (e ∷ run) es counts = with_rewritten gate (length (e ∷ run)) (moved_count gate (e ∷ run) es) counts
+abbrev pub counts_after_rewrite : Option ℕ → List EntryIndex → List EntryIndex → Counts → Counts
+counts_after_rewrite gate [] es counts = counts
+counts_after_rewrite gate (e ∷ run) es counts = with_rewritten gate (length (e ∷ run)) (moved_count gate (e ∷ run) es) counts
 
 -- why a rewriting by n entries with this outcome is refused: as misplaced, since the live number with all of them would pass 2^64 - 1, or for want of memory
 abbrev pub IsRewriteFault : ℕ → Counts → Option (List EntryIndex) → Error → Type 0

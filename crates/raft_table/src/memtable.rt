@@ -9,7 +9,7 @@ ghost use Rattle.raft_table.specs.Counts.{Counts, live, with_added};
 ghost use Rattle.raft_table.specs.Fetches.{block_count};
 ghost use Rattle.raft_table.specs.KeyValues.{value_at, file_at, file_weight};
 ghost use Rattle.raft_table.specs.Table.{empty_table, live_of, IsCounted, IsRecounted, after_append, after_replay, after_rewrite, after_rewrite_key, compacted, with_pair, without_key, with_atomic_group, table_with_entries, table_with_keys, with_pair_deleted, with_rewritten_key, MovesKeyAlone, leaves_append, IsTablePutFault, IsKeyRewriteFault};
-ghost use Rattle.raft_table.specs.Rewriting.{rewritten, recounted, IsRewriteFault, MovesPlacesAlone};
+ghost use Rattle.raft_table.specs.Rewriting.{rewritten, counts_after_rewrite, IsRewriteFault, MovesPlacesAlone};
 ghost use Rattle.raft_table.specs.Queues.{count_in};
 ghost use Rattle.raft_table.specs.Start.{appended, replayed, counts_with_run, counts_without, IsTableRunFault};
 
@@ -244,7 +244,7 @@ impl MemTable {
         ensures ok { OnOk result (after_rewrite gate self.old run.items ≡ Some self.new) }
         ensures places_alone { OnOk result (MovesPlacesAlone run.items self.old.entries self.new.entries) }
         ensures others { OnOk result (self.new ≡ table_with_entries self.old self.new.entries) }
-        ensures counts { OnOk result (stats.new ≡ recounted gate run.items self.old.entries stats.old) }
+        ensures counts { OnOk result (stats.new ≡ counts_after_rewrite gate run.items self.old.entries stats.old) }
         ensures fault { IfErr result (IsRewriteFault (length run.items) stats.old
             (rewritten gate run.items self.old.entries)) }
         ensures err { OnErr result ((self.new ≡ self.old) × (stats.new ≡ stats.old)) }

@@ -28,7 +28,7 @@ impl MemTableAccessor {
         requires older { queue ≡ Rewrite → live_in_all Append self.old.tables ≡ 0 }
         ensures joined { IsTableJoined queue mark.now newer self.old.tables id self.old.counts
             result self.new.tables self.new.counts }
-        ensures counted { AreCountsOf self.old.tables self.old.counts }
+        ensures exact_counts { AreCountsOf self.old.tables self.old.counts }
         ensures cleaned { self.new.cleaned ≡ self.old.cleaned }
     {
         self.slots[slot_of(id)].join_table(queue, id, newer, mark, &mut self.stats)

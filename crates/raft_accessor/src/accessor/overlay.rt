@@ -20,7 +20,7 @@ impl MemTableAccessor {
         requires own { live_in Rewrite appended ≡ 0 }
         ensures overlaid { IsTableOverlaid mark.now appended self.old.tables id self.old.counts result
             self.new.tables self.new.counts }
-        ensures counted { AreCountsOf self.old.tables self.old.counts }
+        ensures exact_counts { AreCountsOf self.old.tables self.old.counts }
         ensures cleaned { self.new.cleaned ≡ self.old.cleaned }
     {
         self.slots[slot_of(id)].overlay_table(id, appended, mark, &mut self.stats)

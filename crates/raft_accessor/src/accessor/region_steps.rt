@@ -27,7 +27,7 @@ impl MemTableAccessor {
             (IsReplayFault queue run.items (table_in self.old.tables id) self.old.counts)
             id result self.old self.new }
         ensures end { IfOk result (λ end. end ≡ end_of (table_in self.old.tables id).entries) }
-        ensures counted { AreCountsOf self.old.tables self.old.counts }
+        ensures exact_counts { AreCountsOf self.old.tables self.old.counts }
     {
         self.slots[slot_of(id)].replay_run_behind(queue, id, run, &mut self.stats)
     }
@@ -54,7 +54,7 @@ impl MemTableAccessor {
         ensures changed { IsTableChanged (Some (with_pair (table_in self.old.tables id) key.items value.items file))
             (IsTablePutFault file.queue self.old.counts (file_at (table_in self.old.tables id).keys key.items))
             id result self.old self.new }
-        ensures counted { AreCountsOf self.old.tables self.old.counts }
+        ensures exact_counts { AreCountsOf self.old.tables self.old.counts }
     {
         self.slots[slot_of(id)].put(id, key, value, file, &mut self.stats)
     }

@@ -90,7 +90,7 @@ impl MarkedTables {
         ensures fault { IsRunOver queue mark (table_of id newer) (table_in self.old.accessor.tables id)
             → IfErr result (IsFaultUnder queue self.old.accessor.counts mark (table_of id newer)
             (table_in self.old.accessor.tables id)) }
-        ensures counted { AreCountsOf self.old.accessor.tables self.old.accessor.counts }
+        ensures exact_counts { AreCountsOf self.old.accessor.tables self.old.accessor.counts }
         ensures few { OnOk result ((q : LogQueue)
             → live_in_all q self.new.accessor.tables ≤ live_in_all q self.old.accessor.tables + live_in q newer) }
         ensures cleaned { self.new.accessor.cleaned ≡ self.old.accessor.cleaned }

@@ -3,7 +3,7 @@
 ghost use Rattle.std.specs.Prelude.{◌≡◌, ◌≢◌, OnOk, OnErr, IfOk, IfErr, MatchBool, Some};
 ghost use Rattle.raft_base.specs.declared.pipe_log.LogQueue.{LogQueue};
 ghost use Rattle.raft_table.specs.Counts.{live};
-ghost use Rattle.raft_table.specs.Change.{after_change, AreCountedAfter, IsAllowed, IsAnswer, IsChangeFault, IsListFault};
+ghost use Rattle.raft_table.specs.Change.{after_change, AreCountsAfter, IsAllowed, IsAnswer, IsChangeFault, IsListFault};
 ghost use Rattle.raft_table.specs.TableEntries.{IsRunIn, is_placed_in};
 ghost use Rattle.raft_table.specs.Table.{IsCounted, IsRecounted};
 
@@ -57,7 +57,7 @@ impl MemTable {
         ensures ok { OnOk result (after_change self.old change ≡ Some self.new) }
         ensures allowed { OnOk result (IsAllowed change) }
         ensures answer { IfOk result (IsAnswer change self.old self.new) }
-        ensures counts { OnOk result (AreCountedAfter change self.old stats.old stats.new) }
+        ensures counts { OnOk result (AreCountsAfter change self.old stats.old stats.new) }
         ensures fault { IfErr result (IsChangeFault self.old stats.old change) }
         ensures err { OnErr result ((self.new ≡ self.old) × (stats.new ≡ stats.old)) }
         ensures recounted { IsRecounted self.old self.new stats.old stats.new }

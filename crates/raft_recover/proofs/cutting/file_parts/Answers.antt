@@ -2,7 +2,7 @@ use Rattle.std.proofs.Common.{◌≡◌, ℕ, List, Vec, ap, ◌∙◌, subst}
 use Rattle.std.specs.Global.{Global}
 use Rattle.raft_base.specs.declared.pipe_log.FileId.{FileId}
 use Rattle.raft_recover.specs.Files.{whole_file}
-use Rattle.raft_recover.specs.RequestView.{file_shown}
+use Rattle.raft_recover.specs.AskedRequests.{file_shown}
 use Rattle.raft_recover.proofs.FileLemmas.{AreParts, more_parts}
 use Rattle.raft_recover.proofs.cutting.file_parts.Goals as goal
 

@@ -3,7 +3,7 @@ use Rattle.std.proofs.lemmas.List.{map_push}
 use Rattle.std.proofs.lemmas.Result.{err_from_is_err_and}
 use Rattle.std.specs.List.{AllByRecursion}
 use Rattle.raft_recover.specs.Requests.{File, IsPathWord, IsFileOfWord, AreRead, IsFilesFault}
-use Rattle.raft_recover.specs.RequestView.{file_shown}
+use Rattle.raft_recover.specs.AskedRequests.{file_shown}
 use Rattle.raft_recover.proofs.RequestLemmas.{files_fault, next_item, none_left, one_more, all_read}
 use Rattle.raft_recover.proofs.request.read_files.Goals as goal
 

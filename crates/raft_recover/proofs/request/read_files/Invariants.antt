@@ -1,7 +1,7 @@
 use Rattle.std.proofs.Common.{List, ◌++◌, map, string_bytes, drop}
 use Rattle.std.specs.List.{AllByRecursion}
 use Rattle.raft_recover.specs.Requests.{File, IsPathWord, AreRead}
-use Rattle.raft_recover.specs.RequestView.{file_shown}
+use Rattle.raft_recover.specs.AskedRequests.{file_shown}
 use Rattle.raft_recover.proofs.request.read_files.Given as goal
 
 -- whatever files the words name that are left, behind those so far they are files for all words; where all words name files, so do those that are left

@@ -6,7 +6,7 @@ ghost use Rattle.raft_table.specs.Counts.{live, with_added, with_deleted};
 ghost use Rattle.raft_table.specs.TableEntries.{AreTableEntries, IsRunIn, RisesFrom, start_of, placed_in, entry_count, AreCounted, AreRecounted};
 ghost use Rattle.raft_table.specs.Queues.{count_in};
 ghost use Rattle.raft_table.specs.Overlaps.{IsOverlap, AreDisjoint};
-ghost use Rattle.raft_table.specs.Rewriting.{may_move, is_misplaced, newly_rewritten, with_rewritten, rewritten, recounted, IsRewriteFault, MovesPlacesAlone};
+ghost use Rattle.raft_table.specs.Rewriting.{may_move, is_misplaced, newly_rewritten, with_rewritten, rewritten, counts_after_rewrite, IsRewriteFault, MovesPlacesAlone};
 ghost use Rattle.raft_base.specs.declared.pipe_log.LogQueue.{LogQueue};
 ghost use Rattle.raft_base.specs.declared.pipe_log.LogQueue.TheVariants.{Append, Rewrite};
 
@@ -27,7 +27,7 @@ impl Entries {
         requires counted { AreCounted self.old stats.old }
         ensures ok { OnOk result (rewritten gate run.now self.old ≡ Some self.new) }
         ensures places_alone { OnOk result (MovesPlacesAlone run.now self.old self.new) }
-        ensures counts { OnOk result (stats.new ≡ recounted gate run.now self.old stats.old) }
+        ensures counts { OnOk result (stats.new ≡ counts_after_rewrite gate run.now self.old stats.old) }
         ensures fault { IfErr result (IsRewriteFault (length run.now) stats.old (rewritten gate run.now self.old)) }
         ensures err { OnErr result ((self.new ≡ self.old) × (stats.new ≡ stats.old)) }
         ensures recounted { AreRecounted self.old self.new stats.old stats.new }

@@ -27,5 +27,5 @@ invariant_of-self c = kept-in c.self.inside (after c) c.args.id c.slot_of.result
 pub returns-clause-changed : goal.returns-clause-changed
 returns-clause-changed c = changed-in c.self.inside (after c) c.args.id c.slot_of.result c.index-self-slot_of.result c.put.new.self c.put.new.stats c.self.invariant (slotted c) c.args.self.now c.self.view_is (λ t. Some (with_pair t c.args.key.items c.args.value.items c.args.file)) (λ t k. IsTablePutFault c.args.file.queue k (file_at t.keys c.args.key.items)) c.put.result c.put.ensures refl
 
-pub returns-clause-counted : goal.returns-clause-counted
-returns-clause-counted c = subst (λ (x : Accessor). AreCountsOf x.tables x.counts) c.self.view_is c.self.invariant.counted
+pub returns-clause-exact_counts : goal.returns-clause-exact_counts
+returns-clause-exact_counts c = subst (λ (x : Accessor). AreCountsOf x.tables x.counts) c.self.view_is c.self.invariant.counted

@@ -31,5 +31,5 @@ returns-clause-changed c = changed-in c.self.inside (after c) c.args.id c.slot_o
 pub returns-clause-end : goal.returns-clause-end
 returns-clause-end c = answers-in c.self.inside (after c) c.args.id c.slot_of.result c.index-self-slot_of.result c.replay_run_behind.new.self c.replay_run_behind.new.stats c.self.invariant (slotted c) c.args.self.now c.self.view_is (λ t u end. end ≡ end_of t.entries) c.replay_run_behind.result c.replay_run_behind.ensures.end
 
-pub returns-clause-counted : goal.returns-clause-counted
-returns-clause-counted c = subst (λ (x : Accessor). AreCountsOf x.tables x.counts) c.self.view_is c.self.invariant.counted
+pub returns-clause-exact_counts : goal.returns-clause-exact_counts
+returns-clause-exact_counts c = subst (λ (x : Accessor). AreCountsOf x.tables x.counts) c.self.view_is c.self.invariant.counted

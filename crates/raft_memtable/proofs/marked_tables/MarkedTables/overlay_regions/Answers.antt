@@ -24,7 +24,7 @@ pub returns-in_err-overlay_table-clause-fault : goal.returns-in_err-overlay_tabl
 returns-in_err-overlay_table-clause-fault c =
     let p = err_from_is_err_and c.from_residual.result c.from_residual.ensures.1 in
     rw (p.1, p.2) (overlaying_refused c.args.appended.now.tables c.args.self.now.accessor.tables _ c.loop-id.self.accessor.tables c.loop-id.appended.tables _ _ c.in-Some.id c.in-Some.mark c.in-Some.ensures.steps c.loop-id.invariant.0 c.take-table.result c.take-table.ensures.taken
-    c.loop-id.self.accessor.counts _ c.overlay_table.ensures.counted c.in_err-overlay_table.ensures.overlaid.fault)
+    c.loop-id.self.accessor.counts _ c.overlay_table.ensures.exact_counts c.in_err-overlay_table.ensures.overlaid.fault)
 
 pub returns-clause-ok : goal.returns-clause-ok
 returns-clause-ok c = λ runs.

@@ -11,7 +11,7 @@ use Rattle.raft_memtable.proofs.marked_tables.MarkedTables.take_put.Goals as goa
 pub returns-in_err-put : goal.returns-in_err-put
 returns-in_err-put c =
     let p = err_from_is_err_and c.from_residual.result c.from_residual.ensures.1 in
-    rw (p.1, p.2) (put_taken c.args.queue c.args.id c.args.key.items c.args.value.items c.args.file (file_at (table_in c.args.self.now.accessor.tables c.args.id).keys c.args.key.items) c.args.self.now _ _ c.requires c.put.ensures.counted c.in_err-put.ensures.changed.fault)
+    rw (p.1, p.2) (put_taken c.args.queue c.args.id c.args.key.items c.args.value.items c.args.file (file_at (table_in c.args.self.now.accessor.tables c.args.id).keys c.args.key.items) c.args.self.now _ _ c.requires c.put.ensures.exact_counts c.in_err-put.ensures.changed.fault)
 
 pub returns : goal.returns
 returns c =

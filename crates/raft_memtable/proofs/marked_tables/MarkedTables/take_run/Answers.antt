@@ -11,7 +11,7 @@ use Rattle.raft_memtable.proofs.marked_tables.MarkedTables.take_run.Goals as goa
 pub returns-in_err-end : goal.returns-in_err-end
 returns-in_err-end c =
     let p = err_from_is_err_and c.from_residual.result c.from_residual.ensures.1 in
-    rw (p.1, p.2) (run_taken c.args.queue c.args.id c.args.run.items c.args.self.now _ _ c.requires.0 c.replay_run.ensures.counted c.in_err-end.ensures.changed.fault)
+    rw (p.1, p.2) (run_taken c.args.queue c.args.id c.args.run.items c.args.self.now _ _ c.requires.0 c.replay_run.ensures.exact_counts c.in_err-end.ensures.changed.fault)
 
 pub returns-in-Some : goal.returns-in-Some
 returns-in-Some c =

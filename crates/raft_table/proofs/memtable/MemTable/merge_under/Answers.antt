@@ -8,7 +8,7 @@ use Rattle.raft_table.specs.Merge.{after_join, newer_atomic_group}
 use Rattle.raft_table.specs.Table.{Table, live_of}
 use Rattle.raft_table.proofs.PlaceLemmas.{each_queue}
 use Rattle.raft_table.proofs.MarkEntries.{same_some}
-use Rattle.raft_table.proofs.MergeLemmas.{joined_live}
+use Rattle.raft_table.proofs.MergeLemmas.{joined_uncleaned}
 use Rattle.raft_table.proofs.UnderLemmas.{over_left, join_memory}
 use Rattle.std.specs.declared.result.Result.{Result}
 use Rattle.std.specs.declared.result.Result.TheVariants.{Ok, Err}
@@ -78,4 +78,4 @@ returns-clause-ok c = λ run.
 
 pub returns-clause-few : goal.returns-clause-few
 returns-clause-few c = λ q.
-    omega (arith, c.drop_older.ensures.fewer q, joined_live c.args.queue q c.drop_older.new.self c.args.rhs.now _ c.in_ok-join.ensures.ok, ap (live_of q) c.take_atomic_group.ensures.atomic_group)
+    omega (arith, c.drop_older.ensures.fewer q, joined_uncleaned c.args.queue q c.drop_older.new.self c.args.rhs.now _ c.in_ok-join.ensures.ok, ap (live_of q) c.take_atomic_group.ensures.atomic_group)

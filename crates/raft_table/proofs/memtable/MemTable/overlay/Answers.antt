@@ -4,7 +4,7 @@ use Rattle.raft_table.specs.MarkMerge.{left_by}
 use Rattle.raft_table.specs.Merge.{after_join}
 use Rattle.raft_table.specs.Table.{Table, live_of}
 use Rattle.raft_table.proofs.MarkEntries.{same_some}
-use Rattle.raft_table.proofs.MergeLemmas.{joined_live}
+use Rattle.raft_table.proofs.MergeLemmas.{joined_uncleaned}
 use Rattle.raft_table.proofs.OverlayLemmas.{over_rewritten, with_group_over}
 use Rattle.raft_table.proofs.memtable.MemTable.overlay.Goals as goal
 
@@ -17,4 +17,4 @@ returns-clause-ok c = λ run.
 
 pub returns-clause-few : goal.returns-clause-few
 returns-clause-few c = λ q.
-    omega (arith, c.drop_older.ensures.fewer q, joined_live Rewrite q c.drop_older.new.self c.args.rhs.now _ c.in_ok-join.ensures.ok, ap (live_of q) c.take_appended_group.ensures.atomic_group)
+    omega (arith, c.drop_older.ensures.fewer q, joined_uncleaned Rewrite q c.drop_older.new.self c.args.rhs.now _ c.in_ok-join.ensures.ok, ap (live_of q) c.take_appended_group.ensures.atomic_group)

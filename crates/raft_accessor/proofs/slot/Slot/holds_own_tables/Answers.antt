@@ -1,4 +1,4 @@
-use Rattle.raft_accessor.proofs.slot.Slot.is_kept.Goals as goal
+use Rattle.raft_accessor.proofs.slot.Slot.holds_own_tables.Goals as goal
 
 pub returns : goal.returns
 returns c = rw (← c.self.view_is) (record {

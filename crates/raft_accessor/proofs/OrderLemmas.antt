@@ -1,4 +1,4 @@
--- All tables, in open order.
+-- All tables, in no set order.
 use Rattle.std.proofs.Common.{◌≡◌, ◌≢◌, ◌<◌, ◌+◌, ℕ, suc, zero, true, false, cond, nat_eq, List, [], ◌∷◌, ◌++◌, length, drop, map, Some, None, IsPermutation, refl, sym, ap, subst, ◌∙◌, arith, inl, inr, slice_index_or, append_assoc}
 use lib.Dec.{T}
 use Rattle.std.specs.declared.cmp.Ordering.TheVariants.{Less, Equal, Greater}

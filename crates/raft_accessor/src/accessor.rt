@@ -308,7 +308,7 @@ impl MemTableAccessor {
         true
     }
 
-    /// What `f` makes of `init` and each table, in open order: it is called at each table once.
+    /// What `f` makes of `init` and each table, in no set order: it is called at each table once.
     pub fn fold<B: Drop, F: FnMut(B, &MemTable) -> B>(&self, init: B, mut f: F) -> B
     where
         F: Drop,
@@ -323,7 +323,7 @@ impl MemTableAccessor {
         answer
     }
 
-    /// All tables, in open order.
+    /// All tables, in no set order.
     ///
     /// # Errors
     ///
@@ -340,7 +340,7 @@ impl MemTableAccessor {
         Ok(tables)
     }
 
-    /// The tables for which `f` answers true; it is called at each table once, in open order.
+    /// The tables for which `f` answers true; it is called at each table once, in no set order.
     ///
     /// # Errors
     ///

@@ -79,7 +79,7 @@ impl RegionTables {
         self.tables.get(&id)
     }
 
-    /// Pushes all tables, in open order.
+    /// Pushes all tables, in no set order.
     pub(crate) fn push_tables<'a>(&'a self, tables: &mut Vec<&'a MemTable>) -> Result<()>
         ensures ok { OnOk result ((ts : List Table) × IsPermutation ts (finite.values self.now)
             × (map (λ t. t.now) tables.new.items ≡ map (λ t. t.now) tables.old.items ++ ts)) }
@@ -91,7 +91,7 @@ impl RegionTables {
         Ok(())
     }
 
-    /// What `f` makes of `init` and each table, in open order.
+    /// What `f` makes of `init` and each table, in no set order.
     pub(crate) fn fold<B: Drop, F: FnMut(B, &MemTable) -> B>(&self, init: B, f: &mut F) -> B
         requires { (state : F) (x : _) (t : _) → F.pre state x t }
         ensures { (ts : List Table) × IsPermutation ts (finite.values self.now)
@@ -104,7 +104,7 @@ impl RegionTables {
         answer
     }
 
-    /// Pushes the ids of the tables at which `wanted` answers true, in open order.
+    /// Pushes the ids of the tables at which `wanted` answers true, in no set order.
     pub(crate) fn push_ids<F: FnMut(&MemTable) -> bool>(
         &self,
         wanted: &mut F,
@@ -147,7 +147,7 @@ impl RegionTables {
     ///
     /// # Errors
     ///
-    /// Those of [`MemTable::change`]. The tables are then as they were.
+    /// Those of [`MemTable::change`], and `Memory`. The tables are then as they were.
     pub fn change(&mut self, id: u64, change: TableChange, stats: &mut GlobalStats) -> Result<u64>
         requires { IsCounted (table_in self.old id) stats.old }
         ensures taken { IsTaken (after_change (table_in self.old id) change)
@@ -236,7 +236,7 @@ impl RegionTables {
         removed
     }
 
-    /// The tables, each with its region, in open order.
+    /// The tables, each with its region, in no set order.
     pub(crate) fn into_entries(self) -> IntoIter<u64, MemTable>
         ensures entries { finite.from_entries result ≡ self }
         ensures once { IsDistinct nat_eq (keys_of result) }

@@ -92,7 +92,7 @@ impl SharedAccessor {
     ///
     /// # Errors
     ///
-    /// Those of [`Slot::change`], and `Failed` where a slot has another number, which no run meets. The
+    /// Those of [`Slot::change`], and `Failed` where a slot has another number, which never happens. The
     /// tables are then as they were.
     pub fn with_table_mut<F: FnOnce(&MemTable) -> TableChange, R: Wait>(
         &self,
@@ -119,7 +119,7 @@ impl SharedAccessor {
     ///
     /// # Errors
     ///
-    /// Those of [`Slot::change`], and `Failed` where a slot has another number, which no run meets. The
+    /// Those of [`Slot::change`], and `Failed` where a slot has another number, which never happens. The
     /// tables are then as they were.
     #[tactic(auto, using(crate::proofs::SharedLemmas::number_of, crate::proofs::SharedLemmas::refusal_of))]
     pub fn change<R: Wait>(&self, rt: &R, id: u64, change: TableChange) -> Result<u64>
@@ -139,7 +139,7 @@ impl SharedAccessor {
     ///
     /// # Errors
     ///
-    /// `Memory`, and `Failed` where a slot has another number, which no run meets. The tables are then as
+    /// `Memory`, and `Failed` where a slot has another number, which never happens. The tables are then as
     /// they were.
     pub fn get_or_insert<R: Wait>(&self, rt: &R, id: u64) -> Result<()>
         ensures { IfErr result IsLockFault }
@@ -157,7 +157,7 @@ impl SharedAccessor {
     ///
     /// # Errors
     ///
-    /// Those of [`Slot::insert`], and `Failed` where a slot has another number, which no run meets. The
+    /// Those of [`Slot::insert`], and `Failed` where a slot has another number, which never happens. The
     /// tables are then as they were.
     pub fn insert<R: Wait>(&self, rt: &R, id: u64, table: MemTable) -> Result<Option<MemTable>>
         requires { table.region_id ≡ id }
@@ -201,7 +201,7 @@ impl SharedAccessor {
     ///
     /// # Errors
     ///
-    /// `Memory`, and `Failed` where a slot has another number, which no run meets. The tables are then as
+    /// `Memory`, and `Failed` where a slot has another number, which never happens. The tables are then as
     /// they were.
     pub fn apply_rewrite_atomic_group<R: Wait>(
         &self,
@@ -291,7 +291,7 @@ impl SharedAccessor {
         true
     }
 
-    /// What `f` makes of `init` and each table, one after another in open order.
+    /// What `f` makes of `init` and each table, one after another in no set order.
     pub fn fold<B: Drop, F: FnMut(B, &MemTable) -> B, R: Wait>(
         &self,
         rt: &R,
@@ -310,7 +310,7 @@ impl SharedAccessor {
         answer
     }
 
-    /// The ids of the tables at which `wanted` answers true, in open order.
+    /// The ids of the tables at which `wanted` answers true, in no set order.
     ///
     /// # Errors
     ///

@@ -86,7 +86,7 @@ impl Slot {
         self.tables.is_empty()
     }
 
-    /// What `f` makes of `init` and each table of the slot, in open order.
+    /// What `f` makes of `init` and each table of the slot, in no set order.
     pub fn fold<B: Drop, F: FnMut(B, &MemTable) -> B>(&self, init: B, f: &mut F) -> B
         requires { (state : F) (x : _) (t : _) → F.pre state x t }
         ensures { (ts : List Table) × IsPermutation ts (finite.values self.now.part.tables)
@@ -95,7 +95,7 @@ impl Slot {
         self.tables.fold(init, f)
     }
 
-    /// Pushes the ids of the slot's tables at which `wanted` answers true, in open order.
+    /// Pushes the ids of the slot's tables at which `wanted` answers true, in no set order.
     ///
     /// # Errors
     ///
@@ -239,7 +239,7 @@ impl Slot {
     ///
     /// # Errors
     ///
-    /// Those of `MemTableAccessor::apply_append_writes`. Tables and list are then as they were.
+    /// Those of [`RegionTables::append_item`]. Tables and list are then as they were.
     pub fn apply_append_write(&mut self, item: LogItem) -> Result<()>
         requires { slot_of item.raft_group_id ≡ self.old.number }
         ensures written { IsWritten Appending (item_of item) result self.old.part self.new.part }
@@ -255,7 +255,7 @@ impl Slot {
     ///
     /// # Errors
     ///
-    /// Those of `MemTableAccessor::apply_rewrite_writes`. Tables and list are then as they were.
+    /// Those of [`RegionTables::rewrite_item`]. Tables and list are then as they were.
     pub fn apply_rewrite_write(
         &mut self,
         item: LogItem,

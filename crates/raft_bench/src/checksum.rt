@@ -5,7 +5,7 @@ use raft_records::Result;
 use raft_records::util::crc32;
 use std::time::Instant;
 
-/// Times the checksums of stretches of 16 MiB, cut into these many bytes.
+/// Times the checksums of 16 MiB, cut into these many bytes.
 pub(crate) fn time(rt: &HostRuntime) -> Result<()> {
     let mut bytes = Vec::new(rt.alloc());
     Noise::new().fill(&mut bytes, 1 << 24)?;
@@ -24,11 +24,11 @@ pub(crate) fn time(rt: &HostRuntime) -> Result<()> {
     Ok(())
 }
 
-/// The checksums of stretches of `size` bytes, together.
+/// The checksums of chunks of `size` bytes, together.
 fn checksums(bytes: &[u8], size: usize) -> u32 {
     let mut all = 0;
-    for stretch in bytes.chunks_exact(size.max(1)) {
-        all ^= crc32(stretch);
+    for chunk in bytes.chunks_exact(size.max(1)) {
+        all ^= crc32(chunk);
     }
     all
 }

@@ -1,4 +1,4 @@
-//! Laws of contexts, which hold what was read of a stretch of a history.
+//! Laws of contexts, which hold what was read of a history.
 
 ghost use Rattle.std.specs.Prelude.{◌≡◌, ◌⊎◌, ◌↔◌, ◌+◌, ◌≤◌, ℕ, List, [], ◌∷◌, ◌++◌, Some, None, true, false};
 ghost use Rattle.std.specs.FinMap as finite;

@@ -16,8 +16,7 @@ ghost use Rattle.raft_history.specs.BothQueues.{IsReadingOfBoth};
 ghost use Rattle.raft_history.specs.LeastFiles.{AreLeastFiles, HasNoneBelow};
 ghost use Rattle.raft_history.specs.Histories.{IsSmall, Sound, IsSoundIn, Apart, AreInFile, IsOfQueue, IsOneReading};
 
-/// What holds of two histories, one behind the other, holds of each: so it holds of every stretch of
-/// a history.
+/// What holds of two histories, one behind the other, holds of each.
 pub fn neighbours_keep_what_histories_are()
     ensures small { (h k : List Event) → IsSmall (h ++ k) → IsSmall h × IsSmall k }
     ensures sound { (h k : List Event) → Sound (h ++ k) → Sound h × Sound k }

@@ -1,6 +1,7 @@
 //! What a context holds, in numbers.
 
-/// What a context holds, number by number.
+/// What a context holds, number by number. `Kept` of `raft_history` says what each number is of a
+/// history, `KeptShown` what it is of a context.
 #[derive(Clone, Copy, PartialEq, Eq, Debug)]
 pub struct Kept {
     /// Entries in all tables.

@@ -175,7 +175,7 @@ impl RegionMarks {
         })
     }
 
-    /// The marks, each with its region, in open order.
+    /// The marks, each with its region, in no set order.
     pub(crate) fn into_entries(self) -> IntoIter<u64, Mark>
         ensures entries { finite.from_entries result ≡ self }
         ensures once { IsDistinct nat_eq (keys_of result) }

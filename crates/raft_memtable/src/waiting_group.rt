@@ -1,4 +1,4 @@
-//! What is known of one group from a stretch of a history.
+//! What is known of one group from a history.
 
 ghost use Rattle.std.specs.Prelude.{◌≡◌, ◌<◌, ◌^◌, length, IfOk};
 ghost use Rattle.std.specs.Option.{option_map};
@@ -117,7 +117,7 @@ impl WaitingGroup {
         self.front.len() as u128 + behind as u128
     }
 
-    /// What is known of the group from this stretch of a history and a newer one behind it, and the
+    /// What is known of the group from this history and a newer one behind it, and the
     /// group, if the two make it whole.
     ///
     /// # Errors

@@ -97,7 +97,7 @@ impl WaitingGroups {
         Ok(whole)
     }
 
-    /// Joins what is known of the groups of a newer stretch of a history. Answers the groups that the
+    /// Joins what is known of the groups of a newer history. Answers the groups that the
     /// two make whole.
     ///
     /// # Errors
@@ -117,7 +117,7 @@ impl WaitingGroups {
         Ok(wholes)
     }
 
-    /// Joins one group of the newer stretch after another.
+    /// Joins one group of the newer history after another.
     fn join_each(&mut self, newer: WaitingGroups) -> Result<Vec<WholeGroup>, AllocError>
         ensures known { OnOk result (self.new ≡ joined_groups self.old newer) }
         ensures wholes { IfOk result (λ w. map whole_shown w.items ≡ whole_groups self.old newer) }
@@ -131,7 +131,7 @@ impl WaitingGroups {
         Ok(wholes)
     }
 
-    /// Joins what is known of one group with what is known of it from a newer stretch.
+    /// Joins what is known of one group with what is known of it from a newer history.
     fn join_one(&mut self, id: u64, newer: WaitingGroup) -> Result<Option<WholeGroup>, AllocError>
         ensures known { OnOk result (self.new
             ≡ finite.insert self.old id (joined_group (known self.old id) (group_shown newer))) }

@@ -39,7 +39,7 @@ abbrev pub items_size : List Item → ℕ
 items_size [] = 0
 items_size (item ∷ items) = item_size item + items_size items
 
--- held at the greatest usize
+-- capped at the greatest usize
 abbrev pub saturated : ℕ → ℕ
 saturated n = min n (2 ^ 64 - 1)
 

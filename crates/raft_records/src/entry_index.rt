@@ -80,7 +80,7 @@ fn runs_on(entries: &[EntryIndex]) -> bool
 pub struct EntryIndexes(pub Vec<EntryIndex>);
 
 impl EntryIndexes {
-    /// The approximate length of the entries' bytes, held at `usize::MAX`.
+    /// The approximate length of the entries' bytes, capped at `usize::MAX`.
     pub(crate) fn approximate_size(&self) -> usize
         ensures { result ≡ saturated (entries_size self.now.0.items) }
     {

@@ -70,7 +70,7 @@ impl KeyValue {
         }
     }
 
-    /// The approximate length of the change's bytes, held at `usize::MAX`.
+    /// The approximate length of the change's bytes, capped at `usize::MAX`.
     pub(crate) fn approximate_size(&self) -> usize
         ensures { result ≡ saturated (pair_size (pair_of self.now)) }
     {

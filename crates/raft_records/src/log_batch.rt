@@ -136,7 +136,7 @@ impl LogBatch {
         matches!(self.state, BufState::Sealed(_))
     }
 
-    /// The approximate length of the batch's bytes, held at `usize::MAX`: 0 without items, and their
+    /// The approximate length of the batch's bytes, capped at `usize::MAX`: 0 without items, and their
     /// length itself once they are made. It is at least their length where all region ids and indexes
     /// are below 2^56, unless the batch is too long to be encoded.
     pub fn approximate_size(&self) -> usize

@@ -81,7 +81,7 @@ impl LogItem {
         }
     }
 
-    /// The approximate length of the item's bytes, held at `usize::MAX`.
+    /// The approximate length of the item's bytes, capped at `usize::MAX`.
     pub(crate) fn approximate_size(&self) -> usize
         ensures { result ≡ saturated (item_size (item_of self.now)) }
     {

@@ -34,7 +34,7 @@ use std::{mem, slice, vec};
 #[derive(Debug, Drop)]
 pub struct LogItemBatch {
     items: Vec<LogItem>,
-    /// The approximate size of the items, held at `usize::MAX`.
+    /// The approximate size of the items, capped at `usize::MAX`.
     item_size: usize,
     /// How many bytes the entries have together.
     entries_size: u32,
@@ -118,7 +118,7 @@ impl LogItemBatch {
         self.entries_size
     }
 
-    /// The approximate length of the batch's bytes, held at `usize::MAX`. It is at least their length
+    /// The approximate length of the batch's bytes, capped at `usize::MAX`. It is at least their length
     /// where all region ids and indexes are below 2^56, of bytes that a log batch can hold.
     pub fn approximate_size(&self) -> usize
         ensures size { result ≡ saturated (batch_size self.now) }

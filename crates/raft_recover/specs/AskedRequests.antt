@@ -1,4 +1,4 @@
--- Requests as the program holds them.
+-- What the program's requests ask for, and the bytes of files, as plain values.
 use Rattle.std.specs.Prelude.{ℕ, List, map, string_bytes, Vec}
 use Rattle.std.specs.Global.{Global}
 use Rattle.raft_recover.specs.declared.request.Recovery.{Recovery}

@@ -1,4 +1,4 @@
--- What a run of the program prints.
+-- What the program prints.
 use Rattle.std.specs.Prelude.{◌⊎◌, ◌<◌, ◌≤◌, ℕ, List, Option, IfSome}
 use Rattle.std.specs.Io.KnownBytes.{IsAtEnd}
 use Rattle.raft_base.specs.Signature.{signature_of}

@@ -16,7 +16,7 @@ pub enum Plan {
 }
 
 impl Plan {
-    /// How many pieces the plan merges, held at 2^64 - 1.
+    /// How many pieces the plan merges, capped at 2^64 - 1.
     pub fn leaves(&self) -> usize
         ensures { result ≡ min (leaves self.now) (2 ^ 64 - 1) }
     {

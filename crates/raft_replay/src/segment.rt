@@ -11,7 +11,7 @@ use raft_base::{Error, Result};
 use raft_history::ReplayMachine;
 use raft_records::{FilePart, next_batch};
 
-/// A stretch of a queue: parts of files, one behind the other.
+/// Parts of files of a queue, one behind the other.
 pub type Segment = Vec<FilePart>;
 
 /// Replays every batch of every part, in order. A refusal other than `Memory` comes only where a part isn't a row of

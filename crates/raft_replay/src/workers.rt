@@ -48,7 +48,7 @@ const SEGMENT_LIMIT: usize = 1 << 62;
 /// Replays all segments by 1 to 256 workers, each of which draws the next segment that is left, and merges the pieces
 /// by halves. A worker for which no thread can be started is replaced by the caller. Whatever the workers' turns, the
 /// machine stands for all batches in order, exactly where groups keep apart. `InvalidArgument` for another number of
-/// workers and for a part of another queue. Any other refusal than that, than `Memory` and than the factory's own comes
+/// workers, for 2^62 segments and more, and for a part of another queue. Any other refusal than that, than `Memory` and than the factory's own comes
 /// only where a part isn't a row of readable batches or all batches, in order, can't be read.
 pub fn replay_segments<M: ReplayMachine, F: Factory<M>, G: Gate, R: Threads + Sync>(
     rt: &R,

@@ -120,7 +120,7 @@ impl MemTable {
     }
 
     /// The blocks in which the entries are kept, in order: each has entries, and neighbours stand in
-    /// different blocks of the files.
+    /// different file blocks.
     pub fn blocks(&self) -> &VecDeque<Block>
         ensures entries { expanded (start_of self.now.entries) (shown result.now.items) ≡ self.now.entries }
         ensures distinct { AreDistinctBlocks (shown result.now.items) }
@@ -317,8 +317,8 @@ impl MemTable {
     /// # Errors
     ///
     /// `Corruption` where the pair is in the rewrite queue in a file above `seq`, `Full` where the
-    /// live number of the rewrite queue and one more would pass 2^64 - 1. The table and the counts
-    /// are then as they were.
+    /// live number of the rewrite queue and one more would pass 2^64 - 1, `Memory` for the text of
+    /// `Corruption` alone. The table and the counts are then as they were.
     pub fn rewrite_key(
         &mut self,
         key: Vec<u8>,

@@ -18,7 +18,8 @@ impl MemTableAccessor {
     ///
     /// # Errors
     ///
-    /// Those of the first item that is refused. The items in front of it are written, and nothing else.
+    /// Those of [`RegionTables::append_item`] at the first item that is refused. The items in front of it are
+    /// written, and nothing else.
     pub fn apply_append_writes<I: IntoIterator<Item = LogItem>>(&mut self, items: I) -> Result<()>
         requires { (it : I.IntoIter) → I.into_iter_gives items it
             → I.IntoIter.can_next it × IsFinite (I.IntoIter.remaining it) }
@@ -39,7 +40,8 @@ impl MemTableAccessor {
     ///
     /// # Errors
     ///
-    /// Those of the first item that is refused. The items in front of it are written, and nothing else.
+    /// Those of [`RegionTables::replay_item`] at the first item that is refused. The items in front of it are
+    /// written, and nothing else.
     pub fn replay_append_writes<I: IntoIterator<Item = LogItem>>(&mut self, items: I) -> Result<()>
         requires { (it : I.IntoIter) → I.into_iter_gives items it
             → I.IntoIter.can_next it × IsFinite (I.IntoIter.remaining it) }
@@ -60,7 +62,8 @@ impl MemTableAccessor {
     ///
     /// # Errors
     ///
-    /// Those of the first item that is refused. The items in front of it are written, and nothing else.
+    /// Those of [`RegionTables::replay_item`] at the first item that is refused. The items in front of it are
+    /// written, and nothing else.
     pub fn replay_rewrite_writes<I: IntoIterator<Item = LogItem>>(&mut self, items: I) -> Result<()>
         requires { (it : I.IntoIter) → I.into_iter_gives items it
             → I.IntoIter.can_next it × IsFinite (I.IntoIter.remaining it) }
@@ -83,7 +86,8 @@ impl MemTableAccessor {
     ///
     /// # Errors
     ///
-    /// Those of the first item that is refused. The items in front of it are written, and nothing else.
+    /// Those of [`RegionTables::rewrite_item`] at the first item that is refused. The items in front of it are
+    /// written, and nothing else.
     pub fn apply_rewrite_writes<I: IntoIterator<Item = LogItem>>(
         &mut self,
         items: I,

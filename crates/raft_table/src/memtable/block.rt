@@ -3,7 +3,8 @@
 use raft_base::FileBlockHandle;
 use std::collections::VecDeque;
 
-/// A longest stretch of neighbouring entries of a table that stand in one block of a file.
+/// Neighbouring entries of a table that stand in one file block, as many as there are. Its words are
+/// those of `specs/Blocks.antt`.
 #[derive(Drop)]
 pub struct Block {
     /// The block of the file.

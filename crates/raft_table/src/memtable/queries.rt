@@ -17,7 +17,7 @@ use crate::memtable::key_values::lesser;
 use raft_base::{EntryIndex, Error, FileId, FileSeq, LogQueue, Result};
 
 impl MemTable {
-    /// How many stretches of neighbouring entries in one block of a file there are.
+    /// How many blocks the entries are kept in.
     pub fn block_count(&self) -> usize
         ensures { result ≡ block_count self.now.entries }
     {
@@ -45,8 +45,8 @@ impl MemTable {
     /// # Errors
     ///
     /// Where the range isn't empty: `EntryNotFound` without entries, `EntryCompacted` where it
-    /// begins below the first entry, `EntryNotFound` where it ends behind the last. The vector is
-    /// then as it was.
+    /// begins below the first entry, `EntryNotFound` where it ends behind the last; else `Memory`
+    /// alone. The vector is then as it was.
     pub fn fetch_entries_to(
         &self,
         begin: u64,

@@ -34,7 +34,8 @@ impl MemTable {
     }
 
     /// Puts the newer table `rhs` of the same region, which the counts don't hold, over this one as
-    /// its mark says. `rhs` is left empty.
+    /// its mark says, where the entries that this makes are a run, as they are where mark and table
+    /// stand for steps. `rhs` is left empty.
     ///
     /// # Errors
     ///
@@ -78,7 +79,8 @@ impl MemTable {
     }
 
     /// Puts an appended table `rhs` of the same region, which the counts don't hold, over this
-    /// rewritten one as its mark says. `rhs` is left empty.
+    /// rewritten one as its mark says, where the entries that this makes are a run, as they are where
+    /// mark and table stand for steps. `rhs` is left empty.
     ///
     /// # Errors
     ///

@@ -86,7 +86,7 @@ impl Entries {
         }
     }
 
-    /// How many stretches of neighbours in one block of a file there are.
+    /// How many blocks there are.
     pub fn block_count(&self) -> usize
         ensures { result ≡ block_count self.now }
     {

@@ -71,6 +71,7 @@ module _ (a b : Inside) (id i : ℕ) (d slot : Tables) (after : Counts) (kept : 
             | Err x ↦ λ e. tt
           ] t.there;
           err = elim res as (λ res. OnErr res (slot ≡ slice_index_or a.slots i d) → OnErr res (together b.slots ≡ r.tables)) [ Ok x ↦ λ e. tt | Err x ↦ λ e. unchanged e ] t.err;
+          counts_err = elim res as (λ res. OnErr res (after ≡ a.stats) → OnErr res (b.stats ≡ r.counts)) [ Ok x ↦ λ e. tt | Err x ↦ λ e. h.stats ∙ e ∙ ap (λ (x : Accessor). x.counts) is ] t.counts_err;
           fault = subst (λ c. IfErr res (λ e. (e ≡ Memory) ⊎ IsFault (table_in r.tables id) c e)) (ap (λ (x : Accessor). x.counts) is) (subst (λ u. IfErr res (λ e. (e ≡ Memory) ⊎ IsFault u a.stats e)) old t.fault);
           cleaned = l ∙ ap (λ (x : Accessor). x.cleaned) is;
         }
@@ -119,6 +120,7 @@ module _ (a b : Inside) (item : Item) (i : ℕ) (d slot : Tables) (after : Count
       | Ok x ↦ λ e. tt
       | Err x ↦ λ e. tables-are a b item.raft_group_id i d slot after kept h r is ∙ ap (with_table r.tables item.raft_group_id) (ap (λ m. finite.get m item.raft_group_id) e ∙ sym here) ∙ with_same r.tables item.raft_group_id
     ] t.err;
+    counts_err = elim res as (λ res. OnErr res (after ≡ a.stats) → OnErr res (b.stats ≡ r.counts)) [ Ok x ↦ λ e. tt | Err x ↦ λ e. h.stats ∙ e ∙ ap (λ (x : Accessor). x.counts) is ] t.counts_err;
     cleaned = elim res as (λ res. OnErr res (b.cleaned.items ≡ a.cleaned.items) → OnErr res (b.cleaned.items ≡ r.cleaned)) [ Ok x ↦ λ e. tt | Err x ↦ λ e. e ∙ ap (λ (x : Accessor). x.cleaned) is ] t.cleaned_err;
     fault = subst (λ n. IfErr res (IsWriteFault w item.raft_group_id (finite.get r.tables item.raft_group_id) n item.content)) (kept.counted (queue_of w) ∙ ap (λ (x : Accessor). live_in_all (queue_of w) x.tables) is)
         (subst (λ o. IfErr res (IsWriteFault w item.raft_group_id o (live (queue_of w) a.stats) item.content)) (sym here) t.fault);

@@ -8,7 +8,7 @@ use Rattle.raft_records.specs.Item.{Item, command_item}
 use Rattle.raft_records.specs.LogBatch.{Batch}
 use Rattle.raft_records.specs.declared.command.Command.TheVariants.{Clean}
 use Rattle.raft_table.specs.declared.memtable.change.TableChange.{TableChange}
-use Rattle.raft_table.specs.Change.{after_change, IsAnswer, IsChangeFault}
+use Rattle.raft_table.specs.Change.{after_change, IsAllowed, IsAnswer, IsChangeFault}
 use Rattle.raft_table.specs.Table.{Table}
 use Rattle.raft_accessor.specs.SharedCalls.{IsChangeAnswer, IsChangeRefusal, IsNumberOf, IsRefusalOf, HasCleans}
 
@@ -29,7 +29,7 @@ more_cleans a b c ids h e = record {
 pub number_of : {F : Type 0} (g : Once F (Bor Table × Unit {0}) TableChange) (f : F) (change : TableChange) (id : ℕ) (r : Result ℕ Error) → ((a : Bor Table × Unit {0}) (b : TableChange) → g.post f a b → b ≡ change) → IfOk r (IsChangeAnswer g f id) → IfOk r (IsNumberOf change id)
 number_of g f change id (Ok n) gives h =
     let is = gives (h.4.0, tt) h.2 h.4.1 in
-    (h.0, h.1, h.3, subst (λ b. after_change h.0 b ≡ Some h.1) is h.5, subst (λ b. IsAnswer b h.0 h.1 n) is h.6)
+    (h.0, h.1, h.3, subst (λ b. after_change h.0 b ≡ Some h.1) is h.5, subst (λ b. IsAnswer b h.0 h.1 n) is h.6, subst IsAllowed is h.7)
 number_of g f change id (Err e) gives h = tt
 
 pub refusal_of : {F : Type 0} (g : Once F (Bor Table × Unit {0}) TableChange) (f : F) (change : TableChange) (id : ℕ) (r : Result ℕ Error) → ((a : Bor Table × Unit {0}) (b : TableChange) → g.post f a b → b ≡ change) → IfErr r (IsChangeRefusal g f id) → IfErr r (IsRefusalOf change id)

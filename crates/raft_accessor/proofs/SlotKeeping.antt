@@ -79,6 +79,7 @@ slot-changed outcome IsFault a b id r t l = record {
     | Err x ↦ λ e. tt
   ] t.there;
   err = t.err;
+  counts_err = t.counts_err;
   fault = t.fault;
   cleaned = l;
 }
@@ -96,6 +97,7 @@ slot-written w a b item r kept t = record {
     | Err x ↦ λ t. tt
   ] t;
   err = t.err;
+  counts_err = t.counts_err;
   cleaned = t.cleaned_err;
   fault = subst (λ n. IfErr r (IsWriteFault w item.raft_group_id (finite.get a.tables item.raft_group_id) n item.content)) (kept.counted (queue_of w)) t.fault;
 }

@@ -23,6 +23,7 @@ module _ {F R : Type 0} (g : TableCall F R) (f : F) (m : Tables) (id : ℕ) (cou
         ok = elim r as (λ r. OnOk r (n ≡ finite.insert m id (table_in n id))) [ Ok a ↦ e ∙ ap (finite.insert m id) (sym now) | Err x ↦ tt ];
         there = elim r as (λ r. OnOk r (finite.get n id ≡ Some (table_in n id))) [ Ok a ↦ ap (λ x. finite.get x id) e ∙ get_own m id new ∙ ap Some (sym now) | Err x ↦ tt ];
         err = elim r as (λ r. OnErr r (new ≡ table_in m id) → OnErr r (n ≡ m)) [ Ok a ↦ λ k. tt | Err x ↦ λ k. e ∙ insert_same m id new (is ∙ ap Some (sym (k ∙ ap (table_of id) is))) ] (may.kept r new after ch);
+        counts_err = may.kept_counts r new after ch;
         one = one_written m n id new e;
         recounted = may.counted r (table_in n id) after here;
       }
@@ -37,6 +38,7 @@ module _ {F R : Type 0} (g : TableCall F R) (f : F) (m : Tables) (id : ℕ) (cou
         ok = e ∙ ap (finite.insert m id) (sym now);
         there = ap (λ x. finite.get x id) e ∙ get_own m id new ∙ ap Some (sym now);
         err = tt;
+        counts_err = tt;
         one = one_written m n id new e;
         recounted = may.counted (Ok a) (table_in n id) after here;
       }
@@ -52,6 +54,7 @@ module _ {F R : Type 0} (g : TableCall F R) (f : F) (m : Tables) (id : ℕ) (cou
         ok = tt;
         there = tt;
         err = e;
+        counts_err = may.kept_counts (Err x) new after ch;
         one = one_same m n id e;
         recounted = may.counted (Err x) (table_in n id) after here;
       }
@@ -65,6 +68,7 @@ module _ {F R : Type 0} (g : TableCall F R) (f : F) (m : Tables) (id : ℕ) (cou
         ok = tt;
         there = tt;
         err = e;
+        counts_err = refl;
         one = one_same m n id e;
         recounted = λ q. subst (λ t. IsRecounted (table_in m id) t counts counts) (sym now) (λ q. refl) q;
       }

@@ -51,6 +51,7 @@ written_by w item outcome IsFault old counts list r new after h asked alone none
   ] h.ok h.there;
   cleaned = elim r as (λ r. OnOk r (list ≡ list ++ listed_by w item)) [ Ok a ↦ sym (append-nil list) ∙ sym (ap (λ l. list ++ l) none) | Err x ↦ tt ];
   err = h.err;
+  counts_err = h.counts_err;
   cleaned_err = elim r as (λ r. OnErr r (list ≡ list)) [ Ok a ↦ tt | Err x ↦ refl ];
   fault = elim r as (λ r. IfErr r (λ e. (e ≡ errors.Memory) ⊎ IsFault e) → IfErr r (IsWriteFault w item.raft_group_id (finite.get old item.raft_group_id) (live (queue_of w) counts) item.content)) [
     | Ok a ↦ λ f. tt
@@ -68,6 +69,7 @@ refused_by w item old counts list e fault = record {
   ok = tt;
   cleaned = tt;
   err = refl;
+  counts_err = refl;
   cleaned_err = refl;
   fault = fault;
   one = one_same old old item.raft_group_id refl;
@@ -82,6 +84,7 @@ skipped_by w item old counts list asked alone none is = record {
   ok = is;
   cleaned = sym (append-nil list) ∙ sym (ap (λ l. list ++ l) none);
   err = tt;
+  counts_err = tt;
   cleaned_err = tt;
   fault = tt;
   one = one_same old old item.raft_group_id refl;
@@ -148,6 +151,7 @@ cleaned_by q id old counts list new after listed e r l =
       ok = ap Some (sym gone);
       cleaned = l;
       err = tt;
+      counts_err = tt;
       cleaned_err = tt;
       fault = tt;
       one = e ∙ ap (with_table old id) (sym gone);
@@ -162,8 +166,6 @@ pair_as_new id o live p errors.Full h = h
 pair_as_new id o live p errors.Memory h = tt
 pair_as_new id o live p e h = absurd h
 
-}
-
 pub new_pair : (id : ℕ) (p : Pair) (old : Tables) (counts : Counts) (list : List ℕ) (r : Result Unit Error) (new : Tables) (after : Counts) (listed : List ℕ) → IsItemWritten (Replaying Append) (pair_change id p) old counts list r new after listed → IsItemWritten Appending (pair_change id p) old counts list r new after listed
 new_pair id p old counts list r new after listed h = record {
   asked = h.asked;
@@ -171,6 +173,7 @@ new_pair id p old counts list r new after listed h = record {
   ok = h.ok;
   cleaned = h.cleaned;
   err = h.err;
+  counts_err = h.counts_err;
   cleaned_err = h.cleaned_err;
   fault = elim r as (λ r. IfErr r (IsWriteFault (Replaying Append) id (finite.get old id) (live Append counts) (pair p)) → IfErr r (IsWriteFault Appending id (finite.get old id) (live Append counts) (pair p))) [ Ok a ↦ λ f. tt | Err x ↦ λ f. pair_as_new id (finite.get old id) (live Append counts) p x f ] h.fault;
   one = h.one;

@@ -21,6 +21,7 @@ pub record IsItemWritten (w : Writing) (item : Item) (old : Tables) (counts : Co
   pub ok : OnOk r (after_content w item.raft_group_id (finite.get old item.raft_group_id) item.content ≡ Some (finite.get new item.raft_group_id))
   pub cleaned : OnOk r (listed ≡ list ++ listed_by w item)
   pub err : OnErr r (new ≡ old)
+  pub counts_err : OnErr r (after ≡ counts)
   pub cleaned_err : OnErr r (listed ≡ list)
   pub fault : IfErr r (IsWriteFault w item.raft_group_id (finite.get old item.raft_group_id) (live (queue_of w) counts) item.content)
   pub one : new ≡ with_table old item.raft_group_id (finite.get new item.raft_group_id)

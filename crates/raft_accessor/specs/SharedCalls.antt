@@ -8,15 +8,15 @@ use Rattle.raft_records.specs.Item.{command_item}
 use Rattle.raft_records.specs.LogBatch.{Batch}
 use Rattle.raft_records.specs.declared.command.Command.TheVariants.{Clean}
 use Rattle.raft_table.specs.declared.memtable.change.TableChange.{TableChange}
-use Rattle.raft_table.specs.Change.{after_change, IsAnswer, IsChangeFault}
+use Rattle.raft_table.specs.Change.{after_change, IsAllowed, IsAnswer, IsChangeFault}
 use Rattle.raft_table.specs.Counts.{Counts}
 use Rattle.raft_table.specs.Table.{Table}
 use Rattle.raft_accessor.specs.Accessor.{slot_of}
 use Rattle.raft_accessor.specs.Slot.{IsSlotTable}
 
--- the number is that of a change of a table that may stand under the id, the change being the call's answer for this table
+-- the number is that of an allowed change of a table that may stand under the id, the change being the call's answer for this table
 abbrev pub IsChangeAnswer : {F : Type 0} → Once F (Bor Table × Unit {0}) TableChange → F → ℕ → ℕ → Type 0
-IsChangeAnswer g f id n = (t : Table) × (u : Table) × (change : TableChange) × IsSlotTable (slot_of id) id t × FnOnceReturnsAt g f t change × (after_change t change ≡ Some u) × IsAnswer change t u n
+IsChangeAnswer g f id n = (t : Table) × (u : Table) × (change : TableChange) × IsSlotTable (slot_of id) id t × FnOnceReturnsAt g f t change × (after_change t change ≡ Some u) × IsAnswer change t u n × IsAllowed change
 
 -- want of memory, or a lock whose slot has another number
 abbrev pub IsLockFault : Error → Type 0
@@ -26,9 +26,9 @@ IsLockFault e = (e ≡ errors.Memory) ⊎ (e ≡ errors.Failed)
 abbrev pub IsChangeRefusal : {F : Type 0} → Once F (Bor Table × Unit {0}) TableChange → F → ℕ → Error → Type 0
 IsChangeRefusal g f id e = IsLockFault e ⊎ ((t : Table) × (counts : Counts) × (change : TableChange) × IsSlotTable (slot_of id) id t × FnOnceReturnsAt g f t change × IsChangeFault t counts change e)
 
--- the number is that of this change of a table that may stand under the id
+-- the number is that of this change, which is allowed, of a table that may stand under the id
 abbrev pub IsNumberOf : TableChange → ℕ → ℕ → Type 0
-IsNumberOf change id n = (t : Table) × (u : Table) × IsSlotTable (slot_of id) id t × (after_change t change ≡ Some u) × IsAnswer change t u n
+IsNumberOf change id n = (t : Table) × (u : Table) × IsSlotTable (slot_of id) id t × (after_change t change ≡ Some u) × IsAnswer change t u n × IsAllowed change
 
 -- this change is refused of a table that may stand under the id, at some counts, or the lock refuses
 abbrev pub IsRefusalOf : TableChange → ℕ → Error → Type 0

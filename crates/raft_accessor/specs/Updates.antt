@@ -30,12 +30,13 @@ pub record TableCalls {F R : Type 0} (g : TableCall F R) (f : F) (old : Table) (
   pub met : g.post f (table, (stats, tt)) (r, (left, (left_stats, tt)))
   pub leaves : (left.now ≡ new) × (left_stats.now ≡ after)
 
--- the call may be made at a table and counts; it keeps the table's region, counts what it changes, and leaves the table where it refuses
+-- the call may be made at a table and counts; it keeps the table's region, counts what it changes, and leaves table and counts where it refuses
 pub record MayChange {F R : Type 0} (g : TableCall F R) (f : F) (old : Table) (counts : Counts) : Type 0 where
   pub pre : (table : MutBor Table) (stats : MutBor Counts) → table.now ≡ old → stats.now ≡ counts → g.pre f (table, (stats, tt))
   pub region : (r : Result R Error) (new : Table) (after : Counts) → TableCalls g f old counts r new after → new.region_id ≡ old.region_id
   pub counted : (r : Result R Error) (new : Table) (after : Counts) → TableCalls g f old counts r new after → IsRecounted old new counts after
   pub kept : (r : Result R Error) (new : Table) (after : Counts) → TableCalls g f old counts r new after → OnErr r (new ≡ old)
+  pub kept_counts : (r : Result R Error) (new : Table) (after : Counts) → TableCalls g f old counts r new after → OnErr r (after ≡ counts)
 
 -- what a change leaves behind a call: what it left, or, for want of memory for a new table, what was
 abbrev pub IsChangedBy : {F R : Type 0} → TableCall F R → F → Table → Counts → Result R Error → Table → Counts → Type 0
@@ -47,6 +48,7 @@ pub record IsUpdated {F R : Type 0} (g : TableCall F R) (f : F) (old : Tables) (
   pub ok : OnOk r (new ≡ finite.insert old id (table_in new id))
   pub there : OnOk r (finite.get new id ≡ Some (table_in new id))
   pub err : OnErr r (new ≡ old)
+  pub counts_err : OnErr r (after ≡ counts)
   pub one : new ≡ with_table old id (finite.get new id)
   pub recounted : IsRecounted (table_in old id) (table_in new id) counts after
 
@@ -55,6 +57,7 @@ pub record IsTaken {R : Type 0} (outcome : Option Table) (IsFault : Error → Ty
   pub ok : OnOk r (outcome ≡ Some (table_in new id))
   pub there : OnOk r (finite.get new id ≡ Some (table_in new id))
   pub err : OnErr r (new ≡ old)
+  pub counts_err : OnErr r (after ≡ counts)
   pub fault : IfErr r (λ e. (e ≡ Memory) ⊎ IsFault e)
   pub one : new ≡ with_table old id (finite.get new id)
   pub recounted : IsRecounted (table_in old id) (table_in new id) counts after

@@ -8,7 +8,7 @@ ghost use Rattle.raft_records.specs.Item.{command_item};
 ghost use Rattle.raft_records.specs.LogBatch.{empty_batch};
 ghost use Rattle.raft_records.specs.declared.command.Command.TheVariants.{Clean};
 ghost use Rattle.raft_history.specs.RegionSteps.{with_table};
-ghost use Rattle.raft_table.specs.Change.{after_change, IsAnswer, IsChangeFault};
+ghost use Rattle.raft_table.specs.Change.{after_change, AreCountsAfter, IsAllowed, IsAnswer, IsChangeFault};
 ghost use Rattle.raft_table.specs.Table.{Table, with_atomic_group, live_of};
 ghost use Rattle.raft_accessor.specs.Accessor.{slot_of, table_in, live_in_all, AreCountsOf};
 ghost use Rattle.raft_accessor.specs.AccessorCalls.{IsTableChanged, IsTableMade};
@@ -174,6 +174,9 @@ impl MemTableAccessor {
         ensures changed { IsTableChanged (after_change (table_in self.old.tables id) change)
             (IsChangeFault (table_in self.old.tables id) self.old.counts change) id result self.old self.new }
         ensures answer { IfOk result (IsAnswer change (table_in self.old.tables id) (table_in self.new.tables id)) }
+        ensures allowed { OnOk result (IsAllowed change) }
+        ensures counts { OnOk result
+            (AreCountsAfter change (table_in self.old.tables id) self.old.counts self.new.counts) }
     {
         self.slots[slot_of(id)].change(id, change, &mut self.stats)
     }
@@ -203,12 +206,13 @@ impl MemTableAccessor {
     /// # Errors
     ///
     /// `Full` where more than 2^64 - 1 records would be live in a queue beside the table that is
-    /// replaced, and `Memory`. All tables are then as they were.
+    /// replaced, and `Memory`. Tables and counts are then as they were.
     pub fn insert(&mut self, id: u64, table: MemTable) -> Result<Option<MemTable>>
         requires { table.region_id ≡ id }
         ensures ok { OnOk result (self.new.tables ≡ finite.insert self.old.tables id table) }
         ensures replaced { IfOk result (λ t. t ≡ finite.get self.old.tables id) }
         ensures err { OnErr result (self.new.tables ≡ self.old.tables) }
+        ensures counts_err { OnErr result (self.new.counts ≡ self.old.counts) }
         ensures fault { IfErr result (λ e. (e ≡ Error.Memory)
             ⊎ ((e ≡ Error.Full) × ((q : LogQueue) × (2 ^ 64 ≤ live_in_all q self.old.tables + live_of q table)))) }
         ensures cleaned { self.new.cleaned ≡ self.old.cleaned }

@@ -461,7 +461,7 @@ pub(crate) fn replay_into(
     requires counted { IsCounted table.old stats.old }
     ensures ok { OnOk result (after_replay queue table.old run.items ≡ Some table.new) }
     ensures accepted { OnOk result (live_of (other queue) table.old ≡ 0) }
-    ensures err { OnErr result (table.new ≡ table.old) }
+    ensures err { OnErr result ((table.new ≡ table.old) × (stats.new ≡ stats.old)) }
     ensures fault { IfErr result (IsReplayFault queue run.items table.old stats.old) }
     ensures region { table.new.region_id ≡ table.old.region_id }
     ensures recounted { IsRecounted table.old table.new stats.old stats.new }

@@ -6,7 +6,7 @@ ghost use Rattle.std.specs.List.{IsDistinct, FoldsTo};
 ghost use Rattle.std.specs.Map.{keys_of, lookup};
 ghost use Rattle.raft_base.specs.declared.pipe_log.LogQueue.{LogQueue};
 ghost use Rattle.raft_history.specs.RegionSteps.{Tables, with_table};
-ghost use Rattle.raft_table.specs.Change.{after_change, IsAnswer, IsChangeFault};
+ghost use Rattle.raft_table.specs.Change.{after_change, AreCountsAfter, IsAllowed, IsAnswer, IsChangeFault};
 ghost use Rattle.raft_table.specs.Counts.{live};
 ghost use Rattle.raft_table.specs.Steps.{table_of};
 ghost use Rattle.raft_table.specs.Table.{Table, empty_table, live_of, with_atomic_group, IsCounted, IsRecounted};
@@ -153,6 +153,8 @@ impl RegionTables {
         ensures taken { IsTaken (after_change (table_in self.old id) change)
             (IsChangeFault (table_in self.old id) stats.old change) self.old id stats.old result self.new stats.new }
         ensures answer { IfOk result (IsAnswer change (table_in self.old id) (table_in self.new id)) }
+        ensures allowed { OnOk result (IsAllowed change) }
+        ensures counts { OnOk result (AreCountsAfter change (table_in self.old id) stats.old stats.new) }
     {
         self.update(
             id,
@@ -207,6 +209,7 @@ impl RegionTables {
         ensures replaced { IfOk result (λ t. t ≡ finite.get self.old id) }
         ensures own { IfOk result (λ t. IfSome t (λ t. t.region_id ≡ id)) }
         ensures err { OnErr result (self.new ≡ self.old) }
+        ensures counts_err { OnErr result (stats.new ≡ stats.old) }
         ensures fault { IfErr result (λ e. (e ≡ Error.Memory)
             ⊎ ((e ≡ Error.Full) × ((q : LogQueue) × (2 ^ 64 ≤ live q stats.old + live_of q table)))) }
         ensures one { self.new ≡ with_table self.old id (finite.get self.new id) }

@@ -46,8 +46,10 @@ impl SharedAccessor {
     ///
     /// # Errors
     ///
-    /// `Memory`.
-    pub fn from_core(alloc: Global, core: MemTableAccessor) -> Result<SharedAccessor> {
+    /// `Memory`; `Full` and `Failed` by the calls that it makes, which never happens.
+    pub fn from_core(alloc: Global, core: MemTableAccessor) -> Result<SharedAccessor>
+        ensures { IfErr result (λ e. IsLockFault e ⊎ (e ≡ Error.Full)) }
+    {
         let mut core = core;
         let mut shared = SharedAccessor::new(alloc);
         for id in core.cleaned_regions() {
@@ -177,8 +179,8 @@ impl SharedAccessor {
     ///
     /// # Errors
     ///
-    /// `Memory`, where the region is to be listed, and `Failed` where a slot has another number, which no
-    /// run meets. All is then as it was.
+    /// `Memory`, where the region is to be listed, and `Failed` where a slot has another number, which never
+    /// happens. All is then as it was.
     pub fn remove<R: Wait>(
         &self,
         rt: &R,
@@ -225,8 +227,8 @@ impl SharedAccessor {
     ///
     /// # Errors
     ///
-    /// Those of the first item that is refused, and `Failed` where a slot has another number, which no run
-    /// meets. The items in front of it are written.
+    /// Those of the call of [`Slot`] for the first item that is refused, and `Failed` where a slot has
+    /// another number, which never happens. The items in front of it are written.
     pub fn apply_append_writes<I: IntoIterator<Item = LogItem>, R: Wait>(
         &self,
         rt: &R,
@@ -247,8 +249,8 @@ impl SharedAccessor {
     ///
     /// # Errors
     ///
-    /// Those of the first item that is refused, and `Failed` where a slot has another number, which no run
-    /// meets. The items in front of it are written.
+    /// Those of the call of [`Slot`] for the first item that is refused, and `Failed` where a slot has
+    /// another number, which never happens. The items in front of it are written.
     pub fn apply_rewrite_writes<I: IntoIterator<Item = LogItem>, R: Wait>(
         &self,
         rt: &R,
@@ -344,7 +346,9 @@ impl SharedAccessor {
     }
 
     /// Lists a region as cleaned.
-    fn list(&mut self, id: u64) -> Result<()> {
+    fn list(&mut self, id: u64) -> Result<()>
+        ensures { IfErr result IsLockFault }
+    {
         let number = slot_of(id);
         let slot = self.slots[number].get_mut();
         if slot.number() != number {
@@ -355,7 +359,9 @@ impl SharedAccessor {
     }
 
     /// Puts a table under its region's id.
-    fn place(&mut self, table: MemTable) -> Result<()> {
+    fn place(&mut self, table: MemTable) -> Result<()>
+        ensures { IfErr result (λ e. IsLockFault e ⊎ (e ≡ Error.Full)) }
+    {
         let id = table.region_id();
         let number = slot_of(id);
         let slot = self.slots[number].get_mut();

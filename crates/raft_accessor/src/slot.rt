@@ -7,7 +7,7 @@ ghost use Rattle.raft_base.specs.declared.pipe_log.LogQueue.{LogQueue};
 ghost use Rattle.raft_records.specs.Item.{item_of, command_item};
 ghost use Rattle.raft_records.specs.LogBatch.{populating};
 ghost use Rattle.raft_records.specs.declared.command.Command.TheVariants.{Clean};
-ghost use Rattle.raft_table.specs.Change.{after_change, IsAnswer, IsChangeFault};
+ghost use Rattle.raft_table.specs.Change.{after_change, AreCountsAfter, IsAllowed, IsAnswer, IsChangeFault};
 ghost use Rattle.raft_table.specs.Table.{Table, with_atomic_group, live_of};
 ghost use Rattle.raft_accessor.specs.Accessor.{slot_of, table_in, live_in_all};
 ghost use Rattle.raft_accessor.specs.AccessorCalls.{IsTableChanged, IsWritten};
@@ -148,6 +148,9 @@ impl Slot {
             (table_in self.old.part.tables id) self.old.part.counts change) id result self.old.part self.new.part }
         ensures answer { IfOk result
             (IsAnswer change (table_in self.old.part.tables id) (table_in self.new.part.tables id)) }
+        ensures allowed { OnOk result (IsAllowed change) }
+        ensures counts { OnOk result
+            (AreCountsAfter change (table_in self.old.part.tables id) self.old.part.counts self.new.part.counts) }
         ensures number { self.new.number ≡ self.old.number }
     {
         self.tables.change(id, change, &mut self.stats)
@@ -204,6 +207,7 @@ impl Slot {
         ensures replaced { IfOk result (λ t. t ≡ finite.get self.old.part.tables id) }
         ensures own { IfOk result (λ t. IfSome t (IsSlotTable self.old.number id)) }
         ensures err { OnErr result (self.new.part.tables ≡ self.old.part.tables) }
+        ensures counts_err { OnErr result (self.new.part.counts ≡ self.old.part.counts) }
         ensures fault { IfErr result (λ e. (e ≡ Error.Memory) ⊎ ((e ≡ Error.Full) × ((q : LogQueue) ×
             (2 ^ 64 ≤ live_in_all q self.old.part.tables + live_of q table)))) }
         ensures cleaned { self.new.part.cleaned ≡ self.old.part.cleaned }

@@ -1,9 +1,10 @@
 //! Steps on one region's table, which is made where there is none; runs and files were tested before.
 
-ghost use Rattle.std.specs.Prelude.{◌≡◌, ◌⊎◌, ℕ, List, IfOk, Some};
+ghost use Rattle.std.specs.Prelude.{◌≡◌, ◌⊎◌, ℕ, List, OnOk, IfOk, Some};
 ghost use Rattle.raft_table.specs.TableEntries.{IsRunIn, end_of};
 ghost use Rattle.raft_table.specs.KeyValues.{file_at};
-ghost use Rattle.raft_table.specs.Table.{after_replay, compacted, with_pair, without_key, IsTablePutFault, IsCounted};
+ghost use Rattle.raft_table.specs.Queues.{other};
+ghost use Rattle.raft_table.specs.Table.{after_replay, compacted, with_pair, without_key, live_of, IsTablePutFault, IsCounted};
 ghost use Rattle.raft_accessor.specs.Accessor.{table_in, AreCountsOf};
 ghost use Rattle.raft_accessor.specs.AccessorCalls.{IsTableChanged};
 ghost use Rattle.raft_accessor.specs.Updates.{IsTaken, IsReplayFault};
@@ -26,6 +27,7 @@ impl MemTableAccessor {
         ensures changed { IsTableChanged (after_replay queue (table_in self.old.tables id) run.items)
             (IsReplayFault queue run.items (table_in self.old.tables id) self.old.counts)
             id result self.old self.new }
+        ensures accepted { OnOk result (live_of (other queue) (table_in self.old.tables id) ≡ 0) }
         ensures end { IfOk result (λ end. end ≡ end_of (table_in self.old.tables id).entries) }
         ensures exact_counts { AreCountsOf self.old.tables self.old.counts }
     {
@@ -86,6 +88,7 @@ impl RegionTables {
         ensures taken { IsTaken (after_replay queue (table_in self.old id) run.items)
             (IsReplayFault queue run.items (table_in self.old id) stats.old)
             self.old id stats.old result self.new stats.new }
+        ensures accepted { OnOk result (live_of (other queue) (table_in self.old id) ≡ 0) }
         ensures end { IfOk result (λ end. end ≡ end_of (table_in self.old id).entries) }
     {
         let alloc = self.allocator();

@@ -1,5 +1,6 @@
-use Rattle.std.proofs.Common.{refl, ap, subst, slice_set}
-use Rattle.raft_table.specs.Change.{after_change, IsAnswer, IsChangeFault}
+use Rattle.std.proofs.Common.{refl, sym, ap, subst, slice_set}
+use Rattle.std.specs.Result.{OnOk}
+use Rattle.raft_table.specs.Change.{after_change, AreCountsAfter, IsAnswer, IsChangeFault}
 use Rattle.raft_table.specs.Steps.{table_of}
 use Rattle.raft_table.specs.Table.{IsCounted}
 use Rattle.raft_accessor.specs.AccessorView.{together}
@@ -28,3 +29,9 @@ returns-clause-changed c = changed-in c.self.inside (after c) c.args.id c.slot_o
 
 pub returns-clause-answer : goal.returns-clause-answer
 returns-clause-answer c = answers-in c.self.inside (after c) c.args.id c.slot_of.result c.index-self-slot_of.result c.change.new.self c.change.new.stats c.self.invariant (slotted c) c.args.self.now c.self.view_is (IsAnswer c.args.change) c.change.result c.change.ensures.answer
+
+pub returns-clause-counts : goal.returns-clause-counts
+returns-clause-counts c =
+    rw (← c.self.view_is) (subst (λ t. OnOk c.change.result (AreCountsAfter c.args.change t c.self.inside.stats c.change.new.stats))
+    (sym (ap (table_of c.args.id) (get-shown c.self.inside _ c.args.id c.slot_of.result _ c.self.invariant refl c.slot_of.ensures.value c.slot_of.ensures.bound)))
+    c.change.ensures.counts)

@@ -1,6 +1,8 @@
-use Rattle.std.proofs.Common.{◌≡◌, refl, ap, subst, slice_set}
+use Rattle.std.proofs.Common.{◌≡◌, refl, sym, ap, subst, slice_set}
+use Rattle.std.specs.Result.{OnOk}
+use Rattle.raft_table.specs.Queues.{other}
 use Rattle.raft_table.specs.TableEntries.{end_of}
-use Rattle.raft_table.specs.Table.{after_replay, IsCounted}
+use Rattle.raft_table.specs.Table.{after_replay, live_of, IsCounted}
 use Rattle.raft_accessor.specs.Accessor.{Accessor, AreCountsOf}
 use Rattle.raft_accessor.specs.Updates.{IsReplayFault}
 use Rattle.raft_table.specs.Steps.{table_of}
@@ -27,6 +29,12 @@ invariant_of-self c = kept-in c.self.inside (after c) c.args.id c.slot_of.result
 
 pub returns-clause-changed : goal.returns-clause-changed
 returns-clause-changed c = changed-in c.self.inside (after c) c.args.id c.slot_of.result c.index-self-slot_of.result c.replay_run_behind.new.self c.replay_run_behind.new.stats c.self.invariant (slotted c) c.args.self.now c.self.view_is (λ t. after_replay c.args.queue t c.args.run.items) (λ t k. IsReplayFault c.args.queue c.args.run.items t k) c.replay_run_behind.result c.replay_run_behind.ensures.taken refl
+
+pub returns-clause-accepted : goal.returns-clause-accepted
+returns-clause-accepted c =
+    rw (← c.self.view_is) (subst (λ t. OnOk c.replay_run_behind.result (live_of (other c.args.queue) t ≡ 0))
+    (sym (ap (table_of c.args.id) (get-shown c.self.inside _ c.args.id c.slot_of.result _ c.self.invariant refl c.slot_of.ensures.value c.slot_of.ensures.bound)))
+    c.replay_run_behind.ensures.accepted)
 
 pub returns-clause-end : goal.returns-clause-end
 returns-clause-end c = answers-in c.self.inside (after c) c.args.id c.slot_of.result c.index-self-slot_of.result c.replay_run_behind.new.self c.replay_run_behind.new.stats c.self.invariant (slotted c) c.args.self.now c.self.view_is (λ t u end. end ≡ end_of t.entries) c.replay_run_behind.result c.replay_run_behind.ensures.end

@@ -19,6 +19,11 @@ returns-in_err-add_table-clause-err c =
     let p = err_from_is_err_and c.from_residual-in_err-add_table.result c.from_residual-in_err-add_table.ensures.1 in
     rw p.1 (shown-same c.self.inside (record c.self.inside { tables = c.reserve.new.self }) c.args.self.now c.self.view_is c.reserve.ensures.entries.2)
 
+pub returns-in_err-add_table-clause-counts_err : goal.returns-in_err-add_table-clause-counts_err
+returns-in_err-add_table-clause-counts_err c =
+    let p = err_from_is_err_and c.from_residual-in_err-add_table.result c.from_residual-in_err-add_table.ensures.1 in
+    rw p.1 c.in_err-add_table.ensures.err
+
 pub returns-in_err-add_table-clause-one : goal.returns-in_err-add_table-clause-one
 returns-in_err-add_table-clause-one c = one_same c.args.self.now _ c.args.id (shown-same c.self.inside (record c.self.inside { tables = c.reserve.new.self }) c.args.self.now c.self.view_is c.reserve.ensures.entries.2)
 

@@ -1,5 +1,9 @@
 -- Calls of tables that threads share.
-use Rattle.std.proofs.Common.{◌≡◌, ℕ, List, [], ◌++◌, map, Some, Result, Ok, Err, IfOk, IfErr, inl, inr, sym, ap, subst, ◌∙◌}
+use Rattle.std.proofs.Common.{◌≡◌, ℕ, List, [], ◌∷◌, ◌++◌, map, Option, Some, None, Result, Ok, Err, IfOk, IfErr, inl, inr, refl, sym, ap, subst, ◌∙◌}
+use Rattle.std.specs.FinMap as finite
+use Rattle.std.specs.List.{AllByRecursion}
+use Rattle.std.specs.Option.{option_and_then}
+use Rattle.std.specs.Result.{OnOk}
 use Rattle.std.specs.Borrow.{Bor}
 use Rattle.std.specs.Fn.{Once}
 use Rattle.std.proofs.lemmas.List.{append_assoc, append-nil, map-append}
@@ -10,7 +14,10 @@ use Rattle.raft_records.specs.declared.command.Command.TheVariants.{Clean}
 use Rattle.raft_table.specs.declared.memtable.change.TableChange.{TableChange}
 use Rattle.raft_table.specs.Change.{after_change, IsAllowed, IsAnswer, IsChangeFault}
 use Rattle.raft_table.specs.Table.{Table}
-use Rattle.raft_accessor.specs.SharedCalls.{IsChangeAnswer, IsChangeRefusal, IsNumberOf, IsRefusalOf, HasCleans}
+use Rattle.raft_accessor.specs.Accessor.{Accessor, live_in_all}
+use Rattle.raft_accessor.specs.AccessorCalls.{IsWritten}
+use Rattle.raft_accessor.specs.SharedCalls.{IsChangeAnswer, IsChangeRefusal, IsNumberOf, IsRefusalOf, HasCleans, MayBeWritten, IsSharedItemFault}
+use Rattle.raft_accessor.specs.Writes.{Writing, queue_of, IsFor, after_content, AreWritten}
 
 abbrev cleans : List ℕ → List Item
 cleans ids = map (λ id. command_item id Clean) ids
@@ -36,3 +43,23 @@ pub refusal_of : {F : Type 0} (g : Once F (Bor Table × Unit {0}) TableChange) (
 refusal_of g f change id (Ok n) gives h = tt
 refusal_of g f change id (Err e) gives (inl h) = inl h
 refusal_of g f change id (Err e) gives (inr h) = inr (h.0, h.1, h.3, subst (λ b. IsChangeFault h.0 h.1 b e) (gives (h.4.0, tt) h.2 h.4.1) h.5)
+
+-- an item that was written has an outcome
+with_outcome : {X : Type 0} (w : Writing) (item : Item) (before : Option Table) (o : Option (Option Table)) (f : Option Table → Option X) (x : X) → IsFor w item.content → after_content w item.raft_group_id before item.content ≡ o → option_and_then f o ≡ Some x → MayBeWritten w item
+with_outcome w item before None f x asked is e = absurd (none_some e)
+  where
+    none_some : {X : Type 0} {x : X} → None ≡ Some x → ⊥
+    none_some e = cc
+with_outcome w item before (Some after) f x asked is e = record { asked = asked; before = before; after = after; outcome = is }
+
+pub one_written_so : {R E : Type 0} (w : Writing) (item : Item) (r : Result R E) (a b : Accessor) → OnOk r (AreWritten w (item ∷ []) a b) → OnOk r (MayBeWritten w item)
+one_written_so w item (Ok x) a b h = with_outcome w item (finite.get a.tables item.raft_group_id) _ _ b.tables h.asked.0 refl h.tables
+one_written_so w item (Err e) a b h = tt
+
+pub one_refused_so : (w : Writing) (item : Item) (r : Result Unit Error) (a b : Accessor) → IsWritten w item r a b → IfErr r (IsSharedItemFault w item)
+one_refused_so w item (Ok x) a b h = tt
+one_refused_so w item (Err e) a b h = inr (finite.get a.tables item.raft_group_id, live_in_all (queue_of w) a.tables, h.fault)
+
+pub all_and_one : (w : Writing) (xs : List Item) (item : Item) → AllByRecursion (MayBeWritten w) xs → MayBeWritten w item → AllByRecursion (MayBeWritten w) (xs ++ item ∷ [])
+all_and_one w [] item h k = (k, tt)
+all_and_one w (x ∷ xs) item h k = (h.0, all_and_one w xs item h.1 k)

@@ -1,10 +1,11 @@
 -- Changes under the lock of a slot.
-use Rattle.std.specs.Prelude.{◌≡◌, ◌⊎◌, ℕ, List, ◌++◌, map, Some}
+use Rattle.std.specs.Prelude.{◌≡◌, ◌⊎◌, ℕ, List, [], ◌∷◌, ◌++◌, map, Option, Some}
+use Rattle.std.specs.List.{AllByRecursion}
 use Rattle.std.specs.Fn.{Once, FnOnceReturnsAt}
 use Rattle.std.specs.Borrow.{Bor}
 use Rattle.raft_base.specs.declared.errors.Error.{Error}
 use Rattle.raft_base.specs.declared.errors.Error.TheVariants as errors
-use Rattle.raft_records.specs.Item.{command_item}
+use Rattle.raft_records.specs.Item.{Item, command_item}
 use Rattle.raft_records.specs.LogBatch.{Batch}
 use Rattle.raft_records.specs.declared.command.Command.TheVariants.{Clean}
 use Rattle.raft_table.specs.declared.memtable.change.TableChange.{TableChange}
@@ -13,6 +14,7 @@ use Rattle.raft_table.specs.Counts.{Counts}
 use Rattle.raft_table.specs.Table.{Table}
 use Rattle.raft_accessor.specs.Accessor.{slot_of}
 use Rattle.raft_accessor.specs.Slot.{IsSlotTable}
+use Rattle.raft_accessor.specs.Writes.{Writing, IsFor, after_content, IsWriteFault}
 
 -- the number is that of an allowed change of a table that may stand under the id, the change being the call's answer for this table
 abbrev pub IsChangeAnswer : {F : Type 0} → Once F (Bor Table × Unit {0}) TableChange → F → ℕ → ℕ → Type 0
@@ -38,3 +40,22 @@ IsRefusalOf change id e = IsLockFault e ⊎ ((t : Table) × (counts : Counts) ×
 pub record HasCleans (old new : Batch) : Type 0 where
   pub regions : List ℕ
   pub moved : new ≡ record old { items = old.items ++ map (λ id. command_item id Clean) regions }
+
+-- an item may be written: it is as asked, and some table of its region, or its absence, has an outcome
+pub record MayBeWritten (w : Writing) (item : Item) : Type 0 where
+  pub asked : IsFor w item.content
+  pub before : Option Table
+  pub after : Option Table
+  pub outcome : after_content w item.raft_group_id before item.content ≡ Some after
+
+-- an item is refused of some table of its region, or its absence, at some live number, or the lock refuses
+abbrev pub IsSharedItemFault : Writing → Item → Error → Type 0
+IsSharedItemFault w item e = (e ≡ errors.Failed) ⊎ ((before : Option Table) × (live : ℕ) × IsWriteFault w item.raft_group_id before live item.content e)
+
+-- the last of some items is refused, and those in front of it may be written
+pub record IsLastRefused (w : Writing) (items : List Item) (e : Error) : Type 0 where
+  pub front : List Item
+  pub last : Item
+  pub split : items ≡ front ++ last ∷ []
+  pub written : AllByRecursion (MayBeWritten w) front
+  pub fault : IsSharedItemFault w last e

@@ -1,9 +1,11 @@
 //! The tables of all regions, shared by threads.
 
-ghost use Rattle.std.specs.Prelude.{◌≡◌, ◌⊎◌, ◌≤◌, ◌<◌, List, [], Some, IsTrue, IfOk, IfErr, IfSome};
-ghost use Rattle.std.specs.List.{FoldsTo};
+ghost use Rattle.std.specs.Prelude.{◌≡◌, ◌⊎◌, ◌≤◌, ◌<◌, List, [], map, Some, IsTrue, OnOk, IfOk, IfErr, IfSome};
+ghost use Rattle.std.specs.List.{AllByRecursion, FoldsTo};
 ghost use Rattle.std.specs.Fn.{FnOnceReturnsAt};
-ghost use Rattle.std.specs.Iterator.{IsFinite};
+ghost use Rattle.std.specs.Iterator.{Drains, Yields, IsFinite};
+ghost use Rattle.raft_records.specs.declared.log_item.LogItem.{LogItem};
+ghost use Rattle.raft_records.specs.Item.{item_of};
 ghost use Rattle.raft_records.specs.LogBatch.{populating};
 ghost use Rattle.raft_table.specs.declared.memtable.change.TableChange.{TableChange};
 ghost use Rattle.raft_table.specs.Change.{after_change, IsAnswer};
@@ -11,7 +13,8 @@ ghost use Rattle.raft_table.specs.Table.{Table};
 ghost use Rattle.raft_accessor.specs.Accessor.{slot_of, table_in};
 ghost use Rattle.raft_accessor.specs.Slot.{IsSlotTable};
 ghost use Rattle.raft_accessor.specs.Walks.{KeepsId, Makes};
-ghost use Rattle.raft_accessor.specs.SharedCalls.{IsChangeAnswer, IsChangeRefusal, IsLockFault, IsNumberOf, IsRefusalOf, HasCleans};
+ghost use Rattle.raft_accessor.specs.SharedCalls.{IsChangeAnswer, IsChangeRefusal, IsLockFault, IsNumberOf, IsRefusalOf, HasCleans, MayBeWritten, IsSharedItemFault, IsLastRefused};
+ghost use Rattle.raft_accessor.specs.Writes.{Appending, Rewriting};
 
 use crate::accessor::{MemTableAccessor, slot_of};
 use crate::slot::Slot;
@@ -236,6 +239,11 @@ impl SharedAccessor {
     ) -> Result<()>
         requires { (it : I.IntoIter) → I.into_iter_gives items it
             → I.IntoIter.can_next it × IsFinite (I.IntoIter.remaining it) }
+        ensures ok { OnOk result ((it : I.IntoIter) × (xs : List LogItem) × I.into_iter_gives items it
+            × Drains I.IntoIter.next_gives it xs × AllByRecursion (MayBeWritten Appending) (map item_of xs)) }
+        ensures refused { IfErr result (λ e. (it : I.IntoIter) × (xs : List LogItem) × (u : I.IntoIter)
+            × I.into_iter_gives items it × Yields I.IntoIter.next_gives it xs u
+            × IsLastRefused Appending (map item_of xs) e) }
     {
         for item in items {
             self.append_item(rt, item)?;
@@ -260,6 +268,11 @@ impl SharedAccessor {
     ) -> Result<()>
         requires { (it : I.IntoIter) → I.into_iter_gives items it
             → I.IntoIter.can_next it × IsFinite (I.IntoIter.remaining it) }
+        ensures ok { OnOk result ((it : I.IntoIter) × (xs : List LogItem) × I.into_iter_gives items it
+            × Drains I.IntoIter.next_gives it xs × AllByRecursion (MayBeWritten (Rewriting gate new_file)) (map item_of xs)) }
+        ensures refused { IfErr result (λ e. (it : I.IntoIter) × (xs : List LogItem) × (u : I.IntoIter)
+            × I.into_iter_gives items it × Yields I.IntoIter.next_gives it xs u
+            × IsLastRefused (Rewriting gate new_file) (map item_of xs) e) }
     {
         for item in items {
             self.rewrite_item(rt, item, gate, new_file)?;
@@ -373,7 +386,10 @@ impl SharedAccessor {
     }
 
     /// Writes a new item of the append queue.
-    fn append_item<R: Wait>(&self, rt: &R, item: LogItem) -> Result<()> {
+    fn append_item<R: Wait>(&self, rt: &R, item: LogItem) -> Result<()>
+        ensures ok { OnOk result (MayBeWritten Appending (item_of item)) }
+        ensures fault { IfErr result (IsSharedItemFault Appending (item_of item)) }
+    {
         let number = slot_of(item.raft_group_id);
         let mut slot = self.slots[number].write(rt);
         if slot.number() != number {
@@ -389,7 +405,10 @@ impl SharedAccessor {
         item: LogItem,
         gate: Option<FileSeq>,
         new_file: FileSeq,
-    ) -> Result<()> {
+    ) -> Result<()>
+        ensures ok { OnOk result (MayBeWritten (Rewriting gate new_file) (item_of item)) }
+        ensures fault { IfErr result (IsSharedItemFault (Rewriting gate new_file) (item_of item)) }
+    {
         let number = slot_of(item.raft_group_id);
         let mut slot = self.slots[number].write(rt);
         if slot.number() != number {

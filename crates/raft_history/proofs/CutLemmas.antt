@@ -1,4 +1,4 @@
--- The effects behind a cut: those of the newer batches alone, and the groups that become whole_group.
+-- The effects behind a cut: those of the newer batches alone, and the groups that become whole.
 use Rattle.std.proofs.Common.{◌≡◌, ℕ, ◌+◌, ◌<◌, ◌≤◌, ◌⊎◌, Bool, true, false, cond, ◌||◌, eqb, List, [], ◌∷◌, ◌++◌, length, Option, Some, None, refl, sym, ap, subst, ◌∙◌, inl, inr, append_assoc, arith}
 use Rattle.std.proofs.lemmas.List.{append-nil}
 use Rattle.std.proofs.lemmas.List.Concat.{flat_map-append}
@@ -15,7 +15,7 @@ use Rattle.raft_history.proofs.EffectLemmas.{each_weaker, each-append, each_left
 use Rattle.raft_history.proofs.MarkerLemmas.{markers_of-append, open_stretch-append, middles_open_none, front_with, front_of-append, FitsFront, fits_front, with_more, whole_is}
 use Rattle.raft_table.specs.Steps.{Step}
 
--- the steps of a group that may be whole_group
+-- the steps of a group that may be whole
 abbrev pub steps_or : ℕ → Option WholeGroup → List Step
 steps_or r None = []
 steps_or r (Some w) = whole_steps r w
@@ -27,7 +27,7 @@ given r olds news g = steps_or r (whole_of (stretch_of (open_stretch (markers_of
 abbrev pub all_given : ℕ → List ℕ → List Numbered → List Numbered → List Step
 all_given r ids olds news = flat_map (given r olds news) ids
 
--- the groups whole_group at the cut
+-- the groups that are whole at the cut
 abbrev pub wholes_at : List ℕ → List Numbered → List Numbered → List WholeGroup
 wholes_at ids olds news = filter_map (λ g. whole_group (group_of g olds) (group_of g news)) ids
 
@@ -120,7 +120,7 @@ given_other r olds news p g h = ap (λ l. steps_or r (whole_of (stretch_of (open
 given_own : (r : ℕ) (olds news : List Numbered) (n : ℕ) (is : List RegionStep) (m : GroupMarker) (f g : ℕ) → eqb g m.group ≡ true → given r olds (news ++ placed n is (Some m) f ∷ []) g ≡ steps_or r (whole_of (stretch_of (open_stretch (markers_of g olds))) (front_with (front_of (markers_of g news)) (front_by m.status is f (Open []))))
 given_own r olds news n is m f g h = ap (λ l. steps_or r (whole_of (stretch_of (open_stretch (markers_of g olds))) l)) (ap front_of (markers_more g news (placed n is (Some m) f) h) ∙ front_of-append (markers_of g news) (placed n is (Some m) f ∷ []) ∙ ap (front_with (front_of (markers_of g news))) (front_of_one n is m f))
 
--- what isn't an End makes nothing whole_group
+-- what isn't an End makes nothing whole
 whole_not_end : (s : Option OpenStretch) (f h : GroupFront) → ((x : OpenStretch) → whole_of (Some x) h ≡ None) → ((x : OpenStretch) (is : List RegionStep) → whole_of (Some x) (led_by is h) ≡ None) → whole_of s (front_with f h) ≡ whole_of s f
 whole_not_end None f h none led = refl
 whole_not_end (Some x) (Open js) h none led = led x js
@@ -268,7 +268,7 @@ all_given_none : (r : ℕ) (ids : List ℕ) (olds : List Numbered) → all_given
 all_given_none r [] olds = refl
 all_given_none r (g ∷ ids) olds = rw (given_none r olds g) (all_given_none r ids olds)
 
--- the effects behind a cut are those of the newer batches alone, and before them the groups that become whole_group
+-- the effects behind a cut are those of the newer batches alone, and before them the groups that become whole
 record Holds (r n : ℕ) (ids : List ℕ) (olds : List Numbered) (h : List ReadBatch) : Type 0 where
   steps : ListsGroups ids h → EachApart (effects_behind olds (numbered_from n h)) → all_steps r (effects_behind olds (numbered_from n h)) ≡ all_given r ids olds (numbered_from n h) ++ all_steps r (effects_behind [] (numbered_from n h))
 

@@ -1,4 +1,4 @@
--- Joined histories: their steps, that stretches of an apart history are apart, and what is known of their groups.
+-- Joined histories: their steps, that both are apart where they are apart together, and what is known of their groups.
 use Rattle.std.proofs.Common.{◌≡◌, ℕ, ◌+◌, ◌⊎◌, Bool, true, false, eqb, List, [], ◌∷◌, ◌++◌, length, Option, Some, None, refl, sym, ap, subst, ◌∙◌, inl, inr, append_assoc, arith}
 use Rattle.std.specs.Prelude.{filter_map}
 use Rattle.std.proofs.lemmas.List.{append-nil}
@@ -19,7 +19,7 @@ group_in-append g h k = ap (group_of g) (numbered_from-append 0 h k) ∙ group_o
 pub effects-append : (h k : List ReadBatch) → effects (h ++ k) ≡ effects h ++ effects_behind (numbered_from 0 h) (numbered_from (length h) k)
 effects-append h k = ap (effects_behind []) (numbered_from-append 0 h k) ∙ effects_behind-append [] (numbered_from 0 h) (numbered_from (0 + length h) k) ∙ ap (λ x. effects h ++ effects_behind (numbered_from 0 h) (numbered_from x k)) (omega arith)
 
--- the same groups become whole_group, wherever the newer batches are numbered from
+-- the same groups become whole, wherever the newer batches are numbered from
 wholes-placed : (ids : List ℕ) (h k : List ReadBatch) (n : ℕ) → wholes_at ids (numbered_from 0 h) (numbered_from n k) ≡ wholes ids h k
 wholes-placed ids h k n = ap (λ (f : ℕ → Option WholeGroup). filter_map f ids) (λ j g. whole_group (group_in g h) (group_of-placed n g k j))
 

@@ -1,4 +1,4 @@
--- The map of groups: what it has at a group, of joined_group histories and of one more batch.
+-- The map of groups: what it has at a group, of joined histories and of one more batch.
 use Rattle.std.proofs.Common.{◌≡◌, ℕ, suc, Bool, true, false, cond, ◌||◌, eqb, ltb, List, [], ◌∷◌, ◌++◌, Option, Some, None, refl, sym, ap, ◌∙◌, arith}
 use lib.Dec.{T}
 use Rattle.std.proofs.lemmas.Bool.{eqb-true, eq-eqb}
@@ -134,7 +134,7 @@ same_wholes : (h k : List ReadBatch) (es : List (ℕ × WaitingGroup)) → AllBy
 same_wholes h k [] e = refl
 same_wholes h k (x ∷ es) e = rw (known-groups_in x.0 h, e.0.1) (ap (cons_option (whole_group (group_in x.0 h) (group_in x.0 k))) (same_wholes h k es e.1))
 
--- the steps of joined_group histories, from what is known of their groups
+-- the steps of joined histories, from what is known of their groups
 pub steps_across : (r : ℕ) (h k : List ReadBatch) → BatchesApart (h ++ k) → steps_of r (h ++ k) ≡ steps_of r h ++ (steps_of_wholes r (whole_groups (groups_in h) (groups_in k)) ++ steps_of r k)
 steps_across r h k apart =
     joined_steps r (finite.keys (groups_in k)) h k (keys_distinct (finite.entries (groups_in k)) (finite.entries_sorted (groups_in k))) (lists_groups k k (λ g e. e)) apart

@@ -1,4 +1,4 @@
--- MarkedRegions that are exact for two histories give, merged, regions that are exact for both; and one more batch.
+-- Marked regions that are exact for two histories give, merged, regions that are exact for both; and one more batch.
 use Rattle.std.proofs.Common.{◌≡◌, ◌⊎◌, ℕ, Bool, true, false, cond, eqb, ◌||◌, List, [], ◌∷◌, ◌++◌, Option, Some, None, refl, sym, ap, subst, ◌∙◌, inl, inr, append_assoc, append-nil}
 use Rattle.std.specs.Prelude.{is_some, option_map}
 use Rattle.std.specs.List.{list_any}

@@ -1,4 +1,4 @@
--- The map of groups of joined_group histories and of one more batch, and one more batch's steps.
+-- The map of groups of joined histories and of one more batch, and one more batch's steps.
 use Rattle.std.proofs.Common.{◌≡◌, ℕ, Bool, true, false, cond, ◌||◌, eqb, List, [], ◌∷◌, ◌++◌, length, Option, Some, None, refl, sym, ap, subst, ◌∙◌}
 use Rattle.std.proofs.lemmas.List.{append-nil, nil_from_length}
 use Rattle.std.proofs.lemmas.Bool.{eqb-true, eq-eqb}

@@ -1,4 +1,4 @@
--- What waits, and what becomes whole_group, is of the queue.
+-- What waits, and what becomes whole, is of the queue.
 use Rattle.std.proofs.Common.{◌≡◌, ◌⊎◌, ℕ, suc, Bool, true, false, cond, ◌&&◌, List, [], ◌∷◌, ◌++◌, Option, Some, None, refl, sym, ap, subst, ◌∙◌, inl, inr}
 use Rattle.std.specs.Prelude.{map, flat_map, filter_map}
 use Rattle.std.specs.List.{AllByRecursion, cons_option}

@@ -1,4 +1,4 @@
--- Items that are regions_after into the marks and tables of all regions.
+-- Items that are read into the marks and tables of all regions.
 use Rattle.std.proofs.Common.{◌≡◌, ◌⊎◌, ℕ, Bool, true, false, cond, eqb, ◌||◌, List, [], ◌∷◌, ◌++◌, Option, Some, None, refl, sym, ap, subst, ◌∙◌, inl, inr, append_assoc, append-nil}
 use Rattle.std.specs.Prelude.{is_some, map, filter, flat_map, option_map}
 use Rattle.std.specs.List.{list_any}

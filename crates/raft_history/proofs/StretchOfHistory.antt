@@ -1,4 +1,4 @@
--- Stretches of a history: what holds of two histories, one behind the other, holds of each.
+-- What holds of two histories, one behind the other, holds of each.
 use Rattle.std.proofs.Common.{◌≡◌, ℕ, ◌+◌, ◌<◌, ◌≤◌, ◌^◌, List, [], ◌∷◌, ◌++◌, Option, Some, None, refl, sym, ap, subst, ◌∙◌, append_assoc, arith}
 use Rattle.std.specs.Prelude.{flat_map, length}
 use Rattle.std.specs.Option.{option_and_then}

@@ -1,4 +1,4 @@
--- What waits and what becomes whole_group, where groups are joined_group, has no more records than what waited before.
+-- What waits and what becomes whole, where groups are joined, has no more records than what waited before.
 use Rattle.std.proofs.Common.{◌≡◌, ◌⊎◌, ℕ, ◌+◌, ◌≤◌, Bool, true, false, cond, eqb, List, [], ◌∷◌, ◌++◌, Option, Some, None, refl, sym, ap, subst, ◌∙◌, inl, inr, arith}
 use Rattle.std.proofs.lemmas.Bool.Decides.{nat_tests}
 use Rattle.std.specs.Prelude.{map, filter_map}
@@ -89,7 +89,7 @@ joined_waiting m (e ∷ es) one =
     let x : WaitingGroup = joined_group (known m e.0) e.1 in
     omega (arith, joined_waiting (finite.insert m e.0 x) es one.1, ap records_in_wholes (known_other m e.0 x es one.0), wholes-cons (whole_group (known m e.0) e.1) (whole_with m es), total-insert weight m e.0 x, waiting_known m e.0, joined_weight (known m e.0) e.1)
 
--- a context's bound's bound wants this: what waits after a merge, and what becomes whole_group there, waited before
+-- a context's bound wants this: what waits after a merge, and what becomes whole there, waited before
 pub merged_waiting : (a b : WaitingGroups) → waiting_records (joined_groups a b) + records_in_wholes (whole_groups a b) ≤ waiting_records a + waiting_records b
 unfolding total
 merged_waiting a b = joined_waiting a (finite.entries b) (keys_distinct (finite.entries b) (finite.entries_sorted b))

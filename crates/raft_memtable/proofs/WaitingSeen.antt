@@ -67,7 +67,7 @@ known-seen es q o h e = ap (λ x. unwrap_or x without_marker) (get-seen es q h �
 pub seen-none : (es : List (ℕ × WaitingGroup)) → Ordered es → es ≡ [] → seen es ≡ finite.empty
 seen-none es h e = finite.empty_of_len (seen es) (finite.len-entries (seen es) ∙ ap length (entries-seen es h ∙ ap (map (λ e. (e.0, group_shown e.1))) e))
 
--- a group is taken out, joined_group, and put back
+-- a group is taken out, joined, and put back
 pub seen-joined : (es fs gs : List (ℕ × WaitingGroup)) (id : ℕ) (older newer state : WaitingGroup) (now : WaitingGroups) → Ordered es → Ordered fs → Ordered gs → seen es ≡ now →
     group_shown older ≡ known (seen es) id → fs ≡ remove_entry (is_at (nat_cmp id)) es → group_shown state ≡ joined_group (group_shown older) (group_shown newer) → gs ≡ insert_entry nat_cmp fs id state →
     seen gs ≡ finite.insert now id (joined_group (known now id) (group_shown newer))

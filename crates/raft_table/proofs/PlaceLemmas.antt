@@ -77,7 +77,6 @@ placed_apart q r d e h = at e.entries h
     at None k = refl
     at (Some b) k = same b.id.queue q r d k
 
-unfolding placed_in
 pub placed_in_other : (q r : LogQueue) → is_same q r ≡ false → (es : List EntryIndex) → placed_in r (placed_in q es) ≡ []
 unfolding placed_in
 placed_in_other q r d es =

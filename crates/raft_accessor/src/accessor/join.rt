@@ -1,6 +1,6 @@
 //! Tables of all regions joined with those of newer neighbors, each under its mark.
 
-ghost use Rattle.std.specs.Prelude.{◌≡◌, ◌<◌, ◌++◌, IfErr, IfSome, OnOk};
+ghost use Rattle.std.specs.Prelude.{◌≡◌, ◌<◌, ◌++◌, IfErr, IfSome, OnErr, OnOk};
 ghost use Rattle.raft_base.specs.declared.pipe_log.LogQueue.TheVariants.{Append, Rewrite};
 ghost use Rattle.raft_table.specs.Queues.{other};
 ghost use Rattle.raft_accessor.specs.Accessor.{live_in, live_in_all, AreCountsOf};

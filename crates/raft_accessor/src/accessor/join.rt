@@ -63,7 +63,8 @@ impl MemTableAccessor {
     /// `Memory`. The lists are then as they were.
     pub fn append_cleaned(&mut self, rhs: &mut MemTableAccessor) -> Result<()>
         ensures ok { OnOk result (self.new.cleaned ≡ self.old.cleaned ++ rhs.old.cleaned) }
-        ensures tables { (self.new.tables ≡ self.old.tables) × (self.new.counts ≡ self.old.counts) }
+        ensures tables { self.new.tables ≡ self.old.tables }
+        ensures counts { self.new.counts ≡ self.old.counts }
         ensures err { OnErr result ((self.new.cleaned ≡ self.old.cleaned) × (rhs.new ≡ rhs.old)) }
         ensures memory { IfErr result (λ e. e ≡ Error.Memory) }
     {

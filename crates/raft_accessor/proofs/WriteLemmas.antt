@@ -1,5 +1,5 @@
 -- One item written to its region's table.
-use Rattle.std.proofs.Common.{◌≡◌, ◌⊎◌, ◌<◌, ℕ, true, false, cond, arith, List, [], ◌++◌, length, append-nil, Option, Some, None, Result, Ok, Err, refl, sym, ap, subst, ◌∙◌, inl, inr}
+use Rattle.std.proofs.Common.{◌≡◌, ◌⊎◌, ◌<◌, ℕ, true, false, cond, arith, List, [], ◌++◌, append-nil, Option, Some, None, Result, Ok, Err, refl, sym, ap, subst, ◌∙◌, inl, inr}
 use Rattle.std.specs.FinMap as finite
 use Rattle.std.specs.Option.{option_map, is_some}
 use Rattle.std.specs.declared.alloc.Global.{Global}
@@ -9,24 +9,21 @@ use Rattle.std.proofs.lemmas.Bool.{false≢true}
 use Rattle.raft_base.specs.declared.errors.Error.{Error}
 use Rattle.raft_base.specs.declared.errors.Error.TheVariants as errors
 use Rattle.raft_base.specs.declared.pipe_log.LogQueue.{LogQueue}
-use Rattle.raft_base.specs.declared.pipe_log.LogQueue.TheVariants.{Append, Rewrite}
+use Rattle.raft_base.specs.declared.pipe_log.LogQueue.TheVariants.{Append}
 use Rattle.raft_base.specs.declared.entry_index.EntryIndex.{EntryIndex}
-use Rattle.raft_base.specs.declared.pipe_log.FileId.{FileId}
-use Rattle.raft_records.specs.declared.command.Command.{Command}
 use Rattle.raft_records.specs.declared.command.Command.TheVariants as commands
 use Rattle.raft_records.specs.Group.{is_reserved}
-use Rattle.raft_records.specs.Item.{Item, Content, Pair, entries, command, pair, command_item}
+use Rattle.raft_records.specs.Item.{Item, Content, Pair, entries, pair, command_item}
 use Rattle.raft_history.specs.RegionSteps.{Tables, with_table}
 use Rattle.raft_table.specs.Counts.{Counts, live}
-use Rattle.raft_table.specs.Rewriting.{rewritten, IsRewriteFault}
 use Rattle.raft_table.specs.Start.{appended, replayed, IsTableRunFault}
 use Rattle.raft_table.specs.Steps.{table_of}
-use Rattle.raft_table.specs.Table.{Table, empty_table, table_with_entries, IsTablePutFault, IsKeyRewriteFault, IsRecounted}
+use Rattle.raft_table.specs.Table.{Table, empty_table, table_with_entries, IsRecounted}
 use Rattle.raft_table.proofs.RunCounts.{append_full, replay_full}
 use Rattle.raft_accessor.specs.Accessor.{table_in}
 use Rattle.raft_accessor.specs.ItemWrites.{IsItemWritten, pair_change}
 use Rattle.raft_accessor.specs.Updates.{IsTaken, IsReplayFault, IsRefusal}
-use Rattle.raft_accessor.specs.Writes.{Writing, Appending, Replaying, Rewriting, queue_of, after_content, after_rewrite_put, with_change, lists, listed_by, cleaned_by_content, IsFor, MixesQueues, IsWriteFault}
+use Rattle.raft_accessor.specs.Writes.{Writing, Appending, Replaying, queue_of, after_content, after_rewrite_put, with_change, lists, listed_by, cleaned_by_content, IsFor, MixesQueues, IsWriteFault}
 use Rattle.raft_accessor.proofs.MapLemmas.{get_gone, one_same}
 
 -- new items meet no records of the other queue, and those that are read again only where there are some

@@ -1,5 +1,5 @@
 -- Merges of contexts that stand for histories.
-use Rattle.std.proofs.Common.{◌≡◌, ◌⊎◌, ℕ, Bool, true, false, cond, List, [], ◌∷◌, ◌++◌, Option, Some, None, refl, sym, ap, subst, ◌∙◌, inl, inr, append_assoc, append-nil}
+use Rattle.std.proofs.Common.{◌≡◌, ◌⊎◌, ℕ, Bool, true, false, cond, List, [], ◌∷◌, ◌++◌, Option, Some, None, refl, sym, ap, subst, ◌∙◌, inl, inr}
 use Rattle.std.specs.Prelude.{is_some, option_map}
 use Rattle.std.specs.Option.{unwrap_or}
 use Rattle.std.specs.FinMap as finite
@@ -7,22 +7,22 @@ use Rattle.std.proofs.lemmas.Bool.{false≢true}
 use Rattle.raft_base.specs.declared.pipe_log.LogQueue.{LogQueue}
 use Rattle.raft_base.specs.declared.pipe_log.LogQueue.TheVariants.{Append, Rewrite}
 use Rattle.raft_table.specs.MarkJoins.{fresh}
-use Rattle.raft_table.specs.Steps.{Step, after}
+use Rattle.raft_table.specs.Steps.{after}
 use Rattle.raft_table.specs.Table.{Table}
 use Rattle.raft_table.proofs.MarkLaws.{stands_alone}
-use Rattle.raft_history.specs.Batches.{ReadBatch, Event, batch_of, batches}
-use Rattle.raft_history.specs.Contexts.{IsBounded, FileRange, files_of, Suits, joined_files, follows, Context, Holds, AreExact, StandsIn, StandsFor, IsExactFor, AreMerged, AreRegionsRefused, merged_regions, merged_with, merged, completed_steps, taken_with, taken_in}
-use Rattle.raft_history.specs.Effects.{BatchesApart, all_steps, steps_of, is_named}
-use Rattle.raft_history.specs.Histories.{records_in_history, AreInFile, AreInFiles, FilesFrom, IsSoundIn, Sound, cleaned_in_batch, cleaned_in}
-use Rattle.raft_history.specs.MarkedRegions.{MarkedRegions, region_in, regions_after}
-use Rattle.raft_history.specs.WaitingGroups.{WaitingGroups, groups_in, joined_groups, groups_after}
+use Rattle.raft_history.specs.Batches.{ReadBatch, Event, batches}
+use Rattle.raft_history.specs.Contexts.{IsBounded, FileRange, files_of, Suits, joined_files, follows, Context, Holds, AreExact, StandsIn, StandsFor, IsExactFor, AreMerged, AreRegionsRefused, merged_regions, merged_with, merged}
+use Rattle.raft_history.specs.Effects.{BatchesApart, all_steps, steps_of}
+use Rattle.raft_history.specs.Histories.{records_in_history, FilesFrom, Sound, cleaned_in}
+use Rattle.raft_history.specs.MarkedRegions.{MarkedRegions, region_in}
+use Rattle.raft_history.specs.WaitingGroups.{groups_in, joined_groups}
 use Rattle.raft_history.proofs.EffectLemmas.{all_steps-none, effects_behind-none}
 use Rattle.raft_history.proofs.JoinLemmas.{merged_are, merged_refused}
-use Rattle.raft_history.proofs.MergeLaws.{Parts, regions_merged, regions_refused, regions_taken, taken_refused, rewrite_after, rewrite_read, rewrite_refused}
-use Rattle.raft_history.proofs.MoreLemmas.{groups_in-append, groups_in-one}
+use Rattle.raft_history.proofs.MergeLaws.{Parts, regions_merged, regions_refused, rewrite_after, rewrite_refused}
+use Rattle.raft_history.proofs.MoreLemmas.{groups_in-append}
 use Rattle.raft_history.proofs.ReadLemmas.{holds_none}
 use Rattle.raft_history.proofs.RecordLemmas.{merged_bounded}
-use Rattle.raft_history.proofs.SoundLemmas.{batches-append, in_files-append, status-append, files_follow, follow_files, files-back, files_of-append, cleaned-append, append_apart}
+use Rattle.raft_history.proofs.SoundLemmas.{batches-append, in_files-append, status-append, files_follow, follow_files, files_of-append, cleaned-append, append_apart}
 use Rattle.raft_history.proofs.StretchOfHistory.{size-append}
 use Rattle.raft_history.proofs.WithoutMarkers.{named-steps}
 

@@ -1,15 +1,14 @@
 -- A group that no effect ends changes nothing: without its batches the steps on every region are the same.
-use Rattle.std.proofs.Common.{◌≡◌, ◌≢◌, ℕ, suc, Bool, true, false, cond, not, ◌&&◌, eqb, List, [], ◌∷◌, ◌++◌, Option, Some, None, refl, sym, ap, subst, ◌∙◌, append-nil}
+use Rattle.std.proofs.Common.{◌≡◌, ℕ, suc, Bool, true, false, cond, not, ◌&&◌, eqb, List, [], ◌∷◌, ◌++◌, Option, Some, None, refl, sym, ap, ◌∙◌, append-nil}
 use Rattle.std.specs.Prelude.{filter, flat_map}
 use Rattle.std.specs.List.{AllByRecursion}
 use Rattle.std.proofs.lemmas.Bool.{false≢true, eqb-true, eq-eqb}
 use Rattle.std.proofs.lemmas.List.Elements.{filter-append}
 use Rattle.raft_records.specs.declared.atomic_group.AtomicGroupStatus.{AtomicGroupStatus}
 use Rattle.raft_records.specs.declared.atomic_group.AtomicGroupStatus.TheVariants.{Begin, Middle, End}
-use Rattle.raft_table.specs.Steps.{Step}
 use Rattle.raft_history.specs.Batches.{GroupMarker, ReadBatch}
-use Rattle.raft_history.specs.Effects.{Effect, ended, completed_as, completed_by, completed, effects_behind, effects, steps_by, steps_in, whole_steps, all_steps, steps_of, EndsNoEffect, without_group}
-use Rattle.raft_history.specs.RegionSteps.{RegionStep, steps_on, names}
+use Rattle.raft_history.specs.Effects.{Effect, ended, completed_as, completed_by, completed, effects_behind, steps_by, steps_in, whole_steps, all_steps, steps_of, EndsNoEffect, without_group}
+use Rattle.raft_history.specs.RegionSteps.{steps_on}
 use Rattle.raft_history.specs.WaitingGroup.{Numbered, numbered_from, is_of, markers_of, begins, goes_on, are_middles, open_stretch, region_steps_of}
 use Rattle.raft_history.proofs.EffectLemmas.{each_left, each_right, all_steps-append}
 

@@ -1,15 +1,13 @@
 -- The regions of two neighbours, joined one after another.
-use Rattle.std.proofs.Common.{◌≡◌, ◌⊎◌, ℕ, Bool, true, false, cond, eqb, ◌||◌, List, [], ◌∷◌, ◌++◌, Option, Some, None, refl, sym, ap, subst, ◌∙◌, inl, inr}
-use Rattle.std.specs.Prelude.{is_some, map, option_map}
+use Rattle.std.proofs.Common.{◌≡◌, ◌⊎◌, ℕ, Bool, true, false, cond, eqb, ◌||◌, List, [], ◌∷◌, Option, Some, None, refl, sym, ap, subst, ◌∙◌, inl, inr}
+use Rattle.std.specs.Prelude.{is_some, map}
 use Rattle.std.specs.List.{AllByRecursion, IsDistinct}
-use Rattle.std.specs.Option.{option_and_then, unwrap_or}
-use Rattle.std.specs.Ordering.{nat_cmp, eq_by_cmp}
+use Rattle.std.specs.Option.{option_and_then}
+use Rattle.std.specs.Ordering.{nat_cmp}
 use Rattle.std.specs.FinMap as finite
 use Rattle.std.specs.FinMap.Entries.{find}
 use Rattle.raft_base.specs.declared.pipe_log.LogQueue.{LogQueue}
 use Rattle.raft_table.specs.Marks.{Mark}
-use Rattle.raft_table.specs.MarkJoins.{fresh}
-use Rattle.raft_table.specs.Table.{Table}
 use Rattle.raft_history.specs.Contexts.{Context, AreMerged, AreRegionsRefused, merged_regions}
 use Rattle.raft_history.specs.MarkedRegions.{MarkedRegions, MarkedRegion, region_in, with_region, joined_region, joined_marked, joined_each, joined_regions, regions_after, region_steps_of_wholes}
 use Rattle.raft_history.specs.RegionSteps.{Tables}

@@ -1,6 +1,6 @@
 -- An exact context holds at most its history may hold.
-use Rattle.std.proofs.Common.{◌≡◌, ◌⊎◌, ℕ, ◌≤◌, Bool, true, false, cond, eqb, ◌||◌, List, [], ◌∷◌, ◌++◌, length, Option, Some, None, refl, sym, ap, subst, ◌∙◌, inl, inr, arith}
-use Rattle.std.specs.Prelude.{is_some, map, flat_map}
+use Rattle.std.proofs.Common.{◌≡◌, ℕ, ◌≤◌, Bool, true, false, cond, eqb, ◌||◌, List, [], ◌∷◌, ◌++◌, length, Some, refl, sym, ap, subst, ◌∙◌, arith}
+use Rattle.std.specs.Prelude.{is_some, map}
 use Rattle.std.specs.List.{list_any}
 use Rattle.std.proofs.lemmas.Bool.{eqb-true}
 use Rattle.std.specs.Option.{unwrap_or}
@@ -20,12 +20,12 @@ use Rattle.raft_table.proofs.MarkExact.{deleted_count}
 use Rattle.raft_history.specs.Batches.{ReadBatch, Event, batches}
 use Rattle.raft_history.specs.Contexts.{Context, Suits, AreExact, IsExactFor}
 use Rattle.raft_history.specs.Effects.{Effect, effects, region_steps_in, is_named, steps_of}
-use Rattle.raft_history.specs.Histories.{cleaned_in, IsOneReading}
+use Rattle.raft_history.specs.Histories.{IsOneReading}
 use Rattle.raft_history.specs.Kept.{named_by, deleted_in, kept_of, kept_by, IsAtMost}
-use Rattle.raft_history.specs.MarkedRegions.{MarkedRegions, region_in}
+use Rattle.raft_history.specs.MarkedRegions.{MarkedRegions}
 use Rattle.raft_history.specs.Records.{total}
-use Rattle.raft_history.specs.RegionSteps.{RegionStep, names, is_on, Tables}
-use Rattle.raft_history.specs.WaitingGroups.{groups_in, waiting_steps}
+use Rattle.raft_history.specs.RegionSteps.{RegionStep, names, Tables}
+use Rattle.raft_history.specs.WaitingGroups.{waiting_steps}
 use Rattle.raft_history.proofs.ContextLaws.{exact_reading}
 use Rattle.raft_history.proofs.KnownLemmas.{tied}
 use Rattle.raft_history.proofs.TotalLemmas.{total-ones, total-at_most}

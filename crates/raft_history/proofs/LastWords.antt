@@ -1,11 +1,11 @@
 -- The last word in one reading of the append queue.
-use Rattle.std.proofs.Common.{◌≡◌, ℕ, List, [], ◌∷◌, ◌++◌, refl, sym, ap, ◌∙◌}
+use Rattle.std.proofs.Common.{◌≡◌, ℕ, List, [], ◌∷◌, ◌++◌, refl, ap, ◌∙◌}
 use Rattle.std.specs.Prelude.{flat_map}
 use Rattle.std.specs.FinMap as finite
 use Rattle.raft_base.specs.declared.pipe_log.LogQueue.TheVariants.{Append}
 use Rattle.raft_table.specs.TableEntries.{entry_at}
 use Rattle.raft_table.specs.LastWord.{last_entry, last_pair}
-use Rattle.raft_table.specs.Steps.{Step, table_of}
+use Rattle.raft_table.specs.Steps.{table_of}
 use Rattle.raft_table.proofs.LastWordLemmas.{last_entry_stands, last_pair_stands}
 use Rattle.raft_history.specs.Batches.{Event, ReadBatch, batches}
 use Rattle.raft_history.specs.Effects.{steps_of}

@@ -1,23 +1,21 @@
 -- Marked regions that are exact for two histories give, merged, regions that are exact for both; and one more batch.
-use Rattle.std.proofs.Common.{◌≡◌, ◌⊎◌, ℕ, Bool, true, false, cond, eqb, ◌||◌, List, [], ◌∷◌, ◌++◌, Option, Some, None, refl, sym, ap, subst, ◌∙◌, inl, inr, append_assoc, append-nil}
+use Rattle.std.proofs.Common.{◌≡◌, ℕ, Bool, true, false, ◌||◌, List, [], ◌∷◌, ◌++◌, Option, Some, None, refl, sym, ap, subst, ◌∙◌, inl, inr, append_assoc, append-nil}
 use Rattle.std.specs.Prelude.{is_some, option_map}
 use Rattle.std.specs.List.{list_any}
 use Rattle.std.specs.Option.{unwrap_or, option_and_then}
 use Rattle.std.specs.FinMap as finite
 use Rattle.raft_base.specs.declared.pipe_log.LogQueue.{LogQueue}
-use Rattle.raft_base.specs.declared.pipe_log.LogQueue.TheVariants.{Append, Rewrite}
-use Rattle.raft_base.specs.declared.entry_index.EntryIndex.{EntryIndex}
-use Rattle.raft_table.specs.Marks.{Mark, Stands, applied, table_over, is_there_over}
+use Rattle.raft_base.specs.declared.pipe_log.LogQueue.TheVariants.{Rewrite}
+use Rattle.raft_table.specs.Marks.{Mark, applied, is_there_over}
 use Rattle.raft_table.specs.MarkJoins.{joined_mark, fresh, mark_of}
-use Rattle.raft_table.specs.Steps.{Step, Run, Compact, Put, Del, AtomicGroup, Clean, AreSteps, stepped, is_there_after, there_if, after_step, after, table_of}
-use Rattle.raft_table.specs.Start.{replayed}
-use Rattle.raft_table.specs.Table.{Table, table_with_entries}
-use Rattle.raft_table.proofs.MarkLaws.{refused_join, stands_alone}
+use Rattle.raft_table.specs.Steps.{Step, Run, Compact, Put, Del, AtomicGroup, Clean, AreSteps, there_if, after_step, after}
+use Rattle.raft_table.specs.Table.{Table}
+use Rattle.raft_table.proofs.MarkLaws.{refused_join}
 use Rattle.raft_history.specs.Batches.{GroupMarker, ReadBatch, Event, batch_of, batches}
 use Rattle.raft_history.specs.Contexts.{Context, Holds, AreExact, AreMerged, AreRegionsRefused, region_steps_or, completed_steps}
 use Rattle.raft_history.specs.Effects.{BatchesApart, steps_of, steps_of_wholes, is_named}
 use Rattle.raft_history.specs.Histories.{AreInFiles}
-use Rattle.raft_history.specs.MarkedRegions.{MarkedRegions, MarkedRegion, region_in, with_region, stepped_region, regions_after, region_steps_of_wholes, joined_region, joined_marked}
+use Rattle.raft_history.specs.MarkedRegions.{MarkedRegions, MarkedRegion, region_in, with_region, regions_after, region_steps_of_wholes, joined_marked}
 use Rattle.raft_history.specs.RegionSteps.{RegionStep, names, steps_on}
 use Rattle.raft_history.specs.WaitingGroup.{WholeGroup, whole_group, one_marker}
 use Rattle.raft_history.specs.WaitingGroups.{WaitingGroups, groups_in, known, whole_groups, steps_by_batch, steps_or, names_by_batch}

@@ -1,18 +1,14 @@
 -- A new context stands exactly for the empty history.
-use Rattle.std.proofs.Common.{◌≡◌, ℕ, ◌+◌, ◌≤◌, arith, Bool, true, false, List, [], ◌∷◌, Option, Some, None, refl, sym, ap, subst, ◌∙◌}
+use Rattle.std.proofs.Common.{◌≡◌, ℕ, ◌+◌, ◌≤◌, arith, List, [], ◌∷◌, refl, sym, ap, subst, ◌∙◌}
 use Rattle.std.specs.Prelude.{is_some, length}
 use Rattle.std.specs.Option.{unwrap_or}
 use Rattle.std.specs.Ordering.{nat_cmp}
 use Rattle.std.specs.FinMap as finite
 use Rattle.raft_base.specs.declared.pipe_log.LogQueue.{LogQueue}
-use Rattle.raft_table.specs.Marks.{Mark}
 use Rattle.raft_table.specs.MarkJoins.{fresh}
-use Rattle.raft_table.specs.Steps.{after}
-use Rattle.raft_history.specs.Batches.{Event, batches}
-use Rattle.raft_history.specs.Contexts.{Context, new_context, Holds, AreExact, StandsIn, StandsFor, IsExactFor}
-use Rattle.raft_history.specs.Effects.{steps_of, is_named}
+use Rattle.raft_history.specs.Contexts.{new_context, Holds, AreExact, IsExactFor}
 use Rattle.raft_history.specs.Histories.{records_in}
-use Rattle.raft_history.specs.MarkedRegions.{MarkedRegions, no_regions, region_in}
+use Rattle.raft_history.specs.MarkedRegions.{no_regions, region_in}
 use Rattle.raft_history.specs.Records.{total_of, total, table_records, all_records, waiting_records}
 use Rattle.raft_history.specs.WaitingGroup.{WaitingGroup}
 use Rattle.raft_history.specs.WaitingGroups.{groups_in, held_steps}

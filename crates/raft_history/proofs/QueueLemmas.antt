@@ -1,6 +1,5 @@
 -- What waits, and what becomes whole, is of the queue.
-use Rattle.std.proofs.Common.{◌≡◌, ◌⊎◌, ℕ, suc, Bool, true, false, cond, ◌&&◌, List, [], ◌∷◌, ◌++◌, Option, Some, None, refl, sym, ap, subst, ◌∙◌, inl, inr}
-use Rattle.std.specs.Prelude.{map, flat_map, filter_map}
+use Rattle.std.proofs.Common.{◌≡◌, ℕ, suc, Bool, true, false, cond, List, [], ◌∷◌, ◌++◌, Option, Some, None, refl, sym, ap, subst}
 use Rattle.std.specs.List.{AllByRecursion, cons_option}
 use Rattle.std.specs.FinMap as finite
 use Rattle.raft_base.specs.declared.pipe_log.FileId.{FileId}
@@ -8,15 +7,14 @@ use Rattle.raft_base.specs.declared.pipe_log.LogQueue.{LogQueue}
 use Rattle.raft_table.specs.Steps.{Step, Run, Compact, Put, Del, AtomicGroup, Clean}
 use Rattle.raft_records.specs.declared.atomic_group.AtomicGroupStatus.{AtomicGroupStatus}
 use Rattle.raft_records.specs.declared.atomic_group.AtomicGroupStatus.TheVariants.{Begin, Middle, End}
-use Rattle.raft_history.specs.Batches.{GroupMarker, ReadBatch, Event, batch_of, batches}
-use Rattle.raft_history.specs.Contexts.{completed_steps, region_steps_or}
+use Rattle.raft_history.specs.Batches.{GroupMarker, ReadBatch, Event, batches}
 use Rattle.raft_history.specs.Effects.{group_in}
 use Rattle.raft_history.specs.Histories.{IsInFile, AreInFile, AreInFiles, FilesFrom, IsPutIn, IsPairIn, IsStepOfQueue}
 use Rattle.raft_history.specs.MarkedRegions.{named_regions, on_each, region_steps_of_whole, region_steps_of_wholes}
 use Rattle.raft_history.specs.RegionSteps.{RegionStep, put_step, pair_step, content_step, with_step, steps_of_items}
-use Rattle.raft_history.specs.WaitingGroup.{Numbered, numbered_from, markers_of, open_stretch, region_steps_of, GroupFront, Open, Ended, Cut, led_by, front_by, front_behind, front_of, OpenStretch, stretch_of, WaitingGroup, group_at, WholeGroup, whole_of, whole_group_by, whole_group, one_marker}
-use Rattle.raft_history.specs.WaitingGroups.{WaitingGroups, groups_in, known, whole_with, whole_groups, front_steps, stretch_steps}
-use Rattle.raft_history.proofs.EffectLemmas.{each-append, each_left, each_markers, each_open, each_weaker}
+use Rattle.raft_history.specs.WaitingGroup.{Numbered, numbered_from, markers_of, open_stretch, region_steps_of, GroupFront, Open, Ended, Cut, led_by, front_by, front_behind, front_of, OpenStretch, stretch_of, WaitingGroup, WholeGroup, whole_of, whole_group_by, whole_group}
+use Rattle.raft_history.specs.WaitingGroups.{groups_in, known, whole_with, whole_groups, front_steps, stretch_steps}
+use Rattle.raft_history.proofs.EffectLemmas.{each-append, each_markers, each_open, each_weaker}
 use Rattle.raft_history.proofs.KnownLemmas.{known-groups_in, each_known}
 use Rattle.raft_records.specs.declared.command.Command.TheVariants as commands
 use Rattle.raft_records.specs.declared.key_value.OpType.{OpType}

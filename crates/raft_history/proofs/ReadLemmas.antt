@@ -1,23 +1,21 @@
 -- Items that are read into the marks and tables of all regions.
 use Rattle.std.proofs.Common.{◌≡◌, ◌⊎◌, ℕ, Bool, true, false, cond, eqb, ◌||◌, List, [], ◌∷◌, ◌++◌, Option, Some, None, refl, sym, ap, subst, ◌∙◌, inl, inr, append_assoc, append-nil}
-use Rattle.std.specs.Prelude.{is_some, map, filter, flat_map, option_map}
-use Rattle.std.specs.List.{list_any}
+use Rattle.std.specs.Prelude.{is_some, option_map}
 use Rattle.std.specs.Option.{option_and_then}
 use Rattle.std.specs.FinMap as finite
 use Rattle.raft_base.specs.declared.pipe_log.LogQueue.{LogQueue}
-use Rattle.raft_base.specs.declared.pipe_log.LogQueue.TheVariants.{Append, Rewrite}
-use Rattle.raft_table.specs.Marks.{Mark, Stands, applied}
-use Rattle.raft_table.specs.MarkJoins.{joined_mark, joined_at, end_at_reach, fresh, mark_of, own_of}
+use Rattle.raft_table.specs.Marks.{applied}
+use Rattle.raft_table.specs.MarkJoins.{joined_mark, end_at_reach, fresh, mark_of, own_of}
 use Rattle.raft_table.specs.Overlay.{HoldsDeleted, IsExactMark}
 use Rattle.raft_table.specs.Steps.{Step, AtomicGroup, IsStep, AreSteps, after_step, after, table_of}
 use Rattle.raft_table.specs.Table.{Table}
-use Rattle.raft_table.proofs.MarkLaws.{after-append, stands_fresh, stands_one, stands_join, stands_alone, refused_step, refused_join}
+use Rattle.raft_table.proofs.MarkLaws.{after-append, stands_fresh, stands_one, stands_join, refused_step}
 use Rattle.raft_table.proofs.MarkTables.{one_step, joined_parts}
 use Rattle.raft_table.proofs.MarkExact.{union_empty, holds_one, exact_one, holds_join, exact_join}
 use Rattle.raft_history.specs.Contexts.{Holds}
 use Rattle.raft_history.specs.Effects.{whole_steps, steps_of_wholes}
 use Rattle.raft_history.specs.MarkedRegions.{MarkedRegions, MarkedRegion, region_in, with_region, stepped_region, regions_after, named_regions, on_each, region_steps_of_whole, region_steps_of_wholes, joined_region}
-use Rattle.raft_history.specs.RegionSteps.{RegionStep, is_on, names, steps_on}
+use Rattle.raft_history.specs.RegionSteps.{RegionStep, names, steps_on}
 use Rattle.raft_history.specs.WaitingGroup.{WholeGroup}
 use Rattle.raft_history.proofs.MapLemmas.{IsOther, by_region, held_own, held_other, marked_with}
 use Rattle.raft_history.proofs.StepListLemmas.{eqb_self, names_cons, names_none, own-append, own_cons, own_first, own_head, own_none, own_nothing, own_other, steps-append, steps_left, steps_right}

@@ -1,13 +1,11 @@
 -- Tables and waiting groups have no more records than the history names.
-use Rattle.std.proofs.Common.{◌≡◌, ◌⊎◌, ℕ, ◌+◌, ◌-◌, ◌≤◌, Bool, true, false, cond, not, eqb, List, [], ◌∷◌, ◌++◌, length, filter, Option, Some, None, refl, sym, ap, subst, ◌∙◌, inl, inr, arith, append-nil}
+use Rattle.std.proofs.Common.{◌≡◌, ℕ, ◌+◌, ◌-◌, ◌≤◌, Bool, true, false, cond, not, List, [], ◌∷◌, ◌++◌, length, filter, Option, Some, None, refl, sym, ap, ◌∙◌, arith, append-nil}
 use lib.Dec.{T}
 use Rattle.std.specs.declared.cmp.Ordering.{Ordering}
-use Rattle.std.specs.declared.cmp.Ordering.TheVariants.{Less, Equal, Greater}
-use Rattle.std.proofs.lemmas.Bool.Decides.{nat_tests}
-use Rattle.std.specs.Prelude.{map, flat_map, option_map, nat_lt, nat_le}
-use Rattle.std.specs.List.{AllByRecursion, IsDistinct}
-use Rattle.std.specs.Option.{unwrap_or, option_and_then}
-use Rattle.std.specs.Ordering.{nat_cmp, eq_by_cmp}
+use Rattle.std.specs.declared.cmp.Ordering.TheVariants.{Equal}
+use Rattle.std.specs.Prelude.{option_map, nat_lt, nat_le}
+use Rattle.std.specs.Option.{option_and_then}
+use Rattle.std.specs.Ordering.{nat_cmp}
 use Rattle.std.specs.Cmp.Lexicographic.{slice_cmp, nat_list_cmp_total}
 use Rattle.std.specs.FinMap as finite
 use Rattle.std.specs.FinMap.{is_sorted, slice_cmp-IsAntisymmetric, nat_cmp-IsAntisymmetric}
@@ -20,7 +18,7 @@ use Rattle.raft_base.specs.declared.entry_index.EntryIndex.{EntryIndex}
 use Rattle.raft_table.specs.TableEntries.{below, from, end_of}
 use Rattle.raft_table.specs.KeySets.{KeySet, without}
 use Rattle.raft_table.specs.KeyValues.{Keys, Stored, StoredPair, with_pairs, pairs_over}
-use Rattle.raft_table.specs.Marks.{Mark, part, older_entries, entries_over, keys_over, atomic_group_over, table_over, is_first_run_refused, is_missed, is_there_over, applied}
+use Rattle.raft_table.specs.Marks.{Mark, part, older_entries, atomic_group_over, table_over, is_first_run_refused, is_missed, is_there_over, applied}
 use Rattle.raft_table.specs.MarkJoins.{joined_mark, mark_of}
 use Rattle.raft_table.specs.Start.{replayed, leaves_hole}
 use Rattle.raft_table.specs.Steps.{Step, Run, Compact, Put, Del, AtomicGroup, Clean, stepped, is_there_after, there_if, after_step, table_of}
@@ -28,15 +26,13 @@ use Rattle.raft_table.specs.Table.{Table, empty_table, table_with_entries}
 use Rattle.raft_records.specs.declared.atomic_group.AtomicGroupStatus.{AtomicGroupStatus}
 use Rattle.raft_records.specs.declared.atomic_group.AtomicGroupStatus.TheVariants.{Begin, Middle, End}
 use Rattle.raft_history.specs.Batches.{GroupMarker, Event, batch_of}
-use Rattle.raft_history.specs.Contexts.{Context, merged_regions, merged_with, merged, completed_steps, region_steps_or, taken_with, taken_in, IsBounded, AreMerged}
-use Rattle.raft_history.specs.Histories.{records_of, records_in, records_in_history}
-use Rattle.raft_history.specs.MarkedRegions.{MarkedRegions, MarkedRegion, region_in, with_region, stepped_region, regions_after, named_regions, on_each, region_steps_of_whole, region_steps_of_wholes, joined_region, joined_each, joined_regions, Marks, joined_marked}
-use Rattle.raft_history.specs.Records.{total, records_or, records_in_wholes, waiting_records, table_records, all_records}
+use Rattle.raft_history.specs.Contexts.{Context, merged_with, completed_steps, region_steps_or, taken_with, IsBounded, AreMerged}
+use Rattle.raft_history.specs.Histories.{records_of, records_in}
+use Rattle.raft_history.specs.MarkedRegions.{MarkedRegions, MarkedRegion, region_in, with_region, regions_after, named_regions, on_each, region_steps_of_whole, region_steps_of_wholes, Marks, joined_marked}
+use Rattle.raft_history.specs.Records.{records_or, records_in_wholes, waiting_records, table_records, all_records}
 use Rattle.raft_history.specs.RegionSteps.{RegionStep, Tables, with_table, steps_of_items}
 use Rattle.raft_history.specs.WaitingGroup.{joined_group, WaitingGroup, WholeGroup, whole_group, one_marker}
-use Rattle.raft_history.specs.WaitingGroups.{WaitingGroups, known, groups_after, whole_groups, held_steps}
-use Rattle.raft_history.proofs.KnownLemmas.{tied, keys_distinct}
-use Rattle.raft_history.proofs.MapLemmas.{get_left}
+use Rattle.raft_history.specs.WaitingGroups.{known, groups_after, whole_groups, held_steps}
 use Rattle.raft_history.proofs.TotalLemmas.{found, total-insert, total-remove, total-both}
 use Rattle.raft_history.proofs.WaitingLemmas.{records-append, joined_weight, waiting_known, merged_waiting}
 

@@ -1,11 +1,11 @@
 -- The steps of a history whose items may stand in their files are steps; histories that are joined.
-use Rattle.std.proofs.Common.{◌≡◌, ◌⊎◌, ℕ, suc, ◌≤◌, Bool, true, false, cond, eqb, ◌||◌, List, [], ◌∷◌, ◌++◌, Option, Some, None, refl, sym, ap, subst, ◌∙◌, inl, inr, arith, append_assoc}
+use Rattle.std.proofs.Common.{◌≡◌, ℕ, suc, ◌≤◌, Bool, true, false, cond, List, [], ◌∷◌, ◌++◌, Option, Some, None, refl, sym, ap, subst, ◌∙◌, arith, append_assoc}
 use Rattle.std.proofs.lemmas.Bool.Decides.{nat_tests}
-use Rattle.std.specs.Prelude.{is_some, map, filter, flat_map, nat_le}
+use Rattle.std.specs.Prelude.{map, filter, nat_le}
 use Rattle.std.specs.List.{AllByRecursion}
 use Rattle.raft_base.specs.declared.pipe_log.FileId.{FileId}
 use Rattle.raft_base.specs.declared.pipe_log.LogQueue.{LogQueue}
-use Rattle.raft_base.specs.declared.pipe_log.LogQueue.TheVariants.{Append, Rewrite}
+use Rattle.raft_base.specs.declared.pipe_log.LogQueue.TheVariants.{Append}
 use Rattle.raft_records.specs.declared.atomic_group.AtomicGroupStatus.{AtomicGroupStatus}
 use Rattle.raft_records.specs.declared.atomic_group.AtomicGroupStatus.TheVariants.{Begin, Middle, End}
 use Rattle.raft_records.specs.declared.command.Command.TheVariants as commands
@@ -16,12 +16,12 @@ use Rattle.raft_records.specs.Item.{Item, Content, entries, command, pair}
 use Rattle.raft_table.specs.Steps.{Step, Run, Compact, Put, Del, AtomicGroup, Clean, IsStep, AreSteps}
 use Rattle.raft_table.proofs.MarkEntries.{same_some}
 use Rattle.raft_history.specs.Batches.{Event, GroupMarker, ReadBatch, marker_in, batch_of, batches}
-use Rattle.raft_history.specs.Contexts.{FileRange, files_of, joined_files, follows}
-use Rattle.raft_history.specs.Effects.{Effect, ended, completed_as, completed_by, completed, effects_behind, effects, whole_steps, steps_by, steps_in, all_steps, steps_of, BatchesApart}
+use Rattle.raft_history.specs.Contexts.{files_of, joined_files, follows}
+use Rattle.raft_history.specs.Effects.{Effect, ended, completed_as, completed_by, completed, effects_behind, whole_steps, steps_by, all_steps, steps_of, BatchesApart}
 use Rattle.raft_history.specs.Histories.{IsInFile, AreInFile, AreInFiles, AllHaveStatus, FilesFrom, last_from, cleaned_in_batch, cleaned_in}
 use Rattle.raft_history.specs.RegionSteps.{RegionStep, is_on, names, steps_on, put_step, pair_step, content_step, with_step, steps_of_items}
 use Rattle.raft_history.specs.WaitingGroup.{Numbered, numbered_from, markers_of, open_stretch, region_steps_of}
-use Rattle.raft_history.proofs.EffectLemmas.{each-append, each_left, each_right, each_markers, each_open, all_steps-append}
+use Rattle.raft_history.proofs.EffectLemmas.{each-append, each_markers, each_open, all_steps-append}
 use Rattle.raft_history.proofs.StepListLemmas.{steps-append}
 use Rattle.raft_history.proofs.WithoutMarkers.{plain_apart}
 

@@ -2,7 +2,7 @@
 use Rattle.std.proofs.Common.{◌≡◌, ℕ, Bool, true, false, cond, eqb, ◌||◌, List, [], ◌∷◌, ◌++◌, refl, ap, ◌∙◌}
 use Rattle.std.specs.Prelude.{map, filter}
 use Rattle.std.proofs.lemmas.Bool.{eq-eqb}
-use Rattle.raft_table.specs.Steps.{Step, IsStep, AreSteps}
+use Rattle.raft_table.specs.Steps.{Step, AreSteps}
 use Rattle.raft_history.specs.RegionSteps.{RegionStep, is_on, names, steps_on}
 
 pub eqb_self : (r : ℕ) → eqb r r ≡ true

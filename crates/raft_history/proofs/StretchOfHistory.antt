@@ -1,18 +1,18 @@
 -- What holds of two histories, one behind the other, holds of each.
-use Rattle.std.proofs.Common.{◌≡◌, ℕ, ◌+◌, ◌<◌, ◌≤◌, ◌^◌, List, [], ◌∷◌, ◌++◌, Option, Some, None, refl, sym, ap, subst, ◌∙◌, append_assoc, arith}
+use Rattle.std.proofs.Common.{◌≡◌, ℕ, ◌+◌, List, [], ◌∷◌, ◌++◌, Option, Some, None, refl, sym, ap, subst, ◌∙◌, arith}
 use Rattle.std.specs.Prelude.{flat_map, length}
 use Rattle.std.specs.Option.{option_and_then}
 use Rattle.std.proofs.lemmas.List.Concat.{flat_map-append}
 use Rattle.raft_base.specs.declared.pipe_log.LogQueue.{LogQueue}
 use Rattle.raft_base.specs.declared.pipe_log.LogQueue.TheVariants.{Append, Rewrite}
-use Rattle.raft_table.specs.Steps.{Step, after, AreSteps}
+use Rattle.raft_table.specs.Steps.{Step, after}
 use Rattle.raft_table.specs.Table.{Table}
 use Rattle.raft_table.proofs.LaterSteps.{accepted_alone, steps_rewritten}
 use Rattle.raft_table.proofs.MarkLaws.{after-append}
 use Rattle.raft_history.specs.Batches.{Event, ReadBatch, batches}
 use Rattle.raft_history.specs.Effects.{effects, effects_behind, all_steps, steps_of, BatchesApart}
-use Rattle.raft_history.specs.Histories.{records_in, records_in_history, IsSmall, AreInFiles, AllHaveStatus, FilesFrom, last_from, IsSoundIn, Sound, Apart, AreOfQueue, IsOfQueue}
-use Rattle.raft_history.specs.RegionSteps.{steps_on, steps_of_items}
+use Rattle.raft_history.specs.Histories.{records_in_history, IsSmall, AreInFiles, AllHaveStatus, FilesFrom, last_from, IsSoundIn, Sound, Apart, AreOfQueue, IsOfQueue}
+use Rattle.raft_history.specs.RegionSteps.{steps_on}
 use Rattle.raft_history.specs.WaitingGroup.{numbered_from}
 use Rattle.raft_history.proofs.EffectLemmas.{all_steps-append}
 use Rattle.raft_history.proofs.JoinedLemmas.{effects-append}

@@ -1,5 +1,5 @@
 -- A context with one more batch.
-use Rattle.std.proofs.Common.{◌≡◌, ◌⊎◌, ℕ, ◌≤◌, Bool, true, false, cond, List, [], ◌∷◌, ◌++◌, Option, Some, None, refl, sym, ap, subst, ◌∙◌, inl, inr, append-nil, arith}
+use Rattle.std.proofs.Common.{◌≡◌, ℕ, ◌≤◌, true, List, [], ◌∷◌, ◌++◌, Option, Some, None, refl, sym, ap, subst, ◌∙◌, append-nil, arith}
 use Rattle.std.specs.Prelude.{option_map}
 use Rattle.raft_base.specs.declared.pipe_log.LogQueue.{LogQueue}
 use Rattle.raft_base.specs.declared.pipe_log.LogQueue.TheVariants.{Append, Rewrite}
@@ -8,14 +8,14 @@ use Rattle.raft_table.specs.Table.{Table}
 use Rattle.raft_history.specs.Batches.{Event, batch_of, batches}
 use Rattle.raft_history.specs.Contexts.{IsBounded, FileRange, files_of, Suits, joined_files, follows, Context, AreExact, StandsIn, StandsFor, IsExactFor, completed_steps, taken_with, taken_in}
 use Rattle.raft_history.specs.Effects.{steps_of}
-use Rattle.raft_history.specs.Histories.{records_in_history, HaveStatus, AllHaveStatus, AreInFile, AreInFiles, FilesFrom, IsSoundIn, Sound, cleaned_in_batch, cleaned_in}
+use Rattle.raft_history.specs.Histories.{records_in_history, HaveStatus, AllHaveStatus, AreInFile, AreInFiles, FilesFrom, Sound, cleaned_in_batch, cleaned_in}
 use Rattle.raft_history.specs.MarkedRegions.{MarkedRegions, regions_after}
 use Rattle.raft_history.specs.WaitingGroups.{WaitingGroups, groups_in, groups_after}
 use Rattle.raft_history.proofs.ContextLaws.{exact_accepted}
 use Rattle.raft_history.proofs.MergeLaws.{regions_taken, taken_refused, rewrite_after, rewrite_read}
 use Rattle.raft_history.proofs.MoreLemmas.{groups_in-one}
 use Rattle.raft_history.proofs.RecordLemmas.{taken_bounded}
-use Rattle.raft_history.proofs.SoundLemmas.{batches-append, in_files-append, status-append, files_follow, follow_files, files-back, files_of-append, cleaned-append}
+use Rattle.raft_history.proofs.SoundLemmas.{batches-append, in_files-append, status-append, files_follow, follow_files, files_of-append, cleaned-append}
 use Rattle.raft_history.proofs.StretchOfHistory.{size-append}
 
 some_is : {X : Type 0} {x y : X} → Some x ≡ Some y → x ≡ y

@@ -1,5 +1,5 @@
 -- Numbers of the values of a map, together.
-use Rattle.std.proofs.Common.{◌≡◌, ◌⊎◌, ℕ, ◌+◌, ◌≤◌, Bool, true, false, cond, not, eqb, List, [], ◌∷◌, length, Option, Some, None, refl, sym, ap, subst, ◌∙◌, inl, inr, arith}
+use Rattle.std.proofs.Common.{◌≡◌, ◌⊎◌, ℕ, ◌+◌, ◌≤◌, true, false, cond, not, List, [], ◌∷◌, length, Option, Some, None, refl, sym, ap, ◌∙◌, inl, inr, arith}
 use lib.Dec.{T}
 use Rattle.std.specs.declared.cmp.Ordering.TheVariants.{Less, Equal, Greater}
 use Rattle.std.specs.Ordering.{nat_cmp, eq_by_cmp, is_eq}
@@ -11,7 +11,7 @@ use Rattle.raft_table.proofs.KeyValueCounts.{entries-remove}
 use Rattle.raft_table.proofs.Shown.{find-below, where_key-below, below_all-less, below_all-equal, first_of_both, second_of_both, equal}
 use Rattle.raft_history.specs.Records.{total_of, total}
 use Rattle.raft_history.proofs.KnownLemmas.{tied}
-use Rattle.raft_history.proofs.MapLemmas.{IsOther, by_region, get_gone, get_left}
+use Rattle.raft_history.proofs.MapLemmas.{IsOther, by_region, get_left}
 use Rattle.raft_history.proofs.StepListLemmas.{eqb_self}
 
 module _ {X : Type 0} (f : X → ℕ) where

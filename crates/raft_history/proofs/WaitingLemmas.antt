@@ -1,12 +1,11 @@
 -- What waits and what becomes whole, where groups are joined, has no more records than what waited before.
-use Rattle.std.proofs.Common.{◌≡◌, ◌⊎◌, ℕ, ◌+◌, ◌≤◌, Bool, true, false, cond, eqb, List, [], ◌∷◌, ◌++◌, Option, Some, None, refl, sym, ap, subst, ◌∙◌, inl, inr, arith}
+use Rattle.std.proofs.Common.{◌≡◌, ℕ, ◌+◌, ◌≤◌, false, eqb, List, [], ◌∷◌, ◌++◌, Option, Some, None, refl, ap, ◌∙◌, arith}
 use Rattle.std.proofs.lemmas.Bool.Decides.{nat_tests}
-use Rattle.std.specs.Prelude.{map, filter_map}
+use Rattle.std.specs.Prelude.{map}
 use Rattle.std.specs.List.{AllByRecursion, IsDistinct, cons_option}
 use Rattle.std.specs.Option.{unwrap_or}
-use Rattle.std.specs.Ordering.{nat_cmp}
 use Rattle.std.specs.FinMap as finite
-use Rattle.raft_history.specs.Histories.{records_of, records_in}
+use Rattle.raft_history.specs.Histories.{records_in}
 use Rattle.raft_history.specs.Records.{total, total_of, records_or, records_in_wholes, waiting_records}
 use Rattle.raft_history.specs.RegionSteps.{RegionStep}
 use Rattle.raft_history.specs.WaitingGroup.{without_marker, joined_group, GroupFront, Open, Ended, Cut, OpenStretch, WaitingGroup, WholeGroup, whole_group}

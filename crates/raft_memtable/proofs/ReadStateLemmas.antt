@@ -42,7 +42,6 @@ use Rattle.raft_memtable.specs.MarkedTables.{AreStepsOfQueue, IsStepsFault}
 use Rattle.raft_memtable.specs.ReadStates.{AreAlone, AreOfSteps, IsRead, TakesEffect, MayTakeEffect}
 use Rattle.raft_memtable.specs.RecoverContext.{reading_on, MayFollow, records_held, IsBatchFault, AreNeighbours, IsNeighbourFault}
 use Rattle.raft_memtable.specs.RegionJoins.{IsJoinFault}
-use Rattle.raft_accessor.specs.Updates.{IsRefusal}
 use Rattle.raft_accessor.proofs.LiveLemmas.{live-none}
 use Rattle.raft_memtable.proofs.LiveSteps.{live-le-all}
 use Rattle.raft_memtable.proofs.WholeFiles.{batch_takes, wholes_take, no_wholes}

@@ -1,5 +1,5 @@
 -- On lists of items that a batch holds.
-use Rattle.std.proofs.Common.{◌≡◌, ℕ, zero, suc, ◌+◌, ◌-◌, ◌^◌, ◌<◌, List, [], ◌∷◌, ◌++◌, map, length, take, drop, set, get_or, Option, Some, None, refl, sym, ap, ◌∙◌, subst, append_assoc, arith, inl, inr}
+use Rattle.std.proofs.Common.{◌≡◌, ℕ, zero, suc, ◌+◌, ◌-◌, ◌^◌, ◌<◌, List, [], ◌∷◌, ◌++◌, map, length, take, drop, set, get_or, Option, Some, None, refl, sym, ap, ◌∙◌, subst, arith, inl, inr}
 use Rattle.std.specs.Prelude.{bit_xor}
 use Rattle.std.specs.Int.Bits.{xor_assoc, xor_self, xor_zero_l}
 use Rattle.std.proofs.lemmas.Nat.{xor_of_32}
@@ -8,7 +8,7 @@ use Rattle.std.specs.List.{flat_map}
 use Rattle.raft_base.specs.Checksum.{crc32_of}
 use Rattle.raft_base.specs.declared.pipe_log.FileBlockHandle.{FileBlockHandle}
 use Rattle.raft_base.specs.declared.pipe_log.FileId.{FileId}
-use Rattle.std.proofs.lemmas.List.{append_cancel_left, length-append, length-map, drop_more, flat_map_more}
+use Rattle.std.proofs.lemmas.List.{append_cancel_left, length-append, length-map}
 use Rattle.std.proofs.lemmas.List.Edits.{map_over_more}
 use Rattle.raft_base.specs.declared.errors.Error.{Error}
 use Rattle.raft_base.specs.Reading.{Reads, HasNoFront, HasOneFront, IsFollowedBy, IsSequence, state_after}
@@ -21,12 +21,11 @@ use Rattle.raft_base.specs.declared.compression_type.CompressionType.{Compressio
 use Rattle.raft_base.specs.declared.entry_index.EntryIndex.{EntryIndex}
 use Rattle.raft_records.specs.declared.key_value.OpType.{OpType}
 use Rattle.raft_records.specs.declared.key_value.OpType.TheVariants.{Put, Del}
-use Rattle.raft_records.specs.declared.log_item.LogItem.{LogItem}
-use Rattle.raft_records.specs.Item.{Item, Content, entries, command, pair, item_of, content_of, IsInBytes}
+use Rattle.raft_records.specs.Item.{Item, Content, entries, command, pair, IsInBytes}
 use Rattle.raft_records.specs.Entries.{IsConsecutiveFrom, IsConsecutive, Tile}
 use Rattle.raft_records.specs.Grammar.{tail_of, IsTail, behind_entry, AreIndexAndTails, IsPairOf, IsContent, IsItem, end_behind, behind_item}
 use Rattle.raft_records.specs.Spelling.{IsWritableWith, tails_bytes, entries_bytes, item_bytes}
-use Rattle.raft_records.specs.ItemBatch.{FitsBehind, FitTogether, end_of_items, placed_entry, placed, IsKeptBeside, AreItems, IsCountAndItems, signed, checksum_bytes, IsItemBatch, HasSeal, AreItemsFault, batch_bytes, first_entry, first_entry_or}
+use Rattle.raft_records.specs.ItemBatch.{FitsBehind, FitTogether, end_of_items, placed_entry, placed, IsKeptBeside, AreItems, IsCountAndItems, signed, checksum_bytes, IsItemBatch, HasSeal, AreItemsFault, batch_bytes}
 use Rattle.raft_records.specs.Range.{IsInRange}
 use Rattle.raft_records.specs.Faults.{IsItemFault}
 use Rattle.raft_records.proofs.ContentLemmas.{item_one_front}

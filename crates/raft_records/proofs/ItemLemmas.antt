@@ -1,6 +1,6 @@
 -- On the bytes of commands and key values.
-use Rattle.std.proofs.Common.{◌≡◌, ℕ, ◌+◌, ◌<◌, ◌≤◌, List, [], ◌∷◌, ◌++◌, length, take, drop, Option, Some, None, refl, sym, ap, ◌∙◌, subst, append_assoc, arith}
-use Rattle.std.proofs.lemmas.List.{take-append-drop, length-take-le, length-append, take_at}
+use Rattle.std.proofs.Common.{◌≡◌, ℕ, ◌+◌, ◌<◌, ◌≤◌, List, [], ◌∷◌, ◌++◌, length, take, drop, Option, Some, None, refl, sym, ap, ◌∙◌, subst, arith}
+use Rattle.std.proofs.lemmas.List.{take-append-drop, length-take-le, length-append}
 use Rattle.raft_base.specs.Reading.{Reads, HasNoFront, HasOneFront, IsTagged, IsFollowedBy}
 use Rattle.raft_base.specs.Varint.{IsVarint}
 use Rattle.raft_base.proofs.VarintLemmas.{varint_one_front}
@@ -10,7 +10,6 @@ use Rattle.raft_base.specs.declared.pipe_log.FileId.{FileId}
 use Rattle.raft_records.specs.declared.key_value.OpType.{OpType}
 use Rattle.raft_records.specs.declared.key_value.OpType.TheVariants.{Put, Del}
 use Rattle.raft_records.specs.Item.{Pair}
-use Rattle.raft_records.specs.Spelling.{Keeps}
 use Rattle.raft_records.specs.Grammar.{IsCommand, IsText, IsByteString, IsKeyAndValue, IsKeyValue, IsPairOf, IsPutRead, IsDelRead}
 
 -- ---- commands

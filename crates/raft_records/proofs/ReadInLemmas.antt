@@ -5,7 +5,6 @@ use Rattle.raft_base.specs.declared.pipe_log.FileBlockHandle.{FileBlockHandle}
 use Rattle.raft_base.specs.Reading.{IsSequence}
 use Rattle.raft_base.specs.declared.compression_type.CompressionType.{CompressionType}
 use Rattle.raft_base.specs.declared.entry_index.EntryIndex.{EntryIndex}
-use Rattle.raft_records.specs.FilePart.{Part, IsBatchAt, entries_place}
 use Rattle.raft_records.specs.Grammar.{IsItem, behind_item}
 use Rattle.raft_records.specs.ReadIn.{IsBlockIn, IsReadIn, AreReadIn}
 use Rattle.raft_records.specs.Item.{Item, Content, entries, command, pair}

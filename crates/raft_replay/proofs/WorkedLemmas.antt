@@ -11,7 +11,7 @@ use Rattle.raft_records.specs.FilePart.{Part}
 use Rattle.raft_history.specs.Batches.{Event}
 use Rattle.raft_replay.specs.declared.piece.Piece.{Piece}
 use Rattle.raft_replay.specs.declared.workers.Worked.{Worked}
-use Rattle.raft_replay.specs.Covers.{IsPieceOf, covers, CoverOnce, IsDone, AreDone, Gives}
+use Rattle.raft_replay.specs.Covers.{IsPieceOf, covers, IsDone, AreDone, Gives}
 use Rattle.raft_replay.specs.Draws.{TicketBook, Drawer, IsSeatOf, HasEnded, once_below, IsOpenRefusal}
 use Rattle.raft_replay.specs.Segments.{CannotBeRead}
 use Rattle.raft_replay.specs.Weights.{weigh, occurrences}

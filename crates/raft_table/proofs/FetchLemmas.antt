@@ -1,14 +1,14 @@
 -- Parts of a table's entries, as a fetch takes them.
-use Rattle.std.proofs.Common.{◌≡◌, ℕ, zero, suc, ◌+◌, ◌-◌, ◌<◌, ◌≤◌, ◌⊎◌, inl, inr, min, max, true, false, List, [], ◌∷◌, ◌++◌, length, get_or, take, drop, Option, Some, None, refl, sym, ap, ◌∙◌, subst, arith}
+use Rattle.std.proofs.Common.{◌≡◌, ℕ, zero, suc, ◌+◌, ◌-◌, ◌<◌, ◌≤◌, ◌⊎◌, inl, inr, true, false, List, [], ◌∷◌, ◌++◌, length, get_or, take, drop, Option, Some, refl, sym, ap, ◌∙◌, subst, arith}
 use Rattle.std.specs.List.{prefix_len, slice_get, take_while}
-use Rattle.std.proofs.lemmas.List.{take_at, drop_at, length-take, length-drop, take-take, take_min, drop_min, drop-take, get_or-drop, get_or-take}
+use Rattle.std.proofs.lemmas.List.{drop_at, length-take, take-take, drop-take, get_or-drop, get_or-take}
 use Rattle.std.proofs.lemmas.List.Sums.{sum_by_more}
 use Rattle.std.proofs.lemmas.Bool.{cases_lt}
 use Rattle.std.proofs.lemmas.Bool.Decides.{nat_tests}
 use Rattle.raft_base.specs.declared.pipe_log.LogQueue.TheVariants.{Append, Rewrite}
 use Rattle.raft_base.specs.declared.entry_index.EntryIndex.{EntryIndex}
 use Rattle.raft_table.specs.TableEntries.{AreTableEntries, start_of, from, between, placed_in, entry_count}
-use Rattle.raft_table.specs.Fetches.{total_len, is_too_many, IsLimitCount, FetchesWithin, NotFound, Compacted, Found, range_answer, appended_before, block_count, change_count, entry_seq, first_seq}
+use Rattle.raft_table.specs.Fetches.{total_len, is_too_many, IsLimitCount, FetchesWithin, NotFound, Compacted, Found, range_answer, appended_before, change_count}
 use Rattle.raft_table.specs.Rewriting.{is_placed_before}
 use Rattle.raft_table.proofs.RunLemmas.{RisesFrom-take}
 use Rattle.raft_table.proofs.SoundLemmas.{sound_rising}

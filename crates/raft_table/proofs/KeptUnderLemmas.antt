@@ -1,16 +1,13 @@
 -- What stays in front of a run, and what it takes the place of.
-use Rattle.std.proofs.Common.{◌≡◌, ℕ, ◌+◌, ◌<◌, ◌≤◌, ◌^◌, inl, inr, ◌++◌, List, ◌∷◌, [], length, take, drop, refl, sym, ap, subst, ◌∙◌, arith, Some, None}
-use Rattle.raft_base.specs.declared.errors.Error.{Error}
-use Rattle.raft_base.specs.declared.errors.Error.TheVariants as errors
+use Rattle.std.proofs.Common.{◌≡◌, ℕ, ◌+◌, ◌<◌, ◌≤◌, ◌^◌, inl, inr, ◌++◌, List, ◌∷◌, [], length, take, drop, refl, sym, ap, subst, ◌∙◌, arith, Some}
 use Rattle.raft_base.specs.declared.pipe_log.LogQueue.{LogQueue}
 use Rattle.raft_base.specs.declared.pipe_log.LogQueue.TheVariants.{Append, Rewrite}
 use Rattle.raft_base.specs.declared.entry_index.EntryIndex.{EntryIndex}
 use Rattle.raft_table.specs.Counts.{Counts, live, with_added}
 use Rattle.raft_table.specs.TableEntries.{AreTableEntries, IsRunIn, start_of, placed_in, entry_count, AreCounted, AreRecounted}
 use Rattle.raft_table.specs.Queues.{count_in, of_queue}
-use Rattle.raft_table.specs.Start.{replayed, replaced_by, counts_without, counts_with_run, IsTableRunFault}
-use Rattle.raft_table.specs.StartOf.{IsStart, IsKeptUnder, IsStartFault}
-use Rattle.raft_table.specs.declared.memtable.entries.Start.TheVariants as starts
+use Rattle.raft_table.specs.Start.{replayed, replaced_by, counts_without, counts_with_run}
+use Rattle.raft_table.specs.StartOf.{IsKeptUnder}
 use Rattle.raft_table.proofs.GoneLemmas.{from_rest}
 use Rattle.raft_table.proofs.PlaceLemmas.{each_queue, entry_count-append, entry_count-cut, entries_in_one}
 use Rattle.raft_table.proofs.StartLemmas.{MayJoin, sound_joined, sound_run}

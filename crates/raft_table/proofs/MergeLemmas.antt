@@ -1,5 +1,5 @@
 -- Counts through a merge of two tables.
-use Rattle.std.proofs.Common.{◌≡◌, ℕ, ◌+◌, ◌-◌, ◌≤◌, Bool, true, false, cond, ltb, List, [], ◌∷◌, ◌++◌, length, filter, Option, Some, None, refl, ap, subst, arith}
+use Rattle.std.proofs.Common.{◌≡◌, ℕ, ◌+◌, ◌≤◌, Bool, true, false, cond, ltb, List, [], ◌∷◌, ◌++◌, length, filter, Option, Some, None, refl, ap, subst, arith}
 use Rattle.std.specs.FinMap as finite
 use Rattle.std.specs.Option.{option_map}
 use Rattle.raft_base.specs.declared.errors.Error.{Error}
@@ -8,7 +8,7 @@ use Rattle.raft_base.specs.declared.pipe_log.LogQueue.{LogQueue}
 use Rattle.raft_base.specs.declared.pipe_log.LogQueue.TheVariants.{Append, Rewrite}
 use Rattle.raft_base.specs.declared.entry_index.EntryIndex.{EntryIndex}
 use Rattle.raft_table.specs.TableEntries.{below, end_of, placed_in, entry_count}
-use Rattle.raft_table.specs.Queues.{count_in, is_same}
+use Rattle.raft_table.specs.Queues.{is_same}
 use Rattle.raft_table.specs.Counts.{Counts}
 use Rattle.raft_table.specs.Merge.{after_join, IsTableMergeFault}
 use Rattle.raft_table.specs.Start.{replayed, leaves_hole, IsTableRunFault}

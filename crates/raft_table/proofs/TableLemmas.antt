@@ -4,9 +4,8 @@ use Rattle.raft_base.specs.declared.pipe_log.FileId.{FileId}
 use Rattle.raft_base.specs.declared.pipe_log.LogQueue.{LogQueue}
 use Rattle.raft_base.specs.declared.pipe_log.LogQueue.TheVariants.{Append, Rewrite}
 use Rattle.raft_table.specs.KeyValues.{Keys, file_at, file_weight, pair_count}
-use Rattle.raft_table.specs.Counts.{Counts}
 use Rattle.raft_table.specs.TableEntries.{placed_in}
-use Rattle.raft_table.specs.Table.{Table, empty_table, live_of, IsCounted, IsRecounted}
+use Rattle.raft_table.specs.Table.{empty_table, live_of}
 use Rattle.raft_table.specs.Queues.{count_in}
 use Rattle.raft_table.proofs.KeyValueReads.{entries-empty}
 use Rattle.raft_table.proofs.KeyValueMaps.{file_weight-le}

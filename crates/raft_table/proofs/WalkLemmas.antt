@@ -1,14 +1,14 @@
 -- Walks over blocks, from the place of an entry on.
 use Rattle.std.proofs.Common.{◌≡◌, ℕ, zero, suc, ◌+◌, ◌-◌, ◌<◌, ◌≤◌, true, false, List, [], ◌∷◌, ◌++◌, length, get_or, take, drop, min, refl, sym, ap, ◌∙◌, subst, arith, inl, inr, Option, Some}
 use Rattle.std.specs.List.{prefix_len}
-use Rattle.std.proofs.lemmas.List.{length-drop, length-take-le, take_all, take-take, take_more, drop-append-le, take-append-drop, get_or_default}
+use Rattle.std.proofs.lemmas.List.{length-drop, length-take-le, take_all, take-take, drop-append-le, take-append-drop, get_or_default}
 use Rattle.std.proofs.lemmas.Bool.{cases_lt}
 use Rattle.raft_base.specs.declared.pipe_log.FileBlockHandle.{FileBlockHandle}
 use Rattle.raft_base.specs.declared.entry_index.EntryIndex.{EntryIndex}
 use Rattle.raft_table.specs.Blocks.{BlockSpans, spread, expanded, AreDistinctBlocks}
 use Rattle.raft_table.specs.BlockWords.{count, IsAt}
 use Rattle.raft_table.specs.Rewriting.{may_move}
-use Rattle.raft_table.proofs.BlockLemmas.{length-expanded, spread-append, count_take_more}
+use Rattle.raft_table.proofs.BlockLemmas.{length-expanded, count_take_more}
 use Rattle.raft_table.proofs.FetchLemmas.{part_at}
 use Rattle.raft_table.proofs.BlockSearch.{entry_of, entry_is}
 use Rattle.raft_table.proofs.BlockParts.{block_part}

@@ -1,4 +1,4 @@
-use Rattle.std.proofs.Common.{◌≡◌, ap, ◌∙◌}
+use Rattle.std.proofs.Common.{ap, ◌∙◌}
 use Rattle.raft_table.specs.Steps.{table_of}
 use Rattle.raft_accessor.proofs.shared_accessor.answer_at.Goals as goal
 

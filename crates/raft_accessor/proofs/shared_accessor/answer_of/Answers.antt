@@ -1,4 +1,4 @@
-use Rattle.std.proofs.Common.{◌≡◌, refl, sym, subst}
+use Rattle.std.proofs.Common.{refl, sym, subst}
 use Rattle.raft_accessor.specs.Slot.{IsSlotTable}
 use Rattle.raft_accessor.proofs.shared_accessor.answer_of.Goals as goal
 

@@ -1,4 +1,4 @@
-use Rattle.std.proofs.Common.{◌≡◌, subst, sym, ap, ◌∙◌}
+use Rattle.std.proofs.Common.{subst, sym, ap, ◌∙◌}
 use Rattle.raft_records.specs.LogBatch.{Batch}
 use Rattle.raft_accessor.specs.SharedCalls.{HasCleans}
 use Rattle.raft_accessor.proofs.SharedLemmas.{no_cleans, more_cleans}

@@ -11,6 +11,7 @@ use std::alloc::Global;
 use std::io;
 use std::rt::Files;
 use std::time::{Clock, Instant};
+use std::vec::IntoIter;
 
 /// How often contexts are read and merged.
 const RUNS: usize = 7;
@@ -90,19 +91,30 @@ fn merge_by_halves(
     contexts: Vec<MemTableRecoverContext>,
     queue: LogQueue,
 ) -> Result<Option<MemTableRecoverContext>> {
-    let mut contexts = contexts.into_iter();
-    let (Some(mut first), Some(second), Some(mut third), Some(fourth)) = (
-        contexts.next(),
-        contexts.next(),
-        contexts.next(),
-        contexts.next(),
-    ) else {
+    let mut rest = contexts.into_iter();
+    let Some(mut older) = merge_next(&mut rest, queue)? else {
         return Ok(None);
     };
-    first.merge(second, queue)?;
-    third.merge(fourth, queue)?;
-    first.merge(third, queue)?;
-    Ok(Some(first))
+    let Some(newer) = merge_next(&mut rest, queue)? else {
+        return Ok(None);
+    };
+    older.merge(newer, queue)?;
+    Ok(Some(older))
+}
+
+/// The next two contexts as one, if there are two.
+fn merge_next(
+    rest: &mut IntoIter<MemTableRecoverContext>,
+    queue: LogQueue,
+) -> Result<Option<MemTableRecoverContext>> {
+    let Some(mut older) = rest.next() else {
+        return Ok(None);
+    };
+    let Some(newer) = rest.next() else {
+        return Ok(None);
+    };
+    older.merge(newer, queue)?;
+    Ok(Some(older))
 }
 
 /// Prints the times in milliseconds, or what the words have to be.

@@ -411,18 +411,30 @@ fn scanned_bytes(table: &MemTable) -> usize {
 
 fn time_key_reads(rt: &HostRuntime) -> io::Result<()> {
     let mut region = Region::new(rt.alloc(), 1);
-    let keys = pairs(rt.alloc())?;
     put_all(&mut region, pairs(rt.alloc())?);
-    let (mut best_get, mut best_scan) = (u64::MAX, u64::MAX);
-    let (mut got, mut scanned) = (0, 0);
+    time_gets(rt, &region.table)?;
+    time_scans(rt, &region.table)
+}
+
+/// Times look-ups of keys.
+fn time_gets(rt: &HostRuntime, table: &MemTable) -> io::Result<()> {
+    let keys = pairs(rt.alloc())?;
+    let (mut best, mut got) = (u64::MAX, 0);
     for _ in 0..TIMES {
         let start = Instant::now(rt)?;
-        got = value_bytes(&region.table, keys.as_slice());
-        best_get = best_get.min(nanoseconds_since(rt, &start)?);
-        let start = Instant::now(rt)?;
-        scanned = scanned_bytes(&region.table);
-        best_scan = best_scan.min(nanoseconds_since(rt, &start)?);
+        got = value_bytes(table, keys.as_slice());
+        best = best.min(nanoseconds_since(rt, &start)?);
     }
-    print_each(rt, "get", best_get, "call", (got / 32) as u64)?;
-    print_each(rt, "scan", best_scan, "pair", (scanned / 40) as u64)
+    print_each(rt, "get", best, "call", (got / 32) as u64)
+}
+
+/// Times a scan of all pairs.
+fn time_scans(rt: &HostRuntime, table: &MemTable) -> io::Result<()> {
+    let (mut best, mut scanned) = (u64::MAX, 0);
+    for _ in 0..TIMES {
+        let start = Instant::now(rt)?;
+        scanned = scanned_bytes(table);
+        best = best.min(nanoseconds_since(rt, &start)?);
+    }
+    print_each(rt, "scan", best, "pair", (scanned / 40) as u64)
 }

@@ -1,5 +1,6 @@
 //! Items written to the tables of several regions, the regions that were cleaned, walks and merges.
 
+use crate::refusals::{are_counted, are_named};
 use raft_accessor::{
     EntryIndex, Error, FileBlockHandle, FileId, LogQueue, MemTable, MemTableAccessor, Result,
     TableChange, slot_of,
@@ -8,13 +9,13 @@ use raft_records::{Command, CompressionType, LogItem, LogItemContent, OpType};
 use std::alloc::Global;
 use std::test::Fail;
 
-const FIRST: FileId = FileId {
+pub(crate) const FIRST: FileId = FileId {
     queue: LogQueue::Append,
     seq: 1,
 };
 
 /// Entries from `start` to below `end`, each a byte of one block of `file`.
-fn run(alloc: Global, start: u64, end: u64, file: FileId) -> Result<Vec<EntryIndex>> {
+pub(crate) fn run(alloc: Global, start: u64, end: u64, file: FileId) -> Result<Vec<EntryIndex>> {
     let mut run = Vec::new(alloc);
     for index in start..end {
         run.push(EntryIndex {
@@ -32,11 +33,17 @@ fn run(alloc: Global, start: u64, end: u64, file: FileId) -> Result<Vec<EntryInd
     Ok(run)
 }
 
-fn entries(alloc: Global, region: u64, start: u64, end: u64, file: FileId) -> Result<LogItem> {
+pub(crate) fn entries(
+    alloc: Global,
+    region: u64,
+    start: u64,
+    end: u64,
+    file: FileId,
+) -> Result<LogItem> {
     Ok(LogItem::new_entry_indexes(region, run(alloc, start, end, file)?))
 }
 
-fn pair(alloc: Global, region: u64, op_type: OpType, file: FileId) -> Result<LogItem> {
+pub(crate) fn pair(alloc: Global, region: u64, op_type: OpType, file: FileId) -> Result<LogItem> {
     let mut value = None;
     if op_type == OpType::Put {
         value = Some(Vec::from_slice(alloc, b"v".as_slice())?);
@@ -50,9 +57,9 @@ fn pair(alloc: Global, region: u64, op_type: OpType, file: FileId) -> Result<Log
 }
 
 /// The first and the last index of a region's table, and its records in both queues.
-type Shape = (Option<u64>, Option<u64>, u128, u128);
+pub(crate) type Shape = (Option<u64>, Option<u64>, u128, u128);
 
-fn shape(accessor: &MemTableAccessor, region: u64) -> Option<Shape> {
+pub(crate) fn shape(accessor: &MemTableAccessor, region: u64) -> Option<Shape> {
     let table = accessor.get(region)?;
     Some((
         table.first_index(),
@@ -62,7 +69,7 @@ fn shape(accessor: &MemTableAccessor, region: u64) -> Option<Shape> {
     ))
 }
 
-fn live(accessor: &MemTableAccessor) -> (usize, usize) {
+pub(crate) fn live(accessor: &MemTableAccessor) -> (usize, usize) {
     let stats = accessor.stats();
     (
         stats.live_entries(LogQueue::Append),
@@ -70,13 +77,26 @@ fn live(accessor: &MemTableAccessor) -> (usize, usize) {
     )
 }
 
-/// Whether items were refused as `Corruption`; want of memory is handed on.
-fn is_corruption(written: Result<()>) -> Result<bool> {
-    match written {
-        Err(Error::Memory) => Err(Error::Memory),
-        Err(Error::Corruption(_)) => Ok(true),
-        _ => Ok(false),
+/// Why a call is refused.
+#[derive(Clone, Copy, PartialEq, Debug)]
+pub(crate) enum Fault {
+    Corruption,
+    InvalidArgument,
+}
+
+/// What a call answers; want of memory and other faults are handed on.
+pub(crate) fn answered<X: Drop>(given: Result<X>) -> Result<std::result::Result<X, Fault>> {
+    match given {
+        Ok(answer) => Ok(Ok(answer)),
+        Err(Error::Corruption(_)) => Ok(Err(Fault::Corruption)),
+        Err(Error::InvalidArgument(_)) => Ok(Err(Fault::InvalidArgument)),
+        Err(other) => Err(other),
     }
+}
+
+/// Whether items were refused as `Corruption`.
+fn is_corruption(written: Result<()>) -> Result<bool> {
+    Ok(answered(written)? == Err(Fault::Corruption))
 }
 
 /// The items in front of a hole stand, and nothing of those behind it.
@@ -191,7 +211,11 @@ fn walk(alloc: Global) -> Result<bool> {
 }
 
 /// The tables of regions with one run each, in files of one queue.
-fn replayed(alloc: Global, file: FileId, runs: &[(u64, u64, u64)]) -> Result<MemTableAccessor> {
+pub(crate) fn replayed(
+    alloc: Global,
+    file: FileId,
+    runs: &[(u64, u64, u64)],
+) -> Result<MemTableAccessor> {
     let mut accessor = MemTableAccessor::new(alloc)?;
     let mut items = Vec::new(alloc);
     for (region, start, end) in runs {
@@ -231,7 +255,16 @@ fn merge_appended(alloc: Global) -> Result<bool> {
 /// Numbers as raft-engine gives them.
 #[test]
 fn a_region_has_one_slot(rt: HostRuntime) -> std::result::Result<(), Fail> {
-    for (region, slot) in [(0, 0), (1, 101), (2, 10), (10, 121), (20, 114), (127, 37)] {
+    for (region, slot) in [
+        (0, 0),
+        (1, 101),
+        (2, 10),
+        (3, 112),
+        (10, 121),
+        (20, 114),
+        (73, 112),
+        (127, 37),
+    ] {
         assert_eq!(rt; slot_of(region), slot);
     }
     Ok(())
@@ -246,7 +279,9 @@ fn write_items(alloc: Global) -> Result<bool> {
             && count(alloc)?
             && walk(alloc)?
             && merge_neighbors(alloc)?
-            && merge_appended(alloc)?,
+            && merge_appended(alloc)?
+            && are_named(alloc)?
+            && are_counted(alloc)?,
     )
 }
 

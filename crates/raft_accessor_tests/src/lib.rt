@@ -4,4 +4,6 @@
 #[cfg(test)]
 mod items;
 #[cfg(test)]
+mod refusals;
+#[cfg(test)]
 mod shared_accessor;

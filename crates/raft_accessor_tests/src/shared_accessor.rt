@@ -13,7 +13,7 @@ use std::thread;
 use std::thread::Threads;
 use std::time::{Clock, Duration};
 
-/// A run from `start` to below `end`, each entry a byte of one block of `file`.
+/// A run from `start` to below `end`, each entry another byte of one block of `file`.
 pub(crate) fn run(alloc: Global, start: u64, end: u64, file: FileId) -> Result<Vec<EntryIndex>> {
     let mut run = Vec::new(alloc);
     for index in start..end {
@@ -24,6 +24,7 @@ pub(crate) fn run(alloc: Global, start: u64, end: u64, file: FileId) -> Result<V
                 offset: 0,
                 len: 100,
             }),
+            entry_offset: index as u32,
             entry_len: 1,
             ..EntryIndex::default()
         })?;

@@ -1,6 +1,7 @@
 //! Each call leaves in shared tables what the accessor's call of this name leaves in those of an accessor.
 
 use super::run;
+use crate::items::{Fault, answered};
 use raft_accessor::{
     Error, FileId, FileSeq, LogQueue, MemTable, MemTableAccessor, Result, SharedAccessor,
     TableChange,
@@ -14,9 +15,15 @@ const NEW: FileId = FileId {
     seq: 1,
 };
 
+const NEWER: FileId = FileId {
+    queue: LogQueue::Append,
+    seq: 2,
+};
+
+/// Above each file to which a key is rewritten, so that those show as the least.
 const REWRITTEN: FileId = FileId {
     queue: LogQueue::Rewrite,
-    seq: 50,
+    seq: 70,
 };
 
 /// The region that is called at.
@@ -25,38 +32,90 @@ const REGION: u64 = 1;
 /// A region that has no table at first.
 const FRESH: u64 = 4;
 
+/// An item that a rewriting refuses.
+#[derive(Clone, Copy)]
+enum Flaw {
+    Compaction,
+    Deletion,
+    NoValue,
+}
+
+/// Items that are written.
+#[derive(Clone, Copy)]
+enum Items {
+    New,
+    Hole,
+    Rewritten(u64),
+    Flawed(Flaw),
+}
+
 /// A call that changes tables.
 #[derive(Clone, Copy)]
 enum Call {
     Nothing,
     WithTableMut(u64),
-    Change(u64),
+    Put(u64),
+    /// Entries from an index to below another, in a file.
+    Append(u64, u64, FileId),
     GetOrInsert(u64),
     Insert(u64),
-    Remove(u64),
-    AppendWrites,
-    RewriteWrites,
+    /// Whether the region is listed as cleaned.
+    Remove(u64, bool),
+    AppendWrites(Items),
+    /// The gate, and the file to which keys are rewritten.
+    RewriteWrites(Items, Option<FileSeq>, FileSeq),
     AtomicGroup(u64),
     TakeCleaned,
 }
 
-const CALLS: [Call; 16] = [
-    Call::Nothing,
-    Call::WithTableMut(REGION),
-    Call::WithTableMut(FRESH),
-    Call::Change(REGION),
-    Call::Change(FRESH),
-    Call::GetOrInsert(REGION),
-    Call::GetOrInsert(FRESH),
-    Call::Insert(REGION),
-    Call::Insert(FRESH),
-    Call::Remove(REGION),
-    Call::Remove(FRESH),
-    Call::AppendWrites,
-    Call::RewriteWrites,
-    Call::AtomicGroup(REGION),
-    Call::AtomicGroup(FRESH),
-    Call::TakeCleaned,
+/// Calls, each with its fault where it is refused.
+const CALLS: [(Call, Option<Fault>); 27] = [
+    (Call::Nothing, None),
+    (Call::WithTableMut(REGION), None),
+    (Call::WithTableMut(FRESH), None),
+    (Call::Put(REGION), None),
+    (Call::Put(FRESH), None),
+    (Call::Append(30, 32, NEW), Some(Fault::Corruption)),
+    (
+        Call::Append(20, 22, REWRITTEN),
+        Some(Fault::InvalidArgument),
+    ),
+    (Call::GetOrInsert(REGION), None),
+    (Call::GetOrInsert(FRESH), None),
+    (Call::Insert(REGION), None),
+    (Call::Insert(FRESH), None),
+    (Call::Remove(REGION, true), None),
+    (Call::Remove(FRESH, true), None),
+    (Call::Remove(REGION, false), None),
+    (Call::Remove(FRESH, false), None),
+    (Call::AppendWrites(Items::New), None),
+    (Call::AppendWrites(Items::Hole), Some(Fault::Corruption)),
+    (
+        Call::RewriteWrites(Items::Rewritten(REGION), Some(1), 40),
+        None,
+    ),
+    // Entries of a file above the gate stay, and so does all that isn't rewritten where there is none.
+    (Call::RewriteWrites(Items::Rewritten(3), Some(1), 40), None),
+    (
+        Call::RewriteWrites(Items::Rewritten(REGION), None, 40),
+        None,
+    ),
+    (Call::RewriteWrites(Items::Rewritten(2), None, 60), None),
+    (
+        Call::RewriteWrites(Items::Flawed(Flaw::Compaction), Some(1), 40),
+        Some(Fault::Corruption),
+    ),
+    (
+        Call::RewriteWrites(Items::Flawed(Flaw::Deletion), Some(1), 40),
+        Some(Fault::Corruption),
+    ),
+    (
+        Call::RewriteWrites(Items::Flawed(Flaw::NoValue), Some(1), 40),
+        Some(Fault::Corruption),
+    ),
+    (Call::AtomicGroup(REGION), None),
+    (Call::AtomicGroup(FRESH), None),
+    (Call::TakeCleaned, None),
 ];
 
 fn put(alloc: Global, key: &[u8]) -> Result<TableChange> {
@@ -86,6 +145,15 @@ fn new_items(alloc: Global) -> Result<Vec<LogItem>> {
     Ok(items)
 }
 
+/// Entries of the region, others behind a hole, and a key of another region.
+fn items_with_hole(alloc: Global) -> Result<Vec<LogItem>> {
+    let mut items = Vec::new(alloc);
+    items.push(LogItem::new_entry_indexes(REGION, run(alloc, 20, 22, NEW)?))?;
+    items.push(LogItem::new_entry_indexes(REGION, run(alloc, 30, 31, NEW)?))?;
+    items.push(pair(alloc, 2, b"m".as_slice(), NEW)?)?;
+    Ok(items)
+}
+
 /// Entries and a key of a region that were rewritten.
 fn rewritten_items(alloc: Global, region: u64) -> Result<Vec<LogItem>> {
     let mut items = Vec::new(alloc);
@@ -94,99 +162,163 @@ fn rewritten_items(alloc: Global, region: u64) -> Result<Vec<LogItem>> {
     Ok(items)
 }
 
-/// Three regions, one of them rewritten in part, and two others that were cleaned.
+fn flawed(alloc: Global, flaw: Flaw) -> Result<LogItem> {
+    let key = Vec::from_slice(alloc, b"k".as_slice())?;
+    match flaw {
+        Flaw::Compaction => Ok(LogItem::new_command(REGION, Command::Compact { index: 12 })),
+        Flaw::Deletion => Ok(LogItem::new_kv(REGION, OpType::Del, key, None)),
+        Flaw::NoValue => Ok(LogItem::new_kv(REGION, OpType::Put, key, None)),
+    }
+}
+
+/// Rewritten items of the region, one that is refused, and a key of another region.
+fn items_with_flaw(alloc: Global, flaw: Flaw) -> Result<Vec<LogItem>> {
+    let mut items = rewritten_items(alloc, REGION)?;
+    items.push(flawed(alloc, flaw)?)?;
+    items.push(pair(alloc, 3, b"k".as_slice(), REWRITTEN)?)?;
+    Ok(items)
+}
+
+fn items_of(alloc: Global, items: Items) -> Result<Vec<LogItem>> {
+    match items {
+        Items::New => new_items(alloc),
+        Items::Hole => items_with_hole(alloc),
+        Items::Rewritten(region) => rewritten_items(alloc, region),
+        Items::Flawed(flaw) => items_with_flaw(alloc, flaw),
+    }
+}
+
+/// Three regions, one of them rewritten in part and one in two files, and two others that were cleaned.
 fn accessor(alloc: Global) -> Result<MemTableAccessor> {
     let mut core = MemTableAccessor::new(alloc)?;
     for region in 1..4 {
         core.change(region, TableChange::Append(run(alloc, 10, 20, NEW)?))?;
         core.change(region, put(alloc, b"k".as_slice())?)?;
     }
-    core.apply_rewrite_writes(rewritten_items(alloc, 2)?, Some(1), REWRITTEN.seq)?;
+    core.change(3, TableChange::Append(run(alloc, 13, 20, NEWER)?))?;
+    core.apply_rewrite_writes(rewritten_items(alloc, 2)?, Some(1), 50)?;
     core.apply_rewrite_atomic_group(2, 48, 50)?;
     core.remove(9, true)?;
     core.remove(2000, true)?;
     Ok(core)
 }
 
-/// Calls an accessor. The answer is the number, or whether a table is handed back.
-fn call_core(alloc: Global, core: &mut MemTableAccessor, call: Call) -> Result<u64> {
+/// A table with other entries and another key.
+fn other_table(alloc: Global, id: u64) -> Result<MemTable> {
+    let mut core = MemTableAccessor::new(alloc)?;
+    core.change(id, TableChange::Append(run(alloc, 50, 53, NEW)?))?;
+    core.change(id, put(alloc, b"z".as_slice())?)?;
+    match core.take(id) {
+        Some(table) => Ok(table),
+        None => Err(Error::Failed),
+    }
+}
+
+/// A number, and the table that is handed back.
+type Answer = (u64, Option<Shape>);
+
+/// Calls an accessor.
+fn call_core(alloc: Global, core: &mut MemTableAccessor, call: Call) -> Result<Answer> {
+    let mut number = 0;
+    let mut table = None;
     match call {
-        Call::Nothing => Ok(0),
-        Call::WithTableMut(id) => core.change(id, TableChange::Compact { index: 15 }),
-        Call::Change(id) => core.change(id, put(alloc, b"n".as_slice())?),
-        Call::GetOrInsert(id) => core.change(id, TableChange::Keep),
-        Call::Insert(id) => Ok(core.insert(id, MemTable::new(alloc, id))?.is_some() as u64),
-        Call::Remove(id) => Ok(core.remove(id, true)?.is_some() as u64),
-        Call::AppendWrites => {
-            core.apply_append_writes(new_items(alloc)?)?;
-            Ok(0)
+        Call::Nothing => {}
+        Call::WithTableMut(id) => number = core.change(id, TableChange::Compact { index: 15 })?,
+        Call::Put(id) => number = core.change(id, put(alloc, b"n".as_slice())?)?,
+        Call::Append(start, end, file) => {
+            number = core.change(REGION, TableChange::Append(run(alloc, start, end, file)?))?;
         }
-        Call::RewriteWrites => {
-            core.apply_rewrite_writes(rewritten_items(alloc, REGION)?, Some(1), REWRITTEN.seq)?;
-            Ok(0)
+        Call::GetOrInsert(id) => number = core.change(id, TableChange::Keep)?,
+        Call::Insert(id) => {
+            let other = other_table(alloc, id)?;
+            table = core.insert(other.region_id(), other)?;
         }
-        Call::AtomicGroup(id) => {
-            core.apply_rewrite_atomic_group(id, 49, 50)?;
-            Ok(0)
+        Call::Remove(id, is_listed) => table = core.remove(id, is_listed)?,
+        Call::AppendWrites(items) => core.apply_append_writes(items_of(alloc, items)?)?,
+        Call::RewriteWrites(items, gate, seq) => {
+            core.apply_rewrite_writes(items_of(alloc, items)?, gate, seq)?;
         }
+        Call::AtomicGroup(id) => core.apply_rewrite_atomic_group(id, 49, 50)?,
         Call::TakeCleaned => {
-            core.take_cleaned_region_logs()?;
-            Ok(0)
+            number = regions_of(alloc, core.take_cleaned_region_logs()?)?.len() as u64;
         }
     }
+    Ok((number, table.as_ref().map(shape)))
 }
 
 /// The same call of shared tables.
-fn call_shared<R: Wait>(rt: &R, alloc: Global, shared: &SharedAccessor, call: Call) -> Result<u64> {
+fn call_shared<R: Wait>(
+    rt: &R,
+    alloc: Global,
+    shared: &SharedAccessor,
+    call: Call,
+) -> Result<Answer> {
+    let mut number = 0;
+    let mut table = None;
     match call {
-        Call::Nothing => Ok(0),
+        Call::Nothing => {}
         Call::WithTableMut(id) => {
-            shared.with_table_mut(rt, id, |_: &MemTable| TableChange::Compact { index: 15 })
+            let compaction = |_: &MemTable| TableChange::Compact { index: 15 };
+            number = shared.with_table_mut(rt, id, compaction)?;
         }
-        Call::Change(id) => shared.change(rt, id, put(alloc, b"n".as_slice())?),
-        Call::GetOrInsert(id) => {
-            shared.get_or_insert(rt, id)?;
-            Ok(0)
+        Call::Put(id) => number = shared.change(rt, id, put(alloc, b"n".as_slice())?)?,
+        Call::Append(start, end, file) => {
+            let run = run(alloc, start, end, file)?;
+            number = shared.change(rt, REGION, TableChange::Append(run))?;
         }
+        Call::GetOrInsert(id) => shared.get_or_insert(rt, id)?,
         Call::Insert(id) => {
-            let table = MemTable::new(alloc, id);
-            Ok(shared.insert(rt, id, table)?.is_some() as u64)
+            let other = other_table(alloc, id)?;
+            table = shared.insert(rt, other.region_id(), other)?;
         }
-        Call::Remove(id) => Ok(shared.remove(rt, id, true)?.is_some() as u64),
-        Call::AppendWrites => {
-            shared.apply_append_writes(rt, new_items(alloc)?)?;
-            Ok(0)
+        Call::Remove(id, is_listed) => table = shared.remove(rt, id, is_listed)?,
+        Call::AppendWrites(items) => shared.apply_append_writes(rt, items_of(alloc, items)?)?,
+        Call::RewriteWrites(items, gate, seq) => {
+            shared.apply_rewrite_writes(rt, items_of(alloc, items)?, gate, seq)?;
         }
-        Call::RewriteWrites => {
-            shared.apply_rewrite_writes(
-                rt,
-                rewritten_items(alloc, REGION)?,
-                Some(1),
-                REWRITTEN.seq,
-            )?;
-            Ok(0)
-        }
-        Call::AtomicGroup(id) => {
-            shared.apply_rewrite_atomic_group(rt, id, 49, 50)?;
-            Ok(0)
-        }
-        Call::TakeCleaned => {
-            let mut logs = LogBatch::default(alloc);
-            shared.take_cleaned_region_logs(rt, &mut logs)?;
-            Ok(0)
-        }
+        Call::AtomicGroup(id) => shared.apply_rewrite_atomic_group(rt, id, 49, 50)?,
+        Call::TakeCleaned => number = taken(rt, alloc, shared)?.len() as u64,
     }
+    Ok((number, table.as_ref().map(shape)))
 }
 
-/// A table's region, its first and last index, its records and its least file in both queues, and its
-/// atomic group.
+/// The number of an entry's file, the offset and the length of its block, and its own in that.
+type Place = (FileSeq, u64, usize, u32, u32);
+
+/// A table's region, its first and last index, its records and its least file in both queues, its atomic
+/// group, and the place of its last entry with its keys and values.
 type Shape = (
     u64,
     (Option<u64>, Option<u64>),
     (u128, u128),
     (Option<FileSeq>, Option<FileSeq>),
     Option<(FileSeq, FileSeq)>,
+    (Option<Place>, u64),
 );
+
+fn place(table: &MemTable) -> Option<Place> {
+    let entry = table.get_entry(table.last_index()?)?;
+    let block = entry.entries?;
+    Some((
+        block.id.seq,
+        block.offset,
+        block.len,
+        entry.entry_offset,
+        entry.entry_len,
+    ))
+}
+
+/// The bytes of all keys and values in one number.
+fn pairs(table: &MemTable) -> u64 {
+    let mut seen = 0u64;
+    let _ = table.scan(None, None, false, |key, value| {
+        for byte in key.iter().chain(value) {
+            seen = seen.wrapping_mul(257).wrapping_add(u64::from(*byte));
+        }
+        true
+    });
+    seen
+}
 
 fn shape(table: &MemTable) -> Shape {
     (
@@ -201,6 +333,7 @@ fn shape(table: &MemTable) -> Shape {
             table.min_file_seq(LogQueue::Rewrite),
         ),
         table.atomic_group(),
+        (place(table), pairs(table)),
     )
 }
 
@@ -218,14 +351,23 @@ struct Seen {
     cleaned: Vec<u64>,
 }
 
-/// The regions of the items of a batch, by number.
+/// The regions of the items of a batch, in order.
 fn regions_of(alloc: Global, mut logs: LogBatch) -> Result<Vec<u64>> {
     let mut regions = Vec::new(alloc);
     for item in logs.drain() {
         regions.push(item.raft_group_id)?;
     }
-    regions.sort()?;
     Ok(regions)
+}
+
+/// The cleaned regions of shared tables, in order. What a call took that ran out of memory is in the batch,
+/// and a second one takes the rest.
+fn taken<R: Wait>(rt: &R, alloc: Global, shared: &SharedAccessor) -> Result<Vec<u64>> {
+    let mut logs = LogBatch::default(alloc);
+    if shared.take_cleaned_region_logs(rt, &mut logs).is_err() {
+        shared.take_cleaned_region_logs(rt, &mut logs)?;
+    }
+    regions_of(alloc, logs)
 }
 
 /// What an accessor shows. Its cleaned regions are taken.
@@ -237,6 +379,8 @@ fn see_core(alloc: Global, core: &mut MemTableAccessor) -> Result<Seen> {
         regions = regions.wrapping_add(table.region_id());
     }
     tables.sort()?;
+    let mut cleaned = regions_of(alloc, core.take_cleaned_region_logs()?)?;
+    cleaned.sort()?;
     let stats = core.stats();
     Ok(Seen {
         found: core.get(REGION).map(shape),
@@ -248,7 +392,7 @@ fn see_core(alloc: Global, core: &mut MemTableAccessor) -> Result<Seen> {
             stats.live_entries(LogQueue::Rewrite) as u128,
         ),
         is_empty: core.is_empty(),
-        cleaned: regions_of(alloc, core.take_cleaned_region_logs()?)?,
+        cleaned,
     })
 }
 
@@ -261,8 +405,8 @@ fn see_shared<R: Wait>(rt: &R, alloc: Global, shared: &SharedAccessor) -> Result
         }
     }
     tables.sort()?;
-    let mut logs = LogBatch::default(alloc);
-    shared.take_cleaned_region_logs(rt, &mut logs)?;
+    let mut cleaned = taken(rt, alloc, shared)?;
+    cleaned.sort()?;
     Ok(Seen {
         found: shared.with_table(rt, REGION, shape),
         tables,
@@ -275,17 +419,31 @@ fn see_shared<R: Wait>(rt: &R, alloc: Global, shared: &SharedAccessor) -> Result
             shared.live_entries(rt, LogQueue::Rewrite),
         ),
         is_empty: shared.is_empty(rt),
-        cleaned: regions_of(alloc, logs)?,
+        cleaned,
     })
 }
 
-/// Whether a call answers and leaves the same in both.
-fn is_alike<R: Wait>(rt: &R, alloc: Global, call: Call) -> Result<bool> {
+/// Whether cleaned regions of one slot stay listed in order, each as often as it was cleaned.
+fn is_list_kept<R: Wait>(rt: &R, alloc: Global) -> Result<bool> {
+    let mut core = MemTableAccessor::new(alloc)?;
+    for region in [3, 73, 3] {
+        core.remove(region, true)?;
+    }
+    let shared = SharedAccessor::from_core(alloc, core)?;
+    Ok(taken(rt, alloc, &shared)?.as_slice() == [3, 73, 3].as_slice())
+}
+
+/// Whether a call answers and leaves the same in both, and is refused for this fault or not at all.
+fn is_alike<R: Wait>(rt: &R, alloc: Global, call: Call, fault: Option<Fault>) -> Result<bool> {
     let shared = SharedAccessor::from_core(alloc, accessor(alloc)?)?;
-    let answer = call_shared(rt, alloc, &shared, call)?;
+    let answer = answered(call_shared(rt, alloc, &shared, call))?;
     let mut core = accessor(alloc)?;
-    let expected = call_core(alloc, &mut core, call)?;
-    Ok(answer == expected && see_shared(rt, alloc, &shared)? == see_core(alloc, &mut core)?)
+    let expected = answered(call_core(alloc, &mut core, call))?;
+    Ok(
+        answer == expected
+            && answer.err() == fault
+            && see_shared(rt, alloc, &shared)? == see_core(alloc, &mut core)?,
+    )
 }
 
 /// Whether all calls do, also of tables without any.
@@ -295,12 +453,12 @@ fn are_alike<R: Wait>(rt: &R, alloc: Global) -> Result<bool> {
     if see_shared(rt, alloc, &empty)? != see_core(alloc, &mut core)? {
         return Ok(false);
     }
-    for call in CALLS {
-        if !is_alike(rt, alloc, call)? {
+    for (call, fault) in CALLS {
+        if !is_alike(rt, alloc, call, fault)? {
             return Ok(false);
         }
     }
-    Ok(true)
+    is_list_kept(rt, alloc)
 }
 
 #[test]

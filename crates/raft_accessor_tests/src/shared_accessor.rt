@@ -24,7 +24,7 @@ pub(crate) fn run(alloc: Global, start: u64, end: u64, file: FileId) -> Result<V
                 offset: 0,
                 len: 100,
             }),
-            entry_offset: index as u32,
+            entry_offset: (index % 100) as u32,
             entry_len: 1,
             ..EntryIndex::default()
         })?;

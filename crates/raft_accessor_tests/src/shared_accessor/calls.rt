@@ -426,11 +426,11 @@ fn see_shared<R: Wait>(rt: &R, alloc: Global, shared: &SharedAccessor) -> Result
 /// Whether cleaned regions of one slot stay listed in order, each as often as it was cleaned.
 fn is_list_kept<R: Wait>(rt: &R, alloc: Global) -> Result<bool> {
     let mut core = MemTableAccessor::new(alloc)?;
-    for region in [3, 73, 3] {
+    for region in [3, 73, 3, 3] {
         core.remove(region, true)?;
     }
     let shared = SharedAccessor::from_core(alloc, core)?;
-    Ok(taken(rt, alloc, &shared)?.as_slice() == [3, 73, 3].as_slice())
+    Ok(taken(rt, alloc, &shared)?.as_slice() == [3, 73, 3, 3].as_slice())
 }
 
 /// Whether a call answers and leaves the same in both, and is refused for this fault or not at all.

@@ -1,4 +1,4 @@
-//! Contexts of the rewrite queue that take in the context of the append queue.
+//! Contexts of the rewrite queue that take in the context of the append queue, and contexts that are refused.
 
 ghost use Rattle.std.specs.Prelude.{◌≡◌, OnOk};
 ghost use Rattle.raft_records.specs.LogBatch.{populating};
@@ -322,6 +322,27 @@ fn wrong_queues(alloc: Global) -> Result<bool> {
     )
 }
 
+/// The queues of two neighbours, one of them or both another than the rewrite queue.
+const NEIGHBOURS: [(LogQueue, LogQueue); 3] = [
+    (LogQueue::Append, LogQueue::Rewrite),
+    (LogQueue::Rewrite, LogQueue::Append),
+    (LogQueue::Append, LogQueue::Append),
+];
+
+/// Neighbours are merged for no other queue than that of both, and the refusal fails the older one.
+fn wrong_neighbours(alloc: Global) -> Result<bool> {
+    for (older, newer) in NEIGHBOURS {
+        let mut context = read(alloc, older, &[Put])?;
+        let newer = read(alloc, newer, &[Put])?;
+        let refused = refusal_of(context.merge(newer, LogQueue::Rewrite))?;
+        let failed = matches!(context.finish(), Err(Error::Failed));
+        if refused != Some(Refusal::InvalidArgument) || !failed {
+            return Ok(false);
+        }
+    }
+    Ok(true)
+}
+
 /// What has taken in an append context takes in nothing more, and is taken in by none.
 fn overlaid_twice(alloc: Global) -> Result<bool> {
     let mut context = read(alloc, LogQueue::Rewrite, &[Run(10, 20)])?;
@@ -346,16 +367,16 @@ fn overlaid_twice(alloc: Global) -> Result<bool> {
     )
 }
 
+/// Whether contexts that don't fit are refused.
+fn are_refused(alloc: Global) -> Result<bool> {
+    Ok(wrong_queues(alloc)? && wrong_neighbours(alloc)? && overlaid_twice(alloc)?)
+}
+
 #[test]
-fn contexts_are_taken_in_once(rt: HostRuntime) {
-    let mut held = wrong_queues(rt.alloc());
+fn contexts_that_do_not_fit_are_refused(rt: HostRuntime) {
+    let mut held = are_refused(rt.alloc());
     if matches!(held, Err(Error::Memory)) {
-        held = wrong_queues(rt.alloc());
-    }
-    assert!(rt; matches!(held, Ok(true)));
-    let mut held = overlaid_twice(rt.alloc());
-    if matches!(held, Err(Error::Memory)) {
-        held = overlaid_twice(rt.alloc());
+        held = are_refused(rt.alloc());
     }
     assert!(rt; matches!(held, Ok(true)));
 }

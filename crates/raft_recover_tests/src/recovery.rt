@@ -4,6 +4,7 @@ mod bound;
 mod histories;
 mod kept;
 mod rows;
+mod shared;
 
 use histories::{APPENDED, APPENDED_LINES, HOLE, REWRITTEN, REWRITTEN_LINES};
 use raft_base::{Error, FileId, FileSeq, LogQueue, Result, Version};
@@ -218,21 +219,61 @@ fn refused_contexts_stay_failed(rt: HostRuntime) {
     assert!(rt; matches!(failed, Ok(true)));
 }
 
-/// Whether this many workers are refused.
-fn refuses_workers<R: Threads + Sync>(rt: &R, alloc: Global, workers: usize) -> Result<bool> {
-    match recover(rt, alloc, &[], LogQueue::Append, workers) {
+/// Segments of empty parts, each of the queue that stands in its place.
+fn empty_segments(alloc: Global, queues: &[&[LogQueue]]) -> Result<Vec<Segment>> {
+    let mut segments = Vec::new(alloc);
+    for parts in queues {
+        let mut segment = Vec::new(alloc);
+        for queue in *parts {
+            let file = FileId::new(*queue, 1);
+            segment.push(FilePart::new(file, Version::V1, 0, Vec::new(alloc))?)?;
+        }
+        segments.push(segment)?;
+    }
+    Ok(segments)
+}
+
+/// Whether this many workers, or these queues' parts, are refused by a recovery of the append queue.
+fn is_refused<R: Threads + Sync>(
+    rt: &R,
+    alloc: Global,
+    workers: usize,
+    queues: &[&[LogQueue]],
+) -> Result<bool> {
+    let segments = empty_segments(alloc, queues)?;
+    match recover(rt, alloc, segments.as_slice(), LogQueue::Append, workers) {
         Ok(tables) => Ok(!tables.is_empty()),
         Err(Error::InvalidArgument(_)) => Ok(true),
         Err(error) => Err(error),
     }
 }
 
+/// Three segments of the append queue.
+const APPEND_PARTS: [&[LogQueue]; 3] = [
+    &[LogQueue::Append],
+    &[LogQueue::Append, LogQueue::Append],
+    &[LogQueue::Append],
+];
+
+/// The same with a part of the rewrite queue in the second.
+const MIXED_PARTS: [&[LogQueue]; 3] = [
+    &[LogQueue::Append],
+    &[LogQueue::Append, LogQueue::Rewrite],
+    &[LogQueue::Append],
+];
+
 #[test]
-fn workers_are_1_to_256(rt: HostRuntime) {
-    for (workers, refused) in [(0, true), (1, false), (256, false), (257, true)] {
-        let mut answer = refuses_workers(&rt, rt.alloc(), workers);
+fn other_workers_and_parts_are_refused(rt: HostRuntime) {
+    for (workers, queues, refused) in [
+        (0, APPEND_PARTS, true),
+        (1, APPEND_PARTS, false),
+        (256, APPEND_PARTS, false),
+        (257, APPEND_PARTS, true),
+        (2, MIXED_PARTS, true),
+    ] {
+        let mut answer = is_refused(&rt, rt.alloc(), workers, queues.as_slice());
         if matches!(answer, Err(Error::Memory)) {
-            answer = refuses_workers(&rt, rt.alloc(), workers);
+            answer = is_refused(&rt, rt.alloc(), workers, queues.as_slice());
         }
         assert!(rt;
             answer.is_ok_and(|answer| answer == refused),

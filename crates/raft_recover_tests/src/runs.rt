@@ -243,34 +243,52 @@ const TWO_ENTRIES: &str = "00000000000022000000000000000017616263c24124350107010
 
 const TWO_LINES: &str = "7 entries 10..12 keys 0 append 12 rewrite -\ncleaned -\nlive 2 0\n";
 
-/// What is answered of a file that holds the first bytes of that batch.
-fn run_on_file<S: Files + AllocGlobal + Threads + Sync>(rt: &S, length: usize) -> Option<Answer> {
+/// A log batch of version 1: region 1 with `Clean`.
+const CLEAN: &str = "00000000000018000000000000000010010102015a800bdd";
+
+const BOTH_LINES: &str = "7 entries 10..12 keys 0 append 12 rewrite -\ncleaned 1\nlive 2 0\n";
+
+/// The words for one file, and for two, of which the second has a `=` in its path.
+const ONE: &str = "recover append 1 4 012=two_entries.log";
+
+const BOTH: &str = "recover append 1 2 12=two_entries.log 13=clean=1.log";
+
+/// What is answered where one file holds the first bytes of the two entries' batch, and another the other batch.
+fn run_on_files<S: Files + AllocGlobal + Threads + Sync>(
+    rt: &S,
+    line: &str,
+    length: usize,
+) -> Option<Answer> {
     let mut bytes = hex::decode(rt.alloc(), TWO_ENTRIES).ok()?;
     bytes.truncate(length);
     fs::write(rt, "two_entries.log", bytes.as_slice()).ok()?;
-    let answer = run_on(rt, "recover append 1 4 012=two_entries.log", "");
+    let clean = hex::decode(rt.alloc(), CLEAN).ok()?;
+    fs::write(rt, "clean=1.log", clean.as_slice()).ok()?;
+    let answer = run_on(rt, line, "");
     fs::remove_file(rt, "two_entries.log").ok()?;
+    fs::remove_file(rt, "clean=1.log").ok()?;
     answer
 }
 
 /// Where an allocation is refused the row runs again, and has to find memory.
 #[test]
 fn files(rt: HostRuntime) {
-    for (length, status, out, err) in [
-        (0, 0, "cleaned -\nlive 0 0\n", ""),
-        (33, 1, "", CORRUPTION),
-        (34, 0, TWO_LINES, ""),
+    for (line, length, status, out, err) in [
+        (ONE, 0, 0, "cleaned -\nlive 0 0\n", ""),
+        (ONE, 33, 1, "", CORRUPTION),
+        (ONE, 34, 0, TWO_LINES, ""),
+        (BOTH, 34, 0, BOTH_LINES, ""),
     ] {
-        let mut answer = run_on_file(&rt, length);
+        let mut answer = run_on_files(&rt, line, length);
         if answer
             .as_ref()
             .is_none_or(|answer| answer.found_no_memory())
         {
-            answer = run_on_file(&rt, length);
+            answer = run_on_files(&rt, line, length);
         }
         assert!(rt;
             answer.is_some_and(|answer| answer.is(status, out, err)),
-            "{length} bytes"
+            "{line}: {length} bytes"
         );
     }
 }

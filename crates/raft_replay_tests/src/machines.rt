@@ -3,17 +3,17 @@
 mod brackets;
 mod cuts;
 mod lists;
+mod refusals;
 
 use crate::waits::{WaitGate, Waits};
 use lists::{List, Lists};
-use raft_base::{Error, FileId, LogQueue, Result, Version};
+use raft_base::{Error, Factory, FileId, LogQueue, Result, Version};
 use raft_records::FilePart;
 use raft_replay::{
     OpenGate, Plan, Segment, Tickets, merge_pieces, piece_count, replay_scheduled, replay_segments,
 };
 use std::alloc::Global;
-use std::sync::Arc;
-use std::sync::atomic::{AtomicU64, Ordering};
+use std::sync::atomic::Ordering;
 use std::thread::Threads;
 use std::time::Clock;
 
@@ -21,15 +21,20 @@ use std::time::Clock;
 const CLEAN: &[u8; 24] =
     b"\x00\x00\x00\x00\x00\x00\x18\x00\x00\x00\x00\x00\x00\x00\x00\x10\x01\x01\x02\x01\x5a\x80\x0b\xdd";
 
+/// A segment of one batch, in this file.
+fn segment(alloc: Global, queue: LogQueue, seq: u64) -> Result<Segment> {
+    let id = FileId::new(queue, seq);
+    let part = FilePart::new(id, Version::V1, 0, Vec::from_slice(alloc, CLEAN)?)?;
+    let mut segment = Vec::new(alloc);
+    segment.push(part)?;
+    Ok(segment)
+}
+
 /// Segments of one batch each, in files with these numbers from 0 on.
 fn segments(alloc: Global, count: u64) -> Result<Vec<Segment>> {
     let mut segments = Vec::new(alloc);
     for seq in 0..count {
-        let id = FileId::new(LogQueue::Append, seq);
-        let part = FilePart::new(id, Version::V1, 0, Vec::from_slice(alloc, CLEAN)?)?;
-        let mut segment = Vec::new(alloc);
-        segment.push(part)?;
-        segments.push(segment)?;
+        segments.push(segment(alloc, LogQueue::Append, seq)?)?;
     }
     Ok(segments)
 }
@@ -231,21 +236,14 @@ fn workers_give_one_reading(rt: HostRuntime) {
     }
 }
 
-/// Whether two workers pass the workers' gate, which holds one segment up until so many later ones were passed.
+/// Whether two workers pass the workers' gate, which holds one segment up until all were passed.
 fn passes<R: Threads + Clock + Send + Sync + Copy + Drop>(
     rt: &R,
     alloc: Global,
-    held: usize,
-    later: u64,
+    held: (usize, usize),
 ) -> Result<bool> {
     let three = segments(alloc, 3)?;
-    let gate = WaitGate {
-        rt: *rt,
-        held,
-        later,
-        passed: AtomicU64::new(0),
-        seen: AtomicU64::new(0),
-    };
+    let gate = WaitGate::new(*rt, alloc, held, 3)?;
     let list = replay_segments(
         rt,
         alloc,
@@ -261,10 +259,10 @@ fn passes<R: Threads + Clock + Send + Sync + Copy + Drop>(
 
 #[test]
 fn no_worker_waits_for_another(rt: HostRuntime) {
-    for (held, later) in [(0, 2), (1, 1)] {
-        let mut all = passes(&rt, rt.alloc(), held, later);
+    for held in [(0, 1), (1, 2)] {
+        let mut all = passes(&rt, rt.alloc(), held);
         if matches!(all, Err(Error::Memory)) {
-            all = passes(&rt, rt.alloc(), held, later);
+            all = passes(&rt, rt.alloc(), held);
         }
         assert!(rt; matches!(all, Ok(true)));
     }
@@ -272,27 +270,44 @@ fn no_worker_waits_for_another(rt: HostRuntime) {
 
 /// How many merges of four machines saw that two had begun.
 fn merges<R: Threads + Clock + Send + Sync + Copy + Drop>(rt: &R, alloc: Global) -> Result<u64> {
-    let begun = Arc::new(alloc, AtomicU64::new(0))?;
-    let seen = Arc::new(alloc, AtomicU64::new(0))?;
+    let gate = WaitGate::new(*rt, alloc, (0, 0), 0)?;
     let mut machines = Vec::new(alloc);
     for _ in 0..4 {
-        machines.push(Waits {
-            rt: *rt,
-            begun: Arc::try_clone(&begun)?,
-            seen: Arc::try_clone(&seen)?,
-        })?;
+        machines.push(gate.new_target(alloc)?)?;
     }
     let one = join(alloc, Plan::One, Plan::One)?;
     let pairs = join(alloc, one, join(alloc, Plan::One, Plan::One)?)?;
     merge_pieces(rt, machines, &pairs, LogQueue::Append)?;
-    Ok(seen.load(Ordering::SeqCst))
+    Ok(gate.seen.load(Ordering::SeqCst))
+}
+
+/// Where four workers replay four segments, how many of the four passes saw them all made, how many of the four replays saw
+/// that their segment was passed, and how many of the three merges saw that two had begun.
+fn works<R: Threads + Clock + Send + Sync + Copy + Drop>(rt: &R, alloc: Global) -> Result<u64> {
+    let four = segments(alloc, 4)?;
+    let gate = WaitGate::new(*rt, alloc, (0, 4), 4)?;
+    let _merged: Waits<R> = replay_segments(
+        rt,
+        alloc,
+        &gate,
+        four.as_slice(),
+        LogQueue::Append,
+        4,
+        &gate,
+    )?;
+    Ok(gate.seen.load(Ordering::SeqCst))
 }
 
 #[test]
-fn branches_merge_at_once(rt: HostRuntime) {
+fn workers_and_branches_go_at_once(rt: HostRuntime) {
     let mut seen = merges(&rt, rt.alloc());
     if matches!(seen, Err(Error::Memory)) {
         seen = merges(&rt, rt.alloc());
     }
     assert!(rt; matches!(seen, Ok(3)));
+    let mut all = works(&rt, rt.alloc());
+    if matches!(all, Err(Error::Memory)) {
+        all = works(&rt, rt.alloc());
+    }
+    assert!(rt; matches!(all, Ok(11)));
 }

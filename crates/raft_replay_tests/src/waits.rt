@@ -1,6 +1,6 @@
 //! A workers' gate and a machine that wait for one another's threads.
 
-use raft_base::{FileId, LogQueue, Result};
+use raft_base::{Factory, FileId, LogQueue, Result};
 use raft_records::LogItemBatch;
 use raft_replay::{Gate, ReplayMachine};
 use std::alloc::Global;
@@ -20,32 +20,79 @@ fn is_reached<R: Clock>(rt: &R, number: &AtomicU64, goal: u64) -> bool {
     false
 }
 
-/// Holds one segment up until so many later ones were passed.
+/// The bit of a number below 64.
+fn bit(number: u64) -> u64 {
+    1 << (number % 64)
+}
+
+/// Holds some segments up until all were passed.
 #[derive(Drop)]
 pub(crate) struct WaitGate<R: Drop> {
-    pub(crate) rt: R,
-    pub(crate) held: usize,
-    pub(crate) later: u64,
-    pub(crate) passed: AtomicU64,
-    pub(crate) seen: AtomicU64,
+    rt: R,
+    /// The first segment that is held up, and the one behind the last.
+    held: (usize, usize),
+    /// The bits of all segments.
+    all: u64,
+    /// The bits of those that were passed.
+    pub(crate) passed: Arc<AtomicU64, Global>,
+    begun: Arc<AtomicU64, Global>,
+    /// How many passes, replays and merges saw what they have to see.
+    pub(crate) seen: Arc<AtomicU64, Global>,
+}
+
+impl<R: Drop> WaitGate<R> {
+    /// A gate of so many segments, which holds those from one up to another.
+    pub(crate) fn new(
+        rt: R,
+        alloc: Global,
+        held: (usize, usize),
+        count: u64,
+    ) -> Result<WaitGate<R>> {
+        Ok(WaitGate {
+            rt,
+            held,
+            all: bit(count).wrapping_sub(1),
+            passed: Arc::new(alloc, AtomicU64::new(0))?,
+            begun: Arc::new(alloc, AtomicU64::new(0))?,
+            seen: Arc::new(alloc, AtomicU64::new(0))?,
+        })
+    }
 }
 
 impl<R: Clock + Send + Sync + Drop> Gate for WaitGate<R> {
     fn pass(&self, segment: usize) {
-        if segment > self.held {
-            self.passed.fetch_add(1, Ordering::SeqCst);
-        } else if segment == self.held && is_reached(&self.rt, &self.passed, self.later) {
+        self.passed.fetch_or(bit(segment as u64), Ordering::SeqCst);
+        let (from, to) = self.held;
+        if from <= segment && segment < to && is_reached(&self.rt, &self.passed, self.all) {
             self.seen.fetch_add(1, Ordering::SeqCst);
         }
     }
 }
 
-/// A machine whose merges wait until two have begun.
+/// Makes machines that see the gate's passes.
+impl<R: Clock + Send + Sync + Copy + Drop> Factory<Waits<R>> for WaitGate<R> {
+    ghost gives = { λ _ _. Unit {0} };
+
+    ghost may_refuse = { λ _ _. Unit {0} };
+
+    fn new_target(&self, _alloc: Global) -> Result<Waits<R>> {
+        Ok(Waits {
+            rt: self.rt,
+            passed: Arc::try_clone(&self.passed)?,
+            begun: Arc::try_clone(&self.begun)?,
+            seen: Arc::try_clone(&self.seen)?,
+        })
+    }
+}
+
+/// A machine whose replays look whether the segment of the file's number was passed, and whose merges wait until two have
+/// begun.
 #[derive(Drop)]
 pub(crate) struct Waits<R: Drop> {
-    pub(crate) rt: R,
-    pub(crate) begun: Arc<AtomicU64, Global>,
-    pub(crate) seen: Arc<AtomicU64, Global>,
+    rt: R,
+    passed: Arc<AtomicU64, Global>,
+    begun: Arc<AtomicU64, Global>,
+    seen: Arc<AtomicU64, Global>,
 }
 
 impl<R: Clock + Send + Drop> ReplayMachine for Waits<R> {
@@ -55,7 +102,10 @@ impl<R: Clock + Send + Drop> ReplayMachine for Waits<R> {
 
     ghost exact_stands = { λ _ _ _. tt };
 
-    fn replay(&mut self, _batch: LogItemBatch, _file_id: FileId) -> Result<()> {
+    fn replay(&mut self, _batch: LogItemBatch, file_id: FileId) -> Result<()> {
+        if self.passed.load(Ordering::SeqCst) & bit(file_id.seq) != 0 {
+            self.seen.fetch_add(1, Ordering::SeqCst);
+        }
         Ok(())
     }
 

@@ -1,27 +1,39 @@
 //! A machine that writes down what was replayed and merged.
 
 use crate::machines::{join, segments};
+use crate::waits::WaitGate;
 use raft_base::{Error, Factory, FileId, LogQueue, Result};
 use raft_records::LogItemBatch;
-use raft_replay::{Plan, ReplayMachine, merge_pieces, replay_scheduled};
+use raft_replay::{Plan, ReplayMachine, merge_pieces, replay_scheduled, replay_segments};
 use std::alloc::Global;
+use std::sync::atomic::Ordering;
 use std::thread::Threads;
+use std::time::Clock;
 
-/// A dot for a new machine, a stroke for each batch, and brackets round what was merged.
+/// A dot for a new machine, a stroke for each batch, and brackets round what was merged. A batch in a file below the one
+/// before it is refused.
 #[derive(Drop)]
-struct Brackets {
+pub(crate) struct Brackets {
     text: String,
+    pub(crate) last: u64,
 }
 
 impl ReplayMachine for Brackets {
-    ghost stands_for = { λ m h. Unit {0} };
+    ghost use Rattle.std.specs.Prelude.{◌≤◌};
+    ghost use Rattle.raft_history.specs.Histories.{last_from};
 
-    ghost stands_exactly = { λ m h. Unit {0} };
+    ghost stands_for = { λ m h. m.last ≤ last_from 0 h };
+
+    ghost stands_exactly = { λ m h. m.last ≤ last_from 0 h };
 
     ghost exact_stands = { λ m h e. e };
 
-    fn replay(&mut self, _batch: LogItemBatch, _file_id: FileId) -> Result<()> {
+    fn replay(&mut self, _batch: LogItemBatch, file_id: FileId) -> Result<()> {
+        if file_id.seq < self.last {
+            return Err(Error::Corruption(String::new(*self.text.allocator())));
+        }
         self.text.push('/')?;
+        self.last = file_id.seq;
         Ok(())
     }
 
@@ -29,21 +41,25 @@ impl ReplayMachine for Brackets {
         let mut text = String::new(*self.text.allocator());
         write!(text, "({}{})", self.text, rhs.text)?;
         self.text = text;
+        self.last = rhs.last;
         Ok(())
     }
 }
 
 /// Makes machines that have replayed nothing.
-struct Dots;
+pub(crate) struct Dots;
 
 impl Factory<Brackets> for Dots {
-    ghost gives = { λ _ m. Unit {0} };
+    ghost use Rattle.std.specs.Prelude.{◌≤◌};
+
+    ghost gives = { λ _ m. m.last ≤ 0 };
 
     ghost may_refuse = { λ _ e. ⊥ };
 
     fn new_target(&self, alloc: Global) -> Result<Brackets> {
         Ok(Brackets {
             text: String::from_str(alloc, ".")?,
+            last: 0,
         })
     }
 }
@@ -59,19 +75,18 @@ fn plans(alloc: Global) -> Result<(Plan, Plan)> {
     Ok((pairs, chain))
 }
 
-/// What is written down where two workers draw five segments in four pieces.
-fn scheduled(alloc: Global, plan: &Plan) -> Result<String> {
+/// What is written down where two workers draw five segments.
+fn scheduled(alloc: Global, draws: &[usize], plan: &Plan) -> Result<String> {
     let five = segments(alloc, 5)?;
-    let draws = [0, 1, 1, 0, 1];
     let queue = LogQueue::Append;
-    let machine = replay_scheduled(alloc, &Dots, five.as_slice(), queue, 2, &draws, plan)?;
+    let machine = replay_scheduled(alloc, &Dots, five.as_slice(), queue, 2, draws, plan)?;
     Ok(machine.text)
 }
 
-/// What is written down where four new machines are merged.
-fn merged<R: Threads + Sync>(rt: &R, alloc: Global, plan: &Plan) -> Result<String> {
+/// What is written down where so many new machines are merged.
+fn merged<R: Threads + Sync>(rt: &R, alloc: Global, count: usize, plan: &Plan) -> Result<String> {
     let mut machines = Vec::new(alloc);
-    for _ in 0..4 {
+    for _ in 0..count {
         machines.push(Dots.new_target(alloc)?)?;
     }
     Ok(merge_pieces(rt, machines, plan, LogQueue::Append)?.text)
@@ -80,12 +95,30 @@ fn merged<R: Threads + Sync>(rt: &R, alloc: Global, plan: &Plan) -> Result<Strin
 /// Whether pieces are made as the draws say, and merged as both plans say.
 fn go_by_plan<R: Threads + Sync>(rt: &R, alloc: Global) -> Result<bool> {
     let (pairs, chain) = plans(alloc)?;
+    let draws = [0, 1, 1, 0, 1];
     Ok(
-        scheduled(alloc, &pairs)?.as_str() == "((././/)(././))"
-            && scheduled(alloc, &chain)?.as_str() == "(./(.//(././)))"
-            && merged(rt, alloc, &pairs)?.as_str() == "((..)(..))"
-            && merged(rt, alloc, &chain)?.as_str() == "(.(.(..)))",
+        scheduled(alloc, &draws, &pairs)?.as_str() == "((././/)(././))"
+            && scheduled(alloc, &draws, &chain)?.as_str() == "(./(.//(././)))"
+            && merged(rt, alloc, 4, &pairs)?.as_str() == "((..)(..))"
+            && merged(rt, alloc, 4, &chain)?.as_str() == "(.(.(..)))",
     )
+}
+
+/// Whether worker 0 draws behind the end of the draws, and no plan of four pieces merges another number of them.
+fn end_by_rule<R: Threads + Sync>(rt: &R, alloc: Global) -> Result<bool> {
+    let two = join(alloc, Plan::One, Plan::One)?;
+    if scheduled(alloc, &[1], &two)?.as_str() != "(././///)" {
+        return Ok(false);
+    }
+    let (pairs, _chain) = plans(alloc)?;
+    for count in [0, 3, 5] {
+        match merged(rt, alloc, count, &pairs) {
+            Err(Error::InvalidArgument(_)) => {}
+            Err(error) => return Err(error),
+            Ok(_) => return Ok(false),
+        }
+    }
+    Ok(true)
 }
 
 #[test]
@@ -95,4 +128,46 @@ fn pieces_are_merged_as_the_plan_says(rt: HostRuntime) {
         all = go_by_plan(&rt, rt.alloc());
     }
     assert!(rt; matches!(all, Ok(true)));
+    let mut rest = end_by_rule(&rt, rt.alloc());
+    if matches!(rest, Err(Error::Memory)) {
+        rest = end_by_rule(&rt, rt.alloc());
+    }
+    assert!(rt; matches!(rest, Ok(true)));
+}
+
+/// How many workers replay how many segments, how many of these from the first on wait until all are passed, and what is
+/// written down: a piece is the segments that one worker drew with none between them drawn by another, and pieces are
+/// merged by halves.
+const WORKED: [(usize, u64, usize, &str); 3] = [
+    (1, 5, 0, "./////"),
+    (2, 5, 1, "(././///)"),
+    (4, 4, 4, "((././)(././))"),
+];
+
+/// Whether this is written down, and as many segments have waited.
+fn is_worked<R: Threads + Clock + Send + Sync + Copy + Drop>(
+    rt: &R,
+    alloc: Global,
+    workers: usize,
+    count: u64,
+    waiting: usize,
+    text: &str,
+) -> Result<bool> {
+    let segments = segments(alloc, count)?;
+    let gate = WaitGate::new(*rt, alloc, (0, waiting), count)?;
+    let queue = LogQueue::Append;
+    let machine = replay_segments(rt, alloc, &Dots, segments.as_slice(), queue, workers, &gate)?;
+    let seen = gate.seen.load(Ordering::SeqCst);
+    Ok(machine.text.as_str() == text && seen == waiting as u64)
+}
+
+#[test]
+fn workers_make_pieces_and_merge_them_by_halves(rt: HostRuntime) {
+    for (workers, count, waiting, text) in WORKED {
+        let mut worked = is_worked(&rt, rt.alloc(), workers, count, waiting, text);
+        if matches!(worked, Err(Error::Memory)) {
+            worked = is_worked(&rt, rt.alloc(), workers, count, waiting, text);
+        }
+        assert!(rt; matches!(worked, Ok(true)), "{workers} workers");
+    }
 }

@@ -1,0 +1,131 @@
+//! Refusals of a history, of an argument and of a factory, handed on as they are.
+
+use super::brackets::{Brackets, Dots};
+use super::{join, segment};
+use crate::waits::WaitGate;
+use raft_base::{Error, Factory, LogQueue, Result};
+use raft_replay::{Plan, Segment, replay_scheduled, replay_segments};
+use std::alloc::Global;
+use std::sync::atomic::{AtomicU64, Ordering};
+use std::thread::Threads;
+use std::time::Clock;
+
+/// Makes so many machines, and refuses the next one.
+#[derive(Drop)]
+struct Few {
+    given: u64,
+    asked: AtomicU64,
+}
+
+impl Factory<Brackets> for Few {
+    ghost use Rattle.std.specs.Prelude.{◌≤◌};
+
+    ghost gives = { λ _ m. m.last ≤ 0 };
+
+    ghost may_refuse = { λ _ _. Unit {0} };
+
+    fn new_target(&self, alloc: Global) -> Result<Brackets> {
+        if self.asked.fetch_add(1, Ordering::SeqCst) == self.given {
+            return Err(Error::TryAgain(String::new(alloc)));
+        }
+        Dots.new_target(alloc)
+    }
+}
+
+/// What is refused.
+#[derive(Clone, Copy, PartialEq, Eq, Debug)]
+enum What {
+    Machine,
+    History,
+    Queue,
+}
+
+/// The second segment is of the rewrite queue.
+const MIXED: &[(LogQueue, u64)] = &[
+    (LogQueue::Append, 0),
+    (LogQueue::Rewrite, 1),
+    (LogQueue::Append, 2),
+];
+
+/// The last file is below the one before it.
+const FALLING: &[(LogQueue, u64)] = &[
+    (LogQueue::Append, 1),
+    (LogQueue::Append, 2),
+    (LogQueue::Append, 1),
+];
+
+const TWO: &[(LogQueue, u64)] = &[(LogQueue::Append, 0), (LogQueue::Append, 1)];
+
+/// Whether a worker replays the segments, or a schedule of two pieces, the first of one segment; the segments' files, how
+/// many machines are given, and what is refused.
+const REFUSALS: [(bool, &[(LogQueue, u64)], u64, What); 8] = [
+    (false, TWO, 0, What::Machine),
+    (false, TWO, 1, What::Machine),
+    (false, FALLING, 2, What::History),
+    (false, MIXED, 0, What::Queue),
+    (true, &[], 0, What::Machine),
+    (true, TWO, 0, What::Machine),
+    (true, FALLING, 1, What::History),
+    (true, MIXED, 0, What::Queue),
+];
+
+/// One worker replays the segments, or two by a schedule.
+fn replayed<R: Threads + Clock + Send + Sync + Drop>(
+    rt: &R,
+    alloc: Global,
+    by_worker: bool,
+    segments: &[Segment],
+    few: &Few,
+    gate: &WaitGate<R>,
+) -> Result<Brackets> {
+    let queue = LogQueue::Append;
+    if by_worker {
+        return replay_segments(rt, alloc, few, segments, queue, 1, gate);
+    }
+    let two = join(alloc, Plan::One, Plan::One)?;
+    replay_scheduled(alloc, few, segments, queue, 2, &[0, 1, 1], &two)
+}
+
+/// What is refused, if it is, and whether no segment was passed and no machine asked for.
+fn told<R: Threads + Clock + Send + Sync + Copy + Drop>(
+    rt: &R,
+    alloc: Global,
+    by_worker: bool,
+    files: &[(LogQueue, u64)],
+    given: u64,
+) -> Result<(Option<What>, bool)> {
+    let mut segments = Vec::new(alloc);
+    for (queue, seq) in files {
+        segments.push(segment(alloc, *queue, *seq)?)?;
+    }
+    let asked = AtomicU64::new(0);
+    let few = Few { given, asked };
+    let gate = WaitGate::new(*rt, alloc, (0, 0), 0)?;
+    let refused = match replayed(rt, alloc, by_worker, segments.as_slice(), &few, &gate) {
+        Err(Error::TryAgain(_)) => Some(What::Machine),
+        Err(Error::Corruption(_)) => Some(What::History),
+        Err(Error::InvalidArgument(_)) => Some(What::Queue),
+        Err(error) => return Err(error),
+        Ok(_) => None,
+    };
+    let untouched = few.asked.load(Ordering::SeqCst) == 0
+        && gate.passed.load(Ordering::SeqCst) == 0;
+    Ok((refused, untouched))
+}
+
+/// A part of another queue is refused before anything is done.
+#[test]
+fn refusals_are_handed_on(rt: HostRuntime) {
+    for (by_worker, files, given, what) in REFUSALS {
+        let mut answer = told(&rt, rt.alloc(), by_worker, files, given);
+        if matches!(answer, Err(Error::Memory)) {
+            answer = told(&rt, rt.alloc(), by_worker, files, given);
+        }
+        assert!(rt;
+            answer.is_ok_and(|(refused, untouched)| {
+                refused == Some(what) && untouched == (what == What::Queue)
+            }),
+            "{what:?} by {by_worker}"
+        );
+    }
+}

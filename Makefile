@@ -21,9 +21,12 @@ raftlog:
 	@set -o pipefail; cd crates/raftlog && $(RT) run -- batch append 12 1 < stdin 2>&1 > /dev/null | grep --line-buffered -v '^statements '
 	@echo "raftlog is proved and built: crates/raftlog/out/raftlog"
 
+# As many crates at a time as there are processors, and as memory holds: no check was seen to take more than 3 GB.
+LANES = $(shell awk -v n="$$(nproc)" '/^MemAvailable/ { m = int($$2 / 4000000); print m < 1 ? 1 : m < n ? m : n }' /proc/meminfo)
+
 # Proves every crate from nothing, runs the tests and the programs, and tries the wrong bodies of must-fail/.
 test:
-	@$(RT) ci
+	@RT_JOBS=$(LANES) $(RT) ci
 
 # Tries the other wrong bodies, over a copy of the repository, and lists those that are not refused.
 wrong-bodies:

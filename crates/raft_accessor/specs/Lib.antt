@@ -5,10 +5,6 @@ pub mod AccessorView
 pub mod ItemWrites
 pub mod Merges
 pub mod RegionTablesView
-pub mod SharedCalls
-pub mod Slot
-pub mod SlotCode
-pub mod SlotView
 pub mod TableJoins
 pub mod TableOverlays
 pub mod Updates

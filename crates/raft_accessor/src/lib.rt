@@ -1,11 +1,9 @@
-//! The tables of all regions, and those that threads share.
+//! The tables of all regions.
 #![tactic(auto)]
 
 pub mod accessor;
 pub mod item_writes;
 pub mod region_tables;
-pub mod shared_accessor;
-pub mod slot;
 
 pub use accessor::{MemTableAccessor, slot_of};
 pub use raft_table::{
@@ -13,5 +11,3 @@ pub use raft_table::{
     Result, TableChange, global_stats, is_run, memtable,
 };
 pub use region_tables::RegionTables;
-pub use shared_accessor::SharedAccessor;
-pub use slot::Slot;

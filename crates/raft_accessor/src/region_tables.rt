@@ -92,7 +92,7 @@ impl RegionTables {
     }
 
     /// What `f` makes of `init` and each table, in no set order.
-    pub(crate) fn fold<B: Drop, F: FnMut(B, &MemTable) -> B>(&self, init: B, f: &mut F) -> B
+    pub fn fold<B: Drop, F: FnMut(B, &MemTable) -> B>(&self, init: B, f: &mut F) -> B
         requires { (state : F) (x : _) (t : _) → F.pre state x t }
         ensures { (ts : List Table) × IsPermutation ts (finite.values self.now)
             × FoldsTo (Makes F.FnMut) (f.old, init) ts (f.new, result) }
@@ -105,7 +105,7 @@ impl RegionTables {
     }
 
     /// Pushes the ids of the tables at which `wanted` answers true, in no set order.
-    pub(crate) fn push_ids<F: FnMut(&MemTable) -> bool>(
+    pub fn push_ids<F: FnMut(&MemTable) -> bool>(
         &self,
         wanted: &mut F,
         ids: &mut Vec<u64>,

@@ -3,9 +3,9 @@
 mod calls;
 
 use raft_accessor::{
-    EntryIndex, Error, FileBlockHandle, FileId, LogQueue, MemTable, Result, SharedAccessor,
-    TableChange, slot_of,
+    EntryIndex, Error, FileBlockHandle, FileId, LogQueue, MemTable, Result, TableChange, slot_of,
 };
+use raft_shared::SharedAccessor;
 use std::alloc::Global;
 use std::sync::Wait;
 use std::sync::atomic::{AtomicU64, Ordering};

@@ -7,7 +7,7 @@ pub mod recovery;
 pub mod request;
 pub mod run;
 
-pub use raft_accessor::{SharedAccessor, shared_accessor};
+pub use raft_shared::{SharedAccessor, shared_accessor};
 pub use raft_replay::{
     Gate, MAX_WORKERS, OpenGate, Plan, Segment, TicketSeat, Tickets, cut_part, gate, merge_pieces,
     piece_count, pieces, plan, replay_scheduled, replay_segment, replay_segments, scheduled,

@@ -3,10 +3,10 @@
 use super::run;
 use crate::items::{Fault, answered};
 use raft_accessor::{
-    Error, FileId, FileSeq, LogQueue, MemTable, MemTableAccessor, Result, SharedAccessor,
-    TableChange,
+    Error, FileId, FileSeq, LogQueue, MemTable, MemTableAccessor, Result, TableChange,
 };
 use raft_records::{Command, LogBatch, LogItem, LogItemContent, OpType};
+use raft_shared::SharedAccessor;
 use std::alloc::Global;
 use std::sync::Wait;
 

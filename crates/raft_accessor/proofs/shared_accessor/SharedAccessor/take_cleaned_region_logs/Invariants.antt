@@ -1,7 +1,0 @@
-use Rattle.std.proofs.Common.{◌≡◌}
-use Rattle.raft_records.specs.LogBatch.{populating}
-use Rattle.raft_accessor.specs.SharedCalls.{HasCleans}
-use Rattle.raft_accessor.proofs.shared_accessor.SharedAccessor.take_cleaned_region_logs.Given as goal
-
-abbrev pub invariant-loop-slot : goal.invariant-loop-slot
-invariant-loop-slot g l = (l.logs.stage ≡ populating) × HasCleans l.fn.logs l.logs

@@ -1,6 +1,0 @@
-use Rattle.std.proofs.Common.{refl, sym, subst}
-use Rattle.raft_accessor.specs.Slot.{IsSlotTable}
-use Rattle.raft_accessor.proofs.shared_accessor.answer_of.Goals as goal
-
-pub returns : goal.returns
-returns g c = (c.in_ok-table.table.now, subst (λ n. IsSlotTable n c.args.id c.in_ok-table.table.now) (sym c.requires.slot) c.in_ok-table.ensures.allowed, (c.in_ok-table.table, c.f.ensures, refl))

@@ -1,0 +1,2 @@
+mod SharedLemmas
+mod SlotKeeping

@@ -1,0 +1,28 @@
+use Rattle.std.proofs.Common.{◌≡◌, ◌⊎◌, Some, Ok, Err, inl, inr}
+use Rattle.std.specs.Result.{OnOk, IfOk, IfErr}
+use Rattle.raft_base.specs.declared.errors.Error.TheVariants as errors
+use Rattle.raft_table.specs.Change.{after_change, IsAllowed, IsAnswer, IsChangeFault}
+use Rattle.raft_accessor.specs.Accessor.{table_in}
+use Rattle.raft_shared.specs.SharedCalls.{IsChangeAnswer, IsChangeRefusal}
+use Rattle.raft_shared.proofs.shared_accessor.change_by.Goals as goal
+
+pub returns-clause-number : goal.returns-clause-number
+returns-clause-number g c =
+    let old = table_in c.args.slot.now.part.tables c.args.id in
+    let new = table_in c.change.new.self.part.tables c.args.id in
+    elim c.change.result as (λ r. OnOk r (after_change old c.answer_at-change.result ≡ Some new) → IfOk r (IsAnswer c.answer_at-change.result old new) → OnOk r (IsAllowed c.answer_at-change.result) → IfOk r (IsChangeAnswer g.F.FnOnce c.args.f c.args.id)) [
+      | Ok n ↦ λ e a l. (old, new, c.answer_at-change.result, c.answer_at-change.ensures.allowed, c.answer_at-change.ensures.gave, e, a, l)
+      | Err x ↦ λ e a l. tt
+    ] c.change.ensures.changed.ok c.change.ensures.answer c.change.ensures.allowed
+
+pub returns-clause-fault : goal.returns-clause-fault
+returns-clause-fault g c =
+    let old = table_in c.args.slot.now.part.tables c.args.id in
+    let counts = c.args.slot.now.part.counts in
+    elim c.change.result as (λ r. IfErr r (λ e. (e ≡ errors.Memory) ⊎ IsChangeFault old counts c.answer_at-change.result e) → IfErr r (IsChangeRefusal g.F.FnOnce c.args.f c.args.id)) [
+      | Ok n ↦ λ f. tt
+      | Err e ↦ λ f. elim f [
+        | inl m ↦ inl (inl m)
+        | inr h ↦ inr (old, counts, c.answer_at-change.result, c.answer_at-change.ensures.allowed, c.answer_at-change.ensures.gave, h)
+      ]
+    ] c.change.ensures.changed.fault

@@ -1,0 +1,4 @@
+pub mod SharedCalls
+pub mod Slot
+pub mod SlotCode
+pub mod SlotView

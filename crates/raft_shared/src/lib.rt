@@ -1,0 +1,9 @@
+//! The tables of all regions, shared by threads.
+#![tactic(auto)]
+
+pub mod shared_accessor;
+pub mod slot;
+
+pub use raft_accessor::{MemTableAccessor, slot_of};
+pub use shared_accessor::SharedAccessor;
+pub use slot::Slot;

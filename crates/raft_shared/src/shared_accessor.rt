@@ -1,0 +1,469 @@
+//! The tables of all regions, shared by threads.
+
+ghost use Rattle.std.specs.Prelude.{◌≡◌, ◌⊎◌, ◌≤◌, ◌<◌, List, [], map, Some, IsTrue, OnOk, IfOk, IfErr, IfSome};
+ghost use Rattle.std.specs.List.{AllByRecursion, FoldsTo};
+ghost use Rattle.std.specs.Fn.{FnOnceReturnsAt};
+ghost use Rattle.std.specs.Iterator.{Drains, Yields, IsFinite};
+ghost use Rattle.raft_records.specs.declared.log_item.LogItem.{LogItem};
+ghost use Rattle.raft_records.specs.Item.{item_of};
+ghost use Rattle.raft_records.specs.LogBatch.{populating};
+ghost use Rattle.raft_table.specs.declared.memtable.change.TableChange.{TableChange};
+ghost use Rattle.raft_table.specs.Change.{after_change, IsAnswer};
+ghost use Rattle.raft_table.specs.Table.{Table};
+ghost use Rattle.raft_accessor.specs.Accessor.{slot_of, table_in};
+ghost use Rattle.raft_shared.specs.Slot.{IsSlotTable};
+ghost use Rattle.raft_accessor.specs.Walks.{KeepsId, Makes};
+ghost use Rattle.raft_shared.specs.SharedCalls.{IsChangeAnswer, IsChangeRefusal, IsLockFault, IsNumberOf, IsRefusalOf, HasCleans, MayBeWritten, IsSharedItemFault, IsLastRefused};
+ghost use Rattle.raft_accessor.specs.Writes.{Appending, Rewriting};
+
+use crate::slot::Slot;
+use raft_accessor::{MemTableAccessor, slot_of};
+use raft_records::{LogBatch, LogItem};
+use raft_table::{Error, FileSeq, LogQueue, MemTable, Result, TableChange};
+use std::alloc::Global;
+use std::sync::{RwLock, Wait};
+
+/// The tables of all regions in 128 slots, each under a lock of its own. A call holds one lock at a
+/// time, and each item is one hold of it; a walk over all slots goes slot by slot, so that it sees
+/// what other threads write meanwhile in part.
+#[derive(Drop)]
+pub struct SharedAccessor {
+    slots: [RwLock<Slot>; 128],
+    alloc: Global,
+}
+
+impl SharedAccessor {
+    /// No tables.
+    pub fn new(alloc: Global) -> SharedAccessor {
+        SharedAccessor {
+            slots: std::array::from_fn(
+                |number: usize| -> RwLock<Slot>
+                    requires { number < 128 }
+                { RwLock::new(Slot::new(alloc, number)) },
+            ),
+            alloc,
+        }
+    }
+
+    /// The tables, the counts and the cleaned regions of an accessor.
+    ///
+    /// # Errors
+    ///
+    /// `Memory`; `Full` and `Failed` by the calls that it makes, which never happens.
+    pub fn from_core(alloc: Global, core: MemTableAccessor) -> Result<SharedAccessor>
+        ensures { IfErr result (λ e. IsLockFault e ⊎ (e ≡ Error.Full)) }
+    {
+        let mut core = core;
+        let mut shared = SharedAccessor::new(alloc);
+        for id in core.cleaned_regions() {
+            shared.list(*id)?;
+        }
+        let mut ids = Vec::new(alloc);
+        for table in core.tables()? {
+            ids.push(table.region_id())?;
+        }
+        for id in &ids {
+            if let Some(table) = core.remove(*id, false)? {
+                shared.place(table)?;
+            }
+        }
+        Ok(shared)
+    }
+
+    /// What `f` answers at the region's table, which it sees under the lock for reading; `None` where
+    /// the region has no table.
+    pub fn with_table<X: Drop, F: FnOnce(&MemTable) -> X, R: Wait>(
+        &self,
+        rt: &R,
+        id: u64,
+        f: F,
+    ) -> Option<X>
+    where
+        F: Drop,
+        requires { F.IsAlwaysCallable f }
+        ensures { IfSome result (λ x. (t : Table) × IsSlotTable (slot_of id) id t × FnOnceReturnsAt F.FnOnce f t x) }
+    {
+        let number = slot_of(id);
+        let slot = self.slots[number].read(rt);
+        if slot.number() != number {
+            return None;
+        }
+        answer_of(&slot, id, f)
+    }
+
+    /// Does to a region's table the change that `f` answers for it, all under the lock for writing.
+    /// `f` sees an empty table where there is none, and the table is then made. The number is how many
+    /// entries a compaction drops, else 0.
+    ///
+    /// # Errors
+    ///
+    /// Those of [`Slot::change`], and `Failed` where a slot has another number, which never happens. The
+    /// tables are then as they were.
+    pub fn with_table_mut<F: FnOnce(&MemTable) -> TableChange, R: Wait>(
+        &self,
+        rt: &R,
+        id: u64,
+        f: F,
+    ) -> Result<u64>
+    where
+        F: Drop,
+        requires { F.IsAlwaysCallable f }
+        ensures number { IfOk result (IsChangeAnswer F.FnOnce f id) }
+        ensures fault { IfErr result (IsChangeRefusal F.FnOnce f id) }
+    {
+        let number = slot_of(id);
+        let mut slot = self.slots[number].write(rt);
+        if slot.number() != number {
+            return Err(Error::Failed);
+        }
+        change_by(&mut slot, self.alloc, id, f)
+    }
+
+    /// Does what a change says to a region's table, which is made where there is none. The number is
+    /// how many entries a compaction drops, else 0.
+    ///
+    /// # Errors
+    ///
+    /// Those of [`Slot::change`], and `Failed` where a slot has another number, which never happens. The
+    /// tables are then as they were.
+    #[tactic(auto, using(crate::proofs::SharedLemmas::number_of, crate::proofs::SharedLemmas::refusal_of))]
+    pub fn change<R: Wait>(&self, rt: &R, id: u64, change: TableChange) -> Result<u64>
+        ensures number { IfOk result (IsNumberOf change id) }
+        ensures fault { IfErr result (IsRefusalOf change id) }
+    {
+        self.with_table_mut(
+            rt,
+            id,
+            move |_: &MemTable| -> TableChange
+                ensures { result ≡ change }
+            { change },
+        )
+    }
+
+    /// Makes an empty table for a region that has none.
+    ///
+    /// # Errors
+    ///
+    /// `Memory`, and `Failed` where a slot has another number, which never happens. The tables are then as
+    /// they were.
+    pub fn get_or_insert<R: Wait>(&self, rt: &R, id: u64) -> Result<()>
+        ensures { IfErr result IsLockFault }
+    {
+        let number = slot_of(id);
+        let mut slot = self.slots[number].write(rt);
+        if slot.number() != number {
+            return Err(Error::Failed);
+        }
+        slot.get_or_insert(id)
+    }
+
+    /// Puts a table under its region's id and counts its records. The table that stood there is handed
+    /// back.
+    ///
+    /// # Errors
+    ///
+    /// Those of [`Slot::insert`], and `Failed` where a slot has another number, which never happens. The
+    /// tables are then as they were.
+    pub fn insert<R: Wait>(&self, rt: &R, id: u64, table: MemTable) -> Result<Option<MemTable>>
+        requires { table.region_id ≡ id }
+        ensures handed_back { IfOk result (λ t. IfSome t (IsSlotTable (slot_of id) id)) }
+        ensures fault { IfErr result (λ e. IsLockFault e ⊎ (e ≡ Error.Full)) }
+    {
+        let number = slot_of(id);
+        let mut slot = self.slots[number].write(rt);
+        if slot.number() != number {
+            return Err(Error::Failed);
+        }
+        slot.insert(id, table)
+    }
+
+    /// Takes a region's table away, and lists the region where that is asked for, also where it has
+    /// no table.
+    ///
+    /// # Errors
+    ///
+    /// `Memory`, where the region is to be listed, and `Failed` where a slot has another number, which never
+    /// happens. All is then as it was.
+    pub fn remove<R: Wait>(
+        &self,
+        rt: &R,
+        id: u64,
+        record_tombstone: bool,
+    ) -> Result<Option<MemTable>>
+        ensures handed_back { IfOk result (λ t. IfSome t (IsSlotTable (slot_of id) id)) }
+        ensures fault { IfErr result (λ e. ((e ≡ Error.Memory) × IsTrue record_tombstone) ⊎ (e ≡ Error.Failed)) }
+    {
+        let number = slot_of(id);
+        let mut slot = self.slots[number].write(rt);
+        if slot.number() != number {
+            return Err(Error::Failed);
+        }
+        slot.remove(id, record_tombstone)
+    }
+
+    /// Sets the first and the last file of a region's atomic group; its table is made where there is
+    /// none.
+    ///
+    /// # Errors
+    ///
+    /// `Memory`, and `Failed` where a slot has another number, which never happens. The tables are then as
+    /// they were.
+    pub fn apply_rewrite_atomic_group<R: Wait>(
+        &self,
+        rt: &R,
+        id: u64,
+        start: FileSeq,
+        end: FileSeq,
+    ) -> Result<()>
+        requires { start ≤ end }
+        ensures { IfErr result IsLockFault }
+    {
+        let number = slot_of(id);
+        let mut slot = self.slots[number].write(rt);
+        if slot.number() != number {
+            return Err(Error::Failed);
+        }
+        slot.apply_rewrite_atomic_group(id, start, end)
+    }
+
+    /// Writes new items of the append queue to the tables, in order.
+    ///
+    /// # Errors
+    ///
+    /// Those of the call of [`Slot`] for the first item that is refused, and `Failed` where a slot has
+    /// another number, which never happens. The items in front of it are written.
+    pub fn apply_append_writes<I: IntoIterator<Item = LogItem>, R: Wait>(
+        &self,
+        rt: &R,
+        items: I,
+    ) -> Result<()>
+        requires { (it : I.IntoIter) → I.into_iter_gives items it
+            → I.IntoIter.can_next it × IsFinite (I.IntoIter.remaining it) }
+        ensures ok { OnOk result ((it : I.IntoIter) × (xs : List LogItem) × I.into_iter_gives items it
+            × Drains I.IntoIter.next_gives it xs × AllByRecursion (MayBeWritten Appending) (map item_of xs)) }
+        ensures refused { IfErr result (λ e. (it : I.IntoIter) × (xs : List LogItem) × (u : I.IntoIter)
+            × I.into_iter_gives items it × Yields I.IntoIter.next_gives it xs u
+            × IsLastRefused Appending (map item_of xs) e) }
+    {
+        for item in items {
+            self.append_item(rt, item)?;
+        }
+        Ok(())
+    }
+
+    /// Writes items that were rewritten to the file `new_file` of the rewrite queue to the tables, in
+    /// order: with a gate the places that move are those in append files at or below it, without
+    /// one those that are rewritten already.
+    ///
+    /// # Errors
+    ///
+    /// Those of the call of [`Slot`] for the first item that is refused, and `Failed` where a slot has
+    /// another number, which never happens. The items in front of it are written.
+    pub fn apply_rewrite_writes<I: IntoIterator<Item = LogItem>, R: Wait>(
+        &self,
+        rt: &R,
+        items: I,
+        gate: Option<FileSeq>,
+        new_file: FileSeq,
+    ) -> Result<()>
+        requires { (it : I.IntoIter) → I.into_iter_gives items it
+            → I.IntoIter.can_next it × IsFinite (I.IntoIter.remaining it) }
+        ensures ok { OnOk result ((it : I.IntoIter) × (xs : List LogItem) × I.into_iter_gives items it
+            × Drains I.IntoIter.next_gives it xs × AllByRecursion (MayBeWritten (Rewriting gate new_file)) (map item_of xs)) }
+        ensures refused { IfErr result (λ e. (it : I.IntoIter) × (xs : List LogItem) × (u : I.IntoIter)
+            × I.into_iter_gives items it × Yields I.IntoIter.next_gives it xs u
+            × IsLastRefused (Rewriting gate new_file) (map item_of xs) e) }
+    {
+        for item in items {
+            self.rewrite_item(rt, item, gate, new_file)?;
+        }
+        Ok(())
+    }
+
+    /// Moves the cleaned regions of all slots into an open batch as a `Clean` for each.
+    ///
+    /// # Errors
+    ///
+    /// `Memory`. Each cleaned region is then still listed, or in the batch.
+    pub fn take_cleaned_region_logs<R: Wait>(&self, rt: &R, logs: &mut LogBatch) -> Result<()>
+        requires { logs.old.stage ≡ populating }
+        ensures logs { HasCleans logs.old logs.new }
+        ensures memory { IfErr result (λ e. e ≡ Error.Memory) }
+    {
+        for slot in &self.slots {
+            slot.write(rt).take_cleaned_region_logs(logs)?;
+        }
+        Ok(())
+    }
+
+    /// Whether there are no tables.
+    pub fn is_empty<R: Wait>(&self, rt: &R) -> bool {
+        for slot in &self.slots {
+            if !slot.read(rt).is_empty() {
+                return false;
+            }
+        }
+        true
+    }
+
+    /// What `f` makes of `init` and each table, one after another in no set order.
+    pub fn fold<B: Drop, F: FnMut(B, &MemTable) -> B, R: Wait>(
+        &self,
+        rt: &R,
+        init: B,
+        mut f: F,
+    ) -> B
+    where
+        F: Drop,
+        requires { (state : F) (x : _) (t : _) → F.pre state x t }
+        ensures { (ts : List Table) × (last : F) × FoldsTo (Makes F.FnMut) (f, init) ts (last, result) }
+    {
+        let mut answer = init;
+        for slot in &self.slots {
+            answer = slot.read(rt).fold(answer, &mut f);
+        }
+        answer
+    }
+
+    /// The ids of the tables at which `wanted` answers true, in no set order.
+    ///
+    /// # Errors
+    ///
+    /// `Memory`.
+    pub fn collect<F: FnMut(&MemTable) -> bool, R: Wait>(
+        &self,
+        rt: &R,
+        mut wanted: F,
+    ) -> Result<Vec<u64>>
+    where
+        F: Drop,
+        requires { (state : F) (x : _) → F.pre state x }
+        ensures ok { IfOk result (λ ids. (ts : List Table) × (last : F)
+            × FoldsTo (KeepsId F.FnMut) (wanted, []) ts (last, ids.items)) }
+        ensures memory { IfErr result (λ e. e ≡ Error.Memory) }
+    {
+        let mut ids = Vec::new(self.alloc);
+        for slot in &self.slots {
+            slot.read(rt).push_ids(&mut wanted, &mut ids)?;
+        }
+        Ok(ids)
+    }
+
+    /// How many records of all tables are live in a queue.
+    pub fn live_entries<R: Wait>(&self, rt: &R, queue: LogQueue) -> u128 {
+        let mut live: u128 = 0;
+        for slot in &self.slots {
+            live += slot.read(rt).stats().live_entries(queue) as u128;
+        }
+        live
+    }
+
+    /// Lists a region as cleaned.
+    fn list(&mut self, id: u64) -> Result<()>
+        ensures { IfErr result IsLockFault }
+    {
+        let number = slot_of(id);
+        let slot = self.slots[number].get_mut();
+        if slot.number() != number {
+            return Err(Error::Failed);
+        }
+        slot.remove(id, true)?;
+        Ok(())
+    }
+
+    /// Puts a table under its region's id.
+    fn place(&mut self, table: MemTable) -> Result<()>
+        ensures { IfErr result (λ e. IsLockFault e ⊎ (e ≡ Error.Full)) }
+    {
+        let id = table.region_id();
+        let number = slot_of(id);
+        let slot = self.slots[number].get_mut();
+        if slot.number() != number {
+            return Err(Error::Failed);
+        }
+        slot.insert(id, table)?;
+        Ok(())
+    }
+
+    /// Writes a new item of the append queue.
+    fn append_item<R: Wait>(&self, rt: &R, item: LogItem) -> Result<()>
+        ensures ok { OnOk result (MayBeWritten Appending (item_of item)) }
+        ensures fault { IfErr result (IsSharedItemFault Appending (item_of item)) }
+    {
+        let number = slot_of(item.raft_group_id);
+        let mut slot = self.slots[number].write(rt);
+        if slot.number() != number {
+            return Err(Error::Failed);
+        }
+        slot.apply_append_write(item)
+    }
+
+    /// Writes a rewritten item.
+    fn rewrite_item<R: Wait>(
+        &self,
+        rt: &R,
+        item: LogItem,
+        gate: Option<FileSeq>,
+        new_file: FileSeq,
+    ) -> Result<()>
+        ensures ok { OnOk result (MayBeWritten (Rewriting gate new_file) (item_of item)) }
+        ensures fault { IfErr result (IsSharedItemFault (Rewriting gate new_file) (item_of item)) }
+    {
+        let number = slot_of(item.raft_group_id);
+        let mut slot = self.slots[number].write(rt);
+        if slot.number() != number {
+            return Err(Error::Failed);
+        }
+        slot.apply_rewrite_write(item, gate, new_file)
+    }
+}
+
+/// What `f` answers at a region's table, if there is one.
+fn answer_of<X: Drop, F: FnOnce(&MemTable) -> X>(slot: &Slot, id: u64, f: F) -> Option<X>
+where
+    F: Drop,
+    requires callable { F.IsAlwaysCallable f }
+    requires slot { slot_of id ≡ slot.now.number }
+    ensures { IfSome result (λ x. (t : Table) × IsSlotTable (slot_of id) id t × FnOnceReturnsAt F.FnOnce f t x) }
+{
+    let table = slot.table(id)?;
+    Some(f(table))
+}
+
+/// Does to a region's table the change that `f` answers for it, or for an empty one in its place.
+fn change_by<F: FnOnce(&MemTable) -> TableChange>(
+    slot: &mut Slot,
+    alloc: Global,
+    id: u64,
+    f: F,
+) -> Result<u64>
+where
+    F: Drop,
+    requires callable { F.IsAlwaysCallable f }
+    requires slot { slot_of id ≡ slot.old.number }
+    ensures number { IfOk result (IsChangeAnswer F.FnOnce f id) }
+    ensures fault { IfErr result (IsChangeRefusal F.FnOnce f id) }
+{
+    let change = answer_at(slot, alloc, id, f);
+    slot.change(id, change)
+}
+
+/// What `f` answers at a region's table, or at an empty one in its place.
+fn answer_at<F: FnOnce(&MemTable) -> TableChange>(
+    slot: &Slot,
+    alloc: Global,
+    id: u64,
+    f: F,
+) -> TableChange
+where
+    F: Drop,
+    requires callable { F.IsAlwaysCallable f }
+    requires slot { slot_of id ≡ slot.now.number }
+    ensures gave { FnOnceReturnsAt F.FnOnce f (table_in slot.now.part.tables id) result }
+    ensures allowed { IsSlotTable (slot_of id) id (table_in slot.now.part.tables id) }
+{
+    match slot.table(id) {
+        Some(table) => f(table),
+        None => f(&MemTable::new(alloc, id)),
+    }
+}

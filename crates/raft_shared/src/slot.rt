@@ -1,0 +1,335 @@
+//! The tables of the regions of one slot.
+
+ghost use Rattle.std.specs.Prelude.{◌≡◌, ◌≤◌, ◌<◌, ◌^◌, ◌+◌, ◌⊎◌, ◌↔◌, ℕ, List, [], ◌∷◌, ◌++◌, map, IsPermutation, IsTrue, OnOk, OnErr, IfOk, IfErr, IfSome, Some, option_map, if◌then◌else◌};
+ghost use Rattle.std.specs.FinMap as finite;
+ghost use Rattle.std.specs.List.{FoldsTo};
+ghost use Rattle.raft_base.specs.declared.pipe_log.LogQueue.{LogQueue};
+ghost use Rattle.raft_records.specs.Item.{item_of, command_item};
+ghost use Rattle.raft_records.specs.LogBatch.{populating};
+ghost use Rattle.raft_records.specs.declared.command.Command.TheVariants.{Clean};
+ghost use Rattle.raft_table.specs.Change.{after_change, AreCountsAfter, IsAllowed, IsAnswer, IsChangeFault};
+ghost use Rattle.raft_table.specs.Table.{Table, with_atomic_group, live_of};
+ghost use Rattle.raft_accessor.specs.Accessor.{slot_of, table_in, live_in_all};
+ghost use Rattle.raft_accessor.specs.AccessorCalls.{IsTableChanged, IsWritten};
+ghost use Rattle.raft_shared.specs.Slot.{IsSlotTable, HoldsOwnTables};
+ghost use Rattle.raft_accessor.specs.Walks.{KeepsId, Makes};
+ghost use Rattle.raft_accessor.specs.Writes.{Appending, Rewriting};
+
+use raft_accessor::RegionTables;
+use raft_accessor::accessor::clean_logs;
+use raft_records::{LogBatch, LogItem};
+use raft_table::{Error, FileSeq, GlobalStats, LogQueue, MemTable, Result, TableChange};
+use std::alloc::Global;
+use std::marker::Model;
+
+/// The tables of the regions whose slot has one number, how many of their records are live, and those
+/// of them that were cleaned. Its calls do to these regions what the calls of `MemTableAccessor` do.
+#[derive(Drop)]
+pub struct Slot {
+    number: usize,
+    tables: RegionTables,
+    stats: GlobalStats,
+    cleaned: Vec<u64>,
+}
+
+impl Model for Slot {
+    ghost use Rattle.raft_shared.specs.Slot.{SlotContent};
+    ghost use Rattle.raft_shared.specs.SlotCode.{slot_code};
+
+    ghost Value = { SlotContent };
+
+    ghost coded = { slot_code };
+
+    ghost use Rattle.raft_shared.specs.SlotView.{slot_shown, IsSlotKept};
+
+    ghost view = { slot_shown };
+
+    ghost invariant = { IsSlotKept };
+}
+
+impl Slot {
+    /// The slot of this number, without tables. It takes no memory.
+    pub fn new(alloc: Global, number: usize) -> Slot
+        requires { number < 128 }
+        ensures number { result.number ≡ number }
+        ensures tables { result.part.tables ≡ finite.empty }
+        ensures cleaned { result.part.cleaned ≡ [] }
+        ensures counts { result.part.counts ≡ record { append = 0; written = 0; deleted = 0 } }
+    {
+        Slot {
+            number,
+            tables: RegionTables::new(alloc),
+            stats: GlobalStats::default(),
+            cleaned: Vec::new(alloc),
+        }
+    }
+
+    /// The number of the slot.
+    pub fn number(&self) -> usize
+        ensures { result ≡ self.now.number }
+    {
+        self.number
+    }
+
+    /// The table of a region.
+    pub fn table(&self, id: u64) -> Option<&MemTable>
+        ensures value { option_map (λ t. t.now) result ≡ finite.get self.now.part.tables id }
+        ensures allowed { IfSome result (λ t. IsSlotTable self.now.number id t.now) }
+    {
+        self.tables.get(id)
+    }
+
+    /// Whether the slot has no tables.
+    pub fn is_empty(&self) -> bool
+        ensures { IsTrue result ↔ (self.now.part.tables ≡ finite.empty) }
+    {
+        self.tables.is_empty()
+    }
+
+    /// What `f` makes of `init` and each table of the slot, in no set order.
+    pub fn fold<B: Drop, F: FnMut(B, &MemTable) -> B>(&self, init: B, f: &mut F) -> B
+        requires { (state : F) (x : _) (t : _) → F.pre state x t }
+        ensures { (ts : List Table) × IsPermutation ts (finite.values self.now.part.tables)
+            × FoldsTo (Makes F.FnMut) (f.old, init) ts (f.new, result) }
+    {
+        self.tables.fold(init, f)
+    }
+
+    /// Pushes the ids of the slot's tables at which `wanted` answers true, in no set order.
+    ///
+    /// # Errors
+    ///
+    /// `Memory`.
+    pub fn push_ids<F: FnMut(&MemTable) -> bool>(
+        &self,
+        wanted: &mut F,
+        ids: &mut Vec<u64>,
+    ) -> Result<()>
+        requires { (state : F) (x : _) → F.pre state x }
+        ensures ok { OnOk result ((ts : List Table) × IsPermutation ts (finite.values self.now.part.tables)
+            × FoldsTo (KeepsId F.FnMut) (wanted.old, ids.old.items) ts (wanted.new, ids.new.items)) }
+        ensures memory { IfErr result (λ e. e ≡ Error.Memory) }
+    {
+        self.tables.push_ids(wanted, ids)
+    }
+
+    /// How many records of the slot's tables are live in each queue.
+    pub fn stats(&self) -> &GlobalStats
+        ensures { result.now ≡ self.now.part.counts }
+    {
+        &self.stats
+    }
+
+    /// The regions of the slot that were cleaned, in order.
+    pub fn cleaned_regions(&self) -> &[u64]
+        ensures { result.now ≡ self.now.part.cleaned }
+    {
+        self.cleaned.as_slice()
+    }
+
+    /// What every slot keeps: its tables stand under their own ids, which are of the slot as the
+    /// cleaned regions are, and are counted exactly. This is a law: it computes nothing.
+    pub fn holds_own_tables(&self)
+        ensures { HoldsOwnTables self.now }
+    {
+        self.tables.tables_are_own();
+    }
+
+    /// Does what a change says to a region's table, which is made where there is none. The number is
+    /// how many entries a compaction drops, else 0.
+    ///
+    /// # Errors
+    ///
+    /// Those of [`MemTable::change`], and `Memory`. The tables are then as they were.
+    pub fn change(&mut self, id: u64, change: TableChange) -> Result<u64>
+        requires { slot_of id ≡ self.old.number }
+        ensures changed { IsTableChanged (after_change (table_in self.old.part.tables id) change)
+            (IsChangeFault
+            (table_in self.old.part.tables id) self.old.part.counts change) id result self.old.part self.new.part }
+        ensures answer { IfOk result
+            (IsAnswer change (table_in self.old.part.tables id) (table_in self.new.part.tables id)) }
+        ensures allowed { OnOk result (IsAllowed change) }
+        ensures counts { OnOk result
+            (AreCountsAfter change (table_in self.old.part.tables id) self.old.part.counts self.new.part.counts) }
+        ensures number { self.new.number ≡ self.old.number }
+    {
+        self.tables.change(id, change, &mut self.stats)
+    }
+
+    /// Makes an empty table for a region that has none.
+    ///
+    /// # Errors
+    ///
+    /// `Memory`. The tables are then as they were.
+    pub fn get_or_insert(&mut self, id: u64) -> Result<()>
+        requires { slot_of id ≡ self.old.number }
+        ensures made { IsTableChanged (Some (table_in self.old.part.tables id))
+            (λ e. ⊥) id result self.old.part self.new.part }
+        ensures number { self.new.number ≡ self.old.number }
+    {
+        self.tables.make(id, &mut self.stats)
+    }
+
+    /// Sets the first and the last file of a region's atomic group; its table is made where there is
+    /// none.
+    ///
+    /// # Errors
+    ///
+    /// `Memory`. The tables are then as they were.
+    pub fn apply_rewrite_atomic_group(
+        &mut self,
+        id: u64,
+        start: FileSeq,
+        end: FileSeq,
+    ) -> Result<()>
+        requires slot { slot_of id ≡ self.old.number }
+        requires files { start ≤ end }
+        ensures changed { IsTableChanged (Some (with_atomic_group (table_in self.old.part.tables id) start end))
+            (λ e. ⊥)
+            id result self.old.part self.new.part }
+        ensures number { self.new.number ≡ self.old.number }
+    {
+        self.tables
+            .apply_rewrite_atomic_group(id, start, end, &mut self.stats)
+    }
+
+    /// Puts a table under its region's id and counts its records. The table that stood there is taken
+    /// off the counts and handed back.
+    ///
+    /// # Errors
+    ///
+    /// `Full` where more than 2^64 - 1 records would be live in a queue beside the table that is
+    /// replaced, and `Memory`. The tables are then as they were.
+    pub fn insert(&mut self, id: u64, table: MemTable) -> Result<Option<MemTable>>
+        requires slot { slot_of id ≡ self.old.number }
+        requires region { table.region_id ≡ id }
+        ensures ok { OnOk result (self.new.part.tables ≡ finite.insert self.old.part.tables id table) }
+        ensures replaced { IfOk result (λ t. t ≡ finite.get self.old.part.tables id) }
+        ensures own { IfOk result (λ t. IfSome t (IsSlotTable self.old.number id)) }
+        ensures err { OnErr result (self.new.part.tables ≡ self.old.part.tables) }
+        ensures counts_err { OnErr result (self.new.part.counts ≡ self.old.part.counts) }
+        ensures fault { IfErr result (λ e. (e ≡ Error.Memory) ⊎ ((e ≡ Error.Full) × ((q : LogQueue) ×
+            (2 ^ 64 ≤ live_in_all q self.old.part.tables + live_of q table)))) }
+        ensures cleaned { self.new.part.cleaned ≡ self.old.part.cleaned }
+        ensures number { self.new.number ≡ self.old.number }
+    {
+        self.tables.insert(id, table, &mut self.stats)
+    }
+
+    /// Takes a region's table away, and lists the region where that is asked for, also where it has
+    /// no table.
+    ///
+    /// # Errors
+    ///
+    /// `Memory`, where the region is to be listed. The slot is then as it was.
+    pub fn remove(&mut self, id: u64, record_tombstone: bool) -> Result<Option<MemTable>>
+        requires { slot_of id ≡ self.old.number }
+        ensures tables { OnOk result (self.new.part.tables ≡ finite.remove self.old.part.tables id) }
+        ensures taken { IfOk result (λ t. t ≡ finite.get self.old.part.tables id) }
+        ensures own { IfOk result (λ t. IfSome t (IsSlotTable self.old.number id)) }
+        ensures cleaned { OnOk result (self.new.part.cleaned
+            ≡ (if record_tombstone then self.old.part.cleaned ++ id ∷ [] else self.old.part.cleaned)) }
+        ensures err { OnErr result (self.new ≡ self.old) }
+        ensures fault { IfErr result (λ e. (e ≡ Error.Memory) × IsTrue record_tombstone) }
+        ensures number { self.new.number ≡ self.old.number }
+    {
+        if record_tombstone {
+            self.list(id)?;
+        }
+        Ok(self.take(id))
+    }
+
+    /// Writes a new item of the append queue to its region's table.
+    ///
+    /// # Errors
+    ///
+    /// Those of [`RegionTables::append_item`]. Tables and list are then as they were.
+    pub fn apply_append_write(&mut self, item: LogItem) -> Result<()>
+        requires { slot_of item.raft_group_id ≡ self.old.number }
+        ensures written { IsWritten Appending (item_of item) result self.old.part self.new.part }
+        ensures number { self.new.number ≡ self.old.number }
+    {
+        self.tables
+            .append_item(item, &mut self.stats, &mut self.cleaned)
+    }
+
+    /// Writes an item that was rewritten to the file `new_file` of the rewrite queue to its region's
+    /// table: with a gate the places that move are those in append files at or below it, without
+    /// one those that are rewritten already.
+    ///
+    /// # Errors
+    ///
+    /// Those of [`RegionTables::rewrite_item`]. Tables and list are then as they were.
+    pub fn apply_rewrite_write(
+        &mut self,
+        item: LogItem,
+        gate: Option<FileSeq>,
+        new_file: FileSeq,
+    ) -> Result<()>
+        requires { slot_of item.raft_group_id ≡ self.old.number }
+        ensures written { IsWritten (Rewriting gate new_file) (item_of item) result self.old.part self.new.part }
+        ensures number { self.new.number ≡ self.old.number }
+    {
+        self.tables
+            .rewrite_item(item, gate, new_file, &mut self.stats)
+    }
+
+    /// Moves the cleaned regions into an open batch as a `Clean` for each, in order. The list is then
+    /// empty.
+    ///
+    /// # Errors
+    ///
+    /// `Memory`. Slot and batch are then as they were.
+    pub fn take_cleaned_region_logs(&mut self, logs: &mut LogBatch) -> Result<()>
+        requires { logs.old.stage ≡ populating }
+        ensures logs { OnOk result (logs.new ≡ record logs.old {
+          items = logs.old.items ++ map (λ id. command_item id Clean) self.old.part.cleaned;
+        }) }
+        ensures ok { OnOk result (self.new ≡ record self.old { part = record self.old.part { cleaned = [] } }) }
+        ensures err { OnErr result (self.new ≡ self.old) }
+        ensures logs_err { OnErr result (logs.new ≡ logs.old) }
+        ensures memory { IfErr result (λ e. e ≡ Error.Memory) }
+        ensures number { self.new.number ≡ self.old.number }
+    {
+        move_cleans(*self.cleaned.allocator(), &self.cleaned, logs)?;
+        self.cleaned.clear();
+        Ok(())
+    }
+
+    /// Lists a region as cleaned.
+    fn list(&mut self, id: u64) -> Result<()>
+        requires { slot_of id ≡ self.old.number }
+        ensures ok { OnOk result (self.new
+            ≡ record self.old { part = record self.old.part { cleaned = self.old.part.cleaned ++ id ∷ [] } }) }
+        ensures err { OnErr result (self.new ≡ self.old) }
+        ensures memory { IfErr result (λ e. e ≡ Error.Memory) }
+    {
+        self.cleaned.push(id)?;
+        Ok(())
+    }
+
+    /// Takes a region's table away, and its records off the counts.
+    fn take(&mut self, id: u64) -> Option<MemTable>
+        requires { slot_of id ≡ self.old.number }
+        ensures tables { self.new.part.tables ≡ finite.remove self.old.part.tables id }
+        ensures taken { result ≡ finite.get self.old.part.tables id }
+        ensures own { IfSome result (IsSlotTable self.old.number id) }
+        ensures cleaned { self.new.part.cleaned ≡ self.old.part.cleaned }
+        ensures number { self.new.number ≡ self.old.number }
+    {
+        self.tables.remove(id, &mut self.stats)
+    }
+}
+
+/// Adds a `Clean` for each region to an open batch, in order. On `Err` the batch is as it was.
+fn move_cleans(alloc: Global, ids: &[u64], logs: &mut LogBatch) -> Result<()>
+    requires { logs.old.stage ≡ populating }
+    ensures ok { OnOk result (logs.new
+        ≡ record logs.old { items = logs.old.items ++ map (λ id. command_item id Clean) ids.now }) }
+    ensures err { OnErr result (logs.new ≡ logs.old) }
+    ensures memory { IfErr result (λ e. e ≡ Error.Memory) }
+{
+    let mut cleans = clean_logs(alloc, ids)?;
+    logs.is_read_again();
+    logs.merge(&mut cleans)
+}

@@ -10,9 +10,9 @@ use Rattle.raft_base.specs.declared.pipe_log.LogQueue.TheVariants.{Append, Rewri
 use Rattle.raft_base.specs.declared.entry_index.EntryIndex.{EntryIndex}
 use Rattle.raft_table.specs.Fetches.{block_seq, entry_seq}
 use Rattle.raft_table.specs.KeyValues.{lesser, least, files_in}
-use Rattle.raft_table.specs.Marks.{part}
+use Rattle.raft_table.specs.Marks.{entries_within}
 use Rattle.raft_table.specs.Least.{least_file, lowered}
-use Rattle.raft_table.specs.Overlay.{has_clean, greatest_compaction, least_start, is_short, rewritten_part, overlay, kept_if, overlaid_table}
+use Rattle.raft_table.specs.Overlay.{has_clean, greatest_compaction, least_start, is_short, rewritten_within, overlay, kept_if, overlaid_table}
 use Rattle.raft_table.specs.Queues.{is_same, other}
 use Rattle.raft_table.specs.Steps.{Step, table_of}
 use Rattle.raft_table.specs.Table.{Table}
@@ -158,18 +158,18 @@ least_read q h tables cleaned s a one r =
 -- ---- both queues
 
 overlay_order : (ss : List Step) (low high : ℕ) (appended rewritten : Table) → InOrder Rewrite 0 low rewritten.entries → InOrder Append 0 high appended.entries → AreInOrder (overlay ss appended rewritten).entries
-unfolding part
+unfolding entries_within
 overlay_order ss low high appended rewritten h k = go (has_clean ss)
   where
-    kept : InOrder Rewrite 0 low (rewritten_part (greatest_compaction ss) (least_start ss) rewritten.entries)
-    kept = elim (is_short (least_start ss) (end_of rewritten.entries)) as (λ b. InOrder Rewrite 0 low (cond b [] (part (greatest_compaction ss) (least_start ss) rewritten.entries))) [
+    kept : InOrder Rewrite 0 low (rewritten_within (greatest_compaction ss) (least_start ss) rewritten.entries)
+    kept = elim (is_short (least_start ss) (end_of rewritten.entries)) as (λ b. InOrder Rewrite 0 low (cond b [] (entries_within (greatest_compaction ss) (least_start ss) rewritten.entries))) [
       | true ↦ omega arith
       | false ↦ some_of Rewrite _ 0 low rewritten.entries h
     ]
 
-    go : (b : Bool) → AreInOrder (cond b appended.entries (rewritten_part (greatest_compaction ss) (least_start ss) rewritten.entries ++ appended.entries))
+    go : (b : Bool) → AreInOrder (cond b appended.entries (rewritten_within (greatest_compaction ss) (least_start ss) rewritten.entries ++ appended.entries))
     go true = of_one Append high appended.entries k
-    go false = of_two low high (rewritten_part (greatest_compaction ss) (least_start ss) rewritten.entries) appended.entries kept k
+    go false = of_two low high (rewritten_within (greatest_compaction ss) (least_start ss) rewritten.entries) appended.entries kept k
 
 kept_order : (b : Bool) (r : ℕ) (t : Table) → AreInOrder t.entries → AreInOrder (table_of r (kept_if b t)).entries
 kept_order true r t h = h

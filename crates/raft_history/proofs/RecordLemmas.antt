@@ -18,7 +18,7 @@ use Rattle.raft_base.specs.declared.entry_index.EntryIndex.{EntryIndex}
 use Rattle.raft_table.specs.TableEntries.{below, from, end_of}
 use Rattle.raft_table.specs.KeySets.{KeySet, without}
 use Rattle.raft_table.specs.KeyValues.{Keys, Stored, StoredPair, with_pairs, pairs_over}
-use Rattle.raft_table.specs.Marks.{Mark, part, older_entries, atomic_group_over, table_over, is_first_run_refused, is_missed, is_there_over, applied}
+use Rattle.raft_table.specs.Marks.{Mark, entries_within, older_entries, atomic_group_over, table_over, is_first_run_refused, is_missed, is_there_over, applied}
 use Rattle.raft_table.specs.MarkJoins.{joined_mark, mark_of}
 use Rattle.raft_table.specs.Start.{replayed, leaves_hole}
 use Rattle.raft_table.specs.Steps.{Step, Run, Compact, Put, Del, AtomicGroup, Clean, stepped, is_there_after, there_if, after_step, table_of}
@@ -116,8 +116,8 @@ from_shorter : (i : ℕ) (es : List EntryIndex) → length (from i es) ≤ lengt
 unfolding from
 from_shorter i es = filtered (λ e. nat_le i e.index) es
 
-part_shorter : (floor : ℕ) (cut : Option ℕ) (es : List EntryIndex) → length (part floor cut es) ≤ length es
-unfolding part
+part_shorter : (floor : ℕ) (cut : Option ℕ) (es : List EntryIndex) → length (entries_within floor cut es) ≤ length es
+unfolding entries_within
 part_shorter floor cut es = filtered _ es
 
 run_records : (q : LogQueue) (es run after : List EntryIndex) → replayed q es run ≡ Some after → length after ≤ length es + length run
@@ -157,7 +157,7 @@ older_shorter : (q : LogQueue) (m : Mark) (es : List EntryIndex) → length (old
 older_shorter Append m es = part_shorter m.floor m.cut es
 older_shorter Rewrite m es = go (is_missed m es)
   where
-    go : (b : Bool) → length (cond b [] (part m.floor m.cut es)) ≤ length es
+    go : (b : Bool) → length (cond b [] (entries_within m.floor m.cut es)) ≤ length es
     go true = omega arith
     go false = part_shorter m.floor m.cut es
 

@@ -17,7 +17,7 @@ pub mod waiting_items;
 pub use context_stage::ContextStage;
 pub use kept::Kept;
 pub use raft_accessor::{
-    MemTableAccessor, RegionTables, Slot, accessor, item_writes, region_tables, slot, slot_of,
+    MemTableAccessor, RegionTables, accessor, item_writes, region_tables, slot_of,
 };
 pub use raft_history::ReplayMachine;
 pub use raft_table::{

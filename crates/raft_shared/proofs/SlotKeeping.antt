@@ -71,7 +71,7 @@ all-after P w item r old new p h = elim r as (λ r. OnOk r (new ≡ old ++ liste
 
 -- a change of a table
 pub slot-changed : {R : Type 0} (outcome : Option Table) (IsFault : Error → Type 0) (a b : Inside) (id : ℕ) (r : Result R Error) → IsTaken outcome IsFault a.tables id a.stats r b.tables b.stats
-    → b.cleaned.items ≡ a.cleaned.items → IsTableChanged outcome IsFault id r (slot_shown a).part (slot_shown b).part
+    → b.cleaned.items ≡ a.cleaned.items → IsTableChanged outcome IsFault id r (slot_shown a).content (slot_shown b).content
 slot-changed outcome IsFault a b id r t l = record {
   ok = t.ok;
   others = elim r as (λ r. OnOk r (finite.get b.tables id ≡ Some (table_in b.tables id)) → OnOk r (b.tables ≡ finite.insert a.tables id (table_in b.tables id))) [
@@ -85,9 +85,9 @@ slot-changed outcome IsFault a b id r t l = record {
 }
 
 -- an item written to its region's table
-pub slot-written : (w : Writing) (a b : Inside) (item : Item) (r : Result Unit Error) → IsSlotKept a → IsItemWritten w item a.tables a.stats a.cleaned.items r b.tables b.stats b.cleaned.items → IsWritten w item r (slot_shown a).part (slot_shown b).part
+pub slot-written : (w : Writing) (a b : Inside) (item : Item) (r : Result Unit Error) → IsSlotKept a → IsItemWritten w item a.tables a.stats a.cleaned.items r b.tables b.stats b.cleaned.items → IsWritten w item r (slot_shown a).content (slot_shown b).content
 slot-written w a b item r kept t = record {
-  ok = elim r as (λ r. IsItemWritten w item a.tables a.stats a.cleaned.items r b.tables b.stats b.cleaned.items → OnOk r (AreWritten w (item ∷ []) (slot_shown a).part (slot_shown b).part)) [
+  ok = elim r as (λ r. IsItemWritten w item a.tables a.stats a.cleaned.items r b.tables b.stats b.cleaned.items → OnOk r (AreWritten w (item ∷ []) (slot_shown a).content (slot_shown b).content)) [
     | Ok x ↦ λ t. record {
       asked = (t.asked, tt);
       accepted = (t.accepted, λ u e. tt);

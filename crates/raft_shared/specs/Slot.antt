@@ -5,10 +5,10 @@ use Rattle.std.specs.FinMap as finite
 use Rattle.raft_table.specs.Table.{Table}
 use Rattle.raft_accessor.specs.Accessor.{Accessor, slot_of, AreCountsOf}
 
--- a slot's number, and its part of what an accessor holds: the tables of its regions, those that were cleaned in order, and the counts
+-- a slot's number, and what it holds, as an accessor does: the tables of its regions, those that were cleaned in order, and the counts
 pub record SlotContent : Type 0 where
   pub number : ℕ
-  pub part : Accessor
+  pub content : Accessor
 
 -- a table that may stand under an id in the slot of this number
 pub record IsSlotTable (number id : ℕ) (t : Table) : Type 0 where
@@ -17,6 +17,6 @@ pub record IsSlotTable (number id : ℕ) (t : Table) : Type 0 where
 
 -- what a slot's lock keeps: every table stands under its own id, which is of this slot; the counts are those of the tables; every cleaned region is of this slot
 pub record HoldsOwnTables (s : SlotContent) : Type 0 where
-  pub tables : (id : ℕ) (t : Table) → finite.get s.part.tables id ≡ Some t → IsSlotTable s.number id t
-  pub counted : AreCountsOf s.part.tables s.part.counts
-  pub cleaned : AllByRecursion (λ id. slot_of id ≡ s.number) s.part.cleaned
+  pub tables : (id : ℕ) (t : Table) → finite.get s.content.tables id ≡ Some t → IsSlotTable s.number id t
+  pub counted : AreCountsOf s.content.tables s.content.counts
+  pub cleaned : AllByRecursion (λ id. slot_of id ≡ s.number) s.content.cleaned

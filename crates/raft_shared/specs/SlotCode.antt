@@ -5,6 +5,6 @@ use Rattle.raft_accessor.specs.Accessor.{Accessor}
 use Rattle.raft_accessor.specs.AccessorCode.{accessor_code}
 use Rattle.raft_shared.specs.Slot.{SlotContent}
 
--- a slot as its number and its part
+-- a slot as its number and its content
 abbrev pub slot_code : Coded SlotContent
-slot_code = code_by (ℕ × Accessor) (coded× coded_ℕ accessor_code) (λ s. (s.number, s.part)) (λ p. record { number = p.0; part = p.1 }) (λ _. refl)
+slot_code = code_by (ℕ × Accessor) (coded× coded_ℕ accessor_code) (λ s. (s.number, s.content)) (λ p. record { number = p.0; content = p.1 }) (λ _. refl)

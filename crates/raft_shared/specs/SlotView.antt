@@ -10,7 +10,7 @@ use Rattle.raft_shared.specs.Slot.{SlotContent}
 
 -- a slot's number, and its tables, cleaned regions and counts
 abbrev pub slot_shown : Inside → SlotContent
-slot_shown a = record { number = a.number; part = record { tables = a.tables; cleaned = a.cleaned.items; counts = a.stats } }
+slot_shown a = record { number = a.number; content = record { tables = a.tables; cleaned = a.cleaned.items; counts = a.stats } }
 
 -- tables of regions of one slot
 abbrev pub AreOf : ℕ → Tables → Type 0

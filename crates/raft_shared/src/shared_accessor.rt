@@ -459,8 +459,8 @@ where
     F: Drop,
     requires callable { F.IsAlwaysCallable f }
     requires slot { slot_of id ≡ slot.now.number }
-    ensures gave { FnOnceReturnsAt F.FnOnce f (table_in slot.now.part.tables id) result }
-    ensures allowed { IsSlotTable (slot_of id) id (table_in slot.now.part.tables id) }
+    ensures gave { FnOnceReturnsAt F.FnOnce f (table_in slot.now.content.tables id) result }
+    ensures allowed { IsSlotTable (slot_of id) id (table_in slot.now.content.tables id) }
 {
     match slot.table(id) {
         Some(table) => f(table),

@@ -52,9 +52,9 @@ impl Slot {
     pub fn new(alloc: Global, number: usize) -> Slot
         requires { number < 128 }
         ensures number { result.number ≡ number }
-        ensures tables { result.part.tables ≡ finite.empty }
-        ensures cleaned { result.part.cleaned ≡ [] }
-        ensures counts { result.part.counts ≡ record { append = 0; written = 0; deleted = 0 } }
+        ensures tables { result.content.tables ≡ finite.empty }
+        ensures cleaned { result.content.cleaned ≡ [] }
+        ensures counts { result.content.counts ≡ record { append = 0; written = 0; deleted = 0 } }
     {
         Slot {
             number,
@@ -73,7 +73,7 @@ impl Slot {
 
     /// The table of a region.
     pub fn table(&self, id: u64) -> Option<&MemTable>
-        ensures value { option_map (λ t. t.now) result ≡ finite.get self.now.part.tables id }
+        ensures value { option_map (λ t. t.now) result ≡ finite.get self.now.content.tables id }
         ensures allowed { IfSome result (λ t. IsSlotTable self.now.number id t.now) }
     {
         self.tables.get(id)
@@ -81,7 +81,7 @@ impl Slot {
 
     /// Whether the slot has no tables.
     pub fn is_empty(&self) -> bool
-        ensures { IsTrue result ↔ (self.now.part.tables ≡ finite.empty) }
+        ensures { IsTrue result ↔ (self.now.content.tables ≡ finite.empty) }
     {
         self.tables.is_empty()
     }
@@ -89,7 +89,7 @@ impl Slot {
     /// What `f` makes of `init` and each table of the slot, in no set order.
     pub fn fold<B: Drop, F: FnMut(B, &MemTable) -> B>(&self, init: B, f: &mut F) -> B
         requires { (state : F) (x : _) (t : _) → F.pre state x t }
-        ensures { (ts : List Table) × IsPermutation ts (finite.values self.now.part.tables)
+        ensures { (ts : List Table) × IsPermutation ts (finite.values self.now.content.tables)
             × FoldsTo (Makes F.FnMut) (f.old, init) ts (f.new, result) }
     {
         self.tables.fold(init, f)
@@ -106,7 +106,7 @@ impl Slot {
         ids: &mut Vec<u64>,
     ) -> Result<()>
         requires { (state : F) (x : _) → F.pre state x }
-        ensures ok { OnOk result ((ts : List Table) × IsPermutation ts (finite.values self.now.part.tables)
+        ensures ok { OnOk result ((ts : List Table) × IsPermutation ts (finite.values self.now.content.tables)
             × FoldsTo (KeepsId F.FnMut) (wanted.old, ids.old.items) ts (wanted.new, ids.new.items)) }
         ensures memory { IfErr result (λ e. e ≡ Error.Memory) }
     {
@@ -115,14 +115,14 @@ impl Slot {
 
     /// How many records of the slot's tables are live in each queue.
     pub fn stats(&self) -> &GlobalStats
-        ensures { result.now ≡ self.now.part.counts }
+        ensures { result.now ≡ self.now.content.counts }
     {
         &self.stats
     }
 
     /// The regions of the slot that were cleaned, in order.
     pub fn cleaned_regions(&self) -> &[u64]
-        ensures { result.now ≡ self.now.part.cleaned }
+        ensures { result.now ≡ self.now.content.cleaned }
     {
         self.cleaned.as_slice()
     }
@@ -143,14 +143,14 @@ impl Slot {
     /// Those of [`MemTable::change`], and `Memory`. The tables are then as they were.
     pub fn change(&mut self, id: u64, change: TableChange) -> Result<u64>
         requires { slot_of id ≡ self.old.number }
-        ensures changed { IsTableChanged (after_change (table_in self.old.part.tables id) change)
+        ensures changed { IsTableChanged (after_change (table_in self.old.content.tables id) change)
             (IsChangeFault
-            (table_in self.old.part.tables id) self.old.part.counts change) id result self.old.part self.new.part }
+            (table_in self.old.content.tables id) self.old.content.counts change) id result self.old.content self.new.content }
         ensures answer { IfOk result
-            (IsAnswer change (table_in self.old.part.tables id) (table_in self.new.part.tables id)) }
+            (IsAnswer change (table_in self.old.content.tables id) (table_in self.new.content.tables id)) }
         ensures allowed { OnOk result (IsAllowed change) }
         ensures counts { OnOk result
-            (AreCountsAfter change (table_in self.old.part.tables id) self.old.part.counts self.new.part.counts) }
+            (AreCountsAfter change (table_in self.old.content.tables id) self.old.content.counts self.new.content.counts) }
         ensures number { self.new.number ≡ self.old.number }
     {
         self.tables.change(id, change, &mut self.stats)
@@ -163,8 +163,8 @@ impl Slot {
     /// `Memory`. The tables are then as they were.
     pub fn get_or_insert(&mut self, id: u64) -> Result<()>
         requires { slot_of id ≡ self.old.number }
-        ensures made { IsTableChanged (Some (table_in self.old.part.tables id))
-            (λ e. ⊥) id result self.old.part self.new.part }
+        ensures made { IsTableChanged (Some (table_in self.old.content.tables id))
+            (λ e. ⊥) id result self.old.content self.new.content }
         ensures number { self.new.number ≡ self.old.number }
     {
         self.tables.make(id, &mut self.stats)
@@ -184,9 +184,9 @@ impl Slot {
     ) -> Result<()>
         requires slot { slot_of id ≡ self.old.number }
         requires files { start ≤ end }
-        ensures changed { IsTableChanged (Some (with_atomic_group (table_in self.old.part.tables id) start end))
+        ensures changed { IsTableChanged (Some (with_atomic_group (table_in self.old.content.tables id) start end))
             (λ e. ⊥)
-            id result self.old.part self.new.part }
+            id result self.old.content self.new.content }
         ensures number { self.new.number ≡ self.old.number }
     {
         self.tables
@@ -203,14 +203,14 @@ impl Slot {
     pub fn insert(&mut self, id: u64, table: MemTable) -> Result<Option<MemTable>>
         requires slot { slot_of id ≡ self.old.number }
         requires region { table.region_id ≡ id }
-        ensures ok { OnOk result (self.new.part.tables ≡ finite.insert self.old.part.tables id table) }
-        ensures replaced { IfOk result (λ t. t ≡ finite.get self.old.part.tables id) }
+        ensures ok { OnOk result (self.new.content.tables ≡ finite.insert self.old.content.tables id table) }
+        ensures replaced { IfOk result (λ t. t ≡ finite.get self.old.content.tables id) }
         ensures own { IfOk result (λ t. IfSome t (IsSlotTable self.old.number id)) }
-        ensures err { OnErr result (self.new.part.tables ≡ self.old.part.tables) }
-        ensures counts_err { OnErr result (self.new.part.counts ≡ self.old.part.counts) }
+        ensures err { OnErr result (self.new.content.tables ≡ self.old.content.tables) }
+        ensures counts_err { OnErr result (self.new.content.counts ≡ self.old.content.counts) }
         ensures fault { IfErr result (λ e. (e ≡ Error.Memory) ⊎ ((e ≡ Error.Full) × ((q : LogQueue) ×
-            (2 ^ 64 ≤ live_in_all q self.old.part.tables + live_of q table)))) }
-        ensures cleaned { self.new.part.cleaned ≡ self.old.part.cleaned }
+            (2 ^ 64 ≤ live_in_all q self.old.content.tables + live_of q table)))) }
+        ensures cleaned { self.new.content.cleaned ≡ self.old.content.cleaned }
         ensures number { self.new.number ≡ self.old.number }
     {
         self.tables.insert(id, table, &mut self.stats)
@@ -224,11 +224,11 @@ impl Slot {
     /// `Memory`, where the region is to be listed. The slot is then as it was.
     pub fn remove(&mut self, id: u64, record_tombstone: bool) -> Result<Option<MemTable>>
         requires { slot_of id ≡ self.old.number }
-        ensures tables { OnOk result (self.new.part.tables ≡ finite.remove self.old.part.tables id) }
-        ensures taken { IfOk result (λ t. t ≡ finite.get self.old.part.tables id) }
+        ensures tables { OnOk result (self.new.content.tables ≡ finite.remove self.old.content.tables id) }
+        ensures taken { IfOk result (λ t. t ≡ finite.get self.old.content.tables id) }
         ensures own { IfOk result (λ t. IfSome t (IsSlotTable self.old.number id)) }
-        ensures cleaned { OnOk result (self.new.part.cleaned
-            ≡ (if record_tombstone then self.old.part.cleaned ++ id ∷ [] else self.old.part.cleaned)) }
+        ensures cleaned { OnOk result (self.new.content.cleaned
+            ≡ (if record_tombstone then self.old.content.cleaned ++ id ∷ [] else self.old.content.cleaned)) }
         ensures err { OnErr result (self.new ≡ self.old) }
         ensures fault { IfErr result (λ e. (e ≡ Error.Memory) × IsTrue record_tombstone) }
         ensures number { self.new.number ≡ self.old.number }
@@ -246,7 +246,7 @@ impl Slot {
     /// Those of [`RegionTables::append_item`]. Tables and list are then as they were.
     pub fn apply_append_write(&mut self, item: LogItem) -> Result<()>
         requires { slot_of item.raft_group_id ≡ self.old.number }
-        ensures written { IsWritten Appending (item_of item) result self.old.part self.new.part }
+        ensures written { IsWritten Appending (item_of item) result self.old.content self.new.content }
         ensures number { self.new.number ≡ self.old.number }
     {
         self.tables
@@ -267,7 +267,7 @@ impl Slot {
         new_file: FileSeq,
     ) -> Result<()>
         requires { slot_of item.raft_group_id ≡ self.old.number }
-        ensures written { IsWritten (Rewriting gate new_file) (item_of item) result self.old.part self.new.part }
+        ensures written { IsWritten (Rewriting gate new_file) (item_of item) result self.old.content self.new.content }
         ensures number { self.new.number ≡ self.old.number }
     {
         self.tables
@@ -283,9 +283,9 @@ impl Slot {
     pub fn take_cleaned_region_logs(&mut self, logs: &mut LogBatch) -> Result<()>
         requires { logs.old.stage ≡ populating }
         ensures logs { OnOk result (logs.new ≡ record logs.old {
-          items = logs.old.items ++ map (λ id. command_item id Clean) self.old.part.cleaned;
+          items = logs.old.items ++ map (λ id. command_item id Clean) self.old.content.cleaned;
         }) }
-        ensures ok { OnOk result (self.new ≡ record self.old { part = record self.old.part { cleaned = [] } }) }
+        ensures ok { OnOk result (self.new ≡ record self.old { content = record self.old.content { cleaned = [] } }) }
         ensures err { OnErr result (self.new ≡ self.old) }
         ensures logs_err { OnErr result (logs.new ≡ logs.old) }
         ensures memory { IfErr result (λ e. e ≡ Error.Memory) }
@@ -300,7 +300,7 @@ impl Slot {
     fn list(&mut self, id: u64) -> Result<()>
         requires { slot_of id ≡ self.old.number }
         ensures ok { OnOk result (self.new
-            ≡ record self.old { part = record self.old.part { cleaned = self.old.part.cleaned ++ id ∷ [] } }) }
+            ≡ record self.old { content = record self.old.content { cleaned = self.old.content.cleaned ++ id ∷ [] } }) }
         ensures err { OnErr result (self.new ≡ self.old) }
         ensures memory { IfErr result (λ e. e ≡ Error.Memory) }
     {
@@ -311,10 +311,10 @@ impl Slot {
     /// Takes a region's table away, and its records off the counts.
     fn take(&mut self, id: u64) -> Option<MemTable>
         requires { slot_of id ≡ self.old.number }
-        ensures tables { self.new.part.tables ≡ finite.remove self.old.part.tables id }
-        ensures taken { result ≡ finite.get self.old.part.tables id }
+        ensures tables { self.new.content.tables ≡ finite.remove self.old.content.tables id }
+        ensures taken { result ≡ finite.get self.old.content.tables id }
         ensures own { IfSome result (IsSlotTable self.old.number id) }
-        ensures cleaned { self.new.part.cleaned ≡ self.old.part.cleaned }
+        ensures cleaned { self.new.content.cleaned ≡ self.old.content.cleaned }
         ensures number { self.new.number ≡ self.old.number }
     {
         self.tables.remove(id, &mut self.stats)

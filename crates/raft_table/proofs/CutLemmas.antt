@@ -8,11 +8,11 @@ use Rattle.raft_base.specs.declared.entry_index.EntryIndex.{EntryIndex}
 use Rattle.raft_table.specs.TableEntries.{AreTableEntries, start_of, end_of, below, from, is_placed_in, placed_in, entry_count}
 use Rattle.std.specs.FinMap as finite
 use Rattle.raft_table.specs.KeyValues.{Keys, pair_count}
-use Rattle.raft_table.specs.Marks.{part}
+use Rattle.raft_table.specs.Marks.{entries_within}
 use Rattle.raft_table.proofs.KeyValueReads.{entries-empty}
 use Rattle.raft_table.proofs.RunLemmas.{filter_comm, below_start}
 use Rattle.raft_table.proofs.SoundLemmas.{sound_rising, below_cut}
-use Rattle.raft_table.proofs.MarkWords.{end_of-from, part-part, part-from, part-below}
+use Rattle.raft_table.proofs.MarkWords.{end_of-from, within-within, within-from, within-below}
 
 -- so many in front are the entries below an index
 pub front_below : (i first n : ℕ) (es : List EntryIndex) → AreTableEntries es → start_of es ≡ first → n ≡ min (i - first) (length es) → take n es ≡ below i es
@@ -32,8 +32,8 @@ below_zero (e ∷ es) = rw (none e.index) (below_zero es)
     none : (i : ℕ) → ltb i 0 ≡ false
     none i = grind (arith, nat_tests)
 
-pub part-cut : (floor cut : ℕ) (es : List EntryIndex) → below cut (from floor es) ≡ part floor (Some cut) es
-part-cut floor cut es = ap (below cut) (sym (part-from floor es)) ∙ sym (part-below cut (part floor None es)) ∙ part-part 0 (Some cut) floor None es ∙ ap (λ l. part l (Some cut) es) (omega arith)
+pub within-cut : (floor cut : ℕ) (es : List EntryIndex) → below cut (from floor es) ≡ entries_within floor (Some cut) es
+within-cut floor cut es = ap (below cut) (sym (within-from floor es)) ∙ sym (within-below cut (entries_within floor None es)) ∙ within-within 0 (Some cut) floor None es ∙ ap (λ l. entries_within l (Some cut) es) (omega arith)
 
 length-filter-le : {X : Type 0} (p : X → Bool) (xs : List X) → length (filter p xs) ≤ length xs
 length-filter-le p [] = omega arith
@@ -44,9 +44,9 @@ length-filter-le p (x ∷ xs) = go (p x) (length-filter-le p xs)
     go false h = omega arith
 
 -- a part has at most the entries of all
-pub part-fewer : (q : LogQueue) (floor : ℕ) (cut : Option ℕ) (es : List EntryIndex) → entry_count q (part floor cut es) ≤ entry_count q es
-unfolding part placed_in
-part-fewer q floor cut es = subst (λ n. n ≤ entry_count q es) (ap length (filter_comm _ (is_placed_in q) es)) (length-filter-le _ (filter (is_placed_in q) es))
+pub within-fewer : (q : LogQueue) (floor : ℕ) (cut : Option ℕ) (es : List EntryIndex) → entry_count q (entries_within floor cut es) ≤ entry_count q es
+unfolding entries_within placed_in
+within-fewer q floor cut es = subst (λ n. n ≤ entry_count q es) (ap length (filter_comm _ (is_placed_in q) es)) (length-filter-le _ (filter (is_placed_in q) es))
 
 pub none-fewer : (q : LogQueue) (es : List EntryIndex) → entry_count q [] ≤ entry_count q es
 unfolding placed_in
@@ -70,9 +70,9 @@ unfolding end_of from
 end_none i es e = rw e refl
 
 -- a part, or nothing
-pub kept-fewer : (q : LogQueue) (gone : Bool) (floor : ℕ) (cut : Option ℕ) (es xs : List EntryIndex) → xs ≡ cond gone [] (part floor cut es) → entry_count q xs ≤ entry_count q es
+pub kept-fewer : (q : LogQueue) (gone : Bool) (floor : ℕ) (cut : Option ℕ) (es xs : List EntryIndex) → xs ≡ cond gone [] (entries_within floor cut es) → entry_count q xs ≤ entry_count q es
 kept-fewer q true floor cut es xs e = subst (λ x. entry_count q x ≤ entry_count q es) (sym e) (none-fewer q es)
-kept-fewer q false floor cut es xs e = subst (λ x. entry_count q x ≤ entry_count q es) (sym e) (part-fewer q floor cut es)
+kept-fewer q false floor cut es xs e = subst (λ x. entry_count q x ≤ entry_count q es) (sym e) (within-fewer q floor cut es)
 
 pub pair_count-empty : (q : LogQueue) (keys : Keys) → keys ≡ finite.empty → pair_count q keys ≡ 0
 pair_count-empty q keys e = rw (e, entries-empty) refl

@@ -8,25 +8,25 @@ use Rattle.raft_base.specs.declared.pipe_log.LogQueue.{LogQueue}
 use Rattle.raft_base.specs.declared.pipe_log.LogQueue.TheVariants.{Append, Rewrite}
 use Rattle.raft_base.specs.declared.entry_index.EntryIndex.{EntryIndex}
 use Rattle.raft_table.specs.TableEntries.{RisesFrom, IsRun, end_of, below, from}
-use Rattle.raft_table.specs.Marks.{part}
+use Rattle.raft_table.specs.Marks.{entries_within}
 use Rattle.raft_table.specs.Start.{leaves_hole, replayed}
 use Rattle.raft_table.specs.Steps.{Step, Run, Compact, Put, Del, AtomicGroup, Clean, table_of, there_if, after_step, after, IsStep, AreSteps}
 use Rattle.raft_table.specs.Table.{Table, table_with_entries, with_pair, without_key, with_atomic_group}
 use Rattle.raft_table.proofs.MarkEntries.{same_some, accepted}
 use Rattle.raft_table.proofs.MarkRuns.{first_rising}
-use Rattle.raft_table.proofs.MarkWords.{part-append, part-from, part-below, part-part, part-empty, end_of-from, nil_of_end}
+use Rattle.raft_table.proofs.MarkWords.{within-append, within-from, within-below, within-within, within-empty, end_of-from, nil_of_end}
 use Rattle.raft_table.proofs.RunLemmas.{from_start}
 
 -- the entries from an index on, of those below a run's start and the run
 from_behind : (x f : ℕ) (os run : List EntryIndex) → RisesFrom f run → below f (from x os) ++ run ≡ from (min x f) (below f os ++ run)
 from_behind x f os run rises =
-    sym (sym (part-from (min x f) (below f os ++ run)) ∙ part-append (min x f) None (below f os) run
-    ∙ ap (λ l. l ++ part (min x f) None run) (ap (part (min x f) None) (sym (part-below f os)) ∙ part-part (min x f) None 0 (Some f) os ∙ same (cases_lt f x) ∙ sym (ap (below f) (sym (part-from x os)) ∙ sym (part-below f (part x None os)) ∙ part-part 0 (Some f) x None os))
-    ∙ ap (λ l. below f (from x os) ++ l) (part-from (min x f) run ∙ from_start (min x f) f run rises (omega arith)))
+    sym (sym (within-from (min x f) (below f os ++ run)) ∙ within-append (min x f) None (below f os) run
+    ∙ ap (λ l. l ++ entries_within (min x f) None run) (ap (entries_within (min x f) None) (sym (within-below f os)) ∙ within-within (min x f) None 0 (Some f) os ∙ same (cases_lt f x) ∙ sym (ap (below f) (sym (within-from x os)) ∙ sym (within-below f (entries_within x None os)) ∙ within-within 0 (Some f) x None os))
+    ∙ ap (λ l. below f (from x os) ++ l) (within-from (min x f) run ∙ from_start (min x f) f run rises (omega arith)))
   where
-    same : (f < x) ⊎ (x ≤ f) → part (max 0 (min x f)) (Some f) os ≡ part (max x 0) (Some f) os
-    same (inl l) = part-empty (max 0 (min x f)) f os (omega arith) ∙ sym (part-empty (max x 0) f os (omega arith))
-    same (inr l) = let e : max 0 (min x f) ≡ max x 0 = omega arith in ap (λ n. part n (Some f) os) e
+    same : (f < x) ⊎ (x ≤ f) → entries_within (max 0 (min x f)) (Some f) os ≡ entries_within (max x 0) (Some f) os
+    same (inl l) = within-empty (max 0 (min x f)) f os (omega arith) ∙ sym (within-empty (max x 0) f os (omega arith))
+    same (inr l) = let e : max 0 (min x f) ≡ max x 0 = omega arith in ap (λ n. entries_within n (Some f) os) e
 
 no_hole : (x n f : ℕ) → leaves_hole n f ≡ false → leaves_hole (cond (nat_lt x n) n 0) f ≡ false
 no_hole x n f h = grind (arith, nat_tests)
@@ -64,11 +64,11 @@ step_later id own older v (Run run) good later is = go (replayed Append (table_o
 step_later id own older v (Compact i) good later is =
     (Some (table_with_entries (table_of id own) (from i (table_of id own).entries)), refl, subst (IsLater id (Some (table_with_entries (table_of id own) (from i (table_of id own).entries)))) (same_some _ v is) (later.0, ap (from i) later.1 ∙ swapped i later.0 (table_of id older).entries))
   where
-    as_part : (a b : ℕ) (es : List EntryIndex) → from a (from b es) ≡ part (max b a) None es
-    as_part a b es = sym (part-from a (from b es)) ∙ ap (part a None) (sym (part-from b es)) ∙ part-part a None b None es
+    as_part : (a b : ℕ) (es : List EntryIndex) → from a (from b es) ≡ entries_within (max b a) None es
+    as_part a b es = sym (within-from a (from b es)) ∙ ap (entries_within a None) (sym (within-from b es)) ∙ within-within a None b None es
 
     swapped : (a b : ℕ) (es : List EntryIndex) → from a (from b es) ≡ from b (from a es)
-    swapped a b es = let e : max b a ≡ max a b = omega arith in as_part a b es ∙ ap (λ n. part n None es) e ∙ sym (as_part b a es)
+    swapped a b es = let e : max b a ≡ max a b = omega arith in as_part a b es ∙ ap (λ n. entries_within n None es) e ∙ sym (as_part b a es)
 step_later id own older v (Put key value file) good later is = (Some (with_pair (table_of id own) key value file), refl, subst (IsLater id (Some (with_pair (table_of id own) key value file))) (same_some _ v is) later)
 step_later id own older v (Del key) good later is = (Some (without_key (table_of id own) key), refl, subst (IsLater id (Some (without_key (table_of id own) key))) (same_some _ v is) later)
 step_later id own older v (AtomicGroup start end) good later is = (Some (with_atomic_group (table_of id own) start end), refl, subst (IsLater id (Some (with_atomic_group (table_of id own) start end))) (same_some _ v is) later)

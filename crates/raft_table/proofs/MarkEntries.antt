@@ -9,11 +9,11 @@ use Rattle.raft_base.specs.declared.pipe_log.LogQueue.{LogQueue}
 use Rattle.raft_base.specs.declared.pipe_log.LogQueue.TheVariants.{Append, Rewrite}
 use Rattle.raft_base.specs.declared.entry_index.EntryIndex.{EntryIndex}
 use Rattle.raft_table.specs.TableEntries.{end_of, from}
-use Rattle.raft_table.specs.Marks.{Mark, part, misses, is_missed, older_entries, is_first_run_refused, entries_over, GoesPastCut, OwnGoesPastCut}
+use Rattle.raft_table.specs.Marks.{Mark, entries_within, misses, is_missed, older_entries, is_first_run_refused, entries_over, GoesPastCut, OwnGoesPastCut}
 use Rattle.raft_table.specs.MarkJoins.{joined_first, joined_floor, joined_later, joined_uncleaned, joined_at}
 use Rattle.raft_table.specs.KeyValues.{lesser}
 use Rattle.raft_table.proofs.RunLemmas.{end_of-append}
-use Rattle.raft_table.proofs.MarkWords.{part-both, part-part, part-nil, part-empty, part-from, end_of-from, met_first, met_later}
+use Rattle.raft_table.proofs.MarkWords.{within-both, within-within, within-nil, within-empty, within-from, end_of-from, met_first, met_later}
 
 pub same_some : {X : Type 0} (x y : X) → Some x ≡ Some y → x ≡ y
 same_some x y e = cc
@@ -41,8 +41,8 @@ refused_nil Append n = misses_nil n.reach n.reach_floor
 refused_nil Rewrite n = refl
 
 older_nil : (q : LogQueue) (n : Mark) → older_entries q n [] ≡ []
-older_nil Append n = part-nil n.floor n.cut
-older_nil Rewrite n = rw (misses_nil n.reach n.reach_floor) (part-nil n.floor n.cut)
+older_nil Append n = within-nil n.floor n.cut
+older_nil Rewrite n = rw (misses_nil n.reach n.reach_floor) (within-nil n.floor n.cut)
 
 -- over no entries stand the own ones
 pub over_nil : (q : LogQueue) (n : Mark) (u : List EntryIndex) → entries_over q n u [] ≡ Some u
@@ -53,44 +53,44 @@ over_nil q n u = rw (refused_nil q n, older_nil q n) (go n.cleaned)
     go false = refl
 
 -- an older mark without a run leaves the older entries from its compaction on
-first_missed : (m n : Mark) (o : List EntryIndex) → is_missed n (part m.floor None o ++ []) ≡ is_missed (joined_first m n) o
+first_missed : (m n : Mark) (o : List EntryIndex) → is_missed n (entries_within m.floor None o ++ []) ≡ is_missed (joined_first m n) o
 first_missed m n o = go n.reach
   where
-    go : (x : Option ℕ) → misses x (end_of (from n.reach_floor (part m.floor None o ++ []))) ≡ misses x (end_of (from (cond (is_some x) (max m.floor n.reach_floor) m.reach_floor) o))
+    go : (x : Option ℕ) → misses x (end_of (from n.reach_floor (entries_within m.floor None o ++ []))) ≡ misses x (end_of (from (cond (is_some x) (max m.floor n.reach_floor) m.reach_floor) o))
     go None = refl
     go (Some r) = ap (misses (Some r)) (met_first n.reach_floor m.floor o)
 
-first_refused : (q : LogQueue) (m n : Mark) (o : List EntryIndex) → is_first_run_refused q n (part m.floor None o ++ []) ≡ is_first_run_refused q (joined_first m n) o
+first_refused : (q : LogQueue) (m n : Mark) (o : List EntryIndex) → is_first_run_refused q n (entries_within m.floor None o ++ []) ≡ is_first_run_refused q (joined_first m n) o
 first_refused Append m n o = first_missed m n o
 first_refused Rewrite m n o = refl
 
-first_part : (m n : Mark) (o : List EntryIndex) → m.cut ≡ None → part n.floor n.cut (part m.floor None o ++ []) ≡ part (max m.floor n.floor) (lesser m.cut n.cut) o
-first_part m n o e = rw (e) (ap (part n.floor n.cut) (append-nil (part m.floor None o)) ∙ part-part n.floor n.cut m.floor None o)
+first_part : (m n : Mark) (o : List EntryIndex) → m.cut ≡ None → entries_within n.floor n.cut (entries_within m.floor None o ++ []) ≡ entries_within (max m.floor n.floor) (lesser m.cut n.cut) o
+first_part m n o e = rw (e) (ap (entries_within n.floor n.cut) (append-nil (entries_within m.floor None o)) ∙ within-within n.floor n.cut m.floor None o)
 
-first_older : (q : LogQueue) (m n : Mark) (o : List EntryIndex) → m.cut ≡ None → older_entries q n (part m.floor None o ++ []) ≡ older_entries q (joined_first m n) o
+first_older : (q : LogQueue) (m n : Mark) (o : List EntryIndex) → m.cut ≡ None → older_entries q n (entries_within m.floor None o ++ []) ≡ older_entries q (joined_first m n) o
 first_older Append m n o e = first_part m n o e
 first_older Rewrite m n o e = rw (first_missed m n o, first_part m n o e) refl
 
-pub over_first : (q : LogQueue) (m n : Mark) (u o : List EntryIndex) → m.cut ≡ None → entries_over q n u (part m.floor None o ++ []) ≡ entries_over q (joined_first m n) u o
+pub over_first : (q : LogQueue) (m n : Mark) (u o : List EntryIndex) → m.cut ≡ None → entries_over q n u (entries_within m.floor None o ++ []) ≡ entries_over q (joined_first m n) u o
 over_first q m n u o e = rw (first_refused q m n o, first_older q m n o e) refl
 
 -- one with a run leaves its own entries at the end
-later_refused : (q : LogQueue) (n : Mark) (floor c : ℕ) (o t : List EntryIndex) → (c ≤ floor) ⊎ (c < end_of t) → is_first_run_refused q n (part floor (Some c) o ++ t) ≡ is_first_run_refused q n t
+later_refused : (q : LogQueue) (n : Mark) (floor c : ℕ) (o t : List EntryIndex) → (c ≤ floor) ⊎ (c < end_of t) → is_first_run_refused q n (entries_within floor (Some c) o ++ t) ≡ is_first_run_refused q n t
 later_refused Append n floor c o t h = ap (misses n.reach) (met_later n.reach_floor floor c o t h)
 later_refused Rewrite n floor c o t h = refl
 
-gone : (floor c : ℕ) (d : Option ℕ) (o : List EntryIndex) → part (max floor c) (lesser (Some c) d) o ≡ []
-gone floor c None o = part-empty (max floor c) c o (omega arith)
-gone floor c (Some d) o = part-empty (max floor c) (min c d) o (omega arith)
+gone : (floor c : ℕ) (d : Option ℕ) (o : List EntryIndex) → entries_within (max floor c) (lesser (Some c) d) o ≡ []
+gone floor c None o = within-empty (max floor c) c o (omega arith)
+gone floor c (Some d) o = within-empty (max floor c) (min c d) o (omega arith)
 
 later_part : (q : LogQueue) (n : Mark) (floor c : ℕ) (o t u : List EntryIndex) → (c ≤ floor) ⊎ (c < end_of t)
-    → older_entries q n (part floor (Some c) o ++ t) ++ u ≡ part (joined_floor q (misses n.reach (end_of (from n.reach_floor t))) (max floor n.floor) c) (lesser (Some c) n.cut) o ++ (older_entries q n t ++ u)
-later_part Append n floor c o t u h = part-both n.floor n.cut floor (Some c) o t u
+    → older_entries q n (entries_within floor (Some c) o ++ t) ++ u ≡ entries_within (joined_floor q (misses n.reach (end_of (from n.reach_floor t))) (max floor n.floor) c) (lesser (Some c) n.cut) o ++ (older_entries q n t ++ u)
+later_part Append n floor c o t u h = within-both n.floor n.cut floor (Some c) o t u
 later_part Rewrite n floor c o t u h = rw (ap (misses n.reach) (met_later n.reach_floor floor c o t h)) (go (is_missed n t))
   where
-    go : (b : Bool) → cond b [] (part n.floor n.cut (part floor (Some c) o ++ t)) ++ u ≡ part (cond b (max (max floor n.floor) c) (max floor n.floor)) (lesser (Some c) n.cut) o ++ (cond b [] (part n.floor n.cut t) ++ u)
+    go : (b : Bool) → cond b [] (entries_within n.floor n.cut (entries_within floor (Some c) o ++ t)) ++ u ≡ entries_within (cond b (max (max floor n.floor) c) (max floor n.floor)) (lesser (Some c) n.cut) o ++ (cond b [] (entries_within n.floor n.cut t) ++ u)
     go true = rw (gone (max floor n.floor) c n.cut o) refl
-    go false = part-both n.floor n.cut floor (Some c) o t u
+    go false = within-both n.floor n.cut floor (Some c) o t u
 
 -- the older mark's meeting is the joined one's
 kept_refused : (q : LogQueue) (c x : ℕ) (m n : Mark) (o : List EntryIndex) → is_first_run_refused q (joined_later q c x m n) o ≡ is_first_run_refused q m o
@@ -106,22 +106,22 @@ over_alone q m n c t u w o e f g is = rw (f, kept_refused q c (end_of (from n.re
     go true = refl
     go false = refl
 
-over_later : (q : LogQueue) (m n : Mark) (c : ℕ) (t u w o : List EntryIndex) → is_first_run_refused q m o ≡ false → older_entries q m o ≡ part m.floor (Some c) o
-    → older_entries q (joined_later q c (end_of (from n.reach_floor t)) m n) o ≡ part (joined_floor q (misses n.reach (end_of (from n.reach_floor t))) (max m.floor n.floor) c) (lesser (Some c) n.cut) o
+over_later : (q : LogQueue) (m n : Mark) (c : ℕ) (t u w o : List EntryIndex) → is_first_run_refused q m o ≡ false → older_entries q m o ≡ entries_within m.floor (Some c) o
+    → older_entries q (joined_later q c (end_of (from n.reach_floor t)) m n) o ≡ entries_within (joined_floor q (misses n.reach (end_of (from n.reach_floor t))) (max m.floor n.floor) c) (lesser (Some c) n.cut) o
     → (c ≤ m.floor) ⊎ (c < end_of t) → entries_over q n u t ≡ Some w → entries_over q n u (older_entries q m o ++ t) ≡ entries_over q (joined_later q c (end_of (from n.reach_floor t)) m n) w o
 over_later q m n c t u w o e f g h is =
     let k = accepted (is_first_run_refused q n t) (cond n.cleaned u (older_entries q n t ++ u)) w is in
     rw (f, kept_refused q c (end_of (from n.reach_floor t)) m n o, e, g, later_refused q n m.floor c o t h, k.0, ← k.1) (go n.cleaned)
   where
-    go : (b : Bool) → Some (cond b u (older_entries q n (part m.floor (Some c) o ++ t) ++ u))
-        ≡ Some (cond b (cond b u (older_entries q n t ++ u)) (part (joined_floor q (misses n.reach (end_of (from n.reach_floor t))) (max m.floor n.floor) c) (lesser (Some c) n.cut) o ++ cond b u (older_entries q n t ++ u)))
+    go : (b : Bool) → Some (cond b u (older_entries q n (entries_within m.floor (Some c) o ++ t) ++ u))
+        ≡ Some (cond b (cond b u (older_entries q n t ++ u)) (entries_within (joined_floor q (misses n.reach (end_of (from n.reach_floor t))) (max m.floor n.floor) c) (lesser (Some c) n.cut) o ++ cond b u (older_entries q n t ++ u)))
     go true = refl
     go false = ap (λ x. Some x) (later_part q n m.floor c o t u h)
 
 -- an older mark with a run, whatever its meeting
 over_run : (q : LogQueue) (m n : Mark) (c : ℕ) (t u w o : List EntryIndex) → m.cut ≡ Some c → (c ≤ m.floor) ⊎ (c < end_of t) → is_first_run_refused q m o ≡ false
     → entries_over q n u t ≡ Some w → entries_over q n u (older_entries q m o ++ t) ≡ entries_over q (joined_later q c (end_of (from n.reach_floor t)) m n) w o
-over_run Append m n c t u w o e h r is = over_later Append m n c t u w o r (ap (λ d. part m.floor d o) e) refl h is
+over_run Append m n c t u w o e h r is = over_later Append m n c t u w o r (ap (λ d. entries_within m.floor d o) e) refl h is
 over_run Rewrite m n c t u w o e h r is = go (is_missed m o) refl
   where
     go : (b : Bool) → is_missed m o ≡ b → entries_over Rewrite n u (older_entries Rewrite m o ++ t) ≡ entries_over Rewrite (joined_later Rewrite c (end_of (from n.reach_floor t)) m n) w o
@@ -145,7 +145,7 @@ join_entries q m n t u w o fits is = by_cleaned m.cleaned refl
     unrefused Append e = rw e refl
     unrefused Rewrite e = refl
 
-    unmissed : (q : LogQueue) → m.reach ≡ None → m.cut ≡ None → older_entries q m o ≡ part m.floor None o
+    unmissed : (q : LogQueue) → m.reach ≡ None → m.cut ≡ None → older_entries q m o ≡ entries_within m.floor None o
     unmissed Append e k = rw k refl
     unmissed Rewrite e k = rw (e, k) refl
 
@@ -185,8 +185,8 @@ from_reaches floor l c t (inr h) = elim (cases_lt l (end_of t)) [ inl k ↦ inr 
     reached l e k h = grind (arith, nat_tests)
 
 older_whole : (q : LogQueue) (n : Mark) (t : List EntryIndex) → n.reach ≡ None → n.cut ≡ None → older_entries q n t ≡ from n.floor t
-older_whole Append n t e k = rw k (part-from n.floor t)
-older_whole Rewrite n t e k = rw (e, k) (part-from n.floor t)
+older_whole Append n t e k = rw k (within-from n.floor t)
+older_whole Rewrite n t e k = rw (e, k) (within-from n.floor t)
 
 pub fits_join : (q : LogQueue) (m n : Mark) (t u w : List EntryIndex) → OwnGoesPastCut m t → OwnGoesPastCut n u → entries_over q n u t ≡ Some w → OwnGoesPastCut (joined_at q (end_of (from n.reach_floor t)) m n) w
 fits_join q m n t u w f f' is = by_cleaned m.cleaned refl

@@ -19,10 +19,10 @@ use Rattle.raft_table.specs.Merge.{newer_atomic_group}
 use Rattle.raft_table.specs.Start.{leaves_hole, replayed}
 use Rattle.raft_table.specs.Steps.{Step, Run, Compact, Put, Del, AtomicGroup, Clean, stepped, is_there_after, table_of, there_if, after_step, IsTableOf}
 use Rattle.raft_table.specs.Table.{Table, empty_table}
-use Rattle.raft_table.specs.Marks.{Mark, part, misses, is_first_run_refused, entries_over, keys_over, atomic_group_over, table_over, is_there_over, applied, GoesPastCut, OwnGoesPastCut}
+use Rattle.raft_table.specs.Marks.{Mark, entries_within, misses, is_first_run_refused, entries_over, keys_over, atomic_group_over, table_over, is_there_over, applied, GoesPastCut, OwnGoesPastCut}
 use Rattle.raft_table.specs.MarkJoins.{joined_deleted, joined_uncleaned, joined_at, joined_mark, end_at_reach, fresh, mark_of, own_of}
 use Rattle.raft_table.proofs.KeyValueLaws.{get-pairs_over}
-use Rattle.raft_table.proofs.MarkWords.{part-whole, part-from, part-below}
+use Rattle.raft_table.proofs.MarkWords.{within-whole, within-from, within-below}
 use Rattle.raft_table.proofs.MarkEntries.{same_some, join_entries, over_nil}
 
 pub get-without : (d : KeySet) (o : Keys) (q : List ℕ) → finite.get (without d o) q ≡ cond (not (finset.contains d q)) (finite.get o q) None
@@ -211,7 +211,7 @@ join_applied q id m n t u w o fits own h is = go (table_over q m (table_of id t)
 
 -- one step's mark
 pub from_whole : (o : List EntryIndex) → from 0 o ≡ o
-from_whole o = sym (part-from 0 o) ∙ part-whole o
+from_whole o = sym (within-from 0 o) ∙ within-whole o
 
 meets : (f : ℕ) (o : List EntryIndex) → misses (Some f) (end_of (from 0 o)) ≡ leaves_hole (end_of o) f
 meets f o = ap (λ es. leaves_hole (end_of es) f) (from_whole o)
@@ -221,13 +221,13 @@ either_behind true a run = refl
 either_behind false a run = refl
 
 run_over : (q : LogQueue) (e : EntryIndex) (run o : List EntryIndex) → entries_over q (mark_of (Run (e ∷ run))) (e ∷ run) o ≡ replayed q o (e ∷ run)
-run_over Append e run o = rw (meets e.index o, part-below) refl
-run_over Rewrite e run o = rw (meets e.index o, part-below) (ap (λ x. Some x) (either_behind (leaves_hole (end_of o) e.index) (below e.index o) (e ∷ run)))
+run_over Append e run o = rw (meets e.index o, within-below) refl
+run_over Rewrite e run o = rw (meets e.index o, within-below) (ap (λ x. Some x) (either_behind (leaves_hole (end_of o) e.index) (below e.index o) (e ∷ run)))
 
 -- a mark without a run, of a region that wasn't cleaned
 kept_over : (q : LogQueue) (floor : ℕ) (deleted : KeySet) (o : List EntryIndex) → entries_over q (record fresh { floor = floor; deleted = deleted }) [] o ≡ Some (from floor o)
-kept_over Append floor deleted o = ap (λ x. Some x) (append-nil (part floor None o) ∙ part-from floor o)
-kept_over Rewrite floor deleted o = ap (λ x. Some x) (append-nil (part floor None o) ∙ part-from floor o)
+kept_over Append floor deleted o = ap (λ x. Some x) (append-nil (entries_within floor None o) ∙ within-from floor o)
+kept_over Rewrite floor deleted o = ap (λ x. Some x) (append-nil (entries_within floor None o) ∙ within-from floor o)
 
 untouched : (q : LogQueue) (deleted : KeySet) (o : List EntryIndex) → entries_over q (record fresh { deleted = deleted }) [] o ≡ Some o
 untouched q deleted o = kept_over q 0 deleted o ∙ ap (λ x. Some x) (from_whole o)

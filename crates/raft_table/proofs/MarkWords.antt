@@ -7,7 +7,7 @@ use Rattle.std.proofs.lemmas.Bool.{ltb-true, and_parts}
 use Rattle.std.proofs.lemmas.Bool.Decides.{nat_tests}
 use Rattle.raft_base.specs.declared.entry_index.EntryIndex.{EntryIndex}
 use Rattle.raft_table.specs.TableEntries.{end_of, below, from}
-use Rattle.raft_table.specs.Marks.{part, is_under}
+use Rattle.raft_table.specs.Marks.{entries_within, is_under}
 use Rattle.raft_table.specs.KeyValues.{lesser}
 use Rattle.raft_table.proofs.RunLemmas.{end_of-append}
 
@@ -32,44 +32,44 @@ filter-all : {X : Type 0} (p : X → Bool) → ((x : X) → p x ≡ true) → (x
 filter-all p every [] = refl
 filter-all p every (x ∷ xs) = rw (every x) (ap (λ l. x ∷ l) (filter-all p every xs))
 
-pub part-append : (floor : ℕ) (cut : Option ℕ) (xs ys : List EntryIndex) → part floor cut (xs ++ ys) ≡ part floor cut xs ++ part floor cut ys
-unfolding part
-part-append floor cut xs ys = filter-append (λ e. leb floor e.index && is_under cut e.index) xs ys
+pub within-append : (floor : ℕ) (cut : Option ℕ) (xs ys : List EntryIndex) → entries_within floor cut (xs ++ ys) ≡ entries_within floor cut xs ++ entries_within floor cut ys
+unfolding entries_within
+within-append floor cut xs ys = filter-append (λ e. leb floor e.index && is_under cut e.index) xs ys
 
-pub part-nil : (floor : ℕ) (cut : Option ℕ) → part floor cut [] ≡ []
-unfolding part
-part-nil floor cut = refl
+pub within-nil : (floor : ℕ) (cut : Option ℕ) → entries_within floor cut [] ≡ []
+unfolding entries_within
+within-nil floor cut = refl
 
-pub part-empty : (floor c : ℕ) (es : List EntryIndex) → c ≤ floor → part floor (Some c) es ≡ []
-unfolding part
-part-empty floor c es h = filter-none _ (λ e. grind (arith, nat_tests)) es
+pub within-empty : (floor c : ℕ) (es : List EntryIndex) → c ≤ floor → entries_within floor (Some c) es ≡ []
+unfolding entries_within
+within-empty floor c es h = filter-none _ (λ e. grind (arith, nat_tests)) es
 
-pub part-whole : (es : List EntryIndex) → part 0 None es ≡ es
-unfolding part
-part-whole es = filter-all _ (λ e. grind (arith, nat_tests)) es
+pub within-whole : (es : List EntryIndex) → entries_within 0 None es ≡ es
+unfolding entries_within
+within-whole es = filter-all _ (λ e. grind (arith, nat_tests)) es
 
-pub part-from : (floor : ℕ) (es : List EntryIndex) → part floor None es ≡ from floor es
-unfolding part from
-part-from floor es = same_filter _ _ (λ e. and_true (leb floor e.index)) es
+pub within-from : (floor : ℕ) (es : List EntryIndex) → entries_within floor None es ≡ from floor es
+unfolding entries_within from
+within-from floor es = same_filter _ _ (λ e. and_true (leb floor e.index)) es
   where
     and_true : (b : Bool) → (b && true) ≡ b
     and_true true = refl
     and_true false = refl
 
-pub part-below : (i : ℕ) (es : List EntryIndex) → part 0 (Some i) es ≡ below i es
-unfolding part below
-part-below i es = same_filter _ _ (λ e. grind (arith, nat_tests)) es
+pub within-below : (i : ℕ) (es : List EntryIndex) → entries_within 0 (Some i) es ≡ below i es
+unfolding entries_within below
+within-below i es = same_filter _ _ (λ e. grind (arith, nat_tests)) es
 
 both_parts : (l floor k : ℕ) (d cut : Option ℕ) → ((leb floor k && is_under cut k) && (leb l k && is_under d k)) ≡ (leb (max floor l) k && is_under (lesser cut d) k)
 both_parts l floor k d cut = grind (arith, nat_tests)
 
-pub part-part : (l : ℕ) (d : Option ℕ) (floor : ℕ) (cut : Option ℕ) (es : List EntryIndex) → part l d (part floor cut es) ≡ part (max floor l) (lesser cut d) es
-unfolding part
-part-part l d floor cut es = filter-filter _ _ _ (λ e. both_parts l floor e.index d cut) es
+pub within-within : (l : ℕ) (d : Option ℕ) (floor : ℕ) (cut : Option ℕ) (es : List EntryIndex) → entries_within l d (entries_within floor cut es) ≡ entries_within (max floor l) (lesser cut d) es
+unfolding entries_within
+within-within l d floor cut es = filter-filter _ _ _ (λ e. both_parts l floor e.index d cut) es
 
 -- a part of what an older mark leaves
-pub part-both : (l : ℕ) (d : Option ℕ) (floor : ℕ) (cut : Option ℕ) (o t u : List EntryIndex) → part l d (part floor cut o ++ t) ++ u ≡ part (max floor l) (lesser cut d) o ++ (part l d t ++ u)
-part-both l d floor cut o t u = rw (part-append, part-part) (append_assoc (part (max floor l) (lesser cut d) o) (part l d t) u)
+pub within-both : (l : ℕ) (d : Option ℕ) (floor : ℕ) (cut : Option ℕ) (o t u : List EntryIndex) → entries_within l d (entries_within floor cut o ++ t) ++ u ≡ entries_within (max floor l) (lesser cut d) o ++ (entries_within l d t ++ u)
+within-both l d floor cut o t u = rw (within-append, within-within) (append_assoc (entries_within (max floor l) (lesser cut d) o) (entries_within l d t) u)
 
 pub end_of-nil : end_of [] ≡ 0
 unfolding end_of
@@ -89,8 +89,8 @@ unfolding end_of
 end_of-cond true e es = refl
 end_of-cond false e es = refl
 
-pub end_of-part : (floor c : ℕ) (es : List EntryIndex) → end_of (part floor (Some c) es) ≤ c
-unfolding end_of part
+pub end_of-part : (floor c : ℕ) (es : List EntryIndex) → end_of (entries_within floor (Some c) es) ≤ c
+unfolding end_of entries_within
 end_of-part floor c [] = omega arith
 end_of-part floor c (e ∷ es) = go (leb floor e.index && ltb e.index c) refl (end_of-part floor c es)
   where
@@ -107,13 +107,13 @@ end_of-from i (e ∷ es) = end_of-cond (leb i e.index) e (from i es) ∙ one i e
     one i k n m h = grind (arith, nat_tests)
 
 -- older entries below a cut don't end behind own ones that reach it
-pub end_of-both : (floor c : ℕ) (t o : List EntryIndex) → (c ≤ floor) ⊎ (c < end_of t) → end_of (part floor (Some c) o ++ t) ≡ end_of t
-end_of-both floor c t o (inl h) = rw (part-empty floor c o h) refl
-end_of-both floor c t o (inr h) = omega (arith, end_of-append (part floor (Some c) o) t, end_of-part floor c o)
+pub end_of-both : (floor c : ℕ) (t o : List EntryIndex) → (c ≤ floor) ⊎ (c < end_of t) → end_of (entries_within floor (Some c) o ++ t) ≡ end_of t
+end_of-both floor c t o (inl h) = rw (within-empty floor c o h) refl
+end_of-both floor c t o (inr h) = omega (arith, end_of-append (entries_within floor (Some c) o) t, end_of-part floor c o)
 
 -- what a first run meets of what an older mark leaves: without a run of that mark the older entries, else its own
-pub met_first : (l floor : ℕ) (o : List EntryIndex) → end_of (from l (part floor None o ++ [])) ≡ end_of (from (max floor l) o)
-met_first l floor o = ap end_of (ap (from l) (append-nil (part floor None o)) ∙ sym (part-from l (part floor None o)) ∙ part-part l None floor None o ∙ part-from (max floor l) o)
+pub met_first : (l floor : ℕ) (o : List EntryIndex) → end_of (from l (entries_within floor None o ++ [])) ≡ end_of (from (max floor l) o)
+met_first l floor o = ap end_of (ap (from l) (append-nil (entries_within floor None o)) ∙ sym (within-from l (entries_within floor None o)) ∙ within-within l None floor None o ∙ within-from (max floor l) o)
 
-pub met_later : (l floor c : ℕ) (o t : List EntryIndex) → (c ≤ floor) ⊎ (c < end_of t) → end_of (from l (part floor (Some c) o ++ t)) ≡ end_of (from l t)
-met_later l floor c o t h = end_of-from l (part floor (Some c) o ++ t) ∙ ap (λ x. cond (ltb l x) x 0) (end_of-both floor c t o h) ∙ sym (end_of-from l t)
+pub met_later : (l floor c : ℕ) (o t : List EntryIndex) → (c ≤ floor) ⊎ (c < end_of t) → end_of (from l (entries_within floor (Some c) o ++ t)) ≡ end_of (from l t)
+met_later l floor c o t h = end_of-from l (entries_within floor (Some c) o ++ t) ∙ ap (λ x. cond (ltb l x) x 0) (end_of-both floor c t o h) ∙ sym (end_of-from l t)

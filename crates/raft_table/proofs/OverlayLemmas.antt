@@ -13,13 +13,13 @@ use Rattle.raft_table.specs.TableEntries.{RisesFrom, IsRun, end_of, from}
 use Rattle.raft_table.specs.KeySets.{without}
 use Rattle.raft_table.specs.KeyValues.{pairs_over}
 use Rattle.raft_table.specs.MarkMerge.{left_by}
-use Rattle.raft_table.specs.Marks.{Mark, part, misses, is_missed, entries_over, keys_over, atomic_group_over, table_over, is_there_over, GoesPastCut, Stands}
+use Rattle.raft_table.specs.Marks.{Mark, entries_within, misses, is_missed, entries_over, keys_over, atomic_group_over, table_over, is_there_over, GoesPastCut, Stands}
 use Rattle.raft_table.specs.Merge.{after_join}
-use Rattle.raft_table.specs.Overlay.{has_clean, deleted_of, is_short, rewritten_part, overlay, overlay_under, IsExactMark}
+use Rattle.raft_table.specs.Overlay.{has_clean, deleted_of, is_short, rewritten_within, overlay, overlay_under, IsExactMark}
 use Rattle.raft_table.specs.Steps.{Step, table_of, AreSteps, IsTableOf}
 use Rattle.raft_table.specs.Table.{Table, table_with_entries}
 use Rattle.raft_table.proofs.RunLemmas.{end_of-run, end_of-append, RisesFrom-append}
-use Rattle.raft_table.proofs.MarkWords.{part-append, part-nil, part-from, end_of-from}
+use Rattle.raft_table.proofs.MarkWords.{within-append, within-nil, within-from, end_of-from}
 use Rattle.raft_table.proofs.MarkEntries.{pick_false}
 use Rattle.raft_table.proofs.MarkExact.{empty_union}
 use Rattle.raft_table.proofs.MarkRuns.{run_from, table_after}
@@ -34,7 +34,7 @@ overlay_exact m ss a r h = go m.cleaned refl
     clean b e = sym h.holds.cleaned ∙ e
 
     go : (b : Bool) → m.cleaned ≡ b
-        → ◌≡◌ {A = Table} (record r { entries = cond m.cleaned a.entries (rewritten_part m.floor m.cut r.entries ++ a.entries); keys = cond m.cleaned a.keys (pairs_over a.keys (without m.deleted r.keys)); atomic_group = cond m.cleaned a.atomic_group r.atomic_group }) (overlay ss a r)
+        → ◌≡◌ {A = Table} (record r { entries = cond m.cleaned a.entries (rewritten_within m.floor m.cut r.entries ++ a.entries); keys = cond m.cleaned a.keys (pairs_over a.keys (without m.deleted r.keys)); atomic_group = cond m.cleaned a.atomic_group r.atomic_group }) (overlay ss a r)
     go true e = rw (e, clean true e) refl
     go false e =
         let d : m.deleted ≡ deleted_of finset.empty ss = sym (h.holds.deleted e finset.empty ∙ empty_union m.deleted) in
@@ -48,7 +48,7 @@ over_rewritten m a r run =
     let es = entries m.cleaned in
     rw (replayed_run Rewrite left.entries a.entries (subst IsRun es run), ← es, ← keys m.cleaned) refl
   where
-    entries : (b : Bool) → cond b a.entries (rewritten_part m.floor m.cut r.entries ++ a.entries) ≡ cond b [] (rewritten_part m.floor m.cut r.entries) ++ a.entries
+    entries : (b : Bool) → cond b a.entries (rewritten_within m.floor m.cut r.entries ++ a.entries) ≡ cond b [] (rewritten_within m.floor m.cut r.entries) ++ a.entries
     entries true = refl
     entries false = refl
 
@@ -83,10 +83,10 @@ filled-length e s zero = refl
 filled-length e s (suc n) = omega (arith, filled-length e (suc s) n)
 
 -- below a cut that the front reaches stands nothing of what is behind it
-part-behind : (floor c s : ℕ) (es : List EntryIndex) → RisesFrom s es → c ≤ s → part floor (Some c) es ≡ []
-unfolding part
-part-behind floor c s [] h l = refl
-part-behind floor c s (e ∷ es) h l = rw (gone (leb floor e.index) e.index c (omega (arith, h.0))) (part-behind floor c (suc s) es h.1 (omega arith))
+within-behind : (floor c s : ℕ) (es : List EntryIndex) → RisesFrom s es → c ≤ s → entries_within floor (Some c) es ≡ []
+unfolding entries_within
+within-behind floor c s [] h l = refl
+within-behind floor c s (e ∷ es) h l = rw (gone (leb floor e.index) e.index c (omega (arith, h.0))) (within-behind floor c (suc s) es h.1 (omega arith))
   where
     gone : (b : Bool) (i c : ℕ) → c ≤ i → (b && ltb i c) ≡ false
     gone b i c l = grind (arith, nat_tests)
@@ -96,7 +96,7 @@ either_there true b e = refl
 either_there false b e = e
 
 -- steps that a table isn't refused for leave a run of it
-live_run : (id : ℕ) (m : Mark) (a : Option Table) (ss : List Step) (o : Table) → AreSteps ss → Stands Append id m a ss → IsTableOf id o → m.cleaned ≡ false → is_missed m o.entries ≡ false → IsRun (part m.floor m.cut o.entries ++ (table_of id a).entries)
+live_run : (id : ℕ) (m : Mark) (a : Option Table) (ss : List Step) (o : Table) → AreSteps ss → Stands Append id m a ss → IsTableOf id o → m.cleaned ≡ false → is_missed m o.entries ≡ false → IsRun (entries_within m.floor m.cut o.entries ++ (table_of id a).entries)
 live_run id m a ss o good h r e miss =
     (subst (λ b. IsTableOf id (table_of id (some_there b x))) there (table_after Append id (Some o) (some_there (is_there_over m a (Some o)) x) ss good r (h.every (Some o) r ∙ applied-some Append id m a (Some o) x over))).run
   where
@@ -104,10 +104,10 @@ live_run id m a ss o good h r e miss =
     own = (table_of id a).entries
 
     x : Table
-    x = record o { entries = part m.floor m.cut o.entries ++ own; keys = keys_over m (table_of id a).keys o.keys; atomic_group = atomic_group_over m (table_of id a).atomic_group o.atomic_group }
+    x = record o { entries = entries_within m.floor m.cut o.entries ++ own; keys = keys_over m (table_of id a).keys o.keys; atomic_group = atomic_group_over m (table_of id a).atomic_group o.atomic_group }
 
-    entries : entries_over Append m own o.entries ≡ Some (part m.floor m.cut o.entries ++ own)
-    entries = ap (λ b. cond b None (Some (cond m.cleaned own (part m.floor m.cut o.entries ++ own)))) miss ∙ ap (λ es. Some es) (pick_false m.cleaned own (part m.floor m.cut o.entries ++ own) e)
+    entries : entries_over Append m own o.entries ≡ Some (entries_within m.floor m.cut o.entries ++ own)
+    entries = ap (λ b. cond b None (Some (cond m.cleaned own (entries_within m.floor m.cut o.entries ++ own)))) miss ∙ ap (λ es. Some es) (pick_false m.cleaned own (entries_within m.floor m.cut o.entries ++ own) e)
 
     over : table_over Append m (table_of id a) o ≡ Some x
     over = ap (option_map (λ es. record o { entries = es; keys = keys_over m (table_of id a).keys o.keys; atomic_group = atomic_group_over m (table_of id a).atomic_group o.atomic_group })) entries
@@ -117,8 +117,8 @@ live_run id m a ss o good h r e miss =
 
 -- the rewritten entries below the cut, with others behind them that reach a run's start
 reaching : (id : ℕ) (m : Mark) (a : Option Table) (ss : List Step) (r : Table) (start c : ℕ) → AreSteps ss → Stands Append id m a ss → IsTableOf id r → m.cleaned ≡ false → m.reach ≡ Some start → m.cut ≡ Some c → c ≤ end_of r.entries
-    → (es : List EntryIndex) → r.entries ≡ es → IsRun (part m.floor (Some c) es ++ (table_of id a).entries)
-reaching id m a ss r start c good h k e is_r is_c l [] same = subst (λ xs. IsRun (xs ++ (table_of id a).entries)) (sym (part-nil m.floor (Some c))) h.own_table.run
+    → (es : List EntryIndex) → r.entries ≡ es → IsRun (entries_within m.floor (Some c) es ++ (table_of id a).entries)
+reaching id m a ss r start c good h k e is_r is_c l [] same = subst (λ xs. IsRun (xs ++ (table_of id a).entries)) (sym (within-nil m.floor (Some c))) h.own_table.run
 reaching id m a ss r start c good h k e is_r is_c l (x ∷ es) same =
     subst (λ xs. IsRun (xs ++ (table_of id a).entries)) kept (rw is_c at (live_run id m a ss (table_with_entries r longer) good h longer_table e missed))
   where
@@ -158,8 +158,8 @@ reaching id m a ss r start c good h k e is_r is_c l (x ∷ es) same =
         met : (n : ℕ) → start ≤ n → misses (Some start) (cond (ltb m.reach_floor n) n 0) ≡ false
         met n l = grind (arith, nat_tests)
 
-    kept : part m.floor (Some c) longer ≡ part m.floor (Some c) (x ∷ es)
-    kept = part-append m.floor (Some c) (x ∷ es) more ∙ ap (λ xs. part m.floor (Some c) (x ∷ es) ++ xs) (part-behind m.floor c top more (filled-rises x top (start - top)) (subst (λ xs. c ≤ end_of xs) same l)) ∙ append-nil (part m.floor (Some c) (x ∷ es))
+    kept : entries_within m.floor (Some c) longer ≡ entries_within m.floor (Some c) (x ∷ es)
+    kept = within-append m.floor (Some c) (x ∷ es) more ∙ ap (λ xs. entries_within m.floor (Some c) (x ∷ es) ++ xs) (within-behind m.floor c top more (filled-rises x top (start - top)) (subst (λ xs. c ≤ end_of xs) same l)) ∙ append-nil (entries_within m.floor (Some c) (x ∷ es))
 
 -- an overlay is a run
 pub overlay_run : (id : ℕ) (m : Mark) (a : Option Table) (ss : List Step) (r : Table) → AreSteps ss → Stands Append id m a ss → IsTableOf id r → IsRun (overlay_under m (table_of id a) r).entries
@@ -168,16 +168,16 @@ overlay_run id m a ss r good h k = by_cleaned m.cleaned refl
     own : List EntryIndex
     own = (table_of id a).entries
 
-    by_end : (start c : ℕ) → m.reach ≡ Some start → m.cut ≡ Some c → m.cleaned ≡ false → (b : Bool) → ltb (end_of r.entries) c ≡ b → IsRun (cond b [] (part m.floor (Some c) r.entries) ++ own)
+    by_end : (start c : ℕ) → m.reach ≡ Some start → m.cut ≡ Some c → m.cleaned ≡ false → (b : Bool) → ltb (end_of r.entries) c ≡ b → IsRun (cond b [] (entries_within m.floor (Some c) r.entries) ++ own)
     by_end start c is_r is_c e true t = h.own_table.run
     by_end start c is_r is_c e false t = reaching id m a ss r start c good h k e is_r is_c (ltb-false (end_of r.entries) c t) r.entries refl
 
-    by_run : (y z : Option ℕ) → m.reach ≡ y → m.cut ≡ z → m.cleaned ≡ false → GoesPastCut y z m.floor own → IsRun (rewritten_part m.floor z r.entries ++ own)
-    by_run None None is_r is_c e f = subst (λ xs. IsRun (part m.floor None r.entries ++ xs)) (sym f) (subst IsRun (sym (append-nil (part m.floor None r.entries) ∙ part-from m.floor r.entries)) (run_from m.floor r.entries k.run))
+    by_run : (y z : Option ℕ) → m.reach ≡ y → m.cut ≡ z → m.cleaned ≡ false → GoesPastCut y z m.floor own → IsRun (rewritten_within m.floor z r.entries ++ own)
+    by_run None None is_r is_c e f = subst (λ xs. IsRun (entries_within m.floor None r.entries ++ xs)) (sym f) (subst IsRun (sym (append-nil (entries_within m.floor None r.entries) ∙ within-from m.floor r.entries)) (run_from m.floor r.entries k.run))
     by_run None (Some c) is_r is_c e f = absurd f
     by_run (Some start) None is_r is_c e f = absurd f
     by_run (Some start) (Some c) is_r is_c e f = by_end start c is_r is_c e (ltb (end_of r.entries) c) refl
 
-    by_cleaned : (b : Bool) → m.cleaned ≡ b → IsRun (cond b own (rewritten_part m.floor m.cut r.entries ++ own))
+    by_cleaned : (b : Bool) → m.cleaned ≡ b → IsRun (cond b own (rewritten_within m.floor m.cut r.entries ++ own))
     by_cleaned true e = h.own_table.run
     by_cleaned false e = by_run m.reach m.cut refl refl e (h.past_cut e)

@@ -17,7 +17,7 @@ use Rattle.raft_table.specs.TableEntries.{RisesFrom, IsRun, end_of, below}
 use Rattle.raft_table.specs.KeySets.{without}
 use Rattle.raft_table.specs.KeyValues.{Keys, Stored, pairs_over}
 use Rattle.raft_table.specs.MarkMerge.{left_by}
-use Rattle.raft_table.specs.Marks.{Mark, part, is_missed, older_entries, is_first_run_refused, entries_over, table_over}
+use Rattle.raft_table.specs.Marks.{Mark, entries_within, is_missed, older_entries, is_first_run_refused, entries_over, table_over}
 use Rattle.raft_table.specs.Merge.{after_join, newer_atomic_group, with_newer_atomic_group, IsTableMergeFault}
 use Rattle.raft_table.specs.Start.{leaves_hole, replayed}
 use Rattle.raft_table.specs.Table.{Table, empty_table, live_of}
@@ -66,7 +66,7 @@ left_entries : (q : LogQueue) (m : Mark) (own older : Table) → is_first_run_re
 left_entries q m own older e = rw e (ap (λ x. Some x) (go m.cleaned q e))
   where
     go : (b : Bool) (q : LogQueue) → is_first_run_refused q m older.entries ≡ false
-        → cond b own.entries (older_entries q m older.entries ++ own.entries) ≡ cond b [] (cond (is_missed m older.entries) [] (part m.floor m.cut older.entries)) ++ own.entries
+        → cond b own.entries (older_entries q m older.entries ++ own.entries) ≡ cond b [] (cond (is_missed m older.entries) [] (entries_within m.floor m.cut older.entries)) ++ own.entries
     go true q e = refl
     go false Append e = rw e refl
     go false Rewrite e = refl

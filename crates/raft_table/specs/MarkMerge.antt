@@ -7,7 +7,7 @@ use Rattle.raft_base.specs.declared.pipe_log.LogQueue.{LogQueue}
 use Rattle.raft_base.specs.declared.entry_index.EntryIndex.{EntryIndex}
 use Rattle.raft_table.specs.TableEntries.{IsRun}
 use Rattle.raft_table.specs.Counts.{Counts, live}
-use Rattle.raft_table.specs.Marks.{Mark, part, is_first_run_refused, entries_over}
+use Rattle.raft_table.specs.Marks.{Mark, entries_within, is_first_run_refused, entries_over}
 use Rattle.raft_table.specs.KeySets.{without}
 use Rattle.raft_table.specs.Table.{Table, live_of}
 
@@ -31,7 +31,7 @@ IsRunOver queue m own older = (es : List EntryIndex) → entries_over queue m ow
 -- what a newer mark leaves of an older table, or of one whose entries are all gone
 abbrev pub left_by : Bool → Mark → Table → Table
 left_by gone m t = record t {
-  entries = if m.cleaned then [] else (if gone then [] else part m.floor m.cut t.entries);
+  entries = if m.cleaned then [] else (if gone then [] else entries_within m.floor m.cut t.entries);
   keys = if m.cleaned then finite.empty else without m.deleted t.keys;
   atomic_group = if m.cleaned then None else t.atomic_group;
 }

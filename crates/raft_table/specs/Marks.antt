@@ -26,8 +26,8 @@ is_under None i = true
 is_under (Some cut) i = nat_lt i cut
 
 -- the entries from an index on, and below a bound, if there is one
-unfoldable pub part : ℕ → Option ℕ → List EntryIndex → List EntryIndex
-part floor cut es = filter (λ e. nat_le floor e.index && is_under cut e.index) es
+unfoldable pub entries_within : ℕ → Option ℕ → List EntryIndex → List EntryIndex
+entries_within floor cut es = filter (λ e. nat_le floor e.index && is_under cut e.index) es
 
 -- whether the first run, if there is one, leaves a hole behind entries with this end
 abbrev pub misses : Option ℕ → ℕ → Bool
@@ -40,8 +40,8 @@ is_missed m older = misses m.reach (end_of (from m.reach_floor older))
 
 -- the older entries that stay
 abbrev pub older_entries : LogQueue → Mark → List EntryIndex → List EntryIndex
-older_entries Append m older = part m.floor m.cut older
-older_entries Rewrite m older = if is_missed m older then [] else part m.floor m.cut older
+older_entries Append m older = entries_within m.floor m.cut older
+older_entries Rewrite m older = if is_missed m older then [] else entries_within m.floor m.cut older
 
 -- whether the first run is refused behind older entries: in the rewrite queue a hole drops them instead
 abbrev pub is_first_run_refused : LogQueue → Mark → List EntryIndex → Bool

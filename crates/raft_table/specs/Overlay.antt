@@ -9,7 +9,7 @@ use Rattle.raft_table.specs.Counts.{Counts, live}
 use Rattle.raft_table.specs.TableEntries.{end_of}
 use Rattle.raft_table.specs.KeySets.{KeySet, without}
 use Rattle.raft_table.specs.KeyValues.{pairs_over, lesser}
-use Rattle.raft_table.specs.Marks.{Mark, part}
+use Rattle.raft_table.specs.Marks.{Mark, entries_within}
 use Rattle.raft_table.specs.Steps.{Step, Run, Compact, Del, Clean, table_of}
 use Rattle.raft_table.specs.Table.{Table, live_of}
 
@@ -44,13 +44,13 @@ is_short None end = false
 is_short (Some cut) end = nat_lt end cut
 
 -- the rewritten entries that stay: those from the greatest compaction on and below the least start, if there is one, and only where they reach it
-abbrev pub rewritten_part : ℕ → Option ℕ → List EntryIndex → List EntryIndex
-rewritten_part floor cut es = if is_short cut (end_of es) then [] else part floor cut es
+abbrev pub rewritten_within : ℕ → Option ℕ → List EntryIndex → List EntryIndex
+rewritten_within floor cut es = if is_short cut (end_of es) then [] else entries_within floor cut es
 
 -- an appended table over a rewritten one
 abbrev pub overlay : List Step → Table → Table → Table
 overlay ss appended rewritten = record rewritten {
-  entries = if has_clean ss then appended.entries else rewritten_part (greatest_compaction ss) (least_start ss) rewritten.entries ++ appended.entries;
+  entries = if has_clean ss then appended.entries else rewritten_within (greatest_compaction ss) (least_start ss) rewritten.entries ++ appended.entries;
   keys = if has_clean ss then appended.keys else pairs_over appended.keys (without (deleted_of finset.empty ss) rewritten.keys);
   atomic_group = if has_clean ss then appended.atomic_group else rewritten.atomic_group;
 }
@@ -58,7 +58,7 @@ overlay ss appended rewritten = record rewritten {
 -- an appended table over a rewritten one, told by the mark of the append queue's steps
 abbrev pub overlay_under : Mark → Table → Table → Table
 overlay_under m appended rewritten = record rewritten {
-  entries = if m.cleaned then appended.entries else rewritten_part m.floor m.cut rewritten.entries ++ appended.entries;
+  entries = if m.cleaned then appended.entries else rewritten_within m.floor m.cut rewritten.entries ++ appended.entries;
   keys = if m.cleaned then appended.keys else pairs_over appended.keys (without m.deleted rewritten.keys);
   atomic_group = if m.cleaned then appended.atomic_group else rewritten.atomic_group;
 }

@@ -9,7 +9,7 @@ ghost use Rattle.raft_table.specs.TableEntries.{IsRun, IsRunIn, end_of};
 ghost use Rattle.raft_table.specs.KeySets.{without};
 ghost use Rattle.raft_table.specs.KeyValues.{pair_count};
 ghost use Rattle.raft_table.specs.MarkMerge.{IsFirstRunFault, IsFaultUnder, IsRunOver, left_by};
-ghost use Rattle.raft_table.specs.Marks.{part, is_missed, is_first_run_refused, table_over};
+ghost use Rattle.raft_table.specs.Marks.{entries_within, is_missed, is_first_run_refused, table_over};
 ghost use Rattle.raft_table.specs.MarkJoins.{end_at_reach};
 ghost use Rattle.raft_table.specs.Merge.{newer_atomic_group};
 ghost use Rattle.raft_table.specs.Overlay.{is_short, overlay_under, IsOverlayFault};
@@ -261,14 +261,14 @@ impl MemTable {
     fn drop_entries(&mut self, gone: bool, mark: &Mark, stats: &mut GlobalStats)
         requires counted { IsCounted self.old stats.old }
         ensures left { self.new
-            ≡ table_with_entries self.old (if gone then [] else part mark.now.floor mark.now.cut self.old.entries) }
+            ≡ table_with_entries self.old (if gone then [] else entries_within mark.now.floor mark.now.cut self.old.entries) }
         ensures recounted { IsRecounted self.old self.new stats.old stats.new }
     {
         if gone {
             self.entries.keep_below(0, stats);
             return;
         }
-        self.entries.keep_part(mark.floor(), mark.cut(), stats);
+        self.entries.keep_within(mark.floor(), mark.cut(), stats);
     }
 
     /// Drops all key values.

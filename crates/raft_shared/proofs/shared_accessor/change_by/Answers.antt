@@ -8,8 +8,8 @@ use Rattle.raft_shared.proofs.shared_accessor.change_by.Goals as goal
 
 pub returns-clause-number : goal.returns-clause-number
 returns-clause-number g c =
-    let old = table_in c.args.slot.now.part.tables c.args.id in
-    let new = table_in c.change.new.self.part.tables c.args.id in
+    let old = table_in c.args.slot.now.content.tables c.args.id in
+    let new = table_in c.change.new.self.content.tables c.args.id in
     elim c.change.result as (λ r. OnOk r (after_change old c.answer_at-change.result ≡ Some new) → IfOk r (IsAnswer c.answer_at-change.result old new) → OnOk r (IsAllowed c.answer_at-change.result) → IfOk r (IsChangeAnswer g.F.FnOnce c.args.f c.args.id)) [
       | Ok n ↦ λ e a l. (old, new, c.answer_at-change.result, c.answer_at-change.ensures.allowed, c.answer_at-change.ensures.gave, e, a, l)
       | Err x ↦ λ e a l. tt
@@ -17,8 +17,8 @@ returns-clause-number g c =
 
 pub returns-clause-fault : goal.returns-clause-fault
 returns-clause-fault g c =
-    let old = table_in c.args.slot.now.part.tables c.args.id in
-    let counts = c.args.slot.now.part.counts in
+    let old = table_in c.args.slot.now.content.tables c.args.id in
+    let counts = c.args.slot.now.content.counts in
     elim c.change.result as (λ r. IfErr r (λ e. (e ≡ errors.Memory) ⊎ IsChangeFault old counts c.answer_at-change.result e) → IfErr r (IsChangeRefusal g.F.FnOnce c.args.f c.args.id)) [
       | Ok n ↦ λ f. tt
       | Err e ↦ λ f. elim f [

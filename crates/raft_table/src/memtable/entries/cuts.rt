@@ -5,7 +5,7 @@ ghost use Rattle.raft_table.specs.Blocks.{shown};
 ghost use Rattle.raft_table.specs.BlockWords.{cut_last, cut_first};
 ghost use Rattle.raft_table.specs.TableEntries.{end_of, below, from, AreCounted, AreRecounted};
 ghost use Rattle.raft_table.specs.Start.{counts_without};
-ghost use Rattle.raft_table.specs.Marks.{part};
+ghost use Rattle.raft_table.specs.Marks.{entries_within};
 
 use crate::global_stats::GlobalStats;
 use crate::memtable::block::Block;
@@ -54,9 +54,9 @@ impl Entries {
     }
 
     /// Drops the entries below an index, and those at or above a bound, if there is one.
-    pub fn keep_part(&mut self, index: u64, cut: Option<u64>, stats: &mut GlobalStats)
+    pub fn keep_within(&mut self, index: u64, cut: Option<u64>, stats: &mut GlobalStats)
         requires { AreCounted self.old stats.old }
-        ensures entries { self.new ≡ part index cut self.old }
+        ensures entries { self.new ≡ entries_within index cut self.old }
         ensures recounted { AreRecounted self.old self.new stats.old stats.new }
     {
         self.compact_to(index, stats);

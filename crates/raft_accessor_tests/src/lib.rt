@@ -1,4 +1,4 @@
-//! Tests of `raft_accessor`.
+//! Tests of `raft_accessor` and `raft_shared`.
 #![tactic(auto)]
 
 #[cfg(test)]

@@ -443,6 +443,10 @@ impl MemTableAccessor {
 }
 
 /// A batch with a `Clean` for each region, in order.
+///
+/// # Errors
+///
+/// `Memory`.
 pub fn clean_logs(alloc: Global, ids: &[u64]) -> Result<LogBatch>
     ensures ok { IfOk result (λ logs. logs ≡ record empty_batch { items = map (λ id. command_item id Clean) ids.now }) }
     ensures memory { IfErr result (λ e. e ≡ Error.Memory) }

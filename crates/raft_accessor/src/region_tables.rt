@@ -105,6 +105,10 @@ impl RegionTables {
     }
 
     /// Pushes the ids of the tables at which `wanted` answers true, in no set order.
+    ///
+    /// # Errors
+    ///
+    /// `Memory`. Some ids may then be pushed.
     pub fn push_ids<F: FnMut(&MemTable) -> bool>(
         &self,
         wanted: &mut F,

@@ -15,6 +15,16 @@ count (b ∷ bs) = length b.spans + count bs
 abbrev pub spans_of : List EntryIndex → List (ℕ × ℕ)
 spans_of es = map (λ e. (e.entry_offset, e.entry_len)) es
 
+-- an entry of which is not known yet where it stands in its block
+abbrev pub unset : EntryIndex → EntryIndex
+unset e = record e { entry_offset = 0; entry_len = 0 }
+
+-- entries, the first of which get these places in their block
+abbrev pub with_spans : List (ℕ × ℕ) → List EntryIndex → List EntryIndex
+with_spans [] es = es
+with_spans (s ∷ ss) [] = []
+with_spans (s ∷ ss) (e ∷ es) = record e { entry_offset = s.0; entry_len = s.1 } ∷ with_spans ss es
+
 -- the first index of each block
 abbrev pub starts_of : ℕ → List BlockSpans → List ℕ
 starts_of i [] = []

@@ -173,7 +173,7 @@ impl Entries {
         if index - self.first >= self.len as u64 {
             return None;
         }
-        let (whole, at) = find(&self.starts, index);
+        let (whole, at) = find(&self.starts, self.first, self.len, index);
         let block = &self.blocks[whole];
         let span = block.spans[at];
         Some(EntryIndex {

@@ -98,7 +98,7 @@ impl Entries {
             return;
         }
         let index = self.first + count as u64;
-        let (whole, part) = find(&self.starts, index);
+        let (whole, part) = find(&self.starts, self.first, self.len, index);
         cut_front(&mut self.blocks, whole, part);
         drop_first(&mut self.starts, whole);
         self.starts[0] = index;
@@ -116,7 +116,7 @@ impl Entries {
             self.clear();
             return;
         }
-        let (whole, last) = find(&self.starts, self.first + (count - 1) as u64);
+        let (whole, last) = find(&self.starts, self.first, self.len, self.first + (count - 1) as u64);
         cut_back(&mut self.blocks, whole, last + 1);
         self.starts.truncate(whole + 1);
         self.len = count;

@@ -108,7 +108,7 @@ impl Entries {
         ensures ok { OnOk result ((self.new ≡ take keep self.old ++ run.old) × (run.new ≡ [])) }
         ensures err { OnErr result ((self.new ≡ self.old) × (run.new ≡ run.old)) }
     {
-        let (whole, last) = find(&self.starts, self.first + (keep - 1) as u64);
+        let (whole, last) = find(&self.starts, self.first, self.len, self.first + (keep - 1) as u64);
         let rest = self.blocks.len();
         put_blocks(
             &mut self.blocks,
@@ -139,11 +139,11 @@ impl Entries {
         let moved = kept + run.rewritten;
         let rewritten = moved + (self.rewritten - passed);
         let index = self.first + end as u64;
-        let (whole, part) = find(&self.starts, index);
+        let (whole, part) = find(&self.starts, self.first, self.len, index);
         let block = &self.blocks[whole];
         let handle = block.handle;
         let spans = spans_behind(*self.blocks.allocator(), &block.spans, part)?;
-        let place = cut_at(&self.starts, self.first, at);
+        let place = cut_at(&self.starts, self.first, self.len, at);
         let mut blocks = run.blocks;
         let mut starts = run.starts;
         push_block(&mut blocks, &mut starts, index, Block { handle, spans })?;

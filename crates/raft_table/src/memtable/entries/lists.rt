@@ -23,42 +23,38 @@ pub(super) fn count_at_or_below(starts: &VecDeque<u64>, index: u64) -> usize
 }
 
 /// Behind how many blocks, and behind how many entries of the next one, the entry with an index
-/// stands.
-pub(super) fn find(starts: &VecDeque<u64>, index: u64) -> (usize, usize)
+/// stands, among `len` entries from the index `first` on. A block is guessed, as if all were of one
+/// length; where that isn't the one, the last is looked at, and then all are searched.
+pub(super) fn find(starts: &VecDeque<u64>, first: u64, len: usize, index: u64) -> (usize, usize)
     requires { IsIndexOf starts.now.items index }
     ensures { (i : ℕ) (bs : List BlockSpans) → starts.now.items ≡ starts_of i bs → i ≤ index → index < i + count bs
         → IsAt (index - i) bs result.0 result.1 }
 {
     let last = starts.len() - 1;
+    let guess = guess(first, len, starts.len(), index).min(last);
+    let low = starts[guess];
+    if low <= index && (guess == last || index < starts[guess + 1]) {
+        return (guess, (index - low) as usize);
+    }
     let start = starts[last];
     if start <= index {
         return (last, (index - start) as usize);
-    }
-    let guess = guess(starts[0], start, last, index);
-    let low = starts[guess];
-    if low <= index && index < starts[guess + 1] {
-        return (guess, (index - low) as usize);
     }
     let whole = count_at_or_below(starts, index) - 1;
     let start = starts[whole];
     (whole, (index - start) as usize)
 }
 
-/// Behind how many of `count` blocks between two indexes one of them stands, if the blocks are of
-/// one length.
-fn guess(first: u64, end: u64, count: usize, index: u64) -> usize
-    requires above { first ≤ index }
-    requires below { index < end }
-    requires some { 0 < count }
-    ensures { result < count }
-{
-    let guess = (index - first).saturating_mul(count as u64) / (end - first);
-    (guess as usize).min(count - 1)
+/// Behind how many of `count` blocks of one length an index stands, if they have `len` entries from
+/// the index `first` on.
+fn guess(first: u64, len: usize, count: usize, index: u64) -> usize {
+    let behind = index.saturating_sub(first);
+    (behind.saturating_mul(count as u64) / (len as u64).max(1)) as usize
 }
 
 /// Behind how many blocks the first so many entries end, and behind how many of the last of those.
-/// `first` is the index of the first of all.
-pub(super) fn cut_at(starts: &VecDeque<u64>, first: u64, kept: usize) -> (usize, usize)
+/// `first` is the index of the first of all, and `len` how many there are.
+pub(super) fn cut_at(starts: &VecDeque<u64>, first: u64, len: usize, kept: usize) -> (usize, usize)
     requires bounded { first + kept < 2 ^ 64 }
     requires within { 0 < kept → IsIndexOf starts.now.items (first + (kept - 1)) }
     ensures none { kept ≡ 0 → (result.0 ≡ 0) × (result.1 ≡ 0) }
@@ -68,7 +64,7 @@ pub(super) fn cut_at(starts: &VecDeque<u64>, first: u64, kept: usize) -> (usize,
     if kept == 0 {
         return (0, 0);
     }
-    let (whole, last) = find(starts, first + (kept - 1) as u64);
+    let (whole, last) = find(starts, first, len, first + (kept - 1) as u64);
     (whole + 1, last + 1)
 }
 

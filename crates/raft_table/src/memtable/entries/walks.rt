@@ -1,11 +1,11 @@
 //! Walks over entries in order, block by block.
 
-ghost use Rattle.std.specs.Prelude.{◌≡◌, ◌+◌, ◌-◌, ◌≤◌, ◌<◌, ◌^◌, ◌++◌, ℕ, List, take, drop, slice_index_or, length, Some};
+ghost use Rattle.std.specs.Prelude.{◌≡◌, ◌+◌, ◌-◌, ◌≤◌, ◌<◌, ◌^◌, ◌++◌, ℕ, List, map, take, drop, slice_index_or, length, Some};
 ghost use Rattle.std.specs.List.{prefix_len};
 ghost use Rattle.std.specs.Vec.{vec_len, vec_capacity};
 ghost use Rattle.raft_base.specs.declared.entry_index.EntryIndex.{EntryIndex};
 ghost use Rattle.raft_table.specs.Blocks.{BlockSpans, block_spans, shown, spread, expanded, AreDistinctBlocks};
-ghost use Rattle.raft_table.specs.BlockWords.{count, IsAt};
+ghost use Rattle.raft_table.specs.BlockWords.{count, unset, with_spans, IsAt};
 ghost use Rattle.raft_table.specs.Fetches.{IsLimitCount};
 ghost use Rattle.raft_table.specs.Rewriting.{may_move};
 
@@ -15,6 +15,9 @@ use std::collections::VecDeque;
 
 /// Appends the entries behind the first `start`, among the first `end`, to a vector with room for
 /// them. The first of them stands at `place`, the first of all blocks has the index `first`.
+///
+/// The entries come first, and their spans are set behind: those lie in a place of their own for each
+/// block, and a walk that does little else has them all brought from memory at once.
 pub(super) fn push_parts(
     vec: &mut Vec<EntryIndex>,
     first: u64,
@@ -31,41 +34,117 @@ pub(super) fn push_parts(
     requires room { vec_len vec.old + (end - start) ≤ vec_capacity vec.old }
     ensures { vec.new.items ≡ vec.old.items ++ drop start (take end (expanded first (shown blocks.now.items))) }
 {
+    let len = vec.len();
+    push_unset(vec, first, blocks, place, start, end);
+    set_spans(vec, len, blocks, place, start, end);
+}
+
+/// Appends those entries without their spans.
+fn push_unset(
+    vec: &mut Vec<EntryIndex>,
+    first: u64,
+    blocks: &VecDeque<Block>,
+    place: (usize, usize),
+    start: usize,
+    end: usize,
+)
+    requires place { IsAt start (shown blocks.now.items) place.0 place.1 }
+    requires distinct { AreDistinctBlocks (shown blocks.now.items) }
+    requires order { start ≤ end }
+    requires within { end ≤ count (shown blocks.now.items) }
+    requires bounded { first + end < 2 ^ 64 }
+    requires room { vec_len vec.old + (end - start) ≤ vec_capacity vec.old }
+    ensures { vec.new.items
+        ≡ vec.old.items ++ map unset (drop start (take end (expanded first (shown blocks.now.items)))) }
+{
     let (mut whole, mut at) = place;
     let mut done = start;
     while done < end {
         let block = &blocks[whole];
         let count = (block.spans.len() - at).min(end - done);
-        push_part(vec, first + done as u64, block, at, count);
+        push_unset_part(vec, first + done as u64, block, at, count);
         done += count;
         whole += 1;
         at = 0;
     }
 }
 
-/// Appends so many entries of a block, behind the first `at`, to a vector with room for them. The
-/// first of them has the index `first`.
-fn push_part(vec: &mut Vec<EntryIndex>, first: u64, block: &Block, at: usize, count: usize)
+/// Appends so many entries of a block, behind the first `at`, without their spans to a vector with room
+/// for them. The first of them has the index `first`.
+fn push_unset_part(vec: &mut Vec<EntryIndex>, first: u64, block: &Block, at: usize, count: usize)
     requires within { at + count ≤ length block.now.spans.items }
     requires bounded { first + count < 2 ^ 64 }
     requires room { vec_len vec.old + count ≤ vec_capacity vec.old }
     ensures items { vec.new.items
-        ≡ vec.old.items ++ spread first block.now.handle (take count (drop at block.now.spans.items)) }
+        ≡ vec.old.items ++ map unset (spread first block.now.handle (take count (drop at block.now.spans.items))) }
     ensures len { vec_len vec.new ≡ vec_len vec.old + count }
     ensures capacity { vec_capacity vec.new ≡ vec_capacity vec.old }
 {
     let handle = block.handle;
     let mut index = first;
-    for span in block.spans.range(at..at + count) {
+    for _ in block.spans.range(at..at + count) {
         vec.push_reserved(EntryIndex {
             index,
             entries: Some(handle),
-            compression_type: CompressionType::None,
-            entry_offset: span.0,
-            entry_len: span.1,
+            ..EntryIndex::default()
         });
         index += 1;
     }
+}
+
+/// Sets the spans of the entries behind the first `len` of a vector, which are those behind the first
+/// `start` among the first `end`.
+fn set_spans(
+    vec: &mut Vec<EntryIndex>,
+    len: usize,
+    blocks: &VecDeque<Block>,
+    place: (usize, usize),
+    start: usize,
+    end: usize,
+)
+    requires place { IsAt start (shown blocks.now.items) place.0 place.1 }
+    requires distinct { AreDistinctBlocks (shown blocks.now.items) }
+    requires order { start ≤ end }
+    requires within { end ≤ count (shown blocks.now.items) }
+    requires there { len + (end - start) ≤ length vec.old.items }
+    ensures { (i : ℕ) (front : List EntryIndex) → length front ≡ len
+        → vec.old.items ≡ front ++ map unset (drop start (take end (expanded i (shown blocks.now.items))))
+        → vec.new.items ≡ front ++ drop start (take end (expanded i (shown blocks.now.items))) }
+{
+    let (mut whole, mut at) = place;
+    let mut done = start;
+    while done < end {
+        let block = &blocks[whole];
+        let count = (block.spans.len() - at).min(end - done);
+        set_part(vec, len + (done - start), block, at, count);
+        done += count;
+        whole += 1;
+        at = 0;
+    }
+}
+
+/// Gives entries behind the first `len` of a vector the spans of so many of a block behind the first
+/// `at`.
+fn set_part(vec: &mut Vec<EntryIndex>, len: usize, block: &Block, at: usize, count: usize)
+    requires within { at + count ≤ length block.now.spans.items }
+    requires there { len + count ≤ length vec.old.items }
+    ensures items { vec.new.items ≡ take len vec.old.items
+        ++ with_spans (take count (drop at block.now.spans.items)) (drop len vec.old.items) }
+    ensures len { length vec.new.items ≡ length vec.old.items }
+{
+    let mut place = len;
+    for span in block.spans.range(at..at + count) {
+        set_span(&mut vec[place], *span);
+        place += 1;
+    }
+}
+
+/// Sets where an entry stands in its block.
+fn set_span(entry: &mut EntryIndex, span: (u32, u32))
+    ensures { entry.new ≡ record entry.old { entry_offset = span.0; entry_len = span.1 } }
+{
+    entry.entry_offset = span.0;
+    entry.entry_len = span.1;
 }
 
 /// How many entries behind the first `start`, among the first `end`, may move, up to the first that

@@ -1,7 +1,8 @@
-use Rattle.std.proofs.Common.{suc, ◌≡◌, ◌+◌, ◌-◌, ◌<◌, inl, inr, get_or, arith, sym, ap, subst, ◌∙◌}
+use Rattle.std.proofs.Common.{suc, ◌≡◌, ◌+◌, ◌-◌, ◌<◌, ltb, true, get_or, arith, sym, ap, subst, ◌∙◌}
 use Rattle.std.proofs.lemmas.List.{get_or_default}
-use Rattle.raft_table.proofs.BlockSearch.{at_start, index_some, index_first, index_rises, found_some}
-use Rattle.std.proofs.lemmas.Bool.{cases_lt}
+use Rattle.raft_table.proofs.BlockSearch.{at_start, index_some, index_rises, found_some}
+use Rattle.std.proofs.lemmas.Bool.Decides.{nat_tests}
+use Rattle.raft_table.proofs.memtable.entries.lists.find.Goals.{then-guess-last, else-guess-last}
 use Rattle.raft_table.proofs.memtable.entries.lists.find.Goals as goal
 
 pub overflow_sub-last : goal.overflow_sub-last
@@ -46,32 +47,21 @@ returns c i bs e lo hi =
     at_start c.args.index i (k - 1) start bs c.args.starts.now.items e lo hi (omega arith) f (omega arith)
     (λ d l. subst (λ n. c.args.index < get_or c.args.starts.now.items n d) (sym q) (c.count_at_or_below-whole.ensures.above k d (omega arith) (omega arith)))
 
-pub index-requires : goal.index-requires
-index-requires c = let s = index_some c.args.starts.now.items c.args.index c.requires in omega (arith, c.args.starts.now.ok)
-
-pub guess-guess-requires-clause-above : goal.guess-guess-requires-clause-above
-guess-guess-requires-clause-above c = let a = index_first c.args.starts.now.items c.args.index c.requires c.index.result.now in let e = c.index.ensures in omega arith
-
-pub guess-guess-requires-clause-some : goal.guess-guess-requires-clause-some
-guess-guess-requires-clause-some c =
-    elim (cases_lt 0 (c.len-last.result - 1)) [
-      | inl l ↦ l
-      | inr l ↦
-          let s = c.index-start.result.now in
-          let e : s ≡ get_or c.args.starts.now.items 0 s = c.index-start.ensures ∙ ap (λ k. get_or c.args.starts.now.items k s) (let z : c.len-last.result - 1 ≡ 0 = omega arith in z) in
-          let a = index_first c.args.starts.now.items c.args.index c.requires s in
-          let f = c.if-start-index.false in
-          absurd (omega arith)
-    ]
+pub index-low-requires : goal.index-low-requires
+index-low-requires c = let s = index_some c.args.starts.now.items c.args.index c.requires in omega (arith, c.args.starts.now.ok)
 
 pub returns-then-index : goal.returns-then-index
 returns-then-index c i bs e lo hi =
     let ss = c.args.starts.now.items in
-    let g = c.guess-guess.result in
-    let n = c.guess-guess.ensures in
-    let high = c.index-then-low-index.result.now in
+    let g = c.min-guess.result in
+    let s = index_some ss c.args.index c.requires in
     at_start c.args.index i g c.index-low.result.now bs ss e lo hi (omega (arith, c.args.starts.now.ok)) c.index-low.ensures c.if-low-index.true
-    (λ d l.
-    let r : get_or ss (suc g) d ≡ high = get_or_default ss (suc g) d high l ∙ ap (λ k. get_or ss k high) (let z : suc g ≡ g + 1 = omega arith in z) ∙ sym c.index-then-low-index.ensures in
-    let t = c.if-index.true in
-    omega arith)
+    (λ d l. elim c.if-guess-last.branch [
+      | then-guess-last w ↦ let t = w.if-guess-last.true in absurd (omega (arith, c.args.starts.now.ok))
+      | else-guess-last w ↦
+          let high = w.index.result.now in
+          let r : get_or ss (suc g) d ≡ high = get_or_default ss (suc g) d high l ∙ ap (λ k. get_or ss k high) (let z : suc g ≡ g + 1 = omega arith in z) ∙ sym w.index.ensures in
+          let t : ltb c.args.index high ≡ true = sym w.value-is ∙ c.if-index.true in
+          let u : c.args.index < high = grind (arith, nat_tests) in
+          omega arith
+    ])

@@ -1,0 +1,21 @@
+-- Entries that come first, and whose places in their blocks are set behind.
+use Rattle.std.proofs.Common.{◌≡◌, ℕ, ◌+◌, ◌<◌, List, [], ◌∷◌, ◌++◌, length, get_or, map, take, drop, suc, refl, sym, ap, ◌∙◌, arith, Some}
+use Rattle.std.proofs.lemmas.List.{append_assoc, drop_at}
+use Rattle.std.proofs.Math.Seq.{take-append_seam}
+use Rattle.raft_base.specs.declared.pipe_log.FileBlockHandle.{FileBlockHandle}
+use Rattle.raft_base.specs.declared.compression_type.CompressionType.TheVariants as compression
+use Rattle.raft_base.specs.declared.entry_index.EntryIndex.{EntryIndex}
+use Rattle.raft_table.specs.Blocks.{spread}
+use Rattle.raft_table.specs.BlockWords.{unset, with_spans}
+
+-- the entries of a block get their places, and those behind none
+pub spans_set : (i : ℕ) (h : FileBlockHandle) (ss : List (ℕ × ℕ)) (rest : List EntryIndex) → with_spans ss (map unset (spread i h ss ++ rest)) ≡ spread i h ss ++ map unset rest
+spans_set i h [] rest = refl
+spans_set i h (s ∷ ss) rest = ap (λ es. record { index = i; entries = Some h; compression_type = compression.None; entry_offset = s.0; entry_len = s.1 } ∷ es) (spans_set (suc i) h ss rest)
+
+-- those of a part of a block, behind others
+pub part_set : (front : List EntryIndex) (n i : ℕ) (h : FileBlockHandle) (ss : List (ℕ × ℕ)) (rest : List EntryIndex) → length front ≡ n → take n (front ++ map unset (spread i h ss ++ rest)) ++ with_spans ss (drop n (front ++ map unset (spread i h ss ++ rest))) ≡ (front ++ spread i h ss) ++ map unset rest
+part_set front n i h ss rest l =
+    let es = map unset (spread i h ss ++ rest) in
+    let t : take n (front ++ es) ≡ front = ap (λ k. take k (front ++ es)) (sym l) ∙ take-append_seam front es in
+    rw (t, drop_at front es n l, spans_set i h ss rest) (sym (append_assoc front (spread i h ss) (map unset rest)))

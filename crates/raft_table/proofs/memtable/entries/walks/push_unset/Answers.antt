@@ -1,0 +1,49 @@
+use Rattle.std.proofs.Common.{◌+◌, ◌++◌, map, take, drop, arith, sym, ap, ◌∙◌}
+use Rattle.std.proofs.lemmas.List.{append_assoc, map-append}
+use Rattle.raft_table.specs.Blocks.{block_spans, shown, spread, expanded}
+use Rattle.raft_table.specs.BlockWords.{unset}
+use Rattle.raft_table.proofs.BlockQueues.{block_at}
+use Rattle.raft_table.proofs.WalkLemmas.{IsStep, walk_step, walk_more}
+use Rattle.raft_table.proofs.memtable.entries.walks.push_unset.Goals as goal
+
+pub overflow_sub-len : goal.overflow_sub-len
+overflow_sub-len c =
+    let b = block_at c.args.blocks.now.items c.index-block.result.now (c.loop-done.invariant.2 c.loop-done-test.true) c.index-block.ensures in
+    let w = b.inside in omega (arith, c.index-block.result.now.spans.ok)
+
+pub push_unset_part-requires-clause-within : goal.push_unset_part-requires-clause-within
+push_unset_part-requires-clause-within c =
+    let b = block_at c.args.blocks.now.items c.index-block.result.now (c.loop-done.invariant.2 c.loop-done-test.true) c.index-block.ensures in
+    let w = b.inside in omega (arith, c.index-block.result.now.spans.ok)
+
+step : (c : goal.After-push_unset_part) → IsStep c.loop-done.done c.loop-done.whole c.loop-done.at c.min-count.result c.args.end (shown c.args.blocks.now.items) (block_spans c.index-block.result.now)
+step c =
+    let a = c.loop-done.invariant.2 c.loop-done-test.true in
+    let b = block_at c.args.blocks.now.items c.index-block.result.now a c.index-block.ensures in
+    walk_step c.loop-done.done c.loop-done.whole c.loop-done.at c.min-count.result c.args.end c.len.result (shown c.args.blocks.now.items) (block_spans c.index-block.result.now) a c.requires.distinct b.same
+    (omega (arith, c.index-block.result.now.spans.ok)) c.min-count.ensures c.loop-done-test.true c.requires.within
+
+pub loop-done-smaller : goal.loop-done-smaller
+loop-done-smaller c = let s = step c in let p = s.some in let t = c.loop-done-test.true in omega arith
+
+pub loop-done-preserved : goal.loop-done-preserved
+loop-done-preserved c =
+    let s = step c in
+    let some = s.some in
+    let order = s.order in
+    let a = c.loop-done.invariant.2 c.loop-done-test.true in
+    let b = block_at c.args.blocks.now.items c.index-block.result.now a c.index-block.ensures in
+    let bs = shown c.args.blocks.now.items in
+    let low = c.loop-done.invariant.0 in
+    let w = c.requires.within in
+    let xs = drop c.args.start (take c.loop-done.done (expanded c.args.first bs)) in
+    let ys = spread (c.args.first + c.loop-done.done) c.index-block.result.now.handle (take c.min-count.result (drop c.loop-done.at c.index-block.result.now.spans.items)) in (
+      omega arith,
+      order,
+      s.next,
+      (let l = c.loop-done.invariant.3 in omega (arith, c.push_unset_part.ensures.len)),
+      c.push_unset_part.ensures.capacity ∙ c.loop-done.invariant.4,
+      c.push_unset_part.ensures.items ∙ ap (λ zs. zs ++ map unset ys) c.loop-done.invariant.5 ∙ append_assoc c.args.vec.now.items (map unset xs) (map unset ys)
+          ∙ ap (λ zs. c.args.vec.now.items ++ zs) (sym (map-append unset xs ys)
+          ∙ ap (map unset) (sym (walk_more c.args.first c.args.start c.loop-done.done c.loop-done.whole c.loop-done.at c.min-count.result bs (block_spans c.index-block.result.now) low a b.same s.within (omega arith)))),
+    )

@@ -116,7 +116,12 @@ impl Entries {
             self.clear();
             return;
         }
-        let (whole, last) = find(&self.starts, self.first, self.len, self.first + (count - 1) as u64);
+        let (whole, last) = find(
+            &self.starts,
+            self.first,
+            self.len,
+            self.first + (count - 1) as u64,
+        );
         cut_back(&mut self.blocks, whole, last + 1);
         self.starts.truncate(whole + 1);
         self.len = count;

@@ -71,7 +71,12 @@ impl Entries {
         if place >= self.len {
             return None;
         }
-        let (whole, _) = find(&self.starts, self.first, self.len, self.first + place as u64);
+        let (whole, _) = find(
+            &self.starts,
+            self.first,
+            self.len,
+            self.first + place as u64,
+        );
         Some(self.blocks[whole].handle.id.seq)
     }
 
@@ -120,7 +125,12 @@ impl Entries {
         if start == end {
             return 0;
         }
-        let place = find(&self.starts, self.first, self.len, self.first + start as u64);
+        let place = find(
+            &self.starts,
+            self.first,
+            self.len,
+            self.first + start as u64,
+        );
         count_from(&self.blocks, place, start, end, limit)
     }
 
@@ -135,7 +145,12 @@ impl Entries {
     {
         vec.reserve(end - start)?;
         if start < end {
-            let place = find(&self.starts, self.first, self.len, self.first + start as u64);
+            let place = find(
+                &self.starts,
+                self.first,
+                self.len,
+                self.first + start as u64,
+            );
             push_parts(vec, self.first, &self.blocks, place, start, end);
         }
         Ok(())

@@ -108,7 +108,12 @@ impl Entries {
         ensures ok { OnOk result ((self.new ≡ take keep self.old ++ run.old) × (run.new ≡ [])) }
         ensures err { OnErr result ((self.new ≡ self.old) × (run.new ≡ run.old)) }
     {
-        let (whole, last) = find(&self.starts, self.first, self.len, self.first + (keep - 1) as u64);
+        let (whole, last) = find(
+            &self.starts,
+            self.first,
+            self.len,
+            self.first + (keep - 1) as u64,
+        );
         let rest = self.blocks.len();
         put_blocks(
             &mut self.blocks,

@@ -45,21 +45,21 @@ loop-done-preserved c =
       s.next,
       c.set_part.ensures.len ∙ c.loop-done.invariant.3,
       λ i front m e.
-      let es = expanded i bs in
-      let xs = drop c.args.start (take done es) in
-      let ss = take n (drop c.loop-done.at c.index-block.result.now.spans.items) in
-      let h = c.index-block.result.now.handle in
-      let rest = drop (done + n) (take c.args.end es) in
-      let split : drop done (take c.args.end es) ≡ spread (i + done) h ss ++ rest =
-      walk_part i done c.loop-done.whole c.loop-done.at n c.args.end bs (block_spans c.index-block.result.now) a b.same s.within order w in
-      let more : drop c.args.start (take (done + n) es) ≡ xs ++ spread (i + done) h ss =
-      walk_more i c.args.start done c.loop-done.whole c.loop-done.at n bs (block_spans c.index-block.result.now) low a b.same s.within (omega arith) in
-      let was : c.loop-done.vec.items ≡ (front ++ xs) ++ map unset (spread (i + done) h ss ++ rest) =
-      c.loop-done.invariant.4 i front m e ∙ ap (λ zs. (front ++ xs) ++ map unset zs) split in
-      let t : length (take done es) ≡ done = length-take-le done es (rw (length-expanded i bs) (omega arith)) in
-      let long : length (front ++ xs) ≡ c.args.len + (done - c.args.start) = length-append front xs ∙ omega (arith, length-drop c.args.start (take done es)) in
-      c.set_part.ensures.items
-      ∙ ap (λ zs. take (c.args.len + (done - c.args.start)) zs ++ with_spans ss (drop (c.args.len + (done - c.args.start)) zs)) was
-      ∙ part_set (front ++ xs) (c.args.len + (done - c.args.start)) (i + done) h ss rest long
-      ∙ ap (λ zs. zs ++ map unset rest) (append_assoc front xs (spread (i + done) h ss) ∙ ap (λ zs. front ++ zs) (sym more)),
+          let es = expanded i bs in
+          let xs = drop c.args.start (take done es) in
+          let ss = take n (drop c.loop-done.at c.index-block.result.now.spans.items) in
+          let h = c.index-block.result.now.handle in
+          let rest = drop (done + n) (take c.args.end es) in
+          let split : drop done (take c.args.end es) ≡ spread (i + done) h ss ++ rest =
+          walk_part i done c.loop-done.whole c.loop-done.at n c.args.end bs (block_spans c.index-block.result.now) a b.same s.within order w in
+          let more : drop c.args.start (take (done + n) es) ≡ xs ++ spread (i + done) h ss =
+          walk_more i c.args.start done c.loop-done.whole c.loop-done.at n bs (block_spans c.index-block.result.now) low a b.same s.within (omega arith) in
+          let was : c.loop-done.vec.items ≡ (front ++ xs) ++ map unset (spread (i + done) h ss ++ rest) =
+          c.loop-done.invariant.4 i front m e ∙ ap (λ zs. (front ++ xs) ++ map unset zs) split in
+          let t : length (take done es) ≡ done = length-take-le done es (rw (length-expanded i bs) (omega arith)) in
+          let long : length (front ++ xs) ≡ c.args.len + (done - c.args.start) = length-append front xs ∙ omega (arith, length-drop c.args.start (take done es)) in
+          c.set_part.ensures.items
+          ∙ ap (λ zs. take (c.args.len + (done - c.args.start)) zs ++ with_spans ss (drop (c.args.len + (done - c.args.start)) zs)) was
+          ∙ part_set (front ++ xs) (c.args.len + (done - c.args.start)) (i + done) h ss rest long
+          ∙ ap (λ zs. zs ++ map unset rest) (append_assoc front xs (spread (i + done) h ss) ∙ ap (λ zs. front ++ zs) (sym more)),
     )

@@ -1,6 +1,6 @@
 -- Entries that come first, and whose places in their blocks are set behind.
-use Rattle.std.proofs.Common.{◌≡◌, ℕ, List, [], ◌∷◌, ◌++◌, length, map, take, drop, suc, refl, sym, ap, ◌∙◌, Some}
-use Rattle.std.proofs.lemmas.List.{append_assoc, drop_at}
+use Rattle.std.proofs.Common.{◌≡◌, ℕ, ◌+◌, ◌<◌, List, [], ◌∷◌, ◌++◌, length, map, take, drop, suc, refl, sym, ap, ◌∙◌, Some}
+use Rattle.std.proofs.lemmas.List.{append_assoc, drop_at, drop_more}
 use Rattle.std.proofs.Math.Seq.{take-append_seam}
 use Rattle.raft_base.specs.declared.pipe_log.FileBlockHandle.{FileBlockHandle}
 use Rattle.raft_base.specs.declared.compression_type.CompressionType.TheVariants as compression
@@ -19,3 +19,10 @@ part_set front n i h ss rest l =
     let es = map unset (spread i h ss ++ rest) in
     let t : take n (front ++ es) ≡ front = ap (λ k. take k (front ++ es)) (sym l) ∙ take-append_seam front es in
     rw (t, drop_at front es n l, spans_set i h ss rest) (sym (append_assoc front (spread i h ss) (map unset rest)))
+
+-- one entry more of a block, without its place
+pub unset_more : (i next k more : ℕ) (h : FileBlockHandle) (ss : List (ℕ × ℕ)) (front : List EntryIndex) (e : EntryIndex) → e ≡ record { index = i; entries = Some h; compression_type = compression.None; entry_offset = 0; entry_len = 0 } → k < length ss → next ≡ suc i → more ≡ k + 1 → (front ++ e ∷ []) ++ map unset (spread next h (drop more ss)) ≡ front ++ map unset (spread i h (drop k ss))
+unset_more i next k more h ss front e q l n m =
+    rw (n, m) (append_assoc front (e ∷ []) (map unset (spread (suc i) h (drop (k + 1) ss)))
+    ∙ ap (λ x. front ++ (x ∷ map unset (spread (suc i) h (drop (k + 1) ss)))) q
+    ∙ ap (λ ys. front ++ map unset (spread i h ys)) (sym (drop_more ss k (0, 0) l)))

@@ -81,14 +81,12 @@ fn push_unset_part(vec: &mut Vec<EntryIndex>, first: u64, block: &Block, at: usi
     ensures capacity { vec_capacity vec.new ≡ vec_capacity vec.old }
 {
     let handle = block.handle;
-    let mut index = first;
-    for _ in block.spans.range(at..at + count) {
+    for index in first..first + count as u64 {
         vec.push_reserved(EntryIndex {
             index,
             entries: Some(handle),
             ..EntryIndex::default()
         });
-        index += 1;
     }
 }
 

@@ -1,5 +1,5 @@
 -- A region's table changed by a call, or made and changed.
-use Rattle.std.proofs.Common.{◌≡◌, ℕ, Some, Result, Ok, Err, refl, sym, ap, subst, ◌∙◌, inl, inr}
+use Rattle.std.proofs.Common.{◌≡◌, ℕ, Option, Some, Result, Ok, Err, refl, sym, ap, subst, ◌∙◌, inl, inr}
 use Rattle.std.specs.FinMap as finite
 use Rattle.std.specs.Result.{OnOk, OnErr}
 use Rattle.raft_base.specs.declared.errors.Error.{Error}
@@ -9,7 +9,7 @@ use Rattle.raft_table.specs.Steps.{table_of}
 use Rattle.raft_table.specs.Table.{Table, IsRecounted}
 use Rattle.raft_history.specs.RegionSteps.{Tables}
 use Rattle.raft_accessor.specs.Accessor.{table_in}
-use Rattle.raft_accessor.specs.Updates.{TableCall, TableCalls, MayChange, IsUpdated}
+use Rattle.raft_accessor.specs.Updates.{TableCall, TableCalls, MayChange, IsUpdated, IsTaken}
 use Rattle.raft_accessor.proofs.MapLemmas.{get_own, insert_same, one_written, one_same}
 
 module _ {F R : Type 0} (g : TableCall F R) (f : F) (m : Tables) (id : ℕ) (counts : Counts) where
@@ -72,3 +72,32 @@ module _ {F R : Type 0} (g : TableCall F R) (f : F) (m : Tables) (id : ℕ) (cou
         one = one_same m n id e;
         recounted = λ q. subst (λ t. IsRecounted (table_in m id) t counts counts) (sym now) (λ q. refl) q;
       }
+
+-- a table that was there becomes the outcome of a change
+pub taken_there : {R : Type 0} (m n : Tables) (id : ℕ) (u new : Table) (outcome : Table → Option Table) (IsFault : Error → Type 0) (counts after : Counts) (a : R) → finite.get m id ≡ Some u → outcome u ≡ Some new → IsRecounted u new counts after → n ≡ finite.insert m id new → IsTaken (outcome (table_in m id)) IsFault m id counts (Ok a) n after
+taken_there m n id u new outcome IsFault counts after a is o r e =
+    let was : table_in m id ≡ u = ap (table_of id) is in
+    let now : table_in n id ≡ new = ap (λ x. table_in x id) e ∙ ap (table_of id) (get_own m id new) in
+    record {
+      ok = ap outcome was ∙ o ∙ ap Some (sym now);
+      there = ap (λ x. finite.get x id) e ∙ get_own m id new ∙ ap Some (sym now);
+      err = tt;
+      counts_err = tt;
+      fault = tt;
+      one = one_written m n id new e;
+      recounted = subst (λ t. IsRecounted t (table_in n id) counts after) (sym was) (subst (λ t. IsRecounted u t counts after) (sym now) r);
+    }
+
+-- a change that is not made, as for want of memory
+pub not_taken : {R : Type 0} (m n : Tables) (id : ℕ) (outcome : Option Table) (IsFault : Error → Type 0) (counts after : Counts) → n ≡ m → after ≡ counts → IsTaken {R = R} outcome IsFault m id counts (Err Memory) n after
+not_taken m n id outcome IsFault counts after e k =
+    let now : table_in n id ≡ table_in m id = ap (λ y. table_in y id) e in
+    record {
+      ok = tt;
+      there = tt;
+      err = e;
+      counts_err = k;
+      fault = inl refl;
+      one = one_same m n id e;
+      recounted = subst (λ c. IsRecounted (table_in m id) (table_in n id) counts c) (sym k) (subst (λ t. IsRecounted (table_in m id) t counts counts) (sym now) (λ q. refl));
+    }

@@ -1,6 +1,6 @@
 //! The tables of some regions.
 
-ghost use Rattle.std.specs.Prelude.{◌≡◌, ◌≢◌, ◌≤◌, ◌<◌, ◌^◌, ◌+◌, ◌↔◌, ◌⊎◌, ℕ, nat_eq, List, ◌++◌, map, IsPermutation, IsTrue, OnOk, OnErr, IfOk, IfErr, IfSome, Some, None, option_map};
+ghost use Rattle.std.specs.Prelude.{◌≡◌, ◌≢◌, ◌≤◌, ◌<◌, ◌^◌, ◌+◌, ◌↔◌, ◌⊎◌, ℕ, nat_eq, List, ◌++◌, map, IsPermutation, IsTrue, OnOk, OnErr, OnSome, IfOk, IfErr, IfSome, Some, None, ok_or, option_map};
 ghost use Rattle.std.specs.FinMap as finite;
 ghost use Rattle.std.specs.List.{IsDistinct, FoldsTo};
 ghost use Rattle.std.specs.Map.{keys_of, lookup};
@@ -8,8 +8,10 @@ ghost use Rattle.raft_base.specs.declared.pipe_log.LogQueue.{LogQueue};
 ghost use Rattle.raft_history.specs.RegionSteps.{Tables, with_table};
 ghost use Rattle.raft_table.specs.Change.{after_change, AreCountsAfter, IsAllowed, IsAnswer, IsChangeFault};
 ghost use Rattle.raft_table.specs.Counts.{live};
+ghost use Rattle.raft_table.specs.Queues.{other};
 ghost use Rattle.raft_table.specs.Steps.{table_of};
-ghost use Rattle.raft_table.specs.Table.{Table, empty_table, live_of, with_atomic_group, IsCounted, IsRecounted};
+ghost use Rattle.raft_table.specs.Table.{Table, after_replay, empty_table, live_of, with_atomic_group, IsCounted, IsRecounted};
+ghost use Rattle.raft_table.specs.TableEntries.{IsRunIn, end_of};
 ghost use Rattle.raft_accessor.specs.Accessor.{table_in};
 ghost use Rattle.raft_accessor.specs.Merges.{with_newer, with_appended, IsNewerFault, IsAppendedFault, MayAlter, IsAltered, IsTableMerged};
 ghost use Rattle.raft_accessor.specs.Updates.{MayChange, IsUpdated, IsTaken};
@@ -18,7 +20,9 @@ ghost use Rattle.raft_accessor.specs.Walks.{KeepsId, Makes};
 mod join;
 mod overlay;
 
-use raft_table::{Error, FileSeq, GlobalStats, MemTable, Result, TableChange};
+use raft_table::{
+    EntryIndex, Error, FileSeq, GlobalStats, LogQueue, MemTable, Result, TableChange,
+};
 use std::alloc::Global;
 use std::collections::HashMap;
 use std::collections::hash_map::IntoIter;
@@ -165,6 +169,32 @@ impl RegionTables {
             stats,
             move |table: &mut MemTable, stats: &mut GlobalStats| table.change(change, stats),
         )
+    }
+
+    /// Puts a run that is read again where its region has a table that takes it, and answers where the
+    /// entries of the table ended before.
+    pub(crate) fn try_replay_run(
+        &mut self,
+        queue: LogQueue,
+        id: u64,
+        run: &[EntryIndex],
+        stats: &mut GlobalStats,
+    ) -> Option<u64>
+        requires run { IsRunIn queue run.now }
+        requires counted { IsCounted (table_in self.old id) stats.old }
+        ensures taken { IsTaken (after_replay queue (table_in self.old id) run.now) (λ e. ⊥)
+            self.old id stats.old (ok_or result Error.Memory) self.new stats.new }
+        ensures accepted { OnSome result (live_of (other queue) (table_in self.old id) ≡ 0) }
+        ensures end { IfSome result (λ end. end ≡ end_of (table_in self.old id).entries) }
+    {
+        let Some(table) = self.tables.get_mut(&id) else {
+            return None;
+        };
+        let end = table.end();
+        if !table.try_replay(queue, run, stats) {
+            return None;
+        }
+        Some(end)
     }
 
     /// Sets the files of a region's atomic group; its table is made where there is none.

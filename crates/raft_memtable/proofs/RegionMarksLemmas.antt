@@ -7,13 +7,12 @@ use Rattle.std.specs.Option.{option_copied_mut, unwrap_or}
 use Rattle.std.specs.Result.{OnOk, OnErr}
 use Rattle.std.specs.FinMap as finite
 use Rattle.std.specs.FinMap.{find}
-use Rattle.raft_base.specs.declared.errors.Error.{Error}
-use Rattle.raft_base.specs.declared.errors.Error.TheVariants.{Memory}
+use Rattle.std.specs.declared.alloc.AllocError.{AllocError}
 use Rattle.raft_history.specs.MarkedRegions.{Marks}
 use Rattle.raft_table.specs.MarkJoins.{fresh}
 use Rattle.raft_table.specs.Marks.{Mark}
 use Rattle.raft_memtable.specs.declared.region_marks.RegionMarks.TheInside.{Inside}
-use Rattle.raft_memtable.specs.RegionMarks.{mark_in, MarkChange, ChangesMark, MayChangeMark, IsMarkUpdated}
+use Rattle.raft_memtable.specs.RegionMarks.{mark_in, MarkChange, ChangesMark, IsMarkUpdated}
 use Rattle.raft_memtable.specs.RegionMarksView.{marks_shown}
 use Rattle.raft_accessor.proofs.MapLemmas.{same, by_id, not_same, self_same, get_own, get_other, insert_same}
 use Rattle.raft_accessor.proofs.RegionTablesLemmas.{same_test}
@@ -50,7 +49,7 @@ absent a m k o is v e = get-shown a m k is ∙ sym v ∙ ap option_copied_mut e
 -- ---- a mark changed by a call
 
 abbrev R : Type 0
-R = Result (Unit {0}) Error
+R = Result (Unit {0}) AllocError
 
 pub mark_of_some : (m : Marks) (id : ℕ) (x : Mark) → finite.get m id ≡ Some x → mark_in m id ≡ x
 mark_of_some m id x e = ap (λ (o : Option Mark). unwrap_or o fresh) e
@@ -63,14 +62,13 @@ now_in m n id x e = mark_of_some n id x (ap (λ y. finite.get y id) e ∙ get_ow
 
 module _ {F : Type 0} (g : MarkChange F) (f : F) (m : Marks) (id : ℕ) where
   -- the mark was there
-  pub updated : (u : Mark) (r : R) (new : Mark) (n : Marks) → finite.get m id ≡ Some u → MayChangeMark g f (mark_in m id) → ChangesMark g f (mark_in m id) r new → n ≡ finite.insert m id new → IsMarkUpdated g f m id r n
-  updated u r new n is may ch e =
+  pub updated : (u : Mark) (r : R) (new : Mark) (n : Marks) → finite.get m id ≡ Some u → ChangesMark g f (mark_in m id) r new → n ≡ finite.insert m id new → IsMarkUpdated g f m id r n
+  updated u r new n is ch e =
       let now : mark_in n id ≡ new = now_in m n id new e in
       record {
         changed = elim r as (λ s. ChangesMark g f (mark_in m id) s new → OnOk s (ChangesMark g f (mark_in m id) s (mark_in n id))) [ Ok a ↦ λ ch. subst (λ x. ChangesMark g f (mark_in m id) (Ok a) x) (sym now) ch | Err x ↦ λ ch. tt ] ch;
         one = elim r as (λ s. OnOk s (n ≡ finite.insert m id (mark_in n id))) [ Ok a ↦ e ∙ ap (finite.insert m id) (sym now) | Err x ↦ tt ];
         err = λ kept. elim r as (λ s. OnErr s (new ≡ mark_in m id) → OnErr s (n ≡ m)) [ Ok a ↦ λ k. tt | Err x ↦ λ k. e ∙ insert_same m id new (is ∙ ap Some (sym (k ∙ mark_of_some m id u is))) ] (kept new ch);
-        memory = may.memory r new ch;
       }
 
   -- the mark was made
@@ -81,13 +79,8 @@ module _ {F : Type 0} (g : MarkChange F) (f : F) (m : Marks) (id : ℕ) where
         changed = subst (λ x. ChangesMark g f (mark_in m id) (Ok a) x) (sym now) ch;
         one = e ∙ ap (finite.insert m id) (sym now);
         err = λ kept. tt;
-        memory = tt;
       }
 
-  -- the mark that would have been made was refused
-  pub refused : (x : Error) (new : Mark) (n : Marks) → MayChangeMark g f (mark_in m id) → ChangesMark g f (mark_in m id) (Err x) new → n ≡ m → IsMarkUpdated g f m id (Err x) n
-  refused x new n may ch e = record { changed = tt; one = tt; err = λ kept. e; memory = may.memory (Err x) new ch }
-
-  -- there was no memory for a mark
-  pub no_memory : (n : Marks) → n ≡ m → IsMarkUpdated g f m id (Err Memory) n
-  no_memory n e = record { changed = tt; one = tt; err = λ kept. e; memory = refl }
+  -- there was no memory for the mark, or for what changes it
+  pub refused : (x : AllocError) (n : Marks) → n ≡ m → IsMarkUpdated g f m id (Err x) n
+  refused x n e = record { changed = tt; one = tt; err = λ kept. e }

@@ -1,5 +1,5 @@
 -- Steps taken into the marks and tables of all regions, one after another.
-use Rattle.std.proofs.Common.{◌≡◌, ◌⊎◌, ℕ, ◌+◌, ◌≤◌, List, [], ◌∷◌, ◌++◌, length, Bool, true, cond, append-nil, append_assoc, map, Option, Some, None, Result, Ok, Err, refl, sym, ap, subst, ◌∙◌, inl, inr, arith}
+use Rattle.std.proofs.Common.{◌≡◌, ◌⊎◌, ℕ, ◌+◌, ◌≤◌, ◌<◌, get_or, List, [], ◌∷◌, ◌++◌, length, Bool, true, false, cond, MatchBool, append-nil, append_assoc, map, Option, Some, None, Result, Ok, Err, refl, sym, ap, subst, ◌∙◌, inl, inr, arith}
 use Rattle.std.specs.FinMap as finite
 use Rattle.std.specs.Option.{option_map, option_and_then}
 use Rattle.std.specs.Result.{OnOk, IfErr}
@@ -177,6 +177,10 @@ pub run_marked : (q : LogQueue) (id : ℕ) (run : List EntryIndex) (start end : 
 run_marked q id run start end o old new (Ok u) e k h = h ∙ ap (finite.insert old id) (run_mark q id run start end o (mark_in old id) e k)
 run_marked q id run start end o old new (Err x) e k h = tt
 
+pub first_of : (run : List EntryIndex) (x : EntryIndex) → 0 < length run → x ≡ get_or run 0 x → first_index run ≡ Some x.index
+first_of [] x l e = absurd (omega (arith, l))
+first_of (y ∷ run) x l e = ap (λ (z : EntryIndex). Some z.index) (sym e)
+
 pub no_run : (run : List EntryIndex) → first_index run ≡ None → mark_of (Run run) ≡ fresh
 no_run [] e = refl
 no_run (x ∷ run) e = absurd (none_some (sym e))
@@ -210,6 +214,15 @@ clean_taken q id a mid marks r b e t l m f =
     step_taken q id Clean a (record { accessor = mid; marks = marks }) r None refl t (l ∙ ap (λ b. cond b (a.accessor.cleaned ++ id ∷ []) a.accessor.cleaned) e ∙ cleaned_list q id a.accessor.cleaned) m f
 
 -- ---- items, one after another
+
+-- what a run tried first tells: it is taken in, or all is as it was
+pub tried : (q : LogQueue) (steps : List RegionStep) (a b : MarkedTables) (taken : Bool) → taken ≡ true → MatchBool taken (AreTaken q steps (Ok tt) a b) (b ≡ a) → AreTaken q steps (Ok tt) a b
+tried q steps a b taken e h = rw e at h
+
+pub not_tried : (q : LogQueue) (steps : List RegionStep) (a b c : MarkedTables) (r : Result Unit Error) (taken : Bool) → taken ≡ false → MatchBool taken (AreTaken q steps (Ok tt) a b) (b ≡ a) → AreTaken q steps r b c → AreTaken q steps r a c
+not_tried q steps a b c r taken e h t =
+    let k : b ≡ a = rw e at h in
+    subst (λ x. AreTaken q steps r x c) k t
 
 split_items : (q : LogQueue) (x : LogItem) (xs ys : List LogItem) → ys ≡ x ∷ xs → steps_of_items (map item_of ys) ≡ steps_of_items (item_of x ∷ []) ++ steps_of_items (map item_of xs)
 split_items q x xs ys e = ap (λ l. steps_of_items (map item_of l)) e ∙ steps_both (x ∷ []) xs

@@ -1,12 +1,11 @@
 -- The marks of regions, and changes of one of them.
-use Rattle.std.specs.Prelude.{◌≡◌, ℕ, Result, IfErr}
+use Rattle.std.specs.Prelude.{◌≡◌, ℕ, Result}
+use Rattle.std.specs.declared.alloc.AllocError.{AllocError}
 use Rattle.std.specs.Borrow.{MutBor}
 use Rattle.std.specs.FinMap as finite
 use Rattle.std.specs.Fn.{Once}
 use Rattle.std.specs.Option.{unwrap_or}
 use Rattle.std.specs.Result.{OnOk, OnErr}
-use Rattle.raft_base.specs.declared.errors.Error.{Error}
-use Rattle.raft_base.specs.declared.errors.Error.TheVariants.{Memory}
 use Rattle.raft_history.specs.MarkedRegions.{Marks}
 use Rattle.raft_table.specs.MarkJoins.{fresh}
 use Rattle.raft_table.specs.Marks.{Mark}
@@ -15,26 +14,24 @@ use Rattle.raft_table.specs.Marks.{Mark}
 abbrev pub mark_in : Marks → ℕ → Mark
 mark_in marks id = unwrap_or (finite.get marks id) fresh
 
--- a call that changes a mark
+-- a call that changes a mark, or finds no memory for that
 abbrev pub MarkChange : Type 0 → Type 1
-MarkChange F = Once F (MutBor Mark × Unit {0}) (Result (Unit {0}) Error × (MutBor Mark × Unit {0}))
+MarkChange F = Once F (MutBor Mark × Unit {0}) (Result (Unit {0}) AllocError × (MutBor Mark × Unit {0}))
 
 -- at a mark, the call may answer r and leave that mark
-pub record ChangesMark {F : Type 0} (g : MarkChange F) (f : F) (old : Mark) (r : Result (Unit {0}) Error) (new : Mark) : Type 0 where
+pub record ChangesMark {F : Type 0} (g : MarkChange F) (f : F) (old : Mark) (r : Result (Unit {0}) AllocError) (new : Mark) : Type 0 where
   pub mark : MutBor Mark
   pub shows : mark.now ≡ old
   pub left : MutBor Mark
   pub met : g.post f (mark, tt) (r, (left, tt))
   pub leaves : left.now ≡ new
 
--- the call may be made at a mark, and refuses for want of memory alone
+-- the call may be made at a mark
 pub record MayChangeMark {F : Type 0} (g : MarkChange F) (f : F) (old : Mark) : Type 0 where
   pub pre : (mark : MutBor Mark) → mark.now ≡ old → g.pre f (mark, tt)
-  pub memory : (r : Result (Unit {0}) Error) (new : Mark) → ChangesMark g f old r new → IfErr r (λ e. e ≡ Memory)
 
--- a region's mark was changed by a call, that of no step where it had none, and no other mark was; there was no memory where it is refused, and then all marks stay if the call leaves its mark
-pub record IsMarkUpdated {F : Type 0} (g : MarkChange F) (f : F) (old : Marks) (id : ℕ) (r : Result (Unit {0}) Error) (new : Marks) : Type 0 where
+-- a region's mark was changed by a call, that of no step where it had none, and no other mark was; where there was no memory all marks stay if the call leaves its mark
+pub record IsMarkUpdated {F : Type 0} (g : MarkChange F) (f : F) (old : Marks) (id : ℕ) (r : Result (Unit {0}) AllocError) (new : Marks) : Type 0 where
   pub changed : OnOk r (ChangesMark g f (mark_in old id) r (mark_in new id))
   pub one : OnOk r (new ≡ finite.insert old id (mark_in new id))
   pub err : ((m : Mark) → ChangesMark g f (mark_in old id) r m → OnErr r (m ≡ mark_in old id)) → OnErr r (new ≡ old)
-  pub memory : IfErr r (λ e. e ≡ Memory)

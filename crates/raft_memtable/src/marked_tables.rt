@@ -1,6 +1,6 @@
 //! The tables of all regions beside their marks.
 
-ghost use Rattle.std.specs.Prelude.{◌≡◌, ◌≤◌, ◌++◌, [], ◌∷◌, map, OnOk, IfErr, Some, None};
+ghost use Rattle.std.specs.Prelude.{◌≡◌, ◌≤◌, ◌++◌, [], ◌∷◌, map, Ok, OnOk, IfOk, IfErr, MatchBool, Some, None};
 ghost use Rattle.raft_base.specs.declared.pipe_log.LogQueue.TheVariants.{Append, Rewrite};
 ghost use Rattle.raft_records.specs.Item.{item_of, pair, pair_of};
 ghost use Rattle.raft_history.specs.Histories.{AreInFile, cleaned_in_batch};
@@ -21,7 +21,7 @@ use crate::waiting_group::WholeGroup;
 use raft_accessor::MemTableAccessor;
 use raft_records::{Command, KeyValue, LogItem, LogItemBatch, LogItemContent, OpType, is_reserved};
 use raft_table::{EntryIndex, FileId, FileSeq, LogQueue, Result};
-use std::alloc::Global;
+use std::alloc::{AllocError, Global};
 
 /// The tables of all regions, and the mark of each region that a step named.
 #[derive(Drop)]
@@ -95,9 +95,33 @@ impl MarkedTables {
         ensures { AreTaken queue (steps_of_items (map item_of items.items)) result self.old self.new }
     {
         for item in items {
-            self.take_item(queue, item)?;
+            if !self.try_run(queue, &item)? {
+                self.take_item(queue, item)?;
+            }
         }
         Ok(())
+    }
+
+    /// Takes in an item that is a run, where its region has a table that takes it, and answers whether it
+    /// did. Where it did not, nothing has changed.
+    fn try_run(&mut self, queue: LogQueue, item: &LogItem) -> std::result::Result<bool, AllocError>
+        requires { AreStepsOfQueue queue (steps_of_items (item_of item.now ∷ [])) }
+        ensures { IfOk result (λ taken. MatchBool taken
+            (AreTaken queue (steps_of_items (item_of item.now ∷ [])) (Ok tt) self.old self.new)
+            (self.new ≡ self.old)) }
+    {
+        let id = item.raft_group_id;
+        let LogItemContent::EntryIndexes(entries) = &item.content else {
+            return Ok(false);
+        };
+        let Some(first) = entries.0.first() else {
+            return Ok(false);
+        };
+        let Some(end) = self.accessor.try_replay_run(queue, id, &entries.0) else {
+            return Ok(false);
+        };
+        self.marks.add_run(id, queue, end, first.index)?;
+        Ok(true)
     }
 
     /// Takes in the files of a group for each of these regions.
@@ -139,8 +163,8 @@ impl MarkedTables {
         let start = start_of(&run);
         let end = self.accessor.replay_run(queue, id, run)?;
         match start {
-            Some(start) => self.marks.add_run(id, queue, end, start),
-            None => self.marks.mark(id),
+            Some(start) => Ok(self.marks.add_run(id, queue, end, start)?),
+            None => Ok(self.marks.mark(id)?),
         }
     }
 
@@ -149,7 +173,7 @@ impl MarkedTables {
         ensures { AreTaken queue (one_step id (Compact index)) result self.old self.new }
     {
         self.accessor.compact(id, index)?;
-        self.marks.add_compaction(id, index)
+        Ok(self.marks.add_compaction(id, index)?)
     }
 
     /// Takes in the clean of a region, which is listed in the append queue.
@@ -157,7 +181,7 @@ impl MarkedTables {
         ensures { AreTaken queue (one_step id Clean) result self.old self.new }
     {
         self.accessor.remove(id, is_append(queue))?;
-        self.marks.add_clean(id)
+        Ok(self.marks.add_clean(id)?)
     }
 
     /// Takes in the change of a key, unless it is reserved or a put without a value or a file.
@@ -194,7 +218,7 @@ impl MarkedTables {
         ensures { AreTaken queue (one_step id (Put key.items value.items file)) result self.old self.new }
     {
         self.accessor.put(id, key, value, file)?;
-        self.marks.mark(id)
+        Ok(self.marks.mark(id)?)
     }
 
     /// Takes in a key that is deleted.
@@ -202,7 +226,7 @@ impl MarkedTables {
         ensures { AreTaken queue (one_step id (Del key.items)) result self.old self.new }
     {
         self.accessor.delete(id, &key)?;
-        self.marks.add_deleted(id, key)
+        Ok(self.marks.add_deleted(id, key)?)
     }
 }
 

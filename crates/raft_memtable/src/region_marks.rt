@@ -1,6 +1,6 @@
 //! The marks of some regions.
 
-ghost use Rattle.std.specs.Prelude.{◌≡◌, ℕ, nat_eq, OnOk, OnErr, IfErr, Some, None, option_map};
+ghost use Rattle.std.specs.Prelude.{◌≡◌, ℕ, nat_eq, OnOk, OnErr, Ok, Err, Some, None, MatchResult, option_map, alloc_error};
 ghost use Rattle.std.specs.FinMap as finite;
 ghost use Rattle.std.specs.FinSet as finset;
 ghost use Rattle.std.specs.List.{IsDistinct};
@@ -11,8 +11,8 @@ ghost use Rattle.raft_table.specs.MarkJoins.{fresh, mark_of, joined_at};
 ghost use Rattle.raft_table.specs.Steps.{Compact, Del, Clean};
 ghost use Rattle.raft_memtable.specs.RegionMarks.{mark_in, MayChangeMark, IsMarkUpdated};
 
-use raft_table::{Error, LogQueue, Mark, Result};
-use std::alloc::Global;
+use raft_table::{LogQueue, Mark};
+use std::alloc::{AllocError, Global};
 use std::collections::HashMap;
 use std::collections::hash_map::IntoIter;
 use std::marker::Model;
@@ -79,11 +79,10 @@ impl RegionMarks {
     ///
     /// # Errors
     ///
-    /// `Memory`. The marks are then as they were.
-    pub fn mark(&mut self, id: u64) -> Result<()>
+    /// `AllocError`. The marks are then as they were.
+    pub fn mark(&mut self, id: u64) -> Result<(), AllocError>
         ensures ok { OnOk result (self.new ≡ finite.insert self.old id (mark_in self.old id)) }
         ensures err { OnErr result (self.new ≡ self.old) }
-        ensures memory { IfErr result (λ e. e ≡ Error.Memory) }
     {
         self.update(id, |_: &mut Mark| Ok(()))
     }
@@ -93,13 +92,18 @@ impl RegionMarks {
     ///
     /// # Errors
     ///
-    /// `Memory`. The marks are then as they were.
-    pub fn add_run(&mut self, id: u64, queue: LogQueue, end: u64, start: u64) -> Result<()>
+    /// `AllocError`. The marks are then as they were.
+    pub fn add_run(
+        &mut self,
+        id: u64,
+        queue: LogQueue,
+        end: u64,
+        start: u64,
+    ) -> Result<(), AllocError>
         ensures ok { OnOk result (self.new
             ≡ finite.insert self.old id
             (joined_at queue end (mark_in self.old id) (record fresh { reach = Some start; cut = Some start }))) }
         ensures err { OnErr result (self.new ≡ self.old) }
-        ensures memory { IfErr result (λ e. e ≡ Error.Memory) }
     {
         self.update(id, move |mark: &mut Mark| {
             mark.add_run(queue, end, start);
@@ -111,13 +115,12 @@ impl RegionMarks {
     ///
     /// # Errors
     ///
-    /// `Memory`. The marks are then as they were.
-    pub fn add_compaction(&mut self, id: u64, index: u64) -> Result<()>
+    /// `AllocError`. The marks are then as they were.
+    pub fn add_compaction(&mut self, id: u64, index: u64) -> Result<(), AllocError>
         ensures ok { (queue : LogQueue) (end : ℕ)
             → OnOk result (self.new
             ≡ finite.insert self.old id (joined_at queue end (mark_in self.old id) (mark_of (Compact index)))) }
         ensures err { OnErr result (self.new ≡ self.old) }
-        ensures memory { IfErr result (λ e. e ≡ Error.Memory) }
     {
         self.update(id, move |mark: &mut Mark| {
             mark.add_compaction(index);
@@ -129,28 +132,29 @@ impl RegionMarks {
     ///
     /// # Errors
     ///
-    /// `Memory`. The marks are then as they were.
-    pub fn add_deleted(&mut self, id: u64, key: Vec<u8>) -> Result<()>
+    /// `AllocError`. The marks are then as they were.
+    pub fn add_deleted(&mut self, id: u64, key: Vec<u8>) -> Result<(), AllocError>
         ensures ok { (queue : LogQueue) (end : ℕ)
             → OnOk result (self.new
             ≡ finite.insert self.old id (joined_at queue end (mark_in self.old id) (mark_of (Del key.items)))) }
         ensures err { OnErr result (self.new ≡ self.old) }
-        ensures memory { IfErr result (λ e. e ≡ Error.Memory) }
     {
-        self.update(id, move |mark: &mut Mark| mark.add_deleted(key))
+        self.update(
+            id,
+            move |mark: &mut Mark| without_error(mark.add_deleted(key)),
+        )
     }
 
     /// Joins the mark of a clean to a region's mark.
     ///
     /// # Errors
     ///
-    /// `Memory`. The marks are then as they were.
-    pub fn add_clean(&mut self, id: u64) -> Result<()>
+    /// `AllocError`. The marks are then as they were.
+    pub fn add_clean(&mut self, id: u64) -> Result<(), AllocError>
         ensures ok { (queue : LogQueue) (end : ℕ)
             → OnOk result (self.new
             ≡ finite.insert self.old id (joined_at queue end (mark_in self.old id) (mark_of Clean))) }
         ensures err { OnErr result (self.new ≡ self.old) }
-        ensures memory { IfErr result (λ e. e ≡ Error.Memory) }
     {
         self.update(id, |mark: &mut Mark| {
             mark.add_clean();
@@ -163,15 +167,20 @@ impl RegionMarks {
     ///
     /// # Errors
     ///
-    /// `Memory`.
-    pub fn join(&mut self, id: u64, queue: LogQueue, end_at_reach: u64, newer: Mark) -> Result<()>
+    /// `AllocError`.
+    pub fn join(
+        &mut self,
+        id: u64,
+        queue: LogQueue,
+        end_at_reach: u64,
+        newer: Mark,
+    ) -> Result<(), AllocError>
         ensures ok { OnOk result (self.new
             ≡ finite.insert self.old id (joined_at queue end_at_reach (mark_in self.old id) newer)) }
-        ensures memory { IfErr result (λ e. e ≡ Error.Memory) }
     {
         self.update(id, move |mark: &mut Mark| {
             let mut newer = newer;
-            mark.join(queue, end_at_reach, &mut newer)
+            without_error(mark.join(queue, end_at_reach, &mut newer))
         })
     }
 
@@ -185,7 +194,11 @@ impl RegionMarks {
 
     /// Changes a region's mark, that of no step where it has none. It is looked up once where it is there.
     #[inline(always)]
-    fn update<F: FnOnce(&mut Mark) -> Result<()>>(&mut self, id: u64, change: F) -> Result<()>
+    fn update<F: FnOnce(&mut Mark) -> Result<(), AllocError>>(
+        &mut self,
+        id: u64,
+        change: F,
+    ) -> Result<(), AllocError>
     where
         F: Drop,
         requires { MayChangeMark F.FnOnce change (mark_in self.old id) }
@@ -201,5 +214,15 @@ impl RegionMarks {
             Ok(_) => Ok(()),
             Err(_) => unreachable!(),
         }
+    }
+}
+
+/// What a call answers that is refused for want of memory alone.
+fn without_error(answer: raft_table::Result<()>) -> Result<(), AllocError>
+    ensures { MatchResult answer (λ u. result ≡ Ok tt) (λ e. result ≡ Err alloc_error) }
+{
+    match answer {
+        Ok(()) => Ok(()),
+        Err(_) => Err(AllocError),
     }
 }

@@ -10,7 +10,7 @@ ghost use Rattle.raft_table.specs.Fetches.{block_count};
 ghost use Rattle.raft_table.specs.KeyValues.{value_at, file_at, file_weight};
 ghost use Rattle.raft_table.specs.Table.{empty_table, live_of, IsCounted, IsRecounted, after_append, after_replay, after_rewrite, after_rewrite_key, compacted, with_pair, without_key, with_atomic_group, table_with_entries, table_with_keys, with_pair_deleted, with_rewritten_key, MovesKeyAlone, leaves_append, IsTablePutFault, IsKeyRewriteFault};
 ghost use Rattle.raft_table.specs.Rewriting.{rewritten, counts_after_rewrite, IsRewriteFault, MovesPlacesAlone};
-ghost use Rattle.raft_table.specs.Queues.{count_in};
+ghost use Rattle.raft_table.specs.Queues.{count_in, other};
 ghost use Rattle.raft_table.specs.Start.{appended, replayed, counts_with_run, counts_without, IsTableRunFault};
 
 mod block;
@@ -222,6 +222,30 @@ impl MemTable {
         self.entries.replay_run(&run, LogQueue::Rewrite, stats)
     }
 
+    /// Puts a run of `queue` as [`MemTable::replay_append`] and [`MemTable::replay_rewrite`] do, and
+    /// answers whether it did. It does not where those refuse, nor where the table has records of the
+    /// other queue. The table and the counts are then as they were.
+    pub fn try_replay(
+        &mut self,
+        queue: LogQueue,
+        run: &[EntryIndex],
+        stats: &mut GlobalStats,
+    ) -> bool
+        requires run { IsRunIn queue run.now }
+        requires counted { IsCounted self.old stats.old }
+        ensures done { MatchBool result
+            ((after_replay queue self.old run.now ≡ Some self.new) × (live_of (other queue) self.old ≡ 0)
+            × (stats.new ≡ counts_with_run queue self.old.entries run.now stats.old))
+            ((self.new ≡ self.old) × (stats.new ≡ stats.old)) }
+        ensures recounted { IsRecounted self.old self.new stats.old stats.new }
+        ensures region { self.new.region_id ≡ self.old.region_id }
+    {
+        if self.records(other_than(queue)) > 0 {
+            return false;
+        }
+        self.entries.try_replay_run(run, queue, stats)
+    }
+
     /// Gives the entries the places of a run of the rewrite queue, from the first shared index on
     /// and as far as they may move: with a gate those in files at or below it, without one those
     /// that are rewritten already. Indexes, keys and values stay. A run without entries changes
@@ -384,6 +408,16 @@ impl MemTable {
         ensures region { self.new.region_id ≡ self.old.region_id }
     {
         self.atomic_group = Some((start, end));
+    }
+}
+
+/// The other queue.
+fn other_than(queue: LogQueue) -> LogQueue
+    ensures { result ≡ other queue }
+{
+    match queue {
+        LogQueue::Append => LogQueue::Rewrite,
+        LogQueue::Rewrite => LogQueue::Append,
     }
 }
 

@@ -1,6 +1,7 @@
 //! Steps on one region's table, which is made where there is none; runs and files were tested before.
 
-ghost use Rattle.std.specs.Prelude.{◌≡◌, ◌⊎◌, ℕ, List, OnOk, IfOk, Some};
+ghost use Rattle.std.specs.Prelude.{◌≡◌, ◌⊎◌, ℕ, List, OnOk, OnSome, IfOk, IfSome, Some, ok_or};
+ghost use Rattle.raft_base.specs.declared.errors.Error.TheVariants.{Memory};
 ghost use Rattle.raft_table.specs.TableEntries.{IsRunIn, end_of};
 ghost use Rattle.raft_table.specs.KeyValues.{file_at};
 ghost use Rattle.raft_table.specs.Queues.{other};
@@ -32,6 +33,19 @@ impl MemTableAccessor {
         ensures exact_counts { AreCountsOf self.old.tables self.old.counts }
     {
         self.slots[slot_of(id)].replay_run_behind(queue, id, run, &mut self.stats)
+    }
+
+    /// Puts a run that is read again where its region has a table that takes it, and answers where the
+    /// entries of the table ended before. Nothing is answered where there is no table, or no room, or
+    /// where [`MemTableAccessor::replay_run`] refuses. All tables are then as they were.
+    pub fn try_replay_run(&mut self, queue: LogQueue, id: u64, run: &[EntryIndex]) -> Option<u64>
+        requires run { IsRunIn queue run.now }
+        ensures changed { IsTableChanged (after_replay queue (table_in self.old.tables id) run.now) (λ e. ⊥)
+            id (ok_or result Memory) self.old self.new }
+        ensures accepted { OnSome result (live_of (other queue) (table_in self.old.tables id) ≡ 0) }
+        ensures end { IfSome result (λ end. end ≡ end_of (table_in self.old.tables id).entries) }
+    {
+        self.slots[slot_of(id)].try_replay_run(queue, id, run, &mut self.stats)
     }
 
     /// Drops the entries below an index.

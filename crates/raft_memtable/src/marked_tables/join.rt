@@ -96,6 +96,6 @@ impl MarkedTables {
         ensures cleaned { self.new.accessor.cleaned ≡ self.old.accessor.cleaned }
     {
         let end = self.accessor.join_table(queue, id, newer, &mark)?;
-        self.marks.join(id, queue, end, mark)
+        Ok(self.marks.join(id, queue, end, mark)?)
     }
 }

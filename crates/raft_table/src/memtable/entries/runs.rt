@@ -1,17 +1,18 @@
 //! Runs that are put behind a table's entries.
 
-ghost use Rattle.std.specs.Prelude.{◌≡◌, ◌+◌, ◌≤◌, ◌<◌, ◌^◌, [], ◌++◌, length, take, drop, OnOk, OnErr, IfOk, IfErr, MatchBool, Some};
+ghost use Rattle.std.specs.Prelude.{◌≡◌, ◌+◌, ◌≤◌, ◌<◌, ◌^◌, [], ◌++◌, length, take, drop, OnOk, OnErr, IfErr, MatchBool, MatchOption, Some};
 ghost use Rattle.raft_table.specs.Counts.{live, with_added, with_deleted};
 ghost use Rattle.raft_table.specs.Queues.{count_in, of_queue, other};
 ghost use Rattle.raft_table.specs.TableEntries.{AreTableEntries, IsRunIn, placed_in, entry_count, AreCounted, AreRecounted};
 ghost use Rattle.raft_table.specs.Start.{appended, replayed, counts_with_run, counts_without, IsTableRunFault};
-ghost use Rattle.raft_table.specs.StartOf.{IsStart, IsKeptUnder, IsStartFault};
+ghost use Rattle.raft_table.specs.StartOf.{IsStart, IsKeptUnder};
 ghost use Rattle.raft_base.specs.declared.pipe_log.LogQueue.{LogQueue};
 ghost use Rattle.raft_base.specs.declared.pipe_log.LogQueue.TheVariants.{Append, Rewrite};
 
 use crate::global_stats::GlobalStats;
 use crate::memtable::entries::{Entries, Start};
 use raft_base::{EntryIndex, Error, LogQueue, Result};
+use std::alloc::AllocError;
 
 impl Entries {
     /// What [`MemTable::append`](crate::MemTable::append) does to the entries.
@@ -81,8 +82,41 @@ impl Entries {
         let Some(first) = run.first() else {
             return Ok(());
         };
-        let keep = self.kept_under(queue, first.index)?;
+        let Some(keep) = self.kept_under(queue, first.index) else {
+            return Err(self.corruption("a run leaves a hole behind the last entry")?);
+        };
         self.put_run_behind(keep, run, queue, stats)
+    }
+
+    /// Does what [`Entries::replay_run`] does where nothing hinders it, and answers whether it did.
+    pub fn try_replay_run(
+        &mut self,
+        run: &[EntryIndex],
+        queue: LogQueue,
+        stats: &mut GlobalStats,
+    ) -> bool
+        requires run { IsRunIn queue run.now }
+        requires rewritten { queue ≡ Rewrite → entry_count Append self.old ≡ 0 }
+        requires counted { AreCounted self.old stats.old }
+        ensures done { MatchBool result
+            ((replayed queue self.old run.now ≡ Some self.new)
+            × (stats.new ≡ counts_with_run queue self.old run.now stats.old))
+            ((self.new ≡ self.old) × (stats.new ≡ stats.old)) }
+        ensures recounted { AreRecounted self.old self.new stats.old stats.new }
+    {
+        let Some(first) = run.first() else {
+            return true;
+        };
+        let Some(keep) = self.kept_under(queue, first.index) else {
+            return false;
+        };
+        if !self.has_room_behind(keep, run, queue, stats) {
+            return false;
+        }
+        match self.exchange_run(keep, run, queue, stats) {
+            Ok(()) => true,
+            Err(_) => false,
+        }
     }
 
     /// Moves a run of `queue` behind the entries below its start, by the start rule of the replays
@@ -107,29 +141,25 @@ impl Entries {
         let Some(first) = run.first_index() else {
             return Ok(());
         };
-        let keep = self.kept_under(rule, first)?;
+        let Some(keep) = self.kept_under(rule, first) else {
+            return Err(self.corruption("a run leaves a hole behind the last entry")?);
+        };
         self.put_behind(keep, run, queue, stats)
     }
 
     /// How many entries, from the first on, stay under a run from `index` on that is read again, by
-    /// the start rule of the replays into `rule`.
-    ///
-    /// # Errors
-    ///
-    /// `Corruption` where that rule refuses the run.
-    fn kept_under(&self, rule: LogQueue, index: u64) -> Result<usize>
-        ensures ok { IfOk result (IsKeptUnder rule self.now index) }
-        ensures fault { IfErr result (λ e. IsStart self.now index Start.BehindHole × (rule ≡ Append) × IsStartFault e) }
+    /// the start rule of the replays into `rule`. That refuses the run where nothing is answered.
+    fn kept_under(&self, rule: LogQueue, index: u64) -> Option<usize>
+        ensures kept { MatchOption result (IsStart self.now index Start.BehindHole × (rule ≡ Append))
+            (IsKeptUnder rule self.now index) }
         ensures table_entries { AreTableEntries self.now }
     {
         match self.start(index) {
-            Start::Joins(keep) => Ok(keep),
-            Start::InFront => Ok(0),
+            Start::Joins(keep) => Some(keep),
+            Start::InFront => Some(0),
             Start::BehindHole => match rule {
-                LogQueue::Append => {
-                    Err(self.corruption("a run leaves a hole behind the last entry")?)
-                }
-                LogQueue::Rewrite => Ok(0),
+                LogQueue::Append => None,
+                LogQueue::Rewrite => Some(0),
             },
         }
     }
@@ -184,13 +214,53 @@ impl Entries {
         ensures recounted { AreRecounted self.old self.new stats.old stats.new }
         ensures fault { IfErr result (IsTableRunFault queue stats.old self.old (Some (take keep self.old ++ run.now))) }
     {
-        let (rewritten, appended) = self.count_behind(keep);
-        let added = run.len();
-        if !has_room(stats, rewritten, appended, queue, added) {
+        if !self.has_room_behind(keep, run, queue, stats) {
             return Err(Error::Full);
         }
+        Ok(self.exchange_run(keep, run, queue, stats)?)
+    }
+
+    /// Whether the entries of a run of `queue` can be live in place of those behind the first `keep`.
+    fn has_room_behind(
+        &self,
+        keep: usize,
+        run: &[EntryIndex],
+        queue: LogQueue,
+        stats: &GlobalStats,
+    ) -> bool
+        requires keep { keep ≤ length self.now }
+        requires counted { AreCounted self.now stats.now }
+        ensures { MatchBool result
+            (live queue stats.now + length run.now < 2 ^ 64 + entry_count queue (drop keep self.now))
+            (2 ^ 64 + entry_count queue (drop keep self.now) ≤ live queue stats.now + length run.now) }
+    {
+        let (rewritten, appended) = self.count_behind(keep);
+        has_room(stats, rewritten, appended, queue, run.len())
+    }
+
+    /// Keeps the first `keep` entries and puts a run of `queue`, for which there is room, behind them.
+    fn exchange_run(
+        &mut self,
+        keep: usize,
+        run: &[EntryIndex],
+        queue: LogQueue,
+        stats: &mut GlobalStats,
+    ) -> std::result::Result<(), AllocError>
+        requires keep { keep ≤ length self.old }
+        requires filled { 0 < length run.now }
+        requires table_entries { AreTableEntries (take keep self.old ++ run.now) }
+        requires queue { placed_in queue run.now ≡ run.now }
+        requires counted { AreCounted self.old stats.old }
+        requires room { live queue stats.old + length run.now < 2 ^ 64 + entry_count queue (drop keep self.old) }
+        ensures ok { OnOk result (self.new ≡ take keep self.old ++ run.now) }
+        ensures err { OnErr result ((self.new ≡ self.old) × (stats.new ≡ stats.old)) }
+        ensures counts { OnOk result (stats.new
+            ≡ with_added queue (length run.now) (counts_without (drop keep self.old) stats.old)) }
+        ensures recounted { AreRecounted self.old self.new stats.old stats.new }
+    {
+        let (rewritten, appended) = self.count_behind(keep);
         self.lay(keep, run)?;
-        exchange(stats, rewritten, appended, queue, added);
+        exchange(stats, rewritten, appended, queue, run.len());
         Ok(())
     }
 

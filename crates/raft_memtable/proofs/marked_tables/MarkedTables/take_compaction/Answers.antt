@@ -1,4 +1,4 @@
-use Rattle.std.proofs.Common.{Some, refl}
+use Rattle.std.proofs.Common.{Ok, Some, refl}
 use Rattle.raft_table.specs.Steps.{Compact}
 use Rattle.raft_table.specs.Table.{compacted}
 use Rattle.raft_accessor.specs.Accessor.{table_in}
@@ -7,5 +7,5 @@ use Rattle.raft_memtable.proofs.marked_tables.MarkedTables.take_compaction.Goals
 
 pub returns : goal.returns
 returns c =
-    changed_taken c.args.queue c.args.id (Compact c.args.index) c.args.self.now c.compact.new.self c.add_compaction.new.self c.add_compaction.result (Some (compacted c.args.index (table_in c.args.self.now.accessor.tables c.args.id))) refl
-    c.in_ok-compact.ensures.ok c.in_ok-compact.ensures.others c.compact.ensures.cleaned refl (c.add_compaction.ensures.ok c.args.queue _) c.add_compaction.ensures.memory
+    changed_taken c.args.queue c.args.id (Compact c.args.index) c.args.self.now c.compact.new.self c.add_compaction.new.self (Ok tt) (Some (compacted c.args.index (table_in c.args.self.now.accessor.tables c.args.id))) refl
+    c.in_ok-compact.ensures.ok c.in_ok-compact.ensures.others c.compact.ensures.cleaned refl (c.in_ok-add_compaction.ensures.ok c.args.queue _) tt

@@ -1,4 +1,4 @@
-use Rattle.std.proofs.Common.{Some, refl}
+use Rattle.std.proofs.Common.{Ok, Some, refl}
 use Rattle.std.specs.FinMap as finite
 use Rattle.std.proofs.lemmas.Result.{err_from_is_err_and}
 use Rattle.raft_table.specs.KeyValues.{file_at}
@@ -16,6 +16,6 @@ returns-in_err-put c =
 pub returns : goal.returns
 returns c =
     let step = Put c.args.key.items c.args.value.items c.args.file in
-    changed_taken c.args.queue c.args.id step c.args.self.now c.put.new.self c.mark.new.self c.mark.result (Some (with_pair (table_in c.args.self.now.accessor.tables c.args.id) c.args.key.items c.args.value.items c.args.file)) refl
+    changed_taken c.args.queue c.args.id step c.args.self.now c.put.new.self c.mark.new.self (Ok tt) (Some (with_pair (table_in c.args.self.now.accessor.tables c.args.id) c.args.key.items c.args.value.items c.args.file)) refl
     c.in_ok-put.ensures.changed.ok c.in_ok-put.ensures.changed.others c.put.ensures.changed.cleaned refl
-    (fresh_marked c.args.queue c.args.id step (finite.get c.args.self.now.accessor.tables c.args.id) c.args.self.now.marks c.mark.new.self c.mark.result refl c.mark.ensures.ok) c.mark.ensures.memory
+    (fresh_marked c.args.queue c.args.id step (finite.get c.args.self.now.accessor.tables c.args.id) c.args.self.now.marks c.mark.new.self (Ok tt) refl c.in_ok-mark.ensures.ok) tt

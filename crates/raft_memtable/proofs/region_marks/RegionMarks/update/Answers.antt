@@ -5,7 +5,7 @@ use Rattle.std.proofs.lemmas.Result.{err_from_is_err_and}
 use Rattle.std.specs.Option.{is_some, option_copied_mut}
 use Rattle.raft_memtable.specs.RegionMarks.{mark_in, ChangesMark}
 use Rattle.raft_memtable.specs.declared.region_marks.RegionMarks.TheInside.{Inside}
-use Rattle.raft_memtable.proofs.RegionMarksLemmas.{shown-with, shown-same, there, absent, mark_of_some, mark_of_none, updated, made, refused, no_memory}
+use Rattle.raft_memtable.proofs.RegionMarksLemmas.{shown-with, shown-same, there, absent, mark_of_some, mark_of_none, updated, made, refused}
 use Rattle.raft_memtable.proofs.region_marks.RegionMarks.update.Given as given
 use Rattle.raft_memtable.proofs.region_marks.RegionMarks.update.Goals as goal
 
@@ -25,7 +25,7 @@ after g c = record c.self.inside { marks = c.get_mut.follows.lender c.change.new
 
 pub returns-in-Some : goal.returns-in-Some
 returns-in-Some g c =
-    updated g.F.FnOnce c.args.change c.args.self.now c.args.id c.in-Some.mark.now c.change.result c.change.new.arg2 _ (was g c) c.requires (gave g c)
+    updated g.F.FnOnce c.args.change c.args.self.now c.args.id c.in-Some.mark.now c.change.result c.change.new.arg2 _ (was g c) (gave g c)
     (shown-with c.self.inside (after g c) c.args.self.now c.args.id c.change.new.arg2 c.self.view_is ((c.get_mut.follows.holds c.change.new.arg2).3 (ap is_some (sym c.get_mut.ensures.value ∙ ap option_copied_mut c.in-Some.is))).0)
 
 -- ---- the mark is made
@@ -33,7 +33,7 @@ returns-in-Some g c =
 pub returns-in_err-reserve : goal.returns-in_err-reserve
 returns-in_err-reserve g c =
     let p = err_from_is_err_and c.from_residual.result c.from_residual.ensures.1 in
-    rw (p.1, p.2) (no_memory g.F.FnOnce c.args.change c.args.self.now c.args.id _ (shown-same c.self.inside (record c.self.inside { marks = c.reserve.new.self }) c.args.self.now c.self.view_is (λ q. c.reserve.ensures.entries.2 q ∙ ap (λ m. lookup (nat_eq q) m.entries) c.get_mut.follows.holds-at-none)))
+    rw (p.1, p.2) (refused g.F.FnOnce c.args.change c.args.self.now c.args.id _ _ (shown-same c.self.inside (record c.self.inside { marks = c.reserve.new.self }) c.args.self.now c.self.view_is (λ q. c.reserve.ensures.entries.2 q ∙ ap (λ m. lookup (nat_eq q) m.entries) c.get_mut.follows.holds-at-none)))
 
 pub change-requires-2 : goal.change-requires-2
 change-requires-2 g c = c.requires.pre _ (c.new-mark.ensures ∙ sym (mark_of_none c.args.self.now c.args.id (absent c.self.inside c.args.self.now c.args.id _ c.self.view_is c.get_mut.ensures.value c.in_default.is)))
@@ -41,10 +41,7 @@ change-requires-2 g c = c.requires.pre _ (c.new-mark.ensures ∙ sym (mark_of_no
 pub returns-in_err-change : goal.returns-in_err-change
 returns-in_err-change g c =
     let p = err_from_is_err_and c.from_residual-in_err-change.result c.from_residual-in_err-change.ensures.1 in
-    let none : finite.get c.args.self.now c.args.id ≡ None = absent c.self.inside c.args.self.now c.args.id _ c.self.view_is c.get_mut.ensures.value c.in_default.is in
-    let gave : ChangesMark g.F.FnOnce c.args.change (mark_in c.args.self.now c.args.id) c.change-2.result c.change-2.new.arg2 = record { mark = _; shows = c.new-mark.ensures ∙ sym (mark_of_none c.args.self.now c.args.id none); left = _; met = c.change-2.ensures; leaves = refl } in
-    rw (p.1, p.2) (refused g.F.FnOnce c.args.change c.args.self.now c.args.id _ c.change-2.new.arg2 _ c.requires (subst (λ r. ChangesMark g.F.FnOnce c.args.change (mark_in c.args.self.now c.args.id) r c.change-2.new.arg2) c.in_err-change.was gave)
-    (shown-same c.self.inside (record c.self.inside { marks = c.reserve.new.self }) c.args.self.now c.self.view_is (λ q. c.reserve.ensures.entries.2 q ∙ ap (λ m. lookup (nat_eq q) m.entries) c.get_mut.follows.holds-at-none)))
+    rw (p.1, p.2) (refused g.F.FnOnce c.args.change c.args.self.now c.args.id _ _ (shown-same c.self.inside (record c.self.inside { marks = c.reserve.new.self }) c.args.self.now c.self.view_is (λ q. c.reserve.ensures.entries.2 q ∙ ap (λ m. lookup (nat_eq q) m.entries) c.get_mut.follows.holds-at-none)))
 
 made-by : (g : given.Over) (c : goal.Joined-this g) → ChangesMark g.F.FnOnce c.args.change (mark_in c.args.self.now c.args.id) (Ok c.in_ok-change.field-0) c.change-2.new.arg2
 made-by g c =

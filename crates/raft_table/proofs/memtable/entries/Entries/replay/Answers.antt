@@ -11,21 +11,21 @@ put_behind-requires-clause-keep c =
     let run = c.args.run.now in
     let l : 0 < length run = not_nil run c.in-Some.ensures.0 in
     let s : start_of run ≡ c.in-Some.first = sym c.in-Some.ensures.1 in
-    (is_replay c.args.rule c.args.self.now run c.in_ok-keep.keep c.kept_under.ensures.table_entries l (rw s c.in_ok-keep.ensures.ok)).within
+    (is_replay c.args.rule c.args.self.now run c.in-Some-kept_under.keep c.kept_under.ensures.table_entries l (rw s c.in-Some-kept_under.ensures.kept)).within
 
 pub put_behind-requires-clause-table_entries : goal.put_behind-requires-clause-table_entries
 put_behind-requires-clause-table_entries c =
     let run = c.args.run.now in
     let l : 0 < length run = not_nil run c.in-Some.ensures.0 in
     let s : start_of run ≡ c.in-Some.first = sym c.in-Some.ensures.1 in
-    sound_under c.args.rule c.args.queue c.args.self.now run c.in_ok-keep.keep c.kept_under.ensures.table_entries (may_join c.args.queue c.args.self.now c.requires.rewritten) c.requires.run l (rw s c.in_ok-keep.ensures.ok)
+    sound_under c.args.rule c.args.queue c.args.self.now run c.in-Some-kept_under.keep c.kept_under.ensures.table_entries (may_join c.args.queue c.args.self.now c.requires.rewritten) c.requires.run l (rw s c.in-Some-kept_under.ensures.kept)
 
-replay : (c : goal.After-put_behind) → IsReplay c.args.rule c.args.self.now c.args.run.now c.in_ok-keep.keep
+replay : (c : goal.After-put_behind) → IsReplay c.args.rule c.args.self.now c.args.run.now c.in-Some-kept_under.keep
 replay c =
     let run = c.args.run.now in
     let l : 0 < length run = not_nil run c.in-Some.ensures.0 in
     let s : start_of run ≡ c.in-Some.first = sym c.in-Some.ensures.1 in
-    is_replay c.args.rule c.args.self.now run c.in_ok-keep.keep c.kept_under.ensures.table_entries l (rw s c.in_ok-keep.ensures.ok)
+    is_replay c.args.rule c.args.self.now run c.in-Some-kept_under.keep c.kept_under.ensures.table_entries l (rw s c.in-Some-kept_under.ensures.kept)
 
 pub returns-clause-ok : goal.returns-clause-ok
 returns-clause-ok c = on_ok c.put_behind.result (λ w. (replay c).after ∙ ap (λ es. Some es) (sym w.0)) c.put_behind.ensures.ok
@@ -36,4 +36,4 @@ returns-clause-fault c = rw (replay c).after c.put_behind.ensures.fault
 pub returns-clause-counts : goal.returns-clause-counts
 returns-clause-counts c =
     let l : 0 < length c.args.run.now = not_nil c.args.run.now c.in-Some.ensures.0 in
-    on_ok c.put_behind.result (λ w. counts_under c.args.rule c.args.queue c.args.self.now c.args.run.now c.in_ok-keep.keep c.args.stats.now c.put_behind.new.stats l (replay c) w) c.put_behind.ensures.counts
+    on_ok c.put_behind.result (λ w. counts_under c.args.rule c.args.queue c.args.self.now c.args.run.now c.in-Some-kept_under.keep c.args.stats.now c.put_behind.new.stats l (replay c) w) c.put_behind.ensures.counts

@@ -1,0 +1,42 @@
+use Rattle.std.proofs.Common.{◌≡◌, refl, sym, ap, subst, slice_set, ok_or, IfSome}
+use Rattle.std.specs.Option.{OnSome}
+use Rattle.raft_base.specs.declared.errors.Error.TheVariants.{Memory}
+use Rattle.raft_table.specs.Queues.{other}
+use Rattle.raft_table.specs.TableEntries.{end_of}
+use Rattle.raft_table.specs.Table.{after_replay, live_of, IsCounted}
+use Rattle.raft_table.specs.Steps.{table_of}
+use Rattle.raft_accessor.specs.AccessorView.{together}
+use Rattle.raft_accessor.specs.declared.accessor.MemTableAccessor.TheInside.{Inside}
+use Rattle.raft_accessor.proofs.AccessorLemmas.{InSlot, kept-in, changed-in}
+use Rattle.raft_accessor.proofs.LiveLemmas.{table-counted}
+use Rattle.raft_accessor.proofs.SlotLemmas.{get-shown}
+use Rattle.raft_accessor.proofs.accessor.MemTableAccessor.try_replay_run.Goals as goal
+
+pub try_replay_run-requires-clause-counted : goal.try_replay_run-requires-clause-counted
+try_replay_run-requires-clause-counted c =
+    subst (λ t. IsCounted t c.self.inside.stats) (ap (table_of c.args.id) (get-shown c.self.inside _ c.args.id c.slot_of.result _ c.self.invariant refl c.slot_of.ensures.value c.slot_of.ensures.bound))
+    (table-counted (together c.self.inside.slots) c.self.inside.stats c.args.id c.self.invariant.counted)
+
+abbrev after : goal.After-try_replay_run → Inside
+after c = record c.self.inside { slots = slice_set c.self.inside.slots c.slot_of.result c.try_replay_run.new.self; stats = c.try_replay_run.new.stats }
+
+slotted : (c : goal.After-try_replay_run) → InSlot c.self.inside (after c) c.args.id c.slot_of.result c.index-self-slot_of.result c.try_replay_run.new.self c.try_replay_run.new.stats
+slotted c = record { at = c.slot_of.ensures.value; bound = c.slot_of.ensures.bound; slots = refl; stats = refl; one = c.try_replay_run.ensures.taken.one; recounted = c.try_replay_run.ensures.taken.recounted }
+
+pub invariant_of-self : goal.invariant_of-self
+invariant_of-self c = kept-in c.self.inside (after c) c.args.id c.slot_of.result c.index-self-slot_of.result c.try_replay_run.new.self c.try_replay_run.new.stats c.self.invariant (slotted c)
+
+pub returns-clause-changed : goal.returns-clause-changed
+returns-clause-changed c = changed-in c.self.inside (after c) c.args.id c.slot_of.result c.index-self-slot_of.result c.try_replay_run.new.self c.try_replay_run.new.stats c.self.invariant (slotted c) c.args.self.now c.self.view_is (λ t. after_replay c.args.queue t c.args.run.now) (λ t k e. ⊥) (ok_or c.try_replay_run.result Memory) c.try_replay_run.ensures.taken refl
+
+pub returns-clause-accepted : goal.returns-clause-accepted
+returns-clause-accepted c =
+    rw (← c.self.view_is) (subst (λ t. OnSome c.try_replay_run.result (live_of (other c.args.queue) t ≡ 0))
+    (sym (ap (table_of c.args.id) (get-shown c.self.inside _ c.args.id c.slot_of.result _ c.self.invariant refl c.slot_of.ensures.value c.slot_of.ensures.bound)))
+    c.try_replay_run.ensures.accepted)
+
+pub returns-clause-end : goal.returns-clause-end
+returns-clause-end c =
+    rw (← c.self.view_is) (subst (λ t. IfSome c.try_replay_run.result (λ end. end ≡ end_of t.entries))
+    (sym (ap (table_of c.args.id) (get-shown c.self.inside _ c.args.id c.slot_of.result _ c.self.invariant refl c.slot_of.ensures.value c.slot_of.ensures.bound)))
+    c.try_replay_run.ensures.end)

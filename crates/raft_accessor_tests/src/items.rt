@@ -99,13 +99,19 @@ fn is_corruption(written: Result<()>) -> Result<bool> {
     Ok(answered(written)? == Err(Fault::Corruption))
 }
 
-/// The items in front of a hole stand, and nothing of those behind it.
-fn write_up_to_a_hole(alloc: Global) -> Result<bool> {
-    let mut accessor = MemTableAccessor::new(alloc)?;
+/// Entries of a region, others behind a hole, and a key of another region.
+fn items_with_hole(alloc: Global) -> Result<Vec<LogItem>> {
     let mut items = Vec::new(alloc);
     items.push(entries(alloc, 1, 1, 4, FIRST)?)?;
     items.push(entries(alloc, 1, 6, 8, FIRST)?)?;
     items.push(pair(alloc, 2, OpType::Put, FIRST)?)?;
+    Ok(items)
+}
+
+/// The items in front of a hole stand, and nothing of those behind it.
+fn write_up_to_a_hole(alloc: Global) -> Result<bool> {
+    let mut accessor = MemTableAccessor::new(alloc)?;
+    let items = items_with_hole(alloc)?;
     Ok(
         is_corruption(accessor.apply_append_writes(items))?
             && shape(&accessor, 1) == Some((Some(1), Some(3), 3, 0))
@@ -114,100 +120,155 @@ fn write_up_to_a_hole(alloc: Global) -> Result<bool> {
     )
 }
 
+/// Whether the rewriting of one item is refused as `Corruption`.
+fn is_rewriting_refused(
+    alloc: Global,
+    accessor: &mut MemTableAccessor,
+    item: LogItem,
+) -> Result<bool> {
+    let mut items = Vec::new(alloc);
+    items.push(item)?;
+    is_corruption(accessor.apply_rewrite_writes(items, Some(1), 50))
+}
+
 /// A rewriting refuses deletions and compactions.
 fn rewrite_what_cannot_be(alloc: Global) -> Result<bool> {
     let mut accessor = MemTableAccessor::new(alloc)?;
-    let mut deletion = Vec::new(alloc);
-    deletion.push(pair(alloc, 1, OpType::Del, FIRST)?)?;
-    let mut compaction = Vec::new(alloc);
-    compaction.push(LogItem::new_command(1, Command::Compact { index: 7 }))?;
+    let deletion = pair(alloc, 1, OpType::Del, FIRST)?;
+    let compaction = LogItem::new_command(1, Command::Compact { index: 7 });
     Ok(
-        is_corruption(accessor.apply_rewrite_writes(deletion, Some(1), 50))?
-            && is_corruption(accessor.apply_rewrite_writes(compaction, Some(1), 50))?
+        is_rewriting_refused(alloc, &mut accessor, deletion)?
+            && is_rewriting_refused(alloc, &mut accessor, compaction)?
             && accessor.is_empty(),
     )
 }
 
-/// Cleaned regions are listed as often as they are cleaned, in order, and handed out once.
-fn clean(alloc: Global) -> Result<bool> {
+/// An accessor whose region has entries from 10 to below 20.
+fn appended(alloc: Global, region: u64) -> Result<MemTableAccessor> {
     let mut accessor = MemTableAccessor::new(alloc)?;
-    accessor.change(5, TableChange::Append(run(alloc, 10, 20, FIRST)?))?;
+    accessor.change(region, TableChange::Append(run(alloc, 10, 20, FIRST)?))?;
+    Ok(accessor)
+}
+
+fn clean_regions(alloc: Global, accessor: &mut MemTableAccessor) -> Result<()> {
     let mut items = Vec::new(alloc);
     for region in [3, 5, 3] {
         items.push(LogItem::new_command(region, Command::Clean))?;
     }
-    accessor.replay_append_writes(items)?;
-    let listed = accessor.cleaned_regions() == [3, 5, 3].as_slice();
+    accessor.replay_append_writes(items)
+}
+
+/// The cleaned regions that are handed out.
+fn taken(alloc: Global, accessor: &mut MemTableAccessor) -> Result<Vec<u64>> {
     let mut logs = accessor.take_cleaned_region_logs()?;
     let mut regions = Vec::new(alloc);
     for item in logs.drain() {
         regions.push(item.raft_group_id)?;
     }
-    let again = accessor.take_cleaned_region_logs()?;
+    Ok(regions)
+}
+
+/// Cleaned regions are listed as often as they are cleaned, in order, and handed out once.
+fn clean(alloc: Global) -> Result<bool> {
+    let mut accessor = appended(alloc, 5)?;
+    clean_regions(alloc, &mut accessor)?;
     Ok(
-        listed
-            && regions.as_slice() == [3, 5, 3].as_slice()
-            && again.is_empty()
+        accessor.cleaned_regions() == [3, 5, 3].as_slice()
+            && taken(alloc, &mut accessor)?.as_slice() == [3, 5, 3].as_slice()
+            && taken(alloc, &mut accessor)?.is_empty()
             && accessor.is_empty()
             && live(&accessor) == (0, 0),
     )
 }
 
+const REWRITTEN: FileId = FileId {
+    queue: LogQueue::Rewrite,
+    seq: 50,
+};
+
+/// The first entries of region 1 are rewritten.
+fn rewrite(alloc: Global, accessor: &mut MemTableAccessor) -> Result<bool> {
+    let mut items = Vec::new(alloc);
+    items.push(entries(alloc, 1, 10, 15, REWRITTEN)?)?;
+    accessor.apply_rewrite_writes(items, Some(1), 50)?;
+    let moved = shape(accessor, 1) == Some((Some(10), Some(19), 5, 5));
+    Ok(moved && live(accessor) == (5, 5))
+}
+
+fn group(accessor: &mut MemTableAccessor) -> Result<bool> {
+    accessor.apply_rewrite_atomic_group(1, 49, 50)?;
+    Ok(match accessor.get(1) {
+        Some(table) => table.min_file_seq(LogQueue::Rewrite) == Some(49),
+        None => false,
+    })
+}
+
+fn replace(alloc: Global, accessor: &mut MemTableAccessor) -> Result<bool> {
+    let replaced = accessor.insert(1, MemTable::new(alloc, 1))?;
+    Ok(replaced.is_some() && live(accessor) == (0, 0))
+}
+
+/// Entries and a key of region 2 are read from the rewrite queue.
+fn replay(alloc: Global, accessor: &mut MemTableAccessor) -> Result<bool> {
+    let mut items = Vec::new(alloc);
+    items.push(entries(alloc, 2, 1, 4, REWRITTEN)?)?;
+    items.push(pair(alloc, 2, OpType::Put, REWRITTEN)?)?;
+    accessor.replay_rewrite_writes(items)?;
+    Ok(live(accessor) == (0, 4))
+}
+
+fn remove(accessor: &mut MemTableAccessor) -> Result<bool> {
+    let removed = accessor.remove(2, false)?;
+    Ok(removed.is_some() && live(accessor) == (0, 0) && accessor.cleaned_regions().is_empty())
+}
+
 /// Tables that are rewritten, replaced, read again and removed stay counted.
 fn count(alloc: Global) -> Result<bool> {
-    let mut accessor = MemTableAccessor::new(alloc)?;
-    let rewritten = FileId::new(LogQueue::Rewrite, 50);
-    accessor.change(1, TableChange::Append(run(alloc, 10, 20, FIRST)?))?;
-    let mut items = Vec::new(alloc);
-    items.push(entries(alloc, 1, 10, 15, rewritten)?)?;
-    accessor.apply_rewrite_writes(items, Some(1), 50)?;
-    let moved = shape(&accessor, 1) == Some((Some(10), Some(19), 5, 5));
-    let counted = live(&accessor) == (5, 5);
-    accessor.apply_rewrite_atomic_group(1, 49, 50)?;
-    let least = match accessor.get(1) {
-        Some(table) => table.min_file_seq(LogQueue::Rewrite),
-        None => None,
-    };
-    let replaced = accessor.insert(1, MemTable::new(alloc, 1))?;
-    let emptied = live(&accessor) == (0, 0);
-    let mut items = Vec::new(alloc);
-    items.push(entries(alloc, 2, 1, 4, rewritten)?)?;
-    items.push(pair(alloc, 2, OpType::Put, rewritten)?)?;
-    accessor.replay_rewrite_writes(items)?;
-    let replayed = live(&accessor) == (0, 4);
-    let removed = accessor.remove(2, false)?;
+    let mut accessor = appended(alloc, 1)?;
     Ok(
-        moved
-            && counted
-            && least == Some(49)
-            && replaced.is_some()
-            && emptied
-            && replayed
-            && removed.is_some()
-            && live(&accessor) == (0, 0)
-            && accessor.cleaned_regions().is_empty(),
+        rewrite(alloc, &mut accessor)?
+            && group(&mut accessor)?
+            && replace(alloc, &mut accessor)?
+            && replay(alloc, &mut accessor)?
+            && remove(&mut accessor)?,
     )
 }
 
-/// A table is made where there is none and handed out, and a walk meets each.
-fn walk(alloc: Global) -> Result<bool> {
-    let mut accessor = MemTableAccessor::new(alloc)?;
-    let made = accessor.get_or_insert(7)?.region_id();
-    accessor.change(7, TableChange::Append(run(alloc, 10, 20, FIRST)?))?;
-    let last = accessor.get_or_insert(7)?.last_index();
-    for region in [8, 9] {
-        accessor.get_or_insert(region)?;
-    }
-    let sum = accessor.fold(0, |sum: u64, table: &MemTable| {
-        sum.wrapping_add(table.region_id())
-    });
+fn last_index(accessor: &mut MemTableAccessor, region: u64) -> Result<Option<u64>> {
+    Ok(accessor.get_or_insert(region)?.last_index())
+}
+
+/// The regions whose tables have no entry.
+fn blank_regions(alloc: Global, accessor: &MemTableAccessor) -> Result<Vec<u64>> {
     let kept = accessor.collect(|table: &MemTable| table.first_index().is_none())?;
     let mut regions = Vec::new(alloc);
     for table in kept {
         regions.push(table.region_id())?;
     }
     regions.sort()?;
-    Ok(made == 7 && last == Some(19) && sum == 24 && regions.as_slice() == [8, 9].as_slice())
+    Ok(regions)
+}
+
+/// A table is made where there is none and handed out, and a walk meets each.
+fn walk(alloc: Global) -> Result<bool> {
+    let mut accessor = appended(alloc, 7)?;
+    for (region, last) in [(7, Some(19)), (8, None), (9, None)] {
+        if last_index(&mut accessor, region)? != last {
+            return Ok(false);
+        }
+    }
+    let sum = accessor.fold(0, |sum: u64, table: &MemTable| {
+        sum.wrapping_add(table.region_id())
+    });
+    Ok(sum == 24 && blank_regions(alloc, &accessor)?.as_slice() == [8, 9].as_slice())
+}
+
+fn runs_of(alloc: Global, file: FileId, runs: &[(u64, u64, u64)]) -> Result<Vec<LogItem>> {
+    let mut items = Vec::new(alloc);
+    for (region, start, end) in runs {
+        items.push(entries(alloc, *region, *start, *end, file)?)?;
+    }
+    Ok(items)
 }
 
 /// The tables of regions with one run each, in files of one queue.
@@ -217,10 +278,7 @@ pub(crate) fn replayed(
     runs: &[(u64, u64, u64)],
 ) -> Result<MemTableAccessor> {
     let mut accessor = MemTableAccessor::new(alloc)?;
-    let mut items = Vec::new(alloc);
-    for (region, start, end) in runs {
-        items.push(entries(alloc, *region, *start, *end, file)?)?;
-    }
+    let items = runs_of(alloc, file, runs)?;
     match file.queue {
         LogQueue::Append => accessor.replay_append_writes(items)?,
         LogQueue::Rewrite => accessor.replay_rewrite_writes(items)?,
@@ -228,10 +286,15 @@ pub(crate) fn replayed(
     Ok(accessor)
 }
 
-/// Tables of neighbors are joined region by region, unless a hole is left.
-fn merge_neighbors(alloc: Global) -> Result<bool> {
+fn joined(alloc: Global) -> Result<MemTableAccessor> {
     let mut older = replayed(alloc, FIRST, &[(1, 10, 20), (3, 1, 4)])?;
     older.merge_newer_neighbor(replayed(alloc, FIRST, &[(1, 15, 18), (2, 5, 7)])?)?;
+    Ok(older)
+}
+
+/// Tables of neighbors are joined region by region, unless a hole is left.
+fn merge_neighbors(alloc: Global) -> Result<bool> {
+    let mut older = joined(alloc)?;
     let joined = shape(&older, 1) == Some((Some(10), Some(17), 8, 0))
         && shape(&older, 2) == Some((Some(5), Some(6), 2, 0))
         && shape(&older, 3) == Some((Some(1), Some(3), 3, 0))

@@ -34,7 +34,7 @@ enum Call {
 }
 
 /// The file of the entries, a call that is refused beside them, and the fault.
-const REFUSED: [(FileId, Call, Fault); 16] = [
+static REFUSED: [(FileId, Call, Fault); 16] = [
     (
         REWRITTEN,
         Call::ReplayAppend(Item::Entries(FIRST)),
@@ -151,12 +151,16 @@ fn is_refused(alloc: Global, file: FileId, call: Call, fault: Fault) -> Result<b
 
 /// Whether all refusals are for their faults.
 pub(crate) fn are_named(alloc: Global) -> Result<bool> {
-    for (file, call, fault) in REFUSED {
-        if !is_refused(alloc, file, call, fault)? {
+    for (file, call, fault) in refused() {
+        if !is_refused(alloc, *file, *call, *fault)? {
             return Ok(false);
         }
     }
     Ok(true)
+}
+
+fn refused() -> &'static [(FileId, Call, Fault)] {
+    &REFUSED
 }
 
 /// A change of a table.
@@ -171,7 +175,9 @@ enum Change {
 
 /// Changes of one table, one behind the other, with their answers, and how many records were then
 /// written to the rewrite queue and how many of those were deleted again.
-const COUNTED: [(Change, std::result::Result<u64, Fault>, (usize, usize)); 9] = [
+type Row = (Change, std::result::Result<u64, Fault>, (usize, usize));
+
+static COUNTED: [Row; 9] = [
     (Change::Append(10, 20, FIRST), Ok(0), (0, 0)),
     (Change::Rewrite(10, 15, REWRITTEN, Some(1)), Ok(0), (5, 0)),
     (Change::Rewrite(10, 15, REWRITTEN, None), Ok(0), (10, 5)),
@@ -215,14 +221,23 @@ fn table_change(alloc: Global, change: Change) -> Result<TableChange> {
 /// Whether written records and deleted ones of the rewrite queue are counted apart.
 pub(crate) fn are_counted(alloc: Global) -> Result<bool> {
     let mut accessor = MemTableAccessor::new(alloc)?;
-    for (change, expected, numbers) in COUNTED {
-        let answer = answered(accessor.change(1, table_change(alloc, change)?))?;
-        let stats = accessor.stats();
-        if answer != expected
-            || (stats.rewrite_entries(), stats.deleted_rewrite_entries()) != numbers
-        {
+    for row in counted() {
+        if !is_counted(alloc, &mut accessor, row)? {
             return Ok(false);
         }
     }
     Ok(true)
+}
+
+fn counted() -> &'static [Row] {
+    &COUNTED
+}
+
+/// Whether a change answers and counts as its row says.
+fn is_counted(alloc: Global, accessor: &mut MemTableAccessor, row: &Row) -> Result<bool> {
+    let (change, expected, numbers) = *row;
+    let answer = answered(accessor.change(1, table_change(alloc, change)?))?;
+    let stats = accessor.stats();
+    let counts = (stats.rewrite_entries(), stats.deleted_rewrite_entries());
+    Ok(answer == expected && counts == numbers)
 }

@@ -1,6 +1,7 @@
 //! What threads append at once stands, and closures on tables of different slots run at once.
 
 mod calls;
+mod seen;
 
 use raft_accessor::{
     EntryIndex, Error, FileBlockHandle, FileId, LogQueue, MemTable, Result, TableChange, slot_of,

@@ -13,14 +13,14 @@ use std::time::Instant;
 const ENTRY_SIZE: usize = 256;
 
 /// An entry whose message is its bytes.
-#[derive(Clone, PartialEq, Debug, Drop)]
+#[derive(Clone, Copy, PartialEq, Debug)]
 struct Entry {
     index: u64,
-    bytes: Vec<u8>,
+    bytes: [u8; ENTRY_SIZE],
 }
 
 impl Message for Entry {
-    ghost bytes_of = { λ entry. entry.bytes.items };
+    ghost bytes_of = { λ entry. entry.bytes };
 
     ghost refuses = { λ entry code. ⊥ };
 
@@ -87,26 +87,37 @@ fn context() -> LogFileContext {
 
 /// Times how the bytes of batches are made and signed, and answers them.
 fn time_writing(rt: &HostRuntime, shape: Shape) -> Result<Vec<Vec<u8>>> {
-    let alloc = rt.alloc();
-    let messages = messages(alloc, shape.entries)?;
-    let mut best = u64::MAX;
-    let mut encoded = Vec::new(alloc);
-    for _ in 0..TIMES {
-        let mut batches = fill(alloc, shape, messages.as_slice())?;
-        let start = Instant::now(rt)?;
-        seal(&mut batches)?;
-        best = best.min(nanoseconds_since(rt, &start)?);
-        encoded = bytes_of(alloc, batches.as_slice())?;
+    let messages = messages(rt.alloc(), shape.entries)?;
+    let (mut best, mut encoded) = write(rt, shape, messages.as_slice())?;
+    for _ in 1..TIMES {
+        let (taken, bytes) = write(rt, shape, messages.as_slice())?;
+        best = best.min(taken);
+        encoded = bytes;
     }
+    print_written(rt, best, encoded.as_slice())?;
+    Ok(encoded)
+}
+
+/// How long it takes to make and sign the bytes of batches, and these bytes.
+fn write(rt: &HostRuntime, shape: Shape, messages: &[Entry]) -> Result<(u64, Vec<Vec<u8>>)> {
+    let mut batches = fill(rt.alloc(), shape, messages)?;
+    let start = Instant::now(rt)?;
+    seal(&mut batches)?;
+    let taken = nanoseconds_since(rt, &start)?;
+    Ok((taken, bytes_of(rt.alloc(), batches.as_slice())?))
+}
+
+/// Prints a line for the bytes of batches.
+fn print_written(rt: &HostRuntime, best: u64, encoded: &[Vec<u8>]) -> Result<()> {
     print_line(
         rt,
         "finish_populate, prepare_write",
         best,
         "batch",
         encoded.len(),
-        length(encoded.as_slice()),
+        length(encoded),
     )?;
-    Ok(encoded)
+    Ok(())
 }
 
 /// Times how items are read of the bytes of batches.
@@ -135,8 +146,10 @@ fn messages(alloc: Global, count: u64) -> Result<Vec<Entry>> {
     let mut noise = Noise::new();
     let mut messages = Vec::new(alloc);
     for index in 0..count {
-        let mut bytes = Vec::with_capacity(alloc, ENTRY_SIZE)?;
-        noise.fill(&mut bytes, ENTRY_SIZE)?;
+        let mut bytes = [0; ENTRY_SIZE];
+        for byte in &mut bytes {
+            *byte = noise.next_byte();
+        }
         messages.push(Entry { index, bytes })?;
     }
     Ok(messages)
@@ -160,11 +173,20 @@ fn add_region(alloc: Global, batch: &mut LogBatch, region: u64, messages: &[Entr
     if batch.is_open() {
         batch.add_entries::<Entries>(region % 1_000 + 1, messages)?;
     }
-    if batch.is_open() && region % 4 == 0 {
-        batch.put(region, vec![in alloc; 1, 2]?, vec![in alloc; 7; 32]?)?;
+    if region % 4 == 0 {
+        add_key_value(alloc, batch, region)?;
     }
     if batch.is_open() && region % 8 == 0 {
         batch.add_command(region, Command::Compact { index: 100 })?;
+    }
+    Ok(())
+}
+
+/// Adds a key value to a batch that is open.
+fn add_key_value(alloc: Global, batch: &mut LogBatch, region: u64) -> Result<()> {
+    let (key, value) = (vec![in alloc; 1, 2]?, vec![in alloc; 7; 32]?);
+    if batch.is_open() {
+        batch.put(region, key, value)?;
     }
     Ok(())
 }

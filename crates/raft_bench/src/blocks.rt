@@ -1,6 +1,6 @@
 //! Times tables by how many entries each of their blocks has, and counts the bytes of what is kept.
 
-use crate::tables::{Region, append_all, found, print_each, run};
+use crate::tables::{REGIONS, Region, append_all, empty_regions, found, print_each, run};
 use crate::timing::{Noise, TIMES, nanoseconds_since};
 use raft_table::{Block, EntryIndex, LogQueue};
 use std::alloc::{AllocError, Global};
@@ -69,29 +69,33 @@ fn kept_bytes(region: &Region) -> usize {
 }
 
 fn time_appends(rt: &HostRuntime, len: u64) -> io::Result<()> {
-    let regions = 1_000;
     let mut best = u64::MAX;
-    let mut bytes = 0usize;
+    let mut bytes = 0;
     for _ in 0..TIMES {
-        let mut tables = Vec::new(rt.alloc());
-        for id in 0..regions {
-            tables.push(Region::new(rt.alloc(), id))?;
-        }
-        let runs = runs_of(rt.alloc(), regions, len)?;
-        let start = Instant::now(rt)?;
-        append_all(&mut tables, runs);
-        best = best.min(nanoseconds_since(rt, &start)?);
-        bytes = 0;
-        for table in &tables {
-            bytes = bytes.saturating_add(kept_bytes(table));
-        }
+        let (taken, kept) = append(rt, len)?;
+        best = best.min(taken);
+        bytes = kept;
     }
-    let entries = regions * ENTRIES;
+    let entries = REGIONS * ENTRIES;
     println!(rt;
         "2,048,000 entries, {len} a call, {len} a block: {} bytes an entry",
         bytes as u64 / entries
     )?;
     print_each(rt, "append", best, "entry", entries)
+}
+
+/// How long it takes to append all runs to regions without records, and how many bytes are kept then.
+fn append(rt: &HostRuntime, len: u64) -> io::Result<(u64, usize)> {
+    let mut regions = empty_regions(rt.alloc())?;
+    let runs = runs_of(rt.alloc(), REGIONS, len)?;
+    let start = Instant::now(rt)?;
+    append_all(&mut regions, runs);
+    let taken = nanoseconds_since(rt, &start)?;
+    let mut bytes = 0usize;
+    for region in &regions {
+        bytes = bytes.saturating_add(kept_bytes(region));
+    }
+    Ok((taken, bytes))
 }
 
 /// A table of many blocks, from an index on.
@@ -141,19 +145,30 @@ fn rewrite_by_steps(region: &mut Region, runs: Vec<Vec<EntryIndex>>) {
     }
 }
 
+/// Runs for the rewriting of a table of many blocks.
+fn steps(alloc: Global) -> std::result::Result<Vec<Vec<EntryIndex>>, AllocError> {
+    let mut runs = Vec::new(alloc);
+    let mut first = 1u64;
+    for _ in 0..BLOCKS * SPANS / STEP {
+        runs.push(run(alloc, first, STEP, LogQueue::Rewrite, 50)?)?;
+        first = first.saturating_add(STEP);
+    }
+    Ok(runs)
+}
+
+/// How long it takes to rewrite a table of many blocks.
+fn rewrite(rt: &HostRuntime) -> io::Result<u64> {
+    let mut region = long(rt.alloc(), 1)?;
+    let runs = steps(rt.alloc())?;
+    let start = Instant::now(rt)?;
+    rewrite_by_steps(&mut region, runs);
+    nanoseconds_since(rt, &start)
+}
+
 fn time_rewrite(rt: &HostRuntime) -> io::Result<()> {
     let mut best = u64::MAX;
     for _ in 0..TIMES {
-        let mut region = long(rt.alloc(), 1)?;
-        let mut runs = Vec::new(rt.alloc());
-        let mut first = 1u64;
-        for _ in 0..BLOCKS * SPANS / STEP {
-            runs.push(run(rt.alloc(), first, STEP, LogQueue::Rewrite, 50)?)?;
-            first = first.saturating_add(STEP);
-        }
-        let start = Instant::now(rt)?;
-        rewrite_by_steps(&mut region, runs);
-        best = best.min(nanoseconds_since(rt, &start)?);
+        best = best.min(rewrite(rt)?);
     }
     print_each(
         rt,

@@ -10,17 +10,21 @@ pub(crate) fn time(rt: &HostRuntime) -> Result<()> {
     let mut bytes = Vec::new(rt.alloc());
     Noise::new().fill(&mut bytes, 1 << 24)?;
     for size in [8usize, 64, 256, 1 << 10, 1 << 12, 1 << 16, 1 << 20, 1 << 24] {
-        let mut best = u64::MAX;
-        let mut last = 0;
-        for _ in 0..TIMES {
-            let start = Instant::now(rt)?;
-            last = checksums(bytes.as_slice(), size);
-            best = best.min(nanoseconds_since(rt, &start)?);
-        }
-        let count = bytes.len() / size.max(1);
-        let name = format!(in rt.alloc(); "crc32 of {size} bytes ({last:08x})")?;
-        print_line(rt, name.as_str(), best, "call", count, bytes.len())?;
+        time_size(rt, bytes.as_slice(), size)?;
     }
+    Ok(())
+}
+
+fn time_size(rt: &HostRuntime, bytes: &[u8], size: usize) -> Result<()> {
+    let (mut best, mut last) = (u64::MAX, 0);
+    for _ in 0..TIMES {
+        let start = Instant::now(rt)?;
+        last = checksums(bytes, size);
+        best = best.min(nanoseconds_since(rt, &start)?);
+    }
+    let count = bytes.len() / size.max(1);
+    let name = format!(in rt.alloc(); "crc32 of {size} bytes ({last:08x})")?;
+    print_line(rt, name.as_str(), best, "call", count, bytes.len())?;
     Ok(())
 }
 

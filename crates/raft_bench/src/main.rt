@@ -16,35 +16,57 @@ use raft_records::Result;
 use std::{env, io};
 
 fn main(rt: HostRuntime) -> io::Result<()> {
+    let words = words_of(&rt)?;
+    match words.as_slice().split_first() {
+        Some((word, _)) if word.as_str() == "recover" => {
+            print_recovery(&rt, recovery::time(&rt, words.as_slice()))
+        }
+        Some((word, behind)) if word.as_str() == "merge" => {
+            print_merges(&rt, merges::time(&rt, behind))
+        }
+        _ => {
+            for word in &words {
+                let timed = if word.as_str() == "shared" {
+                    shared::time(&rt, rt.alloc())
+                } else {
+                    time(&rt, word.as_str())
+                };
+                print_error(&rt, timed)?;
+            }
+            Ok(())
+        }
+    }
+}
+
+/// The words behind the program's name.
+fn words_of(rt: &HostRuntime) -> io::Result<Vec<String>> {
     let mut words = Vec::new(rt.alloc());
-    for word in env::args(&rt)?.skip(1) {
+    for word in env::args(rt)?.skip(1) {
         words.push(word)?;
     }
-    if words.first().is_some_and(|word| word.as_str() == "recover") {
-        return match recovery::time(&rt, words.as_slice()) {
-            Ok(timed) => recovery::print(&rt, timed),
-            Err(e) => eprintln!(rt; "raft_bench: {e}"),
-        };
+    Ok(words)
+}
+
+fn print_recovery(rt: &HostRuntime, timed: Result<Option<recovery::Timed>>) -> io::Result<()> {
+    match timed {
+        Ok(timed) => recovery::print(rt, timed),
+        Err(e) => print_error(rt, Err(e)),
     }
-    if let Some((word, behind)) = words.as_slice().split_first() {
-        if word.as_str() == "merge" {
-            return match merges::time(&rt, behind) {
-                Ok(timed) => merges::print(&rt, timed),
-                Err(e) => eprintln!(rt; "raft_bench: {e}"),
-            };
-        }
+}
+
+fn print_merges(rt: &HostRuntime, timed: Result<Option<merges::Timed>>) -> io::Result<()> {
+    match timed {
+        Ok(timed) => merges::print(rt, timed),
+        Err(e) => print_error(rt, Err(e)),
     }
-    for word in &words {
-        let timed = if word.as_str() == "shared" {
-            shared::time(&rt, rt.alloc())
-        } else {
-            time(&rt, word.as_str())
-        };
-        if let Err(e) = timed {
-            eprintln!(rt; "raft_bench: {e}")?;
-        }
+}
+
+/// Prints why nothing was timed, if it wasn't.
+fn print_error(rt: &HostRuntime, timed: Result<()>) -> io::Result<()> {
+    match timed {
+        Ok(()) => Ok(()),
+        Err(e) => eprintln!(rt; "raft_bench: {e}"),
     }
-    Ok(())
 }
 
 /// Times what a word names, and prints a line for each work.

@@ -46,7 +46,6 @@ fn time_files<R: Files + AllocGlobal + Clock>(
     rt: &R,
     asked: Recovery<'_>,
 ) -> Result<Option<Timed>> {
-    let alloc = rt.alloc();
     let files = read_files(rt, asked.files)?;
     let segments = file_segments(asked.queue, asked.version, CONTEXTS, files)?;
     let mut least = Timed {
@@ -54,17 +53,47 @@ fn time_files<R: Files + AllocGlobal + Clock>(
         merging: u64::MAX,
     };
     for _ in 0..RUNS {
-        let start = Instant::now(rt)?;
-        let contexts = read_quarters(alloc, segments.as_slice())?;
-        let reading = nanoseconds_since(rt, &start)?;
-        let start = Instant::now(rt)?;
-        if merge_by_halves(contexts, asked.queue)?.is_none() {
+        let Some(taken) = time_run(rt, segments.as_slice(), asked.queue)? else {
             return Ok(None);
-        }
-        least.merging = least.merging.min(nanoseconds_since(rt, &start)?);
-        least.reading = least.reading.min(reading);
+        };
+        least.merging = least.merging.min(taken.merging);
+        least.reading = least.reading.min(taken.reading);
     }
     Ok(Some(least))
+}
+
+/// How long one reading and merging takes, if there are four contexts.
+fn time_run<R: AllocGlobal + Clock>(
+    rt: &R,
+    segments: &[Segment],
+    queue: LogQueue,
+) -> Result<Option<Timed>> {
+    let (reading, contexts) = time_reading(rt, segments)?;
+    match time_merging(rt, contexts, queue)? {
+        Some(merging) => Ok(Some(Timed { reading, merging })),
+        None => Ok(None),
+    }
+}
+
+fn time_reading<R: AllocGlobal + Clock>(
+    rt: &R,
+    segments: &[Segment],
+) -> Result<(u64, Vec<MemTableRecoverContext>)> {
+    let start = Instant::now(rt)?;
+    let contexts = read_quarters(rt.alloc(), segments)?;
+    Ok((nanoseconds_since(rt, &start)?, contexts))
+}
+
+fn time_merging<R: Clock>(
+    rt: &R,
+    contexts: Vec<MemTableRecoverContext>,
+    queue: LogQueue,
+) -> Result<Option<u64>> {
+    let start = Instant::now(rt)?;
+    if merge_by_halves(contexts, queue)?.is_none() {
+        return Ok(None);
+    }
+    Ok(Some(nanoseconds_since(rt, &start)?))
 }
 
 /// A context for each quarter of the segments.
@@ -92,14 +121,9 @@ fn merge_by_halves(
     queue: LogQueue,
 ) -> Result<Option<MemTableRecoverContext>> {
     let mut rest = contexts.into_iter();
-    let Some(mut older) = merge_next(&mut rest, queue)? else {
-        return Ok(None);
-    };
-    let Some(newer) = merge_next(&mut rest, queue)? else {
-        return Ok(None);
-    };
-    older.merge(newer, queue)?;
-    Ok(Some(older))
+    let older = merge_next(&mut rest, queue)?;
+    let newer = merge_next(&mut rest, queue)?;
+    merge_both(older, newer, queue)
 }
 
 /// The next two contexts as one, if there are two.
@@ -107,14 +131,23 @@ fn merge_next(
     rest: &mut IntoIter<MemTableRecoverContext>,
     queue: LogQueue,
 ) -> Result<Option<MemTableRecoverContext>> {
-    let Some(mut older) = rest.next() else {
-        return Ok(None);
-    };
-    let Some(newer) = rest.next() else {
-        return Ok(None);
-    };
-    older.merge(newer, queue)?;
-    Ok(Some(older))
+    let older = rest.next();
+    merge_both(older, rest.next(), queue)
+}
+
+/// Two contexts as one, if there are two.
+fn merge_both(
+    older: Option<MemTableRecoverContext>,
+    newer: Option<MemTableRecoverContext>,
+    queue: LogQueue,
+) -> Result<Option<MemTableRecoverContext>> {
+    match (older, newer) {
+        (Some(mut older), Some(newer)) => {
+            older.merge(newer, queue)?;
+            Ok(Some(older))
+        }
+        _ => Ok(None),
+    }
 }
 
 /// Prints the times in milliseconds, or what the words have to be.

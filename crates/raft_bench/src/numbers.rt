@@ -23,23 +23,33 @@ pub(crate) fn time(rt: &HostRuntime) -> Result<()> {
 
 fn time_length(rt: &HostRuntime, bits: u32, numbers: &[u64]) -> Result<()> {
     let mut bytes = Vec::with_capacity(rt.alloc(), 10 * COUNT)?;
+    let (write, read, sum) = write_and_read(rt, numbers, &mut bytes)?;
+    let len = bytes.len();
+    let name = format!(in rt.alloc(); "encode_var_u64, {bits} bits")?;
+    print_line(rt, name.as_str(), write, "number", COUNT, len)?;
+    let name = format!(in rt.alloc(); "decode_var_u64, {bits} bits (sum {sum})")?;
+    print_line(rt, name.as_str(), read, "number", COUNT, len)?;
+    Ok(())
+}
+
+/// How long it takes to write and to read the numbers, and their sum.
+fn write_and_read(
+    rt: &HostRuntime,
+    numbers: &[u64],
+    bytes: &mut Vec<u8>,
+) -> Result<(u64, u64, u64)> {
     let (mut best_write, mut best_read) = (u64::MAX, u64::MAX);
     let mut sum = 0;
     for _ in 0..TIMES {
         bytes.clear();
         let start = Instant::now(rt)?;
-        write(&mut bytes, numbers);
+        write(bytes, numbers);
         best_write = best_write.min(nanoseconds_since(rt, &start)?);
         let start = Instant::now(rt)?;
         sum = read(bytes.as_slice());
         best_read = best_read.min(nanoseconds_since(rt, &start)?);
     }
-    let (count, len) = (numbers.len(), bytes.len());
-    let name = format!(in rt.alloc(); "encode_var_u64, {bits} bits")?;
-    print_line(rt, name.as_str(), best_write, "number", count, len)?;
-    let name = format!(in rt.alloc(); "decode_var_u64, {bits} bits (sum {sum})")?;
-    print_line(rt, name.as_str(), best_read, "number", count, len)?;
-    Ok(())
+    Ok((best_write, best_read, sum))
 }
 
 fn write(bytes: &mut Vec<u8>, numbers: &[u64]) {

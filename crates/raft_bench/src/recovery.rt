@@ -1,10 +1,10 @@
 //! Times the recovery of log files.
 
 use crate::timing::nanoseconds_since;
-use raft_records::Result;
+use raft_records::{LogQueue, Result};
 use raft_recover::cutting::file_segments;
-use raft_recover::recover;
 use raft_recover::request::{Recovery, Request, read_files};
+use raft_recover::{Segment, recover};
 use std::io;
 use std::rt::Files;
 use std::thread::Threads;
@@ -42,24 +42,34 @@ fn time_files<R: Threads + Files + AllocGlobal + Clock + Sync>(
     rt: &R,
     asked: Recovery<'_>,
 ) -> Result<Timed> {
-    let alloc = rt.alloc();
+    let (queue, workers) = (asked.queue, asked.workers);
     let files = read_files(rt, asked.files)?;
-    let segments = file_segments(asked.queue, asked.version, asked.workers, files)?;
-    let mut runs = Vec::with_capacity(alloc, RUNS)?;
+    let segments = file_segments(queue, asked.version, workers, files)?;
+    let mut runs = [0; RUNS];
     let mut regions = 0;
-    for _ in 0..RUNS {
-        let start = Instant::now(rt)?;
-        let tables = recover(rt, alloc, segments.as_slice(), asked.queue, asked.workers)?;
-        runs.push(nanoseconds_since(rt, &start)?)?;
-        regions = tables.tables()?.len();
+    for run in &mut runs {
+        (*run, regions) = time_run(rt, segments.as_slice(), queue, workers)?;
     }
     runs.sort_unstable();
     Ok(Timed {
-        workers: asked.workers,
+        workers,
         regions,
-        best: runs.first().copied().unwrap_or(0),
-        median: runs.get(RUNS / 2).copied().unwrap_or(0),
+        best: runs[0],
+        median: runs[RUNS / 2],
     })
+}
+
+/// How long a recovery takes, and how many regions have a table then.
+fn time_run<R: Threads + AllocGlobal + Clock + Sync>(
+    rt: &R,
+    segments: &[Segment],
+    queue: LogQueue,
+    workers: usize,
+) -> Result<(u64, usize)> {
+    let start = Instant::now(rt)?;
+    let tables = recover(rt, rt.alloc(), segments, queue, workers)?;
+    let taken = nanoseconds_since(rt, &start)?;
+    Ok((taken, tables.tables()?.len()))
 }
 
 /// Prints the times in milliseconds, or what the words have to be.

@@ -39,16 +39,25 @@ pub(crate) fn time<R: Threads + Wait + Clock + Print + Sync>(rt: &R, alloc: Glob
 fn appended<R: Threads + Wait + Clock + Sync>(rt: &R, alloc: Global, threads: u64) -> Result<u64> {
     let mut best = u64::MAX;
     for _ in 0..TIMES {
-        let shared = SharedAccessor::new(alloc);
-        let append = |thread: usize| append_share(rt, alloc, &shared, thread as u64, threads);
-        let start = Instant::now(rt)?;
-        let all = thread::map_indices(rt, alloc, threads as usize, &append)?;
-        best = best.min(nanoseconds_since(rt, &start)?);
-        for appended in all {
-            appended?;
-        }
+        best = best.min(append_once(rt, alloc, threads)?);
     }
     Ok(best)
+}
+
+fn append_once<R: Threads + Wait + Clock + Sync>(
+    rt: &R,
+    alloc: Global,
+    threads: u64,
+) -> Result<u64> {
+    let shared = SharedAccessor::new(alloc);
+    let append = |thread: usize| append_share(rt, alloc, &shared, thread as u64, threads);
+    let start = Instant::now(rt)?;
+    let all = thread::map_indices(rt, alloc, threads as usize, &append)?;
+    let taken = nanoseconds_since(rt, &start)?;
+    for appended in all {
+        appended?;
+    }
+    Ok(taken)
 }
 
 /// Appends to every region whose number leaves this thread's when it is divided by how many there are.
@@ -89,6 +98,11 @@ fn full(alloc: Global) -> Result<MemTableAccessor> {
     Ok(core)
 }
 
+/// The same tables, shared.
+fn full_shared(alloc: Global) -> Result<SharedAccessor> {
+    SharedAccessor::from_core(alloc, full(alloc)?)
+}
+
 /// The last indexes of regions, added up.
 fn last_of_all(core: &MemTableAccessor, picks: &[u64]) -> u64 {
     let mut sum = 0u64;
@@ -114,17 +128,25 @@ fn shared_last_of_all<R: Wait>(rt: &R, shared: &SharedAccessor, picks: &[u64]) -
 
 /// Times look-ups of tables.
 fn time_looks<R: Wait + Clock + Print>(rt: &R, alloc: Global) -> Result<()> {
-    let core = full(alloc)?;
-    let shared = SharedAccessor::from_core(alloc, full(alloc)?)?;
     let picks = picks(alloc)?;
+    look(rt, &full(alloc)?, &full_shared(alloc)?, picks.as_slice())
+}
+
+/// Times look-ups of these tables in turn.
+fn look<R: Wait + Clock + Print>(
+    rt: &R,
+    core: &MemTableAccessor,
+    shared: &SharedAccessor,
+    picks: &[u64],
+) -> Result<()> {
     let (mut best_get, mut best_with) = (u64::MAX, u64::MAX);
     let (mut got, mut seen) = (0, 0);
     for _ in 0..TIMES {
         let start = Instant::now(rt)?;
-        got = last_of_all(&core, picks.as_slice());
+        got = last_of_all(core, picks);
         best_get = best_get.min(nanoseconds_since(rt, &start)?);
         let start = Instant::now(rt)?;
-        seen = shared_last_of_all(rt, &shared, picks.as_slice());
+        seen = shared_last_of_all(rt, shared, picks);
         best_with = best_with.min(nanoseconds_since(rt, &start)?);
     }
     let looked = LOOKUPS.min(got).min(seen);

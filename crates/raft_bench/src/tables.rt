@@ -13,7 +13,7 @@ use std::io;
 use std::time::Instant;
 
 /// How many regions there are.
-const REGIONS: u64 = 1_000;
+pub(crate) const REGIONS: u64 = 1_000;
 
 /// How many runs are appended to each region.
 const ROUNDS: u64 = 100;
@@ -144,7 +144,7 @@ pub(crate) fn run(
 }
 
 /// Regions without records.
-fn empty_regions(alloc: Global) -> std::result::Result<Vec<Region>, AllocError> {
+pub(crate) fn empty_regions(alloc: Global) -> std::result::Result<Vec<Region>, AllocError> {
     let mut regions = Vec::new(alloc);
     for id in 0..REGIONS {
         regions.push(Region::new(alloc, id))?;
@@ -206,18 +206,24 @@ fn time_append(rt: &HostRuntime) -> io::Result<()> {
     )
 }
 
+/// Compacts all regions step by step. Answers how many entries were dropped.
+fn compact_all(regions: &mut Vec<Region>) -> u64 {
+    let mut dropped = 0u64;
+    for step in 1..=ENTRIES / STEP {
+        for region in regions.iter_mut() {
+            dropped = dropped.saturating_add(region.compact_to(1 + step * STEP));
+        }
+    }
+    dropped
+}
+
 fn time_compact_to(rt: &HostRuntime) -> io::Result<()> {
     let mut best = u64::MAX;
-    let mut dropped = 0u64;
+    let mut dropped = 0;
     for _ in 0..TIMES {
         let mut regions = full_regions(rt.alloc())?;
-        dropped = 0;
         let start = Instant::now(rt)?;
-        for step in 1..=ENTRIES / STEP {
-            for region in &mut regions {
-                dropped = dropped.saturating_add(region.compact_to(1 + step * STEP));
-            }
-        }
+        dropped = compact_all(&mut regions);
         best = best.min(nanoseconds_since(rt, &start)?);
     }
     print_each(
@@ -282,15 +288,30 @@ fn time_reads(rt: &HostRuntime) -> io::Result<()> {
     let mut noise = Noise::new();
     let entries = picks(rt.alloc(), &mut noise, REGIONS * ENTRIES, 0)?;
     let fetches = picks(rt.alloc(), &mut noise, REGIONS * ENTRIES / FETCH, FETCH)?;
+    read(
+        rt,
+        regions.as_slice(),
+        entries.as_slice(),
+        fetches.as_slice(),
+    )
+}
+
+/// Times look-ups and fetches of entries in turn.
+fn read(
+    rt: &HostRuntime,
+    regions: &[Region],
+    entries: &[(usize, u64)],
+    fetches: &[(usize, u64)],
+) -> io::Result<()> {
     let mut out = Vec::with_capacity(rt.alloc(), FETCH as usize)?;
     let (mut best_get, mut best_fetch) = (u64::MAX, u64::MAX);
     let (mut got, mut given) = (0, 0);
     for _ in 0..TIMES {
         let start = Instant::now(rt)?;
-        got = found(regions.as_slice(), entries.as_slice());
+        got = found(regions, entries);
         best_get = best_get.min(nanoseconds_since(rt, &start)?);
         let start = Instant::now(rt)?;
-        given = fetched(regions.as_slice(), fetches.as_slice(), &mut out);
+        given = fetched(regions, fetches, &mut out);
         best_fetch = best_fetch.min(nanoseconds_since(rt, &start)?);
     }
     print_each(rt, "get_entry, at random", best_get, "call", got)?;
@@ -312,14 +333,20 @@ fn rewrite_all(regions: &mut Vec<Region>, runs: Vec<Vec<EntryIndex>>) {
     }
 }
 
+/// All entries of each region.
+fn whole_runs(alloc: Global) -> std::result::Result<Vec<Vec<EntryIndex>>, AllocError> {
+    let mut runs = Vec::new(alloc);
+    for _ in 0..REGIONS {
+        runs.push(run(alloc, 1, ENTRIES, LogQueue::Rewrite, 50)?)?;
+    }
+    Ok(runs)
+}
+
 fn time_rewrite(rt: &HostRuntime) -> io::Result<()> {
     let mut best = u64::MAX;
     for _ in 0..TIMES {
         let mut regions = full_regions(rt.alloc())?;
-        let mut runs = Vec::new(rt.alloc());
-        for _ in 0..REGIONS {
-            runs.push(run(rt.alloc(), 1, ENTRIES, LogQueue::Rewrite, 50)?)?;
-        }
+        let runs = whole_runs(rt.alloc())?;
         let start = Instant::now(rt)?;
         rewrite_all(&mut regions, runs);
         best = best.min(nanoseconds_since(rt, &start)?);
@@ -360,21 +387,35 @@ fn delete_all(region: &mut Region, pairs: &[Pair]) {
     }
 }
 
+/// How long it takes to put all pairs into a table, to put them once more, and to delete them.
+fn change_keys(rt: &HostRuntime) -> io::Result<(u64, u64, u64)> {
+    let mut region = Region::new(rt.alloc(), 1);
+    let new = put_pairs(rt, &mut region)?;
+    let old = put_pairs(rt, &mut region)?;
+    Ok((new, old, delete_pairs(rt, &mut region)?))
+}
+
+fn put_pairs(rt: &HostRuntime, region: &mut Region) -> io::Result<u64> {
+    let pairs = pairs(rt.alloc())?;
+    let start = Instant::now(rt)?;
+    put_all(region, pairs);
+    nanoseconds_since(rt, &start)
+}
+
+fn delete_pairs(rt: &HostRuntime, region: &mut Region) -> io::Result<u64> {
+    let pairs = pairs(rt.alloc())?;
+    let start = Instant::now(rt)?;
+    delete_all(region, pairs.as_slice());
+    nanoseconds_since(rt, &start)
+}
+
 fn time_puts(rt: &HostRuntime) -> io::Result<()> {
     let (mut best_new, mut best_old, mut best_delete) = (u64::MAX, u64::MAX, u64::MAX);
     for _ in 0..TIMES {
-        let mut region = Region::new(rt.alloc(), 1);
-        let (new, old) = (pairs(rt.alloc())?, pairs(rt.alloc())?);
-        let keys = pairs(rt.alloc())?;
-        let start = Instant::now(rt)?;
-        put_all(&mut region, new);
-        best_new = best_new.min(nanoseconds_since(rt, &start)?);
-        let start = Instant::now(rt)?;
-        put_all(&mut region, old);
-        best_old = best_old.min(nanoseconds_since(rt, &start)?);
-        let start = Instant::now(rt)?;
-        delete_all(&mut region, keys.as_slice());
-        best_delete = best_delete.min(nanoseconds_since(rt, &start)?);
+        let (new, old, delete) = change_keys(rt)?;
+        best_new = best_new.min(new);
+        best_old = best_old.min(old);
+        best_delete = best_delete.min(delete);
     }
     print_each(
         rt,

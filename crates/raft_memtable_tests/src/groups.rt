@@ -209,44 +209,56 @@ fn is_refused(
     Ok(is_failed(again)? && is_failed(context.finish())?)
 }
 
+/// A context that replayed a batch with these markers.
+fn replayed(
+    alloc: Global,
+    markers: &[(u64, &[u8])],
+    file: FileId,
+) -> Result<MemTableRecoverContext> {
+    let mut context = MemTableRecoverContext::new(alloc)?;
+    context.replay(batch_with_markers(alloc, markers)?, file)?;
+    Ok(context)
+}
+
+/// Whether a batch with these markers takes effect at once.
+fn has_table(alloc: Global, markers: &[(u64, &[u8])], file: FileId) -> Result<bool> {
+    let accessor = replayed(alloc, markers, file)?.finish()?;
+    Ok(accessor.get(5).is_some())
+}
+
+/// Whether a batch with this marker is refused.
+fn is_marker_refused(alloc: Global, markers: &[(u64, &[u8])]) -> Result<bool> {
+    let batch = batch_with_markers(alloc, markers)?;
+    is_refused(alloc, MemTableRecoverContext::new(alloc)?, batch, file(1))
+}
+
+/// The last group of region 5, where one batch has two markers and the next one ends the group of the first.
+fn first_group(alloc: Global) -> Result<Option<(u64, u64)>> {
+    let two = [(9, [0u8].as_slice()), (8, [2u8].as_slice())];
+    let mut context = replayed(alloc, &two, file(1))?;
+    let end = batch_with_markers(alloc, &[(9, [2u8].as_slice())])?;
+    context.replay(end, file(2))?;
+    let accessor = context.finish()?;
+    Ok(accessor.get(5).and_then(|table| table.atomic_group()))
+}
+
 /// A marker with an unknown status is refused in the rewrite queue alone, one with two bytes is none,
 /// and of two markers in a batch the first counts.
 fn markers_are_read(alloc: Global) -> Result<bool> {
     let unknown = [(9, [3u8].as_slice())];
-    let context = MemTableRecoverContext::new(alloc)?;
-    let refused = is_refused(
-        alloc,
-        context,
-        batch_with_markers(alloc, &unknown)?,
-        file(1),
-    )?;
-    let mut context = MemTableRecoverContext::new(alloc)?;
-    let appended = FileId::new(LogQueue::Append, 1);
-    context.replay(batch_with_markers(alloc, &unknown)?, appended)?;
-    let skipped = context.finish()?.get(5).is_some();
-    let mut context = MemTableRecoverContext::new(alloc)?;
-    context.replay(
-        batch_with_markers(alloc, &[(9, [0u8, 0].as_slice())])?,
-        file(1),
-    )?;
-    let no_marker = context.finish()?.get(5).is_some();
-    let mut context = MemTableRecoverContext::new(alloc)?;
-    let two = [(9, [0u8].as_slice()), (8, [2u8].as_slice())];
-    context.replay(batch_with_markers(alloc, &two)?, file(1))?;
-    context.replay(
-        batch_with_markers(alloc, &[(9, [2u8].as_slice())])?,
-        file(2),
-    )?;
-    let accessor = context.finish()?;
-    let group = accessor.get(5).and_then(|table| table.atomic_group());
-    Ok(refused && skipped && no_marker && group == Some((1, 2)))
+    let long = [(9, [0u8, 0].as_slice())];
+    Ok(
+        is_marker_refused(alloc, &unknown)?
+            && has_table(alloc, &unknown, FileId::new(LogQueue::Append, 1))?
+            && has_table(alloc, &long, file(1))?
+            && first_group(alloc)? == Some((1, 2)),
+    )
 }
 
 /// A batch of an older file is refused, and one of the other queue.
 fn files_are_in_order(alloc: Global) -> Result<bool> {
     for older in [file(4), FileId::new(LogQueue::Append, 6)] {
-        let mut context = MemTableRecoverContext::new(alloc)?;
-        context.replay(batch_with_markers(alloc, &[])?, file(5))?;
+        let context = replayed(alloc, &[], file(5))?;
         if !is_refused(alloc, context, batch_with_markers(alloc, &[])?, older)? {
             return Ok(false);
         }
@@ -261,6 +273,10 @@ fn batches_are_tested(rt: HostRuntime) {
         all = markers_are_read(rt.alloc());
     }
     assert!(rt; matches!(all, Ok(true)));
+}
+
+#[test]
+fn older_files_are_refused(rt: HostRuntime) {
     let mut all = files_are_in_order(rt.alloc());
     if matches!(all, Err(Error::Memory)) {
         all = files_are_in_order(rt.alloc());

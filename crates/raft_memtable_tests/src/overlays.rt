@@ -151,7 +151,7 @@ struct Row {
     shape: Shape,
 }
 
-const ROWS: [Row; 10] = [
+static ROWS: [Row; 10] = [
     // The entries below the least start stay, whatever the first start is.
     Row {
         rewritten: &[Run(10, 20)],
@@ -271,16 +271,30 @@ fn shape_of(accessor: &MemTableAccessor) -> Shape {
     }
 }
 
+fn rows() -> &'static [Row] {
+    &ROWS
+}
+
+/// The context of words of the rewrite queue that took in that of words of the append queue.
+fn overlaid(
+    alloc: Global,
+    rewritten: &[Word],
+    appended: &[Word],
+) -> Result<MemTableRecoverContext> {
+    let mut context = read(alloc, LogQueue::Rewrite, rewritten)?;
+    context.merge_append_context(read(alloc, LogQueue::Append, appended)?)?;
+    Ok(context)
+}
+
 /// Whether a row's tables are those that it owes.
 fn holds(alloc: Global, row: &Row) -> Result<bool> {
-    let mut context = read(alloc, LogQueue::Rewrite, row.rewritten)?;
-    context.merge_append_context(read(alloc, LogQueue::Append, row.appended)?)?;
-    Ok(shape_of(&context.finish()?) == row.shape)
+    let tables = overlaid(alloc, row.rewritten, row.appended)?.finish()?;
+    Ok(shape_of(&tables) == row.shape)
 }
 
 #[test]
 fn the_append_queue_lies_over_the_rewrite_queue(rt: HostRuntime) {
-    for row in &ROWS {
+    for row in rows() {
         let mut held = holds(rt.alloc(), row);
         if matches!(held, Err(Error::Memory)) {
             held = holds(rt.alloc(), row);
@@ -310,16 +324,23 @@ fn refusal_of(answer: Result<()>) -> Result<Option<Refusal>> {
 /// A context of the wrong queue is refused, and the refusal fails the other one.
 fn wrong_queues(alloc: Global) -> Result<bool> {
     let mut appended = read(alloc, LogQueue::Append, &[Put])?;
-    let taken = refusal_of(appended.merge_append_context(MemTableRecoverContext::new(alloc)?))?;
+    let taken = take_in(&mut appended, MemTableRecoverContext::new(alloc)?)?;
+    Ok(taken == Some(Refusal::InvalidArgument) && rewrite_queues(alloc)?)
+}
+
+fn rewrite_queues(alloc: Global) -> Result<bool> {
     let mut rewritten = read(alloc, LogQueue::Rewrite, &[Put])?;
-    let other = read(alloc, LogQueue::Rewrite, &[Put])?;
-    let refused = refusal_of(rewritten.merge_append_context(other))?;
+    let refused = take_in(&mut rewritten, read(alloc, LogQueue::Rewrite, &[Put])?)?;
     let failed = matches!(rewritten.finish(), Err(Error::Failed));
-    Ok(
-        taken == Some(Refusal::InvalidArgument)
-            && refused == Some(Refusal::InvalidArgument)
-            && failed,
-    )
+    Ok(refused == Some(Refusal::InvalidArgument) && failed)
+}
+
+/// How a context's taking in of another is refused.
+fn take_in(
+    context: &mut MemTableRecoverContext,
+    appended: MemTableRecoverContext,
+) -> Result<Option<Refusal>> {
+    refusal_of(context.merge_append_context(appended))
 }
 
 /// The queues of two neighbours, one of them or both another than the rewrite queue.
@@ -332,23 +353,38 @@ const NEIGHBOURS: [(LogQueue, LogQueue); 3] = [
 /// Neighbours are merged for no other queue than that of both, and the refusal fails the older one.
 fn wrong_neighbours(alloc: Global) -> Result<bool> {
     for (older, newer) in NEIGHBOURS {
-        let mut context = read(alloc, older, &[Put])?;
-        let newer = read(alloc, newer, &[Put])?;
-        let refused = refusal_of(context.merge(newer, LogQueue::Rewrite))?;
-        let failed = matches!(context.finish(), Err(Error::Failed));
-        if refused != Some(Refusal::InvalidArgument) || !failed {
+        if !are_wrong(alloc, older, newer)? {
             return Ok(false);
         }
     }
     Ok(true)
 }
 
+fn are_wrong(alloc: Global, older: LogQueue, newer: LogQueue) -> Result<bool> {
+    let mut context = read(alloc, older, &[Put])?;
+    let newer = read(alloc, newer, &[Put])?;
+    let refused = refusal_of(context.merge(newer, LogQueue::Rewrite))?;
+    let failed = matches!(context.finish(), Err(Error::Failed));
+    Ok(refused == Some(Refusal::InvalidArgument) && failed)
+}
+
 /// What has taken in an append context takes in nothing more, and is taken in by none.
 fn overlaid_twice(alloc: Global) -> Result<bool> {
-    let mut context = read(alloc, LogQueue::Rewrite, &[Run(10, 20)])?;
-    context.merge_append_context(read(alloc, LogQueue::Append, &[Put])?)?;
-    let again = refusal_of(context.merge_append_context(MemTableRecoverContext::new(alloc)?))?;
+    let mut context = overlaid(alloc, &[Run(10, 20)], &[Put])?;
+    let again = take_in(&mut context, MemTableRecoverContext::new(alloc)?)?;
     let replayed = refusal_of(replay(alloc, &mut context, LogQueue::Rewrite, 1, &[Clean]))?;
+    let kept = has_kept(&context)?;
+    let mut older = MemTableRecoverContext::new(alloc)?;
+    let merged = take_in(&mut older, context)?;
+    Ok(
+        kept && [again, replayed, merged]
+            .iter()
+            .all(|answer| *answer == Some(Refusal::Failed)),
+    )
+}
+
+/// Whether a context holds ten entries and a key.
+fn has_kept(context: &MemTableRecoverContext) -> Result<bool> {
     let stays = Kept {
         entries: 10,
         keys: 1,
@@ -357,14 +393,7 @@ fn overlaid_twice(alloc: Global) -> Result<bool> {
         cleaned: 0,
         waiting_items: 0,
     };
-    let kept = context.kept()? == stays;
-    let mut older = MemTableRecoverContext::new(alloc)?;
-    let merged = refusal_of(older.merge_append_context(context))?;
-    Ok(
-        kept && [again, replayed, merged]
-            .iter()
-            .all(|answer| *answer == Some(Refusal::Failed)),
-    )
+    Ok(context.kept()? == stays)
 }
 
 /// Whether contexts that don't fit are refused.

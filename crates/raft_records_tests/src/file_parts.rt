@@ -68,17 +68,26 @@ fn batches(rt: HostRuntime) {
 
 fn batches_stand_one_behind_the_other(rt: &impl Abort, alloc: Global) -> Result<()> {
     let part = part(alloc, BATCHES)?;
-    assert!(rt; part.id() == file() && part.version() == Version::V1 && part.offset() == 100);
-    assert!(rt; counted(&part, 0)? == Some((1, FIRST)));
-    assert!(rt; counted(&part, FIRST)? == Some((1, 58)));
-    assert!(rt; counted(&part, 58)?.is_none());
-    let wanted = FileBlockHandle {
+    assert!(rt; has_place(&part));
+    for (at, read) in [(0, Some((1, FIRST))), (FIRST, Some((1, 58))), (58, None)] {
+        assert!(rt; counted(&part, at)? == read, "at {at}");
+    }
+    assert!(rt; has_block(&part)?);
+    Ok(())
+}
+
+fn has_place(part: &FilePart) -> bool {
+    part.id() == file() && part.version() == Version::V1 && part.offset() == 100
+}
+
+/// Whether the first entry's bytes lie behind the first header.
+fn has_block(part: &FilePart) -> Result<bool> {
+    let block = FileBlockHandle {
         id: file(),
         offset: 116,
         len: 7,
     };
-    assert!(rt; place(&part)? == Some(wanted));
-    Ok(())
+    Ok(place(part)? == Some(block))
 }
 
 #[test]
@@ -98,19 +107,24 @@ fn damaged_batches_are_refused(rt: &impl Abort, alloc: Global) -> Result<()> {
         assert!(rt; is_refused(alloc, bytes)?, "{len} bytes");
     }
     for at in 0..FIRST {
-        let mut bytes = *BATCHES;
-        bytes[at] ^= 1;
-        let bytes = bytes.get(..FIRST).unwrap_or(&[]);
-        if at >= 16 && at < 23 {
-            assert!(rt;
-                counted(&part(alloc, bytes)?, 0)? == Some((1, FIRST)),
-                "at {at}"
-            );
-        } else {
-            assert!(rt; is_refused(alloc, bytes)?, "at {at}");
-        }
+        assert!(rt; is_flip_seen(alloc, at)?, "at {at}");
     }
     Ok(())
+}
+
+/// Whether the first batch is refused with this byte's lowest bit flipped, or read where the byte is in its
+/// entry block.
+fn is_flip_seen(alloc: Global, at: usize) -> Result<bool> {
+    let mut bytes = *BATCHES;
+    if let Some(byte) = bytes.get_mut(at) {
+        *byte ^= 1;
+    }
+    let bytes = bytes.get(..FIRST).unwrap_or(&[]);
+    if at >= 16 && at < 23 {
+        Ok(counted(&part(alloc, bytes)?, 0)? == Some((1, FIRST)))
+    } else {
+        is_refused(alloc, bytes)
+    }
 }
 
 #[test]

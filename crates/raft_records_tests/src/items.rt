@@ -29,14 +29,18 @@ fn commands_are_their_bytes(rt: &impl Abort, alloc: Global) -> Result<()> {
             b"\x02\xff\xff\xff\xff\xff\xff\xff\xff\xff\x01".as_slice(),
         ),
     ] {
-        let mut buf = Vec::new(alloc);
-        command.encode(&mut buf)?;
-        assert!(rt; buf.as_slice() == bytes);
-        let mut rest = bytes;
-        let read = Command::decode(alloc, &mut rest)?;
-        assert!(rt; read == command && rest.is_empty());
+        assert!(rt; is_command(alloc, command, bytes)?, "{bytes:?}");
     }
     Ok(())
+}
+
+/// Whether a command is written as these bytes, and read of them.
+fn is_command(alloc: Global, command: Command, bytes: &[u8]) -> Result<bool> {
+    let mut buf = Vec::new(alloc);
+    command.encode(&mut buf)?;
+    let mut rest = bytes;
+    let read = Command::decode(alloc, &mut rest)?;
+    Ok(buf.as_slice() == bytes && read == command && rest.is_empty())
 }
 
 /// A change of one key.
@@ -58,37 +62,62 @@ fn key_values(rt: HostRuntime) {
     assert!(rt; answer.is_ok());
 }
 
+/// A kind of change, its key and value, and its bytes.
+type PairRow<'a> = (OpType, &'a [u8], Option<&'a [u8]>, &'a [u8]);
+
+/// Whether a key value is written as these bytes.
+fn is_pair_written(alloc: Global, row: &PairRow<'_>) -> Result<bool> {
+    let (op_type, key, value, bytes) = *row;
+    let mut buf = Vec::new(alloc);
+    key_value(alloc, op_type, key, value)?.encode(&mut buf)?;
+    Ok(buf.as_slice() == bytes)
+}
+
+/// Whether it is read of them.
+fn is_pair_read(alloc: Global, row: &PairRow<'_>) -> Result<bool> {
+    let (op_type, key, value, bytes) = *row;
+    let mut rest = bytes;
+    let read = KeyValue::decode(alloc, &mut rest)?;
+    let written = if op_type == OpType::Put { value } else { None };
+    Ok(read == key_value(alloc, op_type, key, written)?)
+}
+
 /// Key values are written as these bytes and read of them, a `Del` without its value.
 fn key_values_are_their_bytes(rt: &impl Abort, alloc: Global) -> Result<()> {
     let put = b"\x01\x03\x70\x75\x74\x05\x70\x75\x74\x5f\x76".as_slice();
     let del = b"\x02\x03\x64\x65\x6c".as_slice();
     let mut long_put = [0xff; 135];
     long_put[..5].copy_from_slice(b"\x01\x01k\x82\x01");
-    for (op_type, key, value, bytes) in [
-        (OpType::Put, "put", Some(b"put_v".as_slice()), put),
+    for row in [
         (
             OpType::Put,
-            "",
+            b"put".as_slice(),
+            Some(b"put_v".as_slice()),
+            put,
+        ),
+        (
+            OpType::Put,
+            b"".as_slice(),
             Some(b"".as_slice()),
             b"\x01\x00\x00".as_slice(),
         ),
         (
             OpType::Put,
-            "k",
+            b"k".as_slice(),
             Some([0xff; 130].as_slice()),
             long_put.as_slice(),
         ),
-        (OpType::Del, "del", None, del),
-        (OpType::Del, "del", Some(b"del_v".as_slice()), del),
-        (OpType::Del, "", None, b"\x02\x00".as_slice()),
+        (OpType::Del, b"del".as_slice(), None, del),
+        (
+            OpType::Del,
+            b"del".as_slice(),
+            Some(b"del_v".as_slice()),
+            del,
+        ),
+        (OpType::Del, b"".as_slice(), None, b"\x02\x00".as_slice()),
     ] {
-        let mut buf = Vec::new(alloc);
-        key_value(alloc, op_type, key.as_bytes(), value)?.encode(&mut buf)?;
-        assert!(rt; buf.as_slice() == bytes);
-        let mut rest = bytes;
-        let read = KeyValue::decode(alloc, &mut rest)?;
-        let written = if op_type == OpType::Put { value } else { None };
-        assert!(rt; read == key_value(alloc, op_type, key.as_bytes(), written)?);
+        assert!(rt; is_pair_written(alloc, &row)?, "{:?}", row.3);
+        assert!(rt; is_pair_read(alloc, &row)?, "{:?}", row.3);
     }
     Ok(())
 }
@@ -112,7 +141,9 @@ fn run_of(alloc: Global, first: u64, lengths: &[u32]) -> Result<EntryIndexes> {
 }
 
 /// The first index and the lengths of entries, and their bytes.
-const ENTRIES: [(u64, &[u32], &[u8]); 7] = [
+type EntryRow = (u64, &'static [u32], &'static [u8]);
+
+static ENTRIES: [EntryRow; 7] = [
     (0, &[], b"\x00"),
     (10, &[1, 1, 1], b"\x03\x0a\x01\x02\x03"),
     (10, &[2, 1], b"\x02\x0a\x02\x03"),
@@ -145,17 +176,29 @@ fn entries(rt: HostRuntime) {
 
 /// Entries are written as these bytes, and read of them.
 fn entries_are_their_tail_offsets(rt: &impl Abort, alloc: Global) -> Result<()> {
-    for (first, lengths, bytes) in ENTRIES {
-        let run = run_of(alloc, first, lengths)?;
-        let mut buf = Vec::new(alloc);
-        run.encode(&mut buf)?;
-        assert!(rt; buf.as_slice() == bytes);
-        let mut rest = bytes;
-        let mut size = 0;
-        let read = EntryIndexes::decode(alloc, &mut rest, &mut size)?;
-        assert!(rt; read == run && rest.is_empty());
+    for row in entry_rows() {
+        let run = run_of(alloc, row.0, row.1)?;
+        assert!(rt; are_written(alloc, &run, row.2)?, "{:?}", row.1);
+        assert!(rt; are_read(alloc, &run, row.2)?, "{:?}", row.1);
     }
     Ok(())
+}
+
+fn entry_rows() -> &'static [EntryRow] {
+    &ENTRIES
+}
+
+fn are_written(alloc: Global, run: &EntryIndexes, bytes: &[u8]) -> Result<bool> {
+    let mut buf = Vec::new(alloc);
+    run.encode(&mut buf)?;
+    Ok(buf.as_slice() == bytes)
+}
+
+fn are_read(alloc: Global, run: &EntryIndexes, bytes: &[u8]) -> Result<bool> {
+    let mut rest = bytes;
+    let mut size = 0;
+    let read = EntryIndexes::decode(alloc, &mut rest, &mut size)?;
+    Ok(read == *run && rest.is_empty())
 }
 
 /// What is read in front of bytes.
@@ -176,26 +219,36 @@ fn is_item_row(alloc: Global, bytes: &[u8], read: Read) -> Result<bool> {
     let mut size = 0;
     match LogItem::decode(alloc, &mut rest, &mut size) {
         Ok(item) => {
-            let mut buf = Vec::new(alloc);
-            item.encode(&mut buf)?;
             let front = bytes.strip_suffix(rest).unwrap_or(bytes);
             let read_so =
                 matches!(read, Read::Item(end, left) if size == end && rest.len() == left);
-            Ok(read_so && buf.as_slice() == front)
+            Ok(read_so && is_written(alloc, &item, front)?)
         }
         Err(Error::Memory) => Err(Error::Memory),
-        Err(e) => Ok(match (read, &e) {
-            (Read::Unrecognized(text), Error::Corruption(found)) => found.as_str() == text,
-            (Read::Corruption, Error::Corruption(_)) => true,
-            (Read::Codec, Error::Codec(_)) => true,
-            (Read::Io, Error::Io(_)) => true,
-            _ => false,
-        }),
+        Err(e) => Ok(is_fault(read, &e)),
+    }
+}
+
+fn is_written(alloc: Global, item: &LogItem, bytes: &[u8]) -> Result<bool> {
+    let mut buf = Vec::new(alloc);
+    item.encode(&mut buf)?;
+    Ok(buf.as_slice() == bytes)
+}
+
+fn is_fault(read: Read, e: &Error) -> bool {
+    match (read, e) {
+        (Read::Unrecognized(text), Error::Corruption(found)) => found.as_str() == text,
+        (Read::Corruption, Error::Corruption(_)) => true,
+        (Read::Codec, Error::Codec(_)) => true,
+        (Read::Io, Error::Io(_)) => true,
+        _ => false,
     }
 }
 
 /// Bytes, and what is read in front of them.
-const ITEMS: [(&[u8], Read); 31] = [
+type ItemRow = (&'static [u8], Read);
+
+static ITEMS: [ItemRow; 31] = [
     (b"", Read::Codec),
     (b"\x01", Read::Io),
     (b"\x01\x01", Read::Codec),
@@ -263,10 +316,14 @@ fn items(rt: HostRuntime) {
 }
 
 fn items_are_read_as_in_the_rows(rt: &impl Abort, alloc: Global) -> Result<()> {
-    for (bytes, read) in ITEMS {
-        assert!(rt; is_item_row(alloc, bytes, read)?, "at {bytes:?}");
+    for (bytes, read) in item_rows() {
+        assert!(rt; is_item_row(alloc, *bytes, *read)?, "at {bytes:?}");
     }
     Ok(())
+}
+
+fn item_rows() -> &'static [ItemRow] {
+    &ITEMS
 }
 
 /// The batch's bytes in a file of the append queue.
@@ -314,12 +371,25 @@ fn empty_batch_is_signed(rt: &impl Abort, alloc: Global) -> Result<()> {
         (0x1_0000_000c, Version::V2, b"\x00\x81\xef\x02\xd2"),
         (u64::MAX, Version::V2, b"\x00\x72\x10\xfd\x2d"),
     ] {
-        let written = sealed(alloc, &mut batch, seq, version)?;
-        assert!(rt; written.as_slice() == bytes.as_slice());
-        assert!(rt; is_empty_batch(alloc, bytes, seq, version)?);
-        assert!(rt; !is_empty_batch(alloc, bytes, seq ^ 1, Version::V2)?);
+        assert!(rt; is_signed(alloc, &mut batch, seq, version, bytes)?, "{seq}");
+        assert!(rt; is_empty_batch(alloc, bytes, seq, version)?, "{seq}");
+        assert!(rt;
+            !is_empty_batch(alloc, bytes, seq ^ 1, Version::V2)?,
+            "{seq}"
+        );
     }
     Ok(())
+}
+
+/// Whether these are a batch's bytes in a file.
+fn is_signed(
+    alloc: Global,
+    batch: &mut LogItemBatch,
+    seq: u64,
+    version: Version,
+    bytes: &[u8],
+) -> Result<bool> {
+    Ok(sealed(alloc, batch, seq, version)?.as_slice() == bytes)
 }
 
 /// A put and a delete, as one batch.
@@ -368,6 +438,16 @@ struct Seen {
     items: usize,
 }
 
+impl Seen {
+    /// Whether a batch has this size and first index, these bytes, and two items.
+    fn has(&self, approximate_size: usize, first_index: Option<u64>, bytes: &[u8]) -> bool {
+        self.approximate_size == approximate_size
+            && self.first_index == first_index
+            && self.bytes.as_slice() == bytes
+            && self.items == 2
+    }
+}
+
 /// What is seen of a batch.
 fn look_at(alloc: Global, mut batch: LogItemBatch) -> Result<Seen> {
     Ok(Seen {
@@ -390,18 +470,20 @@ fn built_batches(rt: HostRuntime) {
 /// Two batches have these sizes, first entries and bytes, and two items each.
 fn batches_are_as_built(rt: &impl Abort, alloc: Global) -> Result<()> {
     let put = look_at(alloc, put_and_delete(alloc)?)?;
-    assert!(rt; put.approximate_size == 72 && put.first_index.is_none() && put.items == 2);
     assert!(rt;
-        put.bytes.as_slice()
-            == b"\x02\x01\x03\x01\x03put\x05put_v\x01\x03\x02\x00\xf3\xf9\x46\xa8".as_slice()
+        put.has(
+            72,
+            None,
+            b"\x02\x01\x03\x01\x03put\x05put_v\x01\x03\x02\x00\xf3\xf9\x46\xa8"
+        )
     );
     let merged = look_at(alloc, merged(alloc)?)?;
     assert!(rt;
-        merged.approximate_size == 102 && merged.first_index == Some(10) && merged.items == 2
-    );
-    assert!(rt;
-        merged.bytes.as_slice()
-            == b"\x02\x07\x01\x03\x0a\x01\x02\x03\x08\x01\x02\x01\x04\x05\xdc\x30\x8b\x52".as_slice()
+        merged.has(
+            102,
+            Some(10),
+            b"\x02\x07\x01\x03\x0a\x01\x02\x03\x08\x01\x02\x01\x04\x05\xdc\x30\x8b\x52"
+        )
     );
     Ok(())
 }

@@ -217,22 +217,24 @@ fn rows_of_batches(rt: HostRuntime) {
 }
 
 fn batches_are_made_and_read_as_in_the_rows(rt: &impl Abort, alloc: Global) -> Result<()> {
-    let lines = [line_of(10, b"ab"), line_of(11, b"c")];
-    for (mut batch, row) in [
-        (LogBatch::default(alloc), rows::EMPTY),
-        (with_command(alloc, 1, Command::Clean)?, rows::CLEAN),
-        (
-            with_command(alloc, 300, Command::Compact { index: 1 << 40 })?,
-            rows::COMPACT,
-        ),
-        (with_key_values(alloc)?, rows::KEY_VALUES),
-        (with_lines(alloc, 7, &lines)?, rows::LINES),
-        (merged(alloc)?, rows::MERGED),
-        (with_one_of_each(alloc)?, rows::ONE_OF_EACH),
-    ] {
-        assert!(rt; is_made(alloc, &mut batch, &row)?, "{}", row.size);
+    for (number, row) in rows::rows().iter().enumerate() {
+        let mut batch = batch_of(alloc, number)?;
+        assert!(rt; is_made(alloc, &mut batch, row)?, "{number}");
     }
     Ok(())
+}
+
+/// The open batch of a row.
+fn batch_of(alloc: Global, number: usize) -> Result<LogBatch> {
+    match number {
+        0 => Ok(LogBatch::default(alloc)),
+        1 => with_command(alloc, 1, Command::Clean),
+        2 => with_command(alloc, 300, Command::Compact { index: 1 << 40 }),
+        3 => with_key_values(alloc),
+        4 => with_lines(alloc, 7, &[line_of(10, b"ab"), line_of(11, b"c")]),
+        5 => merged(alloc),
+        _ => with_one_of_each(alloc),
+    }
 }
 
 /// Which refusal a call answers, if any.

@@ -5,16 +5,28 @@ use raft_records::{
 };
 use std::alloc::Global;
 
-/// The text of a batch that puts a value of 100,000 bytes, if that is what is printed.
-fn long_text(alloc: Global) -> Result<Option<String>> {
-    let context = LogFileContext::new(FileId::new(LogQueue::Append, 0), Version::V1);
+/// A batch that puts a value of 100,000 bytes.
+fn long_batch(alloc: Global) -> Result<LogItemBatch> {
     let mut value = Vec::new(alloc);
     value.resize(100_000, 0xab)?;
     let mut batch = LogItemBatch::default(alloc);
     batch.put(1, Vec::from_slice(alloc, b"k")?, value)?;
+    Ok(batch)
+}
+
+/// Its bytes.
+fn sealed(alloc: Global, context: &LogFileContext) -> Result<Vec<u8>> {
+    let mut batch = long_batch(alloc)?;
     let mut bytes = Vec::new(alloc);
     batch.encode(&mut bytes)?;
-    batch.prepare_write(bytes.as_mut_slice(), &context);
+    batch.prepare_write(bytes.as_mut_slice(), context);
+    Ok(bytes)
+}
+
+/// The text of a batch that puts a value of 100,000 bytes, if that is what is printed.
+fn long_text(alloc: Global) -> Result<Option<String>> {
+    let context = LogFileContext::new(FileId::new(LogQueue::Append, 0), Version::V1);
+    let bytes = sealed(alloc, &context)?;
     let text = batch_text(alloc, bytes.as_slice(), &context)?;
     let mut input = bytes.as_slice();
     let mut printed = Vec::new(alloc);

@@ -10,7 +10,9 @@ use std::process::Abort;
 
 /// Bytes that begin with no header, and why they are refused. More than one thing is wrong in the
 /// last three rows.
-const NO_HEADERS: [(&[u8], &str); 13] = [
+type HeaderRow = (&'static [u8], &'static str);
+
+static NO_HEADERS: [HeaderRow; 13] = [
     (b"", "Log batch header too short: 0"),
     (b"\x8d\xef\x02\xd2", "Log batch header too short: 4"),
     (b"\x00", "Log batch header too short: 1"),
@@ -57,7 +59,13 @@ const NO_HEADERS: [(&[u8], &str); 13] = [
 const HEADER: [u8; 16] = *b"\x00\x00\x00\x00\x00\x00\x18\x00\x00\x00\x00\x00\x00\x00\x00\x10";
 
 /// Bytes, how many of them a block has, and its entry bytes or why it is refused.
-const BLOCKS: [(&[u8], usize, std::result::Result<&[u8], &str>); 8] = [
+type BlockRow = (
+    &'static [u8],
+    usize,
+    std::result::Result<&'static [u8], &'static str>,
+);
+
+static BLOCKS: [BlockRow; 8] = [
     (b"", 0, Ok(b"")),
     (b"abc\xc2\x41\x24\x35", 0, Ok(b"")),
     (b"abc\xc2\x41\x24\x35", 7, Ok(b"abc")),
@@ -78,7 +86,9 @@ const BLOCKS: [(&[u8], usize, std::result::Result<&[u8], &str>); 8] = [
 
 /// Bytes, the version and the number of the file that they are read from, and why they are no item
 /// batch; those without a reason are one without items.
-const ITEM_BATCHES: [(&[u8], Version, u64, Option<&str>); 18] = [
+type ItemBatchRow = (&'static [u8], Version, u64, Option<&'static str>);
+
+static ITEM_BATCHES: [ItemBatchRow; 18] = [
     (
         b"\x00\x81\xef\x02\xd2",
         Version::V1,
@@ -192,13 +202,21 @@ fn headers(rt: HostRuntime) {
 }
 
 fn bytes_without_a_header_are_refused_and_left(rt: &impl Abort, alloc: Global) -> Result<()> {
-    for (bytes, text) in NO_HEADERS {
-        let mut buf = bytes;
-        let read = LogBatch::decode_header(alloc, &mut buf);
-        assert!(rt; is_corrupt(read, text)?, "at {bytes:?}");
-        assert!(rt; buf == bytes);
+    for (bytes, text) in header_rows() {
+        assert!(rt; is_no_header(alloc, *bytes, *text)?, "at {bytes:?}");
     }
     Ok(())
+}
+
+fn header_rows() -> &'static [HeaderRow] {
+    &NO_HEADERS
+}
+
+/// Whether bytes are refused as a header, and left.
+fn is_no_header(alloc: Global, bytes: &[u8], text: &str) -> Result<bool> {
+    let mut buf = bytes;
+    let read = LogBatch::decode_header(alloc, &mut buf);
+    Ok(is_corrupt(read, text)? && buf == bytes)
 }
 
 /// The entry bytes in the block of this length in front of bytes.
@@ -222,22 +240,33 @@ fn entry_blocks(rt: HostRuntime) {
 
 /// Blocks are read or refused as in the rows, and corrupt where they are cut short.
 fn entry_blocks_end_in_their_checksum(rt: &impl Abort, alloc: Global) -> Result<()> {
-    for (bytes, len, wanted) in BLOCKS {
-        let read = block(alloc, bytes, len);
-        let same = match wanted {
-            Ok(entry_bytes) => read?.as_slice() == entry_bytes,
-            Err(text) => is_corrupt(read, text)?,
-        };
-        assert!(rt; same, "{len} bytes of {bytes:?}");
+    for row in block_rows() {
+        assert!(rt; is_block_row(alloc, row)?, "{} bytes of {:?}", row.1, row.0);
     }
     for len in [8, 16, usize::MAX] {
-        match block(alloc, b"abc\xc2\x41\x24\x35", len) {
-            Ok(_read) => assert!(rt; false, "{len} bytes of 7"),
-            Err(Error::Corruption(_text)) => {}
-            Err(e) => return Err(e),
-        }
+        assert!(rt; is_cut_short(alloc, len)?, "{len} bytes of 7");
     }
     Ok(())
+}
+
+fn block_rows() -> &'static [BlockRow] {
+    &BLOCKS
+}
+
+fn is_block_row(alloc: Global, row: &BlockRow) -> Result<bool> {
+    let read = block(alloc, row.0, row.1);
+    match row.2 {
+        Ok(entry_bytes) => Ok(read?.as_slice() == entry_bytes),
+        Err(text) => is_corrupt(read, text),
+    }
+}
+
+fn is_cut_short(alloc: Global, len: usize) -> Result<bool> {
+    match block(alloc, b"abc\xc2\x41\x24\x35", len) {
+        Ok(_read) => Ok(false),
+        Err(Error::Corruption(_text)) => Ok(true),
+        Err(e) => Err(e),
+    }
 }
 
 /// The item batch that bytes of the append queue are.
@@ -261,16 +290,24 @@ fn item_batches(rt: HostRuntime) {
 }
 
 fn item_batches_are_read_in_their_file_alone(rt: &impl Abort, alloc: Global) -> Result<()> {
-    for (bytes, version, seq, reason) in ITEM_BATCHES {
-        let mut buf = bytes;
-        let read = item_batch(alloc, &mut buf, version, seq);
-        let told = match reason {
-            Some(text) => is_corrupt(read, text)? && buf == bytes,
-            None => read?.into_items().is_empty(),
-        };
-        assert!(rt; told, "at {bytes:?}");
+    for row in item_batch_rows() {
+        assert!(rt; is_item_batch_row(alloc, row)?, "at {:?}", row.0);
     }
     Ok(())
+}
+
+fn item_batch_rows() -> &'static [ItemBatchRow] {
+    &ITEM_BATCHES
+}
+
+fn is_item_batch_row(alloc: Global, row: &ItemBatchRow) -> Result<bool> {
+    let (bytes, version, seq, reason) = *row;
+    let mut buf = bytes;
+    let read = item_batch(alloc, &mut buf, version, seq);
+    match reason {
+        Some(text) => Ok(is_corrupt(read, text)? && buf == bytes),
+        None => Ok(read?.into_items().is_empty()),
+    }
 }
 
 /// A sealed batch of the file 12 of version 1 that says it has 2^40 items, and has none.

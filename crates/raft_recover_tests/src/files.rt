@@ -1,8 +1,9 @@
 //! Files that are cut for more workers.
 
-use raft_base::{Error, LogQueue, Result, Version};
+use raft_base::{Error, FileSeq, LogQueue, Result, Version};
 use raft_recover::cutting::file_segments;
 use std::alloc::Global;
+use std::process::Abort;
 
 /// A log batch of version 1: region 1 with `Clean`.
 const CLEAN: &[u8; 24] =
@@ -18,27 +19,44 @@ const FILES: [(u64, usize, usize); 6] = [
     (3, 3, 3),
 ];
 
-/// Whether so many files are so many segments for these workers.
-fn are_segments(alloc: Global, count: u64, workers: usize, segments: usize) -> Result<bool> {
+/// A file of four batches.
+fn file_bytes(alloc: Global) -> Result<Vec<u8>> {
+    let mut bytes = Vec::new(alloc);
+    for _ in 0..4 {
+        bytes.extend_from_slice(CLEAN.as_slice())?;
+    }
+    Ok(bytes)
+}
+
+fn files_of(alloc: Global, count: u64) -> Result<Vec<(FileSeq, Vec<u8>)>> {
     let mut files = Vec::new(alloc);
     for seq in 0..count {
-        let mut bytes = Vec::new(alloc);
-        for _ in 0..4 {
-            bytes.extend_from_slice(CLEAN.as_slice())?;
-        }
-        files.push((seq, bytes))?;
+        files.push((seq, file_bytes(alloc)?))?;
     }
-    let made = file_segments(LogQueue::Append, Version::V1, workers, files)?;
-    Ok(made.len() == segments)
+    Ok(files)
+}
+
+/// How many segments so many files are for these workers.
+fn segment_count(alloc: Global, count: u64, workers: usize) -> Result<usize> {
+    let files = files_of(alloc, count)?;
+    Ok(file_segments(LogQueue::Append, Version::V1, workers, files)?.len())
 }
 
 #[test]
-fn files_are_cut_where_workers_would_wait(rt: HostRuntime) {
-    for (count, workers, segments) in FILES {
-        let mut made = are_segments(rt.alloc(), count, workers, segments);
-        if matches!(made, Err(Error::Memory)) {
-            made = are_segments(rt.alloc(), count, workers, segments);
-        }
-        assert!(rt; matches!(made, Ok(true)), "{count} {workers}");
+fn files_are_cut_where_workers_would_wait(rt: HostRuntime) -> Result<()> {
+    match cut_files(&rt, rt.alloc()) {
+        Err(Error::Memory) => cut_files(&rt, rt.alloc()),
+        cut => cut,
     }
+}
+
+fn cut_files(rt: &impl Abort, alloc: Global) -> Result<()> {
+    for (count, workers, segments) in FILES {
+        assert_eq!(rt;
+            segment_count(alloc, count, workers)?,
+            segments,
+            "{count} {workers}"
+        );
+    }
+    Ok(())
 }

@@ -12,7 +12,7 @@ use raft_memtable::{MemTableRecoverContext, MemTableRecoverContextFactory};
 use raft_records::{FilePart, LogItemBatch};
 use raft_recover::recovered::recovered_text;
 use raft_recover::{Plan, Segment, recover, recover_bytes, replay_scheduled};
-use rows::{ROWS, Row};
+use rows::{Row, rows};
 use std::alloc::Global;
 use std::thread::Threads;
 
@@ -47,7 +47,7 @@ fn holds<R: Threads + Sync>(rt: &R, alloc: Global, row: &Row, workers: usize) ->
 /// Where an allocation is refused the row runs again, and has to find memory.
 #[test]
 fn files_have_their_lines(rt: HostRuntime) {
-    for row in &ROWS {
+    for row in rows() {
         for workers in [1, 2, 4, 8, 256] {
             let mut held = holds(&rt, rt.alloc(), row, workers);
             if matches!(held, Err(Error::Memory)) {
@@ -68,22 +68,36 @@ fn cut(
     let mut segments = vec![in alloc; Vec::new(alloc)]?;
     let (mut file, mut offset, mut left) = (0u64, 0u64, cuts);
     for (seq, digits) in batches {
-        let bytes = bytes_of(alloc, digits)?;
         if *seq != file {
             (file, offset) = (*seq, 0);
         }
-        let start = offset;
-        offset = start.saturating_add(bytes.len() as u64);
-        let part = FilePart::new(FileId::new(queue, file), Version::V1, start, bytes)?;
-        if let Some(segment) = segments.last_mut() {
-            segment.push(part)?;
-        }
-        if left % 2 == 1 {
-            segments.push(Vec::new(alloc))?;
-        }
+        let part = part_of(alloc, FileId::new(queue, file), offset, digits)?;
+        offset = offset.saturating_add(part.bytes().len() as u64);
+        push_part(alloc, &mut segments, part, left % 2 == 1)?;
         left /= 2;
     }
     Ok(segments)
+}
+
+/// The part of a file that digits in base 16 spell.
+fn part_of(alloc: Global, file: FileId, offset: u64, digits: &str) -> Result<FilePart> {
+    FilePart::new(file, Version::V1, offset, bytes_of(alloc, digits)?)
+}
+
+/// Puts a part into the last segment, and where it is cut behind that begins another.
+fn push_part(
+    alloc: Global,
+    segments: &mut Vec<Segment>,
+    part: FilePart,
+    is_cut: bool,
+) -> Result<()> {
+    if let Some(segment) = segments.last_mut() {
+        segment.push(part)?;
+    }
+    if is_cut {
+        segments.push(Vec::new(alloc))?;
+    }
+    Ok(())
 }
 
 /// Whether a history has these lines at each cutting, on one to four workers.
@@ -96,14 +110,38 @@ fn at_each_cutting<R: Threads + Sync>(
 ) -> Result<bool> {
     for cuts in 0..128 {
         let segments = cut(alloc, queue, batches, cuts)?;
-        for workers in 1..5 {
-            let tables = recover(rt, alloc, segments.as_slice(), queue, workers)?;
-            if recovered_text(alloc, &tables)?.as_str() != lines {
-                return Ok(false);
-            }
+        if !by_workers(rt, alloc, queue, segments.as_slice(), lines)? {
+            return Ok(false);
         }
     }
     Ok(true)
+}
+
+/// Whether segments have these lines on one to four workers.
+fn by_workers<R: Threads + Sync>(
+    rt: &R,
+    alloc: Global,
+    queue: LogQueue,
+    segments: &[Segment],
+    lines: &str,
+) -> Result<bool> {
+    for workers in 1..5 {
+        if lines_of(rt, alloc, queue, segments, workers)?.as_str() != lines {
+            return Ok(false);
+        }
+    }
+    Ok(true)
+}
+
+fn lines_of<R: Threads + Sync>(
+    rt: &R,
+    alloc: Global,
+    queue: LogQueue,
+    segments: &[Segment],
+    workers: usize,
+) -> Result<String> {
+    let tables = recover(rt, alloc, segments, queue, workers)?;
+    recovered_text(alloc, &tables)
 }
 
 #[test]
@@ -166,13 +204,20 @@ fn by_schedule(alloc: Global, plan: &Plan) -> Result<bool> {
     Ok(recovered_text(alloc, &tables)?.as_str() == APPENDED_LINES)
 }
 
-fn by_pairs_and_in_a_chain(alloc: Global) -> Result<bool> {
-    let one = join(alloc, Plan::One, Plan::One)?;
-    let pairs = join(alloc, one, join(alloc, Plan::One, Plan::One)?)?;
+fn pairs(alloc: Global) -> Result<Plan> {
+    let left = join(alloc, Plan::One, Plan::One)?;
+    let right = join(alloc, Plan::One, Plan::One)?;
+    join(alloc, left, right)
+}
+
+fn chain(alloc: Global) -> Result<Plan> {
     let two = join(alloc, Plan::One, Plan::One)?;
     let three = join(alloc, Plan::One, two)?;
-    let chain = join(alloc, Plan::One, three)?;
-    Ok(by_schedule(alloc, &pairs)? && by_schedule(alloc, &chain)?)
+    join(alloc, Plan::One, three)
+}
+
+fn by_pairs_and_in_a_chain(alloc: Global) -> Result<bool> {
+    Ok(by_schedule(alloc, &pairs(alloc)?)? && by_schedule(alloc, &chain(alloc)?)?)
 }
 
 #[test]
@@ -184,30 +229,48 @@ fn plans_give_one_reading(rt: HostRuntime) {
     assert!(rt; matches!(all, Ok(true)));
 }
 
+/// How a call is refused, if it is.
+#[derive(Clone, Copy, PartialEq, Eq)]
+enum Refusal {
+    Corruption,
+    Failed,
+    Other,
+}
+
+/// What comes of a call, if it isn't refused for want of memory.
+fn refusal_of(called: Result<()>) -> Result<Option<Refusal>> {
+    match called {
+        Ok(()) => Ok(None),
+        Err(Error::Corruption(_)) => Ok(Some(Refusal::Corruption)),
+        Err(Error::Failed) => Ok(Some(Refusal::Failed)),
+        Err(Error::Memory) => Err(Error::Memory),
+        Err(_) => Ok(Some(Refusal::Other)),
+    }
+}
+
+/// How the replay of an empty batch of a file is refused.
+fn replay(
+    alloc: Global,
+    context: &mut MemTableRecoverContext,
+    seq: FileSeq,
+) -> Result<Option<Refusal>> {
+    let file = FileId::new(LogQueue::Append, seq);
+    refusal_of(context.replay(LogItemBatch::default(alloc), file))
+}
+
 /// Whether a context that refused a file below the last one answers `Failed` from then on.
 fn stays_failed(alloc: Global) -> Result<bool> {
     let mut context = MemTableRecoverContext::new(alloc)?;
-    context.replay(
-        LogItemBatch::default(alloc),
-        FileId::new(LogQueue::Append, 5),
-    )?;
-    let refused = context.replay(
-        LogItemBatch::default(alloc),
-        FileId::new(LogQueue::Append, 4),
-    );
-    if matches!(refused, Err(Error::Memory)) {
-        return Err(Error::Memory);
+    for (seq, refusal) in [
+        (5, None),
+        (4, Some(Refusal::Corruption)),
+        (6, Some(Refusal::Failed)),
+    ] {
+        if replay(alloc, &mut context, seq)? != refusal {
+            return Ok(false);
+        }
     }
-    let later = context.replay(
-        LogItemBatch::default(alloc),
-        FileId::new(LogQueue::Append, 6),
-    );
-    let finished = context.finish();
-    Ok(
-        matches!(refused, Err(Error::Corruption(_)))
-            && matches!(later, Err(Error::Failed))
-            && matches!(finished, Err(Error::Failed)),
-    )
+    Ok(matches!(context.finish(), Err(Error::Failed)))
 }
 
 #[test]

@@ -15,7 +15,9 @@ const CORRUPTION: &str = "raftlog: refused: corruption\n";
 const WORKERS: &str = "raftlog: refused: invalid-argument\n";
 
 /// Words, the input in base 16, the status, what is printed, and how the error stream begins.
-const ROWS: [(&str, &str, u8, &str, &str); 21] = [
+type Row = (&'static str, &'static str, u8, &'static str, &'static str);
+
+static ROWS: [Row; 21] = [
     (OPEN, "010102015a800bdd", 0, "1 clean\nitems 1 rest 0\n", ""),
     (
         "batch append 0 1",
@@ -81,23 +83,24 @@ const ROWS: [(&str, &str, u8, &str, &str); 21] = [
     ("batch append 12 1 1", "", 2, "", "usage: raftlog"),
 ];
 
-/// Words without input, the status, what is printed, and how the error stream begins.
-const RECOVERIES: [(&str, u8, &str, &str); 10] = [
-    ("recover append 1 1", 0, "cleaned -\nlive 0 0\n", ""),
-    ("recover rewrite 2 256", 0, "cleaned -\nlive 0 0\n", ""),
-    ("recover append 1 0", 1, "", WORKERS),
-    ("recover append 1 257", 1, "", WORKERS),
+/// The same of words that ask for the tables of files.
+static RECOVERIES: [Row; 10] = [
+    ("recover append 1 1", "", 0, "cleaned -\nlive 0 0\n", ""),
+    ("recover rewrite 2 256", "", 0, "cleaned -\nlive 0 0\n", ""),
+    ("recover append 1 0", "", 1, "", WORKERS),
+    ("recover append 1 257", "", 1, "", WORKERS),
     (
         "recover append 1 0 12=absent",
+        "",
         1,
         "",
         "raftlog: refused: io\n",
     ),
-    ("recover append 3 1", 2, "", "usage: raftlog"),
-    ("recover append 1 -1", 2, "", "usage: raftlog"),
-    ("recover append 1", 2, "", "usage: raftlog"),
-    ("recover append 1 1 absent", 2, "", "usage: raftlog"),
-    ("recover append 1 1 x=absent", 2, "", "usage: raftlog"),
+    ("recover append 3 1", "", 2, "", "usage: raftlog"),
+    ("recover append 1 -1", "", 2, "", "usage: raftlog"),
+    ("recover append 1", "", 2, "", "usage: raftlog"),
+    ("recover append 1 1 absent", "", 2, "", "usage: raftlog"),
+    ("recover append 1 1 x=absent", "", 2, "", "usage: raftlog"),
 ];
 
 /// What a run left.
@@ -135,49 +138,56 @@ fn run_on<S: Files + AllocGlobal + Threads + Sync>(
     line: &str,
     input: &str,
 ) -> Option<Answer> {
-    let alloc = rt.alloc();
-    let words = words_of(alloc, line).ok()?;
-    let bytes = hex::decode(alloc, input).ok()?;
+    let words = words_of(rt.alloc(), line).ok()?;
+    let bytes = hex::decode(rt.alloc(), input).ok()?;
     let mut input = bytes.as_slice();
-    let mut out = Vec::new(alloc);
-    let mut err = Vec::with_capacity(alloc, 256).ok()?;
-    let status = run(rt, words.as_slice(), &mut input, &mut out, &mut err);
+    answer_of(rt, words.as_slice(), &mut input)
+}
+
+/// What is answered to these words.
+fn answer_of<S: Files + AllocGlobal + Threads + Sync, R: Read>(
+    rt: &S,
+    words: &[String],
+    input: &mut R,
+) -> Option<Answer> {
+    let mut err = Vec::with_capacity(rt.alloc(), 256).ok()?;
+    let mut out = Vec::new(rt.alloc());
+    let status = run(rt, words, input, &mut out, &mut err);
     Some(Answer { status, out, err })
 }
 
-/// Where an allocation is refused the row runs again, and has to find memory.
+/// Whether words are answered so. Where an allocation is refused they run again, and have to find memory.
+fn is_answered<S: Files + AllocGlobal + Threads + Sync>(rt: &S, row: &Row) -> bool {
+    let (line, input, status, out, err) = *row;
+    let mut answer = run_on(rt, line, input);
+    if answer
+        .as_ref()
+        .is_none_or(|answer| answer.found_no_memory())
+    {
+        answer = run_on(rt, line, input);
+    }
+    answer.is_some_and(|answer| answer.is(status, out, err))
+}
+
+fn word_rows() -> &'static [Row] {
+    &ROWS
+}
+
 #[test]
 fn rows(rt: HostRuntime) {
-    for (line, input, status, out, err) in ROWS {
-        let mut answer = run_on(&rt, line, input);
-        if answer
-            .as_ref()
-            .is_none_or(|answer| answer.found_no_memory())
-        {
-            answer = run_on(&rt, line, input);
-        }
-        assert!(rt;
-            answer.is_some_and(|answer| answer.is(status, out, err)),
-            "{line}: {input}"
-        );
+    for row in word_rows() {
+        assert!(rt; is_answered(&rt, row), "{}: {}", row.0, row.1);
     }
 }
 
-/// The same of words that ask for the tables of files.
+fn recovery_rows() -> &'static [Row] {
+    &RECOVERIES
+}
+
 #[test]
 fn recoveries(rt: HostRuntime) {
-    for (line, status, out, err) in RECOVERIES {
-        let mut answer = run_on(&rt, line, "");
-        if answer
-            .as_ref()
-            .is_none_or(|answer| answer.found_no_memory())
-        {
-            answer = run_on(&rt, line, "");
-        }
-        assert!(rt;
-            answer.is_some_and(|answer| answer.is(status, out, err)),
-            "{line}"
-        );
+    for row in recovery_rows() {
+        assert!(rt; is_answered(&rt, row), "{}", row.0);
     }
 }
 
@@ -214,28 +224,18 @@ impl Write for Closed {
 
 #[test]
 fn failing_streams(rt: HostRuntime) {
-    let alloc = rt.alloc();
-    let (Ok(words), Ok(mut err)) = (words_of(alloc, OPEN), Vec::with_capacity(alloc, 256)) else {
-        return;
-    };
-    let mut out = Vec::new(alloc);
-    let status = run(
-        &rt,
-        words.as_slice(),
-        &mut Torn { read: false },
-        &mut out,
-        &mut err,
-    );
-    let torn = Answer { status, out, err };
-    assert!(rt; torn.found_no_memory());
+    if let Ok(words) = words_of(rt.alloc(), OPEN) {
+        let torn = answer_of(&rt, words.as_slice(), &mut Torn { read: false });
+        assert!(rt; torn.is_none_or(|answer| answer.found_no_memory()));
+        assert_eq!(rt; status_of_closed(&rt, words.as_slice()), 1);
+        assert_eq!(rt; status_of_closed(&rt, &[]), 2);
+    }
+}
 
+/// The status of a run that can't print.
+fn status_of_closed<S: Files + AllocGlobal + Threads + Sync>(rt: &S, words: &[String]) -> u8 {
     let mut input = b"\x00\x8d\xef\x02\xd2".as_slice();
-    assert_eq!(rt;
-        run(&rt, words.as_slice(), &mut input, &mut Closed, &mut Closed),
-        1
-    );
-    let none = &words.as_slice()[..0];
-    assert_eq!(rt; run(&rt, none, &mut input, &mut Closed, &mut Closed), 2);
+    run(rt, words, &mut input, &mut Closed, &mut Closed)
 }
 
 /// A log batch of version 1 in file 12: two entries of region 7.
@@ -259,15 +259,20 @@ fn run_on_files<S: Files + AllocGlobal + Threads + Sync>(
     line: &str,
     length: usize,
 ) -> Option<Answer> {
-    let mut bytes = hex::decode(rt.alloc(), TWO_ENTRIES).ok()?;
+    write(rt, "two_entries.log", TWO_ENTRIES, length)?;
+    write(rt, "clean=1.log", CLEAN, usize::MAX)?;
+    let answer = run_on(rt, line, "")?;
+    for path in ["two_entries.log", "clean=1.log"] {
+        fs::remove_file(rt, path).ok()?;
+    }
+    Some(answer)
+}
+
+/// Writes the first bytes of those that digits in base 16 spell.
+fn write<S: Files + AllocGlobal>(rt: &S, path: &str, digits: &str, length: usize) -> Option<()> {
+    let mut bytes = hex::decode(rt.alloc(), digits).ok()?;
     bytes.truncate(length);
-    fs::write(rt, "two_entries.log", bytes.as_slice()).ok()?;
-    let clean = hex::decode(rt.alloc(), CLEAN).ok()?;
-    fs::write(rt, "clean=1.log", clean.as_slice()).ok()?;
-    let answer = run_on(rt, line, "");
-    fs::remove_file(rt, "two_entries.log").ok()?;
-    fs::remove_file(rt, "clean=1.log").ok()?;
-    answer
+    fs::write(rt, path, bytes.as_slice()).ok()
 }
 
 /// Where an allocation is refused the row runs again, and has to find memory.

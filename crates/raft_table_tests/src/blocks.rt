@@ -20,7 +20,7 @@ fn has_blocks(table: &MemTable, want: &[(FileSeq, usize)]) -> bool {
 /// A call, its answer, and the blocks after it.
 type Row = (Call, Answer, &'static [(FileSeq, usize)]);
 
-const OVERWRITTEN: [Row; 5] = [
+static OVERWRITTEN: [Row; 5] = [
     (
         Append(Run {
             first: 10,
@@ -63,7 +63,7 @@ const OVERWRITTEN: [Row; 5] = [
     ),
 ];
 
-const DIVIDED: [Row; 4] = [
+static DIVIDED: [Row; 4] = [
     (
         Append(Run {
             first: 0,
@@ -108,16 +108,28 @@ const DIVIDED: [Row; 4] = [
     ),
 ];
 
+fn overwritten() -> &'static [Row] {
+    &OVERWRITTEN
+}
+
+fn divided() -> &'static [Row] {
+    &DIVIDED
+}
+
+/// Makes the calls of the rows on an empty store.
+fn follow(rt: &impl Abort, alloc: Global, rows: &[Row]) {
+    let mut store = LogStore::new(alloc);
+    for (call, answer, blocks) in rows {
+        assert!(rt; store.apply(*call, true) == *answer, "{call:?}");
+        assert!(rt; has_blocks(&store.table, blocks), "{call:?}");
+        assert!(rt; store.table.block_count() == blocks.len(), "{call:?}");
+    }
+}
+
 #[test]
 fn calls_divide_blocks(rt: HostRuntime) {
-    for rows in [OVERWRITTEN.as_slice(), DIVIDED.as_slice()] {
-        let mut store = LogStore::new(rt.alloc());
-        for (call, answer, blocks) in rows {
-            assert_eq!(rt; store.apply(*call, true), *answer, "{call:?}");
-            assert!(rt; has_blocks(&store.table, blocks), "{call:?}");
-            assert_eq!(rt; store.table.block_count(), blocks.len(), "{call:?}");
-        }
-    }
+    follow(&rt, rt.alloc(), overwritten());
+    follow(&rt, rt.alloc(), divided());
 }
 
 /// Two entries from an index on, in one block of the first file.
@@ -146,13 +158,18 @@ fn runs_of_one_block_are_joined(rt: HostRuntime) -> Result<()> {
     }
 }
 
+/// Appends two entries from an index on.
+fn append_pair(alloc: Global, store: &mut LogStore, first: u64) -> Result<()> {
+    store.make(TableChange::Append(pair(alloc, first)?))?;
+    Ok(())
+}
+
 fn join_runs(rt: &impl Abort, alloc: Global) -> Result<()> {
     let mut store = LogStore::new(alloc);
-    store.make(TableChange::Append(pair(alloc, 10)?))?;
-    store.make(TableChange::Append(pair(alloc, 12)?))?;
-    assert!(rt; has_blocks(&store.table, &[(1, 4)]));
-    store.make(TableChange::Append(pair(alloc, 11)?))?;
-    assert!(rt; has_blocks(&store.table, &[(1, 3)]));
+    for (first, count) in [(10, 2), (12, 4), (11, 3)] {
+        append_pair(alloc, &mut store, first)?;
+        assert!(rt; has_blocks(&store.table, &[(1, count)]), "{first}");
+    }
     assert_eq!(rt; store.table.last_index(), Some(12));
     Ok(())
 }

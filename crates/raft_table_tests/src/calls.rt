@@ -4,7 +4,7 @@ use crate::store::Answer::{Corruption, Done, Dropped, Full, InvalidArgument};
 use crate::store::Call::{
     Append, Compact, Count, Delete, Group, Put, ReplayAppend, ReplayRewrite, Rewrite, RewriteKey,
 };
-use crate::store::{Answer, Call, LogStore, Shape, answered, has, of};
+use crate::store::{Answer, Call, LogStore, Shape, has, of, told};
 use raft_table::{Error, LogQueue, Result};
 use std::alloc::Global;
 use std::process::Abort;
@@ -290,19 +290,19 @@ fn append_merges() -> [MergeRow; 3] {
     ]
 }
 
+/// A store on which a call was made.
+fn store_with(alloc: Global, call: Call) -> Result<LogStore> {
+    let mut store = LogStore::new(alloc);
+    store.direct(call)?;
+    Ok(store)
+}
+
 /// What a merge of the second store's table into the first's answers, and the first store.
 fn merged(alloc: Global, older: Call, newer: Call, is_append: bool) -> Result<(Answer, LogStore)> {
-    let mut store = LogStore::new(alloc);
-    store.direct(older)?;
-    let mut other = LogStore::new(alloc);
-    other.direct(newer)?;
-    let mut table = other.table;
-    let given = match store.merge(&mut table, is_append) {
-        Err(Error::Memory) => return Err(Error::Memory),
-        Ok(()) => Done,
-        Err(e) => answered(Err(e)),
-    };
-    Ok((given, store))
+    let mut store = store_with(alloc, older)?;
+    let mut table = store_with(alloc, newer)?.table;
+    let given = store.merge(&mut table, is_append);
+    Ok((told(given.map(|()| 0))?, store))
 }
 
 /// Makes the merges of the rows.

@@ -2,26 +2,45 @@
 
 use crate::store::Call::{Append, Put};
 use crate::store::{LogStore, of};
-use raft_table::{Error, GlobalStats, LogQueue, Result};
+use raft_table::{Error, GlobalStats, LogQueue, MemTable, Result};
 use std::alloc::Global;
 use std::process::Abort;
 
-/// A table of both queues, counted among all, and twice where there is no room.
-fn count(rt: &impl Abort, alloc: Global) -> Result<()> {
+/// Ten appended entries and a rewritten key.
+fn both_queues(alloc: Global) -> Result<LogStore> {
     let mut store = LogStore::new(alloc);
-    store.direct(Append(of(0, 10, 1)))?;
-    store.direct(Put(LogQueue::Rewrite, 5))?;
+    for call in [Append(of(0, 10, 1)), Put(LogQueue::Rewrite, 5)] {
+        store.direct(call)?;
+    }
+    Ok(store)
+}
+
+/// How many records are live in the append queue, and how many were written to the rewrite queue and deleted
+/// from it.
+fn counts(stats: &GlobalStats) -> [usize; 3] {
+    [
+        stats.live_entries(LogQueue::Append),
+        stats.rewrite_entries(),
+        stats.deleted_rewrite_entries(),
+    ]
+}
+
+/// Counts a table among all, and twice where there is no room.
+fn count_table(rt: &impl Abort, table: &MemTable) -> Result<()> {
     let mut stats = GlobalStats::default();
-    stats.add_table(&store.table)?;
-    assert_eq!(rt; stats.live_entries(LogQueue::Append), 10);
-    assert_eq!(rt; stats.rewrite_entries(), 1);
-    stats.delete_table(&store.table);
-    assert_eq!(rt; stats.live_entries(LogQueue::Append), 0);
-    assert_eq!(rt; stats.deleted_rewrite_entries(), 1);
+    stats.add_table(table)?;
+    assert!(rt; counts(&stats) == [10, 1, 0]);
+    stats.delete_table(table);
+    assert!(rt; counts(&stats) == [0, 1, 1]);
     stats.add(LogQueue::Append, usize::MAX - 9)?;
-    assert!(rt; matches!(stats.add_table(&store.table), Err(Error::Full)));
-    assert_eq!(rt; stats.rewrite_entries(), 1);
+    assert!(rt; matches!(stats.add_table(table), Err(Error::Full)));
+    assert!(rt; counts(&stats) == [usize::MAX - 9, 1, 1]);
     Ok(())
+}
+
+fn count(rt: &impl Abort, alloc: Global) -> Result<()> {
+    let store = both_queues(alloc)?;
+    count_table(rt, &store.table)
 }
 
 #[test]

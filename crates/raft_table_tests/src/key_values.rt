@@ -1,7 +1,7 @@
 //! Walks over keys, and the key values of two tables that are joined.
 
 use crate::store::LogStore;
-use raft_table::{Error, FileId, LogQueue, MemTable, Result, TableChange};
+use raft_table::{Error, FileId, FileSeq, LogQueue, MemTable, Result, TableChange};
 use std::alloc::Global;
 use std::process::Abort;
 
@@ -18,6 +18,13 @@ fn put(store: &mut LogStore, file_id: FileId, pairs: &[(&[u8], &[u8])]) -> Resul
     Ok(())
 }
 
+/// A store of these keys in one file.
+fn store_of_pairs(alloc: Global, file: FileId, pairs: &[(&[u8], &[u8])]) -> Result<LogStore> {
+    let mut store = LogStore::new(alloc);
+    put(&mut store, file, pairs)?;
+    Ok(store)
+}
+
 /// A bound of a walk.
 type Bound = Option<&'static [u8]>;
 
@@ -27,7 +34,9 @@ const TWO: Bound = Some(b"2");
 
 /// Where a walk over the keys 1, 2 and 3 starts and ends, whether it goes back, the number at which it is told
 /// to end, and the decimal number of the keys that it meets, one behind the other.
-const WALKS: [(Bound, Bound, bool, u64, u64); 10] = [
+type Walk = (Bound, Bound, bool, u64, u64);
+
+static WALKS: [Walk; 10] = [
     (None, None, false, 1000, 123),
     (None, None, true, 1000, 321),
     (None, None, false, 10, 12),
@@ -39,6 +48,10 @@ const WALKS: [(Bound, Bound, bool, u64, u64); 10] = [
     (TWO, TWO, false, 1000, 0),
     (TWO, ONE, false, 1000, 0),
 ];
+
+fn walks() -> &'static [Walk] {
+    &WALKS
+}
 
 /// The number of the keys that a walk meets.
 fn seen(table: &MemTable, start: Bound, end: Bound, reverse: bool, limit: u64) -> Result<u64> {
@@ -60,15 +73,10 @@ fn walks_end_at_bounds_and_when_told(rt: HostRuntime) -> Result<()> {
 }
 
 fn walk(rt: &impl Abort, alloc: Global) -> Result<()> {
-    let mut store = LogStore::new(alloc);
     let file = FileId::new(LogQueue::Append, 1);
-    put(
-        &mut store,
-        file,
-        &[(b"2", b"b"), (b"3", b"c"), (b"1", b"a")],
-    )?;
-    for (start, end, reverse, limit, want) in WALKS {
-        assert_eq!(rt; seen(&store.table, start, end, reverse, limit)?, want);
+    let store = store_of_pairs(alloc, file, &[(b"2", b"b"), (b"3", b"c"), (b"1", b"a")])?;
+    for (start, end, reverse, limit, want) in walks() {
+        assert_eq!(rt; seen(&store.table, *start, *end, *reverse, *limit)?, *want);
     }
     Ok(())
 }
@@ -83,36 +91,57 @@ fn newer_pairs_replace_older_ones(rt: HostRuntime) -> Result<()> {
 
 /// Two rewritten keys under two appended ones, of which one is the same.
 fn joined(alloc: Global) -> Result<LogStore> {
-    let mut store = LogStore::new(alloc);
     let rewritten = FileId::new(LogQueue::Rewrite, 7);
-    put(&mut store, rewritten, &[(b"j", b"1"), (b"k", b"2")])?;
-    let mut newer = LogStore::new(alloc);
+    let mut store = store_of_pairs(alloc, rewritten, &[(b"j", b"1"), (b"k", b"2")])?;
     let appended = FileId::new(LogQueue::Append, 9);
-    put(&mut newer, appended, &[(b"k", b"3"), (b"l", b"4")])?;
+    let newer = store_of_pairs(alloc, appended, &[(b"k", b"3"), (b"l", b"4")])?;
     let mut table = newer.table;
     store.merge(&mut table, true)?;
     Ok(store)
 }
 
-fn join(rt: &impl Abort, alloc: Global) -> Result<()> {
-    let mut store = joined(alloc)?;
-    assert_eq!(rt; store.table.get(b"k"), Some(b"3".as_slice()));
-    assert_eq!(rt; store.table.records(LogQueue::Rewrite), 1);
-    assert_eq!(rt; store.table.min_file_seq(LogQueue::Append), Some(9));
+/// How many pairs lie in the append queue's files up to one.
+fn count_before(alloc: Global, table: &MemTable, gate: FileSeq) -> Result<usize> {
     let mut pairs = Vec::new(alloc);
-    store.table.fetch_kvs_before(9, &mut pairs)?;
-    assert_eq!(rt; pairs.len(), 2);
+    table.fetch_kvs_before(gate, &mut pairs)?;
+    Ok(pairs.len())
+}
+
+/// How many keys there are, how many of them are rewritten, and the least file of the others.
+fn counts(table: &MemTable) -> (usize, u128, Option<FileSeq>) {
+    (
+        table.key_count(),
+        table.records(LogQueue::Rewrite),
+        table.min_file_seq(LogQueue::Append),
+    )
+}
+
+fn rewrite_key(store: &mut LogStore, key: &[u8]) -> Result<()> {
     let rewritten = TableChange::RewriteKey {
-        key: store.bytes(b"l")?,
+        key: store.bytes(key)?,
         gate: Some(9),
         seq: 50,
     };
     store.make(rewritten)?;
-    assert_eq!(rt; store.table.records(LogQueue::Rewrite), 2);
+    Ok(())
+}
+
+fn delete_key(store: &mut LogStore, key: &[u8]) -> Result<()> {
     let deleted = TableChange::Delete {
-        key: store.bytes(b"j")?,
+        key: store.bytes(key)?,
     };
     store.make(deleted)?;
-    assert_eq!(rt; store.table.key_count(), 2);
+    Ok(())
+}
+
+fn join(rt: &impl Abort, alloc: Global) -> Result<()> {
+    let mut store = joined(alloc)?;
+    assert!(rt; store.table.get(b"k") == Some(b"3".as_slice()));
+    assert!(rt; counts(&store.table) == (3, 1, Some(9)));
+    assert!(rt; count_before(alloc, &store.table, 9)? == 2);
+    rewrite_key(&mut store, b"l")?;
+    assert!(rt; counts(&store.table) == (3, 2, Some(9)));
+    delete_key(&mut store, b"j")?;
+    assert!(rt; counts(&store.table) == (2, 1, Some(9)));
     Ok(())
 }

@@ -1,11 +1,12 @@
 //! Each call leaves in shared tables what the accessor's call of this name leaves in those of an accessor.
 
 use super::run;
+use super::seen::{REGION, Shape, see_core, see_shared, shape, taken, taken_of};
 use crate::items::{Fault, answered};
 use raft_accessor::{
     Error, FileId, FileSeq, LogQueue, MemTable, MemTableAccessor, Result, TableChange,
 };
-use raft_records::{Command, LogBatch, LogItem, LogItemContent, OpType};
+use raft_records::{Command, LogItem, LogItemContent, OpType};
 use raft_shared::SharedAccessor;
 use std::alloc::Global;
 use std::sync::Wait;
@@ -25,9 +26,6 @@ const REWRITTEN: FileId = FileId {
     queue: LogQueue::Rewrite,
     seq: 70,
 };
-
-/// The region that is called at.
-const REGION: u64 = 1;
 
 /// A region that has no table at first.
 const FRESH: u64 = 4;
@@ -69,7 +67,7 @@ enum Call {
 }
 
 /// Calls, each with its fault where it is refused.
-const CALLS: [(Call, Option<Fault>); 27] = [
+static CALLS: [(Call, Option<Fault>); 27] = [
     (Call::Nothing, None),
     (Call::WithTableMut(REGION), None),
     (Call::WithTableMut(FRESH), None),
@@ -192,15 +190,33 @@ fn items_of(alloc: Global, items: Items) -> Result<Vec<LogItem>> {
 fn accessor(alloc: Global) -> Result<MemTableAccessor> {
     let mut core = MemTableAccessor::new(alloc)?;
     for region in 1..4 {
-        core.change(region, TableChange::Append(run(alloc, 10, 20, NEW)?))?;
+        append(alloc, &mut core, region, 10, NEW)?;
         core.change(region, put(alloc, b"k".as_slice())?)?;
     }
-    core.change(3, TableChange::Append(run(alloc, 13, 20, NEWER)?))?;
-    core.apply_rewrite_writes(rewritten_items(alloc, 2)?, Some(1), 50)?;
-    core.apply_rewrite_atomic_group(2, 48, 50)?;
-    core.remove(9, true)?;
-    core.remove(2000, true)?;
+    append(alloc, &mut core, 3, 13, NEWER)?;
+    rewrite(alloc, &mut core)?;
+    for region in [9, 2000] {
+        core.remove(region, true)?;
+    }
     Ok(core)
+}
+
+/// Appends entries from an index to below 20 to a region.
+fn append(
+    alloc: Global,
+    core: &mut MemTableAccessor,
+    region: u64,
+    start: u64,
+    file: FileId,
+) -> Result<()> {
+    core.change(region, TableChange::Append(run(alloc, start, 20, file)?))?;
+    Ok(())
+}
+
+/// Rewrites region 2 in part, as a group.
+fn rewrite(alloc: Global, core: &mut MemTableAccessor) -> Result<()> {
+    core.apply_rewrite_writes(rewritten_items(alloc, 2)?, Some(1), 50)?;
+    core.apply_rewrite_atomic_group(2, 48, 50)
 }
 
 /// A table with other entries and another key.
@@ -217,33 +233,41 @@ fn other_table(alloc: Global, id: u64) -> Result<MemTable> {
 /// A number, and the table that is handed back.
 type Answer = (u64, Option<Shape>);
 
+fn done(called: Result<()>) -> Result<Answer> {
+    called?;
+    Ok((0, None))
+}
+
+fn numbered(called: Result<u64>) -> Result<Answer> {
+    Ok((called?, None))
+}
+
+fn handed(called: Result<Option<MemTable>>) -> Result<Answer> {
+    Ok((0, called?.as_ref().map(shape)))
+}
+
 /// Calls an accessor.
 fn call_core(alloc: Global, core: &mut MemTableAccessor, call: Call) -> Result<Answer> {
-    let mut number = 0;
-    let mut table = None;
     match call {
-        Call::Nothing => {}
-        Call::WithTableMut(id) => number = core.change(id, TableChange::Compact { index: 15 })?,
-        Call::Put(id) => number = core.change(id, put(alloc, b"n".as_slice())?)?,
+        Call::Nothing => Ok((0, None)),
+        Call::WithTableMut(id) => numbered(core.change(id, TableChange::Compact { index: 15 })),
+        Call::Put(id) => numbered(core.change(id, put(alloc, b"n".as_slice())?)),
         Call::Append(start, end, file) => {
-            number = core.change(REGION, TableChange::Append(run(alloc, start, end, file)?))?;
+            numbered(core.change(REGION, TableChange::Append(run(alloc, start, end, file)?)))
         }
-        Call::GetOrInsert(id) => number = core.change(id, TableChange::Keep)?,
+        Call::GetOrInsert(id) => numbered(core.change(id, TableChange::Keep)),
         Call::Insert(id) => {
             let other = other_table(alloc, id)?;
-            table = core.insert(other.region_id(), other)?;
+            handed(core.insert(other.region_id(), other))
         }
-        Call::Remove(id, is_listed) => table = core.remove(id, is_listed)?,
-        Call::AppendWrites(items) => core.apply_append_writes(items_of(alloc, items)?)?,
+        Call::Remove(id, is_listed) => handed(core.remove(id, is_listed)),
+        Call::AppendWrites(items) => done(core.apply_append_writes(items_of(alloc, items)?)),
         Call::RewriteWrites(items, gate, seq) => {
-            core.apply_rewrite_writes(items_of(alloc, items)?, gate, seq)?;
+            done(core.apply_rewrite_writes(items_of(alloc, items)?, gate, seq))
         }
-        Call::AtomicGroup(id) => core.apply_rewrite_atomic_group(id, 49, 50)?,
-        Call::TakeCleaned => {
-            number = regions_of(alloc, core.take_cleaned_region_logs()?)?.len() as u64;
-        }
+        Call::AtomicGroup(id) => done(core.apply_rewrite_atomic_group(id, 49, 50)),
+        Call::TakeCleaned => Ok((taken_of(alloc, core)?.len() as u64, None)),
     }
-    Ok((number, table.as_ref().map(shape)))
 }
 
 /// The same call of shared tables.
@@ -253,174 +277,30 @@ fn call_shared<R: Wait>(
     shared: &SharedAccessor,
     call: Call,
 ) -> Result<Answer> {
-    let mut number = 0;
-    let mut table = None;
     match call {
-        Call::Nothing => {}
+        Call::Nothing => Ok((0, None)),
         Call::WithTableMut(id) => {
             let compaction = |_: &MemTable| TableChange::Compact { index: 15 };
-            number = shared.with_table_mut(rt, id, compaction)?;
+            numbered(shared.with_table_mut(rt, id, compaction))
         }
-        Call::Put(id) => number = shared.change(rt, id, put(alloc, b"n".as_slice())?)?,
+        Call::Put(id) => numbered(shared.change(rt, id, put(alloc, b"n".as_slice())?)),
         Call::Append(start, end, file) => {
             let run = run(alloc, start, end, file)?;
-            number = shared.change(rt, REGION, TableChange::Append(run))?;
+            numbered(shared.change(rt, REGION, TableChange::Append(run)))
         }
-        Call::GetOrInsert(id) => shared.get_or_insert(rt, id)?,
+        Call::GetOrInsert(id) => done(shared.get_or_insert(rt, id)),
         Call::Insert(id) => {
             let other = other_table(alloc, id)?;
-            table = shared.insert(rt, other.region_id(), other)?;
+            handed(shared.insert(rt, other.region_id(), other))
         }
-        Call::Remove(id, is_listed) => table = shared.remove(rt, id, is_listed)?,
-        Call::AppendWrites(items) => shared.apply_append_writes(rt, items_of(alloc, items)?)?,
+        Call::Remove(id, is_listed) => handed(shared.remove(rt, id, is_listed)),
+        Call::AppendWrites(items) => done(shared.apply_append_writes(rt, items_of(alloc, items)?)),
         Call::RewriteWrites(items, gate, seq) => {
-            shared.apply_rewrite_writes(rt, items_of(alloc, items)?, gate, seq)?;
+            done(shared.apply_rewrite_writes(rt, items_of(alloc, items)?, gate, seq))
         }
-        Call::AtomicGroup(id) => shared.apply_rewrite_atomic_group(rt, id, 49, 50)?,
-        Call::TakeCleaned => number = taken(rt, alloc, shared)?.len() as u64,
+        Call::AtomicGroup(id) => done(shared.apply_rewrite_atomic_group(rt, id, 49, 50)),
+        Call::TakeCleaned => Ok((taken(rt, alloc, shared)?.len() as u64, None)),
     }
-    Ok((number, table.as_ref().map(shape)))
-}
-
-/// The number of an entry's file, the offset and the length of its block, and its own in that.
-type Place = (FileSeq, u64, usize, u32, u32);
-
-/// A table's region, its first and last index, its records and its least file in both queues, its atomic
-/// group, and the place of its last entry with its keys and values.
-type Shape = (
-    u64,
-    (Option<u64>, Option<u64>),
-    (u128, u128),
-    (Option<FileSeq>, Option<FileSeq>),
-    Option<(FileSeq, FileSeq)>,
-    (Option<Place>, u64),
-);
-
-fn place(table: &MemTable) -> Option<Place> {
-    let entry = table.get_entry(table.last_index()?)?;
-    let block = entry.entries?;
-    Some((
-        block.id.seq,
-        block.offset,
-        block.len,
-        entry.entry_offset,
-        entry.entry_len,
-    ))
-}
-
-/// The bytes of all keys and values in one number.
-fn pairs(table: &MemTable) -> u64 {
-    let mut seen = 0u64;
-    let _ = table.scan(None, None, false, |key, value| {
-        for byte in key.iter().chain(value) {
-            seen = seen.wrapping_mul(257).wrapping_add(u64::from(*byte));
-        }
-        true
-    });
-    seen
-}
-
-fn shape(table: &MemTable) -> Shape {
-    (
-        table.region_id(),
-        (table.first_index(), table.last_index()),
-        (
-            table.records(LogQueue::Append),
-            table.records(LogQueue::Rewrite),
-        ),
-        (
-            table.min_file_seq(LogQueue::Append),
-            table.min_file_seq(LogQueue::Rewrite),
-        ),
-        table.atomic_group(),
-        (place(table), pairs(table)),
-    )
-}
-
-/// What can be seen: the table of the region that is called at, all tables by region, how many a walk
-/// meets, the live numbers, whether there are none, and the cleaned regions by number.
-#[derive(PartialEq, Debug, Drop)]
-struct Seen {
-    found: Option<Shape>,
-    tables: Vec<Shape>,
-    walked: u64,
-    /// The sum of the ids of the regions that a walk meets.
-    regions: u64,
-    live: (u128, u128),
-    is_empty: bool,
-    cleaned: Vec<u64>,
-}
-
-/// The regions of the items of a batch, in order.
-fn regions_of(alloc: Global, mut logs: LogBatch) -> Result<Vec<u64>> {
-    let mut regions = Vec::new(alloc);
-    for item in logs.drain() {
-        regions.push(item.raft_group_id)?;
-    }
-    Ok(regions)
-}
-
-/// The cleaned regions of shared tables, in order. What a call took that ran out of memory is in the batch,
-/// and a second one takes the rest.
-fn taken<R: Wait>(rt: &R, alloc: Global, shared: &SharedAccessor) -> Result<Vec<u64>> {
-    let mut logs = LogBatch::default(alloc);
-    if shared.take_cleaned_region_logs(rt, &mut logs).is_err() {
-        shared.take_cleaned_region_logs(rt, &mut logs)?;
-    }
-    regions_of(alloc, logs)
-}
-
-/// What an accessor shows. Its cleaned regions are taken.
-fn see_core(alloc: Global, core: &mut MemTableAccessor) -> Result<Seen> {
-    let mut tables = Vec::new(alloc);
-    let mut regions = 0u64;
-    for table in core.tables()? {
-        tables.push(shape(table))?;
-        regions = regions.wrapping_add(table.region_id());
-    }
-    tables.sort()?;
-    let mut cleaned = regions_of(alloc, core.take_cleaned_region_logs()?)?;
-    cleaned.sort()?;
-    let stats = core.stats();
-    Ok(Seen {
-        found: core.get(REGION).map(shape),
-        walked: tables.len() as u64,
-        regions,
-        tables,
-        live: (
-            stats.live_entries(LogQueue::Append) as u128,
-            stats.live_entries(LogQueue::Rewrite) as u128,
-        ),
-        is_empty: core.is_empty(),
-        cleaned,
-    })
-}
-
-/// What shared tables show. Their cleaned regions are taken.
-fn see_shared<R: Wait>(rt: &R, alloc: Global, shared: &SharedAccessor) -> Result<Seen> {
-    let mut tables = Vec::new(alloc);
-    for region in shared.collect(rt, |_: &MemTable| true)? {
-        if let Some(shape) = shared.with_table(rt, region, shape) {
-            tables.push(shape)?;
-        }
-    }
-    tables.sort()?;
-    let mut cleaned = taken(rt, alloc, shared)?;
-    cleaned.sort()?;
-    Ok(Seen {
-        found: shared.with_table(rt, REGION, shape),
-        tables,
-        walked: shared.fold(rt, 0u64, |walked, _: &MemTable| walked.wrapping_add(1)),
-        regions: shared.fold(rt, 0u64, |regions, table: &MemTable| {
-            regions.wrapping_add(table.region_id())
-        }),
-        live: (
-            shared.live_entries(rt, LogQueue::Append),
-            shared.live_entries(rt, LogQueue::Rewrite),
-        ),
-        is_empty: shared.is_empty(rt),
-        cleaned,
-    })
 }
 
 /// Whether cleaned regions of one slot stay listed in order, each as often as it was cleaned.
@@ -446,6 +326,10 @@ fn is_alike<R: Wait>(rt: &R, alloc: Global, call: Call, fault: Option<Fault>) ->
     )
 }
 
+fn calls() -> &'static [(Call, Option<Fault>)] {
+    &CALLS
+}
+
 /// Whether all calls do, also of tables without any.
 fn are_alike<R: Wait>(rt: &R, alloc: Global) -> Result<bool> {
     let empty = SharedAccessor::new(alloc);
@@ -453,8 +337,8 @@ fn are_alike<R: Wait>(rt: &R, alloc: Global) -> Result<bool> {
     if see_shared(rt, alloc, &empty)? != see_core(alloc, &mut core)? {
         return Ok(false);
     }
-    for (call, fault) in CALLS {
-        if !is_alike(rt, alloc, call, fault)? {
+    for (call, fault) in calls() {
+        if !is_alike(rt, alloc, *call, *fault)? {
             return Ok(false);
         }
     }

@@ -18,8 +18,23 @@ pub(super) struct Row {
     pub(super) item_batch_size: usize,
 }
 
+pub(super) fn rows() -> &'static [Row] {
+    &ROWS
+}
+
+/// In the order of their batches.
+static ROWS: [Row; 7] = [
+    EMPTY,
+    CLEAN,
+    COMPACT,
+    KEY_VALUES,
+    LINES,
+    MERGED,
+    ONE_OF_EACH,
+];
+
 /// Without items.
-pub(super) const EMPTY: Row = Row {
+const EMPTY: Row = Row {
     size: 0,
     front: b"",
     seals: [b"", b"", b"", b""],
@@ -29,7 +44,7 @@ pub(super) const EMPTY: Row = Row {
 };
 
 /// Region 1 is cleaned.
-pub(super) const CLEAN: Row = Row {
+const CLEAN: Row = Row {
     size: 42,
     front: b"\x00\x00\x00\x00\x00\x00\x18\x00\x00\x00\x00\x00\x00\x00\x00\x10\x01\x01\x02\x01",
     seals: [
@@ -44,7 +59,7 @@ pub(super) const CLEAN: Row = Row {
 };
 
 /// Region 300 is compacted to 2^40.
-pub(super) const COMPACT: Row = Row {
+const COMPACT: Row = Row {
     size: 50,
     front: b"\x00\x00\x00\x00\x00\x00\x1f\x00\x00\x00\x00\x00\x00\x00\x00\x10\x01\xac\x02\x02\x02\x80\x80\x80\x80\x80\x20",
     seals: [
@@ -59,7 +74,7 @@ pub(super) const COMPACT: Row = Row {
 };
 
 /// A put and a delete with an empty key, in region 1.
-pub(super) const KEY_VALUES: Row = Row {
+const KEY_VALUES: Row = Row {
     size: 92,
     front: b"\x00\x00\x00\x00\x00\x00\x26\x00\x00\x00\x00\x00\x00\x00\x00\x10\x02\x01\x03\x01\x03\x70\x75\x74\x05\x70\x75\x74\x5f\x76\x01\x03\x02\x00",
     seals: [
@@ -74,7 +89,7 @@ pub(super) const KEY_VALUES: Row = Row {
 };
 
 /// Entries 10 and 11 of region 7.
-pub(super) const LINES: Row = Row {
+const LINES: Row = Row {
     size: 76,
     front: b"\x00\x00\x00\x00\x00\x00\x22\x00\x00\x00\x00\x00\x00\x00\x00\x17\x61\x62\x63\xc2\x41\x24\x35\x01\x07\x01\x02\x0a\x02\x03",
     seals: [
@@ -89,7 +104,7 @@ pub(super) const LINES: Row = Row {
 };
 
 /// Entries 10 to 12 of region 7, and then 1 and 2 of region 8.
-pub(super) const MERGED: Row = Row {
+const MERGED: Row = Row {
     size: 127,
     front: b"\x00\x00\x00\x00\x00\x00\x2b\x00\x00\x00\x00\x00\x00\x00\x00\x19\x78\x78\x78\x78\x78\x78\xe7\xd1\x42\x02\x07\x01\x03\x0a\x01\x02\x03\x08\x01\x02\x01\x04\x05",
     seals: [
@@ -104,7 +119,7 @@ pub(super) const MERGED: Row = Row {
 };
 
 /// Three entries and one item of each other kind.
-pub(super) const ONE_OF_EACH: Row = Row {
+const ONE_OF_EACH: Row = Row {
     size: 197,
     front: b"\x00\x00\x00\x00\x00\x00\x3f\x00\x00\x00\x00\x00\x00\x00\x00\x17\x61\x62\x63\xc2\x41\x24\x35\x06\x07\x01\x03\x0a\x02\x02\x03\x08\x02\x01\x07\x02\x02\x0b\x09\x03\x01\x01\x6b\x01\x76\x09\x03\x02\x01\x6a\x09\x03\x01\x03\x5f\x5f\x01\x01\x00",
     seals: [

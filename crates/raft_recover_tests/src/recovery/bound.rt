@@ -154,19 +154,27 @@ impl<'a> Reading<'a> {
         match &item.content {
             LogItemContent::EntryIndexes(run) => self.put_run(region, run.0.as_slice()),
             LogItemContent::Command(Command::Compact { index }) => {
-                self.entries
-                    .retain(|e| e.region != region || e.index >= *index);
+                self.compact(region, *index);
                 Ok(())
             }
             LogItemContent::Command(Command::Clean) => {
-                self.entries.retain(|e| e.region != region);
-                self.keys.retain(|k| k.region != region);
-                self.deleted.retain(|k| k.region != region);
-                self.cleaned = self.cleaned.saturating_add(1);
+                self.clean(region);
                 Ok(())
             }
             LogItemContent::Kv(kv) => self.take_pair(region, kv),
         }
+    }
+
+    fn compact(&mut self, region: u64, index: u64) {
+        self.entries
+            .retain(|e| e.region != region || e.index >= index);
+    }
+
+    fn clean(&mut self, region: u64) {
+        self.entries.retain(|e| e.region != region);
+        self.keys.retain(|k| k.region != region);
+        self.deleted.retain(|k| k.region != region);
+        self.cleaned = self.cleaned.saturating_add(1);
     }
 
     /// Whether a run from this index on leaves a hole behind the region's entries.

@@ -90,13 +90,13 @@ impl History {
         cuttings
     }
 
-    /// The piece, if its context holds no more than it may.
-    fn checked(&self, piece: Piece) -> Result<Piece> {
+    /// Refuses a piece whose context holds more than it may, as `Failed`.
+    fn check(&self, piece: &Piece) -> Result<()> {
         let Some(batches) = self.batches.get(piece.first..piece.end) else {
             return Err(Error::Failed);
         };
         if is_within(piece.context.kept()?, bound_of(self.alloc, batches)?) {
-            Ok(piece)
+            Ok(())
         } else {
             Err(Error::Failed)
         }
@@ -110,9 +110,9 @@ impl History {
             end: first,
         };
         for written in self.batches.iter().take(end).skip(first) {
-            piece.context.replay(written.batch.clone()?, written.file)?;
+            replay(&mut piece.context, written)?;
             piece.end = piece.end.saturating_add(1);
-            piece = self.checked(piece)?;
+            self.check(&piece)?;
         }
         Ok(piece)
     }
@@ -134,18 +134,11 @@ impl History {
 
     /// Merges a piece with its newer neighbor, with a look at the context.
     fn merged(&self, older: Piece, newer: Piece) -> Result<Piece> {
-        let Piece {
-            mut context,
-            first,
-            ..
-        } = older;
-        let end = newer.end;
-        context.merge(newer.context, self.queue)?;
-        self.checked(Piece {
-            context,
-            first,
-            end,
-        })
+        let mut piece = older;
+        piece.end = newer.end;
+        merge(&mut piece.context, newer.context, self.queue)?;
+        self.check(&piece)?;
+        Ok(piece)
     }
 
     fn from_left(&self, pieces: Vec<Piece>) -> Result<Option<Piece>> {
@@ -173,17 +166,22 @@ impl History {
     /// Merges the first piece with the second, the third with the fourth, and so on.
     fn paired(&self, pieces: Vec<Piece>) -> Result<Vec<Piece>> {
         let mut pairs = Vec::new(self.alloc);
-        let mut older: Option<Piece> = None;
-        for piece in pieces {
-            match older.take() {
-                Some(older) => pairs.push(self.merged(older, piece)?)?,
-                None => older = Some(piece),
+        let half = pieces.len().div_ceil(2);
+        let mut rest = pieces.into_iter();
+        for _ in 0..half {
+            if let Some(older) = rest.next() {
+                pairs.push(self.pair(older, rest.next())?)?;
             }
         }
-        if let Some(last) = older {
-            pairs.push(last)?;
-        }
         Ok(pairs)
+    }
+
+    /// Merges a piece with its newer neighbor, if it has one.
+    fn pair(&self, older: Piece, newer: Option<Piece>) -> Result<Piece> {
+        match newer {
+            Some(newer) => self.merged(older, newer),
+            None => Ok(older),
+        }
     }
 
     /// Merges at most eight pieces by halves.
@@ -278,7 +276,7 @@ fn row_holds_little(alloc: Global, row: &rows::Row) -> Result<bool> {
 
 #[test]
 fn merged_rows_hold_little(rt: HostRuntime) {
-    for row in &rows::ROWS {
+    for row in rows::rows() {
         let mut all = row_holds_little(rt.alloc(), row);
         if matches!(all, Err(Error::Memory)) {
             all = row_holds_little(rt.alloc(), row);
@@ -345,7 +343,7 @@ const NOTHING: Kept = Kept {
     waiting_items: 0,
 };
 
-const ROWS: [Row; 3] = [
+static ROWS: [Row; 3] = [
     (
         LogQueue::Append,
         PUT,
@@ -387,6 +385,10 @@ const ROWS: [Row; 3] = [
     ),
 ];
 
+fn counted_rows() -> &'static [Row] {
+    &ROWS
+}
+
 /// The context that replayed a row's batch as often as it says.
 fn replayed_often(alloc: Global, row: &Row) -> Result<MemTableRecoverContext> {
     let (queue, batch, times, _) = row;
@@ -394,24 +396,40 @@ fn replayed_often(alloc: Global, row: &Row) -> Result<MemTableRecoverContext> {
     let mut context = MemTableRecoverContext::new(alloc)?;
     for written in &history.batches {
         for _ in 0..*times {
-            context.replay(written.batch.clone()?, written.file)?;
+            replay(&mut context, written)?;
         }
     }
     Ok(context)
+}
+
+fn replay(context: &mut MemTableRecoverContext, written: &Written) -> Result<()> {
+    context.replay(written.batch.clone()?, written.file)
 }
 
 /// Whether a context holds no more than its row says, and no more once it is merged with another like it.
 fn holds_no_more(alloc: Global, row: &Row) -> Result<bool> {
     let (queue, _, _, bound) = row;
     let mut context = replayed_often(alloc, row)?;
-    let alone = is_within(context.kept()?, *bound);
-    context.merge(replayed_often(alloc, row)?, *queue)?;
-    Ok(alone && is_within(context.kept()?, *bound))
+    let alone = holds_within(&context, *bound)?;
+    merge(&mut context, replayed_often(alloc, row)?, *queue)?;
+    Ok(alone && holds_within(&context, *bound)?)
+}
+
+fn holds_within(context: &MemTableRecoverContext, bound: Kept) -> Result<bool> {
+    Ok(is_within(context.kept()?, bound))
+}
+
+fn merge(
+    older: &mut MemTableRecoverContext,
+    newer: MemTableRecoverContext,
+    queue: LogQueue,
+) -> Result<()> {
+    older.merge(newer, queue)
 }
 
 #[test]
 fn contexts_hold_little(rt: HostRuntime) {
-    for row in &ROWS {
+    for row in counted_rows() {
         let mut held = holds_no_more(rt.alloc(), row);
         if matches!(held, Err(Error::Memory)) {
             held = holds_no_more(rt.alloc(), row);
@@ -432,16 +450,23 @@ const WITH_A_HOLE: [(FileSeq, &str); 2] = [
     ),
 ];
 
+/// The context of a history's first batch, if it refuses that of the second.
+fn with_refused_neighbor(history: &History) -> Result<Option<MemTableRecoverContext>> {
+    let mut context = history.replayed(0, 1)?.context;
+    let newer = history.replayed(1, 2)?.context;
+    match context.merge(newer, LogQueue::Append) {
+        Err(Error::Corruption(_)) => Ok(Some(context)),
+        Err(error) => Err(error),
+        Ok(()) => Ok(None),
+    }
+}
+
 /// Whether a context that refused its neighbor answers `Failed` from then on.
 fn stays_failed(alloc: Global) -> Result<bool> {
     let history = History::read(alloc, LogQueue::Append, Version::V1, &WITH_A_HOLE)?;
-    let Piece { mut context, .. } = history.replayed(0, 1)?;
-    let newer = history.replayed(1, 2)?;
-    match context.merge(newer.context, LogQueue::Append) {
-        Err(Error::Corruption(_)) => {}
-        Err(error) => return Err(error),
-        Ok(()) => return Ok(false),
-    }
+    let Some(context) = with_refused_neighbor(&history)? else {
+        return Ok(false);
+    };
     let held = matches!(context.kept(), Err(Error::Failed));
     Ok(held && matches!(context.finish(), Err(Error::Failed)))
 }

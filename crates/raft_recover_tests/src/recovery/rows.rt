@@ -27,7 +27,11 @@ pub(crate) const BESIDE: [(u64, &str); 3] = [
     ),
 ];
 
-pub(crate) const ROWS: [Row; 23] = [
+pub(crate) fn rows() -> &'static [Row] {
+    &ROWS
+}
+
+static ROWS: [Row; 23] = [
     // No file.
     Row {
         queue: LogQueue::Append,

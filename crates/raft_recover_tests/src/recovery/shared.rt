@@ -65,11 +65,15 @@ fn shape(table: &MemTable) -> Shape {
     )
 }
 
+fn shape_of<R: Wait>(rt: &R, shared: &SharedAccessor, region: u64) -> Option<Shape> {
+    shared.with_table(rt, region, shape)
+}
+
 /// The shared tables by region.
 fn shapes<R: Wait>(rt: &R, alloc: Global, shared: &SharedAccessor) -> Result<Vec<Shape>> {
     let mut shapes = Vec::new(alloc);
     for region in shared.collect(rt, |_: &MemTable| true)? {
-        if let Some(shape) = shared.with_table(rt, region, shape) {
+        if let Some(shape) = shape_of(rt, shared, region) {
             shapes.push(shape)?;
         }
     }
@@ -77,10 +81,15 @@ fn shapes<R: Wait>(rt: &R, alloc: Global, shared: &SharedAccessor) -> Result<Vec
     Ok(shapes)
 }
 
-/// The regions that were cleaned. They are taken.
-fn cleaned<R: Wait>(rt: &R, alloc: Global, shared: &SharedAccessor) -> Result<Vec<u64>> {
+fn cleaned_logs<R: Wait>(rt: &R, alloc: Global, shared: &SharedAccessor) -> Result<LogBatch> {
     let mut logs = LogBatch::default(alloc);
     shared.take_cleaned_region_logs(rt, &mut logs)?;
+    Ok(logs)
+}
+
+/// The regions that were cleaned. They are taken.
+fn cleaned<R: Wait>(rt: &R, alloc: Global, shared: &SharedAccessor) -> Result<Vec<u64>> {
+    let mut logs = cleaned_logs(rt, alloc, shared)?;
     let mut regions = Vec::new(alloc);
     for item in logs.drain() {
         regions.push(item.raft_group_id)?;
@@ -90,17 +99,26 @@ fn cleaned<R: Wait>(rt: &R, alloc: Global, shared: &SharedAccessor) -> Result<Ve
 
 /// Whether shared tables of a row's history have all that is owed.
 fn holds<R: Threads + Wait + Sync>(rt: &R, alloc: Global, row: &Row) -> Result<bool> {
-    let segments = cut(alloc, row.queue, row.batches, 0)?;
-    let tables = recover(rt, alloc, segments.as_slice(), row.queue, 1)?;
-    let shared = SharedAccessor::from_core(alloc, tables)?;
-    let live = (
-        shared.live_entries(rt, LogQueue::Append),
-        shared.live_entries(rt, LogQueue::Rewrite),
-    );
+    let shared = shared_of(rt, alloc, row)?;
     Ok(
-        live == row.live
+        live(rt, &shared) == row.live
             && shapes(rt, alloc, &shared)?.as_slice() == row.tables
             && cleaned(rt, alloc, &shared)?.as_slice() == row.cleaned,
+    )
+}
+
+/// The tables of a row's history, shared.
+fn shared_of<R: Threads + Wait + Sync>(rt: &R, alloc: Global, row: &Row) -> Result<SharedAccessor> {
+    let segments = cut(alloc, row.queue, row.batches, 0)?;
+    let tables = recover(rt, alloc, segments.as_slice(), row.queue, 1)?;
+    SharedAccessor::from_core(alloc, tables)
+}
+
+/// How many records are live in the append queue and in the rewrite queue.
+fn live<R: Wait>(rt: &R, shared: &SharedAccessor) -> (u128, u128) {
+    (
+        shared.live_entries(rt, LogQueue::Append),
+        shared.live_entries(rt, LogQueue::Rewrite),
     )
 }
 

@@ -1,0 +1,179 @@
+//! What can be seen of an accessor and of shared tables.
+
+use raft_accessor::{FileSeq, LogQueue, MemTable, MemTableAccessor, Result};
+use raft_records::LogBatch;
+use raft_shared::SharedAccessor;
+use std::alloc::Global;
+use std::sync::Wait;
+
+/// The region that is called at, and whose table is looked up.
+pub(super) const REGION: u64 = 1;
+
+/// The number of an entry's file, the offset and the length of its block, and its own in that.
+type Place = (FileSeq, u64, usize, u32, u32);
+
+/// A table's region, its first and last index, its records and its least file in both queues, its atomic
+/// group, and the place of its last entry with its keys and values.
+pub(super) type Shape = (
+    u64,
+    (Option<u64>, Option<u64>),
+    (u128, u128),
+    (Option<FileSeq>, Option<FileSeq>),
+    Option<(FileSeq, FileSeq)>,
+    (Option<Place>, u64),
+);
+
+fn place(table: &MemTable) -> Option<Place> {
+    let entry = table.get_entry(table.last_index()?)?;
+    let block = entry.entries?;
+    Some((
+        block.id.seq,
+        block.offset,
+        block.len,
+        entry.entry_offset,
+        entry.entry_len,
+    ))
+}
+
+/// The bytes of all keys and values in one number.
+fn pairs(table: &MemTable) -> u64 {
+    let mut seen = 0u64;
+    let _ = table.scan(None, None, false, |key, value| {
+        for byte in key.iter().chain(value) {
+            seen = seen.wrapping_mul(257).wrapping_add(u64::from(*byte));
+        }
+        true
+    });
+    seen
+}
+
+pub(super) fn shape(table: &MemTable) -> Shape {
+    (
+        table.region_id(),
+        (table.first_index(), table.last_index()),
+        (
+            table.records(LogQueue::Append),
+            table.records(LogQueue::Rewrite),
+        ),
+        (
+            table.min_file_seq(LogQueue::Append),
+            table.min_file_seq(LogQueue::Rewrite),
+        ),
+        table.atomic_group(),
+        (place(table), pairs(table)),
+    )
+}
+
+/// What can be seen: the table of the region that is called at, all tables by region, how many a walk
+/// meets, the live numbers, whether there are none, and the cleaned regions by number.
+#[derive(PartialEq, Debug, Drop)]
+pub(super) struct Seen {
+    found: Option<Shape>,
+    tables: Vec<Shape>,
+    walked: u64,
+    /// The sum of the ids of the regions that a walk meets.
+    regions: u64,
+    live: (u128, u128),
+    is_empty: bool,
+    cleaned: Vec<u64>,
+}
+
+/// The regions of the items of a batch, in order.
+fn regions_of(alloc: Global, mut logs: LogBatch) -> Result<Vec<u64>> {
+    let mut regions = Vec::new(alloc);
+    for item in logs.drain() {
+        regions.push(item.raft_group_id)?;
+    }
+    Ok(regions)
+}
+
+/// The cleaned regions of shared tables, in order. What a call took that ran out of memory is in the batch,
+/// and a second one takes the rest.
+pub(super) fn taken<R: Wait>(rt: &R, alloc: Global, shared: &SharedAccessor) -> Result<Vec<u64>> {
+    let mut logs = LogBatch::default(alloc);
+    if shared.take_cleaned_region_logs(rt, &mut logs).is_err() {
+        shared.take_cleaned_region_logs(rt, &mut logs)?;
+    }
+    regions_of(alloc, logs)
+}
+
+/// The cleaned regions of an accessor, in order. They are taken.
+pub(super) fn taken_of(alloc: Global, core: &mut MemTableAccessor) -> Result<Vec<u64>> {
+    regions_of(alloc, core.take_cleaned_region_logs()?)
+}
+
+/// The tables of an accessor by region.
+fn shapes_of(alloc: Global, core: &MemTableAccessor) -> Result<Vec<Shape>> {
+    let mut tables = Vec::new(alloc);
+    for table in core.tables()? {
+        tables.push(shape(table))?;
+    }
+    tables.sort()?;
+    Ok(tables)
+}
+
+/// The sum of the ids of regions.
+fn sum(tables: &[Shape]) -> u64 {
+    let mut sum = 0u64;
+    for table in tables {
+        sum = sum.wrapping_add(table.0);
+    }
+    sum
+}
+
+/// What an accessor shows. Its cleaned regions are taken.
+pub(super) fn see_core(alloc: Global, core: &mut MemTableAccessor) -> Result<Seen> {
+    let tables = shapes_of(alloc, core)?;
+    let mut cleaned = taken_of(alloc, core)?;
+    cleaned.sort()?;
+    let stats = core.stats();
+    Ok(Seen {
+        found: core.get(REGION).map(shape),
+        walked: tables.len() as u64,
+        regions: sum(tables.as_slice()),
+        tables,
+        live: (
+            stats.live_entries(LogQueue::Append) as u128,
+            stats.live_entries(LogQueue::Rewrite) as u128,
+        ),
+        is_empty: core.is_empty(),
+        cleaned,
+    })
+}
+
+fn shape_in<R: Wait>(rt: &R, shared: &SharedAccessor, region: u64) -> Option<Shape> {
+    shared.with_table(rt, region, shape)
+}
+
+/// Shared tables by region.
+fn shapes_in<R: Wait>(rt: &R, alloc: Global, shared: &SharedAccessor) -> Result<Vec<Shape>> {
+    let mut tables = Vec::new(alloc);
+    for region in shared.collect(rt, |_: &MemTable| true)? {
+        if let Some(shape) = shape_in(rt, shared, region) {
+            tables.push(shape)?;
+        }
+    }
+    tables.sort()?;
+    Ok(tables)
+}
+
+/// What shared tables show. Their cleaned regions are taken.
+pub(super) fn see_shared<R: Wait>(rt: &R, alloc: Global, shared: &SharedAccessor) -> Result<Seen> {
+    let tables = shapes_in(rt, alloc, shared)?;
+    let mut cleaned = taken(rt, alloc, shared)?;
+    cleaned.sort()?;
+    Ok(Seen {
+        found: shape_in(rt, shared, REGION),
+        tables,
+        walked: shared.fold(rt, 0u64, |walked, _: &MemTable| walked.wrapping_add(1)),
+        regions: shared.fold(rt, 0u64, |regions, table: &MemTable| {
+            regions.wrapping_add(table.region_id())
+        }),
+        live: (
+            shared.live_entries(rt, LogQueue::Append),
+            shared.live_entries(rt, LogQueue::Rewrite),
+        ),
+        is_empty: shared.is_empty(rt),
+        cleaned,
+    })
+}

@@ -1,6 +1,6 @@
 //! Where the entries of a region's log stand.
 
-ghost use Rattle.std.specs.Prelude.{◌≡◌, ◌≢◌, ◌↔◌, ◌-◌, ◌^◌, ◌<◌, ◌≤◌, List, ◌++◌, map, length, IsTrue, IfOk, IfErr, IfSome, OnOk, OnErr};
+ghost use Rattle.std.specs.Prelude.{◌≡◌, ◌≢◌, ◌↔◌, ◌-◌, ◌^◌, ◌<◌, ◌≤◌, List, ◌++◌, map, length, IsTrue, IfOk, IfErr, IfSome, OnOk, OnErr, OnSome, ℕ};
 ghost use Rattle.raft_base.specs.Reading.{Reads, HasNoFront};
 ghost use Rattle.raft_records.specs.Grammar.{IsEntries, IsTail, AreTails, end_behind};
 ghost use Rattle.raft_records.specs.Faults.{IsEntriesFault, IsTailFault, IsTailsFault, IsEntriesRefusal};
@@ -240,8 +240,10 @@ fn parse_tails(
     let mut rest = bytes;
     let mut index = first;
     let mut offset = entries_size;
+    // Where none of their indexes is 2^64 - 1, no index is tested by itself.
+    let bounded = count <= u64::MAX - first;
     for _ in 0..count {
-        let (tail, behind) = match short_tail(rest, index, offset) {
+        let (tail, behind) = match short_tail(rest, offset, bounded) {
             Some(read) => read,
             None => parse_tail(alloc, rest, index, offset)?,
         };
@@ -259,20 +261,19 @@ fn parse_tails(
     Ok((entries, offset, rest))
 }
 
-/// The tail offset of the entry `index`, whose bytes begin at `offset`, and what is behind it, where it
-/// takes four bytes at most, as most do. Nothing is said where it is longer, or is none.
+/// The tail offset of an entry whose bytes begin at `offset`, and what is behind it, where it takes four
+/// bytes at most, as most do, and `bounded` tells that no index is 2^64 - 1. Nothing is said where it is
+/// longer, or is none.
 #[inline(always)]
-fn short_tail(bytes: &[u8], index: u64, offset: u32) -> Option<(u32, &[u8])>
-    ensures read { IfSome result (λ read.
+fn short_tail(bytes: &[u8], offset: u32, bounded: bool) -> Option<(u32, &[u8])>
+    ensures read { IfSome result (λ read. (index : ℕ) → index < 2 ^ 64 - 1 →
         Reads (IsTail (index, offset)) bytes.now read.1.now (entry_between index offset read.0)) }
     ensures ends { IfSome result (λ read. offset ≤ read.0) }
-    ensures bounded { IfSome result (λ read. index < 2 ^ 64 - 1) }
+    ensures bounded { OnSome result (IsTrue bounded) }
     ensures shorter { IfSome result (λ read. length read.1.now < length bytes.now) }
 {
     match codec::parse_short_var_u64(bytes) {
-        Some((tail, rest)) if tail >= u64::from(offset) && index < u64::MAX => {
-            Some((tail as u32, rest))
-        }
+        Some((tail, rest)) if bounded && tail >= u64::from(offset) => Some((tail as u32, rest)),
         _ => None,
     }
 }

@@ -1,7 +1,5 @@
 -- Where a run that starts at an index meets the entries.
 use Rattle.std.specs.Prelude.{◌≡◌, ◌⊎◌, ℕ, ◌≤◌, true, false, List, [], length, take}
-use Rattle.raft_base.specs.declared.errors.Error.{Error}
-use Rattle.raft_base.specs.declared.errors.Error.TheVariants as errors
 use Rattle.raft_base.specs.declared.pipe_log.LogQueue.{LogQueue}
 use Rattle.raft_base.specs.declared.pipe_log.LogQueue.TheVariants.{Rewrite}
 use Rattle.raft_base.specs.declared.entry_index.EntryIndex.{EntryIndex}
@@ -19,9 +17,3 @@ IsStart es i starts.BehindHole = (leaves_hole (end_of es) i ≡ true) × (starts
 -- how many entries stay under a run from an index on that is read again: those below it; none where it starts in front of all, or in the rewrite queue behind a hole
 abbrev pub IsKeptUnder : LogQueue → List EntryIndex → ℕ → ℕ → Type 0
 IsKeptUnder queue es i n = IsStart es i (starts.Joins n) ⊎ ((n ≡ 0) × IsStart es i starts.InFront) ⊎ ((n ≡ 0) × (queue ≡ Rewrite) × IsStart es i starts.BehindHole)
-
--- a refusal by the start rule, or want of memory for its text
-abbrev pub IsStartFault : Error → Type 0
-IsStartFault (errors.Corruption text) = Unit {0}
-IsStartFault errors.Memory = Unit {0}
-IsStartFault _ = ⊥

@@ -1,4 +1,5 @@
 use Rattle.std.proofs.Common.{◌-◌, ◌≤◌, ◌<◌, arith, inr, length}
+use Rattle.std.proofs.lemmas.Bool.{leb-true}
 use Rattle.std.proofs.lemmas.Result.{err_from_is_err_and}
 use Rattle.raft_base.specs.Reading.{Reads}
 use Rattle.raft_records.specs.Grammar.{IsTail}
@@ -23,7 +24,7 @@ returns-in_err-tail-in-None-clause-fault c =
 -- what was read, by either reader
 read : (c : goal.After-push_reserved) → Reads (IsTail (c.loop.index, c.loop.offset)) c.loop.rest.now c.match-short_tail.tail.1.now (entry_between c.loop.index c.loop.offset c.match-short_tail.tail.0) × (c.loop.offset ≤ c.match-short_tail.tail.0) × (length c.match-short_tail.tail.1.now < length c.loop.rest.now)
 read c = elim c.match-short_tail.branch [
-  | in-Some w ↦ rw w.tail-is (w.in-Some.ensures.read, w.in-Some.ensures.ends, w.in-Some.ensures.shorter)
+  | in-Some w ↦ rw w.tail-is (w.in-Some.ensures.read c.loop.index (let b : c.args.count ≤ 18446744073709551615 - c.args.first = leb-true _ _ w.in-Some.ensures.bounded in omega (arith, b, c.loop.invariant.4, c.loop-test.true)), w.in-Some.ensures.ends, w.in-Some.ensures.shorter)
   | in-None+in_ok-tail-in-None w ↦ rw w.tail-is (w.in_ok-tail-in-None.ensures.ok, w.in_ok-tail-in-None.ensures.ends, w.in_ok-tail-in-None.ensures.shorter)
 ]
 
@@ -35,6 +36,7 @@ loop-preserved c =
       omega (arith, c.push_reserved.ensures.len, so.1),
       omega (arith, c.push_reserved.ensures.capacity, so.2),
       omega (arith, so.3, r.2),
+      omega (arith, so.4),
     )
 
 pub returns-clause-size : goal.returns-clause-size

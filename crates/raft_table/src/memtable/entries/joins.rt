@@ -1,6 +1,6 @@
 //! Runs that become entries, and entries behind or between others.
 
-ghost use Rattle.std.specs.Prelude.{◌≡◌, ◌≢◌, ◌+◌, ◌≤◌, ◌<◌, ℕ, [], ◌++◌, length, take, drop, slice_index_or, Some, MatchBool, OnOk, OnErr, IfOk};
+ghost use Rattle.std.specs.Prelude.{◌≡◌, ◌≢◌, ◌+◌, ◌≤◌, ◌<◌, ℕ, [], ◌++◌, length, take, drop, slice_index_or, Some, MatchBool, OnOk, OnErr, OnSome, IfOk, IfSome};
 ghost use Rattle.raft_base.specs.declared.pipe_log.LogQueue.TheVariants.{Rewrite};
 ghost use Rattle.raft_base.specs.declared.entry_index.EntryIndex.{EntryIndex};
 ghost use Rattle.raft_table.specs.Blocks.{spread};
@@ -74,9 +74,10 @@ impl Entries {
     {
         let alloc = *self.blocks.allocator();
         let first = run[0];
-        if let Some(handle) = first.entries {
-            if keep == self.len && count_of(&handle, run, 0) == run.len() {
-                let spans = spans_of(alloc, run)?;
+        if let Some(handle) = first.entries
+            && keep == self.len
+        {
+            if let Some(spans) = spans_within(alloc, &handle, run)? {
                 return self.push(first.index, handle, spans);
             }
         }
@@ -219,4 +220,24 @@ fn spans_of(alloc: Global, run: &[EntryIndex]) -> Result<VecDeque<(u32, u32)>, A
         spans.push_reserved((entry.entry_offset, entry.entry_len));
     }
     Ok(VecDeque::from_vec(spans))
+}
+
+/// Where the entries of a run stand in a block, if they all stand in it.
+fn spans_within(
+    alloc: Global,
+    handle: &FileBlockHandle,
+    run: &[EntryIndex],
+) -> Result<Option<VecDeque<(u32, u32)>>, AllocError>
+    ensures spans { IfOk result (λ within. IfSome within (λ spans. spans.items ≡ spans_of run.now)) }
+    ensures all { IfOk result (λ within. OnSome within ((j : ℕ) (d : EntryIndex) → j < length run.now
+        → (slice_index_or run.now j d).entries ≡ Some handle.now)) }
+{
+    let mut spans = Vec::with_capacity(alloc, run.len())?;
+    for entry in run {
+        if !stands_in(entry, handle) {
+            return Ok(None);
+        }
+        spans.push_reserved((entry.entry_offset, entry.entry_len));
+    }
+    Ok(Some(VecDeque::from_vec(spans)))
 }

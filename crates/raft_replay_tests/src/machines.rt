@@ -116,72 +116,82 @@ fn join(alloc: Global, left: Plan, right: Plan) -> Result<Plan> {
     Ok(Plan::Join(Box::new(alloc, left)?, Box::new(alloc, right)?))
 }
 
-/// Five segments drawn by two workers make four pieces, merged by pairs and one by one.
-fn schedules(alloc: Global) -> Result<bool> {
-    let five = segments(alloc, 5)?;
-    let draws = [0, 1, 1, 0, 1];
-    let one = join(alloc, Plan::One, Plan::One)?;
-    let pairs = join(alloc, one, join(alloc, Plan::One, Plan::One)?)?;
-    let mut chain = Plan::One;
-    for _ in 0..3 {
-        chain = join(alloc, Plan::One, chain)?;
-    }
-    for plan in [&pairs, &chain] {
-        let list = replay_scheduled(
-            alloc,
-            &Lists,
-            five.as_slice(),
-            LogQueue::Append,
-            2,
-            &draws,
-            plan,
-        )?;
-        if !has_all(&list, 5) {
-            return Ok(false);
-        }
-    }
-    let none = segments(alloc, 0)?;
-    let list = replay_scheduled(
-        alloc,
-        &Lists,
-        none.as_slice(),
-        LogQueue::Append,
-        2,
-        &draws,
-        &pairs,
-    )?;
-    Ok(has_all(&list, 0))
+/// The plan that merges four pieces by pairs.
+fn pairs(alloc: Global) -> Result<Plan> {
+    let left = join(alloc, Plan::One, Plan::One)?;
+    let right = join(alloc, Plan::One, Plan::One)?;
+    join(alloc, left, right)
 }
 
-/// Whether five segments and a plan of three pieces are refused where the draws make four, where a third worker draws
-/// and where there are 0 or 257 workers, and are read else.
-fn misfits(alloc: Global) -> Result<bool> {
+/// The plan that merges so many pieces one by one.
+fn chain(alloc: Global, pieces: usize) -> Result<Plan> {
+    let mut chain = Plan::One;
+    for _ in 1..pieces {
+        chain = join(alloc, Plan::One, chain)?;
+    }
+    Ok(chain)
+}
+
+/// The batches of segments that some workers draw so.
+fn scheduled(
+    alloc: Global,
+    segments: &[Segment],
+    workers: usize,
+    draws: &[usize],
+    plan: &Plan,
+) -> Result<List> {
+    replay_scheduled(
+        alloc,
+        &Lists,
+        segments,
+        LogQueue::Append,
+        workers,
+        draws,
+        plan,
+    )
+}
+
+/// Whether this many segments, drawn by two workers as if they were five, have all batches.
+fn is_read(alloc: Global, count: u64, plan: &Plan) -> Result<bool> {
+    let segments = segments(alloc, count)?;
+    let list = scheduled(alloc, segments.as_slice(), 2, &[0, 1, 1, 0, 1], plan)?;
+    Ok(has_all(&list, count))
+}
+
+/// Five segments drawn by two workers make four pieces, merged by pairs and one by one.
+fn schedules(alloc: Global) -> Result<bool> {
+    let pairs = pairs(alloc)?;
+    Ok(
+        is_read(alloc, 5, &pairs)?
+            && is_read(alloc, 5, &chain(alloc, 4)?)?
+            && is_read(alloc, 0, &pairs)?,
+    )
+}
+
+/// Whether five segments have all batches where these workers draw so and a plan merges three pieces, if they aren't
+/// refused.
+fn has_all_batches(alloc: Global, workers: usize, draws: &[usize]) -> Result<Option<bool>> {
     let five = segments(alloc, 5)?;
-    let two = join(alloc, Plan::One, Plan::One)?;
-    let three = join(alloc, Plan::One, two)?;
-    for (workers, draws, fits) in [
-        (2, [0, 1, 1, 0, 1], false),
-        (2, [0, 2, 2, 0, 0], false),
-        (0, [0, 1, 1, 0, 0], false),
-        (2, [0, 1, 1, 0, 0], true),
-        (256, [0, 1, 1, 0, 0], true),
-        (257, [0, 1, 1, 0, 0], false),
+    let three = chain(alloc, 3)?;
+    match scheduled(alloc, five.as_slice(), workers, draws, &three) {
+        Ok(list) => Ok(Some(has_all(&list, 5))),
+        Err(Error::InvalidArgument(_text)) => Ok(None),
+        Err(error) => Err(error),
+    }
+}
+
+/// Whether they are refused where the draws make four pieces, where a third worker draws and where there are 0 or 257
+/// workers, and are read else.
+fn misfits(alloc: Global) -> Result<bool> {
+    for (workers, draws, read) in [
+        (2, [0, 1, 1, 0, 1], None),
+        (2, [0, 2, 2, 0, 0], None),
+        (0, [0, 1, 1, 0, 0], None),
+        (2, [0, 1, 1, 0, 0], Some(true)),
+        (256, [0, 1, 1, 0, 0], Some(true)),
+        (257, [0, 1, 1, 0, 0], None),
     ] {
-        let queue = LogQueue::Append;
-        let fit = match replay_scheduled(
-            alloc,
-            &Lists,
-            five.as_slice(),
-            queue,
-            workers,
-            &draws,
-            &three,
-        ) {
-            Ok(list) => fits && has_all(&list, 5),
-            Err(Error::InvalidArgument(_text)) => !fits,
-            Err(error) => return Err(error),
-        };
-        if !fit {
+        if has_all_batches(alloc, workers, draws.as_slice())? != read {
             return Ok(false);
         }
     }
@@ -275,9 +285,7 @@ fn merges<R: Threads + Clock + Send + Sync + Copy + Drop>(rt: &R, alloc: Global)
     for _ in 0..4 {
         machines.push(gate.new_target(alloc)?)?;
     }
-    let one = join(alloc, Plan::One, Plan::One)?;
-    let pairs = join(alloc, one, join(alloc, Plan::One, Plan::One)?)?;
-    merge_pieces(rt, machines, &pairs, LogQueue::Append)?;
+    merge_pieces(rt, machines, &pairs(alloc)?, LogQueue::Append)?;
     Ok(gate.seen.load(Ordering::SeqCst))
 }
 

@@ -1,6 +1,6 @@
 //! A machine that writes down what was replayed and merged.
 
-use crate::machines::{join, segments};
+use crate::machines::{chain, pairs, segments};
 use crate::waits::WaitGate;
 use raft_base::{Error, Factory, FileId, LogQueue, Result};
 use raft_records::LogItemBatch;
@@ -64,17 +64,6 @@ impl Factory<Brackets> for Dots {
     }
 }
 
-/// Four pieces merged by pairs, and from the last one on.
-fn plans(alloc: Global) -> Result<(Plan, Plan)> {
-    let one = join(alloc, Plan::One, Plan::One)?;
-    let pairs = join(alloc, one, join(alloc, Plan::One, Plan::One)?)?;
-    let mut chain = Plan::One;
-    for _ in 0..3 {
-        chain = join(alloc, Plan::One, chain)?;
-    }
-    Ok((pairs, chain))
-}
-
 /// What is written down where two workers draw five segments.
 fn scheduled(alloc: Global, draws: &[usize], plan: &Plan) -> Result<String> {
     let five = segments(alloc, 5)?;
@@ -94,23 +83,38 @@ fn merged<R: Threads + Sync>(rt: &R, alloc: Global, count: usize, plan: &Plan) -
 
 /// Whether pieces are made as the draws say, and merged as both plans say.
 fn go_by_plan<R: Threads + Sync>(rt: &R, alloc: Global) -> Result<bool> {
-    let (pairs, chain) = plans(alloc)?;
-    let draws = [0, 1, 1, 0, 1];
     Ok(
-        scheduled(alloc, &draws, &pairs)?.as_str() == "((././/)(././))"
-            && scheduled(alloc, &draws, &chain)?.as_str() == "(./(.//(././)))"
-            && merged(rt, alloc, 4, &pairs)?.as_str() == "((..)(..))"
-            && merged(rt, alloc, 4, &chain)?.as_str() == "(.(.(..)))",
+        is_merged(rt, alloc, &pairs(alloc)?, "((././/)(././))", "((..)(..))")?
+            && is_merged(
+                rt,
+                alloc,
+                &chain(alloc, 4)?,
+                "(./(.//(././)))",
+                "(.(.(..)))",
+            )?,
+    )
+}
+
+/// Whether this is written down of five segments that are drawn in turns, and that of four new machines.
+fn is_merged<R: Threads + Sync>(
+    rt: &R,
+    alloc: Global,
+    plan: &Plan,
+    drawn: &str,
+    new: &str,
+) -> Result<bool> {
+    Ok(
+        scheduled(alloc, &[0, 1, 1, 0, 1], plan)?.as_str() == drawn
+            && merged(rt, alloc, 4, plan)?.as_str() == new,
     )
 }
 
 /// Whether worker 0 draws behind the end of the draws, and no plan of four pieces merges another number of them.
 fn end_by_rule<R: Threads + Sync>(rt: &R, alloc: Global) -> Result<bool> {
-    let two = join(alloc, Plan::One, Plan::One)?;
-    if scheduled(alloc, &[1], &two)?.as_str() != "(././///)" {
+    if scheduled(alloc, &[1], &chain(alloc, 2)?)?.as_str() != "(././///)" {
         return Ok(false);
     }
-    let (pairs, _chain) = plans(alloc)?;
+    let pairs = pairs(alloc)?;
     for count in [0, 3, 5] {
         match merged(rt, alloc, count, &pairs) {
             Err(Error::InvalidArgument(_)) => {}

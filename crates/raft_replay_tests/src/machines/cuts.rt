@@ -8,7 +8,7 @@ use std::alloc::Global;
 
 /// How many batches of 24 bytes stand in a part, how many bytes that are no header behind them, into how many parts it is
 /// to be cut, and how long those are that it is cut into.
-const CUTS: [(usize, usize, usize, &[usize]); 9] = [
+static CUTS: [(usize, usize, usize, &[usize]); 9] = [
     (0, 0, 4, &[0]),
     (4, 0, 0, &[96]),
     (4, 0, 1, &[96]),
@@ -20,6 +20,22 @@ const CUTS: [(usize, usize, usize, &[usize]); 9] = [
     (0, 96, 4, &[96]),
 ];
 
+fn cuts() -> &'static [(usize, usize, usize, &'static [usize])] {
+    &CUTS
+}
+
+/// So many batches, and so many bytes that are no header behind them.
+fn bytes_of(alloc: Global, batches: usize, behind: usize) -> Result<Vec<u8>> {
+    let mut bytes = Vec::new(alloc);
+    for _ in 0..batches {
+        bytes.extend_from_slice(CLEAN.as_slice())?;
+    }
+    for _ in 0..behind {
+        bytes.push(255)?;
+    }
+    Ok(bytes)
+}
+
 /// Whether a part from 100 on is cut so, each of its parts at the offset behind the one before.
 fn is_cut(
     alloc: Global,
@@ -28,13 +44,7 @@ fn is_cut(
     count: usize,
     lengths: &[usize],
 ) -> Result<bool> {
-    let mut bytes = Vec::new(alloc);
-    for _ in 0..batches {
-        bytes.extend_from_slice(CLEAN.as_slice())?;
-    }
-    for _ in 0..behind {
-        bytes.push(255)?;
-    }
+    let bytes = bytes_of(alloc, batches, behind)?;
     let part = FilePart::new(FileId::new(LogQueue::Append, 1), Version::V1, 100, bytes)?;
     let parts = cut_part(alloc, part, count)?;
     let mut offset = 100u64;
@@ -49,10 +59,10 @@ fn is_cut(
 
 #[test]
 fn parts_are_cut_between_batches(rt: HostRuntime) {
-    for (batches, behind, count, lengths) in CUTS {
-        let mut cut = is_cut(rt.alloc(), batches, behind, count, lengths);
+    for (batches, behind, count, lengths) in cuts() {
+        let mut cut = is_cut(rt.alloc(), *batches, *behind, *count, *lengths);
         if matches!(cut, Err(Error::Memory)) {
-            cut = is_cut(rt.alloc(), batches, behind, count, lengths);
+            cut = is_cut(rt.alloc(), *batches, *behind, *count, *lengths);
         }
         assert!(rt; matches!(cut, Ok(true)), "{batches} {behind} {count}");
     }

@@ -4,7 +4,7 @@ use crate::store::Answer::{Corruption, Done, Dropped, Full, InvalidArgument};
 use crate::store::Call::{
     Append, Compact, Count, Delete, Group, Put, ReplayAppend, ReplayRewrite, Rewrite, RewriteKey,
 };
-use crate::store::{Answer, Call, LogStore, Shape, has, of, told};
+use crate::store::{Answer, Call, LogStore, Run, Shape, has, of, told};
 use raft_table::{Error, LogQueue, Result};
 use std::alloc::Global;
 use std::process::Abort;
@@ -219,6 +219,58 @@ fn calls_change_the_store(rt: HostRuntime) {
     follow(&rt, rt.alloc(), &keys());
     follow(&rt, rt.alloc(), &groups());
     follow(&rt, rt.alloc(), &counted());
+}
+
+/// A run of a queue that is tried, whether it is put, and the store behind it.
+type TriedRow = (LogQueue, Run, bool, Shape);
+
+/// Runs on a store with the entries from 10 on and below 20 in the append queue.
+fn tried_runs() -> [TriedRow; 5] {
+    let before = has(10, 20).appended(10, 1);
+    [
+        (
+            LogQueue::Append,
+            of(20, 25, 2),
+            true,
+            has(10, 25).appended(15, 1),
+        ),
+        (
+            LogQueue::Append,
+            of(15, 18, 2),
+            true,
+            has(10, 18).appended(8, 1),
+        ),
+        (
+            LogQueue::Append,
+            of(5, 8, 2),
+            true,
+            has(5, 8).appended(3, 2),
+        ),
+        (LogQueue::Append, of(21, 25, 2), false, before),
+        (LogQueue::Rewrite, of(20, 25, 2), false, before),
+    ]
+}
+
+/// Tries a run on such a store, and answers whether it was put, and the store behind it.
+fn try_run(alloc: Global, queue: LogQueue, run: Run) -> Result<(bool, Shape)> {
+    let mut store = LogStore::new(alloc);
+    store.direct(Append(of(10, 20, 1)))?;
+    let put = store.try_replay(queue, run)?;
+    Ok((put, store.shape()))
+}
+
+#[test]
+fn runs_are_put_where_they_may(rt: HostRuntime) {
+    for (queue, run, put, shape) in tried_runs() {
+        let mut found = try_run(rt.alloc(), queue, run);
+        if matches!(found, Err(Error::Memory)) {
+            found = try_run(rt.alloc(), queue, run);
+        }
+        assert!(rt;
+            found.is_ok_and(|found| found == (put, shape)),
+            "{queue:?} {run:?}"
+        );
+    }
 }
 
 /// A call on each of two stores, the answer of a merge of their tables, and the first store behind it.

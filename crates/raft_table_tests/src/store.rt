@@ -248,6 +248,15 @@ impl LogStore {
         self.table.replay_into(queue, run, &mut self.stats)
     }
 
+    /// Tries a run that is replayed, once more where it isn't put, as for want of memory. Answers whether it was put.
+    pub fn try_replay(&mut self, queue: LogQueue, run: Run) -> Result<bool> {
+        let entries = self.entries(queue, run)?;
+        Ok(
+            self.table.try_replay(queue, &entries, &mut self.stats)
+                || self.table.try_replay(queue, &entries, &mut self.stats),
+        )
+    }
+
     /// Sets the files of the atomic group; `Failed` where the first is above the last.
     fn set_group(&mut self, start: FileSeq, end: FileSeq) -> Result<()> {
         if start > end {

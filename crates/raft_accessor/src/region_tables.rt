@@ -172,7 +172,7 @@ impl RegionTables {
     }
 
     /// Puts a run that is read again where its region has a table that takes it, and answers where the
-    /// entries of the table ended before.
+    /// entries of the table ended before. Where nothing is answered, tables and counts are as they were.
     pub(crate) fn try_replay_run(
         &mut self,
         queue: LogQueue,

@@ -173,10 +173,11 @@ enum Change {
     Compact(u64),
 }
 
-/// Changes of one table, one behind the other, with their answers, and how many records were then
-/// written to the rewrite queue and how many of those were deleted again.
+/// A change, its answer, and how many records were then written to the rewrite queue and how many of
+/// those were deleted again.
 type Row = (Change, std::result::Result<u64, Fault>, (usize, usize));
 
+/// Changes of one table, one behind the other.
 static COUNTED: [Row; 9] = [
     (Change::Append(10, 20, FIRST), Ok(0), (0, 0)),
     (Change::Rewrite(10, 15, REWRITTEN, Some(1)), Ok(0), (5, 0)),

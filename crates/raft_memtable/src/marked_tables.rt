@@ -104,6 +104,10 @@ impl MarkedTables {
 
     /// Takes in an item that is a run, where its region has a table that takes it, and answers whether it
     /// did. Where it did not, nothing has changed.
+    ///
+    /// # Errors
+    ///
+    /// `AllocError`. The run is then in its table, and not in the mark.
     fn try_run(&mut self, queue: LogQueue, item: &LogItem) -> std::result::Result<bool, AllocError>
         requires { AreStepsOfQueue queue (steps_of_items (item_of item.now ∷ [])) }
         ensures { IfOk result (λ taken. MatchBool taken

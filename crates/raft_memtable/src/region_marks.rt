@@ -167,7 +167,7 @@ impl RegionMarks {
     ///
     /// # Errors
     ///
-    /// `AllocError`.
+    /// `AllocError`. The region's mark may then lack deleted keys, and serves no more.
     pub fn join(
         &mut self,
         id: u64,

@@ -262,8 +262,7 @@ fn parse_tails(
 }
 
 /// The tail offset of an entry whose bytes begin at `offset`, and what is behind it, where it takes four
-/// bytes at most, as most do, and `bounded` tells that no index is 2^64 - 1. Nothing is said where it is
-/// longer, or is none.
+/// bytes at most, as most do, and `bounded` tells that no index is 2^64 - 1. Else nothing is said.
 #[inline(always)]
 fn short_tail(bytes: &[u8], offset: u32, bounded: bool) -> Option<(u32, &[u8])>
     ensures read { IfSome result (λ read. (index : ℕ) → index < 2 ^ 64 - 1 →

@@ -8,10 +8,10 @@ use raft_records::{
 use std::alloc::Global;
 use std::process::Abort;
 
-/// Bytes that begin with no header, and why they are refused. More than one thing is wrong in the
-/// last three rows.
+/// Bytes that begin with no header, and why they are refused.
 type HeaderRow = (&'static [u8], &'static str);
 
+/// More than one thing is wrong in the last three rows.
 static NO_HEADERS: [HeaderRow; 13] = [
     (b"", "Log batch header too short: 0"),
     (b"\x8d\xef\x02\xd2", "Log batch header too short: 4"),

@@ -180,8 +180,8 @@ fn has_all_batches(alloc: Global, workers: usize, draws: &[usize]) -> Result<Opt
     }
 }
 
-/// Whether they are refused where the draws make four pieces, where a third worker draws and where there are 0 or 257
-/// workers, and are read else.
+/// Whether five segments and a plan of three pieces are refused where the draws make four pieces, where a third worker
+/// draws and where there are 0 or 257 workers, and are read else.
 fn misfits(alloc: Global) -> Result<bool> {
     for (workers, draws, read) in [
         (2, [0, 1, 1, 0, 1], None),

@@ -15,11 +15,11 @@ count (b ∷ bs) = length b.spans + count bs
 abbrev pub spans_of : List EntryIndex → List (ℕ × ℕ)
 spans_of es = map (λ e. (e.entry_offset, e.entry_len)) es
 
--- an entry of which is not known yet where it stands in its block
+-- an entry without its span
 abbrev pub unset : EntryIndex → EntryIndex
 unset e = record e { entry_offset = 0; entry_len = 0 }
 
--- entries, the first of which get these places in their block
+-- entries, the first of which get these spans
 abbrev pub with_spans : List (ℕ × ℕ) → List EntryIndex → List EntryIndex
 with_spans [] es = es
 with_spans (s ∷ ss) [] = []

@@ -36,8 +36,8 @@ impl MemTableAccessor {
     }
 
     /// Puts a run that is read again where its region has a table that takes it, and answers where the
-    /// entries of the table ended before. Nothing is answered where there is no table, or no room, or
-    /// where [`MemTableAccessor::replay_run`] refuses. All tables are then as they were.
+    /// entries of the table ended before. Nothing is answered where there is no table, nor where
+    /// [`MemTableAccessor::replay_run`] refuses, as for want of memory. All tables are then as they were.
     pub fn try_replay_run(&mut self, queue: LogQueue, id: u64, run: &[EntryIndex]) -> Option<u64>
         requires run { IsRunIn queue run.now }
         ensures changed { IsTableChanged (after_replay queue (table_in self.old.tables id) run.now) (λ e. ⊥)

@@ -46,7 +46,7 @@ pub(super) fn find(starts: &VecDeque<u64>, first: u64, len: usize, index: u64) -
 }
 
 /// Behind how many of `count` blocks of one length an index stands, if they have `len` entries from
-/// the index `first` on.
+/// the index `first` on. Wrong numbers make a wrong guess, and no fault.
 fn guess(first: u64, len: usize, count: usize, index: u64) -> usize {
     let behind = index.saturating_sub(first);
     (behind.saturating_mul(count as u64) / (len as u64).max(1)) as usize

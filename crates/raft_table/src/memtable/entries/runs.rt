@@ -89,6 +89,7 @@ impl Entries {
     }
 
     /// Does what [`Entries::replay_run`] does where nothing hinders it, and answers whether it did.
+    /// Where it did not, the entries and the counts are as they were.
     pub fn try_replay_run(
         &mut self,
         run: &[EntryIndex],
@@ -148,7 +149,7 @@ impl Entries {
     }
 
     /// How many entries, from the first on, stay under a run from `index` on that is read again, by
-    /// the start rule of the replays into `rule`. That refuses the run where nothing is answered.
+    /// the start rule of the replays into `rule`. Nothing is answered where that refuses the run.
     fn kept_under(&self, rule: LogQueue, index: u64) -> Option<usize>
         ensures kept { MatchOption result (IsStart self.now index Start.BehindHole × (rule ≡ Append))
             (IsKeptUnder rule self.now index) }

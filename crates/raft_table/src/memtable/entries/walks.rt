@@ -16,8 +16,8 @@ use std::collections::VecDeque;
 /// Appends the entries behind the first `start`, among the first `end`, to a vector with room for
 /// them. The first of them stands at `place`, the first of all blocks has the index `first`.
 ///
-/// The entries come first, and their spans are set behind: those lie in a place of their own for each
-/// block, and a walk that does little else has them all brought from memory at once.
+/// The entries come first, and a second walk sets their spans: those lie in a place of their own for
+/// each block, and a walk that does little else can have those of several brought from memory at once.
 pub(super) fn push_parts(
     vec: &mut Vec<EntryIndex>,
     first: u64,

@@ -234,8 +234,10 @@ fn count(alloc: Global) -> Result<bool> {
     )
 }
 
-fn last_index(accessor: &mut MemTableAccessor, region: u64) -> Result<Option<u64>> {
-    Ok(accessor.get_or_insert(region)?.last_index())
+/// The region and the last index of the table that is handed out for a region.
+fn handed_out(accessor: &mut MemTableAccessor, region: u64) -> Result<(u64, Option<u64>)> {
+    let table = accessor.get_or_insert(region)?;
+    Ok((table.region_id(), table.last_index()))
 }
 
 /// The regions whose tables have no entry.
@@ -253,7 +255,7 @@ fn blank_regions(alloc: Global, accessor: &MemTableAccessor) -> Result<Vec<u64>>
 fn walk(alloc: Global) -> Result<bool> {
     let mut accessor = appended(alloc, 7)?;
     for (region, last) in [(7, Some(19)), (8, None), (9, None)] {
-        if last_index(&mut accessor, region)? != last {
+        if handed_out(&mut accessor, region)? != (region, last) {
             return Ok(false);
         }
     }

@@ -37,7 +37,7 @@ pub(crate) fn check_batch(
     let items = batch.iter().as_slice();
     match file.queue {
         LogQueue::Append => {
-            if !are_in_file(items, file) {
+            if !is_read_in(batch, file) && !are_in_file(items, file) {
                 return Err(Error::Corruption(format!(in alloc;
                     "an item can't stand in a batch of its file"
                 )?));
@@ -48,7 +48,17 @@ pub(crate) fn check_batch(
     }
 }
 
-/// The same of the items of a batch of the rewrite queue.
+/// Whether the batch was decoded in the file, so that its items stand there.
+fn is_read_in(batch: &LogItemBatch, file: FileId) -> bool
+    ensures { IsTrue result → AreInFile file batch.now }
+{
+    match batch.read_in() {
+        Some(read_in) => read_in == file,
+        None => false,
+    }
+}
+
+/// The same as [`check_batch`] of the items of a batch of the rewrite queue.
 fn check_rewrite_batch(
     alloc: Global,
     items: &[LogItem],

@@ -1,6 +1,6 @@
 //! Batches of log items, without entry bytes.
 
-ghost use Rattle.std.specs.Prelude.{◌≡◌, ◌≢◌, ℕ, ◌+◌, ◌%◌, ◌^◌, ◌<◌, ◌≤◌, length, Option, List, [], ◌∷◌, ◌++◌, map, Some, None, IfOk, IfErr, OnOk, OnErr, ◌↔◌, IsTrue};
+ghost use Rattle.std.specs.Prelude.{◌≡◌, ◌≢◌, ℕ, ◌+◌, ◌%◌, ◌^◌, ◌<◌, ◌≤◌, length, Option, List, [], ◌∷◌, ◌++◌, map, Some, None, IfOk, IfErr, IfSome, OnOk, OnErr, ◌↔◌, IsTrue};
 ghost use Rattle.std.specs.Vec.Iter.{into_iter_items};
 ghost use Rattle.std.specs.Slice.Iter.{iter_rest};
 ghost use Rattle.raft_base.specs.declared.pipe_log.Version.TheVariants.{V2};
@@ -24,7 +24,7 @@ use crate::{Command, CompressionType, EntryIndex, LogItem, LogItemContent, OpTyp
 use byteorder::{ByteOrder, LittleEndian};
 use raft_base::codec::BytesSlice;
 use raft_base::util::crc32;
-use raft_base::{Error, FileBlockHandle, LogFileContext, Message, Result, codec};
+use raft_base::{Error, FileBlockHandle, FileId, LogFileContext, Message, Result, codec};
 use std::alloc::{AllocError, Global};
 use std::marker::Model;
 use std::{mem, slice, vec};
@@ -40,6 +40,8 @@ pub struct LogItemBatch {
     entries_size: u32,
     /// The CRC of the encoded items, where it is known.
     checksum: Option<u32>,
+    /// The file in whose bytes all items were read, where nothing has changed since.
+    read_in: Option<FileId>,
 }
 
 impl Model for LogItemBatch {
@@ -65,6 +67,7 @@ impl LogItemBatch {
             item_size: 0,
             entries_size: 0,
             checksum: None,
+            read_in: None,
         }
     }
 
@@ -79,6 +82,7 @@ impl LogItemBatch {
             item_size: 0,
             entries_size: 0,
             checksum: None,
+            read_in: None,
         })
     }
 
@@ -109,6 +113,14 @@ impl LogItemBatch {
             signature (map bare self.now) [] }
     {
         let _count = self.items.len();
+    }
+
+    /// The file that the batch was decoded in, as long as no item was added, moved or placed since: so
+    /// nobody needs to test whether the items may stand there. A batch made otherwise has none.
+    pub fn read_in(&self) -> Option<FileId>
+        ensures { IfSome result (λ file. AreReadIn file self.now) }
+    {
+        self.read_in
     }
 
     /// How many bytes the entries of all items have together.
@@ -238,9 +250,11 @@ impl LogItemBatch {
         self.item_size = self.item_size.saturating_add(rhs.item_size);
         self.entries_size += rhs.entries_size;
         self.checksum = None;
+        self.read_in = None;
         rhs.item_size = 0;
         rhs.entries_size = 0;
         rhs.checksum = None;
+        rhs.read_in = None;
         Ok(())
     }
 
@@ -254,6 +268,7 @@ impl LogItemBatch {
         self.item_size = 0;
         self.entries_size = 0;
         self.checksum = None;
+        self.read_in = None;
         items.into_iter()
     }
 
@@ -261,6 +276,7 @@ impl LogItemBatch {
     pub(crate) fn place(&mut self, block: FileBlockHandle, compression_type: CompressionType)
         ensures { self.new ≡ map (placed block compression_type) self.old }
     {
+        self.read_in = None;
         place_items(&mut self.items, block, compression_type);
     }
 
@@ -321,7 +337,17 @@ impl LogItemBatch {
         let (count, behind) = codec::parse_var_u64(content)?;
         let (batch, rest) = parse_items(alloc, behind, count, entries, compression_type)?;
         *buf = rest;
-        Ok(batch)
+        Ok(batch.with_file(entries.id))
+    }
+
+    /// The same items, with the file in which they were read beside them.
+    #[inline(always)]
+    fn with_file(mut self, file: FileId) -> LogItemBatch
+        requires { AreReadIn file self }
+        ensures { result ≡ self }
+    {
+        self.read_in = Some(file);
+        self
     }
 
     /// Adds an item whose entries' bytes, if any, begin where those of the batch end, and end at
@@ -341,6 +367,7 @@ impl LogItemBatch {
         self.item_size = self.item_size.saturating_add(size);
         self.entries_size = entries_size;
         self.checksum = None;
+        self.read_in = None;
         Ok(())
     }
 }
@@ -383,6 +410,7 @@ impl Clone for LogItemBatch {
             item_size: self.item_size,
             entries_size: self.entries_size,
             checksum: self.checksum,
+            read_in: self.read_in,
         })
     }
 }

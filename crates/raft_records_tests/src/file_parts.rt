@@ -1,7 +1,7 @@
 //! Batches read one after another, whole and damaged.
 
 use raft_records::{
-    Error, FileBlockHandle, FileId, FilePart, LogItemContent, LogQueue, Result, Version, next_batch,
+    Command, Error, FileBlockHandle, FileId, FilePart, LogItemContent, LogQueue, Result, Version, next_batch,
 };
 use std::alloc::Global;
 use std::process::Abort;
@@ -73,6 +73,7 @@ fn batches_stand_one_behind_the_other(rt: &impl Abort, alloc: Global) -> Result<
         assert!(rt; counted(&part, at)? == read, "at {at}");
     }
     assert!(rt; has_block(&part)?);
+    assert!(rt; knows_its_file(&part)?);
     Ok(())
 }
 
@@ -88,6 +89,16 @@ fn has_block(part: &FilePart) -> Result<bool> {
         len: 7,
     };
     Ok(place(part)? == Some(block))
+}
+
+/// Whether the first batch knows the file that it was read in, until an item is added.
+fn knows_its_file(part: &FilePart) -> Result<bool> {
+    let Some((mut batch, _)) = next_batch(part, 0)? else {
+        return Ok(false);
+    };
+    let read_in = batch.read_in();
+    batch.add_command(1, Command::Clean)?;
+    Ok(read_in == Some(file()) && batch.read_in().is_none())
 }
 
 #[test]
@@ -107,14 +118,14 @@ fn damaged_batches_are_refused(rt: &impl Abort, alloc: Global) -> Result<()> {
         assert!(rt; is_refused(alloc, bytes)?, "{len} bytes");
     }
     for at in 0..FIRST {
-        assert!(rt; is_flip_seen(alloc, at)?, "at {at}");
+        assert!(rt; is_flip_row(alloc, at)?, "at {at}");
     }
     Ok(())
 }
 
 /// Whether the first batch is refused with this byte's lowest bit flipped, or read where the byte is in its
 /// entry block.
-fn is_flip_seen(alloc: Global, at: usize) -> Result<bool> {
+fn is_flip_row(alloc: Global, at: usize) -> Result<bool> {
     let mut bytes = *BATCHES;
     if let Some(byte) = bytes.get_mut(at) {
         *byte ^= 1;

@@ -221,56 +221,102 @@ fn calls_change_the_store(rt: HostRuntime) {
     follow(&rt, rt.alloc(), &counted());
 }
 
-/// A run of a queue that is tried, whether it is put, and the store behind it.
-type TriedRow = (LogQueue, Run, bool, Shape);
+/// A call on a store, a run of a queue that is tried then, whether it is put, and the store behind it.
+type TriedRow = (Call, LogQueue, Run, bool, Shape);
 
-/// Runs on a store with the entries from 10 on and below 20 in the append queue.
-fn tried_runs() -> [TriedRow; 5] {
+/// Runs that are tried on a store with the entries from 10 on and below 20 in the append queue.
+fn tried_behind_appended() -> [TriedRow; 5] {
+    let call = Append(of(10, 20, 1));
     let before = has(10, 20).appended(10, 1);
     [
         (
+            call,
             LogQueue::Append,
             of(20, 25, 2),
             true,
             has(10, 25).appended(15, 1),
         ),
         (
+            call,
             LogQueue::Append,
             of(15, 18, 2),
             true,
             has(10, 18).appended(8, 1),
         ),
         (
+            call,
             LogQueue::Append,
             of(5, 8, 2),
             true,
             has(5, 8).appended(3, 2),
         ),
-        (LogQueue::Append, of(21, 25, 2), false, before),
-        (LogQueue::Rewrite, of(20, 25, 2), false, before),
+        (call, LogQueue::Append, of(21, 25, 2), false, before),
+        (call, LogQueue::Rewrite, of(20, 25, 2), false, before),
     ]
 }
 
-/// Tries a run on such a store, and answers whether it was put, and the store behind it.
-fn try_run(alloc: Global, queue: LogQueue, run: Run) -> Result<(bool, Shape)> {
+/// Runs that are tried on a store with the same entries in the rewrite queue, or with room for three more.
+fn tried_otherwise() -> [TriedRow; 4] {
+    let call = ReplayRewrite(of(10, 20, 1));
+    let count = Count(LogQueue::Append, MAX - 3);
+    [
+        (
+            call,
+            LogQueue::Rewrite,
+            of(15, 18, 2),
+            true,
+            has(10, 18).rewritten(13, 5, 1),
+        ),
+        (
+            call,
+            LogQueue::Rewrite,
+            of(21, 25, 2),
+            true,
+            has(21, 25).rewritten(14, 10, 2),
+        ),
+        (
+            call,
+            LogQueue::Append,
+            of(20, 25, 2),
+            false,
+            has(10, 20).rewritten(10, 0, 1),
+        ),
+        (
+            count,
+            LogQueue::Append,
+            of(0, 5, 1),
+            false,
+            has(0, 0).appended(MAX - 3, 0),
+        ),
+    ]
+}
+
+/// Tries a run behind a call, and answers whether it was put, and the store behind it.
+fn try_run(alloc: Global, call: Call, queue: LogQueue, run: Run) -> Result<(bool, Shape)> {
     let mut store = LogStore::new(alloc);
-    store.direct(Append(of(10, 20, 1)))?;
+    store.direct(call)?;
     let put = store.try_replay(queue, run)?;
     Ok((put, store.shape()))
 }
 
-#[test]
-fn runs_are_put_where_they_may(rt: HostRuntime) {
-    for (queue, run, put, shape) in tried_runs() {
-        let mut found = try_run(rt.alloc(), queue, run);
+/// Tries the runs of the rows.
+fn try_each(rt: &impl Abort, alloc: Global, rows: &[TriedRow]) {
+    for (call, queue, run, put, shape) in rows {
+        let mut found = try_run(alloc, *call, *queue, *run);
         if matches!(found, Err(Error::Memory)) {
-            found = try_run(rt.alloc(), queue, run);
+            found = try_run(alloc, *call, *queue, *run);
         }
         assert!(rt;
-            found.is_ok_and(|found| found == (put, shape)),
-            "{queue:?} {run:?}"
+            found.is_ok_and(|found| found == (*put, *shape)),
+            "{call:?} {queue:?} {run:?}"
         );
     }
+}
+
+#[test]
+fn runs_are_put_where_they_may(rt: HostRuntime) {
+    try_each(&rt, rt.alloc(), &tried_behind_appended());
+    try_each(&rt, rt.alloc(), &tried_otherwise());
 }
 
 /// A call on each of two stores, the answer of a merge of their tables, and the first store behind it.

@@ -6,5 +6,5 @@ use Rattle.raft_records.proofs.log_item_batch.LogItemBatch.approximate_size.Goal
 
 pub returns-clause-covers : goal.returns-clause-covers
 returns-clause-covers c small lt =
-    let covers = size_covers c.args.self.now (subst (FitTogether 0) c.self.view_is c.self.invariant.fit) small lt in
-    omega (arith, covers, c.saturating_add.ensures, c.self.invariant.size, ap items_size c.self.view_is)
+    let covers = size_covers c.args.self.now (subst (FitTogether 0) c.self.view_is c.self.invariant.0.fit) small lt in
+    omega (arith, covers, c.saturating_add.ensures, c.self.invariant.0.size, ap items_size c.self.view_is)

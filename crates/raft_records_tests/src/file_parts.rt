@@ -1,7 +1,8 @@
 //! Batches read one after another, whole and damaged.
 
 use raft_records::{
-    Command, Error, FileBlockHandle, FileId, FilePart, LogItemContent, LogQueue, Result, Version, next_batch,
+    Command, Error, FileBlockHandle, FileId, FilePart, LogItemContent, LogQueue, Result, Version,
+    next_batch,
 };
 use std::alloc::Global;
 use std::process::Abort;

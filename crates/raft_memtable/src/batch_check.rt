@@ -37,7 +37,7 @@ pub(crate) fn check_batch(
     let items = batch.iter().as_slice();
     match file.queue {
         LogQueue::Append => {
-            if !is_read_in(batch, file) && !are_in_file(items, file) {
+            if !knows_file(batch, file) && !are_in_file(items, file) {
                 return Err(Error::Corruption(format!(in alloc;
                     "an item can't stand in a batch of its file"
                 )?));
@@ -48,8 +48,9 @@ pub(crate) fn check_batch(
     }
 }
 
-/// Whether the batch was decoded in the file, so that its items stand there.
-fn is_read_in(batch: &LogItemBatch, file: FileId) -> bool
+/// Whether the batch says that it was decoded for this file: then its items may stand there. `false` says
+/// nothing of them.
+fn knows_file(batch: &LogItemBatch, file: FileId) -> bool
     ensures { IsTrue result → AreInFile file batch.now }
 {
     match batch.read_in() {

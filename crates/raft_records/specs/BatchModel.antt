@@ -1,6 +1,5 @@
 -- A batch of items as its list of items.
-use Rattle.std.specs.Prelude.{List, Option, Some, None, map}
-use Rattle.raft_base.specs.declared.pipe_log.FileId.{FileId}
+use Rattle.std.specs.Prelude.{List, IfSome, map}
 use Rattle.raft_records.specs.declared.log_item_batch.LogItemBatch.TheInside.{Inside}
 use Rattle.raft_records.specs.Item.{Item, item_of}
 use Rattle.raft_records.specs.ItemBatch.{IsKeptBeside}
@@ -10,11 +9,6 @@ use Rattle.raft_records.specs.ReadIn.{AreReadIn}
 abbrev pub items_in : Inside → List Item
 items_in b = map item_of b.items.items
 
--- where a file is known that the items were read in, they are as they may stand there
-abbrev pub AreReadInKnown : Option FileId → List Item → Type 0
-AreReadInKnown None items = Unit {0}
-AreReadInKnown (Some file) items = AreReadIn file items
-
--- the items fit together, and what is kept beside them is theirs
+-- the items fit together, and what is kept beside them is theirs; where a file is kept, they are as they may stand there
 abbrev pub IsWellFormed : Inside → Type 0
-IsWellFormed b = IsKeptBeside (items_in b) b.item_size b.entries_size b.checksum × AreReadInKnown b.read_in (items_in b)
+IsWellFormed b = IsKeptBeside (items_in b) b.item_size b.entries_size b.checksum × IfSome b.read_in (λ file. AreReadIn file (items_in b))

@@ -40,7 +40,7 @@ pub struct LogItemBatch {
     entries_size: u32,
     /// The CRC of the encoded items, where it is known.
     checksum: Option<u32>,
-    /// The file in whose bytes all items were read, where nothing has changed since.
+    /// The file of the places that `decode` gave the items, where nothing has changed since.
     read_in: Option<FileId>,
 }
 
@@ -115,8 +115,8 @@ impl LogItemBatch {
         let _count = self.items.len();
     }
 
-    /// The file that the batch was decoded in, as long as no item was added, moved or placed since: so
-    /// nobody needs to test whether the items may stand there. A batch made otherwise has none.
+    /// The file in which `decode` gave the items their places, as long as none was added, moved or placed
+    /// since: they may stand there, so nobody needs to test it. A clone has the same, any other batch none.
     pub fn read_in(&self) -> Option<FileId>
         ensures { IfSome result (λ file. AreReadIn file self.now) }
     {
@@ -317,7 +317,8 @@ impl LogItemBatch {
     /// Reads the item batch that the whole slice is, in the file of `context`. Every entry gets the
     /// place `entries` and the compression type, every key value the file of `entries`. The slice then
     /// holds the bytes between the last item and the checksum, which are free. On `Err` it is as it
-    /// was. Entries are consecutive, and a `Put` has a value: nobody needs to test it again.
+    /// was. Entries are consecutive, and a `Put` has a value: nobody needs to test it again. The batch
+    /// keeps the file of `entries` ([`LogItemBatch::read_in`]).
     pub fn decode(
         alloc: Global,
         buf: &mut BytesSlice<'_>,
@@ -340,7 +341,7 @@ impl LogItemBatch {
         Ok(batch.with_file(entries.id))
     }
 
-    /// The same items, with the file in which they were read beside them.
+    /// The same items, with the file of their places beside them.
     #[inline(always)]
     fn with_file(mut self, file: FileId) -> LogItemBatch
         requires { AreReadIn file self }

@@ -255,7 +255,8 @@ fn tried_behind_appended() -> [TriedRow; 5] {
     ]
 }
 
-/// Runs that are tried on a store with the same entries in the rewrite queue, or with room for three more.
+/// Runs that are tried on a store with the entries from 10 on and below 20 in the rewrite queue, or on one without
+/// entries that has room for three.
 fn tried_otherwise() -> [TriedRow; 4] {
     let call = ReplayRewrite(of(10, 20, 1));
     let count = Count(LogQueue::Append, MAX - 3);

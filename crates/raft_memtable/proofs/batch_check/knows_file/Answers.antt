@@ -2,7 +2,7 @@ use Rattle.std.proofs.Common.{rules, ◌≡◌, subst}
 use Rattle.raft_base.specs.declared.pipe_log.FileId.{FileId}
 use Rattle.raft_records.specs.ReadIn.{AreReadIn}
 use Rattle.raft_history.proofs.ReadItemLemmas.{items_in_file}
-use Rattle.raft_memtable.proofs.batch_check.is_read_in.Goals as goal
+use Rattle.raft_memtable.proofs.batch_check.knows_file.Goals as goal
 
 pub returns-in-Some : goal.returns-in-Some
 returns-in-Some c = λ same.

@@ -9,13 +9,13 @@ use Rattle.raft_history.specs.Histories.{IsSmall, Sound}
 use Rattle.raft_history.proofs.StretchOfHistory.{small_front, small_back, sound_front, sound_back}
 use Rattle.raft_replay.specs.declared.piece.Piece.{Piece}
 use Rattle.raft_replay.specs.Covers.{IsPiece, covers, covering}
-use Rattle.raft_replay.specs.Draws.{Draw, AreBelow, HasEnded}
+use Rattle.raft_tickets.specs.Draws.{Draw, AreBelow, HasEnded}
 use Rattle.raft_replay.specs.Replays.{HasReplayed, CannotFollow}
 use Rattle.raft_replay.specs.Segments.{ReadsParts, ReadsSegments, CannotBeRead}
-use Rattle.raft_replay.specs.Weights.{occurrences}
+use Rattle.raft_tickets.specs.Weights.{occurrences}
 use Rattle.raft_replay.proofs.MachineOrderLemmas.{each_join, each_cut, each_single}
 use Rattle.raft_replay.proofs.SegmentLemmas.{segments_unique}
-use Rattle.raft_replay.proofs.WeightLemmas.{weigh-append}
+use Rattle.raft_tickets.proofs.WeightLemmas.{weigh-append}
 
 -- ---- what one piece covers
 

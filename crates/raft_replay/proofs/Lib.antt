@@ -1,10 +1,8 @@
 pub mod CoverLemmas
 pub mod CutPartLemmas
-pub mod DrawingLemmas
 pub mod MachineOrderLemmas
 pub mod LiningLemmas
 pub mod MergeLemmas
 pub mod MidwayLemmas
 pub mod SegmentLemmas
-pub mod WeightLemmas
 pub mod WorkedLemmas

@@ -16,7 +16,7 @@ use Rattle.raft_replay.specs.Covers.{IsPieceOf, covers, covering, CoverOnce}
 use Rattle.raft_replay.specs.MachineOrder.{AreInOrder}
 use Rattle.raft_replay.specs.PieceMerges.{concatenated}
 use Rattle.raft_replay.specs.Segments.{ReadsParts, ReadsSegments}
-use Rattle.raft_replay.specs.Weights.{weigh}
+use Rattle.raft_tickets.specs.Weights.{weigh}
 use Rattle.raft_replay.proofs.CoverLemmas.{covers_inside, covers_below, covers_behind, covers_none}
 use Rattle.raft_replay.proofs.MachineOrderLemmas.{each_join}
 

@@ -12,11 +12,11 @@ use Rattle.raft_history.specs.Batches.{Event}
 use Rattle.raft_replay.specs.declared.piece.Piece.{Piece}
 use Rattle.raft_replay.specs.declared.workers.Worked.{Worked}
 use Rattle.raft_replay.specs.Covers.{IsPieceOf, covers, IsDone, AreDone, Gives}
-use Rattle.raft_replay.specs.Draws.{TicketBook, Drawer, IsSeatOf, HasEnded, once_below, IsOpenRefusal}
+use Rattle.raft_tickets.specs.Draws.{TicketBook, Drawer, IsSeatOf, HasEnded, once_below, IsOpenRefusal}
 use Rattle.raft_replay.specs.Segments.{CannotBeRead}
-use Rattle.raft_replay.specs.Weights.{weigh, occurrences}
+use Rattle.raft_tickets.specs.Weights.{weigh, occurrences}
 use Rattle.raft_replay.specs.WorkedWords.{IsBack, HasRefusal}
-use Rattle.raft_replay.proofs.WeightLemmas.{weigh-append}
+use Rattle.raft_tickets.proofs.WeightLemmas.{weigh-append}
 
 -- what is true of all is true of one
 pub all_at : {X : Type 0} (P : X → Type 0) (xs front : List X) (x : X) (rest : List X) → All P xs → xs ≡ front ++ x ∷ rest → P x

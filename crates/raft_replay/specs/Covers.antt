@@ -7,9 +7,9 @@ use Rattle.raft_records.specs.FilePart.{Part}
 use Rattle.raft_history.specs.Batches.{Event}
 use Rattle.raft_history.specs.Histories.{IsSmall}
 use Rattle.raft_replay.specs.declared.piece.Piece.{Piece}
-use Rattle.raft_replay.specs.Draws.{TicketBook, Drawer, IsSeatOf, HasEnded}
+use Rattle.raft_tickets.specs.Draws.{TicketBook, Drawer, IsSeatOf, HasEnded}
 use Rattle.raft_replay.specs.Segments.{ReadsSegments, CannotBeRead}
-use Rattle.raft_replay.specs.Weights.{weigh, occurrences}
+use Rattle.raft_tickets.specs.Weights.{weigh, occurrences}
 
 -- a machine that stands exactly for so many segments from this one on
 pub record IsPiece {M : Type 0} (stands_exactly : M → List Event → Type 0) (segments : List (Vec Part Global)) (from count : ℕ) (machine : M) : Type 0 where

@@ -1,14 +1,9 @@
 pub mod Covers
 pub mod Cuts
-pub mod Draws
-pub mod Drawing
 pub mod MachineOrder
 pub mod PieceMerges
 pub mod Plans
 pub mod Replays
 pub mod Schedules
 pub mod Segments
-pub mod TicketModel
-pub mod TicketSeatModel
-pub mod Weights
 pub mod WorkedWords

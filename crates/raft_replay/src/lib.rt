@@ -2,15 +2,12 @@
 #![tactic(auto)]
 
 pub mod cutting;
-mod drawing;
 pub mod gate;
 mod piece;
 pub mod pieces;
 pub mod plan;
 pub mod scheduled;
 pub mod segment;
-pub mod ticket_seat;
-pub mod tickets;
 pub mod workers;
 
 pub use cutting::cut_part;
@@ -18,8 +15,7 @@ pub use gate::{Gate, OpenGate};
 pub use pieces::merge_pieces;
 pub use plan::Plan;
 pub use raft_history::ReplayMachine;
+pub use raft_tickets::{TicketSeat, Tickets, ticket_seat, tickets};
 pub use scheduled::{piece_count, replay_scheduled};
 pub use segment::{Segment, replay_segment, segments_read_as_one_history};
-pub use ticket_seat::TicketSeat;
-pub use tickets::Tickets;
 pub use workers::{MAX_WORKERS, replay_segments};

@@ -24,7 +24,7 @@ ghost use Rattle.std.specs.Global.{Global};
 ghost use Rattle.raft_records.specs.FilePart.{Part};
 ghost use Rattle.raft_table.specs.Start.{IsInvalidArgument};
 ghost use Rattle.raft_replay.specs.Covers.{IsPieceOf, CoverOnce, AreDone, Gives};
-ghost use Rattle.raft_replay.specs.Draws.{TicketBook, IsSeatOf, IsNewSeatOf};
+ghost use Rattle.raft_tickets.specs.Draws.{TicketBook, IsSeatOf, IsNewSeatOf};
 ghost use Rattle.raft_replay.specs.WorkedWords.{IsBack, HasRefusal};
 ghost use Rattle.raft_replay.specs.Segments.{CannotBeRead, SegmentsAreOf};
 ghost use Rattle.raft_replay.specs.Replays.{IsReplayed};

@@ -3,7 +3,7 @@ use Rattle.std.specs.Global.{Global}
 use Rattle.raft_records.specs.FilePart.{Part}
 use Rattle.raft_replay.specs.declared.workers.Worked.{Worked}
 use Rattle.raft_replay.specs.Covers.{AreDone}
-use Rattle.raft_replay.specs.Draws.{TicketBook}
+use Rattle.raft_tickets.specs.Draws.{TicketBook}
 use Rattle.raft_replay.specs.WorkedWords.{IsBack}
 use Rattle.raft_replay.proofs.workers.gather.Given as goal
 

@@ -1,7 +1,7 @@
 use Rattle.std.proofs.Common.{◌≡◌, ℕ, ◌-◌, ◌<◌, All, length}
 use Rattle.raft_replay.specs.Covers.{IsPieceOf, covering}
-use Rattle.raft_replay.specs.Draws.{AreBelow, IsSeatOf}
-use Rattle.raft_replay.specs.Weights.{occurrences}
+use Rattle.raft_tickets.specs.Draws.{AreBelow, IsSeatOf}
+use Rattle.raft_tickets.specs.Weights.{occurrences}
 use Rattle.raft_replay.proofs.CoverLemmas.{bound}
 use Rattle.raft_replay.proofs.workers.replay_drawn.Given as goal
 

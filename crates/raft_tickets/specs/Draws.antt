@@ -4,7 +4,6 @@ use Rattle.std.specs.Coded.{Coded, code_by, coded×, coded_ℕ, coded_list}
 use Rattle.atomic_table.specs.Seated.{TableId, table_id_coded}
 use Rattle.raft_base.specs.declared.errors.Error.{Error}
 use Rattle.raft_base.specs.declared.errors.Error.TheVariants as errors
-use Rattle.raft_records.specs.Faults.{IsMemory}
 
 -- a seat: where it draws, how many numbers are answered there, and the numbers that it drew, in order
 pub record Drawer : Type 0 where
@@ -75,4 +74,5 @@ once_below x n = if nat_lt x n then 1 else 0
 -- no seats, or too many of them or of numbers
 abbrev pub IsOpenRefusal : ℕ → ℕ → Error → Type 0
 IsOpenRefusal total seats (errors.InvalidArgument text) = (seats ≡ 0) ⊎ (2 ^ 62 ≤ seats) ⊎ (2 ^ 62 ≤ total)
-IsOpenRefusal total seats e = IsMemory e
+IsOpenRefusal total seats errors.Memory = Unit {0}
+IsOpenRefusal total seats e = ⊥

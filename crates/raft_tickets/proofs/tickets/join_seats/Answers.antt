@@ -1,7 +1,7 @@
 use Rattle.std.proofs.Common.{◌≡◌, [], ◌∷◌, ◌∙◌, arith}
-use Rattle.raft_replay.specs.Draws.{Drawer}
-use Rattle.raft_replay.proofs.DrawingLemmas.{one_fewer, All-front}
-use Rattle.raft_replay.proofs.tickets.join_seats.Goals as goal
+use Rattle.raft_tickets.specs.Draws.{Drawer}
+use Rattle.raft_tickets.proofs.DrawingLemmas.{one_fewer, All-front}
+use Rattle.raft_tickets.proofs.tickets.join_seats.Goals as goal
 
 pub loop-other-preserved : goal.loop-other-preserved
 loop-other-preserved c = let popped = c.in-Some.ensures.items in record {

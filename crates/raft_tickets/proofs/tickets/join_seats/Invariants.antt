@@ -1,6 +1,6 @@
 use Rattle.std.proofs.Common.{◌≡◌, ℕ, ◌+◌, List, All, vec_len}
-use Rattle.raft_replay.specs.Weights.{weigh}
-use Rattle.raft_replay.proofs.tickets.join_seats.Given as goal
+use Rattle.raft_tickets.specs.Weights.{weigh}
+use Rattle.raft_tickets.proofs.tickets.join_seats.Given as goal
 
 abbrev pub invariant-loop-other : goal.invariant-loop-other
 invariant-loop-other l = record {

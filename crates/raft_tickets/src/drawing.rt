@@ -20,7 +20,7 @@ pub(crate) struct Drawing;
 
 impl TableRule<(), Lists, Sizes> for Drawing {
     ghost use Rattle.std.specs.Prelude.{[], replicate};
-    ghost use Rattle.raft_replay.specs.Drawing.{IsDrawn};
+    ghost use Rattle.raft_tickets.specs.Drawing.{IsDrawn};
 
     ghost holds = { λ sizes s. IsDrawn sizes.total sizes.seats s.words s.views };
 
@@ -32,7 +32,7 @@ pub(crate) struct Draws;
 
 impl Play<(), Lists> for Draws {
     ghost use Rattle.std.specs.Prelude.{◌≡◌};
-    ghost use Rattle.raft_replay.specs.Drawing.{HasDrawn};
+    ghost use Rattle.raft_tickets.specs.Drawing.{HasDrawn};
 
     ghost then = { λ _ me n after. HasDrawn me.0 n after.0 × (after.1 ≡ me.1) };
 }

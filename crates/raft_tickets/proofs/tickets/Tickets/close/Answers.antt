@@ -1,10 +1,10 @@
 use Rattle.std.proofs.Common.{◌≡◌, ◌+◌, [], ◌∷◌, length, ap, ◌∙◌, arith}
 use Rattle.std.proofs.lemmas.List.{length_push}
 use Rattle.std.specs.Slots.{slots_items}
-use Rattle.raft_replay.specs.Draws.{Drawer, TicketBook}
-use Rattle.raft_replay.specs.Weights.{occurrences}
-use Rattle.raft_replay.proofs.DrawingLemmas.{closed_draws, one_fewer}
-use Rattle.raft_replay.proofs.tickets.Tickets.close.Goals as goal
+use Rattle.raft_tickets.specs.Draws.{Drawer, TicketBook}
+use Rattle.raft_tickets.specs.Weights.{occurrences}
+use Rattle.raft_tickets.proofs.DrawingLemmas.{closed_draws, one_fewer}
+use Rattle.raft_tickets.proofs.tickets.Tickets.close.Goals as goal
 
 pub returns : goal.returns
 returns c x =

@@ -1,7 +1,7 @@
 use Rattle.std.proofs.Common.{ℕ, List, [], ◌∷◌, ap, ◌∙◌}
-use Rattle.raft_replay.specs.Draws.{Drawer}
-use Rattle.raft_replay.proofs.DrawingLemmas.{joins, weigh_joined}
-use Rattle.raft_replay.proofs.tickets.join_seat.Goals as goal
+use Rattle.raft_tickets.specs.Draws.{Drawer}
+use Rattle.raft_tickets.proofs.DrawingLemmas.{joins, weigh_joined}
+use Rattle.raft_tickets.proofs.tickets.join_seat.Goals as goal
 
 pub join_seat-requires : goal.join_seat-requires
 join_seat-requires c = (

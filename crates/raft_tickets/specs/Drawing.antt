@@ -1,7 +1,7 @@
 -- The rule of the word from which seats draw. A view has the list of numbers of each seat that it stands for.
 use Rattle.std.specs.Prelude.{◌≡◌, ℕ, ◌+◌, ◌^◌, ◌<◌, ◌≤◌, List, [], ◌∷◌, ◌++◌, Bool, true, false, if◌then◌else◌, nat_le, length, slice_index}
-use Rattle.raft_replay.specs.Draws.{AreBelow, Rises, HasEnded, once_below}
-use Rattle.raft_replay.specs.Weights.{weigh, occurrences}
+use Rattle.raft_tickets.specs.Draws.{AreBelow, Rises, HasEnded, once_below}
+use Rattle.raft_tickets.specs.Weights.{weigh, occurrences}
 
 -- how many lists there are
 abbrev pub lists_in : List (List ℕ) → ℕ

@@ -1,8 +1,8 @@
 use Rattle.std.proofs.Common.{◌≡◌, sym, ap, ◌∙◌, subst, arith}
-use Rattle.raft_replay.specs.Drawing.{only, Continues}
-use Rattle.raft_replay.specs.Draws.{AreBelow, Drawer, TicketBook}
-use Rattle.raft_replay.proofs.DrawingLemmas.{draws, goes_on_drawing, ends_drawing, rises_still}
-use Rattle.raft_replay.proofs.tickets.Tickets.draw.Goals as goal
+use Rattle.raft_tickets.specs.Drawing.{only, Continues}
+use Rattle.raft_tickets.specs.Draws.{AreBelow, Drawer, TicketBook}
+use Rattle.raft_tickets.proofs.DrawingLemmas.{draws, goes_on_drawing, ends_drawing, rises_still}
+use Rattle.raft_tickets.proofs.tickets.Tickets.draw.Goals as goal
 
 -- the seat's total is that of the tickets
 totals : {d : Drawer} {t : TicketBook} {e : Drawer} {u : TicketBook} → d ≡ e → e.total ≡ u.total → t ≡ u → d.total ≡ t.total

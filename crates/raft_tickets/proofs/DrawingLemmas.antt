@@ -5,10 +5,10 @@ use Rattle.std.proofs.lemmas.List.{drop-replicate, get_or_append_left}
 use mathlib.Core.Option.{some, some-injective, some-ne-none}
 use lib.ListN.{get_elem?}
 use Rattle.atomic_table.specs.Table.{State, Me, keeps, Allows, Splits, Joins}
-use Rattle.raft_replay.specs.Weights.{weigh, occurrences}
-use Rattle.raft_replay.specs.Draws.{Drawer, AreBelow, AreAbove, Rises, once_below}
-use Rattle.raft_replay.specs.Drawing.{lists_in, occurrences_in, passed, passed_in, IsDrawn, HasDrawn, only, Continues, IsDrawer}
-use Rattle.raft_replay.proofs.WeightLemmas.{weigh-append, weigh-set, weigh_at, weigh_cut, weigh-replicate, weigh_le, weigh_all_of_one}
+use Rattle.raft_tickets.specs.Weights.{weigh, occurrences}
+use Rattle.raft_tickets.specs.Draws.{Drawer, AreBelow, AreAbove, Rises, once_below}
+use Rattle.raft_tickets.specs.Drawing.{lists_in, occurrences_in, passed, passed_in, IsDrawn, HasDrawn, only, Continues, IsDrawer}
+use Rattle.raft_tickets.proofs.WeightLemmas.{weigh-append, weigh-set, weigh_at, weigh_cut, weigh-replicate, weigh_le, weigh_all_of_one}
 
 abbrev pub Views : Type 0
 Views = List (List (List ℕ))

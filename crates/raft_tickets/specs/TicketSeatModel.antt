@@ -1,8 +1,8 @@
 -- A seat as its table, the total and the numbers that it drew.
 use Rattle.std.specs.Prelude.{◌≡◌, []}
-use Rattle.raft_replay.specs.declared.ticket_seat.TicketSeat.TheInside.{Inside}
-use Rattle.raft_replay.specs.Drawing.{IsDrawer, only}
-use Rattle.raft_replay.specs.Draws.{Drawer}
+use Rattle.raft_tickets.specs.declared.ticket_seat.TicketSeat.TheInside.{Inside}
+use Rattle.raft_tickets.specs.Drawing.{IsDrawer, only}
+use Rattle.raft_tickets.specs.Draws.{Drawer}
 
 -- the seat as its callers see it
 abbrev pub drawer_in : Inside → Drawer

@@ -1,7 +1,7 @@
 -- Tickets as their table, the total and the number of seats.
 use Rattle.std.specs.Prelude.{◌≡◌, ◌<◌}
-use Rattle.raft_replay.specs.declared.tickets.Tickets.TheInside.{Inside}
-use Rattle.raft_replay.specs.Draws.{TicketBook}
+use Rattle.raft_tickets.specs.declared.tickets.Tickets.TheInside.{Inside}
+use Rattle.raft_tickets.specs.Draws.{TicketBook}
 
 -- the tickets as their callers see them
 abbrev pub book_in : Inside → TicketBook

@@ -18,8 +18,8 @@ ghost use Rattle.std.specs.Prelude.{
   vec_len,
 };
 ghost use Rattle.atomic_table.specs.Seated.{TableId};
-ghost use Rattle.raft_replay.specs.Draws.{IsSeatOf, IsNewSeatOf, Rises, Draw, once_below, IsOpenRefusal};
-ghost use Rattle.raft_replay.specs.Weights.{weigh, occurrences};
+ghost use Rattle.raft_tickets.specs.Draws.{IsSeatOf, IsNewSeatOf, Rises, Draw, once_below, IsOpenRefusal};
+ghost use Rattle.raft_tickets.specs.Weights.{weigh, occurrences};
 
 use crate::TicketSeat;
 use crate::drawing::{Both, Drawing, Draws, First, Lists, Sizes};
@@ -39,13 +39,13 @@ pub struct Tickets {
 }
 
 impl Model for Tickets {
-    ghost use Rattle.raft_replay.specs.Draws.{TicketBook, ticket_book_code};
+    ghost use Rattle.raft_tickets.specs.Draws.{TicketBook, ticket_book_code};
 
     ghost Value = { TicketBook };
 
     ghost coded = { ticket_book_code };
 
-    ghost use Rattle.raft_replay.specs.TicketModel.{book_in, IsOpen};
+    ghost use Rattle.raft_tickets.specs.TicketModel.{book_in, IsOpen};
 
     ghost view = { book_in };
 

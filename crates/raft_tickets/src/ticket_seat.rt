@@ -13,13 +13,13 @@ pub struct TicketSeat {
 }
 
 impl Model for TicketSeat {
-    ghost use Rattle.raft_replay.specs.Draws.{Drawer, drawer_code};
+    ghost use Rattle.raft_tickets.specs.Draws.{Drawer, drawer_code};
 
     ghost Value = { Drawer };
 
     ghost coded = { drawer_code };
 
-    ghost use Rattle.raft_replay.specs.TicketSeatModel.{drawer_in, DrawsOnward};
+    ghost use Rattle.raft_tickets.specs.TicketSeatModel.{drawer_in, DrawsOnward};
 
     ghost view = { drawer_in };
 

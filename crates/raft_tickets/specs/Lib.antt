@@ -1,0 +1,5 @@
+pub mod Draws
+pub mod Drawing
+pub mod TicketModel
+pub mod TicketSeatModel
+pub mod Weights

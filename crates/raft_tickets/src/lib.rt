@@ -1,0 +1,9 @@
+//! Numbers from 0 on, which threads draw, each once.
+#![tactic(auto)]
+
+mod drawing;
+pub mod ticket_seat;
+pub mod tickets;
+
+pub use ticket_seat::TicketSeat;
+pub use tickets::Tickets;

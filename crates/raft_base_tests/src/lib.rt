@@ -1,4 +1,4 @@
-//! Tests of `raft_base`.
+//! Tests of `raft_base`, and of the crates of numbers, checksums and sizes that it hands on.
 #![tactic(auto)]
 
 #[cfg(test)]

@@ -10,8 +10,13 @@ use raft_records::{
 };
 use std::alloc::Global;
 
+/// Two files of the append queue.
+pub(crate) fn appended(alloc: Global) -> Result<[FilePart; 2]> {
+    Ok([first(alloc)?, second(alloc)?])
+}
+
 /// File 1 of the append queue: a batch of three regions.
-pub(crate) fn first(alloc: Global) -> Result<FilePart> {
+fn first(alloc: Global) -> Result<FilePart> {
     let mut batch = LogBatch::default(alloc);
     batch.add_entries::<Proposals>(
         7,
@@ -28,7 +33,7 @@ pub(crate) fn first(alloc: Global) -> Result<FilePart> {
 }
 
 /// File 2: other entries of region 7 from 11 on; those of region 8 are done with, and region 9 goes.
-pub(crate) fn second(alloc: Global) -> Result<FilePart> {
+fn second(alloc: Global) -> Result<FilePart> {
     let mut batch = LogBatch::default(alloc);
     batch.add_entries::<Proposals>(
         7,
@@ -40,17 +45,23 @@ pub(crate) fn second(alloc: Global) -> Result<FilePart> {
 }
 
 /// Two files of the rewrite queue, with one group over a batch in each: they take effect together.
-pub(crate) fn group(alloc: Global) -> Result<Vec<FilePart>> {
+pub(crate) fn group(alloc: Global) -> Result<[FilePart; 2]> {
     let mut group = AtomicGroupBuilder::with_id(1);
     let mut begin = LogBatch::default(alloc);
     group.begin(&mut begin)?;
-    begin.add_entries::<Proposals>(7, &[Proposal::new(8, "put x 0")])?;
-    let begin = file_of(alloc, LogQueue::Rewrite, 1, begin)?;
+    let begin = rewritten(alloc, 1, begin, Proposal::new(8, "put x 0"))?;
     let mut end = LogBatch::default(alloc);
     group.end(&mut end)?;
-    end.add_entries::<Proposals>(7, &[Proposal::new(9, "put y 0")])?;
-    let end = file_of(alloc, LogQueue::Rewrite, 2, end)?;
-    Ok(vec![in alloc; begin, end]?)
+    let end = rewritten(alloc, 2, end, Proposal::new(9, "put y 0"))?;
+    Ok([begin, end])
+}
+
+/// A file of the rewrite queue with this batch alone, to which an entry of region 7 is added.
+fn rewritten(alloc: Global, seq: FileSeq, mut batch: LogBatch, entry: Proposal) -> Result<FilePart>
+    requires { batch.stage ≡ populating }
+{
+    batch.add_entries::<Proposals>(7, &[entry])?;
+    file_of(alloc, LogQueue::Rewrite, seq, batch)
 }
 
 /// Entries of a region in a batch that was written to a file of the append queue.

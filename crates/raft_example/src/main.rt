@@ -6,39 +6,63 @@ mod files;
 mod proposal;
 mod sharing;
 
-use raft_memtable::{MemTable, MemTableRecoverContext, TableChange};
+use raft_memtable::{MemTable, MemTableAccessor, MemTableRecoverContext, TableChange};
 use raft_records::{EntryIndex, Error, FileId, FilePart, LogBatch, LogQueue, Result, next_batch};
 use raft_recover::{Segment, print_recovered, recover};
 use std::alloc::Global;
 
 fn main(rt: HostRuntime) -> Result<()> {
     let alloc = rt.alloc();
-    let mut segments = Vec::new(alloc);
-    for file in [files::first(alloc)?, files::second(alloc)?] {
-        segments.push(vec![in alloc; file]?)?;
-    }
+    let segments = segments(alloc)?;
     println!(rt; "the append queue, read by two workers:")?;
     let mut tables = recover(&rt, alloc, segments.as_slice(), LogQueue::Append, 2)?;
-    print_recovered(alloc, &tables, &mut rt.stdout())?;
+    print_and_compact(&rt, &mut tables, segments.as_slice())?;
+    read_group(&rt)?;
+    read_both_queues(&rt)?;
+    println!(rt; "two threads append to shared tables, and fetch:")?;
+    sharing::append_and_fetch(&rt, alloc, tables)
+}
+
+/// The files of the append queue, a segment each.
+fn segments(alloc: Global) -> Result<Vec<Segment>> {
+    let mut segments = Vec::new(alloc);
+    for file in files::appended(alloc)? {
+        segments.push(vec![in alloc; file]?)?;
+    }
+    Ok(segments)
+}
+
+/// Prints tables, looks region 7 up, and drops its entries below 12.
+fn print_and_compact(
+    rt: &HostRuntime,
+    tables: &mut MemTableAccessor,
+    segments: &[Segment],
+) -> Result<()> {
+    print_recovered(rt.alloc(), tables, &mut rt.stdout())?;
     if let Some(table) = tables.get(7) {
-        print_table(&rt, table, segments.as_slice())?;
+        print_table(rt, table, segments)?;
     }
     let dropped = tables.change(7, TableChange::Compact { index: 12 })?;
     println!(rt; "region 7: dropped {dropped} below 12")?;
+    Ok(())
+}
 
+/// Reads the rewrite queue, and prints its tables.
+fn read_group(rt: &HostRuntime) -> Result<()> {
     println!(rt; "a group of the rewrite queue, read batch by batch:")?;
-    let group = files::group(alloc)?;
-    let rewritten = read_parts(alloc, &group)?.finish()?;
-    print_recovered(alloc, &rewritten, &mut rt.stdout())?;
+    let tables = read_parts(rt.alloc(), &files::group(rt.alloc())?)?.finish()?;
+    print_recovered(rt.alloc(), &tables, &mut rt.stdout())?;
+    Ok(())
+}
 
+/// Reads both queues, puts the tables of the append queue over those of the rewrite queue, and prints them.
+fn read_both_queues(rt: &HostRuntime) -> Result<()> {
     println!(rt; "the append queue over the rewrite queue:")?;
-    let mut context = read_parts(alloc, &group)?;
-    let appended = [files::first(alloc)?, files::second(alloc)?];
-    context.merge_append_context(read_parts(alloc, &appended)?)?;
+    let alloc = rt.alloc();
+    let mut context = read_parts(alloc, &files::group(alloc)?)?;
+    context.merge_append_context(read_parts(alloc, &files::appended(alloc)?)?)?;
     print_recovered(alloc, &context.finish()?, &mut rt.stdout())?;
-
-    println!(rt; "two threads append to shared tables, and fetch:")?;
-    sharing::append_and_fetch(&rt, alloc, tables)
+    Ok(())
 }
 
 /// A context of all batches of these parts.

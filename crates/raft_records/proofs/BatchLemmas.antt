@@ -5,18 +5,18 @@ use Rattle.std.specs.Int.Bits.{xor_assoc, xor_self, xor_zero_l}
 use Rattle.std.proofs.lemmas.Nat.{xor_of_32}
 use Rattle.byteorder.specs.Endian.{little_bytes}
 use Rattle.std.specs.List.{flat_map}
-use Rattle.raft_base.specs.Checksum.{crc32_of}
+use Rattle.raft_checksum.specs.Checksum.{crc32_of}
 use Rattle.raft_base.specs.declared.pipe_log.FileBlockHandle.{FileBlockHandle}
 use Rattle.raft_base.specs.declared.pipe_log.FileId.{FileId}
 use Rattle.std.proofs.lemmas.List.{append_cancel_left, length-append, length-map}
 use Rattle.std.proofs.lemmas.List.Edits.{map_over_more}
 use Rattle.raft_base.specs.declared.errors.Error.{Error}
-use Rattle.raft_base.specs.Reading.{Reads, HasNoFront, HasOneFront, IsFollowedBy, IsSequence, state_after}
-use Rattle.raft_base.specs.Varint.{IsVarint, varint}
-use Rattle.raft_base.proofs.VarintLemmas.{varint_one_front, varint_some}
-use Rattle.raft_base.proofs.ReadingLemmas.{reads_pair, no_first, no_second, pair_one_front}
-use Rattle.raft_base.proofs.FixedLemmas.{IsReadAgain-little_bytes}
-use Rattle.raft_base.proofs.SequenceLemmas.{reads_more, stuck, sequence_one_front, fault_after}
+use Rattle.raft_codec.specs.Reading.{Reads, HasNoFront, HasOneFront, IsFollowedBy, IsSequence, state_after}
+use Rattle.raft_codec.specs.Varint.{IsVarint, varint}
+use Rattle.raft_codec.proofs.VarintLemmas.{varint_one_front, varint_some}
+use Rattle.raft_codec.proofs.ReadingLemmas.{reads_pair, no_first, no_second, pair_one_front}
+use Rattle.raft_codec.proofs.FixedLemmas.{IsReadAgain-little_bytes}
+use Rattle.raft_codec.proofs.SequenceLemmas.{reads_more, stuck, sequence_one_front, fault_after}
 use Rattle.raft_base.specs.declared.compression_type.CompressionType.{CompressionType}
 use Rattle.raft_base.specs.declared.entry_index.EntryIndex.{EntryIndex}
 use Rattle.raft_records.specs.declared.key_value.OpType.{OpType}

@@ -2,8 +2,8 @@
 use Rattle.std.proofs.Common.{◌≡◌, ◌≢◌, ℕ, ◌+◌, ◌-◌, ◌*◌, ◌^◌, ◌<◌, ◌≤◌, List, [], ◌∷◌, ◌++◌, length, take, drop, Option, None, refl, sym, ap, ◌∙◌, subst, append_assoc, arith}
 use Rattle.std.proofs.lemmas.List.{length-append, length-drop, length-take-le, take-append-drop, take_at, drop_at, take_all}
 use Rattle.byteorder.specs.Endian.{big_bytes}
-use Rattle.raft_base.specs.Checksum.{crc32_of}
-use Rattle.raft_base.proofs.FixedLemmas.{IsReadAgain-big_bytes}
+use Rattle.raft_checksum.specs.Checksum.{crc32_of}
+use Rattle.raft_codec.proofs.FixedLemmas.{IsReadAgain-big_bytes}
 use Rattle.raft_base.specs.declared.compression_type.CompressionType.{CompressionType}
 use Rattle.raft_base.specs.declared.compression_type.CompressionType.TheVariants as compressions
 use Rattle.raft_base.specs.Compression.{compression_byte}

@@ -1,9 +1,9 @@
 -- On the bytes of items and their contents.
 use Rattle.std.proofs.Common.{◌≡◌, ℕ, List, ◌∷◌, ◌++◌, refl, sym, ap, ◌∙◌, subst, arith}
-use Rattle.raft_base.specs.Reading.{Reads, HasNoFront, HasOneFront, IsTagged, IsFollowedBy}
-use Rattle.raft_base.specs.Varint.{IsVarint}
-use Rattle.raft_base.proofs.VarintLemmas.{varint_one_front}
-use Rattle.raft_base.proofs.ReadingLemmas.{reads_as, reads_tagged, reads_pair, no_first, no_second, pair_one_front, tagged_at, no_tagged, tagged_same, tagged_one_front}
+use Rattle.raft_codec.specs.Reading.{Reads, HasNoFront, HasOneFront, IsTagged, IsFollowedBy}
+use Rattle.raft_codec.specs.Varint.{IsVarint}
+use Rattle.raft_codec.proofs.VarintLemmas.{varint_one_front}
+use Rattle.raft_codec.proofs.ReadingLemmas.{reads_as, reads_tagged, reads_pair, no_first, no_second, pair_one_front, tagged_at, no_tagged, tagged_same, tagged_one_front}
 use Rattle.raft_base.specs.declared.entry_index.EntryIndex.{EntryIndex}
 use Rattle.raft_records.specs.declared.command.Command.{Command}
 use Rattle.raft_records.specs.declared.command.Command.TheVariants.{Clean, Compact}

@@ -1,11 +1,11 @@
 -- On the bytes of entries.
 use Rattle.std.proofs.Common.{◌≡◌, ℕ, suc, ◌+◌, ◌-◌, ◌^◌, ◌<◌, ◌≤◌, ◌⊎◌, List, [], ◌∷◌, ◌++◌, length, None, refl, sym, ap, ◌∙◌, subst, arith, inl, inr}
-use Rattle.raft_base.specs.Reading.{Reads, HasNoFront, HasOneFront, IsFollowedBy, IsSequence, state_after, IsSequenceFault}
-use Rattle.raft_base.specs.Varint.{IsVarint}
+use Rattle.raft_codec.specs.Reading.{Reads, HasNoFront, HasOneFront, IsFollowedBy, IsSequence, state_after, IsSequenceFault}
+use Rattle.raft_codec.specs.Varint.{IsVarint}
 use Rattle.raft_base.specs.declared.errors.Error.{Error}
-use Rattle.raft_base.proofs.VarintLemmas.{varint_one_front}
-use Rattle.raft_base.proofs.ReadingLemmas.{reads_pair, no_first, no_second, pair_one_front}
-use Rattle.raft_base.proofs.SequenceLemmas.{reads_more, state_after-push, stuck, sequence_one_front, fault_after}
+use Rattle.raft_codec.proofs.VarintLemmas.{varint_one_front}
+use Rattle.raft_codec.proofs.ReadingLemmas.{reads_pair, no_first, no_second, pair_one_front}
+use Rattle.raft_codec.proofs.SequenceLemmas.{reads_more, state_after-push, stuck, sequence_one_front, fault_after}
 use Rattle.raft_base.specs.declared.compression_type.CompressionType.TheVariants as compressions
 use Rattle.raft_base.specs.declared.entry_index.EntryIndex.{EntryIndex}
 use Rattle.raft_records.specs.Grammar.{tail_of, IsTail, behind_entry, AreTails, AreIndexAndTails, IsEntries, end_behind}

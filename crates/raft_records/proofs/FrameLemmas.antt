@@ -3,10 +3,10 @@ use Rattle.std.proofs.Common.{◌≡◌, ◌≢◌, ℕ, ◌+◌, ◌-◌, ◌*�
 use Rattle.std.specs.List.{flat_map}
 use Rattle.std.proofs.lemmas.List.{length-append, length-drop, length-take-le, append_cancel_left, take_at, drop_at, drop-drop, take-append-drop}
 use Rattle.byteorder.specs.Endian.{big_bytes}
-use Rattle.raft_base.specs.Reading.{HasOneFront}
-use Rattle.raft_base.specs.Checksum.{crc32_of}
-use Rattle.raft_base.specs.Varint.{varint}
-use Rattle.raft_base.proofs.FixedLemmas.{IsReadAgain-big_bytes}
+use Rattle.raft_codec.specs.Reading.{HasOneFront}
+use Rattle.raft_checksum.specs.Checksum.{crc32_of}
+use Rattle.raft_codec.specs.Varint.{varint}
+use Rattle.raft_codec.proofs.FixedLemmas.{IsReadAgain-big_bytes}
 use Rattle.raft_base.specs.declared.compression_type.CompressionType.{CompressionType}
 use Rattle.raft_base.specs.declared.compression_type.CompressionType.TheVariants as compressions
 use Rattle.raft_base.specs.Compression.{compression_byte}

@@ -2,9 +2,9 @@
 use Rattle.std.proofs.Common.{◌≡◌, ◌≢◌, ℕ, ◌+◌, ◌-◌, ◌*◌, ◌/◌, ◌%◌, ◌^◌, ◌<◌, ◌≤◌, List, [], ◌++◌, ◌⊎◌, length, take, drop, refl, sym, ap, ◌∙◌, append_assoc, arith}
 use Rattle.std.proofs.lemmas.List.{length-append, length-drop, append_cancel_left, append-nil, take_at, drop_at, take_all, drop_all, drop-drop}
 use Rattle.byteorder.specs.Endian.{big_bytes}
-use Rattle.raft_base.specs.Reading.{Reads, HasNoFront}
-use Rattle.raft_base.specs.Fixed.{IsBig}
-use Rattle.raft_base.proofs.FixedLemmas.{IsReadAgain-big_bytes}
+use Rattle.raft_codec.specs.Reading.{Reads, HasNoFront}
+use Rattle.raft_codec.specs.Fixed.{IsBig}
+use Rattle.raft_codec.proofs.FixedLemmas.{IsReadAgain-big_bytes}
 use Rattle.raft_base.specs.declared.compression_type.CompressionType.{CompressionType}
 use Rattle.raft_base.specs.declared.compression_type.CompressionType.TheVariants.{None}
 use Rattle.raft_base.specs.declared.errors.Error.{Error}

@@ -1,10 +1,10 @@
 -- On the bytes of commands and key values.
 use Rattle.std.proofs.Common.{◌≡◌, ℕ, ◌+◌, ◌<◌, ◌≤◌, List, [], ◌∷◌, ◌++◌, length, take, drop, Option, Some, None, refl, sym, ap, ◌∙◌, subst, arith}
 use Rattle.std.proofs.lemmas.List.{take-append-drop, length-take-le, length-append}
-use Rattle.raft_base.specs.Reading.{Reads, HasNoFront, HasOneFront, IsTagged, IsFollowedBy}
-use Rattle.raft_base.specs.Varint.{IsVarint}
-use Rattle.raft_base.proofs.VarintLemmas.{varint_one_front}
-use Rattle.raft_base.proofs.ReadingLemmas.{reads_as, reads_tagged, reads_pair, no_first, no_second, second_at, pair_one_front, heads, tagged_at, no_tagged, tagged_same, tagged_one_front}
+use Rattle.raft_codec.specs.Reading.{Reads, HasNoFront, HasOneFront, IsTagged, IsFollowedBy}
+use Rattle.raft_codec.specs.Varint.{IsVarint}
+use Rattle.raft_codec.proofs.VarintLemmas.{varint_one_front}
+use Rattle.raft_codec.proofs.ReadingLemmas.{reads_as, reads_tagged, reads_pair, no_first, no_second, second_at, pair_one_front, heads, tagged_at, no_tagged, tagged_same, tagged_one_front}
 use Rattle.raft_records.specs.declared.command.Command.TheVariants.{Compact}
 use Rattle.raft_base.specs.declared.pipe_log.FileId.{FileId}
 use Rattle.raft_records.specs.declared.key_value.OpType.{OpType}

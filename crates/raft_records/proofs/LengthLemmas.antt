@@ -2,8 +2,8 @@
 use Rattle.std.proofs.Common.{◌≡◌, ℕ, ◌+◌, ◌*◌, ◌^◌, ◌<◌, ◌≤◌, List, [], ◌∷◌, ◌++◌, length, Option, Some, None, arith}
 use Rattle.std.specs.List.{flat_map}
 use Rattle.std.proofs.lemmas.List.{length-append}
-use Rattle.raft_base.specs.Varint.{varint}
-use Rattle.raft_base.proofs.VarintLemmas.{varint_spells, varint_some, varint_within}
+use Rattle.raft_codec.specs.Varint.{varint}
+use Rattle.raft_codec.proofs.VarintLemmas.{varint_spells, varint_some, varint_within}
 use Rattle.raft_base.specs.declared.entry_index.EntryIndex.{EntryIndex}
 use Rattle.raft_records.specs.declared.command.Command.TheVariants.{Clean, Compact}
 use Rattle.raft_records.specs.declared.key_value.OpType.{OpType}

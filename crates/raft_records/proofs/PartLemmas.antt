@@ -9,7 +9,7 @@ use Rattle.raft_records.proofs.ItemLemmas.{same_length}
 use Rattle.raft_records.proofs.ReadPlaceLemmas.{items_read}
 use Rattle.std.proofs.lemmas.List.{length-append, length-drop, length-take-le, take-append-drop, take_at, drop-take, drop-drop}
 use Rattle.std.proofs.Math.Seq.{take-add}
-use Rattle.raft_base.specs.Reading.{Reads, HasNoFront}
+use Rattle.raft_codec.specs.Reading.{Reads, HasNoFront}
 use Rattle.raft_base.specs.declared.compression_type.CompressionType.{CompressionType}
 use Rattle.raft_records.specs.Item.{Item, bare, AreInBytes}
 use Rattle.raft_records.specs.ItemBatch.{IsItemBatch, placed}

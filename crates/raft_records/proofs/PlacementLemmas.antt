@@ -3,7 +3,7 @@ use Rattle.std.proofs.Common.{◌≡◌, ℕ, ◌+◌, ◌≤◌, List, [], ◌�
 use Rattle.std.proofs.lemmas.List.{map-append, length_push}
 use Rattle.raft_base.specs.declared.pipe_log.FileBlockHandle.{FileBlockHandle}
 use Rattle.raft_base.specs.declared.pipe_log.FileId.{FileId}
-use Rattle.raft_base.specs.Reading.{Reads, IsSequence}
+use Rattle.raft_codec.specs.Reading.{Reads, IsSequence}
 use Rattle.raft_base.specs.declared.compression_type.CompressionType.{CompressionType}
 use Rattle.raft_base.specs.declared.compression_type.CompressionType.TheVariants as compressions
 use Rattle.raft_base.specs.declared.entry_index.EntryIndex.{EntryIndex}

@@ -1,8 +1,8 @@
 -- On items whose numbers are in range.
 use Rattle.std.proofs.Common.{ℕ, ◌^◌, ◌<◌, List, [], ◌∷◌, ◌++◌, map, length, Option, Some, None, sym, subst}
 use Rattle.std.proofs.lemmas.List.{length-map}
-use Rattle.raft_base.specs.Reading.{IsSequence}
-use Rattle.raft_base.proofs.VarintLemmas.{varint_lt}
+use Rattle.raft_codec.specs.Reading.{IsSequence}
+use Rattle.raft_codec.proofs.VarintLemmas.{varint_lt}
 use Rattle.raft_base.specs.declared.pipe_log.FileBlockHandle.{FileBlockHandle}
 use Rattle.raft_base.specs.declared.pipe_log.FileId.{FileId}
 use Rattle.raft_base.specs.declared.compression_type.CompressionType.{CompressionType}

@@ -4,10 +4,10 @@ use Rattle.std.specs.Prelude.{bit_xor}
 use Rattle.std.specs.Int.Bits.{xor_assoc, xor_self, xor_zero_r}
 use Rattle.std.proofs.lemmas.List.{take-append-drop, length-append, append_cancel_left, append-nil, nil_from_length}
 use Rattle.byteorder.specs.Endian.{little_bytes}
-use Rattle.raft_base.specs.Reading.{Reads}
-use Rattle.raft_base.specs.Fixed.{IsLittle}
-use Rattle.raft_base.specs.Checksum.{crc32_of}
-use Rattle.raft_base.proofs.FixedLemmas.{IsReadAgain-little_bytes}
+use Rattle.raft_codec.specs.Reading.{Reads}
+use Rattle.raft_codec.specs.Fixed.{IsLittle}
+use Rattle.raft_checksum.specs.Checksum.{crc32_of}
+use Rattle.raft_codec.proofs.FixedLemmas.{IsReadAgain-little_bytes}
 use Rattle.raft_records.specs.ItemBatch.{signed, checksum_bytes, HasSeal}
 use Rattle.raft_records.proofs.ItemLemmas.{same_length}
 

@@ -1,7 +1,7 @@
 -- On log batches in their buffers.
 use Rattle.std.proofs.Common.{◌≡◌, ◌≢◌, ◌⊎◌, inl, inr, ℕ, ◌-◌, ◌^◌, ◌<◌, ◌≤◌, List, [], ◌∷◌, ◌++◌, length, take, drop, Option, Result, Ok, Err, OnOk, OnErr, refl, sym, ap, ◌∙◌, subst, arith}
 use Rattle.std.proofs.lemmas.List.{length-append, length-drop, take_at, drop_all, take_all, append-nil, nil_from_length}
-use Rattle.raft_base.specs.Checksum.{crc32_of}
+use Rattle.raft_checksum.specs.Checksum.{crc32_of}
 use Rattle.raft_base.specs.declared.compression_type.CompressionType.TheVariants as compressions
 use Rattle.raft_records.specs.declared.log_batch.BufState.{BufState}
 use Rattle.raft_records.specs.declared.log_batch.BufState.TheVariants as states

@@ -2,9 +2,9 @@
 use Rattle.std.proofs.Common.{◌≡◌, ℕ, ◌+◌, ◌-◌, ◌^◌, ◌<◌, List, [], ◌∷◌, ◌++◌, map, length, Option, Some, None, refl, sym, ap, subst, arith}
 use Rattle.std.specs.List.{flat_map}
 use Rattle.std.proofs.lemmas.List.{append-nil, length-map}
-use Rattle.raft_base.specs.Reading.{IsFollowedBy, IsSequence}
-use Rattle.raft_base.specs.Varint.{IsVarint, varint}
-use Rattle.raft_base.proofs.VarintLemmas.{varint_spells}
+use Rattle.raft_codec.specs.Reading.{IsFollowedBy, IsSequence}
+use Rattle.raft_codec.specs.Varint.{IsVarint, varint}
+use Rattle.raft_codec.proofs.VarintLemmas.{varint_spells}
 use Rattle.raft_base.specs.declared.entry_index.EntryIndex.{EntryIndex}
 use Rattle.raft_records.specs.declared.command.Command.{Command}
 use Rattle.raft_records.specs.declared.command.Command.TheVariants.{Clean, Compact}

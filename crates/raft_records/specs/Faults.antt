@@ -6,9 +6,9 @@ use Rattle.std.specs.Fmt.{decimal}
 use Rattle.raft_base.specs.declared.errors.Error.{Error}
 use Rattle.raft_base.specs.declared.errors.Error.TheVariants as errors
 use Rattle.raft_base.specs.declared.message.MessageError.TheVariants as messages
-use Rattle.raft_base.specs.Errors.{IsIoOf}
-use Rattle.raft_base.specs.Reading.{IsFaultBehind, IsSequenceFault}
-use Rattle.raft_base.specs.Varint.{IsVarint, IsVarintFault}
+use Rattle.raft_codec.specs.Errors.{IsIoOf}
+use Rattle.raft_codec.specs.Reading.{IsFaultBehind, IsSequenceFault}
+use Rattle.raft_codec.specs.Varint.{IsVarint, IsVarintFault}
 use Rattle.raft_base.specs.declared.entry_index.EntryIndex.{EntryIndex}
 use Rattle.raft_base.specs.Corruption.{IsCorruption}
 use Rattle.raft_records.specs.Item.{Pair, Item}

@@ -1,7 +1,7 @@
 -- The bytes of log items, by cases.
 use Rattle.std.specs.Prelude.{◌≡◌, ℕ, ◌+◌, ◌-◌, ◌^◌, ◌<◌, List, [], ◌∷◌, length, Option, Some, None}
-use Rattle.raft_base.specs.Reading.{Reads, IsTagged, IsFollowedBy, IsSequence}
-use Rattle.raft_base.specs.Varint.{IsVarint}
+use Rattle.raft_codec.specs.Reading.{Reads, IsTagged, IsFollowedBy, IsSequence}
+use Rattle.raft_codec.specs.Varint.{IsVarint}
 use Rattle.raft_base.specs.declared.pipe_log.FileId.{FileId}
 use Rattle.raft_base.specs.declared.entry_index.EntryIndex.{EntryIndex}
 use Rattle.raft_records.specs.declared.command.Command.{Command}

@@ -5,9 +5,9 @@ use Rattle.std.specs.List.{flat_map}
 use Rattle.byteorder.specs.Endian.{little_bytes}
 use Rattle.raft_base.specs.declared.errors.Error.{Error}
 use Rattle.raft_base.specs.declared.pipe_log.FileBlockHandle.{FileBlockHandle}
-use Rattle.raft_base.specs.Reading.{IsFollowedBy, IsSequence, IsFaultBehind, IsSequenceFault}
-use Rattle.raft_base.specs.Checksum.{crc32_of}
-use Rattle.raft_base.specs.Varint.{IsVarint, varint}
+use Rattle.raft_codec.specs.Reading.{IsFollowedBy, IsSequence, IsFaultBehind, IsSequenceFault}
+use Rattle.raft_checksum.specs.Checksum.{crc32_of}
+use Rattle.raft_codec.specs.Varint.{IsVarint, varint}
 use Rattle.raft_base.specs.declared.compression_type.CompressionType.{CompressionType}
 use Rattle.raft_base.specs.declared.entry_index.EntryIndex.{EntryIndex}
 use Rattle.raft_base.specs.Corruption.{IsCorruption}

@@ -1,6 +1,6 @@
 -- Log batches as they are read, part by part, and what is promised of that.
 use Rattle.std.specs.Prelude.{◌≢◌, ℕ, ◌-◌, ◌^◌, ◌<◌, List, [], length, map, drop, Option}
-use Rattle.raft_base.specs.Reading.{Reads}
+use Rattle.raft_codec.specs.Reading.{Reads}
 use Rattle.raft_base.specs.declared.compression_type.CompressionType.{CompressionType}
 use Rattle.raft_records.specs.Item.{Item, bare}
 use Rattle.raft_records.specs.Range.{AreInRange}

@@ -1,7 +1,7 @@
 -- The bytes that encoders write: of each number the shortest spelling.
 use Rattle.std.specs.Prelude.{◌≡◌, ℕ, List, [], ◌∷◌, ◌++◌, length, Option, Some, None}
 use Rattle.std.specs.List.{flat_map}
-use Rattle.raft_base.specs.Varint.{varint}
+use Rattle.raft_codec.specs.Varint.{varint}
 use Rattle.raft_base.specs.declared.entry_index.EntryIndex.{EntryIndex}
 use Rattle.raft_records.specs.declared.command.Command.{Command}
 use Rattle.raft_records.specs.declared.command.Command.TheVariants.{Clean, Compact}

@@ -1,7 +1,7 @@
 //! Commands on a region's log.
 
 ghost use Rattle.std.specs.Prelude.{◌≡◌, ◌≢◌, ◌++◌, IfOk, IfErr, OnOk, OnErr};
-ghost use Rattle.raft_base.specs.Reading.{Reads, HasNoFront};
+ghost use Rattle.raft_codec.specs.Reading.{Reads, HasNoFront};
 ghost use Rattle.raft_records.specs.Grammar.{IsCommand};
 ghost use Rattle.raft_records.specs.Faults.{IsCommandFault};
 ghost use Rattle.raft_records.specs.Sizes.{command_size};

@@ -1,11 +1,11 @@
 //! Where the entries of a region's log stand.
 
 ghost use Rattle.std.specs.Prelude.{◌≡◌, ◌≢◌, ◌↔◌, ◌-◌, ◌^◌, ◌<◌, ◌≤◌, List, ◌++◌, map, length, IsTrue, IfOk, IfErr, IfSome, OnOk, OnErr, OnSome, ℕ};
-ghost use Rattle.raft_base.specs.Reading.{Reads, HasNoFront};
+ghost use Rattle.raft_codec.specs.Reading.{Reads, HasNoFront};
 ghost use Rattle.raft_records.specs.Grammar.{IsEntries, IsTail, AreTails, end_behind};
 ghost use Rattle.raft_records.specs.Faults.{IsEntriesFault, IsTailFault, IsTailsFault, IsEntriesRefusal};
 ghost use Rattle.raft_records.specs.Entries.{IsConsecutive, RunOn, AreWritable};
-ghost use Rattle.raft_base.specs.Varint.{varint};
+ghost use Rattle.raft_codec.specs.Varint.{varint};
 ghost use Rattle.raft_records.specs.ItemBatch.{placed_entry, raised_entry, CanRaise};
 ghost use Rattle.raft_records.specs.Placement.{entry_between, file_in, entry_in};
 ghost use Rattle.raft_records.specs.Sizes.{entries_size, saturated};

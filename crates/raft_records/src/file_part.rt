@@ -1,7 +1,7 @@
 //! Parts of files, and the batches in them.
 
 ghost use Rattle.std.specs.Prelude.{◌≡◌, ◌≢◌, ℕ, ◌+◌, ◌^◌, ◌<◌, ◌≤◌, length, take, drop, IfOk, IfErr, IfSome, OnOk, OnErr};
-ghost use Rattle.raft_base.specs.Reading.{HasNoFront};
+ghost use Rattle.raft_codec.specs.Reading.{HasNoFront};
 ghost use Rattle.raft_records.specs.FilePart.{IsPartRefusal, IsNext, IsNextFault, part_signature};
 ghost use Rattle.raft_records.specs.ReadIn.{AreReadIn};
 ghost use Rattle.raft_records.specs.LogBatch.{IsReadable};

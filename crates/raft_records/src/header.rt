@@ -1,8 +1,8 @@
 //! What stands around the items of a log batch: its header, and the block of its entry bytes.
 
 ghost use Rattle.std.specs.Prelude.{◌≡◌, ◌≢◌, ℕ, ◌+◌, ◌≤◌, ◌<◌, ◌^◌, List, ◌++◌, [], length, take, drop, IfOk, IfErr, OnOk, OnErr};
-ghost use Rattle.raft_base.specs.Reading.{Reads, HasNoFront};
-ghost use Rattle.raft_base.specs.Fixed.{IsBig};
+ghost use Rattle.raft_codec.specs.Reading.{Reads, HasNoFront};
+ghost use Rattle.raft_codec.specs.Fixed.{IsBig};
 ghost use Rattle.raft_base.specs.declared.compression_type.CompressionType.TheVariants as compressions;
 ghost use Rattle.raft_records.specs.Header.{IsHeader, IsHeaderFault, IsBlockOf, IsBlockFault};
 ghost use Rattle.raft_records.specs.LogBatch.{header_bytes, entry_block, item_offset, encoded, encoded_length, log_batch_bytes};

@@ -1,7 +1,7 @@
 //! Key values of a region.
 
 ghost use Rattle.std.specs.Prelude.{◌≡◌, ◌≢◌, ◌↔◌, ◌<◌, ◌^◌, ◌++◌, length, None, IsTrue, IfOk, IfErr, OnOk, OnErr};
-ghost use Rattle.raft_base.specs.Reading.{Reads, HasNoFront};
+ghost use Rattle.raft_codec.specs.Reading.{Reads, HasNoFront};
 ghost use Rattle.raft_records.specs.Grammar.{IsByteString, IsKeyAndValue, IsKeyValue, IsPutRead, IsDelRead};
 ghost use Rattle.raft_records.specs.Item.{pair_of};
 ghost use Rattle.raft_records.specs.Faults.{IsByteStringFault, IsPutFault, IsDelFault, IsKeyValueFault, IsOpTypeFault, IsPairRefusal};

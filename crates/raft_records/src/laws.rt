@@ -2,7 +2,7 @@
 
 ghost use Rattle.std.specs.Prelude.{◌≡◌, ◌≢◌, ◌↔◌, ℕ, ◌+◌, ◌%◌, ◌^◌, ◌<◌, List, [], ◌++◌, map, drop, Option, Some, None};
 ghost use Rattle.raft_base.specs.declared.pipe_log.Version.TheVariants.{V2};
-ghost use Rattle.raft_base.specs.Reading.{HasNoFront, HasOneFront};
+ghost use Rattle.raft_codec.specs.Reading.{HasNoFront, HasOneFront};
 ghost use Rattle.raft_base.specs.Signature.{signature_in};
 ghost use Rattle.raft_base.specs.declared.pipe_log.FileBlockHandle.{FileBlockHandle};
 ghost use Rattle.raft_base.specs.declared.compression_type.CompressionType.{CompressionType};

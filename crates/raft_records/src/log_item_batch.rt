@@ -4,7 +4,7 @@ ghost use Rattle.std.specs.Prelude.{◌≡◌, ◌≢◌, ℕ, ◌+◌, ◌%◌,
 ghost use Rattle.std.specs.Vec.Iter.{into_iter_items};
 ghost use Rattle.std.specs.Slice.Iter.{iter_rest};
 ghost use Rattle.raft_base.specs.declared.pipe_log.Version.TheVariants.{V2};
-ghost use Rattle.raft_base.specs.Reading.{Reads, HasNoFront, HasOneFront};
+ghost use Rattle.raft_codec.specs.Reading.{Reads, HasNoFront, HasOneFront};
 ghost use Rattle.raft_base.specs.Signature.{signature_of, signature_in};
 ghost use Rattle.raft_records.specs.Grammar.{IsCommand, IsEntries, IsItem, IsKeyValue, behind_item};
 ghost use Rattle.raft_records.specs.ReadIn.{AreReadIn};

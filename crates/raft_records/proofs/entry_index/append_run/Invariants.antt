@@ -1,5 +1,5 @@
 use Rattle.std.proofs.Common.{◌≡◌, ◌++◌, take}
-use Rattle.raft_base.specs.Varint.{varint}
+use Rattle.raft_codec.specs.Varint.{varint}
 use Rattle.raft_records.specs.Spelling.{tails_bytes}
 use Rattle.raft_records.proofs.entry_index.append_run.Given as goal
 

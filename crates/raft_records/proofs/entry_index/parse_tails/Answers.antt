@@ -1,7 +1,7 @@
 use Rattle.std.proofs.Common.{◌-◌, ◌≤◌, ◌<◌, arith, inr, length}
 use Rattle.std.proofs.lemmas.Bool.{leb-true}
 use Rattle.std.proofs.lemmas.Result.{err_from_is_err_and}
-use Rattle.raft_base.specs.Reading.{Reads}
+use Rattle.raft_codec.specs.Reading.{Reads}
 use Rattle.raft_records.specs.Grammar.{IsTail}
 use Rattle.raft_records.specs.Placement.{entry_between}
 use Rattle.raft_records.proofs.EntryLemmas.{no_more_tails, tail_fault}

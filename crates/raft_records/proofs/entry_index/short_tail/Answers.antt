@@ -1,6 +1,6 @@
 use Rattle.raft_records.specs.Placement.{entry_between}
 use Rattle.std.proofs.Common.{refl, arith}
-use Rattle.raft_base.proofs.VarintLemmas.{short_below, short_is_read}
+use Rattle.raft_codec.proofs.VarintLemmas.{short_below, short_is_read}
 use Rattle.raft_records.proofs.EntryLemmas.{tail_read}
 use Rattle.raft_records.proofs.entry_index.short_tail.Goals as goal
 

@@ -1,7 +1,7 @@
 use Rattle.std.proofs.Common.{ℕ, ◌+◌, ◌++◌, List, map, take, drop, ap, sym, ◌∙◌, subst, inl, inr}
 use Rattle.std.proofs.lemmas.List.{length-take-le}
 use Rattle.std.proofs.lemmas.Result.{err_from_is_err_and}
-use Rattle.raft_base.specs.Reading.{HasNoFront}
+use Rattle.raft_codec.specs.Reading.{HasNoFront}
 use Rattle.raft_base.specs.Signature.{signature_of}
 use Rattle.raft_records.specs.FilePart.{Part, part_signature, IsNextFault, entries_place}
 use Rattle.raft_records.specs.ItemBatch.{IsItemBatch, IsItemBatchFault, placed}

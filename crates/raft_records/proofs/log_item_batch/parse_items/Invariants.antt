@@ -1,5 +1,5 @@
 use Rattle.std.proofs.Common.{◌≡◌, List, map, length}
-use Rattle.raft_base.specs.Reading.{Reads, IsSequence}
+use Rattle.raft_codec.specs.Reading.{Reads, IsSequence}
 use Rattle.raft_records.specs.Item.{Item}
 use Rattle.raft_records.specs.Grammar.{IsItem, behind_item}
 use Rattle.raft_records.specs.ItemBatch.{placed}

@@ -1,7 +1,7 @@
 use Rattle.std.proofs.Common.{◌≡◌, ◌++◌, length, map, take, ap, ◌∙◌, append_assoc, arith}
 use Rattle.std.specs.List.{flat_map}
 use Rattle.std.proofs.lemmas.List.{take_all, length-map}
-use Rattle.raft_base.specs.Varint.{varint}
+use Rattle.raft_codec.specs.Varint.{varint}
 use Rattle.raft_records.specs.Item.{item_of}
 use Rattle.raft_records.specs.Spelling.{item_bytes}
 use Rattle.raft_records.specs.ItemBatch.{batch_bytes, no_checksum}

@@ -1,6 +1,6 @@
 use Rattle.std.proofs.Common.{◌≡◌, ◌++◌, map, take, length}
 use Rattle.std.specs.List.{flat_map}
-use Rattle.raft_base.specs.Varint.{varint}
+use Rattle.raft_codec.specs.Varint.{varint}
 use Rattle.raft_records.specs.Item.{item_of}
 use Rattle.raft_records.specs.Spelling.{item_bytes}
 use Rattle.raft_records.proofs.log_item_batch.write_items.Given as goal

@@ -1,5 +1,5 @@
 use Rattle.std.proofs.Common.{subst, sym, ◌∙◌}
-use Rattle.raft_base.specs.Reading.{Reads}
+use Rattle.raft_codec.specs.Reading.{Reads}
 use Rattle.raft_records.specs.Grammar.{IsEntries}
 use Rattle.raft_records.proofs.PlacementLemmas.{entries_unplaced}
 use Rattle.raft_records.proofs.entry_index.EntryIndexes.decode.Goals as goal

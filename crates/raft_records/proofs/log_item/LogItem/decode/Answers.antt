@@ -1,5 +1,5 @@
 use Rattle.std.proofs.Common.{subst, sym, ◌∙◌}
-use Rattle.raft_base.specs.Reading.{Reads}
+use Rattle.raft_codec.specs.Reading.{Reads}
 use Rattle.raft_records.specs.Grammar.{IsItem}
 use Rattle.raft_records.proofs.PlacementLemmas.{item_unplaced}
 use Rattle.raft_records.proofs.log_item.LogItem.decode.Goals as goal

@@ -1,8 +1,0 @@
-use Rattle.std.proofs.Common.{◌≡◌, ◌≤◌, take}
-use Rattle.raft_base.specs.Varint.{AllContinue, base_128}
-use Rattle.raft_base.proofs.codec.varint.parse_groups.Given as goal
-
--- the bytes so far continue, and spell the number so far
-abbrev pub invariant-loop-i : goal.invariant-loop-i
-invariant-loop-i l =
-    AllContinue (take l.i l.bytes) × (l.number ≡ base_128 (take l.i l.bytes)) × (l.i ≤ 9)

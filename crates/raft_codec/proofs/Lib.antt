@@ -1,0 +1,5 @@
+pub mod FixedLemmas
+pub mod FixedOrder
+pub mod ReadingLemmas
+pub mod SequenceLemmas
+pub mod VarintLemmas

@@ -1,0 +1,5 @@
+pub mod Errors
+pub mod Fixed
+pub mod Reading
+pub mod Varint
+pub mod Zigzag

@@ -1,0 +1,230 @@
+//! Numbers as bytes.
+
+ghost use Rattle.std.specs.Prelude.{OnOk, IfErr};
+ghost use Rattle.std.specs.Io.KnownBytes.{Appends};
+ghost use Rattle.std.specs.Int.{w32, w64};
+ghost use Rattle.byteorder.specs.Endian.{big_bytes, little_bytes};
+ghost use Rattle.raft_codec.specs.Errors.{IsIo};
+ghost use Rattle.raft_codec.specs.Fixed.{u64_desc_bytes, i64_bytes, i64_desc_bytes, signed_le_bytes};
+ghost use Rattle.raft_codec.specs.Varint.{varint};
+ghost use Rattle.raft_codec.specs.Zigzag.{zigzag};
+
+pub mod fixed;
+pub mod varint;
+pub mod zigzag;
+
+use crate::codec::fixed::SIGN_BIT;
+pub use crate::codec::fixed::{
+    decode_i32_le, decode_i64, decode_i64_desc, decode_i64_le, decode_u16, decode_u16_le,
+    decode_u32, decode_u32_le, decode_u64, decode_u64_desc, decode_u64_le, read_u8,
+};
+pub use crate::codec::varint::{
+    append_var_u64, decode_var_u64, parse_short_var_u64, parse_var_u64,
+};
+pub use crate::codec::zigzag::decode_var_i64;
+use byteorder::{BigEndian, LittleEndian, WriteBytesExt};
+use std::io;
+use std::io::{ErrorKind, Write};
+use thiserror::Error;
+
+/// Bytes that a decoder reads from the front.
+pub type BytesSlice<'a> = &'a [u8];
+
+/// Why a number was not read or written.
+#[derive(Debug, Drop, Error)]
+pub enum Error {
+    /// The writer failed, or the bytes spell no number: `UnexpectedEof` where they end too
+    /// early, `InvalidData` where they cannot be completed.
+    #[error("{0}")]
+    Io(io::Error),
+    /// For layers above.
+    #[error("bad format key(length)")]
+    KeyLength,
+    /// For layers above.
+    #[error("bad format key(padding)")]
+    KeyPadding,
+    /// For layers above.
+    #[error("key not found")]
+    KeyNotFound,
+}
+
+impl From<io::Error> for Error {
+    ghost use Rattle.std.specs.Prelude.{◌≡◌};
+    ghost use Rattle.raft_codec.specs.declared.codec.Error.TheVariants.{Io};
+
+    ghost from_gives = { λ e r. r ≡ Io e };
+
+    fn from(e: io::Error) -> Error {
+        Error::Io(e)
+    }
+}
+
+impl Error {
+    ghost use Rattle.std.specs.declared.io.ErrorKind.TheVariants.{UnexpectedEof};
+    ghost use Rattle.raft_codec.specs.Errors.{IsIoOf};
+
+    /// The error of bytes that end too early.
+    pub fn unexpected_eof() -> Error
+        ensures { IsIoOf result UnexpectedEof }
+    {
+        Error::Io(io::Error::new(ErrorKind::UnexpectedEof, "eof"))
+    }
+}
+
+/// The answer of a codec.
+pub type Result<T> = std::result::Result<T, Error>;
+
+/// Writes numbers to any writer. The error is the writer's, as `Error::Io`; the writer may have taken
+/// a part of the number's bytes before it.
+pub trait NumberEncoder: Write {
+    /// Writes `v` in eight bytes, the highest first: they order as the numbers do.
+    final fn encode_u64(&mut self, v: u64) -> Result<()>
+    where
+        Self: Sized,
+        ensures written { OnOk result (Appends (Self.contents self.old) (Self.contents self.new) (big_bytes 8 v)) }
+        ensures io { IfErr result IsIo }
+    {
+        self.write_u64::<BigEndian>(v)?;
+        Ok(())
+    }
+
+    /// Writes `v` in four bytes, the highest first.
+    final fn encode_u32(&mut self, v: u32) -> Result<()>
+    where
+        Self: Sized,
+        ensures written { OnOk result (Appends (Self.contents self.old) (Self.contents self.new) (big_bytes 4 v)) }
+        ensures io { IfErr result IsIo }
+    {
+        self.write_u32::<BigEndian>(v)?;
+        Ok(())
+    }
+
+    /// Writes `v` in two bytes, the highest first.
+    final fn encode_u16(&mut self, v: u16) -> Result<()>
+    where
+        Self: Sized,
+        ensures written { OnOk result (Appends (Self.contents self.old) (Self.contents self.new) (big_bytes 2 v)) }
+        ensures io { IfErr result IsIo }
+    {
+        self.write_u16::<BigEndian>(v)?;
+        Ok(())
+    }
+
+    /// Writes `v` in eight bytes that order in reverse of the numbers: every bit complemented, the
+    /// highest byte first.
+    final fn encode_u64_desc(&mut self, v: u64) -> Result<()>
+    where
+        Self: Sized,
+        ensures written { OnOk result (Appends (Self.contents self.old) (Self.contents self.new) (u64_desc_bytes v)) }
+        ensures io { IfErr result IsIo }
+    {
+        self.write_u64::<BigEndian>(!v)?;
+        Ok(())
+    }
+
+    /// Writes `v` in eight bytes that order as the numbers do: two's complement with the sign bit
+    /// flipped, the highest byte first.
+    final fn encode_i64(&mut self, v: i64) -> Result<()>
+    where
+        Self: Sized,
+        ensures written { OnOk result (Appends (Self.contents self.old) (Self.contents self.new) (i64_bytes v)) }
+        ensures io { IfErr result IsIo }
+    {
+        self.write_u64::<BigEndian>(v.cast_unsigned() ^ SIGN_BIT)?;
+        Ok(())
+    }
+
+    /// Writes the bytes of `encode_i64` with every bit complemented: they order in reverse.
+    final fn encode_i64_desc(&mut self, v: i64) -> Result<()>
+    where
+        Self: Sized,
+        ensures written { OnOk result (Appends (Self.contents self.old) (Self.contents self.new) (i64_desc_bytes v)) }
+        ensures io { IfErr result IsIo }
+    {
+        self.write_u64::<BigEndian>(!(v.cast_unsigned() ^ SIGN_BIT))?;
+        Ok(())
+    }
+
+    /// Writes `v` in two bytes, the lowest first.
+    final fn encode_u16_le(&mut self, v: u16) -> Result<()>
+    where
+        Self: Sized,
+        ensures written { OnOk result (Appends (Self.contents self.old) (Self.contents self.new) (little_bytes 2 v)) }
+        ensures io { IfErr result IsIo }
+    {
+        self.write_u16::<LittleEndian>(v)?;
+        Ok(())
+    }
+
+    /// Writes `v` in four bytes, the lowest first.
+    final fn encode_u32_le(&mut self, v: u32) -> Result<()>
+    where
+        Self: Sized,
+        ensures written { OnOk result (Appends (Self.contents self.old) (Self.contents self.new) (little_bytes 4 v)) }
+        ensures io { IfErr result IsIo }
+    {
+        self.write_u32::<LittleEndian>(v)?;
+        Ok(())
+    }
+
+    /// Writes `v` in eight bytes, the lowest first.
+    final fn encode_u64_le(&mut self, v: u64) -> Result<()>
+    where
+        Self: Sized,
+        ensures written { OnOk result (Appends (Self.contents self.old) (Self.contents self.new) (little_bytes 8 v)) }
+        ensures io { IfErr result IsIo }
+    {
+        self.write_u64::<LittleEndian>(v)?;
+        Ok(())
+    }
+
+    /// Writes `v` as two's complement in four bytes, the lowest first.
+    final fn encode_i32_le(&mut self, v: i32) -> Result<()>
+    where
+        Self: Sized,
+        ensures written { OnOk result
+            (Appends (Self.contents self.old) (Self.contents self.new) (signed_le_bytes w32 v)) }
+        ensures io { IfErr result IsIo }
+    {
+        self.write_i32::<LittleEndian>(v)?;
+        Ok(())
+    }
+
+    /// Writes `v` as two's complement in eight bytes, the lowest first.
+    final fn encode_i64_le(&mut self, v: i64) -> Result<()>
+    where
+        Self: Sized,
+        ensures written { OnOk result
+            (Appends (Self.contents self.old) (Self.contents self.new) (signed_le_bytes w64 v)) }
+        ensures io { IfErr result IsIo }
+    {
+        self.write_i64::<LittleEndian>(v)?;
+        Ok(())
+    }
+
+    /// Writes `v` in base 128, in its shortest spelling.
+    final fn encode_var_u64(&mut self, v: u64) -> Result<()>
+    where
+        Self: Sized,
+        ensures written { OnOk result (Appends (Self.contents self.old) (Self.contents self.new) (varint v)) }
+        ensures io { IfErr result IsIo }
+    {
+        let mut bytes = [0; varint::MAX_VAR_U64_LEN];
+        let len = varint::put_var_u64(&mut bytes, v);
+        self.write_all(&bytes[..len])?;
+        Ok(())
+    }
+
+    /// Writes `v` in base 128 by its code, which is small where `v` is near 0: twice `v` from 0
+    /// on, and the complement of that below 0.
+    final fn encode_var_i64(&mut self, v: i64) -> Result<()>
+    where
+        Self: Sized,
+        ensures written { OnOk result (Appends (Self.contents self.old) (Self.contents self.new) (varint (zigzag v))) }
+        ensures io { IfErr result IsIo }
+    {
+        self.encode_var_u64(zigzag::code_of(v))
+    }
+}
+
+impl<W: Write> NumberEncoder for W {}

@@ -1,0 +1,164 @@
+//! Numbers in base 128: seven bits a byte, lowest first, the top bit set on all bytes but the last.
+
+ghost use Rattle.std.specs.Prelude.{◌≡◌, ◌≢◌, ℕ, ◌+◌, ◌*◌, ◌%◌, ◌^◌, ◌<◌, ◌≤◌, ◌++◌, List, length, take, IfOk, IfErr, IfSome, IfNone, OnOk, OnErr};
+ghost use Rattle.raft_codec.specs.Reading.{Reads, HasNoFront, HasOneFront};
+ghost use Rattle.raft_codec.specs.Varint.{IsVarint, IsShortVarint, IsVarintFault, varint};
+
+use crate::codec::{BytesSlice, Error, Result};
+use std::alloc::AllocError;
+use std::io;
+use std::io::ErrorKind;
+
+/// The most bytes that a number takes.
+pub const MAX_VAR_U64_LEN: usize = 10;
+
+/// Reads a number from the front, also one in a longer spelling than `encode_var_u64` writes. It
+/// takes no memory. On `Err` the slice is as it was: `UnexpectedEof` where the bytes end before
+/// their number does, `InvalidData` where it passes 64 bits.
+#[inline(always)]
+pub fn decode_var_u64(buf: &mut BytesSlice<'_>) -> Result<u64>
+    ensures ok { IfOk result (Reads IsVarint buf.old.now buf.new.now) }
+    ensures err { OnErr result (buf.new.now ≡ buf.old.now) }
+    ensures refused { OnErr result (HasNoFront IsVarint buf.old.now) }
+    ensures fault { IfErr result (IsVarintFault buf.old.now) }
+{
+    let (number, rest) = parse_var_u64(*buf)?;
+    *buf = rest;
+    Ok(number)
+}
+
+/// The number in front of `bytes`, and what is behind it: what `decode_var_u64` reads, for readers that
+/// hold no slice to move on.
+#[inline(always)]
+pub fn parse_var_u64(bytes: &[u8]) -> Result<(u64, &[u8])>
+    ensures ok { IfOk result (λ read. Reads IsVarint bytes.now read.1.now read.0) }
+    ensures refused { OnErr result (HasNoFront IsVarint bytes.now) }
+    ensures fault { IfErr result (IsVarintFault bytes.now) }
+{
+    match parse_short_var_u64(bytes) {
+        Some(read) => Ok(read),
+        None => parse_groups(bytes),
+    }
+}
+
+/// The number in front of `bytes`, and what is behind it, where it takes four bytes at most, as most
+/// numbers do; nothing where it takes more, or where no number is there.
+#[inline(always)]
+pub fn parse_short_var_u64(bytes: &[u8]) -> Option<(u64, &[u8])>
+    ensures some { IfSome result (λ read. Reads IsShortVarint bytes.now read.1.now read.0) }
+    ensures none { IfNone result (HasNoFront IsShortVarint bytes.now) }
+{
+    match bytes {
+        [first, rest @ ..] if *first < 0x80 => Some((u64::from(*first), rest)),
+        [first, second, rest @ ..] if *second < 0x80 => {
+            Some((two_groups(*first, *second), rest))
+        }
+        [first, second, third, rest @ ..] if *third < 0x80 => {
+            Some((
+                two_groups(*first, *second) + (u64::from(*third) << 14),
+                rest,
+            ))
+        }
+        [first, second, third, fourth, rest @ ..] if *fourth < 0x80 => {
+            Some((
+                two_groups(*first, *second) + (two_groups(*third, *fourth) << 14),
+                rest,
+            ))
+        }
+        _ => None,
+    }
+}
+
+/// The low seven bits of two bytes, those of the second one above those of the first.
+#[inline(always)]
+fn two_groups(first: u8, second: u8) -> u64
+    ensures { result ≡ first % 128 + 128 * (second % 128) }
+{
+    u64::from(first % 0x80) + (u64::from(second % 0x80) << 7)
+}
+
+/// What `parse_var_u64` reads, one group of seven bits after another.
+#[inline(never)]
+fn parse_groups(bytes: &[u8]) -> Result<(u64, &[u8])>
+    ensures ok { IfOk result (λ read. Reads IsVarint bytes.now read.1.now read.0) }
+    ensures refused { OnErr result (HasNoFront IsVarint bytes.now) }
+    ensures fault { IfErr result (IsVarintFault bytes.now) }
+{
+    let mut number = 0;
+    for i in 0..bytes.len().min(MAX_VAR_U64_LEN) {
+        let byte = bytes[i];
+        if i == MAX_VAR_U64_LEN - 1 && byte > 1 {
+            return Err(Error::Io(io::Error::new(ErrorKind::InvalidData, "overflow")));
+        }
+        number += at_place(byte % 0x80, i);
+        if byte < 0x80 {
+            return Ok((number, &bytes[i + 1..]));
+        }
+    }
+    Err(Error::unexpected_eof())
+}
+
+/// A group of seven bits at its place.
+#[inline]
+fn at_place(bits: u8, place: usize) -> u64
+    requires group { bits < 128 }
+    requires place { place < 10 }
+    requires tenth { place ≡ 9 → bits ≤ 1 }
+    ensures { result ≡ bits * 128 ^ place }
+{
+    u64::from(bits) << (7 * place)
+}
+
+/// Writes the shortest spelling of `number` to the front of `bytes`, and answers its length.
+#[inline]
+pub(crate) fn put_var_u64(bytes: &mut [u8; 10], number: u64) -> usize
+    ensures written { take result bytes.new ≡ varint number }
+    ensures bound { result ≤ 10 }
+{
+    let mut rest = number;
+    for i in 0..MAX_VAR_U64_LEN - 1 {
+        if rest < 0x80 {
+            bytes[i] = rest as u8;
+            return i + 1;
+        }
+        bytes[i] = (rest % 0x80) as u8 + 0x80;
+        rest /= 0x80;
+    }
+    bytes[MAX_VAR_U64_LEN - 1] = rest as u8;
+    MAX_VAR_U64_LEN
+}
+
+/// Appends the shortest spelling of `number`. On `Err` the vector is as it was.
+#[inline]
+pub fn append_var_u64(buf: &mut Vec<u8>, number: u64) -> std::result::Result<(), AllocError>
+    ensures ok { OnOk result (buf.new.items ≡ buf.old.items ++ varint number) }
+    ensures err { OnErr result (buf.new.items ≡ buf.old.items) }
+{
+    if number < 0x80 {
+        buf.push(number as u8)?;
+        return Ok(());
+    }
+    // Most numbers are this short, and bytes of a known count are quickly appended.
+    let (first, rest) = ((number % 0x80) as u8 + 0x80, number / 0x80);
+    if rest < 0x80 {
+        buf.extend_from_slice(&[first, rest as u8])?;
+        return Ok(());
+    }
+    let (second, rest) = ((rest % 0x80) as u8 + 0x80, rest / 0x80);
+    if rest < 0x80 {
+        buf.extend_from_slice(&[first, second, rest as u8])?;
+        return Ok(());
+    }
+    let mut bytes = [0; MAX_VAR_U64_LEN];
+    let len = put_var_u64(&mut bytes, number);
+    buf.extend_from_slice(&bytes[..len])
+}
+
+/// What is written is a spelling of its number, and none is shorter; and no spelling of a number
+/// begins another. So what was written is read again, whatever follows it.
+pub fn varint_is_read_again()
+    ensures spelled { (n : ℕ) → n < 2 ^ 64 → IsVarint (varint n) n }
+    ensures shortest { (n : ℕ) (bytes : List ℕ) → n < 2 ^ 64 → IsVarint bytes n →
+        length (varint n) ≤ length bytes }
+    ensures one_front { HasOneFront IsVarint }
+{}

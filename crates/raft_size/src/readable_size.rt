@@ -1,0 +1,228 @@
+//! Sizes with units, as settings give them.
+
+ghost use Rattle.serde.specs.Event.{Logs, text};
+ghost use Rattle.std.specs.Prelude.{◌≡◌, ◌<◌, ◌≤◌, ◌*◌, ◌/◌, ◌^◌, ◌++◌, ℕ, List, length, Result, Ok, Some, IfOk};
+ghost use Rattle.std.specs.Fmt.{decimal};
+ghost use Rattle.raft_size.specs.SizePrint.{size_text};
+ghost use Rattle.raft_size.specs.SizeText.{IsSizeText};
+ghost use Rattle.raft_size.specs.SizeValue.{IsReadAs, IsValueReadAs, ReadsSize};
+ghost use Rattle.toml.specs.View.{view};
+
+use super::size_text::{SizeError, parse_size};
+use super::units::{GIB, KIB, MIB, PIB, TIB};
+use itoa::Buffer;
+use serde::{
+    Described, Deserialize, DeserializeOwned, Deserializer, Format, Serialize, Serializer,
+};
+use std::alloc::Global;
+use std::fmt;
+use std::fmt::InlineText;
+use std::ops::{Div, Mul};
+use std::str::FromStr;
+use toml::Value;
+
+// The most digits of a number.
+const DIGITS: usize = 20;
+
+// The most characters of a unit.
+const UNIT_LEN: usize = 3;
+
+// Room for digits and a unit.
+const TEXT_ROOM: usize = 24;
+
+// Room for the text of a `SizeError`.
+const ERROR_ROOM: usize = 80;
+
+/// A size in bytes. It is printed and read with a unit, as `2KiB` or `0.5 MB`.
+#[derive(Clone, Copy, Debug, PartialEq, Eq, PartialOrd)]
+pub struct ReadableSize(pub u64);
+
+impl ReadableSize {
+    ghost use Rattle.raft_size.specs.declared.readable_size.ReadableSize.{ReadableSize};
+    ghost use Rattle.raft_size.specs.declared.size_text.SizeError.{SizeError};
+
+    /// So many times 2^10 bytes.
+    pub const fn kb(count: u64) -> ReadableSize
+        requires { count * 2 ^ 10 < 2 ^ 64 }
+        ensures { result.0 ≡ count * 2 ^ 10 }
+    {
+        ReadableSize(count * KIB)
+    }
+
+    /// So many times 2^20 bytes.
+    pub const fn mb(count: u64) -> ReadableSize
+        requires { count * 2 ^ 20 < 2 ^ 64 }
+        ensures { result.0 ≡ count * 2 ^ 20 }
+    {
+        ReadableSize(count * MIB)
+    }
+
+    /// So many times 2^30 bytes.
+    pub const fn gb(count: u64) -> ReadableSize
+        requires { count * 2 ^ 30 < 2 ^ 64 }
+        ensures { result.0 ≡ count * 2 ^ 30 }
+    {
+        ReadableSize(count * GIB)
+    }
+
+    /// How often 2^20 bytes fit into the size.
+    pub const fn as_mb(self) -> u64
+        ensures { result ≡ self.0 / 2 ^ 20 }
+    {
+        self.0 / MIB
+    }
+
+    /// The laws of texts: a text can be read in one way alone, what is printed of a size stands
+    /// for that size, and so it is read again as that size.
+    pub fn text_laws()
+        ensures one_way { (text : List ℕ) (r s : Result ReadableSize SizeError) → IsReadAs text r
+            → IsReadAs text s → r ≡ s }
+        ensures printed { (n : ℕ) → n < 2 ^ 64 → IsSizeText (size_text n) n }
+        ensures read_again { (n : ℕ) (r : Result ReadableSize SizeError) → n < 2 ^ 64
+            → IsReadAs (size_text n) r → r ≡ Ok (record { 0 = n }) }
+    {}
+
+    // The number and the unit that are printed.
+    fn printed(self) -> (u64, &'static str)
+        ensures text { size_text self.0 ≡ decimal result.0 ++ result.1.now }
+        ensures unit { length result.1.now ≤ 3 }
+    {
+        let size = self.0;
+        if size == 0 {
+            (0, "KiB")
+        } else if size % PIB == 0 {
+            (size / PIB, "PiB")
+        } else if size % TIB == 0 {
+            (size / TIB, "TiB")
+        } else if size % GIB == 0 {
+            (size / GIB, "GiB")
+        } else if size % MIB == 0 {
+            (size / MIB, "MiB")
+        } else if size % KIB == 0 {
+            (size / KIB, "KiB")
+        } else {
+            (size, "B")
+        }
+    }
+}
+
+/// A part of the size, rounded down.
+impl Div<u64> for ReadableSize {
+    type Output = ReadableSize;
+
+    ghost can_div = { λ size divisor. 0 < divisor };
+
+    ghost div_gives = { λ size divisor r. r.0 ≡ size.0 / divisor };
+
+    fn div(self, rhs: u64) -> ReadableSize {
+        ReadableSize(self.0 / rhs)
+    }
+}
+
+/// How often a size fits into the size.
+impl Div<ReadableSize> for ReadableSize {
+    type Output = u64;
+
+    ghost can_div = { λ size divisor. 0 < divisor.0 };
+
+    ghost div_gives = { λ size divisor r. r ≡ size.0 / divisor.0 };
+
+    fn div(self, rhs: ReadableSize) -> u64 {
+        self.0 / rhs.0
+    }
+}
+
+/// So many times the size.
+impl Mul<u64> for ReadableSize {
+    type Output = ReadableSize;
+
+    ghost can_mul = { λ size count. size.0 * count < 2 ^ 64 };
+
+    ghost mul_gives = { λ size count r. r.0 ≡ size.0 * count };
+
+    fn mul(self, rhs: u64) -> ReadableSize {
+        ReadableSize(self.0 * rhs)
+    }
+}
+
+/// A number and a unit, as ` 0.5 PiB` or `1e+1MB`, rounded down to whole bytes and held from 0 to
+/// 2^64 - 1.
+///
+/// The units are `B` or none, and `K`, `M`, `G`, `T` and `P`, alone or with `B` or `iB` behind
+/// them, for 2^10, 2^20, 2^30, 2^40 and 2^50 bytes.
+impl FromStr for ReadableSize {
+    type Err = SizeError;
+
+    ghost from_str_gives = { IsReadAs };
+
+    fn from_str(s: &str) -> Result<ReadableSize, SizeError> {
+        Ok(ReadableSize(parse_size(s)?))
+    }
+}
+
+/// The size in the largest unit that divides it.
+impl fmt::Display for ReadableSize {
+    ghost output = { λ size. Some (size_text size.0) };
+
+    fn fmt<W: fmt::Write>(&self, f: &mut fmt::Formatter<W>) -> fmt::Result {
+        let (count, unit) = self.printed();
+        write!(f, "{count}{unit}")
+    }
+}
+
+impl Described for ReadableSize {
+    ghost writes = { λ size old new. Logs old new (text (size_text size.0)) };
+}
+
+/// As its text.
+impl Serialize for ReadableSize {
+    fn serialize<S: Serializer>(&self, out: &mut S) -> Result<(), S::Error> {
+        let (count, unit) = self.printed();
+        let mut digits = Buffer::new();
+        let text = InlineText::<TEXT_ROOM>::new()
+            .and_str(digits.format(count), DIGITS)
+            .and_str(unit, UNIT_LEN);
+        out.str(text.as_str())
+    }
+}
+
+/// From a text.
+impl<'de> Deserialize<'de> for ReadableSize {
+    fn deserialize<F: Format>(
+        alloc: Global,
+        from: &mut Deserializer<'de, '_, F>,
+    ) -> Result<ReadableSize, F::Error>
+        ensures { IfOk result (ReadsSize F.gives from.old from.new) }
+    {
+        ReadableSize::deserialize_owned(alloc, from)
+    }
+}
+
+impl DeserializeOwned for ReadableSize {
+    fn deserialize_owned<F: Format>(
+        alloc: Global,
+        from: &mut Deserializer<'_, '_, F>,
+    ) -> Result<ReadableSize, F::Error>
+        ensures { IfOk result (ReadsSize F.gives from.old from.new) }
+    {
+        let text = String::deserialize_owned(alloc, from)?;
+        match ReadableSize::from_str(text.as_str()) {
+            Ok(size) => Ok(size),
+            Err(e) => Err(from.custom(InlineText::<ERROR_ROOM>::of(e).as_str())),
+        }
+    }
+}
+
+/// The size that a setting gives: a text, or a whole number of bytes.
+pub fn size_from_value(value: &Value) -> Result<ReadableSize, SizeError>
+    ensures { IsValueReadAs (view value.now) result }
+{
+    match value {
+        Value::String(text) => text.as_str().parse(),
+        Value::Integer(size) => match u64::try_from(*size) {
+            Ok(size) => Ok(ReadableSize(size)),
+            Err(_) => Err(SizeError::Kind),
+        },
+        _ => Err(SizeError::Kind),
+    }
+}

@@ -1,0 +1,210 @@
+//! The number of a size's text.
+
+ghost use Rattle.std.specs.Prelude.{◌≡◌, ◌≤◌, ◌<◌, ◌-◌, ◌*◌, ◌^◌, ◌++◌, ◌↔◌, IsTrue, IfSome, IfNone, ℕ, Bool, List, min, length};
+ghost use Rattle.std.specs.Str.Parse.{AllDigits, IsNumeral, digits_value, digits_value_after};
+ghost use Rattle.raft_size.specs.SizeNumber.{Number, IsNumber, IsExponent, digits_of, significant, size_of};
+ghost use Rattle.raft_size.specs.SizeReading.{has_minus, behind_sign, NoDigitFirst, TakesFraction, parts_of, HasDigitsAlone, scaled_size};
+
+// Above every number of 20 digits.
+const SIGNIFICAND_LIMIT: u128 = 100_000_000_000_000_000_000;
+
+// Above the length of every text, by more than the digits that a size can have.
+const EXPONENT_LIMIT: u128 = 1 << 65;
+
+// A number, taken apart.
+#[derive(Clone, Copy)]
+pub(super) struct SizeNumber<'a> {
+    is_negative: bool,
+    whole: &'a [u8],
+    fraction: &'a [u8],
+    is_exponent_negative: bool,
+    exponent: &'a [u8],
+}
+
+impl<'a> SizeNumber<'a> {
+    // The number that the text is, if it is one.
+    pub(super) fn parse(text: &'a [u8]) -> Option<SizeNumber<'a>>
+        ensures number { IfSome result (λ number. IsNumber text.now (parts_of number)) }
+        ensures digits { IfSome result (λ number. HasDigitsAlone (parts_of number)) }
+        ensures none { IfNone result ((number : Number) → IsNumber text.now number → ⊥) }
+    {
+        let (is_negative, body) = split_sign(text);
+        let (whole, behind) = split_digits(body);
+        let (fraction, rest) = split_fraction(behind);
+        if whole.is_empty() && fraction.is_empty() {
+            return None;
+        }
+        let (is_exponent_negative, exponent) = parse_exponent(rest)?;
+        Some(SizeNumber {
+            is_negative,
+            whole,
+            fraction,
+            is_exponent_negative,
+            exponent,
+        })
+    }
+
+    // The number that the digits make with the point taken out, if they are few enough.
+    pub(super) fn significand(&self) -> Option<u128>
+        requires { HasDigitsAlone (parts_of self.now) }
+        ensures value { IfSome result (λ value. value ≡ digits_value 10 (digits_of (parts_of self.now))) }
+        ensures bound { IfSome result (λ value. value < 10 ^ 20) }
+        ensures few { IfSome result (λ _. length (significant (digits_of (parts_of self.now))) ≤ 20) }
+        ensures many { IfNone result (20 < length (significant (digits_of (parts_of self.now)))) }
+    {
+        let whole = value_up_to(SIGNIFICAND_LIMIT, 0, self.whole);
+        let value = value_up_to(SIGNIFICAND_LIMIT, whole, self.fraction);
+        if value < SIGNIFICAND_LIMIT {
+            Some(value)
+        } else {
+            None
+        }
+    }
+
+    // The size of so many units.
+    pub(super) fn size(&self, significand: u128, factor: u64) -> u64
+        requires digits { HasDigitsAlone (parts_of self.now) }
+        requires significand { significand ≡ digits_value 10 (digits_of (parts_of self.now)) }
+        requires few { significand < 10 ^ 20 }
+        requires factor { factor ≤ 2 ^ 50 }
+        ensures { result ≡ size_of (parts_of self.now) factor }
+    {
+        if self.is_negative {
+            return 0;
+        }
+        let exponent = value_up_to(EXPONENT_LIMIT, 0, self.exponent);
+        let places = self.fraction.len() as u128;
+        let value = significand * u128::from(factor);
+        if self.is_exponent_negative {
+            scaled(value, 0, exponent + places)
+        } else {
+            scaled(value, exponent, places)
+        }
+    }
+}
+
+// Whether a minus sign stands in front, and what stands behind the sign.
+fn split_sign(text: &[u8]) -> (bool, &[u8])
+    ensures minus { result.0 ≡ has_minus text.now }
+    ensures rest { result.1.now ≡ behind_sign text.now }
+{
+    match text {
+        [b'-', rest @ ..] => (true, rest),
+        [b'+', rest @ ..] => (false, rest),
+        _ => (false, text),
+    }
+}
+
+// The digits in front, and the rest.
+fn split_digits(text: &[u8]) -> (&[u8], &[u8])
+    ensures split { text.now ≡ result.0.now ++ result.1.now }
+    ensures digits { AllDigits 10 result.0.now }
+    ensures stops { NoDigitFirst result.1.now }
+{
+    for (len, c) in text.iter().enumerate() {
+        if !c.is_ascii_digit() {
+            return text.split_at(len);
+        }
+    }
+    text.split_at(text.len())
+}
+
+// The digits behind a point in front, and the rest.
+fn split_fraction(behind: &[u8]) -> (&[u8], &[u8])
+    requires { NoDigitFirst behind.now }
+    ensures split { TakesFraction behind.now result.0.now result.1.now }
+    ensures digits { AllDigits 10 result.0.now }
+    ensures stops { NoDigitFirst result.1.now }
+{
+    match behind {
+        [b'.', rest @ ..] => split_digits(rest),
+        _ => behind.split_at(0),
+    }
+}
+
+// Whether an exponent's sign is a minus, and its digits.
+fn parse_exponent(text: &[u8]) -> Option<(bool, &[u8])>
+    ensures exponent { IfSome result (λ exponent. IsExponent text.now exponent.0 exponent.1.now) }
+    ensures none { IfNone result ((minus : Bool) (digits : List ℕ) → IsExponent text.now minus digits → ⊥) }
+{
+    match text {
+        [] => Some((false, text)),
+        [b'e', power @ ..] => parse_power(power),
+        [b'E', power @ ..] => parse_power(power),
+        _ => None,
+    }
+}
+
+// Whether a power's sign is a minus, and its digits.
+fn parse_power(text: &[u8]) -> Option<(bool, &[u8])>
+    ensures minus { IfSome result (λ power. power.0 ≡ has_minus text.now) }
+    ensures digits { IfSome result (λ power. power.1.now ≡ behind_sign text.now) }
+    ensures numeral { IfSome result (λ _. IsNumeral 10 (behind_sign text.now)) }
+    ensures none { IfNone result (IsNumeral 10 (behind_sign text.now) → ⊥) }
+{
+    let (is_negative, power) = split_sign(text);
+    let (digits, rest) = split_digits(power);
+    if digits.is_empty() || !rest.is_empty() {
+        return None;
+    }
+    Some((is_negative, digits))
+}
+
+// The number that the digits make behind those of `start`, capped at the limit.
+fn value_up_to(limit: u128, start: u128, digits: &[u8]) -> u128
+    requires limit { limit < 2 ^ 100 }
+    requires start { start ≤ limit }
+    requires digits { AllDigits 10 digits.now }
+    ensures { result ≡ min limit (digits_value_after 10 start digits.now) }
+{
+    let mut value = start;
+    for digit in digits {
+        value = limit.min(value * 10 + u128::from(*digit - b'0'));
+    }
+    value
+}
+
+// The value times powers of ten and divided by others, cut down and capped at the greatest size.
+fn scaled(value: u128, up: u128, down: u128) -> u64
+    requires { value < 2 ^ 120 }
+    ensures { result ≡ scaled_size value up down }
+{
+    if up < down {
+        lowered(value, down - up)
+    } else {
+        raised(value, up - down)
+    }
+}
+
+// The value divided by a power of ten, cut down and capped at the greatest size.
+fn lowered(value: u128, power: u128) -> u64
+    requires { value < 2 ^ 120 }
+    ensures { result ≡ scaled_size value 0 power }
+{
+    if power < 37 {
+        held(value / 10u128.pow(power as u32))
+    } else {
+        0
+    }
+}
+
+// The value times a power of ten, capped at the greatest size.
+fn raised(value: u128, power: u128) -> u64
+    ensures { result ≡ scaled_size value power 0 }
+{
+    let value = held(value);
+    if power < 20 {
+        held(u128::from(value) * 10u128.pow(power as u32))
+    } else if value == 0 {
+        0
+    } else {
+        u64::MAX
+    }
+}
+
+// The number, capped at the greatest size.
+fn held(number: u128) -> u64
+    ensures { result ≡ min (2 ^ 64 - 1) number }
+{
+    u64::try_from(number).unwrap_or(u64::MAX)
+}

@@ -38,6 +38,18 @@ written_past bytes_of index_of xs i start buf new done x w lt at e room past =
     let whole = ap (λ ys. length (buf ++ concat (map bytes_of ys))) (sym next) ∙ ap length w.bytes in
     omega (arith, room, past, ap length e, whole, length-append buf (bytes_of x), length-append buf (bytes_of x ++ rest), length-append (bytes_of x) rest, length-append start (concat (map bytes_of xs)))
 
+pub written_more : {X : Type 0} (bytes_of : X → List ℕ) (index_of : X → ℕ) (xs : List X) (i : ℕ) (start buf new : List ℕ) (done more : List EntryIndex) (x : X) → IsWriting bytes_of index_of xs i start buf done → i < length xs → x ≡ get_or xs i x → new ≡ buf ++ bytes_of x → length new < 16 + 2 ^ 31 → more ≡ done ++ record (entry_with_index (index_of x)) { entry_len = length (bytes_of x) } ∷ [] → IsWriting bytes_of index_of xs (i + 1) start new more
+written_more bytes_of index_of xs i start buf new done more x w lt at e fits pushed =
+    let next = sym (next_is xs i x lt at) in
+    let rest = drop (i + 1) xs in
+    let entry = record (entry_with_index (index_of x)) { entry_len = length (bytes_of x) } in
+    let behind = with_lengths (map (λ y. entry_with_index (index_of y)) rest) (map bytes_of rest) in record {
+      keeps = keeps_more start buf (bytes_of x) new w.keeps e;
+      bytes = ap (λ (t : List ℕ). t ++ concat (map bytes_of rest)) e ∙ append_assoc buf (bytes_of x) (concat (map bytes_of rest)) ∙ ap (λ ys. buf ++ concat (map bytes_of ys)) next ∙ w.bytes;
+      lengths = ap (λ (t : List EntryIndex). t ++ behind) pushed ∙ append_assoc done (entry ∷ []) behind ∙ ap (λ ys. done ++ with_lengths (map (λ y. entry_with_index (index_of y)) ys) (map bytes_of ys)) next ∙ w.lengths;
+      small = λ _. fits
+    }
+
 -- ---- lengths
 
 -- entries with the lengths of their strings have as many bytes as the strings

@@ -389,17 +389,10 @@ fn append_merges() -> [MergeRow; 3] {
     ]
 }
 
-/// A store on which a call was made.
-fn store_with(alloc: Global, call: Call) -> Result<LogStore> {
-    let mut store = LogStore::new(alloc);
-    store.direct(call)?;
-    Ok(store)
-}
-
 /// What a merge of the second store's table into the first's answers, and the first store.
 fn merged(alloc: Global, older: Call, newer: Call, is_append: bool) -> Result<(Answer, LogStore)> {
-    let mut store = store_with(alloc, older)?;
-    let mut table = store_with(alloc, newer)?.table;
+    let mut store = LogStore::after(alloc, &[older])?;
+    let mut table = LogStore::after(alloc, &[newer])?.table;
     let given = store.merge(&mut table, is_append);
     Ok((told(given.map(|()| 0))?, store))
 }

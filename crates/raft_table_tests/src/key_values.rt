@@ -8,12 +8,7 @@ use std::process::Abort;
 /// Puts each key with its value, all written to one file.
 fn put(store: &mut LogStore, file_id: FileId, pairs: &[(&[u8], &[u8])]) -> Result<()> {
     for (key, value) in pairs {
-        let put = TableChange::Put {
-            key: store.bytes(*key)?,
-            value: store.bytes(*value)?,
-            file_id,
-        };
-        store.make(put)?;
+        store.put(*key, *value, file_id)?;
     }
     Ok(())
 }

@@ -162,16 +162,13 @@ fn queries_tell_the_queues_apart(rt: HostRuntime) -> Result<()> {
 
 /// A store of two appended files, of which the first is rewritten.
 fn rewritten_store(alloc: Global) -> Result<LogStore> {
-    let mut store = LogStore::new(alloc);
-    for call in [
+    let calls = [
         Append(of(0, 10, 1)),
         Append(of(10, 20, 2)),
         Rewrite(of(0, 15, 50), Some(1)),
         Group(3, 7),
-    ] {
-        store.direct(call)?;
-    }
-    Ok(store)
+    ];
+    LogStore::after(alloc, &calls)
 }
 
 /// How many blocks there are, how many rewritten entries, and how many records of the append queue.
@@ -250,19 +247,9 @@ fn store_of_keys(alloc: Global) -> Result<LogStore> {
         (b"3", LogQueue::Append, 3),
         (b"2", LogQueue::Rewrite, 2),
     ] {
-        put_key(&mut store, key, FileId::new(queue, seq))?;
+        store.put(key, b"value", FileId::new(queue, seq))?;
     }
     Ok(store)
-}
-
-fn put_key(store: &mut LogStore, key: &[u8], file_id: FileId) -> Result<()> {
-    let put = TableChange::Put {
-        key: store.bytes(key)?,
-        value: store.bytes(b"value")?,
-        file_id,
-    };
-    store.make(put)?;
-    Ok(())
 }
 
 /// How many pairs are fetched, and whether the first is of the key 1.

@@ -147,6 +147,15 @@ impl LogStore {
         }
     }
 
+    /// A store on which these calls were made.
+    pub fn after(alloc: Global, calls: &[Call]) -> Result<LogStore> {
+        let mut store = LogStore::new(alloc);
+        for call in calls {
+            store.direct(*call)?;
+        }
+        Ok(store)
+    }
+
     pub fn bytes(&self, text: &[u8]) -> Result<Vec<u8>> {
         Ok(Vec::from_slice(self.alloc, text)?)
     }
@@ -285,6 +294,17 @@ impl LogStore {
     /// A change of the table.
     pub fn make(&mut self, change: TableChange) -> Result<u64> {
         self.table.change(change, &mut self.stats)
+    }
+
+    /// Puts a key with its value, by a change of the table.
+    pub fn put(&mut self, key: &[u8], value: &[u8], file_id: FileId) -> Result<()> {
+        let put = TableChange::Put {
+            key: self.bytes(key)?,
+            value: self.bytes(value)?,
+            file_id,
+        };
+        self.make(put)?;
+        Ok(())
     }
 
     /// Merges a table into this store's, as an append table or as its newer neighbor.

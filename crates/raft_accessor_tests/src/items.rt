@@ -3,7 +3,7 @@
 use crate::refusals::{are_counted, are_named};
 use raft_accessor::{
     EntryIndex, Error, FileBlockHandle, FileId, LogQueue, MemTable, MemTableAccessor, Result,
-    TableChange, slot_of,
+    TableChange, is_run, slot_of,
 };
 use raft_records::{Command, CompressionType, LogItem, LogItemContent, OpType};
 use std::alloc::Global;
@@ -234,6 +234,25 @@ fn count(alloc: Global) -> Result<bool> {
     )
 }
 
+/// A run that is read again is put where its region has a table, and makes none where there is none.
+fn put_again(alloc: Global) -> Result<bool> {
+    let mut accessor = appended(alloc, 1)?;
+    let run = run(alloc, 20, 25, FIRST)?;
+    if !is_run(&run, LogQueue::Append) {
+        return Ok(false);
+    }
+    let mut end = accessor.try_replay_run(LogQueue::Append, 1, &run);
+    if end.is_none() {
+        end = accessor.try_replay_run(LogQueue::Append, 1, &run);
+    }
+    let other = accessor.try_replay_run(LogQueue::Append, 2, &run);
+    Ok(
+        (end, other) == (Some(20), None)
+            && shape(&accessor, 1) == Some((Some(10), Some(24), 15, 0))
+            && accessor.get(2).is_none(),
+    )
+}
+
 /// The region and the last index of the table that is handed out for a region.
 fn handed_out(accessor: &mut MemTableAccessor, region: u64) -> Result<(u64, Option<u64>)> {
     let table = accessor.get_or_insert(region)?;
@@ -342,6 +361,7 @@ fn write_items(alloc: Global) -> Result<bool> {
             && rewrite_what_cannot_be(alloc)?
             && clean(alloc)?
             && count(alloc)?
+            && put_again(alloc)?
             && walk(alloc)?
             && merge_neighbors(alloc)?
             && merge_appended(alloc)?

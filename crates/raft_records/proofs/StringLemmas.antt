@@ -47,7 +47,7 @@ written_more bytes_of index_of xs i start buf new done more x w lt at e fits pus
       keeps = keeps_more start buf (bytes_of x) new w.keeps e;
       bytes = ap (λ (t : List ℕ). t ++ concat (map bytes_of rest)) e ∙ append_assoc buf (bytes_of x) (concat (map bytes_of rest)) ∙ ap (λ ys. buf ++ concat (map bytes_of ys)) next ∙ w.bytes;
       lengths = ap (λ (t : List EntryIndex). t ++ behind) pushed ∙ append_assoc done (entry ∷ []) behind ∙ ap (λ ys. done ++ with_lengths (map (λ y. entry_with_index (index_of y)) ys) (map bytes_of ys)) next ∙ w.lengths;
-      small = λ _. fits
+      small = λ _. fits;
     }
 
 -- ---- lengths

@@ -3,11 +3,12 @@
 ghost use Rattle.std.specs.Prelude.{◌≡◌, OnOk};
 ghost use Rattle.raft_records.specs.LogBatch.{populating};
 
+use crate::files::{file_of, replay_file};
 use AtomicGroupStatus::{Begin, End, Middle};
 use raft_memtable::{Error, FileId, LogQueue, MemTableAccessor, MemTableRecoverContext, Result};
 use raft_records::{
     ATOMIC_GROUP_KEY, AtomicGroupBuilder, AtomicGroupStatus, Command, FilePart, LogBatch,
-    LogFileContext, LogItemBatch, Version, next_batch,
+    LogItemBatch,
 };
 use std::alloc::Global;
 
@@ -44,10 +45,7 @@ fn part(alloc: Global, status: AtomicGroupStatus, key: &[u8], seq: u64) -> Resul
         Vec::from_slice(alloc, key)?,
         Vec::from_slice(alloc, b"v".as_slice())?,
     )?;
-    batch.finish_populate()?;
-    batch.prepare_write(&LogFileContext::new(file(seq), Version::V1));
-    let bytes = Vec::from_slice(alloc, batch.encoded_bytes())?;
-    FilePart::new(file(seq), Version::V1, 0, bytes)
+    file_of(alloc, file(seq), batch)
 }
 
 /// The tables after four batches with these markers, in the files 1 to 4.
@@ -56,9 +54,7 @@ fn read(alloc: Global, statuses: [AtomicGroupStatus; 4]) -> Result<MemTableAcces
     let mut seq = 1u64;
     for (status, key) in statuses.iter().zip(KEYS.iter()) {
         let part = part(alloc, *status, key.as_slice(), seq)?;
-        if let Some((batch, _)) = next_batch(&part, 0)? {
-            context.replay(batch, part.id())?;
-        }
+        replay_file(&mut context, &part)?;
         seq = seq.saturating_add(1);
     }
     context.finish()

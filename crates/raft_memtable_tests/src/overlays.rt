@@ -3,13 +3,11 @@
 ghost use Rattle.std.specs.Prelude.{◌≡◌, OnOk};
 ghost use Rattle.raft_records.specs.LogBatch.{populating};
 
+use crate::files::{file_of, replay_file};
 use raft_memtable::{
     Error, FileId, Kept, LogQueue, MemTableAccessor, MemTableRecoverContext, Result,
 };
-use raft_records::{
-    Command, FilePart, LogBatch, LogFileContext, Message, MessageError, MessageExt, Version,
-    next_batch,
-};
+use raft_records::{Command, FilePart, LogBatch, Message, MessageError, MessageExt};
 use std::alloc::Global;
 
 /// An entry of one byte.
@@ -87,10 +85,7 @@ fn add(alloc: Global, region: u64, word: Word, batch: &mut LogBatch) -> Result<(
 fn part(alloc: Global, region: u64, word: Word, file: FileId) -> Result<FilePart> {
     let mut batch = LogBatch::default(alloc);
     add(alloc, region, word, &mut batch)?;
-    batch.finish_populate()?;
-    batch.prepare_write(&LogFileContext::new(file, Version::V1));
-    let bytes = Vec::from_slice(alloc, batch.encoded_bytes())?;
-    FilePart::new(file, Version::V1, 0, bytes)
+    file_of(alloc, file, batch)
 }
 
 /// Replays a batch for each word, each of a file of its own.
@@ -104,9 +99,7 @@ fn replay(
     let mut seq = 1u64;
     for word in words {
         let part = part(alloc, region, *word, FileId::new(queue, seq))?;
-        if let Some((batch, _)) = next_batch(&part, 0)? {
-            context.replay(batch, part.id())?;
-        }
+        replay_file(context, &part)?;
         seq = seq.saturating_add(1);
     }
     Ok(())

@@ -1,4 +1,4 @@
-//! Tests of `raft_base`, and of the crates of numbers, checksums and sizes that it hands on.
+//! Tests of `raft_base`, of what it hands on, and of `raft_size`.
 #![tactic(auto)]
 
 #[cfg(test)]

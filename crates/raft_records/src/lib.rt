@@ -24,8 +24,7 @@ pub use log_item::{LogItem, LogItemContent};
 pub use log_item_batch::LogItemBatch;
 pub use print::{batch_text, print_batch};
 pub use raft_base::{
-    B, CompressionType, EntryIndex, Error, Factory, FileBlockHandle, FileId, FileSeq, GIB, KIB,
-    LogFileContext, LogQueue, MIB, Message, MessageError, MessageExt, PIB, PipeLog, ReactiveBytes,
-    ReadableSize, Result, SizeError, TIB, Version, codec, compression_type, errors, hash_u64,
-    message, pipe_log, round_down, round_up, size_from_value, unhash_u64, util,
+    CompressionType, EntryIndex, Error, Factory, FileBlockHandle, FileId, FileSeq, LogFileContext,
+    LogQueue, Message, MessageError, MessageExt, PipeLog, ReactiveBytes, Result, Version, codec,
+    compression_type, errors, hash_u64, message, pipe_log, round_down, round_up, unhash_u64, util,
 };

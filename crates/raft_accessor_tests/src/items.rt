@@ -152,7 +152,7 @@ fn appended(alloc: Global, region: u64) -> Result<MemTableAccessor> {
 
 fn clean_regions(alloc: Global, accessor: &mut MemTableAccessor) -> Result<()> {
     let mut items = Vec::new(alloc);
-    for region in [3, 5, 3] {
+    for &region in &[3, 5, 3] {
         items.push(LogItem::new_command(region, Command::Clean))?;
     }
     accessor.replay_append_writes(items)
@@ -273,7 +273,7 @@ fn blank_regions(alloc: Global, accessor: &MemTableAccessor) -> Result<Vec<u64>>
 /// A table is made where there is none and handed out, and a walk meets each.
 fn walk(alloc: Global) -> Result<bool> {
     let mut accessor = appended(alloc, 7)?;
-    for (region, last) in [(7, Some(19)), (8, None), (9, None)] {
+    for &(region, last) in &[(7, Some(19)), (8, None), (9, None)] {
         if handed_out(&mut accessor, region)? != (region, last) {
             return Ok(false);
         }
@@ -339,7 +339,7 @@ fn merge_appended(alloc: Global) -> Result<bool> {
 /// Numbers as raft-engine gives them.
 #[test]
 fn a_region_has_one_slot(rt: HostRuntime) -> std::result::Result<(), Fail> {
-    for (region, slot) in [
+    for &(region, slot) in &[
         (0, 0),
         (1, 101),
         (2, 10),

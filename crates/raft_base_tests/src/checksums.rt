@@ -31,7 +31,7 @@ fn agrees_with_other_programs(rt: HostRuntime) {
     for (k, byte) in bytes.iter_mut().enumerate() {
         *byte = (k % 251) as u8;
     }
-    for (len, checksum) in CHECKSUMS {
+    for &(len, checksum) in &CHECKSUMS {
         assert_eq!(rt; crc32(&bytes[..len.min(5000)]), checksum, "{len} bytes");
     }
 }

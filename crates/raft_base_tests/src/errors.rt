@@ -16,7 +16,7 @@ fn is_text_of(alloc: Global, text: &str, error: &Error) -> bool {
 
 #[test]
 fn texts(rt: HostRuntime) {
-    for (error, text) in [
+    for (error, text) in &[
         (Error::EntryCompacted, "Entry Compacted"),
         (Error::EntryNotFound, "Entry Not Found"),
         (Error::Full, "Full"),
@@ -43,7 +43,7 @@ fn texts(rt: HostRuntime) {
             "Codec Error: eof",
         ),
     ] {
-        assert!(rt; is_text_of(rt.alloc(), text, &error));
+        assert!(rt; is_text_of(rt.alloc(), text, error));
     }
 }
 
@@ -55,7 +55,7 @@ fn texts_with_a_reason(rt: HostRuntime) {
         (Error::TryAgain, "TryAgain Error: why"),
         (Error::Other, "Other Error: why"),
     ];
-    for (error_of, text) in reasons {
+    for &(error_of, text) in &reasons {
         let mut why = String::from_str(rt.alloc(), "why");
         if why.is_err() {
             why = String::from_str(rt.alloc(), "why");

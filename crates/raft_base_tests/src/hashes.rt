@@ -49,7 +49,7 @@ const MULTIPLES: [(usize, usize, usize, usize); 6] = [
 
 #[test]
 fn hashes_are_those_of_the_table(rt: HostRuntime) {
-    for (number, hash, unhashed) in HASHES {
+    for &(number, hash, unhashed) in &HASHES {
         assert_eq!(rt; hash_u64(number), hash, "{number}");
         assert_eq!(rt; unhash_u64(number), unhashed, "{number}");
         assert_eq!(rt; unhash_u64(hash), number);
@@ -66,7 +66,7 @@ fn multiples_round(offset: usize, alignment: usize) -> Option<(usize, usize)> {
 
 #[test]
 fn multiples_are_those_of_the_table(rt: HostRuntime) {
-    for (offset, alignment, above, below) in MULTIPLES {
+    for &(offset, alignment, above, below) in &MULTIPLES {
         assert_eq!(rt; multiples_round(offset, alignment), Some((above, below)));
     }
 }

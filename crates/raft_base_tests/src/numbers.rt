@@ -101,7 +101,7 @@ fn is_short_row(row: (u32, u16, u32, u32, u16, u16)) -> codec::Result<bool> {
 
 #[test]
 fn short_rows(rt: HostRuntime) -> Result<(), Fail> {
-    for row in SHORT_ROWS {
+    for &row in &SHORT_ROWS {
         assert!(rt; is_short_row(row)?);
     }
     Ok(())
@@ -204,7 +204,7 @@ fn are_read(bytes: &[u8], number: u64, signed: i64, left: usize) -> codec::Resul
 
 #[test]
 fn longer_spellings_are_read(rt: HostRuntime) -> Result<(), Fail> {
-    for (bytes, number, signed, left) in VAR_FRONTS {
+    for &(bytes, number, signed, left) in &VAR_FRONTS {
         assert!(rt; are_read(bytes, number, signed, left)?, "at {bytes:?}");
     }
     Ok(())
@@ -217,7 +217,7 @@ fn is_refusal<T: Drop>(read: codec::Result<T>, kind: ErrorKind) -> bool {
 
 #[test]
 fn refused_slices_stay_whole(rt: HostRuntime) {
-    for (bytes, kind) in VAR_FAULTS {
+    for &(bytes, kind) in &VAR_FAULTS {
         let mut buf = bytes;
         assert!(rt; is_refusal(decode_var_u64(&mut buf), kind), "at {bytes:?}");
         assert!(rt; is_refusal(decode_var_i64(&mut buf), kind), "at {bytes:?}");

@@ -58,7 +58,7 @@ fn part_of<P: PipeLog>(pipe: &P, num: u64, den: u64) -> FileSeq
 fn pipes_are_asked_for_parts(rt: HostRuntime) {
     assert_eq!(rt; part_of(&SmallPipe, 0, 1), 3);
     assert_eq!(rt; part_of(&SmallPipe, 1, 1), 8);
-    for (num, file) in [(0, 3), (1, 5), (2, 8), (3, 8)] {
+    for &(num, file) in &[(0, 3), (1, 5), (2, 8), (3, 8)] {
         assert_eq!(rt; part_of(&SmallPipe, num, 2), file);
     }
     let mut bytes = &"abcd";
@@ -81,7 +81,7 @@ fn queues_and_versions_have_numbers(rt: HostRuntime) {
     assert_eq!(rt; LogQueue::Append as u8, 0);
     assert_eq!(rt; LogQueue::Rewrite as u8, 1);
     assert_eq!(rt; Version::default(), Version::V1);
-    for (number, version) in [
+    for &(number, version) in &[
         (0, None),
         (1, Some(Version::V1)),
         (2, Some(Version::V2)),

@@ -23,7 +23,7 @@ fn sizes_are_read(rt: HostRuntime) {
         ("18014398509481983", 18_014_398_509_481_983),
         ("0.99999999999999999K", 1023),
     ];
-    for (text, size) in cases {
+    for &(text, size) in &cases {
         assert_eq!(rt;
             ReadableSize::from_str(text),
             Ok(ReadableSize(size)),
@@ -42,7 +42,7 @@ fn faults_are_told(rt: HostRuntime) {
         ("1e5-", SizeError::Number),
         ("100000000000000000000", SizeError::Digits),
     ];
-    for (text, fault) in cases {
+    for &(text, fault) in &cases {
         assert_eq!(rt; ReadableSize::from_str(text), Err(fault), "{text}");
     }
 }
@@ -58,7 +58,7 @@ fn long_exponents_are_read(rt: HostRuntime) {
         unsigned.map(ReadableSize::from_str),
         Some(Ok(ReadableSize(u64::MAX)))
     );
-    for (sign, size) in [(b'+', u64::MAX), (b'-', 0)] {
+    for &(sign, size) in &[(b'+', u64::MAX), (b'-', 0)] {
         bytes[2] = sign;
         let text = from_utf8(&bytes).ok();
         assert_eq!(rt;
@@ -72,7 +72,7 @@ fn long_exponents_are_read(rt: HostRuntime) {
 #[test]
 fn sizes_are_printed(rt: HostRuntime) {
     let cases = [(3 << 20, "3MiB"), (1 << 49, "512TiB")];
-    for (size, text) in cases {
+    for &(size, text) in &cases {
         let printed = InlineText::<32>::of(ReadableSize(size));
         assert_eq!(rt; printed.as_str(), text);
         assert_eq!(rt; ReadableSize::from_str(text), Ok(ReadableSize(size)));
@@ -157,7 +157,7 @@ fn settings_are_read_and_written(rt: HostRuntime) {
         answer = rewritten(rt.alloc(), text);
     }
     assert!(rt; matches!(&answer, Some(written) if written.as_str() == text));
-    for fault in [
+    for &fault in &[
         "limit = \"1k\"\nformat = 2\n",
         "limit = \"1K\"\nformat = 3\n",
         "limit = \"1K\"\nformat = 0\n",

@@ -28,7 +28,7 @@ const STEP: u64 = 64;
 
 /// Times tables of long and of short blocks.
 pub(crate) fn time(rt: &HostRuntime) -> io::Result<()> {
-    for len in [64, 8, 1] {
+    for &len in &[64, 8, 1] {
         time_appends(rt, len)?;
     }
     time_get(rt)?;

@@ -9,7 +9,7 @@ use std::time::Instant;
 pub(crate) fn time(rt: &HostRuntime) -> Result<()> {
     let mut bytes = Vec::new(rt.alloc());
     Noise::new().fill(&mut bytes, 1 << 24)?;
-    for size in [8usize, 64, 256, 1 << 10, 1 << 12, 1 << 16, 1 << 20, 1 << 24] {
+    for &size in &[8usize, 64, 256, 1 << 10, 1 << 12, 1 << 16, 1 << 20, 1 << 24] {
         time_size(rt, bytes.as_slice(), size)?;
     }
     Ok(())

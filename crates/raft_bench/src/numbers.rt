@@ -10,7 +10,7 @@ const COUNT: usize = 1_000_000;
 
 /// Times the writing and reading of numbers of several lengths.
 pub(crate) fn time(rt: &HostRuntime) -> Result<()> {
-    for bits in [7u32, 14, 28, 56, 64] {
+    for &bits in &[7u32, 14, 28, 56, 64] {
         let mut noise = Noise::new();
         let mut numbers = Vec::new(rt.alloc());
         for _ in 0..COUNT {

@@ -25,7 +25,7 @@ const LOOKUPS: u64 = 1_000_000;
 
 /// Times appends of some threads, and look-ups beside those of an accessor.
 pub(crate) fn time<R: Threads + Wait + Clock + Print + Sync>(rt: &R, alloc: Global) -> Result<()> {
-    for threads in [1, 2, 4] {
+    for &threads in &[1, 2, 4] {
         let best = appended(rt, alloc, threads)?;
         let name = format!(in alloc;
             "append to shared tables by {threads} threads, 8 entries a call"

@@ -87,7 +87,7 @@ fn is_whole(statuses: &[AtomicGroupStatus]) -> bool {
 fn owed(statuses: &[AtomicGroupStatus; 4]) -> Effect {
     let mut keys = [false; 4];
     let mut group = None;
-    for (first, last) in [(0, 1), (0, 2), (1, 2), (0, 3), (1, 3), (2, 3)] {
+    for &(first, last) in &[(0, 1), (0, 2), (1, 2), (0, 3), (1, 3), (2, 3)] {
         if is_whole(&statuses[first..=last]) {
             keys[first..=last].fill(true);
             group = Some((first as u64 + 1, last as u64 + 1));
@@ -116,8 +116,8 @@ fn all_behind_have_effects(
     first: AtomicGroupStatus,
     second: AtomicGroupStatus,
 ) -> Result<bool> {
-    for third in STATUSES {
-        for fourth in STATUSES {
+    for &third in &STATUSES {
+        for &fourth in &STATUSES {
             let statuses = [first, second, third, fourth];
             if !has_effect(alloc, statuses, owed(&statuses))? {
                 return Ok(false);
@@ -129,8 +129,8 @@ fn all_behind_have_effects(
 
 /// Whether all lists of four markers have their effects.
 fn all_have_effects(alloc: Global) -> Result<bool> {
-    for first in STATUSES {
-        for second in STATUSES {
+    for &first in &STATUSES {
+        for &second in &STATUSES {
             if !all_behind_have_effects(alloc, first, second)? {
                 return Ok(false);
             }
@@ -141,7 +141,7 @@ fn all_have_effects(alloc: Global) -> Result<bool> {
 
 #[test]
 fn markers_have_their_effects(rt: HostRuntime) {
-    for (statuses, effect) in [
+    for &(statuses, effect) in &[
         (
             [Begin, Begin, End, End],
             ([false, true, true, false], Some((2, 3))),
@@ -253,7 +253,7 @@ fn markers_are_read(alloc: Global) -> Result<bool> {
 
 /// A batch of an older file is refused, and one of the other queue.
 fn files_are_in_order(alloc: Global) -> Result<bool> {
-    for older in [file(4), FileId::new(LogQueue::Append, 6)] {
+    for &older in &[file(4), FileId::new(LogQueue::Append, 6)] {
         let context = replayed(alloc, &[], file(5))?;
         if !is_refused(alloc, context, batch_with_markers(alloc, &[])?, older)? {
             return Ok(false);

@@ -345,7 +345,7 @@ const NEIGHBOURS: [(LogQueue, LogQueue); 3] = [
 
 /// Neighbours are merged for no other queue than that of both, and the refusal fails the older one.
 fn wrong_neighbours(alloc: Global) -> Result<bool> {
-    for (older, newer) in NEIGHBOURS {
+    for &(older, newer) in &NEIGHBOURS {
         if !are_wrong(alloc, older, newer)? {
             return Ok(false);
         }

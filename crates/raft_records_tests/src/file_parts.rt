@@ -70,7 +70,7 @@ fn batches(rt: HostRuntime) {
 fn batches_stand_one_behind_the_other(rt: &impl Abort, alloc: Global) -> Result<()> {
     let part = part(alloc, BATCHES)?;
     assert!(rt; has_place(&part));
-    for (at, read) in [(0, Some((1, FIRST))), (FIRST, Some((1, 58))), (58, None)] {
+    for &(at, read) in &[(0, Some((1, FIRST))), (FIRST, Some((1, 58))), (58, None)] {
         assert!(rt; counted(&part, at)? == read, "at {at}");
     }
     assert!(rt; has_block(&part)?);
@@ -150,7 +150,7 @@ fn ends(rt: HostRuntime) {
 
 fn parts_end_at_the_last_offset(rt: &impl Abort, alloc: Global) -> Result<()> {
     let end = u64::MAX - 58;
-    for (offset, fits) in [(end, true), (end + 1, false), (u64::MAX, false)] {
+    for &(offset, fits) in &[(end, true), (end + 1, false), (u64::MAX, false)] {
         let bytes = Vec::from_slice(alloc, BATCHES)?;
         match FilePart::new(file(), Version::V2, offset, bytes) {
             Ok(_part) => assert!(rt; fits),

@@ -20,7 +20,7 @@ fn commands(rt: HostRuntime) {
 
 /// Commands are written as these bytes, and read of them.
 fn commands_are_their_bytes(rt: &impl Abort, alloc: Global) -> Result<()> {
-    for (command, bytes) in [
+    for (command, bytes) in &[
         (Command::Clean, b"\x01".as_slice()),
         (Command::Compact { index: 7 }, b"\x02\x07".as_slice()),
         (Command::Compact { index: 300 }, b"\x02\xac\x02".as_slice()),
@@ -35,12 +35,12 @@ fn commands_are_their_bytes(rt: &impl Abort, alloc: Global) -> Result<()> {
 }
 
 /// Whether a command is written as these bytes, and read of them.
-fn is_command(alloc: Global, command: Command, bytes: &[u8]) -> Result<bool> {
+fn is_command(alloc: Global, command: &Command, bytes: &[u8]) -> Result<bool> {
     let mut buf = Vec::new(alloc);
     command.encode(&mut buf)?;
     let mut rest = bytes;
     let read = Command::decode(alloc, &mut rest)?;
-    Ok(buf.as_slice() == bytes && read == command && rest.is_empty())
+    Ok(buf.as_slice() == bytes && read == *command && rest.is_empty())
 }
 
 /// A change of one key.
@@ -88,7 +88,7 @@ fn key_values_are_their_bytes(rt: &impl Abort, alloc: Global) -> Result<()> {
     let del = b"\x02\x03\x64\x65\x6c".as_slice();
     let mut long_put = [0xff; 135];
     long_put[..5].copy_from_slice(b"\x01\x01k\x82\x01");
-    for row in [
+    for row in &[
         (
             OpType::Put,
             b"put".as_slice(),
@@ -116,8 +116,8 @@ fn key_values_are_their_bytes(rt: &impl Abort, alloc: Global) -> Result<()> {
         ),
         (OpType::Del, b"".as_slice(), None, b"\x02\x00".as_slice()),
     ] {
-        assert!(rt; is_pair_written(alloc, &row)?, "{:?}", row.3);
-        assert!(rt; is_pair_read(alloc, &row)?, "{:?}", row.3);
+        assert!(rt; is_pair_written(alloc, row)?, "{:?}", row.3);
+        assert!(rt; is_pair_read(alloc, row)?, "{:?}", row.3);
     }
     Ok(())
 }
@@ -364,7 +364,7 @@ fn empty_batch(rt: HostRuntime) {
 fn empty_batch_is_signed(rt: &impl Abort, alloc: Global) -> Result<()> {
     let mut batch = LogItemBatch::default(alloc);
     assert!(rt; batch.approximate_size() == 12 && batch.entry_index().is_none());
-    for (seq, version, bytes) in [
+    for &(seq, version, bytes) in &[
         (12, Version::V1, b"\x00\x8d\xef\x02\xd2"),
         (12, Version::V2, b"\x00\x81\xef\x02\xd2"),
         (13, Version::V2, b"\x00\x80\xef\x02\xd2"),

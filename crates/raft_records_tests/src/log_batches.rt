@@ -194,7 +194,7 @@ fn is_made(alloc: Global, batch: &mut LogBatch, row: &Row) -> Result<bool> {
     let len = batch.finish_populate()?;
     let mut same = batch.approximate_size() == len
         && len.checked_sub(row.front.len()) == Some(row.seals[0].len());
-    for (seal, seq, version) in [
+    for &(seal, seq, version) in &[
         (row.seals[0], 12, Version::V1),
         (row.seals[1], 12, Version::V2),
         (row.seals[2], 13, Version::V2),
@@ -301,7 +301,7 @@ fn refused_additions(rt: HostRuntime) {
 
 /// What each call is refused for, if it is, and the batch's approximate size behind it.
 fn refused_additions_leave_the_batch(rt: &impl Abort, alloc: Global) -> Result<()> {
-    for (number, refusal, size) in [
+    for &(number, refusal, size) in &[
         (0, Refusal::InvalidArgument, 0),
         (1, Refusal::InvalidArgument, 0),
         (2, Refusal::Message, 0),
@@ -346,12 +346,12 @@ fn is_read_where_signed(alloc: Global) -> Result<bool> {
     let mut batch = with_one_of_each(alloc)?;
     batch.finish_populate()?;
     let mut same = true;
-    for seq in [12, 18, 2001] {
+    for &seq in &[12, 18, 2001] {
         if !batch.ready() {
             return Ok(false);
         }
         let bytes = batch.as_bytes(&context(seq, Version::V2));
-        for reader in [12, 18, 2001] {
+        for &reader in &[12, 18, 2001] {
             same &= is_read(alloc, bytes, reader, b"abc")? == (seq == reader);
         }
     }

@@ -243,7 +243,7 @@ fn entry_blocks_end_in_their_checksum(rt: &impl Abort, alloc: Global) -> Result<
     for row in block_rows() {
         assert!(rt; is_block_row(alloc, row)?, "{} bytes of {:?}", row.1, row.0);
     }
-    for len in [8, 16, usize::MAX] {
+    for &len in &[8, 16, usize::MAX] {
         assert!(rt; is_cut_short(alloc, len)?, "{len} bytes of 7");
     }
     Ok(())
@@ -318,7 +318,7 @@ const COUNT_WITHOUT_ENTRIES: &[u8] = b"\x01\x01\x01\x80\x80\x80\x80\x80\x20\x01\
 
 #[test]
 fn counts_make_no_room(rt: HostRuntime) {
-    for bytes in [COUNT_WITHOUT_ITEMS, COUNT_WITHOUT_ENTRIES] {
+    for &bytes in &[COUNT_WITHOUT_ITEMS, COUNT_WITHOUT_ENTRIES] {
         let mut buf = bytes;
         let mut read = item_batch(rt.alloc(), &mut buf, Version::V1, 12);
         if matches!(read, Err(Error::Memory)) {

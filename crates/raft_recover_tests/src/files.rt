@@ -51,7 +51,7 @@ fn files_are_cut_where_workers_would_wait(rt: HostRuntime) -> Result<()> {
 }
 
 fn cut_files(rt: &impl Abort, alloc: Global) -> Result<()> {
-    for (count, workers, segments) in FILES {
+    for &(count, workers, segments) in &FILES {
         assert_eq!(rt;
             segment_count(alloc, count, workers)?,
             segments,

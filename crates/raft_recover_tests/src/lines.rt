@@ -53,7 +53,7 @@ fn tables(alloc: Global) -> Result<MemTableAccessor> {
     put(alloc, &mut accessor, 300)?;
     accessor.change(9, TableChange::Keep)?;
     append(alloc, &mut accessor, 7)?;
-    for region in [5, 3] {
+    for &region in &[5, 3] {
         accessor.remove(region, true)?;
     }
     Ok(accessor)

@@ -48,7 +48,7 @@ fn holds<R: Threads + Sync>(rt: &R, alloc: Global, row: &Row, workers: usize) ->
 #[test]
 fn files_have_their_lines(rt: HostRuntime) {
     for row in rows() {
-        for workers in [1, 2, 4, 8, 256] {
+        for &workers in &[1, 2, 4, 8, 256] {
             let mut held = holds(&rt, rt.alloc(), row, workers);
             if matches!(held, Err(Error::Memory)) {
                 held = holds(&rt, rt.alloc(), row, workers);
@@ -146,7 +146,7 @@ fn lines_of<R: Threads + Sync>(
 
 #[test]
 fn no_cut_shows(rt: HostRuntime) {
-    for (queue, batches, lines) in [
+    for &(queue, batches, lines) in &[
         (LogQueue::Append, &APPENDED, APPENDED_LINES),
         (LogQueue::Rewrite, &REWRITTEN, REWRITTEN_LINES),
     ] {
@@ -261,7 +261,7 @@ fn replay(
 /// Whether a context that refused a file below the last one answers `Failed` from then on.
 fn stays_failed(alloc: Global) -> Result<bool> {
     let mut context = MemTableRecoverContext::new(alloc)?;
-    for (seq, refusal) in [
+    for &(seq, refusal) in &[
         (5, None),
         (4, Some(Refusal::Corruption)),
         (6, Some(Refusal::Failed)),
@@ -327,7 +327,7 @@ const MIXED_PARTS: [&[LogQueue]; 3] = [
 
 #[test]
 fn other_workers_and_parts_are_refused(rt: HostRuntime) {
-    for (workers, queues, refused) in [
+    for &(workers, queues, refused) in &[
         (0, APPEND_PARTS, true),
         (1, APPEND_PARTS, false),
         (256, APPEND_PARTS, false),

@@ -262,7 +262,7 @@ fn run_on_files<S: Files + AllocGlobal + Threads + Sync>(
     write(rt, "two_entries.log", TWO_ENTRIES, length)?;
     write(rt, "clean=1.log", CLEAN, usize::MAX)?;
     let answer = run_on(rt, line, "");
-    for path in ["two_entries.log", "clean=1.log"] {
+    for &path in &["two_entries.log", "clean=1.log"] {
         fs::remove_file(rt, path).ok()?;
     }
     answer
@@ -278,7 +278,7 @@ fn write<S: Files + AllocGlobal>(rt: &S, path: &str, digits: &str, length: usize
 /// Where an allocation is refused the row runs again, and has to find memory.
 #[test]
 fn files(rt: HostRuntime) {
-    for (line, length, status, out, err) in [
+    for &(line, length, status, out, err) in &[
         (ONE, 0, 0, "cleaned -\nlive 0 0\n", ""),
         (ONE, 33, 1, "", CORRUPTION),
         (ONE, 34, 0, TWO_LINES, ""),

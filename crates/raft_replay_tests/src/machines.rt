@@ -93,7 +93,7 @@ fn numbers_are_drawn_once(rt: HostRuntime) {
 
 #[test]
 fn too_many_seats_are_refused(rt: HostRuntime) {
-    for (total, seats) in [(1 << 62, 1), (3, 0), (3, 1 << 62)] {
+    for &(total, seats) in &[(1 << 62, 1), (3, 0), (3, 1 << 62)] {
         let refused = Tickets::open(rt.alloc(), total, seats);
         assert!(rt; matches!(refused, Err(Error::InvalidArgument(_) | Error::Memory)));
     }
@@ -101,7 +101,7 @@ fn too_many_seats_are_refused(rt: HostRuntime) {
 
 #[test]
 fn pieces_are_counted(rt: HostRuntime) {
-    for (draws, pieces) in [
+    for &(draws, pieces) in &[
         ([0, 1, 1, 0, 1].as_slice(), 4),
         ([0].as_slice(), 1),
         ([1].as_slice(), 2),
@@ -183,7 +183,7 @@ fn has_all_batches(alloc: Global, workers: usize, draws: &[usize]) -> Result<Opt
 /// Whether five segments and a plan of three pieces are refused where the draws make four pieces, where a third worker
 /// draws and where there are 0 or 257 workers, and are read else.
 fn misfits(alloc: Global) -> Result<bool> {
-    for (workers, draws, read) in [
+    for &(workers, draws, read) in &[
         (2, [0, 1, 1, 0, 1], None),
         (2, [0, 2, 2, 0, 0], None),
         (0, [0, 1, 1, 0, 0], None),
@@ -233,14 +233,14 @@ fn by_workers<R: Threads + Sync>(rt: &R, alloc: Global, workers: usize) -> Resul
 
 #[test]
 fn workers_give_one_reading(rt: HostRuntime) {
-    for workers in [1, 2, 4, 256] {
+    for &workers in &[1, 2, 4, 256] {
         let mut all = by_workers(&rt, rt.alloc(), workers);
         if matches!(all, Err(Error::Memory)) {
             all = by_workers(&rt, rt.alloc(), workers);
         }
         assert!(rt; matches!(all, Ok(true)));
     }
-    for workers in [0, 257] {
+    for &workers in &[0, 257] {
         let refused = by_workers(&rt, rt.alloc(), workers);
         assert!(rt; matches!(refused, Err(Error::InvalidArgument(_) | Error::Memory)));
     }
@@ -269,7 +269,7 @@ fn passes<R: Threads + Clock + Send + Sync + Copy + Drop>(
 
 #[test]
 fn no_worker_waits_for_another(rt: HostRuntime) {
-    for held in [(0, 1), (1, 2)] {
+    for &held in &[(0, 1), (1, 2)] {
         let mut all = passes(&rt, rt.alloc(), held);
         if matches!(all, Err(Error::Memory)) {
             all = passes(&rt, rt.alloc(), held);

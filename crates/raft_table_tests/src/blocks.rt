@@ -140,7 +140,7 @@ fn pair(alloc: Global, first: u64) -> Result<Vec<EntryIndex>> {
         len: 64,
     };
     let mut pair = Vec::new(alloc);
-    for index in [first, first.saturating_add(1)] {
+    for &index in &[first, first.saturating_add(1)] {
         pair.push(EntryIndex {
             index,
             entries: Some(block),
@@ -166,7 +166,7 @@ fn append_pair(alloc: Global, store: &mut LogStore, first: u64) -> Result<()> {
 
 fn join_runs(rt: &impl Abort, alloc: Global) -> Result<()> {
     let mut store = LogStore::new(alloc);
-    for (first, count) in [(10, 2), (12, 4), (11, 3)] {
+    for &(first, count) in &[(10, 2), (12, 4), (11, 3)] {
         append_pair(alloc, &mut store, first)?;
         assert!(rt; has_blocks(&store.table, &[(1, count)]), "{first}");
     }

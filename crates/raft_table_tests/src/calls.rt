@@ -14,7 +14,7 @@ type Row = (Call, Answer, Shape);
 
 /// Makes the calls of the rows on an empty store.
 fn follow(rt: &impl Abort, alloc: Global, rows: &[Row]) {
-    for by_value in [false, true] {
+    for &by_value in &[false, true] {
         let mut store = LogStore::new(alloc);
         for (call, answer, shape) in rows {
             assert_eq!(rt; store.apply(*call, by_value), *answer, "{call:?}");

@@ -9,7 +9,7 @@ use std::process::Abort;
 /// Ten appended entries and a rewritten key.
 fn both_queues(alloc: Global) -> Result<LogStore> {
     let mut store = LogStore::new(alloc);
-    for call in [Append(of(0, 10, 1)), Put(LogQueue::Rewrite, 5)] {
+    for &call in &[Append(of(0, 10, 1)), Put(LogQueue::Rewrite, 5)] {
         store.direct(call)?;
     }
     Ok(store)

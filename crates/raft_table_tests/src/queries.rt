@@ -215,10 +215,10 @@ fn ask_queues(rt: &impl Abort, alloc: Global) -> Result<()> {
     let table = &store.table;
     assert!(rt; counts(table) == (2, 10, 10));
     assert!(rt; group(table) == Some((3, 7)));
-    for (index, file) in [(9, Some(50)), (10, Some(2)), (20, None)] {
+    for &(index, file) in &[(9, Some(50)), (10, Some(2)), (20, None)] {
         assert!(rt; file_at(table, index) == file, "{index}");
     }
-    for (seq, count, want) in [
+    for &(seq, count, want) in &[
         (50, 10, true),
         (49, 10, false),
         (2, 11, true),
@@ -242,7 +242,7 @@ fn pairs_are_found_and_handed_out(rt: HostRuntime) -> Result<()> {
 /// A store of three keys, of which the second is rewritten.
 fn store_of_keys(alloc: Global) -> Result<LogStore> {
     let mut store = LogStore::new(alloc);
-    for (key, queue, seq) in [
+    for &(key, queue, seq) in &[
         (b"1", LogQueue::Append, 1),
         (b"3", LogQueue::Append, 3),
         (b"2", LogQueue::Rewrite, 2),

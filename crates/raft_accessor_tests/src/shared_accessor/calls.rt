@@ -195,7 +195,7 @@ fn accessor(alloc: Global) -> Result<MemTableAccessor> {
     }
     append(alloc, &mut core, 3, 13, NEWER)?;
     rewrite(alloc, &mut core)?;
-    for region in [9, 2000] {
+    for &region in &[9, 2000] {
         core.remove(region, true)?;
     }
     Ok(core)
@@ -306,7 +306,7 @@ fn call_shared<R: Wait>(
 /// Whether cleaned regions of one slot stay listed in order, each as often as it was cleaned.
 fn is_list_kept<R: Wait>(rt: &R, alloc: Global) -> Result<bool> {
     let mut core = MemTableAccessor::new(alloc)?;
-    for region in [3, 73, 3, 3] {
+    for &region in &[3, 73, 3, 3] {
         core.remove(region, true)?;
     }
     let shared = SharedAccessor::from_core(alloc, core)?;

@@ -107,7 +107,7 @@ const REFUSED: [(&str, SizeError); 25] = [
 
 #[test]
 fn sizes_are_printed_so(rt: HostRuntime) {
-    for (size, text) in PRINTED {
+    for &(size, text) in &PRINTED {
         let printed = InlineText::<32>::of(ReadableSize(size));
         assert_eq!(rt; printed.as_str(), text);
         assert_eq!(rt; ReadableSize::from_str(text), Ok(ReadableSize(size)));
@@ -116,7 +116,7 @@ fn sizes_are_printed_so(rt: HostRuntime) {
 
 #[test]
 fn texts_stand_for_sizes(rt: HostRuntime) {
-    for (text, size) in READ {
+    for &(text, size) in &READ {
         assert_eq!(rt;
             ReadableSize::from_str(text),
             Ok(ReadableSize(size)),
@@ -127,7 +127,7 @@ fn texts_stand_for_sizes(rt: HostRuntime) {
 
 #[test]
 fn other_texts_are_refused(rt: HostRuntime) {
-    for (text, fault) in REFUSED {
+    for &(text, fault) in &REFUSED {
         assert_eq!(rt; ReadableSize::from_str(text), Err(fault), "{text}");
     }
 }

@@ -228,7 +228,7 @@ impl History {
     /// Whether the history has these lines, or is refused, at each cutting, merged in each order.
     fn at_each_cutting(&self, lines: Option<&str>) -> Result<bool> {
         for cuts in 0..self.cuttings() {
-            for order in ORDERS {
+            for &order in &ORDERS {
                 if !self.holds(cuts, order, lines)? {
                     return Ok(false);
                 }
@@ -240,7 +240,7 @@ impl History {
     /// Whether at most one item waits in the whole, at each cutting, merged in each order.
     fn leaves_one_item(&self) -> Result<bool> {
         for cuts in 0..self.cuttings() {
-            for order in ORDERS {
+            for &order in &ORDERS {
                 let Some(whole) = self.whole(cuts, order)? else {
                     return Ok(false);
                 };
@@ -292,7 +292,7 @@ fn one_item_is_left(alloc: Global, files: &[(FileSeq, &str)]) -> Result<bool> {
 
 #[test]
 fn merged_groups_hold_little(rt: HostRuntime) {
-    for files in [BESIDE.as_slice(), REWRITTEN.as_slice()] {
+    for &files in &[BESIDE.as_slice(), REWRITTEN.as_slice()] {
         let mut one = one_item_is_left(rt.alloc(), files);
         if matches!(one, Err(Error::Memory)) {
             one = one_item_is_left(rt.alloc(), files);
@@ -313,7 +313,7 @@ fn batches_hold_little(
 
 #[test]
 fn merged_contexts_hold_little(rt: HostRuntime) {
-    for (queue, batches, lines) in [
+    for &(queue, batches, lines) in &[
         (LogQueue::Append, &APPENDED, APPENDED_LINES),
         (LogQueue::Rewrite, &REWRITTEN, REWRITTEN_LINES),
     ] {

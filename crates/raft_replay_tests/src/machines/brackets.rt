@@ -115,7 +115,7 @@ fn end_by_rule<R: Threads + Sync>(rt: &R, alloc: Global) -> Result<bool> {
         return Ok(false);
     }
     let pairs = pairs(alloc)?;
-    for count in [0, 3, 5] {
+    for &count in &[0, 3, 5] {
         match merged(rt, alloc, count, &pairs) {
             Err(Error::InvalidArgument(_)) => {}
             Err(error) => return Err(error),
@@ -167,7 +167,7 @@ fn is_worked<R: Threads + Clock + Send + Sync + Copy + Drop>(
 
 #[test]
 fn workers_make_pieces_and_merge_them_by_halves(rt: HostRuntime) {
-    for (workers, count, waiting, text) in WORKED {
+    for &(workers, count, waiting, text) in &WORKED {
         let mut worked = is_worked(&rt, rt.alloc(), workers, count, waiting, text);
         if matches!(worked, Err(Error::Memory)) {
             worked = is_worked(&rt, rt.alloc(), workers, count, waiting, text);

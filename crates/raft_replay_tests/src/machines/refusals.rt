@@ -116,7 +116,7 @@ fn told<R: Threads + Clock + Send + Sync + Copy + Drop>(
 /// A part of another queue is refused before anything is done.
 #[test]
 fn refusals_are_handed_on(rt: HostRuntime) {
-    for (by_worker, files, given, what) in REFUSALS {
+    for &(by_worker, files, given, what) in &REFUSALS {
         let mut answer = told(&rt, rt.alloc(), by_worker, files, given);
         if matches!(answer, Err(Error::Memory)) {
             answer = told(&rt, rt.alloc(), by_worker, files, given);

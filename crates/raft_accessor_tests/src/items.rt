@@ -234,22 +234,43 @@ fn count(alloc: Global) -> Result<bool> {
     )
 }
 
-/// A run that is read again is put where its region has a table, and makes none where there is none.
-fn put_again(alloc: Global) -> Result<bool> {
-    let mut accessor = appended(alloc, 1)?;
-    let run = run(alloc, 20, 25, FIRST)?;
-    if !is_run(&run, LogQueue::Append) {
+/// Whether a run that is read again is put behind a region's entries, and makes no table of region 9.
+fn is_put_again(
+    alloc: Global,
+    accessor: &mut MemTableAccessor,
+    file: FileId,
+    region: u64,
+    start: u64,
+    end: u64,
+) -> Result<bool> {
+    let run = run(alloc, start, end, file)?;
+    if !is_run(&run, file.queue) {
         return Ok(false);
     }
-    let mut end = accessor.try_replay_run(LogQueue::Append, 1, &run);
-    if end.is_none() {
-        end = accessor.try_replay_run(LogQueue::Append, 1, &run);
+    let mut put = accessor.try_replay_run(file.queue, region, &run);
+    if put.is_none() {
+        put = accessor.try_replay_run(file.queue, region, &run);
     }
-    let other = accessor.try_replay_run(LogQueue::Append, 2, &run);
+    let other = accessor.try_replay_run(file.queue, 9, &run);
+    Ok((put, other) == (Some(start), None) && accessor.get(9).is_none())
+}
+
+/// A run of the append queue is put again.
+fn append_again(alloc: Global) -> Result<bool> {
+    let mut accessor = appended(alloc, 1)?;
     Ok(
-        (end, other) == (Some(20), None)
-            && shape(&accessor, 1) == Some((Some(10), Some(24), 15, 0))
-            && accessor.get(2).is_none(),
+        is_put_again(alloc, &mut accessor, FIRST, 1, 20, 25)?
+            && shape(&accessor, 1) == Some((Some(10), Some(24), 15, 0)),
+    )
+}
+
+/// A run of the rewrite queue is put again.
+fn rewrite_again(alloc: Global) -> Result<bool> {
+    let mut accessor = MemTableAccessor::new(alloc)?;
+    Ok(
+        replay(alloc, &mut accessor)?
+            && is_put_again(alloc, &mut accessor, REWRITTEN, 2, 4, 9)?
+            && shape(&accessor, 2) == Some((Some(1), Some(8), 0, 9)),
     )
 }
 
@@ -361,7 +382,8 @@ fn write_items(alloc: Global) -> Result<bool> {
             && rewrite_what_cannot_be(alloc)?
             && clean(alloc)?
             && count(alloc)?
-            && put_again(alloc)?
+            && append_again(alloc)?
+            && rewrite_again(alloc)?
             && walk(alloc)?
             && merge_neighbors(alloc)?
             && merge_appended(alloc)?

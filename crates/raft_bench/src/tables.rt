@@ -206,13 +206,20 @@ fn time_append(rt: &HostRuntime) -> io::Result<()> {
     )
 }
 
+/// Compacts all regions to an index. Answers how many entries were dropped.
+fn compact_each(regions: &mut Vec<Region>, index: u64) -> u64 {
+    let mut dropped = 0u64;
+    for region in regions.iter_mut() {
+        dropped = dropped.saturating_add(region.compact_to(index));
+    }
+    dropped
+}
+
 /// Compacts all regions step by step. Answers how many entries were dropped.
 fn compact_all(regions: &mut Vec<Region>) -> u64 {
     let mut dropped = 0u64;
     for step in 1..=ENTRIES / STEP {
-        for region in regions.iter_mut() {
-            dropped = dropped.saturating_add(region.compact_to(1 + step * STEP));
-        }
+        dropped = dropped.saturating_add(compact_each(regions, 1 + step * STEP));
     }
     dropped
 }

@@ -30,9 +30,7 @@ fn bytes_of(alloc: Global, batches: usize, behind: usize) -> Result<Vec<u8>> {
     for _ in 0..batches {
         bytes.extend_from_slice(CLEAN.as_slice())?;
     }
-    for _ in 0..behind {
-        bytes.push(255)?;
-    }
+    bytes.resize(bytes.len().saturating_add(behind), 255)?;
     Ok(bytes)
 }
 

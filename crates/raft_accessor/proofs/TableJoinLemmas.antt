@@ -8,11 +8,11 @@ use Rattle.raft_base.specs.declared.pipe_log.LogQueue.{LogQueue}
 use Rattle.raft_history.specs.RegionSteps.{Tables, with_table}
 use Rattle.raft_table.specs.Counts.{Counts}
 use Rattle.raft_table.specs.MarkJoins.{end_at_reach}
-use Rattle.raft_table.specs.MarkMerge.{IsFaultUnder, IsFirstRunFault, IsRunOver}
-use Rattle.raft_table.specs.Marks.{Mark, is_first_run_refused, table_over, applied}
+use Rattle.raft_table.specs.MarkMerge.{IsFaultUnder, IsMarkFault, IsRunOver}
+use Rattle.raft_table.specs.Marks.{Mark, entries_within, is_refused_over, table_over, applied}
 use Rattle.raft_table.specs.Steps.{table_of, there_if}
 use Rattle.raft_table.specs.Table.{Table, empty_table, live_of, IsRecounted}
-use Rattle.raft_table.specs.TableEntries.{end_of, from}
+use Rattle.raft_table.specs.TableEntries.{end_of}
 use Rattle.raft_table.proofs.MarkTables.{applied_none}
 use Rattle.raft_table.proofs.RegionLemmas.{applied_own}
 use Rattle.raft_table.proofs.TableLemmas.{live_of_empty}
@@ -50,7 +50,7 @@ there_now : (old : Tables) (id : ℕ) (t : Table) → finite.get old id ≡ Some
 there_now old id t e = ap (table_of id) e
 
 nothing_at_reach : (m : Mark) (id : ℕ) → 0 ≡ end_at_reach m (empty_table id)
-unfolding from end_of
+unfolding entries_within end_of
 nothing_at_reach m id = refl
 
 -- nor is there an older one
@@ -86,7 +86,7 @@ empty_joined queue m old id counts t r new after e live p = record {
     same = subst (λ o. applied queue id m None o ≡ applied queue id m (Some (empty_table id)) o) (sym e) (ap (λ b. there_if b (table_over queue m (empty_table id) t)) (there m.cleaned live))
 
 -- the older one goes
-pub cleaned_joined : (queue : LogQueue) (m : Mark) (old : Tables) (id : ℕ) (counts : Counts) (t : Table) (end : ℕ) (new : Tables) (after : Counts) → finite.get old id ≡ Some t → m.cleaned ≡ true → is_first_run_refused queue m t.entries ≡ false → end ≡ end_at_reach m t → new ≡ finite.remove old id
+pub cleaned_joined : (queue : LogQueue) (m : Mark) (old : Tables) (id : ℕ) (counts : Counts) (t : Table) (end : ℕ) (new : Tables) (after : Counts) → finite.get old id ≡ Some t → m.cleaned ≡ true → is_refused_over queue m t.entries ≡ false → end ≡ end_at_reach m t → new ≡ finite.remove old id
     → IsRecounted (table_in old id) (empty_table id) counts after → IsTableJoined queue m None old id counts (Ok end) new after
 cleaned_joined queue m old id counts t end new after e cleaned accepted answer gone recounted =
     let none : finite.get new id ≡ None = ap (λ n. finite.get n id) gone ∙ get_gone old id in
@@ -100,11 +100,11 @@ cleaned_joined queue m old id counts t end new after e cleaned accepted answer g
     }
 
 -- or the meeting is refused
-pub first_run_refused : (queue : LogQueue) (m : Mark) (old : Tables) (id : ℕ) (counts : Counts) (t : Table) (x : Error) → finite.get old id ≡ Some t → IsFirstRunFault (is_first_run_refused queue m t.entries) x → IsTableJoined queue m None old id counts (Err x) old counts
-first_run_refused queue m old id counts t x e f = record { ok = λ run. tt; answer = tt; fault = λ run. go x f; few = tt; one = sym (with_same old id); recounted = λ q. refl }
+pub mark_refused : (queue : LogQueue) (m : Mark) (old : Tables) (id : ℕ) (counts : Counts) (t : Table) (x : Error) → finite.get old id ≡ Some t → IsMarkFault (is_refused_over queue m t.entries) x → IsTableJoined queue m None old id counts (Err x) old counts
+mark_refused queue m old id counts t x e f = record { ok = λ run. tt; answer = tt; fault = λ run. go x f; few = tt; one = sym (with_same old id); recounted = λ q. refl }
   where
-    go : (x : Error) → IsFirstRunFault (is_first_run_refused queue m t.entries) x → IsFaultUnder queue counts m (empty_table id) (table_in old id) x
-    go (errors.Corruption text) f = ap (λ (u : Table). is_first_run_refused queue m u.entries) (there_now old id t e) ∙ f
+    go : (x : Error) → IsMarkFault (is_refused_over queue m t.entries) x → IsFaultUnder queue counts m (empty_table id) (table_in old id) x
+    go (errors.Corruption text) f = ap (λ (u : Table). is_refused_over queue m u.entries) (there_now old id t e) ∙ f
     go errors.Memory f = tt
     go _ f = absurd f
 

@@ -19,7 +19,7 @@ use Rattle.raft_history.specs.RegionSteps.{Tables, with_table}
 use Rattle.raft_table.specs.TableEntries.{IsRunIn}
 use Rattle.raft_table.specs.Queues.{other}
 use Rattle.raft_table.specs.Steps.{table_of}
-use Rattle.raft_table.specs.Table.{Table, after_append, after_replay, after_rewrite, after_rewrite_key, compacted, with_pair, without_key, live_of}
+use Rattle.raft_table.specs.Table.{Table, after_append, after_replay, after_rewrite, after_rewrite_key, compacted, truncated, with_pair, without_key, live_of}
 use Rattle.raft_accessor.specs.Accessor.{Accessor, live_in_all}
 
 -- how items are written: as new ones of the append queue, as read again from a queue, or by a rewriting with this gate to this file
@@ -71,11 +71,13 @@ with_change (Rewriting gate seq) t p = after_rewrite_pair gate seq t p.op_type p
 abbrev pub after_command : ℕ → Option Table → Command → Option (Option Table)
 after_command id o commands.Clean = Some None
 after_command id o (commands.Compact index) = Some (Some (compacted index (table_of id o)))
+after_command id o (commands.Truncate index) = Some (Some (truncated index (table_of id o)))
 
--- a region's table after a command by a rewriting, for which a Clean changes nothing and a Compact is refused
+-- a region's table after a command by a rewriting, for which a Clean changes nothing and a Compact or a Truncate is refused
 abbrev pub after_rewrite_command : Option Table → Command → Option (Option Table)
 after_rewrite_command o commands.Clean = Some o
 after_rewrite_command o (commands.Compact index) = None
+after_rewrite_command o (commands.Truncate index) = None
 
 -- a region's table, or its absence, after a command
 abbrev pub commanded : Writing → ℕ → Option Table → Command → Option (Option Table)
@@ -127,6 +129,7 @@ lists (Rewriting gate file) = false
 abbrev pub cleaned_by_command : ℕ → Command → List ℕ
 cleaned_by_command id commands.Clean = id ∷ []
 cleaned_by_command id (commands.Compact index) = []
+cleaned_by_command id (commands.Truncate index) = []
 
 -- the region that a content cleans
 abbrev pub cleaned_by_content : ℕ → Content → List ℕ

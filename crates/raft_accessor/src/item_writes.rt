@@ -11,7 +11,7 @@ ghost use Rattle.raft_table.specs.KeyValues.{file_at};
 ghost use Rattle.raft_table.specs.Queues.{other};
 ghost use Rattle.raft_table.specs.Rewriting.{rewritten, IsRewriteFault};
 ghost use Rattle.raft_table.specs.Start.{appended, replayed, IsTableRunFault};
-ghost use Rattle.raft_table.specs.Table.{Table, after_append, after_replay, after_rewrite, after_rewrite_key, compacted, with_pair, without_key, live_of, IsTablePutFault, IsKeyRewriteFault, IsCounted, IsRecounted};
+ghost use Rattle.raft_table.specs.Table.{Table, after_append, after_replay, after_rewrite, after_rewrite_key, compacted, truncated, with_pair, without_key, live_of, IsTablePutFault, IsKeyRewriteFault, IsCounted, IsRecounted};
 ghost use Rattle.raft_accessor.specs.Accessor.{table_in};
 ghost use Rattle.raft_accessor.specs.ItemWrites.{IsItemWritten, pair_change};
 ghost use Rattle.raft_accessor.specs.Updates.{IsTaken, IsReplayFault, IsRefusal};
@@ -97,8 +97,8 @@ impl RegionTables {
     ///
     /// # Errors
     ///
-    /// `Corruption` for a `Compact`, a deletion and a `Put` without a value, where the entries are no
-    /// run of the rewrite queue, and where the call of the table refuses what it is asked; `Full`
+    /// `Corruption` for a `Compact`, a `Truncate`, a deletion and a `Put` without a value, where the
+    /// entries are no run of the rewrite queue, and where the call of the table refuses what it is asked; `Full`
     /// where more than 2^64 - 1 records would be live; `Memory`. The tables are then as they were.
     pub fn rewrite_item(
         &mut self,
@@ -181,7 +181,7 @@ impl RegionTables {
         self.rewrite_run(id, run, gate, stats)
     }
 
-    /// Refuses a compaction that was rewritten. A `Clean` changes nothing.
+    /// Refuses a compaction and a truncation, which no rewriting makes. A `Clean` changes nothing.
     fn rewrite_command(&self, id: u64, command: Command) -> Result<()>
         ensures { (gate : Option ℕ) (seq : ℕ) (counts : Counts) (list : List ℕ)
             → IsItemWritten (Rewriting gate seq) (command_item id command)
@@ -191,6 +191,9 @@ impl RegionTables {
             Command::Clean => Ok(()),
             Command::Compact { index: _ } => {
                 Err(corruption(self.allocator(), "a compaction is rewritten"))
+            }
+            Command::Truncate { index: _ } => {
+                Err(corruption(self.allocator(), "a truncation is rewritten"))
             }
         }
     }
@@ -211,6 +214,7 @@ impl RegionTables {
         match command {
             Command::Clean => self.clean(queue, id, stats, cleaned),
             Command::Compact { index } => self.compact(id, index, stats),
+            Command::Truncate { index } => self.truncate(id, index, stats),
         }
     }
 
@@ -357,6 +361,22 @@ impl RegionTables {
             stats,
             move |table: &mut MemTable, stats: &mut GlobalStats| {
                 table.compact_to(index, stats);
+                Ok(())
+            },
+        )
+    }
+
+    /// Drops the entries at or above an index.
+    pub(crate) fn truncate(&mut self, id: u64, index: u64, stats: &mut GlobalStats) -> Result<()>
+        requires { IsCounted (table_in self.old id) stats.old }
+        ensures { IsTaken (Some (truncated index (table_in self.old id))) (λ e. ⊥)
+            self.old id stats.old result self.new stats.new }
+    {
+        self.update(
+            id,
+            stats,
+            move |table: &mut MemTable, stats: &mut GlobalStats| {
+                table.truncate_from(index, stats);
                 Ok(())
             },
         )

@@ -151,7 +151,7 @@ impl RegionTables {
     }
 
     /// Does what a change says to a region's table, which is made where there is none. The number is
-    /// how many entries a compaction drops, else 0.
+    /// how many entries a compaction or a truncation drops, else 0.
     ///
     /// # Errors
     ///

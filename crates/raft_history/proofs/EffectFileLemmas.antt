@@ -12,7 +12,7 @@ use Rattle.raft_records.specs.declared.key_value.OpType.{OpType}
 use Rattle.raft_records.specs.declared.key_value.OpType.TheVariants as operations
 use Rattle.raft_records.specs.Group.{is_reserved}
 use Rattle.raft_records.specs.Item.{Item, Content, entries, command, pair}
-use Rattle.raft_table.specs.Steps.{Step, Run, Compact, Put, Del, AtomicGroup, Clean}
+use Rattle.raft_table.specs.Steps.{Step, Run, Compact, Truncate, Put, Del, AtomicGroup, Clean}
 use Rattle.raft_table.proofs.MarkEntries.{same_some}
 use Rattle.raft_history.specs.Batches.{Event, GroupMarker, ReadBatch, batches}
 use Rattle.raft_history.specs.Effects.{Effect, ended, completed_as, completed_by, completed, effects_behind, effects, whole_steps, region_steps_in, steps_by, steps_in, all_steps, steps_of, first_by, first_in, last_in, Names, AreApart, EachApart}
@@ -65,6 +65,7 @@ content_here : (file : FileId) (content : Content) (s : Step) → IsInFile file 
 content_here file (entries es) s h e = subst (StepRises file.queue file.seq file.seq) (same_some (Run es) s e) (run_here file es h.1)
 content_here file (command commands.Clean) s h e = subst (StepRises file.queue file.seq file.seq) (same_some Clean s e) (omega arith)
 content_here file (command (commands.Compact index)) s h e = subst (StepRises file.queue file.seq file.seq) (same_some (Compact index) s e) (omega arith)
+content_here file (command (commands.Truncate index)) s h e = subst (StepRises file.queue file.seq file.seq) (same_some (Truncate index) s e) (omega arith)
 content_here file (pair p) s h e = go (is_reserved p.key) e
   where
     put : (value : Option (List ℕ)) (id : Option FileId) → put_step p.key value id ≡ Some s → StepRises file.queue file.seq file.seq s

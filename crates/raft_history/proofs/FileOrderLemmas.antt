@@ -9,7 +9,7 @@ use Rattle.raft_base.specs.declared.entry_index.EntryIndex.{EntryIndex}
 use Rattle.raft_records.specs.ReadIn.{IsBlockIn}
 use Rattle.raft_table.specs.Queues.{is_same}
 use Rattle.raft_table.specs.Start.{replayed, leaves_hole}
-use Rattle.raft_table.specs.Steps.{Step, Run, Compact, Put, Del, AtomicGroup, Clean, stepped, is_there_after, table_of, there_if, after_step, after}
+use Rattle.raft_table.specs.Steps.{Step, Run, Compact, Truncate, Put, Del, AtomicGroup, Clean, stepped, is_there_after, table_of, there_if, after_step, after}
 use Rattle.raft_table.specs.Table.{Table, table_with_entries}
 use Rattle.raft_table.specs.TableEntries.{end_of, below, from, is_block_in, is_placed_in}
 use Rattle.raft_table.proofs.MarkEntries.{same_some}
@@ -75,6 +75,7 @@ StepsRise q low high (s ∷ ss) = (mid : ℕ) × StepRises q low mid s × StepsR
 step_lower : (q : LogQueue) (a low high : ℕ) (s : Step) → a ≤ low → StepRises q low high s → StepRises q a high s
 step_lower q a low high (Run run) l h = lower q a low high run l h
 step_lower q a low high (Compact i) l h = omega (arith, l, h)
+step_lower q a low high (Truncate i) l h = omega (arith, l, h)
 step_lower q a low high (Put key value file) l h = omega (arith, l, h)
 step_lower q a low high (Del key) l h = omega (arith, l, h)
 step_lower q a low high (AtomicGroup start end) l h = omega (arith, l, h)
@@ -110,7 +111,7 @@ run_order Rewrite low mid es (x ∷ run) a h k e = go (leaves_hole (end_of es) x
     go false e = subst (InOrder Rewrite 0 mid) (same_some (below x.index es ++ x ∷ run) a e) (behind Rewrite 0 low mid (below x.index es) (x ∷ run) (some_of Rewrite _ 0 low es h) k)
 
 step_order : (q : LogQueue) (low mid r : ℕ) (o u : Option Table) (s : Step) → StepRises q low mid s → InOrder q 0 low (table_of r o).entries → after_step q r o s ≡ Some u → InOrder q 0 mid (table_of r u).entries
-unfolding from
+unfolding from below
 step_order q low mid r o u s k h e = there_order q mid r (is_there_after s) (stepped q (table_of r o) s) u e (omega arith) (by s k)
   where
     same : (t : Table) (es : List EntryIndex) → low ≤ mid → InOrder q 0 low es → es ≡ t.entries → InOrder q 0 mid t.entries
@@ -123,6 +124,7 @@ step_order q low mid r o u s k h e = there_order q mid r (is_there_after s) (ste
         go None p e = absurd cc
         go (Some a) p e = subst (λ (t : Table). InOrder q 0 mid t.entries) (same_some (table_with_entries (table_of r o) a) t e) (run_order q low mid (table_of r o).entries run a h k p)
     by (Compact i) k t e = same t (from i (table_of r o).entries) k (some_of q _ 0 low (table_of r o).entries h) (ap (λ (x : Option Table). (table_of r x).entries) e)
+    by (Truncate i) k t e = same t (below i (table_of r o).entries) k (some_of q _ 0 low (table_of r o).entries h) (ap (λ (x : Option Table). (table_of r x).entries) e)
     by (Put key value id) k t e = same t (table_of r o).entries k h (ap (λ (x : Option Table). (table_of r x).entries) e)
     by (Del key) k t e = same t (table_of r o).entries k h (ap (λ (x : Option Table). (table_of r x).entries) e)
     by (AtomicGroup start end) k t e = same t (table_of r o).entries k h (ap (λ (x : Option Table). (table_of r x).entries) e)

@@ -12,7 +12,7 @@ use Rattle.raft_table.specs.Fetches.{block_seq, entry_seq}
 use Rattle.raft_table.specs.KeyValues.{lesser, least, files_in}
 use Rattle.raft_table.specs.Marks.{entries_within}
 use Rattle.raft_table.specs.Least.{least_file, lowered}
-use Rattle.raft_table.specs.Overlay.{has_clean, greatest_compaction, least_start, is_short, rewritten_within, overlay, kept_if, overlaid_table}
+use Rattle.raft_table.specs.Overlay.{has_clean, greatest_compaction, least_cut, is_unjoined, rewritten_within, overlay, kept_if, overlaid_table}
 use Rattle.raft_table.specs.Queues.{is_same, other}
 use Rattle.raft_table.specs.Steps.{Step, table_of}
 use Rattle.raft_table.specs.Table.{Table}
@@ -161,15 +161,15 @@ overlay_order : (ss : List Step) (low high : ℕ) (appended rewritten : Table) �
 unfolding entries_within
 overlay_order ss low high appended rewritten h k = go (has_clean ss)
   where
-    kept : InOrder Rewrite 0 low (rewritten_within (greatest_compaction ss) (least_start ss) rewritten.entries)
-    kept = elim (is_short (least_start ss) (end_of rewritten.entries)) as (λ b. InOrder Rewrite 0 low (cond b [] (entries_within (greatest_compaction ss) (least_start ss) rewritten.entries))) [
+    kept : InOrder Rewrite 0 low (rewritten_within (greatest_compaction ss) (least_cut ss) appended.entries rewritten.entries)
+    kept = elim (is_unjoined (least_cut ss) (end_of rewritten.entries) appended.entries) as (λ b. InOrder Rewrite 0 low (cond b [] (entries_within (greatest_compaction ss) (least_cut ss) rewritten.entries))) [
       | true ↦ omega arith
       | false ↦ some_of Rewrite _ 0 low rewritten.entries h
     ]
 
-    go : (b : Bool) → AreInOrder (cond b appended.entries (rewritten_within (greatest_compaction ss) (least_start ss) rewritten.entries ++ appended.entries))
+    go : (b : Bool) → AreInOrder (cond b appended.entries (rewritten_within (greatest_compaction ss) (least_cut ss) appended.entries rewritten.entries ++ appended.entries))
     go true = of_one Append high appended.entries k
-    go false = of_two low high (rewritten_within (greatest_compaction ss) (least_start ss) rewritten.entries) appended.entries kept k
+    go false = of_two low high (rewritten_within (greatest_compaction ss) (least_cut ss) appended.entries rewritten.entries) appended.entries kept k
 
 kept_order : (b : Bool) (r : ℕ) (t : Table) → AreInOrder t.entries → AreInOrder (table_of r (kept_if b t)).entries
 kept_order true r t h = h

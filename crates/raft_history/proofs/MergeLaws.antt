@@ -8,7 +8,7 @@ use Rattle.raft_base.specs.declared.pipe_log.LogQueue.{LogQueue}
 use Rattle.raft_base.specs.declared.pipe_log.LogQueue.TheVariants.{Rewrite}
 use Rattle.raft_table.specs.Marks.{Mark, applied, is_there_over}
 use Rattle.raft_table.specs.MarkJoins.{joined_mark, fresh, mark_of}
-use Rattle.raft_table.specs.Steps.{Step, Run, Compact, Put, Del, AtomicGroup, Clean, AreSteps, there_if, after_step, after}
+use Rattle.raft_table.specs.Steps.{Step, Run, Compact, Truncate, Put, Del, AtomicGroup, Clean, AreSteps, there_if, after_step, after}
 use Rattle.raft_table.specs.Table.{Table}
 use Rattle.raft_table.proofs.MarkLaws.{refused_join}
 use Rattle.raft_history.specs.Batches.{GroupMarker, ReadBatch, Event, batch_of, batches}
@@ -144,6 +144,7 @@ rewrite_step : (r : ℕ) (o : Option Table) (s : Step) → (u : Option Table) ×
 rewrite_step r o (Run []) = (_, refl)
 rewrite_step r o (Run (e ∷ run)) = (_, refl)
 rewrite_step r o (Compact i) = (_, refl)
+rewrite_step r o (Truncate i) = (_, refl)
 rewrite_step r o (Put key value file) = (_, refl)
 rewrite_step r o (Del key) = (_, refl)
 rewrite_step r o (AtomicGroup s e) = (_, refl)

@@ -4,7 +4,7 @@ use Rattle.std.specs.List.{AllByRecursion, cons_option}
 use Rattle.std.specs.FinMap as finite
 use Rattle.raft_base.specs.declared.pipe_log.FileId.{FileId}
 use Rattle.raft_base.specs.declared.pipe_log.LogQueue.{LogQueue}
-use Rattle.raft_table.specs.Steps.{Step, Run, Compact, Put, Del, AtomicGroup, Clean}
+use Rattle.raft_table.specs.Steps.{Step, Run, Compact, Truncate, Put, Del, AtomicGroup, Clean}
 use Rattle.raft_records.specs.declared.atomic_group.AtomicGroupStatus.{AtomicGroupStatus}
 use Rattle.raft_records.specs.declared.atomic_group.AtomicGroupStatus.TheVariants.{Begin, Middle, End}
 use Rattle.raft_history.specs.Batches.{GroupMarker, ReadBatch, Event, batches}
@@ -91,6 +91,7 @@ step_in_queue : (file : FileId) (content : Content) (s : Step) → IsInFile file
 step_in_queue file (entries es) s h e = subst (IsStepOfQueue file.queue) (same_some (Run es) s e) h.0
 step_in_queue file (command commands.Clean) s h e = subst (IsStepOfQueue file.queue) (same_some Clean s e) tt
 step_in_queue file (command (commands.Compact index)) s h e = subst (IsStepOfQueue file.queue) (same_some (Compact index) s e) tt
+step_in_queue file (command (commands.Truncate index)) s h e = subst (IsStepOfQueue file.queue) (same_some (Truncate index) s e) tt
 step_in_queue file (pair p) s h e = go (is_reserved p.key) refl e
   where
     put : (value : Option (List ℕ)) (id : Option FileId) → IsPutIn file value id → put_step p.key value id ≡ Some s → IsStepOfQueue file.queue s

@@ -18,10 +18,10 @@ use Rattle.raft_base.specs.declared.entry_index.EntryIndex.{EntryIndex}
 use Rattle.raft_table.specs.TableEntries.{below, from, end_of}
 use Rattle.raft_table.specs.KeySets.{KeySet, without}
 use Rattle.raft_table.specs.KeyValues.{Keys, Stored, StoredPair, with_pairs, pairs_over}
-use Rattle.raft_table.specs.Marks.{Mark, entries_within, older_entries, atomic_group_over, table_over, is_first_run_refused, is_missed, is_there_over, applied}
+use Rattle.raft_table.specs.Marks.{Mark, entries_within, older_entries, atomic_group_over, table_over, is_refused_over, is_missed, is_there_over, applied}
 use Rattle.raft_table.specs.MarkJoins.{joined_mark, mark_of}
 use Rattle.raft_table.specs.Start.{replayed, leaves_hole}
-use Rattle.raft_table.specs.Steps.{Step, Run, Compact, Put, Del, AtomicGroup, Clean, stepped, is_there_after, there_if, after_step, table_of}
+use Rattle.raft_table.specs.Steps.{Step, Run, Compact, Truncate, Put, Del, AtomicGroup, Clean, stepped, is_there_after, there_if, after_step, table_of}
 use Rattle.raft_table.specs.Table.{Table, empty_table, table_with_entries}
 use Rattle.raft_records.specs.declared.atomic_group.AtomicGroupStatus.{AtomicGroupStatus}
 use Rattle.raft_records.specs.declared.atomic_group.AtomicGroupStatus.TheVariants.{Begin, Middle, End}
@@ -148,6 +148,7 @@ step_records q r o w s e = there_records (is_there_after s) (stepped q (table_of
         go None p e = absurd cc
         go (Some a) p e = omega (arith, ap table_records (some_is e), run_records q (table_of r o).entries run a p, of_table r o)
     by (Compact i) x e = omega (arith, ap table_records (some_is e), from_shorter i (table_of r o).entries, of_table r o)
+    by (Truncate i) x e = omega (arith, ap table_records (some_is e), below_shorter i (table_of r o).entries, of_table r o)
     by (Put key value file) x e = omega (arith, ap table_records (some_is e), len_insert (table_of r o).keys key (record { value = value; file = file }), of_table r o)
     by (Del key) x e = omega (arith, ap table_records (some_is e), len_remove (table_of r o).keys key, of_table r o)
     by (AtomicGroup start end) x e = omega (arith, ap table_records (some_is e), of_table r o)
@@ -162,7 +163,7 @@ older_shorter Rewrite m es = go (is_missed m es)
     go false = part_shorter m.floor m.cut es
 
 over_records : (q : LogQueue) (m : Mark) (t o x : Table) → table_over q m t o ≡ Some x → table_records x ≤ table_records o + table_records t
-over_records q m t o x e = go (is_first_run_refused q m o.entries) m.cleaned refl e
+over_records q m t o x e = go (is_refused_over q m o.entries) m.cleaned refl e
   where
     go : (b c : Bool) → m.cleaned ≡ c → option_map {U = Table} (λ es. record o { entries = es; keys = cond m.cleaned t.keys (pairs_over t.keys (without m.deleted o.keys)); atomic_group = atomic_group_over m t.atomic_group o.atomic_group }) (cond b None (Some (cond c t.entries (older_entries q m o.entries ++ t.entries)))) ≡ Some x → table_records x ≤ table_records o + table_records t
     go true c k e = absurd cc

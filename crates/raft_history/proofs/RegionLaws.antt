@@ -12,7 +12,7 @@ use Rattle.raft_records.specs.Item.{Item}
 use Rattle.raft_table.specs.Marks.{Mark}
 use Rattle.raft_table.specs.MarkJoins.{fresh}
 use Rattle.raft_table.specs.Overlay.{has_clean, kept_if, overlay_under, overlaid_table, IsExactMark}
-use Rattle.raft_table.specs.Steps.{Step, Run, Compact, Put, Del, AtomicGroup, Clean, IsStep, AreSteps, table_of}
+use Rattle.raft_table.specs.Steps.{Step, Run, Compact, Truncate, Put, Del, AtomicGroup, Clean, IsStep, AreSteps, table_of}
 use Rattle.raft_table.specs.Table.{Table}
 use Rattle.raft_table.proofs.OverlayLemmas.{overlay_exact}
 use Rattle.raft_history.specs.Batches.{Event, ReadBatch, batches}
@@ -37,6 +37,7 @@ AreOf q steps = AllByRecursion (λ (s : RegionStep). IsStepOfQueue q s.step) ste
 step_good : (q : LogQueue) (s : Step) → IsStepOfQueue q s → IsStep s
 step_good q (Run run) h = h.run
 step_good q (Compact i) h = tt
+step_good q (Truncate i) h = tt
 step_good q (Put key value file) h = tt
 step_good q (Del key) h = tt
 step_good q (AtomicGroup start end) h = tt

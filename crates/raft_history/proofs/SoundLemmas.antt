@@ -13,7 +13,7 @@ use Rattle.raft_records.specs.declared.key_value.OpType.{OpType}
 use Rattle.raft_records.specs.declared.key_value.OpType.TheVariants as operations
 use Rattle.raft_records.specs.Group.{is_reserved}
 use Rattle.raft_records.specs.Item.{Item, Content, entries, command, pair}
-use Rattle.raft_table.specs.Steps.{Step, Run, Compact, Put, Del, AtomicGroup, Clean, IsStep, AreSteps}
+use Rattle.raft_table.specs.Steps.{Step, Run, Compact, Truncate, Put, Del, AtomicGroup, Clean, IsStep, AreSteps}
 use Rattle.raft_table.proofs.MarkEntries.{same_some}
 use Rattle.raft_history.specs.Batches.{Event, GroupMarker, ReadBatch, marker_in, batch_of, batches}
 use Rattle.raft_history.specs.Contexts.{files_of, joined_files, follows}
@@ -88,6 +88,7 @@ run_step : (file : FileId) (content : Content) (s : Step) → IsInFile file cont
 run_step file (entries es) s h e = subst IsStep (same_some (Run es) s e) h.0.run
 run_step file (command commands.Clean) s h e = subst IsStep (same_some Clean s e) tt
 run_step file (command (commands.Compact index)) s h e = subst IsStep (same_some (Compact index) s e) tt
+run_step file (command (commands.Truncate index)) s h e = subst IsStep (same_some (Truncate index) s e) tt
 run_step file (pair p) s h e = go (is_reserved p.key) e
   where
     put : (value : Option (List ℕ)) (id : Option FileId) → put_step p.key value id ≡ Some s → IsStep s

@@ -4,7 +4,7 @@ use Rattle.std.specs.Option.{option_and_then}
 use Rattle.std.specs.FinMap as finite
 use Rattle.raft_base.specs.declared.pipe_log.LogQueue.{LogQueue}
 use Rattle.raft_base.specs.declared.pipe_log.LogQueue.TheVariants.{Append}
-use Rattle.raft_table.specs.Marks.{Stands}
+use Rattle.raft_table.specs.Stands.{Stands}
 use Rattle.raft_table.specs.Overlay.{HoldsDeleted, IsExactMark}
 use Rattle.raft_table.specs.Steps.{Step}
 use Rattle.raft_history.specs.Batches.{Event, GroupMarker, ReadBatch, batch_of, batches}
@@ -59,7 +59,7 @@ pub record Context : Type 0 where
 abbrev pub new_context : Context
 new_context = record { regions = no_regions; groups = finite.empty; cleaned = []; files = None }
 
--- one region's mark and table stand for its steps; the mark has the keys that they delete, and in the append queue their greatest compaction and least start
+-- one region's mark and table stand for its steps; the mark has the keys that they delete, and in the append queue their greatest compaction, and the least of run starts and truncations
 pub record Holds (queue : LogQueue) (r : ℕ) (x : MarkedRegion) (ss : List Step) : Type 0 where
   pub stands : Stands queue r x.mark x.table ss
   pub deleted : HoldsDeleted x.mark ss

@@ -67,7 +67,7 @@ region_steps_of_wholes ws = flat_map region_steps_of_whole ws
 
 -- ---- neighbours joined
 
--- one region of an older and a newer neighbour; none where the newer one's first run is refused
+-- one region of an older and a newer neighbour; none where the newer one's steps are refused
 abbrev pub joined_region : LogQueue → ℕ → MarkedRegion → MarkedRegion → Option MarkedRegion
 joined_region queue r older newer = option_map (λ t. record { mark = joined_mark queue r older.mark older.table newer.mark; table = t }) (applied queue r newer.mark newer.table older.table)
 

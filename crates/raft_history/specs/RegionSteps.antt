@@ -12,7 +12,7 @@ use Rattle.raft_records.specs.declared.key_value.OpType.{OpType}
 use Rattle.raft_records.specs.declared.key_value.OpType.TheVariants as operations
 pub use Rattle.raft_records.specs.Group.{is_reserved}
 use Rattle.raft_records.specs.Item.{Item, Content, entries, command, pair}
-use Rattle.raft_table.specs.Steps.{Step, Run, Compact, Put, Del, Clean, after_step}
+use Rattle.raft_table.specs.Steps.{Step, Run, Compact, Truncate, Put, Del, Clean, after_step}
 use Rattle.raft_table.specs.Table.{Table}
 
 -- a step, and the region whose table it changes
@@ -37,6 +37,7 @@ pair_step operations.Del key value file = Some (Del key)
 abbrev pub command_step : Command → Step
 command_step commands.Clean = Clean
 command_step (commands.Compact index) = Compact index
+command_step (commands.Truncate index) = Truncate index
 
 -- the step of a content; none of a change of the reserved key, which is skipped, nor of a put without a value or a file
 abbrev pub content_step : Content → Option Step

@@ -5,17 +5,17 @@ use Rattle.std.specs.Option.{option_map, option_and_then}
 use Rattle.raft_base.specs.declared.pipe_log.FileId.{FileId}
 use Rattle.raft_base.specs.declared.pipe_log.LogQueue.{LogQueue}
 use Rattle.raft_base.specs.declared.entry_index.EntryIndex.{EntryIndex}
-use Rattle.raft_table.specs.TableEntries.{entry_count, from, placed_in}
+use Rattle.raft_table.specs.TableEntries.{entry_count, below, from, placed_in}
 use Rattle.raft_table.specs.KeyValues.{file_weight}
 use Rattle.raft_table.specs.MarkJoins.{joined_mark, mark_of}
 use Rattle.raft_table.specs.Queues.{count_in, is_same}
 use Rattle.raft_table.specs.Start.{replayed}
-use Rattle.raft_table.specs.Steps.{Step, Run, Compact, Put, Del, AtomicGroup, Clean, stepped, is_there_after, table_of, there_if, after_step}
+use Rattle.raft_table.specs.Steps.{Step, Run, Compact, Truncate, Put, Del, AtomicGroup, Clean, stepped, is_there_after, table_of, there_if, after_step}
 use Rattle.raft_table.specs.Table.{Table, live_of, table_with_entries}
 use Rattle.raft_table.proofs.KeyValueCounts.{pair_count-with_put, pair_count-remove, pair_count-le-len}
 use Rattle.raft_table.proofs.PlaceLemmas.{entries_in_one}
 use Rattle.raft_table.proofs.RunCounts.{entry_count-le, replayed-in}
-use Rattle.raft_table.proofs.RunLemmas.{from-placed_in}
+use Rattle.raft_table.proofs.RunLemmas.{below-placed_in, from-placed_in}
 use Rattle.raft_table.proofs.TableLemmas.{live_of_empty}
 use Rattle.raft_history.specs.Histories.{records_of, records_in, IsStepOfQueue}
 use Rattle.raft_history.specs.MarkedRegions.{MarkedRegions, MarkedRegion, region_in, with_region, regions_after}
@@ -39,6 +39,13 @@ shorter-from i es = filter-le _ es
 entries-from : (q : LogQueue) (i : ℕ) (es : List EntryIndex) → entry_count q (from i es) ≤ entry_count q es
 entries-from q i es = omega (arith, ap length (from-placed_in i q es), shorter-from i (placed_in q es))
 
+shorter-below : (i : ℕ) (es : List EntryIndex) → length (below i es) ≤ length es
+unfolding below
+shorter-below i es = filter-le _ es
+
+entries-below : (q : LogQueue) (i : ℕ) (es : List EntryIndex) → entry_count q (below i es) ≤ entry_count q es
+entries-below q i es = omega (arith, ap length (below-placed_in i q es), shorter-below i (placed_in q es))
+
 there_live : (q : LogQueue) (b : Bool) (x : Option Table) (u : Option Table) (n : ℕ) → there_if b x ≡ Some u → ((t : Table) → x ≡ Some t → live_of q t ≤ n) → live_in q u ≤ n
 there_live q b None u n e h = absurd cc
 there_live q true (Some t) u n e h = omega (arith, h t refl, ap (live_in q) (some_is e))
@@ -58,6 +65,7 @@ step_live queue q id o u s e h = there_live q (is_there_after s) (stepped queue 
         go None p e = absurd cc
         go (Some a) p e = omega (arith, ap (live_of q) (some_is e), replayed-in queue q (table_of id o).entries run a p, entries_in_one q queue run h.placed, live-table_of q id o)
     by (Compact i) h x e = omega (arith, ap (live_of q) (some_is e), entries-from q i (table_of id o).entries, live-table_of q id o)
+    by (Truncate i) h x e = omega (arith, ap (live_of q) (some_is e), entries-below q i (table_of id o).entries, live-table_of q id o)
     by (Put key value file) h x e = omega (arith, ap (live_of q) (some_is e), pair_count-with_put q (table_of id o).keys key value file, weight-put q queue file h, live-table_of q id o)
     by (Del key) h x e = omega (arith, ap (live_of q) (some_is e), pair_count-remove q (table_of id o).keys key, live-table_of q id o)
     by (AtomicGroup start end) h x e = omega (arith, ap (live_of q) (some_is e), live-table_of q id o)

@@ -31,6 +31,7 @@ module _ (q : LogQueue) (m n : Tables) (id : ℕ) (rest : List RegionStep) (late
       ] e
   content-read (command commands.Clean) e = h _ e
   content-read (command (commands.Compact i)) e = h _ e
+  content-read (command (commands.Truncate i)) e = h _ e
   content-read (pair p) e =
       elim (is_reserved p.key) as (λ b. option_and_then (λ t. later (with_table m id t)) (if b then Some (finite.get m id) else option_map Some (with_change (Replaying q) (table_of id (finite.get m id)) p)) ≡ Some n → reading q m (with_step id (if b then None else pair_step p.op_type p.key p.value p.file_id) rest) ≡ Some n) [
         | true ↦ λ e. h m (subst (λ k. later k ≡ Some n) (with_same m id) e)
@@ -45,6 +46,7 @@ content-listed : (content : Content) (id : ℕ) (rest : List RegionStep) → cle
 content-listed (entries es) id rest = refl
 content-listed (command commands.Clean) id rest = refl
 content-listed (command (commands.Compact i)) id rest = refl
+content-listed (command (commands.Truncate i)) id rest = refl
 content-listed (pair p) id rest = elim (is_reserved p.key) as (λ b. cleaned_by_steps (with_step id (if b then None else pair_step p.op_type p.key p.value p.file_id) rest) ≡ cleaned_by_steps rest) [ true ↦ refl | false ↦ of_pair p.op_type p.key p.value p.file_id ]
   where
     of_pair : (op : OpType) (key : List ℕ) (value : Option (List ℕ)) (file : Option FileId) → cleaned_by_steps (with_step id (pair_step op key value file) rest) ≡ cleaned_by_steps rest

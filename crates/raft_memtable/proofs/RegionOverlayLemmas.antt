@@ -12,7 +12,8 @@ use Rattle.raft_base.specs.declared.errors.Error.TheVariants as errors
 use Rattle.raft_base.specs.declared.pipe_log.LogQueue.{LogQueue}
 use Rattle.raft_base.specs.declared.pipe_log.LogQueue.TheVariants.{Append, Rewrite}
 use Rattle.raft_table.specs.Counts.{Counts}
-use Rattle.raft_table.specs.Marks.{Mark, Stands}
+use Rattle.raft_table.specs.Marks.{Mark}
+use Rattle.raft_table.specs.Stands.{Stands}
 use Rattle.raft_table.specs.MarkJoins.{fresh}
 use Rattle.raft_table.specs.Overlay.{IsOverlayFault}
 use Rattle.raft_table.specs.Steps.{table_of}

@@ -20,7 +20,7 @@ use Rattle.raft_table.specs.Queues.{other, count_in, is_same}
 use Rattle.raft_table.specs.Steps.{Step, Run, Put, Clean, table_of, there_if, after_step}
 use Rattle.raft_table.specs.Table.{Table, after_replay, IsTablePutFault}
 use Rattle.raft_table.proofs.MarkExact.{joined_fresh}
-use Rattle.raft_table.proofs.MarkTables.{from_whole}
+use Rattle.raft_table.proofs.MarkWords.{within-whole}
 use Rattle.raft_table.proofs.TableLemmas.{count_in_own}
 use Rattle.raft_history.specs.Histories.{records_in}
 use Rattle.raft_history.specs.MarkedRegions.{Marks, MarkedRegions, MarkedRegion, region_in, with_region, stepped_region, regions_after}
@@ -170,7 +170,7 @@ pub run_mark : (q : LogQueue) (id : ℕ) (run : List EntryIndex) (start end : �
 run_mark q id [] start end o m e k = absurd (none_some e)
 run_mark q id (x ∷ run) start end o m e k =
     ap (λ i. joined_at q end m (record fresh { reach = Some i; cut = Some i })) (sym (some_is e))
-    ∙ ap (λ y. joined_at q y m (record fresh { reach = Some x.index; cut = Some x.index })) (k ∙ ap end_of (sym (from_whole (table_of id o).entries)))
+    ∙ ap (λ y. joined_at q y m (record fresh { reach = Some x.index; cut = Some x.index })) (k ∙ ap end_of (sym (within-whole (table_of id o).entries)))
 
 pub run_marked : (q : LogQueue) (id : ℕ) (run : List EntryIndex) (start end : ℕ) (o : Option Table) (old new : Marks) (r : Result Unit Error) → first_index run ≡ Some start → end ≡ end_of (table_of id o).entries → OnOk r (new ≡ finite.insert old id (joined_at q end (mark_in old id) (record fresh { reach = Some start; cut = Some start })))
     → OnOk r (new ≡ finite.insert old id (joined_mark q id (mark_in old id) o (mark_of (Run run))))

@@ -6,19 +6,20 @@ use Rattle.raft_base.specs.contracts.pipe_log.FileId as file
 use Rattle.raft_base.specs.declared.pipe_log.FileId.{FileId}
 use Rattle.raft_base.specs.contracts.entry_index.EntryIndex as entry
 use Rattle.raft_base.specs.declared.entry_index.EntryIndex.{EntryIndex}
-use Rattle.raft_table.specs.Steps.{Step, Run, Compact, Put, Del, AtomicGroup, Clean}
+use Rattle.raft_table.specs.Steps.{Step, Run, Compact, Truncate, Put, Del, AtomicGroup, Clean}
 use Rattle.raft_history.specs.RegionSteps.{RegionStep}
 use Rattle.raft_history.specs.WaitingGroup.{GroupFront, Open, Ended, Cut, OpenStretch, WaitingGroup}
 use Rattle.raft_history.specs.WaitingGroups.{WaitingGroups}
 
 -- a step as what it holds, told apart by where that stands
 abbrev pub StepParts : Type 0
-StepParts = Result (List EntryIndex) (Result ℕ (Result (List ℕ × (List ℕ × FileId)) (Result (List ℕ) (Option (ℕ × ℕ)))))
+StepParts = Result (List EntryIndex) (Result (Result ℕ ℕ) (Result (List ℕ × (List ℕ × FileId)) (Result (List ℕ) (Option (ℕ × ℕ)))))
 
 -- what a step holds
 abbrev pub step_parts : Step → StepParts
 step_parts (Run run) = Ok run
-step_parts (Compact i) = Err (Ok i)
+step_parts (Compact i) = Err (Ok (Ok i))
+step_parts (Truncate i) = Err (Ok (Err i))
 step_parts (Put key value file) = Err (Err (Ok (key, (value, file))))
 step_parts (Del key) = Err (Err (Err (Ok key)))
 step_parts (AtomicGroup start end) = Err (Err (Err (Err (Some (start, end)))))
@@ -27,7 +28,8 @@ step_parts Clean = Err (Err (Err (Err None)))
 -- the step that holds this
 abbrev pub step_from : StepParts → Step
 step_from (Ok run) = Run run
-step_from (Err (Ok i)) = Compact i
+step_from (Err (Ok (Ok i))) = Compact i
+step_from (Err (Ok (Err i))) = Truncate i
 step_from (Err (Err (Ok p))) = Put p.0 p.1.0 p.1.1
 step_from (Err (Err (Err (Ok key)))) = Del key
 step_from (Err (Err (Err (Err (Some p))))) = AtomicGroup p.0 p.1
@@ -37,6 +39,7 @@ step_from (Err (Err (Err (Err None)))) = Clean
 pub step_again : (s : Step) → step_from (step_parts s) ≡ s
 step_again (Run run) = refl
 step_again (Compact i) = refl
+step_again (Truncate i) = refl
 step_again (Put key value file) = refl
 step_again (Del key) = refl
 step_again (AtomicGroup start end) = refl
@@ -45,7 +48,7 @@ step_again Clean = refl
 -- the code of a step
 abbrev pub step_code : Coded Step
 step_code =
-    code_by StepParts (coded_result (coded_list entry.the_row.coded) (coded_result coded_ℕ (coded_result (coded× (coded_list coded_ℕ) (coded× (coded_list coded_ℕ) file.the_row.coded)) (coded_result (coded_list coded_ℕ) (coded_option (coded× coded_ℕ coded_ℕ))))))
+    code_by StepParts (coded_result (coded_list entry.the_row.coded) (coded_result (coded_result coded_ℕ coded_ℕ) (coded_result (coded× (coded_list coded_ℕ) (coded× (coded_list coded_ℕ) file.the_row.coded)) (coded_result (coded_list coded_ℕ) (coded_option (coded× coded_ℕ coded_ℕ))))))
     step_parts step_from step_again
 
 -- the code of a step and its region

@@ -7,7 +7,7 @@ ghost use Rattle.raft_history.specs.Histories.{AreInFile, cleaned_in_batch};
 ghost use Rattle.raft_history.specs.MarkedRegions.{no_regions, regions_after, on_each, region_steps_of_whole};
 ghost use Rattle.raft_history.specs.RegionSteps.{steps_of_items};
 ghost use Rattle.raft_table.specs.Queues.{other, is_same};
-ghost use Rattle.raft_table.specs.Steps.{Run, Compact, Put, Del, AtomicGroup, Clean};
+ghost use Rattle.raft_table.specs.Steps.{Run, Compact, Truncate, Put, Del, AtomicGroup, Clean};
 ghost use Rattle.raft_accessor.specs.Accessor.{live_in_all};
 ghost use Rattle.raft_accessor.specs.ItemWrites.{pair_change};
 ghost use Rattle.raft_memtable.specs.MarkedTables.{regions_in, AreStepsOfQueue, IsStepsFault, one_step, first_index, AreTaken};
@@ -154,6 +154,9 @@ impl MarkedTables {
             LogItemContent::Command(Command::Compact { index }) => {
                 self.take_compaction(queue, id, index)
             }
+            LogItemContent::Command(Command::Truncate { index }) => {
+                self.take_truncation(queue, id, index)
+            }
             LogItemContent::Command(Command::Clean) => self.take_clean(queue, id),
             LogItemContent::Kv(kv) => self.take_pair(queue, id, kv),
         }
@@ -178,6 +181,14 @@ impl MarkedTables {
     {
         self.accessor.compact(id, index)?;
         Ok(self.marks.add_compaction(id, index)?)
+    }
+
+    /// Takes in a truncation.
+    fn take_truncation(&mut self, queue: LogQueue, id: u64, index: u64) -> Result<()>
+        ensures { AreTaken queue (one_step id (Truncate index)) result self.old self.new }
+    {
+        self.accessor.truncate(id, index)?;
+        Ok(self.marks.add_truncation(id, index)?)
     }
 
     /// Takes in the clean of a region, which is listed in the append queue.

@@ -128,12 +128,14 @@ impl MemTableRecoverContext {
     }
 
     /// Takes in the context of the append queue; this one is that of the rewrite queue. A region that the
-    /// append queue names has then its table there over the rewritten one. Of that the entries stay from
-    /// the region's greatest compaction on and below the least start of its runs, where they reach it, and
-    /// the key values that the append queue neither puts nor deletes; nothing of it stays where the append
-    /// queue cleaned the region. The other regions keep their rewritten tables, and the cleaned regions are
-    /// those of the append queue. Groups that are not whole are dropped. The context then answers `kept`
-    /// and `finish` alone.
+    /// append queue names has then its table there over the rewritten one. The *cut* is the least of the
+    /// starts of its runs there and of the indexes of its truncations. Of the rewritten table the entries
+    /// stay from the region's greatest compaction on and below the cut, if there is one; but none where
+    /// the append queue has entries and these don't begin at the cut, or the rewritten ones don't reach
+    /// it. Key values stay that the append queue neither puts nor deletes. Nothing stays where the append
+    /// queue cleaned the region. The other regions keep their rewritten tables, and the cleaned regions are those of the
+    /// append queue. Groups that are not whole are dropped. The context then answers `kept` and `finish`
+    /// alone.
     ///
     /// # Errors
     ///

@@ -8,7 +8,7 @@ ghost use Rattle.std.specs.Map.{keys_of};
 ghost use Rattle.raft_history.specs.Records.{total};
 ghost use Rattle.raft_table.specs.Marks.{Mark};
 ghost use Rattle.raft_table.specs.MarkJoins.{fresh, mark_of, joined_at};
-ghost use Rattle.raft_table.specs.Steps.{Compact, Del, Clean};
+ghost use Rattle.raft_table.specs.Steps.{Compact, Truncate, Del, Clean};
 ghost use Rattle.raft_memtable.specs.RegionMarks.{mark_in, MayChangeMark, IsMarkUpdated};
 
 use raft_table::{LogQueue, Mark};
@@ -124,6 +124,23 @@ impl RegionMarks {
     {
         self.update(id, move |mark: &mut Mark| {
             mark.add_compaction(index);
+            Ok(())
+        })
+    }
+
+    /// Joins the mark of a truncation to a region's mark.
+    ///
+    /// # Errors
+    ///
+    /// `AllocError`. The marks are then as they were.
+    pub fn add_truncation(&mut self, id: u64, index: u64) -> Result<(), AllocError>
+        ensures ok { (queue : LogQueue) (end : ℕ)
+            → OnOk result (self.new
+            ≡ finite.insert self.old id (joined_at queue end (mark_in self.old id) (mark_of (Truncate index)))) }
+        ensures err { OnErr result (self.new ≡ self.old) }
+    {
+        self.update(id, move |mark: &mut Mark| {
+            mark.add_truncation(index);
             Ok(())
         })
     }

@@ -6,7 +6,7 @@ use Rattle.raft_codec.proofs.VarintLemmas.{varint_one_front}
 use Rattle.raft_codec.proofs.ReadingLemmas.{reads_as, reads_tagged, reads_pair, no_first, no_second, pair_one_front, tagged_at, no_tagged, tagged_same, tagged_one_front}
 use Rattle.raft_base.specs.declared.entry_index.EntryIndex.{EntryIndex}
 use Rattle.raft_records.specs.declared.command.Command.{Command}
-use Rattle.raft_records.specs.declared.command.Command.TheVariants.{Clean, Compact}
+use Rattle.raft_records.specs.declared.command.Command.TheVariants.{Clean, Compact, Truncate}
 use Rattle.raft_records.specs.Item.{Pair, Content, entries, command, pair, Item}
 use Rattle.raft_records.specs.Grammar.{IsCommand, IsKeyValue, IsEntries, IsContent, IsItem}
 use Rattle.raft_records.proofs.ItemLemmas.{pair_one}
@@ -31,19 +31,28 @@ no_entries s bytes behind split none front rest (entries es) p e = no_tagged 1 (
 no_entries s bytes behind split none front rest (command c) p e = absurd (omega (arith, (tagged_at 2 1 IsCommand behind front rest c p (sym split ∙ e)).0))
 no_entries s bytes behind split none front rest (pair q) p e = absurd (omega (arith, (tagged_at 3 1 IsKeyValue behind front rest q p (sym split ∙ e)).0))
 
+-- contents of two kinds begin with two types
+apart : {X Y : Type 0} (tag tag' : ℕ) (P : List ℕ → X → Type 0) (Q : List ℕ → Y → Type 0) (a b more rest : List ℕ) (x : X) (y : Y) → IsTagged tag P a x → IsTagged tag' Q b y → a ++ more ≡ b ++ rest → tag ≡ tag'
+apart tag tag' P Q a b more rest x y p q e = tagged_one_front tag tag' (λ c (u : Unit {0}). P c x) (λ c (u : Unit {0}). Q c y) a b more rest tt tt p q e
+
 pub command_one_front : HasOneFront IsCommand
 command_one_front a b more rest Clean Clean p q e = (p ∙ sym q, refl)
 command_one_front a b more rest Clean (Compact j) p q e =
     absurd (omega (arith, (tagged_at 2 1 IsVarint more b rest j q (ap (λ (t : List ℕ). t ++ more) (sym p) ∙ e)).0))
+command_one_front a b more rest Clean (Truncate j) p q e =
+    absurd (omega (arith, (tagged_at 3 1 IsVarint more b rest j q (ap (λ (t : List ℕ). t ++ more) (sym p) ∙ e)).0))
 command_one_front a b more rest (Compact i) Clean p q e =
     absurd (omega (arith, (tagged_at 2 1 IsVarint rest a more i p (ap (λ (t : List ℕ). t ++ rest) (sym q) ∙ sym e)).0))
+command_one_front a b more rest (Truncate i) Clean p q e =
+    absurd (omega (arith, (tagged_at 3 1 IsVarint rest a more i p (ap (λ (t : List ℕ). t ++ rest) (sym q) ∙ sym e)).0))
 command_one_front a b more rest (Compact i) (Compact j) p q e =
     let same = tagged_same 2 IsVarint varint_one_front a b more rest i j p q e in
     (same.0, ap Compact same.1)
-
--- contents of two kinds begin with two types
-apart : {X Y : Type 0} (tag tag' : ℕ) (P : List ℕ → X → Type 0) (Q : List ℕ → Y → Type 0) (a b more rest : List ℕ) (x : X) (y : Y) → IsTagged tag P a x → IsTagged tag' Q b y → a ++ more ≡ b ++ rest → tag ≡ tag'
-apart tag tag' P Q a b more rest x y p q e = tagged_one_front tag tag' (λ c (u : Unit {0}). P c x) (λ c (u : Unit {0}). Q c y) a b more rest tt tt p q e
+command_one_front a b more rest (Truncate i) (Truncate j) p q e =
+    let same = tagged_same 3 IsVarint varint_one_front a b more rest i j p q e in
+    (same.0, ap Truncate same.1)
+command_one_front a b more rest (Compact i) (Truncate j) p q e = absurd (omega (arith, apart 2 3 IsVarint IsVarint a b more rest i j p q e))
+command_one_front a b more rest (Truncate i) (Compact j) p q e = absurd (omega (arith, apart 3 2 IsVarint IsVarint a b more rest i j p q e))
 
 pub content_one_front : (s : ℕ) → HasOneFront (IsContent s)
 content_one_front s a b more rest (entries x) (entries y) p q e =

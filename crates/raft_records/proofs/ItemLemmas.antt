@@ -5,7 +5,7 @@ use Rattle.raft_codec.specs.Reading.{Reads, HasNoFront, HasOneFront, IsTagged, I
 use Rattle.raft_codec.specs.Varint.{IsVarint}
 use Rattle.raft_codec.proofs.VarintLemmas.{varint_one_front}
 use Rattle.raft_codec.proofs.ReadingLemmas.{reads_as, reads_tagged, reads_pair, no_first, no_second, second_at, pair_one_front, heads, tagged_at, no_tagged, tagged_same, tagged_one_front}
-use Rattle.raft_records.specs.declared.command.Command.TheVariants.{Compact}
+use Rattle.raft_records.specs.declared.command.Command.TheVariants.{Compact, Truncate}
 use Rattle.raft_base.specs.declared.pipe_log.FileId.{FileId}
 use Rattle.raft_records.specs.declared.key_value.OpType.{OpType}
 use Rattle.raft_records.specs.declared.key_value.OpType.TheVariants.{Put, Del}
@@ -17,6 +17,10 @@ use Rattle.raft_records.specs.Grammar.{IsCommand, IsText, IsByteString, IsKeyAnd
 pub compact_read : (bytes behind rest : List ℕ) (index : ℕ) → bytes ≡ 2 ∷ behind → Reads IsVarint behind rest index → Reads IsCommand bytes rest (Compact index)
 compact_read bytes behind rest index e r =
     subst (λ (b : List ℕ). Reads IsCommand b rest (Compact index)) (sym e) (reads_as (IsTagged 2 IsVarint) IsCommand index (Compact index) (λ a p. p) (reads_tagged 2 IsVarint index r))
+
+pub truncate_read : (bytes behind rest : List ℕ) (index : ℕ) → bytes ≡ 3 ∷ behind → Reads IsVarint behind rest index → Reads IsCommand bytes rest (Truncate index)
+truncate_read bytes behind rest index e r =
+    subst (λ (b : List ℕ). Reads IsCommand b rest (Truncate index)) (sym e) (reads_as (IsTagged 3 IsVarint) IsCommand index (Truncate index) (λ a p. p) (reads_tagged 3 IsVarint index r))
 
 -- ---- byte strings
 

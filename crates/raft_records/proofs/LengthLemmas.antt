@@ -5,7 +5,7 @@ use Rattle.std.proofs.lemmas.List.{length-append}
 use Rattle.raft_codec.specs.Varint.{varint}
 use Rattle.raft_codec.proofs.VarintLemmas.{varint_spells, varint_some, varint_within}
 use Rattle.raft_base.specs.declared.entry_index.EntryIndex.{EntryIndex}
-use Rattle.raft_records.specs.declared.command.Command.TheVariants.{Clean, Compact}
+use Rattle.raft_records.specs.declared.command.Command.TheVariants.{Clean, Compact, Truncate}
 use Rattle.raft_records.specs.declared.key_value.OpType.{OpType}
 use Rattle.raft_records.specs.declared.key_value.OpType.TheVariants.{Put, Del}
 use Rattle.raft_records.specs.Item.{Item, Content, entries, command, pair}
@@ -55,6 +55,7 @@ content_len : (s : ℕ) (c : Content) → FitsBehind s c → HasSmallIndexes c �
 content_len s (entries es) h small lt = omega (arith, entries_len s es h.1 small (omega (arith, lt)))
 content_len s (command Clean) h small lt = omega arith
 content_len s (command (Compact index)) h small lt = omega (arith, eight index small)
+content_len s (command (Truncate index)) h small lt = omega (arith, eight index small)
 content_len s (pair p) h small lt =
     let whole = length-append (byte_string p.key) (value_bytes p.op_type p.value) in
     omega (arith, whole, byte_string_len p.key (omega (arith, whole, lt)), value_len p.op_type p.value (omega (arith, whole, lt)))

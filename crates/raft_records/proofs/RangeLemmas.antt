@@ -7,7 +7,7 @@ use Rattle.raft_base.specs.declared.pipe_log.FileBlockHandle.{FileBlockHandle}
 use Rattle.raft_base.specs.declared.pipe_log.FileId.{FileId}
 use Rattle.raft_base.specs.declared.compression_type.CompressionType.{CompressionType}
 use Rattle.raft_records.specs.declared.command.Command.{Command}
-use Rattle.raft_records.specs.declared.command.Command.TheVariants.{Clean, Compact}
+use Rattle.raft_records.specs.declared.command.Command.TheVariants.{Clean, Compact, Truncate}
 use Rattle.raft_records.specs.declared.key_value.OpType.{OpType}
 use Rattle.raft_records.specs.declared.key_value.OpType.TheVariants.{Put, Del}
 use Rattle.raft_records.specs.Item.{Item, Content, entries, command, pair}
@@ -42,6 +42,7 @@ range_raised s (x ∷ xs) h = ((h.0.0, content_raised s x.content h.0.1), range_
 command_range : (bytes : List ℕ) (c : Command) → IsCommand bytes c → HasIndex c
 command_range bytes Clean h = tt
 command_range bytes (Compact index) h = varint_lt h.0 index h.2
+command_range bytes (Truncate index) h = varint_lt h.0 index h.2
 
 pair_range : (o : OpType) (v : Option (List ℕ)) (f : Option FileId) (key bytes : List ℕ) → IsPairOf o v f key bytes → (length key < 2 ^ 64) × HasLength v
 pair_range Put (Some v) None key bytes p =

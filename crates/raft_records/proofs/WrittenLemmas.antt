@@ -7,7 +7,7 @@ use Rattle.raft_codec.specs.Varint.{IsVarint, varint}
 use Rattle.raft_codec.proofs.VarintLemmas.{varint_spells}
 use Rattle.raft_base.specs.declared.entry_index.EntryIndex.{EntryIndex}
 use Rattle.raft_records.specs.declared.command.Command.{Command}
-use Rattle.raft_records.specs.declared.command.Command.TheVariants.{Clean, Compact}
+use Rattle.raft_records.specs.declared.command.Command.TheVariants.{Clean, Compact, Truncate}
 use Rattle.raft_records.specs.declared.key_value.OpType.{OpType}
 use Rattle.raft_records.specs.declared.key_value.OpType.TheVariants.{Put, Del}
 use Rattle.raft_records.specs.Item.{Item, Content, entries, command, pair, bare_entry, bare_content, bare, written_value}
@@ -20,6 +20,7 @@ use Rattle.raft_records.specs.Range.{HasIndex, HasLength, IsContentInRange, IsIn
 pub command_spelled : (c : Command) → HasIndex c → IsCommand (command_bytes c) c
 command_spelled Clean h = refl
 command_spelled (Compact index) h = (varint index, refl, varint_spells index h)
+command_spelled (Truncate index) h = (varint index, refl, varint_spells index h)
 
 text_spelled : (text : List ℕ) → length text < 2 ^ 64 → IsByteString (byte_string text) text
 text_spelled text lt = record { first = varint (length text); second = text; first_spells = varint_spells (length text) lt; second_spells = (refl, refl); split = refl }

@@ -31,11 +31,11 @@ abbrev pub IsNumberFault : List ℕ → Error → Type 0
 IsNumberFault bytes (errors.Codec e) = IsVarintFault bytes e
 IsNumberFault bytes _ = ⊥
 
--- no command: nothing, an unknown type byte, or no number behind Compact's
+-- no command: nothing, an unknown type byte, or no number behind that of a Compact or a Truncate
 abbrev pub IsCommandFault : List ℕ → Error → Type 0
 IsCommandFault [] e = IsEof e
 IsCommandFault (kind ∷ rest) e =
-    ((kind ≢ 1) × (kind ≢ 2) × IsCorruption (codes "Unrecognized command type: " ++ decimal kind) e) ⊎ ((kind ≡ 2) × IsNumberFault rest e)
+    ((kind ≢ 1) × (kind ≢ 2) × (kind ≢ 3) × IsCorruption (codes "Unrecognized command type: " ++ decimal kind) e) ⊎ (((kind ≡ 2) ⊎ (kind ≡ 3)) × IsNumberFault rest e)
 
 -- an op type other than Put and Del
 abbrev pub IsOpTypeFault : ℕ → Error → Type 0

@@ -5,7 +5,7 @@ use Rattle.raft_codec.specs.Varint.{IsVarint}
 use Rattle.raft_base.specs.declared.pipe_log.FileId.{FileId}
 use Rattle.raft_base.specs.declared.entry_index.EntryIndex.{EntryIndex}
 use Rattle.raft_records.specs.declared.command.Command.{Command}
-use Rattle.raft_records.specs.declared.command.Command.TheVariants.{Clean, Compact}
+use Rattle.raft_records.specs.declared.command.Command.TheVariants.{Clean, Compact, Truncate}
 use Rattle.raft_records.specs.declared.key_value.OpType.{OpType}
 use Rattle.raft_records.specs.declared.key_value.OpType.TheVariants.{Put, Del}
 use Rattle.raft_records.specs.Item.{Item, Content, entries, command, pair, Pair, bare_entry}
@@ -15,10 +15,11 @@ abbrev pub op_type_byte : OpType → ℕ
 op_type_byte Put = 1
 op_type_byte Del = 2
 
--- a command's type byte, and behind Compact's the index
+-- a command's type byte, and behind that of a Compact or a Truncate the index
 abbrev pub IsCommand : List ℕ → Command → Type 0
 IsCommand bytes Clean = bytes ≡ 1 ∷ []
 IsCommand bytes (Compact index) = IsTagged 2 IsVarint bytes index
+IsCommand bytes (Truncate index) = IsTagged 3 IsVarint bytes index
 
 -- these bytes, n of them
 abbrev pub IsText : ℕ → List ℕ → List ℕ → Type 0

@@ -6,7 +6,7 @@ use Rattle.std.specs.List.{flat_map}
 use Rattle.hex.specs.Hex.{encode_lower}
 use Rattle.raft_base.specs.declared.entry_index.EntryIndex.{EntryIndex}
 use Rattle.raft_records.specs.declared.command.Command.{Command}
-use Rattle.raft_records.specs.declared.command.Command.TheVariants.{Clean, Compact}
+use Rattle.raft_records.specs.declared.command.Command.TheVariants.{Clean, Compact, Truncate}
 use Rattle.raft_records.specs.declared.key_value.OpType.{OpType}
 use Rattle.raft_records.specs.declared.key_value.OpType.TheVariants.{Put, Del}
 use Rattle.raft_base.specs.declared.errors.Error.{Error}
@@ -32,10 +32,11 @@ entries_text [] = codes "entries 0"
 entries_text (e ∷ es) =
     codes "entries " ++ decimal (length (e ∷ es)) ++ codes " first " ++ decimal e.index ++ codes " tail " ++ decimal (end_behind 0 (e ∷ es))
 
--- a command, and the index of a compaction
+-- a command, and the index of a compaction or a truncation
 abbrev pub command_text : Command → List ℕ
 command_text Clean = codes "clean"
 command_text (Compact index) = codes "compact " ++ decimal index
+command_text (Truncate index) = codes "truncate " ++ decimal index
 
 -- a Put shows its key and its value, a Del its key
 abbrev pub pair_text : OpType → List ℕ → Option (List ℕ) → List ℕ

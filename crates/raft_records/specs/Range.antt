@@ -1,13 +1,14 @@
 -- Items whose numbers are those of their types, as the numbers of every item in memory are.
 use Rattle.std.specs.Prelude.{ℕ, ◌^◌, ◌<◌, List, [], ◌∷◌, length, Option, Some, None}
 use Rattle.raft_records.specs.declared.command.Command.{Command}
-use Rattle.raft_records.specs.declared.command.Command.TheVariants.{Clean, Compact}
+use Rattle.raft_records.specs.declared.command.Command.TheVariants.{Clean, Compact, Truncate}
 use Rattle.raft_records.specs.Item.{Item, Content, entries, command, pair}
 
 -- a command's index is a u64
 abbrev pub HasIndex : Command → Type 0
 HasIndex Clean = Unit {0}
 HasIndex (Compact index) = index < 2 ^ 64
+HasIndex (Truncate index) = index < 2 ^ 64
 
 -- a value's length is a u64
 abbrev pub HasLength : Option (List ℕ) → Type 0

@@ -2,7 +2,7 @@
 use Rattle.std.specs.Prelude.{ℕ, ◌+◌, ◌-◌, ◌*◌, ◌^◌, ◌<◌, min, List, [], ◌∷◌, length, Option, Some, None}
 use Rattle.raft_base.specs.declared.entry_index.EntryIndex.{EntryIndex}
 use Rattle.raft_records.specs.declared.command.Command.{Command}
-use Rattle.raft_records.specs.declared.command.Command.TheVariants.{Clean, Compact}
+use Rattle.raft_records.specs.declared.command.Command.TheVariants.{Clean, Compact, Truncate}
 use Rattle.raft_records.specs.Item.{Item, Content, entries, command, pair, Pair}
 
 -- the count, the first index where there are entries, and each tail offset
@@ -10,10 +10,11 @@ abbrev pub entries_size : List EntryIndex → ℕ
 entries_size [] = 8
 entries_size (e ∷ es) = 8 + 8 + 8 * length (e ∷ es)
 
--- the type, and the index of a compaction
+-- the type, and the index of a compaction or a truncation
 abbrev pub command_size : Command → ℕ
 command_size Clean = 1
 command_size (Compact index) = 1 + 8
+command_size (Truncate index) = 1 + 8
 
 -- how many bytes a value has
 abbrev pub value_length : Option (List ℕ) → ℕ
@@ -54,10 +55,11 @@ abbrev pub AreSmallIndexes : List EntryIndex → Type 0
 AreSmallIndexes [] = Unit {0}
 AreSmallIndexes (e ∷ es) = (e.index < 2 ^ 56) × AreSmallIndexes es
 
--- the index of a compaction is below 2^56
+-- the index of a compaction or a truncation is below 2^56
 abbrev pub HasSmallIndex : Command → Type 0
 HasSmallIndex Clean = Unit {0}
 HasSmallIndex (Compact index) = index < 2 ^ 56
+HasSmallIndex (Truncate index) = index < 2 ^ 56
 
 -- the indexes of a content are below 2^56
 abbrev pub HasSmallIndexes : Content → Type 0

@@ -4,7 +4,7 @@ use Rattle.std.specs.List.{flat_map}
 use Rattle.raft_codec.specs.Varint.{varint}
 use Rattle.raft_base.specs.declared.entry_index.EntryIndex.{EntryIndex}
 use Rattle.raft_records.specs.declared.command.Command.{Command}
-use Rattle.raft_records.specs.declared.command.Command.TheVariants.{Clean, Compact}
+use Rattle.raft_records.specs.declared.command.Command.TheVariants.{Clean, Compact, Truncate}
 use Rattle.raft_records.specs.declared.key_value.OpType.{OpType}
 use Rattle.raft_records.specs.declared.key_value.OpType.TheVariants.{Put}
 use Rattle.raft_records.specs.Item.{Item, Content, entries, command, pair, Pair}
@@ -16,10 +16,11 @@ pub record Keeps (old new : List ℕ) : Type 0 where
   pub behind : List ℕ
   pub split : new ≡ old ++ behind
 
--- the type byte, and the index of a compaction
+-- the type byte, and the index of a compaction or a truncation
 abbrev pub command_bytes : Command → List ℕ
 command_bytes Clean = 1 ∷ []
 command_bytes (Compact index) = 2 ∷ varint index
+command_bytes (Truncate index) = 3 ∷ varint index
 
 -- a length, and that many bytes
 abbrev pub byte_string : List ℕ → List ℕ

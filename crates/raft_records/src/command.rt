@@ -1,7 +1,8 @@
 //! Commands on a region's log.
 
-ghost use Rattle.std.specs.Prelude.{◌≡◌, ◌≢◌, ◌++◌, IfOk, IfErr, OnOk, OnErr};
+ghost use Rattle.std.specs.Prelude.{◌≡◌, ◌≢◌, ◌∷◌, ◌++◌, IfOk, IfErr, OnOk, OnErr};
 ghost use Rattle.raft_codec.specs.Reading.{Reads, HasNoFront};
+ghost use Rattle.raft_codec.specs.Varint.{varint};
 ghost use Rattle.raft_records.specs.Grammar.{IsCommand};
 ghost use Rattle.raft_records.specs.Faults.{IsCommandFault};
 ghost use Rattle.raft_records.specs.Sizes.{command_size};
@@ -15,6 +16,8 @@ const CMD_CLEAN: u8 = 1;
 
 const CMD_COMPACT: u8 = 2;
 
+const CMD_TRUNCATE: u8 = 3;
+
 /// What is done to a region's log.
 #[derive(Clone, PartialEq, Eq, Debug, Drop)]
 pub enum Command {
@@ -22,6 +25,8 @@ pub enum Command {
     Clean,
     /// The entries below `index` go.
     Compact { index: u64 },
+    /// The entries at or above `index` go.
+    Truncate { index: u64 },
 }
 
 impl Command {
@@ -32,6 +37,7 @@ impl Command {
         match self {
             Command::Clean => 1,
             Command::Compact { .. } => 1 + 8,
+            Command::Truncate { .. } => 1 + 8,
         }
     }
 
@@ -51,15 +57,8 @@ impl Command {
     {
         match self {
             Command::Clean => Ok(buf.push(CMD_CLEAN)?),
-            Command::Compact { index } => {
-                let len = buf.len();
-                buf.push(CMD_COMPACT)?;
-                let written = codec::append_var_u64(buf, *index);
-                if written.is_err() {
-                    buf.truncate(len);
-                }
-                written
-            }
+            Command::Compact { index } => append_indexed(buf, CMD_COMPACT, *index),
+            Command::Truncate { index } => append_indexed(buf, CMD_TRUNCATE, *index),
         }
     }
 
@@ -92,7 +91,25 @@ impl Command {
                 let (index, rest) = codec::parse_var_u64(behind)?;
                 Ok((Command::Compact { index }, rest))
             }
+            CMD_TRUNCATE => {
+                let (index, rest) = codec::parse_var_u64(behind)?;
+                Ok((Command::Truncate { index }, rest))
+            }
             _ => Err(Error::Corruption(format!(in alloc; "Unrecognized command type: {kind}")?)),
         }
     }
+}
+
+/// Appends a command's type byte and an index. On `Err` the vector is as it was.
+fn append_indexed(buf: &mut Vec<u8>, kind: u8, index: u64) -> std::result::Result<(), AllocError>
+    ensures ok { OnOk result (buf.new.items ≡ buf.old.items ++ kind ∷ varint index) }
+    ensures err { OnErr result (buf.new.items ≡ buf.old.items) }
+{
+    let len = buf.len();
+    buf.push(kind)?;
+    let written = codec::append_var_u64(buf, index);
+    if written.is_err() {
+        buf.truncate(len);
+    }
+    written
 }

@@ -125,7 +125,7 @@ impl LogItem {
                 let _count = entries.0.len();
             }
             LogItemContent::Command(Command::Clean) => {}
-            LogItemContent::Command(Command::Compact { index }) => {
+            LogItemContent::Command(Command::Compact { index } | Command::Truncate { index }) => {
                 let _index = *index;
             }
             LogItemContent::Kv(kv) => kv.lengths_fit(),

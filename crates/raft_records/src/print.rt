@@ -108,6 +108,7 @@ fn append_content(
         LogItemContent::EntryIndexes(entries) => append_entries(entries.0.as_slice(), text),
         LogItemContent::Command(Command::Clean) => text.push_str("clean"),
         LogItemContent::Command(Command::Compact { index }) => write!(text, "compact {index}"),
+        LogItemContent::Command(Command::Truncate { index }) => write!(text, "truncate {index}"),
         LogItemContent::Kv(kv) => append_key_value(alloc, kv, text),
     }
 }

@@ -49,6 +49,7 @@ all-append P (x ∷ xs) ys g h = (g.0, all-append P xs ys g.1 h)
 all-commanded : (P : ℕ → Type 0) (id : ℕ) (c : Command) → P id → AllByRecursion P (cleaned_by_command id c)
 all-commanded P id commands.Clean p = (p, tt)
 all-commanded P id (commands.Compact index) p = tt
+all-commanded P id (commands.Truncate index) p = tt
 
 all-cleaned : (P : ℕ → Type 0) (id : ℕ) (c : Content) → P id → AllByRecursion P (cleaned_by_content id c)
 all-cleaned P id (entries es) p = tt

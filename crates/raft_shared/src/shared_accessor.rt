@@ -93,7 +93,7 @@ impl SharedAccessor {
 
     /// Does to a region's table the change that `f` answers for it, all under the lock for writing.
     /// `f` sees an empty table where there is none, and the table is then made. The number is how many
-    /// entries a compaction drops, else 0.
+    /// entries a compaction or a truncation drops, else 0.
     ///
     /// # Errors
     ///
@@ -120,7 +120,7 @@ impl SharedAccessor {
     }
 
     /// Does what a change says to a region's table, which is made where there is none. The number is
-    /// how many entries a compaction drops, else 0.
+    /// how many entries a compaction or a truncation drops, else 0.
     ///
     /// # Errors
     ///

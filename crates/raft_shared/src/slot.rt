@@ -136,7 +136,7 @@ impl Slot {
     }
 
     /// Does what a change says to a region's table, which is made where there is none. The number is
-    /// how many entries a compaction drops, else 0.
+    /// how many entries a compaction or a truncation drops, else 0.
     ///
     /// # Errors
     ///

@@ -1,18 +1,20 @@
 -- What a cut of a table's entries leaves, and how many.
-use Rattle.std.proofs.Common.{◌≡◌, ℕ, ◌+◌, ◌-◌, ◌<◌, ◌≤◌, min, Bool, true, false, cond, ltb, List, [], ◌∷◌, length, take, Option, Some, None, refl, sym, ap, subst, ◌∙◌, inl, inr, arith}
+use Rattle.std.proofs.Common.{◌≡◌, ℕ, ◌-◌, ◌<◌, ◌≤◌, max, min, Bool, true, false, cond, ltb, List, [], ◌∷◌, length, take, drop, Option, Some, None, refl, sym, ap, subst, ◌∙◌, inl, inr, arith}
 use Rattle.std.specs.Prelude.{filter}
 use Rattle.std.proofs.lemmas.Bool.{cases_lt}
 use Rattle.std.proofs.lemmas.Bool.Decides.{nat_tests}
 use Rattle.raft_base.specs.declared.pipe_log.LogQueue.{LogQueue}
 use Rattle.raft_base.specs.declared.entry_index.EntryIndex.{EntryIndex}
-use Rattle.raft_table.specs.TableEntries.{AreTableEntries, start_of, end_of, below, from, is_placed_in, placed_in, entry_count}
+use Rattle.raft_table.specs.TableEntries.{RisesFrom, AreTableEntries, start_of, end_of, below, from, is_placed_in, placed_in, entry_count}
 use Rattle.std.specs.FinMap as finite
 use Rattle.raft_table.specs.KeyValues.{Keys, pair_count}
 use Rattle.raft_table.specs.Marks.{entries_within}
 use Rattle.raft_table.proofs.KeyValueReads.{entries-empty}
-use Rattle.raft_table.proofs.RunLemmas.{filter_comm, below_start}
-use Rattle.raft_table.proofs.SoundLemmas.{sound_rising, below_cut}
-use Rattle.raft_table.proofs.MarkWords.{end_of-from, within-within, within-from, within-below}
+use Rattle.raft_table.proofs.RunLemmas.{filter_comm, below_start, from_start}
+use Rattle.raft_table.proofs.SoundLemmas.{sound_rising, below_cut, from_cut}
+use Rattle.raft_table.specs.MarkJoins.{capped}
+use Rattle.raft_table.proofs.PartEnds.{end_of-part_run}
+use Rattle.raft_table.proofs.MarkWords.{within-within, within-from, within-below}
 
 -- so many in front are the entries below an index
 pub front_below : (i first n : ℕ) (es : List EntryIndex) → AreTableEntries es → start_of es ≡ first → n ≡ min (i - first) (length es) → take n es ≡ below i es
@@ -52,22 +54,32 @@ pub none-fewer : (q : LogQueue) (es : List EntryIndex) → entry_count q [] ≤ 
 unfolding placed_in
 none-fewer q es = omega arith
 
--- the end of the entries from an index on, told by the end of all
-pub end_above : (i last : ℕ) (es : List EntryIndex) → last + 1 ≡ end_of es → i ≤ last → last + 1 ≡ end_of (from i es)
-end_above i last es e l = sym (end_of-from i es ∙ go i (end_of es) last e l)
-  where
-    go : (i e last : ℕ) → last + 1 ≡ e → i ≤ last → cond (ltb i e) e 0 ≡ last + 1
-    go i e last h l = grind (arith, nat_tests)
+-- where the entries within bounds end, told by the start and the end of all
+pub end_of-within : (s : ℕ) (es : List EntryIndex) (floor : ℕ) (cut : Option ℕ) → RisesFrom s es → end_of (entries_within floor cut es) ≡ cond (ltb (max s floor) (capped (end_of es) cut)) (capped (end_of es) cut) 0
+end_of-within s es floor None h = end_of-part_run s floor None es h
+end_of-within s es floor (Some c) h = end_of-part_run s floor (Some c) es h
 
-pub end_below : (i last : ℕ) (es : List EntryIndex) → last + 1 ≡ end_of es → last < i → 0 ≡ end_of (from i es)
-end_below i last es e l = sym (end_of-from i es ∙ go i (end_of es) last e l)
+pub end_met : (s : ℕ) (es : List EntryIndex) (floor : ℕ) (cut : Option ℕ) (end m x : ℕ) → RisesFrom s es → end ≡ end_of es → x ≡ capped end cut → m ≡ max s floor → m < x → x ≡ end_of (entries_within floor cut es)
+end_met s es floor cut end m x h e f g l = sym (end_of-within s es floor cut h ∙ go (capped (end_of es) cut) (f ∙ ap (λ n. capped n cut) e))
   where
-    go : (i e last : ℕ) → last + 1 ≡ e → last < i → cond (ltb i e) e 0 ≡ 0
-    go i e last h l = grind (arith, nat_tests)
+    go : (n : ℕ) → x ≡ n → cond (ltb (max s floor) n) n 0 ≡ x
+    go n k = grind (arith, nat_tests)
 
-pub end_none : (i : ℕ) (es : List EntryIndex) → es ≡ [] → 0 ≡ end_of (from i es)
-unfolding end_of from
-end_none i es e = rw e refl
+pub end_unmet : (s : ℕ) (es : List EntryIndex) (floor : ℕ) (cut : Option ℕ) (end m x : ℕ) → RisesFrom s es → end ≡ end_of es → x ≡ capped end cut → m ≡ max s floor → x ≤ m → 0 ≡ end_of (entries_within floor cut es)
+end_unmet s es floor cut end m x h e f g l = sym (end_of-within s es floor cut h ∙ go (capped (end_of es) cut) (f ∙ ap (λ n. capped n cut) e))
+  where
+    go : (n : ℕ) → x ≡ n → cond (ltb (max s floor) n) n 0 ≡ 0
+    go n k = grind (arith, nat_tests)
+
+-- and those that are not in front of an index
+pub behind_from : (i first n : ℕ) (es : List EntryIndex) → AreTableEntries es → start_of es ≡ first → n ≡ min (i - first) (length es) → drop n es ≡ from i es
+behind_from i first n es h s e = elim (cases_lt i (start_of es)) [
+  | inl l ↦ ap (λ k. drop k es) (none i first n (length es) (omega arith) e) ∙ sym (from_start i (start_of es) es (sound_rising es h) (omega arith))
+  | inr l ↦ from_cut i n es h l (rw s e)
+]
+  where
+    none : (i first n k : ℕ) → i < first → n ≡ min (i - first) k → n ≡ 0
+    none i first n k l e = omega arith
 
 -- a part, or nothing
 pub kept-fewer : (q : LogQueue) (gone : Bool) (floor : ℕ) (cut : Option ℕ) (es xs : List EntryIndex) → xs ≡ cond gone [] (entries_within floor cut es) → entry_count q xs ≤ entry_count q es

@@ -1,19 +1,22 @@
 -- Entries under two marks, one after the other, and under the joined one.
-use Rattle.std.proofs.Common.{◌≡◌, ◌⊎◌, ℕ, ◌<◌, ◌≤◌, max, min, Bool, true, false, cond, ltb, List, [], ◌++◌, Option, Some, None, refl, sym, ap, ◌∙◌, inl, inr, arith}
+use Rattle.std.proofs.Common.{◌≡◌, ◌⊎◌, ℕ, ◌≤◌, max, min, Bool, true, false, cond, ◌&&◌, ◌||◌, ltb, eqb, List, [], ◌++◌, Option, Some, None, refl, sym, ap, ◌∙◌, arith}
 use Rattle.std.specs.Prelude.{is_some}
 use Rattle.std.specs.Option.{option_and_then}
 use Rattle.std.proofs.lemmas.List.{append-nil}
-use Rattle.std.proofs.lemmas.Bool.{false≢true, cases_lt}
+use Rattle.std.proofs.lemmas.Bool.{false≢true}
 use Rattle.std.proofs.lemmas.Bool.Decides.{nat_tests}
 use Rattle.raft_base.specs.declared.pipe_log.LogQueue.{LogQueue}
 use Rattle.raft_base.specs.declared.pipe_log.LogQueue.TheVariants.{Append, Rewrite}
 use Rattle.raft_base.specs.declared.entry_index.EntryIndex.{EntryIndex}
-use Rattle.raft_table.specs.TableEntries.{end_of, from}
-use Rattle.raft_table.specs.Marks.{Mark, entries_within, misses, is_missed, older_entries, is_first_run_refused, entries_over, GoesPastCut, OwnGoesPastCut}
-use Rattle.raft_table.specs.MarkJoins.{joined_first, joined_floor, joined_later, joined_uncleaned, joined_at}
 use Rattle.raft_table.specs.KeyValues.{lesser}
-use Rattle.raft_table.proofs.RunLemmas.{end_of-append}
-use Rattle.raft_table.proofs.MarkWords.{within-both, within-within, within-nil, within-empty, within-from, end_of-from, met_first, met_later}
+use Rattle.raft_table.specs.Start.{leaves_hole}
+use Rattle.raft_table.specs.TableEntries.{RisesFrom, IsRun, end_of}
+use Rattle.raft_table.specs.Marks.{Mark, entries_within, misses, is_missed, is_barred, entries_over}
+use Rattle.raft_table.specs.MarkFits.{IsNotAbove, LiesWithin, FitsRun, FitsCut, Fits}
+use Rattle.raft_table.specs.MarkJoins.{capped, narrowed, is_detached, joined_first, joined_later, joined_uncleaned, joined_at}
+use Rattle.raft_table.proofs.MarkWords.{within-within, within-both, within-empty, within-nil, end_of-nil, nil_of_end}
+use Rattle.raft_table.proofs.PartEnds.{top, end_of-part_run}
+use Rattle.raft_table.proofs.MarkMeets.{barred_of, Settled, settled_list, met_list, at_cut_list, none_within, refuses_later}
 
 pub same_some : {X : Type 0} (x y : X) → Some x ≡ Some y → x ≡ y
 same_some x y e = cc
@@ -31,189 +34,208 @@ pub accepted : {X : Type 0} (b : Bool) (v w : X) → cond b None (Some v) ≡ So
 accepted true v w e = absurd cc
 accepted false v w e = (refl, same_some v w e)
 
-misses_nil : (r : Option ℕ) (l : ℕ) → misses r (end_of (from l [])) ≡ false
-unfolding from end_of
-misses_nil None l = refl
-misses_nil (Some r) l = refl
+-- own entries over older ones, by the queue
+abbrev pub over : LogQueue → Mark → List EntryIndex → List EntryIndex → Option (List EntryIndex)
+over Append m own older = cond (misses m.reach (end_of (entries_within m.reach_floor m.reach_cut older)) || is_barred m.barred older) None (Some (cond m.cleaned own (entries_within m.floor m.cut older ++ own)))
+over Rewrite m own older = Some (cond m.cleaned own (cond (misses m.reach (end_of (entries_within m.reach_floor m.reach_cut older))) own (entries_within m.floor m.cut older ++ own)))
 
-refused_nil : (q : LogQueue) (n : Mark) → is_first_run_refused q n [] ≡ false
-refused_nil Append n = misses_nil n.reach n.reach_floor
-refused_nil Rewrite n = refl
+pub over_is : (q : LogQueue) (m : Mark) (own older : List EntryIndex) → entries_over q m own older ≡ over q m own older
+over_is Append m own older = refl
+over_is Rewrite m own older = ap (λ x. Some (cond m.cleaned own x)) (go (is_missed m older))
+  where
+    go : (b : Bool) → cond b [] (entries_within m.floor m.cut older) ++ own ≡ cond b own (entries_within m.floor m.cut older ++ own)
+    go true = refl
+    go false = refl
 
-older_nil : (q : LogQueue) (n : Mark) → older_entries q n [] ≡ []
-older_nil Append n = within-nil n.floor n.cut
-older_nil Rewrite n = rw (misses_nil n.reach n.reach_floor) (within-nil n.floor n.cut)
+pub or_false : (x y : Bool) → (x || y) ≡ false → (x ≡ false) × (y ≡ false)
+or_false true y e = cc
+or_false false y e = (refl, e)
+
+kept_barred : (barred : Option (ℕ × ℕ)) (b : Bool) (x y : Option (ℕ × ℕ)) (o : List EntryIndex) → is_barred barred o ≡ true → is_barred (barred_of barred b x y) o ≡ true
+kept_barred None b x y o e = cc
+kept_barred (Some p) b x y o e = e
+
+later_append : (s s1 : ℕ) (m n : Mark) (t u w o : List EntryIndex) (r c : ℕ) → m.reach ≡ Some r → RisesFrom s o → RisesFrom s1 t → FitsRun r c (end_of t) m.reach_floor m.floor m.reach_cut m.barred → LiesWithin n.reach_floor n.reach_cut n.barred
+    → over Append n u t ≡ Some w
+    → option_and_then (λ v. over Append n u v) (cond (leaves_hole (end_of (entries_within m.reach_floor m.reach_cut o)) r || is_barred m.barred o) None (Some (entries_within m.floor (Some c) o ++ t)))
+    ≡ over Append (joined_later Append c (end_of (entries_within n.reach_floor n.reach_cut t)) m n) w o
+later_append s s1 m n t u w o r c reach run run1 f f' is = rw reach (go (leaves_hole (end_of (entries_within m.reach_floor m.reach_cut o)) r) (is_barred m.barred o) refl refl)
+  where
+    ok : ((misses n.reach (end_of (entries_within n.reach_floor n.reach_cut t)) || is_barred n.barred t) ≡ false) × (cond n.cleaned u (entries_within n.floor n.cut t ++ u) ≡ w)
+    ok = accepted _ _ _ is
+
+    ok2 : (misses n.reach (end_of (entries_within n.reach_floor n.reach_cut t)) ≡ false) × (is_barred n.barred t ≡ false)
+    ok2 = or_false _ _ ok.0
+
+    content : (x : Bool) → cond x u (entries_within n.floor n.cut t ++ u) ≡ w → cond x u (entries_within n.floor n.cut (entries_within m.floor (Some c) o ++ t) ++ u) ≡ cond x w (entries_within (max m.floor n.floor) (lesser (Some c) n.cut) o ++ w)
+    content true e = e
+    content false e = rw (within-both, ← e)
+
+    go : (x y : Bool) → leaves_hole (end_of (entries_within m.reach_floor m.reach_cut o)) r ≡ x → is_barred m.barred o ≡ y
+        → option_and_then (λ v. over Append n u v) (cond (x || y) None (Some (entries_within m.floor (Some c) o ++ t)))
+        ≡ cond (x || is_barred (joined_later Append c (end_of (entries_within n.reach_floor n.reach_cut t)) m n).barred o) None (Some (cond n.cleaned w (entries_within (max m.floor n.floor) (lesser (Some c) n.cut) o ++ w)))
+    go true y h k = refl
+    go false true h k = rw (kept_barred m.barred (is_detached n.reach (end_of (entries_within n.reach_floor n.reach_cut t)) (capped c n.reach_cut)) (Some (max m.floor n.reach_floor, capped c n.reach_cut)) (narrowed m.floor (Some c) n.barred) o k)
+    go false false h k = rw (refuses_later s s1 o t r c m.reach_floor m.floor m.reach_cut m.barred n.reach n.reach_floor n.reach_cut n.barred run run1 f f' ok2.0 ok2.1 h k, content n.cleaned ok.1)
+
+-- an older table without a run
+pub narrowed_bounds : (d : ℕ) (cut : Option ℕ) → lesser cut (Some d) ≡ Some (capped d cut)
+narrowed_bounds d None = refl
+narrowed_bounds d (Some c) = ap (λ x. Some x) (omega arith)
+
+barred_first : (barred : Option (ℕ × ℕ)) (lo : ℕ) (cut : Option ℕ) (o : List EntryIndex) → is_barred barred (entries_within lo cut o) ≡ is_barred (narrowed lo cut barred) o
+barred_first None lo cut o = refl
+barred_first (Some p) lo cut o = rw (within-within, narrowed_bounds p.1 cut)
+
+barred_nil : (barred : Option (ℕ × ℕ)) → is_barred barred [] ≡ false
+barred_nil None = refl
+barred_nil (Some p) = rw (within-nil, end_of-nil)
+
+misses_nil : (r : Option ℕ) (l : ℕ) (b : Option ℕ) → misses r (end_of (entries_within l b [])) ≡ false
+misses_nil None l b = refl
+misses_nil (Some r) l b = rw (within-nil, end_of-nil)
+
+own_alone : (x : Bool) (l : ℕ) (d : Option ℕ) (u : List EntryIndex) → cond x u (entries_within l d [] ++ u) ≡ u
+own_alone true l d u = refl
+own_alone false l d u = rw within-nil
 
 -- over no entries stand the own ones
-pub over_nil : (q : LogQueue) (n : Mark) (u : List EntryIndex) → entries_over q n u [] ≡ Some u
-over_nil q n u = rw (refused_nil q n, older_nil q n) (go n.cleaned)
-  where
-    go : (b : Bool) → Some (cond b u ([] ++ u)) ≡ Some u
-    go true = refl
-    go false = refl
+over_none : (q : LogQueue) (n : Mark) (u : List EntryIndex) → over q n u [] ≡ Some u
+over_none Append n u = rw (misses_nil n.reach n.reach_floor n.reach_cut, barred_nil n.barred, own_alone n.cleaned n.floor n.cut u)
+over_none Rewrite n u = rw (misses_nil n.reach n.reach_floor n.reach_cut, own_alone n.cleaned n.floor n.cut u)
 
--- an older mark without a run leaves the older entries from its compaction on
-first_missed : (m n : Mark) (o : List EntryIndex) → is_missed n (entries_within m.floor None o ++ []) ≡ is_missed (joined_first m n) o
+pub over_nil : (q : LogQueue) (n : Mark) (u : List EntryIndex) → entries_over q n u [] ≡ Some u
+over_nil q n u = over_is q n u [] ∙ over_none q n u
+
+first_missed : (m n : Mark) (o : List EntryIndex) → misses n.reach (end_of (entries_within n.reach_floor n.reach_cut (entries_within m.floor m.cut o)))
+    ≡ misses n.reach (end_of (entries_within (cond (is_some n.reach) (max m.floor n.reach_floor) m.reach_floor) (cond (is_some n.reach) (lesser m.cut n.reach_cut) m.reach_cut) o))
 first_missed m n o = go n.reach
   where
-    go : (x : Option ℕ) → misses x (end_of (from n.reach_floor (entries_within m.floor None o ++ []))) ≡ misses x (end_of (from (cond (is_some x) (max m.floor n.reach_floor) m.reach_floor) o))
+    go : (x : Option ℕ) → misses x (end_of (entries_within n.reach_floor n.reach_cut (entries_within m.floor m.cut o)))
+        ≡ misses x (end_of (entries_within (cond (is_some x) (max m.floor n.reach_floor) m.reach_floor) (cond (is_some x) (lesser m.cut n.reach_cut) m.reach_cut) o))
     go None = refl
-    go (Some r) = ap (misses (Some r)) (met_first n.reach_floor m.floor o)
+    go (Some r) = rw within-within
 
-first_refused : (q : LogQueue) (m n : Mark) (o : List EntryIndex) → is_first_run_refused q n (entries_within m.floor None o ++ []) ≡ is_first_run_refused q (joined_first m n) o
-first_refused Append m n o = first_missed m n o
-first_refused Rewrite m n o = refl
+over_first : (q : LogQueue) (m n : Mark) (u o : List EntryIndex) → m.barred ≡ None → over q n u (entries_within m.floor m.cut o ++ []) ≡ over q (joined_first m n) u o
+over_first Append m n u o none = rw (append-nil, first_missed m n o, barred_first n.barred m.floor m.cut o, within-within n.floor n.cut m.floor m.cut o, none)
+over_first Rewrite m n u o none = rw (append-nil, first_missed m n o, within-within n.floor n.cut m.floor m.cut o)
 
-first_part : (m n : Mark) (o : List EntryIndex) → m.cut ≡ None → entries_within n.floor n.cut (entries_within m.floor None o ++ []) ≡ entries_within (max m.floor n.floor) (lesser m.cut n.cut) o
-first_part m n o e = rw (e) (ap (entries_within n.floor n.cut) (append-nil (entries_within m.floor None o)) ∙ within-within n.floor n.cut m.floor None o)
+-- the table alone, of a cleaned region
+alone : (q : LogQueue) (x y : Bool) (n : Mark) (t u w v : List EntryIndex) → y ≡ true → over q n u t ≡ Some w
+    → option_and_then (λ v. over q n u v) (cond x None (Some (cond y t v))) ≡ cond x None (Some w)
+alone q true y n t u w v e is = refl
+alone q false y n t u w v e is = rw e is
 
-first_older : (q : LogQueue) (m n : Mark) (o : List EntryIndex) → m.cut ≡ None → older_entries q n (entries_within m.floor None o ++ []) ≡ older_entries q (joined_first m n) o
-first_older Append m n o e = first_part m n o e
-first_older Rewrite m n o e = rw (first_missed m n o, first_part m n o e) refl
+first_whole : (q : LogQueue) (m n : Mark) (t u w o : List EntryIndex) → t ≡ [] → over q n u (entries_within m.floor m.cut o ++ []) ≡ over q (joined_first m n) u o
+    → over q n u t ≡ Some w → over q n u (entries_within m.floor m.cut o ++ t) ≡ over q (joined_first m n) w o
+first_whole q m n t u w o e law is = rw (e, law, same_some u w (sym (over_none q n u) ∙ (rw e at is)))
 
-pub over_first : (q : LogQueue) (m n : Mark) (u o : List EntryIndex) → m.cut ≡ None → entries_over q n u (entries_within m.floor None o ++ []) ≡ entries_over q (joined_first m n) u o
-over_first q m n u o e = rw (first_refused q m n o, first_older q m n o e) refl
-
--- one with a run leaves its own entries at the end
-later_refused : (q : LogQueue) (n : Mark) (floor c : ℕ) (o t : List EntryIndex) → (c ≤ floor) ⊎ (c < end_of t) → is_first_run_refused q n (entries_within floor (Some c) o ++ t) ≡ is_first_run_refused q n t
-later_refused Append n floor c o t h = ap (misses n.reach) (met_later n.reach_floor floor c o t h)
-later_refused Rewrite n floor c o t h = refl
-
-gone : (floor c : ℕ) (d : Option ℕ) (o : List EntryIndex) → entries_within (max floor c) (lesser (Some c) d) o ≡ []
-gone floor c None o = within-empty (max floor c) c o (omega arith)
-gone floor c (Some d) o = within-empty (max floor c) (min c d) o (omega arith)
-
-later_part : (q : LogQueue) (n : Mark) (floor c : ℕ) (o t u : List EntryIndex) → (c ≤ floor) ⊎ (c < end_of t)
-    → older_entries q n (entries_within floor (Some c) o ++ t) ++ u ≡ entries_within (joined_floor q (misses n.reach (end_of (from n.reach_floor t))) (max floor n.floor) c) (lesser (Some c) n.cut) o ++ (older_entries q n t ++ u)
-later_part Append n floor c o t u h = within-both n.floor n.cut floor (Some c) o t u
-later_part Rewrite n floor c o t u h = rw (ap (misses n.reach) (met_later n.reach_floor floor c o t h)) (go (is_missed n t))
+join_append : (m n : Mark) (t u w o : List EntryIndex) → IsRun o → IsRun t → Fits Append m t → Fits Append n u → over Append n u t ≡ Some w
+    → option_and_then (λ v. over Append n u v) (over Append m t o) ≡ over Append (joined_at Append (end_of (entries_within n.reach_floor n.reach_cut t)) m n) w o
+join_append m n t u w o run run1 f f' is = by_cleaned m.cleaned refl f.uncleaned
   where
-    go : (b : Bool) → cond b [] (entries_within n.floor n.cut (entries_within floor (Some c) o ++ t)) ++ u ≡ entries_within (cond b (max (max floor n.floor) c) (max floor n.floor)) (lesser (Some c) n.cut) o ++ (cond b [] (entries_within n.floor n.cut t) ++ u)
-    go true = rw (gone (max floor n.floor) c n.cut o) refl
-    go false = within-both n.floor n.cut floor (Some c) o t u
+    X : ℕ
+    X = end_of (entries_within n.reach_floor n.reach_cut t)
 
--- the older mark's meeting is the joined one's
-kept_refused : (q : LogQueue) (c x : ℕ) (m n : Mark) (o : List EntryIndex) → is_first_run_refused q (joined_later q c x m n) o ≡ is_first_run_refused q m o
-kept_refused Append c x m n o = refl
-kept_refused Rewrite c x m n o = refl
+    by_run : (x y : Option ℕ) → m.reach ≡ x → m.cut ≡ y → FitsCut x y m t
+        → option_and_then (λ v. over Append n u v) (cond (misses x (end_of (entries_within m.reach_floor m.reach_cut o)) || is_barred m.barred o) None (Some (entries_within m.floor y o ++ t)))
+        ≡ over Append (joined_uncleaned x y Append X m n) w o
+    by_run None y r e h = let none : m.barred ≡ None = f.behind r in rw (ap (λ b. is_barred b o) none, ← e) (first_whole Append m n t u w o h (over_first Append m n u o none) is)
+    by_run (Some r) None k e h = absurd h
+    by_run (Some r) (Some c) k e h = later_append run.start run1.start m n t u w o r c k run.rising run1.rising h f'.within is
 
--- an older meeting that misses leaves the own entries alone
-over_alone : (q : LogQueue) (m n : Mark) (c : ℕ) (t u w o : List EntryIndex) → is_first_run_refused q m o ≡ false → older_entries q m o ≡ [] → older_entries q (joined_later q c (end_of (from n.reach_floor t)) m n) o ≡ []
-    → entries_over q n u t ≡ Some w → entries_over q n u (older_entries q m o ++ t) ≡ entries_over q (joined_later q c (end_of (from n.reach_floor t)) m n) w o
-over_alone q m n c t u w o e f g is = rw (f, kept_refused q c (end_of (from n.reach_floor t)) m n o, e, g) (is ∙ go n.cleaned)
+    by_cleaned : (b : Bool) → m.cleaned ≡ b → (b ≡ false → FitsCut m.reach m.cut m t)
+        → option_and_then (λ v. over Append n u v) (cond (misses m.reach (end_of (entries_within m.reach_floor m.reach_cut o)) || is_barred m.barred o) None (Some (cond b t (entries_within m.floor m.cut o ++ t))))
+        ≡ over Append (cond b m (joined_uncleaned m.reach m.cut Append X m n)) w o
+    by_cleaned true e h = rw e (alone Append (misses m.reach (end_of (entries_within m.reach_floor m.reach_cut o)) || is_barred m.barred o) true n t u w [] refl is)
+    by_cleaned false e h = by_run m.reach m.cut refl refl (h refl)
+
+-- the rewrite queue: where the newer run meets nothing, nothing is left to be cut
+empty_within : (s : ℕ) (es : List EntryIndex) (l lo d : ℕ) (b : Option ℕ) → RisesFrom s es → l ≤ lo → IsNotAbove d b → end_of (entries_within l b es) ≡ 0 → entries_within lo (Some d) es ≡ []
+empty_within s es l lo d b run h k z = nil_of_end _ (end_of-part_run s lo (Some d) es run ∙ go b k (sym (end_of-part_run s l b es run) ∙ z))
   where
-    go : (b : Bool) → Some w ≡ Some (cond b w ([] ++ w))
-    go true = refl
-    go false = refl
+    go : (b : Option ℕ) → IsNotAbove d b → top s (end_of es) l b ≡ 0 → top s (end_of es) lo (Some d) ≡ 0
+    go None k z = grind (arith, nat_tests)
+    go (Some c) k z = none_within s (end_of es) l c lo d h k z
 
-over_later : (q : LogQueue) (m n : Mark) (c : ℕ) (t u w o : List EntryIndex) → is_first_run_refused q m o ≡ false → older_entries q m o ≡ entries_within m.floor (Some c) o
-    → older_entries q (joined_later q c (end_of (from n.reach_floor t)) m n) o ≡ entries_within (joined_floor q (misses n.reach (end_of (from n.reach_floor t))) (max m.floor n.floor) c) (lesser (Some c) n.cut) o
-    → (c ≤ m.floor) ⊎ (c < end_of t) → entries_over q n u t ≡ Some w → entries_over q n u (older_entries q m o ++ t) ≡ entries_over q (joined_later q c (end_of (from n.reach_floor t)) m n) w o
-over_later q m n c t u w o e f g h is =
-    let k = accepted (is_first_run_refused q n t) (cond n.cleaned u (older_entries q n t ++ u)) w is in
-    rw (f, kept_refused q c (end_of (from n.reach_floor t)) m n o, e, g, later_refused q n m.floor c o t h, k.0, ← k.1) (go n.cleaned)
+at_most_both : (c d : ℕ) (b : Option ℕ) → IsNotAbove d b → IsNotAbove (min c d) (lesser (Some c) b)
+at_most_both c d None h = omega arith
+at_most_both c d (Some b) h = omega arith
+
+-- the older part o1 and the own table t, met by a newer run: x of t, y of the older part
+rewrite_cases : (miss barred : Bool) (y b r : ℕ) (o1 o2 t1 u : List EntryIndex) → (y ≡ 0) ⊎ (y ≡ b)
+    → (x : ℕ) → miss ≡ leaves_hole x r → barred ≡ (eqb x 0 && ltb b r) → o2 ≡ [] → (barred ≡ true → y ≡ 0 → o1 ≡ []) → (x ≡ 0 → ltb b r ≡ true → t1 ≡ [])
+    → cond (leaves_hole (cond (eqb x 0) y x) r) u (o1 ++ (t1 ++ u)) ≡ cond (barred || miss) o2 o1 ++ cond miss u (t1 ++ u)
+rewrite_cases miss barred y b r o1 o2 t1 u h x m k e f g = grind (arith, nat_tests)
+
+pushed_part : (b : Bool) (x y : ℕ) (d : Option ℕ) (o : List EntryIndex) → entries_within (cond b x y) d o ≡ cond b (entries_within x d o) (entries_within y d o)
+pushed_part true x y d o = refl
+pushed_part false x y d o = refl
+
+not_missed : (s s1 : ℕ) (o t u : List EntryIndex) (n : Mark) (c lo : ℕ) → RisesFrom s o → RisesFrom s1 t → Settled lo c (end_of t) o → (x y : Option ℕ) → FitsCut x y n u
+    → cond (misses x (end_of (entries_within n.reach_floor n.reach_cut (entries_within lo (Some c) o ++ t)))) u (entries_within n.floor y (entries_within lo (Some c) o ++ t) ++ u)
+    ≡ entries_within (cond (is_detached x (end_of (entries_within n.reach_floor n.reach_cut t)) (capped c n.reach_cut) || misses x (end_of (entries_within n.reach_floor n.reach_cut t))) (max (max lo n.floor) c) (max lo n.floor)) (lesser (Some c) y) o
+    ++ cond (misses x (end_of (entries_within n.reach_floor n.reach_cut t))) u (entries_within n.floor y t ++ u)
+not_missed s s1 o t u n c lo run run1 st None y f = within-both n.floor y lo (Some c) o t u
+not_missed s s1 o t u n c lo run run1 st (Some r) None f = absurd f
+not_missed s s1 o t u n c lo run run1 st (Some r) (Some d) f =
+    rw (met_list s s1 o t c lo n.reach_floor n.reach_cut run run1 st, within-both, pushed_part)
+    (rewrite_cases _ _ _ (capped c n.reach_cut) r _ _ _ u (at_cut_list s o c (end_of t) lo n.reach_floor n.reach_cut run st) (end_of (entries_within n.reach_floor n.reach_cut t)) refl refl
+    (within-empty (max (max lo n.floor) c) (min c d) o (omega arith))
+    (λ _ z. empty_within s o (max lo n.reach_floor) (max lo n.floor) (min c d) (lesser (Some c) n.reach_cut) run (omega (arith, f.floor_rises)) (at_most_both c d n.reach_cut f.cut_falls) z)
+    (λ z _. empty_within s1 t n.reach_floor n.floor d n.reach_cut run1 f.floor_rises f.cut_falls z))
+
+later_rewrite : (s s1 : ℕ) (m n : Mark) (t u o : List EntryIndex) (r c : ℕ) → m.reach ≡ Some r → RisesFrom s o → RisesFrom s1 t → FitsRun r c (end_of t) m.reach_floor m.floor m.reach_cut m.barred → m.barred ≡ None → Fits Rewrite n u
+    → (w : List EntryIndex) → cond n.cleaned u (cond (misses n.reach (end_of (entries_within n.reach_floor n.reach_cut t))) u (entries_within n.floor n.cut t ++ u)) ≡ w
+    → over Rewrite n u (cond (leaves_hole (end_of (entries_within m.reach_floor m.reach_cut o)) r) t (entries_within m.floor (Some c) o ++ t))
+    ≡ over Rewrite (joined_later Rewrite c (end_of (entries_within n.reach_floor n.reach_cut t)) m n) w o
+later_rewrite s s1 m n t u o r c reach run run1 f none f' w is = rw reach (ap (λ v. Some v) (by_cleaned n.cleaned refl is))
   where
-    go : (b : Bool) → Some (cond b u (older_entries q n (entries_within m.floor (Some c) o ++ t) ++ u))
-        ≡ Some (cond b (cond b u (older_entries q n t ++ u)) (entries_within (joined_floor q (misses n.reach (end_of (from n.reach_floor t))) (max m.floor n.floor) c) (lesser (Some c) n.cut) o ++ cond b u (older_entries q n t ++ u)))
-    go true = refl
-    go false = ap (λ x. Some x) (later_part q n m.floor c o t u h)
+    X : ℕ
+    X = end_of (entries_within n.reach_floor n.reach_cut t)
 
--- an older mark with a run, whatever its meeting
-over_run : (q : LogQueue) (m n : Mark) (c : ℕ) (t u w o : List EntryIndex) → m.cut ≡ Some c → (c ≤ m.floor) ⊎ (c < end_of t) → is_first_run_refused q m o ≡ false
-    → entries_over q n u t ≡ Some w → entries_over q n u (older_entries q m o ++ t) ≡ entries_over q (joined_later q c (end_of (from n.reach_floor t)) m n) w o
-over_run Append m n c t u w o e h r is = over_later Append m n c t u w o r (ap (λ d. entries_within m.floor d o) e) refl h is
-over_run Rewrite m n c t u w o e h r is = go (is_missed m o) refl
+    by_cleaned : (b : Bool) → n.cleaned ≡ b → cond b u (cond (misses n.reach X) u (entries_within n.floor n.cut t ++ u)) ≡ w
+        → cond b u (cond (misses n.reach (end_of (entries_within n.reach_floor n.reach_cut (cond (leaves_hole (end_of (entries_within m.reach_floor m.reach_cut o)) r) t (entries_within m.floor (Some c) o ++ t))))) u (entries_within n.floor n.cut (cond (leaves_hole (end_of (entries_within m.reach_floor m.reach_cut o)) r) t (entries_within m.floor (Some c) o ++ t)) ++ u))
+        ≡ cond b w (cond (leaves_hole (end_of (entries_within m.reach_floor m.reach_cut o)) r) w (entries_within (cond (is_detached n.reach X (capped c n.reach_cut) || misses n.reach X) (max (max m.floor n.floor) c) (max m.floor n.floor)) (lesser (Some c) n.cut) o ++ w))
+    by_cleaned true e is = is
+    by_cleaned false e is = by_missed (leaves_hole (end_of (entries_within m.reach_floor m.reach_cut o)) r) refl
+      where
+        by_missed : (b : Bool) → leaves_hole (end_of (entries_within m.reach_floor m.reach_cut o)) r ≡ b
+            → cond (misses n.reach (end_of (entries_within n.reach_floor n.reach_cut (cond b t (entries_within m.floor (Some c) o ++ t))))) u (entries_within n.floor n.cut (cond b t (entries_within m.floor (Some c) o ++ t)) ++ u)
+            ≡ cond b w (entries_within (cond (is_detached n.reach X (capped c n.reach_cut) || misses n.reach X) (max (max m.floor n.floor) c) (max m.floor n.floor)) (lesser (Some c) n.cut) o ++ w)
+        by_missed true h = is
+        by_missed false h = not_missed s s1 o t u n c m.floor run run1 (settled_list s o r c (end_of t) m.reach_floor m.floor m.reach_cut m.barred run f h (rw none)) n.reach n.cut (f'.uncleaned e) ∙ ap (λ v. entries_within (cond (is_detached n.reach X (capped c n.reach_cut) || misses n.reach X) (max (max m.floor n.floor) c) (max m.floor n.floor)) (lesser (Some c) n.cut) o ++ v) is
+
+join_rewrite : (m n : Mark) (t u w o : List EntryIndex) → IsRun o → IsRun t → Fits Rewrite m t → Fits Rewrite n u → over Rewrite n u t ≡ Some w
+    → option_and_then (λ v. over Rewrite n u v) (over Rewrite m t o) ≡ over Rewrite (joined_at Rewrite (end_of (entries_within n.reach_floor n.reach_cut t)) m n) w o
+join_rewrite m n t u w o run run1 f f' is = by_cleaned m.cleaned refl f.uncleaned
   where
-    go : (b : Bool) → is_missed m o ≡ b → entries_over Rewrite n u (older_entries Rewrite m o ++ t) ≡ entries_over Rewrite (joined_later Rewrite c (end_of (from n.reach_floor t)) m n) w o
-    go true k = over_alone Rewrite m n c t u w o r (rw k refl) (rw k refl) is
-    go false k = over_later Rewrite m n c t u w o r (rw (k, e) refl) (rw k refl) h is
+    X : ℕ
+    X = end_of (entries_within n.reach_floor n.reach_cut t)
 
-pub join_entries : (q : LogQueue) (m n : Mark) (t u w o : List EntryIndex) → OwnGoesPastCut m t → entries_over q n u t ≡ Some w
-    → option_and_then (λ v. entries_over q n u v) (entries_over q m t o) ≡ entries_over q (joined_at q (end_of (from n.reach_floor t)) m n) w o
-join_entries q m n t u w o fits is = by_cleaned m.cleaned refl
-  where
-    by_meeting : (b : Bool) → is_first_run_refused q m o ≡ b → m.cleaned ≡ true → option_and_then (λ v. entries_over q n u v) (cond b None (Some t)) ≡ cond b None (Some (cond m.cleaned w (older_entries q m o ++ w)))
-    by_meeting true e k = refl
-    by_meeting false e k = is ∙ ap (λ x. Some x) (sym (pick_true m.cleaned w (older_entries q m o ++ w) k))
+    by_run : (x y : Option ℕ) → m.reach ≡ x → m.cut ≡ y → FitsCut x y m t
+        → over Rewrite n u (cond (misses x (end_of (entries_within m.reach_floor m.reach_cut o))) t (entries_within m.floor y o ++ t)) ≡ over Rewrite (joined_uncleaned x y Rewrite X m n) w o
+    by_run None y r e h = rw (← e) (first_whole Rewrite m n t u w o h (over_first Rewrite m n u o (f.behind r)) is)
+    by_run (Some r) None k e h = absurd h
+    by_run (Some r) (Some c) k e h = later_rewrite run.start run1.start m n t u o r c k run.rising run1.rising h f.bars f' w (same_some _ _ is)
 
-    later : (c : ℕ) → m.cleaned ≡ false → m.cut ≡ Some c → (c ≤ m.floor) ⊎ (c < end_of t) → (b : Bool) → is_first_run_refused q m o ≡ b
-        → option_and_then (λ v. entries_over q n u v) (cond b None (Some (older_entries q m o ++ t))) ≡ entries_over q (joined_later q c (end_of (from n.reach_floor t)) m n) w o
-    later c k e h true r = sym (rw (kept_refused q c (end_of (from n.reach_floor t)) m n o, r) refl)
-    later c k e h false r = over_run q m n c t u w o e h r is
+    by_cleaned : (b : Bool) → m.cleaned ≡ b → (b ≡ false → FitsCut m.reach m.cut m t)
+        → over Rewrite n u (cond b t (cond (misses m.reach (end_of (entries_within m.reach_floor m.reach_cut o))) t (entries_within m.floor m.cut o ++ t))) ≡ over Rewrite (cond b m (joined_uncleaned m.reach m.cut Rewrite X m n)) w o
+    by_cleaned true e h = rw e is
+    by_cleaned false e h = by_run m.reach m.cut refl refl (h refl)
 
-    unrefused : (q : LogQueue) → m.reach ≡ None → is_first_run_refused q m o ≡ false
-    unrefused Append e = rw e refl
-    unrefused Rewrite e = refl
+join_over : (q : LogQueue) (m n : Mark) (t u w o : List EntryIndex) → IsRun o → IsRun t → Fits q m t → Fits q n u → over q n u t ≡ Some w
+    → option_and_then (λ v. over q n u v) (over q m t o) ≡ over q (joined_at q (end_of (entries_within n.reach_floor n.reach_cut t)) m n) w o
+join_over Append = join_append
+join_over Rewrite = join_rewrite
 
-    unmissed : (q : LogQueue) → m.reach ≡ None → m.cut ≡ None → older_entries q m o ≡ entries_within m.floor None o
-    unmissed Append e k = rw k refl
-    unmissed Rewrite e k = rw (e, k) refl
+same_then : {X Y : Type 0} (f g : X → Option Y) (x y : Option X) → x ≡ y → ((v : X) → f v ≡ g v) → option_and_then f x ≡ option_and_then g y
+same_then f g None y e h = rw (← e)
+same_then f g (Some v) y e h = rw (← e) (h v)
 
-    first : m.reach ≡ None → m.cut ≡ None → t ≡ [] → option_and_then (λ v. entries_over q n u v) (cond (is_first_run_refused q m o) None (Some (older_entries q m o ++ t))) ≡ entries_over q (joined_first m n) w o
-    first e k none =
-        let own : u ≡ w = same_some u w (sym (over_nil q n u) ∙ (rw none at is)) in
-        rw (unrefused q e, unmissed q e k, none, ← own) (over_first q m n u o k)
-
-    by_run : (x y : Option ℕ) → m.reach ≡ x → m.cut ≡ y → m.cleaned ≡ false → GoesPastCut x y m.floor t → option_and_then (λ v. entries_over q n u v) (cond (is_first_run_refused q m o) None (Some (older_entries q m o ++ t))) ≡ entries_over q (joined_uncleaned x y q (end_of (from n.reach_floor t)) m n) w o
-    by_run None None e k z h = first e k h
-    by_run None (Some c) e k z h = absurd h
-    by_run (Some r) None e k z h = absurd h
-    by_run (Some r) (Some c) e k z h = later c z k h (is_first_run_refused q m o) refl
-
-    by_cleaned : (b : Bool) → m.cleaned ≡ b → option_and_then (λ v. entries_over q n u v) (cond (is_first_run_refused q m o) None (Some (cond b t (older_entries q m o ++ t)))) ≡ entries_over q (cond b m (joined_uncleaned m.reach m.cut q (end_of (from n.reach_floor t)) m n)) w o
-    by_cleaned true e = by_meeting (is_first_run_refused q m o) refl e
-    by_cleaned false e = by_run m.reach m.cut refl refl e (fits e)
-
--- the joined mark fits the joined entries
-more_lo : (x y : Option ℕ) (floor floor' : ℕ) (u : List EntryIndex) → floor ≤ floor' → GoesPastCut x y floor u → GoesPastCut x y floor' u
-more_lo None None floor floor' u h f = f
-more_lo None (Some c) floor floor' u h f = f
-more_lo (Some r) None floor floor' u h f = f
-more_lo (Some r) (Some c) floor floor' u h (inl k) = inl (omega arith)
-more_lo (Some r) (Some c) floor floor' u h (inr k) = inr k
-
-joined_floor-le : (q : LogQueue) (b : Bool) (floor c : ℕ) → floor ≤ joined_floor q b floor c
-joined_floor-le Append b floor c = omega arith
-joined_floor-le Rewrite true floor c = omega arith
-joined_floor-le Rewrite false floor c = omega arith
-
-from_reaches : (floor l c : ℕ) (t : List EntryIndex) → (c ≤ floor) ⊎ (c < end_of t) → (c ≤ max floor l) ⊎ (c < end_of (from l t))
-from_reaches floor l c t (inl h) = inl (omega arith)
-from_reaches floor l c t (inr h) = elim (cases_lt l (end_of t)) [ inl k ↦ inr (rw (end_of-from l t) (reached l (end_of t) k h)) | inr k ↦ inl (omega arith) ]
-  where
-    reached : (l e : ℕ) → l < e → c < e → c < cond (ltb l e) e 0
-    reached l e k h = grind (arith, nat_tests)
-
-older_whole : (q : LogQueue) (n : Mark) (t : List EntryIndex) → n.reach ≡ None → n.cut ≡ None → older_entries q n t ≡ from n.floor t
-older_whole Append n t e k = rw k (within-from n.floor t)
-older_whole Rewrite n t e k = rw (e, k) (within-from n.floor t)
-
-pub fits_join : (q : LogQueue) (m n : Mark) (t u w : List EntryIndex) → OwnGoesPastCut m t → OwnGoesPastCut n u → entries_over q n u t ≡ Some w → OwnGoesPastCut (joined_at q (end_of (from n.reach_floor t)) m n) w
-fits_join q m n t u w f f' is = by_cleaned m.cleaned refl
-  where
-    x : ℕ
-    x = end_of (from n.reach_floor t)
-
-    own : n.cleaned ≡ false → older_entries q n t ++ u ≡ w
-    own e = sym (pick_false n.cleaned u (older_entries q n t ++ u) e) ∙ (accepted (is_first_run_refused q n t) (cond n.cleaned u (older_entries q n t ++ u)) w is).1
-
-    by_newer : (r c : ℕ) → (c ≤ m.floor) ⊎ (c < end_of t) → n.cleaned ≡ false → (y z : Option ℕ) → n.reach ≡ y → n.cut ≡ z → GoesPastCut y z n.floor u → GoesPastCut (Some r) (lesser (Some c) z) (joined_floor q (misses n.reach x) (max m.floor n.floor) c) w
-    by_newer r c h e None None is_y is_z k =
-        rw (← own e, k, append-nil (older_entries q n t), older_whole q n t is_y is_z)
-        (more_lo (Some r) (Some c) (max m.floor n.floor) _ (from n.floor t) (joined_floor-le q _ _ c) (from_reaches m.floor n.floor c t h))
-    by_newer r c h e None (Some d) is_y is_z k = absurd k
-    by_newer r c h e (Some s) None is_y is_z k = absurd k
-    by_newer r c h e (Some s) (Some d) is_y is_z (inl k) = inl (omega (arith, joined_floor-le q (misses n.reach x) (max m.floor n.floor) c))
-    by_newer r c h e (Some s) (Some d) is_y is_z (inr k) = inr (rw (← own e) (omega (arith, end_of-append (older_entries q n t) u)))
-
-    by_run : (y z : Option ℕ) → m.reach ≡ y → m.cut ≡ z → GoesPastCut y z m.floor t → OwnGoesPastCut (joined_uncleaned y z q x m n) w
-    by_run None None e k h = λ live.
-        let same : u ≡ w = same_some u w (sym (over_nil q n u) ∙ (rw h at is)) in
-        rw (k, ← same) (more_lo n.reach n.cut n.floor (max m.floor n.floor) u (omega arith) (f' live))
-    by_run None (Some c) e k h = absurd h
-    by_run (Some r) None e k h = absurd h
-    by_run (Some r) (Some c) e k h = λ live. rw e (by_newer r c h live n.reach n.cut refl refl (f' live))
-
-    by_cleaned : (b : Bool) → m.cleaned ≡ b → OwnGoesPastCut (cond b m (joined_uncleaned m.reach m.cut q x m n)) w
-    by_cleaned true e = λ live. absurd (false≢true (sym live ∙ e))
-    by_cleaned false e = by_run m.reach m.cut refl refl (f e)
+pub join_entries : (q : LogQueue) (m n : Mark) (t u w o : List EntryIndex) → IsRun o → IsRun t → Fits q m t → Fits q n u → entries_over q n u t ≡ Some w
+    → option_and_then (λ v. entries_over q n u v) (entries_over q m t o) ≡ entries_over q (joined_at q (end_of (entries_within n.reach_floor n.reach_cut t)) m n) w o
+join_entries q m n t u w o run run1 f f' is =
+    same_then (λ v. entries_over q n u v) (λ v. over q n u v) _ _ (over_is q m t o) (λ v. over_is q n u v)
+    ∙ join_over q m n t u w o run run1 f f' (sym (over_is q n u t) ∙ is)
+    ∙ sym (over_is q (joined_at q (end_of (entries_within n.reach_floor n.reach_cut t)) m n) w o)

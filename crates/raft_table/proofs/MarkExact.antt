@@ -3,17 +3,19 @@ use Rattle.std.proofs.Common.{◌≡◌, ℕ, ◌≤◌, max, Bool, true, false,
 use Rattle.std.specs.Ordering.{nat_cmp, eq_by_cmp}
 use Rattle.std.specs.Cmp.Lexicographic.{slice_cmp, nat_list_cmp_total}
 use Rattle.std.specs.FinSet as finset
+use Rattle.std.specs.Option.{option_or}
 use Rattle.std.specs.FinSet.{slice_cmp-IsAntisymmetric, nat_cmp-IsAntisymmetric}
 use Rattle.std.proofs.lemmas.Bool.{false≢true}
 use Rattle.raft_base.specs.declared.pipe_log.LogQueue.{LogQueue}
 use Rattle.raft_base.specs.declared.pipe_log.LogQueue.TheVariants.{Append, Rewrite}
 use Rattle.raft_base.specs.declared.entry_index.EntryIndex.{EntryIndex}
 use Rattle.raft_table.specs.KeySets.{KeySet}
-use Rattle.raft_table.specs.Steps.{Step, Run, Compact, Put, Del, AtomicGroup, Clean}
-use Rattle.raft_table.specs.Marks.{Mark, GoesPastCut, OwnGoesPastCut}
+use Rattle.raft_table.specs.Steps.{Step, Run, Compact, Truncate, Put, Del, AtomicGroup, Clean}
+use Rattle.raft_table.specs.Marks.{Mark}
+use Rattle.raft_table.specs.MarkFits.{FitsCut, Fits}
 use Rattle.raft_table.specs.MarkJoins.{joined_deleted, joined_uncleaned, joined_at, fresh, mark_of}
 use Rattle.raft_table.specs.KeyValues.{lesser}
-use Rattle.raft_table.specs.Overlay.{has_clean, greatest_compaction, least_start, deleted_of, HoldsDeleted, IsExactMark}
+use Rattle.raft_table.specs.Overlay.{has_clean, greatest_compaction, least_cut, deleted_of, HoldsDeleted, IsExactMark}
 
 -- two sets with the same keys are the same
 pub same_set : (a b : KeySet) → ((q : List ℕ) → finset.contains a q ≡ finset.contains b q) → a ≡ b
@@ -52,7 +54,7 @@ union_one a key = same_set _ _ (λ q.
     ∙ ap (λ x. finset.contains a q || x) (finset.contains-insert nat_list_cmp_total finset.empty key q ∙ ap (λ x. eq_by_cmp (slice_cmp nat_cmp) q key || x) (finset.contains-empty (slice_cmp nat_cmp) q) ∙ or_none (eq_by_cmp (slice_cmp nat_cmp) q key))
     ∙ or_comm (finset.contains a q) (eq_by_cmp (slice_cmp nat_cmp) q key)))
 
-lesser_assoc : (a b c : Option ℕ) → lesser (lesser a b) c ≡ lesser a (lesser b c)
+pub lesser_assoc : (a b c : Option ℕ) → lesser (lesser a b) c ≡ lesser a (lesser b c)
 lesser_assoc None b c = refl
 lesser_assoc (Some a) None c = refl
 lesser_assoc (Some a) (Some b) None = refl
@@ -62,6 +64,7 @@ clean-append : (ss rs : List Step) → has_clean (ss ++ rs) ≡ (has_clean ss ||
 clean-append [] rs = refl
 clean-append (Run run ∷ ss) rs = clean-append ss rs
 clean-append (Compact i ∷ ss) rs = clean-append ss rs
+clean-append (Truncate i ∷ ss) rs = clean-append ss rs
 clean-append (Put k v f ∷ ss) rs = clean-append ss rs
 clean-append (Del k ∷ ss) rs = clean-append ss rs
 clean-append (AtomicGroup s e ∷ ss) rs = clean-append ss rs
@@ -71,16 +74,18 @@ greatest-append : (ss rs : List Step) → greatest_compaction (ss ++ rs) ≡ max
 greatest-append [] rs = omega arith
 greatest-append (Run run ∷ ss) rs = greatest-append ss rs
 greatest-append (Compact i ∷ ss) rs = omega (arith, greatest-append ss rs)
+greatest-append (Truncate i ∷ ss) rs = greatest-append ss rs
 greatest-append (Put k v f ∷ ss) rs = greatest-append ss rs
 greatest-append (Del k ∷ ss) rs = greatest-append ss rs
 greatest-append (AtomicGroup s e ∷ ss) rs = greatest-append ss rs
 greatest-append (Clean ∷ ss) rs = greatest-append ss rs
 
-least-append : (ss rs : List Step) → least_start (ss ++ rs) ≡ lesser (least_start ss) (least_start rs)
+least-append : (ss rs : List Step) → least_cut (ss ++ rs) ≡ lesser (least_cut ss) (least_cut rs)
 least-append [] rs = refl
 least-append (Run [] ∷ ss) rs = least-append ss rs
-least-append (Run (e ∷ run) ∷ ss) rs = ap (lesser (Some e.index)) (least-append ss rs) ∙ sym (lesser_assoc (Some e.index) (least_start ss) (least_start rs))
+least-append (Run (e ∷ run) ∷ ss) rs = ap (lesser (Some e.index)) (least-append ss rs) ∙ sym (lesser_assoc (Some e.index) (least_cut ss) (least_cut rs))
 least-append (Compact i ∷ ss) rs = least-append ss rs
+least-append (Truncate i ∷ ss) rs = ap (lesser (Some i)) (least-append ss rs) ∙ sym (lesser_assoc (Some i) (least_cut ss) (least_cut rs))
 least-append (Put k v f ∷ ss) rs = least-append ss rs
 least-append (Del k ∷ ss) rs = least-append ss rs
 least-append (AtomicGroup s e ∷ ss) rs = least-append ss rs
@@ -90,6 +95,7 @@ deleted-append : (d : KeySet) (ss rs : List Step) → deleted_of d (ss ++ rs) �
 deleted-append d [] rs = refl
 deleted-append d (Run run ∷ ss) rs = deleted-append d ss rs
 deleted-append d (Compact i ∷ ss) rs = deleted-append d ss rs
+deleted-append d (Truncate i ∷ ss) rs = deleted-append d ss rs
 deleted-append d (Put k v f ∷ ss) rs = deleted-append d ss rs
 deleted-append d (Del k ∷ ss) rs = deleted-append (finset.insert d k) ss rs
 deleted-append d (AtomicGroup s e ∷ ss) rs = deleted-append d ss rs
@@ -102,6 +108,7 @@ pub holds_one : (s : Step) → HoldsDeleted (mark_of s) (s ∷ [])
 holds_one (Run []) = same_deleted _ _ refl refl (λ d. refl)
 holds_one (Run (x ∷ run)) = same_deleted _ _ refl refl (λ d. refl)
 holds_one (Compact i) = same_deleted _ _ refl refl (λ d. refl)
+holds_one (Truncate i) = same_deleted _ _ refl refl (λ d. refl)
 holds_one (Put k v f) = same_deleted _ _ refl refl (λ d. refl)
 holds_one (Del k) = record { cleaned = refl; deleted = λ e d. union_one d k; none_deleted = λ e. absurd (false≢true e) }
 holds_one (AtomicGroup s e) = same_deleted _ _ refl refl (λ d. refl)
@@ -111,6 +118,7 @@ pub exact_one : (s : Step) → IsExactMark (mark_of s) (s ∷ [])
 exact_one (Run []) = record { holds = holds_one (Run []); greatest = λ e. refl; least = λ e. refl }
 exact_one (Run (x ∷ run)) = record { holds = holds_one (Run (x ∷ run)); greatest = λ e. refl; least = λ e. refl }
 exact_one (Compact i) = record { holds = holds_one (Compact i); greatest = λ e. omega arith; least = λ e. refl }
+exact_one (Truncate i) = record { holds = holds_one (Truncate i); greatest = λ e. refl; least = λ e. refl }
 exact_one (Put k v f) = record { holds = holds_one (Put k v f); greatest = λ e. refl; least = λ e. refl }
 exact_one (Del k) = record { holds = holds_one (Del k); greatest = λ e. refl; least = λ e. refl }
 exact_one (AtomicGroup s e) = record { holds = holds_one (AtomicGroup s e); greatest = λ e. refl; least = λ e. refl }
@@ -143,23 +151,22 @@ deleted_count m ss h = go m.cleaned refl
     go true e = omega (arith, ap finset.len (h.none_deleted e), finset.len-empty (slice_cmp nat_cmp))
     go false e = omega (arith, ap finset.len (h.deleted e finset.empty ∙ empty_union m.deleted))
 
-pub exact_join : (x : ℕ) (m n : Mark) (t : List EntryIndex) (ss rs : List Step) → OwnGoesPastCut m t → IsExactMark m ss → IsExactMark n rs → IsExactMark (joined_at Append x m n) (ss ++ rs)
-exact_join x m n t ss rs fits h k = by_cleaned m.cleaned refl
+pub exact_join : (x : ℕ) (m n : Mark) (t : List EntryIndex) (ss rs : List Step) → {q : LogQueue} → Fits q m t → IsExactMark m ss → IsExactMark n rs → IsExactMark (joined_at Append x m n) (ss ++ rs)
+exact_join x m n t ss rs {q} fits h k = by_cleaned m.cleaned refl
   where
     live_parts : (j : Mark) → m.cleaned ≡ false → j.cleaned ≡ n.cleaned → j.floor ≡ max m.floor n.floor → j.cut ≡ lesser m.cut n.cut → j.deleted ≡ joined_deleted m n → IsExactMark j (ss ++ rs)
     live_parts j e c l u d = record {
       holds = holds_join m n j ss rs h.holds k.holds (c ∙ sym (pick m.cleaned true n.cleaned e)) (d ∙ sym (pick m.cleaned m.deleted (joined_deleted m n) e));
       greatest = λ z. l ∙ ap (max m.floor) (k.greatest (sym c ∙ z)) ∙ ap (λ y. max y (greatest_compaction rs)) (h.greatest e) ∙ sym (greatest-append ss rs);
-      least = λ z. u ∙ ap (lesser m.cut) (k.least (sym c ∙ z)) ∙ ap (λ y. lesser y (least_start rs)) (h.least e) ∙ sym (least-append ss rs);
+      least = λ z. u ∙ ap (lesser m.cut) (k.least (sym c ∙ z)) ∙ ap (λ y. lesser y (least_cut rs)) (h.least e) ∙ sym (least-append ss rs);
     }
       where
         pick : {X : Type 0} (b : Bool) (x y : X) → b ≡ false → cond b x y ≡ y
         pick true x y z = absurd (false≢true (sym z))
         pick false x y z = refl
 
-    by_run : (y z : Option ℕ) → m.cleaned ≡ false → m.cut ≡ z → GoesPastCut y z m.floor t → IsExactMark (joined_uncleaned y z Append x m n) (ss ++ rs)
-    by_run None None e u f = live_parts _ e refl refl refl refl
-    by_run None (Some c) e u f = absurd f
+    by_run : (y z : Option ℕ) → m.cleaned ≡ false → m.cut ≡ z → FitsCut y z m t → IsExactMark (joined_uncleaned y z Append x m n) (ss ++ rs)
+    by_run None z e u f = live_parts _ e refl refl refl refl
     by_run (Some r) None e u f = absurd f
     by_run (Some r) (Some c) e u f = live_parts _ e refl refl (ap (λ d. lesser d n.cut) (sym u)) refl
 
@@ -173,10 +180,14 @@ exact_join x m n t ss rs fits h k = by_cleaned m.cleaned refl
         chosen : {X : Type 0} (b : Bool) (x y : X) → b ≡ true → cond b x y ≡ x
         chosen true x y z = refl
         chosen false x y z = absurd (false≢true z)
-    by_cleaned false e = by_run m.reach m.cut e refl (fits e)
+    by_cleaned false e = by_run m.reach m.cut e refl (fits.uncleaned e)
 
 omega_max : (i : ℕ) → max i 0 ≡ i
 omega_max i = omega arith
+
+pub none_behind : (b : Option (ℕ × ℕ)) → option_or b None ≡ b
+none_behind None = refl
+none_behind (Some p) = refl
 
 same_cut : (c : Option ℕ) → lesser c None ≡ c
 same_cut None = refl
@@ -188,7 +199,7 @@ joined_fresh q x m = go q m.cleaned m.reach m.cut refl refl refl
   where
     go : (q : LogQueue) (b : Bool) (y z : Option ℕ) → m.cleaned ≡ b → m.reach ≡ y → m.cut ≡ z → ◌≡◌ {A = Mark} (cond b m (joined_uncleaned y z q x m fresh)) m
     go q true y z e f g = refl
-    go q false None z e f g = λ i. record { cleaned = sym e i; reach = sym f i; reach_floor = m.reach_floor; floor = omega_max m.floor i; cut = same_cut m.cut i; deleted = union_empty m.deleted i }
+    go q false None z e f g = λ i. record { cleaned = sym e i; reach = sym f i; reach_floor = m.reach_floor; reach_cut = m.reach_cut; barred = none_behind m.barred i; floor = omega_max m.floor i; cut = same_cut m.cut i; deleted = union_empty m.deleted i }
     go q false (Some r) None e f g = refl
-    go Append false (Some r) (Some c) e f g = λ i. record { cleaned = sym e i; reach = m.reach; reach_floor = m.reach_floor; floor = omega_max m.floor i; cut = sym g i; deleted = union_empty m.deleted i }
-    go Rewrite false (Some r) (Some c) e f g = λ i. record { cleaned = sym e i; reach = m.reach; reach_floor = m.reach_floor; floor = omega_max m.floor i; cut = sym g i; deleted = union_empty m.deleted i }
+    go Append false (Some r) (Some c) e f g = λ i. record { cleaned = sym e i; reach = m.reach; reach_floor = m.reach_floor; reach_cut = m.reach_cut; barred = none_behind m.barred i; floor = omega_max m.floor i; cut = sym g i; deleted = union_empty m.deleted i }
+    go Rewrite false (Some r) (Some c) e f g = λ i. record { cleaned = sym e i; reach = m.reach; reach_floor = m.reach_floor; reach_cut = m.reach_cut; barred = m.barred; floor = omega_max m.floor i; cut = sym g i; deleted = union_empty m.deleted i }

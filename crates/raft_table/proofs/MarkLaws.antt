@@ -1,15 +1,18 @@
 -- A mark and a table stand for steps: none, one, and those of two neighbours.
-use Rattle.std.proofs.Common.{◌≡◌, ℕ, List, [], ◌∷◌, ◌++◌, Option, Some, None, refl, sym, ap, ◌∙◌, inr}
+use Rattle.std.proofs.Common.{◌≡◌, ℕ, List, [], ◌∷◌, ◌++◌, Option, Some, None, refl, sym, ap, ◌∙◌, inl, inr, arith}
 use Rattle.std.specs.Option.{option_and_then}
-use Rattle.std.proofs.lemmas.Bool.{false≢true}
 use Rattle.raft_base.specs.declared.pipe_log.LogQueue.{LogQueue}
+use Rattle.raft_base.specs.declared.pipe_log.LogQueue.TheVariants.{Append, Rewrite}
 use Rattle.raft_base.specs.declared.entry_index.EntryIndex.{EntryIndex}
-use Rattle.raft_table.specs.Steps.{Step, Run, Compact, Put, Del, AtomicGroup, Clean, table_of, after_step, after, IsStep, AreSteps, IsTableOf}
+use Rattle.raft_table.specs.Steps.{Step, Run, Compact, Truncate, Put, Del, AtomicGroup, Clean, table_of, after_step, after, IsStep, AreSteps, IsTableOf}
 use Rattle.raft_table.specs.Table.{Table}
-use Rattle.raft_table.specs.Marks.{Mark, entries_over, table_over, applied, OwnGoesPastCut, Stands}
+use Rattle.raft_table.specs.Marks.{Mark, entries_over, table_over, applied}
+use Rattle.raft_table.specs.MarkFits.{BarsIn, Fits}
+use Rattle.raft_table.specs.Stands.{Stands}
 use Rattle.raft_table.specs.MarkJoins.{joined_mark, fresh, mark_of, own_of}
 use Rattle.raft_table.proofs.MarkWords.{end_of-first}
-use Rattle.raft_table.proofs.MarkEntries.{same_some, fits_join}
+use Rattle.raft_table.proofs.MarkEntries.{same_some}
+use Rattle.raft_table.proofs.MarkFits.{fits_join}
 use Rattle.raft_table.proofs.MarkTables.{table-applied, join_applied, one_step, applied_none, applied_fresh}
 use Rattle.raft_table.proofs.MarkRuns.{no_table, table_after}
 
@@ -39,18 +42,38 @@ one_after q id o s = go (after_step q id o s)
     go None = refl
     go (Some u) = refl
 
-fits_one : (id : ℕ) (s : Step) → OwnGoesPastCut (mark_of s) (table_of id (own_of id s)).entries
-fits_one id (Run []) e = refl
-fits_one id (Run (x ∷ run)) e = inr (end_of-first x run)
-fits_one id (Compact i) e = refl
-fits_one id (Put key value file) e = refl
-fits_one id (Del key) e = refl
-fits_one id (AtomicGroup start end) e = refl
-fits_one id Clean e = absurd (false≢true (sym e))
+bars_none : (q : LogQueue) → BarsIn q None
+bars_none Append = tt
+bars_none Rewrite = refl
+
+-- a mark without a run
+fits_no_run : (q : LogQueue) (m : Mark) (t : List EntryIndex) → m.reach ≡ None → m.barred ≡ None → t ≡ [] → Fits q m t
+fits_no_run q m t e b none = record {
+  bars = rw b (bars_none q);
+  behind = λ _. b;
+  within = rw b tt;
+  uncleaned = λ _. rw e none;
+}
+
+fits_one : (q : LogQueue) (id : ℕ) (s : Step) → Fits q (mark_of s) (table_of id (own_of id s)).entries
+fits_one q id (Run []) = fits_no_run q _ _ refl refl refl
+fits_one q id (Run (x ∷ run)) = record {
+  bars = bars_none q;
+  behind = λ _. refl;
+  within = tt;
+  uncleaned = λ _. record { cut_first = omega arith; floor_rises = omega arith; cut_falls = tt; covers = tt; seated = inr (inl (omega (arith, end_of-first x run))) };
+}
+fits_one q id (Compact i) = fits_no_run q _ _ refl refl refl
+fits_one q id (Truncate i) = fits_no_run q _ _ refl refl refl
+fits_one q id (Put key value file) = fits_no_run q _ _ refl refl refl
+fits_one q id (Del key) = fits_no_run q _ _ refl refl refl
+fits_one q id (AtomicGroup start end) = fits_no_run q _ _ refl refl refl
+fits_one q id Clean = fits_no_run q _ _ refl refl refl
 
 table_one : (id : ℕ) (s : Step) → IsStep s → IsTableOf id (table_of id (own_of id s))
 table_one id (Run run) good = record { region = refl; run = good }
 table_one id (Compact i) good = no_table id
+table_one id (Truncate i) good = no_table id
 table_one id (Put key value file) good = record { region = refl; run = (no_table id).run }
 table_one id (Del key) good = no_table id
 table_one id (AtomicGroup start end) good = record { region = refl; run = (no_table id).run }
@@ -59,22 +82,22 @@ table_one id Clean good = no_table id
 pub stands_fresh : (q : LogQueue) (id : ℕ) → Stands q id fresh None []
 stands_fresh q id = record {
   own_table = no_table id;
-  past_cut = λ e. refl;
+  fits = fits_no_run q fresh [] refl refl refl;
   every = λ o h. sym (applied_fresh q id o);
 }
 
 pub stands_one : (q : LogQueue) (id : ℕ) (s : Step) → IsStep s → Stands q id (mark_of s) (own_of id s) (s ∷ [])
 stands_one q id s good = record {
   own_table = table_one id s good;
-  past_cut = fits_one id s;
+  fits = fits_one q id s;
   every = λ o h. one_after q id o s ∙ sym (one_step q id s o h);
 }
 
 pub stands_join : (q : LogQueue) (id : ℕ) (m n : Mark) (t u w : Option Table) (ss rs : List Step) → AreSteps ss → AreSteps rs → Stands q id m t ss → Stands q id n u rs → applied q id n u t ≡ Some w → Stands q id (joined_mark q id m t n) w (ss ++ rs)
 stands_join q id m n t u w ss rs good good' h k is = record {
   own_table = table_after q id t w rs good' h.own_table (k.every t h.own_table ∙ is);
-  past_cut = fits_join q m n (table_of id t).entries (table_of id u).entries (table_of id w).entries h.past_cut k.past_cut (entries-over_table q n (table_of id u) (table_of id t) (table_of id w) (table-applied q id n u t w h.own_table is).0);
-  every = λ o r. after-append q id o ss rs ∙ inner o r (after q id o ss) refl ∙ (rw (h.every o r) (join_applied q id m n t u w o h.past_cut h.own_table r is));
+  fits = fits_join q m n (table_of id t).entries (table_of id u).entries (table_of id w).entries h.own_table.run h.fits k.fits (entries-over_table q n (table_of id u) (table_of id t) (table_of id w) (table-applied q id n u t w h.own_table is).0);
+  every = λ o r. after-append q id o ss rs ∙ inner o r (after q id o ss) refl ∙ (rw (h.every o r) (join_applied q id m n t u w o h.fits k.fits h.own_table r is));
 }
   where
     inner : (o : Option Table) → IsTableOf id (table_of id o) → (x : Option (Option Table)) → after q id o ss ≡ x → option_and_then (λ v. after q id v rs) x ≡ option_and_then (λ v. applied q id n u v) x

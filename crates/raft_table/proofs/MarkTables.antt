@@ -12,14 +12,15 @@ use Rattle.std.proofs.lemmas.List.{append-nil}
 use Rattle.raft_base.specs.declared.pipe_log.LogQueue.{LogQueue}
 use Rattle.raft_base.specs.declared.pipe_log.LogQueue.TheVariants.{Append, Rewrite}
 use Rattle.raft_base.specs.declared.entry_index.EntryIndex.{EntryIndex}
-use Rattle.raft_table.specs.TableEntries.{end_of, below, from}
+use Rattle.raft_table.specs.TableEntries.{IsRun, end_of, below, from}
 use Rattle.raft_table.specs.KeySets.{KeySet, without}
 use Rattle.raft_table.specs.KeyValues.{Keys, Stored, pairs_over}
 use Rattle.raft_table.specs.Merge.{newer_atomic_group}
 use Rattle.raft_table.specs.Start.{leaves_hole, replayed}
-use Rattle.raft_table.specs.Steps.{Step, Run, Compact, Put, Del, AtomicGroup, Clean, stepped, is_there_after, table_of, there_if, after_step, IsTableOf}
+use Rattle.raft_table.specs.Steps.{Step, Run, Compact, Truncate, Put, Del, AtomicGroup, Clean, stepped, is_there_after, table_of, there_if, after_step, IsTableOf}
 use Rattle.raft_table.specs.Table.{Table, empty_table}
-use Rattle.raft_table.specs.Marks.{Mark, entries_within, misses, is_first_run_refused, entries_over, keys_over, atomic_group_over, table_over, is_there_over, applied, GoesPastCut, OwnGoesPastCut}
+use Rattle.raft_table.specs.Marks.{Mark, entries_within, misses, is_refused_over, entries_over, keys_over, atomic_group_over, table_over, is_there_over, applied}
+use Rattle.raft_table.specs.MarkFits.{FitsCut, Fits}
 use Rattle.raft_table.specs.MarkJoins.{joined_deleted, joined_uncleaned, joined_at, joined_mark, end_at_reach, fresh, mark_of, own_of}
 use Rattle.raft_table.proofs.KeyValueLaws.{get-pairs_over}
 use Rattle.raft_table.proofs.MarkWords.{within-whole, within-from, within-below}
@@ -68,27 +69,26 @@ join_there false false t true o = refl
 join_there false false t false o = refl
 
 -- what the joined mark has of the two beside its numbers
-pub joined_parts : (q : LogQueue) (x : ℕ) (m n : Mark) (t : List EntryIndex) → OwnGoesPastCut m t → ((joined_at q x m n).cleaned ≡ cond m.cleaned true n.cleaned) × ((joined_at q x m n).deleted ≡ cond m.cleaned m.deleted (joined_deleted m n))
+pub joined_parts : (q : LogQueue) (x : ℕ) (m n : Mark) (t : List EntryIndex) → Fits q m t → ((joined_at q x m n).cleaned ≡ cond m.cleaned true n.cleaned) × ((joined_at q x m n).deleted ≡ cond m.cleaned m.deleted (joined_deleted m n))
 joined_parts q x m n t fits = by_cleaned m.cleaned refl
   where
-    by_run : (y z : Option ℕ) → GoesPastCut y z m.floor t → ((joined_uncleaned y z q x m n).cleaned ≡ n.cleaned) × ((joined_uncleaned y z q x m n).deleted ≡ joined_deleted m n)
-    by_run None None h = (refl, refl)
-    by_run None (Some c) h = absurd h
+    by_run : (y z : Option ℕ) → FitsCut y z m t → ((joined_uncleaned y z q x m n).cleaned ≡ n.cleaned) × ((joined_uncleaned y z q x m n).deleted ≡ joined_deleted m n)
+    by_run None z h = (refl, refl)
     by_run (Some r) None h = absurd h
     by_run (Some r) (Some c) h = (refl, refl)
 
     by_cleaned : (b : Bool) → m.cleaned ≡ b → ((cond b m (joined_uncleaned m.reach m.cut q x m n)).cleaned ≡ cond b true n.cleaned) × ((cond b m (joined_uncleaned m.reach m.cut q x m n)).deleted ≡ cond b m.deleted (joined_deleted m n))
     by_cleaned true e = (e, refl)
-    by_cleaned false e = by_run m.reach m.cut (fits e)
+    by_cleaned false e = by_run m.reach m.cut (fits.uncleaned e)
 
 -- the table with these parts
 abbrev rebuilt : Table → Keys → Option (ℕ × ℕ) → List EntryIndex → Table
 rebuilt o keys atomic_group es = record o { entries = es; keys = keys; atomic_group = atomic_group }
 
 -- tables, one over the other
-pub join_tables : (q : LogQueue) (m n : Mark) (t u w o : Table) → OwnGoesPastCut m t.entries → table_over q n u t ≡ Some w
+pub join_tables : (q : LogQueue) (m n : Mark) (t u w o : Table) → IsRun o.entries → IsRun t.entries → Fits q m t.entries → Fits q n u.entries → table_over q n u t ≡ Some w
     → option_and_then (λ v. table_over q n u v) (table_over q m t o) ≡ table_over q (joined_at q (end_at_reach n t) m n) w o
-join_tables q m n t u w o fits is = by_own (entries_over q n u.entries t.entries) refl is
+join_tables q m n t u w o run own fits newer is = by_own (entries_over q n u.entries t.entries) refl is
   where
     j : Mark
     j = joined_at q (end_at_reach n t) m n
@@ -113,7 +113,7 @@ join_tables q m n t u w o fits is = by_own (entries_over q n u.entries t.entries
     by_own None e k = absurd cc
     by_own (Some we) e k =
         rw (← same_some _ w k)
-        (by_older we (entries_over q m t.entries o.entries) refl (join_entries q m n t.entries u.entries we o.entries fits e))
+        (by_older we (entries_over q m t.entries o.entries) refl (join_entries q m n t.entries u.entries we o.entries run own fits newer e))
 
 -- what isn't refused
 abbrev pub some_there : (b : Bool) (x : Table) → Option Table
@@ -144,9 +144,9 @@ no_keys d = same_keys _ _ (λ q. rw (get-pairs_over, get-without, finite.get-emp
 
 -- what is applied without a table has no records
 none_cleaned : (q : LogQueue) (id : ℕ) (m : Mark) (o x : Table) → o.region_id ≡ id → m.cleaned ≡ true → table_over q m (empty_table id) o ≡ Some x → x ≡ empty_table id
-none_cleaned q id m o x r e is = go (is_first_run_refused q m o.entries) refl
+none_cleaned q id m o x r e is = go (is_refused_over q m o.entries) refl
   where
-    go : (b : Bool) → is_first_run_refused q m o.entries ≡ b → x ≡ empty_table id
+    go : (b : Bool) → is_refused_over q m o.entries ≡ b → x ≡ empty_table id
     go true k = absurd (no_some (rw k at is))
       where
         no_some : ◌≡◌ {A = Option Table} None (Some x) → ⊥
@@ -184,9 +184,9 @@ table-applied q id m t o w h is = go (table_over q m (table_of id t) (table_of i
         (e ∙ ap (λ y. Some y) (sym whole), ap is_some (sym same) ∙ is_some-there (is_there_over m t o) x)
 
 -- tables that may be absent, one over the other
-pub join_applied : (q : LogQueue) (id : ℕ) (m n : Mark) (t u w o : Option Table) → OwnGoesPastCut m (table_of id t).entries → IsTableOf id (table_of id t) → IsTableOf id (table_of id o) → applied q id n u t ≡ Some w
+pub join_applied : (q : LogQueue) (id : ℕ) (m n : Mark) (t u w o : Option Table) → Fits q m (table_of id t).entries → Fits q n (table_of id u).entries → IsTableOf id (table_of id t) → IsTableOf id (table_of id o) → applied q id n u t ≡ Some w
     → option_and_then (λ v. applied q id n u v) (applied q id m t o) ≡ applied q id (joined_mark q id m t n) w o
-join_applied q id m n t u w o fits own h is = go (table_over q m (table_of id t) (table_of id o)) refl
+join_applied q id m n t u w o fits fits' own h is = go (table_over q m (table_of id t) (table_of id o)) refl
   where
     j : Mark
     j = joined_mark q id m t n
@@ -195,7 +195,7 @@ join_applied q id m n t u w o fits own h is = go (table_over q m (table_of id t)
     newer = table-applied q id n u t w own is
 
     law : option_and_then (λ v. table_over q n (table_of id u) v) (table_over q m (table_of id t) (table_of id o)) ≡ table_over q j (table_of id w) (table_of id o)
-    law = join_tables q m n (table_of id t) (table_of id u) (table_of id w) (table_of id o) fits newer.0
+    law = join_tables q m n (table_of id t) (table_of id u) (table_of id w) (table_of id o) h.run own.run fits fits' newer.0
 
     there : cond n.cleaned (is_some u) (is_some u || is_there_over m t o) ≡ is_there_over j w o
     there = rw (newer.1, (joined_parts q (end_at_reach n (table_of id t)) m n (table_of id t).entries fits).0) (join_there m.cleaned n.cleaned (is_some t) (is_some u) (is_some o))
@@ -213,21 +213,30 @@ join_applied q id m n t u w o fits own h is = go (table_over q m (table_of id t)
 pub from_whole : (o : List EntryIndex) → from 0 o ≡ o
 from_whole o = sym (within-from 0 o) ∙ within-whole o
 
-meets : (f : ℕ) (o : List EntryIndex) → misses (Some f) (end_of (from 0 o)) ≡ leaves_hole (end_of o) f
-meets f o = ap (λ es. leaves_hole (end_of es) f) (from_whole o)
+meets : (f : ℕ) (o : List EntryIndex) → misses (Some f) (end_of (entries_within 0 None o)) ≡ leaves_hole (end_of o) f
+meets f o = ap (λ es. leaves_hole (end_of es) f) (within-whole o)
 
 either_behind : (b : Bool) (a run : List EntryIndex) → cond b [] a ++ run ≡ cond b run (a ++ run)
 either_behind true a run = refl
 either_behind false a run = refl
 
 run_over : (q : LogQueue) (e : EntryIndex) (run o : List EntryIndex) → entries_over q (mark_of (Run (e ∷ run))) (e ∷ run) o ≡ replayed q o (e ∷ run)
-run_over Append e run o = rw (meets e.index o, within-below) refl
+run_over Append e run o = rw (meets e.index o, within-below, or_false (leaves_hole (end_of o) e.index)) refl
+  where
+    or_false : (b : Bool) → (b || false) ≡ b
+    or_false true = refl
+    or_false false = refl
 run_over Rewrite e run o = rw (meets e.index o, within-below) (ap (λ x. Some x) (either_behind (leaves_hole (end_of o) e.index) (below e.index o) (e ∷ run)))
 
 -- a mark without a run, of a region that wasn't cleaned
 kept_over : (q : LogQueue) (floor : ℕ) (deleted : KeySet) (o : List EntryIndex) → entries_over q (record fresh { floor = floor; deleted = deleted }) [] o ≡ Some (from floor o)
 kept_over Append floor deleted o = ap (λ x. Some x) (append-nil (entries_within floor None o) ∙ within-from floor o)
 kept_over Rewrite floor deleted o = ap (λ x. Some x) (append-nil (entries_within floor None o) ∙ within-from floor o)
+
+-- one of a truncation
+cut_over : (q : LogQueue) (i : ℕ) (o : List EntryIndex) → entries_over q (record fresh { cut = Some i }) [] o ≡ Some (below i o)
+cut_over Append i o = ap (λ x. Some x) (append-nil (entries_within 0 (Some i) o) ∙ within-below i o)
+cut_over Rewrite i o = ap (λ x. Some x) (append-nil (entries_within 0 (Some i) o) ∙ within-below i o)
 
 untouched : (q : LogQueue) (deleted : KeySet) (o : List EntryIndex) → entries_over q (record fresh { deleted = deleted }) [] o ≡ Some o
 untouched q deleted o = kept_over q 0 deleted o ∙ ap (λ x. Some x) (from_whole o)
@@ -253,6 +262,7 @@ pub one_table : (q : LogQueue) (id : ℕ) (s : Step) (o : Table) → o.region_id
 one_table q id (Run []) o r = rw (untouched q finset.empty o.entries, keys_kept o.keys) refl
 one_table q id (Run (e ∷ run)) o r = rw (run_over q e run o.entries, keys_kept o.keys) refl
 one_table q id (Compact i) o r = rw (kept_over q i finset.empty o.entries, keys_kept o.keys) refl
+one_table q id (Truncate i) o r = rw (cut_over q i o.entries, keys_kept o.keys) refl
 one_table q id (Put key value file) o r = rw (untouched q finset.empty o.entries, key_put o.keys key (record { value = value; file = file })) refl
 one_table q id (Del key) o r = rw (untouched q (finset.insert finset.empty key) o.entries, key_deleted o.keys key) refl
 one_table q id (AtomicGroup start end) o r = rw (untouched q finset.empty o.entries, keys_kept o.keys) refl
@@ -263,6 +273,7 @@ one_there : (id : ℕ) (s : Step) (o : Option Table) → is_there_over (mark_of 
 one_there id (Run []) o = refl
 one_there id (Run (e ∷ run)) o = refl
 one_there id (Compact i) o = refl
+one_there id (Truncate i) o = refl
 one_there id (Put key value file) o = refl
 one_there id (Del key) o = refl
 one_there id (AtomicGroup start end) o = refl

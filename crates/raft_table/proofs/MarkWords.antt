@@ -1,7 +1,6 @@
 -- Laws of the words of marks on lists of entries.
-use Rattle.std.proofs.Common.{◌≡◌, ◌⊎◌, ℕ, suc, ◌<◌, ◌≤◌, max, Bool, true, false, cond, ◌&&◌, ltb, leb, List, [], ◌∷◌, ◌++◌, Option, Some, None, refl, sym, ap, ◌∙◌, inl, inr, append_assoc, arith}
+use Rattle.std.proofs.Common.{◌≡◌, ℕ, suc, ◌<◌, ◌≤◌, max, Bool, true, false, cond, ◌&&◌, ltb, leb, List, [], ◌∷◌, ◌++◌, Option, Some, None, refl, ap, ◌∙◌, append_assoc, arith}
 use Rattle.std.specs.Prelude.{filter}
-use Rattle.std.proofs.lemmas.List.{append-nil}
 use Rattle.std.proofs.lemmas.List.Elements.{filter-append}
 use Rattle.std.proofs.lemmas.Bool.{ltb-true, and_parts}
 use Rattle.std.proofs.lemmas.Bool.Decides.{nat_tests}
@@ -84,7 +83,7 @@ pub end_of-first : (e : EntryIndex) (es : List EntryIndex) → e.index < end_of 
 unfolding end_of
 end_of-first e es = omega arith
 
-end_of-cond : (b : Bool) (e : EntryIndex) (es : List EntryIndex) → end_of (cond b (e ∷ es) es) ≡ cond b (max (suc e.index) (end_of es)) (end_of es)
+pub end_of-cond : (b : Bool) (e : EntryIndex) (es : List EntryIndex) → end_of (cond b (e ∷ es) es) ≡ cond b (max (suc e.index) (end_of es)) (end_of es)
 unfolding end_of
 end_of-cond true e es = refl
 end_of-cond false e es = refl
@@ -106,14 +105,6 @@ end_of-from i (e ∷ es) = end_of-cond (leb i e.index) e (from i es) ∙ one i e
     one : (i k n m : ℕ) → m ≡ cond (ltb i n) n 0 → cond (leb i k) (max (suc k) m) m ≡ cond (ltb i (max (suc k) n)) (max (suc k) n) 0
     one i k n m h = grind (arith, nat_tests)
 
--- older entries below a cut don't end behind own ones that reach it
-pub end_of-both : (floor c : ℕ) (t o : List EntryIndex) → (c ≤ floor) ⊎ (c < end_of t) → end_of (entries_within floor (Some c) o ++ t) ≡ end_of t
-end_of-both floor c t o (inl h) = rw (within-empty floor c o h) refl
-end_of-both floor c t o (inr h) = omega (arith, end_of-append (entries_within floor (Some c) o) t, end_of-part floor c o)
-
--- what a first run meets of what an older mark leaves: without a run of that mark the older entries, else its own
-pub met_first : (l floor : ℕ) (o : List EntryIndex) → end_of (from l (entries_within floor None o ++ [])) ≡ end_of (from (max floor l) o)
-met_first l floor o = ap end_of (ap (from l) (append-nil (entries_within floor None o)) ∙ sym (within-from l (entries_within floor None o)) ∙ within-within l None floor None o ∙ within-from (max floor l) o)
-
-pub met_later : (l floor c : ℕ) (o t : List EntryIndex) → (c ≤ floor) ⊎ (c < end_of t) → end_of (from l (entries_within floor (Some c) o ++ t)) ≡ end_of (from l t)
-met_later l floor c o t h = end_of-from l (entries_within floor (Some c) o ++ t) ∙ ap (λ x. cond (ltb l x) x 0) (end_of-both floor c t o h) ∙ sym (end_of-from l t)
+-- where a part of what an older mark leaves ends
+pub end_of-part_both : (l : ℕ) (d : Option ℕ) (floor c : ℕ) (o t : List EntryIndex) → end_of (entries_within l d (entries_within floor (Some c) o ++ t)) ≡ max (end_of (entries_within (max floor l) (lesser (Some c) d) o)) (end_of (entries_within l d t))
+end_of-part_both l d floor c o t = rw (within-append, within-within, end_of-append) refl

@@ -1,29 +1,27 @@
 -- An appended table over a rewritten one: by a mark and by its steps, and that it is a run.
-use Rattle.std.proofs.Common.{◌≡◌, ◌⊎◌, ℕ, zero, suc, ◌+◌, ◌-◌, ◌≤◌, Bool, true, false, cond, ◌&&◌, ◌||◌, ltb, leb, List, [], ◌∷◌, ◌++◌, length, Option, Some, None, refl, sym, ap, subst, ◌∙◌, inl, inr, arith}
-use Rattle.std.specs.Option.{option_map}
+use Rattle.std.proofs.Common.{◌≡◌, ℕ, ◌+◌, ◌<◌, ◌≤◌, Bool, true, false, cond, not, ◌||◌, ltb, eqb, List, [], ◌∷◌, ◌++◌, length, Option, Some, None, refl, sym, ap, subst, ◌∙◌, arith}
 use Rattle.std.specs.FinMap as finite
 use Rattle.std.specs.FinSet as finset
-use Rattle.std.specs.Prelude.{is_some}
 use Rattle.std.proofs.lemmas.List.{append-nil}
-use Rattle.std.proofs.lemmas.Bool.{cases_lt, ltb-false}
 use Rattle.std.proofs.lemmas.Bool.Decides.{nat_tests}
 use Rattle.raft_base.specs.declared.pipe_log.LogQueue.TheVariants.{Append, Rewrite}
 use Rattle.raft_base.specs.declared.entry_index.EntryIndex.{EntryIndex}
-use Rattle.raft_table.specs.TableEntries.{RisesFrom, IsRun, end_of, from}
+use Rattle.raft_table.specs.TableEntries.{RisesFrom, IsRun, end_of, below, from}
 use Rattle.raft_table.specs.KeySets.{without}
 use Rattle.raft_table.specs.KeyValues.{pairs_over}
 use Rattle.raft_table.specs.MarkMerge.{left_by}
-use Rattle.raft_table.specs.Marks.{Mark, entries_within, misses, is_missed, entries_over, keys_over, atomic_group_over, table_over, is_there_over, GoesPastCut, Stands}
+use Rattle.raft_table.specs.Marks.{Mark, entries_within}
+use Rattle.raft_table.specs.MarkFits.{FitsCut}
+use Rattle.raft_table.specs.Stands.{Stands}
 use Rattle.raft_table.specs.Merge.{after_join}
-use Rattle.raft_table.specs.Overlay.{has_clean, deleted_of, is_short, rewritten_within, overlay, overlay_under, IsExactMark}
+use Rattle.raft_table.specs.Overlay.{has_clean, deleted_of, is_unjoined, rewritten_within, overlay, overlay_under, IsExactMark}
 use Rattle.raft_table.specs.Steps.{Step, table_of, AreSteps, IsTableOf}
-use Rattle.raft_table.specs.Table.{Table, table_with_entries}
-use Rattle.raft_table.proofs.RunLemmas.{end_of-run, end_of-append, RisesFrom-append}
-use Rattle.raft_table.proofs.MarkWords.{within-append, within-nil, within-from, end_of-from}
-use Rattle.raft_table.proofs.MarkEntries.{pick_false}
+use Rattle.raft_table.specs.Table.{Table}
+use Rattle.raft_table.proofs.RunLemmas.{end_of-run, RisesFrom-append}
+use Rattle.raft_table.proofs.MarkWords.{within-within, within-below, within-from, end_of-first}
+use Rattle.raft_table.proofs.PartEnds.{top, end_of-part_run}
 use Rattle.raft_table.proofs.MarkExact.{empty_union}
-use Rattle.raft_table.proofs.MarkRuns.{run_from, table_after}
-use Rattle.raft_table.proofs.MarkTables.{applied-some, some_there}
+use Rattle.raft_table.proofs.MarkRuns.{run_from, run_below, first_rising}
 use Rattle.raft_table.proofs.UnderLemmas.{replayed_run, whole_keys}
 
 -- what the mark says is what the steps say
@@ -34,7 +32,7 @@ overlay_exact m ss a r h = go m.cleaned refl
     clean b e = sym h.holds.cleaned ∙ e
 
     go : (b : Bool) → m.cleaned ≡ b
-        → ◌≡◌ {A = Table} (record r { entries = cond m.cleaned a.entries (rewritten_within m.floor m.cut r.entries ++ a.entries); keys = cond m.cleaned a.keys (pairs_over a.keys (without m.deleted r.keys)); atomic_group = cond m.cleaned a.atomic_group r.atomic_group }) (overlay ss a r)
+        → ◌≡◌ {A = Table} (record r { entries = cond m.cleaned a.entries (rewritten_within m.floor m.cut a.entries r.entries ++ a.entries); keys = cond m.cleaned a.keys (pairs_over a.keys (without m.deleted r.keys)); atomic_group = cond m.cleaned a.atomic_group r.atomic_group }) (overlay ss a r)
     go true e = rw (e, clean true e) refl
     go false e =
         let d : m.deleted ≡ deleted_of finset.empty ss = sym (h.holds.deleted e finset.empty ∙ empty_union m.deleted) in
@@ -42,13 +40,13 @@ overlay_exact m ss a r h = go m.cleaned refl
 
 -- the code's way: what is left of the rewritten table, and the appended one behind it, but for the atomic group of a cleaned region
 pub over_rewritten : (m : Mark) (a r : Table) → IsRun (overlay_under m a r).entries
-    → after_join Rewrite (left_by (is_short m.cut (end_of r.entries)) m r) a ≡ Some (record (overlay_under m a r) { atomic_group = cond m.cleaned None r.atomic_group })
+    → after_join Rewrite (left_by (is_unjoined m.cut (end_of r.entries) a.entries) m r) a ≡ Some (record (overlay_under m a r) { atomic_group = cond m.cleaned None r.atomic_group })
 over_rewritten m a r run =
-    let left = left_by (is_short m.cut (end_of r.entries)) m r in
+    let left = left_by (is_unjoined m.cut (end_of r.entries) a.entries) m r in
     let es = entries m.cleaned in
     rw (replayed_run Rewrite left.entries a.entries (subst IsRun es run), ← es, ← keys m.cleaned) refl
   where
-    entries : (b : Bool) → cond b a.entries (rewritten_within m.floor m.cut r.entries ++ a.entries) ≡ cond b [] (rewritten_within m.floor m.cut r.entries) ++ a.entries
+    entries : (b : Bool) → cond b a.entries (rewritten_within m.floor m.cut a.entries r.entries ++ a.entries) ≡ cond b [] (rewritten_within m.floor m.cut a.entries r.entries) ++ a.entries
     entries true = refl
     entries false = refl
 
@@ -67,117 +65,48 @@ with_group_over m a r t u is group =
     same true = refl
     same false = refl
 
--- entries that rise from an index
-filled : EntryIndex → ℕ → ℕ → List EntryIndex
-filled e s zero = []
-filled e s (suc n) = (record e { index = s }) ∷ filled e (suc s) n
+within-cut : (floor cut : ℕ) (es : List EntryIndex) → below cut (from floor es) ≡ entries_within floor (Some cut) es
+within-cut floor cut es = ap (below cut) (sym (within-from floor es)) ∙ sym (within-below cut (entries_within floor None es)) ∙ within-within 0 (Some cut) floor None es ∙ ap (λ l. entries_within l (Some cut) es) (omega arith)
 
-filled-rises : (e : EntryIndex) (s n : ℕ) → RisesFrom s (filled e s n)
-unfolding filled
-filled-rises e s zero = tt
-filled-rises e s (suc n) = (refl, filled-rises e (suc s) n)
+-- a part of a run is one
+part_run : (floor : ℕ) (cut : Option ℕ) (es : List EntryIndex) → IsRun es → IsRun (entries_within floor cut es)
+part_run floor None es r = subst IsRun (sym (within-from floor es)) (run_from floor es r)
+part_run floor (Some c) es r = subst IsRun (within-cut floor c es) (run_below c (from floor es) (run_from floor es r))
 
-filled-length : (e : EntryIndex) (s n : ℕ) → length (filled e s n) ≡ n
-unfolding filled
-filled-length e s zero = refl
-filled-length e s (suc n) = omega (arith, filled-length e (suc s) n)
+-- a run behind one that ends where it begins, or behind no entries
+one_behind : (p : List EntryIndex) (e : EntryIndex) (own : List EntryIndex) → IsRun p → IsRun (e ∷ own) → (0 < end_of p → end_of p ≡ e.index) → IsRun (p ++ e ∷ own)
+one_behind [] e own r h k = h
+one_behind (x ∷ p) e own r h k =
+    let at : e.index ≡ r.start + length (x ∷ p) = sym (k (omega (arith, end_of-first x p))) ∙ end_of-run r.start (x ∷ p) r.rising (omega arith) in
+    record { start = r.start; rising = RisesFrom-append r.start (x ∷ p) (e ∷ own) r.rising (subst (λ n. RisesFrom n (e ∷ own)) at (first_rising e own h)) }
 
--- below a cut that the front reaches stands nothing of what is behind it
-within-behind : (floor c s : ℕ) (es : List EntryIndex) → RisesFrom s es → c ≤ s → entries_within floor (Some c) es ≡ []
-unfolding entries_within
-within-behind floor c s [] h l = refl
-within-behind floor c s (e ∷ es) h l = rw (gone (leb floor e.index) e.index c (omega (arith, h.0))) (within-behind floor c (suc s) es h.1 (omega arith))
-  where
-    gone : (b : Bool) (i c : ℕ) → c ≤ i → (b && ltb i c) ≡ false
-    gone b i c l = grind (arith, nat_tests)
+reaches : (s e floor c : ℕ) → c ≤ e → 0 < top s e floor (Some c) → top s e floor (Some c) ≡ c
+reaches s e floor c l h = grind (arith, nat_tests)
 
-either_there : (a b : Bool) → b ≡ true → (a || b) ≡ true
-either_there true b e = refl
-either_there false b e = e
-
--- steps that a table isn't refused for leave a run of it
-live_run : (id : ℕ) (m : Mark) (a : Option Table) (ss : List Step) (o : Table) → AreSteps ss → Stands Append id m a ss → IsTableOf id o → m.cleaned ≡ false → is_missed m o.entries ≡ false → IsRun (entries_within m.floor m.cut o.entries ++ (table_of id a).entries)
-live_run id m a ss o good h r e miss =
-    (subst (λ b. IsTableOf id (table_of id (some_there b x))) there (table_after Append id (Some o) (some_there (is_there_over m a (Some o)) x) ss good r (h.every (Some o) r ∙ applied-some Append id m a (Some o) x over))).run
-  where
-    own : List EntryIndex
-    own = (table_of id a).entries
-
-    x : Table
-    x = record o { entries = entries_within m.floor m.cut o.entries ++ own; keys = keys_over m (table_of id a).keys o.keys; atomic_group = atomic_group_over m (table_of id a).atomic_group o.atomic_group }
-
-    entries : entries_over Append m own o.entries ≡ Some (entries_within m.floor m.cut o.entries ++ own)
-    entries = ap (λ b. cond b None (Some (cond m.cleaned own (entries_within m.floor m.cut o.entries ++ own)))) miss ∙ ap (λ es. Some es) (pick_false m.cleaned own (entries_within m.floor m.cut o.entries ++ own) e)
-
-    over : table_over Append m (table_of id a) o ≡ Some x
-    over = ap (option_map (λ es. record o { entries = es; keys = keys_over m (table_of id a).keys o.keys; atomic_group = atomic_group_over m (table_of id a).atomic_group o.atomic_group })) entries
-
-    there : is_there_over m a (Some o) ≡ true
-    there = pick_false m.cleaned (is_some a) (is_some a || true) e ∙ either_there (is_some a) true refl
-
--- the rewritten entries below the cut, with others behind them that reach a run's start
-reaching : (id : ℕ) (m : Mark) (a : Option Table) (ss : List Step) (r : Table) (start c : ℕ) → AreSteps ss → Stands Append id m a ss → IsTableOf id r → m.cleaned ≡ false → m.reach ≡ Some start → m.cut ≡ Some c → c ≤ end_of r.entries
-    → (es : List EntryIndex) → r.entries ≡ es → IsRun (entries_within m.floor (Some c) es ++ (table_of id a).entries)
-reaching id m a ss r start c good h k e is_r is_c l [] same = subst (λ xs. IsRun (xs ++ (table_of id a).entries)) (sym (within-nil m.floor (Some c))) h.own_table.run
-reaching id m a ss r start c good h k e is_r is_c l (x ∷ es) same =
-    subst (λ xs. IsRun (xs ++ (table_of id a).entries)) kept (rw is_c at (live_run id m a ss (table_with_entries r longer) good h longer_table e missed))
-  where
-    run : IsRun (x ∷ es)
-    run = subst IsRun same k.run
-
-    top : ℕ
-    top = end_of (x ∷ es)
-
-    top_is : top ≡ run.start + length (x ∷ es)
-    top_is = end_of-run run.start (x ∷ es) run.rising (omega arith)
-
-    more : List EntryIndex
-    more = filled x top (start - top)
-
-    longer : List EntryIndex
-    longer = (x ∷ es) ++ more
-
-    longer_table : IsTableOf id (table_with_entries r longer)
-    longer_table = record { region = k.region; run = record { start = run.start; rising = RisesFrom-append run.start (x ∷ es) more run.rising (subst (λ n. RisesFrom n more) top_is (filled-rises x top (start - top))) } }
-
-    end_more : (n : ℕ) → (n ≡ 0) ⊎ (end_of (filled x top n) ≡ top + n)
-    end_more n = elim (cases_lt 0 n) [
-      | inl p ↦ inr (end_of-run top (filled x top n) (filled-rises x top n) (omega (arith, filled-length x top n)) ∙ ap (λ k. top + k) (filled-length x top n))
-      | inr p ↦ inl (omega arith)
-    ]
-
-    reaches : start ≤ end_of longer
-    reaches = elim (end_more (start - top)) [
-      | inl z ↦ omega (arith, end_of-append (x ∷ es) more)
-      | inr z ↦ omega (arith, end_of-append (x ∷ es) more)
-    ]
-
-    missed : is_missed m longer ≡ false
-    missed = ap (λ s. misses s (end_of (from m.reach_floor longer))) is_r ∙ ap (λ n. misses (Some start) n) (end_of-from m.reach_floor longer) ∙ met (end_of longer) reaches
-      where
-        met : (n : ℕ) → start ≤ n → misses (Some start) (cond (ltb m.reach_floor n) n 0) ≡ false
-        met n l = grind (arith, nat_tests)
-
-    kept : entries_within m.floor (Some c) longer ≡ entries_within m.floor (Some c) (x ∷ es)
-    kept = within-append m.floor (Some c) (x ∷ es) more ∙ ap (λ xs. entries_within m.floor (Some c) (x ∷ es) ++ xs) (within-behind m.floor c top more (filled-rises x top (start - top)) (subst (λ xs. c ≤ end_of xs) same l)) ∙ append-nil (entries_within m.floor (Some c) (x ∷ es))
+joined_at_cut : (i c n : ℕ) → (not (eqb i c) || ltb n c) ≡ false → (i ≡ c) × (c ≤ n)
+joined_at_cut i c n h = grind (arith, nat_tests)
 
 -- an overlay is a run
 pub overlay_run : (id : ℕ) (m : Mark) (a : Option Table) (ss : List Step) (r : Table) → AreSteps ss → Stands Append id m a ss → IsTableOf id r → IsRun (overlay_under m (table_of id a) r).entries
 overlay_run id m a ss r good h k = by_cleaned m.cleaned refl
   where
-    own : List EntryIndex
-    own = (table_of id a).entries
+    by_own : (c : ℕ) (own : List EntryIndex) → IsRun own → IsRun (rewritten_within m.floor (Some c) own r.entries ++ own)
+    by_own c [] run = subst IsRun (sym (append-nil (entries_within m.floor (Some c) r.entries))) (part_run m.floor (Some c) r.entries k.run)
+    by_own c (e ∷ own) run = go (not (eqb e.index c) || ltb (end_of r.entries) c) refl
+      where
+        go : (b : Bool) → (not (eqb e.index c) || ltb (end_of r.entries) c) ≡ b → IsRun (cond b [] (entries_within m.floor (Some c) r.entries) ++ e ∷ own)
+        go true is = run
+        go false is =
+            let at : (e.index ≡ c) × (c ≤ end_of r.entries) = joined_at_cut e.index c (end_of r.entries) is in
+            let ends : end_of (entries_within m.floor (Some c) r.entries) ≡ top k.run.start (end_of r.entries) m.floor (Some c) = end_of-part_run k.run.start m.floor (Some c) r.entries k.run.rising in
+            one_behind (entries_within m.floor (Some c) r.entries) e own (part_run m.floor (Some c) r.entries k.run) run
+            (λ p. ends ∙ reaches k.run.start (end_of r.entries) m.floor c at.1 (subst (λ n. 0 < n) ends p) ∙ sym at.0)
 
-    by_end : (start c : ℕ) → m.reach ≡ Some start → m.cut ≡ Some c → m.cleaned ≡ false → (b : Bool) → ltb (end_of r.entries) c ≡ b → IsRun (cond b [] (entries_within m.floor (Some c) r.entries) ++ own)
-    by_end start c is_r is_c e true t = h.own_table.run
-    by_end start c is_r is_c e false t = reaching id m a ss r start c good h k e is_r is_c (ltb-false (end_of r.entries) c t) r.entries refl
+    by_cut : (y z : Option ℕ) → m.cut ≡ z → FitsCut y z m (table_of id a).entries → IsRun (rewritten_within m.floor z (table_of id a).entries r.entries ++ (table_of id a).entries)
+    by_cut y (Some c) is f = by_own c (table_of id a).entries h.own_table.run
+    by_cut None None is f = subst (λ own. IsRun (entries_within m.floor None r.entries ++ own)) (sym f) (subst IsRun (sym (append-nil (entries_within m.floor None r.entries))) (part_run m.floor None r.entries k.run))
+    by_cut (Some s) None is f = absurd f
 
-    by_run : (y z : Option ℕ) → m.reach ≡ y → m.cut ≡ z → m.cleaned ≡ false → GoesPastCut y z m.floor own → IsRun (rewritten_within m.floor z r.entries ++ own)
-    by_run None None is_r is_c e f = subst (λ xs. IsRun (entries_within m.floor None r.entries ++ xs)) (sym f) (subst IsRun (sym (append-nil (entries_within m.floor None r.entries) ∙ within-from m.floor r.entries)) (run_from m.floor r.entries k.run))
-    by_run None (Some c) is_r is_c e f = absurd f
-    by_run (Some start) None is_r is_c e f = absurd f
-    by_run (Some start) (Some c) is_r is_c e f = by_end start c is_r is_c e (ltb (end_of r.entries) c) refl
-
-    by_cleaned : (b : Bool) → m.cleaned ≡ b → IsRun (cond b own (rewritten_within m.floor m.cut r.entries ++ own))
+    by_cleaned : (b : Bool) → m.cleaned ≡ b → IsRun (cond b (table_of id a).entries (rewritten_within m.floor m.cut (table_of id a).entries r.entries ++ (table_of id a).entries))
     by_cleaned true e = h.own_table.run
-    by_cleaned false e = by_run m.reach m.cut refl refl e (h.past_cut e)
+    by_cleaned false e = by_cut m.reach m.cut refl (h.fits.uncleaned e)

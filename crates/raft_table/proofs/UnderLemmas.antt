@@ -17,12 +17,13 @@ use Rattle.raft_table.specs.TableEntries.{RisesFrom, IsRun, end_of, below}
 use Rattle.raft_table.specs.KeySets.{without}
 use Rattle.raft_table.specs.KeyValues.{Keys, Stored, pairs_over}
 use Rattle.raft_table.specs.MarkMerge.{left_by}
-use Rattle.raft_table.specs.Marks.{Mark, entries_within, is_missed, older_entries, is_first_run_refused, entries_over, table_over}
+use Rattle.raft_table.specs.Marks.{Mark, entries_within, is_missed, is_barred, older_entries, is_refused_over, entries_over, table_over}
 use Rattle.raft_table.specs.Merge.{after_join, newer_atomic_group, with_newer_atomic_group, IsTableMergeFault}
 use Rattle.raft_table.specs.Start.{leaves_hole, replayed}
 use Rattle.raft_table.specs.Table.{Table, empty_table, live_of}
 use Rattle.raft_table.proofs.KeyValueLaws.{get-pairs_over}
 use Rattle.raft_table.proofs.RunLemmas.{below_take, end_of-run}
+use Rattle.raft_table.proofs.MarkEntries.{or_false}
 use Rattle.raft_table.proofs.MarkWords.{end_of-nil, nil_of_end}
 use Rattle.raft_table.proofs.MarkTables.{own_span, same_keys}
 
@@ -61,14 +62,14 @@ replayed_run q a (e ∷ b) r = go q (meets a r)
     go Rewrite h = rw (h.0, h.1) refl
 
 -- what is left, and the own entries behind it, are those over the older ones
-left_entries : (q : LogQueue) (m : Mark) (own older : Table) → is_first_run_refused q m older.entries ≡ false
+left_entries : (q : LogQueue) (m : Mark) (own older : Table) → is_refused_over q m older.entries ≡ false
     → entries_over q m own.entries older.entries ≡ Some ((left_by (is_missed m older.entries) m older).entries ++ own.entries)
 left_entries q m own older e = rw e (ap (λ x. Some x) (go m.cleaned q e))
   where
-    go : (b : Bool) (q : LogQueue) → is_first_run_refused q m older.entries ≡ false
+    go : (b : Bool) (q : LogQueue) → is_refused_over q m older.entries ≡ false
         → cond b own.entries (older_entries q m older.entries ++ own.entries) ≡ cond b [] (cond (is_missed m older.entries) [] (entries_within m.floor m.cut older.entries)) ++ own.entries
     go true q e = refl
-    go false Append e = rw e refl
+    go false Append e = rw (or_false (is_missed m older.entries) (is_barred m.barred older.entries) e).0 refl
     go false Rewrite e = refl
 
 pub whole_keys : (t : Keys) → pairs_over t finite.empty ≡ t
@@ -78,7 +79,7 @@ whole_keys t = same_keys _ _ (λ q. get-pairs_over t finite.empty q ∙ ap (opti
     either None = refl
     either (Some s) = refl
 
-pub over_left : (q : LogQueue) (m : Mark) (own older : Table) → is_first_run_refused q m older.entries ≡ false → ((es : List EntryIndex) → entries_over q m own.entries older.entries ≡ Some es → IsRun es)
+pub over_left : (q : LogQueue) (m : Mark) (own older : Table) → is_refused_over q m older.entries ≡ false → ((es : List EntryIndex) → entries_over q m own.entries older.entries ≡ Some es → IsRun es)
     → let left = left_by (is_missed m older.entries) m older in
     let es = left.entries ++ own.entries in
     (after_join q left own ≡ Some (record left { entries = es; keys = pairs_over own.keys left.keys }))

@@ -1,31 +1,70 @@
 -- How marks are reckoned: the mark and the own table of one step, and the mark of two neighbours. That they stand for the steps is a law.
-use Rattle.std.specs.Prelude.{ℕ, max, Bool, true, false, not, ◌&&◌, ◌||◌, [], ◌∷◌, Option, Some, None, is_some, if◌then◌else◌}
+use Rattle.std.specs.Prelude.{ℕ, max, min, Bool, true, false, not, ◌&&◌, ◌||◌, [], ◌∷◌, Option, Some, None, is_some, nat_lt, ◌==◌, if◌then◌else◌}
+use Rattle.std.specs.Option.{option_or}
 use Rattle.std.specs.FinSet as finset
 use Rattle.raft_base.specs.declared.pipe_log.LogQueue.{LogQueue}
 use Rattle.raft_base.specs.declared.pipe_log.LogQueue.TheVariants.{Append, Rewrite}
-use Rattle.raft_table.specs.TableEntries.{end_of, from}
+use Rattle.raft_table.specs.TableEntries.{end_of}
 use Rattle.raft_table.specs.KeySets.{KeySet}
 use Rattle.raft_table.specs.KeyValues.{lesser}
-use Rattle.raft_table.specs.Marks.{Mark, misses}
-use Rattle.raft_table.specs.Steps.{Step, Run, Compact, Put, Del, AtomicGroup, Clean, table_of}
+use Rattle.raft_table.specs.Marks.{Mark, entries_within, misses}
+use Rattle.raft_table.specs.Steps.{Step, Run, Compact, Truncate, Put, Del, AtomicGroup, Clean, table_of}
 use Rattle.raft_table.specs.Table.{Table, empty_table, table_with_entries, with_pair, with_atomic_group}
 
 -- the keys that two neighbours delete
 abbrev pub joined_deleted : Mark → Mark → KeySet
 joined_deleted m n = if n.cleaned then n.deleted else finset.union m.deleted n.deleted
 
+-- at most c, and the bound where there is a lesser one
+abbrev pub capped : ℕ → Option ℕ → ℕ
+capped c None = c
+capped c (Some d) = min c d
+
+-- barred indexes among the older entries that an older mark leaves
+abbrev pub narrowed : ℕ → Option ℕ → Option (ℕ × ℕ) → Option (ℕ × ℕ)
+narrowed floor cut None = None
+narrowed floor cut (Some p) = Some (max floor p.0, capped p.1 cut)
+
 -- the marks of two neighbours joined, where the older one has no run
 abbrev pub joined_first : Mark → Mark → Mark
-joined_first m n = record { cleaned = n.cleaned; reach = n.reach; reach_floor = if is_some n.reach then max m.floor n.reach_floor else m.reach_floor; floor = max m.floor n.floor; cut = lesser m.cut n.cut; deleted = joined_deleted m n }
+joined_first m n = record {
+  cleaned = n.cleaned;
+  reach = n.reach;
+  reach_floor = if is_some n.reach then max m.floor n.reach_floor else m.reach_floor;
+  reach_cut = if is_some n.reach then lesser m.cut n.reach_cut else m.reach_cut;
+  barred = option_or m.barred (narrowed m.floor m.cut n.barred);
+  floor = max m.floor n.floor;
+  cut = lesser m.cut n.cut;
+  deleted = joined_deleted m n;
+}
 
--- where the older entries begin that stay: in the rewrite queue a hole drops all below the cut
+-- whether the newer first run comes behind no own entry of the older table, and starts above the bound below which still older ones stay
+abbrev pub is_detached : Option ℕ → ℕ → ℕ → Bool
+is_detached None x bound = false
+is_detached (Some start) x bound = x == 0 && nat_lt bound start
+
+-- the indexes that are barred: those of the older mark, else those that a newer first run which is detached would come behind, else the newer mark's
+abbrev pub joined_barred : LogQueue → Bool → Option (ℕ × ℕ) → ℕ × ℕ → Option (ℕ × ℕ) → Option (ℕ × ℕ)
+joined_barred Append detached older met newer = option_or older (if detached then Some met else newer)
+joined_barred Rewrite detached older met newer = older
+
+-- where the older entries begin that stay: in the rewrite queue a newer first run that is detached or leaves a hole drops all below the cut
 abbrev pub joined_floor : LogQueue → Bool → ℕ → ℕ → ℕ
-joined_floor Append missed floor cut = floor
-joined_floor Rewrite missed floor cut = if missed then max floor cut else floor
+joined_floor Append dropped floor cut = floor
+joined_floor Rewrite dropped floor cut = if dropped then max floor cut else floor
 
 -- the marks of two neighbours joined, where the older one has a run and the cut c, and the entries that the newer first run comes behind end at x
 abbrev pub joined_later : LogQueue → ℕ → ℕ → Mark → Mark → Mark
-joined_later queue c x m n = record { cleaned = n.cleaned; reach = m.reach; reach_floor = m.reach_floor; floor = joined_floor queue (misses n.reach x) (max m.floor n.floor) c; cut = lesser (Some c) n.cut; deleted = joined_deleted m n }
+joined_later queue c x m n = record {
+  cleaned = n.cleaned;
+  reach = m.reach;
+  reach_floor = m.reach_floor;
+  reach_cut = m.reach_cut;
+  barred = joined_barred queue (is_detached n.reach x (capped c n.reach_cut)) m.barred (max m.floor n.reach_floor, capped c n.reach_cut) (narrowed m.floor (Some c) n.barred);
+  floor = joined_floor queue (is_detached n.reach x (capped c n.reach_cut) || misses n.reach x) (max m.floor n.floor) c;
+  cut = lesser (Some c) n.cut;
+  deleted = joined_deleted m n;
+}
 
 -- the marks of two neighbours joined, told by the first run and the cut of the older one, where its region wasn't cleaned
 abbrev pub joined_uncleaned : Option ℕ → Option ℕ → LogQueue → ℕ → Mark → Mark → Mark
@@ -39,7 +78,7 @@ joined_at queue x m n = if m.cleaned then m else joined_uncleaned m.reach m.cut 
 
 -- where the entries end that the first run of a mark comes behind
 abbrev pub end_at_reach : Mark → Table → ℕ
-end_at_reach n older = end_of (from n.reach_floor older.entries)
+end_at_reach n older = end_of (entries_within n.reach_floor n.reach_cut older.entries)
 
 -- the marks of two neighbours joined: the older m with its own table, and the newer n
 abbrev pub joined_mark : LogQueue → ℕ → Mark → Option Table → Mark → Mark
@@ -51,13 +90,14 @@ is_settled m = m.cleaned || is_some m.reach && not (is_some m.cut)
 
 -- the mark of no step
 abbrev pub fresh : Mark
-fresh = record { cleaned = false; reach = None; reach_floor = 0; floor = 0; cut = None; deleted = finset.empty }
+fresh = record { cleaned = false; reach = None; reach_floor = 0; reach_cut = None; barred = None; floor = 0; cut = None; deleted = finset.empty }
 
 -- the mark of one step
 abbrev pub mark_of : Step → Mark
 mark_of (Run []) = fresh
 mark_of (Run (e ∷ run)) = record fresh { reach = Some e.index; cut = Some e.index }
 mark_of (Compact i) = record fresh { floor = i }
+mark_of (Truncate i) = record fresh { cut = Some i }
 mark_of (Del key) = record fresh { deleted = finset.insert finset.empty key }
 mark_of Clean = record fresh { cleaned = true }
 mark_of _ = fresh

@@ -7,19 +7,19 @@ use Rattle.raft_base.specs.declared.pipe_log.LogQueue.{LogQueue}
 use Rattle.raft_base.specs.declared.entry_index.EntryIndex.{EntryIndex}
 use Rattle.raft_table.specs.TableEntries.{IsRun}
 use Rattle.raft_table.specs.Counts.{Counts, live}
-use Rattle.raft_table.specs.Marks.{Mark, entries_within, is_first_run_refused, entries_over}
+use Rattle.raft_table.specs.Marks.{Mark, entries_within, is_refused_over, entries_over}
 use Rattle.raft_table.specs.KeySets.{without}
 use Rattle.raft_table.specs.Table.{Table, live_of}
 
--- why a first run is refused: it leaves a hole, or want of memory for the refusal's text
-abbrev pub IsFirstRunFault : Bool → Error → Type 0
-IsFirstRunFault refused (errors.Corruption text) = refused ≡ true
-IsFirstRunFault refused errors.Memory = Unit {0}
-IsFirstRunFault refused _ = ⊥
+-- why a newer mark is refused: its steps are, or want of memory for the refusal's text
+abbrev pub IsMarkFault : Bool → Error → Type 0
+IsMarkFault refused (errors.Corruption text) = refused ≡ true
+IsMarkFault refused errors.Memory = refused ≡ true
+IsMarkFault refused _ = ⊥
 
--- why a table is refused over an older one: its first run is, the live number of a queue and its records there would pass 2^64 - 1, or want of memory
+-- why a table is refused over an older one: its steps are, the live number of a queue and its records there would pass 2^64 - 1, or want of memory
 abbrev pub IsFaultUnder : LogQueue → Counts → Mark → Table → Table → Error → Type 0
-IsFaultUnder queue counts m own older (errors.Corruption text) = is_first_run_refused queue m older.entries ≡ true
+IsFaultUnder queue counts m own older (errors.Corruption text) = is_refused_over queue m older.entries ≡ true
 IsFaultUnder queue counts m own older errors.Full = (q : LogQueue) × (2 ^ 64 ≤ live q counts + live_of q own)
 IsFaultUnder queue counts m own older errors.Memory = Unit {0}
 IsFaultUnder queue counts m own older _ = ⊥

@@ -3,17 +3,18 @@
 ghost use Rattle.std.specs.Prelude.{◌≡◌, ◌≢◌, ◌+◌, ◌≤◌, ◌^◌, false, length, MatchOption, OnOk, OnErr, IfErr, IfOk, Some, [], option_map, MatchBool};
 ghost use Rattle.raft_base.specs.declared.pipe_log.LogQueue.{LogQueue};
 ghost use Rattle.raft_base.specs.declared.pipe_log.LogQueue.TheVariants.{Append, Rewrite};
-ghost use Rattle.raft_table.specs.TableEntries.{IsRunIn, AreTableEntries, start_of, end_of, entry_at, entry_count, below};
+ghost use Rattle.raft_table.specs.TableEntries.{IsRunIn, AreTableEntries, start_of, end_of, entry_at, entry_count, below, from};
 ghost use Rattle.raft_table.specs.Blocks.{shown, expanded, AreDistinctBlocks};
 ghost use Rattle.raft_table.specs.Counts.{Counts, live, with_added};
 ghost use Rattle.raft_table.specs.Fetches.{block_count};
 ghost use Rattle.raft_table.specs.KeyValues.{value_at, file_at, file_weight};
-ghost use Rattle.raft_table.specs.Table.{empty_table, live_of, IsCounted, IsRecounted, after_append, after_replay, after_rewrite, after_rewrite_key, compacted, with_pair, without_key, with_atomic_group, table_with_entries, table_with_keys, with_pair_deleted, with_rewritten_key, MovesKeyAlone, leaves_append, IsTablePutFault, IsKeyRewriteFault};
+ghost use Rattle.raft_table.specs.Table.{empty_table, live_of, IsCounted, IsRecounted, after_append, after_replay, after_rewrite, after_rewrite_key, compacted, truncated, with_pair, without_key, with_atomic_group, table_with_entries, table_with_keys, with_pair_deleted, with_rewritten_key, MovesKeyAlone, leaves_append, IsTablePutFault, IsKeyRewriteFault};
 ghost use Rattle.raft_table.specs.Rewriting.{rewritten, counts_after_rewrite, IsRewriteFault, MovesPlacesAlone};
 ghost use Rattle.raft_table.specs.Queues.{count_in, other};
 ghost use Rattle.raft_table.specs.Start.{appended, replayed, counts_with_run, counts_without, IsTableRunFault};
 
 mod block;
+mod bounds;
 mod change;
 mod deleted_keys;
 mod entries;
@@ -288,6 +289,18 @@ impl MemTable {
         ensures region { self.new.region_id ≡ self.old.region_id }
     {
         self.entries.compact_to(index, stats)
+    }
+
+    /// Drops the entries at or above an index, and answers how many those were.
+    pub fn truncate_from(&mut self, index: u64, stats: &mut GlobalStats) -> u64
+        requires { IsCounted self.old stats.old }
+        ensures truncated { self.new ≡ truncated index self.old }
+        ensures dropped { result + length self.new.entries ≡ length self.old.entries }
+        ensures counts { stats.new ≡ counts_without (from index self.old.entries) stats.old }
+        ensures recounted { IsRecounted self.old self.new stats.old stats.new }
+        ensures region { self.new.region_id ≡ self.old.region_id }
+    {
+        self.entries.truncate_from(index, stats)
     }
 
     /// Puts a key with its value, which were written to `file`, in place of the pair that the key

@@ -5,7 +5,7 @@ ghost use Rattle.raft_base.specs.declared.errors.Error.TheVariants.{Memory};
 ghost use Rattle.raft_table.specs.TableEntries.{IsRunIn, end_of};
 ghost use Rattle.raft_table.specs.KeyValues.{file_at};
 ghost use Rattle.raft_table.specs.Queues.{other};
-ghost use Rattle.raft_table.specs.Table.{after_replay, compacted, with_pair, without_key, live_of, IsTablePutFault, IsCounted};
+ghost use Rattle.raft_table.specs.Table.{after_replay, compacted, truncated, with_pair, without_key, live_of, IsTablePutFault, IsCounted};
 ghost use Rattle.raft_accessor.specs.Accessor.{table_in, AreCountsOf};
 ghost use Rattle.raft_accessor.specs.AccessorCalls.{IsTableChanged};
 ghost use Rattle.raft_accessor.specs.Updates.{IsTaken, IsReplayFault};
@@ -48,7 +48,7 @@ impl MemTableAccessor {
         self.slots[slot_of(id)].try_replay_run(queue, id, run, &mut self.stats)
     }
 
-    /// Drops the entries below an index.
+    /// Drops the entries below an index of a region's table, which is made where there is none.
     ///
     /// # Errors
     ///
@@ -58,6 +58,18 @@ impl MemTableAccessor {
             (λ e. ⊥) id result self.old self.new }
     {
         self.slots[slot_of(id)].compact(id, index, &mut self.stats)
+    }
+
+    /// Drops the entries at or above an index of a region's table, which is made where there is none.
+    ///
+    /// # Errors
+    ///
+    /// `Memory`. All tables are then as they were.
+    pub fn truncate(&mut self, id: u64, index: u64) -> Result<()>
+        ensures { IsTableChanged (Some (truncated index (table_in self.old.tables id)))
+            (λ e. ⊥) id result self.old self.new }
+    {
+        self.slots[slot_of(id)].truncate(id, index, &mut self.stats)
     }
 
     /// Puts a key.

@@ -90,7 +90,7 @@ impl RegionTables {
         if !mark.is_cleaned() {
             return self.put_over(queue, id, MemTable::new(self.alloc, id), mark, stats);
         }
-        table.check_first_run(queue, mark)?;
+        table.check_newer_mark(queue, mark)?;
         let end = table.end_at_reach(mark);
         self.remove(id, stats);
         Ok(end)

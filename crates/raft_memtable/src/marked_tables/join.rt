@@ -22,8 +22,8 @@ impl MarkedTables {
     ///
     /// # Errors
     ///
-    /// `InvalidArgument` where either has records of the other queue, `Corruption` where the first run of
-    /// a region leaves a hole behind the older entries in the append queue, `Full` where
+    /// `InvalidArgument` where either has records of the other queue, `Corruption` where, in the append queue,
+    /// a newer run of a region leaves a hole behind the older entries, `Full` where
     /// more than 2^64 - 1 records would be live, `Memory`. Some regions are then joined.
     pub(crate) fn join(&mut self, queue: LogQueue, newer: MarkedTables) -> Result<()>
         ensures ok { StandForSteps queue (regions_in self.old) → StandForSteps queue (regions_in newer)

@@ -10,6 +10,7 @@ ghost use Rattle.raft_table.specs.KeyValues.{Keys, pair_count, file_weight, valu
 
 mod scan;
 
+use crate::memtable::bounds::lesser;
 use raft_base::{FileId, FileSeq, LogQueue};
 use scan::{divided, is_forward, sought, visit, visit_back};
 use std::alloc::{AllocError, Global};
@@ -289,17 +290,6 @@ fn copied(bytes: &Vec<u8>) -> Result<Vec<u8>, AllocError>
     ensures { IfOk result (λ copy. copy.items ≡ bytes.now.items) }
 {
     bytes.clone()
-}
-
-/// The lesser of two numbers, where both are there.
-pub(super) fn lesser(a: Option<u64>, b: Option<u64>) -> Option<u64>
-    ensures { result ≡ lesser a b }
-{
-    match (a, b) {
-        (Some(a), Some(b)) => Some(a.min(b)),
-        (Some(a), None) => Some(a),
-        (None, b) => b,
-    }
 }
 
 /// Whether a file is in `queue`, and at or below the gate, if there is one.

@@ -5,19 +5,22 @@ ghost use Rattle.std.specs.FinSet as finset;
 ghost use Rattle.raft_base.specs.declared.pipe_log.LogQueue.{LogQueue};
 ghost use Rattle.raft_base.specs.declared.pipe_log.LogQueue.TheVariants.{Append, Rewrite};
 ghost use Rattle.raft_base.specs.declared.entry_index.EntryIndex.{EntryIndex};
-ghost use Rattle.raft_table.specs.TableEntries.{IsRun, IsRunIn, StandsBehind, start_of, end_of, entry_at, from};
+ghost use Rattle.raft_table.specs.TableEntries.{IsRun, IsRunIn, StandsBehind, start_of, end_of, entry_at, below, from};
 ghost use Rattle.std.specs.FinMap as finite;
 ghost use Rattle.raft_table.specs.LastWord.{last_entry, last_pair};
-ghost use Rattle.raft_table.specs.Marks.{Mark, Stands, applied};
+ghost use Rattle.raft_table.specs.Marks.{Mark, applied};
+ghost use Rattle.raft_table.specs.Stands.{Stands};
 ghost use Rattle.raft_table.specs.MarkJoins.{joined_mark, mark_of, own_of};
-ghost use Rattle.raft_table.specs.Overlay.{HoldsDeleted, IsExactMark, deleted_of, overlay, overlay_under};
+ghost use Rattle.raft_table.specs.Overlay.{HoldsDeleted, IsExactMark, has_clean, greatest_compaction, least_cut, deleted_of, rewritten_within, overlay, overlay_under};
+ghost use Rattle.raft_table.specs.Untruncated.{AreUntruncated, reaching_within};
 ghost use Rattle.raft_table.specs.Steps.{Step, IsStep, AreSteps, IsTableOf, table_of, after};
 ghost use Rattle.raft_table.specs.Table.{Table};
 ghost use Rattle.raft_table.specs.Start.{appended, replayed, leaves_hole};
 
 /// What stands at an index, after each change of a table's entries but a rewriting: where a run is
 /// accepted, the old entries below its first index and its own from there on, but for a hole in the
-/// rewrite queue, where it stands alone; after a compaction the old entries from its index on.
+/// rewrite queue, where it stands alone; after a compaction the old entries from its index on; after a
+/// truncation those below its index.
 pub fn entries_stand_by_index()
     ensures appended { (es run after : List EntryIndex) → IsRunIn Append run → 0 < length run
         → appended es run ≡ Some after → StandsBehind es run after }
@@ -30,11 +33,13 @@ pub fn entries_stand_by_index()
         → replayed Rewrite es run ≡ Some after → after ≡ run }
     ensures compacted { (index i : ℕ) (es : List EntryIndex)
         → entry_at i (from index es) ≡ (if nat_lt i index then None else entry_at i es) }
+    ensures truncated { (index i : ℕ) (es : List EntryIndex)
+        → entry_at i (below index es) ≡ (if nat_lt i index then entry_at i es else None) }
 {}
 
 /// In the append queue the entry at an index is that of the last of a region's steps that speaks of the
-/// index: a run that starts at or below it, a compaction above it, or a clean. In both queues the value
-/// and the file of a key are those of the last step that speaks of the key: a `Put` or a `Del` of it,
+/// index: a run that starts at or below it, a compaction above it, a truncation at or below it, or a
+/// clean. In both queues the value and the file of a key are those of the last step that speaks of the key: a `Put` or a `Del` of it,
 /// or a clean.
 pub fn last_words_stand()
     ensures entries { (id i : ℕ) (t : Option Table) (ss : List Step) → AreSteps ss → after Append id None ss ≡ Some t
@@ -71,4 +76,13 @@ pub fn overlays_by_marks()
         → overlay_under m a r ≡ overlay ss a r }
     ensures run { (id : ℕ) (m : Mark) (a : Option Table) (ss : List Step) (r : Table) → AreSteps ss
         → Stands Append id m a ss → IsTableOf id r → IsRun (overlay_under m (table_of id a) r).entries }
+{}
+
+/// Where nothing truncates or cleans, the rewritten entries below the least start of a run stay exactly
+/// where they reach it: the appended ones begin there, or no rewritten one stays.
+pub fn overlays_reach_without_truncations()
+    ensures { (id : ℕ) (ss : List Step) (appended : Option Table) (es : List EntryIndex) → AreSteps ss
+        → AreUntruncated ss → has_clean ss ≡ false → after Append id None ss ≡ Some appended
+        → rewritten_within (greatest_compaction ss) (least_cut ss) (table_of id appended).entries es
+        ≡ reaching_within (greatest_compaction ss) (least_cut ss) es }
 {}

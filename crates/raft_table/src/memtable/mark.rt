@@ -1,16 +1,16 @@
 //! Marks of regions, and tables merged under them.
 
-ghost use Rattle.std.specs.Prelude.{◌≡◌, ℕ, ◌<◌, OnOk, OnErr, IfErr, Some, None, min};
+ghost use Rattle.std.specs.Prelude.{◌≡◌, ℕ, ◌<◌, ◌||◌, OnOk, OnErr, IfErr, Some, None, min};
 ghost use Rattle.std.specs.FinMap as finite;
 ghost use Rattle.raft_base.specs.declared.pipe_log.LogQueue.TheVariants.{Append, Rewrite};
 ghost use Rattle.raft_table.specs.Marks.{misses};
-ghost use Rattle.raft_table.specs.MarkJoins.{fresh, is_settled, mark_of, end_at_reach, joined_at, joined_deleted, joined_floor};
+ghost use Rattle.raft_table.specs.MarkJoins.{fresh, is_settled, mark_of, end_at_reach, joined_at, joined_barred, joined_deleted, joined_floor, is_detached, capped, narrowed};
 ghost use Rattle.raft_table.specs.KeyValues.{lesser};
 ghost use Rattle.raft_base.specs.declared.pipe_log.LogQueue.{LogQueue};
-ghost use Rattle.raft_table.specs.Steps.{Compact, Del, Clean};
+ghost use Rattle.raft_table.specs.Steps.{Compact, Truncate, Del, Clean};
 
+use crate::memtable::bounds::{capped, lesser};
 use crate::memtable::deleted_keys::DeletedKeys;
-use crate::memtable::key_values::lesser;
 use raft_base::{Error, LogQueue, Result};
 use std::alloc::Global;
 use std::marker::Model;
@@ -25,9 +25,13 @@ pub struct Mark {
     reach: Option<u64>,
     /// The greatest compaction before that run.
     reach_floor: u64,
+    /// The least truncation before that run.
+    reach_cut: Option<u64>,
+    /// From the first of these indexes on and below the second no older entry may stand.
+    barred: Option<(u64, u64)>,
     /// Where older entries begin that stay.
     floor: u64,
-    /// The index that they stay below, if a run came.
+    /// The index that they stay below, if a run or a truncation came.
     cut: Option<u64>,
     /// Keys that were deleted.
     deleted: DeletedKeys,
@@ -55,6 +59,8 @@ impl Mark {
             cleaned: false,
             reach: None,
             reach_floor: 0,
+            reach_cut: None,
+            barred: None,
             floor: 0,
             cut: None,
             deleted: DeletedKeys::new(alloc),
@@ -75,6 +81,21 @@ impl Mark {
         self.reach_floor
     }
 
+    /// The least truncation before the first run; none without a run, or without such a truncation.
+    pub fn reach_cut(&self) -> Option<u64>
+        ensures { result ≡ self.now.reach_cut }
+    {
+        self.reach_cut
+    }
+
+    /// Where no older entry may stand, if anywhere: from the first of these indexes on and below the
+    /// second. Over one the steps are refused, in the append queue alone.
+    pub fn barred(&self) -> Option<(u64, u64)>
+        ensures { result ≡ self.now.barred }
+    {
+        self.barred
+    }
+
     /// Where older entries begin that stay.
     pub fn floor(&self) -> u64
         ensures { result ≡ self.now.floor }
@@ -82,7 +103,7 @@ impl Mark {
         self.floor
     }
 
-    /// The index that the older entries stay below, if a run came.
+    /// The index that the older entries stay below, if a run or a truncation came.
     pub fn cut(&self) -> Option<u64>
         ensures { result ≡ self.now.cut }
     {
@@ -123,13 +144,21 @@ impl Mark {
         let floor = self.floor.max(newer.floor);
         match (self.reach, self.cut) {
             (Some(_), Some(cut)) => {
-                self.floor = joined_floor(queue, misses(newer.reach, end_at_reach), floor, cut);
+                let bound = capped(cut, newer.reach_cut);
+                let detached = is_detached(newer.reach, end_at_reach, bound);
+                let met = (self.floor.max(newer.reach_floor), bound);
+                let newer_barred = narrowed(self.floor, self.cut, newer.barred);
+                self.barred = joined_barred(queue, detached, self.barred, met, newer_barred);
+                let dropped = drops_below(newer.reach, end_at_reach, bound);
+                self.floor = joined_floor(queue, dropped, floor, cut);
             }
             (_, _) => {
                 self.reach = newer.reach;
                 if self.reach.is_some() {
                     self.reach_floor = self.floor.max(newer.reach_floor);
+                    self.reach_cut = lesser(self.cut, newer.reach_cut);
                 }
+                self.barred = self.barred.or(narrowed(self.floor, self.cut, newer.barred));
                 self.floor = floor;
             }
         }
@@ -144,14 +173,21 @@ impl Mark {
     pub fn add_run(&mut self, queue: LogQueue, end: u64, start: u64)
         ensures { self.new ≡ joined_at queue end self.old (record fresh { reach = Some start; cut = Some start }) }
     {
-        self.add(queue, end, Some(start), 0);
+        self.add(queue, end, Some(start), 0, Some(start));
     }
 
     /// Joins the mark of a compaction.
     pub fn add_compaction(&mut self, index: u64)
         ensures { (queue : LogQueue) (end : ℕ) → self.new ≡ joined_at queue end self.old (mark_of (Compact index)) }
     {
-        self.add(LogQueue::Append, 0, None, index);
+        self.add(LogQueue::Append, 0, None, index, None);
+    }
+
+    /// Joins the mark of a truncation.
+    pub fn add_truncation(&mut self, index: u64)
+        ensures { (queue : LogQueue) (end : ℕ) → self.new ≡ joined_at queue end self.old (mark_of (Truncate index)) }
+    {
+        self.add(LogQueue::Append, 0, None, 0, Some(index));
     }
 
     /// Joins the mark of a deleted key.
@@ -169,7 +205,7 @@ impl Mark {
             return Ok(());
         }
         self.deleted.insert(key)?;
-        self.add(LogQueue::Append, 0, None, 0);
+        self.add(LogQueue::Append, 0, None, 0, None);
         Ok(())
     }
 
@@ -180,7 +216,7 @@ impl Mark {
         if self.is_settled() {
             return;
         }
-        self.add(LogQueue::Append, 0, None, 0);
+        self.add(LogQueue::Append, 0, None, 0, None);
         self.cleaned = true;
         self.deleted.clear();
     }
@@ -193,28 +229,32 @@ impl Mark {
     }
 
     /// Joins the numbers of one step.
-    fn add(&mut self, queue: LogQueue, end: u64, reach: Option<u64>, floor: u64)
+    fn add(&mut self, queue: LogQueue, end: u64, reach: Option<u64>, floor: u64, cut: Option<u64>)
         ensures { self.new
             ≡ record (joined_at queue end self.old
-            (record fresh { reach = reach; floor = floor; cut = reach })) { deleted = self.old.deleted } }
+            (record fresh { reach = reach; floor = floor; cut = cut })) { deleted = self.old.deleted } }
     {
         if self.is_settled() {
             return;
         }
         let joined = self.floor.max(floor);
         match (self.reach, self.cut) {
-            (Some(_), Some(cut)) => {
-                self.floor = joined_floor(queue, misses(reach, end), joined, cut);
+            (Some(_), Some(bound)) => {
+                let detached = is_detached(reach, end, bound);
+                let met = (self.floor, bound);
+                self.barred = joined_barred(queue, detached, self.barred, met, None);
+                self.floor = joined_floor(queue, drops_below(reach, end, bound), joined, bound);
             }
             (_, _) => {
                 self.reach = reach;
                 if reach.is_some() {
                     self.reach_floor = self.floor;
+                    self.reach_cut = self.cut;
                 }
                 self.floor = joined;
             }
         }
-        self.cut = lesser(self.cut, reach);
+        self.cut = lesser(self.cut, cut);
     }
 
     /// Takes over the keys that the newer steps deleted.
@@ -243,12 +283,60 @@ fn misses(reach: Option<u64>, end: u64) -> bool
     }
 }
 
+/// Barred indexes of a newer mark, among the entries that an older mark leaves.
+fn narrowed(floor: u64, cut: Option<u64>, barred: Option<(u64, u64)>) -> Option<(u64, u64)>
+    ensures { result ≡ narrowed floor cut barred }
+{
+    match barred {
+        Some((from, below)) => Some((floor.max(from), capped(below, cut))),
+        None => None,
+    }
+}
+
+/// Whether a newer first run is detached: it comes behind no entry of the older table, whose entries it
+/// meets end at `end`, and starts above the bound below which still older ones stay.
+fn is_detached(reach: Option<u64>, end: u64, bound: u64) -> bool
+    ensures { result ≡ is_detached reach end bound }
+{
+    match reach {
+        Some(start) => end == 0 && bound < start,
+        None => false,
+    }
+}
+
+/// Whether a newer first run leaves no older entry below the cut in the rewrite queue.
+fn drops_below(reach: Option<u64>, end: u64, bound: u64) -> bool
+    ensures { result ≡ is_detached reach end bound || misses reach end }
+{
+    if is_detached(reach, end, bound) {
+        return true;
+    }
+    misses(reach, end)
+}
+
+/// The barred indexes of two marks: the older one's, else those that a newer first run which is detached
+/// would come behind, else the newer one's.
+fn joined_barred(
+    queue: LogQueue,
+    detached: bool,
+    older: Option<(u64, u64)>,
+    met: (u64, u64),
+    newer: Option<(u64, u64)>,
+) -> Option<(u64, u64)>
+    ensures { result ≡ joined_barred queue detached older met newer }
+{
+    match (queue, older) {
+        (LogQueue::Append, None) => { if detached { Some(met) } else { newer } }
+        (_, _) => older,
+    }
+}
+
 /// Where older entries begin that stay behind a run with this cut.
-fn joined_floor(queue: LogQueue, missed: bool, floor: u64, cut: u64) -> u64
-    ensures { result ≡ joined_floor queue missed floor cut }
+fn joined_floor(queue: LogQueue, dropped: bool, floor: u64, cut: u64) -> u64
+    ensures { result ≡ joined_floor queue dropped floor cut }
 {
     match queue {
         LogQueue::Append => floor,
-        LogQueue::Rewrite => { if missed { floor.max(cut) } else { floor } }
+        LogQueue::Rewrite => { if dropped { floor.max(cut) } else { floor } }
     }
 }

@@ -13,7 +13,7 @@ ghost use Rattle.raft_table.specs.Scan.{VisitsUntilFalse, scanned};
 ghost use Rattle.raft_table.specs.Least.{least_of, lowered};
 
 use crate::memtable::MemTable;
-use crate::memtable::key_values::lesser;
+use crate::memtable::bounds::lesser;
 use raft_base::{EntryIndex, Error, FileId, FileSeq, LogQueue, Result};
 
 impl MemTable {

@@ -8,11 +8,11 @@ ghost use Rattle.raft_table.specs.Counts.{live};
 ghost use Rattle.raft_table.specs.TableEntries.{IsRun, IsRunIn, end_of};
 ghost use Rattle.raft_table.specs.KeySets.{without};
 ghost use Rattle.raft_table.specs.KeyValues.{pair_count};
-ghost use Rattle.raft_table.specs.MarkMerge.{IsFirstRunFault, IsFaultUnder, IsRunOver, left_by};
-ghost use Rattle.raft_table.specs.Marks.{entries_within, is_missed, is_first_run_refused, table_over};
+ghost use Rattle.raft_table.specs.MarkMerge.{IsMarkFault, IsFaultUnder, IsRunOver, left_by};
+ghost use Rattle.raft_table.specs.Marks.{entries_within, is_missed, is_barred, is_refused_over, table_over};
 ghost use Rattle.raft_table.specs.MarkJoins.{end_at_reach};
 ghost use Rattle.raft_table.specs.Merge.{newer_atomic_group};
-ghost use Rattle.raft_table.specs.Overlay.{is_short, overlay_under, IsOverlayFault};
+ghost use Rattle.raft_table.specs.Overlay.{is_unjoined, overlay_under, IsOverlayFault};
 ghost use Rattle.raft_table.specs.Queues.{other};
 ghost use Rattle.raft_table.specs.Start.{replayed, IsTableRunFault};
 ghost use Rattle.raft_table.specs.Table.{empty_table, after_replay, live_of, IsCounted, IsRecounted, table_with_entries, table_with_keys};
@@ -30,7 +30,8 @@ impl MemTable {
     pub fn end_at_reach(&self, mark: &Mark) -> u64
         ensures { result ≡ end_at_reach mark.now self.now }
     {
-        self.entries.end_from(mark.reach_floor())
+        self.entries
+            .end_within(mark.reach_floor(), mark.reach_cut())
     }
 
     /// Puts the newer table `rhs` of the same region, which the counts don't hold, over this one as
@@ -39,10 +40,10 @@ impl MemTable {
     ///
     /// # Errors
     ///
-    /// `Corruption` where the first run of the mark leaves a hole behind the older entries that it
-    /// meets in the append queue, `Full` where the live number of a queue and the records of `rhs`
-    /// there would pass 2^64 - 1. Both tables and the counts are then as they were; after `Memory`
-    /// the counts still agree with this table.
+    /// `Corruption` where, in the append queue, a run among the mark's steps would leave a hole behind
+    /// the older entries, `Full` where the live number of a queue and the
+    /// records of `rhs` there would pass 2^64 - 1. Both tables and the counts are then as they were;
+    /// after `Memory` the counts still agree with this table.
     pub fn merge_under(
         &mut self,
         queue: LogQueue,
@@ -71,7 +72,7 @@ impl MemTable {
         if !stats.has_room(rhs, LogQueue::Append) || !stats.has_room(rhs, LogQueue::Rewrite) {
             return Err(Error::Full);
         }
-        self.check_first_run(queue, mark)?;
+        self.check_newer_mark(queue, mark)?;
         self.drop_older(self.is_missed(mark), mark, stats);
         self.join(queue, rhs, queue, stats)?;
         self.take_atomic_group(rhs);
@@ -109,7 +110,7 @@ impl MemTable {
         if !stats.has_room(rhs, LogQueue::Append) || !stats.has_room(rhs, LogQueue::Rewrite) {
             return Err(Error::Full);
         }
-        self.drop_older(self.is_short(mark), mark, stats);
+        self.drop_older(self.is_unjoined(rhs, mark), mark, stats);
         self.join(LogQueue::Rewrite, rhs, LogQueue::Append, stats)?;
         self.take_appended_group(rhs, mark);
         Ok(())
@@ -144,13 +145,13 @@ impl MemTable {
         Ok(())
     }
 
-    /// Whether the entries don't reach a mark's cut.
-    fn is_short(&self, mark: &Mark) -> bool
-        ensures { result ≡ is_short mark.now.cut (end_of self.now.entries) }
+    /// Whether there are entries in an appended table that don't join these at the mark's cut.
+    fn is_unjoined(&self, rhs: &MemTable, mark: &Mark) -> bool
+        ensures { result ≡ is_unjoined mark.now.cut (end_of self.now.entries) rhs.now.entries }
     {
-        match mark.cut() {
-            Some(cut) => self.entries.end() < cut,
-            None => false,
+        match (mark.cut(), rhs.entries.first_index()) {
+            (Some(cut), Some(first)) => first != cut || self.entries.end() < cut,
+            (_, _) => false,
         }
     }
 
@@ -214,12 +215,16 @@ impl MemTable {
         mark.misses(self.end_at_reach(mark))
     }
 
-    /// Refuses a newer mark whose first run leaves a hole behind the entries that it meets.
-    pub fn check_first_run(&self, queue: LogQueue, mark: &Mark) -> Result<()>
-        ensures ok { OnOk result (is_first_run_refused queue mark.now self.now.entries ≡ false) }
-        ensures fault { IfErr result (IsFirstRunFault (is_first_run_refused queue mark.now self.now.entries)) }
+    /// Refuses a newer mark whose steps are refused over these entries.
+    ///
+    /// # Errors
+    ///
+    /// `Corruption`, or `Memory` where its text finds none.
+    pub fn check_newer_mark(&self, queue: LogQueue, mark: &Mark) -> Result<()>
+        ensures ok { OnOk result (is_refused_over queue mark.now self.now.entries ≡ false) }
+        ensures fault { IfErr result (IsMarkFault (is_refused_over queue mark.now self.now.entries)) }
     {
-        if self.is_first_run_refused(queue, mark) {
+        if self.refuses(queue, mark) {
             return Err(
                 self.entries
                     .corruption("a run leaves a hole behind older entries")?,
@@ -228,13 +233,23 @@ impl MemTable {
         Ok(())
     }
 
-    /// Whether a newer mark's first run is refused.
-    fn is_first_run_refused(&self, queue: LogQueue, mark: &Mark) -> bool
-        ensures { result ≡ is_first_run_refused queue mark.now self.now.entries }
+    /// Whether a newer mark's steps are refused over these entries.
+    fn refuses(&self, queue: LogQueue, mark: &Mark) -> bool
+        ensures { result ≡ is_refused_over queue mark.now self.now.entries }
     {
         match queue {
-            LogQueue::Append => self.is_missed(mark),
+            LogQueue::Append => self.is_missed(mark) || self.is_barred(mark),
             LogQueue::Rewrite => false,
+        }
+    }
+
+    /// Whether an entry stands where a newer mark lets none stand.
+    fn is_barred(&self, mark: &Mark) -> bool
+        ensures { result ≡ is_barred mark.now.barred self.now.entries }
+    {
+        match mark.barred() {
+            Some((from, below)) => self.entries.end_within(from, Some(below)) > 0,
+            None => false,
         }
     }
 
@@ -248,7 +263,7 @@ impl MemTable {
         ensures region { self.new.region_id ≡ self.old.region_id }
     {
         if mark.is_cleaned() {
-            self.entries.keep_below(0, stats);
+            self.entries.truncate_from(0, stats);
             self.drop_keys(stats);
             self.atomic_group = None;
             return;
@@ -265,7 +280,7 @@ impl MemTable {
         ensures recounted { IsRecounted self.old self.new stats.old stats.new }
     {
         if gone {
-            self.entries.keep_below(0, stats);
+            self.entries.truncate_from(0, stats);
             return;
         }
         self.entries.keep_within(mark.floor(), mark.cut(), stats);

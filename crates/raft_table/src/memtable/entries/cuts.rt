@@ -9,6 +9,7 @@ ghost use Rattle.raft_table.specs.Marks.{entries_within};
 
 use crate::global_stats::GlobalStats;
 use crate::memtable::block::Block;
+use crate::memtable::bounds::capped;
 use crate::memtable::entries::Entries;
 use crate::memtable::entries::lists::find;
 use raft_base::LogQueue;
@@ -37,20 +38,24 @@ impl Entries {
         count as u64
     }
 
-    /// Drops the entries at or above an index.
-    pub fn keep_below(&mut self, index: u64, stats: &mut GlobalStats)
+    /// Drops the entries at or above an index, and answers how many those were.
+    pub fn truncate_from(&mut self, index: u64, stats: &mut GlobalStats) -> u64
         requires { AreCounted self.old stats.old }
         ensures entries { self.new ≡ below index self.old }
+        ensures dropped { result + length self.new ≡ length self.old }
+        ensures counts { stats.new ≡ counts_without (from index self.old) stats.old }
         ensures recounted { AreRecounted self.old self.new stats.old stats.new }
     {
         if self.len == 0 {
-            return;
+            return 0;
         }
         let keep = index.saturating_sub(self.first).min(self.len as u64) as usize;
+        let dropped = self.len - keep;
         let (rewritten, appended) = self.count_behind(keep);
         self.keep_front(keep);
         stats.delete(LogQueue::Rewrite, rewritten);
         stats.delete(LogQueue::Append, appended);
+        dropped as u64
     }
 
     /// Drops the entries below an index, and those at or above a bound, if there is one.
@@ -63,7 +68,7 @@ impl Entries {
         let Some(cut) = cut else {
             return;
         };
-        self.keep_below(cut, stats);
+        self.truncate_from(cut, stats);
     }
 
     /// The greatest index plus one, 0 without entries.
@@ -77,15 +82,16 @@ impl Entries {
         }
     }
 
-    /// The end of the entries from an index on: the greatest index plus one, 0 where there are none.
-    pub fn end_from(&self, index: u64) -> u64
-        ensures { result ≡ end_of (from index self.now) }
+    /// The end of the entries from an index on, and below a bound, if there is one: the greatest
+    /// index plus one, 0 where there are none.
+    pub fn end_within(&self, index: u64, cut: Option<u64>) -> u64
+        ensures { result ≡ end_of (entries_within index cut self.now) }
     {
-        self.holds_one_run();
-        match self.last_index() {
-            Some(last) if last >= index => last + 1,
-            _ => 0,
+        let end = capped(self.end(), cut);
+        if self.first.max(index) < end {
+            return end;
         }
+        0
     }
 
     /// Drops so many entries from the front.

@@ -5,7 +5,7 @@ use Rattle.raft_table.specs.Queues.{other}
 use Rattle.raft_table.specs.Table.{Table, live_of}
 use Rattle.raft_table.proofs.TableLemmas.{live_of_empty}
 use Rattle.raft_accessor.specs.TableJoins.{IsTableJoined}
-use Rattle.raft_accessor.proofs.TableJoinLemmas.{nothing_joined, empty_joined, cleaned_joined, first_run_refused}
+use Rattle.raft_accessor.proofs.TableJoinLemmas.{nothing_joined, empty_joined, cleaned_joined, mark_refused}
 use Rattle.raft_accessor.proofs.region_tables.RegionTables.drop_under.Goals as goal
 
 pub returns-in_default : goal.returns-in_default
@@ -20,12 +20,12 @@ returns-then-not-is_cleaned c =
     (sym c.get.ensures.value ∙ ap (option_map (λ t. t.now)) c.in-Some.is) (sym c.is_cleaned.ensures ∙ c.if-not-is_cleaned.true)
     (subst (λ (t : Table). IsTableJoined c.args.queue c.args.mark.now (Some t) c.args.self.now c.args.id c.args.stats.now c.put_over-then-not-is_cleaned.result c.put_over-then-not-is_cleaned.new.self c.put_over-then-not-is_cleaned.new.stats) c.new.ensures.empty c.put_over-then-not-is_cleaned.ensures)
 
-pub returns-in_err-check_first_run : goal.returns-in_err-check_first_run
-returns-in_err-check_first_run c =
+pub returns-in_err-check_newer_mark : goal.returns-in_err-check_newer_mark
+returns-in_err-check_newer_mark c =
     let p = err_from_is_err_and c.from_residual.result c.from_residual.ensures.1 in
-    rw (p.1, p.2) (first_run_refused c.args.queue c.args.mark.now c.args.self.now c.args.id c.args.stats.now c.in-Some.table.now _ (sym c.get.ensures.value ∙ ap (option_map (λ t. t.now)) c.in-Some.is) c.in_err-check_first_run.ensures.fault)
+    rw (p.1, p.2) (mark_refused c.args.queue c.args.mark.now c.args.self.now c.args.id c.args.stats.now c.in-Some.table.now _ (sym c.get.ensures.value ∙ ap (option_map (λ t. t.now)) c.in-Some.is) c.in_err-check_newer_mark.ensures.fault)
 
 pub returns : goal.returns
 returns c =
     cleaned_joined c.args.queue c.args.mark.now c.args.self.now c.args.id c.args.stats.now c.in-Some.table.now c.end_at_reach-end.result c.remove.new.self c.remove.new.stats
-    (sym c.get.ensures.value ∙ ap (option_map (λ t. t.now)) c.in-Some.is) (sym c.is_cleaned.ensures ∙ c.if-not-is_cleaned.false) c.in_ok-check_first_run.ensures.ok c.end_at_reach-end.ensures c.remove.ensures.after c.remove.ensures.recounted
+    (sym c.get.ensures.value ∙ ap (option_map (λ t. t.now)) c.in-Some.is) (sym c.is_cleaned.ensures ∙ c.if-not-is_cleaned.false) c.in_ok-check_newer_mark.ensures.ok c.end_at_reach-end.ensures c.remove.ensures.after c.remove.ensures.recounted

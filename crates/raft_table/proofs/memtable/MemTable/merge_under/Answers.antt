@@ -45,7 +45,7 @@ returns-then-is_blank-clause-few c = on_ok c.take_whole.result (λ w q. omega (a
 pub returns-in_err-join-clause-fault : goal.returns-in_err-join-clause-fault
 returns-in_err-join-clause-fault c = λ run.
     let p = err_from_is_err_and c.from_residual-in_err-join.result c.from_residual-in_err-join.ensures.1 in
-    let ok = c.in_ok-check_first_run.ensures.ok in
+    let ok = c.in_ok-check_newer_mark.ensures.ok in
     let left = c.drop_older.ensures.left ∙ ap (λ g. left_by g c.args.mark.now c.args.self.now) c.is_missed.ensures in
     let over = over_left c.args.queue c.args.mark.now c.args.rhs.now c.args.self.now ok run in
     let room : (q : LogQueue) → live q c.drop_older.new.stats + live_of q c.args.rhs.now < 2 ^ 64 = each_queue _
@@ -57,7 +57,7 @@ returns-in_err-join-clause-fault c = λ run.
 pub returns-in_err-join-clause-err : goal.returns-in_err-join-clause-err
 returns-in_err-join-clause-err c = λ run.
     let p = err_from_is_err_and c.from_residual-in_err-join.result c.from_residual-in_err-join.ensures.1 in
-    let ok = c.in_ok-check_first_run.ensures.ok in
+    let ok = c.in_ok-check_newer_mark.ensures.ok in
     let left = c.drop_older.ensures.left ∙ ap (λ g. left_by g c.args.mark.now c.args.self.now) c.is_missed.ensures in
     let over = over_left c.args.queue c.args.mark.now c.args.rhs.now c.args.self.now ok run in
     let room : (q : LogQueue) → live q c.drop_older.new.stats + live_of q c.args.rhs.now < 2 ^ 64 = each_queue _
@@ -68,7 +68,7 @@ returns-in_err-join-clause-err c = λ run.
 
 pub returns-clause-ok : goal.returns-clause-ok
 returns-clause-ok c = λ run.
-    let ok = c.in_ok-check_first_run.ensures.ok in
+    let ok = c.in_ok-check_newer_mark.ensures.ok in
     let left = c.drop_older.ensures.left ∙ ap (λ g. left_by g c.args.mark.now c.args.self.now) c.is_missed.ensures in
     let over = over_left c.args.queue c.args.mark.now c.args.rhs.now c.args.self.now ok run in
     let joined = same_some _ _ (sym over.0 ∙ ap (λ (t : Table). after_join c.args.queue t c.args.rhs.now) (sym left) ∙ c.in_ok-join.ensures.ok) in

@@ -1,4 +1,4 @@
-use Rattle.raft_table.proofs.StandLemmas.{appended_stands, replayed_stands, rewritten_stands, entry_with_index-from}
+use Rattle.raft_table.proofs.StandLemmas.{appended_stands, replayed_stands, rewritten_stands, entry_with_index-below, entry_with_index-from}
 use Rattle.raft_table.proofs.memtable.laws.entries_stand_by_index.Goals as goal
 
 pub returns-clause-appended : goal.returns-clause-appended
@@ -12,3 +12,6 @@ returns-clause-rewritten c = rewritten_stands
 
 pub returns-clause-compacted : goal.returns-clause-compacted
 returns-clause-compacted c = λ index i es. entry_with_index-from i index es
+
+pub returns-clause-truncated : goal.returns-clause-truncated
+returns-clause-truncated c = λ index i es. entry_with_index-below i index es

@@ -1,12 +1,14 @@
-use Rattle.std.proofs.Common.{◌≡◌, take, arith, refl}
+use Rattle.std.proofs.Common.{◌≡◌, take, drop, arith, refl}
+use Rattle.std.proofs.lemmas.List.{length-take-le}
 use Rattle.raft_base.specs.declared.pipe_log.LogQueue.TheVariants.{Append, Rewrite}
 use Rattle.raft_table.specs.Blocks.{shown, expanded}
-use Rattle.raft_table.specs.TableEntries.{below}
+use Rattle.raft_table.specs.TableEntries.{below, from}
 use Rattle.raft_table.proofs.PlaceLemmas.{each_queue, entry_count-cut}
 use Rattle.raft_table.proofs.KeptUnderLemmas.{few_behind}
 use Rattle.raft_table.proofs.BlockCuts.{kept_facts}
-use Rattle.raft_table.proofs.CutLemmas.{front_below}
-use Rattle.raft_table.proofs.memtable.entries.Entries.keep_below.Goals as goal
+use Rattle.raft_table.proofs.CutLemmas.{front_below, behind_from}
+use Rattle.raft_table.proofs.GoneLemmas.{none_above, same_deleted}
+use Rattle.raft_table.proofs.memtable.entries.Entries.truncate_from.Goals as goal
 
 pub returns-then-self-eq0-clause-entries : goal.returns-then-self-eq0-clause-entries
 unfolding below
@@ -39,3 +41,22 @@ returns-clause-recounted c =
     (each_queue _
     (omega (arith, c.delete.ensures.live Append, c.delete-2.ensures.live Append, c.count_behind-rewritten.ensures.appended, entry_count-cut Append c.min-keep.result c.args.self.now))
     (omega (arith, c.delete.ensures.live Rewrite, c.delete-2.ensures.live Rewrite, c.count_behind-rewritten.ensures.rewritten, entry_count-cut Rewrite c.min-keep.result c.args.self.now)))
+
+pub returns-then-self-eq0-clause-counts : goal.returns-then-self-eq0-clause-counts
+unfolding from
+returns-then-self-eq0-clause-counts c = none_above c.args.stats.now c.args.index c.args.self.now (rw (← c.self.view_is, (kept_facts c.self.invariant).empty (omega arith)) refl)
+
+pub returns-clause-dropped : goal.returns-clause-dropped
+returns-clause-dropped c =
+    let l = (kept_facts c.self.invariant).length in
+    rw (← c.self.view_is, cut c, length-take-le c.min-keep.result (expanded c.self.inside.first (shown c.self.inside.blocks.items)) (omega arith)) (omega arith)
+
+pub returns-clause-counts : goal.returns-clause-counts
+returns-clause-counts c =
+    let es = expanded c.self.inside.first (shown c.self.inside.blocks.items) in
+    let l = (kept_facts c.self.invariant).length in
+    let s = (kept_facts c.self.invariant).start (omega arith) in
+    let d : drop c.min-keep.result es ≡ from c.args.index es = behind_from c.args.index c.self.inside.first c.min-keep.result es c.self.invariant.table_entries s (omega arith) in
+    rw (← c.self.view_is, ← d)
+    (same_deleted c.args.stats.now c.delete.new.self c.delete-2.new.self _ _ _ _ c.delete.ensures.after c.delete-2.ensures.after
+    (rw (c.self.view_is) c.count_behind-rewritten.ensures.rewritten) (rw (c.self.view_is) c.count_behind-rewritten.ensures.appended))

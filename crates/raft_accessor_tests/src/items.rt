@@ -131,15 +131,48 @@ fn is_rewriting_refused(
     is_corruption(accessor.apply_rewrite_writes(items, Some(1), 50))
 }
 
-/// A rewriting refuses deletions and compactions.
+/// A rewriting refuses deletions, compactions and truncations.
 fn rewrite_what_cannot_be(alloc: Global) -> Result<bool> {
     let mut accessor = MemTableAccessor::new(alloc)?;
     let deletion = pair(alloc, 1, OpType::Del, FIRST)?;
     let compaction = LogItem::new_command(1, Command::Compact { index: 7 });
+    let truncation = LogItem::new_command(1, Command::Truncate { index: 7 });
     Ok(
         is_rewriting_refused(alloc, &mut accessor, deletion)?
             && is_rewriting_refused(alloc, &mut accessor, compaction)?
+            && is_rewriting_refused(alloc, &mut accessor, truncation)?
             && accessor.is_empty(),
+    )
+}
+
+/// Truncations of these regions, from an index on.
+fn truncations(alloc: Global, regions: &[(u64, u64)]) -> Result<Vec<LogItem>> {
+    let mut items = Vec::new(alloc);
+    for (region, index) in regions {
+        items.push(LogItem::new_command(*region, Command::Truncate { index: *index }))?;
+    }
+    Ok(items)
+}
+
+/// Truncations take entries of the append queue away, and make a table where there is none.
+fn truncate_appended(alloc: Global) -> Result<bool> {
+    let mut accessor = appended(alloc, 1)?;
+    accessor.apply_append_writes(truncations(alloc, &[(1, 15), (4, 3)])?)?;
+    let written = shape(&accessor, 1) == Some((Some(10), Some(14), 5, 0))
+        && shape(&accessor, 4) == Some((None, None, 0, 0));
+    accessor.replay_append_writes(truncations(alloc, &[(1, 10)])?)?;
+    Ok(written && shape(&accessor, 1) == Some((None, None, 0, 0)) && live(&accessor) == (0, 0))
+}
+
+/// Truncations that are read again take rewritten entries away.
+fn truncate_rewritten(alloc: Global) -> Result<bool> {
+    let mut accessor = MemTableAccessor::new(alloc)?;
+    let replayed = replay(alloc, &mut accessor)?;
+    accessor.replay_rewrite_writes(truncations(alloc, &[(2, 2)])?)?;
+    Ok(
+        replayed
+            && shape(&accessor, 2) == Some((Some(1), Some(1), 0, 2))
+            && live(&accessor) == (0, 2),
     )
 }
 
@@ -380,6 +413,8 @@ fn write_items(alloc: Global) -> Result<bool> {
     Ok(
         write_up_to_a_hole(alloc)?
             && rewrite_what_cannot_be(alloc)?
+            && truncate_appended(alloc)?
+            && truncate_rewritten(alloc)?
             && clean(alloc)?
             && count(alloc)?
             && append_again(alloc)?

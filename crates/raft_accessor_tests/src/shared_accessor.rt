@@ -2,6 +2,7 @@
 
 mod calls;
 mod seen;
+mod slots;
 
 use raft_accessor::{
     EntryIndex, Error, FileBlockHandle, FileId, LogQueue, MemTable, Result, TableChange, slot_of,

@@ -32,13 +32,19 @@ fn first(alloc: Global) -> Result<FilePart> {
     file_of(alloc, LogQueue::Append, 1, batch)
 }
 
-/// File 2: other entries of region 7 from 11 on; those of region 8 are done with, and region 9 goes.
+/// File 2: other entries of region 7 from 11 on, of which the last is taken back; those of region 8 are done with, and
+/// region 9 goes.
 fn second(alloc: Global) -> Result<FilePart> {
     let mut batch = LogBatch::default(alloc);
     batch.add_entries::<Proposals>(
         7,
-        &[Proposal::new(11, "delete x"), Proposal::new(12, "put y 5")],
+        &[
+            Proposal::new(11, "delete x"),
+            Proposal::new(12, "put y 5"),
+            Proposal::new(13, "put y 6"),
+        ],
     )?;
+    batch.add_command(7, Command::Truncate { index: 13 })?;
     batch.add_command(8, Command::Compact { index: 2 })?;
     batch.add_command(9, Command::Clean)?;
     file_of(alloc, LogQueue::Append, 2, batch)

@@ -50,12 +50,13 @@ enum Word {
     /// Entries from the first index to below the second.
     Run(u64, u64),
     Compact(u64),
+    Truncate(u64),
     Clean,
     Put,
     Delete,
 }
 
-use Word::{Clean, Compact, Delete, Put, Run};
+use Word::{Clean, Compact, Delete, Put, Run, Truncate};
 
 /// Adds what a batch says of a region.
 fn add(alloc: Global, region: u64, word: Word, batch: &mut LogBatch) -> Result<()>
@@ -71,6 +72,7 @@ fn add(alloc: Global, region: u64, word: Word, batch: &mut LogBatch) -> Result<(
             batch.add_entries::<Lines>(region, lines.as_slice())
         }
         Compact(index) => batch.add_command(region, Command::Compact { index }),
+        Truncate(index) => batch.add_command(region, Command::Truncate { index }),
         Clean => batch.add_command(region, Command::Clean),
         Put => batch.put(
             region,
@@ -144,7 +146,7 @@ struct Row {
     shape: Shape,
 }
 
-static ROWS: [Row; 10] = [
+static ROWS: [Row; 18] = [
     // The entries below the least start stay, whatever the first start is.
     Row {
         rewritten: &[Run(10, 20)],
@@ -245,6 +247,95 @@ static ROWS: [Row; 10] = [
             first: Some(15),
             last: Some(19),
             rewrite: 5,
+            ..NONE
+        },
+    },
+    // A truncation drops the rewritten entries from its index on, also where a run is put there again.
+    Row {
+        rewritten: &[Run(10, 20)],
+        appended: &[Truncate(15)],
+        shape: Shape {
+            table: true,
+            first: Some(10),
+            last: Some(14),
+            rewrite: 5,
+            ..NONE
+        },
+    },
+    Row {
+        rewritten: &[Run(10, 20)],
+        appended: &[Truncate(15), Run(15, 18)],
+        shape: Shape {
+            table: true,
+            first: Some(10),
+            last: Some(17),
+            append: 3,
+            rewrite: 5,
+            ..NONE
+        },
+    },
+    Row {
+        rewritten: &[Run(10, 20)],
+        appended: &[Run(20, 30), Truncate(12)],
+        shape: Shape {
+            table: true,
+            first: Some(10),
+            last: Some(11),
+            rewrite: 2,
+            ..NONE
+        },
+    },
+    // The appended entries begin behind the cut, so none of the rewritten ones stay.
+    Row {
+        rewritten: &[Run(10, 20)],
+        appended: &[Run(20, 30), Truncate(20), Run(25, 30)],
+        shape: Shape {
+            table: true,
+            first: Some(25),
+            last: Some(29),
+            append: 5,
+            ..NONE
+        },
+    },
+    Row {
+        rewritten: &[Run(0, 1)],
+        appended: &[Truncate(1), Run(2, 3)],
+        shape: Shape {
+            table: true,
+            first: Some(2),
+            last: Some(2),
+            append: 1,
+            ..NONE
+        },
+    },
+    Row {
+        rewritten: &[Run(0, 2)],
+        appended: &[Truncate(1), Run(2, 3)],
+        shape: Shape {
+            table: true,
+            first: Some(2),
+            last: Some(2),
+            append: 1,
+            ..NONE
+        },
+    },
+    // Without appended entries the rewritten ones needn't reach the cut.
+    Row {
+        rewritten: &[Run(0, 1)],
+        appended: &[Truncate(2)],
+        shape: Shape {
+            table: true,
+            first: Some(0),
+            last: Some(0),
+            rewrite: 1,
+            ..NONE
+        },
+    },
+    Row {
+        rewritten: &[],
+        appended: &[Truncate(5)],
+        shape: Shape {
+            table: true,
             ..NONE
         },
     },

@@ -18,7 +18,7 @@ fn commands(rt: HostRuntime) {
     assert!(rt; answer.is_ok());
 }
 
-/// Commands are written as these bytes, and read of them.
+/// Commands are written as these bytes, and read of them, and others are refused.
 fn commands_are_their_bytes(rt: &impl Abort, alloc: Global) -> Result<()> {
     for (command, bytes) in &[
         (Command::Clean, b"\x01".as_slice()),
@@ -28,8 +28,22 @@ fn commands_are_their_bytes(rt: &impl Abort, alloc: Global) -> Result<()> {
             Command::Compact { index: u64::MAX },
             b"\x02\xff\xff\xff\xff\xff\xff\xff\xff\xff\x01".as_slice(),
         ),
+        (Command::Truncate { index: 7 }, b"\x03\x07".as_slice()),
+        (Command::Truncate { index: 300 }, b"\x03\xac\x02".as_slice()),
     ] {
         assert!(rt; is_command(alloc, command, bytes)?, "{bytes:?}");
+    }
+    for &(bytes, fault) in &[
+        (b"".as_slice(), Read::Codec),
+        (b"\x02".as_slice(), Read::Codec),
+        (b"\x03".as_slice(), Read::Codec),
+        (b"\x03\xac".as_slice(), Read::Codec),
+        (
+            b"\x04\x07".as_slice(),
+            Read::Unrecognized("Unrecognized command type: 4"),
+        ),
+    ] {
+        assert!(rt; is_no_command(alloc, bytes, fault)?, "{bytes:?}");
     }
     Ok(())
 }
@@ -41,6 +55,16 @@ fn is_command(alloc: Global, command: &Command, bytes: &[u8]) -> Result<bool> {
     let mut rest = bytes;
     let read = Command::decode(alloc, &mut rest)?;
     Ok(buf.as_slice() == bytes && read == *command && rest.is_empty())
+}
+
+/// Whether bytes are refused as a command, and left as they are.
+fn is_no_command(alloc: Global, bytes: &[u8], fault: Read) -> Result<bool> {
+    let mut rest = bytes;
+    match Command::decode(alloc, &mut rest) {
+        Ok(_) => Ok(false),
+        Err(Error::Memory) => Err(Error::Memory),
+        Err(error) => Ok(is_fault(fault, &error) && rest == bytes),
+    }
 }
 
 /// A change of one key.
@@ -248,7 +272,7 @@ fn is_fault(read: Read, e: &Error) -> bool {
 /// Bytes, and what is read in front of them.
 type ItemRow = (&'static [u8], Read);
 
-static ITEMS: [ItemRow; 31] = [
+static ITEMS: [ItemRow; 35] = [
     (b"", Read::Codec),
     (b"\x01", Read::Io),
     (b"\x01\x01", Read::Codec),
@@ -256,9 +280,13 @@ static ITEMS: [ItemRow; 31] = [
     (b"\x01\x01\x02\x01", Read::Codec),
     (b"\x01\x02\x01", Read::Item(0, 0)),
     (b"\x01\x02\x02", Read::Codec),
+    (b"\x01\x02\x03", Read::Codec),
+    (b"\x01\x02\x03\x07", Read::Item(0, 0)),
+    (b"\x01\x02\x03\xac", Read::Codec),
+    (b"\x01\x02\x03\xac\x02", Read::Item(0, 0)),
     (
-        b"\x01\x02\x03",
-        Read::Unrecognized("Unrecognized command type: 3"),
+        b"\x01\x02\x04\x07",
+        Read::Unrecognized("Unrecognized command type: 4"),
     ),
     (b"\x01\x01\x02\x07", Read::Codec),
     (b"\x01\x02", Read::Codec),

@@ -5,16 +5,18 @@ mod histories;
 mod kept;
 mod rows;
 mod shared;
+mod truncations;
 
 use histories::{APPENDED, APPENDED_LINES, HOLE, REWRITTEN, REWRITTEN_LINES};
 use raft_base::{Error, FileId, FileSeq, LogQueue, Result, Version};
-use raft_memtable::{MemTableRecoverContext, MemTableRecoverContextFactory};
+use raft_memtable::{MemTableAccessor, MemTableRecoverContext, MemTableRecoverContextFactory};
 use raft_records::{FilePart, LogItemBatch};
 use raft_recover::recovered::recovered_text;
 use raft_recover::{Plan, Segment, recover, recover_bytes, replay_scheduled};
 use rows::{Row, rows};
 use std::alloc::Global;
 use std::thread::Threads;
+use truncations::{TRUNCATED_LINES, TRUNCATION, truncations};
 
 /// The bytes that digits in base 16 spell.
 fn bytes_of(alloc: Global, digits: &str) -> Result<Vec<u8>> {
@@ -100,15 +102,24 @@ fn push_part(
     Ok(())
 }
 
-/// Whether a history has these lines at each cutting, on one to four workers.
+/// In how many ways so many batches can be cut.
+fn cuttings(batches: usize) -> u64 {
+    let mut cuttings = 1u64;
+    for _ in 1..batches {
+        cuttings = cuttings.saturating_mul(2);
+    }
+    cuttings
+}
+
+/// Whether a history has these lines at each cutting, on one to four workers; where there are none, whether it is refused.
 fn at_each_cutting<R: Threads + Sync>(
     rt: &R,
     alloc: Global,
     queue: LogQueue,
     batches: &[(FileSeq, &str)],
-    lines: &str,
+    lines: Option<&str>,
 ) -> Result<bool> {
-    for cuts in 0..128 {
+    for cuts in 0..cuttings(batches.len()) {
         let segments = cut(alloc, queue, batches, cuts)?;
         if !by_workers(rt, alloc, queue, segments.as_slice(), lines)? {
             return Ok(false);
@@ -117,16 +128,20 @@ fn at_each_cutting<R: Threads + Sync>(
     Ok(true)
 }
 
-/// Whether segments have these lines on one to four workers.
+/// Whether segments have these lines, or are refused, on one to four workers.
 fn by_workers<R: Threads + Sync>(
     rt: &R,
     alloc: Global,
     queue: LogQueue,
     segments: &[Segment],
-    lines: &str,
+    lines: Option<&str>,
 ) -> Result<bool> {
     for workers in 1..5 {
-        if lines_of(rt, alloc, queue, segments, workers)?.as_str() != lines {
+        let given = match lines_of(rt, alloc, queue, segments, workers) {
+            Err(Error::Corruption(_)) => None,
+            given => Some(given?),
+        };
+        if given.as_ref().map(|given| given.as_str()) != lines {
             return Ok(false);
         }
     }
@@ -150,28 +165,83 @@ fn no_cut_shows(rt: HostRuntime) {
         (LogQueue::Append, &APPENDED, APPENDED_LINES),
         (LogQueue::Rewrite, &REWRITTEN, REWRITTEN_LINES),
     ] {
-        let mut all = at_each_cutting(&rt, rt.alloc(), queue, batches.as_slice(), lines);
+        let mut all = at_each_cutting(&rt, rt.alloc(), queue, batches.as_slice(), Some(lines));
         if matches!(all, Err(Error::Memory)) {
-            all = at_each_cutting(&rt, rt.alloc(), queue, batches.as_slice(), lines);
+            all = at_each_cutting(&rt, rt.alloc(), queue, batches.as_slice(), Some(lines));
         }
         assert!(rt; matches!(all, Ok(true)));
     }
+}
+
+/// Whether a row's batches have its lines, or are refused, at each cutting.
+fn row_at_each_cutting<R: Threads + Sync>(rt: &R, alloc: Global, row: &Row) -> Result<bool> {
+    at_each_cutting(rt, alloc, row.queue, row.files, row.lines)
+}
+
+#[test]
+fn no_cut_of_truncations_shows(rt: HostRuntime) {
+    for row in truncations() {
+        let mut all = row_at_each_cutting(&rt, rt.alloc(), row);
+        if matches!(all, Err(Error::Memory)) {
+            all = row_at_each_cutting(&rt, rt.alloc(), row);
+        }
+        assert!(rt; matches!(all, Ok(true)));
+    }
+}
+
+/// The number of the file of an entry of region 1.
+fn file_of_entry(tables: &MemTableAccessor, index: u64) -> Option<FileSeq> {
+    let entry = tables.get(1)?.get_entry(index)?;
+    Some(entry.entries?.id.seq)
+}
+
+/// Whether, at each cutting of the first row, the entries below the truncation lie in its first file and those of the run behind
+/// it in its last.
+fn are_placed<R: Threads + Sync>(rt: &R, alloc: Global) -> Result<bool> {
+    let Some(row) = truncations().first() else {
+        return Ok(false);
+    };
+    for cuts in 0..cuttings(row.files.len()) {
+        let segments = cut(alloc, row.queue, row.files, cuts)?;
+        let tables = recover(rt, alloc, segments.as_slice(), row.queue, 2)?;
+        if (file_of_entry(&tables, 14), file_of_entry(&tables, 15)) != (Some(1), Some(3)) {
+            return Ok(false);
+        }
+    }
+    Ok(true)
+}
+
+#[test]
+fn a_run_behind_a_truncation_has_its_places(rt: HostRuntime) {
+    let mut placed = are_placed(&rt, rt.alloc());
+    if matches!(placed, Err(Error::Memory)) {
+        placed = are_placed(&rt, rt.alloc());
+    }
+    assert!(rt; matches!(placed, Ok(true)));
+}
+
+/// Whether the appended batches with a truncation behind them have their lines at each cutting.
+fn truncated_at_each_cutting<R: Threads + Sync>(rt: &R, alloc: Global) -> Result<bool> {
+    let mut batches = Vec::from_slice(alloc, APPENDED.as_slice())?;
+    batches.push(TRUNCATION)?;
+    let lines = Some(TRUNCATED_LINES);
+    at_each_cutting(rt, alloc, LogQueue::Append, batches.as_slice(), lines)
+}
+
+#[test]
+fn no_cut_shows_in_front_of_a_truncation(rt: HostRuntime) {
+    let mut all = truncated_at_each_cutting(&rt, rt.alloc());
+    if matches!(all, Err(Error::Memory)) {
+        all = truncated_at_each_cutting(&rt, rt.alloc());
+    }
+    assert!(rt; matches!(all, Ok(true)));
 }
 
 /// Whether the appended batches with a hole behind them are refused at each cutting.
 fn refused_at_each_cutting<R: Threads + Sync>(rt: &R, alloc: Global) -> Result<bool> {
     let mut batches = Vec::from_slice(alloc, APPENDED.as_slice())?;
     batches.push(HOLE)?;
-    for cuts in 0..256 {
-        let segments = cut(alloc, LogQueue::Append, batches.as_slice(), cuts)?;
-        let refused = recover(rt, alloc, segments.as_slice(), LogQueue::Append, 2);
-        match refused {
-            Err(Error::Corruption(_)) => {}
-            Err(error) => return Err(error),
-            Ok(_) => return Ok(false),
-        }
-    }
-    Ok(true)
+    at_each_cutting(rt, alloc, LogQueue::Append, batches.as_slice(), None)
 }
 
 #[test]

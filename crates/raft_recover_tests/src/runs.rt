@@ -17,7 +17,7 @@ const WORKERS: &str = "raftlog: refused: invalid-argument\n";
 /// Words, the input in base 16, the status, what is printed, and how the error stream begins.
 type Row = (&'static str, &'static str, u8, &'static str, &'static str);
 
-static ROWS: [Row; 21] = [
+static ROWS: [Row; 22] = [
     (OPEN, "010102015a800bdd", 0, "1 clean\nitems 1 rest 0\n", ""),
     (
         "batch append 0 1",
@@ -38,6 +38,13 @@ static ROWS: [Row; 21] = [
         "01ac020202808080808020d30bf641",
         0,
         "300 compact 1099511627776\nitems 1 rest 0\n",
+        "",
+    ),
+    (
+        OPEN,
+        "0101020307c6ab33f5",
+        0,
+        "1 truncate 7\nitems 1 rest 0\n",
         "",
     ),
     (

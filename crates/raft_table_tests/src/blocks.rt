@@ -1,7 +1,7 @@
 //! The blocks in which a table keeps its entries.
 
 use crate::store::Answer::{Done, Dropped};
-use crate::store::Call::{Append, Compact, Rewrite};
+use crate::store::Call::{Append, Compact, Rewrite, Truncate};
 use crate::store::{Answer, Call, LogStore, Run};
 use raft_table::{
     EntryIndex, Error, FileBlockHandle, FileId, FileSeq, LogQueue, MemTable, Result, TableChange,
@@ -108,6 +108,46 @@ static DIVIDED: [Row; 4] = [
     ),
 ];
 
+/// A truncation inside a block, at the border of two, inside the first, and of all entries.
+static TRUNCATED: [Row; 8] = [
+    (
+        Append(Run {
+            first: 10,
+            end: 20,
+            seq: 1,
+        }),
+        Done,
+        &[(1, 10)],
+    ),
+    (
+        Append(Run {
+            first: 20,
+            end: 30,
+            seq: 2,
+        }),
+        Done,
+        &[(1, 10), (2, 10)],
+    ),
+    (Truncate(30), Done, &[(1, 10), (2, 10)]),
+    (Truncate(25), Dropped(5), &[(1, 10), (2, 5)]),
+    (Truncate(20), Dropped(5), &[(1, 10)]),
+    (Truncate(11), Dropped(9), &[(1, 1)]),
+    (
+        Append(Run {
+            first: 11,
+            end: 13,
+            seq: 3,
+        }),
+        Done,
+        &[(1, 1), (3, 2)],
+    ),
+    (Truncate(10), Dropped(3), &[]),
+];
+
+fn truncated() -> &'static [Row] {
+    &TRUNCATED
+}
+
 fn overwritten() -> &'static [Row] {
     &OVERWRITTEN
 }
@@ -130,6 +170,7 @@ fn follow(rt: &impl Abort, alloc: Global, rows: &[Row]) {
 fn calls_divide_blocks(rt: HostRuntime) {
     follow(&rt, rt.alloc(), overwritten());
     follow(&rt, rt.alloc(), divided());
+    follow(&rt, rt.alloc(), truncated());
 }
 
 /// Two entries from an index on, in one block of the first file.

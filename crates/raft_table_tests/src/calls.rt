@@ -3,6 +3,7 @@
 use crate::store::Answer::{Corruption, Done, Dropped, Full, InvalidArgument};
 use crate::store::Call::{
     Append, Compact, Count, Delete, Group, Put, ReplayAppend, ReplayRewrite, Rewrite, RewriteKey,
+    Truncate,
 };
 use crate::store::{Answer, Call, LogStore, Run, Shape, has, of, told};
 use raft_table::{Error, LogQueue, Result};
@@ -78,6 +79,33 @@ fn compactions() -> [Row; 5] {
         (Compact(20), Dropped(15), has(20, 25).appended(5, 1)),
         (Compact(20), Done, has(20, 25).appended(5, 1)),
         (Compact(0), Done, has(20, 25).appended(5, 1)),
+    ]
+}
+
+/// In the second half the entries below 10 are rewritten.
+fn truncations() -> [Row; 9] {
+    [
+        (Append(of(0, 25, 1)), Done, has(0, 25).appended(25, 1)),
+        (Truncate(20), Dropped(5), has(0, 20).appended(20, 1)),
+        (Truncate(20), Done, has(0, 20).appended(20, 1)),
+        (Truncate(0), Dropped(20), has(0, 0)),
+        (Truncate(0), Done, has(0, 0)),
+        (
+            ReplayRewrite(of(0, 10, 50)),
+            Done,
+            has(0, 10).rewritten(10, 0, 50),
+        ),
+        (
+            Append(of(10, 20, 2)),
+            Done,
+            has(0, 20).appended(10, 2).rewritten(10, 0, 50),
+        ),
+        (Truncate(5), Dropped(15), has(0, 5).rewritten(10, 5, 50)),
+        (
+            Append(of(5, 8, 3)),
+            Done,
+            has(0, 8).appended(3, 3).rewritten(10, 5, 50),
+        ),
     ]
 }
 
@@ -215,6 +243,7 @@ fn calls_change_the_store(rt: HostRuntime) {
     follow(&rt, rt.alloc(), &appends());
     follow(&rt, rt.alloc(), &starts());
     follow(&rt, rt.alloc(), &compactions());
+    follow(&rt, rt.alloc(), &truncations());
     follow(&rt, rt.alloc(), &rewritings());
     follow(&rt, rt.alloc(), &keys());
     follow(&rt, rt.alloc(), &groups());

@@ -48,12 +48,26 @@ enum Call {
     ReplayRewrite(Run),
     Rewrite(Run, Option<FileSeq>),
     Compact(u64),
+    Truncate(u64),
     /// The table of a run is merged as the newer neighbor.
     MergeNewer(LogQueue, Run),
     /// The table of a run is merged as the appended one.
     MergeAppended(Run),
-    /// The table of a run is merged under a mark, before whose run the entries below an index are dropped.
-    MergeUnder(LogQueue, u64, Run),
+    /// The table of a run is merged under a mark, before whose run the entries off some bounds are dropped.
+    MergeUnder(LogQueue, Bounds, Run),
+}
+
+/// The entries that a compaction and a truncation leave: from the first index on, and below the second.
+#[derive(Clone, Copy, Debug)]
+struct Bounds {
+    floor: u64,
+    cut: u64,
+}
+
+impl Bounds {
+    fn hold(&self, entry: &EntryIndex) -> bool {
+        self.floor <= entry.index && entry.index < self.cut
+    }
 }
 
 impl Run {
@@ -91,7 +105,11 @@ impl Call {
         let run = Run::random(numbers, list, call);
         let gate = 1 + numbers.below(3);
         let index = list.start().saturating_add(numbers.below(3));
-        match numbers.below(24) {
+        let bounds = Bounds {
+            floor: index,
+            cut: run.first.saturating_add(numbers.below(4)).saturating_sub(2),
+        };
+        match numbers.below(26) {
             0..=5 => Call::Append(run),
             6 => Call::ReplayAppend(run),
             7 => Call::ReplayRewrite(run),
@@ -101,8 +119,9 @@ impl Call {
             19 => Call::MergeNewer(LogQueue::Append, run),
             20 => Call::MergeNewer(LogQueue::Rewrite, run),
             21 => Call::MergeAppended(run),
-            22 => Call::MergeUnder(LogQueue::Rewrite, index, run),
-            _ => Call::MergeUnder(LogQueue::Append, index, run),
+            22 => Call::MergeUnder(LogQueue::Rewrite, bounds, run),
+            23..=24 => Call::MergeUnder(LogQueue::Append, bounds, run),
+            _ => Call::Truncate(run.first),
         }
     }
 }
@@ -172,7 +191,11 @@ fn make(alloc: Global, store: &mut LogStore, call: Call) -> Result<()> {
         Call::MergeAppended(run) => {
             store.merge(&mut table_of(alloc, LogQueue::Append, run)?, true)
         }
-        Call::MergeUnder(queue, floor, run) => merge_under(alloc, store, queue, floor, run),
+        Call::Truncate(index) => {
+            store.table.truncate_from(index, &mut store.stats);
+            Ok(())
+        }
+        Call::MergeUnder(queue, bounds, run) => merge_under(alloc, store, queue, bounds, run),
     }
 }
 
@@ -181,11 +204,12 @@ fn merge_under(
     alloc: Global,
     store: &mut LogStore,
     queue: LogQueue,
-    floor: u64,
+    bounds: Bounds,
     run: Run,
 ) -> Result<()> {
     let mut mark = Mark::new(alloc);
-    mark.add_compaction(floor);
+    mark.add_compaction(bounds.floor);
+    mark.add_truncation(bounds.cut);
     mark.add_run(queue, 0, run.first);
     store.merge_under(queue, &mut table_of(alloc, queue, run)?, &mark)
 }
@@ -213,6 +237,14 @@ fn may_move(entry: &EntryIndex, gate: Option<FileSeq>) -> bool {
     }
 }
 
+/// The index behind the last entry, 0 where there is none.
+fn end_of(last: Option<&EntryIndex>) -> u64 {
+    match last {
+        Some(last) => last.index.saturating_add(1),
+        None => 0,
+    }
+}
+
 impl List {
     /// The least index, 0 without entries.
     fn start(&self) -> u64 {
@@ -224,10 +256,12 @@ impl List {
 
     /// The greatest index plus one, 0 without entries.
     fn end(&self) -> u64 {
-        match self.entries.last() {
-            Some(last) => last.index.saturating_add(1),
-            None => 0,
-        }
+        end_of(self.entries.last())
+    }
+
+    /// The end of the entries within bounds, 0 where there are none.
+    fn end_within(&self, bounds: Bounds) -> u64 {
+        end_of(self.entries.iter().filter(|e| bounds.hold(e)).last())
     }
 
     fn get(&self, index: u64) -> Option<EntryIndex> {
@@ -283,12 +317,16 @@ impl List {
             }
             Call::ReplayAppend(run) => self.meets(run),
             Call::Rewrite(run, gate) => self.may_rewrite(run, gate),
-            Call::Compact(_) => true,
+            Call::Compact(_) | Call::Truncate(_) => true,
             Call::MergeNewer(LogQueue::Append, run) => !rewritten && self.meets(run),
-            Call::MergeUnder(LogQueue::Append, floor, run) => {
-                self.end() <= floor || self.meets(run)
+            Call::MergeUnder(LogQueue::Append, bounds, run) => {
+                let end = self.end_within(bounds);
+                end == 0 || run.first <= end
             }
-            _ => !appended,
+            Call::ReplayRewrite(_)
+            | Call::MergeNewer(LogQueue::Rewrite, _)
+            | Call::MergeAppended(_)
+            | Call::MergeUnder(LogQueue::Rewrite, ..) => !appended,
         }
     }
 
@@ -310,8 +348,12 @@ impl List {
                 self.entries.retain(|e| e.index >= index);
                 Ok(())
             }
-            Call::MergeUnder(queue, floor, run) => {
-                self.entries.retain(|e| e.index >= floor);
+            Call::Truncate(index) => {
+                self.entries.retain(|e| e.index < index);
+                Ok(())
+            }
+            Call::MergeUnder(queue, bounds, run) => {
+                self.entries.retain(|e| bounds.hold(e));
                 self.put(queue, run)
             }
         }

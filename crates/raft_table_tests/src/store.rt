@@ -42,6 +42,7 @@ pub enum Call {
     /// With the gate.
     Rewrite(Run, Option<FileSeq>),
     Compact(u64),
+    Truncate(u64),
     Put(LogQueue, FileSeq),
     Delete,
     RewriteKey(Option<FileSeq>, FileSeq),
@@ -115,7 +116,7 @@ impl Shape {
     }
 }
 
-/// What a call answered, but for the number of a compaction that drops nothing.
+/// What a call answered, but for the number of a compaction or a truncation that drops nothing.
 pub fn answered(given: Result<u64>) -> Answer {
     match given {
         Ok(0) => Answer::Done,
@@ -194,6 +195,7 @@ impl LogStore {
                 gate,
             }),
             Call::Compact(index) => Some(TableChange::Compact { index }),
+            Call::Truncate(index) => Some(TableChange::Truncate { index }),
             Call::Put(queue, seq) => Some(TableChange::Put {
                 key: self.bytes(b"k")?,
                 value: self.bytes(b"v")?,
@@ -207,7 +209,8 @@ impl LogStore {
                 gate,
                 seq,
             }),
-            _ => None,
+            Call::ReplayAppend(_) | Call::ReplayRewrite(_) | Call::Group(..) | Call::Count(..) =>
+                None,
         })
     }
 
@@ -231,6 +234,7 @@ impl LogStore {
                 self.table.rewrite(entries, gate, &mut self.stats)?;
             }
             Call::Compact(index) => return Ok(self.table.compact_to(index, &mut self.stats)),
+            Call::Truncate(index) => return Ok(self.table.truncate_from(index, &mut self.stats)),
             Call::Put(queue, seq) => {
                 let (key, value) = (self.bytes(b"k")?, self.bytes(b"v")?);
                 let file = FileId::new(queue, seq);

@@ -34,6 +34,7 @@ const FRESH: u64 = 4;
 #[derive(Clone, Copy)]
 enum Flaw {
     Compaction,
+    Truncation,
     Deletion,
     NoValue,
 }
@@ -43,6 +44,8 @@ enum Flaw {
 enum Items {
     New,
     Hole,
+    /// Of three regions: with a table of the append queue, with a rewritten one, and without one.
+    Truncated,
     Rewritten(u64),
     Flawed(Flaw),
 }
@@ -52,6 +55,8 @@ enum Items {
 enum Call {
     Nothing,
     WithTableMut(u64),
+    /// From an index on.
+    Truncate(u64, u64),
     Put(u64),
     /// Entries from an index to below another, in a file.
     Append(u64, u64, FileId),
@@ -67,10 +72,13 @@ enum Call {
 }
 
 /// Calls, each with its fault where it is refused.
-static CALLS: [(Call, Option<Fault>); 27] = [
+static CALLS: [(Call, Option<Fault>); 32] = [
     (Call::Nothing, None),
     (Call::WithTableMut(REGION), None),
     (Call::WithTableMut(FRESH), None),
+    (Call::Truncate(REGION, 15), None),
+    (Call::Truncate(2, 12), None),
+    (Call::Truncate(FRESH, 5), None),
     (Call::Put(REGION), None),
     (Call::Put(FRESH), None),
     (Call::Append(30, 32, NEW), Some(Fault::Corruption)),
@@ -87,6 +95,7 @@ static CALLS: [(Call, Option<Fault>); 27] = [
     (Call::Remove(REGION, false), None),
     (Call::Remove(FRESH, false), None),
     (Call::AppendWrites(Items::New), None),
+    (Call::AppendWrites(Items::Truncated), None),
     (Call::AppendWrites(Items::Hole), Some(Fault::Corruption)),
     (
         Call::RewriteWrites(Items::Rewritten(REGION), Some(1), 40),
@@ -101,6 +110,10 @@ static CALLS: [(Call, Option<Fault>); 27] = [
     (Call::RewriteWrites(Items::Rewritten(2), None, 60), None),
     (
         Call::RewriteWrites(Items::Flawed(Flaw::Compaction), Some(1), 40),
+        Some(Fault::Corruption),
+    ),
+    (
+        Call::RewriteWrites(Items::Flawed(Flaw::Truncation), Some(1), 40),
         Some(Fault::Corruption),
     ),
     (
@@ -152,6 +165,15 @@ fn items_with_hole(alloc: Global) -> Result<Vec<LogItem>> {
     Ok(items)
 }
 
+/// Truncations of three regions.
+fn truncated_items(alloc: Global) -> Result<Vec<LogItem>> {
+    let mut items = Vec::new(alloc);
+    for &(region, index) in &[(REGION, 15), (2, 13), (FRESH, 5)] {
+        items.push(LogItem::new_command(region, Command::Truncate { index }))?;
+    }
+    Ok(items)
+}
+
 /// Entries and a key of a region that were rewritten.
 fn rewritten_items(alloc: Global, region: u64) -> Result<Vec<LogItem>> {
     let mut items = Vec::new(alloc);
@@ -164,6 +186,7 @@ fn flawed(alloc: Global, flaw: Flaw) -> Result<LogItem> {
     let key = Vec::from_slice(alloc, b"k".as_slice())?;
     match flaw {
         Flaw::Compaction => Ok(LogItem::new_command(REGION, Command::Compact { index: 12 })),
+        Flaw::Truncation => Ok(LogItem::new_command(REGION, Command::Truncate { index: 12 })),
         Flaw::Deletion => Ok(LogItem::new_kv(REGION, OpType::Del, key, None)),
         Flaw::NoValue => Ok(LogItem::new_kv(REGION, OpType::Put, key, None)),
     }
@@ -181,6 +204,7 @@ fn items_of(alloc: Global, items: Items) -> Result<Vec<LogItem>> {
     match items {
         Items::New => new_items(alloc),
         Items::Hole => items_with_hole(alloc),
+        Items::Truncated => truncated_items(alloc),
         Items::Rewritten(region) => rewritten_items(alloc, region),
         Items::Flawed(flaw) => items_with_flaw(alloc, flaw),
     }
@@ -251,6 +275,7 @@ fn call_core(alloc: Global, core: &mut MemTableAccessor, call: Call) -> Result<A
     match call {
         Call::Nothing => Ok((0, None)),
         Call::WithTableMut(id) => numbered(core.change(id, TableChange::Compact { index: 15 })),
+        Call::Truncate(id, index) => numbered(core.change(id, TableChange::Truncate { index })),
         Call::Put(id) => numbered(core.change(id, put(alloc, b"n".as_slice())?)),
         Call::Append(start, end, file) => {
             numbered(core.change(REGION, TableChange::Append(run(alloc, start, end, file)?)))
@@ -282,6 +307,9 @@ fn call_shared<R: Wait>(
         Call::WithTableMut(id) => {
             let compaction = |_: &MemTable| TableChange::Compact { index: 15 };
             numbered(shared.with_table_mut(rt, id, compaction))
+        }
+        Call::Truncate(id, index) => {
+            numbered(shared.change(rt, id, TableChange::Truncate { index }))
         }
         Call::Put(id) => numbered(shared.change(rt, id, put(alloc, b"n".as_slice())?)),
         Call::Append(start, end, file) => {

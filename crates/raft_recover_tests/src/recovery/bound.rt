@@ -157,6 +157,10 @@ impl<'a> Reading<'a> {
                 self.compact(region, *index);
                 Ok(())
             }
+            LogItemContent::Command(Command::Truncate { index }) => {
+                self.truncate(region, *index);
+                Ok(())
+            }
             LogItemContent::Command(Command::Clean) => {
                 self.clean(region);
                 Ok(())
@@ -168,6 +172,11 @@ impl<'a> Reading<'a> {
     fn compact(&mut self, region: u64, index: u64) {
         self.entries
             .retain(|e| e.region != region || e.index >= index);
+    }
+
+    fn truncate(&mut self, region: u64, index: u64) {
+        self.entries
+            .retain(|e| e.region != region || e.index < index);
     }
 
     fn clean(&mut self, region: u64) {

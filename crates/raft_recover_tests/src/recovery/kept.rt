@@ -3,7 +3,8 @@
 use super::bound::{Written, bound_of};
 use super::histories::{APPENDED, APPENDED_LINES, REWRITTEN, REWRITTEN_LINES};
 use super::rows::{self, BESIDE};
-use super::{bytes_of, recovered_text};
+use super::truncations::{TRUNCATED_LINES, TRUNCATION, truncations};
+use super::{bytes_of, cuttings, recovered_text};
 use raft_base::{Error, FileId, FileSeq, LogQueue, Result, Version};
 use raft_memtable::{Kept, MemTableRecoverContext};
 use raft_records::{FilePart, next_batch};
@@ -79,15 +80,6 @@ impl History {
             at = next;
         }
         Ok(())
-    }
-
-    /// In how many ways the history can be cut.
-    fn cuttings(&self) -> u64 {
-        let mut cuttings = 1u64;
-        for _ in 1..self.batches.len() {
-            cuttings = cuttings.saturating_mul(2);
-        }
-        cuttings
     }
 
     /// Refuses a piece whose context holds more than it may, as `Failed`.
@@ -184,10 +176,10 @@ impl History {
         }
     }
 
-    /// Merges at most eight pieces by halves.
+    /// Merges at most sixteen pieces by halves.
     fn by_halves(&self, pieces: Vec<Piece>) -> Result<Option<Piece>> {
         let mut pieces = pieces;
-        for _ in 0..3 {
+        for _ in 0..4 {
             pieces = self.paired(pieces)?;
         }
         self.from_left(pieces)
@@ -227,7 +219,7 @@ impl History {
 
     /// Whether the history has these lines, or is refused, at each cutting, merged in each order.
     fn at_each_cutting(&self, lines: Option<&str>) -> Result<bool> {
-        for cuts in 0..self.cuttings() {
+        for cuts in 0..cuttings(self.batches.len()) {
             for &order in &ORDERS {
                 if !self.holds(cuts, order, lines)? {
                     return Ok(false);
@@ -239,7 +231,7 @@ impl History {
 
     /// Whether at most one item waits in the whole, at each cutting, merged in each order.
     fn leaves_one_item(&self) -> Result<bool> {
-        for cuts in 0..self.cuttings() {
+        for cuts in 0..cuttings(self.batches.len()) {
             for &order in &ORDERS {
                 let Some(whole) = self.whole(cuts, order)? else {
                     return Ok(false);
@@ -272,6 +264,30 @@ fn all_hold_little(
 /// Whether all contexts of a row's files hold little, and the merged ones have its lines.
 fn row_holds_little(alloc: Global, row: &rows::Row) -> Result<bool> {
     all_hold_little(alloc, row.queue, row.version, row.files, row.lines)
+}
+
+#[test]
+fn merged_truncations_hold_little(rt: HostRuntime) {
+    for row in truncations() {
+        let mut all = row_holds_little(rt.alloc(), row);
+        if matches!(all, Err(Error::Memory)) {
+            all = row_holds_little(rt.alloc(), row);
+        }
+        assert!(rt; matches!(all, Ok(true)));
+    }
+    let mut all = truncated_holds_little(rt.alloc());
+    if matches!(all, Err(Error::Memory)) {
+        all = truncated_holds_little(rt.alloc());
+    }
+    assert!(rt; matches!(all, Ok(true)));
+}
+
+/// Whether all contexts of the appended batches with a truncation behind them hold little.
+fn truncated_holds_little(alloc: Global) -> Result<bool> {
+    let mut batches = Vec::from_slice(alloc, APPENDED.as_slice())?;
+    batches.push(TRUNCATION)?;
+    let queue = LogQueue::Append;
+    batches_hold_little(alloc, queue, batches.as_slice(), TRUNCATED_LINES)
 }
 
 #[test]

@@ -29,56 +29,57 @@ some_is_there t = refl
 pub record InSlot (a b : Inside) (id i : ℕ) (d slot : Tables) (after : Counts) : Type 0 where
   pub at : i ≡ slot_of id
   pub bound : i < 128
-  pub slots : b.slots ≡ slice_set a.slots i slot
+  pub lent : d ≡ slice_index_or a.slots.items i d
+  pub slots : b.slots.items ≡ slice_set a.slots.items i slot
   pub stats : b.stats ≡ after
-  pub one : slot ≡ with_table (slice_index_or a.slots i d) id (finite.get slot id)
-  pub recounted : IsRecounted (table_in (slice_index_or a.slots i d) id) (table_in slot id) a.stats after
+  pub one : slot ≡ with_table d id (finite.get slot id)
+  pub recounted : IsRecounted (table_in d id) (table_in slot id) a.stats after
 
 module _ (a b : Inside) (id i : ℕ) (d slot : Tables) (after : Counts) (kept : IsAccessorKept a) (h : InSlot a b id i d slot after) where
   changed : IsChanged a b id i d (finite.get slot id)
-  changed = record { at = h.at; bound = h.bound; slots = h.slots ∙ ap (slice_set a.slots i) h.one; counts = subst (λ s. IsRecounted (table_in (slice_index_or a.slots i d) id) (table_in slot id) a.stats s) (sym h.stats) h.recounted }
+  changed = record { at = h.at; bound = h.bound; lent = h.lent; slots = h.slots ∙ ap (slice_set a.slots.items i) h.one; counts = subst (λ s. IsRecounted (table_in d id) (table_in slot id) a.stats s) (sym h.stats) h.recounted }
 
   pub kept-in : IsAccessorKept b
   kept-in = kept-changed a b id i d (finite.get slot id) kept changed
 
   module _ (r : Accessor) (is : accessor_shown a ≡ r) where
-    pub was : finite.get r.tables id ≡ finite.get (slice_index_or a.slots i d) id
-    was = get-shown a r id i d kept is h.at h.bound
+    pub was : finite.get r.tables id ≡ finite.get d id
+    was = get-shown a r id i d kept is h.at h.bound h.lent
 
-    pub tables-are : together b.slots ≡ with_table r.tables id (finite.get slot id)
+    pub tables-are : together b.slots.items ≡ with_table r.tables id (finite.get slot id)
     tables-are = shown-changed a b r id i d (finite.get slot id) kept is changed
 
-    pub now : finite.get (together b.slots) id ≡ finite.get slot id
+    pub now : finite.get (together b.slots.items) id ≡ finite.get slot id
     now = ap (λ m. finite.get m id) tables-are ∙ with_own r.tables id (finite.get slot id)
 
-    pub unchanged : slot ≡ slice_index_or a.slots i d → together b.slots ≡ r.tables
+    pub unchanged : slot ≡ d → together b.slots.items ≡ r.tables
     unchanged e = tables-are ∙ ap (with_table r.tables id) (ap (λ m. finite.get m id) e ∙ sym was) ∙ with_same r.tables id
 
     -- what is said of the table before and after
-    pub answers-in : {R : Type 0} (P : Table → Table → R → Type 0) (res : Result R Error) → IfOk res (P (table_in (slice_index_or a.slots i d) id) (table_in slot id)) → IfOk res (P (table_in r.tables id) (table_in (together b.slots) id))
-    answers-in P res p = subst (λ t. IfOk res (P t (table_in (together b.slots) id))) (sym (ap (table_of id) was)) (subst (λ t. IfOk res (P (table_in (slice_index_or a.slots i d) id) t)) (sym (ap (table_of id) now)) p)
+    pub answers-in : {R : Type 0} (P : Table → Table → R → Type 0) (res : Result R Error) → IfOk res (P (table_in d id) (table_in slot id)) → IfOk res (P (table_in r.tables id) (table_in (together b.slots.items) id))
+    answers-in P res p = subst (λ t. IfOk res (P t (table_in (together b.slots.items) id))) (sym (ap (table_of id) was)) (subst (λ t. IfOk res (P (table_in d id) t)) (sym (ap (table_of id) now)) p)
 
     -- a change of a table
-    pub changed-in : {R : Type 0} (outcome : Table → Option Table) (IsFault : Table → Counts → Error → Type 0) (res : Result R Error) → IsTaken (outcome (table_in (slice_index_or a.slots i d) id)) (IsFault (table_in (slice_index_or a.slots i d) id) a.stats) (slice_index_or a.slots i d) id a.stats res slot after
+    pub changed-in : {R : Type 0} (outcome : Table → Option Table) (IsFault : Table → Counts → Error → Type 0) (res : Result R Error) → IsTaken (outcome (table_in d id)) (IsFault (table_in d id) a.stats) d id a.stats res slot after
         → b.cleaned.items ≡ a.cleaned.items → IsTableChanged (outcome (table_in r.tables id)) (IsFault (table_in r.tables id) r.counts) id res r (accessor_shown b)
     changed-in outcome IsFault res t l =
-        let old : table_in (slice_index_or a.slots i d) id ≡ table_in r.tables id = sym (ap (table_of id) was) in
-        let new : table_in (together b.slots) id ≡ table_in slot id = ap (table_of id) now in
+        let old : table_in d id ≡ table_in r.tables id = sym (ap (table_of id) was) in
+        let new : table_in (together b.slots.items) id ≡ table_in slot id = ap (table_of id) now in
         record {
-          ok = subst (λ t. OnOk res (outcome t ≡ Some (table_in (together b.slots) id))) old (subst (λ t. OnOk res (outcome (table_in (slice_index_or a.slots i d) id) ≡ Some t)) (sym new) t.ok);
-          others = elim res as (λ res. OnOk res (finite.get slot id ≡ Some (table_in slot id)) → OnOk res (together b.slots ≡ finite.insert r.tables id (table_in (together b.slots) id))) [
+          ok = subst (λ t. OnOk res (outcome t ≡ Some (table_in (together b.slots.items) id))) old (subst (λ t. OnOk res (outcome (table_in d id) ≡ Some t)) (sym new) t.ok);
+          others = elim res as (λ res. OnOk res (finite.get slot id ≡ Some (table_in slot id)) → OnOk res (together b.slots.items ≡ finite.insert r.tables id (table_in (together b.slots.items) id))) [
             | Ok x ↦ λ e. tables-are ∙ ap (with_table r.tables id) e ∙ ap (finite.insert r.tables id) (sym new)
             | Err x ↦ λ e. tt
           ] t.there;
-          err = elim res as (λ res. OnErr res (slot ≡ slice_index_or a.slots i d) → OnErr res (together b.slots ≡ r.tables)) [ Ok x ↦ λ e. tt | Err x ↦ λ e. unchanged e ] t.err;
+          err = elim res as (λ res. OnErr res (slot ≡ d) → OnErr res (together b.slots.items ≡ r.tables)) [ Ok x ↦ λ e. tt | Err x ↦ λ e. unchanged e ] t.err;
           counts_err = elim res as (λ res. OnErr res (after ≡ a.stats) → OnErr res (b.stats ≡ r.counts)) [ Ok x ↦ λ e. tt | Err x ↦ λ e. h.stats ∙ e ∙ ap (λ (x : Accessor). x.counts) is ] t.counts_err;
           fault = subst (λ c. IfErr res (λ e. (e ≡ Memory) ⊎ IsFault (table_in r.tables id) c e)) (ap (λ (x : Accessor). x.counts) is) (subst (λ u. IfErr res (λ e. (e ≡ Memory) ⊎ IsFault u a.stats e)) old t.fault);
           cleaned = l ∙ ap (λ (x : Accessor). x.cleaned) is;
         }
 
     -- a merge of a table
-    pub merged-in : {R : Type 0} {IsFault : Error → Type 0} (merge : Table → Table → Option Table) (newer : Table) (res : Result R Error) → IsTableMerged (merge (table_in (slice_index_or a.slots i d) id) newer) IsFault (slice_index_or a.slots i d) id a.stats res slot after
-        → OnOk res (IsMergedAt merge id (finite.get r.tables id) (Some newer) (finite.get (together b.slots) id))
+    pub merged-in : {R : Type 0} {IsFault : Error → Type 0} (merge : Table → Table → Option Table) (newer : Table) (res : Result R Error) → IsTableMerged (merge (table_in d id) newer) IsFault d id a.stats res slot after
+        → OnOk res (IsMergedAt merge id (finite.get r.tables id) (Some newer) (finite.get (together b.slots.items) id))
     merged-in merge newer (Err x) t = tt
     merged-in merge newer (Ok x) t = (
       ap (λ o. merge (table_of id o) newer) was ∙ t.ok ∙ sym t.there ∙ sym now,
@@ -86,28 +87,28 @@ module _ (a b : Inside) (id i : ℕ) (d slot : Tables) (after : Counts) (kept : 
     )
 
     -- or a refusal
-    pub refused-in : {R : Type 0} (IsFault : Counts → Table → Error → Type 0) (outcome : Option Table) (res : Result R Error) → IsTableMerged outcome (IsFault after (table_in (slice_index_or a.slots i d) id)) (slice_index_or a.slots i d) id a.stats res slot after
+    pub refused-in : {R : Type 0} (IsFault : Counts → Table → Error → Type 0) (outcome : Option Table) (res : Result R Error) → IsTableMerged outcome (IsFault after (table_in d id)) d id a.stats res slot after
         → IfErr res (λ e. (e ≡ Memory) ⊎ IsFault b.stats (table_in r.tables id) e)
     refused-in IsFault outcome res t =
         subst (λ k. IfErr res (λ e. (e ≡ Memory) ⊎ IsFault k (table_in r.tables id) e)) (sym h.stats) (subst (λ o. IfErr res (λ e. (e ≡ Memory) ⊎ IsFault after (table_of id o) e)) (sym was) t.fault)
 
     -- which leaves the table
-    pub left-in : {R : Type 0} {IsFault : Error → Type 0} (outcome : Option Table) (res : Result R Error) → IsTableMerged outcome IsFault (slice_index_or a.slots i d) id a.stats res slot after
-        → IfErr res (λ e. e ≢ Memory → table_in (together b.slots) id ≡ table_in r.tables id)
+    pub left-in : {R : Type 0} {IsFault : Error → Type 0} (outcome : Option Table) (res : Result R Error) → IsTableMerged outcome IsFault d id a.stats res slot after
+        → IfErr res (λ e. e ≢ Memory → table_in (together b.slots.items) id ≡ table_in r.tables id)
     left-in outcome (Ok x) t = tt
     left-in outcome (Err x) t = λ k. ap (table_of id) now ∙ t.err k ∙ sym (ap (table_of id) was)
 
-    pub alone-in : together b.slots ≡ with_table r.tables id (finite.get (together b.slots) id)
+    pub alone-in : together b.slots.items ≡ with_table r.tables id (finite.get (together b.slots.items) id)
     alone-in = tables-are ∙ ap (with_table r.tables id) (sym now)
 
 -- an item written to its region's table
 module _ (a b : Inside) (item : Item) (i : ℕ) (d slot : Tables) (after : Counts) (kept : IsAccessorKept a) (h : InSlot a b item.raft_group_id i d slot after) (r : Accessor) (is : accessor_shown a ≡ r) where
-  here : finite.get r.tables item.raft_group_id ≡ finite.get (slice_index_or a.slots i d) item.raft_group_id
-  here = get-shown a r item.raft_group_id i d kept is h.at h.bound
+  here : finite.get r.tables item.raft_group_id ≡ finite.get d item.raft_group_id
+  here = get-shown a r item.raft_group_id i d kept is h.at h.bound h.lent
 
-  pub written-in : (w : Writing) (res : Result Unit Error) → IsItemWritten w item (slice_index_or a.slots i d) a.stats a.cleaned.items res slot after b.cleaned.items → IsWritten w item res r (accessor_shown b)
+  pub written-in : (w : Writing) (res : Result Unit Error) → IsItemWritten w item d a.stats a.cleaned.items res slot after b.cleaned.items → IsWritten w item res r (accessor_shown b)
   written-in w res t = record {
-    ok = elim res as (λ res. IsItemWritten w item (slice_index_or a.slots i d) a.stats a.cleaned.items res slot after b.cleaned.items → OnOk res (AreWritten w (item ∷ []) r (accessor_shown b))) [
+    ok = elim res as (λ res. IsItemWritten w item d a.stats a.cleaned.items res slot after b.cleaned.items → OnOk res (AreWritten w (item ∷ []) r (accessor_shown b))) [
       | Ok x ↦ λ t. record {
         asked = (t.asked, tt);
         accepted = (subst (λ o. MixesQueues w (table_of item.raft_group_id o) item.content → ⊥) (sym here) t.accepted, λ u e. tt);
@@ -116,7 +117,7 @@ module _ (a b : Inside) (item : Item) (i : ℕ) (d slot : Tables) (after : Count
       }
       | Err x ↦ λ t. tt
     ] t;
-    err = elim res as (λ res. OnErr res (slot ≡ slice_index_or a.slots i d) → OnErr res (together b.slots ≡ r.tables)) [
+    err = elim res as (λ res. OnErr res (slot ≡ d) → OnErr res (together b.slots.items ≡ r.tables)) [
       | Ok x ↦ λ e. tt
       | Err x ↦ λ e. tables-are a b item.raft_group_id i d slot after kept h r is ∙ ap (with_table r.tables item.raft_group_id) (ap (λ m. finite.get m item.raft_group_id) e ∙ sym here) ∙ with_same r.tables item.raft_group_id
     ] t.err;

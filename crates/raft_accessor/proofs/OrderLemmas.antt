@@ -97,14 +97,17 @@ values-permuted es h = IsPermutation-map (λ e. e.1) es (finite.entries (finite.
 
 -- ---- slot by slot
 
-pub drop-step : (ms : List Tables) (i k : ℕ) (d : Tables) → k ≡ i + 1 → i < length ms → map (λ e. e.1) (slot_entries (drop i ms)) ≡ finite.values (slice_index_or ms i d) ++ map (λ e. e.1) (slot_entries (drop k ms))
-drop-step [] i k d e lt = absurd (omega (arith, lt))
-drop-step (m ∷ ms) i zero d e lt = absurd (omega (arith, e))
-drop-step (m ∷ ms) zero (suc k) d e lt = map-append (λ (e : ℕ × Table). e.1) (finite.entries m) (slot_entries ms) ∙ ap (λ j. finite.values m ++ map (λ e. e.1) (slot_entries (drop j ms))) (back k (omega (arith, e)))
+drop-at : (ms : List Tables) (i k : ℕ) (d : Tables) → k ≡ i + 1 → i < length ms → map (λ e. e.1) (slot_entries (drop i ms)) ≡ finite.values (slice_index_or ms i d) ++ map (λ e. e.1) (slot_entries (drop k ms))
+drop-at [] i k d e lt = absurd (omega (arith, lt))
+drop-at (m ∷ ms) i zero d e lt = absurd (omega (arith, e))
+drop-at (m ∷ ms) zero (suc k) d e lt = map-append (λ (e : ℕ × Table). e.1) (finite.entries m) (slot_entries ms) ∙ ap (λ j. finite.values m ++ map (λ e. e.1) (slot_entries (drop j ms))) (back k (omega (arith, e)))
   where
     back : (k : ℕ) → k ≡ 0 → 0 ≡ k
     back k e = sym e
-drop-step (m ∷ ms) (suc i) (suc k) d e lt = drop-step ms i k d (omega (arith, e)) (omega (arith, lt))
+drop-at (m ∷ ms) (suc i) (suc k) d e lt = drop-at ms i k d (omega (arith, e)) (omega (arith, lt))
+
+pub drop-step : (ms : List Tables) (i k : ℕ) (d : Tables) → k ≡ i + 1 → i < length ms → d ≡ slice_index_or ms i d → map (λ e. e.1) (slot_entries (drop i ms)) ≡ finite.values d ++ map (λ e. e.1) (slot_entries (drop k ms))
+drop-step ms i k d e lt is = drop-at ms i k d e lt ∙ ap (λ m. finite.values m ++ map (λ e. e.1) (slot_entries (drop k ms))) (sym is)
 
 -- the tables of one slot more
 pub pushed : (old new ts vs rest rest' all : List Table) → new ≡ old ++ ts → IsPermutation ts vs → rest ≡ vs ++ rest' → IsPermutation (old ++ rest) all → IsPermutation (new ++ rest') all

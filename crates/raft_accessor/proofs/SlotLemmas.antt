@@ -7,12 +7,12 @@ use Rattle.std.specs.FinMap as finite
 use Rattle.std.specs.FinMap.{find}
 use Rattle.std.proofs.lemmas.Bool.{cases_lt}
 use Rattle.raft_table.specs.Steps.{table_of}
-use Rattle.raft_table.specs.Table.{Table, IsRecounted}
+use Rattle.raft_table.specs.Table.{Table, IsCounted, IsRecounted}
 use Rattle.raft_accessor.specs.declared.accessor.MemTableAccessor.TheInside.{Inside}
 use Rattle.raft_history.specs.RegionSteps.{Tables, with_table}
 use Rattle.raft_accessor.specs.Accessor.{Accessor, slot_of, table_in, AreCountsOf, live_in_all}
 use Rattle.raft_accessor.specs.AccessorView.{slot_entries, together, IsSlot, AreSlots, accessor_shown, IsAccessorKept}
-use Rattle.raft_accessor.proofs.LiveLemmas.{counted-with, live-none}
+use Rattle.raft_accessor.proofs.LiveLemmas.{counted-with, table-counted, live-none}
 use Rattle.raft_base.specs.declared.pipe_log.LogQueue.TheVariants.{Append, Rewrite}
 use Rattle.raft_table.specs.Counts.{live}
 use Rattle.raft_accessor.proofs.MapLemmas.{same, by_id, with_own, with_other}
@@ -121,30 +121,39 @@ slots-with ms id t d s lt = set-at ms (slot_of id) _ s (own-with (slot_of id) _ 
 
 -- ---- the accessor
 
-pub get-shown : (a : Inside) (r : Accessor) (id i : ℕ) (d : Tables) → IsAccessorKept a → accessor_shown a ≡ r → i ≡ slot_of id → i < 128 → finite.get r.tables id ≡ finite.get (slice_index_or a.slots i d) id
-get-shown a r id i d kept is e lt =
-    ap (λ (x : Accessor). finite.get x.tables id) (sym is) ∙ get-together a.slots id d kept.slots (omega (arith, kept.all, e, lt)) ∙ ap (λ j. finite.get (slice_index_or a.slots j d) id) (sym e)
+-- the table of a region stands in its slot, which was lent
+pub get-shown : (a : Inside) (r : Accessor) (id i : ℕ) (d : Tables) → IsAccessorKept a → accessor_shown a ≡ r → i ≡ slot_of id → i < 128 → d ≡ slice_index_or a.slots.items i d → finite.get r.tables id ≡ finite.get d id
+get-shown a r id i d kept is e lt lent =
+    ap (λ (x : Accessor). finite.get x.tables id) (sym is) ∙ get-together a.slots.items id d kept.slots (omega (arith, kept.all, e, lt)) ∙ ap (λ j. finite.get (slice_index_or a.slots.items j d) id) (sym e) ∙ ap (λ m. finite.get m id) (sym lent)
+
+pub slot-counted : (a : Inside) (id i : ℕ) (d : Tables) → IsAccessorKept a → i ≡ slot_of id → i < 128 → d ≡ slice_index_or a.slots.items i d → IsCounted (table_in d id) a.stats
+slot-counted a id i d kept e lt lent =
+    subst (λ t. IsCounted t a.stats) (ap (table_of id) (get-shown a (accessor_shown a) id i d kept refl e lt lent)) (table-counted (together a.slots.items) a.stats id kept.counted)
 
 -- one region's table in its slot changed, and the counts with it
 pub record IsChanged (a b : Inside) (id i : ℕ) (d : Tables) (t : Option Table) : Type 0 where
   pub at : i ≡ slot_of id
   pub bound : i < 128
-  pub slots : b.slots ≡ slice_set a.slots i (with_table (slice_index_or a.slots i d) id t)
-  pub counts : IsRecounted (table_in (slice_index_or a.slots i d) id) (table_of id t) a.stats b.stats
+  pub lent : d ≡ slice_index_or a.slots.items i d
+  pub slots : b.slots.items ≡ slice_set a.slots.items i (with_table d id t)
+  pub counts : IsRecounted (table_in d id) (table_of id t) a.stats b.stats
 
-pub shown-changed : (a b : Inside) (r : Accessor) (id i : ℕ) (d : Tables) (t : Option Table) → IsAccessorKept a → accessor_shown a ≡ r → IsChanged a b id i d t → together b.slots ≡ with_table r.tables id t
+is-set : (a b : Inside) (id i : ℕ) (d : Tables) (t : Option Table) → IsChanged a b id i d t → b.slots.items ≡ slice_set a.slots.items (slot_of id) (with_table (slice_index_or a.slots.items (slot_of id) d) id t)
+is-set a b id i d t ch = ch.slots ∙ ap (λ m. slice_set a.slots.items i (with_table m id t)) ch.lent ∙ ap (λ j. slice_set a.slots.items j (with_table (slice_index_or a.slots.items j d) id t)) ch.at
+
+pub shown-changed : (a b : Inside) (r : Accessor) (id i : ℕ) (d : Tables) (t : Option Table) → IsAccessorKept a → accessor_shown a ≡ r → IsChanged a b id i d t → together b.slots.items ≡ with_table r.tables id t
 shown-changed a b r id i d t kept is ch =
-    ap together (ch.slots ∙ ap (λ j. slice_set a.slots j (with_table (slice_index_or a.slots j d) id t)) ch.at) ∙ together-with a.slots id t d kept.slots (omega (arith, kept.all, ch.at, ch.bound)) ∙ ap (λ (x : Accessor). with_table x.tables id t) is
+    ap together (is-set a b id i d t ch) ∙ together-with a.slots.items id t d kept.slots (omega (arith, kept.all, ch.at, ch.bound)) ∙ ap (λ (x : Accessor). with_table x.tables id t) is
 
 pub kept-changed : (a b : Inside) (id i : ℕ) (d : Tables) (t : Option Table) → IsAccessorKept a → IsChanged a b id i d t → IsAccessorKept b
 kept-changed a b id i d t kept ch =
-    let lt : slot_of id < length a.slots = omega (arith, kept.all, ch.at, ch.bound) in
-    let is : b.slots ≡ slice_set a.slots (slot_of id) (with_table (slice_index_or a.slots (slot_of id) d) id t) = ch.slots ∙ ap (λ j. slice_set a.slots j (with_table (slice_index_or a.slots j d) id t)) ch.at in
-    let same_table : table_in (slice_index_or a.slots i d) id ≡ table_in (together a.slots) id = ap (table_of id) (ap (λ j. finite.get (slice_index_or a.slots j d) id) ch.at ∙ sym (get-together a.slots id d kept.slots lt)) in
+    let lt : slot_of id < length a.slots.items = omega (arith, kept.all, ch.at, ch.bound) in
+    let is = is-set a b id i d t ch in
+    let same_table : table_in d id ≡ table_in (together a.slots.items) id = ap (table_of id) (sym (get-shown a (accessor_shown a) id i d kept refl ch.at ch.bound ch.lent)) in
     record {
-      slots = subst (AreSlots 0) (sym is) (slots-with a.slots id t d kept.slots lt);
-      all = ap length is ∙ length-set a.slots (slot_of id) _ ∙ kept.all;
-      counted = subst (λ m. AreCountsOf m b.stats) (sym (shown-changed a b (accessor_shown a) id i d t kept refl ch)) (counted-with (together a.slots) a.stats b.stats id t kept.counted (subst (λ x. IsRecounted x (table_of id t) a.stats b.stats) same_table ch.counts));
+      slots = subst (AreSlots 0) (sym is) (slots-with a.slots.items id t d kept.slots lt);
+      all = ap length is ∙ length-set a.slots.items (slot_of id) _ ∙ kept.all;
+      counted = subst (λ m. AreCountsOf m b.stats) (sym (shown-changed a b (accessor_shown a) id i d t kept refl ch)) (counted-with (together a.slots.items) a.stats b.stats id t kept.counted (subst (λ x. IsRecounted x (table_of id t) a.stats b.stats) same_table ch.counts));
     }
 
 -- ---- no tables
@@ -166,17 +175,11 @@ together-none ms n e = same _ _ (λ q. finite.get-from_entries nat_cmp_total (sl
 pub slots-none : (ms : List Tables) (n : ℕ) → ms ≡ replicate n finite.empty → AreSlots 0 ms
 slots-none ms n e = subst (AreSlots 0) (sym e) (empty_slots 0 n)
 
-pub all_alike : {X : Type 0} (xs : List X) (n : ℕ) (x : X) → length xs ≡ n → ((i : ℕ) → i < n → slice_index_or xs i x ≡ x) → xs ≡ replicate n x
-all_alike [] zero x l h = refl
-all_alike [] (suc n) x l h = absurd (omega (arith, l))
-all_alike (y ∷ ys) zero x l h = absurd (omega (arith, l))
-all_alike (y ∷ ys) (suc n) x l h = ap (λ z. z ∷ ys) (h 0 (omega arith)) ∙ ap (λ zs. x ∷ zs) (all_alike ys n x (omega (arith, l)) (λ i lt. h (suc i) (omega (arith, lt))))
-
-pub kept-none : (a : Inside) → a.slots ≡ replicate 128 finite.empty → a.stats ≡ record { append = 0; written = 0; deleted = 0 } → IsAccessorKept a
+pub kept-none : (a : Inside) → a.slots.items ≡ replicate 128 finite.empty → a.stats ≡ record { append = 0; written = 0; deleted = 0 } → IsAccessorKept a
 kept-none a e z = record {
-  slots = slots-none a.slots 128 e;
+  slots = slots-none a.slots.items 128 e;
   all = ap length e;
-  counted = λ q. elim q as (λ q. live q a.stats ≡ live_in_all q (together a.slots)) [ Append ↦ rw (z, together-none a.slots 128 e) (sym (live-none Append)) | Rewrite ↦ rw (z, together-none a.slots 128 e) (sym (live-none Rewrite)) ];
+  counted = λ q. elim q as (λ q. live q a.stats ≡ live_in_all q (together a.slots.items)) [ Append ↦ rw (z, together-none a.slots.items 128 e) (sym (live-none Append)) | Rewrite ↦ rw (z, together-none a.slots.items 128 e) (sym (live-none Rewrite)) ];
 }
 
 -- ---- the entries of all slots

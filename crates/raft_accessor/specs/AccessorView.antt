@@ -26,10 +26,10 @@ AreSlots k (m ∷ ms) = IsSlot k m × AreSlots (suc k) ms
 
 -- the tables of all slots
 abbrev pub accessor_shown : Inside → Accessor
-accessor_shown a = record { tables = together a.slots; cleaned = a.cleaned.items; counts = a.stats }
+accessor_shown a = record { tables = together a.slots.items; cleaned = a.cleaned.items; counts = a.stats }
 
 -- each slot has its own regions, and the counts are those of the tables
 pub record IsAccessorKept (a : Inside) : Type 0 where
-  pub slots : AreSlots 0 a.slots
-  pub all : length a.slots ≡ 128
-  pub counted : AreCountsOf (together a.slots) a.stats
+  pub slots : AreSlots 0 a.slots.items
+  pub all : length a.slots.items ≡ 128
+  pub counted : AreCountsOf (together a.slots.items) a.stats

@@ -1,6 +1,6 @@
 //! The tables of all regions.
 
-ghost use Rattle.std.specs.Prelude.{◌≡◌, ◌≢◌, ◌≤◌, ◌<◌, ◌^◌, ◌+◌, ◌⊎◌, ◌↔◌, List, [], ◌∷◌, ◌++◌, map, replicate, IsPermutation, IsTrue, IsOk, OnOk, OnErr, IfOk, IfErr, IfSome, Some, None, option_map, is_some, if◌then◌else◌};
+ghost use Rattle.std.specs.Prelude.{◌≡◌, ◌≢◌, ◌≤◌, ◌<◌, ◌^◌, ◌+◌, ◌⊎◌, ◌↔◌, List, [], ◌∷◌, ◌++◌, map, replicate, IsPermutation, IsTrue, OnOk, OnErr, IfOk, IfErr, IfSome, Some, None, option_map, is_some, if◌then◌else◌};
 ghost use Rattle.std.specs.FinMap as finite;
 ghost use Rattle.std.specs.List.{FoldsTo};
 ghost use Rattle.raft_base.specs.declared.pipe_log.LogQueue.{LogQueue};
@@ -22,8 +22,9 @@ mod totals;
 mod writes;
 
 use crate::region_tables::RegionTables;
-use raft_records::{Command, LogBatch, hash_u64};
-use raft_table::{Error, FileSeq, GlobalStats, MemTable, Result, TableChange};
+use raft_base::{Error, FileSeq, Result, hash_u64};
+use raft_records::{Command, LogBatch};
+use raft_table::{GlobalStats, MemTable, TableChange};
 use std::alloc::{AllocError, Global};
 use std::marker::Model;
 
@@ -39,7 +40,7 @@ pub fn slot_of(id: u64) -> usize
 /// The tables of all regions, how many of their records are live, and the regions that were cleaned.
 #[derive(Drop)]
 pub struct MemTableAccessor {
-    slots: [RegionTables; 128],
+    slots: Vec<RegionTables>,
     stats: GlobalStats,
     cleaned: Vec<u64>,
 }
@@ -66,27 +67,22 @@ impl MemTableAccessor {
     ghost use denote.Follow.{follows_so};
     ghost use Rattle.raft_accessor.specs.contracts.accessor.MemTableAccessor.{the_row};
 
-    /// No tables. It takes no memory and never fails.
+    /// No tables.
+    ///
+    /// # Errors
+    ///
+    /// `Memory`.
     pub fn new(alloc: Global) -> Result<MemTableAccessor>
-        ensures ok { IsOk result }
         ensures tables { IfOk result (λ accessor. accessor.tables ≡ finite.empty) }
         ensures cleaned { IfOk result (λ accessor. accessor.cleaned ≡ []) }
         ensures counts { IfOk result (λ accessor. accessor.counts ≡ record { append = 0; written = 0; deleted = 0 }) }
+        ensures memory { IfErr result (λ e. e ≡ Error.Memory) }
     {
-        Ok(MemTableAccessor::empty(alloc))
-    }
-
-    /// No tables, without a `Result`.
-    pub fn empty(alloc: Global) -> MemTableAccessor
-        ensures tables { result.tables ≡ finite.empty }
-        ensures cleaned { result.cleaned ≡ [] }
-        ensures counts { result.counts ≡ record { append = 0; written = 0; deleted = 0 } }
-    {
-        MemTableAccessor {
-            slots: empty_slots(alloc),
+        Ok(MemTableAccessor {
+            slots: empty_slots(alloc)?,
             stats: GlobalStats::default(),
             cleaned: Vec::new(alloc),
-        }
+        })
     }
 
     /// How many records of all tables are live in each queue.
@@ -458,13 +454,18 @@ pub fn clean_logs(alloc: Global, ids: &[u64]) -> Result<LogBatch>
     Ok(logs)
 }
 
-/// Slots without tables.
-fn empty_slots(alloc: Global) -> [RegionTables; 128]
-    ensures { result ≡ replicate 128 finite.empty }
+/// 128 slots without tables.
+///
+/// # Errors
+///
+/// `Memory`.
+fn empty_slots(alloc: Global) -> Result<Vec<RegionTables>>
+    ensures ok { IfOk result (λ slots. slots.items ≡ replicate 128 finite.empty) }
+    ensures memory { IfErr result (λ e. e ≡ Error.Memory) }
 {
-    std::array::from_fn(
-        |_: usize| -> RegionTables
-            ensures { result ≡ finite.empty }
-        { RegionTables::new(alloc) },
-    )
+    let mut slots = Vec::with_capacity(alloc, 128)?;
+    for _ in 0..128usize {
+        slots.push(RegionTables::new(alloc))?;
+    }
+    Ok(slots)
 }

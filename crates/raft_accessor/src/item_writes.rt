@@ -18,10 +18,9 @@ ghost use Rattle.raft_accessor.specs.Updates.{IsTaken, IsReplayFault, IsRefusal}
 ghost use Rattle.raft_accessor.specs.Writes.{Appending, Replaying, Rewriting};
 
 use crate::region_tables::RegionTables;
+use raft_base::{EntryIndex, Error, FileId, FileSeq, LogQueue, Result};
 use raft_records::{Command, KeyValue, LogItem, LogItemContent, OpType, is_reserved};
-use raft_table::{
-    EntryIndex, Error, FileId, FileSeq, GlobalStats, LogQueue, MemTable, Result, is_run,
-};
+use raft_table::{GlobalStats, MemTable, is_run};
 use std::alloc::Global;
 
 impl RegionTables {

@@ -20,9 +20,8 @@ ghost use Rattle.raft_accessor.specs.Walks.{KeepsId, Makes};
 mod join;
 mod overlay;
 
-use raft_table::{
-    EntryIndex, Error, FileSeq, GlobalStats, LogQueue, MemTable, Result, TableChange,
-};
+use raft_base::{EntryIndex, Error, FileSeq, LogQueue, Result};
+use raft_table::{GlobalStats, MemTable, TableChange};
 use std::alloc::Global;
 use std::collections::HashMap;
 use std::collections::hash_map::IntoIter;

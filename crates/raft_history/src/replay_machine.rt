@@ -6,7 +6,8 @@ ghost use Rattle.raft_history.specs.Batches.{Event};
 ghost use Rattle.raft_history.specs.Histories.{IsSmall, Sound, Apart, IsOfQueue};
 ghost use Rattle.raft_history.specs.ReplayMachine.{event};
 
-use raft_records::{FileId, LogItemBatch, LogQueue, Result};
+use raft_base::{FileId, LogQueue, Result};
+use raft_records::LogItemBatch;
 
 /// A machine replays the batches of a segment, and takes in the machine of the segment behind it.
 ///

@@ -294,7 +294,7 @@ middle_records q c d middle m = omega (arith, read_records Rewrite c.regions mid
 -- the groups are refused
 pub wholes_fault : (q : LogQueue) (c d : Context) → IsRead c → IsRead d → AreNeighbours q c d → both_wholes c d ≢ [] → (x : Error) → IsStepsFault Rewrite c.regions (region_steps_of_wholes (both_wholes c d)) x → IsNeighbourFault q (reading_on c) (reading_on d) x
 wholes_fault Append c d r s n some x f = absurd (some (wholes_none c d s n.newer))
-wholes_fault Rewrite c d r s n some (errors.Corruption text) f = inr (inl f)
+wholes_fault Rewrite c d r s n some (errors.Corruption text) f = ((n.older, n.newer), inr (inl f))
 wholes_fault Rewrite c d r s n some (errors.InvalidArgument text) f = absurd (omega (arith, f, alone_of Rewrite c r n.older))
 wholes_fault Rewrite c d r s n some errors.Full f = (n, omega (arith, f, live-le-all Rewrite c.regions.tables, wholes-records (both_wholes c d), merged_waiting c.groups d.groups))
 wholes_fault Rewrite c d r s n some errors.Memory f = tt
@@ -305,7 +305,7 @@ pub join_fault : (q : LogQueue) (c d : Context) (middle : MarkedRegions) → IsM
 join_fault q c d middle m x h = go x (h (middle_steps q c d middle m) (steps_of_read q d m.newer m.neighbours.newer))
   where
     go : (x : Error) → IsJoinFault q middle d.regions x → IsNeighbourFault q (reading_on c) (reading_on d) x
-    go (errors.Corruption text) f = inr (inr (middle, sym (either_queue q c d m.newer m.neighbours) ∙ m.taken, f))
+    go (errors.Corruption text) f = ((m.neighbours.older, m.neighbours.newer), inr (inr (middle, sym (either_queue q c d m.newer m.neighbours) ∙ m.taken, f)))
     go (errors.InvalidArgument text) (inl f) = absurd (omega (arith, f, middle_alone q c d middle m))
     go (errors.InvalidArgument text) (inr f) = absurd (omega (arith, f, alone_of q d m.newer m.neighbours.newer))
     go errors.Full f = (m.neighbours, omega (arith, f, middle_records q c d middle m))

@@ -104,9 +104,9 @@ neighbours q c d h g o a b sound = record {
 }
 
 pub merge_unsound : (q : LogQueue) (c d : RecoverContext) (h g : List Event) → IsSmall (h ++ g) → IsOfQueue q (h ++ g) → IsReading c h → IsReading d g → (x : Error) → x ≢ errors.Memory → IsNeighbourFault q c d x → Sound (h ++ g) → ⊥
-merge_unsound q c d h g small o a b (errors.InvalidArgument text) k other sound = let n = neighbours q c.context d.context h g o a.stands b.stands sound in other n.older n.newer
-merge_unsound q c d h g small o a b (errors.Corruption text) k (inl files) sound = false≢true (sym files ∙ (neighbours q c.context d.context h g o a.stands b.stands sound).files)
-merge_unsound q c d h g small o a b (errors.Corruption text) k (inr refused) sound = regions_unsound q c.context d.context h g (merges q c.context d.context h g (neighbours q c.context d.context h g o a.stands b.stands sound) a.stands b.stands) refused sound
+merge_unsound q c d h g small o a b (errors.InvalidArgument text) k other sound = let n = neighbours q c.context d.context h g o a.stands b.stands sound in other (n.older, n.newer)
+merge_unsound q c d h g small o a b (errors.Corruption text) k (both, inl files) sound = false≢true (sym files ∙ (neighbours q c.context d.context h g o a.stands b.stands sound).files)
+merge_unsound q c d h g small o a b (errors.Corruption text) k (both, inr refused) sound = regions_unsound q c.context d.context h g (merges q c.context d.context h g (neighbours q c.context d.context h g o a.stands b.stands sound) a.stands b.stands) refused sound
 merge_unsound q c d h g small o a b errors.Full k full sound = omega (arith, full.1, small.few, a.stands.few, b.stands.few, size-append h g)
 merge_unsound q c d h g small o a b errors.Failed k (inl stage) sound = stage a.stage
 merge_unsound q c d h g small o a b errors.Failed k (inr stage) sound = stage b.stage

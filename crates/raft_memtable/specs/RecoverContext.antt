@@ -70,6 +70,10 @@ IsBatchFault c e _ = ⊥
 
 -- ---- two neighbours
 
+-- both are of this queue
+abbrev pub AreOfQueue : LogQueue → Context → Context → Type 0
+AreOfQueue queue c d = Suits queue c.files × Suits queue d.files
+
 -- both are of this queue, and the newer one's first file isn't below the older one's last
 pub record AreNeighbours (queue : LogQueue) (c d : Context) : Type 0 where
   pub older : Suits queue c.files
@@ -85,10 +89,10 @@ pub record IsMergedWith (queue : LogQueue) (newer old new : RecoverContext) : Ty
   pub merged : new.context ≡ merged_with old.context newer.context new.context.regions
   pub after : new.stage ≡ Reading
 
--- why a newer neighbour is refused, by the error: one of the two is of another queue; the newer one's first file is below the older one's last, or a region's join is refused; the records would be 2^64 or more; one of the two doesn't read on; or want of memory
+-- why a newer neighbour is refused, by the error: one of the two is of another queue; both are of this one, and the newer one's first file is below the older one's last, or a region's join is refused; the records would be 2^64 or more; one of the two doesn't read on; or want of memory
 abbrev pub IsNeighbourFault : LogQueue → RecoverContext → RecoverContext → Error → Type 0
-IsNeighbourFault queue c d (errors.InvalidArgument text) = Suits queue c.context.files → Suits queue d.context.files → ⊥
-IsNeighbourFault queue c d (errors.Corruption text) = (follows c.context.files d.context.files ≡ false) ⊎ AreRegionsRefused queue c.context d.context
+IsNeighbourFault queue c d (errors.InvalidArgument text) = AreOfQueue queue c.context d.context → ⊥
+IsNeighbourFault queue c d (errors.Corruption text) = AreOfQueue queue c.context d.context × ((follows c.context.files d.context.files ≡ false) ⊎ AreRegionsRefused queue c.context d.context)
 IsNeighbourFault queue c d errors.Full = AreNeighbours queue c.context d.context × (2 ^ 64 ≤ records_held c.context + records_held d.context)
 IsNeighbourFault queue c d errors.Failed = (c.stage ≢ Reading) ⊎ (d.stage ≢ Reading)
 IsNeighbourFault queue c d errors.Memory = Unit {0}

@@ -10,10 +10,10 @@ ghost use Rattle.raft_history.specs.Histories.{IsInFile, AreInFile, HasStatus, H
 ghost use Rattle.raft_memtable.specs.BatchChecks.{marker_found};
 ghost use Rattle.raft_accessor.specs.Updates.{IsRefusal};
 
+use raft_base::{EntryIndex, Error, FileId, LogQueue, Result};
 use raft_records::{
     AtomicGroupStatus, KeyValue, LogItem, LogItemBatch, LogItemContent, OpType, is_reserved,
 };
-use raft_table::{EntryIndex, Error, FileId, LogQueue, Result};
 use std::alloc::Global;
 
 /// The group marker of a batch that was written to the file, if it has one and the queue knows groups.

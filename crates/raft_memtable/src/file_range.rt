@@ -6,7 +6,7 @@ ghost use Rattle.raft_history.specs.Contexts.{Suits, files_of, follows, joined_f
 ghost use Rattle.raft_history.specs.ReplayMachine.{event};
 ghost use Rattle.raft_memtable.specs.FileRanges.{range_shown, ranges_shown};
 
-use raft_table::{FileId, FileSeq, LogQueue};
+use raft_base::{FileId, FileSeq, LogQueue};
 
 /// The queue of some batches, and the first and the last of their files.
 #[derive(Clone, Copy, Debug)]

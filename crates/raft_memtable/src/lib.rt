@@ -19,10 +19,15 @@ pub use kept::Kept;
 pub use raft_accessor::{
     MemTableAccessor, RegionTables, accessor, item_writes, region_tables, slot_of,
 };
-pub use raft_history::ReplayMachine;
+pub use raft_base::{
+    EntryIndex, Error, Factory, FileBlockHandle, FileId, FileSeq, LogQueue, Result,
+};
+pub use raft_history::{
+    ReplayMachine, contexts, effects, histories, read_runs, regions, replay_machine,
+};
+pub use raft_records::{LogBatch, LogItem, LogItemBatch};
 pub use raft_table::{
-    Block, EntryIndex, Error, FileBlockHandle, FileId, FileSeq, GlobalStats, LogQueue, MemTable,
-    Result, TableChange, global_stats, is_run, memtable,
+    Block, DeletedKeys, GlobalStats, Mark, MemTable, TableChange, global_stats, is_run, memtable,
 };
 pub use recover_context::{MemTableRecoverContext, MemTableRecoverContextFactory};
 pub use region_marks::RegionMarks;

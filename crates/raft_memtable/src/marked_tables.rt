@@ -19,8 +19,8 @@ mod overlay;
 use crate::region_marks::RegionMarks;
 use crate::waiting_group::WholeGroup;
 use raft_accessor::MemTableAccessor;
+use raft_base::{EntryIndex, Error, FileId, FileSeq, LogQueue, Result};
 use raft_records::{Command, KeyValue, LogItem, LogItemBatch, LogItemContent, OpType, is_reserved};
-use raft_table::{EntryIndex, FileId, FileSeq, LogQueue, Result};
 use std::alloc::{AllocError, Global};
 
 /// The tables of all regions, and the mark of each region that a step named.
@@ -32,14 +32,19 @@ pub(crate) struct MarkedTables {
 
 impl MarkedTables {
     /// No tables and no marks.
-    pub(crate) fn new(alloc: Global) -> MarkedTables
-        ensures regions { regions_in result ≡ no_regions }
-        ensures cleaned { result.accessor.cleaned ≡ [] }
+    ///
+    /// # Errors
+    ///
+    /// `Memory`.
+    pub(crate) fn new(alloc: Global) -> Result<MarkedTables>
+        ensures regions { IfOk result (λ tables. regions_in tables ≡ no_regions) }
+        ensures cleaned { IfOk result (λ tables. tables.accessor.cleaned ≡ []) }
+        ensures memory { IfErr result (λ e. e ≡ Error.Memory) }
     {
-        MarkedTables {
-            accessor: MemTableAccessor::empty(alloc),
+        Ok(MarkedTables {
+            accessor: MemTableAccessor::new(alloc)?,
             marks: RegionMarks::new(alloc),
-        }
+        })
     }
 
     /// Takes in the items of a batch of this file, in order, and lists the regions that they clean in

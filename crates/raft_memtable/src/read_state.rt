@@ -25,8 +25,8 @@ use crate::marked_tables::MarkedTables;
 use crate::waiting_group::WholeGroup;
 use crate::waiting_groups::WaitingGroups;
 use crate::waiting_items::WaitingItems;
+use raft_base::{Error, FileId, LogQueue, Result};
 use raft_records::{AtomicGroupStatus, LogItemBatch};
-use raft_table::{Error, FileId, LogQueue, Result};
 use std::alloc::Global;
 
 /// The tables and marks of all regions, the groups that wait, and the files of the batches.
@@ -40,15 +40,20 @@ pub(crate) struct ReadState {
 
 impl ReadState {
     /// Nothing was read.
-    pub(crate) fn new(alloc: Global) -> ReadState
-        ensures { context_in result ≡ new_context }
+    ///
+    /// # Errors
+    ///
+    /// `Memory`.
+    pub(crate) fn new(alloc: Global) -> Result<ReadState>
+        ensures ok { IfOk result (λ state. context_in state ≡ new_context) }
+        ensures memory { IfErr result (λ e. e ≡ Error.Memory) }
     {
-        ReadState {
-            regions: MarkedTables::new(alloc),
+        Ok(ReadState {
+            regions: MarkedTables::new(alloc)?,
             groups: WaitingGroups::new(alloc),
             files: None,
             alloc,
-        }
+        })
     }
 
     /// Takes in one more batch, that was written to this file.

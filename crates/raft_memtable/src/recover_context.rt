@@ -1,6 +1,6 @@
 //! Contexts, which rebuild the tables of all regions from the batches of a queue.
 
-ghost use Rattle.std.specs.Prelude.{ℕ, ◌≡◌, ◌≢◌, ◌⊎◌, [], ◌∷◌, ◌++◌, List, IsOk, IfOk, IfErr, OnOk, OnErr};
+ghost use Rattle.std.specs.Prelude.{ℕ, ◌≡◌, ◌≢◌, ◌⊎◌, [], ◌∷◌, ◌++◌, List, IfOk, IfErr, OnOk, OnErr};
 ghost use Rattle.raft_base.specs.declared.errors.Error.{Error};
 ghost use Rattle.raft_base.specs.declared.pipe_log.LogQueue.{LogQueue};
 ghost use Rattle.raft_base.specs.declared.pipe_log.LogQueue.TheVariants.{Append, Rewrite};
@@ -21,9 +21,9 @@ use crate::context_stage::ContextStage;
 use crate::kept::Kept;
 use crate::read_state::ReadState;
 use raft_accessor::MemTableAccessor;
+use raft_base::{Error, Factory, FileId, LogQueue, Result};
 use raft_history::ReplayMachine;
-use raft_records::{Factory, LogItemBatch};
-use raft_table::{Error, FileId, LogQueue, Result};
+use raft_records::LogItemBatch;
 use std::alloc::Global;
 use std::marker::Model;
 
@@ -51,14 +51,18 @@ impl Model for MemTableRecoverContext {
 }
 
 impl MemTableRecoverContext {
-    /// A context that has read nothing. It takes no memory and never fails.
+    /// A context that has read nothing.
+    ///
+    /// # Errors
+    ///
+    /// `Memory`.
     pub fn new(alloc: Global) -> Result<MemTableRecoverContext>
         ensures ok { IfOk result (λ context. context ≡ blank_context) }
         ensures exact { IfOk result (λ context. IsReadingExactly context []) }
-        ensures never { IsOk result }
+        ensures memory { IfErr result (λ e. e ≡ Error.Memory) }
     {
         Ok(MemTableRecoverContext {
-            state: ReadState::new(alloc),
+            state: ReadState::new(alloc)?,
             stage: ContextStage::Reading,
         })
     }

@@ -11,7 +11,8 @@ ghost use Rattle.raft_table.specs.MarkJoins.{fresh, mark_of, joined_at};
 ghost use Rattle.raft_table.specs.Steps.{Compact, Truncate, Del, Clean};
 ghost use Rattle.raft_memtable.specs.RegionMarks.{mark_in, MayChangeMark, IsMarkUpdated};
 
-use raft_table::{LogQueue, Mark};
+use raft_base::LogQueue;
+use raft_table::Mark;
 use std::alloc::{AllocError, Global};
 use std::collections::HashMap;
 use std::collections::hash_map::IntoIter;
@@ -235,7 +236,7 @@ impl RegionMarks {
 }
 
 /// What a call answers that is refused for want of memory alone.
-fn without_error(answer: raft_table::Result<()>) -> Result<(), AllocError>
+fn without_error(answer: raft_base::Result<()>) -> Result<(), AllocError>
     ensures { MatchResult answer (λ u. result ≡ Ok tt) (λ e. result ≡ Err alloc_error) }
 {
     match answer {

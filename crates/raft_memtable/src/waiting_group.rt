@@ -7,7 +7,8 @@ ghost use Rattle.raft_history.specs.WaitingGroups.{held_steps, front_steps};
 ghost use Rattle.raft_memtable.specs.WaitingShown.{front_shown, stretch_shown, group_shown, whole_shown};
 
 use crate::waiting_items::WaitingItems;
-use raft_records::{AtomicGroupStatus, FileSeq};
+use raft_base::FileSeq;
+use raft_records::AtomicGroupStatus;
 use std::alloc::{AllocError, Global};
 
 /// What stands before the first `Begin` of a group: what ends a stretch that began earlier.

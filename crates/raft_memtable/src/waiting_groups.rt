@@ -14,7 +14,8 @@ ghost use Rattle.raft_memtable.specs.WaitingShown.{seen_entries, group_shown, wh
 
 use crate::waiting_group::{WaitingGroup, WholeGroup};
 use crate::waiting_items::WaitingItems;
-use raft_records::{AtomicGroupStatus, FileSeq};
+use raft_base::FileSeq;
+use raft_records::AtomicGroupStatus;
 use std::alloc::{AllocError, Global};
 use std::collections::BTreeMap;
 use std::marker::Model;

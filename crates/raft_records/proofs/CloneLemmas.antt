@@ -3,10 +3,12 @@ use Rattle.std.proofs.Common.{◌≡◌, ℕ, List, [], ◌∷◌, map, Option, 
 use Rattle.std.specs.List.{AllZip, each_same}
 use Rattle.raft_base.specs.declared.pipe_log.FileId.{FileId}
 use Rattle.raft_records.specs.contracts.command.CommandClone.TheImpl.{is_clone-value as command_clones}
+use Rattle.raft_records.specs.contracts.entry_indexes.EntryIndexesClone.TheImpl.{is_clone-value as entries_clones}
 use Rattle.raft_records.specs.contracts.key_value.KeyValueClone.TheImpl.{is_clone-value as pair_clones}
 use Rattle.raft_records.specs.contracts.log_item.LogItemContentClone.TheImpl.{is_clone-value as content_clones}
 use Rattle.raft_records.specs.contracts.log_item.LogItemClone.TheImpl.{is_clone-value as item_clones}
 use Rattle.raft_records.specs.declared.command.Command.{Command}
+use Rattle.raft_records.specs.declared.entry_indexes.EntryIndexes.{EntryIndexes as Entries}
 use Rattle.raft_records.specs.declared.key_value.KeyValue.{KeyValue}
 use Rattle.raft_records.specs.declared.key_value.OpType.{OpType}
 use Rattle.raft_records.specs.declared.log_item.LogItem.{LogItem}
@@ -45,11 +47,14 @@ kv_clone o o' k k' (Some v) (Some w) (Some f) (Some g) h =
     let value = each_same v.items w.items h.1.1.0.0 in
     λ i. seen (h.0 i) (key i) (Some (value i)) (Some (h.1.1.1 i))
 
-pair_clone : (a b : KeyValue) → pair_clones.it a b → pair_of b ≡ pair_of a
+pub pair_clone : (a b : KeyValue) → pair_clones.it a b → pair_of b ≡ pair_of a
 pair_clone a b h = kv_clone a.op_type b.op_type a.key b.key a.value b.value a.file_id b.file_id h
 
-content_clone : (a b : LogItemContent) → content_clones.it a b → content_of b ≡ content_of a
-content_clone (EntryIndexes x) (EntryIndexes y) h = ap entries (each_same x.0.items y.0.items h.0)
+pub entries_clone : (a b : Entries) → entries_clones.it a b → b.0.items ≡ a.0.items
+entries_clone a b h = each_same a.0.items b.0.items h.0
+
+pub content_clone : (a b : LogItemContent) → content_clones.it a b → content_of b ≡ content_of a
+content_clone (EntryIndexes x) (EntryIndexes y) h = ap entries (entries_clone x y h)
 content_clone (Commands c) (Commands d) h = ap command (command_clone c d h)
 content_clone (Kv p) (Kv q) h = ap pair (pair_clone p q h)
 content_clone (EntryIndexes x) (Commands d) h = absurd h
@@ -62,7 +67,7 @@ content_clone (Kv p) (Commands d) h = absurd h
 abbrev item_with : ℕ → Content → Item
 item_with region content = record { raft_group_id = region; content = content }
 
-item_clone : (a b : LogItem) → item_clones.it a b → item_of b ≡ item_of a
+pub item_clone : (a b : LogItem) → item_clones.it a b → item_of b ≡ item_of a
 item_clone a b h =
     let c = content_clone a.content b.content h.1 in
     λ i. item_with (h.0 i) (c i)

@@ -23,4 +23,5 @@ pub mod ReadPlaceLemmas
 pub mod SealLemmas
 pub mod StageLemmas
 pub mod StringLemmas
+pub mod WriteLemmas
 pub mod WrittenLemmas

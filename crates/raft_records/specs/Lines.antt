@@ -1,5 +1,5 @@
 -- Item batches as text: a line for each item, and a last line of counts.
-use Rattle.std.specs.Prelude.{◌≡◌, ◌⊎◌, ℕ, List, [], ◌∷◌, ◌++◌, length, codes, Option, Some, None, IfSome}
+use Rattle.std.specs.Prelude.{◌≡◌, ◌≢◌, ◌⊎◌, ℕ, List, [], ◌∷◌, ◌++◌, length, codes, Option, Some, None, IfSome}
 use Rattle.std.specs.Fmt.{decimal}
 use Rattle.std.specs.Io.KnownBytes.{Appends, IsAtEnd}
 use Rattle.std.specs.List.{flat_map}
@@ -87,8 +87,18 @@ abbrev pub IsIoError : Error → Type 0
 IsIoError (Io _) = Unit {0}
 IsIoError _ = ⊥
 
--- the writer failed, once the whole input was read and was an item batch
-pub record IsWriteFailure (input left : Option (List ℕ)) (signature : Option ℕ) (e : Error) : Type 0 where
+-- a front of the text, and not all of it, was written behind the old bytes, where those are known
+pub record AppendsFront (old new : Option (List ℕ)) (text : List ℕ) : Type 0 where
+  pub front : List ℕ
+  pub rest : List ℕ
+  pub split : text ≡ front ++ rest
+  pub unfinished : rest ≢ []
+  pub written : Appends old new front
+
+-- the writer failed, once the whole input was read and was an item batch: a front of its text, and not all of it, was written
+pub record IsWriteFailure (input left : Option (List ℕ)) (signature : Option ℕ) (old new : Option (List ℕ)) (e : Error) : Type 0 where
   pub io : IsIoError e
   pub all_read : IsAtEnd left
-  pub of_batch : IfSome input (λ bytes. (text : List ℕ) × IsTextOf bytes signature text)
+  pub text : List ℕ
+  pub of_input : IfSome input (λ bytes. IsTextOf bytes signature text)
+  pub cut_short : AppendsFront old new text

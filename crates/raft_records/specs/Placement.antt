@@ -4,7 +4,7 @@ use Rattle.raft_base.specs.declared.pipe_log.FileBlockHandle.{FileBlockHandle}
 use Rattle.raft_base.specs.declared.pipe_log.FileId.{FileId}
 use Rattle.raft_base.specs.declared.compression_type.CompressionType.TheVariants as compressions
 use Rattle.raft_base.specs.declared.entry_index.EntryIndex.{EntryIndex}
-use Rattle.raft_records.specs.declared.entry_index.Placement.{Placement}
+use Rattle.raft_records.specs.declared.entry_indexes.Placement.{Placement}
 use Rattle.raft_records.specs.Item.{Item, Content, entries, command, pair}
 
 -- an entry without a place, whose bytes stand from this offset up to this tail offset

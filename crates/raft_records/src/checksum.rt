@@ -4,8 +4,9 @@ ghost use Rattle.std.specs.Prelude.{◌≡◌, ◌≢◌, List, ℕ, length, IfO
 ghost use Rattle.byteorder.specs.Endian.{little_bytes};
 ghost use Rattle.raft_records.specs.ItemBatch.{signed, HasSeal, IsSealFault};
 
-use raft_base::util::crc32;
-use raft_base::{Error, Result, codec};
+use raft_base::{Error, Result};
+use raft_checksum::crc32;
+use raft_codec::codec;
 use std::alloc::Global;
 
 /// How many bytes a checksum takes.

@@ -8,8 +8,9 @@ ghost use Rattle.raft_records.specs.Faults.{IsCommandFault};
 ghost use Rattle.raft_records.specs.Sizes.{command_size};
 ghost use Rattle.raft_records.specs.Spelling.{command_bytes};
 
-use raft_base::codec::BytesSlice;
-use raft_base::{Error, Result, codec};
+use raft_base::{Error, Result};
+use raft_codec::codec;
+use raft_codec::codec::BytesSlice;
 use std::alloc::{AllocError, Global};
 
 const CMD_CLEAN: u8 = 1;

@@ -84,6 +84,20 @@ impl FilePart {
         })
     }
 
+    /// The same part again, which shares its bytes. `Memory`.
+    pub fn share(&self) -> Result<FilePart>
+        ensures ok { IfOk result (λ part. part ≡ self.now) }
+        ensures memory { IfErr result (λ e. e ≡ Error.Memory) }
+    {
+        Ok(FilePart {
+            id: self.id,
+            version: self.version,
+            offset: self.offset,
+            bytes: self.bytes.clone()?,
+            alloc: self.alloc,
+        })
+    }
+
     /// The file.
     pub fn id(&self) -> FileId
         ensures { result ≡ self.now.id }

@@ -11,11 +11,12 @@ ghost use Rattle.raft_records.specs.ItemBatch.{IsEncoded, batch_bytes, checksum_
 ghost use Rattle.raft_base.specs.Signature.{signature_of};
 ghost use Rattle.raft_records.specs.Spelling.{Keeps};
 
+use crate::LogItemBatch;
 use crate::checksum::{LOG_BATCH_CHECKSUM_LEN, verify_checksum};
-use crate::{CompressionType, LogItemBatch};
 use byteorder::{BigEndian, ByteOrder, LittleEndian};
-use raft_base::util::crc32;
-use raft_base::{Error, LogFileContext, Result, codec};
+use raft_base::{CompressionType, Error, LogFileContext, Result};
+use raft_checksum::crc32;
+use raft_codec::codec;
 use std::alloc::{AllocError, Global};
 
 /// How many bytes a header takes.

@@ -9,8 +9,9 @@ ghost use Rattle.raft_records.specs.Range.{HasLength};
 ghost use Rattle.raft_records.specs.Sizes.{pair_size, saturated};
 ghost use Rattle.raft_records.specs.Spelling.{Keeps, byte_string, pair_bytes, IsWritablePair};
 
-use raft_base::codec::BytesSlice;
-use raft_base::{Error, FileId, Result, codec};
+use raft_base::{Error, FileId, Result};
+use raft_codec::codec;
+use raft_codec::codec::BytesSlice;
 use std::alloc::{AllocError, Global};
 
 /// What is done to a key.
@@ -68,6 +69,15 @@ impl KeyValue {
             value,
             file_id: None,
         }
+    }
+
+    /// The same change. There may be no memory for it.
+    #[tactic(auto, using(crate::proofs::CloneLemmas::pair_clone))]
+    pub fn clone(&self) -> Result<KeyValue>
+        ensures ok { IfOk result (λ copy. pair_of copy ≡ pair_of self.now) }
+        ensures memory { IfErr result (λ e. e ≡ Error.Memory) }
+    {
+        Ok(<KeyValue as Clone>::clone(self)?)
     }
 
     /// The approximate length of the change's bytes, capped at `usize::MAX`.

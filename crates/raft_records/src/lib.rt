@@ -4,7 +4,7 @@
 pub mod atomic_group;
 mod checksum;
 pub mod command;
-pub mod entry_index;
+pub mod entry_indexes;
 pub mod file_part;
 pub(crate) mod header;
 pub mod key_value;
@@ -16,15 +16,16 @@ pub mod print;
 
 pub use atomic_group::{ATOMIC_GROUP_KEY, AtomicGroupBuilder, AtomicGroupStatus, is_reserved};
 pub use command::Command;
-pub use entry_index::{EntryIndexes, is_consecutive};
+pub use entry_indexes::{EntryIndexes, is_consecutive};
 pub use file_part::{FilePart, next_batch};
 pub use key_value::{KeyValue, OpType};
 pub use log_batch::LogBatch;
 pub use log_item::{LogItem, LogItemContent};
 pub use log_item_batch::LogItemBatch;
-pub use print::{batch_text, print_batch};
+pub use print::{batch_text, print_batch, write_whole};
 pub use raft_base::{
-    CompressionType, EntryIndex, Error, Factory, FileBlockHandle, FileId, FileSeq, LogFileContext,
-    LogQueue, Message, MessageError, MessageExt, PipeLog, ReactiveBytes, Result, Version, codec,
-    compression_type, errors, hash_u64, message, pipe_log, round_down, round_up, unhash_u64, util,
+    B, CompressionType, EntryIndex, Error, Factory, FileBlockHandle, FileId, FileSeq, GIB, KIB,
+    LogFileContext, LogQueue, MIB, Message, MessageError, MessageExt, PIB, PipeLog, ReactiveBytes,
+    ReadableSize, Result, SizeError, TIB, Version, codec, compression_type, crc32, entry_index,
+    errors, hash_u64, message, pipe_log, round_down, round_up, size_from_value, unhash_u64, util,
 };

@@ -20,9 +20,11 @@ use crate::header::{
     seal,
 };
 use crate::laws::log_batches_are_read_again;
-use crate::{Command, CompressionType, LogItem, LogItemBatch, is_reserved};
-use raft_base::codec::BytesSlice;
-use raft_base::{Error, FileBlockHandle, LogFileContext, Message, ReactiveBytes, Result};
+use crate::{Command, LogItem, LogItemBatch, is_reserved};
+use raft_base::{
+    CompressionType, Error, FileBlockHandle, LogFileContext, Message, ReactiveBytes, Result,
+};
+use raft_codec::codec::BytesSlice;
 use std::alloc::{AllocError, Global};
 use std::marker::Model;
 use std::vec;

@@ -12,10 +12,11 @@ ghost use Rattle.raft_records.specs.Range.{IsInRange};
 ghost use Rattle.raft_records.specs.Sizes.{item_size, saturated};
 ghost use Rattle.raft_records.specs.Spelling.{Keeps, item_bytes, content_bytes, IsWritable};
 
-use crate::entry_index::{Placement, UNPLACED};
-use crate::{Command, CompressionType, EntryIndex, EntryIndexes, KeyValue, OpType};
-use raft_base::codec::BytesSlice;
-use raft_base::{Error, FileBlockHandle, Result, codec};
+use crate::entry_indexes::{Placement, UNPLACED};
+use crate::{Command, EntryIndexes, KeyValue, OpType};
+use raft_base::{CompressionType, EntryIndex, Error, FileBlockHandle, Result};
+use raft_codec::codec;
+use raft_codec::codec::BytesSlice;
 use std::alloc::{AllocError, Global};
 use std::io;
 use std::io::ErrorKind;
@@ -79,6 +80,15 @@ impl LogItem {
             raft_group_id,
             content: LogItemContent::Kv(KeyValue::new(op_type, key, value)),
         }
+    }
+
+    /// A change of the same records. There may be no memory for it.
+    #[tactic(auto, using(crate::proofs::CloneLemmas::item_clone))]
+    pub fn clone(&self) -> Result<LogItem>
+        ensures ok { IfOk result (λ copy. item_of copy ≡ item_of self.now) }
+        ensures memory { IfErr result (λ e. e ≡ Error.Memory) }
+    {
+        Ok(<LogItem as Clone>::clone(self)?)
     }
 
     /// The approximate length of the item's bytes, capped at `usize::MAX`.
@@ -225,6 +235,15 @@ impl LogItem {
 }
 
 impl LogItemContent {
+    /// The same change. There may be no memory for it.
+    #[tactic(auto, using(crate::proofs::CloneLemmas::content_clone))]
+    pub fn clone(&self) -> Result<LogItemContent>
+        ensures ok { IfOk result (λ copy. content_of copy ≡ content_of self.now) }
+        ensures memory { IfErr result (λ e. e ≡ Error.Memory) }
+    {
+        Ok(<LogItemContent as Clone>::clone(self)?)
+    }
+
     /// Appends the type byte and the content's bytes. On `Err` some bytes may stand behind those of
     /// the vector.
     fn write(&self, buf: &mut Vec<u8>) -> std::result::Result<(), AllocError>

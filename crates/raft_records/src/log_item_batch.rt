@@ -19,12 +19,15 @@ ghost use Rattle.raft_records.specs.Written.{ItemIsSpelled, BatchIsSpelled};
 ghost use Rattle.raft_records.specs.declared.key_value.OpType.TheVariants.{Put, Del};
 
 use crate::checksum::{LOG_BATCH_CHECKSUM_LEN, sign, verify_checksum};
-use crate::entry_index::Placement;
-use crate::{Command, CompressionType, EntryIndex, LogItem, LogItemContent, OpType};
+use crate::entry_indexes::Placement;
+use crate::{Command, LogItem, LogItemContent, OpType};
 use byteorder::{ByteOrder, LittleEndian};
-use raft_base::codec::BytesSlice;
-use raft_base::util::crc32;
-use raft_base::{Error, FileBlockHandle, FileId, LogFileContext, Message, Result, codec};
+use raft_base::{
+    CompressionType, EntryIndex, Error, FileBlockHandle, FileId, LogFileContext, Message, Result,
+};
+use raft_checksum::crc32;
+use raft_codec::codec;
+use raft_codec::codec::BytesSlice;
 use std::alloc::{AllocError, Global};
 use std::marker::Model;
 use std::{mem, slice, vec};

@@ -1,24 +1,22 @@
 //! Item batches as text.
 
-ghost use Rattle.std.specs.Prelude.{◌≡◌, ◌≢◌, ◌++◌, ◌⊎◌, IfOk, IfErr, IfSome, OnOk, map, string_bytes};
-ghost use Rattle.std.specs.Io.KnownBytes.{IsAtEnd, Keeps};
+ghost use Rattle.std.specs.Prelude.{◌≡◌, ◌≢◌, ◌≤◌, ◌++◌, ◌⊎◌, length, take, IfOk, IfErr, IfSome, OnOk, OnErr, map, string_bytes};
+ghost use Rattle.std.specs.Io.KnownBytes.{Appends, IsAtEnd, Keeps};
 ghost use Rattle.std.specs.List.{flat_map};
 ghost use Rattle.raft_base.specs.Signature.{signature_of};
 ghost use Rattle.raft_records.specs.Grammar.{tail_of};
 ghost use Rattle.raft_records.specs.Item.{item_of, content_of, pair_of};
-ghost use Rattle.raft_records.specs.Lines.{bytes_text, entries_text, command_text, pair_text, content_text, line_of, counts_line, IsTextOf, Prints, IsNoItemBatch, IsPrintFault, IsWriteFailure, IsIoError};
+ghost use Rattle.raft_records.specs.Lines.{bytes_text, entries_text, command_text, pair_text, content_text, line_of, counts_line, IsTextOf, Prints, IsNoItemBatch, IsPrintFault, IsWriteFailure, IsIoError, AppendsFront};
 
-use crate::{
-    Command, CompressionType, EntryIndex, KeyValue, LogItem, LogItemBatch, LogItemContent, OpType,
-};
-use raft_base::{Error, FileBlockHandle, LogFileContext, Result};
+use crate::{Command, KeyValue, LogItem, LogItemBatch, LogItemContent, OpType};
+use raft_base::{CompressionType, EntryIndex, Error, FileBlockHandle, LogFileContext, Result};
 use std::alloc::{AllocError, Global};
-use std::io::{Read, Write};
+use std::io::{self, ErrorKind, Read, Write};
 
 /// Prints the item batch that the whole of `reader` is, in the file of `context`: a line for each
 /// item, and a last one with the number of items and of the bytes that are left unread behind them.
 /// Where the bytes are no item batch, or memory is short, nothing is written. A failure of the
-/// reader or the writer is `Io`.
+/// reader or the writer is `Io`; behind that of the writer a front of the lines may stand.
 pub fn print_batch<R: Read, W: Write>(
     alloc: Global,
     reader: &mut R,
@@ -29,7 +27,8 @@ pub fn print_batch<R: Read, W: Write>(
         Prints input (signature_of context.now) (W.contents writer.old) (W.contents writer.new))) }
     ensures all_read { OnOk result (IsAtEnd (R.remaining reader.new)) }
     ensures silent { IfErr result (λ e. Keeps (W.contents writer.old) (W.contents writer.new)
-        ⊎ IsWriteFailure (R.remaining reader.old) (R.remaining reader.new) (signature_of context.now) e) }
+        ⊎ IsWriteFailure (R.remaining reader.old) (R.remaining reader.new) (signature_of context.now)
+        (W.contents writer.old) (W.contents writer.new) e) }
     ensures refused { IfErr result (λ e. (IsIoError e → ⊥) → e ≢ Error.Memory →
         IfSome (R.remaining reader.old) (λ input. IsNoItemBatch input (signature_of context.now))) }
     ensures fault { IfErr result (λ e. (IsIoError e → ⊥) →
@@ -38,8 +37,53 @@ pub fn print_batch<R: Read, W: Write>(
     let mut input = Vec::new(alloc);
     reader.read_to_end(&mut input)?;
     let text = batch_text(alloc, input.as_slice(), context)?;
-    writer.write_all(text.as_bytes())?;
+    write_whole(writer, text.as_bytes())?;
     Ok(())
+}
+
+/// Writes all of these bytes, and goes on behind a write that took a part or was interrupted. `Io` where the writer
+/// fails; a front of the bytes, and not all of them, was written then.
+pub fn write_whole<W: Write>(writer: &mut W, bytes: &[u8]) -> Result<()>
+    ensures ok { OnOk result (Appends (W.contents writer.old) (W.contents writer.new) bytes.now) }
+    ensures err { OnErr result (AppendsFront (W.contents writer.old) (W.contents writer.new) bytes.now) }
+    ensures fault { IfErr result IsIoError }
+{
+    let mut rest = bytes;
+    for _ in 0..u64::MAX {
+        if rest.is_empty() {
+            break;
+        }
+        let count = write_some(writer, rest)?;
+        rest = &rest[count..];
+    }
+    if rest.is_empty() {
+        Ok(())
+    } else {
+        Err(unwritten())
+    }
+}
+
+/// Writes some of these bytes, and answers how many; none where the write was interrupted.
+fn write_some<W: Write>(writer: &mut W, bytes: &[u8]) -> Result<usize>
+    ensures bound { IfOk result (λ count. count ≤ length bytes.now) }
+    ensures ok { IfOk result
+        (λ count. Appends (W.contents writer.old) (W.contents writer.new) (take count bytes.now)) }
+    ensures err { OnErr result (Keeps (W.contents writer.old) (W.contents writer.new)) }
+    ensures fault { IfErr result IsIoError }
+{
+    match writer.write(bytes) {
+        Ok(0) => Err(unwritten()),
+        Ok(count) => Ok(count),
+        Err(error) if error.kind() == ErrorKind::Interrupted => Ok(0),
+        Err(error) => Err(Error::Io(error)),
+    }
+}
+
+/// A writer took nothing.
+fn unwritten() -> Error
+    ensures { IsIoError result }
+{
+    Error::Io(io::Error::new(ErrorKind::WriteZero, "the writer takes no more"))
 }
 
 /// The text of the item batch that the whole slice is, in the file of `context`: a line for each item,

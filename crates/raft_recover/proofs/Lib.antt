@@ -2,3 +2,4 @@ pub mod FileLemmas
 pub mod OrderLemmas
 pub mod RecoveryLemmas
 pub mod RequestLemmas
+pub mod ShareLemmas

@@ -1,5 +1,5 @@
 -- What a context that has replayed all segments gives, and files as segments.
-use Rattle.std.proofs.Common.{◌≡◌, ◌≢◌, ◌⊎◌, ◌↔◌, inl, inr, ℕ, List, [], ◌∷◌, Option, Result, Ok, Err, IfOk, IfErr, OnOk, Vec, sym, subst}
+use Rattle.std.proofs.Common.{◌≡◌, ◌≢◌, ◌⊎◌, ◌↔◌, ◌<◌, ◌≤◌, ◌^◌, inl, inr, ℕ, length, List, [], ◌∷◌, Option, Result, Ok, Err, IfOk, IfErr, OnOk, Vec, sym, subst}
 use Rattle.std.specs.Global.{Global}
 use Rattle.raft_base.specs.declared.errors.Error.{Error}
 use Rattle.raft_base.specs.declared.errors.Error.TheVariants as errors
@@ -11,6 +11,7 @@ use Rattle.raft_history.specs.Batches.{Event}
 use Rattle.raft_history.specs.Contexts.{Suits, files_of}
 use Rattle.raft_history.specs.Histories.{IsSmall, IsOneReading, IsOfQueue}
 use Rattle.raft_accessor.specs.Accessor.{Accessor, AreCountsOf}
+use Rattle.raft_table.specs.Start.{IsInvalidArgument}
 use Rattle.raft_memtable.specs.RecoverContext.{RecoverContext, IsReading, IsReadingExactly}
 use Rattle.raft_memtable.specs.declared.context_stage.ContextStage.{ContextStage}
 use Rattle.raft_memtable.specs.declared.context_stage.ContextStage.TheVariants as stages
@@ -18,10 +19,10 @@ use Rattle.raft_replay.specs.Replays.{IsReplayed}
 use Rattle.raft_replay.specs.Segments.{ReadsSegments, CannotBeRead, SegmentsAreOf}
 use Rattle.raft_replay.proofs.MachineOrderLemmas.{segments_of}
 use Rattle.raft_replay.proofs.SegmentLemmas.{segments_unique}
-use Rattle.raft_recover.specs.Files.{ReadsFiles, FilesCannotBeRead, HaveTables, IsPrintFailure, PrintsRecovered}
+use Rattle.raft_recover.specs.Files.{ReadsFiles, FilesCannotBeRead, IsPrintFailure, PrintsRecovered}
 use Rattle.raft_recover.specs.Recovery.{IsRecovered}
 use Rattle.raft_recover.specs.Requests.{File}
-use Rattle.raft_recover.specs.TableLines.{PrintsTables}
+use Rattle.raft_recover.specs.TableLines.{PrintsTables, PrintsFrontOfTables}
 
 -- ---- the context of all segments
 
@@ -61,6 +62,40 @@ module _ (queue : LogQueue) (segments : List (Vec Part Global)) (of_queue : Segm
         subst (λ s. is_failed s → ⊥) (sym reading) (λ none. none) (subst is_failed (sym failed.1) tt);
   }
 
+-- ---- other segments of which the same is read
+
+module _ (queue : LogQueue) (segments shares : List (Vec Part Global)) (same : (h : List Event) → ReadsSegments segments h ↔ ReadsSegments shares h)
+    (of_queue : (q : LogQueue) → SegmentsAreOf q segments ↔ SegmentsAreOf q shares) where
+  pub shares_recovered : (r : Result Accessor Error) → IfOk r (IsRecovered queue (ReadsSegments shares)) → IfOk r (IsRecovered queue (ReadsSegments segments))
+  shares_recovered (Ok a) r = record {
+    history = r.history;
+    reads = (same r.history).1 r.reads;
+    sound = r.sound;
+    one_reading = r.one_reading;
+    exact_counts = r.exact_counts;
+  }
+  shares_recovered (Err e) r = tt
+
+  pub shares_accepted : (workers : ℕ) (r : Result Accessor Error) → OnOk r ((0 < workers) × (workers ≤ 256) × SegmentsAreOf queue shares)
+      → OnOk r ((0 < workers) × (workers ≤ 256) × SegmentsAreOf queue segments)
+  shares_accepted workers (Ok a) p = (p.0, p.1, (of_queue queue).1 p.2)
+  shares_accepted workers (Err e) p = tt
+
+  module _ (workers : ℕ) (few : length segments < 2 ^ 62) (few_shares : length shares < 2 ^ 62) where
+    abbrev CanStart : List (Vec Part Global) → Type 0
+    CanStart ss = (0 < workers) × (workers ≤ 256) × (length ss < 2 ^ 62) × SegmentsAreOf queue ss
+
+    pub shares_refused : (r : Result Accessor Error) → (CanStart shares → IfErr r (λ e. e ≢ errors.Memory → CannotBeRead shares))
+        → CanStart segments → IfErr r (λ e. e ≢ errors.Memory → CannotBeRead segments)
+    shares_refused (Ok a) refused good = tt
+    shares_refused (Err e) refused good = λ not_memory. record {
+      unsound = λ h reads. (refused (good.0, good.1, few_shares, (of_queue queue).0 good.3) not_memory).unsound h ((same h).0 reads);
+    }
+
+    pub shares_at_fault : (r : Result Accessor Error) → ((CanStart shares → ⊥) → IfErr r (λ e. e ≢ errors.Memory → IsInvalidArgument e))
+        → (CanStart segments → ⊥) → IfErr r (λ e. e ≢ errors.Memory → IsInvalidArgument e)
+    shares_at_fault r fault bad = fault (λ good. bad (good.0, good.1, few, (of_queue queue).1 good.3))
+
 -- ---- files as segments
 
 module _ (queue : LogQueue) (version : Version) (ss : List (Vec Part Global)) (files : List File)
@@ -82,23 +117,24 @@ module _ (queue : LogQueue) (version : Version) (ss : List (Vec Part Global)) (f
     tables_printed (Ok x) old new done = record { accessor = a; recovered = files_recovered a r; printed = done }
     tables_printed (Err e) old new done = tt
 
-    found : HaveTables queue version files
-    found = record { accessor = a; recovered = files_recovered a r }
+    module _ (old new : Option (List ℕ)) where
+      failed : (e : Error) → IsIoError e → PrintsFrontOfTables a old new → IsPrintFailure queue version files old new e
+      failed e io printed = record { io = io; printed = record { accessor = a; recovered = files_recovered a r; printed = printed } }
 
-    kept_or_failed : (K : Type 0) (e : Error) → ((IsIoError e → ⊥) → K) → K ⊎ IsPrintFailure queue version files e
-    kept_or_failed K (errors.Io x) silent = inr (record { io = tt; found = found })
-    kept_or_failed K e silent = inl (silent (λ io. io))
+      kept_or_failed : (K : Type 0) (e : Error) → ((IsIoError e → ⊥) → K) → (IsIoError e → PrintsFrontOfTables a old new) → K ⊎ IsPrintFailure queue version files old new e
+      kept_or_failed K (errors.Io x) silent printed = inr (failed (errors.Io x) tt (printed tt))
+      kept_or_failed K e silent printed = inl (silent (λ io. io))
 
-    pub tables_found : {X : Type 0} (printed : Result X Error) (K : Type 0) → IfErr printed (λ e. (IsIoError e → ⊥) → K)
-        → IfErr printed (λ e. K ⊎ IsPrintFailure queue version files e)
-    tables_found (Ok x) K silent = tt
-    tables_found (Err e) K silent = kept_or_failed K e silent
+      pub tables_found : {X : Type 0} (printed : Result X Error) (K : Type 0) → IfErr printed (λ e. (IsIoError e → ⊥) → K)
+          → IfErr printed (λ e. IsIoError e → PrintsFrontOfTables a old new) → IfErr printed (λ e. K ⊎ IsPrintFailure queue version files old new e)
+      tables_found (Ok x) K silent front = tt
+      tables_found (Err e) K silent front = kept_or_failed K e silent front
 
-    failed_by : (e : Error) → ((IsIoError e → ⊥) → e ≡ errors.Memory) → e ≢ errors.Memory → IsPrintFailure queue version files e
-    failed_by (errors.Io x) fault not_memory = record { io = tt; found = found }
-    failed_by e fault not_memory = absurd (not_memory (fault (λ io. io)))
+      failed_by : (e : Error) → ((IsIoError e → ⊥) → e ≡ errors.Memory) → (IsIoError e → PrintsFrontOfTables a old new) → e ≢ errors.Memory → IsPrintFailure queue version files old new e
+      failed_by (errors.Io x) fault front not_memory = failed (errors.Io x) tt (front tt)
+      failed_by e fault front not_memory = absurd (not_memory (fault (λ io. io)))
 
-    pub print_failed : {X : Type 0} (printed : Result X Error) → IfErr printed (λ e. (IsIoError e → ⊥) → e ≡ errors.Memory)
-        → IfErr printed (λ e. e ≢ errors.Memory → FilesCannotBeRead queue version files ⊎ IsPrintFailure queue version files e)
-    print_failed (Ok x) fault = tt
-    print_failed (Err e) fault = λ not_memory. inr (failed_by e fault not_memory)
+      pub print_failed : {X : Type 0} (printed : Result X Error) → IfErr printed (λ e. (IsIoError e → ⊥) → e ≡ errors.Memory)
+          → IfErr printed (λ e. IsIoError e → PrintsFrontOfTables a old new) → IfErr printed (λ e. e ≢ errors.Memory → FilesCannotBeRead queue version files ⊎ IsPrintFailure queue version files old new e)
+      print_failed (Ok x) fault front = tt
+      print_failed (Err e) fault front = λ not_memory. inr (failed_by e fault front not_memory)

@@ -1,13 +1,13 @@
 -- What the program's requests ask for, and the bytes of files, as plain values.
 use Rattle.std.specs.Prelude.{ℕ, List, map, string_bytes, Vec}
 use Rattle.std.specs.Global.{Global}
-use Rattle.raft_recover.specs.declared.request.Recovery.{Recovery}
+use Rattle.raft_recover.specs.declared.request.RecoverWords.{RecoverWords}
 use Rattle.raft_recover.specs.declared.request.Request.{Request}
 use Rattle.raft_recover.specs.declared.request.Request.TheVariants.{Batch, Recover}
 use Rattle.raft_recover.specs.Requests as requests
 
 -- a recovery by the words of its files
-abbrev pub asks_for : Recovery → requests.AskedRecovery
+abbrev pub asks_for : RecoverWords → requests.AskedRecovery
 asks_for r = record { queue = r.queue; version = r.version; workers = r.workers; files = map string_bytes r.files.now }
 
 -- the words ask for it

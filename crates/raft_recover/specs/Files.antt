@@ -12,7 +12,7 @@ use Rattle.raft_accessor.specs.Accessor.{Accessor}
 use Rattle.raft_replay.specs.Segments.{ReadsPart, ReadsEach}
 use Rattle.raft_recover.specs.Recovery.{IsRecovered}
 use Rattle.raft_recover.specs.Requests.{File}
-use Rattle.raft_recover.specs.TableLines.{PrintsTables}
+use Rattle.raft_recover.specs.TableLines.{PrintsTables, PrintsFrontOfTables}
 
 -- all of a file's bytes
 abbrev pub whole_file : LogQueue → Version → File → Part
@@ -26,21 +26,22 @@ ReadsFiles queue version files h = ReadsEach (λ file. ReadsPart (whole_file que
 pub record FilesCannotBeRead (queue : LogQueue) (version : Version) (files : List File) : Type 0 where
   pub unsound : (h : List Event) → ReadsFiles queue version files h → IsSmall h → ¬ (Sound h)
 
--- recovery of the files gives tables
-pub record HaveTables (queue : LogQueue) (version : Version) (files : List File) : Type 0 where
-  pub accessor : Accessor
-  pub recovered : IsRecovered queue (ReadsFiles queue version files) accessor
-
--- the writer failed, once the tables were found
-pub record IsPrintFailure (queue : LogQueue) (version : Version) (files : List File) (e : Error) : Type 0 where
-  pub io : IsIoError e
-  pub found : HaveTables queue version files
-
 -- the lines of the files' tables were written behind the old bytes, where those are known
 pub record PrintsRecovered (queue : LogQueue) (version : Version) (files : List File) (old new : Option (List ℕ)) : Type 0 where
   pub accessor : Accessor
   pub recovered : IsRecovered queue (ReadsFiles queue version files) accessor
   pub printed : PrintsTables accessor old new
+
+-- a front of the lines of the files' tables, and not all of them, was written behind the old bytes, where those are known
+pub record PrintsFrontOfRecovered (queue : LogQueue) (version : Version) (files : List File) (old new : Option (List ℕ)) : Type 0 where
+  pub accessor : Accessor
+  pub recovered : IsRecovered queue (ReadsFiles queue version files) accessor
+  pub printed : PrintsFrontOfTables accessor old new
+
+-- the writer failed, once the tables were found: of their lines a front was written, and not all
+pub record IsPrintFailure (queue : LogQueue) (version : Version) (files : List File) (old new : Option (List ℕ)) (e : Error) : Type 0 where
+  pub io : IsIoError e
+  pub printed : PrintsFrontOfRecovered queue version files old new
 
 -- the parts of a segment
 abbrev pub segment_shown : Vec Part Global → List Part

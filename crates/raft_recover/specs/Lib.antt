@@ -4,3 +4,13 @@ pub mod AskedRequests
 pub mod Requests
 pub mod Programs
 pub mod TableLines
+pub mod Shares
+pub use Rattle.raft_shared.specs.SharedCalls
+pub use Rattle.raft_shared.specs.Slot
+pub use Rattle.raft_tickets.specs.Draws
+pub use Rattle.raft_tickets.specs.Weights
+pub use Rattle.raft_replay.specs.PieceMerges
+pub use Rattle.raft_replay.specs.Plans
+pub use Rattle.raft_replay.specs.Replays
+pub use Rattle.raft_replay.specs.Schedules
+pub use Rattle.raft_replay.specs.Segments

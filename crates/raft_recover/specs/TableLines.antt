@@ -7,6 +7,7 @@ use Rattle.std.specs.List.{flat_map}
 use Rattle.std.specs.List.Sorted.{IsPermutation, IsNonDecreasingBy}
 use Rattle.raft_base.specs.declared.pipe_log.LogQueue.TheVariants.{Append, Rewrite}
 use Rattle.raft_base.specs.declared.entry_index.EntryIndex.{EntryIndex}
+use Rattle.raft_records.specs.Lines.{AppendsFront}
 use Rattle.raft_history.specs.RegionSteps.{Tables}
 use Rattle.raft_accessor.specs.Accessor.{Accessor}
 use Rattle.raft_table.specs.Counts.{Counts, live}
@@ -62,3 +63,9 @@ pub record PrintsTables (accessor : Accessor) (old new : Option (List ℕ)) : Ty
   pub text : List ℕ
   pub of_tables : IsTextOfTables accessor text
   pub written : Appends old new text
+
+-- a front of the text, and not all of it, was written behind the old bytes, where those are known
+pub record PrintsFrontOfTables (accessor : Accessor) (old new : Option (List ℕ)) : Type 0 where
+  pub text : List ℕ
+  pub of_tables : IsTextOfTables accessor text
+  pub written : AppendsFront old new text

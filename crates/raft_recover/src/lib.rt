@@ -1,17 +1,26 @@
 //! Recovery of tables from log files, on 1 to 256 threads, and the program over it.
 #![tactic(auto)]
 
-pub mod cutting;
+pub mod files;
+pub mod program;
 pub mod recovered;
 pub mod recovery;
 pub mod request;
-pub mod run;
+pub mod shares;
 
+pub use program::{command_words, run, run_without_words};
+pub use raft_accessor::MemTableAccessor;
+pub use raft_base::{EntryIndex, Error, Factory, FileId, FileSeq, LogQueue, Result, Version};
+pub use raft_history::ReplayMachine;
+pub use raft_memtable::{MemTableRecoverContext, MemTableRecoverContextFactory};
+pub use raft_records::{FilePart, LogBatch, LogItem};
 pub use raft_replay::{
-    Gate, MAX_WORKERS, OpenGate, Plan, Segment, TicketSeat, Tickets, cut_part, gate, merge_pieces,
-    piece_count, pieces, plan, replay_scheduled, replay_segment, replay_segments, scheduled,
-    segment, segments_read_as_one_history, ticket_seat, tickets, workers,
+    Gate, MAX_WORKERS, OpenGate, Plan, Segment, cut_part, gate, merge_pieces, piece_count, pieces,
+    plan, replay_scheduled, replay_segment, replay_segments, scheduled, segment,
+    segments_read_as_one_history, workers,
 };
 pub use raft_shared::{SharedAccessor, Slot, shared_accessor, slot};
+pub use raft_table::{GlobalStats, MemTable, TableChange};
+pub use raft_tickets::{TicketSeat, Tickets, ticket_seat, tickets};
 pub use recovered::print_recovered;
 pub use recovery::{recover, recover_bytes};

@@ -5,14 +5,18 @@ ghost use Rattle.std.specs.List.Sorted.{IsPermutation, IsNonDecreasingBy};
 ghost use Rattle.std.specs.Io.KnownBytes.{Keeps};
 ghost use Rattle.std.specs.List.{flat_map};
 ghost use Rattle.raft_records.specs.Lines.{IsIoError};
-ghost use Rattle.raft_recover.specs.TableLines.{range_text, file_text, region_text, table_line, cleaned_text, cleaned_line, live_line, IsTextOfTables, PrintsTables};
+ghost use Rattle.raft_recover.specs.TableLines.{range_text, file_text, region_text, table_line, cleaned_text, cleaned_line, live_line, IsTextOfTables, PrintsTables, PrintsFrontOfTables};
 
-use raft_memtable::{Error, FileSeq, GlobalStats, LogQueue, MemTable, MemTableAccessor, Result};
+use raft_accessor::MemTableAccessor;
+use raft_base::{Error, FileSeq, LogQueue, Result};
+use raft_records::write_whole;
+use raft_table::{GlobalStats, MemTable};
 use std::alloc::{AllocError, Global};
 use std::io::Write;
 
 /// Prints the tables of all regions, a line for each by rising region, then the cleaned regions and the numbers of live
-/// records. Where memory is short nothing is written. A failure of the writer is `Io`.
+/// records. Where memory is short nothing is written. A failure of the writer is `Io`; a front of the lines may stand
+/// then, and not all of them.
 pub fn print_recovered<W: Write>(
     alloc: Global,
     accessor: &MemTableAccessor,
@@ -20,10 +24,12 @@ pub fn print_recovered<W: Write>(
 ) -> Result<()>
     ensures ok { OnOk result (PrintsTables accessor.now (W.contents writer.old) (W.contents writer.new)) }
     ensures silent { IfErr result (λ e. (IsIoError e → ⊥) → Keeps (W.contents writer.old) (W.contents writer.new)) }
+    ensures cut_short { IfErr result (λ e. IsIoError e →
+        PrintsFrontOfTables accessor.now (W.contents writer.old) (W.contents writer.new)) }
     ensures fault { IfErr result (λ e. (IsIoError e → ⊥) → e ≡ Error.Memory) }
 {
     let text = recovered_text(alloc, accessor)?;
-    writer.write_all(text.as_bytes())?;
+    write_whole(writer, text.as_bytes())?;
     Ok(())
 }
 

@@ -20,17 +20,26 @@ ghost use Rattle.raft_recover.specs.Files.{FilesCannotBeRead, IsPrintFailure, Pr
 ghost use Rattle.raft_recover.specs.Recovery.{IsRecovered};
 ghost use Rattle.raft_recover.specs.AskedRequests.{file_shown};
 
-use crate::cutting::file_segments;
+use crate::files::file_segments;
 use crate::recovered::print_recovered;
+use crate::shares::equal_shares;
+use raft_accessor::MemTableAccessor;
 use raft_base::{Error, FileSeq, LogQueue, Result, Version};
-use raft_memtable::{MemTableAccessor, MemTableRecoverContextFactory};
-use raft_replay::{OpenGate, Segment, replay_segments};
+use raft_memtable::MemTableRecoverContextFactory;
+use raft_replay::{MAX_WORKERS, OpenGate, Segment, replay_segments};
 use std::alloc::Global;
 use std::io::Write;
 use std::thread::Threads;
 
+/// Segments must be fewer: workers draw their numbers from tickets, which are as many.
+const SEGMENT_LIMIT: usize = 1 << 62;
+
+/// How many bytes a worker gets at least, if there are as many: below that a further piece costs more than its worker saves.
+const LEAST_SHARE: usize = 1 << 20;
+
 /// The tables of all regions, their cleaned regions and live counts: those of reading the batches of all segments, of
-/// one queue, in order. They are read by 1 to 256 workers, each of which takes the next segment that is left.
+/// one queue, in order. They are read by 1 to 256 workers, each of which reads a share of about as many bytes as the others,
+/// however the segments were cut (see [`equal_shares`]).
 ///
 /// What is proved of it: for every list of segments of the queue, for every number of workers and whatever their turns,
 /// an `Ok` has what one reading of all batches in order gives, and an `Err` other than `Memory` comes only where that
@@ -57,17 +66,41 @@ pub fn recover<R: Threads + Sync>(
     ensures fault { ((0 < workers) × (workers ≤ 256) × (length segments.entry.now < 2 ^ 62) ×
         SegmentsAreOf queue segments.entry.now → ⊥) → IfErr result (λ e. e ≢ Error.Memory → IsInvalidArgument e) }
 {
+    if segments.len() >= SEGMENT_LIMIT {
+        return Err(Error::InvalidArgument(format!(in alloc; "2^62 segments or more")?));
+    }
+    let count = workers.clamp(1, MAX_WORKERS);
+    let shares = equal_shares(alloc, segments, count, LEAST_SHARE)?;
+    recover_segments(rt, alloc, shares.as_slice(), queue, workers)
+}
+
+/// The same, but the segments are read as they are: each worker takes the next one that is left.
+pub fn recover_segments<R: Threads + Sync>(
+    rt: &R,
+    alloc: Global,
+    segments: &[Segment],
+    queue: LogQueue,
+    workers: usize,
+) -> Result<MemTableAccessor>
+    ensures ok { IfOk result (IsRecovered queue (ReadsSegments segments.entry.now)) }
+    ensures accepted { OnOk result ((0 < workers) × (workers ≤ 256) × SegmentsAreOf queue segments.entry.now) }
+    ensures refused { (0 < workers) × (workers ≤ 256) × (length segments.entry.now < 2 ^ 62)
+        × SegmentsAreOf queue segments.entry.now
+        → IfErr result (λ e. e ≢ Error.Memory → CannotBeRead segments.entry.now) }
+    ensures fault { ((0 < workers) × (workers ≤ 256) × (length segments.entry.now < 2 ^ 62) ×
+        SegmentsAreOf queue segments.entry.now → ⊥) → IfErr result (λ e. e ≢ Error.Memory → IsInvalidArgument e) }
+{
     let factory = MemTableRecoverContextFactory::new();
     let context = replay_segments(rt, alloc, &factory, segments, queue, workers, &OpenGate)?;
     context.finish()
 }
 
-/// Prints the tables that the files of a queue give: what `raftlog recover` does once it has read them. Where there are
-/// fewer files than workers, files are cut between batches. The lines are those of [`print_recovered`].
+/// Prints the tables that the files of a queue give: what `raftlog recover` does once it has read them. The lines are those
+/// of [`print_recovered`].
 ///
 /// # Errors
 ///
-/// Those of [`recover`], with nothing written, and then `Io` where the writer fails.
+/// Those of [`recover`], with nothing written, and then `Io` where the writer fails: a front of the lines may stand then.
 pub fn recover_bytes<R: Threads + Sync, W: Write>(
     rt: &R,
     alloc: Global,
@@ -81,15 +114,15 @@ pub fn recover_bytes<R: Threads + Sync, W: Write>(
         (PrintsRecovered queue version (map file_shown files.items) (W.contents writer.old) (W.contents writer.new)) }
     ensures accepted { OnOk result ((0 < workers) × (workers ≤ 256)) }
     ensures silent { IfErr result (λ e. Keeps (W.contents writer.old) (W.contents writer.new)
-        ⊎ IsPrintFailure queue version (map file_shown files.items) e) }
+        ⊎ IsPrintFailure queue version (map file_shown files.items) (W.contents writer.old) (W.contents writer.new) e) }
     ensures refused { (0 < workers) × (workers ≤ 256) × (length files.items < 2 ^ 62)
         → IfErr result (λ e. e ≢ Error.Memory
         → FilesCannotBeRead queue version (map file_shown files.items)
-        ⊎ IsPrintFailure queue version (map file_shown files.items) e) }
+        ⊎ IsPrintFailure queue version (map file_shown files.items) (W.contents writer.old) (W.contents writer.new) e) }
     ensures fault { ((0 < workers) × (workers ≤ 256) × (length files.items < 2 ^ 62) → ⊥) →
         IfErr result (λ e. e ≢ Error.Memory → IsInvalidArgument e) }
 {
-    let segments = file_segments(queue, version, workers, files)?;
+    let segments = file_segments(queue, version, files)?;
     let accessor = recover(rt, alloc, segments.as_slice(), queue, workers)?;
     print_recovered(alloc, &accessor, writer)
 }

@@ -17,12 +17,12 @@ pub enum Request<'a> {
     /// The lines of the item batch in the input, which is of this file.
     Batch(LogFileContext),
     /// The lines of the tables that files give.
-    Recover(Recovery<'a>),
+    Recover(RecoverWords<'a>),
 }
 
-/// Files of a queue whose tables are asked for.
+/// The words that ask for the tables of files of a queue.
 #[derive(Clone, Copy)]
-pub struct Recovery<'a> {
+pub struct RecoverWords<'a> {
     pub queue: LogQueue,
     pub version: Version,
     pub workers: usize,
@@ -71,7 +71,7 @@ fn file_named(queue: &str, seq: &str, version: &str) -> Option<LogFileContext>
 }
 
 /// The files whose tables the words ask for.
-fn recovery_request(words: &[String]) -> Option<Recovery<'_>>
+fn recovery_request(words: &[String]) -> Option<RecoverWords<'_>>
     ensures asked { IfSome result (λ r. AsksRecovery (map string_bytes words.now) (asks_for r)) }
     ensures refused { IfNone result ((recovery : AskedRecovery) → AsksRecovery (map string_bytes words.now) recovery
         → ⊥) }
@@ -82,7 +82,7 @@ fn recovery_request(words: &[String]) -> Option<Recovery<'_>>
     if command.as_str() != "recover" || !name_paths(files) {
         return None;
     }
-    Some(Recovery {
+    Some(RecoverWords {
         queue: queue_named(queue.as_str())?,
         version: version_named(version.as_str())?,
         workers: number_named(workers.as_str())? as usize,

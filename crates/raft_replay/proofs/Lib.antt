@@ -5,4 +5,5 @@ pub mod LiningLemmas
 pub mod MergeLemmas
 pub mod MidwayLemmas
 pub mod SegmentLemmas
+pub mod WalkLemmas
 pub mod WorkedLemmas

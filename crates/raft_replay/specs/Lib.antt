@@ -2,6 +2,7 @@ pub mod Covers
 pub mod Cuts
 pub mod MachineOrder
 pub mod PieceMerges
+pub mod PlanWalks
 pub mod Plans
 pub mod Replays
 pub mod Schedules

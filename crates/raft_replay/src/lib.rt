@@ -14,8 +14,6 @@ pub use cutting::cut_part;
 pub use gate::{Gate, OpenGate};
 pub use pieces::merge_pieces;
 pub use plan::Plan;
-pub use raft_history::ReplayMachine;
-pub use raft_tickets::{TicketSeat, Tickets, ticket_seat, tickets};
 pub use scheduled::{piece_count, replay_scheduled};
 pub use segment::{Segment, replay_segment, segments_read_as_one_history};
 pub use workers::{MAX_WORKERS, replay_segments};

@@ -1,19 +1,44 @@
 //! Pieces of a queue, merged by a plan.
 
-ghost use Rattle.std.specs.Prelude.{◌≡◌, ◌≢◌, ◌+◌, ◌<◌, ◌↔◌, IsTrue, List, ◌++◌, length, IfOk, IfErr, OnOk, vec_len};
+ghost use Rattle.std.specs.Prelude.{
+  ◌≡◌,
+  ◌≢◌,
+  ◌+◌,
+  ◌*◌,
+  ◌<◌,
+  ◌≤◌,
+  ◌↔◌,
+  IsTrue,
+  List,
+  ◌∷◌,
+  ◌++◌,
+  length,
+  reverse,
+  IfOk,
+  IfErr,
+  OnOk,
+  vec_len,
+};
 ghost use Rattle.std.specs.Thread.{IsSync};
 ghost use denote.Param.Send.{IsSend};
 ghost use Rattle.raft_table.specs.Start.{IsInvalidArgument};
 ghost use Rattle.raft_replay.specs.PieceMerges.{IsMerged, CannotMerge, Merges};
+ghost use Rattle.raft_replay.specs.PlanWalks.{IsNext, IsReached, cost};
 ghost use Rattle.raft_replay.specs.Plans.{leaves};
+ghost use Rattle.raft_tickets.specs.Weights.{weigh};
 
 use crate::Plan;
 use raft_base::{Error, LogQueue, Result};
 use raft_history::ReplayMachine;
 use std::thread::{Threads, join};
 
-/// Merges neighbouring pieces as the plan says, both branches at once; a branch for which no thread can be started is
-/// walked by the caller. `InvalidArgument` where the plan is of another number of pieces.
+/// Through how many levels of joins the branches are merged at once: more than any plan by halves has.
+pub(crate) const MAX_LEVELS: usize = 64;
+
+/// Merges neighbouring pieces as the plan says: both branches of a join at once, where both have pieces to merge, through
+/// 64 levels of the plan, which is more than any plan by halves has; what lies deeper is merged one after another. A
+/// branch for which no thread can be started is walked by the caller. However deep the plan is, little stack is needed.
+/// `InvalidArgument` where the plan is of another number of pieces.
 pub fn merge_pieces<M: ReplayMachine, R: Threads + Sync>(
     rt: &R,
     pieces: Vec<M>,
@@ -32,7 +57,7 @@ pub fn merge_pieces<M: ReplayMachine, R: Threads + Sync>(
             "the plan merges another number of pieces"
         )?));
     }
-    merge_at_once(rt, pieces, plan, queue)
+    merge_at_once(rt, pieces, plan, queue, MAX_LEVELS)
 }
 
 /// Whether the plan is of these pieces.
@@ -42,66 +67,155 @@ pub(crate) fn fits<M: ReplayMachine>(pieces: &Vec<M>, plan: &Plan) -> bool
     plan.leaves() == pieces.len()
 }
 
-/// The pieces of each branch are merged at once.
+/// What waits while a plan is walked.
+#[derive(Drop)]
+pub(crate) enum Waiting<'a, M> {
+    /// A plan that is still to be walked.
+    Unmerged(&'a Plan),
+    /// What the pieces of a plan are merged to.
+    Merged(M),
+}
+
+/// The pieces are merged one after another, on the caller's thread. What waits stands in a list on the heap, so that no
+/// stack is needed, however deep the plan is.
+pub(crate) fn merge_in_turn<M: ReplayMachine>(
+    mut pieces: Vec<M>,
+    plan: &Plan,
+    queue: LogQueue,
+) -> Result<M>
+    requires { leaves plan.now ≡ vec_len pieces }
+    ensures { Merges M.stands_for M.stands_exactly queue pieces.items result }
+{
+    pieces.reverse();
+    let mut waiting = Vec::new(*pieces.allocator());
+    let oldest = oldest_of(plan, &mut waiting, &mut pieces)?;
+    merge_waiting(oldest, waiting, pieces, queue)
+}
+
+/// The oldest piece of a plan; the plans behind it wait. Of the pieces that are left the oldest stands last.
+fn oldest_of<'a, M: ReplayMachine>(
+    mut plan: &'a Plan,
+    waiting: &mut Vec<Waiting<'a, M>>,
+    pieces: &mut Vec<M>,
+) -> Result<M>
+    requires { leaves plan.now ≤ vec_len pieces.old }
+    ensures ok { (all : List M) → IsNext M.stands_for M.stands_exactly all plan.entry.now (reverse waiting.old.items)
+        (reverse pieces.old.items) → IfOk result (IsReached M.stands_for M.stands_exactly all
+        (reverse waiting.new.items) (reverse pieces.new.items)) }
+    ensures cost { OnOk result (weigh cost waiting.new.items + 2 ≡ weigh cost waiting.old.items + 2 * leaves plan.entry.now) }
+    ensures fault { IfErr result (λ e. e ≡ Error.Memory) }
+{
+    while let Plan::Join(left, right) = plan {
+        waiting.push(Waiting::Unmerged(right))?;
+        plan = left;
+    }
+    let Some(piece) = pieces.pop() else {
+        unreachable!()
+    };
+    Ok(piece)
+}
+
+/// Merges a machine with all that waits for it.
+fn merge_waiting<M: ReplayMachine>(
+    mut merged: M,
+    mut waiting: Vec<Waiting<'_, M>>,
+    mut pieces: Vec<M>,
+    queue: LogQueue,
+) -> Result<M>
+    requires { (all : List M) × IsReached M.stands_for M.stands_exactly all (reverse waiting.items) (reverse pieces.items)
+        merged }
+    ensures { (all : List M) → IsReached M.stands_for M.stands_exactly all (reverse waiting.entry.items) (reverse pieces.items)
+        merged → Merges M.stands_for M.stands_exactly queue all result }
+{
+    while let Some(next) = waiting.pop() {
+        merged = merge_next(next, merged, &mut waiting, &mut pieces, queue)?;
+    }
+    Ok(merged)
+}
+
+/// Merges a machine with what waits next, if that is merged; else it waits itself, for the oldest piece of what is not.
+fn merge_next<'a, M: ReplayMachine>(
+    next: Waiting<'a, M>,
+    merged: M,
+    waiting: &mut Vec<Waiting<'a, M>>,
+    pieces: &mut Vec<M>,
+    queue: LogQueue,
+) -> Result<M>
+    requires { (all : List M) × IsReached M.stands_for M.stands_exactly all (next ∷ reverse waiting.old.items)
+        (reverse pieces.old.items) merged }
+    ensures ok { (all : List M) → IsReached M.stands_for M.stands_exactly all (next.entry ∷ reverse waiting.old.items)
+        (reverse pieces.old.items) merged → IfOk result (IsReached M.stands_for M.stands_exactly all
+        (reverse waiting.new.items) (reverse pieces.new.items)) }
+    ensures cost { OnOk result (weigh cost waiting.new.items < weigh cost waiting.old.items + cost next.entry) }
+    ensures refused { IfErr result (λ e. e ≢ Error.Memory → (all : List M) → IsReached M.stands_for M.stands_exactly all
+        (next.entry ∷ reverse waiting.old.items) (reverse pieces.old.items) merged → CannotMerge M.stands_for queue all) }
+{
+    match next {
+        Waiting::Merged(mut older) => {
+            older.merge(merged, queue)?;
+            Ok(older)
+        }
+        Waiting::Unmerged(plan) => {
+            waiting.push(Waiting::Merged(merged))?;
+            oldest_of(plan, waiting, pieces)
+        }
+    }
+}
+
+/// As `merge_in_turn`, but through so many levels of the plan the pieces of both plans of a join are merged at once, where
+/// both have some to merge.
 pub(crate) fn merge_at_once<M: ReplayMachine, R: Threads + Sync>(
     rt: &R,
     pieces: Vec<M>,
     plan: &Plan,
     queue: LogQueue,
+    levels: usize,
 ) -> Result<M>
     requires { leaves plan.now ≡ vec_len pieces }
     ensures { Merges M.stands_for M.stands_exactly queue pieces.items result }
 {
     match plan {
-        Plan::One => only_piece(pieces),
-        Plan::Join(left, right) => {
+        Plan::Join(left, right) if levels > 0 => {
             let left: &Plan = left;
             let right: &Plan = right;
             let (pieces, rest) = cut(pieces, left, right)?;
+            let below = levels - 1;
             let front = move || -> Result<M>
                 requires { IsSync R.row × IsSend M.row × (leaves left.now ≡ vec_len pieces) }
                 ensures { Merges M.stands_for M.stands_exactly queue pieces.items result }
-            { merge_at_once(rt, pieces, left, queue) };
+            { merge_at_once(rt, pieces, left, queue, below) };
             let back = move || -> Result<M>
                 requires { IsSync R.row × IsSend M.row × (leaves right.now ≡ vec_len rest) }
                 ensures { Merges M.stands_for M.stands_exactly queue rest.items result }
-            { merge_at_once(rt, rest, right, queue) };
-            let (older, newer) = join(rt, front, back);
+            { merge_at_once(rt, rest, right, queue, below) };
+            let (older, newer) = both(rt, is_join(left) && is_join(right), front, back);
             merge_both(older, newer, queue)
         }
+        _ => merge_in_turn(pieces, plan, queue),
     }
 }
 
-/// The pieces are merged one after another, on the caller's thread.
-pub(crate) fn merge_in_turn<M: ReplayMachine>(
-    pieces: Vec<M>,
-    plan: &Plan,
-    queue: LogQueue,
-) -> Result<M>
-    requires { leaves plan.now ≡ vec_len pieces }
-    ensures { Merges M.stands_for M.stands_exactly queue pieces.items result }
-{
-    match plan {
-        Plan::One => only_piece(pieces),
-        Plan::Join(left, right) => {
-            let (pieces, rest) = cut(pieces, left, right)?;
-            let older = merge_in_turn(pieces, left, queue);
-            let newer = merge_in_turn(rest, right, queue);
-            merge_both(older, newer, queue)
-        }
-    }
+/// Whether the plan has pieces to merge.
+fn is_join(plan: &Plan) -> bool {
+    matches!(plan, Plan::Join(_, _))
 }
 
-/// One piece, merged with none.
-fn only_piece<M: ReplayMachine>(mut pieces: Vec<M>) -> Result<M>
-    requires { vec_len pieces ≡ 1 }
-    ensures ok { IfOk result (IsMerged M.stands_for M.stands_exactly pieces.items) }
-    ensures accepted { IfErr result (λ _. ⊥) }
+/// What both calls answer, which are made at once or one after the other.
+fn both<R: Threads, F: FnOnce() -> A + Send, G: FnOnce() -> B, A: Send, B>(
+    rt: &R,
+    at_once: bool,
+    first: F,
+    second: G,
+) -> (A, B)
+    requires { F.pre first × G.pre second }
+    ensures first { F.post first result.0 }
+    ensures second { G.post second result.1 }
 {
-    let Some(piece) = pieces.pop() else {
-        unreachable!()
-    };
-    Ok(piece)
+    if at_once {
+        return join(rt, first, second);
+    }
+    let one = first();
+    (one, second())
 }
 
 /// The pieces of the first plan, and those of the second.

@@ -1,13 +1,14 @@
 //! Plans of merging pieces.
 
-ghost use Rattle.std.specs.Prelude.{◌≡◌, ◌-◌, ◌^◌, ◌<◌, min, IfOk, IfErr};
+ghost use Rattle.std.specs.Prelude.{◌≡◌, ◌+◌, ◌*◌, ◌-◌, ◌^◌, ◌<◌, min, IfOk, IfErr};
 ghost use Rattle.raft_replay.specs.Plans.{leaves, IsByHalves};
+ghost use Rattle.raft_replay.specs.PlanWalks.{heft};
 
 use raft_base::{Error, Result};
 use std::alloc::Global;
 
 /// How pieces that lie one behind the other are merged, two neighbours at a time.
-#[derive(Debug, Drop)]
+#[derive(Debug)]
 pub enum Plan {
     /// One piece as it is.
     One,
@@ -15,15 +16,78 @@ pub enum Plan {
     Join(Box<Plan>, Box<Plan>),
 }
 
+/// Takes the plan apart in a loop, so that no stack is needed, however deep it is.
+impl Drop for Plan {
+    fn drop(mut self) {
+        loop {
+            match self {
+                Plan::One => return,
+                Plan::Join(mut left, right) => {
+                    let first = Box::replace(&mut left, Plan::One);
+                    self = first.let_go_before(left, right);
+                }
+            }
+        }
+    }
+}
+
 impl Plan {
-    /// How many pieces the plan merges, capped at 2^64 - 1.
+    /// How many pieces the plan merges, capped at 2^64 - 1. Plans that are still to be counted stand in a list on the
+    /// heap, so that no stack is needed, however deep the plan is; only where the list can't grow is one of them counted
+    /// by a call.
+    #[tactic(auto, using(crate::proofs::MergeLemmas::leaves_positive))]
     pub fn leaves(&self) -> usize
         ensures { result ≡ min (leaves self.now) (2 ^ 64 - 1) }
     {
-        match self {
-            Plan::One => 1,
-            Plan::Join(left, right) => left.leaves().saturating_add(right.leaves()),
+        let Plan::Join(left, _) = self else {
+            return 1;
+        };
+        let mut behind = Vec::new(*Box::allocator(left));
+        let mut plan = self;
+        let mut count = 0usize;
+        loop {
+            match plan {
+                Plan::Join(left, right) => {
+                    let right: &Plan = right;
+                    plan = left;
+                    if behind.push(right).is_err() {
+                        count = count.saturating_add(right.leaves());
+                    }
+                }
+                Plan::One => {
+                    count = count.saturating_add(1);
+                    let Some(next) = behind.pop() else {
+                        return count;
+                    };
+                    plan = next;
+                }
+            }
         }
+    }
+
+    /// What is left of the join of this plan, which stood in the box, and another one: where this plan is one piece, that
+    /// is let go; where it is a join, that is turned behind its own first plan, and its box is used again.
+    fn let_go_before(self, mut room: Box<Plan>, right: Box<Plan>) -> Plan
+        requires { room.value ≡ Plan.One }
+        ensures { heft result < 2 * heft self + heft right.value + 1 }
+    {
+        match self {
+            Plan::One => {
+                Box::into_inner(room).let_one_go();
+                Box::into_inner(right)
+            }
+            Plan::Join(first, middle) => {
+                Box::replace(&mut room, Plan::Join(middle, right)).let_one_go();
+                Plan::Join(first, room)
+            }
+        }
+    }
+
+    /// Lets a single piece go.
+    fn let_one_go(self)
+        requires { self ≡ Plan.One }
+    {
+        let Plan::One = self else { unreachable!() };
     }
 
     /// The plan of this many pieces by halves.

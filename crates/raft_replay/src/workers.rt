@@ -30,11 +30,12 @@ ghost use Rattle.raft_replay.specs.Segments.{CannotBeRead, SegmentsAreOf};
 ghost use Rattle.raft_replay.specs.Replays.{IsReplayed};
 
 use crate::piece::Piece;
-use crate::pieces::merge_at_once;
+use crate::pieces::{MAX_LEVELS, merge_at_once};
 use crate::scheduled::are_of;
-use crate::{Gate, Plan, Segment, TicketSeat, Tickets};
+use crate::{Gate, Plan, Segment};
 use raft_base::{Error, Factory, LogQueue, Result};
 use raft_history::ReplayMachine;
+use raft_tickets::{TicketSeat, Tickets};
 use std::alloc::Global;
 use std::thread;
 use std::thread::Threads;
@@ -45,11 +46,14 @@ pub const MAX_WORKERS: usize = 256;
 /// More segments than any machine has files.
 const SEGMENT_LIMIT: usize = 1 << 62;
 
-/// Replays all segments by 1 to 256 workers, each of which draws the next segment that is left, and merges the pieces
-/// by halves. A worker for which no thread can be started is replaced by the caller. Whatever the workers' turns, the
-/// machine stands for all batches in order, exactly where groups keep apart. `InvalidArgument` for another number of
-/// workers, for 2^62 segments and more, and for a part of another queue. Any other refusal than that, than `Memory` and than the factory's own comes
-/// only where a part isn't a row of readable batches or all batches, in order, can't be read.
+/// Replays all segments by 1 to 256 workers, each of whom draws the next segment that is left, and merges the pieces by
+/// halves. No more workers are started than there are segments, and one for which no thread can be started is replaced by
+/// the caller. Each change of drawer makes a piece, and all pieces are held until the last segment is replayed: so hand in
+/// few segments, one to four for each worker, of about one size. The answer is the same for any cut into segments, and
+/// whatever the workers' turns: the machine stands for all batches in order, exactly where groups keep apart.
+/// `InvalidArgument` for another number of workers, for 2^62 segments and more, and for a part of another queue. Any other
+/// refusal than that, than `Memory` and than the factory's own comes only where a part isn't a row of readable batches or
+/// all batches, in order, can't be read.
 pub fn replay_segments<M: ReplayMachine, F: Factory<M>, G: Gate, R: Threads + Sync>(
     rt: &R,
     alloc: Global,
@@ -79,7 +83,7 @@ pub fn replay_segments<M: ReplayMachine, F: Factory<M>, G: Gate, R: Threads + Sy
         return factory.new_target(alloc);
     }
     let plan = Plan::halves(alloc, machines.len())?;
-    merge_at_once(rt, machines, &plan, queue)
+    merge_at_once(rt, machines, &plan, queue, MAX_LEVELS)
 }
 
 /// Whether so many workers replay segments of this queue.
@@ -93,7 +97,7 @@ fn is_work(segments: &[Segment], queue: LogQueue, workers: usize) -> bool
     are_of(segments, queue)
 }
 
-/// The pieces that the workers make: each segment is in one of them.
+/// The pieces that the workers make: each segment is in one of them. No more workers are started than there are segments.
 fn drawn_pieces<M: ReplayMachine, F: Factory<M>, G: Gate, R: Threads + Sync>(
     rt: &R,
     alloc: Global,
@@ -109,7 +113,11 @@ fn drawn_pieces<M: ReplayMachine, F: Factory<M>, G: Gate, R: Threads + Sync>(
     ensures refused { IfErr result (λ e. e ≢ Error.Memory → ¬ (F.may_refuse factory.entry.now e) →
         CannotBeRead segments.entry.now) }
 {
-    let (tickets, seats) = Tickets::open(alloc, segments.len(), workers)?;
+    let count = workers.min(segments.len());
+    if count == 0 {
+        return Ok(Vec::new(alloc));
+    }
+    let (tickets, seats) = Tickets::open(alloc, segments.len(), count)?;
     let worked = run_workers(rt, alloc, factory, segments, &tickets, gate, seats)?;
     let (seats, pieces) = gather(alloc, worked)?;
     tickets.close(seats);

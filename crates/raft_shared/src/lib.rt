@@ -4,6 +4,5 @@
 pub mod shared_accessor;
 pub mod slot;
 
-pub use raft_accessor::{MemTableAccessor, slot_of};
 pub use shared_accessor::SharedAccessor;
 pub use slot::Slot;

@@ -18,8 +18,9 @@ ghost use Rattle.raft_accessor.specs.Writes.{Appending, Rewriting};
 
 use crate::slot::Slot;
 use raft_accessor::{MemTableAccessor, slot_of};
+use raft_base::{Error, FileSeq, LogQueue, Result};
 use raft_records::{LogBatch, LogItem};
-use raft_table::{Error, FileSeq, LogQueue, MemTable, Result, TableChange};
+use raft_table::{MemTable, TableChange};
 use std::alloc::Global;
 use std::sync::{RwLock, Wait};
 

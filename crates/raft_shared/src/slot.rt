@@ -17,8 +17,9 @@ ghost use Rattle.raft_accessor.specs.Writes.{Appending, Rewriting};
 
 use raft_accessor::RegionTables;
 use raft_accessor::accessor::clean_logs;
+use raft_base::{Error, FileSeq, LogQueue, Result};
 use raft_records::{LogBatch, LogItem};
-use raft_table::{Error, FileSeq, GlobalStats, LogQueue, MemTable, Result, TableChange};
+use raft_table::{GlobalStats, MemTable, TableChange};
 use std::alloc::Global;
 use std::marker::Model;
 

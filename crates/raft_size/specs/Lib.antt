@@ -4,3 +4,6 @@ pub mod SizeReading
 pub mod SizeText
 pub mod SizeUnits
 pub mod SizeValue
+pub use Rattle.toml.specs.View as TomlView
+pub use Rattle.serde.specs.Event as SerdeEvent
+pub use Rattle.serde.specs.Steps as SerdeSteps

@@ -6,4 +6,3 @@ pub mod memtable;
 
 pub use global_stats::GlobalStats;
 pub use memtable::{Block, DeletedKeys, Mark, MemTable, TableChange, is_run};
-pub use raft_base::{EntryIndex, Error, FileBlockHandle, FileId, FileSeq, LogQueue, Result};

@@ -1,21 +1,20 @@
 //! Prints the records of log files.
 #![tactic(auto)]
 
-use raft_recover::run::run;
+use raft_recover::{command_words, run, run_without_words};
 use std::process::ExitCode;
-use std::{env, io};
 
-fn main(rt: HostRuntime) -> io::Result<ExitCode> {
-    let mut words = Vec::new(rt.alloc());
-    for word in env::args(&rt)?.skip(1) {
-        words.push(word)?;
-    }
-    let status = run(
-        &rt,
-        words.as_slice(),
-        &mut rt.stdin(),
-        &mut rt.stdout(),
-        &mut rt.stderr(),
-    );
-    Ok(ExitCode::from(status))
+fn main(rt: HostRuntime) -> ExitCode {
+    let mut err = rt.stderr();
+    let status = match command_words(&rt) {
+        Ok(words) => run(
+            &rt,
+            words.as_slice(),
+            &mut rt.stdin(),
+            &mut rt.stdout(),
+            &mut err,
+        ),
+        Err(error) => run_without_words(&error, &mut err),
+    };
+    ExitCode::from(status)
 }

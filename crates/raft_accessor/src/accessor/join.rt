@@ -7,7 +7,8 @@ ghost use Rattle.raft_accessor.specs.Accessor.{live_in, live_in_all, AreCountsOf
 ghost use Rattle.raft_accessor.specs.TableJoins.{IsMixFault, IsTableJoined};
 
 use crate::accessor::{MemTableAccessor, slot_of};
-use raft_table::{Error, LogQueue, Mark, MemTable, Result};
+use raft_base::{Error, LogQueue, Result};
+use raft_table::{Mark, MemTable};
 
 impl MemTableAccessor {
     /// Puts a newer neighbor's table of a region, or its absence, over the older one, as the newer mark

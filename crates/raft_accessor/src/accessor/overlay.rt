@@ -6,7 +6,8 @@ ghost use Rattle.raft_accessor.specs.Accessor.{live_in, AreCountsOf};
 ghost use Rattle.raft_accessor.specs.TableOverlays.{IsTableOverlaid};
 
 use crate::accessor::{MemTableAccessor, slot_of};
-use raft_table::{Mark, MemTable, Result};
+use raft_base::Result;
+use raft_table::{Mark, MemTable};
 
 impl MemTableAccessor {
     /// Puts an appended table of a region, or its absence, over the rewritten one, as the mark of the

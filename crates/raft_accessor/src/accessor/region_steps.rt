@@ -13,7 +13,8 @@ ghost use Rattle.raft_accessor.specs.Updates.{IsTaken, IsReplayFault};
 use crate::accessor::{MemTableAccessor, slot_of};
 use crate::item_writes::replay_into;
 use crate::region_tables::RegionTables;
-use raft_table::{EntryIndex, FileId, GlobalStats, LogQueue, MemTable, Result};
+use raft_base::{EntryIndex, FileId, LogQueue, Result};
+use raft_table::{GlobalStats, MemTable};
 
 impl MemTableAccessor {
     /// Puts a run that is read again, and answers where the entries of its table ended before.

@@ -6,7 +6,7 @@ ghost use Rattle.raft_history.specs.Records.{total};
 ghost use Rattle.raft_table.specs.Table.{Table};
 
 use crate::accessor::MemTableAccessor;
-use raft_table::{Error, Result};
+use raft_base::{Error, Result};
 
 impl MemTableAccessor {
     /// How many entries all tables have together.

@@ -10,8 +10,8 @@ ghost use Rattle.raft_accessor.specs.AccessorCalls.{IsWritten};
 ghost use Rattle.raft_accessor.specs.Writes.{Appending, Replaying, Rewriting, AreWritten, AreItemsRefused};
 
 use crate::accessor::{MemTableAccessor, slot_of};
+use raft_base::{FileSeq, LogQueue, Result};
 use raft_records::LogItem;
-use raft_table::{FileSeq, LogQueue, Result};
 
 impl MemTableAccessor {
     /// Writes new items of the append queue to the tables, in order.

@@ -13,7 +13,8 @@ ghost use Rattle.raft_accessor.specs.Accessor.{table_in, live_in};
 ghost use Rattle.raft_accessor.specs.TableJoins.{IsPut, IsTableJoined};
 
 use crate::region_tables::RegionTables;
-use raft_table::{GlobalStats, LogQueue, Mark, MemTable, Result};
+use raft_base::{LogQueue, Result};
+use raft_table::{GlobalStats, Mark, MemTable};
 
 impl RegionTables {
     /// Puts a newer neighbor's table of a region, or its absence, over the older one, as the newer mark

@@ -7,7 +7,8 @@ ghost use Rattle.raft_accessor.specs.Accessor.{table_in, live_in};
 ghost use Rattle.raft_accessor.specs.TableOverlays.{IsPutOver, IsTableOverlaid};
 
 use crate::region_tables::RegionTables;
-use raft_table::{GlobalStats, Mark, MemTable, Result};
+use raft_base::Result;
+use raft_table::{GlobalStats, Mark, MemTable};
 
 impl RegionTables {
     /// Puts an appended table of a region, or its absence, over the rewritten one, as the mark of the

@@ -15,7 +15,8 @@ ghost use Rattle.raft_memtable.specs.RegionJoins.{AreRunsOver, IsJoinFault};
 use crate::marked_tables::MarkedTables;
 use crate::region_marks::RegionMarks;
 use raft_accessor::MemTableAccessor;
-use raft_table::{LogQueue, Mark, MemTable, Result};
+use raft_base::{LogQueue, Result};
+use raft_table::{Mark, MemTable};
 
 impl MarkedTables {
     /// Joins the tables and marks of a newer neighbor in a queue, and lists its cleaned regions.

@@ -11,7 +11,7 @@ ghost use Rattle.raft_memtable.specs.RegionOverlays.{AreRunsOverlaid, AreTooMany
 use crate::marked_tables::MarkedTables;
 use crate::region_marks::RegionMarks;
 use raft_accessor::MemTableAccessor;
-use raft_table::Result;
+use raft_base::Result;
 
 impl MarkedTables {
     /// Puts the tables of the append queue over the rewritten ones, each under its mark, and lists the

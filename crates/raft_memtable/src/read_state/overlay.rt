@@ -10,7 +10,7 @@ use crate::file_range::FileRange;
 use crate::read_state::ReadState;
 use crate::region_marks::RegionMarks;
 use crate::waiting_groups::WaitingGroups;
-use raft_table::{Error, LogQueue, Result};
+use raft_base::{Error, LogQueue, Result};
 
 impl ReadState {
     /// Takes in what was read of the append queue over what was read of the rewrite queue. The marks of

@@ -11,8 +11,8 @@ ghost use Rattle.raft_records.specs.Spelling.{Keeps};
 
 use super::{MAX_LOG_BATCH_BUFFER_CAP, MAX_LOG_ENTRIES_SIZE_PER_BATCH};
 use crate::header::{LOG_BATCH_HEADER_LEN, reserve_header};
-use crate::{EntryIndex, LogBatch, LogItemBatch};
-use raft_base::{Error, Message, MessageExt, Result};
+use crate::{LogBatch, LogItemBatch};
+use raft_base::{EntryIndex, Error, Message, MessageExt, Result};
 use std::alloc::AllocError;
 use std::mem;
 

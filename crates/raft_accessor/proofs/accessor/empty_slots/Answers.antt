@@ -1,5 +1,9 @@
-use Rattle.raft_accessor.proofs.SlotLemmas.{all_alike}
+use Rattle.std.proofs.Common.{[], ◌∷◌, ◌++◌, replicate, ap, ◌∙◌}
+use Rattle.std.proofs.lemmas.List.{replicate_more}
+use Rattle.std.specs.FinMap as finite
 use Rattle.raft_accessor.proofs.accessor.empty_slots.Goals as goal
 
-pub returns : goal.returns
-returns c = all_alike _ 128 _ c.from_fn.ensures.items.long (λ i lt. (c.from_fn.ensures.items.at i _ lt).2.met.1)
+pub loop-preserved : goal.loop-preserved
+loop-preserved c =
+    c.in_ok-push.ensures.items ∙ ap (λ l. l ++ c.new.result ∷ []) c.loop.invariant ∙ ap (λ m. replicate c.loop.counter finite.empty ++ m ∷ []) c.new.ensures
+    ∙ replicate_more c.loop.counter finite.empty

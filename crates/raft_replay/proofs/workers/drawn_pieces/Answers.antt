@@ -3,12 +3,15 @@ use Rattle.std.proofs.lemmas.Result.{err_from_is_err_and}
 use Rattle.raft_replay.proofs.WorkedLemmas.{are_back, worker_refused, all_drawn, open_refused}
 use Rattle.raft_replay.proofs.workers.drawn_pieces.Goals as goal
 
+pub returns-then-count-eq0-clause-tile : goal.returns-then-count-eq0-clause-tile
+returns-then-count-eq0-clause-tile g c x inside = let workers = c.requires.workers in absurd (omega arith)
+
 pub returns-in_err-tickets-clause-refused : goal.returns-in_err-tickets-clause-refused
 returns-in_err-tickets-clause-refused g c =
     let p = err_from_is_err_and c.from_residual.result c.from_residual.ensures.1 in
     let workers = c.requires.workers in
     rw (p.1, p.2)
-    (λ not_memory not_own. absurd (open_refused (length c.args.segments.now) c.args.workers c.in_err-tickets.field-0.0 c.in_err-tickets.ensures.fault not_memory (omega arith) (omega arith) (omega arith)))
+    (λ not_memory not_own. absurd (open_refused (length c.args.segments.now) c.min-count.result c.in_err-tickets.field-0.0 c.in_err-tickets.ensures.fault not_memory (omega arith) (omega arith) (omega arith)))
 
 pub returns-in_err-seats-clause-refused : goal.returns-in_err-seats-clause-refused
 returns-in_err-seats-clause-refused g c =

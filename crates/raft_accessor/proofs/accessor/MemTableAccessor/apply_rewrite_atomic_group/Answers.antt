@@ -2,25 +2,23 @@ use Rattle.std.proofs.Common.{Some, refl, ap, subst, slice_set}
 use Rattle.raft_table.specs.Steps.{table_of}
 use Rattle.raft_table.specs.Table.{with_atomic_group, IsCounted}
 use Rattle.raft_accessor.specs.AccessorView.{together}
+use Rattle.std.specs.Vec.{with_item}
 use Rattle.raft_accessor.specs.declared.accessor.MemTableAccessor.TheInside.{Inside}
 use Rattle.raft_accessor.proofs.AccessorLemmas.{InSlot, kept-in, changed-in}
-use Rattle.raft_accessor.proofs.LiveLemmas.{table-counted}
-use Rattle.raft_accessor.proofs.SlotLemmas.{get-shown}
+use Rattle.raft_accessor.proofs.SlotLemmas.{slot-counted}
 use Rattle.raft_accessor.proofs.accessor.MemTableAccessor.apply_rewrite_atomic_group.Goals as goal
 
 pub apply_rewrite_atomic_group-requires-clause-counted : goal.apply_rewrite_atomic_group-requires-clause-counted
-apply_rewrite_atomic_group-requires-clause-counted c =
-    subst (λ t. IsCounted t c.self.inside.stats) (ap (table_of c.args.id) (get-shown c.self.inside _ c.args.id c.slot_of.result _ c.self.invariant refl c.slot_of.ensures.value c.slot_of.ensures.bound))
-    (table-counted (together c.self.inside.slots) c.self.inside.stats c.args.id c.self.invariant.counted)
+apply_rewrite_atomic_group-requires-clause-counted c = slot-counted c.self.inside c.args.id c.slot_of.result c.index_mut.result.now c.self.invariant c.slot_of.ensures.value c.slot_of.ensures.bound c.index_mut.ensures.value
 
-abbrev after : goal.After-apply_rewrite_atomic_group → Inside
-after c = record c.self.inside { slots = slice_set c.self.inside.slots c.slot_of.result c.apply_rewrite_atomic_group.new.self; stats = c.apply_rewrite_atomic_group.new.stats }
+abbrev after : goal.After-self-1 → Inside
+after c = record c.self.inside { slots = with_item c.self.inside.slots c.slot_of.result c.apply_rewrite_atomic_group.new.self; stats = c.apply_rewrite_atomic_group.new.stats }
 
-slotted : (c : goal.After-apply_rewrite_atomic_group) → InSlot c.self.inside (after c) c.args.id c.slot_of.result c.index-self-slot_of.result c.apply_rewrite_atomic_group.new.self c.apply_rewrite_atomic_group.new.stats
-slotted c = record { at = c.slot_of.ensures.value; bound = c.slot_of.ensures.bound; slots = refl; stats = refl; one = c.apply_rewrite_atomic_group.ensures.one; recounted = c.apply_rewrite_atomic_group.ensures.recounted }
+slotted : (c : goal.After-self-1) → InSlot c.self.inside (after c) c.args.id c.slot_of.result c.index_mut.result.now c.apply_rewrite_atomic_group.new.self c.apply_rewrite_atomic_group.new.stats
+slotted c = record { at = c.slot_of.ensures.value; bound = c.slot_of.ensures.bound; lent = c.index_mut.ensures.value; slots = refl; stats = refl; one = c.apply_rewrite_atomic_group.ensures.one; recounted = c.apply_rewrite_atomic_group.ensures.recounted }
 
 pub invariant_of-self : goal.invariant_of-self
-invariant_of-self c = kept-in c.self.inside (after c) c.args.id c.slot_of.result c.index-self-slot_of.result c.apply_rewrite_atomic_group.new.self c.apply_rewrite_atomic_group.new.stats c.self.invariant (slotted c)
+invariant_of-self c = kept-in c.self.inside (after c) c.args.id c.slot_of.result c.index_mut.result.now c.apply_rewrite_atomic_group.new.self c.apply_rewrite_atomic_group.new.stats c.self.invariant (slotted c)
 
 pub returns : goal.returns
-returns c = changed-in c.self.inside (after c) c.args.id c.slot_of.result c.index-self-slot_of.result c.apply_rewrite_atomic_group.new.self c.apply_rewrite_atomic_group.new.stats c.self.invariant (slotted c) c.args.self.now c.self.view_is (λ t. Some (with_atomic_group t c.args.start c.args.end)) (λ t k e. ⊥) c.apply_rewrite_atomic_group.result c.apply_rewrite_atomic_group.ensures refl
+returns c = changed-in c.self.inside (after c) c.args.id c.slot_of.result c.index_mut.result.now c.apply_rewrite_atomic_group.new.self c.apply_rewrite_atomic_group.new.stats c.self.invariant (slotted c) c.args.self.now c.self.view_is (λ t. Some (with_atomic_group t c.args.start c.args.end)) (λ t k e. ⊥) c.apply_rewrite_atomic_group.result c.apply_rewrite_atomic_group.ensures refl

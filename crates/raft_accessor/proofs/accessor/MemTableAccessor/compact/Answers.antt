@@ -3,25 +3,23 @@ use Rattle.raft_table.specs.Table.{compacted}
 use Rattle.raft_table.specs.Steps.{table_of}
 use Rattle.raft_table.specs.Table.{IsCounted}
 use Rattle.raft_accessor.specs.AccessorView.{together}
+use Rattle.std.specs.Vec.{with_item}
 use Rattle.raft_accessor.specs.declared.accessor.MemTableAccessor.TheInside.{Inside}
 use Rattle.raft_accessor.proofs.AccessorLemmas.{InSlot, kept-in, changed-in}
-use Rattle.raft_accessor.proofs.LiveLemmas.{table-counted}
-use Rattle.raft_accessor.proofs.SlotLemmas.{get-shown}
+use Rattle.raft_accessor.proofs.SlotLemmas.{slot-counted}
 use Rattle.raft_accessor.proofs.accessor.MemTableAccessor.compact.Goals as goal
 
 pub compact-requires : goal.compact-requires
-compact-requires c =
-    subst (λ t. IsCounted t c.self.inside.stats) (ap (table_of c.args.id) (get-shown c.self.inside _ c.args.id c.slot_of.result _ c.self.invariant refl c.slot_of.ensures.value c.slot_of.ensures.bound))
-    (table-counted (together c.self.inside.slots) c.self.inside.stats c.args.id c.self.invariant.counted)
+compact-requires c = slot-counted c.self.inside c.args.id c.slot_of.result c.index_mut.result.now c.self.invariant c.slot_of.ensures.value c.slot_of.ensures.bound c.index_mut.ensures.value
 
-abbrev after : goal.After-compact → Inside
-after c = record c.self.inside { slots = slice_set c.self.inside.slots c.slot_of.result c.compact.new.self; stats = c.compact.new.stats }
+abbrev after : goal.After-self-1 → Inside
+after c = record c.self.inside { slots = with_item c.self.inside.slots c.slot_of.result c.compact.new.self; stats = c.compact.new.stats }
 
-slotted : (c : goal.After-compact) → InSlot c.self.inside (after c) c.args.id c.slot_of.result c.index-self-slot_of.result c.compact.new.self c.compact.new.stats
-slotted c = record { at = c.slot_of.ensures.value; bound = c.slot_of.ensures.bound; slots = refl; stats = refl; one = c.compact.ensures.one; recounted = c.compact.ensures.recounted }
+slotted : (c : goal.After-self-1) → InSlot c.self.inside (after c) c.args.id c.slot_of.result c.index_mut.result.now c.compact.new.self c.compact.new.stats
+slotted c = record { at = c.slot_of.ensures.value; bound = c.slot_of.ensures.bound; lent = c.index_mut.ensures.value; slots = refl; stats = refl; one = c.compact.ensures.one; recounted = c.compact.ensures.recounted }
 
 pub invariant_of-self : goal.invariant_of-self
-invariant_of-self c = kept-in c.self.inside (after c) c.args.id c.slot_of.result c.index-self-slot_of.result c.compact.new.self c.compact.new.stats c.self.invariant (slotted c)
+invariant_of-self c = kept-in c.self.inside (after c) c.args.id c.slot_of.result c.index_mut.result.now c.compact.new.self c.compact.new.stats c.self.invariant (slotted c)
 
 pub returns : goal.returns
-returns c = changed-in c.self.inside (after c) c.args.id c.slot_of.result c.index-self-slot_of.result c.compact.new.self c.compact.new.stats c.self.invariant (slotted c) c.args.self.now c.self.view_is (λ t. Some (compacted c.args.index t)) (λ t k. λ e. ⊥) c.compact.result c.compact.ensures refl
+returns c = changed-in c.self.inside (after c) c.args.id c.slot_of.result c.index_mut.result.now c.compact.new.self c.compact.new.stats c.self.invariant (slotted c) c.args.self.now c.self.view_is (λ t. Some (compacted c.args.index t)) (λ t k. λ e. ⊥) c.compact.result c.compact.ensures refl

@@ -9,36 +9,34 @@ use Rattle.raft_table.specs.Steps.{table_of}
 use Rattle.raft_table.specs.Table.{live_of, IsCounted}
 use Rattle.raft_accessor.specs.Accessor.{Accessor, live_in_all}
 use Rattle.raft_accessor.specs.AccessorView.{together}
+use Rattle.std.specs.Vec.{with_item}
 use Rattle.raft_accessor.specs.declared.accessor.MemTableAccessor.TheInside.{Inside}
 use Rattle.raft_accessor.proofs.AccessorLemmas.{InSlot, kept-in, tables-are, unchanged}
-use Rattle.raft_accessor.proofs.LiveLemmas.{table-counted}
 use Rattle.raft_accessor.proofs.MapLemmas.{get_own}
-use Rattle.raft_accessor.proofs.SlotLemmas.{get-shown}
+use Rattle.raft_accessor.proofs.SlotLemmas.{slot-counted, get-shown}
 use Rattle.raft_accessor.proofs.accessor.MemTableAccessor.insert.Goals as goal
 
 pub insert-requires-clause-counted : goal.insert-requires-clause-counted
-insert-requires-clause-counted c =
-    subst (λ t. IsCounted t c.self.inside.stats) (ap (table_of c.args.id) (get-shown c.self.inside _ c.args.id c.slot_of.result _ c.self.invariant refl c.slot_of.ensures.value c.slot_of.ensures.bound))
-    (table-counted (together c.self.inside.slots) c.self.inside.stats c.args.id c.self.invariant.counted)
+insert-requires-clause-counted c = slot-counted c.self.inside c.args.id c.slot_of.result c.index_mut.result.now c.self.invariant c.slot_of.ensures.value c.slot_of.ensures.bound c.index_mut.ensures.value
 
-abbrev after : goal.After-insert → Inside
-after c = record c.self.inside { slots = slice_set c.self.inside.slots c.slot_of.result c.insert.new.self; stats = c.insert.new.stats }
+abbrev after : goal.After-self-1 → Inside
+after c = record c.self.inside { slots = with_item c.self.inside.slots c.slot_of.result c.insert.new.self; stats = c.insert.new.stats }
 
-slotted : (c : goal.After-insert) → InSlot c.self.inside (after c) c.args.id c.slot_of.result c.index-self-slot_of.result c.insert.new.self c.insert.new.stats
-slotted c = record { at = c.slot_of.ensures.value; bound = c.slot_of.ensures.bound; slots = refl; stats = refl; one = c.insert.ensures.one; recounted = c.insert.ensures.recounted }
+slotted : (c : goal.After-self-1) → InSlot c.self.inside (after c) c.args.id c.slot_of.result c.index_mut.result.now c.insert.new.self c.insert.new.stats
+slotted c = record { at = c.slot_of.ensures.value; bound = c.slot_of.ensures.bound; lent = c.index_mut.ensures.value; slots = refl; stats = refl; one = c.insert.ensures.one; recounted = c.insert.ensures.recounted }
 
 pub invariant_of-self : goal.invariant_of-self
-invariant_of-self c = kept-in c.self.inside (after c) c.args.id c.slot_of.result c.index-self-slot_of.result c.insert.new.self c.insert.new.stats c.self.invariant (slotted c)
+invariant_of-self c = kept-in c.self.inside (after c) c.args.id c.slot_of.result c.index_mut.result.now c.insert.new.self c.insert.new.stats c.self.invariant (slotted c)
 
-were : (c : goal.After-insert) → finite.get c.args.self.now.tables c.args.id ≡ finite.get (slice_index_or c.self.inside.slots c.slot_of.result c.index-self-slot_of.result) c.args.id
-were c = get-shown c.self.inside c.args.self.now c.args.id c.slot_of.result c.index-self-slot_of.result c.self.invariant c.self.view_is c.slot_of.ensures.value c.slot_of.ensures.bound
+were : (c : goal.After-self-1) → finite.get c.args.self.now.tables c.args.id ≡ finite.get c.index_mut.result.now c.args.id
+were c = get-shown c.self.inside c.args.self.now c.args.id c.slot_of.result c.index_mut.result.now c.self.invariant c.self.view_is c.slot_of.ensures.value c.slot_of.ensures.bound c.index_mut.ensures.value
 
-are : (c : goal.After-insert) → together (after c).slots ≡ with_table c.args.self.now.tables c.args.id (finite.get c.insert.new.self c.args.id)
-are c = tables-are c.self.inside (after c) c.args.id c.slot_of.result c.index-self-slot_of.result c.insert.new.self c.insert.new.stats c.self.invariant (slotted c) c.args.self.now c.self.view_is
+are : (c : goal.After-self-1) → together (after c).slots.items ≡ with_table c.args.self.now.tables c.args.id (finite.get c.insert.new.self c.args.id)
+are c = tables-are c.self.inside (after c) c.args.id c.slot_of.result c.index_mut.result.now c.insert.new.self c.insert.new.stats c.self.invariant (slotted c) c.args.self.now c.self.view_is
 
 pub returns-clause-ok : goal.returns-clause-ok
 returns-clause-ok c =
-    elim c.insert.result as (λ r. OnOk r (c.insert.new.self ≡ finite.insert (slice_index_or c.self.inside.slots c.slot_of.result c.index-self-slot_of.result) c.args.id c.args.table) → OnOk r (together (after c).slots ≡ finite.insert c.args.self.now.tables c.args.id c.args.table)) [
+    elim c.insert.result as (λ r. OnOk r (c.insert.new.self ≡ finite.insert c.index_mut.result.now c.args.id c.args.table) → OnOk r (together (after c).slots.items ≡ finite.insert c.args.self.now.tables c.args.id c.args.table)) [
       | Ok n ↦ λ e. are c ∙ ap (with_table c.args.self.now.tables c.args.id) (ap (λ m. finite.get m c.args.id) e ∙ get_own _ c.args.id c.args.table)
       | Err x ↦ λ e. tt
     ] c.insert.ensures.ok
@@ -48,9 +46,9 @@ returns-clause-replaced c = rw (were c) c.insert.ensures.replaced
 
 pub returns-clause-err : goal.returns-clause-err
 returns-clause-err c =
-    elim c.insert.result as (λ r. OnErr r (c.insert.new.self ≡ slice_index_or c.self.inside.slots c.slot_of.result c.index-self-slot_of.result) → OnErr r (together (after c).slots ≡ c.args.self.now.tables)) [
+    elim c.insert.result as (λ r. OnErr r (c.insert.new.self ≡ c.index_mut.result.now) → OnErr r (together (after c).slots.items ≡ c.args.self.now.tables)) [
       | Ok n ↦ λ e. tt
-      | Err x ↦ λ e. unchanged c.self.inside (after c) c.args.id c.slot_of.result c.index-self-slot_of.result c.insert.new.self c.insert.new.stats c.self.invariant (slotted c) c.args.self.now c.self.view_is e
+      | Err x ↦ λ e. unchanged c.self.inside (after c) c.args.id c.slot_of.result c.index_mut.result.now c.insert.new.self c.insert.new.stats c.self.invariant (slotted c) c.args.self.now c.self.view_is e
     ] c.insert.ensures.err
 
 pub returns-clause-fault : goal.returns-clause-fault

@@ -1,4 +1,4 @@
-use Rattle.std.proofs.Common.{suc, Some, None, ap, subst, ◌∙◌}
+use Rattle.std.proofs.Common.{suc, Some, None, ap, arith, subst, ◌∙◌}
 use Rattle.std.specs.FinMap as finite
 use Rattle.std.proofs.lemmas.Result.{err_from_is_err_and}
 use Rattle.raft_accessor.specs.Accessor.{Accessor}
@@ -10,7 +10,7 @@ use Rattle.raft_accessor.proofs.accessor.MemTableAccessor.merge_append_table.Goa
 pub loop-slot-preserved : goal.loop-slot-preserved
 loop-slot-preserved c =
     let at = c.loop-slot.invariant in
-    let is = c.in-Some.ensures.steps in (
+    let is = c.in-Some.ensures.steps.0 in (
       (suc at.0.0, (subst (AreSlots at.0.0) is at.0.1).1),
       c.merge_append_tables.ensures.cleaned ∙ at.1,
       λ z h. at.2 z (slots-step with_appended c.loop-slot.self.tables c.merge_append_tables.new.self.tables z _ _ at.0.0 _ is at.0.1 c.in_ok-merge_append_tables.ensures.ok h),
@@ -23,25 +23,25 @@ returns-in_err-merge_append_tables-clause-fault c =
     let p = err_from_is_err_and c.from_residual.result c.from_residual.ensures.1 in
     let k = c.merge_append_tables.new.self.counts in
     rw (p.1, p.2) (refusal-of (IsAppendedFault k) c.args.self.now.tables c.args.rhs.tables _ _
-    (ap (λ ms. finite.from_entries (slot_entries ms)) c.into_iter-slot-iterator.ensures.into_iter_gives.0 ∙ slots-are c.rhs.inside.slots c.args.rhs.tables (ap (λ (x : Accessor). x.tables) c.rhs.view_is))
-    (c.loop-slot.invariant.3 k _ (refuses-slot (IsAppendedFault k) c.loop-slot.self.tables _ _ _ _ c.in-Some.ensures.steps c.in_err-merge_append_tables.ensures.fault)))
+    (ap (λ ms. finite.from_entries (slot_entries ms)) c.into_iter-slot-iterator.ensures.into_iter_gives.0 ∙ slots-are c.rhs.inside.slots.items c.args.rhs.tables (ap (λ (x : Accessor). x.tables) c.rhs.view_is))
+    (c.loop-slot.invariant.3 k _ (refuses-slot (IsAppendedFault k) c.loop-slot.self.tables _ _ _ _ c.in-Some.ensures.steps.0 c.in_err-merge_append_tables.ensures.fault)))
 
 pub returns-in_err-merge_append_tables-clause-err : goal.returns-in_err-merge_append_tables-clause-err
 returns-in_err-merge_append_tables-clause-err c =
     let p = err_from_is_err_and c.from_residual.result c.from_residual.ensures.1 in
     rw (p.1, p.2) (λ k. left-of with_appended c.args.self.now.tables c.merge_append_tables.new.self.tables c.args.rhs.tables _
-    (ap (λ ms. finite.from_entries (slot_entries ms)) c.into_iter-slot-iterator.ensures.into_iter_gives.0 ∙ slots-are c.rhs.inside.slots c.args.rhs.tables (ap (λ (x : Accessor). x.tables) c.rhs.view_is))
-    (c.loop-slot.invariant.4 None c.merge_append_tables.new.self.tables (left-slot with_appended c.loop-slot.self.tables c.merge_append_tables.new.self.tables _ _ _ c.in-Some.ensures.steps (c.in_err-merge_append_tables.ensures.err k))))
+    (ap (λ ms. finite.from_entries (slot_entries ms)) c.into_iter-slot-iterator.ensures.into_iter_gives.0 ∙ slots-are c.rhs.inside.slots.items c.args.rhs.tables (ap (λ (x : Accessor). x.tables) c.rhs.view_is))
+    (c.loop-slot.invariant.4 None c.merge_append_tables.new.self.tables (left-slot with_appended c.loop-slot.self.tables c.merge_append_tables.new.self.tables _ _ _ c.in-Some.ensures.steps.0 (c.in_err-merge_append_tables.ensures.err k))))
 
 pub returns-in_err-merge_append_tables-clause-others : goal.returns-in_err-merge_append_tables-clause-others
 returns-in_err-merge_append_tables-clause-others c =
     let p = err_from_is_err_and c.from_residual.result c.from_residual.ensures.1 in
     rw p.1 (others-of with_appended _ c.args.self.now.tables c.merge_append_tables.new.self.tables c.args.rhs.tables _
-    (ap (λ ms. finite.from_entries (slot_entries ms)) c.into_iter-slot-iterator.ensures.into_iter_gives.0 ∙ slots-are c.rhs.inside.slots c.args.rhs.tables (ap (λ (x : Accessor). x.tables) c.rhs.view_is))
-    (c.loop-slot.invariant.4 (Some _) c.merge_append_tables.new.self.tables (others-slot with_appended c.loop-slot.self.tables c.merge_append_tables.new.self.tables _ _ _ c.in-Some.ensures.steps c.in_err-merge_append_tables.ensures.others)))
+    (ap (λ ms. finite.from_entries (slot_entries ms)) c.into_iter-slot-iterator.ensures.into_iter_gives.0 ∙ slots-are c.rhs.inside.slots.items c.args.rhs.tables (ap (λ (x : Accessor). x.tables) c.rhs.view_is))
+    (c.loop-slot.invariant.4 (Some _) c.merge_append_tables.new.self.tables (others-slot with_appended c.loop-slot.self.tables c.merge_append_tables.new.self.tables _ _ _ c.in-Some.ensures.steps.0 c.in_err-merge_append_tables.ensures.others)))
 
 pub returns-clause-ok : goal.returns-clause-ok
 returns-clause-ok c =
     merged-of with_appended c.args.self.now.tables c.loop-slot.self.tables c.args.rhs.tables _
-    (ap (λ ms. finite.from_entries (slot_entries ms)) c.into_iter-slot-iterator.ensures.into_iter_gives.0 ∙ slots-are c.rhs.inside.slots c.args.rhs.tables (ap (λ (x : Accessor). x.tables) c.rhs.view_is))
-    (c.loop-slot.invariant.2 c.loop-slot.self.tables (joins-none with_appended c.loop-slot.self.tables _ (no_slots _ c.in-None.ensures.steps.0)))
+    (ap (λ ms. finite.from_entries (slot_entries ms)) c.into_iter-slot-iterator.ensures.into_iter_gives.0 ∙ slots-are c.rhs.inside.slots.items c.args.rhs.tables (ap (λ (x : Accessor). x.tables) c.rhs.view_is))
+    (c.loop-slot.invariant.2 c.loop-slot.self.tables (joins-none with_appended c.loop-slot.self.tables _ (no_slots _ (omega (arith, c.in-None.ensures.steps.0, c.loop-slot.slot-iterator.rest.ok.0)))))

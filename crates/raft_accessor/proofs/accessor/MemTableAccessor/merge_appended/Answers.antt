@@ -6,38 +6,36 @@ use Rattle.raft_table.specs.Table.{Table, IsCounted}
 use Rattle.raft_accessor.specs.Accessor.{table_in}
 use Rattle.raft_accessor.specs.AccessorView.{together}
 use Rattle.raft_accessor.specs.Merges.{with_appended, IsAppendedFault}
+use Rattle.std.specs.Vec.{with_item}
 use Rattle.raft_accessor.specs.declared.accessor.MemTableAccessor.TheInside.{Inside}
 use Rattle.raft_accessor.proofs.AccessorLemmas.{InSlot, kept-in, merged-in, refused-in, left-in, alone-in}
-use Rattle.raft_accessor.proofs.LiveLemmas.{table-counted}
 use Rattle.raft_accessor.proofs.MergeLemmas.{refused-with}
-use Rattle.raft_accessor.proofs.SlotLemmas.{get-shown}
+use Rattle.raft_accessor.proofs.SlotLemmas.{slot-counted}
 use Rattle.raft_accessor.proofs.accessor.MemTableAccessor.merge_appended.Goals as goal
 
 pub merge_append_table-requires-clause-counted : goal.merge_append_table-requires-clause-counted
-merge_append_table-requires-clause-counted c =
-    subst (λ t. IsCounted t c.self.inside.stats) (ap (table_of c.args.id) (get-shown c.self.inside _ c.args.id c.slot_of.result _ c.self.invariant refl c.slot_of.ensures.value c.slot_of.ensures.bound))
-    (table-counted (together c.self.inside.slots) c.self.inside.stats c.args.id c.self.invariant.counted)
+merge_append_table-requires-clause-counted c = slot-counted c.self.inside c.args.id c.slot_of.result c.index_mut.result.now c.self.invariant c.slot_of.ensures.value c.slot_of.ensures.bound c.index_mut.ensures.value
 
-abbrev after : goal.After-merge_append_table → Inside
-after c = record c.self.inside { slots = slice_set c.self.inside.slots c.slot_of.result c.merge_append_table.new.self; stats = c.merge_append_table.new.stats }
+abbrev after : goal.After-self-1 → Inside
+after c = record c.self.inside { slots = with_item c.self.inside.slots c.slot_of.result c.merge_append_table.new.self; stats = c.merge_append_table.new.stats }
 
-slotted : (c : goal.After-merge_append_table) → InSlot c.self.inside (after c) c.args.id c.slot_of.result c.index-self-slot_of.result c.merge_append_table.new.self c.merge_append_table.new.stats
-slotted c = record { at = c.slot_of.ensures.value; bound = c.slot_of.ensures.bound; slots = refl; stats = refl; one = c.merge_append_table.ensures.one; recounted = c.merge_append_table.ensures.recounted }
+slotted : (c : goal.After-self-1) → InSlot c.self.inside (after c) c.args.id c.slot_of.result c.index_mut.result.now c.merge_append_table.new.self c.merge_append_table.new.stats
+slotted c = record { at = c.slot_of.ensures.value; bound = c.slot_of.ensures.bound; lent = c.index_mut.ensures.value; slots = refl; stats = refl; one = c.merge_append_table.ensures.one; recounted = c.merge_append_table.ensures.recounted }
 
 pub invariant_of-self : goal.invariant_of-self
-invariant_of-self c = kept-in c.self.inside (after c) c.args.id c.slot_of.result c.index-self-slot_of.result c.merge_append_table.new.self c.merge_append_table.new.stats c.self.invariant (slotted c)
+invariant_of-self c = kept-in c.self.inside (after c) c.args.id c.slot_of.result c.index_mut.result.now c.merge_append_table.new.self c.merge_append_table.new.stats c.self.invariant (slotted c)
 
 pub returns-clause-ok : goal.returns-clause-ok
-returns-clause-ok c = merged-in c.self.inside (after c) c.args.id c.slot_of.result c.index-self-slot_of.result c.merge_append_table.new.self c.merge_append_table.new.stats c.self.invariant (slotted c) c.args.self.now c.self.view_is with_appended c.args.newer c.merge_append_table.result c.merge_append_table.ensures
+returns-clause-ok c = merged-in c.self.inside (after c) c.args.id c.slot_of.result c.index_mut.result.now c.merge_append_table.new.self c.merge_append_table.new.stats c.self.invariant (slotted c) c.args.self.now c.self.view_is with_appended c.args.newer c.merge_append_table.result c.merge_append_table.ensures
 
 pub returns-clause-fault : goal.returns-clause-fault
 returns-clause-fault c =
     let old = table_in c.args.self.now.tables c.args.id in
     refused-with (append_rule old c.args.newer) c.merge_append_table.new.stats old c.args.newer c.merge_append_table.result
-    (refused-in c.self.inside (after c) c.args.id c.slot_of.result c.index-self-slot_of.result c.merge_append_table.new.self c.merge_append_table.new.stats c.self.invariant (slotted c) c.args.self.now c.self.view_is (λ (k : Counts) (t : Table). IsAppendedFault k t c.args.newer) _ c.merge_append_table.result c.merge_append_table.ensures)
+    (refused-in c.self.inside (after c) c.args.id c.slot_of.result c.index_mut.result.now c.merge_append_table.new.self c.merge_append_table.new.stats c.self.invariant (slotted c) c.args.self.now c.self.view_is (λ (k : Counts) (t : Table). IsAppendedFault k t c.args.newer) _ c.merge_append_table.result c.merge_append_table.ensures)
 
 pub returns-clause-err : goal.returns-clause-err
-returns-clause-err c = left-in c.self.inside (after c) c.args.id c.slot_of.result c.index-self-slot_of.result c.merge_append_table.new.self c.merge_append_table.new.stats c.self.invariant (slotted c) c.args.self.now c.self.view_is _ c.merge_append_table.result c.merge_append_table.ensures
+returns-clause-err c = left-in c.self.inside (after c) c.args.id c.slot_of.result c.index_mut.result.now c.merge_append_table.new.self c.merge_append_table.new.stats c.self.invariant (slotted c) c.args.self.now c.self.view_is _ c.merge_append_table.result c.merge_append_table.ensures
 
 pub returns-clause-others : goal.returns-clause-others
-returns-clause-others c = alone-in c.self.inside (after c) c.args.id c.slot_of.result c.index-self-slot_of.result c.merge_append_table.new.self c.merge_append_table.new.stats c.self.invariant (slotted c) c.args.self.now c.self.view_is
+returns-clause-others c = alone-in c.self.inside (after c) c.args.id c.slot_of.result c.index_mut.result.now c.merge_append_table.new.self c.merge_append_table.new.stats c.self.invariant (slotted c) c.args.self.now c.self.view_is

@@ -1,5 +1,4 @@
 use Rattle.std.proofs.Common.{◌≡◌, ℕ, Option}
-use Rattle.std.specs.Array.Iter.{array_into_iter_items}
 use Rattle.raft_base.specs.declared.errors.Error.{Error}
 use Rattle.raft_history.specs.RegionSteps.{Tables}
 use Rattle.raft_table.specs.Counts.{Counts}
@@ -10,7 +9,7 @@ use Rattle.raft_accessor.proofs.accessor.MemTableAccessor.merge_newer_neighbor.G
 
 abbrev pub invariant-loop-slot : goal.invariant-loop-slot
 invariant-loop-slot l =
-    ((k : ℕ) × AreSlots k (array_into_iter_items l.slot-iterator)) × (l.self.cleaned ≡ l.fn.self.cleaned)
-    × ((z : Tables) → Joins with_newer l.self.tables (slot_entries (array_into_iter_items l.slot-iterator)) z → Joins with_newer l.fn.self.tables (slot_entries (array_into_iter_items l.initial.slot-iterator)) z)
-    × ((k : Counts) (e : Error) → Refuses (IsNewerFault k) l.self.tables (slot_entries (array_into_iter_items l.slot-iterator)) e → Refuses (IsNewerFault k) l.fn.self.tables (slot_entries (array_into_iter_items l.initial.slot-iterator)) e)
-    × ((gone : Option ℕ) (z : Tables) → Leaves with_newer gone l.self.tables (slot_entries (array_into_iter_items l.slot-iterator)) z → Leaves with_newer gone l.fn.self.tables (slot_entries (array_into_iter_items l.initial.slot-iterator)) z)
+    ((k : ℕ) × AreSlots k l.slot-iterator.rest.items) × (l.self.cleaned ≡ l.fn.self.cleaned)
+    × ((z : Tables) → Joins with_newer l.self.tables (slot_entries l.slot-iterator.rest.items) z → Joins with_newer l.fn.self.tables (slot_entries l.initial.slot-iterator.rest.items) z)
+    × ((k : Counts) (e : Error) → Refuses (IsNewerFault k) l.self.tables (slot_entries l.slot-iterator.rest.items) e → Refuses (IsNewerFault k) l.fn.self.tables (slot_entries l.initial.slot-iterator.rest.items) e)
+    × ((gone : Option ℕ) (z : Tables) → Leaves with_newer gone l.self.tables (slot_entries l.slot-iterator.rest.items) z → Leaves with_newer gone l.fn.self.tables (slot_entries l.initial.slot-iterator.rest.items) z)

@@ -7,37 +7,35 @@ use Rattle.raft_accessor.specs.Accessor.{Accessor, AreCountsOf}
 use Rattle.raft_accessor.specs.Updates.{IsReplayFault}
 use Rattle.raft_table.specs.Steps.{table_of}
 use Rattle.raft_accessor.specs.AccessorView.{together}
+use Rattle.std.specs.Vec.{with_item}
 use Rattle.raft_accessor.specs.declared.accessor.MemTableAccessor.TheInside.{Inside}
 use Rattle.raft_accessor.proofs.AccessorLemmas.{InSlot, kept-in, changed-in, answers-in}
-use Rattle.raft_accessor.proofs.LiveLemmas.{table-counted}
-use Rattle.raft_accessor.proofs.SlotLemmas.{get-shown}
+use Rattle.raft_accessor.proofs.SlotLemmas.{slot-counted, get-shown}
 use Rattle.raft_accessor.proofs.accessor.MemTableAccessor.replay_run.Goals as goal
 
 pub replay_run_behind-requires-clause-counted : goal.replay_run_behind-requires-clause-counted
-replay_run_behind-requires-clause-counted c =
-    subst (λ t. IsCounted t c.self.inside.stats) (ap (table_of c.args.id) (get-shown c.self.inside _ c.args.id c.slot_of.result _ c.self.invariant refl c.slot_of.ensures.value c.slot_of.ensures.bound))
-    (table-counted (together c.self.inside.slots) c.self.inside.stats c.args.id c.self.invariant.counted)
+replay_run_behind-requires-clause-counted c = slot-counted c.self.inside c.args.id c.slot_of.result c.index_mut.result.now c.self.invariant c.slot_of.ensures.value c.slot_of.ensures.bound c.index_mut.ensures.value
 
-abbrev after : goal.After-replay_run_behind → Inside
-after c = record c.self.inside { slots = slice_set c.self.inside.slots c.slot_of.result c.replay_run_behind.new.self; stats = c.replay_run_behind.new.stats }
+abbrev after : goal.After-self-1 → Inside
+after c = record c.self.inside { slots = with_item c.self.inside.slots c.slot_of.result c.replay_run_behind.new.self; stats = c.replay_run_behind.new.stats }
 
-slotted : (c : goal.After-replay_run_behind) → InSlot c.self.inside (after c) c.args.id c.slot_of.result c.index-self-slot_of.result c.replay_run_behind.new.self c.replay_run_behind.new.stats
-slotted c = record { at = c.slot_of.ensures.value; bound = c.slot_of.ensures.bound; slots = refl; stats = refl; one = c.replay_run_behind.ensures.taken.one; recounted = c.replay_run_behind.ensures.taken.recounted }
+slotted : (c : goal.After-self-1) → InSlot c.self.inside (after c) c.args.id c.slot_of.result c.index_mut.result.now c.replay_run_behind.new.self c.replay_run_behind.new.stats
+slotted c = record { at = c.slot_of.ensures.value; bound = c.slot_of.ensures.bound; lent = c.index_mut.ensures.value; slots = refl; stats = refl; one = c.replay_run_behind.ensures.taken.one; recounted = c.replay_run_behind.ensures.taken.recounted }
 
 pub invariant_of-self : goal.invariant_of-self
-invariant_of-self c = kept-in c.self.inside (after c) c.args.id c.slot_of.result c.index-self-slot_of.result c.replay_run_behind.new.self c.replay_run_behind.new.stats c.self.invariant (slotted c)
+invariant_of-self c = kept-in c.self.inside (after c) c.args.id c.slot_of.result c.index_mut.result.now c.replay_run_behind.new.self c.replay_run_behind.new.stats c.self.invariant (slotted c)
 
 pub returns-clause-changed : goal.returns-clause-changed
-returns-clause-changed c = changed-in c.self.inside (after c) c.args.id c.slot_of.result c.index-self-slot_of.result c.replay_run_behind.new.self c.replay_run_behind.new.stats c.self.invariant (slotted c) c.args.self.now c.self.view_is (λ t. after_replay c.args.queue t c.args.run.items) (λ t k. IsReplayFault c.args.queue c.args.run.items t k) c.replay_run_behind.result c.replay_run_behind.ensures.taken refl
+returns-clause-changed c = changed-in c.self.inside (after c) c.args.id c.slot_of.result c.index_mut.result.now c.replay_run_behind.new.self c.replay_run_behind.new.stats c.self.invariant (slotted c) c.args.self.now c.self.view_is (λ t. after_replay c.args.queue t c.args.run.items) (λ t k. IsReplayFault c.args.queue c.args.run.items t k) c.replay_run_behind.result c.replay_run_behind.ensures.taken refl
 
 pub returns-clause-accepted : goal.returns-clause-accepted
 returns-clause-accepted c =
     rw (← c.self.view_is) (subst (λ t. OnOk c.replay_run_behind.result (live_of (other c.args.queue) t ≡ 0))
-    (sym (ap (table_of c.args.id) (get-shown c.self.inside _ c.args.id c.slot_of.result _ c.self.invariant refl c.slot_of.ensures.value c.slot_of.ensures.bound)))
+    (sym (ap (table_of c.args.id) (get-shown c.self.inside _ c.args.id c.slot_of.result c.index_mut.result.now c.self.invariant refl c.slot_of.ensures.value c.slot_of.ensures.bound c.index_mut.ensures.value)))
     c.replay_run_behind.ensures.accepted)
 
 pub returns-clause-end : goal.returns-clause-end
-returns-clause-end c = answers-in c.self.inside (after c) c.args.id c.slot_of.result c.index-self-slot_of.result c.replay_run_behind.new.self c.replay_run_behind.new.stats c.self.invariant (slotted c) c.args.self.now c.self.view_is (λ t u end. end ≡ end_of t.entries) c.replay_run_behind.result c.replay_run_behind.ensures.end
+returns-clause-end c = answers-in c.self.inside (after c) c.args.id c.slot_of.result c.index_mut.result.now c.replay_run_behind.new.self c.replay_run_behind.new.stats c.self.invariant (slotted c) c.args.self.now c.self.view_is (λ t u end. end ≡ end_of t.entries) c.replay_run_behind.result c.replay_run_behind.ensures.end
 
 pub returns-clause-exact_counts : goal.returns-clause-exact_counts
 returns-clause-exact_counts c = subst (λ (x : Accessor). AreCountsOf x.tables x.counts) c.self.view_is c.self.invariant.counted

@@ -2,27 +2,25 @@ use Rattle.std.proofs.Common.{None, refl, sym, ap, subst, ◌∙◌, slice_set}
 use Rattle.raft_table.specs.Steps.{table_of}
 use Rattle.raft_table.specs.Table.{IsCounted}
 use Rattle.raft_accessor.specs.AccessorView.{together}
+use Rattle.std.specs.Vec.{with_item}
 use Rattle.raft_accessor.specs.declared.accessor.MemTableAccessor.TheInside.{Inside}
-use Rattle.raft_accessor.proofs.LiveLemmas.{table-counted}
-use Rattle.raft_accessor.proofs.SlotLemmas.{get-shown, IsChanged, shown-changed, kept-changed}
+use Rattle.raft_accessor.proofs.SlotLemmas.{slot-counted, get-shown, IsChanged, shown-changed, kept-changed}
 use Rattle.raft_accessor.proofs.accessor.MemTableAccessor.take.Goals as goal
 
 pub remove-requires : goal.remove-requires
-remove-requires c =
-    subst (λ t. IsCounted t c.self.inside.stats) (ap (table_of c.args.id) (get-shown c.self.inside _ c.args.id c.slot_of.result _ c.self.invariant refl c.slot_of.ensures.value c.slot_of.ensures.bound))
-    (table-counted (together c.self.inside.slots) c.self.inside.stats c.args.id c.self.invariant.counted)
+remove-requires c = slot-counted c.self.inside c.args.id c.slot_of.result c.index_mut.result.now c.self.invariant c.slot_of.ensures.value c.slot_of.ensures.bound c.index_mut.ensures.value
 
-abbrev after : goal.After-remove → Inside
-after c = record c.self.inside { slots = slice_set c.self.inside.slots c.slot_of.result c.remove.new.self; stats = c.remove.new.stats }
+abbrev after : goal.After-self-1 → Inside
+after c = record c.self.inside { slots = with_item c.self.inside.slots c.slot_of.result c.remove.new.self; stats = c.remove.new.stats }
 
-gone : (c : goal.After-remove) → IsChanged c.self.inside (after c) c.args.id c.slot_of.result c.index-self-slot_of.result None
-gone c = record { at = c.slot_of.ensures.value; bound = c.slot_of.ensures.bound; slots = ap (slice_set c.self.inside.slots c.slot_of.result) c.remove.ensures.after; counts = c.remove.ensures.recounted }
+gone : (c : goal.After-self-1) → IsChanged c.self.inside (after c) c.args.id c.slot_of.result c.index_mut.result.now None
+gone c = record { at = c.slot_of.ensures.value; bound = c.slot_of.ensures.bound; lent = c.index_mut.ensures.value; slots = ap (slice_set c.self.inside.slots.items c.slot_of.result) c.remove.ensures.after; counts = c.remove.ensures.recounted }
 
 pub invariant_of-self : goal.invariant_of-self
-invariant_of-self c = kept-changed c.self.inside (after c) c.args.id c.slot_of.result c.index-self-slot_of.result None c.self.invariant (gone c)
+invariant_of-self c = kept-changed c.self.inside (after c) c.args.id c.slot_of.result c.index_mut.result.now None c.self.invariant (gone c)
 
 pub returns-clause-tables : goal.returns-clause-tables
-returns-clause-tables c = shown-changed c.self.inside (after c) c.args.self.now c.args.id c.slot_of.result c.index-self-slot_of.result None c.self.invariant c.self.view_is (gone c)
+returns-clause-tables c = shown-changed c.self.inside (after c) c.args.self.now c.args.id c.slot_of.result c.index_mut.result.now None c.self.invariant c.self.view_is (gone c)
 
 pub returns-clause-taken : goal.returns-clause-taken
-returns-clause-taken c = c.remove.ensures.taken ∙ sym (get-shown c.self.inside c.args.self.now c.args.id c.slot_of.result _ c.self.invariant c.self.view_is c.slot_of.ensures.value c.slot_of.ensures.bound)
+returns-clause-taken c = c.remove.ensures.taken ∙ sym (get-shown c.self.inside c.args.self.now c.args.id c.slot_of.result c.index_mut.result.now c.self.invariant c.self.view_is c.slot_of.ensures.value c.slot_of.ensures.bound c.index_mut.ensures.value)

@@ -6,37 +6,35 @@ use Rattle.raft_table.specs.TableEntries.{end_of}
 use Rattle.raft_table.specs.Table.{after_replay, live_of, IsCounted}
 use Rattle.raft_table.specs.Steps.{table_of}
 use Rattle.raft_accessor.specs.AccessorView.{together}
+use Rattle.std.specs.Vec.{with_item}
 use Rattle.raft_accessor.specs.declared.accessor.MemTableAccessor.TheInside.{Inside}
 use Rattle.raft_accessor.proofs.AccessorLemmas.{InSlot, kept-in, changed-in}
-use Rattle.raft_accessor.proofs.LiveLemmas.{table-counted}
-use Rattle.raft_accessor.proofs.SlotLemmas.{get-shown}
+use Rattle.raft_accessor.proofs.SlotLemmas.{slot-counted, get-shown}
 use Rattle.raft_accessor.proofs.accessor.MemTableAccessor.try_replay_run.Goals as goal
 
 pub try_replay_run-requires-clause-counted : goal.try_replay_run-requires-clause-counted
-try_replay_run-requires-clause-counted c =
-    subst (λ t. IsCounted t c.self.inside.stats) (ap (table_of c.args.id) (get-shown c.self.inside _ c.args.id c.slot_of.result _ c.self.invariant refl c.slot_of.ensures.value c.slot_of.ensures.bound))
-    (table-counted (together c.self.inside.slots) c.self.inside.stats c.args.id c.self.invariant.counted)
+try_replay_run-requires-clause-counted c = slot-counted c.self.inside c.args.id c.slot_of.result c.index_mut.result.now c.self.invariant c.slot_of.ensures.value c.slot_of.ensures.bound c.index_mut.ensures.value
 
-abbrev after : goal.After-try_replay_run → Inside
-after c = record c.self.inside { slots = slice_set c.self.inside.slots c.slot_of.result c.try_replay_run.new.self; stats = c.try_replay_run.new.stats }
+abbrev after : goal.After-self-1 → Inside
+after c = record c.self.inside { slots = with_item c.self.inside.slots c.slot_of.result c.try_replay_run.new.self; stats = c.try_replay_run.new.stats }
 
-slotted : (c : goal.After-try_replay_run) → InSlot c.self.inside (after c) c.args.id c.slot_of.result c.index-self-slot_of.result c.try_replay_run.new.self c.try_replay_run.new.stats
-slotted c = record { at = c.slot_of.ensures.value; bound = c.slot_of.ensures.bound; slots = refl; stats = refl; one = c.try_replay_run.ensures.taken.one; recounted = c.try_replay_run.ensures.taken.recounted }
+slotted : (c : goal.After-self-1) → InSlot c.self.inside (after c) c.args.id c.slot_of.result c.index_mut.result.now c.try_replay_run.new.self c.try_replay_run.new.stats
+slotted c = record { at = c.slot_of.ensures.value; bound = c.slot_of.ensures.bound; lent = c.index_mut.ensures.value; slots = refl; stats = refl; one = c.try_replay_run.ensures.taken.one; recounted = c.try_replay_run.ensures.taken.recounted }
 
 pub invariant_of-self : goal.invariant_of-self
-invariant_of-self c = kept-in c.self.inside (after c) c.args.id c.slot_of.result c.index-self-slot_of.result c.try_replay_run.new.self c.try_replay_run.new.stats c.self.invariant (slotted c)
+invariant_of-self c = kept-in c.self.inside (after c) c.args.id c.slot_of.result c.index_mut.result.now c.try_replay_run.new.self c.try_replay_run.new.stats c.self.invariant (slotted c)
 
 pub returns-clause-changed : goal.returns-clause-changed
-returns-clause-changed c = changed-in c.self.inside (after c) c.args.id c.slot_of.result c.index-self-slot_of.result c.try_replay_run.new.self c.try_replay_run.new.stats c.self.invariant (slotted c) c.args.self.now c.self.view_is (λ t. after_replay c.args.queue t c.args.run.now) (λ t k e. ⊥) (ok_or c.try_replay_run.result Memory) c.try_replay_run.ensures.taken refl
+returns-clause-changed c = changed-in c.self.inside (after c) c.args.id c.slot_of.result c.index_mut.result.now c.try_replay_run.new.self c.try_replay_run.new.stats c.self.invariant (slotted c) c.args.self.now c.self.view_is (λ t. after_replay c.args.queue t c.args.run.now) (λ t k e. ⊥) (ok_or c.try_replay_run.result Memory) c.try_replay_run.ensures.taken refl
 
 pub returns-clause-accepted : goal.returns-clause-accepted
 returns-clause-accepted c =
     rw (← c.self.view_is) (subst (λ t. OnSome c.try_replay_run.result (live_of (other c.args.queue) t ≡ 0))
-    (sym (ap (table_of c.args.id) (get-shown c.self.inside _ c.args.id c.slot_of.result _ c.self.invariant refl c.slot_of.ensures.value c.slot_of.ensures.bound)))
+    (sym (ap (table_of c.args.id) (get-shown c.self.inside _ c.args.id c.slot_of.result c.index_mut.result.now c.self.invariant refl c.slot_of.ensures.value c.slot_of.ensures.bound c.index_mut.ensures.value)))
     c.try_replay_run.ensures.accepted)
 
 pub returns-clause-end : goal.returns-clause-end
 returns-clause-end c =
     rw (← c.self.view_is) (subst (λ t. IfSome c.try_replay_run.result (λ end. end ≡ end_of t.entries))
-    (sym (ap (table_of c.args.id) (get-shown c.self.inside _ c.args.id c.slot_of.result _ c.self.invariant refl c.slot_of.ensures.value c.slot_of.ensures.bound)))
+    (sym (ap (table_of c.args.id) (get-shown c.self.inside _ c.args.id c.slot_of.result c.index_mut.result.now c.self.invariant refl c.slot_of.ensures.value c.slot_of.ensures.bound c.index_mut.ensures.value)))
     c.try_replay_run.ensures.end)

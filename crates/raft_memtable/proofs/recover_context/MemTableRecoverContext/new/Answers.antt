@@ -4,7 +4,7 @@ use Rattle.raft_memtable.proofs.RecoverContextLemmas.{new_read, new_reads_as}
 use Rattle.raft_memtable.proofs.recover_context.MemTableRecoverContext.new.Goals as goal
 
 pub invariant_of-result : goal.invariant_of-result
-invariant_of-result c = record { read = λ _. subst IsRead (sym c.new.ensures) new_read }
+invariant_of-result c = record { read = λ _. subst IsRead (sym c.in_ok-new.ensures.ok) new_read }
 
 pub returns-clause-exact : goal.returns-clause-exact
-returns-clause-exact c = new_reads_as _ c.new.ensures
+returns-clause-exact c = new_reads_as _ c.in_ok-new.ensures.ok

@@ -1,9 +1,0 @@
-use Rattle.std.proofs.Common.{◌≡◌, ◌++◌, take}
-use Rattle.raft_codec.specs.Varint.{varint}
-use Rattle.raft_records.specs.Spelling.{tails_bytes}
-use Rattle.raft_records.proofs.entry_index.append_run.Given as goal
-
--- the first index and the tail offsets so far stand behind the old bytes
-abbrev pub invariant-loop-entry : goal.invariant-loop-entry
-invariant-loop-entry l =
-    l.buf.items ≡ l.fn.buf.items ++ (varint l.first ++ tails_bytes (take l.entry-index l.entries))

@@ -1,0 +1,15 @@
+use Rattle.std.proofs.Common.{arith}
+use Rattle.std.proofs.lemmas.List.{get_or_default}
+use Rattle.std.proofs.lemmas.List.Edits.{map_over_more}
+use Rattle.raft_base.specs.NoEntry.{no_entry}
+use Rattle.raft_records.specs.ItemBatch.{raised_entry}
+use Rattle.raft_records.proofs.LayLemmas.{raise_fits}
+use Rattle.raft_records.proofs.entry_indexes.EntryIndexes.raise_offsets.Goals as goal
+
+pub overflow_add-entry : goal.overflow_add-entry
+overflow_add-entry c =
+    omega (arith, raise_fits c.args.by c.loop-entry.entry-index c.args.self.now.0.items c.loop-entry.entry-items no_entry (omega arith) c.loop-entry.invariant c.requires)
+
+pub loop-entry-preserved : goal.loop-entry-preserved
+loop-entry-preserved c =
+    map_over_more (raised_entry c.args.by) c.args.self.now.0.items c.loop-entry.entry-items c.loop-entry.entry-index _ (omega arith) c.loop-entry.invariant (get_or_default c.loop-entry.entry-items c.loop-entry.entry-index _ _ (omega arith))

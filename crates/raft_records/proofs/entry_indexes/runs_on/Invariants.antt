@@ -1,0 +1,7 @@
+use Rattle.std.proofs.Common.{◌↔◌, drop}
+use Rattle.raft_records.specs.Entries.{Tile, RunOn}
+use Rattle.raft_records.proofs.entry_indexes.runs_on.Given as goal
+
+-- what is left to see decides
+abbrev pub invariant-loop-entry : goal.invariant-loop-entry
+invariant-loop-entry l = RunOn l.entries ↔ Tile l.offset (drop l.entry-index l.entries)

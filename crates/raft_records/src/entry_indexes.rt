@@ -1,0 +1,311 @@
+//! Where the entries of a region's log stand.
+
+ghost use Rattle.std.specs.Prelude.{◌≡◌, ◌≢◌, ◌↔◌, ◌-◌, ◌^◌, ◌<◌, ◌≤◌, List, ◌++◌, map, length, IsTrue, IfOk, IfErr, IfSome, OnOk, OnErr, OnSome, ℕ};
+ghost use Rattle.raft_codec.specs.Reading.{Reads, HasNoFront};
+ghost use Rattle.raft_records.specs.Grammar.{IsEntries, IsTail, AreTails, end_behind};
+ghost use Rattle.raft_records.specs.Faults.{IsEntriesFault, IsTailFault, IsTailsFault, IsEntriesRefusal};
+ghost use Rattle.raft_records.specs.Entries.{IsConsecutive, RunOn, AreWritable};
+ghost use Rattle.raft_codec.specs.Varint.{varint};
+ghost use Rattle.raft_records.specs.ItemBatch.{placed_entry, raised_entry, CanRaise};
+ghost use Rattle.raft_records.specs.Placement.{entry_between, file_in, entry_in};
+ghost use Rattle.raft_records.specs.Sizes.{entries_size, saturated};
+ghost use Rattle.raft_records.specs.Spelling.{Keeps, tails_bytes, entries_bytes};
+
+use raft_base::{CompressionType, EntryIndex, Error, FileBlockHandle, FileId, Result};
+use raft_codec::codec;
+use raft_codec::codec::BytesSlice;
+use std::alloc::{AllocError, Global};
+
+/// Where entries that are read are placed.
+#[derive(Clone, Copy)]
+pub(crate) struct Placement {
+    /// Their block, whose file is also that of key values.
+    pub(crate) block: Option<FileBlockHandle>,
+    pub(crate) compression_type: CompressionType,
+}
+
+/// No place.
+pub(crate) const UNPLACED: Placement = Placement {
+    block: None,
+    compression_type: CompressionType::None,
+};
+
+impl Placement {
+    /// The file, if there is a block.
+    pub(crate) fn file_id(self) -> Option<FileId>
+        ensures { result ≡ file_in self.block }
+    {
+        match self.block {
+            Some(block) => Some(block.id),
+            None => None,
+        }
+    }
+}
+
+/// Whether the indexes rise by one from entry to entry and none is 2^64 - 1. It takes no memory.
+pub fn is_consecutive(entries: &[EntryIndex]) -> bool
+    ensures { IsTrue result ↔ IsConsecutive entries.now }
+{
+    let mut index = match entries.first() {
+        Some(first) => first.index,
+        None => return true,
+    };
+    for entry in entries {
+        if entry.index != index || index == u64::MAX {
+            return false;
+        }
+        index += 1;
+    }
+    true
+}
+
+/// Whether each entry's bytes begin where those of the one before it end, and end below 2^32.
+fn runs_on(entries: &[EntryIndex]) -> bool
+    ensures { IsTrue result ↔ RunOn entries.now }
+{
+    let mut offset = match entries.first() {
+        Some(first) => first.entry_offset,
+        None => return true,
+    };
+    for entry in entries {
+        if entry.entry_offset != offset || entry.entry_len > u32::MAX - offset {
+            return false;
+        }
+        offset += entry.entry_len;
+    }
+    true
+}
+
+/// The entries of one item: consecutive ones of one region.
+#[derive(Clone, PartialEq, Eq, Debug, Drop)]
+pub struct EntryIndexes(pub Vec<EntryIndex>);
+
+impl EntryIndexes {
+    /// A list of the same entries. There may be no memory for it.
+    #[tactic(auto, using(crate::proofs::CloneLemmas::entries_clone))]
+    pub fn clone(&self) -> Result<EntryIndexes>
+        ensures ok { IfOk result (λ copy. copy.0.items ≡ self.now.0.items) }
+        ensures memory { IfErr result (λ e. e ≡ Error.Memory) }
+    {
+        Ok(<EntryIndexes as Clone>::clone(self)?)
+    }
+
+    /// The approximate length of the entries' bytes, capped at `usize::MAX`.
+    pub(crate) fn approximate_size(&self) -> usize
+        ensures { result ≡ saturated (entries_size self.now.0.items) }
+    {
+        let tails = self.0.len().saturating_mul(8);
+        let first = if self.0.is_empty() { 0 } else { 8 };
+        tails.saturating_add(8 + first)
+    }
+
+    /// Gives each entry its place.
+    pub(crate) fn place(&mut self, block: FileBlockHandle, compression_type: CompressionType)
+        ensures { self.new.0.items ≡ map (placed_entry block compression_type) self.old.0.items }
+    {
+        for entry in self.0.iter_mut() {
+            entry.entries = Some(block);
+            entry.compression_type = compression_type;
+        }
+    }
+
+    /// Raises the entries' offsets: their bytes stand `by` bytes further back.
+    pub(crate) fn raise_offsets(&mut self, by: u32)
+        requires { CanRaise by self.old.0.items }
+        ensures { self.new.0.items ≡ map (raised_entry by) self.old.0.items }
+    {
+        for entry in self.0.iter_mut() {
+            entry.entry_offset += by;
+        }
+    }
+
+    /// Whether the entries can be written: their indexes are consecutive and their bytes run on.
+    pub(crate) fn is_writable(&self) -> bool
+        ensures { IsTrue result ↔ AreWritable self.now.0.items }
+    {
+        is_consecutive(self.0.as_slice()) && runs_on(self.0.as_slice())
+    }
+
+    /// Appends the entries' bytes. A list that is not consecutive, an entry that doesn't begin where
+    /// the one before it ended, and a tail offset above 2^32 - 1 are `InvalidArgument`. On `Err` the
+    /// vector is as it was.
+    pub fn encode(&self, buf: &mut Vec<u8>) -> Result<()>
+        ensures ok { OnOk result (buf.new.items ≡ buf.old.items ++ entries_bytes self.now.0.items) }
+        ensures accepted { OnOk result (AreWritable self.now.0.items) }
+        ensures err { OnErr result (buf.new.items ≡ buf.old.items) }
+        ensures fault { IfErr result (IsEntriesRefusal self.now.0.items) }
+    {
+        if !self.is_writable() {
+            return Err(Error::InvalidArgument(format!(in *buf.allocator();
+                "the entries are not consecutive or don't run on"
+            )?));
+        }
+        let len = buf.len();
+        let written = self.write(buf);
+        if written.is_err() {
+            buf.truncate(len);
+        }
+        Ok(written?)
+    }
+
+    /// Appends the entries' bytes. On `Err` some bytes may stand behind those of the vector.
+    pub(crate) fn write(&self, buf: &mut Vec<u8>) -> std::result::Result<(), AllocError>
+        ensures ok { OnOk result (buf.new.items ≡ buf.old.items ++ entries_bytes self.now.0.items) }
+        ensures err { OnErr result (Keeps buf.old.items buf.new.items) }
+    {
+        codec::append_var_u64(buf, self.0.len() as u64)?;
+        match self.0.first() {
+            Some(first) => append_run(buf, first.index, self.0.as_slice()),
+            None => Ok(()),
+        }
+    }
+
+    /// Reads the entries of an item that stands behind `entries_size` entry bytes, without a place.
+    /// `entries_size` becomes the end of their bytes. On `Err` it and the slice are as they were.
+    pub fn decode(
+        alloc: Global,
+        buf: &mut BytesSlice<'_>,
+        entries_size: &mut u32,
+    ) -> Result<EntryIndexes>
+        ensures ok { IfOk result (λ es. Reads (IsEntries entries_size.old) buf.old.now buf.new.now es.0.items) }
+        ensures size { IfOk result (λ es. entries_size.new ≡ end_behind entries_size.old es.0.items) }
+        ensures err { OnErr result (buf.new.now ≡ buf.old.now) }
+        ensures size_err { OnErr result (entries_size.new ≡ entries_size.old) }
+        ensures refused { IfErr result (λ e. e ≢ Error.Memory →
+            HasNoFront (IsEntries entries_size.old) buf.old.now) }
+        ensures fault { IfErr result (IsEntriesFault entries_size.old buf.old.now) }
+    {
+        let (entries, end, rest) = EntryIndexes::parse(alloc, *buf, *entries_size, UNPLACED)?;
+        *entries_size = end;
+        *buf = rest;
+        Ok(entries)
+    }
+
+    /// The entries in front of `bytes`, each in this place, the end of their bytes, and what is behind
+    /// them.
+    #[inline(always)]
+    pub(crate) fn parse(
+        alloc: Global,
+        bytes: &[u8],
+        entries_size: u32,
+        place: Placement,
+    ) -> Result<(EntryIndexes, u32, &[u8])>
+        ensures ok { IfOk result (λ read. (es : List EntryIndex) ×
+            Reads (IsEntries entries_size) bytes.now read.2.now es
+            × (read.0.0.items ≡ map (entry_in place) es)) }
+        ensures size { IfOk result (λ read. read.1 ≡ end_behind entries_size read.0.0.items) }
+        ensures refused { IfErr result (λ e. e ≢ Error.Memory → HasNoFront (IsEntries entries_size) bytes.now) }
+        ensures fault { IfErr result (IsEntriesFault entries_size bytes.now) }
+    {
+        let (count, behind) = codec::parse_var_u64(bytes)?;
+        if count == 0 {
+            return Ok((EntryIndexes(Vec::new(alloc)), entries_size, behind));
+        }
+        let (first, tails) = codec::parse_var_u64(behind)?;
+        let (entries, end, rest) = parse_tails(alloc, tails, count, first, entries_size, place)?;
+        Ok((EntryIndexes(entries), end, rest))
+    }
+}
+
+/// Appends the first index and the tail offsets of entries.
+fn append_run(
+    buf: &mut Vec<u8>,
+    first: u64,
+    entries: &[EntryIndex],
+) -> std::result::Result<(), AllocError>
+    ensures ok { OnOk result (buf.new.items ≡ buf.old.items ++ (varint first ++ tails_bytes entries.now)) }
+    ensures err { OnErr result (Keeps buf.old.items buf.new.items) }
+{
+    codec::append_var_u64(buf, first)?;
+    for entry in entries {
+        codec::append_var_u64(
+            buf,
+            u64::from(entry.entry_offset) + u64::from(entry.entry_len),
+        )?;
+    }
+    Ok(())
+}
+
+/// The tail offsets of `count` entries from the index `first` on, behind `entries_size` entry bytes.
+#[inline(never)]
+fn parse_tails(
+    alloc: Global,
+    bytes: &[u8],
+    count: u64,
+    first: u64,
+    entries_size: u32,
+    place: Placement,
+) -> Result<(Vec<EntryIndex>, u32, &[u8])>
+    ensures ok { IfOk result (λ read. (es : List EntryIndex) ×
+        Reads (AreTails count (first, entries_size)) bytes.now read.2.now es
+        × (read.0.items ≡ map (entry_in place) es)) }
+    ensures size { IfOk result (λ read. read.1 ≡ end_behind entries_size read.0.items) }
+    ensures refused { IfErr result (λ e. e ≢ Error.Memory →
+        HasNoFront (AreTails count (first, entries_size)) bytes.now) }
+    ensures fault { IfErr result (IsTailsFault count (first, entries_size) bytes.now) }
+{
+    // Each entry takes a byte at least, so no count makes more room than bytes are there.
+    let room = count.min(bytes.len() as u64);
+    let mut entries = Vec::with_capacity(alloc, room as usize)?;
+    let mut rest = bytes;
+    let mut index = first;
+    let mut offset = entries_size;
+    // Where none of their indexes is 2^64 - 1, no index is tested by itself.
+    let bounded = count <= u64::MAX - first;
+    for _ in 0..count {
+        let (tail, behind) = match short_tail(rest, offset, bounded) {
+            Some(read) => read,
+            None => parse_tail(alloc, rest, index, offset)?,
+        };
+        entries.push_reserved(EntryIndex {
+            index,
+            entries: place.block,
+            compression_type: place.compression_type,
+            entry_offset: offset,
+            entry_len: tail - offset,
+        });
+        rest = behind;
+        index += 1;
+        offset = tail;
+    }
+    Ok((entries, offset, rest))
+}
+
+/// The tail offset of an entry whose bytes begin at `offset`, and what is behind it, where it takes four
+/// bytes at most, as most do, and `bounded` tells that no index is 2^64 - 1. Else nothing is said.
+#[inline(always)]
+fn short_tail(bytes: &[u8], offset: u32, bounded: bool) -> Option<(u32, &[u8])>
+    ensures read { IfSome result (λ read. (index : ℕ) → index < 2 ^ 64 - 1 →
+        Reads (IsTail (index, offset)) bytes.now read.1.now (entry_between index offset read.0)) }
+    ensures ends { IfSome result (λ read. offset ≤ read.0) }
+    ensures bounded { OnSome result (IsTrue bounded) }
+    ensures shorter { IfSome result (λ read. length read.1.now < length bytes.now) }
+{
+    match codec::parse_short_var_u64(bytes) {
+        Some((tail, rest)) if bounded && tail >= u64::from(offset) => Some((tail as u32, rest)),
+        _ => None,
+    }
+}
+
+/// The tail offset of the entry `index`, whose bytes begin at `offset`, and what is behind it.
+#[inline(never)]
+fn parse_tail(alloc: Global, bytes: &[u8], index: u64, offset: u32) -> Result<(u32, &[u8])>
+    ensures ok { IfOk result (λ read.
+        Reads (IsTail (index, offset)) bytes.now read.1.now (entry_between index offset read.0)) }
+    ensures ends { IfOk result (λ read. offset ≤ read.0) }
+    ensures bounded { OnOk result (index < 2 ^ 64 - 1) }
+    ensures shorter { IfOk result (λ read. length read.1.now < length bytes.now) }
+    ensures refused { OnErr result (HasNoFront (IsTail (index, offset)) bytes.now) }
+    ensures fault { IfErr result (IsTailFault (index, offset) bytes.now) }
+{
+    if index == u64::MAX {
+        return Err(Error::Corruption(format!(in alloc; "an entry has no index below {index}")?));
+    }
+    let (tail, rest) = codec::parse_var_u64(bytes)?;
+    if tail < u64::from(offset) || tail > u64::from(u32::MAX) {
+        return Err(Error::Corruption(format!(in alloc;
+            "a tail offset of {tail} behind {offset}"
+        )?));
+    }
+    Ok((tail as u32, rest))
+}

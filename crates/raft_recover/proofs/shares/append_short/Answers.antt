@@ -1,0 +1,23 @@
+use Rattle.std.proofs.Common.{◌++◌, ◌+◌, List, length, drop, ap, subst, arith}
+use Rattle.std.proofs.lemmas.List.{drop_all}
+use Rattle.raft_records.specs.FilePart.{Part}
+use Rattle.raft_recover.specs.Shares.{AreAlike}
+use Rattle.raft_recover.proofs.ShareLemmas.{item_here, alike_all, cut_one_more}
+use Rattle.raft_recover.proofs.shares.append_short.Goals as goal
+
+pub loop-part-preserved : goal.loop-part-preserved
+loop-part-preserved c =
+    let part = c.part-item.result in
+    let parts = c.loop-part.parts.items in
+    let whole = c.args.parts.now.items ++ c.args.segment.now.items in
+    let left = drop (c.loop-part.part-index + 1) c.args.segment.now.items in
+    let here = item_here c.deref-part-items.ensures.value (let t = c.loop-part-test.true in omega arith) c.part-item.is in
+    let before = subst (λ (l : List Part). AreAlike whole (parts ++ l)) here c.loop-part.invariant in
+    let cut = c.in_ok-cut_part.ensures in
+    cut_one_more whole parts left c.in_ok-cut_part.field-0.items c.append.new.self.items part c.in_ok-share.field-0 before c.in_ok-share.ensures.ok
+    cut.read cut.file cut.some c.in_ok-append.ensures.items
+
+pub returns-clause-alike : goal.returns-clause-alike
+returns-clause-alike c =
+    let none = drop_all c.loop-part.part-index c.args.segment.now.items (let e = ap length c.deref-part-items.ensures.value in let t = c.loop-part-test.false in omega arith) in
+    alike_all (c.args.parts.now.items ++ c.args.segment.now.items) c.loop-part.parts.items (drop c.loop-part.part-index c.args.segment.now.items) none c.loop-part.invariant

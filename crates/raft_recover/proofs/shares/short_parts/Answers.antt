@@ -1,0 +1,22 @@
+use Rattle.std.proofs.Common.{◌++◌, ◌+◌, List, Vec, length, drop, refl, ap, subst, arith}
+use Rattle.std.specs.Global.{Global}
+use Rattle.std.proofs.lemmas.List.{drop_all}
+use Rattle.raft_records.specs.FilePart.{Part}
+use Rattle.raft_recover.specs.Shares.{AreAlike, parts_within}
+use Rattle.raft_recover.proofs.ShareLemmas.{item_here, alike_all, segment_one_more}
+use Rattle.raft_recover.proofs.shares.short_parts.Goals as goal
+
+pub loop-segment-preserved : goal.loop-segment-preserved
+loop-segment-preserved c =
+    let segment = c.segment-item.result in
+    let parts = c.loop-segment.parts.items in
+    let whole = parts_within c.args.segments.now in
+    let left = parts_within (drop (c.loop-segment.segment-index + 1) c.args.segments.now) in
+    let here = item_here {xs = c.args.segments.now} {ys = c.args.segments.now} {i = c.loop-segment.segment-index} {x = segment} refl (let t = c.loop-segment-test.true in omega arith) c.segment-item.is in
+    let before = subst (λ (l : List (Vec Part Global)). AreAlike whole (parts ++ parts_within l)) here c.loop-segment.invariant in
+    segment_one_more whole parts left segment.items c.append_short.new.parts.items before c.in_ok-append_short.ensures.alike
+
+pub returns-clause-alike : goal.returns-clause-alike
+returns-clause-alike c =
+    let none = drop_all c.loop-segment.segment-index c.args.segments.now (let t = c.loop-segment-test.false in omega arith) in
+    alike_all (parts_within c.args.segments.now) c.loop-segment.parts.items (parts_within (drop c.loop-segment.segment-index c.args.segments.now)) (ap parts_within none) c.loop-segment.invariant

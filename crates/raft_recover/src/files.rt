@@ -1,0 +1,36 @@
+//! Files as segments.
+
+ghost use Rattle.std.specs.Prelude.{◌≡◌, ◌↔◌, ◌^◌, ◌<◌, List, IfOk, IfErr, length, map};
+ghost use Rattle.raft_history.specs.Batches.{Event};
+ghost use Rattle.raft_replay.specs.Segments.{ReadsSegments, SegmentsAreOf};
+ghost use Rattle.raft_recover.specs.Files.{ReadsFiles};
+ghost use Rattle.raft_recover.specs.AskedRequests.{file_shown};
+
+use raft_base::{Error, FileId, FileSeq, LogQueue, Result, Version};
+use raft_records::FilePart;
+use raft_replay::Segment;
+
+/// Files of a queue as segments: each file is one, of one part. What is read of them is what is read of the files.
+///
+/// # Errors
+///
+/// `Memory`.
+pub fn file_segments(
+    queue: LogQueue,
+    version: Version,
+    files: Vec<(FileSeq, Vec<u8>)>,
+) -> Result<Vec<Segment>>
+    ensures read { IfOk result (λ segments. (h : List Event) →
+        ReadsFiles queue version (map file_shown files.items) h ↔ ReadsSegments segments.items h) }
+    ensures of_queue { IfOk result (λ segments. SegmentsAreOf queue segments.items) }
+    ensures count { IfOk result (λ segments. length segments.items ≡ length files.items) }
+    ensures memory { IfErr result (λ e. e ≡ Error.Memory) }
+{
+    let alloc = *files.allocator();
+    let mut segments = Vec::with_capacity(alloc, files.len())?;
+    for (seq, bytes) in files {
+        let whole = FilePart::new(FileId::new(queue, seq), version, 0, bytes)?;
+        segments.push(vec![in alloc; whole]?)?;
+    }
+    Ok(segments)
+}

@@ -1,0 +1,164 @@
+//! What the program `raftlog` does, over any reader and writers.
+
+ghost use Rattle.std.specs.Prelude.{◌≡◌, ◌≢◌, ◌≤◌, ◌↔◌, ◌⊎◌, ℕ, List, OnOk, IfErr, map, string_bytes};
+ghost use Rattle.std.specs.Io.KnownBytes.{Keeps};
+ghost use Rattle.std.specs.IoError.{error_kind};
+ghost use Rattle.raft_recover.specs.Requests.{AsksRecovery, AsksNothing, refusal_word};
+ghost use Rattle.raft_recover.specs.AskedRequests.{IsAsked, asks_for};
+ghost use Rattle.raft_recover.specs.Programs.{IsRecoveryPrinted, IsRecoveryFrontPrinted, IsPrinted, IsFrontPrinted};
+
+use crate::recovery::recover_bytes;
+use crate::request::{RecoverWords, Request, read_files};
+use raft_base::{Error, Result};
+use raft_records::print_batch;
+use std::io::{ErrorKind, Read, Write};
+use std::rt::{Env, Files};
+use std::thread::Threads;
+use std::{env, io};
+
+/// How a run of `raftlog` ends.
+#[derive(Clone, Copy, PartialEq, Eq, Debug)]
+enum Status {
+    /// What was asked for is done.
+    Done = 0,
+    /// It was refused.
+    Refused = 1,
+    /// The words ask for nothing that `raftlog` does.
+    Misused = 2,
+}
+
+/// What is printed where the words ask for nothing that `raftlog` does.
+const USAGE: &str = "\
+usage: raftlog batch <queue> <seq> <version>
+       raftlog recover <queue> <version> <workers> <seq>=<path>..
+";
+
+/// Does what the words of a command line ask for, and answers the status to end with: 0 where it is
+/// done, 1 where it is refused, 2 where the words ask for nothing. A refusal and a hint at the words
+/// are a line on `err`; where that can't be written, the status is the same.
+pub fn run<S: Files + AllocGlobal + Threads + Sync, R: Read, W: Write, E: Write>(
+    rt: &S,
+    words: &[String],
+    input: &mut R,
+    out: &mut W,
+    err: &mut E,
+) -> u8
+    ensures known { result ≤ 2 }
+    ensures done { result ≡ 0 → IsPrinted (map string_bytes words.now)
+        (R.remaining input.old) (W.contents out.old) (W.contents out.new) }
+    ensures silent { result ≡ 1 → Keeps (W.contents out.old) (W.contents out.new)
+        ⊎ IsFrontPrinted (map string_bytes words.now) (R.remaining input.old) (R.remaining input.new)
+        (W.contents out.old) (W.contents out.new) }
+    ensures misused { (result ≡ 2) ↔ AsksNothing (map string_bytes words.now) }
+    ensures untouched { result ≡ 2 → Keeps (W.contents out.old) (W.contents out.new) }
+    ensures quiet { result ≡ 0 → Keeps (E.contents err.old) (E.contents err.new) }
+{
+    let Some(request) = Request::parse(words) else {
+        return misused(err);
+    };
+    match answer(rt, request, input, out) {
+        Ok(()) => Status::Done as u8,
+        Err(error) => refused(refusal(&error), err),
+    }
+}
+
+/// The words of the command line behind the program's name.
+///
+/// # Errors
+///
+/// `OutOfMemory` where memory is short, `InvalidData` for a word that isn't UTF-8.
+pub fn command_words<S: Env + AllocGlobal>(rt: &S) -> io::Result<Vec<String>> {
+    let mut words = Vec::new(rt.alloc());
+    for word in env::args(rt)?.skip(1) {
+        words.push(word)?;
+    }
+    Ok(words)
+}
+
+/// Says on `err` why the words of a command line aren't there, and answers the status to end with: 1 for want of memory,
+/// which is refused as any other, and 2 for a word that isn't UTF-8, with a hint at the words.
+pub fn run_without_words<E: Write>(error: &io::Error, err: &mut E) -> u8
+    ensures memory { error_kind error.now ≡ ErrorKind.OutOfMemory → result ≡ 1 }
+    ensures misused { error_kind error.now ≢ ErrorKind.OutOfMemory → result ≡ 2 }
+{
+    if error.kind() == ErrorKind::OutOfMemory {
+        return refused(refusal(&Error::Memory), err);
+    }
+    misused(err)
+}
+
+/// Hints at the words that are understood, and answers the status to end with.
+fn misused<E: Write>(err: &mut E) -> u8
+    ensures { result ≡ 2 }
+{
+    let _ = err.write_all(USAGE.as_bytes());
+    Status::Misused as u8
+}
+
+/// Prints the word of a refusal, and answers the status to end with.
+fn refused<E: Write>(word: &str, err: &mut E) -> u8
+    ensures { result ≡ 1 }
+{
+    let _ = writeln!(err, "raftlog: refused: {word}");
+    Status::Refused as u8
+}
+
+/// Prints what is asked for.
+fn answer<S: Files + AllocGlobal + Threads + Sync, R: Read, W: Write>(
+    rt: &S,
+    request: Request<'_>,
+    input: &mut R,
+    out: &mut W,
+) -> Result<()>
+    ensures done { (words : List (List ℕ)) → IsAsked words request.entry →
+        OnOk result (IsPrinted words (R.remaining input.old) (W.contents out.old) (W.contents out.new)) }
+    ensures silent { (words : List (List ℕ)) → IsAsked words request.entry →
+        IfErr result (λ _. Keeps (W.contents out.old) (W.contents out.new)
+        ⊎ IsFrontPrinted words (R.remaining input.old) (R.remaining input.new)
+        (W.contents out.old) (W.contents out.new)) }
+{
+    match request {
+        Request::Batch(context) => print_batch(rt.alloc(), input, out, &context),
+        Request::Recover(recovery) => print_files(rt, recovery, out),
+    }
+}
+
+/// Reads files and prints their tables.
+fn print_files<S: Files + AllocGlobal + Threads + Sync, W: Write>(
+    rt: &S,
+    recovery: RecoverWords<'_>,
+    out: &mut W,
+) -> Result<()>
+    ensures done { (words : List (List ℕ)) → AsksRecovery words (asks_for recovery.entry) →
+        OnOk result (IsRecoveryPrinted words (W.contents out.old) (W.contents out.new)) }
+    ensures silent { (words : List (List ℕ)) → AsksRecovery words (asks_for recovery.entry) →
+        IfErr result (λ _. Keeps (W.contents out.old) (W.contents out.new)
+        ⊎ IsRecoveryFrontPrinted words (W.contents out.old) (W.contents out.new)) }
+{
+    let files = read_files(rt, recovery.files)?;
+    recover_bytes(
+        rt,
+        rt.alloc(),
+        recovery.queue,
+        recovery.version,
+        recovery.workers,
+        files,
+        out,
+    )
+}
+
+/// The word for a refusal.
+fn refusal(error: &Error) -> &'static str
+    ensures { result.now ≡ refusal_word error.now }
+{
+    match error {
+        Error::InvalidArgument(_) => "invalid-argument",
+        Error::Corruption(_) => "corruption",
+        Error::Io(_) => "io",
+        Error::Codec(_) => "codec",
+        Error::Message(_) => "message",
+        Error::Full => "full",
+        Error::Memory => "memory",
+        _ => "failed",
+    }
+}

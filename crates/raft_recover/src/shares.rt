@@ -1,0 +1,126 @@
+//! Segments as equal shares: neighbours put together and large parts cut, by bytes.
+
+ghost use Rattle.std.specs.Prelude.{◌≡◌, ◌↔◌, ◌<◌, ◌≤◌, ◌++◌, List, IfOk, IfErr, OnOk, length};
+ghost use Rattle.raft_base.specs.declared.pipe_log.LogQueue.{LogQueue};
+ghost use Rattle.raft_history.specs.Batches.{Event};
+ghost use Rattle.raft_replay.specs.Segments.{ReadsSegments, SegmentsAreOf};
+ghost use Rattle.raft_recover.specs.Shares.{parts_within, AreAlike};
+
+use raft_base::{Error, Result};
+use raft_records::FilePart;
+use raft_replay::{Segment, cut_part};
+use std::alloc::Global;
+use std::mem;
+
+/// How many pieces a part is cut into for each share that it fills, so that shares end near where they should.
+const PIECES: usize = 4;
+
+/// The parts of segments as `count` segments at most, the shares, of about one length each, and of `least` bytes or more
+/// where there are as many: neighbouring parts are put together, and a part that is longer than a share is cut between
+/// batches. What is read of the shares is what is read of the segments. No byte is copied.
+///
+/// # Errors
+///
+/// `Memory`.
+pub fn equal_shares(
+    alloc: Global,
+    segments: &[Segment],
+    count: usize,
+    least: usize,
+) -> Result<Vec<Segment>>
+    requires { (0 < count) × (0 < least) }
+    ensures read { IfOk result (λ shares. (h : List Event) →
+        ReadsSegments segments.entry.now h ↔ ReadsSegments shares.items h) }
+    ensures of_queue { IfOk result (λ shares. (queue : LogQueue) →
+        SegmentsAreOf queue segments.entry.now ↔ SegmentsAreOf queue shares.items) }
+    ensures few { IfOk result (λ shares. length shares.items ≤ count) }
+    ensures memory { IfErr result (λ e. e ≡ Error.Memory) }
+{
+    let share = (bytes_of(segments) / count).max(least);
+    shares_of(short_parts(alloc, segments, share)?, share, count)
+}
+
+/// How many bytes all parts hold, capped at 2^64 - 1.
+fn bytes_of(segments: &[Segment]) -> usize {
+    let mut bytes = 0usize;
+    for segment in segments {
+        for part in segment {
+            bytes = bytes.saturating_add(part.bytes().len());
+        }
+    }
+    bytes
+}
+
+/// The parts of all segments, those that are long for a share cut.
+fn short_parts(alloc: Global, segments: &[Segment], share: usize) -> Result<Vec<FilePart>>
+    requires { 0 < share }
+    ensures alike { IfOk result (λ parts. AreAlike (parts_within segments.entry.now) parts.items) }
+    ensures memory { IfErr result (λ e. e ≡ Error.Memory) }
+{
+    let mut parts = Vec::new(alloc);
+    for segment in segments {
+        append_short(alloc, segment, share, &mut parts)?;
+    }
+    Ok(parts)
+}
+
+/// The parts of a segment behind those before it, those that are long for a share cut.
+fn append_short(
+    alloc: Global,
+    segment: &Segment,
+    share: usize,
+    parts: &mut Vec<FilePart>,
+) -> Result<()>
+    requires { 0 < share }
+    ensures alike { OnOk result (AreAlike (parts.old.items ++ segment.now.items) parts.new.items) }
+    ensures memory { IfErr result (λ e. e ≡ Error.Memory) }
+{
+    for part in segment {
+        let pieces = (part.bytes().len() / share).saturating_mul(PIECES).max(1);
+        parts.append(&mut cut_part(alloc, part.share()?, pieces)?)?;
+    }
+    Ok(())
+}
+
+/// Parts as segments of about `share` bytes each, `count` at most: a part goes to the share in which its middle lies.
+fn shares_of(parts: Vec<FilePart>, share: usize, count: usize) -> Result<Vec<Segment>>
+    requires { (0 < share) × (0 < count) }
+    ensures same { IfOk result (λ shares. parts_within shares.items ≡ parts.items) }
+    ensures few { IfOk result (λ shares. length shares.items ≤ count) }
+    ensures memory { IfErr result (λ e. e ≡ Error.Memory) }
+{
+    let alloc = *parts.allocator();
+    let mut shares: Vec<Segment> = Vec::new(alloc);
+    let mut last: Segment = Vec::new(alloc);
+    let mut at = 0usize;
+    let mut before = 0usize;
+    for part in parts {
+        let bytes = part.bytes().len();
+        let place = before.saturating_add(bytes / 2) / share;
+        end_share(alloc, &mut shares, &mut last, place > at, count)?;
+        at = place;
+        before = before.saturating_add(bytes);
+        last.push(part)?;
+    }
+    shares.push(last)?;
+    Ok(shares)
+}
+
+/// Ends the last share where that is wanted, it holds a part, and there is room for one more.
+fn end_share(
+    alloc: Global,
+    shares: &mut Vec<Segment>,
+    last: &mut Segment,
+    wanted: bool,
+    count: usize,
+) -> Result<()>
+    ensures same { OnOk result (parts_within shares.new.items ++ last.new.items ≡ parts_within shares.old.items ++ last.old.items) }
+    ensures few { length shares.old.items < count → OnOk result (length shares.new.items < count) }
+    ensures memory { IfErr result (λ e. e ≡ Error.Memory) }
+{
+    if !wanted || last.is_empty() || shares.len() + 1 >= count {
+        return Ok(());
+    }
+    shares.push(mem::replace(last, Vec::new(alloc)))?;
+    Ok(())
+}

@@ -1,0 +1,54 @@
+use Rattle.std.proofs.Common.{◌≡◌, ◌+◌, ◌*◌, List, [], ◌∷◌, ◌++◌, reverse, sym, subst, arith, ap}
+use Rattle.std.proofs.lemmas.Result.{err_from_is_err_and}
+use Rattle.raft_replay.specs.declared.pieces.Waiting.{Waiting}
+use Rattle.raft_replay.specs.declared.pieces.Waiting.TheVariants.{Merged}
+use Rattle.raft_replay.specs.Plans.{leaves}
+use Rattle.raft_replay.specs.PlanWalks.{IsNext, IsReached, cost}
+use Rattle.raft_tickets.specs.Weights.{weigh}
+use Rattle.raft_tickets.proofs.WeightLemmas.{weigh-append}
+use Rattle.raft_replay.proofs.WalkLemmas.{last_first, waits, enough, joined, unjoined, on_ok}
+use Rattle.raft_replay.proofs.pieces.merge_next.Goals as goal
+
+pub oldest_of-requires : goal.oldest_of-requires
+oldest_of-requires g c =
+    let held = c.args.pieces.now.ok.0 in
+    let few = enough g.M.ReplayMachine.stands_for g.M.ReplayMachine.stands_exactly c.requires.0 c.in-Unmerged.plan.now (Merged c.args.merged ∷ reverse c.args.waiting.now.items) c.args.pieces.now.items
+    (waits g.M.ReplayMachine.stands_for g.M.ReplayMachine.stands_exactly c.requires.0 c.in-Unmerged.plan (reverse c.args.waiting.now.items) (reverse c.args.pieces.now.items) c.args.merged
+    (subst (λ (n : Waiting g.row.M.Denot). IsReached g.M.ReplayMachine.stands_for g.M.ReplayMachine.stands_exactly c.requires.0 (n ∷ reverse c.args.waiting.now.items) (reverse c.args.pieces.now.items) c.args.merged)
+    c.in-Unmerged.is c.requires.1)) in
+    (c.type_bounds.send-M, omega (arith, held, few))
+
+pub returns-in_ok-merge-in-Merged-clause-ok : goal.returns-in_ok-merge-in-Merged-clause-ok
+returns-in_ok-merge-in-Merged-clause-ok g c = λ all reached.
+    joined g.M.ReplayMachine.stands_for g.M.ReplayMachine.stands_exactly all c.in-Merged.older c.args.merged (reverse c.args.waiting.now.items) (reverse c.args.pieces.now.items)
+    (subst (λ (n : Waiting g.row.M.Denot). IsReached g.M.ReplayMachine.stands_for g.M.ReplayMachine.stands_exactly all (n ∷ reverse c.args.waiting.now.items) (reverse c.args.pieces.now.items) c.args.merged)
+    c.in-Merged.is reached)
+    c.merge.new.self c.in_ok-merge-in-Merged.ensures.stands c.in_ok-merge-in-Merged.ensures.exact
+
+pub returns-in_err-merge-in-Merged-clause-refused : goal.returns-in_err-merge-in-Merged-clause-refused
+returns-in_err-merge-in-Merged-clause-refused g c =
+    let p = err_from_is_err_and c.from_residual.result c.from_residual.ensures.1 in
+    rw (p.1, p.2)
+    (λ not_memory all reached.
+    unjoined g.M.ReplayMachine.stands_for g.M.ReplayMachine.stands_exactly all c.in-Merged.older c.args.merged (reverse c.args.waiting.now.items) (reverse c.args.pieces.now.items)
+    (subst (λ (n : Waiting g.row.M.Denot). IsReached g.M.ReplayMachine.stands_for g.M.ReplayMachine.stands_exactly all (n ∷ reverse c.args.waiting.now.items) (reverse c.args.pieces.now.items) c.args.merged)
+    c.in-Merged.is reached)
+    c.args.queue (c.in_err-merge-in-Merged.ensures.refused not_memory))
+
+pub returns-in_ok-push-in-Unmerged-clause-ok : goal.returns-in_ok-push-in-Unmerged-clause-ok
+returns-in_ok-push-in-Unmerged-clause-ok g c = λ all reached.
+    c.oldest_of.ensures.ok all
+    (subst (λ (l : List (Waiting g.row.M.Denot)). IsNext g.M.ReplayMachine.stands_for g.M.ReplayMachine.stands_exactly all c.in-Unmerged.plan.now l (reverse c.args.pieces.now.items))
+    (sym (last_first c.push.new.self.items c.args.waiting.now.items (Merged c.args.merged) c.in_ok-push-in-Unmerged.ensures.items))
+    (waits g.M.ReplayMachine.stands_for g.M.ReplayMachine.stands_exactly all c.in-Unmerged.plan (reverse c.args.waiting.now.items) (reverse c.args.pieces.now.items) c.args.merged
+    (subst (λ (n : Waiting g.row.M.Denot). IsReached g.M.ReplayMachine.stands_for g.M.ReplayMachine.stands_exactly all (n ∷ reverse c.args.waiting.now.items) (reverse c.args.pieces.now.items) c.args.merged)
+    c.in-Unmerged.is reached)))
+
+pub returns-in_ok-push-in-Unmerged-clause-cost : goal.returns-in_ok-push-in-Unmerged-clause-cost
+returns-in_ok-push-in-Unmerged-clause-cost g c =
+    let pushed = ap (weigh (cost {M = g.row.M.Denot})) c.in_ok-push-in-Unmerged.ensures.items in
+    let sum : weigh (cost {M = g.row.M.Denot}) (c.args.waiting.now.items ++ Merged c.args.merged ∷ [])
+    ≡ weigh (cost {M = g.row.M.Denot}) c.args.waiting.now.items + 1 =
+    weigh-append (cost {M = g.row.M.Denot}) c.args.waiting.now.items (Merged c.args.merged ∷ []) in
+    let next : cost c.args.next ≡ 2 * leaves c.in-Unmerged.plan.now = ap (cost {M = g.row.M.Denot}) c.in-Unmerged.is in
+    on_ok c.oldest_of.result (λ spent. omega (arith, spent, pushed, sum, next)) c.oldest_of.ensures.cost

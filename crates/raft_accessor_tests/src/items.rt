@@ -1,7 +1,7 @@
 //! Items written to the tables of several regions, the regions that were cleaned, walks and merges.
 
 use crate::refusals::{are_counted, are_named};
-use raft_accessor::{
+use raft_memtable::{
     EntryIndex, Error, FileBlockHandle, FileId, LogQueue, MemTable, MemTableAccessor, Result,
     TableChange, is_run, slot_of,
 };

@@ -1,7 +1,7 @@
 //! What an accessor refuses, and for which fault, and how it counts the records of the rewrite queue.
 
 use crate::items::{FIRST, Fault, answered, entries, live, pair, replayed, run, shape};
-use raft_accessor::{FileId, FileSeq, LogQueue, MemTableAccessor, Result, TableChange};
+use raft_memtable::{FileId, FileSeq, LogQueue, MemTableAccessor, Result, TableChange};
 use raft_records::{LogItem, LogItemContent, OpType};
 use std::alloc::Global;
 

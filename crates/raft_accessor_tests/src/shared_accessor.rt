@@ -4,10 +4,10 @@ mod calls;
 mod seen;
 mod slots;
 
-use raft_accessor::{
+use raft_memtable::{
     EntryIndex, Error, FileBlockHandle, FileId, LogQueue, MemTable, Result, TableChange, slot_of,
 };
-use raft_shared::SharedAccessor;
+use raft_recover::SharedAccessor;
 use std::alloc::Global;
 use std::sync::Wait;
 use std::sync::atomic::{AtomicU64, Ordering};

@@ -4,8 +4,7 @@ ghost use Rattle.std.specs.Prelude.{◌≡◌};
 
 mod rows;
 
-use raft_base::{Factory, Version};
-use raft_size::{ReadableSize, SizeError, size_from_value};
+use raft_base::{Factory, ReadableSize, SizeError, Version, size_from_value};
 use serde::{Deserialize, Serialize};
 use std::alloc::Global;
 use std::fmt::InlineText;

@@ -2,7 +2,7 @@
 
 use crate::tables::{REGIONS, Region, append_all, empty_regions, found, print_each, run};
 use crate::timing::{Noise, TIMES, nanoseconds_since};
-use raft_table::{Block, EntryIndex, LogQueue};
+use raft_memtable::{Block, EntryIndex, LogQueue};
 use std::alloc::{AllocError, Global};
 use std::io;
 use std::mem::size_of;

@@ -4,8 +4,9 @@ use crate::recovery::milliseconds;
 use crate::timing::nanoseconds_since;
 use raft_memtable::{LogQueue, MemTableRecoverContext};
 use raft_records::Result;
-use raft_recover::cutting::file_segments;
-use raft_recover::request::{Recovery, Request, read_files};
+use raft_recover::files::file_segments;
+use raft_recover::request::{RecoverWords, Request, read_files};
+use raft_recover::shares::equal_shares;
 use raft_recover::{Segment, replay_segment};
 use std::alloc::Global;
 use std::io;
@@ -44,10 +45,11 @@ pub(crate) fn time<R: Files + AllocGlobal + Clock>(
 /// Times the reading and merging of files.
 fn time_files<R: Files + AllocGlobal + Clock>(
     rt: &R,
-    asked: Recovery<'_>,
+    asked: RecoverWords<'_>,
 ) -> Result<Option<Timed>> {
     let files = read_files(rt, asked.files)?;
-    let segments = file_segments(asked.queue, asked.version, CONTEXTS, files)?;
+    let segments = file_segments(asked.queue, asked.version, files)?;
+    let segments = equal_shares(rt.alloc(), segments.as_slice(), CONTEXTS, 1)?;
     let mut least = Timed {
         reading: u64::MAX,
         merging: u64::MAX,

@@ -2,8 +2,8 @@
 
 use crate::timing::nanoseconds_since;
 use raft_records::{LogQueue, Result};
-use raft_recover::cutting::file_segments;
-use raft_recover::request::{Recovery, Request, read_files};
+use raft_recover::files::file_segments;
+use raft_recover::request::{RecoverWords, Request, read_files};
 use raft_recover::{Segment, recover};
 use std::io;
 use std::rt::Files;
@@ -40,11 +40,11 @@ pub(crate) fn time<R: Threads + Files + AllocGlobal + Clock + Sync>(
 /// Times the recovery of files.
 fn time_files<R: Threads + Files + AllocGlobal + Clock + Sync>(
     rt: &R,
-    asked: Recovery<'_>,
+    asked: RecoverWords<'_>,
 ) -> Result<Timed> {
     let (queue, workers) = (asked.queue, asked.workers);
     let files = read_files(rt, asked.files)?;
-    let segments = file_segments(queue, asked.version, workers, files)?;
+    let segments = file_segments(queue, asked.version, files)?;
     let mut runs = [0; RUNS];
     let mut regions = 0;
     for run in &mut runs {

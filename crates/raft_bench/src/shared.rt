@@ -2,9 +2,8 @@
 
 use crate::tables::{print_each, run};
 use crate::timing::{Noise, TIMES, nanoseconds_since};
-use raft_memtable::MemTableAccessor;
+use raft_memtable::{LogQueue, MemTable, MemTableAccessor, Result, TableChange};
 use raft_recover::SharedAccessor;
-use raft_table::{LogQueue, MemTable, Result, TableChange};
 use std::alloc::{AllocError, Global};
 use std::sync::Wait;
 use std::thread;

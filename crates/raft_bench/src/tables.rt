@@ -1,9 +1,9 @@
 //! Times the tables of regions.
 
-ghost use Rattle.raft_table.specs.Table.{IsCounted};
+ghost use Rattle.raft_memtable.specs.Table.{IsCounted};
 
 use crate::timing::{Noise, TIMES, nanoseconds_since};
-use raft_table::{
+use raft_memtable::{
     Block, EntryIndex, FileBlockHandle, FileId, FileSeq, GlobalStats, LogQueue, MemTable, Result,
     is_run,
 };

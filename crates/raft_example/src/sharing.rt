@@ -25,15 +25,15 @@ pub(crate) fn append_and_fetch<R: Threads + Wait + Print + Sync>(
         || append_then_fetch(rt, alloc, &shared, 7, seven),
         || append_then_fetch(rt, alloc, &shared, 8, eight),
     );
-    print_lying(rt, 7, seven?)?;
-    print_lying(rt, 8, eight?)
+    print_place(rt, 7, seven?)?;
+    print_place(rt, 8, eight?)
 }
 
 /// The index of an entry, and the file in which it lies.
-type Lying = (u64, FileSeq);
+type EntryPlace = (u64, FileSeq);
 
 /// Prints where the entries of a region lie.
-fn print_lying(rt: &impl Print, region: u64, entries: Vec<Lying>) -> Result<()> {
+fn print_place(rt: &impl Print, region: u64, entries: Vec<EntryPlace>) -> Result<()> {
     for (index, file) in entries {
         println!(rt; "region {region}: entry {index} in file {file}")?;
     }
@@ -47,25 +47,25 @@ fn append_then_fetch<R: Wait>(
     shared: &SharedAccessor,
     region: u64,
     mut batch: LogBatch,
-) -> Result<Vec<Lying>> {
+) -> Result<Vec<EntryPlace>> {
     shared.apply_append_writes(rt, batch.drain())?;
-    match shared.with_table(rt, region, |table: &MemTable| lying(alloc, table)) {
+    match shared.with_table(rt, region, |table: &MemTable| place(alloc, table)) {
         Some(entries) => entries,
         None => Ok(Vec::new(alloc)),
     }
 }
 
 /// Where the entries of a table lie.
-fn lying(alloc: Global, table: &MemTable) -> Result<Vec<Lying>> {
+fn place(alloc: Global, table: &MemTable) -> Result<Vec<EntryPlace>> {
     let mut entries: Vec<EntryIndex> = Vec::new(alloc);
     if let (Some(first), Some(last)) = (table.first_index(), table.last_index()) {
         table.fetch_entries_to(first, last.saturating_add(1), None, &mut entries)?;
     }
-    let mut lying = Vec::new(alloc);
+    let mut places = Vec::new(alloc);
     for entry in &entries {
         if let Some(place) = entry.entries {
-            lying.push((entry.index, place.id.seq))?;
+            places.push((entry.index, place.id.seq))?;
         }
     }
-    Ok(lying)
+    Ok(places)
 }

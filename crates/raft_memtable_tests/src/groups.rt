@@ -20,12 +20,17 @@ fn file(seq: u64) -> FileId {
     FileId::new(LogQueue::Rewrite, seq)
 }
 
-/// Adds the marker of group 9 with this status.
-fn add_marker(alloc: Global, status: AtomicGroupStatus, batch: &mut LogBatch) -> Result<()>
+/// Adds the marker of a group with this status.
+fn add_marker(
+    alloc: Global,
+    group: u64,
+    status: AtomicGroupStatus,
+    batch: &mut LogBatch,
+) -> Result<()>
     requires { batch.old.stage ≡ populating }
     ensures { OnOk result (batch.new.stage ≡ populating) }
 {
-    let mut builder = AtomicGroupBuilder::with_id(9);
+    let mut builder = AtomicGroupBuilder::with_id(group);
     if status == Begin {
         return builder.begin(batch);
     }
@@ -36,12 +41,24 @@ fn add_marker(alloc: Global, status: AtomicGroupStatus, batch: &mut LogBatch) ->
     }
 }
 
-/// The bytes of a batch with this marker, which puts a key in region 5.
+/// The bytes of a batch with this marker of group 9, which puts a key in region 5.
 fn part(alloc: Global, status: AtomicGroupStatus, key: &[u8], seq: u64) -> Result<FilePart> {
+    part_of(alloc, 9, 5, status, key, seq)
+}
+
+/// The bytes of a batch with this marker of a group, which puts a key in a region.
+fn part_of(
+    alloc: Global,
+    group: u64,
+    region: u64,
+    status: AtomicGroupStatus,
+    key: &[u8],
+    seq: u64,
+) -> Result<FilePart> {
     let mut batch = LogBatch::default(alloc);
-    add_marker(alloc, status, &mut batch)?;
+    add_marker(alloc, group, status, &mut batch)?;
     batch.put(
-        5,
+        region,
         Vec::from_slice(alloc, key)?,
         Vec::from_slice(alloc, b"v".as_slice())?,
     )?;
@@ -63,9 +80,14 @@ fn read(alloc: Global, statuses: [AtomicGroupStatus; 4]) -> Result<MemTableAcces
 /// Which of the four keys region 5 has, and the files of its last group.
 type Effect = ([bool; 4], Option<(u64, u64)>);
 
-/// What the tables have.
+/// What the tables have of region 5.
 fn seen(accessor: &MemTableAccessor) -> Effect {
-    match accessor.get(5) {
+    seen_of(accessor, 5)
+}
+
+/// What the tables have of a region.
+fn seen_of(accessor: &MemTableAccessor, region: u64) -> Effect {
+    match accessor.get(region) {
         Some(table) => (
             KEYS.map(|key| table.get(key.as_slice()).is_some()),
             table.atomic_group(),
@@ -164,6 +186,49 @@ fn markers_have_their_effects(rt: HostRuntime) {
         all = all_have_effects(rt.alloc());
     }
     assert!(rt; matches!(all, Ok(true)));
+}
+
+/// A context of two batches with this status, in two files: the first one's group, region, key and file, and those of
+/// the second.
+fn two_of(
+    alloc: Global,
+    status: AtomicGroupStatus,
+    rows: &[(u64, u64, [u8; 2], u64); 2],
+) -> Result<MemTableRecoverContext> {
+    let mut context = MemTableRecoverContext::new(alloc)?;
+    for (group, region, key, seq) in rows {
+        let part = part_of(alloc, *group, *region, status, key.as_slice(), *seq)?;
+        replay_file(&mut context, &part)?;
+    }
+    Ok(context)
+}
+
+/// Group 9 of region 5 begins in file 1 and ends in file 4, group 8 of region 6 in between; a merge of the contexts of
+/// the files 1, 2 and 3, 4 makes both whole.
+fn two_groups(alloc: Global) -> Result<MemTableAccessor> {
+    let mut context = two_of(alloc, Begin, &[(9, 5, *b"k1", 1), (8, 6, *b"k2", 2)])?;
+    let newer = two_of(alloc, End, &[(8, 6, *b"k3", 3), (9, 5, *b"k4", 4)])?;
+    context.merge(newer, LogQueue::Rewrite)?;
+    context.finish()
+}
+
+/// Whether both groups take effect with the merge that makes them whole.
+fn two_groups_take_effect(alloc: Global) -> Result<bool> {
+    let accessor = two_groups(alloc)?;
+    Ok(
+        seen_of(&accessor, 5) == ([true, false, false, true], Some((1, 4)))
+            && seen_of(&accessor, 6) == ([false, true, true, false], Some((2, 3)))
+            && accessor.stats().live_entries(LogQueue::Rewrite) == 4,
+    )
+}
+
+#[test]
+fn a_merge_makes_two_groups_whole(rt: HostRuntime) {
+    let mut held = two_groups_take_effect(rt.alloc());
+    if matches!(held, Err(Error::Memory)) {
+        held = two_groups_take_effect(rt.alloc());
+    }
+    assert!(rt; matches!(held, Ok(true)));
 }
 
 /// A batch with a put of the group markers' key for each of these groups, and a compaction of region 5.

@@ -427,11 +427,23 @@ fn take_in(
     refusal_of(context.merge_append_context(appended))
 }
 
-/// The queues of two neighbours, one of them or both another than the rewrite queue.
-const NEIGHBOURS: [(LogQueue, LogQueue); 3] = [
-    (LogQueue::Append, LogQueue::Rewrite),
-    (LogQueue::Rewrite, LogQueue::Append),
-    (LogQueue::Append, LogQueue::Append),
+/// What one neighbour read of its queue.
+type Neighbour = (LogQueue, Word);
+
+/// Two neighbours, one of them or both of another queue than the rewrite queue. In the last two rows their runs leave a
+/// hole, for which neighbours of the append queue are refused too.
+const NEIGHBOURS: [(Neighbour, Neighbour); 5] = [
+    ((LogQueue::Append, Put), (LogQueue::Rewrite, Put)),
+    ((LogQueue::Rewrite, Put), (LogQueue::Append, Put)),
+    ((LogQueue::Append, Put), (LogQueue::Append, Put)),
+    (
+        (LogQueue::Append, Run(10, 20)),
+        (LogQueue::Append, Run(40, 45)),
+    ),
+    (
+        (LogQueue::Rewrite, Run(10, 20)),
+        (LogQueue::Append, Run(40, 45)),
+    ),
 ];
 
 /// Neighbours are merged for no other queue than that of both, and the refusal fails the older one.
@@ -444,9 +456,9 @@ fn wrong_neighbours(alloc: Global) -> Result<bool> {
     Ok(true)
 }
 
-fn are_wrong(alloc: Global, older: LogQueue, newer: LogQueue) -> Result<bool> {
-    let mut context = read(alloc, older, &[Put])?;
-    let newer = read(alloc, newer, &[Put])?;
+fn are_wrong(alloc: Global, older: Neighbour, newer: Neighbour) -> Result<bool> {
+    let mut context = read(alloc, older.0, &[older.1])?;
+    let newer = read(alloc, newer.0, &[newer.1])?;
     let refused = refusal_of(context.merge(newer, LogQueue::Rewrite))?;
     let failed = matches!(context.finish(), Err(Error::Failed));
     Ok(refused == Some(Refusal::InvalidArgument) && failed)

@@ -1,8 +1,8 @@
 //! Batches read one after another, whole and damaged.
 
 use raft_records::{
-    Command, Error, FileBlockHandle, FileId, FilePart, LogItemContent, LogQueue, Result, Version,
-    next_batch,
+    Command, CompressionType, Error, FileBlockHandle, FileId, FilePart, LogBatch, LogItemContent,
+    LogQueue, Result, Version, next_batch,
 };
 use std::alloc::Global;
 use std::process::Abort;
@@ -111,9 +111,10 @@ fn damaged_batches(rt: HostRuntime) {
     assert!(rt; answer.is_ok());
 }
 
-/// A batch that is cut short is refused, and one with a flipped bit, but in its entry block, which
-/// isn't read.
+/// A batch that is cut short is refused, but where nothing of it is left, and one with a flipped bit, but in its
+/// entry block, which isn't read.
 fn damaged_batches_are_refused(rt: &impl Abort, alloc: Global) -> Result<()> {
+    assert!(rt; counted(&part(alloc, b"")?, 0)?.is_none());
     for len in 1..FIRST {
         let bytes = BATCHES.get(..len).unwrap_or(&[]);
         assert!(rt; is_refused(alloc, bytes)?, "{len} bytes");
@@ -124,8 +125,23 @@ fn damaged_batches_are_refused(rt: &impl Abort, alloc: Global) -> Result<()> {
     Ok(())
 }
 
-/// Whether the first batch is refused with this byte's lowest bit flipped, or read where the byte is in its
-/// entry block.
+/// Whether the entry block of the first batch is refused, for `Corruption`.
+fn is_block_refused(alloc: Global, bytes: &[u8]) -> Result<bool> {
+    let place = FileBlockHandle {
+        id: file(),
+        offset: 116,
+        len: 7,
+    };
+    let block = bytes.get(16..23).unwrap_or(&[]);
+    match LogBatch::decode_entries_block(alloc, block, place, CompressionType::None) {
+        Ok(_read) => Ok(false),
+        Err(Error::Corruption(_text)) => Ok(true),
+        Err(e) => Err(e),
+    }
+}
+
+/// Whether the first batch is refused with this byte's lowest bit flipped, or where the byte is in its entry block, the
+/// batch is read and the block refused.
 fn is_flip_row(alloc: Global, at: usize) -> Result<bool> {
     let mut bytes = *BATCHES;
     if let Some(byte) = bytes.get_mut(at) {
@@ -133,7 +149,7 @@ fn is_flip_row(alloc: Global, at: usize) -> Result<bool> {
     }
     let bytes = bytes.get(..FIRST).unwrap_or(&[]);
     if at >= 16 && at < 23 {
-        Ok(counted(&part(alloc, bytes)?, 0)? == Some((1, FIRST)))
+        Ok(counted(&part(alloc, bytes)?, 0)? == Some((1, FIRST)) && is_block_refused(alloc, bytes)?)
     } else {
         is_refused(alloc, bytes)
     }

@@ -227,7 +227,7 @@ fn are_read(alloc: Global, run: &EntryIndexes, bytes: &[u8]) -> Result<bool> {
 
 /// What is read in front of bytes.
 #[derive(Clone, Copy)]
-enum Read {
+pub(crate) enum Read {
     /// An item, behind which so many entry bytes and so many bytes are.
     Item(u32, usize),
     /// A type that none is known of, in the words of the refusal.
@@ -237,7 +237,7 @@ enum Read {
     Io,
 }
 
-/// Whether this is read in front of the bytes, and an item is written as it was read.
+/// Whether this is read in front of the bytes, and an item is written as it was read. What is refused stays.
 fn is_item_row(alloc: Global, bytes: &[u8], read: Read) -> Result<bool> {
     let mut rest = bytes;
     let mut size = 0;
@@ -249,7 +249,7 @@ fn is_item_row(alloc: Global, bytes: &[u8], read: Read) -> Result<bool> {
             Ok(read_so && is_written(alloc, &item, front)?)
         }
         Err(Error::Memory) => Err(Error::Memory),
-        Err(e) => Ok(is_fault(read, &e)),
+        Err(e) => Ok(is_fault(read, &e) && rest == bytes && size == 0),
     }
 }
 
@@ -259,7 +259,7 @@ fn is_written(alloc: Global, item: &LogItem, bytes: &[u8]) -> Result<bool> {
     Ok(buf.as_slice() == bytes)
 }
 
-fn is_fault(read: Read, e: &Error) -> bool {
+pub(crate) fn is_fault(read: Read, e: &Error) -> bool {
     match (read, e) {
         (Read::Unrecognized(text), Error::Corruption(found)) => found.as_str() == text,
         (Read::Corruption, Error::Corruption(_)) => true,
@@ -270,7 +270,7 @@ fn is_fault(read: Read, e: &Error) -> bool {
 }
 
 /// Bytes, and what is read in front of them.
-type ItemRow = (&'static [u8], Read);
+pub(crate) type ItemRow = (&'static [u8], Read);
 
 static ITEMS: [ItemRow; 35] = [
     (b"", Read::Codec),
@@ -350,7 +350,7 @@ fn items_are_read_as_in_the_rows(rt: &impl Abort, alloc: Global) -> Result<()> {
     Ok(())
 }
 
-fn item_rows() -> &'static [ItemRow] {
+pub(crate) fn item_rows() -> &'static [ItemRow] {
     &ITEMS
 }
 

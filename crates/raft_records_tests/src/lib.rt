@@ -4,6 +4,8 @@
 #[cfg(test)]
 mod file_parts;
 #[cfg(test)]
+mod fronts;
+#[cfg(test)]
 mod groups;
 #[cfg(test)]
 mod items;
@@ -13,3 +15,5 @@ mod log_batches;
 mod printing;
 #[cfg(test)]
 mod refusals;
+#[cfg(test)]
+mod unwritable;

@@ -310,15 +310,22 @@ fn is_item_batch_row(alloc: Global, row: &ItemBatchRow) -> Result<bool> {
     }
 }
 
-/// A sealed batch of the file 12 of version 1 that says it has 2^40 items, and has none.
-const COUNT_WITHOUT_ITEMS: &[u8] = b"\x80\x80\x80\x80\x80\x20\xd1\x10\x15\x12";
+/// Sealed batches of the file 12 of version 1 that say they have more than they have: 2^40 items and none, 2^63 and one, 2^40
+/// entries and none, 2^63 and two.
+static COUNTS: [&[u8]; 4] = [
+    b"\x80\x80\x80\x80\x80\x20\xd1\x10\x15\x12",
+    b"\x80\x80\x80\x80\x80\x80\x80\x80\x80\x01\x01\x02\x01\x80\xa4\x5c\xb0",
+    b"\x01\x01\x01\x80\x80\x80\x80\x80\x20\x01\xa2\xe0\x36\x1e",
+    b"\x01\x01\x01\x80\x80\x80\x80\x80\x80\x80\x80\x80\x01\x05\x01\x01\x47\xf9\x2b\xf5",
+];
 
-/// The same of an entries item: 2^40 entries from index 1 on, and none of them.
-const COUNT_WITHOUT_ENTRIES: &[u8] = b"\x01\x01\x01\x80\x80\x80\x80\x80\x20\x01\xa2\xe0\x36\x1e";
+fn counts() -> &'static [&'static [u8]] {
+    &COUNTS
+}
 
 #[test]
 fn counts_make_no_room(rt: HostRuntime) {
-    for &bytes in &[COUNT_WITHOUT_ITEMS, COUNT_WITHOUT_ENTRIES] {
+    for &bytes in counts() {
         let mut buf = bytes;
         let mut read = item_batch(rt.alloc(), &mut buf, Version::V1, 12);
         if matches!(read, Err(Error::Memory)) {

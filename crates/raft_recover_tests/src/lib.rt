@@ -2,10 +2,10 @@
 #![tactic(auto)]
 
 #[cfg(test)]
-mod files;
-#[cfg(test)]
 mod lines;
 #[cfg(test)]
 mod recovery;
 #[cfg(test)]
 mod runs;
+#[cfg(test)]
+mod shares;

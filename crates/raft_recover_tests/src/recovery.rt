@@ -12,6 +12,8 @@ use raft_base::{Error, FileId, FileSeq, LogQueue, Result, Version};
 use raft_memtable::{MemTableAccessor, MemTableRecoverContext, MemTableRecoverContextFactory};
 use raft_records::{FilePart, LogItemBatch};
 use raft_recover::recovered::recovered_text;
+use raft_recover::recovery::recover_segments;
+use raft_recover::shares::equal_shares;
 use raft_recover::{Plan, Segment, recover, recover_bytes, replay_scheduled};
 use rows::{Row, rows};
 use std::alloc::Global;
@@ -128,7 +130,7 @@ fn at_each_cutting<R: Threads + Sync>(
     Ok(true)
 }
 
-/// Whether segments have these lines, or are refused, on one to four workers.
+/// Whether segments have these lines, or are refused, on one to four workers: read as they are, and as equal shares.
 fn by_workers<R: Threads + Sync>(
     rt: &R,
     alloc: Global,
@@ -137,26 +139,33 @@ fn by_workers<R: Threads + Sync>(
     lines: Option<&str>,
 ) -> Result<bool> {
     for workers in 1..5 {
-        let given = match lines_of(rt, alloc, queue, segments, workers) {
-            Err(Error::Corruption(_)) => None,
-            given => Some(given?),
-        };
-        if given.as_ref().map(|given| given.as_str()) != lines {
+        let shares = equal_shares(alloc, segments, workers, 1)?;
+        if !have_lines(rt, alloc, queue, segments, workers, lines)?
+            || !have_lines(rt, alloc, queue, shares.as_slice(), workers, lines)?
+        {
             return Ok(false);
         }
     }
     Ok(true)
 }
 
-fn lines_of<R: Threads + Sync>(
+/// Whether segments have these lines, or are refused, on so many workers.
+fn have_lines<R: Threads + Sync>(
     rt: &R,
     alloc: Global,
     queue: LogQueue,
     segments: &[Segment],
     workers: usize,
-) -> Result<String> {
-    let tables = recover(rt, alloc, segments, queue, workers)?;
-    recovered_text(alloc, &tables)
+    lines: Option<&str>,
+) -> Result<bool> {
+    match recover_segments(rt, alloc, segments, queue, workers) {
+        Ok(tables) => {
+            let text = recovered_text(alloc, &tables)?;
+            Ok(lines.is_some_and(|lines| text.as_str() == lines))
+        }
+        Err(Error::Corruption(_)) => Ok(lines.is_none()),
+        Err(error) => Err(error),
+    }
 }
 
 #[test]

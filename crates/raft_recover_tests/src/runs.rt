@@ -1,7 +1,7 @@
 //! Whole runs: the status, what is printed, and what stands on the error stream.
 
 use raft_base::Result;
-use raft_recover::run::run;
+use raft_recover::{run, run_without_words};
 use std::alloc::Global;
 use std::io::{ErrorKind, Read, Write};
 use std::rt::Files;
@@ -232,10 +232,42 @@ impl Write for Closed {
 #[test]
 fn failing_streams(rt: HostRuntime) {
     if let Ok(words) = words_of(rt.alloc(), OPEN) {
-        let torn = answer_of(&rt, words.as_slice(), &mut Torn { read: false });
-        assert!(rt; torn.is_none_or(|answer| answer.found_no_memory()));
+        assert!(rt; is_torn(&rt, words.as_slice()));
         assert_eq!(rt; status_of_closed(&rt, words.as_slice()), 1);
         assert_eq!(rt; status_of_closed(&rt, &[]), 2);
+    }
+}
+
+/// Whether a run whose input fails is refused so. Where an allocation is refused it runs again, and has to find memory.
+fn is_torn<S: Files + AllocGlobal + Threads + Sync>(rt: &S, words: &[String]) -> bool {
+    let mut answer = answer_of(rt, words, &mut Torn { read: false });
+    if answer
+        .as_ref()
+        .is_none_or(|answer| answer.found_no_memory())
+    {
+        answer = answer_of(rt, words, &mut Torn { read: false });
+    }
+    answer.is_some_and(|answer| answer.is(1, "", "raftlog: refused: io\n"))
+}
+
+/// Whether words that can't be read for such an error end a run so.
+fn ends_without_words(alloc: Global, kind: ErrorKind, status: u8, err: &str) -> Result<bool> {
+    let mut said = Vec::with_capacity(alloc, 256)?;
+    let ended = run_without_words(&io::Error::from(kind), &mut said);
+    Ok(ended == status && said.as_slice().starts_with(err.as_bytes()))
+}
+
+#[test]
+fn words_that_cannot_be_read(rt: HostRuntime) {
+    for &(kind, status, err) in &[
+        (ErrorKind::OutOfMemory, 1, "raftlog: refused: memory\n"),
+        (ErrorKind::InvalidData, 2, "usage: raftlog"),
+    ] {
+        let mut ended = ends_without_words(rt.alloc(), kind, status, err);
+        if ended.is_err() {
+            ended = ends_without_words(rt.alloc(), kind, status, err);
+        }
+        assert!(rt; matches!(ended, Ok(true)));
     }
 }
 

@@ -2,7 +2,7 @@
 
 use raft_base::{Factory, FileId, LogQueue, Result};
 use raft_records::LogItemBatch;
-use raft_replay::{Gate, ReplayMachine};
+use raft_recover::{Gate, ReplayMachine};
 use std::alloc::Global;
 use std::sync::Arc;
 use std::sync::atomic::{AtomicU64, Ordering};
@@ -10,7 +10,7 @@ use std::thread;
 use std::time::{Clock, Duration};
 
 /// Whether the number is reached within ten thousand sleeps of a millisecond.
-fn is_reached<R: Clock>(rt: &R, number: &AtomicU64, goal: u64) -> bool {
+pub(crate) fn is_reached<R: Clock>(rt: &R, number: &AtomicU64, goal: u64) -> bool {
     for _ in 0..10_000 {
         if number.load(Ordering::SeqCst) >= goal {
             return true;

@@ -3,7 +3,7 @@
 use crate::store::Answer::{Done, Dropped};
 use crate::store::Call::{Append, Compact, Rewrite, Truncate};
 use crate::store::{Answer, Call, LogStore, Run};
-use raft_table::{
+use raft_memtable::{
     EntryIndex, Error, FileBlockHandle, FileId, FileSeq, LogQueue, MemTable, Result, TableChange,
 };
 use std::alloc::Global;
@@ -108,6 +108,85 @@ static DIVIDED: [Row; 4] = [
     ),
 ];
 
+/// Rewritings that end where a block ends: the first block, the next one, the last one, and two as one.
+static WHOLE: [Row; 7] = [
+    (
+        Append(Run {
+            first: 0,
+            end: 10,
+            seq: 1,
+        }),
+        Done,
+        &[(1, 10)],
+    ),
+    (
+        Append(Run {
+            first: 10,
+            end: 20,
+            seq: 2,
+        }),
+        Done,
+        &[(1, 10), (2, 10)],
+    ),
+    (
+        Append(Run {
+            first: 20,
+            end: 30,
+            seq: 3,
+        }),
+        Done,
+        &[(1, 10), (2, 10), (3, 10)],
+    ),
+    (
+        Rewrite(
+            Run {
+                first: 0,
+                end: 10,
+                seq: 50,
+            },
+            Some(1),
+        ),
+        Done,
+        &[(50, 10), (2, 10), (3, 10)],
+    ),
+    (
+        Rewrite(
+            Run {
+                first: 10,
+                end: 20,
+                seq: 51,
+            },
+            Some(3),
+        ),
+        Done,
+        &[(50, 10), (51, 10), (3, 10)],
+    ),
+    (
+        Rewrite(
+            Run {
+                first: 20,
+                end: 30,
+                seq: 52,
+            },
+            Some(3),
+        ),
+        Done,
+        &[(50, 10), (51, 10), (52, 10)],
+    ),
+    (
+        Rewrite(
+            Run {
+                first: 0,
+                end: 20,
+                seq: 53,
+            },
+            None,
+        ),
+        Done,
+        &[(53, 20), (52, 10)],
+    ),
+];
+
 /// A truncation inside a block, at the border of two, inside the first, and of all entries.
 static TRUNCATED: [Row; 8] = [
     (
@@ -156,6 +235,10 @@ fn divided() -> &'static [Row] {
     &DIVIDED
 }
 
+fn whole() -> &'static [Row] {
+    &WHOLE
+}
+
 /// Makes the calls of the rows on an empty store.
 fn follow(rt: &impl Abort, alloc: Global, rows: &[Row]) {
     let mut store = LogStore::new(alloc);
@@ -170,6 +253,7 @@ fn follow(rt: &impl Abort, alloc: Global, rows: &[Row]) {
 fn calls_divide_blocks(rt: HostRuntime) {
     follow(&rt, rt.alloc(), overwritten());
     follow(&rt, rt.alloc(), divided());
+    follow(&rt, rt.alloc(), whole());
     follow(&rt, rt.alloc(), truncated());
 }
 

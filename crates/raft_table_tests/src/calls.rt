@@ -6,7 +6,7 @@ use crate::store::Call::{
     Truncate,
 };
 use crate::store::{Answer, Call, LogStore, Run, Shape, has, of, told};
-use raft_table::{Error, LogQueue, Result};
+use raft_memtable::{Error, FileSeq, LogQueue, MemTable, Result};
 use std::alloc::Global;
 use std::process::Abort;
 
@@ -418,23 +418,46 @@ fn append_merges() -> [MergeRow; 3] {
     ]
 }
 
-/// What a merge of the second store's table into the first's answers, and the first store.
-fn merged(alloc: Global, older: Call, newer: Call, is_append: bool) -> Result<(Answer, LogStore)> {
+/// What is seen of a table by itself: its first index and its last, how many keys it has, and the files of its group.
+type Seen = (Option<u64>, Option<u64>, usize, Option<(FileSeq, FileSeq)>);
+
+/// What is seen of a table that holds nothing.
+const EMPTY: Seen = (None, None, 0, None);
+
+fn seen(table: &MemTable) -> Seen {
+    (
+        table.first_index(),
+        table.last_index(),
+        table.key_count(),
+        table.atomic_group(),
+    )
+}
+
+/// What a merge of the second store's table into the first's answers, the first store, and whether the second table is
+/// then empty, or as it was where the merge was refused.
+fn merged(
+    alloc: Global,
+    older: Call,
+    newer: Call,
+    is_append: bool,
+) -> Result<(Answer, Shape, bool)> {
     let mut store = LogStore::after(alloc, &[older])?;
     let mut table = LogStore::after(alloc, &[newer])?.table;
+    let before = seen(&table);
     let given = store.merge(&mut table, is_append);
-    Ok((told(given.map(|()| 0))?, store))
+    let left = if given.is_ok() { EMPTY } else { before };
+    let is_left = seen(&table) == left;
+    Ok((told(given.map(|()| 0))?, store.shape(), is_left))
 }
 
 /// Makes the merges of the rows.
 fn merge_all(rt: &impl Abort, alloc: Global, rows: &[MergeRow], is_append: bool) -> Result<()> {
     for (older, newer, answer, shape) in rows {
-        let (given, store) = match merged(alloc, *older, *newer, is_append) {
+        let given = match merged(alloc, *older, *newer, is_append) {
             Err(Error::Memory) => merged(alloc, *older, *newer, is_append)?,
             given => given?,
         };
-        assert_eq!(rt; given, *answer, "{older:?} {newer:?}");
-        assert_eq!(rt; store.shape(), *shape, "{older:?} {newer:?}");
+        assert_eq!(rt; given, (*answer, *shape, true), "{older:?} {newer:?}");
     }
     Ok(())
 }

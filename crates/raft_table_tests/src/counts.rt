@@ -2,7 +2,7 @@
 
 use crate::store::Call::{Append, Put};
 use crate::store::{LogStore, of};
-use raft_table::{Error, GlobalStats, LogQueue, MemTable, Result};
+use raft_memtable::{Error, GlobalStats, LogQueue, MemTable, Result};
 use std::alloc::Global;
 use std::process::Abort;
 

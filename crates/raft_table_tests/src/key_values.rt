@@ -1,7 +1,7 @@
 //! Walks over keys, and the key values of two tables that are joined.
 
 use crate::store::LogStore;
-use raft_table::{Error, FileId, FileSeq, LogQueue, MemTable, Result, TableChange};
+use raft_memtable::{Error, FileId, FileSeq, LogQueue, MemTable, Result, TableChange};
 use std::alloc::Global;
 use std::process::Abort;
 

@@ -3,7 +3,7 @@
 use crate::store::Answer::{Compacted, Done, InvalidArgument, NotFound};
 use crate::store::Call::{Append, Group, Rewrite};
 use crate::store::{Answer, LogStore, of, told};
-use raft_table::{
+use raft_memtable::{
     EntryIndex, Error, FileBlockHandle, FileId, FileSeq, LogQueue, MemTable, Result, TableChange,
     is_run,
 };

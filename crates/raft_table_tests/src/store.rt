@@ -2,10 +2,10 @@
 
 ghost use Rattle.std.specs.Prelude.{◌≡◌, IfOk};
 ghost use Rattle.raft_base.specs.declared.pipe_log.LogQueue.{LogQueue};
-ghost use Rattle.raft_table.specs.TableEntries.{IsRunIn};
-ghost use Rattle.raft_table.specs.Table.{IsCounted};
+ghost use Rattle.raft_memtable.specs.TableEntries.{IsRunIn};
+ghost use Rattle.raft_memtable.specs.Table.{IsCounted};
 
-use raft_table::{
+use raft_memtable::{
     EntryIndex, Error, FileBlockHandle, FileId, FileSeq, GlobalStats, LogQueue, Mark, MemTable,
     Result, TableChange, is_run,
 };

@@ -3,11 +3,11 @@
 use super::run;
 use super::seen::{REGION, Shape, see_core, see_shared, shape, taken, taken_of};
 use crate::items::{Fault, answered};
-use raft_accessor::{
+use raft_memtable::{
     Error, FileId, FileSeq, LogQueue, MemTable, MemTableAccessor, Result, TableChange,
 };
 use raft_records::{Command, LogItem, LogItemContent, OpType};
-use raft_shared::SharedAccessor;
+use raft_recover::SharedAccessor;
 use std::alloc::Global;
 use std::sync::Wait;
 

@@ -1,8 +1,8 @@
 //! What can be seen of an accessor and of shared tables.
 
-use raft_accessor::{FileSeq, LogQueue, MemTable, MemTableAccessor, Result};
+use raft_memtable::{FileSeq, LogQueue, MemTable, MemTableAccessor, Result};
 use raft_records::LogBatch;
-use raft_shared::SharedAccessor;
+use raft_recover::SharedAccessor;
 use std::alloc::Global;
 use std::sync::Wait;
 

@@ -4,9 +4,9 @@ ghost use Rattle.std.specs.Prelude.{◌≡◌};
 
 use super::run;
 use crate::items::{Fault, answered};
-use raft_accessor::{Error, FileId, LogQueue, Result, TableChange, slot_of};
+use raft_memtable::{Error, FileId, LogQueue, Result, TableChange, slot_of};
 use raft_records::{Command, LogItem};
-use raft_shared::Slot;
+use raft_recover::Slot;
 use std::alloc::Global;
 
 /// A truncation of region 1.

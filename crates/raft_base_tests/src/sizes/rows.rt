@@ -1,6 +1,6 @@
 //! Sizes as raft-engine 0.4.2 prints and reads them.
 
-use raft_size::{ReadableSize, SizeError};
+use raft_base::{ReadableSize, SizeError};
 use std::fmt::InlineText;
 use std::str::FromStr;
 

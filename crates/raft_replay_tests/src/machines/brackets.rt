@@ -4,7 +4,7 @@ use crate::machines::{chain, pairs, segments};
 use crate::waits::WaitGate;
 use raft_base::{Error, Factory, FileId, LogQueue, Result};
 use raft_records::LogItemBatch;
-use raft_replay::{Plan, ReplayMachine, merge_pieces, replay_scheduled, replay_segments};
+use raft_recover::{Plan, ReplayMachine, merge_pieces, replay_scheduled, replay_segments};
 use std::alloc::Global;
 use std::sync::atomic::Ordering;
 use std::thread::Threads;
@@ -20,7 +20,7 @@ pub(crate) struct Brackets {
 
 impl ReplayMachine for Brackets {
     ghost use Rattle.std.specs.Prelude.{◌≤◌};
-    ghost use Rattle.raft_history.specs.Histories.{last_from};
+    ghost use Rattle.raft_memtable.specs.Histories.{last_from};
 
     ghost stands_for = { λ m h. m.last ≤ last_from 0 h };
 

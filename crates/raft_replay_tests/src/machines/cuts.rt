@@ -3,7 +3,7 @@
 use super::CLEAN;
 use raft_base::{Error, FileId, LogQueue, Result, Version};
 use raft_records::FilePart;
-use raft_replay::cut_part;
+use raft_recover::cut_part;
 use std::alloc::Global;
 
 /// How many batches of 24 bytes stand in a part, how many bytes that are no header behind them, into how many parts it is

@@ -4,7 +4,7 @@ ghost use Rattle.std.specs.Prelude.{◌≡◌, map};
 
 use raft_base::{Factory, FileId, LogQueue, Result};
 use raft_records::LogItemBatch;
-use raft_replay::ReplayMachine;
+use raft_recover::ReplayMachine;
 use std::alloc::Global;
 
 /// A batch, and the file that it was written to.
@@ -20,9 +20,19 @@ pub(crate) struct List {
     pub(crate) kept: Vec<Kept>,
 }
 
+impl List {
+    /// Whether both have the same batches of the same files.
+    pub(crate) fn is_as(&self, other: &List) -> bool {
+        let same = |(one, two): (&Kept, &Kept)| -> bool {
+            one.batch == two.batch && one.file == two.file
+        };
+        self.kept.len() == other.kept.len() && self.kept.iter().zip(&other.kept).all(same)
+    }
+}
+
 impl ReplayMachine for List {
     ghost use Rattle.std.specs.Prelude.{◌≡◌, map};
-    ghost use Rattle.raft_history.specs.ReplayMachine.{event};
+    ghost use Rattle.raft_memtable.specs.ReplayMachine.{event};
 
     ghost stands_for = { λ m h. map (λ k. event k.batch k.file) m.kept.items ≡ h };
 

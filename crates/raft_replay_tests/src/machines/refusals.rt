@@ -4,7 +4,7 @@ use super::brackets::{Brackets, Dots};
 use super::{join, segment};
 use crate::waits::WaitGate;
 use raft_base::{Error, Factory, LogQueue, Result};
-use raft_replay::{Plan, Segment, replay_scheduled, replay_segments};
+use raft_recover::{Plan, Segment, replay_scheduled, replay_segments};
 use std::alloc::Global;
 use std::sync::atomic::{AtomicU64, Ordering};
 use std::thread::Threads;

@@ -1,5 +1,5 @@
 use Rattle.std.proofs.Common.{[], ◌∷◌}
-use Rattle.raft_history.specs.ReplayMachine.{event}
+use Rattle.raft_memtable.specs.ReplayMachine.{event}
 use Rattle.raft_replay_tests.proofs.FallingFiles.{last_behind, falls}
 use Rattle.raft_replay_tests.proofs.machines.brackets.BracketsReplayMachine.replay.Goals as goal
 

@@ -1,0 +1,162 @@
+//! Many pieces: plans as long as lists, and a piece for each of a hundred workers.
+
+use super::lists::{List, Lists};
+use super::{has_all, join, segment, segments};
+use crate::waits::is_reached;
+use raft_base::{Error, Factory, LogQueue, Result};
+use raft_recover::{
+    Gate, Plan, Segment, merge_pieces, replay_scheduled, replay_segment, replay_segments,
+};
+use std::alloc::Global;
+use std::sync::atomic::{AtomicU64, Ordering};
+use std::thread::{Builder, Threads};
+use std::time::Clock;
+
+/// So many pieces that a call for each of them would pass the stack below.
+const PIECES: u64 = 100_000;
+
+/// Of so many pieces one has a batch.
+const SPARSE: u64 = 10_000;
+
+/// The stack that they are merged on, 1 MB.
+const STACK: usize = 1 << 20;
+
+/// A plan as long as a list, down the left side or the right.
+fn list(alloc: Global, down_left: bool) -> Result<Plan> {
+    let mut plan = Plan::One;
+    for _ in 1..PIECES {
+        plan = if down_left {
+            join(alloc, plan, Plan::One)?
+        } else {
+            join(alloc, Plan::One, plan)?
+        };
+    }
+    Ok(plan)
+}
+
+/// Segments of which few have a batch, in files with numbers from 0 on.
+fn sparse(alloc: Global) -> Result<Vec<Segment>> {
+    let mut segments = Vec::new(alloc);
+    for n in 0..PIECES {
+        let mut next = Vec::new(alloc);
+        if n % SPARSE == 0 {
+            next = segment(alloc, LogQueue::Append, n / SPARSE)?;
+        }
+        segments.push(next)?;
+    }
+    Ok(segments)
+}
+
+/// A machine for each segment.
+fn machines(alloc: Global, segments: &[Segment]) -> Result<Vec<List>> {
+    let mut machines = Vec::new(alloc);
+    for segment in segments {
+        let mut list = Lists.new_target(alloc)?;
+        replay_segment(&mut list, segment)?;
+        machines.push(list)?;
+    }
+    Ok(machines)
+}
+
+/// Two workers, who draw in turn.
+fn draws(alloc: Global) -> Result<Vec<usize>> {
+    let mut draws = Vec::new(alloc);
+    for n in 0..PIECES {
+        draws.push((n % 2) as usize)?;
+    }
+    Ok(draws)
+}
+
+/// Whether a machine for each segment is merged by the plan with all batches in order.
+fn is_merged<R: Threads + Sync>(
+    rt: &R,
+    alloc: Global,
+    segments: &[Segment],
+    plan: &Plan,
+) -> Result<bool> {
+    let list = merge_pieces(rt, machines(alloc, segments)?, plan, LogQueue::Append)?;
+    Ok(has_all(&list, PIECES / SPARSE))
+}
+
+/// Whether the segments, drawn in turn, are read with all batches in order.
+fn is_scheduled(alloc: Global, segments: &[Segment], plan: &Plan) -> Result<bool> {
+    let draws = draws(alloc)?;
+    let queue = LogQueue::Append;
+    let list = replay_scheduled(alloc, &Lists, segments, queue, 2, draws.as_slice(), plan)?;
+    Ok(has_all(&list, PIECES / SPARSE))
+}
+
+/// Whether both are so by a plan as long as a list, which is counted, and let go of at the end.
+fn goes_down<R: Threads + Sync>(rt: &R, alloc: Global, down_left: bool) -> Result<bool> {
+    let segments = sparse(alloc)?;
+    let plan = list(alloc, down_left)?;
+    Ok(
+        plan.leaves() == PIECES as usize
+            && is_merged(rt, alloc, segments.as_slice(), &plan)?
+            && is_scheduled(alloc, segments.as_slice(), &plan)?,
+    )
+}
+
+/// The same, on a stack of 1 MB.
+fn goes_down_on_little<R: Threads + Send + Sync + Copy + Drop + 'static>(
+    rt: R,
+    alloc: Global,
+    down_left: bool,
+) -> Result<bool> {
+    let thread = Builder::new()
+        .stack_size(STACK)
+        .spawn(&rt, move || goes_down(&rt, alloc, down_left))?;
+    thread.join(&rt)
+}
+
+#[test]
+fn plans_as_long_as_lists_take_little_stack(rt: HostRuntime) {
+    for &down_left in &[true, false] {
+        let mut all = goes_down_on_little(rt, rt.alloc(), down_left);
+        if matches!(all, Err(Error::Memory)) {
+            all = goes_down_on_little(rt, rt.alloc(), down_left);
+        }
+        assert!(rt; matches!(all, Ok(true)), "{down_left}");
+    }
+}
+
+/// Holds each worker up until so many segments were passed, and counts those that saw it.
+#[derive(Drop)]
+struct FullGate<R: Drop> {
+    rt: R,
+    all: u64,
+    passed: AtomicU64,
+    seen: AtomicU64,
+}
+
+impl<R: Clock + Send + Sync + Drop> Gate for FullGate<R> {
+    fn pass(&self, _segment: usize) {
+        self.passed.fetch_add(1, Ordering::SeqCst);
+        if is_reached(&self.rt, &self.passed, self.all) {
+            self.seen.fetch_add(1, Ordering::SeqCst);
+        }
+    }
+}
+
+/// Whether a hundred workers, each of whom waits until all have drawn, make a hundred pieces with all batches in order.
+fn hundred<R: Threads + Clock + Send + Sync + Copy + Drop>(rt: &R, alloc: Global) -> Result<bool> {
+    let hundred = segments(alloc, 100)?;
+    let gate = FullGate {
+        rt: *rt,
+        all: 100,
+        passed: AtomicU64::new(0),
+        seen: AtomicU64::new(0),
+    };
+    let queue = LogQueue::Append;
+    let list = replay_segments(rt, alloc, &Lists, hundred.as_slice(), queue, 100, &gate)?;
+    Ok(has_all(&list, 100) && gate.seen.load(Ordering::SeqCst) == 100)
+}
+
+#[test]
+fn a_hundred_pieces_are_merged(rt: HostRuntime) {
+    let mut all = hundred(&rt, rt.alloc());
+    if matches!(all, Err(Error::Memory)) {
+        all = hundred(&rt, rt.alloc());
+    }
+    assert!(rt; matches!(all, Ok(true)));
+}

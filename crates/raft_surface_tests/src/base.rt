@@ -1,0 +1,190 @@
+//! What `raft_base` hands on beside codecs.
+
+use raft_base::{
+    B, CompressionType, EntryIndex, Error, Factory, FileBlockHandle, FileId, FileSeq, GIB, KIB,
+    LogFileContext, LogQueue, MIB, Message, MessageError, MessageExt, PIB, PipeLog, ReactiveBytes,
+    ReadableSize, Result, SizeError, TIB, Version, codec, compression_type, crc32, entry_index,
+    errors, hash_u64, message, pipe_log, round_down, round_up, size_from_value, unhash_u64, util,
+};
+use std::alloc::Global;
+use std::io;
+use std::ops::{Div, Mul};
+use std::str::FromStr;
+
+/// A word for each error, and there is no other.
+fn word_of(error: &Error) -> &'static str {
+    match error {
+        Error::InvalidArgument(_) => "invalid argument",
+        Error::Corruption(_) => "corruption",
+        Error::Io(_) => "io",
+        Error::Codec(_) => "codec",
+        Error::Message(_) => "message",
+        Error::TryAgain(_) => "try again",
+        Error::EntryCompacted => "entry compacted",
+        Error::EntryNotFound => "entry not found",
+        Error::Full => "full",
+        Error::Other(_) => "other",
+        Error::Memory => "memory",
+        Error::Failed => "failed",
+    }
+}
+
+fn errors_of_others() {
+    let _of_io: fn(io::Error) -> Error = <Error as From<io::Error>>::from;
+    let _of_codec: fn(codec::Error) -> Error = <Error as From<codec::Error>>::from;
+    let _of_message: fn(MessageError) -> Error = <Error as From<MessageError>>::from;
+    let _codec_of_io: fn(io::Error) -> codec::Error = <codec::Error as From<io::Error>>::from;
+}
+
+/// The number of each size error, and there is no other.
+fn number_of(error: SizeError) -> u8 {
+    match error {
+        SizeError::Empty => 0,
+        SizeError::NotAscii => 1,
+        SizeError::Unit => 2,
+        SizeError::Number => 3,
+        SizeError::Digits => 4,
+        SizeError::Kind => 5,
+    }
+}
+
+fn sizes() {
+    let _kb: fn(u64) -> ReadableSize = ReadableSize::kb;
+    let _mb: fn(u64) -> ReadableSize = ReadableSize::mb;
+    let _gb: fn(u64) -> ReadableSize = ReadableSize::gb;
+    let _as_mb: fn(ReadableSize) -> u64 = ReadableSize::as_mb;
+    let _part: fn(ReadableSize, u64) -> ReadableSize = <ReadableSize as Div<u64>>::div;
+    let _times: fn(ReadableSize, ReadableSize) -> u64 = <ReadableSize as Div<ReadableSize>>::div;
+    let _product: fn(ReadableSize, u64) -> ReadableSize = <ReadableSize as Mul<u64>>::mul;
+    let _from_str: fn(&str) -> std::result::Result<ReadableSize, SizeError> =
+        <ReadableSize as FromStr>::from_str;
+}
+
+fn utilities() {
+    let _hash_u64: fn(u64) -> u64 = hash_u64;
+    let _unhash_u64: fn(u64) -> u64 = unhash_u64;
+    let _crc32: fn(&[u8]) -> u32 = crc32;
+    let _round_up: fn(usize, usize) -> usize = round_up;
+    let _round_down: fn(usize, usize) -> usize = round_down;
+}
+
+/// The same utilities under the path of their module.
+fn utilities_by_module() {
+    let _hash_u64: fn(u64) -> u64 = util::hash_u64;
+    let _crc32: fn(&[u8]) -> u32 = util::crc32;
+    let _round_up: fn(usize, usize) -> usize = util::round_up;
+    let _kb: fn(u64) -> ReadableSize = util::ReadableSize::kb;
+    let _number_of: fn(util::SizeError) -> u8 = number_of;
+    let _size_from_value = util::size_from_value;
+    let _units: [u64; 6] = [
+        util::B,
+        util::KIB,
+        util::MIB,
+        util::GIB,
+        util::TIB,
+        util::PIB,
+    ];
+}
+
+fn files() {
+    let _new: fn(LogQueue, FileSeq) -> FileId = FileId::new;
+    let _context: fn(FileId, Version) -> LogFileContext = LogFileContext::new;
+    let _signature: fn(&LogFileContext) -> Option<u32> = LogFileContext::get_signature;
+    let _from_u64: fn(u64) -> Option<Version> = Version::from_u64;
+    let _to_u64: fn(&Version) -> u64 = Version::to_u64;
+    let _has_log_signing: fn(&Version) -> bool = Version::has_log_signing;
+    let _from_u8: fn(Global, u8) -> Result<CompressionType> = CompressionType::from_u8;
+    let _to_u8: fn(CompressionType) -> u8 = CompressionType::to_u8;
+}
+
+/// The types under the paths of their modules.
+fn types_by_module() {
+    let _entry: entry_index::EntryIndex = EntryIndex::default();
+    let _compression: compression_type::CompressionType = CompressionType::None;
+    let _error: errors::Error = Error::Full;
+    let _refused: message::MessageError = MessageError::Refused(1);
+    let _version: pipe_log::Version = Version::default();
+}
+
+fn ready_of_reactive_bytes<T: ReactiveBytes>(bytes: &T) -> bool {
+    T::ready(bytes)
+}
+
+fn read_bytes_of_pipes<P: PipeLog, T: ReactiveBytes>(
+    pipe: &P,
+    alloc: Global,
+    block: FileBlockHandle,
+) -> Result<Vec<u8>> {
+    P::read_bytes(pipe, alloc, block)
+}
+
+fn sync_of_pipes<P: PipeLog, T: ReactiveBytes>(pipe: &P, queue: LogQueue) -> Result<()> {
+    P::sync(pipe, queue)
+}
+
+fn file_span_of_pipes<P: PipeLog, T: ReactiveBytes>(
+    pipe: &P,
+    queue: LogQueue,
+) -> (FileSeq, FileSeq) {
+    P::file_span(pipe, queue)
+}
+
+fn total_size_of_pipes<P: PipeLog, T: ReactiveBytes>(pipe: &P, queue: LogQueue) -> usize {
+    P::total_size(pipe, queue)
+}
+
+fn rotate_of_pipes<P: PipeLog, T: ReactiveBytes>(pipe: &P, queue: LogQueue) -> Result<()> {
+    P::rotate(pipe, queue)
+}
+
+fn purge_to_of_pipes<P: PipeLog, T: ReactiveBytes>(pipe: &P, file: FileId) -> Result<usize> {
+    P::purge_to(pipe, file)
+}
+
+fn new_target_of_factories<T, F: Factory<T>>(factory: &F, alloc: Global) -> Result<T> {
+    F::new_target(factory, alloc)
+}
+
+fn write_to_vec_of_messages<S: Message, M: MessageExt>(
+    message: &S,
+    key: &mut Vec<u8>,
+) -> std::result::Result<(), MessageError> {
+    S::write_to_vec(message, key)
+}
+
+fn index_of_messages<S: Message, M: MessageExt>(entry: &M::Entry) -> u64 {
+    M::index(entry)
+}
+
+/// The places of the fields of an entry and of its block, by name and type.
+fn fields(entry: EntryIndex) -> u64 {
+    let EntryIndex {
+        index,
+        entries,
+        compression_type: CompressionType::None,
+        entry_offset,
+        entry_len,
+    } = entry;
+    let _span: (u32, u32) = (entry_offset, entry_len);
+    let Some(FileBlockHandle { id, offset, len }) = entries else {
+        return index;
+    };
+    let FileId { queue: _, seq } = id;
+    let _place: (u64, usize, FileSeq) = (offset, len, seq);
+    index
+}
+
+#[test]
+fn base_is_handed_on(rt: HostRuntime) {
+    errors_of_others();
+    sizes();
+    utilities();
+    utilities_by_module();
+    files();
+    types_by_module();
+    let _size_from_value = size_from_value;
+    let units: [u64; 6] = [B, KIB, MIB, GIB, TIB, PIB];
+    assert!(rt; units[5] == 1 << 50 && word_of(&Error::Full) == "full");
+    assert!(rt; number_of(SizeError::Kind) == 5 && fields(EntryIndex::default()) == 0);
+    assert!(rt; LogQueue::Rewrite as u8 == 1 && Version::V2 as u8 == 2);
+}

@@ -1,0 +1,149 @@
+//! Numbers as bytes, from `raft_base`.
+
+use raft_base::codec;
+use raft_base::codec::{
+    BytesSlice, Error, NumberEncoder, Result, append_var_u64, decode_i32_le, decode_i64,
+    decode_i64_desc, decode_i64_le, decode_u16, decode_u16_le, decode_u32, decode_u32_le,
+    decode_u64, decode_u64_desc, decode_u64_le, decode_var_i64, decode_var_u64,
+    parse_short_var_u64, parse_var_u64, read_u8,
+};
+use std::alloc::AllocError;
+use std::io;
+
+fn read_u8_of_fixed_decoders(bytes: &mut BytesSlice<'_>) -> Result<u8> {
+    read_u8(bytes)
+}
+
+fn decode_u64_of_fixed_decoders(bytes: &mut BytesSlice<'_>) -> Result<u64> {
+    decode_u64(bytes)
+}
+
+fn decode_u32_of_fixed_decoders(bytes: &mut BytesSlice<'_>) -> Result<u32> {
+    decode_u32(bytes)
+}
+
+fn decode_u16_of_fixed_decoders(bytes: &mut BytesSlice<'_>) -> Result<u16> {
+    decode_u16(bytes)
+}
+
+fn decode_u64_desc_of_fixed_decoders(bytes: &mut BytesSlice<'_>) -> Result<u64> {
+    decode_u64_desc(bytes)
+}
+
+fn decode_i64_of_fixed_decoders(bytes: &mut BytesSlice<'_>) -> Result<i64> {
+    decode_i64(bytes)
+}
+
+fn decode_i64_desc_of_fixed_decoders(bytes: &mut BytesSlice<'_>) -> Result<i64> {
+    decode_i64_desc(bytes)
+}
+
+fn decode_u16_le_of_fixed_decoders(bytes: &mut BytesSlice<'_>) -> Result<u16> {
+    decode_u16_le(bytes)
+}
+
+fn decode_u32_le_of_fixed_decoders(bytes: &mut BytesSlice<'_>) -> Result<u32> {
+    decode_u32_le(bytes)
+}
+
+fn decode_u64_le_of_fixed_decoders(bytes: &mut BytesSlice<'_>) -> Result<u64> {
+    decode_u64_le(bytes)
+}
+
+fn decode_i32_le_of_fixed_decoders(bytes: &mut BytesSlice<'_>) -> Result<i32> {
+    decode_i32_le(bytes)
+}
+
+fn decode_i64_le_of_fixed_decoders(bytes: &mut BytesSlice<'_>) -> Result<i64> {
+    decode_i64_le(bytes)
+}
+
+fn varint_decoders() {
+    let _append_var_u64: fn(&mut Vec<u8>, u64) -> std::result::Result<(), AllocError> =
+        append_var_u64;
+}
+
+fn decode_var_u64_of_varint_decoders(bytes: &mut BytesSlice<'_>) -> Result<u64> {
+    decode_var_u64(bytes)
+}
+
+fn decode_var_i64_of_varint_decoders(bytes: &mut BytesSlice<'_>) -> Result<i64> {
+    decode_var_i64(bytes)
+}
+
+fn parse_var_u64_of_varint_decoders<'a>(value: &'a [u8]) -> Result<(u64, &'a [u8])> {
+    parse_var_u64(value)
+}
+
+fn parse_short_var_u64_of_varint_decoders<'a>(value: &'a [u8]) -> Option<(u64, &'a [u8])> {
+    parse_short_var_u64(value)
+}
+
+fn encode_u64_of_encoders<W: io::Write>(writer: &mut W, number: u64) -> Result<()> {
+    W::encode_u64(writer, number)
+}
+
+fn encode_u32_of_encoders<W: io::Write>(writer: &mut W, number: u32) -> Result<()> {
+    W::encode_u32(writer, number)
+}
+
+fn encode_u16_of_encoders<W: io::Write>(writer: &mut W, number: u16) -> Result<()> {
+    W::encode_u16(writer, number)
+}
+
+fn encode_u64_desc_of_encoders<W: io::Write>(writer: &mut W, number: u64) -> Result<()> {
+    W::encode_u64_desc(writer, number)
+}
+
+fn encode_i64_of_encoders<W: io::Write>(writer: &mut W, number: i64) -> Result<()> {
+    W::encode_i64(writer, number)
+}
+
+fn encode_i64_desc_of_encoders<W: io::Write>(writer: &mut W, number: i64) -> Result<()> {
+    W::encode_i64_desc(writer, number)
+}
+
+fn encode_u16_le_of_encoders<W: io::Write>(writer: &mut W, number: u16) -> Result<()> {
+    W::encode_u16_le(writer, number)
+}
+
+fn encode_u32_le_of_encoders<W: io::Write>(writer: &mut W, number: u32) -> Result<()> {
+    W::encode_u32_le(writer, number)
+}
+
+fn encode_u64_le_of_encoders<W: io::Write>(writer: &mut W, number: u64) -> Result<()> {
+    W::encode_u64_le(writer, number)
+}
+
+fn encode_i32_le_of_encoders<W: io::Write>(writer: &mut W, number: i32) -> Result<()> {
+    W::encode_i32_le(writer, number)
+}
+
+fn encode_i64_le_of_encoders<W: io::Write>(writer: &mut W, number: i64) -> Result<()> {
+    W::encode_i64_le(writer, number)
+}
+
+fn encode_var_u64_of_encoders<W: io::Write>(writer: &mut W, number: u64) -> Result<()> {
+    W::encode_var_u64(writer, number)
+}
+
+fn encode_var_i64_of_encoders<W: io::Write>(writer: &mut W, number: i64) -> Result<()> {
+    W::encode_var_i64(writer, number)
+}
+
+/// A word for each error of numbers, and there is no other.
+fn word_of(error: &Error) -> &'static str {
+    match error {
+        Error::Io(_) => "io",
+        Error::KeyLength => "key length",
+        Error::KeyPadding => "key padding",
+        Error::KeyNotFound => "key not found",
+    }
+}
+
+#[test]
+fn numbers_are_handed_on(rt: HostRuntime) {
+    varint_decoders();
+    let eof: codec::Error = Error::unexpected_eof();
+    assert!(rt; word_of(&eof) == "io");
+}

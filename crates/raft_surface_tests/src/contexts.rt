@@ -1,0 +1,85 @@
+//! Contexts and the laws of histories, from `raft_memtable`.
+
+use raft_memtable::contexts::{exact_contexts_are_one_reading, merges_stand_for_both};
+use raft_memtable::effects::effects_are_stretches;
+use raft_memtable::histories::last_words_stand;
+use raft_memtable::read_runs::read_entries_are_runs;
+use raft_memtable::reading::items_are_read_as_steps;
+use raft_memtable::regions::regions_stand_for_steps;
+use raft_memtable::{
+    ContextStage, Factory, FileId, Kept, LogItemBatch, LogQueue, MemTableAccessor,
+    MemTableRecoverContext, MemTableRecoverContextFactory, RegionMarks, ReplayMachine, Result,
+};
+use std::alloc::Global;
+
+fn contexts() {
+    let _new: fn(Global) -> Result<MemTableRecoverContext> = MemTableRecoverContext::new;
+    let _replay: fn(&mut MemTableRecoverContext, LogItemBatch, FileId) -> Result<()> =
+        MemTableRecoverContext::replay;
+    let _merge: fn(&mut MemTableRecoverContext, MemTableRecoverContext, LogQueue) -> Result<()> =
+        MemTableRecoverContext::merge;
+    let _overlay: fn(&mut MemTableRecoverContext, MemTableRecoverContext) -> Result<()> =
+        MemTableRecoverContext::merge_append_context;
+    let _finish: fn(MemTableRecoverContext) -> Result<MemTableAccessor> =
+        MemTableRecoverContext::finish;
+    let _kept: fn(&MemTableRecoverContext) -> Result<Kept> = MemTableRecoverContext::kept;
+    let _marks: fn(Global) -> RegionMarks = RegionMarks::new;
+}
+
+fn replay_of_machines<M: ReplayMachine>(
+    machine: &mut M,
+    batch: LogItemBatch,
+    file: FileId,
+) -> Result<()> {
+    M::replay(machine, batch, file)
+}
+
+fn merge_of_machines<M: ReplayMachine>(machine: &mut M, rhs: M, queue: LogQueue) -> Result<()> {
+    M::merge(machine, rhs, queue)
+}
+
+fn factories() {
+    let _new: fn() -> MemTableRecoverContextFactory = MemTableRecoverContextFactory::new;
+    let _new_target: fn(&MemTableRecoverContextFactory, Global) -> Result<MemTableRecoverContext> =
+        <MemTableRecoverContextFactory as Factory<MemTableRecoverContext>>::new_target;
+}
+
+fn laws() {
+    exact_contexts_are_one_reading();
+    merges_stand_for_both();
+    effects_are_stretches();
+    last_words_stand();
+    read_entries_are_runs();
+    items_are_read_as_steps();
+    regions_stand_for_steps();
+}
+
+/// The numbers of what is kept, by name.
+fn sum_of(kept: Kept) -> [u128; 6] {
+    let Kept {
+        entries,
+        keys,
+        marks,
+        deleted_keys,
+        cleaned,
+        waiting_items,
+    } = kept;
+    [entries, keys, marks, deleted_keys, cleaned, waiting_items]
+}
+
+#[test]
+fn contexts_are_handed_on(rt: HostRuntime) {
+    contexts();
+    factories();
+    laws();
+    let _stage: Option<ContextStage> = None;
+    let kept = Kept {
+        entries: 1,
+        keys: 2,
+        marks: 3,
+        deleted_keys: 4,
+        cleaned: 5,
+        waiting_items: 6,
+    };
+    assert!(rt; sum_of(kept) == [1, 2, 3, 4, 5, 6]);
+}

@@ -1,0 +1,170 @@
+//! Words of the definitions of each library, in conditions and promises of one who lists the four crates alone.
+
+ghost use Rattle.std.specs.Prelude.{◌≡◌, [], ◌∷◌, IfOk, IsTrue};
+ghost use Rattle.raft_base.specs.declared.pipe_log.LogQueue.TheVariants.{Append};
+ghost use Rattle.raft_base.specs.Checksum.{crc32_of};
+ghost use Rattle.raft_base.specs.CodecErrors.{IsIo};
+ghost use Rattle.raft_base.specs.Reading.{HasNoFront, Reads};
+ghost use Rattle.raft_base.specs.Signature.{signature_of};
+ghost use Rattle.raft_base.specs.SizeText.{IsSizeText};
+ghost use Rattle.raft_base.specs.Varint.{IsVarint};
+ghost use Rattle.raft_records.specs.Entries.{IsConsecutive};
+ghost use Rattle.raft_records.specs.Item.{item_of};
+ghost use Rattle.raft_records.specs.SizeText.{IsSizeText as IsTextOfSize};
+ghost use Rattle.raft_records.specs.Varint.{IsVarint as IsNumber};
+ghost use Rattle.raft_memtable.specs.Accessor.{AreCountsOf, slot_of};
+ghost use Rattle.raft_memtable.specs.AccessorCalls.{IsWritten};
+ghost use Rattle.raft_memtable.specs.Histories.{IsSmall};
+ghost use Rattle.raft_memtable.specs.RecoverContext.{IsReadingExactly};
+ghost use Rattle.raft_memtable.specs.ReplayMachine.{event};
+ghost use Rattle.raft_memtable.specs.Table.{IsCounted, compacted};
+ghost use Rattle.raft_memtable.specs.TableEntries.{IsRunIn};
+ghost use Rattle.raft_memtable.specs.Writes.{Appending};
+ghost use Rattle.raft_recover.specs.Draws.{IsSeatOf};
+ghost use Rattle.raft_recover.specs.Recovery.{IsRecovered};
+ghost use Rattle.raft_recover.specs.Segments.{ReadsSegments, SegmentsAreOf};
+ghost use Rattle.raft_recover.specs.Slot.{HoldsOwnTables};
+
+use raft_base::codec::{BytesSlice, decode_var_u64};
+use raft_base::{FileId, LogQueue, ReadableSize, SizeError, codec, crc32};
+use raft_memtable::{
+    EntryIndex, GlobalStats, LogItem, LogItemBatch, MemTable, MemTableAccessor,
+    MemTableRecoverContext, ReplayMachine, Result,
+};
+use raft_records::{LogFileContext, is_consecutive};
+use raft_recover::{Segment, Slot, TicketSeat, Tickets, recover};
+use std::alloc::Global;
+use std::str::FromStr;
+use std::thread::Threads;
+
+/// Of `raft_codec`.
+fn is_no_number(bytes: &[u8]) -> bool
+    requires { HasNoFront IsVarint bytes.now }
+{
+    let mut rest = bytes;
+    decode_var_u64(&mut rest).is_err()
+}
+
+/// Of `raft_codec`.
+fn number_in_front(bytes: &mut BytesSlice<'_>) -> codec::Result<u64>
+    ensures { IfOk result (Reads IsNumber bytes.old.now bytes.new.now) }
+{
+    decode_var_u64(bytes)
+}
+
+/// Of `raft_codec`.
+fn is_io(error: &codec::Error) -> bool
+    requires { IsIo error.now }
+{
+    matches!(error, codec::Error::Io(_))
+}
+
+/// Of `raft_checksum`.
+fn has_checksum(bytes: &[u8], checksum: u32) -> bool
+    requires { checksum ≡ crc32_of bytes.now }
+    ensures { IsTrue result }
+{
+    crc32(bytes) == checksum
+}
+
+/// Of `raft_size`.
+fn size_of_text(text: &str) -> std::result::Result<ReadableSize, SizeError>
+    requires { IsSizeText text.now 1024 }
+{
+    ReadableSize::from_str(text)
+}
+
+/// Of `raft_size`, as `raft_records` hands it on.
+fn size_of_record_text(text: &str) -> std::result::Result<ReadableSize, SizeError>
+    requires { IsTextOfSize text.now 1024 }
+{
+    ReadableSize::from_str(text)
+}
+
+/// Of `raft_base`.
+fn signature(context: &LogFileContext) -> Option<u32>
+    ensures { result ≡ signature_of context.now }
+{
+    context.get_signature()
+}
+
+/// Of `raft_records`.
+fn are_consecutive(entries: &[EntryIndex]) -> bool
+    requires { IsConsecutive entries.now }
+    ensures { IsTrue result }
+{
+    is_consecutive(entries)
+}
+
+/// Of `raft_table`.
+fn append(table: &mut MemTable, run: Vec<EntryIndex>, stats: &mut GlobalStats) -> Result<()>
+    requires run { IsRunIn Append run.items }
+    requires counted { IsCounted table.old stats.old }
+{
+    table.append(run, stats)
+}
+
+/// Of `raft_table`.
+fn compact(table: &mut MemTable, stats: &mut GlobalStats) -> u64
+    requires { IsCounted table.old stats.old }
+    ensures { table.new ≡ compacted 5 table.old }
+{
+    table.compact_to(5, stats)
+}
+
+/// Of `raft_history`.
+fn first_batch<M: ReplayMachine>(machine: &mut M, batch: LogItemBatch, file: FileId) -> Result<()>
+    requires stands { M.stands_for machine.old [] }
+    requires small { IsSmall (event batch file ∷ []) }
+{
+    machine.replay(batch, file)
+}
+
+/// Of `raft_accessor`.
+fn live_of(accessor: &MemTableAccessor) -> usize
+    requires { AreCountsOf accessor.now.tables accessor.now.counts }
+{
+    accessor.stats().live_entries(LogQueue::Append)
+}
+
+/// Of `raft_accessor`.
+fn write(slot: &mut Slot, item: LogItem) -> Result<()>
+    requires { slot_of item.raft_group_id ≡ slot.old.number }
+    ensures { IsWritten Appending (item_of item) result slot.old.content slot.new.content }
+{
+    slot.apply_append_write(item)
+}
+
+/// Of `raft_shared`.
+fn is_empty(slot: &Slot) -> bool
+    requires { HoldsOwnTables slot.now }
+{
+    slot.is_empty()
+}
+
+/// Of `raft_memtable`.
+fn tables_of_nothing(context: MemTableRecoverContext) -> Result<MemTableAccessor>
+    requires { IsReadingExactly context [] }
+{
+    context.finish()
+}
+
+/// Of `raft_tickets`.
+fn draw(tickets: &Tickets, seat: &mut TicketSeat) -> Option<usize>
+    requires { IsSeatOf tickets.now seat.old }
+    ensures { IsSeatOf tickets.now seat.new }
+{
+    tickets.draw(seat)
+}
+
+/// Of `raft_replay` and `raft_recover`.
+fn appended<R: Threads + Sync>(
+    rt: &R,
+    alloc: Global,
+    segments: &[Segment],
+) -> Result<MemTableAccessor>
+    requires { SegmentsAreOf Append segments.now }
+    ensures { IfOk result (IsRecovered Append (ReadsSegments segments.entry.now)) }
+{
+    recover(rt, alloc, segments, LogQueue::Append, 4)
+}

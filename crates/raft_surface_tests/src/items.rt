@@ -1,0 +1,154 @@
+//! Items and batches of items, from `raft_records`.
+
+use raft_records::codec::BytesSlice;
+use raft_records::{
+    ATOMIC_GROUP_KEY, AtomicGroupBuilder, AtomicGroupStatus, Command, CompressionType, EntryIndex,
+    EntryIndexes, FileBlockHandle, FileId, KeyValue, LogBatch, LogFileContext, LogItem,
+    LogItemBatch, LogItemContent, Message, OpType, Result, is_consecutive, is_reserved,
+};
+use std::alloc::Global;
+use std::{slice, vec};
+
+fn entries() {
+    let _is_consecutive: fn(&[EntryIndex]) -> bool = is_consecutive;
+    let _encode: fn(&EntryIndexes, &mut Vec<u8>) -> Result<()> = EntryIndexes::encode;
+    let _clone: fn(&EntryIndexes) -> Result<EntryIndexes> = EntryIndexes::clone;
+}
+
+fn decode_of_entries(
+    alloc: Global,
+    bytes: &mut BytesSlice<'_>,
+    entries_size: &mut u32,
+) -> Result<EntryIndexes> {
+    EntryIndexes::decode(alloc, bytes, entries_size)
+}
+
+fn commands() {
+    let _encode: fn(&Command, &mut Vec<u8>) -> Result<()> = Command::encode;
+}
+
+fn decode_of_commands(alloc: Global, bytes: &mut BytesSlice<'_>) -> Result<Command> {
+    Command::decode(alloc, bytes)
+}
+
+fn key_values() {
+    let _from_u8: fn(Global, u8) -> Result<OpType> = OpType::from_u8;
+    let _to_u8: fn(OpType) -> u8 = OpType::to_u8;
+    let _new: fn(OpType, Vec<u8>, Option<Vec<u8>>) -> KeyValue = KeyValue::new;
+    let _encode: fn(&KeyValue, &mut Vec<u8>) -> Result<()> = KeyValue::encode;
+    let _clone: fn(&KeyValue) -> Result<KeyValue> = KeyValue::clone;
+}
+
+fn decode_of_key_values(alloc: Global, bytes: &mut BytesSlice<'_>) -> Result<KeyValue> {
+    KeyValue::decode(alloc, bytes)
+}
+
+fn items() {
+    let _new_entry_indexes: fn(u64, Vec<EntryIndex>) -> LogItem = LogItem::new_entry_indexes;
+    let _new_command: fn(u64, Command) -> LogItem = LogItem::new_command;
+    let _new_kv: fn(u64, OpType, Vec<u8>, Option<Vec<u8>>) -> LogItem = LogItem::new_kv;
+    let _encode: fn(&LogItem, &mut Vec<u8>) -> Result<()> = LogItem::encode;
+    let _clone: fn(&LogItem) -> Result<LogItem> = LogItem::clone;
+    let _clone_content: fn(&LogItemContent) -> Result<LogItemContent> = LogItemContent::clone;
+}
+
+fn decode_of_items(
+    alloc: Global,
+    bytes: &mut BytesSlice<'_>,
+    entries_size: &mut u32,
+) -> Result<LogItem> {
+    LogItem::decode(alloc, bytes, entries_size)
+}
+
+fn batches() {
+    let _default: fn(Global) -> LogItemBatch = LogItemBatch::default;
+    let _with_capacity: fn(Global, usize) -> Result<LogItemBatch> = LogItemBatch::with_capacity;
+    let _into_items: fn(LogItemBatch) -> Vec<LogItem> = LogItemBatch::into_items;
+    let _drain: fn(&mut LogItemBatch) -> vec::IntoIter<LogItem> = LogItemBatch::drain;
+    let _merge: fn(&mut LogItemBatch, &mut LogItemBatch) -> Result<()> = LogItemBatch::merge;
+    let _entries_size: fn(&LogItemBatch) -> u32 = LogItemBatch::entries_size;
+    let _approximate_size: fn(&LogItemBatch) -> usize = LogItemBatch::approximate_size;
+    let _entry_index: fn(&LogItemBatch) -> Option<EntryIndex> = LogItemBatch::entry_index;
+    let _clone: fn(&LogItemBatch) -> Result<LogItemBatch> = LogItemBatch::clone;
+}
+
+fn iter_of_batches<'a>(batch: &'a LogItemBatch) -> slice::Iter<'a, LogItem> {
+    LogItemBatch::iter(batch)
+}
+
+fn changes_of_batches<S: Message>() {
+    let _add_entry_indexes: fn(&mut LogItemBatch, u64, Vec<EntryIndex>) -> Result<()> =
+        LogItemBatch::add_entry_indexes;
+    let _add_command: fn(&mut LogItemBatch, u64, Command) -> Result<()> = LogItemBatch::add_command;
+    let _delete: fn(&mut LogItemBatch, u64, Vec<u8>) -> Result<()> = LogItemBatch::delete;
+    let _put: fn(&mut LogItemBatch, u64, Vec<u8>, Vec<u8>) -> Result<()> = LogItemBatch::put;
+}
+
+fn put_message_of_changes_of_batches<S: Message>(
+    batch: &mut LogItemBatch,
+    number: u64,
+    key: Vec<u8>,
+    message: &S,
+) -> Result<()> {
+    LogItemBatch::put_message::<S>(batch, number, key, message)
+}
+
+fn bytes_of_batches() {
+    let _encode: fn(&mut LogItemBatch, &mut Vec<u8>) -> Result<()> = LogItemBatch::encode;
+    let _prepare_write: fn(&LogItemBatch, &mut [u8], &LogFileContext) = LogItemBatch::prepare_write;
+    let _read_in: fn(&LogItemBatch) -> Option<FileId> = LogItemBatch::read_in;
+}
+
+fn decode_of_bytes_of_batches(
+    alloc: Global,
+    bytes: &mut BytesSlice<'_>,
+    block: FileBlockHandle,
+    compression_type: CompressionType,
+    context: &LogFileContext,
+) -> Result<LogItemBatch> {
+    LogItemBatch::decode(alloc, bytes, block, compression_type, context)
+}
+
+fn groups() {
+    let _parse: fn(Global, &LogItem) -> Result<Option<(u64, AtomicGroupStatus)>> =
+        AtomicGroupStatus::parse;
+    let _with_id: fn(u64) -> AtomicGroupBuilder = AtomicGroupBuilder::with_id;
+    let _begin: fn(&mut AtomicGroupBuilder, &mut LogBatch) -> Result<()> =
+        AtomicGroupBuilder::begin;
+    let _add: fn(&mut AtomicGroupBuilder, &mut LogBatch) -> Result<()> = AtomicGroupBuilder::add;
+    let _end: fn(&mut AtomicGroupBuilder, &mut LogBatch) -> Result<()> = AtomicGroupBuilder::end;
+    let _state: fn(&AtomicGroupBuilder) -> Option<AtomicGroupStatus> = AtomicGroupBuilder::state;
+    let _is_reserved: fn(&[u8]) -> bool = is_reserved;
+}
+
+/// What kind of change an item is, and there is no other.
+fn kind_of(item: &LogItem) -> &'static str {
+    let LogItem {
+        raft_group_id: _,
+        content,
+    } = item;
+    match content {
+        LogItemContent::EntryIndexes(EntryIndexes(_)) => "entries",
+        LogItemContent::Command(Command::Clean) => "clean",
+        LogItemContent::Command(Command::Compact { index: _ }) => "compact",
+        LogItemContent::Command(Command::Truncate { index: _ }) => "truncate",
+        LogItemContent::Kv(KeyValue { op_type, .. }) => match op_type {
+            OpType::Put => "put",
+            OpType::Del => "del",
+        },
+    }
+}
+
+#[test]
+fn items_are_handed_on(rt: HostRuntime) {
+    entries();
+    commands();
+    key_values();
+    items();
+    batches();
+    bytes_of_batches();
+    groups();
+    let clean = LogItem::new_command(7, Command::Clean);
+    assert!(rt; kind_of(&clean) == "clean" && is_reserved(&ATOMIC_GROUP_KEY));
+    assert!(rt; AtomicGroupStatus::Begin as u8 == 0 && AtomicGroupStatus::End as u8 == 2);
+}

@@ -1,0 +1,57 @@
+//! Log batches, from `raft_records`.
+
+use raft_records::codec::BytesSlice;
+use raft_records::{
+    Command, CompressionType, EntryIndex, FileBlockHandle, LogBatch, LogFileContext, LogItem,
+    Message, MessageExt, ReactiveBytes, Result,
+};
+use std::alloc::Global;
+use std::vec;
+
+fn batches() {
+    let _default: fn(Global) -> LogBatch = LogBatch::default;
+    let _with_capacity: fn(Global, usize) -> Result<LogBatch> = LogBatch::with_capacity;
+    let _is_empty: fn(&LogBatch) -> bool = LogBatch::is_empty;
+    let _is_open: fn(&LogBatch) -> bool = LogBatch::is_open;
+    let _is_sealed: fn(&LogBatch) -> bool = LogBatch::is_sealed;
+    let _approximate_size: fn(&LogBatch) -> usize = LogBatch::approximate_size;
+    let _drain: fn(&mut LogBatch) -> vec::IntoIter<LogItem> = LogBatch::drain;
+    let _merge: fn(&mut LogBatch, &mut LogBatch) -> Result<()> = LogBatch::merge;
+    let _clone: fn(&LogBatch) -> Result<LogBatch> = LogBatch::clone;
+}
+
+fn changes<M: MessageExt, S: Message>() {
+    let _add_raw_entries: fn(&mut LogBatch, u64, Vec<EntryIndex>, Vec<Vec<u8>>) -> Result<()> =
+        LogBatch::add_raw_entries;
+    let _add_command: fn(&mut LogBatch, u64, Command) -> Result<()> = LogBatch::add_command;
+    let _delete: fn(&mut LogBatch, u64, Vec<u8>) -> Result<()> = LogBatch::delete;
+    let _put: fn(&mut LogBatch, u64, Vec<u8>, Vec<u8>) -> Result<()> = LogBatch::put;
+}
+
+fn writes() {
+    let _finish_populate: fn(&mut LogBatch) -> Result<usize> = LogBatch::finish_populate;
+    let _prepare_write: fn(&mut LogBatch, &LogFileContext) = LogBatch::prepare_write;
+    let _finish_write: fn(&mut LogBatch, FileBlockHandle) = LogBatch::finish_write;
+    let _ready: fn(&LogBatch) -> bool = <LogBatch as ReactiveBytes>::ready;
+}
+
+fn reads() {
+    let _block: fn(Global, &[u8], FileBlockHandle, CompressionType) -> Result<Vec<u8>> =
+        LogBatch::decode_entries_block;
+}
+
+fn header_of_reads(
+    alloc: Global,
+    bytes: &mut BytesSlice<'_>,
+) -> Result<(usize, CompressionType, usize)> {
+    LogBatch::decode_header(alloc, bytes)
+}
+
+#[test]
+fn log_batches_are_handed_on(rt: HostRuntime) {
+    batches();
+    writes();
+    reads();
+    let batch = LogBatch::default(rt.alloc());
+    assert!(rt; batch.is_open() && batch.is_empty());
+}

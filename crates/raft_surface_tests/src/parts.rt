@@ -1,0 +1,98 @@
+//! Parts of files, laws and printing, from `raft_records`, and what it hands on of `raft_base`.
+
+use raft_records::laws::{
+    batches_belong_to_one_file, contents_are_read_again, items_are_read_again,
+    log_batches_are_read_again, log_batches_belong_to_one_file, placed_items_are_read,
+    written_batches_are_next,
+};
+use raft_records::{
+    B, EntryIndex, Error, Factory, FileId, FilePart, FileSeq, GIB, KIB, LogFileContext,
+    LogItemBatch, LogQueue, MIB, MessageError, PIB, PipeLog, ReadableSize, Result, SizeError, TIB,
+    Version, batch_text, compression_type, crc32, entry_index, errors, hash_u64, message,
+    next_batch, pipe_log, print_batch, round_down, round_up, size_from_value, unhash_u64, util,
+};
+use std::alloc::Global;
+use std::io::{Read, Write};
+
+fn parts() {
+    let _new: fn(FileId, Version, u64, Vec<u8>) -> Result<FilePart> = FilePart::new;
+    let _id: fn(&FilePart) -> FileId = FilePart::id;
+    let _version: fn(&FilePart) -> Version = FilePart::version;
+    let _offset: fn(&FilePart) -> u64 = FilePart::offset;
+    let _split_off: fn(&mut FilePart, usize) -> Result<FilePart> = FilePart::split_off;
+    let _next_batch: fn(&FilePart, usize) -> Result<Option<(LogItemBatch, usize)>> = next_batch;
+}
+
+fn bytes_of_parts<'a>(part: &'a FilePart) -> &'a [u8] {
+    FilePart::bytes(part)
+}
+
+fn prints<R: Read, W: Write>() {
+    let _batch_text: fn(Global, &[u8], &LogFileContext) -> Result<String> = batch_text;
+}
+
+fn print_batch_of_prints<R: Read, W: Write>(
+    alloc: Global,
+    reader: &mut R,
+    writer: &mut W,
+    context: &LogFileContext,
+) -> Result<()> {
+    print_batch::<R, W>(alloc, reader, writer, context)
+}
+
+fn laws() {
+    items_are_read_again();
+    contents_are_read_again();
+    batches_belong_to_one_file();
+    log_batches_are_read_again();
+    log_batches_belong_to_one_file();
+    written_batches_are_next();
+    placed_items_are_read();
+}
+
+/// The names of `raft_base`, as this crate hands them on.
+fn names_of_the_base() {
+    let _hash_u64: fn(u64) -> u64 = hash_u64;
+    let _unhash_u64: fn(u64) -> u64 = unhash_u64;
+    let _crc32: fn(&[u8]) -> u32 = crc32;
+    let _round_up: fn(usize, usize) -> usize = round_up;
+    let _round_down: fn(usize, usize) -> usize = round_down;
+    let _kb: fn(u64) -> ReadableSize = ReadableSize::kb;
+    let _size_from_value = size_from_value;
+    let _units: [u64; 6] = [B, KIB, MIB, GIB, TIB, PIB];
+    let _util: fn(u64) -> u64 = util::hash_u64;
+    let _new: fn(LogQueue, FileSeq) -> FileId = FileId::new;
+    let _file_at = |unit: SizeError| unit;
+}
+
+/// The modules of `raft_base`, as this crate hands them on.
+fn modules_of_the_base() {
+    let _entry: entry_index::EntryIndex = EntryIndex::default();
+    let _compression = compression_type::CompressionType::None;
+    let _error: errors::Error = Error::Failed;
+    let _refused: message::MessageError = MessageError::Memory;
+    let _version: pipe_log::Version = Version::V1;
+}
+
+fn sync_of_traits_of_the_base<P: PipeLog, T, F: Factory<T>>(
+    pipe: &P,
+    queue: LogQueue,
+) -> Result<()> {
+    P::sync(pipe, queue)
+}
+
+fn new_target_of_traits_of_the_base<P: PipeLog, T, F: Factory<T>>(
+    factory: &F,
+    alloc: Global,
+) -> Result<T> {
+    F::new_target(factory, alloc)
+}
+
+#[test]
+fn parts_are_handed_on(_rt: HostRuntime) {
+    parts();
+    prints::<&[u8], Vec<u8>>();
+    laws();
+    names_of_the_base();
+    modules_of_the_base();
+}

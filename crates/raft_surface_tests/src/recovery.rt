@@ -1,0 +1,100 @@
+//! Segments, plans, tickets, workers and what the program does, from `raft_recover`.
+
+use raft_recover::files::file_segments;
+use raft_recover::recovered::recovered_text;
+use raft_recover::{
+    Error, Factory, FileId, FilePart, FileSeq, Gate, LogQueue, MAX_WORKERS, MemTableAccessor,
+    OpenGate, Plan, ReplayMachine, Result, Segment, TicketSeat, Tickets, Version, cut_part,
+    merge_pieces, piece_count, print_recovered, recover, recover_bytes, replay_scheduled,
+    replay_segment, replay_segments, segments_read_as_one_history,
+};
+use std::alloc::Global;
+use std::io::Write;
+use std::thread::Threads;
+
+fn tickets() {
+    let _open: fn(Global, usize, usize) -> Result<(Tickets, Vec<TicketSeat>)> = Tickets::open;
+    let _draw: fn(&Tickets, &mut TicketSeat) -> Option<usize> = Tickets::draw;
+    let _close: fn(Tickets, Vec<TicketSeat>) -> usize = Tickets::close;
+}
+
+fn plans() {
+    let _leaves: fn(&Plan) -> usize = Plan::leaves;
+    let _halves: fn(Global, usize) -> Result<Plan> = Plan::halves;
+    let _piece_count: fn(usize, &[usize]) -> usize = piece_count;
+    let _cut_part: fn(Global, FilePart, usize) -> Result<Vec<FilePart>> = cut_part;
+}
+
+fn pass_of_gates<G: Gate>(gate: &G, count: usize) {
+    G::pass(gate, count)
+}
+
+fn replay_segment_of_machines<M: ReplayMachine, F: Factory<M>>(
+    machine: &mut M,
+    segments: &Segment,
+) -> Result<()> {
+    replay_segment::<M>(machine, segments)
+}
+
+fn merge_pieces_of_workers<M: ReplayMachine, F: Factory<M>, G: Gate, R: Threads + Sync>(
+    rt: &R,
+    pieces: Vec<M>,
+    plan: &Plan,
+    queue: LogQueue,
+) -> Result<M> {
+    merge_pieces::<M, R>(rt, pieces, plan, queue)
+}
+
+fn recoveries<R: Threads + Sync, W: Write>() {
+    let _recovered_text: fn(Global, &MemTableAccessor) -> Result<String> = recovered_text;
+    let _file_segments: fn(LogQueue, Version, Vec<(FileSeq, Vec<u8>)>) -> Result<Vec<Segment>> =
+        file_segments;
+}
+
+fn recover_of_recoveries<R: Threads + Sync, W: Write>(
+    rt: &R,
+    alloc: Global,
+    segments: &[Segment],
+    queue: LogQueue,
+    count: usize,
+) -> Result<MemTableAccessor> {
+    recover::<R>(rt, alloc, segments, queue, count)
+}
+
+fn recover_bytes_of_recoveries<R: Threads + Sync, W: Write>(
+    rt: &R,
+    alloc: Global,
+    queue: LogQueue,
+    version: Version,
+    count: usize,
+    files: Vec<(FileSeq, Vec<u8>)>,
+    writer: &mut W,
+) -> Result<()> {
+    recover_bytes::<R, W>(rt, alloc, queue, version, count, files, writer)
+}
+
+fn print_recovered_of_recoveries<R: Threads + Sync, W: Write>(
+    alloc: Global,
+    accessor: &MemTableAccessor,
+    writer: &mut W,
+) -> Result<()> {
+    print_recovered::<W>(alloc, accessor, writer)
+}
+
+/// How many pieces a plan merges: one, or those of two plans, and there is no other.
+fn leaves_of(plan: &Plan) -> usize {
+    match plan {
+        Plan::One => 1,
+        Plan::Join(left, right) => left.leaves().saturating_add(right.leaves()),
+    }
+}
+
+#[test]
+fn recovery_is_handed_on(rt: HostRuntime) {
+    tickets();
+    plans();
+    segments_read_as_one_history();
+    let file = FileId::new(LogQueue::Append, 1);
+    assert!(rt; file.seq == 1 && MAX_WORKERS == 256 && leaves_of(&Plan::One) == 1);
+    assert!(rt; matches!(Error::Memory, raft_base::Error::Memory));
+}

@@ -1,0 +1,105 @@
+//! The traits of the public types.
+
+use raft_memtable::{
+    ContextStage, GlobalStats, Kept, MemTable, MemTableAccessor, MemTableRecoverContext,
+    ReplayMachine,
+};
+use raft_records::{
+    AtomicGroupStatus, Command, CompressionType, EntryIndex, EntryIndexes, Error, FileBlockHandle,
+    FileId, KeyValue, LogBatch, LogFileContext, LogItem, LogItemBatch, LogItemContent, LogQueue,
+    MessageError, OpType, ReadableSize, SizeError, Version,
+};
+use std::fmt::{Debug, Display};
+use std::hash::Hash;
+
+fn is_copied<T: Clone + Copy + PartialEq + Debug>() {}
+
+fn is_equal<T: Eq>() {}
+
+fn is_ordered<T: Ord>() {}
+
+fn is_compared<T: PartialOrd>() {}
+
+fn is_hashed<T: Hash>() {}
+
+fn is_printed<T: Display>() {}
+
+fn is_default<T: Default>() {}
+
+fn is_cloned<T: Clone + PartialEq + Eq + Debug>() {}
+
+fn is_sent<T: Send>() {}
+
+fn is_shared<T: Sync>() {}
+
+fn is_machine<T: ReplayMachine>() {}
+
+fn plain_types() {
+    is_copied::<CompressionType>();
+    is_copied::<OpType>();
+    is_copied::<EntryIndex>();
+    is_copied::<FileBlockHandle>();
+    is_copied::<FileId>();
+    is_copied::<LogQueue>();
+    is_copied::<Version>();
+    is_copied::<LogFileContext>();
+    is_copied::<ReadableSize>();
+    is_copied::<AtomicGroupStatus>();
+    is_copied::<MessageError>();
+    is_copied::<SizeError>();
+    is_copied::<Kept>();
+    is_copied::<ContextStage>();
+}
+
+fn compared_types() {
+    is_equal::<CompressionType>();
+    is_equal::<OpType>();
+    is_equal::<EntryIndex>();
+    is_equal::<FileBlockHandle>();
+    is_equal::<FileId>();
+    is_equal::<LogQueue>();
+    is_equal::<Version>();
+    is_equal::<ReadableSize>();
+    is_ordered::<FileId>();
+    is_compared::<ReadableSize>();
+    is_hashed::<LogQueue>();
+}
+
+fn printed_types() {
+    is_printed::<Error>();
+    is_printed::<raft_base::codec::Error>();
+    is_printed::<MessageError>();
+    is_printed::<SizeError>();
+    is_printed::<ReadableSize>();
+    is_printed::<Version>();
+    is_default::<EntryIndex>();
+    is_default::<Version>();
+    is_default::<GlobalStats>();
+}
+
+fn types_with_vectors() {
+    is_cloned::<Command>();
+    is_cloned::<EntryIndexes>();
+    is_cloned::<KeyValue>();
+    is_cloned::<LogItem>();
+    is_cloned::<LogItemContent>();
+    is_cloned::<LogItemBatch>();
+    is_cloned::<LogBatch>();
+}
+
+fn types_of_threads() {
+    is_sent::<MemTable>();
+    is_sent::<MemTableAccessor>();
+    is_sent::<MemTableRecoverContext>();
+    is_machine::<MemTableRecoverContext>();
+    is_shared::<raft_recover::SharedAccessor>();
+}
+
+#[test]
+fn types_have_their_traits(_rt: HostRuntime) {
+    plain_types();
+    compared_types();
+    printed_types();
+    types_with_vectors();
+    types_of_threads();
+}

@@ -2,7 +2,7 @@
 SHELL := /bin/bash
 RT ?= rt
 export RT
-.PHONY: bench compare demo edits example raftlog test wrong-bodies
+.PHONY: believe believe-check bench compare demo demo-recover edits example hostile raftlog refused-memory stack test wrong-bodies
 
 # Runs `raftlog` on an item batch, which says that the records of region 1 go. Nothing is proved.
 demo:
@@ -10,6 +10,13 @@ demo:
 	@echo "\$$ printf '\x01\x01\x02\x01\x5a\x80\x0b\xdd' | raftlog batch append 12 1"
 	@mkdir -p crates/raftlog/out
 	@cd crates/raftlog && $(RT) try -- batch append 12 1 < stdin 2> out/demo.log || { cat out/demo.log; exit 1; }
+
+# Recovers the tables that the files of demo/ give, by four workers. Nothing is proved.
+demo-recover:
+	@echo "raftlog, compiled with checks at run time and run without a proof (\`make raftlog\` proves it):"
+	@echo "\$$ raftlog recover append 2 4 1=demo/1.log 2=demo/2.log 3=demo/3.log 4=demo/4.log"
+	@mkdir -p crates/raftlog/out
+	@cd crates/raftlog && $(RT) try -- recover append 2 4 $(foreach n,1 2 3 4,"$(n)=$(CURDIR)/demo/$(n).log") 2> out/demo.log || { cat out/demo.log; exit 1; }
 
 # Runs the example. Nothing is proved.
 example:
@@ -24,9 +31,15 @@ raftlog:
 # As many crates at a time as there are processors, and as memory holds: no check was seen to take more than 3 GB.
 LANES = $(shell awk -v n="$$(nproc)" '/^MemAvailable/ { m = int($$2 / 4000000); print m < 1 ? 1 : m < n ? m : n }' /proc/meminfo)
 
-# Proves every crate from nothing, runs the tests and the programs, and tries the wrong bodies of must-fail/.
+# Proves every crate from nothing, runs the tests and the programs, and tries the wrong bodies of must-fail/. Then runs `raftlog`
+# with little stack.
 test:
-	@RT_JOBS=$(LANES) $(RT) ci
+	@RT_JOBS=$(LANES) tools/check.sh
+
+# Runs `raftlog recover` over 2,000 files with little stack, and lists its largest frames. `make raftlog` builds it first.
+stack:
+	@tools/frames.py crates/raftlog/out/raftlog
+	@tools/stack.py crates/raftlog/out/raftlog
 
 # Tries the other wrong bodies, over a copy of the repository, and lists those that are not refused.
 wrong-bodies:
@@ -35,6 +48,14 @@ wrong-bodies:
 # Looks whether each wrong body can still be applied. Nothing is proved.
 edits:
 	@tools/wrong_bodies.py --applies
+
+# Writes docs/BELIEVE.md, the definitions that what is proved of recovery rests on.
+believe:
+	@tools/believe.py
+
+# Fails where docs/BELIEVE.md isn't what the definitions say.
+believe-check:
+	@tools/believe.py --check
 
 # Times checksums, numbers, batches, tables and those that threads share, and as `make bench LOG='append 2 1 1=a.log ..'`, with
 # the words of `raftlog recover`, the recovery of files and the merging of their contexts.
@@ -50,3 +71,16 @@ bench:
 WORKERS ?= 1
 compare:
 	@tools/compare.py $(CASES) crates/raftlog/out/raftlog $(WORKERS)
+
+# Refuses each request for memory and each start of a thread in turn: over `raftlog` with the files of demo/ and INPUTS inputs
+# that are made. It needs a C compiler, `cc`.
+INPUTS ?= 100
+refused-memory: raftlog
+	@tools/refused_memory.py --inputs $(INPUTS)
+
+# Runs `raftlog` over N inputs that no engine writes, as `make hostile N=100000 SEED=7`, and counts what it must never do.
+# `make raftlog` builds it first.
+N ?= 10000
+SEED ?= 1
+hostile:
+	@tools/hostile.py --inputs $(N) --seed $(SEED)

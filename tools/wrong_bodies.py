@@ -4,11 +4,13 @@
     tools/wrong_bodies.py [--applies] [--folder NAME] [CRATE..]
 
 tries crates/CRATE/wrong-bodies/*.edit of the crates that are named, or of all, over a copy of the repository, and lists
-those that are not refused. --applies only looks whether each edit can be applied, in must-fail/ too, and proves nothing.
+those that are not refused, and those that are refused by a proof file alone: it names a step that the wrong body took
+away, which says nothing of the contract. --applies only looks whether each edit can be applied, in must-fail/ too, and proves nothing.
 --folder must-fail tries that folder's edits in the same way. RT names the toolchain's command, where it is not `rt`.
 
 Wrong bodies of different functions go into one check, since a function is proved from its own body and the contracts of
-what it calls. One that a check says nothing of, or one with a refused function below it, is tried once more by itself.
+what it calls. One that a check says nothing of, or one with a refused function below it, is tried once more by itself;
+so is one of a function whose proof file names a step that is gone.
 """
 import os
 import re
@@ -24,6 +26,8 @@ FUNCTION = re.compile(r"( *)(?:pub(?:\([a-z]+\))? )?(?:final )?(?:const )?(?:uns
 VERDICT = re.compile(r"^fn (\S+): (.*)", re.M)
 WAITS = re.compile(r"it (?:calls|waits for)[^;]*")
 ANSWER = re.compile(r"^(?:so far: )?(?:\./)?proofs/(\S+)/\w+\.antt:\d+:\d+: error", re.M)
+GONE = re.compile(r"^(?:so far: )?(?:note: )?(?:\./)?proofs/(?:(\S+)/)?\w+\.antt:\d+:\d+: .*(?:has no field|is not in scope|has no `|was not admitted)", re.M)
+PLACED = re.compile(r"^(?:so far: )?(note: )?\S+:\d+:\d+: .*", re.M)
 UNREAD = re.compile(r"(?:\./)?(src/\S+):(\d+):\d+: error")
 
 
@@ -85,7 +89,7 @@ class Crate:
 
     def check(self, edits):
         """Checks the crate with these wrong bodies in it. Answers whether the crate is proved, or None where the check did not reach the prover,
-        for each function whether it was refused for its own body, and what the check printed."""
+        for each function whether it was refused for its own body, by more than a step that its proof file misses, and what the check printed."""
         texts = dict(self.texts)
         for edit in edits:
             edit.apply(texts)
@@ -96,7 +100,8 @@ class Crate:
             write(f"{self.folder}/{file}", text)
         answered = {(self.name, *path.split("/")) for path in ANSWER.findall(ran.stdout)}
         verdicts = {tuple(name.split("::")): verdict for name, verdict in VERDICT.findall(ran.stdout)}
-        refused = {name: is_own(verdict) or name in answered for name, verdict in verdicts.items()}
+        gone = {(self.name, *path.split("/")) for path in GONE.findall(ran.stdout) if path}
+        refused = {name: (is_own(verdict) or name in answered) and name not in gone for name, verdict in verdicts.items()}
         reached = ran.returncode == 0 or ran.returncode == 1 and re.search(r"^logic=not-proved", ran.stdout, re.M)
         return ran.returncode == 0 if reached else None, refused, ran.stdout
 
@@ -118,6 +123,13 @@ def is_own(verdict):
     """Whether a function's verdict is that its own body is refused, and not just one below it."""
     said = re.sub(r"^(?:no proof|not proved)", "", verdict)
     return said != verdict and (not WAITS.search(said) or bool(WAITS.sub("", said).strip(" ;:")))
+
+
+def is_by_proof_alone(said):
+    """Whether all that a check complains of is that proof files name what the wrong body took away."""
+    told = [it[0] for it in PLACED.finditer(said)]
+    told = [it for it in told if ": error" in it or "note: " in it] or told
+    return bool(told) and all(GONE.match(it) for it in told)
 
 
 def sources(folder):
@@ -162,7 +174,7 @@ def say(text):
 
 
 def tried(crate, edits):
-    """Tries the edits, and answers a line for each that is not refused."""
+    """Tries the edits, and answers a line for each that is not refused, and one for each that a proof file alone refuses."""
     alone, rest = [], list(rounds(crate, edits))
     while rest:
         these = rest.pop(0)
@@ -176,7 +188,7 @@ def tried(crate, edits):
             rest = [these[:half], these[half:], *rest]
         else:
             alone += [it for it in these if not crate.is_refused(it, refused)]
-    faults = []
+    faults, by_proof = [], []
     for edit in alone:
         say(f"{crate.name}: {edit.name} by itself")
         is_proved, _, said = crate.check([edit])
@@ -184,7 +196,9 @@ def tried(crate, edits):
             faults.append(f"{crate.name}/{edit.name}: the check did not reach the prover: {first_error(said)}")
         elif is_proved:
             faults.append(f"{crate.name}/{edit.name}: NOT REFUSED")
-    return faults
+        elif is_by_proof_alone(said):
+            by_proof.append(f"{crate.name}/{edit.name}: refused by a proof file alone: {first_error(said)}")
+    return faults, by_proof
 
 
 def first_error(said):
@@ -239,7 +253,7 @@ def main(words):
         del words[at : at + 2]
     only_looks = "--applies" in words
     names = [it for it in words if it != "--applies"] or list(libraries())
-    faults = applies(names)
+    faults, by_proof = applies(names), []
     if not only_looks and not faults:
         with tempfile.TemporaryDirectory(prefix="wrong-bodies-") as room:
             copied = with_lower(names)
@@ -252,9 +266,11 @@ def main(words):
             for name in names:
                 edits = edits_in(name, folder)
                 if edits:
-                    faults += tried(Crate(name, f"{room}/crates/{name}"), edits)
-        say(f"{len(faults)} wrong bodies not refused")
-    for it in faults:
+                    missed, by_file = tried(Crate(name, f"{room}/crates/{name}"), edits)
+                    faults += missed
+                    by_proof += by_file
+        say(f"{len(faults)} wrong bodies not refused, {len(by_proof)} refused by a proof file alone")
+    for it in faults + by_proof:
         say(it)
     return 1 if faults else 0
 

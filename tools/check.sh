@@ -1,0 +1,23 @@
+#!/usr/bin/env bash
+# The full check: `rt ci`, then what it can't look at: words that aren't UTF-8, the frames of `raftlog` on the stack, and runs
+# with little stack; first of all whether docs/BELIEVE.md is what the definitions say. The last line is that of `rt ci`,
+# 'N passed, M failed'.
+set -euo pipefail
+cd "$(dirname "$0")/.."
+program=crates/raftlog/out/raftlog
+frame_limit=16384
+room=$(mktemp -d)
+trap 'rm -rf "$room"' EXIT
+
+tools/believe.py --check
+"${RT:-rt}" ci | tee "$room/proved"
+
+status=0
+"$program" recover append 1 1 $'1=\xff' > "$room/out" 2> "$room/err" || status=$?
+if [ "$status" != 2 ] || [ -s "$room/out" ] || ! grep -q '^usage: raftlog ' "$room/err"; then
+  echo "a word that isn't UTF-8: status $status, and not the usage alone"
+  exit 1
+fi
+tools/frames.py "$program" --show 3 --limit "$frame_limit"
+tools/stack.py "$program"
+tail -n 1 "$room/proved"

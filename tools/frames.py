@@ -1,0 +1,53 @@
+#!/usr/bin/env python3
+"""Lists the largest stack frames of a program, as bytes and function.
+
+    tools/frames.py [PROGRAM] [--show N] [--limit BYTES]
+
+With --limit it ends with 1 where a frame is larger. PROGRAM is crates/raftlog/out/raftlog where it isn't given. A frame is
+what a function takes off the stack pointer. One above 4 KB is entered through a loop that touches each page: the bytes of
+the loop are taken off another register first. The registers that a function saves are left out: they are 56 bytes at most.
+"""
+import argparse
+import re
+import subprocess
+import sys
+from pathlib import Path
+
+RAFTLOG = Path(__file__).resolve().parent.parent / "crates/raftlog/out/raftlog"
+FUNCTION = re.compile(r"^[0-9a-f]+ <(.*)>:$")
+TAKES = re.compile(r"\bsub\s+\$0x([0-9a-f]+),%(rsp|r11)\b")
+
+
+def frames(program):
+    """The bytes of the frame of each function that has one."""
+    listing = subprocess.run(["objdump", "-d", "--no-show-raw-insn", str(program)], check=True, capture_output=True, text=True)
+    found, function, touching = {}, None, False
+    for line in listing.stdout.splitlines():
+        if named := FUNCTION.match(line):
+            function, touching = named[1], False
+        elif function and (taken := TAKES.search(line)):
+            if taken[2] == "rsp" and touching:
+                touching = False
+                continue
+            touching = taken[2] == "r11"
+            found[function] = found.get(function, 0) + int(taken[1], 16)
+    return found
+
+
+def main():
+    words = argparse.ArgumentParser(description=__doc__.splitlines()[0])
+    words.add_argument("program", type=Path, nargs="?", default=RAFTLOG)
+    words.add_argument("--show", type=int, default=12)
+    words.add_argument("--limit", type=int)
+    asked = words.parse_args()
+    found = sorted(frames(asked.program).items(), key=lambda frame: -frame[1])
+    if not found:
+        sys.exit(f"{asked.program}: no function has a frame, so they can't be read")
+    for function, size in found[:asked.show]:
+        print(f"{size:8} {function[:150]}")
+    if asked.limit is not None and found[0][1] > asked.limit:
+        sys.exit(f"{asked.program}: a frame above {asked.limit} bytes")
+
+
+if __name__ == "__main__":
+    main()

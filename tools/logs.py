@@ -1,0 +1,113 @@
+#!/usr/bin/env python3
+"""Writes valid log files of the append queue, the same ones for the same words, and what they hold.
+
+    tools/logs.py FOLDER [--files N] [--megabytes N] [--regions N]
+
+Into FOLDER, which is made, go the files `1`, `2`, .., `args` (the queue, the version, then `<seq>=<path>` for each file)
+and `expect`, the lines that `raftlog recover` owes: a case for tools/compare.py. The bytes are those of docs/FORMAT.md
+in version 2. Each batch appends entries to some regions, and now and then puts a key or drops entries from the front.
+"""
+import argparse
+import random
+import zlib
+from pathlib import Path
+
+REGIONS_A_BATCH = 4
+ENTRIES_A_REGION = 8
+ENTRY_BYTES = 240
+
+
+def number(n):
+    """A number in groups of seven bits, the lowest first."""
+    groups = bytearray()
+    while n >= 128:
+        groups.append(n % 128 + 128)
+        n //= 128
+    groups.append(n)
+    return bytes(groups)
+
+
+def checksum(data, signature=0):
+    return (zlib.crc32(data) ^ signature).to_bytes(4, "little")
+
+
+class Region:
+    """What a region holds: the files of its entries from the first index on, and the file of each key's value."""
+
+    def __init__(self):
+        self.first, self.files, self.keys = 1, [], {}
+
+    def append(self, seq):
+        """The content of an item that appends entries behind those that are there."""
+        start = self.first + len(self.files)
+        self.files += [seq] * ENTRIES_A_REGION
+        return start
+
+    def compact(self, index):
+        self.files = self.files[index - self.first:]
+        self.first = index
+
+    def line(self, region):
+        entries = f"{self.first}..{self.first + len(self.files)}" if self.files else "-"
+        least = min([*self.files[:1], *self.keys.values()], default="-")
+        return f"{region} entries {entries} keys {len(self.keys)} append {least} rewrite -\n"
+
+
+def items_of(dice, regions, seq):
+    """The items of a batch of this file, and its entry bytes."""
+    items, tail = [], 0
+    for region in dice.sample(range(1, len(regions) + 1), min(REGIONS_A_BATCH, len(regions))):
+        held = regions[region - 1]
+        start = held.append(seq)
+        tails = b"".join(number(tail + ENTRY_BYTES * (i + 1)) for i in range(ENTRIES_A_REGION))
+        tail += ENTRY_BYTES * ENTRIES_A_REGION
+        items.append(number(region) + b"\x01" + number(ENTRIES_A_REGION) + number(start) + tails)
+        what = dice.randrange(8)
+        if what == 0:
+            key = b"key %d" % dice.randrange(3)
+            held.keys[key] = seq
+            items.append(number(region) + b"\x03\x01" + number(len(key)) + key + number(5) + b"value")
+        elif what == 1:
+            index = dice.randint(held.first, start)
+            held.compact(index)
+            items.append(number(region) + b"\x02\x02" + number(index))
+    return items, dice.randbytes(64) * (tail // 64)
+
+
+def batch_of(dice, regions, seq):
+    """The bytes of a batch of this file."""
+    items, entries = items_of(dice, regions, seq)
+    footer = number(len(items)) + b"".join(items)
+    footer += checksum(footer, seq % 2**32)
+    entries += checksum(entries)
+    length = 16 + len(entries) + len(footer)
+    return (length << 8).to_bytes(8, "big") + (16 + len(entries)).to_bytes(8, "big") + entries + footer
+
+
+def write(folder, files, size, regions):
+    """Writes so many files, of about so many bytes together, over so many regions."""
+    folder.mkdir(parents=True)
+    dice, held = random.Random(1), [Region() for _ in range(regions)]
+    for seq in range(1, files + 1):
+        with open(folder / str(seq), "wb") as log:
+            while log.tell() < size / files:
+                log.write(batch_of(dice, held, seq))
+    words = " ".join(f"{seq}={seq}" for seq in range(1, files + 1))
+    (folder / "args").write_text(f"append 2 {words}\n")
+    lines = [region.line(i + 1) for i, region in enumerate(held) if region.files or region.keys]
+    live = sum(len(region.files) + len(region.keys) for region in held)
+    (folder / "expect").write_text("".join(lines) + f"cleaned -\nlive {live} 0\n")
+
+
+def main():
+    words = argparse.ArgumentParser(description=__doc__.splitlines()[0])
+    words.add_argument("folder", type=Path)
+    words.add_argument("--files", type=int, default=16)
+    words.add_argument("--megabytes", type=int, default=16)
+    words.add_argument("--regions", type=int, default=1000)
+    asked = words.parse_args()
+    write(asked.folder, asked.files, asked.megabytes << 20, asked.regions)
+
+
+if __name__ == "__main__":
+    main()

@@ -2,7 +2,7 @@
 SHELL := /bin/bash
 RT ?= rt
 export RT
-.PHONY: believe believe-check bench compare demo demo-recover edits example hostile raftlog refused-memory stack test wrong-bodies
+.PHONY: believe believe-check bench compare cuttings demo demo-recover edits example hostile raftlog refused-memory stack test wrong-bodies
 
 # Runs `raftlog` on an item batch, which says that the records of region 1 go. Nothing is proved.
 demo:
@@ -67,10 +67,17 @@ bench:
 	@test -z "$(LOG)" || { crates/raft_bench/out/raft_bench recover $(LOG) && crates/raft_bench/out/raft_bench merge recover $(LOG); }
 
 # Runs `raftlog recover` over a folder of cases, as `make compare CASES=folder WORKERS=1,2,4,8`, and counts those that it
-# answers otherwise than they say. `make raftlog` builds it first.
+# answers otherwise than they say. `make raftlog` builds it first. With `PROGRAM=crates/raft_cuttings/out/raft_cuttings` each case,
+# of up to 16 batches, is read at every cutting; `make cuttings` builds that.
 WORKERS ?= 1
+PROGRAM ?= crates/raftlog/out/raftlog
 compare:
-	@tools/compare.py $(CASES) crates/raftlog/out/raftlog $(WORKERS)
+	@tools/compare.py $(CASES) $(PROGRAM) $(WORKERS)
+
+# Proves `raft_cuttings` and the crates below it, builds it, and says where it lies.
+cuttings:
+	@cd crates/raft_cuttings && $(RT) run -- recover rewrite 1 1 1=data/second > /dev/null
+	@echo "raft_cuttings is proved and built: crates/raft_cuttings/out/raft_cuttings"
 
 # Refuses each request for memory and each start of a thread in turn: over `raftlog` with the files of demo/ and INPUTS inputs
 # that are made. It needs a C compiler, `cc`.

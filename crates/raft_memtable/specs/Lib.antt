@@ -62,3 +62,5 @@ pub use Rattle.raft_accessor.specs.TableOverlays
 pub use Rattle.raft_accessor.specs.Updates
 pub use Rattle.raft_accessor.specs.Walks
 pub use Rattle.raft_accessor.specs.Writes
+pub use Rattle.raft_table.specs.declared.memtable.block.Block
+pub use Rattle.raft_table.specs.declared.memtable.change.TableChange

@@ -14,3 +14,4 @@ pub use Rattle.raft_replay.specs.Plans
 pub use Rattle.raft_replay.specs.Replays
 pub use Rattle.raft_replay.specs.Schedules
 pub use Rattle.raft_replay.specs.Segments
+pub use Rattle.raft_replay.specs.declared.plan.Plan

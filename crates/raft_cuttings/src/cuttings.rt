@@ -1,0 +1,207 @@
+//! The cuttings of files, and what is read at each.
+
+use raft_memtable::{LogQueue, MemTableAccessor, MemTableRecoverContext};
+use raft_records::{Error, FilePart, Result};
+use raft_recover::files::file_segments;
+use raft_recover::request::{RecoverWords, read_files};
+use raft_recover::{
+    Plan, Segment, cut_part, merge_pieces, print_recovered, recover_segments, replay_segment,
+};
+use std::alloc::Global;
+use std::mem;
+use std::rt::Files;
+use std::thread::Threads;
+
+/// More parts aren't cut: there would be more than 2^15 cuttings.
+const MOST_PARTS: usize = 16;
+
+/// What a reading gives.
+#[derive(Debug, Drop)]
+pub(crate) enum Answer {
+    /// The lines of its tables.
+    Lines(Vec<u8>),
+    /// It is refused.
+    Refused,
+}
+
+/// What all cuttings give.
+#[derive(Drop)]
+pub(crate) enum Found {
+    /// The same.
+    Same(Answer),
+    /// This one, read and merged in this way, gives something else than the batches uncut.
+    Different { cutting: u64, way: &'static str },
+}
+
+/// How segments are read and merged.
+#[derive(Clone, Copy)]
+enum Way {
+    Left,
+    Right,
+    Halves,
+    Workers(usize),
+}
+
+/// All ways, each with its name.
+static WAYS: [(Way, &str); 7] = [
+    (Way::Left, "from the left"),
+    (Way::Right, "from the right"),
+    (Way::Halves, "by halves"),
+    (Way::Workers(1), "by one worker"),
+    (Way::Workers(2), "by two workers"),
+    (Way::Workers(3), "by three workers"),
+    (Way::Workers(4), "by four workers"),
+];
+
+/// Reads files at every cutting.
+pub(crate) fn of_files<R: Threads + Files + AllocGlobal + Sync>(
+    rt: &R,
+    asked: RecoverWords<'_>,
+) -> Result<Found> {
+    let queue = asked.queue;
+    let files = read_files(rt, asked.files)?;
+    let segments = file_segments(queue, asked.version, files)?;
+    let batches = batches_of(rt.alloc(), segments)?;
+    if batches.len() > MOST_PARTS {
+        return Err(Error::InvalidArgument(format!(in rt.alloc(); "too many batches")?));
+    }
+    let whole = read_cut(rt, &batches, queue, 0, Way::Left)?;
+    for cutting in 0..1u64 << batches.len().saturating_sub(1) {
+        if let Some(way) = other_way(rt, &batches, queue, cutting, &whole)? {
+            return Ok(Found::Different { cutting, way });
+        }
+    }
+    Ok(Found::Same(whole))
+}
+
+/// The name of a way that gives something else at this cutting, if there is one.
+fn other_way<R: Threads + AllocGlobal + Sync>(
+    rt: &R,
+    batches: &[FilePart],
+    queue: LogQueue,
+    cutting: u64,
+    whole: &Answer,
+) -> Result<Option<&'static str>> {
+    for &(way, name) in &WAYS {
+        if !is_same(&read_cut(rt, batches, queue, cutting, way)?, whole) {
+            return Ok(Some(name));
+        }
+    }
+    Ok(None)
+}
+
+/// Whether two answers are the same.
+fn is_same(left: &Answer, right: &Answer) -> bool {
+    match (left, right) {
+        (Answer::Lines(left), Answer::Lines(right)) => left.as_slice() == right.as_slice(),
+        (Answer::Refused, Answer::Refused) => true,
+        _ => false,
+    }
+}
+
+/// What the batches give at this cutting, read and merged in this way.
+fn read_cut<R: Threads + AllocGlobal + Sync>(
+    rt: &R,
+    batches: &[FilePart],
+    queue: LogQueue,
+    cutting: u64,
+    way: Way,
+) -> Result<Answer> {
+    let segments = cut(rt.alloc(), batches, cutting)?;
+    let read = match way {
+        Way::Workers(workers) => {
+            recover_segments(rt, rt.alloc(), segments.as_slice(), queue, workers)
+        }
+        _ => merged(rt, segments.as_slice(), queue, way),
+    };
+    match read {
+        Ok(tables) => Ok(Answer::Lines(lines_of(rt.alloc(), &tables)?)),
+        Err(Error::Memory) => Err(Error::Memory),
+        Err(_) => Ok(Answer::Refused),
+    }
+}
+
+/// The tables of segments that are read one by one and merged by a plan.
+fn merged<R: Threads + AllocGlobal + Sync>(
+    rt: &R,
+    segments: &[Segment],
+    queue: LogQueue,
+    way: Way,
+) -> Result<MemTableAccessor> {
+    let pieces = read_each(rt.alloc(), segments)?;
+    let plan = plan_of(rt.alloc(), pieces.len(), way)?;
+    merge_pieces(rt, pieces, &plan, queue)?.finish()
+}
+
+/// A context for each segment.
+fn read_each(alloc: Global, segments: &[Segment]) -> Result<Vec<MemTableRecoverContext>> {
+    let mut pieces = Vec::new(alloc);
+    for segment in segments {
+        pieces.push(read(alloc, segment)?)?;
+    }
+    Ok(pieces)
+}
+
+/// A context of a segment.
+fn read(alloc: Global, segment: &Segment) -> Result<MemTableRecoverContext> {
+    let mut context = MemTableRecoverContext::new(alloc)?;
+    replay_segment(&mut context, segment)?;
+    Ok(context)
+}
+
+/// The plan that merges so many pieces in this way.
+fn plan_of(alloc: Global, count: usize, way: Way) -> Result<Plan> {
+    let mut plan = Plan::One;
+    match way {
+        Way::Left => {
+            for _ in 1..count {
+                plan = Plan::Join(Box::new(alloc, plan)?, Box::new(alloc, Plan::One)?);
+            }
+            Ok(plan)
+        }
+        Way::Right => {
+            for _ in 1..count {
+                plan = Plan::Join(Box::new(alloc, Plan::One)?, Box::new(alloc, plan)?);
+            }
+            Ok(plan)
+        }
+        _ => Plan::halves(alloc, count.max(1)),
+    }
+}
+
+/// The batches as segments: one ends behind batch `n` where bit `n` of the number is set, and one at the end.
+fn cut(alloc: Global, batches: &[FilePart], cutting: u64) -> Result<Vec<Segment>> {
+    let mut segments = Vec::new(alloc);
+    let mut segment = Vec::new(alloc);
+    let mut rest = cutting;
+    for batch in batches {
+        segment.push(batch.share()?)?;
+        if rest % 2 == 1 {
+            segments.push(mem::replace(&mut segment, Vec::new(alloc)))?;
+        }
+        rest /= 2;
+    }
+    segments.push(segment)?;
+    Ok(segments)
+}
+
+/// A part for each batch of the segments, and for each empty file.
+fn batches_of(alloc: Global, segments: Vec<Segment>) -> Result<Vec<FilePart>> {
+    let mut batches = Vec::new(alloc);
+    for segment in segments {
+        for part in segment {
+            let count = part.bytes().len();
+            for batch in cut_part(alloc, part, count)? {
+                batches.push(batch)?;
+            }
+        }
+    }
+    Ok(batches)
+}
+
+/// The lines of tables.
+fn lines_of(alloc: Global, tables: &MemTableAccessor) -> Result<Vec<u8>> {
+    let mut lines = Vec::new(alloc);
+    print_recovered(alloc, tables, &mut lines)?;
+    Ok(lines)
+}

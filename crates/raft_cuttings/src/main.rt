@@ -1,0 +1,56 @@
+//! Recovers log files at every cutting. The words are those of `raftlog recover`, and so are status and lines where all
+//! cuttings give the same: the files' batches, 16 at most, are cut into segments in every way, and the segments are read
+//! and merged from the left, from the right and by halves, and by 1 to 4 workers. Status 3, and a line on standard error,
+//! where one of these gives something else than the batches uncut.
+#![tactic(auto)]
+
+mod cuttings;
+
+use cuttings::{Answer, Found};
+use raft_records::Result;
+use raft_recover::command_words;
+use raft_recover::request::Request;
+use std::io::Write;
+use std::process::ExitCode;
+
+const DONE: u8 = 0;
+
+const REFUSED: u8 = 1;
+
+const MISUSED: u8 = 2;
+
+const DIFFERENT: u8 = 3;
+
+fn main(rt: HostRuntime) -> ExitCode {
+    let Ok(words) = command_words(&rt) else {
+        return ExitCode::from(MISUSED);
+    };
+    let Some(request) = Request::parse(words.as_slice()) else {
+        return ExitCode::from(MISUSED);
+    };
+    let status = match request {
+        Request::Recover(asked) => status_of(&rt, cuttings::of_files(&rt, asked)),
+        Request::Batch(_) => MISUSED,
+    };
+    ExitCode::from(status)
+}
+
+/// Prints what was found, and answers the status to end with.
+fn status_of(rt: &HostRuntime, found: Result<Found>) -> u8 {
+    match found {
+        Ok(Found::Same(Answer::Lines(lines))) => {
+            if rt.stdout().write_all(&lines).is_ok() {
+                DONE
+            } else {
+                REFUSED
+            }
+        }
+        Ok(Found::Different { cutting, way }) => {
+            let _ = eprintln!(rt;
+                "raft_cuttings: cutting {cutting}, {way}: other than the batches uncut"
+            );
+            DIFFERENT
+        }
+        Ok(Found::Same(Answer::Refused)) | Err(_) => REFUSED,
+    }
+}

@@ -51,7 +51,7 @@ fn files_of(alloc: Global, count: u64) -> Result<Vec<(FileSeq, Vec<u8>)>> {
 fn share_bytes(alloc: Global, files: u64, count: usize, least: usize) -> Result<Vec<usize>> {
     let segments = file_segments(LogQueue::Append, Version::V1, files_of(alloc, files)?)?;
     let mut all = Vec::new(alloc);
-    for share in equal_shares(alloc, segments.as_slice(), count, least)? {
+    for share in equal_shares(alloc, segments.as_slice(), count.max(1), least.max(1))? {
         let mut bytes = 0usize;
         for part in &share {
             bytes = bytes.saturating_add(part.bytes().len());

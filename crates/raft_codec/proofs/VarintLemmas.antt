@@ -124,6 +124,11 @@ unfolding varint
 three_groups n many few =
     groups_more 9 8 n refl (omega arith) ∙ ap (λ (t : List ℕ). (n % 128 + 128) ∷ t) (groups_more 8 7 (n / 128) refl many) ∙ ap (λ (t : List ℕ). (n % 128 + 128) ∷ (n / 128 % 128 + 128) ∷ t) (groups_last 7 (n / 128 / 128) few)
 
+pub four_groups : (n : ℕ) → 128 ≤ n / 128 / 128 → n / 128 / 128 / 128 < 128 → varint n ≡ (n % 128 + 128) ∷ (n / 128 % 128 + 128) ∷ (n / 128 / 128 % 128 + 128) ∷ n / 128 / 128 / 128 ∷ []
+unfolding varint
+four_groups n many few =
+    groups_more 9 8 n refl (omega arith) ∙ ap (λ (t : List ℕ). (n % 128 + 128) ∷ t) (groups_more 8 7 (n / 128) refl (omega arith)) ∙ ap (λ (t : List ℕ). (n % 128 + 128) ∷ (n / 128 % 128 + 128) ∷ t) (groups_more 7 6 (n / 128 / 128) refl many) ∙ ap (λ (t : List ℕ). (n % 128 + 128) ∷ (n / 128 % 128 + 128) ∷ (n / 128 / 128 % 128 + 128) ∷ t) (groups_last 6 (n / 128 / 128 / 128) few)
+
 -- what k + 1 groups spell
 record Spells (k n : ℕ) (bytes : List ℕ) : Type 0 where
   pub continued : IsContinued bytes

@@ -134,24 +134,62 @@ pub fn append_var_u64(buf: &mut Vec<u8>, number: u64) -> std::result::Result<(),
     ensures ok { OnOk result (buf.new.items ≡ buf.old.items ++ varint number) }
     ensures err { OnErr result (buf.new.items ≡ buf.old.items) }
 {
+    // Most numbers are this short, and bytes of a known count are quickly appended.
     if number < 0x80 {
         buf.push(number as u8)?;
         return Ok(());
     }
-    // Most numbers are this short, and bytes of a known count are quickly appended.
-    let (first, rest) = ((number % 0x80) as u8 + 0x80, number / 0x80);
-    if rest < 0x80 {
-        buf.extend_from_slice(&[first, rest as u8])?;
-        return Ok(());
+    if number < 0x4000 {
+        return buf.extend_from_slice(&in_two_bytes(number));
     }
-    let (second, rest) = ((rest % 0x80) as u8 + 0x80, rest / 0x80);
-    if rest < 0x80 {
-        buf.extend_from_slice(&[first, second, rest as u8])?;
-        return Ok(());
+    if number < 0x20_0000 {
+        return buf.extend_from_slice(&in_three_bytes(number));
+    }
+    if number < 0x1000_0000 {
+        return buf.extend_from_slice(&in_four_bytes(number));
     }
     let mut bytes = [0; MAX_VAR_U64_LEN];
     let len = put_var_u64(&mut bytes, number);
     buf.extend_from_slice(&bytes[..len])
+}
+
+/// The shortest spelling of a number of two groups.
+fn in_two_bytes(number: u64) -> [u8; 2]
+    requires least { 128 ≤ number }
+    requires below { number < 16384 }
+    ensures { result ≡ varint number }
+{
+    [group(number), (number >> 7) as u8]
+}
+
+/// The shortest spelling of a number of three groups.
+fn in_three_bytes(number: u64) -> [u8; 3]
+    requires least { 16384 ≤ number }
+    requires below { number < 2097152 }
+    ensures { result ≡ varint number }
+{
+    [group(number), group(number >> 7), (number >> 14) as u8]
+}
+
+/// The shortest spelling of a number of four groups.
+fn in_four_bytes(number: u64) -> [u8; 4]
+    requires least { 2097152 ≤ number }
+    requires below { number < 268435456 }
+    ensures { result ≡ varint number }
+{
+    [
+        group(number),
+        group(number >> 7),
+        group(number >> 14),
+        (number >> 21) as u8,
+    ]
+}
+
+/// The lowest group of a number, which has more.
+fn group(number: u64) -> u8
+    ensures { result ≡ number % 128 + 128 }
+{
+    (number % 0x80) as u8 + 0x80
 }
 
 /// What is written is a spelling of its number, and none is shorter; and no spelling of a number

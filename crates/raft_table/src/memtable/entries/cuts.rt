@@ -11,7 +11,7 @@ use crate::global_stats::GlobalStats;
 use crate::memtable::block::Block;
 use crate::memtable::bounds::capped;
 use crate::memtable::entries::Entries;
-use crate::memtable::entries::lists::find;
+use crate::memtable::entries::lists::{find, search};
 use raft_base::LogQueue;
 use std::collections::VecDeque;
 
@@ -122,12 +122,7 @@ impl Entries {
             self.clear();
             return;
         }
-        let (whole, last) = find(
-            &self.starts,
-            self.first,
-            self.len,
-            self.first + (count - 1) as u64,
-        );
+        let (whole, last) = search(&self.starts, self.first + (count - 1) as u64);
         cut_back(&mut self.blocks, whole, last + 1);
         self.starts.truncate(whole + 1);
         self.len = count;
@@ -178,5 +173,7 @@ fn drop_first<T: Drop>(deque: &mut VecDeque<T>, count: usize)
     requires { count ≤ length deque.old.items }
     ensures { deque.new.items ≡ drop count deque.old.items }
 {
-    drop(deque.drain(..count));
+    for _ in 0..count {
+        drop(deque.pop_front());
+    }
 }

@@ -11,7 +11,7 @@ ghost use Rattle.raft_table.specs.Queues.{count_in};
 use crate::memtable::block::Block;
 use crate::memtable::entries::Entries;
 use crate::memtable::entries::lists::{
-    cut_at, find, is_same, push_block, put_blocks, spans_behind,
+    cut_at, find, is_same, push_block, put_blocks, search, spans_behind,
 };
 use raft_base::{EntryIndex, FileBlockHandle, LogQueue};
 use std::alloc::{AllocError, Global};
@@ -109,12 +109,7 @@ impl Entries {
         ensures ok { OnOk result ((self.new ≡ take keep self.old ++ run.old) × (run.new ≡ [])) }
         ensures err { OnErr result ((self.new ≡ self.old) × (run.new ≡ run.old)) }
     {
-        let (whole, last) = find(
-            &self.starts,
-            self.first,
-            self.len,
-            self.first + (keep - 1) as u64,
-        );
+        let (whole, last) = search(&self.starts, self.first + (keep - 1) as u64);
         let rest = self.blocks.len();
         put_blocks(
             &mut self.blocks,
@@ -149,7 +144,7 @@ impl Entries {
         let block = &self.blocks[whole];
         let handle = block.handle;
         let spans = spans_behind(*self.blocks.allocator(), &block.spans, part)?;
-        let place = cut_at(&self.starts, self.first, self.len, at);
+        let place = cut_at(&self.starts, self.first, at);
         let mut blocks = run.blocks;
         let mut starts = run.starts;
         push_block(&mut blocks, &mut starts, index, Block { handle, spans })?;

@@ -24,7 +24,7 @@ pub(super) fn count_at_or_below(starts: &VecDeque<u64>, index: u64) -> usize
 
 /// Behind how many blocks, and behind how many entries of the next one, the entry with an index
 /// stands, among `len` entries from the index `first` on. A block is guessed, as if all were of one
-/// length; where that isn't the one, the last is looked at, and then all are searched.
+/// length; where that isn't the one, they are searched.
 pub(super) fn find(starts: &VecDeque<u64>, first: u64, len: usize, index: u64) -> (usize, usize)
     requires { IsIndexOf starts.now.items index }
     ensures { (i : ℕ) (bs : List BlockSpans) → starts.now.items ≡ starts_of i bs → i ≤ index → index < i + count bs
@@ -36,6 +36,16 @@ pub(super) fn find(starts: &VecDeque<u64>, first: u64, len: usize, index: u64) -
     if low <= index && (guess == last || index < starts[guess + 1]) {
         return (guess, (index - low) as usize);
     }
+    search(starts, index)
+}
+
+/// What `find` answers, without a guess: the last block is looked at, and then all are searched.
+pub(super) fn search(starts: &VecDeque<u64>, index: u64) -> (usize, usize)
+    requires { IsIndexOf starts.now.items index }
+    ensures { (i : ℕ) (bs : List BlockSpans) → starts.now.items ≡ starts_of i bs → i ≤ index → index < i + count bs
+        → IsAt (index - i) bs result.0 result.1 }
+{
+    let last = starts.len() - 1;
     let start = starts[last];
     if start <= index {
         return (last, (index - start) as usize);
@@ -48,13 +58,13 @@ pub(super) fn find(starts: &VecDeque<u64>, first: u64, len: usize, index: u64) -
 /// Behind how many of `count` blocks of one length an index stands, if they have `len` entries from
 /// the index `first` on. Wrong numbers make a wrong guess, and no fault.
 fn guess(first: u64, len: usize, count: usize, index: u64) -> usize {
-    let behind = index.saturating_sub(first);
-    (behind.saturating_mul(count as u64) / (len as u64).max(1)) as usize
+    let behind = index.wrapping_sub(first);
+    (behind.wrapping_mul(count as u64) / (len as u64).max(1)) as usize
 }
 
 /// Behind how many blocks the first so many entries end, and behind how many of the last of those.
-/// `first` is the index of the first of all, and `len` how many there are.
-pub(super) fn cut_at(starts: &VecDeque<u64>, first: u64, len: usize, kept: usize) -> (usize, usize)
+/// `first` is the index of the first of all.
+pub(super) fn cut_at(starts: &VecDeque<u64>, first: u64, kept: usize) -> (usize, usize)
     requires bounded { first + kept < 2 ^ 64 }
     requires within { 0 < kept → IsIndexOf starts.now.items (first + (kept - 1)) }
     ensures none { kept ≡ 0 → (result.0 ≡ 0) × (result.1 ≡ 0) }
@@ -64,7 +74,7 @@ pub(super) fn cut_at(starts: &VecDeque<u64>, first: u64, len: usize, kept: usize
     if kept == 0 {
         return (0, 0);
     }
-    let (whole, last) = find(starts, first, len, first + (kept - 1) as u64);
+    let (whole, last) = search(starts, first + (kept - 1) as u64);
     (whole + 1, last + 1)
 }
 

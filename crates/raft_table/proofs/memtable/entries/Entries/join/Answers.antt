@@ -12,22 +12,22 @@ use Rattle.raft_table.proofs.memtable.entries.Entries.join.Goals as goal
 pub overflow_add-self-inside : goal.overflow_add-self-inside
 overflow_add-self-inside c = let f = (kept_facts c.self.invariant) in let l = f.length in let h = rw (← c.self.view_is) at c.requires.keep.1 in let p = c.requires.keep.0 in let b = f.bounded (omega arith) in omega arith
 
-pub find-whole-requires : goal.find-whole-requires
-find-whole-requires c = index_of c.self.invariant (c.args.keep - 1) refl (let l = (kept_facts c.self.invariant).length in let h = (rw (← c.self.view_is) at c.requires.keep.1) in let p = c.requires.keep.0 in omega arith)
+pub search-whole-requires : goal.search-whole-requires
+search-whole-requires c = index_of c.self.invariant (c.args.keep - 1) refl (let l = (kept_facts c.self.invariant).length in let h = (rw (← c.self.view_is) at c.requires.keep.1) in let p = c.requires.keep.0 in omega arith)
 
 pub overflow_add-last : goal.overflow_add-last
-overflow_add-last c = let a = (found c.self.invariant c.find-whole.ensures (c.args.keep - 1) refl (let l = (kept_facts c.self.invariant).length in let h = (rw (← c.self.view_is) at c.requires.keep.1) in let p = c.requires.keep.0 in omega arith)) in let p = a.place in omega arith
+overflow_add-last c = let a = (found c.self.invariant c.search-whole.ensures (c.args.keep - 1) refl (let l = (kept_facts c.self.invariant).length in let h = (rw (← c.self.view_is) at c.requires.keep.1) in let p = c.requires.keep.0 in omega arith)) in let p = a.place in omega arith
 
 pub overflow_add-whole : goal.overflow_add-whole
-overflow_add-whole c = let w = block_within c.self.inside.blocks.items (found c.self.invariant c.find-whole.ensures (c.args.keep - 1) refl (let l = (kept_facts c.self.invariant).length in let h = (rw (← c.self.view_is) at c.requires.keep.1) in let p = c.requires.keep.0 in omega arith)) in omega (arith, c.self.inside.blocks.ok)
+overflow_add-whole c = let w = block_within c.self.inside.blocks.items (found c.self.invariant c.search-whole.ensures (c.args.keep - 1) refl (let l = (kept_facts c.self.invariant).length in let h = (rw (← c.self.view_is) at c.requires.keep.1) in let p = c.requires.keep.0 in omega arith)) in omega (arith, c.self.inside.blocks.ok)
 
 pub put_blocks-requires-clause-order : goal.put_blocks-requires-clause-order
-put_blocks-requires-clause-order c = let w = block_within c.self.inside.blocks.items (found c.self.invariant c.find-whole.ensures (c.args.keep - 1) refl (let l = (kept_facts c.self.invariant).length in let h = (rw (← c.self.view_is) at c.requires.keep.1) in let p = c.requires.keep.0 in omega arith)) in omega (arith, c.self.inside.blocks.ok)
+put_blocks-requires-clause-order c = let w = block_within c.self.inside.blocks.items (found c.self.invariant c.search-whole.ensures (c.args.keep - 1) refl (let l = (kept_facts c.self.invariant).length in let h = (rw (← c.self.view_is) at c.requires.keep.1) in let p = c.requires.keep.0 in omega arith)) in omega (arith, c.self.inside.blocks.ok)
 
 pub put_blocks-requires-clause-part : goal.put_blocks-requires-clause-part
 put_blocks-requires-clause-part c d p =
-    let e : c.find-whole.result.0 ≡ c.find-whole.result.0 + 1 - 1 = omega arith in
-    subst (λ k. c.find-whole.result.1 + 1 ≤ length (get_or c.self.inside.blocks.items k d).spans.items) e (let w = place_inside c.self.inside.blocks.items (found c.self.invariant c.find-whole.ensures (c.args.keep - 1) refl (let l = (kept_facts c.self.invariant).length in let h = (rw (← c.self.view_is) at c.requires.keep.1) in let p = c.requires.keep.0 in omega arith)) d in omega arith)
+    let e : c.search-whole.result.0 ≡ c.search-whole.result.0 + 1 - 1 = omega arith in
+    subst (λ k. c.search-whole.result.1 + 1 ≤ length (get_or c.self.inside.blocks.items k d).spans.items) e (let w = place_inside c.self.inside.blocks.items (found c.self.invariant c.search-whole.ensures (c.args.keep - 1) refl (let l = (kept_facts c.self.invariant).length in let h = (rw (← c.self.view_is) at c.requires.keep.1) in let p = c.requires.keep.0 in omega arith)) d in omega arith)
 
 pub put_blocks-requires-clause-starts : goal.put_blocks-requires-clause-starts
 put_blocks-requires-clause-starts c = kept_length c.self.invariant ∙ length-map c.self.inside.blocks.items block_spans
@@ -67,14 +67,14 @@ overflow_add-self-2 c =
     let f = sound_fits (start_of es) es s (sound_rising es s) (omega arith) in
     omega arith
 
-put : (c : goal.After-run-2-1) → IsKeptAs c.self.inside.first (c.args.keep + c.run.inside.len) (joined_blocks (cut_last (c.find-whole.result.1 + 1) (take (c.find-whole.result.0 + 1) (shown c.self.inside.blocks.items))) (shown c.run.inside.blocks.items) ++ drop c.len-rest.result (shown c.self.inside.blocks.items))
-    (take (c.find-whole.result.0 + 1) c.self.inside.starts.items ++ drop (seam (take (c.find-whole.result.0 + 1) (shown c.self.inside.blocks.items)) (shown c.run.inside.blocks.items)) c.run.inside.starts.items ++ drop c.len-rest.result c.self.inside.starts.items)
+put : (c : goal.After-run-2-1) → IsKeptAs c.self.inside.first (c.args.keep + c.run.inside.len) (joined_blocks (cut_last (c.search-whole.result.1 + 1) (take (c.search-whole.result.0 + 1) (shown c.self.inside.blocks.items))) (shown c.run.inside.blocks.items) ++ drop c.len-rest.result (shown c.self.inside.blocks.items))
+    (take (c.search-whole.result.0 + 1) c.self.inside.starts.items ++ drop (seam (take (c.search-whole.result.0 + 1) (shown c.self.inside.blocks.items)) (shown c.run.inside.blocks.items)) c.run.inside.starts.items ++ drop c.len-rest.result c.self.inside.starts.items)
     (min c.self.inside.rewritten c.args.keep + c.run.inside.rewritten) (take c.args.keep (expanded c.self.inside.first (shown c.self.inside.blocks.items)) ++ expanded c.run.inside.first (shown c.run.inside.blocks.items))
 put c =
     let s : AreTableEntries (take c.args.keep (expanded c.self.inside.first (shown c.self.inside.blocks.items)) ++ expanded c.run.inside.first (shown c.run.inside.blocks.items)) = rw (c.self.view_is, c.run.view_is) c.requires.table_entries in
-    kept_join c.self.invariant c.run.invariant c.args.keep (c.find-whole.result.0 + 1) (c.find-whole.result.1 + 1) c.len-rest.result c.requires.keep.0
+    kept_join c.self.invariant c.run.invariant c.args.keep (c.search-whole.result.0 + 1) (c.search-whole.result.1 + 1) c.len-rest.result c.requires.keep.0
     (let l = (kept_facts c.self.invariant).length in let h = rw (← c.self.view_is) at c.requires.keep.1 in omega arith)
-    (front_of c.self.inside.first c.args.keep c.find-whole.result.0 c.find-whole.result.1 (shown c.self.inside.blocks.items) c.self.invariant.distinct c.requires.keep.0 (found c.self.invariant c.find-whole.ensures (c.args.keep - 1) refl (let l = (kept_facts c.self.invariant).length in let h = (rw (← c.self.view_is) at c.requires.keep.1) in let p = c.requires.keep.0 in omega arith)))
+    (front_of c.self.inside.first c.args.keep c.search-whole.result.0 c.search-whole.result.1 (shown c.self.inside.blocks.items) c.self.invariant.distinct c.requires.keep.0 (found c.self.invariant c.search-whole.ensures (c.args.keep - 1) refl (let l = (kept_facts c.self.invariant).length in let h = (rw (← c.self.view_is) at c.requires.keep.1) in let p = c.requires.keep.0 in omega arith)))
     (let m = (kept_facts c.run.invariant).length in let h = rw (← c.run.view_is) at c.requires.run in omega arith)
     s (let n = length-map c.self.inside.blocks.items block_spans in omega (arith, c.self.inside.blocks.ok))
 

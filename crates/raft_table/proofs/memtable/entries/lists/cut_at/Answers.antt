@@ -6,7 +6,7 @@ pub overflow_add-result : goal.overflow_add-result
 overflow_add-result c =
     let n = c.if-kept-eq0.false in
     let h = c.requires.within (omega arith) in
-    let a = c.find-whole.ensures h.0 h.1 h.2 h.3 h.4 in
+    let a = c.search-whole.ensures h.0 h.1 h.2 h.3 h.4 in
     let l = a.block in
     let e = ap length h.2 ∙ length-starts h.0 h.1 in
     omega (arith, c.args.starts.now.ok)

@@ -1,51 +1,12 @@
-use Rattle.std.proofs.Common.{suc, ◌≡◌, ◌+◌, ◌-◌, ◌<◌, ltb, true, get_or, arith, sym, ap, subst, ◌∙◌}
+use Rattle.std.proofs.Common.{suc, ◌≡◌, ◌+◌, ◌<◌, ltb, true, get_or, arith, sym, ap, ◌∙◌}
 use Rattle.std.proofs.lemmas.List.{get_or_default}
-use Rattle.raft_table.proofs.BlockSearch.{at_start, index_some, index_rises, found_some}
+use Rattle.raft_table.proofs.BlockSearch.{at_start, index_some}
 use Rattle.std.proofs.lemmas.Bool.Decides.{nat_tests}
 use Rattle.raft_table.proofs.memtable.entries.lists.find.Goals.{then-guess-last, else-guess-last}
 use Rattle.raft_table.proofs.memtable.entries.lists.find.Goals as goal
 
 pub overflow_sub-last : goal.overflow_sub-last
 overflow_sub-last c = let s = index_some c.args.starts.now.items c.args.index c.requires in omega (arith, c.args.starts.now.ok)
-
-pub index-start-requires : goal.index-start-requires
-index-start-requires c = let s = index_some c.args.starts.now.items c.args.index c.requires in omega (arith, c.args.starts.now.ok)
-
-pub returns-then-start-index : goal.returns-then-start-index
-returns-then-start-index c i bs e lo hi =
-    let s = index_some c.args.starts.now.items c.args.index c.requires in
-    at_start c.args.index i (c.len-last.result - 1) c.index-start.result.now bs c.args.starts.now.items e lo hi (omega (arith, c.args.starts.now.ok)) c.index-start.ensures c.if-start-index.true (λ d l. absurd (omega (arith, c.args.starts.now.ok)))
-
-pub count_at_or_below-whole-requires : goal.count_at_or_below-whole-requires
-count_at_or_below-whole-requires c = index_rises c.args.starts.now.items c.args.index c.requires
-
-pub overflow_sub-whole : goal.overflow_sub-whole
-overflow_sub-whole c = let p = found_some c.args.starts.now.items c.args.index c.count_at_or_below-whole.result c.requires c.count_at_or_below-whole.ensures.above in omega arith
-
-pub index-start-requires-2 : goal.index-start-requires-2
-index-start-requires-2 c =
-    let p = found_some c.args.starts.now.items c.args.index c.count_at_or_below-whole.result c.requires c.count_at_or_below-whole.ensures.above in
-    let b = c.count_at_or_below-whole.ensures.bound in
-    omega (arith, c.args.starts.now.ok)
-
-pub overflow_sub-result-2 : goal.overflow_sub-result-2
-overflow_sub-result-2 c =
-    let p = found_some c.args.starts.now.items c.args.index c.count_at_or_below-whole.result c.requires c.count_at_or_below-whole.ensures.above in
-    let b = c.count_at_or_below-whole.ensures.below (c.count_at_or_below-whole.result - 1) c.index-start-2.result.now (omega arith) in
-    let e = c.index-start-2.ensures in
-    omega arith
-
-pub returns : goal.returns
-returns c i bs e lo hi =
-    let k = c.count_at_or_below-whole.result in
-    let start = c.index-start-2.result.now in
-    let p = found_some c.args.starts.now.items c.args.index c.count_at_or_below-whole.result c.requires c.count_at_or_below-whole.ensures.above in
-    let w = c.count_at_or_below-whole.ensures.bound in
-    let b = c.count_at_or_below-whole.ensures.below (k - 1) start (omega arith) in
-    let f = c.index-start-2.ensures in
-    let q : suc (k - 1) ≡ k = omega arith in
-    at_start c.args.index i (k - 1) start bs c.args.starts.now.items e lo hi (omega arith) f (omega arith)
-    (λ d l. subst (λ n. c.args.index < get_or c.args.starts.now.items n d) (sym q) (c.count_at_or_below-whole.ensures.above k d (omega arith) (omega arith)))
 
 pub index-low-requires : goal.index-low-requires
 index-low-requires c = let s = index_some c.args.starts.now.items c.args.index c.requires in omega (arith, c.args.starts.now.ok)

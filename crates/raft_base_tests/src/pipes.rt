@@ -76,11 +76,22 @@ fn files_are_ordered_by_freshness(rt: HostRuntime) {
     assert_eq!(rt; new.max(old), new);
 }
 
+/// Whether the version is printed so. Memory is refused once in a test at most.
+fn is_text_of(alloc: Global, text: &str, version: Version) -> bool {
+    let mut printed = version.to_string(alloc);
+    if printed.is_err() {
+        printed = version.to_string(alloc);
+    }
+    matches!(&printed, Ok(printed) if printed.as_str() == text)
+}
+
 #[test]
 fn queues_and_versions_have_numbers(rt: HostRuntime) {
     assert_eq!(rt; LogQueue::Append as u8, 0);
     assert_eq!(rt; LogQueue::Rewrite as u8, 1);
     assert_eq!(rt; Version::default(), Version::V1);
+    assert!(rt; is_text_of(rt.alloc(), "1", Version::V1));
+    assert!(rt; is_text_of(rt.alloc(), "2", Version::V2));
     for &(number, version) in &[
         (0, None),
         (1, Some(Version::V1)),

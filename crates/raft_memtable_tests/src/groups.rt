@@ -13,7 +13,7 @@ use raft_records::{
 use std::alloc::Global;
 
 /// The four keys, one of each batch.
-const KEYS: [&[u8; 2]; 4] = [b"k1", b"k2", b"k3", b"k4"];
+pub(crate) const KEYS: [&[u8; 2]; 4] = [b"k1", b"k2", b"k3", b"k4"];
 
 /// A file of the rewrite queue.
 fn file(seq: u64) -> FileId {
@@ -41,13 +41,8 @@ fn add_marker(
     }
 }
 
-/// The bytes of a batch with this marker of group 9, which puts a key in region 5.
-fn part(alloc: Global, status: AtomicGroupStatus, key: &[u8], seq: u64) -> Result<FilePart> {
-    part_of(alloc, 9, 5, status, key, seq)
-}
-
 /// The bytes of a batch with this marker of a group, which puts a key in a region.
-fn part_of(
+pub(crate) fn part_of(
     alloc: Global,
     group: u64,
     region: u64,
@@ -65,28 +60,11 @@ fn part_of(
     file_of(alloc, file(seq), batch)
 }
 
-/// The tables after four batches with these markers, in the files 1 to 4.
-fn read(alloc: Global, statuses: [AtomicGroupStatus; 4]) -> Result<MemTableAccessor> {
-    let mut context = MemTableRecoverContext::new(alloc)?;
-    let mut seq = 1u64;
-    for (status, key) in statuses.iter().zip(KEYS.iter()) {
-        let part = part(alloc, *status, key.as_slice(), seq)?;
-        replay_file(&mut context, &part)?;
-        seq = seq.saturating_add(1);
-    }
-    context.finish()
-}
-
-/// Which of the four keys region 5 has, and the files of its last group.
-type Effect = ([bool; 4], Option<(u64, u64)>);
-
-/// What the tables have of region 5.
-fn seen(accessor: &MemTableAccessor) -> Effect {
-    seen_of(accessor, 5)
-}
+/// Which of the four keys a region has, and the files of its last group.
+pub(crate) type Effect = ([bool; 4], Option<(u64, u64)>);
 
 /// What the tables have of a region.
-fn seen_of(accessor: &MemTableAccessor, region: u64) -> Effect {
+pub(crate) fn seen_of(accessor: &MemTableAccessor, region: u64) -> Effect {
     match accessor.get(region) {
         Some(table) => (
             KEYS.map(|key| table.get(key.as_slice()).is_some()),
@@ -94,98 +72,6 @@ fn seen_of(accessor: &MemTableAccessor, region: u64) -> Effect {
         ),
         None => ([false; 4], None),
     }
-}
-
-/// Whether markers of a group, one behind the other, are a whole stretch.
-fn is_whole(statuses: &[AtomicGroupStatus]) -> bool {
-    match statuses {
-        [Begin, middles @ .., End] => middles.iter().all(|status| *status == Middle),
-        _ => false,
-    }
-}
-
-/// What the markers ask for: each whole stretch has the keys of its batches, and is the region's last
-/// group if none comes behind it.
-fn owed(statuses: &[AtomicGroupStatus; 4]) -> Effect {
-    let mut keys = [false; 4];
-    let mut group = None;
-    for &(first, last) in &[(0, 1), (0, 2), (1, 2), (0, 3), (1, 3), (2, 3)] {
-        if is_whole(&statuses[first..=last]) {
-            keys[first..=last].fill(true);
-            group = Some((first as u64 + 1, last as u64 + 1));
-        }
-    }
-    (keys, group)
-}
-
-/// Whether these four markers have the effect that is owed.
-fn has_effect(alloc: Global, statuses: [AtomicGroupStatus; 4], owed: Effect) -> Result<bool> {
-    let accessor = read(alloc, statuses)?;
-    let (keys, _) = owed;
-    let records = keys.iter().filter(|has| **has).count();
-    Ok(
-        seen(&accessor) == owed
-            && accessor.stats().live_entries(LogQueue::Rewrite) == records
-            && accessor.is_empty() == (records == 0),
-    )
-}
-
-const STATUSES: [AtomicGroupStatus; 3] = [Begin, Middle, End];
-
-/// Whether all lists of four markers that begin with these two have their effects.
-fn all_behind_have_effects(
-    alloc: Global,
-    first: AtomicGroupStatus,
-    second: AtomicGroupStatus,
-) -> Result<bool> {
-    for &third in &STATUSES {
-        for &fourth in &STATUSES {
-            let statuses = [first, second, third, fourth];
-            if !has_effect(alloc, statuses, owed(&statuses))? {
-                return Ok(false);
-            }
-        }
-    }
-    Ok(true)
-}
-
-/// Whether all lists of four markers have their effects.
-fn all_have_effects(alloc: Global) -> Result<bool> {
-    for &first in &STATUSES {
-        for &second in &STATUSES {
-            if !all_behind_have_effects(alloc, first, second)? {
-                return Ok(false);
-            }
-        }
-    }
-    Ok(true)
-}
-
-#[test]
-fn markers_have_their_effects(rt: HostRuntime) {
-    for &(statuses, effect) in &[
-        (
-            [Begin, Begin, End, End],
-            ([false, true, true, false], Some((2, 3))),
-        ),
-        ([Middle, End, Begin, Middle], ([false; 4], None)),
-        (
-            [Begin, Middle, End, Middle],
-            ([true, true, true, false], Some((1, 3))),
-        ),
-        ([Begin, End, Begin, End], ([true; 4], Some((3, 4)))),
-    ] {
-        let mut held = has_effect(rt.alloc(), statuses, effect);
-        if matches!(held, Err(Error::Memory)) {
-            held = has_effect(rt.alloc(), statuses, effect);
-        }
-        assert!(rt; matches!(held, Ok(true)));
-    }
-    let mut all = all_have_effects(rt.alloc());
-    if matches!(all, Err(Error::Memory)) {
-        all = all_have_effects(rt.alloc());
-    }
-    assert!(rt; matches!(all, Ok(true)));
 }
 
 /// A context of two batches with this status, in two files: the first one's group, region, key and file, and those of
@@ -281,10 +167,11 @@ fn replayed(
     Ok(context)
 }
 
-/// Whether a batch with these markers takes effect at once.
+/// Whether a batch with these markers takes effect at once, and its puts of the group markers' key in region 9 have
+/// none.
 fn has_table(alloc: Global, markers: &[(u64, &[u8])], file: FileId) -> Result<bool> {
     let accessor = replayed(alloc, markers, file)?.finish()?;
-    Ok(accessor.get(5).is_some())
+    Ok(accessor.get(5).is_some() && accessor.get(9).is_none())
 }
 
 /// Whether a batch with this marker is refused.

@@ -6,4 +6,6 @@ mod files;
 #[cfg(test)]
 mod groups;
 #[cfg(test)]
+mod markers;
+#[cfg(test)]
 mod overlays;

@@ -209,6 +209,10 @@ pub trait NumberEncoder: Write {
         ensures written { OnOk result (Appends (Self.contents self.old) (Self.contents self.new) (varint v)) }
         ensures io { IfErr result IsIo }
     {
+        // Most numbers are this short, and one byte is quickly written.
+        if v < 0x80 && varint::takes_byte(self, v as u8)? {
+            return Ok(());
+        }
         let mut bytes = [0; varint::MAX_VAR_U64_LEN];
         let len = varint::put_var_u64(&mut bytes, v);
         self.write_all(&bytes[..len])?;

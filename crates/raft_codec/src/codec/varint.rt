@@ -1,13 +1,15 @@
 //! Numbers in base 128: seven bits a byte, lowest first, the top bit set on all bytes but the last.
 
-ghost use Rattle.std.specs.Prelude.{◌≡◌, ◌≢◌, ℕ, ◌+◌, ◌*◌, ◌%◌, ◌^◌, ◌<◌, ◌≤◌, ◌++◌, List, length, take, IfOk, IfErr, IfSome, IfNone, OnOk, OnErr};
+ghost use Rattle.std.specs.Prelude.{◌≡◌, ◌≢◌, ℕ, ◌+◌, ◌*◌, ◌%◌, ◌^◌, ◌<◌, ◌≤◌, ◌++◌, List, length, take, IfOk, IfErr, IfSome, IfNone, OnOk, OnErr, MatchBool, [], ◌∷◌};
+ghost use Rattle.std.specs.Io.KnownBytes.{Appends, Keeps};
+ghost use Rattle.raft_codec.specs.Errors.{IsIo};
 ghost use Rattle.raft_codec.specs.Reading.{Reads, HasNoFront, HasOneFront};
 ghost use Rattle.raft_codec.specs.Varint.{IsVarint, IsShortVarint, IsVarintFault, varint};
 
 use crate::codec::{BytesSlice, Error, Result};
 use std::alloc::AllocError;
 use std::io;
-use std::io::ErrorKind;
+use std::io::{ErrorKind, Write};
 
 /// The most bytes that a number takes.
 pub const MAX_VAR_U64_LEN: usize = 10;
@@ -126,6 +128,20 @@ pub(crate) fn put_var_u64(bytes: &mut [u8; 10], number: u64) -> usize
     }
     bytes[MAX_VAR_U64_LEN - 1] = rest as u8;
     MAX_VAR_U64_LEN
+}
+
+/// Writes a byte, and answers whether the writer took it at once. It may be asked again where it did not.
+pub(crate) fn takes_byte<W: Write>(writer: &mut W, byte: u8) -> Result<bool>
+    ensures taken { IfOk result (λ taken. MatchBool taken
+        (Appends (W.contents writer.old) (W.contents writer.new) (byte ∷ []))
+        (Keeps (W.contents writer.old) (W.contents writer.new))) }
+    ensures io { IfErr result IsIo }
+{
+    match writer.write(&[byte]) {
+        Ok(count) => Ok(count == 1),
+        Err(e) if e.kind() == ErrorKind::Interrupted => Ok(false),
+        Err(e) => Err(Error::Io(e)),
+    }
 }
 
 /// Appends the shortest spelling of `number`. On `Err` the vector is as it was.

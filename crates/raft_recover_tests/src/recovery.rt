@@ -4,17 +4,18 @@ mod bound;
 mod histories;
 mod kept;
 mod rows;
+mod schedules;
 mod shared;
 mod truncations;
 
 use histories::{APPENDED, APPENDED_LINES, HOLE, REWRITTEN, REWRITTEN_LINES};
 use raft_base::{Error, FileId, FileSeq, LogQueue, Result, Version};
-use raft_memtable::{MemTableAccessor, MemTableRecoverContext, MemTableRecoverContextFactory};
+use raft_memtable::{MemTableAccessor, MemTableRecoverContext};
 use raft_records::{FilePart, LogItemBatch};
 use raft_recover::recovered::recovered_text;
 use raft_recover::recovery::recover_segments;
 use raft_recover::shares::equal_shares;
-use raft_recover::{Plan, Segment, recover, recover_bytes, replay_scheduled};
+use raft_recover::{Segment, recover, recover_bytes};
 use rows::{Row, rows};
 use std::alloc::Global;
 use std::thread::Threads;
@@ -258,52 +259,6 @@ fn no_cut_hides_a_hole(rt: HostRuntime) {
     let mut all = refused_at_each_cutting(&rt, rt.alloc());
     if matches!(all, Err(Error::Memory)) {
         all = refused_at_each_cutting(&rt, rt.alloc());
-    }
-    assert!(rt; matches!(all, Ok(true)));
-}
-
-/// The plan of two plans.
-fn join(alloc: Global, left: Plan, right: Plan) -> Result<Plan> {
-    Ok(Plan::Join(Box::new(alloc, left)?, Box::new(alloc, right)?))
-}
-
-/// Whether five segments, drawn by two workers and merged as a plan says, have the lines of one reading.
-fn by_schedule(alloc: Global, plan: &Plan) -> Result<bool> {
-    let segments = cut(alloc, LogQueue::Append, &APPENDED, 0b0101101)?;
-    let context = replay_scheduled(
-        alloc,
-        &MemTableRecoverContextFactory::new(),
-        segments.as_slice(),
-        LogQueue::Append,
-        2,
-        &[0, 1, 1, 0, 1],
-        plan,
-    )?;
-    let tables = context.finish()?;
-    Ok(recovered_text(alloc, &tables)?.as_str() == APPENDED_LINES)
-}
-
-fn pairs(alloc: Global) -> Result<Plan> {
-    let left = join(alloc, Plan::One, Plan::One)?;
-    let right = join(alloc, Plan::One, Plan::One)?;
-    join(alloc, left, right)
-}
-
-fn chain(alloc: Global) -> Result<Plan> {
-    let two = join(alloc, Plan::One, Plan::One)?;
-    let three = join(alloc, Plan::One, two)?;
-    join(alloc, Plan::One, three)
-}
-
-fn by_pairs_and_in_a_chain(alloc: Global) -> Result<bool> {
-    Ok(by_schedule(alloc, &pairs(alloc)?)? && by_schedule(alloc, &chain(alloc)?)?)
-}
-
-#[test]
-fn plans_give_one_reading(rt: HostRuntime) {
-    let mut all = by_pairs_and_in_a_chain(rt.alloc());
-    if matches!(all, Err(Error::Memory)) {
-        all = by_pairs_and_in_a_chain(rt.alloc());
     }
     assert!(rt; matches!(all, Ok(true)));
 }

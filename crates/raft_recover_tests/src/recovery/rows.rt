@@ -11,8 +11,65 @@ pub(crate) struct Row {
     pub(crate) lines: Option<&'static str>,
 }
 
-/// A group beside another region's batch, and a begin that waits.
-pub(crate) const BESIDE: [(u64, &str); 3] = [
+/// Two runs of region 1, a file without batches, a compaction that drops the first run's front, and a key of region 2.
+pub(crate) const FIVE: [(u64, &str); 5] = [
+    (
+        1,
+        "000000000000230000000000000000177878780aea9b1c01010103010102035c434291",
+    ),
+    (
+        2,
+        "0000000000002100000000000000001678780f18e1f801010102040102e51e3297",
+    ),
+    (3, ""),
+    (3, "0000000000001900000000000000001001010202039e5e45eb"),
+    (
+        4,
+        "0000000000001c00000000000000001001020301016b01762c33a0d9",
+    ),
+];
+
+pub(crate) const FIVE_LINES: &str = "\
+1 entries 3..6 keys 0 append 1 rewrite -
+2 entries - keys 1 append 4 rewrite -
+cleaned -
+live 4 0
+";
+
+/// A group of three batches: a run of region 5, a key of region 6, and its end.
+pub(crate) const GROUP: [(u64, &str); 3] = [
+    (
+        1,
+        "0000000000002c0000000000000000177878780aea9b1c02090301035f5f010100050103010102033fa38560",
+    ),
+    (
+        2,
+        "0000000000002500000000000000001002090301035f5f010101060301016b0176d1d3cde4",
+    ),
+    (
+        3,
+        "0000000000001e00000000000000001001090301035f5f0101025eb67dd1",
+    ),
+];
+
+/// A group that begins with a run of region 5 and begins again with a shorter one.
+pub(crate) const BEGUN_AGAIN: [(u64, &str); 3] = [
+    (
+        1,
+        "0000000000002c0000000000000000177878780aea9b1c02090301035f5f010100050103010102033fa38560",
+    ),
+    (
+        2,
+        "0000000000002a00000000000000001678780f18e1f802090301035f5f010100050102010102dffdfb82",
+    ),
+    (
+        3,
+        "0000000000001e00000000000000001001090301035f5f0101025eb67dd1",
+    ),
+];
+
+/// A group of region 6 beside a batch of region 7, and a begin that waits.
+pub(crate) const BESIDE: [(u64, &str); 4] = [
     (
         1,
         "0000000000002500000000000000001002090301035f5f010100060301016101769956f025",
@@ -22,8 +79,12 @@ pub(crate) const BESIDE: [(u64, &str); 3] = [
         "0000000000001c0000000000000000100107030101780176a201f895",
     ),
     (
+        2,
+        "0000000000002500000000000000001002090301035f5f01010206030101620176bdef9365",
+    ),
+    (
         3,
-        "0000000000002500000000000000001002090301035f5f01010206030101620176bdef93650000000000002500000000000000001002090301035f5f01010006030101630176f7827426",
+        "0000000000002500000000000000001002090301035f5f01010006030101630176f7827426",
     ),
 ];
 
@@ -93,30 +154,8 @@ live 0 0
     Row {
         queue: LogQueue::Append,
         version: Version::V1,
-        files: &[
-            (
-                1,
-                "000000000000230000000000000000177878780aea9b1c01010103010102035c434291",
-            ),
-            (
-                2,
-                "0000000000002100000000000000001678780f18e1f801010102040102e51e3297",
-            ),
-            (3, ""),
-            (3, "0000000000001900000000000000001001010202039e5e45eb"),
-            (
-                4,
-                "0000000000001c00000000000000001001020301016b01762c33a0d9",
-            ),
-        ],
-        lines: Some(
-            "\
-1 entries 3..6 keys 0 append 1 rewrite -
-2 entries - keys 1 append 4 rewrite -
-cleaned -
-live 4 0
-",
-        ),
+        files: &FIVE,
+        lines: Some(FIVE_LINES),
     },
     // A compaction behind the end of a newer run drops what stood behind it.
     Row {
@@ -282,20 +321,7 @@ live 0 0
     Row {
         queue: LogQueue::Rewrite,
         version: Version::V1,
-        files: &[
-            (
-                1,
-                "0000000000002c0000000000000000177878780aea9b1c02090301035f5f010100050103010102033fa38560",
-            ),
-            (
-                2,
-                "0000000000002500000000000000001002090301035f5f010101060301016b0176d1d3cde4",
-            ),
-            (
-                3,
-                "0000000000001e00000000000000001001090301035f5f0101025eb67dd1",
-            ),
-        ],
+        files: &GROUP,
         lines: Some(
             "\
 5 entries 1..4 keys 0 append - rewrite 1
@@ -360,20 +386,7 @@ live 0 2
     Row {
         queue: LogQueue::Rewrite,
         version: Version::V1,
-        files: &[
-            (
-                1,
-                "0000000000002c0000000000000000177878780aea9b1c02090301035f5f010100050103010102033fa38560",
-            ),
-            (
-                2,
-                "0000000000002a00000000000000001678780f18e1f802090301035f5f010100050102010102dffdfb82",
-            ),
-            (
-                3,
-                "0000000000001e00000000000000001001090301035f5f0101025eb67dd1",
-            ),
-        ],
+        files: &BEGUN_AGAIN,
         lines: Some(
             "\
 5 entries 1..3 keys 0 append - rewrite 2

@@ -1,0 +1,203 @@
+//! Contexts of segments that workers draw by a schedule, merged as plans say.
+
+use super::cut;
+use super::histories::{APPENDED, APPENDED_LINES};
+use super::rows::{BEGUN_AGAIN, BESIDE, FIVE, FIVE_LINES, GROUP};
+use raft_base::{Error, FileSeq, LogQueue, Result};
+use raft_memtable::{MemTable, MemTableAccessor, MemTableRecoverContextFactory};
+use raft_recover::recovered::recovered_text;
+use raft_recover::{Plan, replay_scheduled};
+use std::alloc::Global;
+
+/// The plan of two plans.
+fn join(alloc: Global, left: Plan, right: Plan) -> Result<Plan> {
+    Ok(Plan::Join(Box::new(alloc, left)?, Box::new(alloc, right)?))
+}
+
+/// In which order pieces are merged.
+#[derive(Clone, Copy)]
+enum Order {
+    FromLeft,
+    FromRight,
+    /// Of four pieces the first two, the last two, and then both.
+    ByHalves,
+}
+
+use Order::{ByHalves, FromLeft, FromRight};
+
+/// The plan that merges so many pieces.
+fn plan_of(alloc: Global, pieces: usize, order: Order) -> Result<Plan> {
+    match order {
+        FromLeft => from_left(alloc, pieces),
+        FromRight => from_right(alloc, pieces),
+        ByHalves => join(alloc, from_left(alloc, 2)?, from_left(alloc, 2)?),
+    }
+}
+
+fn from_left(alloc: Global, pieces: usize) -> Result<Plan> {
+    let mut plan = Plan::One;
+    for _ in 1..pieces {
+        plan = join(alloc, plan, Plan::One)?;
+    }
+    Ok(plan)
+}
+
+fn from_right(alloc: Global, pieces: usize) -> Result<Plan> {
+    let mut plan = Plan::One;
+    for _ in 1..pieces {
+        plan = join(alloc, Plan::One, plan)?;
+    }
+    Ok(plan)
+}
+
+/// Batches of a queue, cut into segments behind those whose bits are set.
+#[derive(Clone, Copy)]
+struct History {
+    queue: LogQueue,
+    batches: &'static [(FileSeq, &'static str)],
+    cuts: u64,
+}
+
+/// The tables of a history whose segments two workers draw so, merged as a plan says.
+fn scheduled(
+    alloc: Global,
+    history: History,
+    draws: &[usize],
+    plan: &Plan,
+) -> Result<MemTableAccessor> {
+    let segments = cut(alloc, history.queue, history.batches, history.cuts)?;
+    let factory = MemTableRecoverContextFactory::new();
+    let queue = history.queue;
+    replay_scheduled(alloc, &factory, segments.as_slice(), queue, 2, draws, plan)?.finish()
+}
+
+/// Histories of five segments each, and their lines.
+static FIVES: [(History, &str); 2] = [
+    (
+        History {
+            queue: LogQueue::Append,
+            batches: &APPENDED,
+            cuts: 0b0101101,
+        },
+        APPENDED_LINES,
+    ),
+    (
+        History {
+            queue: LogQueue::Append,
+            batches: &FIVE,
+            cuts: 0b1111,
+        },
+        FIVE_LINES,
+    ),
+];
+
+fn fives() -> &'static [(History, &'static str)] {
+    &FIVES
+}
+
+/// Whether five segments, drawn as four pieces and merged in this order, have the lines of one reading.
+fn have_lines(alloc: Global, history: History, lines: &str, order: Order) -> Result<bool> {
+    let plan = plan_of(alloc, 4, order)?;
+    let tables = scheduled(alloc, history, &[0, 1, 1, 0, 1], &plan)?;
+    Ok(recovered_text(alloc, &tables)?.as_str() == lines)
+}
+
+/// Whether they have in each order.
+fn give_one_reading(alloc: Global, history: History, lines: &str) -> Result<bool> {
+    for &order in &[ByHalves, FromRight, FromLeft] {
+        if !have_lines(alloc, history, lines, order)? {
+            return Ok(false);
+        }
+    }
+    Ok(true)
+}
+
+#[test]
+fn plans_give_one_reading(rt: HostRuntime) {
+    for &(history, lines) in fives() {
+        let mut all = give_one_reading(rt.alloc(), history, lines);
+        if matches!(all, Err(Error::Memory)) {
+            all = give_one_reading(rt.alloc(), history, lines);
+        }
+        assert!(rt; matches!(all, Ok(true)));
+    }
+}
+
+/// How two workers draw three segments, how many pieces that makes, and the order in which they are merged.
+static SCHEDULES: [([usize; 3], usize, Order); 5] = [
+    ([0, 0, 0], 1, FromLeft),
+    ([0, 0, 1], 2, FromLeft),
+    ([0, 1, 1], 2, FromLeft),
+    ([0, 1, 0], 3, FromLeft),
+    ([0, 1, 0], 3, FromRight),
+];
+
+fn schedules() -> &'static [([usize; 3], usize, Order)] {
+    &SCHEDULES
+}
+
+/// A region, the files of its last group, and its least file of the rewrite queue.
+type Grouped = (u64, Option<(FileSeq, FileSeq)>, Option<FileSeq>);
+
+/// Batches of the rewrite queue, cut behind the first and the second, and what each table has of groups.
+type SpanRow = (&'static [(FileSeq, &'static str)], &'static [Grouped]);
+
+static SPANS: [SpanRow; 3] = [
+    (
+        &GROUP,
+        &[(5, Some((1, 3)), Some(1)), (6, Some((1, 3)), Some(1))],
+    ),
+    (&BEGUN_AGAIN, &[(5, Some((2, 3)), Some(2))]),
+    (&BESIDE, &[(6, Some((1, 2)), Some(1)), (7, None, Some(2))]),
+];
+
+fn spans() -> &'static [SpanRow] {
+    &SPANS
+}
+
+fn grouped(table: &MemTable) -> Grouped {
+    (
+        table.region_id(),
+        table.atomic_group(),
+        table.min_file_seq(LogQueue::Rewrite),
+    )
+}
+
+/// What each table has of groups, by region.
+fn groups_of(alloc: Global, tables: &MemTableAccessor) -> Result<Vec<Grouped>> {
+    let mut groups = Vec::new(alloc);
+    for table in tables.tables()? {
+        groups.push(grouped(table))?;
+    }
+    groups.sort()?;
+    Ok(groups)
+}
+
+/// Whether a row's tables have their groups, however the three segments are drawn and merged.
+fn have_groups(alloc: Global, row: &SpanRow) -> Result<bool> {
+    let (batches, groups) = *row;
+    let history = History {
+        queue: LogQueue::Rewrite,
+        batches,
+        cuts: 0b11,
+    };
+    for (draws, pieces, order) in schedules() {
+        let plan = plan_of(alloc, *pieces, *order)?;
+        let tables = scheduled(alloc, history, draws, &plan)?;
+        if groups_of(alloc, &tables)?.as_slice() != groups {
+            return Ok(false);
+        }
+    }
+    Ok(true)
+}
+
+#[test]
+fn groups_have_their_files_behind_a_merge(rt: HostRuntime) {
+    for row in spans() {
+        let mut held = have_groups(rt.alloc(), row);
+        if matches!(held, Err(Error::Memory)) {
+            held = have_groups(rt.alloc(), row);
+        }
+        assert!(rt; matches!(held, Ok(true)), "{:?}", row.1);
+    }
+}

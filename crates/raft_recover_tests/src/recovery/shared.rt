@@ -2,6 +2,7 @@
 
 use super::cut;
 use super::histories::{APPENDED, REWRITTEN};
+use super::rows::FIVE;
 use raft_base::{Error, FileSeq, LogQueue, Result};
 use raft_memtable::MemTable;
 use raft_records::LogBatch;
@@ -28,7 +29,17 @@ struct Row {
     live: (u128, u128),
 }
 
-const ROWS: [Row; 2] = [
+const ROWS: [Row; 3] = [
+    Row {
+        queue: LogQueue::Append,
+        batches: &FIVE,
+        tables: &[
+            (1, (Some(3), Some(5)), 0, (Some(1), None)),
+            (2, (None, None), 1, (Some(4), None)),
+        ],
+        cleaned: &[],
+        live: (4, 0),
+    },
     // Region 2 was cleaned, and has a table again.
     Row {
         queue: LogQueue::Append,

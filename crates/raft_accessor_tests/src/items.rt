@@ -145,6 +145,22 @@ fn rewrite_what_cannot_be(alloc: Global) -> Result<bool> {
     )
 }
 
+/// A rewriting passes by a cleaned region, with a table or without one.
+fn rewrite_a_clean(alloc: Global) -> Result<bool> {
+    let mut accessor = appended(alloc, 1)?;
+    let mut items = Vec::new(alloc);
+    for &region in &[1, 4] {
+        items.push(LogItem::new_command(region, Command::Clean))?;
+    }
+    accessor.apply_rewrite_writes(items, Some(1), 50)?;
+    Ok(
+        shape(&accessor, 1) == Some((Some(10), Some(19), 10, 0))
+            && shape(&accessor, 4) == None
+            && live(&accessor) == (10, 0)
+            && accessor.cleaned_regions().is_empty(),
+    )
+}
+
 /// Truncations of these regions, from an index on.
 fn truncations(alloc: Global, regions: &[(u64, u64)]) -> Result<Vec<LogItem>> {
     let mut items = Vec::new(alloc);
@@ -413,6 +429,7 @@ fn write_items(alloc: Global) -> Result<bool> {
     Ok(
         write_up_to_a_hole(alloc)?
             && rewrite_what_cannot_be(alloc)?
+            && rewrite_a_clean(alloc)?
             && truncate_appended(alloc)?
             && truncate_rewritten(alloc)?
             && clean(alloc)?

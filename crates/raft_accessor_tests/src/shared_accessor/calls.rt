@@ -2,7 +2,7 @@
 
 use super::run;
 use super::seen::{REGION, Shape, see_core, see_shared, shape, taken, taken_of};
-use crate::items::{Fault, answered};
+use crate::items::{Fault, answered, replayed};
 use raft_memtable::{
     Error, FileId, FileSeq, LogQueue, MemTable, MemTableAccessor, Result, TableChange,
 };
@@ -47,6 +47,8 @@ enum Items {
     /// Of three regions: with a table of the append queue, with a rewritten one, and without one.
     Truncated,
     Rewritten(u64),
+    /// A region with a table, and one without.
+    Cleaned,
     Flawed(Flaw),
 }
 
@@ -72,7 +74,7 @@ enum Call {
 }
 
 /// Calls, each with its fault where it is refused.
-static CALLS: [(Call, Option<Fault>); 32] = [
+static CALLS: [(Call, Option<Fault>); 33] = [
     (Call::Nothing, None),
     (Call::WithTableMut(REGION), None),
     (Call::WithTableMut(FRESH), None),
@@ -108,6 +110,7 @@ static CALLS: [(Call, Option<Fault>); 32] = [
         None,
     ),
     (Call::RewriteWrites(Items::Rewritten(2), None, 60), None),
+    (Call::RewriteWrites(Items::Cleaned, Some(1), 40), None),
     (
         Call::RewriteWrites(Items::Flawed(Flaw::Compaction), Some(1), 40),
         Some(Fault::Corruption),
@@ -182,6 +185,14 @@ fn rewritten_items(alloc: Global, region: u64) -> Result<Vec<LogItem>> {
     Ok(items)
 }
 
+fn cleaned_items(alloc: Global) -> Result<Vec<LogItem>> {
+    let mut items = Vec::new(alloc);
+    for &region in &[REGION, FRESH] {
+        items.push(LogItem::new_command(region, Command::Clean))?;
+    }
+    Ok(items)
+}
+
 fn flawed(alloc: Global, flaw: Flaw) -> Result<LogItem> {
     let key = Vec::from_slice(alloc, b"k".as_slice())?;
     match flaw {
@@ -206,6 +217,7 @@ fn items_of(alloc: Global, items: Items) -> Result<Vec<LogItem>> {
         Items::Hole => items_with_hole(alloc),
         Items::Truncated => truncated_items(alloc),
         Items::Rewritten(region) => rewritten_items(alloc, region),
+        Items::Cleaned => cleaned_items(alloc),
         Items::Flawed(flaw) => items_with_flaw(alloc, flaw),
     }
 }
@@ -341,6 +353,17 @@ fn is_list_kept<R: Wait>(rt: &R, alloc: Global) -> Result<bool> {
     Ok(taken(rt, alloc, &shared)?.as_slice() == [3, 73, 3, 3].as_slice())
 }
 
+/// Whether tables with one rewritten entry alone aren't empty.
+fn is_rewritten_seen<R: Wait>(rt: &R, alloc: Global) -> Result<bool> {
+    let core = replayed(alloc, REWRITTEN, &[(REGION, 10, 11)])?;
+    let shared = SharedAccessor::from_core(alloc, core)?;
+    let live = (
+        shared.live_entries(rt, LogQueue::Append),
+        shared.live_entries(rt, LogQueue::Rewrite),
+    );
+    Ok(!shared.is_empty(rt) && live == (0, 1))
+}
+
 /// Whether a call answers and leaves the same in both, and is refused for this fault or not at all.
 fn is_alike<R: Wait>(rt: &R, alloc: Global, call: Call, fault: Option<Fault>) -> Result<bool> {
     let shared = SharedAccessor::from_core(alloc, accessor(alloc)?)?;
@@ -370,7 +393,7 @@ fn are_alike<R: Wait>(rt: &R, alloc: Global) -> Result<bool> {
             return Ok(false);
         }
     }
-    is_list_kept(rt, alloc)
+    Ok(is_list_kept(rt, alloc)? && is_rewritten_seen(rt, alloc)?)
 }
 
 #[test]

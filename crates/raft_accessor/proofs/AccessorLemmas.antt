@@ -2,7 +2,7 @@
 use Rattle.std.proofs.Common.{◌≡◌, ◌≢◌, ◌⊎◌, ◌<◌, ◌++◌, ℕ, List, [], ◌∷◌, Option, Some, None, Result, Ok, Err, refl, sym, ap, subst, ◌∙◌, slice_index_or, slice_set, append_assoc, append-nil, IsTrue}
 use Rattle.std.specs.FinMap as finite
 use Rattle.std.specs.List.{AllByRecursion}
-use Rattle.std.specs.Option.{option_and_then, is_some}
+use Rattle.std.specs.Option.{option_and_then, is_some, OnSome}
 use Rattle.std.specs.Result.{OnOk, OnErr, IfOk, IfErr}
 use Rattle.raft_base.specs.declared.errors.Error.{Error}
 use Rattle.raft_base.specs.declared.errors.Error.TheVariants.{Memory}
@@ -18,7 +18,7 @@ use Rattle.raft_accessor.specs.AccessorView.{together, accessor_shown, IsAccesso
 use Rattle.raft_accessor.specs.ItemWrites.{IsItemWritten}
 use Rattle.raft_accessor.specs.Merges.{IsMergedAt, IsTableMerged}
 use Rattle.raft_accessor.specs.Updates.{IsTaken}
-use Rattle.raft_accessor.specs.Writes.{Writing, queue_of, after_content, after_items, listed_by, listed_by_items, IsFor, MixesQueues, NoneMixesQueues, IsWriteFault, AreWritten, AreItemsRefused}
+use Rattle.raft_accessor.specs.Writes.{Writing, queue_of, after_content, counts_after_content, after_items, AreCountsAfterItems, listed_by, listed_by_items, IsFor, MixesQueues, NoneMixesQueues, IsWriteFault, AreWritten, AreItemsRefused}
 use Rattle.raft_accessor.proofs.MapLemmas.{with_own, with_same, some_is}
 use Rattle.raft_accessor.proofs.SlotLemmas.{get-shown, IsChanged, shown-changed, kept-changed}
 
@@ -58,6 +58,19 @@ module _ (a b : Inside) (id i : ℕ) (d slot : Tables) (after : Counts) (kept : 
     -- what is said of the table before and after
     pub answers-in : {R : Type 0} (P : Table → Table → R → Type 0) (res : Result R Error) → IfOk res (P (table_in d id) (table_in slot id)) → IfOk res (P (table_in r.tables id) (table_in (together b.slots.items) id))
     answers-in P res p = subst (λ t. IfOk res (P t (table_in (together b.slots.items) id))) (sym (ap (table_of id) was)) (subst (λ t. IfOk res (P (table_in d id) t)) (sym (ap (table_of id) now)) p)
+
+    -- what is said of the counts
+    pub counted-in : (f : Table → Counts → Counts) → after ≡ f (table_in d id) a.stats → b.stats ≡ f (table_in r.tables id) r.counts
+    counted-in f e = h.stats ∙ e ∙ ap (λ o. f (table_of id o) a.stats) (sym was) ∙ ap (λ (x : Accessor). f (table_in r.tables id) x.counts) is
+
+    -- and where a call is not refused
+    pub counted_ok-in : {R : Type 0} (f : Table → Counts → Counts) (res : Result R Error) → OnOk res (after ≡ f (table_in d id) a.stats) → OnOk res (b.stats ≡ f (table_in r.tables id) r.counts)
+    counted_ok-in f (Ok x) e = counted-in f e
+    counted_ok-in f (Err x) e = tt
+
+    pub counted_some-in : {R : Type 0} (f : Table → Counts → Counts) (res : Option R) → OnSome res (after ≡ f (table_in d id) a.stats) → OnSome res (b.stats ≡ f (table_in r.tables id) r.counts)
+    counted_some-in f (Some x) e = counted-in f e
+    counted_some-in f None e = tt
 
     -- a change of a table
     pub changed-in : {R : Type 0} (outcome : Table → Option Table) (IsFault : Table → Counts → Error → Type 0) (res : Result R Error) → IsTaken (outcome (table_in d id)) (IsFault (table_in d id) a.stats) d id a.stats res slot after
@@ -114,6 +127,7 @@ module _ (a b : Inside) (item : Item) (i : ℕ) (d slot : Tables) (after : Count
         accepted = (subst (λ o. MixesQueues w (table_of item.raft_group_id o) item.content → ⊥) (sym here) t.accepted, λ u e. tt);
         tables = ap (option_and_then (λ o. Some (with_table r.tables item.raft_group_id o))) (ap (λ o. after_content w item.raft_group_id o item.content) here ∙ t.ok) ∙ ap Some (sym (tables-are a b item.raft_group_id i d slot after kept h r is));
         cleaned = t.cleaned ∙ ap (λ l. l ++ listed_by w item) (ap (λ (x : Accessor). x.cleaned) is) ∙ ap (λ l. r.cleaned ++ l) (sym (append-nil (listed_by w item)));
+        counts = λ u e. counted-in a b item.raft_group_id i d slot after kept h r is (λ t k. counts_after_content w t item.content k) t.counts_ok;
       }
       | Err x ↦ λ t. tt
     ] t;
@@ -152,24 +166,36 @@ none-append w (x ∷ xs) ys m n g e h = (
   λ t is. none-append w xs ys (with_table m x.raft_group_id t) n (g.1 t is) (subst (λ o. option_and_then (λ t. after_items w (with_table m x.raft_group_id t) xs) o ≡ Some n) is e) h,
 )
 
+counted-append : (w : Writing) (xs ys : List Item) (m n : Tables) (i j k : Counts) → AreCountsAfterItems w m xs i j → after_items w m xs ≡ Some n → AreCountsAfterItems w n ys j k → AreCountsAfterItems w m (xs ++ ys) i k
+counted-append w [] ys m n i j k g e h = subst (λ c. AreCountsAfterItems w m ys c k) g (subst (λ t. AreCountsAfterItems w t ys j k) (sym (some_is e)) h)
+counted-append w (x ∷ xs) ys m n i j k g e h =
+    λ t is. counted-append w xs ys (with_table m x.raft_group_id t) n (counts_after_content w (table_in m x.raft_group_id) x.content i) j k (g t is) (subst (λ o. option_and_then (λ t. after_items w (with_table m x.raft_group_id t) xs) o ≡ Some n) is e) h
+
 pub written_append : (w : Writing) (xs ys : List Item) (a b c : Accessor) → AreWritten w xs a b → AreWritten w ys b c → AreWritten w (xs ++ ys) a c
 written_append w xs ys a b c g h = record {
   asked = asked-append w xs ys g.asked h.asked;
   accepted = none-append w xs ys a.tables b.tables g.accepted g.tables h.accepted;
   tables = after_items-append w a.tables xs ys ∙ ap (option_and_then (λ n. after_items w n ys)) g.tables ∙ h.tables;
   cleaned = h.cleaned ∙ ap (λ l. l ++ listed_by_items w ys) g.cleaned ∙ append_assoc a.cleaned (listed_by_items w xs) (listed_by_items w ys) ∙ ap (λ l. a.cleaned ++ l) (sym (listed-append w xs ys));
+  counts = counted-append w xs ys a.tables b.tables a.counts b.counts c.counts g.counts g.tables h.counts;
 }
 
-written_same : (w : Writing) (xs : List Item) (a b c : Accessor) → AreWritten w xs a b → c.tables ≡ b.tables → c.cleaned ≡ b.cleaned → AreWritten w xs a c
-written_same w xs a b c h e f = record { asked = h.asked; accepted = h.accepted; tables = h.tables ∙ ap Some (sym e); cleaned = f ∙ h.cleaned }
+written_same : (w : Writing) (xs : List Item) (a b c : Accessor) → AreWritten w xs a b → c.tables ≡ b.tables → c.cleaned ≡ b.cleaned → c.counts ≡ b.counts → AreWritten w xs a c
+written_same w xs a b c h e f k = record {
+  asked = h.asked;
+  accepted = h.accepted;
+  tables = h.tables ∙ ap Some (sym e);
+  cleaned = f ∙ h.cleaned;
+  counts = subst (λ n. AreCountsAfterItems w a.tables xs a.counts n) (sym k) h.counts;
+}
 
 -- the last item is refused
-pub refused_last : (w : Writing) (front : List Item) (item : Item) (all : List Item) (a b c : Accessor) (e : Error) → all ≡ front ++ item ∷ [] → AreWritten w front a b → c.tables ≡ b.tables → c.cleaned ≡ b.cleaned
+pub refused_last : (w : Writing) (front : List Item) (item : Item) (all : List Item) (a b c : Accessor) (e : Error) → all ≡ front ++ item ∷ [] → AreWritten w front a b → c.tables ≡ b.tables → c.cleaned ≡ b.cleaned → c.counts ≡ b.counts
     → IsWriteFault w item.raft_group_id (finite.get b.tables item.raft_group_id) (live_in_all (queue_of w) b.tables) item.content e → AreItemsRefused w all a c e
-refused_last w front item all a b c e split h t l f = record {
+refused_last w front item all a b c e split h t l k f = record {
   front = front;
   item = item;
   split = split;
-  written = written_same w front a b c h t l;
+  written = written_same w front a b c h t l k;
   fault = subst (λ m. IsWriteFault w item.raft_group_id (finite.get m item.raft_group_id) (live_in_all (queue_of w) m) item.content e) (sym t) f;
 }

@@ -1,5 +1,5 @@
 -- The live numbers of all tables, when one is written or taken away.
-use Rattle.std.proofs.Common.{◌≡◌, ℕ, ◌+◌, ◌≤◌, true, false, cond, not, List, [], ◌∷◌, length, Option, Some, None, refl, sym, ap, ◌∙◌, arith}
+use Rattle.std.proofs.Common.{◌≡◌, ℕ, ◌+◌, ◌-◌, ◌≤◌, true, false, cond, not, List, [], ◌∷◌, length, Option, Some, None, refl, sym, ap, ◌∙◌, arith}
 use lib.Dec.{T}
 use Rattle.std.specs.declared.cmp.Ordering.TheVariants.{Less, Equal, Greater}
 use Rattle.std.specs.Ordering.{nat_cmp, eq_by_cmp, is_eq}
@@ -8,10 +8,11 @@ use Rattle.std.specs.FinMap as finite
 use Rattle.std.specs.FinMap.{find, put, is_sorted, nat_cmp-IsAntisymmetric}
 use Rattle.std.specs.FinMap.Entries.{where_key, by_order}
 use Rattle.raft_base.specs.declared.pipe_log.LogQueue.{LogQueue}
+use Rattle.raft_base.specs.declared.pipe_log.LogQueue.TheVariants.{Append, Rewrite}
 use Rattle.raft_table.specs.Counts.{Counts}
 use Rattle.raft_table.proofs.TableLemmas.{live_of_empty}
 use Rattle.raft_table.specs.Steps.{table_of}
-use Rattle.raft_table.specs.Table.{Table, live_of, IsCounted, IsRecounted}
+use Rattle.raft_table.specs.Table.{Table, empty_table, live_of, with_table_deleted, IsCounted, IsRecounted}
 use Rattle.raft_table.proofs.KeyValueCounts.{entries-remove}
 use Rattle.raft_table.proofs.Shown.{find-below, where_key-below, below_all-less, below_all-equal, first_of_both, second_of_both, equal}
 use Rattle.raft_history.specs.RegionSteps.{Tables, with_table}
@@ -70,3 +71,10 @@ live-none q = ap (live_of_all q) (no_length _ (sym (finite.len-entries {K = ℕ}
 
 pub table_live-le : (q : LogQueue) (m : Tables) (k : ℕ) → live_of q (table_in m k) ≤ live_in_all q m
 table_live-le q m k = omega (arith, live-table_of q k (finite.get m k), live-remove q m k)
+
+-- a table without records takes nothing off the counts
+pub none_deleted : (id : ℕ) (counts : Counts) → with_table_deleted (empty_table id) counts ≡ counts
+none_deleted id counts =
+    let append : counts.append - live_of Append (empty_table id) ≡ counts.append = omega (arith, live_of_empty Append id) in
+    let deleted : counts.deleted + live_of Rewrite (empty_table id) ≡ counts.deleted = omega (arith, live_of_empty Rewrite id) in
+    ap (λ n. record counts { append = n; deleted = counts.deleted + live_of Rewrite (empty_table id) }) append ∙ ap (λ n. record counts { deleted = n }) deleted

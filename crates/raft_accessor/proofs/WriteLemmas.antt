@@ -16,14 +16,15 @@ use Rattle.raft_records.specs.Group.{is_reserved}
 use Rattle.raft_records.specs.Item.{Item, Content, Pair, entries, pair, command_item}
 use Rattle.raft_history.specs.RegionSteps.{Tables, with_table}
 use Rattle.raft_table.specs.Counts.{Counts, live}
+use Rattle.raft_table.specs.KeyValues.{file_at}
 use Rattle.raft_table.specs.Start.{appended, replayed, IsTableRunFault}
 use Rattle.raft_table.specs.Steps.{table_of}
-use Rattle.raft_table.specs.Table.{Table, empty_table, table_with_entries, IsRecounted}
+use Rattle.raft_table.specs.Table.{Table, empty_table, table_with_entries, with_table_deleted, IsRecounted}
 use Rattle.raft_table.proofs.RunCounts.{append_full, replay_full}
 use Rattle.raft_accessor.specs.Accessor.{table_in}
 use Rattle.raft_accessor.specs.ItemWrites.{IsItemWritten, pair_change}
 use Rattle.raft_accessor.specs.Updates.{IsTaken, IsReplayFault, IsRefusal}
-use Rattle.raft_accessor.specs.Writes.{Writing, Appending, Replaying, queue_of, after_content, after_rewrite_put, with_change, lists, listed_by, cleaned_by_content, IsFor, MixesQueues, IsWriteFault}
+use Rattle.raft_accessor.specs.Writes.{Writing, Appending, Replaying, queue_of, after_content, counts_after_content, counts_after_change, after_rewrite_put, with_change, lists, listed_by, cleaned_by_content, IsFor, MixesQueues, IsWriteFault}
 use Rattle.raft_accessor.proofs.MapLemmas.{get_gone, one_same}
 
 -- new items meet no records of the other queue, and those that are read again only where there are some
@@ -37,10 +38,11 @@ never_met n (Err e) z = tt
 
 -- what is done to the table is what the content asks for, and no region is listed
 pub written_by : (w : Writing) (item : Item) (outcome : Option Table) (IsFault : Error → Type 0) (old : Tables) (counts : Counts) (list : List ℕ) (r : Result Unit Error) (new : Tables) (after : Counts) → IsTaken outcome IsFault old item.raft_group_id counts r new after
-    → IsFor w item.content → OnOk r (MixesQueues w (table_in old item.raft_group_id) item.content → ⊥) → listed_by w item ≡ [] → after_content w item.raft_group_id (finite.get old item.raft_group_id) item.content ≡ option_map Some outcome
+    → IsFor w item.content → OnOk r (MixesQueues w (table_in old item.raft_group_id) item.content → ⊥) → OnOk r (after ≡ counts_after_content w (table_in old item.raft_group_id) item.content counts) → listed_by w item ≡ [] → after_content w item.raft_group_id (finite.get old item.raft_group_id) item.content ≡ option_map Some outcome
     → ((e : Error) → IsFault e → IsWriteFault w item.raft_group_id (finite.get old item.raft_group_id) (live (queue_of w) counts) item.content e) → IsItemWritten w item old counts list r new after list
-written_by w item outcome IsFault old counts list r new after h asked alone none is fault = record {
+written_by w item outcome IsFault old counts list r new after h asked alone counted none is fault = record {
   accepted = alone;
+  counts_ok = counted;
   asked = elim r as (λ r. OnOk r (IsFor w item.content)) [ Ok a ↦ asked | Err x ↦ tt ];
   ok = elim r as (λ r. OnOk r (outcome ≡ Some (table_in new item.raft_group_id)) → OnOk r (finite.get new item.raft_group_id ≡ Some (table_in new item.raft_group_id)) → OnOk r (after_content w item.raft_group_id (finite.get old item.raft_group_id) item.content ≡ Some (finite.get new item.raft_group_id))) [
     | Ok a ↦ λ e t. is ∙ ap (option_map Some) e ∙ ap Some (sym t)
@@ -62,6 +64,7 @@ written_by w item outcome IsFault old counts list r new after h asked alone none
 pub refused_by : (w : Writing) (item : Item) (old : Tables) (counts : Counts) (list : List ℕ) (e : Error) → IsWriteFault w item.raft_group_id (finite.get old item.raft_group_id) (live (queue_of w) counts) item.content e → IsItemWritten w item old counts list (Err e) old counts list
 refused_by w item old counts list e fault = record {
   accepted = tt;
+  counts_ok = tt;
   asked = tt;
   ok = tt;
   cleaned = tt;
@@ -74,9 +77,10 @@ refused_by w item old counts list e fault = record {
 }
 
 -- nor does one that is skipped
-pub skipped_by : (w : Writing) (item : Item) (old : Tables) (counts : Counts) (list : List ℕ) → IsFor w item.content → (MixesQueues w (table_in old item.raft_group_id) item.content → ⊥) → listed_by w item ≡ [] → after_content w item.raft_group_id (finite.get old item.raft_group_id) item.content ≡ Some (finite.get old item.raft_group_id) → IsItemWritten w item old counts list (Ok tt) old counts list
-skipped_by w item old counts list asked alone none is = record {
+pub skipped_by : (w : Writing) (item : Item) (old : Tables) (counts : Counts) (list : List ℕ) → IsFor w item.content → (MixesQueues w (table_in old item.raft_group_id) item.content → ⊥) → counts_after_content w (table_in old item.raft_group_id) item.content counts ≡ counts → listed_by w item ≡ [] → after_content w item.raft_group_id (finite.get old item.raft_group_id) item.content ≡ Some (finite.get old item.raft_group_id) → IsItemWritten w item old counts list (Ok tt) old counts list
+skipped_by w item old counts list asked alone counted none is = record {
   accepted = alone;
+  counts_ok = sym counted;
   asked = asked;
   ok = is;
   cleaned = sym (append-nil list) ∙ sym (ap (λ l. list ++ l) none);
@@ -125,9 +129,12 @@ pub no_value : (gate : Option ℕ) (seq : ℕ) (t : Table) (key : List ℕ) (v :
 no_value gate seq t key None e = refl
 no_value gate seq t key (Some v) e = absurd (false≢true (sym e))
 
--- the reserved key is skipped
+-- the reserved key is skipped, and not counted
 pub reserved_step : (w : Writing) (id : ℕ) (o : Option Table) (p : Pair) → is_reserved p.key ≡ true → after_content w id o (pair p) ≡ Some o
 reserved_step w id o p e = ap (λ b. cond b (Some o) (option_map Some (with_change w (table_of id o) p))) e
+
+pub reserved_counts : (w : Writing) (t : Table) (p : Pair) (counts : Counts) → is_reserved p.key ≡ true → counts_after_content w t (pair p) counts ≡ counts
+reserved_counts w t p counts e = ap (λ b. cond b counts (counts_after_change w (file_at t.keys p.key) p counts)) e
 
 pub change_step : (w : Writing) (id : ℕ) (o : Option Table) (p : Pair) → is_reserved p.key ≡ false → after_content w id o (pair p) ≡ option_map Some (with_change w (table_of id o) p)
 change_step w id o p e = ap (λ b. cond b (Some o) (option_map Some (with_change w (table_of id o) p))) e
@@ -138,14 +145,15 @@ none_listed w item e = elim (lists w) as (λ b. cond b (cleaned_by_content item.
 
 -- ---- a Clean
 
-pub cleaned_by : (q : LogQueue) (id : ℕ) (old : Tables) (counts : Counts) (list : List ℕ) (new : Tables) (after : Counts) (listed : List ℕ) → new ≡ finite.remove old id → IsRecounted (table_in old id) (empty_table id) counts after
+pub cleaned_by : (q : LogQueue) (id : ℕ) (old : Tables) (counts : Counts) (list : List ℕ) (new : Tables) (after : Counts) (listed : List ℕ) → new ≡ finite.remove old id → after ≡ with_table_deleted (table_in old id) counts → IsRecounted (table_in old id) (empty_table id) counts after
     → listed ≡ list ++ listed_by (Replaying q) (command_item id commands.Clean) → IsItemWritten (Replaying q) (command_item id commands.Clean) old counts list (Ok tt) new after listed
-cleaned_by q id old counts list new after listed e r l =
+cleaned_by q id old counts list new after listed e k r l =
     let gone : finite.get new id ≡ None = ap (λ m. finite.get m id) e ∙ get_gone old id in
     record {
       asked = tt;
       accepted = λ m. m;
       ok = ap Some (sym gone);
+      counts_ok = k;
       cleaned = l;
       err = tt;
       counts_err = tt;
@@ -168,6 +176,7 @@ new_pair id p old counts list r new after listed h = record {
   asked = h.asked;
   accepted = elim r as (λ r. OnOk r (⊥ → ⊥)) [ Ok a ↦ λ m. m | Err x ↦ tt ];
   ok = h.ok;
+  counts_ok = h.counts_ok;
   cleaned = h.cleaned;
   err = h.err;
   counts_err = h.counts_err;

@@ -8,17 +8,18 @@ use Rattle.raft_table.specs.Counts.{Counts, live}
 use Rattle.raft_table.specs.Table.{IsRecounted}
 use Rattle.raft_history.specs.RegionSteps.{Tables, with_table}
 use Rattle.raft_accessor.specs.Accessor.{table_in}
-use Rattle.raft_accessor.specs.Writes.{Writing, queue_of, after_content, listed_by, IsFor, MixesQueues, IsWriteFault}
+use Rattle.raft_accessor.specs.Writes.{Writing, queue_of, after_content, counts_after_content, listed_by, IsFor, MixesQueues, IsWriteFault}
 
 -- the change of a key of a region
 abbrev pub pair_change : ℕ → Pair → Item
 pair_change id p = record { raft_group_id = id; content = pair p }
 
--- an item is written to its region's table
+-- an item is written to its region's table, and counted
 pub record IsItemWritten (w : Writing) (item : Item) (old : Tables) (counts : Counts) (list : List ℕ) (r : Result Unit Error) (new : Tables) (after : Counts) (listed : List ℕ) : Type 0 where
   pub asked : OnOk r (IsFor w item.content)
   pub accepted : OnOk r (MixesQueues w (table_in old item.raft_group_id) item.content → ⊥)
   pub ok : OnOk r (after_content w item.raft_group_id (finite.get old item.raft_group_id) item.content ≡ Some (finite.get new item.raft_group_id))
+  pub counts_ok : OnOk r (after ≡ counts_after_content w (table_in old item.raft_group_id) item.content counts)
   pub cleaned : OnOk r (listed ≡ list ++ listed_by w item)
   pub err : OnErr r (new ≡ old)
   pub counts_err : OnErr r (after ≡ counts)

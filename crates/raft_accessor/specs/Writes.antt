@@ -16,10 +16,14 @@ use Rattle.raft_records.specs.declared.key_value.OpType.TheVariants as operation
 use Rattle.raft_records.specs.Group.{is_reserved}
 use Rattle.raft_records.specs.Item.{Item, Content, Pair, entries, command, pair}
 use Rattle.raft_history.specs.RegionSteps.{Tables, with_table}
-use Rattle.raft_table.specs.TableEntries.{IsRunIn}
+use Rattle.raft_table.specs.Counts.{Counts, with_added}
+use Rattle.raft_table.specs.TableEntries.{IsRunIn, below, from}
+use Rattle.raft_table.specs.KeyValues.{file_at}
 use Rattle.raft_table.specs.Queues.{other}
+use Rattle.raft_table.specs.Rewriting.{counts_after_rewrite}
+use Rattle.raft_table.specs.Start.{counts_with_run, counts_without}
 use Rattle.raft_table.specs.Steps.{table_of}
-use Rattle.raft_table.specs.Table.{Table, after_append, after_replay, after_rewrite, after_rewrite_key, compacted, truncated, with_pair, without_key, live_of}
+use Rattle.raft_table.specs.Table.{Table, after_append, after_replay, after_rewrite, after_rewrite_key, compacted, truncated, with_pair, without_key, with_table_deleted, with_pair_deleted, with_rewritten_key, leaves_append, live_of}
 use Rattle.raft_accessor.specs.Accessor.{Accessor, live_in_all}
 
 -- how items are written: as new ones of the append queue, as read again from a queue, or by a rewriting with this gate to this file
@@ -171,12 +175,60 @@ IsWriteFault w id o live content errors.Full = 2 ^ 64 ≤ live + records_named c
 IsWriteFault w id o live content errors.Memory = Unit {0}
 IsWriteFault w id o live content _ = ⊥
 
--- items are written: each is as asked, none meets records of the other queue, the tables are those after them in order, and the regions that they clean are listed
+-- the counts after entries are written to a table with these entries
+abbrev pub counts_after_entries : Writing → List EntryIndex → List EntryIndex → Counts → Counts
+counts_after_entries Appending es run counts = counts_with_run Append es run counts
+counts_after_entries (Replaying queue) es run counts = counts_with_run queue es run counts
+counts_after_entries (Rewriting gate file) es run counts = counts_after_rewrite gate run es counts
+
+-- the counts after a key is put, told by the file of the pair that it replaces; without a file nothing is put
+abbrev pub counts_after_put : Option FileId → Option FileId → Counts → Counts
+counts_after_put replaced None counts = counts
+counts_after_put replaced (Some file) counts = with_added file.queue 1 (with_pair_deleted replaced counts)
+
+-- the counts after a key is put or deleted
+abbrev pub counts_after_pair : OpType → Option FileId → Option FileId → Counts → Counts
+counts_after_pair operations.Put replaced file counts = counts_after_put replaced file counts
+counts_after_pair operations.Del replaced file counts = with_pair_deleted replaced counts
+
+-- the counts after the change of a key, told by the file of the pair that it had
+abbrev pub counts_after_change : Writing → Option FileId → Pair → Counts → Counts
+counts_after_change Appending replaced p counts = counts_after_pair p.op_type replaced p.file_id counts
+counts_after_change (Replaying queue) replaced p counts = counts_after_pair p.op_type replaced p.file_id counts
+counts_after_change (Rewriting gate seq) replaced p counts = with_rewritten_key (leaves_append gate replaced) counts
+
+-- the counts after a table obeys a command
+abbrev pub counts_after_command : Table → Command → Counts → Counts
+counts_after_command t commands.Clean counts = with_table_deleted t counts
+counts_after_command t (commands.Compact index) counts = counts_without (below index t.entries) counts
+counts_after_command t (commands.Truncate index) counts = counts_without (from index t.entries) counts
+
+-- the counts after a command is written, which none changes by a rewriting
+abbrev pub counts_commanded : Writing → Table → Command → Counts → Counts
+counts_commanded Appending t c counts = counts_after_command t c counts
+counts_commanded (Replaying queue) t c counts = counts_after_command t c counts
+counts_commanded (Rewriting gate seq) t c counts = counts
+
+-- the counts after an item's content is written to its region's table. The reserved key is skipped
+abbrev pub counts_after_content : Writing → Table → Content → Counts → Counts
+counts_after_content w t (entries es) counts = counts_after_entries w t.entries es counts
+counts_after_content w t (command c) counts = counts_commanded w t c counts
+counts_after_content w t (pair p) counts = if is_reserved p.key then counts else counts_after_change w (file_at t.keys p.key) p counts
+
+-- what items make of the counts, one after another, each at the tables after the items in front of it
+abbrev pub AreCountsAfterItems : Writing → Tables → List Item → Counts → Counts → Type 0
+AreCountsAfterItems w m [] old new = new ≡ old
+AreCountsAfterItems w m (item ∷ items) old new =
+    (t : Option Table) → after_content w item.raft_group_id (finite.get m item.raft_group_id) item.content ≡ Some t
+    → AreCountsAfterItems w (with_table m item.raft_group_id t) items (counts_after_content w (table_of item.raft_group_id (finite.get m item.raft_group_id)) item.content old) new
+
+-- items are written: each is as asked, none meets records of the other queue, the tables are those after them in order, the regions that they clean are listed, and they are counted
 pub record AreWritten (w : Writing) (items : List Item) (old new : Accessor) : Type 0 where
   pub asked : AllByRecursion (λ (item : Item). IsFor w item.content) items
   pub accepted : NoneMixesQueues w old.tables items
   pub tables : after_items w old.tables items ≡ Some new.tables
   pub cleaned : new.cleaned ≡ old.cleaned ++ listed_by_items w items
+  pub counts : AreCountsAfterItems w old.tables items old.counts new.counts
 
 -- the last item is refused, those in front of it are written, and nothing else
 pub record AreItemsRefused (w : Writing) (items : List Item) (old new : Accessor) (e : Error) : Type 0 where

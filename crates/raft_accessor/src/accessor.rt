@@ -9,7 +9,7 @@ ghost use Rattle.raft_records.specs.LogBatch.{empty_batch};
 ghost use Rattle.raft_records.specs.declared.command.Command.TheVariants.{Clean};
 ghost use Rattle.raft_history.specs.RegionSteps.{with_table};
 ghost use Rattle.raft_table.specs.Change.{after_change, AreCountsAfter, IsAllowed, IsAnswer, IsChangeFault};
-ghost use Rattle.raft_table.specs.Table.{Table, with_atomic_group, live_of};
+ghost use Rattle.raft_table.specs.Table.{Table, with_atomic_group, with_table_added, with_table_deleted, live_of};
 ghost use Rattle.raft_accessor.specs.Accessor.{slot_of, table_in, live_in_all, AreCountsOf};
 ghost use Rattle.raft_accessor.specs.AccessorCalls.{IsTableChanged, IsTableMade};
 ghost use Rattle.raft_accessor.specs.Merges.{with_newer, with_appended, IsMergedAt, AreTablesMerged, AreTablesLeft, AreOthersLeft, IsNewerFault, IsAppendedFault, IsMergeRefusal};
@@ -155,7 +155,8 @@ impl MemTableAccessor {
     ///
     /// `Memory`. The accessor is then as it was.
     fn make(&mut self, id: u64) -> Result<()>
-        ensures { IsTableChanged (Some (table_in self.old.tables id)) (λ e. ⊥) id result self.old self.new }
+        ensures changed { IsTableChanged (Some (table_in self.old.tables id)) (λ e. ⊥) id result self.old self.new }
+        ensures counts { self.new.counts ≡ self.old.counts }
     {
         self.slots[slot_of(id)].make(id, &mut self.stats)
     }
@@ -190,8 +191,9 @@ impl MemTableAccessor {
         end: FileSeq,
     ) -> Result<()>
         requires { start ≤ end }
-        ensures { IsTableChanged (Some (with_atomic_group (table_in self.old.tables id) start end))
+        ensures changed { IsTableChanged (Some (with_atomic_group (table_in self.old.tables id) start end))
             (λ e. ⊥) id result self.old self.new }
+        ensures counts { self.new.counts ≡ self.old.counts }
     {
         self.slots[slot_of(id)].apply_rewrite_atomic_group(id, start, end, &mut self.stats)
     }
@@ -207,6 +209,8 @@ impl MemTableAccessor {
         requires { table.region_id ≡ id }
         ensures ok { OnOk result (self.new.tables ≡ finite.insert self.old.tables id table) }
         ensures replaced { IfOk result (λ t. t ≡ finite.get self.old.tables id) }
+        ensures counts { OnOk result (self.new.counts
+            ≡ with_table_deleted (table_in self.old.tables id) (with_table_added table self.old.counts)) }
         ensures err { OnErr result (self.new.tables ≡ self.old.tables) }
         ensures counts_err { OnErr result (self.new.counts ≡ self.old.counts) }
         ensures fault { IfErr result (λ e. (e ≡ Error.Memory)
@@ -225,6 +229,8 @@ impl MemTableAccessor {
     pub fn remove(&mut self, id: u64, record_tombstone: bool) -> Result<Option<MemTable>>
         ensures tables { OnOk result (self.new.tables ≡ finite.remove self.old.tables id) }
         ensures taken { IfOk result (λ t. t ≡ finite.get self.old.tables id) }
+        ensures counts { OnOk result
+            (self.new.counts ≡ with_table_deleted (table_in self.old.tables id) self.old.counts) }
         ensures cleaned { OnOk result (self.new.cleaned
             ≡ (if record_tombstone then self.old.cleaned ++ id ∷ [] else self.old.cleaned)) }
         ensures err { OnErr result (self.new ≡ self.old) }
@@ -376,6 +382,7 @@ impl MemTableAccessor {
         ensures tables { self.new.tables ≡ finite.remove self.old.tables id }
         ensures taken { result ≡ finite.get self.old.tables id }
         ensures own { IfSome result (λ t. t.region_id ≡ id) }
+        ensures counts { self.new.counts ≡ with_table_deleted (table_in self.old.tables id) self.old.counts }
         ensures cleaned { self.new.cleaned ≡ self.old.cleaned }
     {
         self.slots[slot_of(id)].remove(id, &mut self.stats)

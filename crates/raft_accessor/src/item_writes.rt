@@ -5,13 +5,13 @@ ghost use Rattle.std.specs.FinMap as finite;
 ghost use Rattle.raft_base.specs.declared.pipe_log.LogQueue.TheVariants.{Append, Rewrite};
 ghost use Rattle.raft_records.specs.Item.{Item, item_of, entries_item, command_item, pair, pair_of};
 ghost use Rattle.raft_records.specs.declared.command.Command.TheVariants.{Clean};
-ghost use Rattle.raft_table.specs.Counts.{Counts};
-ghost use Rattle.raft_table.specs.TableEntries.{IsRunIn};
+ghost use Rattle.raft_table.specs.Counts.{Counts, with_added};
+ghost use Rattle.raft_table.specs.TableEntries.{IsRunIn, below, from};
 ghost use Rattle.raft_table.specs.KeyValues.{file_at};
 ghost use Rattle.raft_table.specs.Queues.{other};
-ghost use Rattle.raft_table.specs.Rewriting.{rewritten, IsRewriteFault};
-ghost use Rattle.raft_table.specs.Start.{appended, replayed, IsTableRunFault};
-ghost use Rattle.raft_table.specs.Table.{Table, after_append, after_replay, after_rewrite, after_rewrite_key, compacted, truncated, with_pair, without_key, live_of, IsTablePutFault, IsKeyRewriteFault, IsCounted, IsRecounted};
+ghost use Rattle.raft_table.specs.Rewriting.{rewritten, counts_after_rewrite, IsRewriteFault};
+ghost use Rattle.raft_table.specs.Start.{appended, replayed, counts_with_run, counts_without, IsTableRunFault};
+ghost use Rattle.raft_table.specs.Table.{Table, after_append, after_replay, after_rewrite, after_rewrite_key, compacted, truncated, with_pair, without_key, with_pair_deleted, with_rewritten_key, leaves_append, live_of, IsTablePutFault, IsKeyRewriteFault, IsCounted, IsRecounted};
 ghost use Rattle.raft_accessor.specs.Accessor.{table_in};
 ghost use Rattle.raft_accessor.specs.ItemWrites.{IsItemWritten, pair_change};
 ghost use Rattle.raft_accessor.specs.Updates.{IsTaken, IsReplayFault, IsRefusal};
@@ -312,10 +312,12 @@ impl RegionTables {
     fn append_run(&mut self, id: u64, run: Vec<EntryIndex>, stats: &mut GlobalStats) -> Result<()>
         requires run { IsRunIn Append run.items }
         requires counted { IsCounted (table_in self.old id) stats.old }
-        ensures { IsTaken (after_append (table_in self.old id) run.items)
+        ensures taken { IsTaken (after_append (table_in self.old id) run.items)
             (IsTableRunFault Append stats.old (table_in self.old id).entries
             (appended (table_in self.old id).entries run.items))
             self.old id stats.old result self.new stats.new }
+        ensures counts { OnOk result
+            (stats.new ≡ counts_with_run Append (table_in self.old id).entries run.items stats.old) }
     {
         self.update(
             id,
@@ -338,6 +340,8 @@ impl RegionTables {
             (IsReplayFault queue run.items (table_in self.old id) stats.old)
             self.old id stats.old result self.new stats.new }
         ensures accepted { OnOk result (live_of (other queue) (table_in self.old id) ≡ 0) }
+        ensures counts { OnOk result
+            (stats.new ≡ counts_with_run queue (table_in self.old id).entries run.items stats.old) }
     {
         let alloc = self.allocator();
         self.update(
@@ -352,8 +356,10 @@ impl RegionTables {
     /// Drops the entries below an index.
     pub(crate) fn compact(&mut self, id: u64, index: u64, stats: &mut GlobalStats) -> Result<()>
         requires { IsCounted (table_in self.old id) stats.old }
-        ensures { IsTaken (Some (compacted index (table_in self.old id))) (λ e. ⊥)
+        ensures taken { IsTaken (Some (compacted index (table_in self.old id))) (λ e. ⊥)
             self.old id stats.old result self.new stats.new }
+        ensures counts { OnOk result
+            (stats.new ≡ counts_without (below index (table_in self.old id).entries) stats.old) }
     {
         self.update(
             id,
@@ -368,8 +374,10 @@ impl RegionTables {
     /// Drops the entries at or above an index.
     pub(crate) fn truncate(&mut self, id: u64, index: u64, stats: &mut GlobalStats) -> Result<()>
         requires { IsCounted (table_in self.old id) stats.old }
-        ensures { IsTaken (Some (truncated index (table_in self.old id))) (λ e. ⊥)
+        ensures taken { IsTaken (Some (truncated index (table_in self.old id))) (λ e. ⊥)
             self.old id stats.old result self.new stats.new }
+        ensures counts { OnOk result
+            (stats.new ≡ counts_without (from index (table_in self.old id).entries) stats.old) }
     {
         self.update(
             id,
@@ -391,9 +399,11 @@ impl RegionTables {
         stats: &mut GlobalStats,
     ) -> Result<()>
         requires { IsCounted (table_in self.old id) stats.old }
-        ensures { IsTaken (Some (with_pair (table_in self.old id) key.items value.items file))
+        ensures taken { IsTaken (Some (with_pair (table_in self.old id) key.items value.items file))
             (IsTablePutFault file.queue stats.old (file_at (table_in self.old id).keys key.items))
             self.old id stats.old result self.new stats.new }
+        ensures counts { OnOk result (stats.new ≡ with_added file.queue 1
+            (with_pair_deleted (file_at (table_in self.old id).keys key.items) stats.old)) }
     {
         self.update(
             id,
@@ -405,8 +415,10 @@ impl RegionTables {
     /// Deletes a key.
     pub(crate) fn delete(&mut self, id: u64, key: &[u8], stats: &mut GlobalStats) -> Result<()>
         requires { IsCounted (table_in self.old id) stats.old }
-        ensures { IsTaken (Some (without_key (table_in self.old id) key.now)) (λ e. ⊥)
+        ensures taken { IsTaken (Some (without_key (table_in self.old id) key.now)) (λ e. ⊥)
             self.old id stats.old result self.new stats.new }
+        ensures counts { OnOk result
+            (stats.new ≡ with_pair_deleted (file_at (table_in self.old id).keys key.now) stats.old) }
     {
         self.update(
             id,
@@ -428,9 +440,11 @@ impl RegionTables {
     ) -> Result<()>
         requires run { IsRunIn Rewrite run.items }
         requires counted { IsCounted (table_in self.old id) stats.old }
-        ensures { IsTaken (after_rewrite gate (table_in self.old id) run.items)
+        ensures taken { IsTaken (after_rewrite gate (table_in self.old id) run.items)
             (IsRewriteFault (length run.items) stats.old (rewritten gate run.items (table_in self.old id).entries))
             self.old id stats.old result self.new stats.new }
+        ensures counts { OnOk result
+            (stats.new ≡ counts_after_rewrite gate run.items (table_in self.old id).entries stats.old) }
     {
         self.update(
             id,
@@ -449,9 +463,11 @@ impl RegionTables {
         stats: &mut GlobalStats,
     ) -> Result<()>
         requires { IsCounted (table_in self.old id) stats.old }
-        ensures { IsTaken (after_rewrite_key gate seq (table_in self.old id) key.items)
+        ensures taken { IsTaken (after_rewrite_key gate seq (table_in self.old id) key.items)
             (IsKeyRewriteFault stats.old (after_rewrite_key gate seq (table_in self.old id) key.items))
             self.old id stats.old result self.new stats.new }
+        ensures counts { OnOk result (stats.new
+            ≡ with_rewritten_key (leaves_append gate (file_at (table_in self.old id).keys key.items)) stats.old) }
     {
         self.update(
             id,
@@ -480,6 +496,7 @@ pub(crate) fn replay_into(
     requires counted { IsCounted table.old stats.old }
     ensures ok { OnOk result (after_replay queue table.old run.items ≡ Some table.new) }
     ensures accepted { OnOk result (live_of (other queue) table.old ≡ 0) }
+    ensures counts { OnOk result (stats.new ≡ counts_with_run queue table.old.entries run.items stats.old) }
     ensures err { OnErr result ((table.new ≡ table.old) × (stats.new ≡ stats.old)) }
     ensures fault { IfErr result (IsReplayFault queue run.items table.old stats.old) }
     ensures region { table.new.region_id ≡ table.old.region_id }

@@ -9,8 +9,9 @@ ghost use Rattle.raft_history.specs.RegionSteps.{Tables, with_table};
 ghost use Rattle.raft_table.specs.Change.{after_change, AreCountsAfter, IsAllowed, IsAnswer, IsChangeFault};
 ghost use Rattle.raft_table.specs.Counts.{live};
 ghost use Rattle.raft_table.specs.Queues.{other};
+ghost use Rattle.raft_table.specs.Start.{counts_with_run};
 ghost use Rattle.raft_table.specs.Steps.{table_of};
-ghost use Rattle.raft_table.specs.Table.{Table, after_replay, empty_table, live_of, with_atomic_group, IsCounted, IsRecounted};
+ghost use Rattle.raft_table.specs.Table.{Table, after_replay, empty_table, live_of, with_atomic_group, with_table_added, with_table_deleted, IsCounted, IsRecounted};
 ghost use Rattle.raft_table.specs.TableEntries.{IsRunIn, end_of};
 ghost use Rattle.raft_accessor.specs.Accessor.{table_in};
 ghost use Rattle.raft_accessor.specs.Merges.{with_newer, with_appended, IsNewerFault, IsAppendedFault, MayAlter, IsAltered, IsTableMerged};
@@ -144,7 +145,8 @@ impl RegionTables {
     /// `Memory`. The tables are then as they were.
     pub fn make(&mut self, id: u64, stats: &mut GlobalStats) -> Result<()>
         requires { IsCounted (table_in self.old id) stats.old }
-        ensures { IsTaken (Some (table_in self.old id)) (λ e. ⊥) self.old id stats.old result self.new stats.new }
+        ensures taken { IsTaken (Some (table_in self.old id)) (λ e. ⊥) self.old id stats.old result self.new stats.new }
+        ensures counts { stats.new ≡ stats.old }
     {
         self.update(id, stats, |_: &mut MemTable, _: &mut GlobalStats| Ok(()))
     }
@@ -184,6 +186,8 @@ impl RegionTables {
         ensures taken { IsTaken (after_replay queue (table_in self.old id) run.now) (λ e. ⊥)
             self.old id stats.old (ok_or result Error.Memory) self.new stats.new }
         ensures accepted { OnSome result (live_of (other queue) (table_in self.old id) ≡ 0) }
+        ensures counts { OnSome result
+            (stats.new ≡ counts_with_run queue (table_in self.old id).entries run.now stats.old) }
         ensures end { IfSome result (λ end. end ≡ end_of (table_in self.old id).entries) }
     {
         let Some(table) = self.tables.get_mut(&id) else {
@@ -210,8 +214,9 @@ impl RegionTables {
     ) -> Result<()>
         requires files { start ≤ end }
         requires counted { IsCounted (table_in self.old id) stats.old }
-        ensures { IsTaken (Some (with_atomic_group (table_in self.old id) start end)) (λ e. ⊥)
+        ensures taken { IsTaken (Some (with_atomic_group (table_in self.old id) start end)) (λ e. ⊥)
             self.old id stats.old result self.new stats.new }
+        ensures counts { stats.new ≡ stats.old }
     {
         self.update(
             id,
@@ -241,6 +246,8 @@ impl RegionTables {
         ensures ok { OnOk result (self.new ≡ finite.insert self.old id table) }
         ensures replaced { IfOk result (λ t. t ≡ finite.get self.old id) }
         ensures own { IfOk result (λ t. IfSome t (λ t. t.region_id ≡ id)) }
+        ensures counts { OnOk result
+            (stats.new ≡ with_table_deleted (table_in self.old id) (with_table_added table stats.old)) }
         ensures err { OnErr result (self.new ≡ self.old) }
         ensures counts_err { OnErr result (stats.new ≡ stats.old) }
         ensures fault { IfErr result (λ e. (e ≡ Error.Memory)
@@ -265,6 +272,7 @@ impl RegionTables {
         ensures taken { result ≡ finite.get self.old id }
         ensures own { IfSome result (λ t. t.region_id ≡ id) }
         ensures after { self.new ≡ finite.remove self.old id }
+        ensures counts { stats.new ≡ with_table_deleted (table_in self.old id) stats.old }
         ensures recounted { IsRecounted (table_in self.old id) (empty_table id) stats.old stats.new }
     {
         let removed = self.tables.remove(&id);
@@ -411,7 +419,8 @@ fn merge_append(table: &mut MemTable, mut newer: MemTable, stats: &mut GlobalSta
 /// Takes the records of a table that may have stood there off the counts.
 fn delete_replaced(id: u64, table: &Option<MemTable>, stats: &mut GlobalStats)
     requires { (q : LogQueue) → live_of q (table_of id table.now) ≤ live q stats.old }
-    ensures { (q : LogQueue) → live q stats.new + live_of q (table_of id table.now) ≡ live q stats.old }
+    ensures counts { stats.new ≡ with_table_deleted (table_of id table.now) stats.old }
+    ensures live { (q : LogQueue) → live q stats.new + live_of q (table_of id table.now) ≡ live q stats.old }
 {
     if let Some(table) = table {
         stats.delete_table(table);

@@ -94,6 +94,7 @@ slot-written w a b item r kept t = record {
       accepted = (t.accepted, λ u e. tt);
       tables = ap (option_and_then (λ o. Some (with_table a.tables item.raft_group_id o))) t.ok ∙ ap Some (sym t.one);
       cleaned = t.cleaned ∙ ap (λ l. a.cleaned.items ++ l) (sym (append-nil (listed_by w item)));
+      counts = λ u e. t.counts_ok;
     }
     | Err x ↦ λ t. tt
   ] t;

@@ -8,7 +8,7 @@ ghost use Rattle.raft_records.specs.Item.{item_of, command_item};
 ghost use Rattle.raft_records.specs.LogBatch.{populating};
 ghost use Rattle.raft_records.specs.declared.command.Command.TheVariants.{Clean};
 ghost use Rattle.raft_table.specs.Change.{after_change, AreCountsAfter, IsAllowed, IsAnswer, IsChangeFault};
-ghost use Rattle.raft_table.specs.Table.{Table, with_atomic_group, live_of};
+ghost use Rattle.raft_table.specs.Table.{Table, with_atomic_group, with_table_added, with_table_deleted, live_of};
 ghost use Rattle.raft_accessor.specs.Accessor.{slot_of, table_in, live_in_all};
 ghost use Rattle.raft_accessor.specs.AccessorCalls.{IsTableChanged, IsWritten};
 ghost use Rattle.raft_shared.specs.Slot.{IsSlotTable, HoldsOwnTables};
@@ -166,6 +166,7 @@ impl Slot {
         requires { slot_of id ≡ self.old.number }
         ensures made { IsTableChanged (Some (table_in self.old.content.tables id))
             (λ e. ⊥) id result self.old.content self.new.content }
+        ensures counts { self.new.content.counts ≡ self.old.content.counts }
         ensures number { self.new.number ≡ self.old.number }
     {
         self.tables.make(id, &mut self.stats)
@@ -188,6 +189,7 @@ impl Slot {
         ensures changed { IsTableChanged (Some (with_atomic_group (table_in self.old.content.tables id) start end))
             (λ e. ⊥)
             id result self.old.content self.new.content }
+        ensures counts { self.new.content.counts ≡ self.old.content.counts }
         ensures number { self.new.number ≡ self.old.number }
     {
         self.tables
@@ -207,6 +209,8 @@ impl Slot {
         ensures ok { OnOk result (self.new.content.tables ≡ finite.insert self.old.content.tables id table) }
         ensures replaced { IfOk result (λ t. t ≡ finite.get self.old.content.tables id) }
         ensures own { IfOk result (λ t. IfSome t (IsSlotTable self.old.number id)) }
+        ensures counts { OnOk result (self.new.content.counts
+            ≡ with_table_deleted (table_in self.old.content.tables id) (with_table_added table self.old.content.counts)) }
         ensures err { OnErr result (self.new.content.tables ≡ self.old.content.tables) }
         ensures counts_err { OnErr result (self.new.content.counts ≡ self.old.content.counts) }
         ensures fault { IfErr result (λ e. (e ≡ Error.Memory) ⊎ ((e ≡ Error.Full) × ((q : LogQueue) ×
@@ -228,6 +232,8 @@ impl Slot {
         ensures tables { OnOk result (self.new.content.tables ≡ finite.remove self.old.content.tables id) }
         ensures taken { IfOk result (λ t. t ≡ finite.get self.old.content.tables id) }
         ensures own { IfOk result (λ t. IfSome t (IsSlotTable self.old.number id)) }
+        ensures counts { OnOk result (self.new.content.counts
+            ≡ with_table_deleted (table_in self.old.content.tables id) self.old.content.counts) }
         ensures cleaned { OnOk result (self.new.content.cleaned
             ≡ (if record_tombstone then self.old.content.cleaned ++ id ∷ [] else self.old.content.cleaned)) }
         ensures err { OnErr result (self.new ≡ self.old) }
@@ -315,6 +321,8 @@ impl Slot {
         ensures tables { self.new.content.tables ≡ finite.remove self.old.content.tables id }
         ensures taken { result ≡ finite.get self.old.content.tables id }
         ensures own { IfSome result (IsSlotTable self.old.number id) }
+        ensures counts { self.new.content.counts
+            ≡ with_table_deleted (table_in self.old.content.tables id) self.old.content.counts }
         ensures cleaned { self.new.content.cleaned ≡ self.old.content.cleaned }
         ensures number { self.new.number ≡ self.old.number }
     {

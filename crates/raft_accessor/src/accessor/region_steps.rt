@@ -2,10 +2,12 @@
 
 ghost use Rattle.std.specs.Prelude.{◌≡◌, ◌⊎◌, ℕ, List, OnOk, OnSome, IfOk, IfSome, Some, ok_or};
 ghost use Rattle.raft_base.specs.declared.errors.Error.TheVariants.{Memory};
-ghost use Rattle.raft_table.specs.TableEntries.{IsRunIn, end_of};
+ghost use Rattle.raft_table.specs.Counts.{with_added};
+ghost use Rattle.raft_table.specs.TableEntries.{IsRunIn, below, end_of, from};
 ghost use Rattle.raft_table.specs.KeyValues.{file_at};
 ghost use Rattle.raft_table.specs.Queues.{other};
-ghost use Rattle.raft_table.specs.Table.{after_replay, compacted, truncated, with_pair, without_key, live_of, IsTablePutFault, IsCounted};
+ghost use Rattle.raft_table.specs.Start.{counts_with_run, counts_without};
+ghost use Rattle.raft_table.specs.Table.{after_replay, compacted, truncated, with_pair, with_pair_deleted, without_key, live_of, IsTablePutFault, IsCounted};
 ghost use Rattle.raft_accessor.specs.Accessor.{table_in, AreCountsOf};
 ghost use Rattle.raft_accessor.specs.AccessorCalls.{IsTableChanged};
 ghost use Rattle.raft_accessor.specs.Updates.{IsTaken, IsReplayFault};
@@ -30,6 +32,8 @@ impl MemTableAccessor {
             (IsReplayFault queue run.items (table_in self.old.tables id) self.old.counts)
             id result self.old self.new }
         ensures accepted { OnOk result (live_of (other queue) (table_in self.old.tables id) ≡ 0) }
+        ensures counts { OnOk result (self.new.counts
+            ≡ counts_with_run queue (table_in self.old.tables id).entries run.items self.old.counts) }
         ensures end { IfOk result (λ end. end ≡ end_of (table_in self.old.tables id).entries) }
         ensures exact_counts { AreCountsOf self.old.tables self.old.counts }
     {
@@ -44,6 +48,8 @@ impl MemTableAccessor {
         ensures changed { IsTableChanged (after_replay queue (table_in self.old.tables id) run.now) (λ e. ⊥)
             id (ok_or result Memory) self.old self.new }
         ensures accepted { OnSome result (live_of (other queue) (table_in self.old.tables id) ≡ 0) }
+        ensures counts { OnSome result (self.new.counts
+            ≡ counts_with_run queue (table_in self.old.tables id).entries run.now self.old.counts) }
         ensures end { IfSome result (λ end. end ≡ end_of (table_in self.old.tables id).entries) }
     {
         self.slots[slot_of(id)].try_replay_run(queue, id, run, &mut self.stats)
@@ -55,8 +61,10 @@ impl MemTableAccessor {
     ///
     /// `Memory`. All tables are then as they were.
     pub fn compact(&mut self, id: u64, index: u64) -> Result<()>
-        ensures { IsTableChanged (Some (compacted index (table_in self.old.tables id)))
+        ensures changed { IsTableChanged (Some (compacted index (table_in self.old.tables id)))
             (λ e. ⊥) id result self.old self.new }
+        ensures counts { OnOk result (self.new.counts
+            ≡ counts_without (below index (table_in self.old.tables id).entries) self.old.counts) }
     {
         self.slots[slot_of(id)].compact(id, index, &mut self.stats)
     }
@@ -67,8 +75,10 @@ impl MemTableAccessor {
     ///
     /// `Memory`. All tables are then as they were.
     pub fn truncate(&mut self, id: u64, index: u64) -> Result<()>
-        ensures { IsTableChanged (Some (truncated index (table_in self.old.tables id)))
+        ensures changed { IsTableChanged (Some (truncated index (table_in self.old.tables id)))
             (λ e. ⊥) id result self.old self.new }
+        ensures counts { OnOk result (self.new.counts
+            ≡ counts_without (from index (table_in self.old.tables id).entries) self.old.counts) }
     {
         self.slots[slot_of(id)].truncate(id, index, &mut self.stats)
     }
@@ -83,6 +93,8 @@ impl MemTableAccessor {
         ensures changed { IsTableChanged (Some (with_pair (table_in self.old.tables id) key.items value.items file))
             (IsTablePutFault file.queue self.old.counts (file_at (table_in self.old.tables id).keys key.items))
             id result self.old self.new }
+        ensures counts { OnOk result (self.new.counts ≡ with_added file.queue 1
+            (with_pair_deleted (file_at (table_in self.old.tables id).keys key.items) self.old.counts)) }
         ensures exact_counts { AreCountsOf self.old.tables self.old.counts }
     {
         self.slots[slot_of(id)].put(id, key, value, file, &mut self.stats)
@@ -94,8 +106,10 @@ impl MemTableAccessor {
     ///
     /// `Memory`. All tables are then as they were.
     pub fn delete(&mut self, id: u64, key: &[u8]) -> Result<()>
-        ensures { IsTableChanged (Some (without_key (table_in self.old.tables id) key.now))
+        ensures changed { IsTableChanged (Some (without_key (table_in self.old.tables id) key.now))
             (λ e. ⊥) id result self.old self.new }
+        ensures counts { OnOk result (self.new.counts
+            ≡ with_pair_deleted (file_at (table_in self.old.tables id).keys key.now) self.old.counts) }
     {
         self.slots[slot_of(id)].delete(id, key, &mut self.stats)
     }
@@ -116,6 +130,8 @@ impl RegionTables {
             (IsReplayFault queue run.items (table_in self.old id) stats.old)
             self.old id stats.old result self.new stats.new }
         ensures accepted { OnOk result (live_of (other queue) (table_in self.old id) ≡ 0) }
+        ensures counts { OnOk result
+            (stats.new ≡ counts_with_run queue (table_in self.old id).entries run.items stats.old) }
         ensures end { IfOk result (λ end. end ≡ end_of (table_in self.old id).entries) }
     {
         let alloc = self.allocator();

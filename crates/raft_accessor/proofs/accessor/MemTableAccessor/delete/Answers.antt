@@ -1,11 +1,13 @@
 use Rattle.std.proofs.Common.{Some, refl, ap, subst, slice_set}
+use Rattle.raft_table.specs.KeyValues.{file_at}
+use Rattle.raft_table.specs.Table.{with_pair_deleted}
 use Rattle.raft_table.specs.Table.{without_key}
 use Rattle.raft_table.specs.Steps.{table_of}
 use Rattle.raft_table.specs.Table.{IsCounted}
 use Rattle.raft_accessor.specs.AccessorView.{together}
 use Rattle.std.specs.Vec.{with_item}
 use Rattle.raft_accessor.specs.declared.accessor.MemTableAccessor.TheInside.{Inside}
-use Rattle.raft_accessor.proofs.AccessorLemmas.{InSlot, kept-in, changed-in}
+use Rattle.raft_accessor.proofs.AccessorLemmas.{InSlot, kept-in, changed-in, counted_ok-in}
 use Rattle.raft_accessor.proofs.SlotLemmas.{slot-counted}
 use Rattle.raft_accessor.proofs.accessor.MemTableAccessor.delete.Goals as goal
 
@@ -16,10 +18,13 @@ abbrev after : goal.After-self-1 → Inside
 after c = record c.self.inside { slots = with_item c.self.inside.slots c.slot_of.result c.delete.new.self; stats = c.delete.new.stats }
 
 slotted : (c : goal.After-self-1) → InSlot c.self.inside (after c) c.args.id c.slot_of.result c.index_mut.result.now c.delete.new.self c.delete.new.stats
-slotted c = record { at = c.slot_of.ensures.value; bound = c.slot_of.ensures.bound; lent = c.index_mut.ensures.value; slots = refl; stats = refl; one = c.delete.ensures.one; recounted = c.delete.ensures.recounted }
+slotted c = record { at = c.slot_of.ensures.value; bound = c.slot_of.ensures.bound; lent = c.index_mut.ensures.value; slots = refl; stats = refl; one = c.delete.ensures.taken.one; recounted = c.delete.ensures.taken.recounted }
 
 pub invariant_of-self : goal.invariant_of-self
 invariant_of-self c = kept-in c.self.inside (after c) c.args.id c.slot_of.result c.index_mut.result.now c.delete.new.self c.delete.new.stats c.self.invariant (slotted c)
 
-pub returns : goal.returns
-returns c = changed-in c.self.inside (after c) c.args.id c.slot_of.result c.index_mut.result.now c.delete.new.self c.delete.new.stats c.self.invariant (slotted c) c.args.self.now c.self.view_is (λ t. Some (without_key t c.args.key.now)) (λ t k. λ e. ⊥) c.delete.result c.delete.ensures refl
+pub returns-clause-changed : goal.returns-clause-changed
+returns-clause-changed c = changed-in c.self.inside (after c) c.args.id c.slot_of.result c.index_mut.result.now c.delete.new.self c.delete.new.stats c.self.invariant (slotted c) c.args.self.now c.self.view_is (λ t. Some (without_key t c.args.key.now)) (λ t k. λ e. ⊥) c.delete.result c.delete.ensures.taken refl
+
+pub returns-clause-counts : goal.returns-clause-counts
+returns-clause-counts c = counted_ok-in c.self.inside (after c) c.args.id c.slot_of.result c.index_mut.result.now c.delete.new.self c.delete.new.stats c.self.invariant (slotted c) c.args.self.now c.self.view_is (λ t k. with_pair_deleted (file_at t.keys c.args.key.now) k) c.delete.result c.delete.ensures.counts

@@ -14,6 +14,6 @@ made-requires c =
 pub returns : goal.returns
 returns c =
     let made = c.in_ok-make_table.ensures in (
-      (refl, λ _. tt, record { ok = made.ok; err = tt; counts_err = tt; cleaned = made.cleaned }),
+      (refl, λ _. tt, record { ok = made.ok; err = tt; counts = made.counts; cleaned = made.cleaned }),
       record { ends = tt; table = c.made.ensures ∙ ap (table_of c.args.id) (ap (λ m. finite.get m c.args.id) made.ok ∙ get_own c.args.self.now.tables c.args.id (table_in c.args.self.now.tables c.args.id)) },
     )

@@ -6,12 +6,12 @@ use Rattle.raft_base.specs.declared.pipe_log.LogQueue.{LogQueue}
 use Rattle.raft_history.specs.RegionSteps.{with_table}
 use Rattle.raft_table.specs.Counts.{live}
 use Rattle.raft_table.specs.Steps.{table_of}
-use Rattle.raft_table.specs.Table.{live_of, IsCounted}
+use Rattle.raft_table.specs.Table.{live_of, with_table_added, with_table_deleted, IsCounted}
 use Rattle.raft_accessor.specs.Accessor.{Accessor, live_in_all}
 use Rattle.raft_accessor.specs.AccessorView.{together}
 use Rattle.std.specs.Vec.{with_item}
 use Rattle.raft_accessor.specs.declared.accessor.MemTableAccessor.TheInside.{Inside}
-use Rattle.raft_accessor.proofs.AccessorLemmas.{InSlot, kept-in, tables-are, unchanged}
+use Rattle.raft_accessor.proofs.AccessorLemmas.{InSlot, kept-in, tables-are, unchanged, counted_ok-in}
 use Rattle.raft_accessor.proofs.MapLemmas.{get_own}
 use Rattle.raft_accessor.proofs.SlotLemmas.{slot-counted, get-shown}
 use Rattle.raft_accessor.proofs.accessor.MemTableAccessor.insert.Goals as goal
@@ -43,6 +43,9 @@ returns-clause-ok c =
 
 pub returns-clause-replaced : goal.returns-clause-replaced
 returns-clause-replaced c = rw (were c) c.insert.ensures.replaced
+
+pub returns-clause-counts : goal.returns-clause-counts
+returns-clause-counts c = counted_ok-in c.self.inside (after c) c.args.id c.slot_of.result c.index_mut.result.now c.insert.new.self c.insert.new.stats c.self.invariant (slotted c) c.args.self.now c.self.view_is (λ t k. with_table_deleted t (with_table_added c.args.table k)) c.insert.result c.insert.ensures.counts
 
 pub returns-clause-err : goal.returns-clause-err
 returns-clause-err c =

@@ -4,7 +4,7 @@ use Rattle.raft_table.specs.Table.{IsCounted}
 use Rattle.raft_accessor.specs.AccessorView.{together}
 use Rattle.std.specs.Vec.{with_item}
 use Rattle.raft_accessor.specs.declared.accessor.MemTableAccessor.TheInside.{Inside}
-use Rattle.raft_accessor.proofs.AccessorLemmas.{InSlot, kept-in, changed-in}
+use Rattle.raft_accessor.proofs.AccessorLemmas.{InSlot, kept-in, changed-in, counted-in}
 use Rattle.raft_accessor.proofs.SlotLemmas.{slot-counted}
 use Rattle.raft_accessor.proofs.accessor.MemTableAccessor.make.Goals as goal
 
@@ -15,10 +15,13 @@ abbrev after : goal.After-self-1 → Inside
 after c = record c.self.inside { slots = with_item c.self.inside.slots c.slot_of.result c.make.new.self; stats = c.make.new.stats }
 
 slotted : (c : goal.After-self-1) → InSlot c.self.inside (after c) c.args.id c.slot_of.result c.index_mut.result.now c.make.new.self c.make.new.stats
-slotted c = record { at = c.slot_of.ensures.value; bound = c.slot_of.ensures.bound; lent = c.index_mut.ensures.value; slots = refl; stats = refl; one = c.make.ensures.one; recounted = c.make.ensures.recounted }
+slotted c = record { at = c.slot_of.ensures.value; bound = c.slot_of.ensures.bound; lent = c.index_mut.ensures.value; slots = refl; stats = refl; one = c.make.ensures.taken.one; recounted = c.make.ensures.taken.recounted }
 
 pub invariant_of-self : goal.invariant_of-self
 invariant_of-self c = kept-in c.self.inside (after c) c.args.id c.slot_of.result c.index_mut.result.now c.make.new.self c.make.new.stats c.self.invariant (slotted c)
 
-pub returns : goal.returns
-returns c = changed-in c.self.inside (after c) c.args.id c.slot_of.result c.index_mut.result.now c.make.new.self c.make.new.stats c.self.invariant (slotted c) c.args.self.now c.self.view_is (λ t. Some t) (λ t k e. ⊥) c.make.result c.make.ensures refl
+pub returns-clause-changed : goal.returns-clause-changed
+returns-clause-changed c = changed-in c.self.inside (after c) c.args.id c.slot_of.result c.index_mut.result.now c.make.new.self c.make.new.stats c.self.invariant (slotted c) c.args.self.now c.self.view_is (λ t. Some t) (λ t k e. ⊥) c.make.result c.make.ensures.taken refl
+
+pub returns-clause-counts : goal.returns-clause-counts
+returns-clause-counts c = counted-in c.self.inside (after c) c.args.id c.slot_of.result c.index_mut.result.now c.make.new.self c.make.new.stats c.self.invariant (slotted c) c.args.self.now c.self.view_is (λ t k. k) c.make.ensures.counts

@@ -1,4 +1,5 @@
 use Rattle.std.proofs.Common.{◌≡◌, refl, sym, ap, subst, slice_set}
+use Rattle.raft_table.specs.Start.{counts_with_run}
 use Rattle.std.specs.Result.{OnOk}
 use Rattle.raft_table.specs.Queues.{other}
 use Rattle.raft_table.specs.TableEntries.{end_of}
@@ -9,7 +10,7 @@ use Rattle.raft_table.specs.Steps.{table_of}
 use Rattle.raft_accessor.specs.AccessorView.{together}
 use Rattle.std.specs.Vec.{with_item}
 use Rattle.raft_accessor.specs.declared.accessor.MemTableAccessor.TheInside.{Inside}
-use Rattle.raft_accessor.proofs.AccessorLemmas.{InSlot, kept-in, changed-in, answers-in}
+use Rattle.raft_accessor.proofs.AccessorLemmas.{InSlot, kept-in, changed-in, counted_ok-in, answers-in}
 use Rattle.raft_accessor.proofs.SlotLemmas.{slot-counted, get-shown}
 use Rattle.raft_accessor.proofs.accessor.MemTableAccessor.replay_run.Goals as goal
 
@@ -39,3 +40,6 @@ returns-clause-end c = answers-in c.self.inside (after c) c.args.id c.slot_of.re
 
 pub returns-clause-exact_counts : goal.returns-clause-exact_counts
 returns-clause-exact_counts c = subst (λ (x : Accessor). AreCountsOf x.tables x.counts) c.self.view_is c.self.invariant.counted
+
+pub returns-clause-counts : goal.returns-clause-counts
+returns-clause-counts c = counted_ok-in c.self.inside (after c) c.args.id c.slot_of.result c.index_mut.result.now c.replay_run_behind.new.self c.replay_run_behind.new.stats c.self.invariant (slotted c) c.args.self.now c.self.view_is (λ t k. counts_with_run c.args.queue t.entries c.args.run.items k) c.replay_run_behind.result c.replay_run_behind.ensures.counts

@@ -1,6 +1,7 @@
 use Rattle.std.proofs.Common.{None, refl, sym, ap, subst, ◌∙◌, slice_set}
 use Rattle.raft_table.specs.Steps.{table_of}
-use Rattle.raft_table.specs.Table.{IsCounted}
+use Rattle.raft_table.specs.Table.{IsCounted, with_table_deleted}
+use Rattle.raft_accessor.specs.Accessor.{Accessor, table_in}
 use Rattle.raft_accessor.specs.AccessorView.{together}
 use Rattle.std.specs.Vec.{with_item}
 use Rattle.raft_accessor.specs.declared.accessor.MemTableAccessor.TheInside.{Inside}
@@ -24,3 +25,9 @@ returns-clause-tables c = shown-changed c.self.inside (after c) c.args.self.now 
 
 pub returns-clause-taken : goal.returns-clause-taken
 returns-clause-taken c = c.remove.ensures.taken ∙ sym (get-shown c.self.inside c.args.self.now c.args.id c.slot_of.result c.index_mut.result.now c.self.invariant c.self.view_is c.slot_of.ensures.value c.slot_of.ensures.bound c.index_mut.ensures.value)
+
+pub returns-clause-counts : goal.returns-clause-counts
+returns-clause-counts c =
+    c.remove.ensures.counts
+    ∙ ap (λ o. with_table_deleted (table_of c.args.id o) c.self.inside.stats) (sym (get-shown c.self.inside c.args.self.now c.args.id c.slot_of.result c.index_mut.result.now c.self.invariant c.self.view_is c.slot_of.ensures.value c.slot_of.ensures.bound c.index_mut.ensures.value))
+    ∙ ap (λ (x : Accessor). with_table_deleted (table_in c.args.self.now.tables c.args.id) x.counts) c.self.view_is

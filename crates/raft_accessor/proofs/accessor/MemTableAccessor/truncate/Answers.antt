@@ -1,11 +1,13 @@
 use Rattle.std.proofs.Common.{Some, refl, ap, subst, slice_set}
+use Rattle.raft_table.specs.Start.{counts_without}
+use Rattle.raft_table.specs.TableEntries.{from}
 use Rattle.raft_table.specs.Table.{truncated}
 use Rattle.raft_table.specs.Steps.{table_of}
 use Rattle.raft_table.specs.Table.{IsCounted}
 use Rattle.raft_accessor.specs.AccessorView.{together}
 use Rattle.std.specs.Vec.{with_item}
 use Rattle.raft_accessor.specs.declared.accessor.MemTableAccessor.TheInside.{Inside}
-use Rattle.raft_accessor.proofs.AccessorLemmas.{InSlot, kept-in, changed-in}
+use Rattle.raft_accessor.proofs.AccessorLemmas.{InSlot, kept-in, changed-in, counted_ok-in}
 use Rattle.raft_accessor.proofs.SlotLemmas.{slot-counted}
 use Rattle.raft_accessor.proofs.accessor.MemTableAccessor.truncate.Goals as goal
 
@@ -16,10 +18,13 @@ abbrev after : goal.After-self-1 → Inside
 after c = record c.self.inside { slots = with_item c.self.inside.slots c.slot_of.result c.truncate.new.self; stats = c.truncate.new.stats }
 
 slotted : (c : goal.After-self-1) → InSlot c.self.inside (after c) c.args.id c.slot_of.result c.index_mut.result.now c.truncate.new.self c.truncate.new.stats
-slotted c = record { at = c.slot_of.ensures.value; bound = c.slot_of.ensures.bound; lent = c.index_mut.ensures.value; slots = refl; stats = refl; one = c.truncate.ensures.one; recounted = c.truncate.ensures.recounted }
+slotted c = record { at = c.slot_of.ensures.value; bound = c.slot_of.ensures.bound; lent = c.index_mut.ensures.value; slots = refl; stats = refl; one = c.truncate.ensures.taken.one; recounted = c.truncate.ensures.taken.recounted }
 
 pub invariant_of-self : goal.invariant_of-self
 invariant_of-self c = kept-in c.self.inside (after c) c.args.id c.slot_of.result c.index_mut.result.now c.truncate.new.self c.truncate.new.stats c.self.invariant (slotted c)
 
-pub returns : goal.returns
-returns c = changed-in c.self.inside (after c) c.args.id c.slot_of.result c.index_mut.result.now c.truncate.new.self c.truncate.new.stats c.self.invariant (slotted c) c.args.self.now c.self.view_is (λ t. Some (truncated c.args.index t)) (λ t k. λ e. ⊥) c.truncate.result c.truncate.ensures refl
+pub returns-clause-changed : goal.returns-clause-changed
+returns-clause-changed c = changed-in c.self.inside (after c) c.args.id c.slot_of.result c.index_mut.result.now c.truncate.new.self c.truncate.new.stats c.self.invariant (slotted c) c.args.self.now c.self.view_is (λ t. Some (truncated c.args.index t)) (λ t k. λ e. ⊥) c.truncate.result c.truncate.ensures.taken refl
+
+pub returns-clause-counts : goal.returns-clause-counts
+returns-clause-counts c = counted_ok-in c.self.inside (after c) c.args.id c.slot_of.result c.index_mut.result.now c.truncate.new.self c.truncate.new.stats c.self.invariant (slotted c) c.args.self.now c.self.view_is (λ t k. counts_without (from c.args.index t.entries) k) c.truncate.result c.truncate.ensures.counts

@@ -2,13 +2,14 @@ use Rattle.std.proofs.Common.{◌≡◌, refl, sym, ap, subst, slice_set, ok_or,
 use Rattle.std.specs.Option.{OnSome}
 use Rattle.raft_base.specs.declared.errors.Error.TheVariants.{Memory}
 use Rattle.raft_table.specs.Queues.{other}
+use Rattle.raft_table.specs.Start.{counts_with_run}
 use Rattle.raft_table.specs.TableEntries.{end_of}
 use Rattle.raft_table.specs.Table.{after_replay, live_of, IsCounted}
 use Rattle.raft_table.specs.Steps.{table_of}
 use Rattle.raft_accessor.specs.AccessorView.{together}
 use Rattle.std.specs.Vec.{with_item}
 use Rattle.raft_accessor.specs.declared.accessor.MemTableAccessor.TheInside.{Inside}
-use Rattle.raft_accessor.proofs.AccessorLemmas.{InSlot, kept-in, changed-in}
+use Rattle.raft_accessor.proofs.AccessorLemmas.{InSlot, kept-in, changed-in, counted_some-in}
 use Rattle.raft_accessor.proofs.SlotLemmas.{slot-counted, get-shown}
 use Rattle.raft_accessor.proofs.accessor.MemTableAccessor.try_replay_run.Goals as goal
 
@@ -38,3 +39,6 @@ returns-clause-end c =
     rw (← c.self.view_is) (subst (λ t. IfSome c.try_replay_run.result (λ end. end ≡ end_of t.entries))
     (sym (ap (table_of c.args.id) (get-shown c.self.inside _ c.args.id c.slot_of.result c.index_mut.result.now c.self.invariant refl c.slot_of.ensures.value c.slot_of.ensures.bound c.index_mut.ensures.value)))
     c.try_replay_run.ensures.end)
+
+pub returns-clause-counts : goal.returns-clause-counts
+returns-clause-counts c = counted_some-in c.self.inside (after c) c.args.id c.slot_of.result c.index_mut.result.now c.try_replay_run.new.self c.try_replay_run.new.stats c.self.invariant (slotted c) c.args.self.now c.self.view_is (λ t k. counts_with_run c.args.queue t.entries c.args.run.now k) c.try_replay_run.result c.try_replay_run.ensures.counts

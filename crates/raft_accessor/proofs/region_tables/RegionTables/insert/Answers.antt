@@ -3,7 +3,7 @@ use Rattle.std.specs.FinMap as finite
 use Rattle.std.proofs.lemmas.Result.{err_from_is_err_and}
 use Rattle.raft_table.specs.Counts.{live}
 use Rattle.raft_table.specs.Steps.{table_of}
-use Rattle.raft_table.specs.Table.{live_of}
+use Rattle.raft_table.specs.Table.{live_of, with_table_deleted}
 use Rattle.raft_accessor.specs.Accessor.{table_in}
 use Rattle.raft_accessor.specs.RegionTablesView.{tables_shown}
 use Rattle.raft_accessor.specs.declared.region_tables.RegionTables.TheInside.{Inside}
@@ -52,9 +52,12 @@ returns-clause-ok c = shown c
 pub returns-clause-replaced : goal.returns-clause-replaced
 returns-clause-replaced c = was c
 
+pub returns-clause-counts : goal.returns-clause-counts
+returns-clause-counts c = c.delete_replaced.ensures.counts ∙ ap (λ o. with_table_deleted (table_of c.args.id o) c.add_table.new.self) (was c) ∙ ap (with_table_deleted (table_in c.args.self.now c.args.id)) c.in_ok-add_table.ensures.ok
+
 pub returns-clause-one : goal.returns-clause-one
 returns-clause-one c = one_written c.args.self.now _ c.args.id c.args.table (shown c)
 
 pub returns-clause-recounted : goal.returns-clause-recounted
 returns-clause-recounted c = λ q.
-    omega (arith, c.delete_replaced.ensures q, c.in_ok-add_table.ensures.live q, ap (λ o. live_of q (table_of c.args.id o)) (was c), ap (λ m. live_of q (table_in m c.args.id)) (shown c), ap (λ o. live_of q (table_of c.args.id o)) (get_own c.args.self.now c.args.id c.args.table))
+    omega (arith, c.delete_replaced.ensures.live q, c.in_ok-add_table.ensures.live q, ap (λ o. live_of q (table_of c.args.id o)) (was c), ap (λ m. live_of q (table_in m c.args.id)) (shown c), ap (λ o. live_of q (table_of c.args.id o)) (get_own c.args.self.now c.args.id c.args.table))

@@ -1,6 +1,6 @@
 use Rattle.std.proofs.Common.{None, sym, ap, ◌∙◌, arith}
 use Rattle.raft_table.specs.Steps.{table_of}
-use Rattle.raft_table.specs.Table.{live_of}
+use Rattle.raft_table.specs.Table.{live_of, with_table_deleted}
 use Rattle.raft_table.proofs.TableLemmas.{live_of_empty}
 use Rattle.raft_accessor.proofs.RegionTablesLemmas.{get-shown, shown-with}
 use Rattle.raft_accessor.proofs.region_tables.RegionTables.remove.Goals as goal
@@ -14,5 +14,8 @@ returns-clause-taken c = c.remove-removed.ensures.value ∙ sym (get-shown c.sel
 pub returns-clause-after : goal.returns-clause-after
 returns-clause-after c = shown-with c.self.inside (record c.self.inside { tables = c.remove-removed.new.self }) c.args.self.now c.args.id None c.self.view_is c.remove-removed.ensures.updates.0
 
+pub returns-clause-counts : goal.returns-clause-counts
+returns-clause-counts c = c.delete_replaced.ensures.counts ∙ ap (λ o. with_table_deleted (table_of c.args.id o) c.args.stats.now) (c.remove-removed.ensures.value ∙ sym (get-shown c.self.inside c.args.self.now c.args.id c.self.view_is))
+
 pub returns-clause-recounted : goal.returns-clause-recounted
-returns-clause-recounted c = λ q. omega (arith, c.delete_replaced.ensures q, ap (λ o. live_of q (table_of c.args.id o)) (c.remove-removed.ensures.value ∙ sym (get-shown c.self.inside c.args.self.now c.args.id c.self.view_is)), live_of_empty q c.args.id)
+returns-clause-recounted c = λ q. omega (arith, c.delete_replaced.ensures.live q, ap (λ o. live_of q (table_of c.args.id o)) (c.remove-removed.ensures.value ∙ sym (get-shown c.self.inside c.args.self.now c.args.id c.self.view_is)), live_of_empty q c.args.id)

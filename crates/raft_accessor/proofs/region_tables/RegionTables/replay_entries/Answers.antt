@@ -14,5 +14,5 @@ returns-then-not-is_run c = λ list.
 
 pub returns : goal.returns
 returns c = λ list.
-    written_by (Replaying c.args.queue) (entries_item c.args.id c.args.run.items) (after_replay c.args.queue (table_in c.args.self.now c.args.id) c.args.run.items) _ c.args.self.now c.args.stats.now list c.replay_run.result c.replay_run.new.self c.replay_run.new.stats c.replay_run.ensures.taken (subst (IsRunIn c.args.queue) c.deref.ensures.value c.if-not-is_run.ensures) (never_met _ c.replay_run.result c.replay_run.ensures.accepted)
+    written_by (Replaying c.args.queue) (entries_item c.args.id c.args.run.items) (after_replay c.args.queue (table_in c.args.self.now c.args.id) c.args.run.items) _ c.args.self.now c.args.stats.now list c.replay_run.result c.replay_run.new.self c.replay_run.new.stats c.replay_run.ensures.taken (subst (IsRunIn c.args.queue) c.deref.ensures.value c.if-not-is_run.ensures) (never_met _ c.replay_run.result c.replay_run.ensures.accepted) c.replay_run.ensures.counts
     (none_listed (Replaying c.args.queue) (entries_item c.args.id c.args.run.items) refl) refl (λ e f. replay_fault c.args.queue c.args.id (finite.get c.args.self.now c.args.id) c.args.run.items c.args.stats.now e f)

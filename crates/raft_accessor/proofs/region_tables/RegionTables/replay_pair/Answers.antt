@@ -7,13 +7,13 @@ use Rattle.raft_records.specs.Item.{pair, pair_of}
 use Rattle.raft_accessor.specs.Accessor.{table_in}
 use Rattle.raft_accessor.specs.ItemWrites.{pair_change}
 use Rattle.raft_accessor.specs.Writes.{Replaying, with_change, IsFileOf, IsPairOfQueue}
-use Rattle.raft_accessor.proofs.WriteLemmas.{refused_by, skipped_by, no_outcome, none_listed, reserved_step, change_step}
+use Rattle.raft_accessor.proofs.WriteLemmas.{refused_by, skipped_by, no_outcome, none_listed, reserved_step, reserved_counts, change_step}
 use Rattle.raft_accessor.proofs.region_tables.RegionTables.replay_pair.Goals as goal
 
 pub returns-then-is_reserved : goal.returns-then-is_reserved
 returns-then-is_reserved c = λ list.
     let there : is_reserved (pair_of c.args.kv).key ≡ true = ap is_reserved (sym c.deref.ensures.value) ∙ sym c.is_reserved.ensures.value ∙ c.if-is_reserved.true in
-    skipped_by (Replaying c.args.queue) (pair_change c.args.id (pair_of c.args.kv)) c.args.self.now c.args.stats.now list (λ e. absurd (false≢true (sym e ∙ there))) (λ m. m) (none_listed (Replaying c.args.queue) (pair_change c.args.id (pair_of c.args.kv)) refl)
+    skipped_by (Replaying c.args.queue) (pair_change c.args.id (pair_of c.args.kv)) c.args.self.now c.args.stats.now list (λ e. absurd (false≢true (sym e ∙ there))) (λ m. m) (reserved_counts (Replaying c.args.queue) (table_in c.args.self.now c.args.id) (pair_of c.args.kv) c.args.stats.now there) (none_listed (Replaying c.args.queue) (pair_change c.args.id (pair_of c.args.kv)) refl)
     (reserved_step (Replaying c.args.queue) c.args.id (finite.get c.args.self.now c.args.id) (pair_of c.args.kv) there)
 
 pub returns-in_default : goal.returns-in_default

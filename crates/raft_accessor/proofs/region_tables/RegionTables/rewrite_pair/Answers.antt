@@ -6,13 +6,13 @@ use Rattle.raft_records.specs.Item.{pair, pair_of}
 use Rattle.raft_accessor.specs.Accessor.{table_in}
 use Rattle.raft_accessor.specs.ItemWrites.{pair_change}
 use Rattle.raft_accessor.specs.Writes.{Rewriting, with_change}
-use Rattle.raft_accessor.proofs.WriteLemmas.{refused_by, skipped_by, no_outcome, reserved_step, change_step, no_value}
+use Rattle.raft_accessor.proofs.WriteLemmas.{refused_by, skipped_by, no_outcome, reserved_step, reserved_counts, change_step, no_value}
 use Rattle.raft_accessor.proofs.region_tables.RegionTables.rewrite_pair.Goals as goal
 
 pub returns-then-is_reserved : goal.returns-then-is_reserved
 returns-then-is_reserved c = λ list.
     let there : is_reserved (pair_of c.args.kv).key ≡ true = ap is_reserved (sym c.deref.ensures.value) ∙ sym c.is_reserved.ensures.value ∙ c.if-is_reserved.true in
-    skipped_by (Rewriting c.args.gate c.args.seq) (pair_change c.args.id (pair_of c.args.kv)) c.args.self.now c.args.stats.now list (λ e. tt) (λ m. m) refl
+    skipped_by (Rewriting c.args.gate c.args.seq) (pair_change c.args.id (pair_of c.args.kv)) c.args.self.now c.args.stats.now list (λ e. tt) (λ m. m) (reserved_counts (Rewriting c.args.gate c.args.seq) (table_in c.args.self.now c.args.id) (pair_of c.args.kv) c.args.stats.now there) refl
     (reserved_step (Rewriting c.args.gate c.args.seq) c.args.id (finite.get c.args.self.now c.args.id) (pair_of c.args.kv) there)
 
 pub returns-then-is_none : goal.returns-then-is_none

@@ -3,6 +3,7 @@ use Rattle.std.proofs.Common.{nat_eq, ◌≡◌, Some, refl, sym, ap, subst, ◌
 use Rattle.std.specs.FinMap as finite
 use Rattle.std.specs.Option.{is_some, option_copied_mut}
 use Rattle.raft_table.specs.Queues.{other}
+use Rattle.raft_table.specs.Start.{counts_with_run}
 use Rattle.raft_table.specs.Steps.{table_of}
 use Rattle.raft_table.specs.Table.{IsCounted, after_replay, live_of}
 use Rattle.raft_table.specs.TableEntries.{end_of}
@@ -36,6 +37,11 @@ returns-then-not-try_replay-clause-taken c =
 
 pub returns-clause-end : goal.returns-clause-end
 returns-clause-end c = c.end-end.ensures ∙ ap (λ o. end_of (table_of c.args.id o).entries) (sym (there c.self.inside c.args.self.now c.args.id _ _ c.self.view_is c.get_mut.ensures.value c.in-Some.is))
+
+pub returns-clause-counts : goal.returns-clause-counts
+returns-clause-counts c =
+    c.if-not-try_replay.ensures.done.2
+    ∙ ap (λ o. counts_with_run c.args.queue (table_of c.args.id o).entries c.args.run.now c.args.stats.now) (sym (there c.self.inside c.args.self.now c.args.id _ _ c.self.view_is c.get_mut.ensures.value c.in-Some.is))
 
 pub returns-clause-accepted : goal.returns-clause-accepted
 returns-clause-accepted c = ap (λ o. live_of (other c.args.queue) (table_of c.args.id o)) (there c.self.inside c.args.self.now c.args.id _ _ c.self.view_is c.get_mut.ensures.value c.in-Some.is) ∙ c.if-not-try_replay.ensures.done.1

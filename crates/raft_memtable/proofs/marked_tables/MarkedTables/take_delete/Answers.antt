@@ -9,4 +9,4 @@ pub returns : goal.returns
 returns c =
     let old = table_in c.args.self.now.accessor.tables c.args.id in
     changed_taken c.args.queue c.args.id (Del c.args.key.items) c.args.self.now c.delete.new.self c.add_deleted.new.self (Ok tt) (Some (without_key old c.args.key.items)) refl
-    (ap (λ k. Some (without_key old k)) (sym c.deref.ensures.value) ∙ c.in_ok-delete.ensures.ok) c.in_ok-delete.ensures.others c.delete.ensures.cleaned refl (c.in_ok-add_deleted.ensures.ok c.args.queue _) tt
+    (ap (λ k. Some (without_key old k)) (sym c.deref.ensures.value) ∙ c.in_ok-delete.ensures.changed.ok) c.in_ok-delete.ensures.changed.others c.delete.ensures.changed.cleaned refl (c.in_ok-add_deleted.ensures.ok c.args.queue _) tt

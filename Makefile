@@ -79,10 +79,12 @@ cuttings:
 	@cd crates/raft_cuttings && $(RT) run -- recover rewrite 1 1 1=data/second > /dev/null
 	@echo "raft_cuttings is proved and built: crates/raft_cuttings/out/raft_cuttings"
 
-# Refuses each request for memory and each start of a thread in turn: over `raftlog` with the files of demo/ and INPUTS inputs
-# that are made. It needs a C compiler, `cc`.
+# Refuses each request for memory and each start of a thread in turn: over the rows of `raft_refusals`, and over `raftlog` with
+# the files of demo/, INPUTS inputs that are made, and larger files. It needs a C compiler, `cc`.
 INPUTS ?= 100
 refused-memory: raftlog
+	@mkdir -p crates/raft_refusals/out
+	@cd crates/raft_refusals && $(RT) run > out/run.log 2>&1 || { cat out/run.log; exit 1; }
 	@tools/refused_memory.py --inputs $(INPUTS)
 
 # Runs `raftlog` over N inputs that no engine writes, as `make hostile N=100000 SEED=7`, and counts what it must never do.

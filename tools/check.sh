@@ -1,7 +1,7 @@
 #!/usr/bin/env bash
 # The full check: `rt ci`, then what it can't look at: words that aren't UTF-8, the frames of `raftlog` on the stack, and runs
-# with little stack; first of all whether docs/BELIEVE.md is what the definitions say. The last line is that of `rt ci`,
-# 'N passed, M failed'.
+# with little stack, and, where there is a C compiler, some rows with memory refused; first of all whether docs/BELIEVE.md is what
+# the definitions say. The last line is that of `rt ci`, 'N passed, M failed'.
 set -euo pipefail
 cd "$(dirname "$0")/.."
 program=crates/raftlog/out/raftlog
@@ -20,4 +20,7 @@ if [ "$status" != 2 ] || [ -s "$room/out" ] || ! grep -q '^usage: raftlog ' "$ro
 fi
 tools/frames.py "$program" --show 3 --limit "$frame_limit"
 tools/stack.py "$program"
+if command -v cc > "$room/compiler"; then
+  tools/refused_memory.py --rows-alone --every 5 --row batches --row tables --row contexts --row take --row shared
+fi
 tail -n 1 "$room/proved"

@@ -1,18 +1,25 @@
 #!/usr/bin/env python3
 """Refuses each request for memory and each start of a thread in turn, and looks whether an answer changes.
 
-    tools/refused_memory.py [--inputs N] [--seed S] [--jobs J] [--raftlog PATH]
+    tools/refused_memory.py [--inputs N] [--seed S] [--jobs J] [--every K] [--rows-alone] [--row NAME]..
+                            [--raftlog PATH] [--refusals PATH]
 
-`tools/refused_memory.c` is built and loaded in front of `raftlog`. Each call is run with
-ample memory, then with its first request for memory refused, its second, and so on, up to the first run that needs no
-more; and the same with all requests from the first on refused, from the second on, and so on.
+`tools/refused_memory.c` is built and loaded in front of a program. Each call is run with ample memory, then with its first
+request for memory refused, its second, and so on, up to the first run that needs no more; and the same with all requests from
+the first on refused, from the second on, and so on; and with each start of a thread. With K each K-th request alone is taken.
 
-The calls are `batch` over an item batch, `recover` over the files of `demo/` with 1 to 8 workers, and the inputs that
-`tools/hostile.py` makes of SEED, with 1, 2 and 4 workers. A run has to answer what it answers with ample memory, or `memory`, or
-`io` (what finds no memory while it reads is a failed reading), and then no line is printed. Where a start of a thread is
-refused the answer has to be the same. Where files have several faults, more workers may meet another first.
+The rows of `raft_refusals` come first. The program makes the calls of a row, and where one finds no memory it looks at what
+has to stand then, by value, and makes the call again. So a run with one request refused has to print what is owed with ample
+memory, that is what `crates/raft_refusals/stdout` has under the row's name; where all requests from one on are refused it may
+also end with `memory`, since the second call finds none either. `left otherwise` is never owed.
 
-Printed are the calls, the runs, and each run that went wrong with its number. A C compiler `cc` is needed.
+The calls of `raftlog` are `batch` over an item batch, `recover` over the files of `demo/` with 1 to 8 workers, and the inputs
+that `tools/hostile.py` makes of SEED, with 1, 2 and 4 workers. A run has to answer what it answers with ample memory, or
+`memory`, or `io` (what finds no memory while it reads is a failed reading), and then no line is printed. Where a start of a
+thread is refused the answer has to be the same, also over files of more than 8 MiB, which are read by as many workers as
+are asked for. Where files have several faults, more workers may meet another first.
+
+Printed are the rows and calls, the runs, and each run that went wrong with its number. A C compiler `cc` is needed.
 """
 import argparse
 import itertools
@@ -35,6 +42,10 @@ MEMORY = [(1, b"", b"raftlog: refused: memory\n"), (1, b"", b"raftlog: refused: 
 FAULTS = [(1, b"", f"raftlog: refused: {word}\n".encode()) for word in ("corruption", "codec", "io")]
 # With more threads the number of requests is not the same in each run.
 QUIET_RUNS = 3
+OWED = TOP / "crates/raft_refusals/stdout"
+# The rows that start threads.
+THREADED_ROWS = {"pieces", "workers"}
+LARGE_FILES, LARGE_MEGABYTES = 9, 9
 
 
 @dataclass
@@ -45,6 +56,8 @@ class Call:
     data: bytes = b""
     folder: Path = TOP
     threads: bool = False
+    starts_alone: bool = False
+    owed: bytes = b""
 
 
 def answer(library, call, refusals):
@@ -63,10 +76,10 @@ def answer(library, call, refusals):
     return given, bool(told)
 
 
-def each_refusal(library, call, refusals_of):
+def each_refusal(library, call, refusals_of, every=1):
     """The number and the answer of each run in which something was refused."""
     quiet = 0
-    for number in itertools.count(1):
+    for number in itertools.count(1, every):
         given, told = answer(library, call, refusals_of(number))
         quiet = 0 if told else quiet + 1
         if quiet >= (QUIET_RUNS if call.threads else 1):
@@ -87,19 +100,58 @@ def start(number):
     return {"REFUSE_START": number}
 
 
-def program_runs(library, call):
-    """The numbers of runs, and a line for each that went wrong, of a call of `raftlog`."""
-    ample, _ = answer(library, call, {})
+def runs_of(library, call, ample, modes):
+    """The numbers of runs, and a line for each that went wrong, of a call. A mode is a name, what it refuses, what may be answered
+    beside what is answered with ample memory, and at which distance its numbers are."""
     runs, wrong = Counter(), []
-    faults = FAULTS if call.threads and ample in FAULTS else []
-    for how, refusals_of, allowed in (("one request", one, MEMORY), ("all requests from", all_from, MEMORY), ("start of a thread", start, [])):
-        for number, given in each_refusal(library, call, refusals_of):
+    for how, refusals_of, allowed, every in modes:
+        for number, given in each_refusal(library, call, refusals_of, every):
             runs[how] += 1
-            if given not in [ample, *allowed, *faults]:
-                wrong.append(f"{call.name}: {how} {number} refused: status {given[0]}, {given[1][:60]}, {given[2][:60]}")
+            if given not in [ample, *allowed]:
+                wrong.append(f"{call.name}: {how} {number} refused: status {given[0]}, {given[1][-60:]}, {given[2][:60]}")
+    return runs, wrong
+
+
+def program_runs(library, call, every):
+    """The runs of a call of `raftlog`."""
+    ample, _ = answer(library, call, {})
+    faults = FAULTS if call.threads and ample in FAULTS else []
+    modes = [("start of a thread", start, faults, 1)]
+    if not call.starts_alone:
+        modes = [("one request", one, MEMORY + faults, every), ("all requests from", all_from, MEMORY + faults, every), *modes]
+    runs, wrong = runs_of(library, call, ample, modes)
     if ample[0] not in (0, 1):
         wrong.append(f"{call.name}: with ample memory status {ample[0]}")
     return runs, wrong
+
+
+def owed_rows():
+    """What each row of `raft_refusals` has to print."""
+    rows, lines = {}, []
+    for line in OWED.read_bytes().splitlines(keepends=True):
+        if line.endswith(b":\n") and b" " not in line:
+            lines = rows.setdefault(line[:-2].decode(), [])
+        lines.append(line)
+    return {name: b"".join(lines) for name, lines in rows.items()}
+
+
+def row_runs(library, call, every):
+    """The runs of a row."""
+    ample, _ = answer(library, call, {})
+    owed = (0, call.owed, b"")
+    ends = [(0, text, b"") for text in (f"{call.words[1]}:\nmemory\n".encode(), b"memory\n")]
+    modes = [("one request", one, [], every), ("all requests from", all_from, ends, every), ("start of a thread", start, [], 1)]
+    runs, wrong = runs_of(library, call, owed, modes)
+    if ample != owed:
+        wrong.append(f"{call.name}: with ample memory status {ample[0]}, {ample[1]}, {ample[2][:60]}")
+    return runs, wrong
+
+
+def row_calls(refusals, names):
+    """A call for each row, or for those of these names."""
+    for name, owed in owed_rows().items():
+        if not names or name in names:
+            yield Call(f"row {name}", [refusals, name], threads=name in THREADED_ROWS, owed=owed)
 
 
 def demo_calls(raftlog):
@@ -125,31 +177,60 @@ def made_calls(raftlog, seed, inputs, folder):
             yield Call(f"input {number}: {' '.join(words)}", [raftlog, *words], case.data, folder, workers not in (None, "1"))
 
 
+def large_calls(raftlog, folder):
+    """Calls over files that are read by as many workers as are asked for."""
+    subprocess.run([TOP / "tools/logs.py", folder, "--files", str(LARGE_FILES), "--megabytes", str(LARGE_MEGABYTES)],
+                   check=True, capture_output=True)
+    queue, version, *files = (folder / "args").read_text().split()
+    for workers in range(1, 9):
+        yield Call(f"large files, {workers} workers", [raftlog, "recover", queue, version, str(workers), *files],
+                   folder=folder, threads=workers > 1, starts_alone=True)
+
+
+def tried(pool, runs_of_call, library, calls, every, what):
+    """Runs calls, prints each run that went wrong and how many there were, and answers whether none did."""
+    runs, wrong = Counter(), 0
+    for work in [pool.submit(runs_of_call, library, call, every) for call in calls]:
+        more, lines = work.result()
+        runs, wrong = runs + more, wrong + len(lines)
+        for line in lines:
+            print(line, flush=True)
+    print(f"{len(calls)} {what}, {runs.total()} runs, {wrong} went wrong")
+    print("refused: " + ", ".join(f"{how} {count}" for how, count in runs.items()), flush=True)
+    return wrong == 0
+
+
+def program(path):
+    """A program that is there."""
+    if not os.access(path, os.X_OK):
+        sys.exit(f"{path} isn't there: make refused-memory")
+    return str(path.resolve())
+
+
 def main():
     parser = argparse.ArgumentParser(description=__doc__, formatter_class=argparse.RawDescriptionHelpFormatter)
     parser.add_argument("--inputs", type=int, default=100)
     parser.add_argument("--seed", default="1")
     parser.add_argument("--jobs", type=int, default=os.cpu_count())
+    parser.add_argument("--every", type=int, default=1)
+    parser.add_argument("--rows-alone", action="store_true")
+    parser.add_argument("--row", action="append", default=[])
     parser.add_argument("--raftlog", type=Path, default=TOP / "crates/raftlog/out/raftlog")
+    parser.add_argument("--refusals", type=Path, default=TOP / "crates/raft_refusals/out/raft_refusals")
     arguments = parser.parse_args()
-    raftlog = str(arguments.raftlog.resolve())
-    if not os.access(raftlog, os.X_OK):
-        sys.exit(f"{raftlog} isn't there: make raftlog")
+    every, good = arguments.every, True
     with tempfile.TemporaryDirectory() as folder, ThreadPoolExecutor(arguments.jobs) as pool:
         folder = Path(folder)
         library = str(folder / "refused_memory.so")
         subprocess.run(["cc", "-O2", "-shared", "-fPIC", "-o", library, TOP / "tools/refused_memory.c"], check=True)
-        calls = [*demo_calls(raftlog), *made_calls(raftlog, arguments.seed, arguments.inputs, folder)]
-        runs, wrong = Counter(), 0
-        work = [pool.submit(program_runs, library, call) for call in calls]
-        for done in work:
-            more, lines = done.result()
-            runs, wrong = runs + more, wrong + len(lines)
-            for line in lines:
-                print(line, flush=True)
-    print(f"{len(calls)} calls of raftlog, {runs.total()} runs, {wrong} went wrong")
-    print("refused: " + ", ".join(f"{how} {count}" for how, count in runs.items()))
-    sys.exit(1 if wrong else 0)
+        rows = [*row_calls(program(arguments.refusals), arguments.row)]
+        good &= tried(pool, row_runs, library, rows, every, "rows")
+        if not arguments.rows_alone:
+            raftlog = program(arguments.raftlog)
+            calls = [*demo_calls(raftlog), *made_calls(raftlog, arguments.seed, arguments.inputs, folder),
+                     *large_calls(raftlog, folder / "large")]
+            good &= tried(pool, program_runs, library, calls, every, "calls of raftlog")
+    sys.exit(0 if good else 1)
 
 
 if __name__ == "__main__":

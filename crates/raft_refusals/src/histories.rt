@@ -1,0 +1,215 @@
+//! Histories of both queues, as segments.
+
+use crate::steps::{Step, sealed};
+use AtomicGroupStatus::{Begin, End, Middle};
+use raft_records::{AtomicGroupStatus, FileId, FilePart, FileSeq, LogQueue, Result, Version};
+use raft_recover::Segment;
+use std::alloc::Global;
+
+/// A batch: the number of its file and its steps. Number 0 stands for a segment without batches.
+pub(crate) type Batch = (FileSeq, &'static [Step]);
+
+/// Batches of a queue, in order.
+pub(crate) struct History {
+    pub(crate) queue: LogQueue,
+    pub(crate) batches: &'static [Batch],
+}
+
+/// Two regions, a compaction, a deleted key, a region that is cleaned and comes again.
+pub(crate) static APPENDED: History = History {
+    queue: LogQueue::Append,
+    batches: &[
+        (1, &[Step::Run(1, 1, 5), Step::Put(2, b"k", b"v")]),
+        (1, &[Step::Run(1, 5, 9)]),
+        (2, &[Step::Compact(1, 3), Step::Delete(2, b"k")]),
+        (2, &[Step::Run(1, 7, 8)]),
+        (3, &[Step::Run(2, 100, 103), Step::Put(2, b"k", b"v")]),
+        (3, &[Step::Clean(2)]),
+        (4, &[Step::Run(2, 50, 52)]),
+        (5, &[Step::Run(1, 8, 10), Step::Put(3, b"x", b"v")]),
+    ],
+};
+
+/// A group over three batches, and two that aren't whole.
+pub(crate) static REWRITTEN: History = History {
+    queue: LogQueue::Rewrite,
+    batches: &[
+        (1, &[Step::Run(5, 1, 10)]),
+        (2, &[Step::Marker(9, Begin), Step::Run(5, 1, 4)]),
+        (2, &[Step::Put(6, b"k", b"v")]),
+        (3, &[Step::Marker(9, Middle), Step::Run(5, 4, 8)]),
+        (3, &[Step::Marker(9, End)]),
+        (4, &[Step::Compact(5, 3)]),
+        (5, &[Step::Marker(9, End), Step::Run(5, 1, 2)]),
+        (5, &[Step::Marker(8, Begin), Step::Put(6, b"z", b"v")]),
+    ],
+};
+
+static HISTORIES: [History; 11] = [
+    History {
+        queue: LogQueue::Append,
+        batches: &[
+            (1, &[Step::Run(1, 10, 20)]),
+            (2, &[Step::Run(1, 15, 18), Step::Compact(1, 18)]),
+        ],
+    },
+    History {
+        queue: LogQueue::Append,
+        batches: &[
+            (1, &[Step::Run(1, 10, 20)]),
+            (2, &[Step::Compact(1, 20), Step::Run(1, 40, 45)]),
+        ],
+    },
+    History {
+        queue: LogQueue::Append,
+        batches: &[
+            (1, &[Step::Run(1, 10, 20)]),
+            (2, &[Step::Run(1, 40, 45), Step::Compact(1, 40)]),
+        ],
+    },
+    History {
+        queue: LogQueue::Rewrite,
+        batches: &[
+            (1, &[Step::Run(1, 10, 30)]),
+            (2, &[Step::Run(1, 35, 40), Step::Run(1, 20, 25)]),
+        ],
+    },
+    History {
+        queue: LogQueue::Append,
+        batches: &[
+            (1, &[Step::Put(1, b"k", b"v")]),
+            (2, &[Step::Delete(1, b"k"), Step::Put(1, b"k", b"v")]),
+        ],
+    },
+    History {
+        queue: LogQueue::Append,
+        batches: &[(1, &[Step::Clean(1)]), (0, &[])],
+    },
+    History {
+        queue: LogQueue::Rewrite,
+        batches: &[
+            (1, &[Step::Marker(9, Begin), Step::Run(5, 1, 4)]),
+            (2, &[Step::Marker(9, Middle), Step::Put(6, b"k", b"v")]),
+            (3, &[Step::Marker(9, End)]),
+        ],
+    },
+    History {
+        queue: LogQueue::Rewrite,
+        batches: &[
+            (1, &[Step::Marker(9, Begin), Step::Put(6, b"a", b"v")]),
+            (2, &[Step::Put(7, b"x", b"v")]),
+            (2, &[Step::Marker(9, End), Step::Put(6, b"b", b"v")]),
+            (3, &[Step::Marker(9, Begin), Step::Put(6, b"c", b"v")]),
+        ],
+    },
+    History {
+        queue: LogQueue::Append,
+        batches: &[
+            (1, &[Step::Run(1, 1, 4)]),
+            (2, &[Step::Run(1, 4, 6)]),
+            (0, &[]),
+            (3, &[Step::Compact(1, 3)]),
+            (4, &[Step::Put(2, b"k", b"v")]),
+        ],
+    },
+    History {
+        queue: LogQueue::Append,
+        batches: &[
+            (1, &[Step::Run(1, 10, 20)]),
+            (1, &[Step::Truncate(1, 15)]),
+            (2, &[Step::Run(1, 15, 18)]),
+        ],
+    },
+    History {
+        queue: LogQueue::Append,
+        batches: &[
+            (1, &[Step::Run(1, 10, 20), Step::Compact(1, 20)]),
+            (
+                2,
+                &[
+                    Step::Run(1, 20, 30),
+                    Step::Truncate(1, 20),
+                    Step::Run(1, 25, 30),
+                ],
+            ),
+        ],
+    },
+];
+
+pub(crate) fn histories() -> &'static [History] {
+    &HISTORIES
+}
+
+/// A history of the rewrite queue and one of the append queue that is put over it.
+pub(crate) type Overlay = (&'static [Batch], &'static [Batch]);
+
+static OVERLAYS: [Overlay; 5] = [
+    (
+        &[(1, &[Step::Run(1, 10, 20), Step::Put(1, b"j", b"v")])],
+        &[
+            (1, &[Step::Run(1, 30, 40)]),
+            (2, &[Step::Run(1, 20, 25), Step::Put(1, b"k", b"v")]),
+        ],
+    ),
+    (
+        &[(1, &[Step::Run(1, 10, 15)])],
+        &[(1, &[Step::Run(1, 20, 30)])],
+    ),
+    (
+        &[(1, &[Step::Run(1, 10, 20)])],
+        &[(1, &[Step::Clean(1), Step::Run(1, 30, 35)])],
+    ),
+    (
+        &[(1, &[Step::Run(1, 10, 20)])],
+        &[(
+            1,
+            &[
+                Step::Run(1, 20, 30),
+                Step::Truncate(1, 20),
+                Step::Run(1, 25, 30),
+            ],
+        )],
+    ),
+    (
+        &[(1, &[Step::Run(1, 10, 20)])],
+        &[(1, &[Step::Truncate(1, 15)])],
+    ),
+];
+
+pub(crate) fn overlays() -> &'static [Overlay] {
+    &OVERLAYS
+}
+
+/// The batches as segments of one part each.
+pub(crate) fn segments_of(
+    alloc: Global,
+    queue: LogQueue,
+    batches: &[Batch],
+) -> Result<Vec<Segment>> {
+    let mut segments = Vec::new(alloc);
+    let mut offset = 0u64;
+    for &(seq, steps) in batches {
+        let mut segment = Vec::new(alloc);
+        if seq != 0 {
+            segment.push(part_of(alloc, FileId::new(queue, seq), offset, steps)?)?;
+        }
+        segments.push(segment)?;
+        offset = offset.saturating_add(1000);
+    }
+    Ok(segments)
+}
+
+/// A part of a file, which is a batch of these steps.
+pub(crate) fn part_of(
+    alloc: Global,
+    file: FileId,
+    offset: u64,
+    steps: &[Step],
+) -> Result<FilePart> {
+    let batch = sealed(alloc, file, steps)?;
+    if !batch.is_sealed() {
+        return Err(raft_records::Error::Failed);
+    }
+    let bytes = Vec::from_slice(alloc, batch.encoded_bytes())?;
+    FilePart::new(file, Version::V1, offset, bytes)
+}

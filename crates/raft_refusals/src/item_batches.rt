@@ -1,0 +1,154 @@
+//! Batches of items without entry bytes.
+
+use crate::found::{Found, is_refused};
+use crate::steps::Line;
+use raft_records::{
+    Command, CompressionType, FileBlockHandle, FileId, LogFileContext, LogItemBatch, LogQueue,
+    Result, Version,
+};
+use std::alloc::Global;
+
+#[derive(Clone, Copy)]
+enum Change {
+    Command(u64),
+    Put(&'static [u8], &'static [u8]),
+    PutLine(&'static [u8], Line),
+    Delete(&'static [u8]),
+    /// Two items of another batch are moved behind the batch's own.
+    Merge,
+}
+
+static CHANGES: [Change; 5] = [
+    Change::Command(7),
+    Change::Put(b"put", b"put_v"),
+    Change::PutLine(
+        b"k",
+        Line {
+            index: 0,
+            text: b"line",
+        },
+    ),
+    Change::Delete(b""),
+    Change::Merge,
+];
+
+fn changes() -> &'static [Change] {
+    &CHANGES
+}
+
+/// The bytes of a batch without items, and of one of several; then what is read of bytes.
+pub(crate) fn encode(found: &mut Found) -> Result<()> {
+    let mut batch = LogItemBatch::default(found.alloc);
+    encode_again(found, &mut batch)?;
+    for change in changes() {
+        change_again(found, &mut batch, *change)?;
+    }
+    encode_again(found, &mut batch)
+}
+
+fn change_again(found: &mut Found, batch: &mut LogItemBatch, change: Change) -> Result<()> {
+    let before = batch.clone()?;
+    let answer = apply(found.alloc, batch, change);
+    if !is_refused(&answer) {
+        return answer;
+    }
+    found.look(*batch == before);
+    let answer = apply(found.alloc, batch, change);
+    found.again(answer)
+}
+
+fn apply(alloc: Global, batch: &mut LogItemBatch, change: Change) -> Result<()> {
+    match change {
+        Change::Command(index) => batch.add_command(1, Command::Compact { index }),
+        Change::Put(key, value) => put(alloc, batch, key, value),
+        Change::PutLine(key, line) => batch.put_message(1, Vec::from_slice(alloc, key)?, &line),
+        Change::Delete(key) => batch.delete(1, Vec::from_slice(alloc, key)?),
+        Change::Merge => merge(alloc, batch),
+    }
+}
+
+fn put(alloc: Global, batch: &mut LogItemBatch, key: &[u8], value: &[u8]) -> Result<()> {
+    let value = Vec::from_slice(alloc, value)?;
+    batch.put(1, Vec::from_slice(alloc, key)?, value)
+}
+
+fn merge(alloc: Global, batch: &mut LogItemBatch) -> Result<()> {
+    let mut behind = LogItemBatch::default(alloc);
+    behind.add_command(2, Command::Clean)?;
+    behind.add_command(3, Command::Truncate { index: 300 })?;
+    if batch.entries_size() != 0 || behind.entries_size() != 0 {
+        return Ok(());
+    }
+    batch.merge(&mut behind)
+}
+
+/// Writes the bytes of a batch behind another byte; where there is no memory that stands alone.
+fn encode_again(found: &mut Found, batch: &mut LogItemBatch) -> Result<()> {
+    let mut out = Vec::from_slice(found.alloc, b"!")?;
+    let mut answer = batch.encode(&mut out);
+    if is_refused(&answer) {
+        found.look(out.as_slice() == [b'!'].as_slice());
+        answer = batch.encode(&mut out);
+        answer = found.again(answer);
+    }
+    answer?;
+    found.bytes(out.as_slice())
+}
+
+/// Bytes, and the version and the number of the append file that they are read from.
+type Bytes = (&'static [u8], Version, u64);
+
+static BATCHES: [Bytes; 7] = [
+    (b"\x00\x81\xef\x02\xd2", Version::V2, 12),
+    (b"\x00\x81\xef\x02\xd2", Version::V2, 13),
+    (b"\x00\x8d\xef\x02\xd2", Version::V1, 12),
+    (b"\x01\x01\x02\x01\x5a\x80\x0b\xdd", Version::V1, 12),
+    (
+        b"\x01\x07\x01\x02\x0a\x02\x03\xa7\xb3\xdf\x17",
+        Version::V1,
+        12,
+    ),
+    (b"", Version::V1, 12),
+    (b"\x8d\xef\x02\xd2", Version::V1, 12),
+];
+
+fn bytes() -> &'static [Bytes] {
+    &BATCHES
+}
+
+/// How many items bytes are, or why they are refused.
+pub(crate) fn decode(found: &mut Found) -> Result<()> {
+    for row in bytes() {
+        decode_again(found, row)?;
+    }
+    Ok(())
+}
+
+/// Reads bytes; where there is no memory the slice has to be as it was.
+fn decode_again(found: &mut Found, row: &Bytes) -> Result<()> {
+    let mut buf = row.0;
+    let mut answer = read(found.alloc, &mut buf, row);
+    if is_refused(&answer) {
+        found.look(buf == row.0);
+        answer = read(found.alloc, &mut buf, row);
+        answer = found.again(answer);
+    }
+    match answer {
+        Ok(items) => {
+            let alloc = found.alloc;
+            found.line(format!(in alloc; "items {items} rest {}", buf.len())?.as_str())
+        }
+        Err(error) => found.refused(error),
+    }
+}
+
+fn read(alloc: Global, buf: &mut &[u8], row: &Bytes) -> Result<usize> {
+    let context = LogFileContext::new(FileId::new(LogQueue::Append, row.2), row.1);
+    let place = FileBlockHandle {
+        id: context.id,
+        offset: 0,
+        len: 0,
+    };
+    let batch = LogItemBatch::decode(alloc, buf, place, CompressionType::None, &context)?;
+    Ok(batch.iter().as_slice().len())
+}

@@ -1,0 +1,136 @@
+//! Makes the calls of a row, each again where it finds no memory, and prints what they give: `raft_refusals ROW..`, and of all
+//! rows without a word. What has to stand after a refusal is looked at, by value.
+#![tactic(auto)]
+
+mod batches;
+mod contexts;
+mod found;
+mod histories;
+mod item_batches;
+mod items;
+mod numbers;
+mod parts;
+mod recoveries;
+mod seen;
+mod shared;
+mod steps;
+mod tables;
+mod writes;
+
+use found::{Found, is_refused};
+use raft_records::{Error, Result};
+use raft_recover::command_words;
+use std::io;
+use std::io::Write;
+use std::sync::Wait;
+use std::thread::Threads;
+
+const ROWS: [&str; 29] = [
+    "numbers",
+    "items",
+    "item-batches",
+    "item-batch-bytes",
+    "batches",
+    "batch-merge",
+    "groups",
+    "parts",
+    "blocks",
+    "cuts",
+    "tables",
+    "fetches",
+    "writes",
+    "regions",
+    "take",
+    "table-merges",
+    "shared",
+    "shared-take",
+    "slot-take",
+    "contexts",
+    "long-contexts",
+    "overlays",
+    "kept",
+    "tickets",
+    "shares",
+    "draws",
+    "workers",
+    "pieces",
+    "prints",
+];
+
+fn main(rt: HostRuntime) -> io::Result<()> {
+    let mut words = command_words(&rt);
+    if words.is_err() {
+        words = command_words(&rt);
+    }
+    match words {
+        Ok(words) if words.is_empty() => {
+            for row in &ROWS {
+                print_row(&rt, row)?;
+            }
+            Ok(())
+        }
+        Ok(words) => {
+            for word in &words {
+                print_row(&rt, word.as_str())?;
+            }
+            Ok(())
+        }
+        Err(_) => println!(rt; "memory"),
+    }
+}
+
+/// Prints what a row finds; `memory` where it ends for want of it, `left otherwise` where a refusal left anything else than what
+/// has to stand.
+fn print_row<R: Threads + Wait + Print + AllocGlobal + Sync>(rt: &R, row: &str) -> io::Result<()> {
+    let mut found = Found::new(rt.alloc());
+    println!(rt; "{row}:")?;
+    let mut answer = call(rt, row, &mut found);
+    if is_refused(&answer) && !found.is_in_vain {
+        found.lines.clear();
+        answer = call(rt, row, &mut found);
+    }
+    if !found.stands {
+        println!(rt; "left otherwise")?;
+    }
+    match answer {
+        Ok(()) => io::writer(rt).write_all(found.lines.as_slice()),
+        Err(Error::Memory) => println!(rt; "memory"),
+        Err(e) => println!(rt; "{e}"),
+    }
+}
+
+/// Makes the calls of a row.
+fn call<R: Threads + Wait + Sync>(rt: &R, row: &str, found: &mut Found) -> Result<()> {
+    match row {
+        "numbers" => numbers::encode(found),
+        "items" => items::read(found),
+        "item-batches" => item_batches::encode(found),
+        "item-batch-bytes" => item_batches::decode(found),
+        "batches" => batches::encode(found),
+        "batch-merge" => batches::merge(found),
+        "groups" => batches::group(found),
+        "parts" => parts::next(found),
+        "blocks" => parts::blocks(found),
+        "cuts" => parts::cuts(found),
+        "tables" => tables::change(found),
+        "fetches" => tables::fetch(found),
+        "writes" => writes::write(found),
+        "regions" => writes::regions(found),
+        "take" => writes::take(found),
+        "table-merges" => writes::merge(found),
+        "shared" => shared::call(rt, found),
+        "shared-take" => shared::take(rt, found),
+        "slot-take" => shared::slot(found),
+        "contexts" => contexts::merge(found),
+        "long-contexts" => contexts::merge_many(found),
+        "overlays" => contexts::overlay(found),
+        "kept" => contexts::kept(found),
+        "tickets" => recoveries::tickets(found),
+        "shares" => recoveries::shares(rt, found),
+        "draws" => recoveries::draws(rt, found),
+        "workers" => recoveries::workers(rt, found),
+        "pieces" => recoveries::pieces(rt, found),
+        "prints" => recoveries::prints(rt, found),
+        _ => found.line("there is no such row"),
+    }
+}

@@ -1,0 +1,148 @@
+//! What can be seen of tables without memory.
+
+use raft_memtable::{EntryIndex, FileId, LogQueue, MemTable, MemTableAccessor};
+
+/// Tables in one number, how many there are, the counts, and the cleaned regions in one number.
+#[derive(Clone, Copy, PartialEq, Debug)]
+pub(crate) struct Seen {
+    /// A table without entries, keys and group is 0.
+    pub(crate) records: u64,
+    pub(crate) tables: u64,
+    /// Live in the append queue, written to and deleted from the rewrite queue.
+    pub(crate) counts: (usize, usize, usize),
+    pub(crate) cleaned: u64,
+}
+
+pub(crate) fn see(tables: &MemTableAccessor) -> Seen {
+    let stats = tables.stats();
+    Seen {
+        records: tables.fold(
+            0u64,
+            |sum, table: &MemTable| sum.wrapping_add(number(table)),
+        ),
+        tables: tables.fold(0u64, |count, _: &MemTable| count.wrapping_add(1)),
+        counts: (
+            stats.live_entries(LogQueue::Append),
+            stats.rewrite_entries(),
+            stats.deleted_rewrite_entries(),
+        ),
+        cleaned: of_regions(tables.cleaned_regions()),
+    }
+}
+
+/// Regions in order, in one number.
+pub(crate) fn of_regions(regions: &[u64]) -> u64 {
+    let mut all = regions.len() as u64;
+    for region in regions {
+        all = with(all, *region);
+    }
+    all
+}
+
+/// A number behind others.
+fn with(all: u64, number: u64) -> u64 {
+    (all ^ number)
+        .wrapping_mul(0x9e37_79b9_7f4a_7c15)
+        .rotate_left(29)
+}
+
+fn with_file(all: u64, file: FileId) -> u64 {
+    let queue = match file.queue {
+        LogQueue::Append => 1,
+        LogQueue::Rewrite => 2,
+    };
+    with(with(all, queue), file.seq)
+}
+
+fn with_entry(all: u64, entry: EntryIndex) -> u64 {
+    let mut all = with(all, entry.index);
+    if let Some(block) = entry.entries {
+        all = with(with_file(all, block.id), block.offset);
+        all = with(all, block.len as u64);
+    }
+    with(
+        with(all, u64::from(entry.entry_offset)),
+        u64::from(entry.entry_len),
+    )
+}
+
+/// A table in one number: its entries with their places, its keys with their values, and its group. What has none of
+/// these is 0.
+pub(crate) fn number(table: &MemTable) -> u64 {
+    let group = match table.atomic_group() {
+        Some((start, end)) => with(with(1, start), end),
+        None => 0,
+    };
+    let all = with_pairs(with_entries(group, table), table);
+    if all == 0 {
+        return 0;
+    }
+    with(all, table.region_id())
+}
+
+fn with_entries(group: u64, table: &MemTable) -> u64 {
+    let (Some(first), Some(last)) = (table.first_index(), table.last_index()) else {
+        return group;
+    };
+    let mut all = with(group, table.rewrite_count() as u64);
+    for index in first..last.saturating_add(1) {
+        if let Some(entry) = table.get_entry(index) {
+            all = with_entry(all, entry);
+        }
+    }
+    all
+}
+
+/// The files of the keys are seen as the least of each queue.
+fn with_pairs(before: u64, table: &MemTable) -> u64 {
+    if table.key_count() == 0 {
+        return before;
+    }
+    let mut all = with(before, table.min_file_seq(LogQueue::Append).unwrap_or(0));
+    all = with(all, table.min_file_seq(LogQueue::Rewrite).unwrap_or(0));
+    let _ = table.scan(None, None, false, |key, value| {
+        for byte in key.iter().chain(value) {
+            all = with(all, u64::from(*byte));
+        }
+        true
+    });
+    all
+}
+
+/// Whether the live numbers are those of the tables, and each table is one run with the rewritten entries in front.
+pub(crate) fn are_sound(tables: &MemTableAccessor) -> bool {
+    let append = tables.fold(0u128, |sum, table: &MemTable| {
+        sum.wrapping_add(table.records(LogQueue::Append))
+    });
+    let rewrite = tables.fold(0u128, |sum, table: &MemTable| {
+        sum.wrapping_add(table.records(LogQueue::Rewrite))
+    });
+    let stats = tables.stats();
+    append == stats.live_entries(LogQueue::Append) as u128
+        && rewrite == stats.live_entries(LogQueue::Rewrite) as u128
+        && tables.fold(true, |sound, table: &MemTable| sound && is_sound(table))
+}
+
+fn is_sound(table: &MemTable) -> bool {
+    let (Some(first), Some(last)) = (table.first_index(), table.last_index()) else {
+        return table.rewrite_count() == 0;
+    };
+    let appended = first.saturating_add(table.rewrite_count() as u64);
+    for index in first..last.saturating_add(1) {
+        if !is_placed(table.get_entry(index), index, index < appended) {
+            return false;
+        }
+    }
+    true
+}
+
+/// Whether an entry has its index and lies in the queue that it is to lie in.
+fn is_placed(entry: Option<EntryIndex>, index: u64, is_rewritten: bool) -> bool {
+    let Some(entry) = entry else {
+        return false;
+    };
+    let Some(block) = entry.entries else {
+        return false;
+    };
+    entry.index == index && (block.id.queue == LogQueue::Rewrite) == is_rewritten
+}

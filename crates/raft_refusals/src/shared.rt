@@ -1,0 +1,233 @@
+//! Calls of tables that threads share, and of one slot.
+
+use crate::found::{Found, is_refused};
+use crate::seen::{number, of_regions};
+use crate::steps::{Step, written};
+use crate::writes::{Call, Write, WriteRow, calls, print_regions, tables_of};
+use raft_memtable::{Error, FileId, LogQueue, MemTable, Result, TableChange, slot_of};
+use raft_records::LogBatch;
+use raft_recover::{SharedAccessor, Slot};
+use std::alloc::Global;
+use std::sync::Wait;
+
+/// What the tables have at first: region 1 with entries and a key, regions 3 and 5 cleaned.
+static FIRST: [WriteRow; 4] = [
+    (Write::Append, 1, Step::Run(1, 10, 20)),
+    (Write::Append, 1, Step::Put(1, b"k", b"v")),
+    (Write::Append, 1, Step::Clean(3)),
+    (Write::Append, 1, Step::Clean(5)),
+];
+
+/// Items that are written, with a gate those of the rewrite queue.
+static ITEMS: [(Option<u64>, u64, Step); 6] = [
+    (None, 2, Step::Run(1, 20, 25)),
+    (None, 2, Step::Put(2, b"k", b"v")),
+    (None, 2, Step::Truncate(1, 22)),
+    (Some(1), 50, Step::Run(1, 10, 15)),
+    (Some(1), 50, Step::Put(1, b"k", b"v")),
+    (None, 2, Step::Clean(7)),
+];
+
+/// All tables in one number, and the live numbers.
+type SharedSeen = (u64, u128, u128);
+
+fn see<R: Wait>(rt: &R, shared: &SharedAccessor) -> SharedSeen {
+    (
+        shared.fold(
+            rt,
+            0u64,
+            |sum, table: &MemTable| sum.wrapping_add(number(table)),
+        ),
+        shared.live_entries(rt, LogQueue::Append),
+        shared.live_entries(rt, LogQueue::Rewrite),
+    )
+}
+
+fn shared_tables(alloc: Global) -> Result<SharedAccessor> {
+    SharedAccessor::from_core(alloc, tables_of(alloc, &FIRST)?)
+}
+
+/// Items, changes and calls, and what is live after each.
+pub(crate) fn call<R: Wait>(rt: &R, found: &mut Found) -> Result<()> {
+    let shared = shared_tables(found.alloc)?;
+    for item in &ITEMS {
+        write_again(rt, found, &shared, item)?;
+    }
+    change_again(rt, found, &shared)?;
+    for call in calls() {
+        call_again(rt, found, &shared, *call)?;
+    }
+    let ids = shared.collect(rt, |_: &MemTable| true)?;
+    let mut sum = 0u64;
+    for id in &ids {
+        sum = sum.wrapping_add(*id);
+    }
+    let alloc = found.alloc;
+    found.line(format!(in alloc; "{} tables, ids {sum}", ids.len())?.as_str())
+}
+
+/// Adds a line with what is live.
+fn print_live(found: &mut Found, seen: SharedSeen) -> Result<()> {
+    let alloc = found.alloc;
+    let (_, append, rewrite) = seen;
+    found.line(format!(in alloc; "live {append} {rewrite}")?.as_str())
+}
+
+/// Writes an item; where there is no memory no record has changed.
+fn write_again<R: Wait>(
+    rt: &R,
+    found: &mut Found,
+    shared: &SharedAccessor,
+    item: &(Option<u64>, u64, Step),
+) -> Result<()> {
+    let before = see(rt, shared);
+    let mut answer = write(rt, found.alloc, shared, item);
+    if is_refused(&answer) {
+        found.look(see(rt, shared) == before);
+        answer = write(rt, found.alloc, shared, item);
+        answer = found.again(answer);
+    }
+    answer?;
+    print_live(found, see(rt, shared))
+}
+
+fn write<R: Wait>(
+    rt: &R,
+    alloc: Global,
+    shared: &SharedAccessor,
+    item: &(Option<u64>, u64, Step),
+) -> Result<()> {
+    let (gate, seq, step) = *item;
+    let queue = match gate {
+        Some(_) => LogQueue::Rewrite,
+        None => LogQueue::Append,
+    };
+    let mut batch = written(alloc, FileId::new(queue, seq), step)?;
+    match gate {
+        Some(_) => shared.apply_rewrite_writes(rt, batch.drain(), gate, seq),
+        None => shared.apply_append_writes(rt, batch.drain()),
+    }
+}
+
+/// Puts a key of region 4; where there is no memory no record has changed.
+fn change_again<R: Wait>(rt: &R, found: &mut Found, shared: &SharedAccessor) -> Result<()> {
+    let before = see(rt, shared);
+    let mut answer = put(rt, found.alloc, shared);
+    if is_refused(&answer) {
+        found.look(see(rt, shared) == before);
+        answer = put(rt, found.alloc, shared);
+        answer = found.again(answer);
+    }
+    answer?;
+    print_live(found, see(rt, shared))
+}
+
+fn put<R: Wait>(rt: &R, alloc: Global, shared: &SharedAccessor) -> Result<u64> {
+    let key = Vec::from_slice(alloc, b"k")?;
+    let value = Vec::from_slice(alloc, b"v")?;
+    let file_id = FileId::new(LogQueue::Append, 3);
+    shared.change(
+        rt,
+        4,
+        TableChange::Put {
+            key,
+            value,
+            file_id,
+        },
+    )
+}
+
+/// Makes a call; where there is no memory no record has changed.
+fn call_again<R: Wait>(
+    rt: &R,
+    found: &mut Found,
+    shared: &SharedAccessor,
+    call: Call,
+) -> Result<()> {
+    let before = see(rt, shared);
+    let mut answer = call_at(rt, found.alloc, shared, call);
+    if is_refused(&answer) {
+        found.look(see(rt, shared) == before);
+        answer = call_at(rt, found.alloc, shared, call);
+        answer = found.again(answer);
+    }
+    answer?;
+    print_live(found, see(rt, shared))
+}
+
+fn call_at<R: Wait>(rt: &R, alloc: Global, shared: &SharedAccessor, call: Call) -> Result<()> {
+    match call {
+        Call::Make(id) => shared.get_or_insert(rt, id),
+        Call::Insert(id) => {
+            let _replaced = shared.insert(rt, id, MemTable::new(alloc, id))?;
+            Ok(())
+        }
+        Call::Remove(id, is_listed) => {
+            let _removed = shared.remove(rt, id, is_listed)?;
+            Ok(())
+        }
+        Call::Group(id, start, end) if start <= end => {
+            shared.apply_rewrite_atomic_group(rt, id, start, end)
+        }
+        Call::Group(..) => Err(Error::Failed),
+    }
+}
+
+/// The cleaned regions are taken into a batch, a second time where there was no memory: each of them is there once then.
+pub(crate) fn take<R: Wait>(rt: &R, found: &mut Found) -> Result<()> {
+    let shared = shared_tables(found.alloc)?;
+    let mut logs = LogBatch::default(found.alloc);
+    let mut answer = take_into(rt, &shared, &mut logs);
+    if is_refused(&answer) {
+        answer = take_into(rt, &shared, &mut logs);
+        answer = found.again(answer);
+    }
+    answer?;
+    print_regions(found, logs)
+}
+
+fn take_into<R: Wait>(rt: &R, shared: &SharedAccessor, logs: &mut LogBatch) -> Result<()> {
+    if !logs.is_open() {
+        return Err(Error::Failed);
+    }
+    shared.take_cleaned_region_logs(rt, logs)
+}
+
+/// A slot whose region is cleaned twice: list and batch have to be as they were where there is no memory.
+pub(crate) fn slot(found: &mut Found) -> Result<()> {
+    let mut slot = Slot::new(found.alloc, slot_of(3));
+    list(&mut slot)?;
+    list(&mut slot)?;
+    let mut logs = LogBatch::default(found.alloc);
+    take_again(found, &mut slot, &mut logs)?;
+    let alloc = found.alloc;
+    found.line(format!(in alloc; "{} left", slot.cleaned_regions().len())?.as_str())?;
+    print_regions(found, logs)
+}
+
+fn list(slot: &mut Slot) -> Result<()> {
+    if slot_of(3) != slot.number() {
+        return Err(Error::Failed);
+    }
+    let _removed = slot.remove(3, true)?;
+    Ok(())
+}
+
+fn take_again(found: &mut Found, slot: &mut Slot, logs: &mut LogBatch) -> Result<()> {
+    let before = logs.clone()?;
+    let listed = of_regions(slot.cleaned_regions());
+    let answer = take_of(slot, logs);
+    if !is_refused(&answer) {
+        return answer;
+    }
+    found.look(*logs == before && of_regions(slot.cleaned_regions()) == listed);
+    let answer = take_of(slot, logs);
+    found.again(answer)
+}
+
+fn take_of(slot: &mut Slot, logs: &mut LogBatch) -> Result<()> {
+    if !logs.is_open() {
+        return Err(Error::Failed);
+    }
+    slot.take_cleaned_region_logs(logs)
+}

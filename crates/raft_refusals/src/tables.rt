@@ -1,0 +1,309 @@
+//! Changes of a table, and what is fetched of it.
+
+use crate::found::{Found, is_refused, word};
+use crate::seen::see;
+use raft_memtable::{
+    EntryIndex, Error, FileBlockHandle, FileId, FileSeq, LogQueue, MemTable, MemTableAccessor,
+    Result, TableChange,
+};
+use raft_records::CompressionType;
+use std::alloc::Global;
+
+/// The region whose table is changed.
+const REGION: u64 = 5;
+
+/// A change of the table.
+#[derive(Clone, Copy)]
+enum Change {
+    /// Entries from an index to below another, in a file.
+    Append(u64, u64, FileSeq),
+    /// The same, with a gate.
+    Rewrite(u64, u64, FileSeq, Option<FileSeq>),
+    Put(&'static [u8], FileSeq),
+    RewriteKey(&'static [u8], Option<FileSeq>, FileSeq),
+    Delete(&'static [u8]),
+    Compact(u64),
+    Truncate(u64),
+}
+
+/// Changes of a table, one behind the other.
+static ROWS: [&[Change]; 8] = [
+    &[
+        Change::Append(10, 20, 1),
+        Change::Append(20, 30, 2),
+        Change::Append(25, 35, 3),
+        Change::Append(10, 40, 4),
+    ],
+    &[Change::Append(10, 20, 1), Change::Append(21, 22, 1)],
+    &[
+        Change::Append(0, 25, 1),
+        Change::Compact(5),
+        Change::Compact(20),
+        Change::Compact(20),
+    ],
+    &[
+        Change::Append(0, 10, 1),
+        Change::Append(10, 20, 2),
+        Change::Rewrite(0, 15, 50, Some(1)),
+        Change::Rewrite(5, 10, 51, None),
+        Change::Rewrite(12, 13, 52, Some(9)),
+        Change::Rewrite(3, 12, 52, Some(9)),
+    ],
+    &[
+        Change::Append(10, 20, 1),
+        Change::Append(20, 30, 2),
+        Change::Append(25, 35, 3),
+        Change::Compact(22),
+        Change::Rewrite(22, 27, 50, Some(2)),
+    ],
+    &[Change::Append(10, 12, 1), Change::Append(12, 14, 1)],
+    &[
+        Change::Put(b"k", 2),
+        Change::RewriteKey(b"k", Some(1), 50),
+        Change::RewriteKey(b"k", Some(2), 50),
+        Change::RewriteKey(b"k", None, 40),
+        Change::RewriteKey(b"k", None, 51),
+        Change::Delete(b"k"),
+    ],
+    &[
+        Change::Append(0, 25, 1),
+        Change::Truncate(20),
+        Change::Truncate(20),
+        Change::Truncate(0),
+    ],
+];
+
+fn rows() -> &'static [&'static [Change]] {
+    &ROWS
+}
+
+/// What each change answers, and what the table has then.
+pub(crate) fn change(found: &mut Found) -> Result<()> {
+    for row in rows() {
+        change_row(found, row)?;
+        found.line("")?;
+    }
+    Ok(())
+}
+
+fn change_row(found: &mut Found, changes: &[Change]) -> Result<()> {
+    let mut tables = MemTableAccessor::new(found.alloc)?;
+    for change in changes {
+        change_again(found, &mut tables, *change)?;
+    }
+    Ok(())
+}
+
+/// Changes the table; where there is no memory all tables have to be as they were.
+fn change_again(found: &mut Found, tables: &mut MemTableAccessor, change: Change) -> Result<()> {
+    let before = see(tables);
+    let mut answer = apply(found.alloc, tables, change);
+    if is_refused(&answer) {
+        found.look(see(tables) == before);
+        answer = apply(found.alloc, tables, change);
+        answer = found.again(answer);
+    }
+    if is_refused(&answer) {
+        return Err(Error::Memory);
+    }
+    found.look(answer.is_ok() || see(tables) == before);
+    print_answer(found, &answer, tables)
+}
+
+/// The word or the number of an answer, the first index and the one behind the last, how many blocks there are, the live
+/// number of the append queue, those of the rewrite queue that were written and deleted, and the least files, 0 for none.
+fn print_answer(found: &mut Found, answer: &Result<u64>, tables: &MemTableAccessor) -> Result<()> {
+    let alloc = found.alloc;
+    let (is, number) = match answer {
+        Ok(number) => ("dropped", *number),
+        Err(_) => (word(answer), 0),
+    };
+    let stats = tables.stats();
+    let live = stats.live_entries(LogQueue::Append);
+    let (written, deleted) = (stats.rewrite_entries(), stats.deleted_rewrite_entries());
+    let shape = tables.get(REGION).map(shape).unwrap_or_default();
+    let (first, end, blocks, append, rewrite) = shape;
+    found.line(format!(in alloc;
+        "{is} {number}: {first}..{end} in {blocks}, append {live} written {written} deleted {deleted} files {append} {rewrite}"
+    )?.as_str())
+}
+
+fn shape(table: &MemTable) -> (u64, u64, usize, FileSeq, FileSeq) {
+    (
+        table.first_index().unwrap_or(0),
+        table.last_index().map_or(0, |last| last.saturating_add(1)),
+        table.block_count(),
+        table.min_file_seq(LogQueue::Append).unwrap_or(0),
+        table.min_file_seq(LogQueue::Rewrite).unwrap_or(0),
+    )
+}
+
+fn apply(alloc: Global, tables: &mut MemTableAccessor, change: Change) -> Result<u64> {
+    let change = change_of(alloc, change)?;
+    tables.change(REGION, change)
+}
+
+fn change_of(alloc: Global, change: Change) -> Result<TableChange> {
+    Ok(match change {
+        Change::Append(start, end, seq) => {
+            TableChange::Append(run(alloc, start, end, FileId::new(LogQueue::Append, seq))?)
+        }
+        Change::Rewrite(start, end, seq, gate) => TableChange::Rewrite {
+            entries: run(alloc, start, end, FileId::new(LogQueue::Rewrite, seq))?,
+            gate,
+        },
+        Change::Put(key, seq) => put(alloc, key, FileId::new(LogQueue::Append, seq))?,
+        Change::RewriteKey(key, gate, seq) => TableChange::RewriteKey {
+            key: Vec::from_slice(alloc, key)?,
+            gate,
+            seq,
+        },
+        Change::Delete(key) => TableChange::Delete {
+            key: Vec::from_slice(alloc, key)?,
+        },
+        Change::Compact(index) => TableChange::Compact { index },
+        Change::Truncate(index) => TableChange::Truncate { index },
+    })
+}
+
+fn put(alloc: Global, key: &[u8], file_id: FileId) -> Result<TableChange> {
+    let value = Vec::from_slice(alloc, b"v")?;
+    Ok(TableChange::Put {
+        key: Vec::from_slice(alloc, key)?,
+        value,
+        file_id,
+    })
+}
+
+/// Entries of a byte from `start` to below `end`, in one block of a file.
+fn run(alloc: Global, start: u64, end: u64, id: FileId) -> Result<Vec<EntryIndex>> {
+    let mut run = Vec::new(alloc);
+    for index in start..end {
+        run.push(EntryIndex {
+            index,
+            entries: Some(FileBlockHandle {
+                id,
+                offset: 0,
+                len: 100,
+            }),
+            compression_type: CompressionType::None,
+            entry_offset: 0,
+            entry_len: 1,
+        })?;
+    }
+    Ok(run)
+}
+
+/// What is fetched: from an index to below another with a maximal size, or in files up to a gate, or what is rewritten.
+#[derive(Clone, Copy)]
+enum Fetch {
+    To(u64, u64, Option<usize>),
+    Before(FileSeq),
+    Rewritten,
+}
+
+static FETCHES: [Fetch; 9] = [
+    Fetch::To(10, 25, Some(10)),
+    Fetch::To(5, 15, None),
+    Fetch::To(20, 30, None),
+    Fetch::To(12, 12, None),
+    Fetch::To(20, 25, Some(0)),
+    Fetch::To(10, 25, None),
+    Fetch::Before(2),
+    Fetch::Before(3),
+    Fetch::Rewritten,
+];
+
+fn fetches() -> &'static [Fetch] {
+    &FETCHES
+}
+
+/// A table whose entries lie in five blocks, of which the first two are rewritten, and two keys, one of them rewritten.
+static FETCHED: [Change; 8] = [
+    Change::Append(10, 15, 1),
+    Change::Append(15, 20, 2),
+    Change::Append(20, 25, 3),
+    Change::Rewrite(10, 12, 50, Some(1)),
+    Change::Rewrite(12, 14, 51, Some(1)),
+    Change::Put(b"j", 1),
+    Change::Put(b"k", 2),
+    Change::RewriteKey(b"j", Some(1), 51),
+];
+
+fn fetched_table(alloc: Global) -> Result<MemTableAccessor> {
+    let mut tables = MemTableAccessor::new(alloc)?;
+    for change in &FETCHED {
+        apply(alloc, &mut tables, *change)?;
+    }
+    Ok(tables)
+}
+
+/// How many entries are fetched, and the first and the last of them; how many keys.
+pub(crate) fn fetch(found: &mut Found) -> Result<()> {
+    let tables = fetched_table(found.alloc)?;
+    let Some(table) = tables.get(REGION) else {
+        return Err(Error::Failed);
+    };
+    for fetch in fetches() {
+        fetch_again(found, table, *fetch)?;
+    }
+    for &gate in &[Some(1), Some(2), None] {
+        fetch_pairs_again(found, table, gate)?;
+    }
+    Ok(())
+}
+
+/// Fetches entries behind another; where there is no memory that stands alone.
+fn fetch_again(found: &mut Found, table: &MemTable, fetch: Fetch) -> Result<()> {
+    let mut vec = vec![in found.alloc; EntryIndex::default()]?;
+    let mut answer = fetch_to(table, fetch, &mut vec);
+    if is_refused(&answer) {
+        found.look(is_default(&vec));
+        answer = fetch_to(table, fetch, &mut vec);
+        answer = found.again(answer);
+    }
+    if is_refused(&answer) {
+        return answer;
+    }
+    found.look(answer.is_ok() || is_default(&vec));
+    let alloc = found.alloc;
+    let last = vec.last().map_or(0, |entry| entry.index);
+    found.line(format!(in alloc; "{} {} last {last}", word(&answer), vec.len())?.as_str())
+}
+
+fn is_default(vec: &Vec<EntryIndex>) -> bool {
+    vec.as_slice() == [EntryIndex::default()].as_slice()
+}
+
+fn fetch_to(table: &MemTable, fetch: Fetch, vec: &mut Vec<EntryIndex>) -> Result<()> {
+    match fetch {
+        Fetch::To(begin, end, max_size) => table.fetch_entries_to(begin, end, max_size, vec),
+        Fetch::Before(gate) => table.fetch_entry_indexes_before(gate, vec),
+        Fetch::Rewritten => table.fetch_rewritten_entry_indexes(vec),
+    }
+}
+
+/// Fetches pairs, those that are rewritten where there is no gate; where there is no memory the vector has to be empty.
+fn fetch_pairs_again(found: &mut Found, table: &MemTable, gate: Option<FileSeq>) -> Result<()> {
+    let mut vec = Vec::new(found.alloc);
+    let mut answer = fetch_pairs(table, gate, &mut vec);
+    if is_refused(&answer) {
+        found.look(vec.is_empty());
+        answer = fetch_pairs(table, gate, &mut vec);
+        answer = found.again(answer);
+    }
+    answer?;
+    let alloc = found.alloc;
+    found.line(format!(in alloc; "pairs {}", vec.len())?.as_str())
+}
+
+fn fetch_pairs(
+    table: &MemTable,
+    gate: Option<FileSeq>,
+    vec: &mut Vec<(Vec<u8>, Vec<u8>)>,
+) -> Result<()> {
+    match gate {
+        Some(gate) => table.fetch_kvs_before(gate, vec),
+        None => table.fetch_rewritten_kvs(vec),
+    }
+}

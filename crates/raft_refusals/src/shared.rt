@@ -48,7 +48,7 @@ fn shared_tables(alloc: Global) -> Result<SharedAccessor> {
 }
 
 /// Items, changes and calls, and what is live after each.
-pub(crate) fn call<R: Wait>(rt: &R, found: &mut Found) -> Result<()> {
+pub(crate) fn call_all<R: Wait>(rt: &R, found: &mut Found) -> Result<()> {
     let shared = shared_tables(found.alloc)?;
     for item in &ITEMS {
         write_again(rt, found, &shared, item)?;

@@ -78,7 +78,7 @@ fn rows() -> &'static [&'static [Change]] {
 }
 
 /// What each change answers, and what the table has then.
-pub(crate) fn change(found: &mut Found) -> Result<()> {
+pub(crate) fn change_all(found: &mut Found) -> Result<()> {
     for row in rows() {
         change_row(found, row)?;
         found.line("")?;
@@ -239,7 +239,7 @@ fn fetched_table(alloc: Global) -> Result<MemTableAccessor> {
 }
 
 /// How many entries are fetched, and the first and the last of them; how many keys.
-pub(crate) fn fetch(found: &mut Found) -> Result<()> {
+pub(crate) fn fetch_all(found: &mut Found) -> Result<()> {
     let tables = fetched_table(found.alloc)?;
     let Some(table) = tables.get(REGION) else {
         return Err(Error::Failed);

@@ -68,7 +68,7 @@ fn rows() -> &'static [&'static [WriteRow]] {
 }
 
 /// What each writing answers, and the tables behind the last.
-pub(crate) fn write(found: &mut Found) -> Result<()> {
+pub(crate) fn write_all(found: &mut Found) -> Result<()> {
     for row in rows() {
         let mut tables = MemTableAccessor::new(found.alloc)?;
         for written in *row {

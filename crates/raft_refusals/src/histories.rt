@@ -2,7 +2,9 @@
 
 use crate::steps::{Step, sealed};
 use AtomicGroupStatus::{Begin, End, Middle};
-use raft_records::{AtomicGroupStatus, FileId, FilePart, FileSeq, LogQueue, Result, Version};
+use raft_records::{
+    AtomicGroupStatus, Error, FileId, FilePart, FileSeq, LogQueue, Result, Version,
+};
 use raft_recover::Segment;
 use std::alloc::Global;
 
@@ -208,7 +210,7 @@ pub(crate) fn part_of(
 ) -> Result<FilePart> {
     let batch = sealed(alloc, file, steps)?;
     if !batch.is_sealed() {
-        return Err(raft_records::Error::Failed);
+        return Err(Error::Failed);
     }
     let bytes = Vec::from_slice(alloc, batch.encoded_bytes())?;
     FilePart::new(file, Version::V1, offset, bytes)

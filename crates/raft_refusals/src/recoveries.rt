@@ -75,10 +75,16 @@ fn recover_again<R: Threads + Sync>(
 fn number(segments: &[Segment]) -> u64 {
     let mut all = segments.len() as u64;
     for segment in segments {
-        for part in segment {
-            let part = u64::from(crc32(part.bytes())) ^ part.id().seq ^ part.offset();
-            all = (all ^ part).wrapping_mul(0x9e37_79b9_7f4a_7c15);
-        }
+        all = with_parts(all, segment);
+    }
+    all
+}
+
+fn with_parts(before: u64, segment: &Segment) -> u64 {
+    let mut all = before;
+    for part in segment {
+        let part = u64::from(crc32(part.bytes())) ^ part.id().seq ^ part.offset();
+        all = (all ^ part).wrapping_mul(0x9e37_79b9_7f4a_7c15);
     }
     all
 }

@@ -6,7 +6,6 @@ ghost use Rattle.raft_base.specs.Checksum.{crc32_of};
 ghost use Rattle.raft_base.specs.CodecErrors.{IsIo};
 ghost use Rattle.raft_base.specs.Reading.{HasNoFront, Reads};
 ghost use Rattle.raft_base.specs.Signature.{signature_of};
-ghost use Rattle.raft_base.specs.SizeError.TheVariants.{Empty};
 ghost use Rattle.raft_base.specs.SizeText.{IsSizeText};
 ghost use Rattle.raft_base.specs.Varint.{IsVarint};
 ghost use Rattle.raft_records.specs.Entries.{IsConsecutive};
@@ -18,13 +17,10 @@ ghost use Rattle.raft_memtable.specs.AccessorCalls.{IsWritten};
 ghost use Rattle.raft_memtable.specs.Histories.{IsSmall};
 ghost use Rattle.raft_memtable.specs.RecoverContext.{IsReadingExactly};
 ghost use Rattle.raft_memtable.specs.ReplayMachine.{event};
-ghost use Rattle.raft_memtable.specs.Block.{Block};
 ghost use Rattle.raft_memtable.specs.Table.{IsCounted, compacted};
-ghost use Rattle.raft_memtable.specs.TableChange.TheVariants.{Keep};
 ghost use Rattle.raft_memtable.specs.TableEntries.{IsRunIn};
 ghost use Rattle.raft_memtable.specs.Writes.{Appending};
 ghost use Rattle.raft_recover.specs.Draws.{IsSeatOf};
-ghost use Rattle.raft_recover.specs.Plan.TheVariants.{One};
 ghost use Rattle.raft_recover.specs.Recovery.{IsRecovered};
 ghost use Rattle.raft_recover.specs.Segments.{ReadsSegments, SegmentsAreOf};
 ghost use Rattle.raft_recover.specs.Slot.{HoldsOwnTables};
@@ -32,11 +28,11 @@ ghost use Rattle.raft_recover.specs.Slot.{HoldsOwnTables};
 use raft_base::codec::{BytesSlice, decode_var_u64};
 use raft_base::{FileId, LogQueue, ReadableSize, SizeError, codec, crc32};
 use raft_memtable::{
-    Block, EntryIndex, GlobalStats, LogItem, LogItemBatch, MemTable, MemTableAccessor,
-    MemTableRecoverContext, ReplayMachine, Result, TableChange,
+    EntryIndex, GlobalStats, LogItem, LogItemBatch, MemTable, MemTableAccessor,
+    MemTableRecoverContext, ReplayMachine, Result,
 };
 use raft_records::{LogFileContext, is_consecutive};
-use raft_recover::{Plan, Segment, Slot, TicketSeat, Tickets, recover};
+use raft_recover::{Segment, Slot, TicketSeat, Tickets, recover};
 use std::alloc::Global;
 use std::str::FromStr;
 use std::thread::Threads;
@@ -85,14 +81,6 @@ fn size_of_record_text(text: &str) -> std::result::Result<ReadableSize, SizeErro
     ReadableSize::from_str(text)
 }
 
-/// A variant of `raft_size`.
-fn is_of_no_text(error: &SizeError) -> bool
-    requires { error.now ≡ Empty }
-    ensures { IsTrue result }
-{
-    matches!(error, SizeError::Empty)
-}
-
 /// Of `raft_base`.
 fn signature(context: &LogFileContext) -> Option<u32>
     ensures { result ≡ signature_of context.now }
@@ -122,21 +110,6 @@ fn compact(table: &mut MemTable, stats: &mut GlobalStats) -> u64
     ensures { table.new ≡ compacted 5 table.old }
 {
     table.compact_to(5, stats)
-}
-
-/// A variant of `raft_table`.
-fn is_no_change(change: &TableChange) -> bool
-    requires { change.now ≡ Keep }
-    ensures { IsTrue result }
-{
-    matches!(change, TableChange::Keep)
-}
-
-/// A record of `raft_table`.
-fn handles_are_one(left: &Block, right: &Block) -> bool
-    requires { Block.handle left.now ≡ Block.handle right.now }
-{
-    left.handle == right.handle
 }
 
 /// Of `raft_history`.
@@ -182,14 +155,6 @@ fn draw(tickets: &Tickets, seat: &mut TicketSeat) -> Option<usize>
     ensures { IsSeatOf tickets.now seat.new }
 {
     tickets.draw(seat)
-}
-
-/// A variant of `raft_replay`.
-fn is_one_piece(plan: &Plan) -> bool
-    requires { plan.now ≡ One }
-    ensures { IsTrue result }
-{
-    matches!(plan, Plan::One)
 }
 
 /// Of `raft_replay` and `raft_recover`.

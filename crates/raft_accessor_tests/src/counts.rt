@@ -147,7 +147,9 @@ fn two(alloc: Global, first: Item, second: Item) -> Result<Vec<LogItem>> {
 /// Takes a region's table away, and puts it back in.
 fn put_back(accessor: &mut MemTableAccessor, region: u64) -> Result<()> {
     if let Some(table) = accessor.remove(region, false)? {
-        accessor.insert(region, table)?;
+        if table.region_id() == region {
+            accessor.insert(region, table)?;
+        }
     }
     Ok(())
 }

@@ -30,27 +30,26 @@ pub(crate) enum Found {
     /// The same.
     Same(Answer),
     /// This one, read and merged in this way, gives something else than the batches uncut.
-    Different { cutting: u64, way: &'static str },
+    Different { cutting: u64, way: Way },
 }
 
 /// How segments are read and merged.
 #[derive(Clone, Copy)]
-enum Way {
+pub(crate) enum Way {
     Left,
     Right,
     Halves,
     Workers(usize),
 }
 
-/// All ways, each with its name.
-static WAYS: [(Way, &str); 7] = [
-    (Way::Left, "from the left"),
-    (Way::Right, "from the right"),
-    (Way::Halves, "by halves"),
-    (Way::Workers(1), "by one worker"),
-    (Way::Workers(2), "by two workers"),
-    (Way::Workers(3), "by three workers"),
-    (Way::Workers(4), "by four workers"),
+static WAYS: [Way; 7] = [
+    Way::Left,
+    Way::Right,
+    Way::Halves,
+    Way::Workers(1),
+    Way::Workers(2),
+    Way::Workers(3),
+    Way::Workers(4),
 ];
 
 /// Reads files at every cutting.
@@ -74,17 +73,17 @@ pub(crate) fn of_files<R: Threads + Files + AllocGlobal + Sync>(
     Ok(Found::Same(whole))
 }
 
-/// The name of a way that gives something else at this cutting, if there is one.
+/// A way that gives something else at this cutting, if there is one.
 fn other_way<R: Threads + AllocGlobal + Sync>(
     rt: &R,
     batches: &[FilePart],
     queue: LogQueue,
     cutting: u64,
     whole: &Answer,
-) -> Result<Option<&'static str>> {
-    for &(way, name) in &WAYS {
+) -> Result<Option<Way>> {
+    for &way in &WAYS {
         if !is_same(&read_cut(rt, batches, queue, cutting, way)?, whole) {
-            return Ok(Some(name));
+            return Ok(Some(way));
         }
     }
     Ok(None)

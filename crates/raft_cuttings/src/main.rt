@@ -6,7 +6,7 @@
 
 mod cuttings;
 
-use cuttings::{Answer, Found};
+use cuttings::{Answer, Found, Way};
 use raft_records::Result;
 use raft_recover::command_words;
 use raft_recover::request::Request;
@@ -38,19 +38,32 @@ fn main(rt: HostRuntime) -> ExitCode {
 /// Prints what was found, and answers the status to end with.
 fn status_of(rt: &HostRuntime, found: Result<Found>) -> u8 {
     match found {
-        Ok(Found::Same(Answer::Lines(lines))) => {
-            if rt.stdout().write_all(&lines).is_ok() {
-                DONE
-            } else {
-                REFUSED
-            }
-        }
-        Ok(Found::Different { cutting, way }) => {
-            let _ = eprintln!(rt;
-                "raft_cuttings: cutting {cutting}, {way}: other than the batches uncut"
-            );
-            DIFFERENT
-        }
-        Ok(Found::Same(Answer::Refused)) | Err(_) => REFUSED,
+        Ok(Found::Same(answer)) => print(rt, answer),
+        Ok(Found::Different { cutting, way }) => tell(rt, cutting, way),
+        Err(_) => REFUSED,
     }
+}
+
+/// Prints the lines of an answer.
+fn print(rt: &HostRuntime, answer: Answer) -> u8 {
+    let Answer::Lines(lines) = answer else {
+        return REFUSED;
+    };
+    if rt.stdout().write_all(&lines).is_ok() {
+        DONE
+    } else {
+        REFUSED
+    }
+}
+
+/// Tells which cutting gives something else.
+fn tell(rt: &HostRuntime, cutting: u64, way: Way) -> u8 {
+    let way = match way {
+        Way::Left => "from the left",
+        Way::Right => "from the right",
+        Way::Halves => "by halves",
+        Way::Workers(_) => "by workers",
+    };
+    let _ = eprintln!(rt; "raft_cuttings: cutting {cutting}, {way}: other than the batches uncut");
+    DIFFERENT
 }

@@ -11,7 +11,7 @@ demo:
 	@mkdir -p crates/raftlog/out
 	@cd crates/raftlog && $(RT) try -- batch append 12 1 < stdin 2> out/demo.log || { cat out/demo.log; exit 1; }
 
-# Recovers the tables that the files of demo/ give, by four workers. Nothing is proved.
+# Recovers the tables that the files of demo/ give, by at most four workers. Nothing is proved.
 demo-recover:
 	@echo "raftlog, compiled with checks at run time and run without a proof (\`make raftlog\` proves it):"
 	@echo "\$$ raftlog recover append 2 4 1=demo/1.log 2=demo/2.log 3=demo/3.log 4=demo/4.log"

@@ -5,7 +5,7 @@
     believe.py --check    fails where that page isn't what the definitions say now
 
 Follows the names from the clauses of `recover` to the definitions in `specs/`, from those to the names that they use, and so
-on, and lists what it meets, what is needed first coming first. Names of std, and types of the code, are listed by name alone.
+on, and lists what it meets, each definition after those that it uses. Names of std, and types of the code, are listed by name alone.
 """
 
 import re
@@ -188,7 +188,7 @@ class Reading:
 
 def operators_in(line, names):
     """The operators among these names that stand in a line."""
-    tokens = set(re.findall(rf"{NAME}|∷|[^\w\s(){{}}\[\],.:=λ→∷]+", line))
+    tokens = set(re.findall(rf"{NAME}|∷|==|[^\w\s(){{}}\[\],.:=λ→∷]+", line))
     return [name for name in names if "◌" in name and tokens.issuperset(filter(None, name.split("◌")))]
 
 
@@ -288,12 +288,12 @@ def page():
         "```",
         "",
         f"It says what it says by **{count} definitions, {total} lines in {len(files)} files**, found by following names from these",
-        "clauses. They stand below whole, as they lie in `specs/`, what is needed first coming first, each line behind its number in its",
-        "file. Whether they say what is meant, no proof can tell: that is for a reader to believe, who then has to believe no code.",
+        "clauses. They are shown below as they stand in `specs/`, each file after those that it uses, with the line numbers of its file.",
+        "No proof can tell whether they say what is meant. That is what a reader has to believe, and then has to believe no code.",
         "",
-        "In the clauses, `result` and `segments` stand for plain values: what the call answers is seen as an `Accessor` (the map from",
+        "In the clauses, `result` and `segments` stand for plain values: what the call returns is seen as an `Accessor` (the map from",
         "region to table, the cleaned regions in order, the counts), a part of a file as a `Part` (its file, version, offset and bytes).",
-        "The contracts of all other calls on such values, those that look a table up and those that make a part, speak of the same.",
+        "The contracts of all other calls on them, such as those that look up a table or make a part, speak of the same values.",
         "",
         "| crate | file | definitions | lines |",
         "|---|---|---|---|",

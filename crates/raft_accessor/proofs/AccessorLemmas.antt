@@ -17,7 +17,7 @@ use Rattle.raft_accessor.specs.AccessorCalls.{IsTableChanged, IsWritten}
 use Rattle.raft_accessor.specs.AccessorView.{together, accessor_shown, IsAccessorKept}
 use Rattle.raft_accessor.specs.ItemWrites.{IsItemWritten}
 use Rattle.raft_accessor.specs.Merges.{IsMergedAt, IsTableMerged}
-use Rattle.raft_accessor.specs.Updates.{IsTaken}
+use Rattle.raft_accessor.specs.Updates.{BecomesOutcome}
 use Rattle.raft_accessor.specs.Writes.{Writing, queue_of, after_content, counts_after_content, after_items, AreCountsAfterItems, listed_by, listed_by_items, IsFor, MixesQueues, NoneMixesQueues, IsWriteFault, AreWritten, AreItemsRefused}
 use Rattle.raft_accessor.proofs.MapLemmas.{with_own, with_same, some_is}
 use Rattle.raft_accessor.proofs.SlotLemmas.{get-shown, IsChanged, shown-changed, kept-changed}
@@ -73,7 +73,7 @@ module _ (a b : Inside) (id i : ℕ) (d slot : Tables) (after : Counts) (kept : 
     counted_some-in f None e = tt
 
     -- a change of a table
-    pub changed-in : {R : Type 0} (outcome : Table → Option Table) (IsFault : Table → Counts → Error → Type 0) (res : Result R Error) → IsTaken (outcome (table_in d id)) (IsFault (table_in d id) a.stats) d id a.stats res slot after
+    pub changed-in : {R : Type 0} (outcome : Table → Option Table) (IsFault : Table → Counts → Error → Type 0) (res : Result R Error) → BecomesOutcome (outcome (table_in d id)) (IsFault (table_in d id) a.stats) d id a.stats res slot after
         → b.cleaned.items ≡ a.cleaned.items → IsTableChanged (outcome (table_in r.tables id)) (IsFault (table_in r.tables id) r.counts) id res r (accessor_shown b)
     changed-in outcome IsFault res t l =
         let old : table_in d id ≡ table_in r.tables id = sym (ap (table_of id) was) in

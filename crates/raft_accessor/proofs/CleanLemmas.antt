@@ -4,13 +4,13 @@ use Rattle.raft_base.specs.declared.errors.Error.{Error}
 use Rattle.raft_base.specs.declared.errors.Error.TheVariants as errors
 use Rattle.raft_records.specs.declared.command.Command.TheVariants.{Clean}
 use Rattle.raft_records.specs.Item.{Item, command_item}
-use Rattle.raft_records.specs.ItemBatch.{raised}
+use Rattle.raft_records.specs.ItemBatch.{raised_item}
 use Rattle.raft_records.specs.LogBatch.{Batch, empty_batch, with_batch}
 
 abbrev pub cleans : List ℕ → List Item
 cleans ids = map (λ id. command_item id Clean) ids
 
-raised-cleans : (s : ℕ) (ids : List ℕ) → map (raised s) (cleans ids) ≡ cleans ids
+raised-cleans : (s : ℕ) (ids : List ℕ) → map (raised_item s) (cleans ids) ≡ cleans ids
 raised-cleans s [] = refl
 raised-cleans s (id ∷ ids) = ap (λ l. command_item id Clean ∷ l) (raised-cleans s ids)
 

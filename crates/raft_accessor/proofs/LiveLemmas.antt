@@ -1,6 +1,7 @@
 -- The live numbers of all tables, when one is written or taken away.
-use Rattle.std.proofs.Common.{◌≡◌, ℕ, ◌+◌, ◌-◌, ◌≤◌, true, false, cond, not, List, [], ◌∷◌, length, Option, Some, None, refl, sym, ap, ◌∙◌, arith}
+use Rattle.std.proofs.Common.{◌≡◌, ℕ, ◌+◌, ◌-◌, ◌≤◌, true, false, cond, not, List, [], ◌∷◌, length, map, sum_by, Option, Some, None, refl, sym, ap, ◌∙◌, arith}
 use lib.Dec.{T}
+use Rattle.std.proofs.lemmas.List.Sums.{sum_by-cons}
 use Rattle.std.specs.declared.cmp.Ordering.TheVariants.{Less, Equal, Greater}
 use Rattle.std.specs.Ordering.{nat_cmp, eq_by_cmp, is_eq}
 use Rattle.std.specs.Cmp.{nat_cmp_total}
@@ -16,7 +17,20 @@ use Rattle.raft_table.specs.Table.{Table, empty_table, live_of, with_table_delet
 use Rattle.raft_table.proofs.KeyValueCounts.{entries-remove}
 use Rattle.raft_table.proofs.Shown.{find-below, where_key-below, below_all-less, below_all-equal, first_of_both, second_of_both, equal}
 use Rattle.raft_history.specs.RegionSteps.{Tables, with_table}
-use Rattle.raft_accessor.specs.Accessor.{table_in, live_in, live_of_all, live_in_all, AreCountsOf}
+use Rattle.raft_accessor.specs.Accessor.{table_in, live_in, live_in_all, AreCountsOf}
+
+-- the live numbers of some regions' tables together
+abbrev pub live_of_all : LogQueue → List (ℕ × Table) → ℕ
+live_of_all queue [] = 0
+live_of_all queue (e ∷ es) = live_of queue e.1 + live_of_all queue es
+
+pub live-all : (q : LogQueue) (m : Tables) → live_in_all q m ≡ live_of_all q (finite.entries m)
+unfolding live_in_all
+live-all q m = go (finite.entries m)
+  where
+    go : (es : List (ℕ × Table)) → sum_by (live_of q) (map (λ (e : ℕ × Table). e.1) es) ≡ live_of_all q es
+    go [] = refl
+    go (e ∷ es) = sum_by-cons (live_of q) e.1 (map (λ (e : ℕ × Table). e.1) es) ∙ ap (λ n. live_of q e.1 + n) (go es)
 
 live-put : (q : LogQueue) (k : ℕ) (t : Table) (es : List (ℕ × Table)) → T (is_sorted nat_cmp es) → live_of_all q (put nat_cmp k t es) + live_in q (find nat_cmp k es) ≡ live_of_all q es + live_of q t
 live-put q k t [] h = omega arith
@@ -37,12 +51,10 @@ live-without q k (e ∷ es) h =
     ] refl
 
 pub live-insert : (q : LogQueue) (m : Tables) (k : ℕ) (t : Table) → live_in_all q (finite.insert m k t) + live_in q (finite.get m k) ≡ live_in_all q m + live_of q t
-unfolding live_in_all
-live-insert q m k t = rw (finite.entries-insert nat_cmp_total, finite.get-entries) (live-put q k t (finite.entries m) (finite.entries_sorted m))
+live-insert q m k t = rw (live-all q (finite.insert m k t), live-all q m, finite.entries-insert nat_cmp_total, finite.get-entries) (live-put q k t (finite.entries m) (finite.entries_sorted m))
 
 pub live-remove : (q : LogQueue) (m : Tables) (k : ℕ) → live_in_all q (finite.remove m k) + live_in q (finite.get m k) ≡ live_in_all q m
-unfolding live_in_all
-live-remove q m k = rw (entries-remove nat_cmp_total nat_cmp-IsAntisymmetric, finite.get-entries) (live-without q k (finite.entries m) (finite.entries_sorted m))
+live-remove q m k = rw (live-all q (finite.remove m k), live-all q m, entries-remove nat_cmp_total nat_cmp-IsAntisymmetric, finite.get-entries) (live-without q k (finite.entries m) (finite.entries_sorted m))
 
 -- one region's table written, or taken away
 pub live-with : (q : LogQueue) (m : Tables) (k : ℕ) (t : Option Table) → live_in_all q (with_table m k t) + live_in q (finite.get m k) ≡ live_in_all q m + live_in q t
@@ -62,8 +74,7 @@ pub counted-with : (m : Tables) (old new : Counts) (k : ℕ) (t : Option Table) 
 counted-with m old new k t h r = λ q. omega (arith, h q, r q, live-with q m k t, live-table_of q k (finite.get m k), live-table_of q k t)
 
 pub live-none : (q : LogQueue) → live_in_all q finite.empty ≡ 0
-unfolding live_in_all
-live-none q = ap (live_of_all q) (no_length _ (sym (finite.len-entries {K = ℕ} {X = Table} {R = nat_cmp} finite.empty) ∙ finite.len-empty nat_cmp Table))
+live-none q = live-all q finite.empty ∙ ap (live_of_all q) (no_length _ (sym (finite.len-entries {K = ℕ} {X = Table} {R = nat_cmp} finite.empty) ∙ finite.len-empty nat_cmp Table))
   where
     no_length : (es : List (ℕ × Table)) → length es ≡ 0 → es ≡ []
     no_length [] e = refl

@@ -9,8 +9,8 @@ use Rattle.raft_history.specs.RegionSteps.{Tables, with_table}
 use Rattle.raft_table.specs.Counts.{Counts}
 use Rattle.raft_table.specs.MarkJoins.{end_at_reach}
 use Rattle.raft_table.specs.MarkMerge.{IsFaultUnder, IsMarkFault, IsRunOver}
-use Rattle.raft_table.specs.Marks.{Mark, entries_within, is_refused_over, table_over, applied}
-use Rattle.raft_table.specs.Steps.{table_of, there_if}
+use Rattle.raft_table.specs.Marks.{Mark, entries_within, is_refused_over, table_over, there_if, table_over_older}
+use Rattle.raft_table.specs.Steps.{table_of}
 use Rattle.raft_table.specs.Table.{Table, empty_table, live_of, IsRecounted}
 use Rattle.raft_table.specs.TableEntries.{end_of}
 use Rattle.raft_table.proofs.MarkTables.{applied_none}
@@ -56,7 +56,7 @@ nothing_at_reach m id = refl
 -- nor is there an older one
 pub nothing_joined : (queue : LogQueue) (m : Mark) (old : Tables) (id : ℕ) (counts : Counts) → finite.get old id ≡ None → IsTableJoined queue m None old id counts (Ok 0) old counts
 nothing_joined queue m old id counts e = record {
-  ok = λ run. subst (λ o. applied queue id m None o ≡ Some o) (sym e) (applied_none queue id m None refl);
+  ok = λ run. subst (λ o. table_over_older queue id m None o ≡ Some o) (sym e) (applied_none queue id m None refl);
   answer = nothing_at_reach m id ∙ ap (λ o. end_at_reach m (table_of id o)) (sym e);
   fault = λ run. tt;
   few = λ q. omega arith;
@@ -82,8 +82,8 @@ empty_joined queue m old id counts t r new after e live p = record {
     there false e = refl
     there true e = absurd (false≢true (sym e))
 
-    same : applied queue id m None (finite.get old id) ≡ applied queue id m (Some (empty_table id)) (finite.get old id)
-    same = subst (λ o. applied queue id m None o ≡ applied queue id m (Some (empty_table id)) o) (sym e) (ap (λ b. there_if b (table_over queue m (empty_table id) t)) (there m.cleaned live))
+    same : table_over_older queue id m None (finite.get old id) ≡ table_over_older queue id m (Some (empty_table id)) (finite.get old id)
+    same = subst (λ o. table_over_older queue id m None o ≡ table_over_older queue id m (Some (empty_table id)) o) (sym e) (ap (λ b. there_if b (table_over queue m (empty_table id) t)) (there m.cleaned live))
 
 -- the older one goes
 pub cleaned_joined : (queue : LogQueue) (m : Mark) (old : Tables) (id : ℕ) (counts : Counts) (t : Table) (end : ℕ) (new : Tables) (after : Counts) → finite.get old id ≡ Some t → m.cleaned ≡ true → is_refused_over queue m t.entries ≡ false → end ≡ end_at_reach m t → new ≡ finite.remove old id
@@ -91,7 +91,7 @@ pub cleaned_joined : (queue : LogQueue) (m : Mark) (old : Tables) (id : ℕ) (co
 cleaned_joined queue m old id counts t end new after e cleaned accepted answer gone recounted =
     let none : finite.get new id ≡ None = ap (λ n. finite.get n id) gone ∙ get_gone old id in
     record {
-      ok = λ run. subst (λ o. applied queue id m None o ≡ Some (finite.get new id)) (sym e) (rw (accepted, cleaned) (ap Some (sym none)));
+      ok = λ run. subst (λ o. table_over_older queue id m None o ≡ Some (finite.get new id)) (sym e) (rw (accepted, cleaned) (ap Some (sym none)));
       answer = answer ∙ ap (end_at_reach m) (sym (there_now old id t e));
       fault = λ run. tt;
       few = λ q. omega (arith, ap (λ o. live_of q (table_of id o)) none, live_of_empty q id);
@@ -112,7 +112,7 @@ mark_refused queue m old id counts t x e f = record { ok = λ run. tt; answer = 
 pub joined_elsewhere : (queue : LogQueue) (m : Mark) (newer : Option Table) (old older : Tables) (id : ℕ) (counts before : Counts) (r : Result ℕ Error) (new next : Tables) (after : Counts) → finite.get older id ≡ finite.get old id → before ≡ counts → finite.get next id ≡ finite.get new id → next ≡ with_table older id (finite.get next id)
     → IsTableJoined queue m newer old id counts r new after → IsTableJoined queue m newer older id before r next after
 joined_elsewhere queue m newer old older id counts before r new next after e k f one p = record {
-  ok = λ run. subst (λ o. OnOk r (applied queue id m newer o ≡ Some (finite.get next id))) (sym e) (subst (λ n. OnOk r (applied queue id m newer (finite.get old id) ≡ Some n)) (sym f) (p.ok (subst (λ o. IsRunOver queue m (table_of id newer) (table_of id o)) e run)));
+  ok = λ run. subst (λ o. OnOk r (table_over_older queue id m newer o ≡ Some (finite.get next id))) (sym e) (subst (λ n. OnOk r (table_over_older queue id m newer (finite.get old id) ≡ Some n)) (sym f) (p.ok (subst (λ o. IsRunOver queue m (table_of id newer) (table_of id o)) e run)));
   answer = subst (λ o. IfOk r (λ end. end ≡ end_at_reach m (table_of id o))) (sym e) p.answer;
   fault = λ run. subst (λ c. IfErr r (IsFaultUnder queue c m (table_of id newer) (table_in older id))) (sym k) (subst (λ o. IfErr r (IsFaultUnder queue counts m (table_of id newer) (table_of id o))) (sym e) (p.fault (subst (λ o. IsRunOver queue m (table_of id newer) (table_of id o)) e run)));
   few = subst (λ o. OnOk r ((q : LogQueue) → live_of q (table_in next id) ≤ live_of q (table_of id o) + live_in q newer)) (sym e) (subst (λ n. OnOk r ((q : LogQueue) → live_of q (table_of id n) ≤ live_of q (table_in old id) + live_in q newer)) (sym f) p.few);

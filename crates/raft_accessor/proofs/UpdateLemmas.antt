@@ -9,7 +9,7 @@ use Rattle.raft_table.specs.Steps.{table_of}
 use Rattle.raft_table.specs.Table.{Table, IsRecounted}
 use Rattle.raft_history.specs.RegionSteps.{Tables}
 use Rattle.raft_accessor.specs.Accessor.{table_in}
-use Rattle.raft_accessor.specs.Updates.{TableCall, TableCalls, MayChange, IsUpdated, IsTaken}
+use Rattle.raft_accessor.specs.Updates.{TableCall, TableCalls, MayChange, IsUpdated, BecomesOutcome}
 use Rattle.raft_accessor.proofs.MapLemmas.{get_own, insert_same, one_written, one_same}
 
 module _ {F R : Type 0} (g : TableCall F R) (f : F) (m : Tables) (id : ℕ) (counts : Counts) where
@@ -74,7 +74,7 @@ module _ {F R : Type 0} (g : TableCall F R) (f : F) (m : Tables) (id : ℕ) (cou
       }
 
 -- a table that was there becomes the outcome of a change
-pub taken_there : {R : Type 0} (m n : Tables) (id : ℕ) (u new : Table) (outcome : Table → Option Table) (IsFault : Error → Type 0) (counts after : Counts) (a : R) → finite.get m id ≡ Some u → outcome u ≡ Some new → IsRecounted u new counts after → n ≡ finite.insert m id new → IsTaken (outcome (table_in m id)) IsFault m id counts (Ok a) n after
+pub taken_there : {R : Type 0} (m n : Tables) (id : ℕ) (u new : Table) (outcome : Table → Option Table) (IsFault : Error → Type 0) (counts after : Counts) (a : R) → finite.get m id ≡ Some u → outcome u ≡ Some new → IsRecounted u new counts after → n ≡ finite.insert m id new → BecomesOutcome (outcome (table_in m id)) IsFault m id counts (Ok a) n after
 taken_there m n id u new outcome IsFault counts after a is o r e =
     let was : table_in m id ≡ u = ap (table_of id) is in
     let now : table_in n id ≡ new = ap (λ x. table_in x id) e ∙ ap (table_of id) (get_own m id new) in
@@ -89,7 +89,7 @@ taken_there m n id u new outcome IsFault counts after a is o r e =
     }
 
 -- a change that is not made, as for want of memory
-pub not_taken : {R : Type 0} (m n : Tables) (id : ℕ) (outcome : Option Table) (IsFault : Error → Type 0) (counts after : Counts) → n ≡ m → after ≡ counts → IsTaken {R = R} outcome IsFault m id counts (Err Memory) n after
+pub not_taken : {R : Type 0} (m n : Tables) (id : ℕ) (outcome : Option Table) (IsFault : Error → Type 0) (counts after : Counts) → n ≡ m → after ≡ counts → BecomesOutcome {R = R} outcome IsFault m id counts (Err Memory) n after
 not_taken m n id outcome IsFault counts after e k =
     let now : table_in n id ≡ table_in m id = ap (λ y. table_in y id) e in
     record {

@@ -17,13 +17,13 @@ use Rattle.raft_records.specs.Item.{Item, Content, Pair, entries, pair, command_
 use Rattle.raft_history.specs.RegionSteps.{Tables, with_table}
 use Rattle.raft_table.specs.Counts.{Counts, live}
 use Rattle.raft_table.specs.KeyValues.{file_at}
-use Rattle.raft_table.specs.Start.{appended, replayed, IsTableRunFault}
+use Rattle.raft_table.specs.Start.{entries_after_append, entries_after_replay, IsTableRunFault}
 use Rattle.raft_table.specs.Steps.{table_of}
-use Rattle.raft_table.specs.Table.{Table, empty_table, table_with_entries, with_table_deleted, IsRecounted}
+use Rattle.raft_table.specs.Table.{Table, empty_table, with_table_deleted, IsRecounted}
 use Rattle.raft_table.proofs.RunCounts.{append_full, replay_full}
 use Rattle.raft_accessor.specs.Accessor.{table_in}
 use Rattle.raft_accessor.specs.ItemWrites.{IsItemWritten, pair_change}
-use Rattle.raft_accessor.specs.Updates.{IsTaken, IsReplayFault, IsRefusal}
+use Rattle.raft_accessor.specs.Updates.{BecomesOutcome, IsReplayFault, IsRefusal}
 use Rattle.raft_accessor.specs.Writes.{Writing, Appending, Replaying, queue_of, after_content, counts_after_content, counts_after_change, after_rewrite_put, with_change, lists, listed_by, cleaned_by_content, IsFor, MixesQueues, IsWriteFault}
 use Rattle.raft_accessor.proofs.MapLemmas.{get_gone, one_same}
 
@@ -37,7 +37,7 @@ never_met n (Ok x) z = λ m. omega (arith, z, m)
 never_met n (Err e) z = tt
 
 -- what is done to the table is what the content asks for, and no region is listed
-pub written_by : (w : Writing) (item : Item) (outcome : Option Table) (IsFault : Error → Type 0) (old : Tables) (counts : Counts) (list : List ℕ) (r : Result Unit Error) (new : Tables) (after : Counts) → IsTaken outcome IsFault old item.raft_group_id counts r new after
+pub written_by : (w : Writing) (item : Item) (outcome : Option Table) (IsFault : Error → Type 0) (old : Tables) (counts : Counts) (list : List ℕ) (r : Result Unit Error) (new : Tables) (after : Counts) → BecomesOutcome outcome IsFault old item.raft_group_id counts r new after
     → IsFor w item.content → OnOk r (MixesQueues w (table_in old item.raft_group_id) item.content → ⊥) → OnOk r (after ≡ counts_after_content w (table_in old item.raft_group_id) item.content counts) → listed_by w item ≡ [] → after_content w item.raft_group_id (finite.get old item.raft_group_id) item.content ≡ option_map Some outcome
     → ((e : Error) → IsFault e → IsWriteFault w item.raft_group_id (finite.get old item.raft_group_id) (live (queue_of w) counts) item.content e) → IsItemWritten w item old counts list r new after list
 written_by w item outcome IsFault old counts list r new after h asked alone counted none is fault = record {
@@ -94,18 +94,18 @@ skipped_by w item old counts list asked alone counted none is = record {
 
 -- ---- why runs are refused
 
-by_append : (id : ℕ) (o : Option Table) (rs : List EntryIndex) (p : Option (List EntryIndex)) (counts : Counts) (e : Error) → appended (table_of id o).entries rs ≡ p → IsTableRunFault Append counts (table_of id o).entries p e → IsWriteFault Appending id o (live Append counts) (entries rs) e
-by_append id o rs None counts (errors.Corruption text) is h = inr (ap (λ p. option_map Some (option_map (table_with_entries (table_of id o)) p)) is)
+by_append : (id : ℕ) (o : Option Table) (rs : List EntryIndex) (p : Option (List EntryIndex)) (counts : Counts) (e : Error) → entries_after_append (table_of id o).entries rs ≡ p → IsTableRunFault Append counts (table_of id o).entries p e → IsWriteFault Appending id o (live Append counts) (entries rs) e
+by_append id o rs None counts (errors.Corruption text) is h = inr (ap (λ p. option_map Some (option_map {U = Table} (λ es. record (table_of id o) { entries = es }) p)) is)
 by_append id o rs None counts errors.Memory is h = tt
 by_append id o rs (Some after) counts errors.Full is h = append_full Append counts (table_of id o).entries rs (subst (λ p. IsTableRunFault Append counts (table_of id o).entries p errors.Full) (sym is) h)
 by_append id o rs (Some after) counts errors.Memory is h = tt
 by_append id o rs p counts e is h = absurd h
 
-pub append_fault : (id : ℕ) (o : Option Table) (rs : List EntryIndex) (counts : Counts) (e : Error) → IsTableRunFault Append counts (table_of id o).entries (appended (table_of id o).entries rs) e → IsWriteFault Appending id o (live Append counts) (entries rs) e
+pub append_fault : (id : ℕ) (o : Option Table) (rs : List EntryIndex) (counts : Counts) (e : Error) → IsTableRunFault Append counts (table_of id o).entries (entries_after_append (table_of id o).entries rs) e → IsWriteFault Appending id o (live Append counts) (entries rs) e
 append_fault id o rs counts e h = by_append id o rs _ counts e refl h
 
-by_replay : (q : LogQueue) (id : ℕ) (o : Option Table) (rs : List EntryIndex) (p : Option (List EntryIndex)) (counts : Counts) (e : Error) → replayed q (table_of id o).entries rs ≡ p → IsTableRunFault q counts (table_of id o).entries p e → IsWriteFault (Replaying q) id o (live q counts) (entries rs) e
-by_replay q id o rs None counts (errors.Corruption text) is h = inr (ap (λ p. option_map Some (option_map (table_with_entries (table_of id o)) p)) is)
+by_replay : (q : LogQueue) (id : ℕ) (o : Option Table) (rs : List EntryIndex) (p : Option (List EntryIndex)) (counts : Counts) (e : Error) → entries_after_replay q (table_of id o).entries rs ≡ p → IsTableRunFault q counts (table_of id o).entries p e → IsWriteFault (Replaying q) id o (live q counts) (entries rs) e
+by_replay q id o rs None counts (errors.Corruption text) is h = inr (ap (λ p. option_map Some (option_map {U = Table} (λ es. record (table_of id o) { entries = es }) p)) is)
 by_replay q id o rs None counts errors.Memory is h = tt
 by_replay q id o rs (Some after) counts errors.Full is h = replay_full q q counts (table_of id o).entries rs (subst (λ p. IsTableRunFault q counts (table_of id o).entries p errors.Full) (sym is) h)
 by_replay q id o rs (Some after) counts errors.Memory is h = tt

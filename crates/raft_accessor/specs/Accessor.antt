@@ -1,5 +1,5 @@
 -- The tables of all regions.
-use Rattle.std.specs.Prelude.{◌≡◌, ℕ, ◌+◌, ◌%◌, List, [], ◌∷◌, Option, Some, None}
+use Rattle.std.specs.Prelude.{◌≡◌, ℕ, ◌%◌, List, sum_by, Option, Some, None}
 use Rattle.std.specs.FinMap as finite
 use Rattle.raft_base.specs.NumberHash.{hash_of}
 use Rattle.raft_base.specs.declared.pipe_log.LogQueue.{LogQueue}
@@ -27,14 +27,9 @@ abbrev pub live_in : LogQueue → Option Table → ℕ
 live_in queue None = 0
 live_in queue (Some t) = live_of queue t
 
--- the live numbers of some regions' tables together
-abbrev pub live_of_all : LogQueue → List (ℕ × Table) → ℕ
-live_of_all queue [] = 0
-live_of_all queue (e ∷ es) = live_of queue e.1 + live_of_all queue es
-
 -- how many entries and key values of all tables have their place or file in a queue
 unfoldable pub live_in_all : LogQueue → Tables → ℕ
-live_in_all queue tables = live_of_all queue (finite.entries tables)
+live_in_all queue tables = sum_by (live_of queue) (finite.values tables)
 
 -- the counts are those of the tables
 abbrev pub AreCountsOf : Tables → Counts → Type 0

@@ -1,4 +1,4 @@
--- Tables of all regions joined with those of a newer neighbour, each under its mark.
+-- Tables of all regions joined with those of a newer neighbour, each under its region mark.
 use Rattle.std.specs.Prelude.{◌≡◌, ℕ, ◌+◌, ◌<◌, ◌≤◌, Option, Some, Result, IfOk, IfErr}
 use Rattle.std.specs.FinMap as finite
 use Rattle.std.specs.Result.{OnOk}
@@ -9,7 +9,7 @@ use Rattle.raft_history.specs.RegionSteps.{Tables, with_table}
 use Rattle.raft_table.specs.Counts.{Counts}
 use Rattle.raft_table.specs.MarkJoins.{end_at_reach}
 use Rattle.raft_table.specs.MarkMerge.{IsFaultUnder, IsRunOver}
-use Rattle.raft_table.specs.Marks.{Mark, table_over, applied}
+use Rattle.raft_table.specs.Marks.{Mark, table_over, table_over_older}
 use Rattle.raft_table.specs.Queues.{other}
 use Rattle.raft_table.specs.Steps.{table_of}
 use Rattle.raft_table.specs.Table.{Table, live_of, IsRecounted}
@@ -21,16 +21,16 @@ IsMixFault queue tables (errors.InvalidArgument text) = 0 < live_in_all (other q
 IsMixFault queue tables errors.Memory = Unit {0}
 IsMixFault queue tables _ = ⊥
 
--- a newer table was put over an older one of its region under the newer mark; the answer is where the older entries ended that the mark's first run came behind
+-- a newer table was put over an older one of its region under the newer region mark; the answer is where the older entries ended that the region mark's first run came behind
 pub record IsPut (queue : LogQueue) (m : Mark) (newer : Table) (counts : Counts) (r : Result ℕ Error) (old new : Table) : Type 0 where
   pub ok : IsRunOver queue m newer old → OnOk r (table_over queue m newer old ≡ Some new)
   pub answer : IfOk r (λ end. end ≡ end_at_reach m old)
   pub fault : IsRunOver queue m newer old → IfErr r (IsFaultUnder queue counts m newer old)
   pub few : OnOk r ((q : LogQueue) → live_of q new ≤ live_of q old + live_of q newer)
 
--- a newer table of a region, or its absence, was put over the older one under the newer mark, and no other table was changed, also where that was refused; the answer is where the older entries ended that the mark's first run came behind
+-- a newer table of a region, or its absence, was put over the older one under the newer region mark, and no other table was changed, also where that was refused; the answer is where the older entries ended that the region mark's first run came behind
 pub record IsTableJoined (queue : LogQueue) (m : Mark) (newer : Option Table) (old : Tables) (id : ℕ) (counts : Counts) (r : Result ℕ Error) (new : Tables) (after : Counts) : Type 0 where
-  pub ok : IsRunOver queue m (table_of id newer) (table_in old id) → OnOk r (applied queue id m newer (finite.get old id) ≡ Some (finite.get new id))
+  pub ok : IsRunOver queue m (table_of id newer) (table_in old id) → OnOk r (table_over_older queue id m newer (finite.get old id) ≡ Some (finite.get new id))
   pub answer : IfOk r (λ end. end ≡ end_at_reach m (table_in old id))
   pub fault : IsRunOver queue m (table_of id newer) (table_in old id) → IfErr r (IsFaultUnder queue counts m (table_of id newer) (table_in old id))
   pub few : OnOk r ((q : LogQueue) → live_of q (table_in new id) ≤ live_of q (table_in old id) + live_in q newer)

@@ -1,4 +1,4 @@
--- Tables of the append queue put over rewritten ones, each under its mark.
+-- Tables of the append queue put over rewritten ones, each under its region mark.
 use Rattle.std.specs.Prelude.{◌≡◌, ℕ, ◌+◌, ◌≤◌, Option, Some, Result, IfErr}
 use Rattle.std.specs.FinMap as finite
 use Rattle.std.specs.Result.{OnOk}
@@ -14,17 +14,17 @@ use Rattle.raft_table.specs.Steps.{table_of}
 use Rattle.raft_table.specs.Table.{Table, live_of, IsRecounted}
 use Rattle.raft_accessor.specs.Accessor.{table_in, live_in}
 
--- the entries of an appended table over a rewritten one are a run, as they are where mark and table stand for steps
+-- the entries of an appended table over a rewritten one are a run, as they are where region mark and table stand for steps
 abbrev pub IsRunOverlaid : Mark → Table → Table → Type 0
 IsRunOverlaid m appended rewritten = IsRun (overlay_under m appended rewritten).entries
 
--- an appended table was put over a rewritten one of its region under its mark
+-- an appended table was put over a rewritten one of its region under its region mark
 pub record IsPutOver (m : Mark) (appended : Table) (counts : Counts) (r : Result Unit Error) (old new : Table) : Type 0 where
   pub ok : IsRunOverlaid m appended old → OnOk r (new ≡ overlay_under m appended old)
   pub fault : IfErr r (IsOverlayFault counts appended)
   pub few : OnOk r ((q : LogQueue) → live_of q new ≤ live_of q old + live_of q appended)
 
--- an appended table of a region, or its absence, was put over the rewritten one under its mark, and no other table was changed, also where that was refused
+-- an appended table of a region, or its absence, was put over the rewritten one under its region mark, and no other table was changed, also where that was refused
 pub record IsTableOverlaid (m : Mark) (appended : Option Table) (old : Tables) (id : ℕ) (counts : Counts) (r : Result Unit Error) (new : Tables) (after : Counts) : Type 0 where
   pub ok : IsRunOverlaid m (table_of id appended) (table_in old id) → OnOk r (finite.get new id ≡ overlaid_region id (Some m) appended (finite.get old id))
   pub fault : IfErr r (IsOverlayFault counts (table_of id appended))

@@ -11,7 +11,7 @@ use Rattle.raft_base.specs.declared.pipe_log.LogQueue.{LogQueue}
 use Rattle.raft_base.specs.declared.entry_index.EntryIndex.{EntryIndex}
 use Rattle.raft_table.specs.Counts.{Counts}
 use Rattle.raft_table.specs.Queues.{other}
-use Rattle.raft_table.specs.Start.{replayed, IsTableRunFault}
+use Rattle.raft_table.specs.Start.{entries_after_replay, IsTableRunFault}
 use Rattle.raft_table.specs.Table.{Table, live_of, IsRecounted}
 use Rattle.raft_history.specs.RegionSteps.{Tables, with_table}
 use Rattle.raft_accessor.specs.Accessor.{table_in}
@@ -53,7 +53,7 @@ pub record IsUpdated {F R : Type 0} (g : TableCall F R) (f : F) (old : Tables) (
   pub recounted : IsRecounted (table_in old id) (table_in new id) counts after
 
 -- a region's table becomes the outcome of a change, if there is one; where the change is refused nothing is changed, for this fault or for want of memory
-pub record IsTaken {R : Type 0} (outcome : Option Table) (IsFault : Error → Type 0) (old : Tables) (id : ℕ) (counts : Counts) (r : Result R Error) (new : Tables) (after : Counts) : Type 0 where
+pub record BecomesOutcome {R : Type 0} (outcome : Option Table) (IsFault : Error → Type 0) (old : Tables) (id : ℕ) (counts : Counts) (r : Result R Error) (new : Tables) (after : Counts) : Type 0 where
   pub ok : OnOk r (outcome ≡ Some (table_in new id))
   pub there : OnOk r (finite.get new id ≡ Some (table_in new id))
   pub err : OnErr r (new ≡ old)
@@ -66,7 +66,7 @@ pub record IsTaken {R : Type 0} (outcome : Option Table) (IsFault : Error → Ty
 abbrev pub IsReplayFault : LogQueue → List EntryIndex → Table → Counts → Error → Type 0
 IsReplayFault queue run t counts (errors.InvalidArgument text) = 0 < live_of (other queue) t
 IsReplayFault queue run t counts errors.Memory = Unit {0}
-IsReplayFault queue run t counts e = IsTableRunFault queue counts t.entries (replayed queue t.entries run) e
+IsReplayFault queue run t counts e = IsTableRunFault queue counts t.entries (entries_after_replay queue t.entries run) e
 
 -- a refusal of an item, or want of memory for its text
 abbrev pub IsRefusal : Error → Type 0

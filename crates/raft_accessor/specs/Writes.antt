@@ -23,7 +23,7 @@ use Rattle.raft_table.specs.Queues.{other}
 use Rattle.raft_table.specs.Rewriting.{counts_after_rewrite}
 use Rattle.raft_table.specs.Start.{counts_with_run, counts_without}
 use Rattle.raft_table.specs.Steps.{table_of}
-use Rattle.raft_table.specs.Table.{Table, after_append, after_replay, after_rewrite, after_rewrite_key, compacted, truncated, with_pair, without_key, with_table_deleted, with_pair_deleted, with_rewritten_key, leaves_append, live_of}
+use Rattle.raft_table.specs.Table.{Table, after_append, after_replay, after_rewrite, after_rewrite_key, with_pair, with_table_deleted, with_pair_deleted, with_rewritten_key, leaves_append, live_of}
 use Rattle.raft_accessor.specs.Accessor.{Accessor, live_in_all}
 
 -- how items are written: as new ones of the append queue, as read again from a queue, or by a rewriting with this gate to this file
@@ -53,7 +53,7 @@ after_put t key None file = None
 -- a table with a key put or deleted
 abbrev pub after_pair : Table → OpType → List ℕ → Option (List ℕ) → Option FileId → Option Table
 after_pair t operations.Put key value file = after_put t key value file
-after_pair t operations.Del key value file = Some (without_key t key)
+after_pair t operations.Del key value file = Some (record t { keys = finite.remove t.keys key })
 
 -- a table with a key rewritten that has a value; none otherwise
 abbrev pub after_rewrite_put : Option ℕ → ℕ → Table → List ℕ → Option (List ℕ) → Option Table
@@ -74,8 +74,10 @@ with_change (Rewriting gate seq) t p = after_rewrite_pair gate seq t p.op_type p
 -- a region's table after a command: none after a Clean
 abbrev pub after_command : ℕ → Option Table → Command → Option (Option Table)
 after_command id o commands.Clean = Some None
-after_command id o (commands.Compact index) = Some (Some (compacted index (table_of id o)))
-after_command id o (commands.Truncate index) = Some (Some (truncated index (table_of id o)))
+after_command id o (commands.Compact index) =
+    Some (Some (record (table_of id o) { entries = from index (table_of id o).entries }))
+after_command id o (commands.Truncate index) =
+    Some (Some (record (table_of id o) { entries = below index (table_of id o).entries }))
 
 -- a region's table after a command by a rewriting, for which a Clean changes nothing and a Compact or a Truncate is refused
 abbrev pub after_rewrite_command : Option Table → Command → Option (Option Table)
@@ -84,15 +86,15 @@ after_rewrite_command o (commands.Compact index) = None
 after_rewrite_command o (commands.Truncate index) = None
 
 -- a region's table, or its absence, after a command
-abbrev pub commanded : Writing → ℕ → Option Table → Command → Option (Option Table)
-commanded Appending id o c = after_command id o c
-commanded (Replaying queue) id o c = after_command id o c
-commanded (Rewriting gate seq) id o c = after_rewrite_command o c
+abbrev pub after_write_command : Writing → ℕ → Option Table → Command → Option (Option Table)
+after_write_command Appending id o c = after_command id o c
+after_write_command (Replaying queue) id o c = after_command id o c
+after_write_command (Rewriting gate seq) id o c = after_rewrite_command o c
 
 -- a region's table, or its absence, after an item's content; none where that is refused. The reserved key is skipped
 abbrev pub after_content : Writing → ℕ → Option Table → Content → Option (Option Table)
 after_content w id o (entries es) = option_map Some (after_entries w (table_of id o) es)
-after_content w id o (command c) = commanded w id o c
+after_content w id o (command c) = after_write_command w id o c
 after_content w id o (pair p) = if is_reserved p.key then Some o else option_map Some (with_change w (table_of id o) p)
 
 -- all tables after items in order; none where one is refused

@@ -9,7 +9,7 @@ ghost use Rattle.raft_records.specs.LogBatch.{empty_batch};
 ghost use Rattle.raft_records.specs.declared.command.Command.TheVariants.{Clean};
 ghost use Rattle.raft_history.specs.RegionSteps.{with_table};
 ghost use Rattle.raft_table.specs.Change.{after_change, AreCountsAfter, IsAllowed, IsAnswer, IsChangeFault};
-ghost use Rattle.raft_table.specs.Table.{Table, with_atomic_group, with_table_added, with_table_deleted, live_of};
+ghost use Rattle.raft_table.specs.Table.{Table, with_table_added, with_table_deleted, live_of};
 ghost use Rattle.raft_accessor.specs.Accessor.{slot_of, table_in, live_in_all, AreCountsOf};
 ghost use Rattle.raft_accessor.specs.AccessorCalls.{IsTableChanged, IsTableMade};
 ghost use Rattle.raft_accessor.specs.Merges.{with_newer, with_appended, IsMergedAt, AreTablesMerged, AreTablesLeft, AreOthersLeft, IsNewerFault, IsAppendedFault, IsMergeRefusal};
@@ -75,7 +75,8 @@ impl MemTableAccessor {
     pub fn new(alloc: Global) -> Result<MemTableAccessor>
         ensures tables { IfOk result (λ accessor. accessor.tables ≡ finite.empty) }
         ensures cleaned { IfOk result (λ accessor. accessor.cleaned ≡ []) }
-        ensures counts { IfOk result (λ accessor. accessor.counts ≡ record { append = 0; written = 0; deleted = 0 }) }
+        ensures counts { IfOk result (λ accessor. accessor.counts
+            ≡ record { append = 0; written = 0; deleted = 0 }) }
         ensures memory { IfErr result (λ e. e ≡ Error.Memory) }
     {
         Ok(MemTableAccessor {
@@ -155,7 +156,8 @@ impl MemTableAccessor {
     ///
     /// `Memory`. The accessor is then as it was.
     fn make(&mut self, id: u64) -> Result<()>
-        ensures changed { IsTableChanged (Some (table_in self.old.tables id)) (λ e. ⊥) id result self.old self.new }
+        ensures changed { IsTableChanged (Some (table_in self.old.tables id)) (λ e. ⊥) id result
+            self.old self.new }
         ensures counts { self.new.counts ≡ self.old.counts }
     {
         self.slots[slot_of(id)].make(id, &mut self.stats)
@@ -170,7 +172,8 @@ impl MemTableAccessor {
     pub fn change(&mut self, id: u64, change: TableChange) -> Result<u64>
         ensures changed { IsTableChanged (after_change (table_in self.old.tables id) change)
             (IsChangeFault (table_in self.old.tables id) self.old.counts change) id result self.old self.new }
-        ensures answer { IfOk result (IsAnswer change (table_in self.old.tables id) (table_in self.new.tables id)) }
+        ensures answer { IfOk result (IsAnswer change (table_in self.old.tables id)
+            (table_in self.new.tables id)) }
         ensures allowed { OnOk result (IsAllowed change) }
         ensures counts { OnOk result
             (AreCountsAfter change (table_in self.old.tables id) self.old.counts self.new.counts) }
@@ -191,7 +194,8 @@ impl MemTableAccessor {
         end: FileSeq,
     ) -> Result<()>
         requires { start ≤ end }
-        ensures changed { IsTableChanged (Some (with_atomic_group (table_in self.old.tables id) start end))
+        ensures changed { IsTableChanged (Some (record (table_in self.old.tables id)
+            { atomic_group = Some (start, end) }))
             (λ e. ⊥) id result self.old self.new }
         ensures counts { self.new.counts ≡ self.old.counts }
     {
@@ -250,11 +254,14 @@ impl MemTableAccessor {
     /// Those of [`MemTable::merge_newer_neighbor`] at one table. Other tables are then merged or as they
     /// were, and so is that one but for want of memory; the rest of `rhs` is lost.
     pub fn merge_newer_neighbor(&mut self, rhs: MemTableAccessor) -> Result<()>
-        ensures ok { OnOk result (AreTablesMerged with_newer self.old.tables rhs.tables self.new.tables) }
-        ensures fault { IfErr result (IsMergeRefusal (IsNewerFault self.new.counts) self.old.tables rhs.tables) }
+        ensures ok { OnOk result (AreTablesMerged with_newer self.old.tables rhs.tables
+            self.new.tables) }
+        ensures fault { IfErr result (IsMergeRefusal (IsNewerFault self.new.counts) self.old.tables
+            rhs.tables) }
         ensures err { IfErr result
             (λ e. e ≢ Error.Memory → AreTablesLeft with_newer self.old.tables rhs.tables self.new.tables) }
-        ensures others { OnErr result (AreOthersLeft with_newer self.old.tables rhs.tables self.new.tables) }
+        ensures others { OnErr result (AreOthersLeft with_newer self.old.tables rhs.tables
+            self.new.tables) }
         ensures cleaned { self.new.cleaned ≡ self.old.cleaned }
     {
         for slot in rhs.slots {
@@ -271,11 +278,14 @@ impl MemTableAccessor {
     /// Those of [`MemTable::merge_append_table`] at one table. Other tables are then merged or as they
     /// were, and so is that one but for want of memory; the rest of `rhs` is lost.
     pub fn merge_append_table(&mut self, rhs: MemTableAccessor) -> Result<()>
-        ensures ok { OnOk result (AreTablesMerged with_appended self.old.tables rhs.tables self.new.tables) }
-        ensures fault { IfErr result (IsMergeRefusal (IsAppendedFault self.new.counts) self.old.tables rhs.tables) }
+        ensures ok { OnOk result (AreTablesMerged with_appended self.old.tables rhs.tables
+            self.new.tables) }
+        ensures fault { IfErr result (IsMergeRefusal (IsAppendedFault self.new.counts)
+            self.old.tables rhs.tables) }
         ensures err { IfErr result
             (λ e. e ≢ Error.Memory → AreTablesLeft with_appended self.old.tables rhs.tables self.new.tables) }
-        ensures others { OnErr result (AreOthersLeft with_appended self.old.tables rhs.tables self.new.tables) }
+        ensures others { OnErr result (AreOthersLeft with_appended self.old.tables rhs.tables
+            self.new.tables) }
         ensures cleaned { self.new.cleaned ≡ self.old.cleaned }
     {
         for slot in rhs.slots {
@@ -369,7 +379,8 @@ impl MemTableAccessor {
 
     /// Lists a region as cleaned.
     fn list(&mut self, id: u64) -> Result<()>
-        ensures ok { OnOk result (self.new ≡ record self.old { cleaned = self.old.cleaned ++ id ∷ [] }) }
+        ensures ok { OnOk result (self.new ≡ record self.old
+            { cleaned = self.old.cleaned ++ id ∷ [] }) }
         ensures err { OnErr result (self.new ≡ self.old) }
         ensures memory { IfErr result (λ e. e ≡ Error.Memory) }
     {
@@ -382,7 +393,8 @@ impl MemTableAccessor {
         ensures tables { self.new.tables ≡ finite.remove self.old.tables id }
         ensures taken { result ≡ finite.get self.old.tables id }
         ensures own { IfSome result (λ t. t.region_id ≡ id) }
-        ensures counts { self.new.counts ≡ with_table_deleted (table_in self.old.tables id) self.old.counts }
+        ensures counts { self.new.counts ≡ with_table_deleted (table_in self.old.tables id)
+            self.old.counts }
         ensures cleaned { self.new.cleaned ≡ self.old.cleaned }
     {
         self.slots[slot_of(id)].remove(id, &mut self.stats)
@@ -390,11 +402,14 @@ impl MemTableAccessor {
 
     /// Merges the newer neighbors of one slot.
     fn merge_newer_tables(&mut self, newer: RegionTables) -> Result<()>
-        ensures ok { OnOk result (AreTablesMerged with_newer self.old.tables newer self.new.tables) }
-        ensures fault { IfErr result (IsMergeRefusal (IsNewerFault self.new.counts) self.old.tables newer) }
+        ensures ok { OnOk result (AreTablesMerged with_newer self.old.tables newer
+            self.new.tables) }
+        ensures fault { IfErr result (IsMergeRefusal (IsNewerFault self.new.counts) self.old.tables
+            newer) }
         ensures err { IfErr result
             (λ e. e ≢ Error.Memory → AreTablesLeft with_newer self.old.tables newer self.new.tables) }
-        ensures others { OnErr result (AreOthersLeft with_newer self.old.tables newer self.new.tables) }
+        ensures others { OnErr result (AreOthersLeft with_newer self.old.tables newer
+            self.new.tables) }
         ensures cleaned { self.new.cleaned ≡ self.old.cleaned }
     {
         for (id, table) in newer.into_entries() {
@@ -405,11 +420,14 @@ impl MemTableAccessor {
 
     /// Merges the appended tables of one slot.
     fn merge_append_tables(&mut self, newer: RegionTables) -> Result<()>
-        ensures ok { OnOk result (AreTablesMerged with_appended self.old.tables newer self.new.tables) }
-        ensures fault { IfErr result (IsMergeRefusal (IsAppendedFault self.new.counts) self.old.tables newer) }
+        ensures ok { OnOk result (AreTablesMerged with_appended self.old.tables newer
+            self.new.tables) }
+        ensures fault { IfErr result (IsMergeRefusal (IsAppendedFault self.new.counts)
+            self.old.tables newer) }
         ensures err { IfErr result
             (λ e. e ≢ Error.Memory → AreTablesLeft with_appended self.old.tables newer self.new.tables) }
-        ensures others { OnErr result (AreOthersLeft with_appended self.old.tables newer self.new.tables) }
+        ensures others { OnErr result (AreOthersLeft with_appended self.old.tables newer
+            self.new.tables) }
         ensures cleaned { self.new.cleaned ≡ self.old.cleaned }
     {
         for (id, table) in newer.into_entries() {
@@ -423,9 +441,12 @@ impl MemTableAccessor {
         requires { newer.region_id ≡ id }
         ensures ok { OnOk result
             (IsMergedAt with_newer id (finite.get self.old.tables id) (Some newer) (finite.get self.new.tables id)) }
-        ensures fault { IfErr result (IsNewerFault self.new.counts (table_in self.old.tables id) newer) }
-        ensures err { IfErr result (λ e. e ≢ Error.Memory → table_in self.new.tables id ≡ table_in self.old.tables id) }
-        ensures others { self.new.tables ≡ with_table self.old.tables id (finite.get self.new.tables id) }
+        ensures fault { IfErr result (IsNewerFault self.new.counts (table_in self.old.tables id)
+            newer) }
+        ensures err { IfErr result (λ e. e ≢ Error.Memory →
+            table_in self.new.tables id ≡ table_in self.old.tables id) }
+        ensures others { self.new.tables ≡ with_table self.old.tables id
+            (finite.get self.new.tables id) }
         ensures cleaned { self.new.cleaned ≡ self.old.cleaned }
     {
         self.slots[slot_of(id)].merge_newer_neighbor(id, newer, &mut self.stats)
@@ -436,9 +457,12 @@ impl MemTableAccessor {
         requires { newer.region_id ≡ id }
         ensures ok { OnOk result
             (IsMergedAt with_appended id (finite.get self.old.tables id) (Some newer) (finite.get self.new.tables id)) }
-        ensures fault { IfErr result (IsAppendedFault self.new.counts (table_in self.old.tables id) newer) }
-        ensures err { IfErr result (λ e. e ≢ Error.Memory → table_in self.new.tables id ≡ table_in self.old.tables id) }
-        ensures others { self.new.tables ≡ with_table self.old.tables id (finite.get self.new.tables id) }
+        ensures fault { IfErr result (IsAppendedFault self.new.counts (table_in self.old.tables id)
+            newer) }
+        ensures err { IfErr result (λ e. e ≢ Error.Memory →
+            table_in self.new.tables id ≡ table_in self.old.tables id) }
+        ensures others { self.new.tables ≡ with_table self.old.tables id
+            (finite.get self.new.tables id) }
         ensures cleaned { self.new.cleaned ≡ self.old.cleaned }
     {
         self.slots[slot_of(id)].merge_append_table(id, newer, &mut self.stats)
@@ -451,7 +475,8 @@ impl MemTableAccessor {
 ///
 /// `Memory`.
 pub fn clean_logs(alloc: Global, ids: &[u64]) -> Result<LogBatch>
-    ensures ok { IfOk result (λ logs. logs ≡ record empty_batch { items = map (λ id. command_item id Clean) ids.now }) }
+    ensures ok { IfOk result (λ logs. logs ≡ record empty_batch
+        { items = map (λ id. command_item id Clean) ids.now }) }
     ensures memory { IfErr result (λ e. e ≡ Error.Memory) }
 {
     let mut logs = LogBatch::with_capacity(alloc, ids.len())?;

@@ -11,15 +11,16 @@ ghost use Rattle.raft_table.specs.Counts.{live};
 ghost use Rattle.raft_table.specs.Queues.{other};
 ghost use Rattle.raft_table.specs.Start.{counts_with_run};
 ghost use Rattle.raft_table.specs.Steps.{table_of};
-ghost use Rattle.raft_table.specs.Table.{Table, after_replay, empty_table, live_of, with_atomic_group, with_table_added, with_table_deleted, IsCounted, IsRecounted};
+ghost use Rattle.raft_table.specs.Table.{Table, after_replay, empty_table, live_of, with_table_added, with_table_deleted, IsCounted, IsRecounted};
 ghost use Rattle.raft_table.specs.TableEntries.{IsRunIn, end_of};
 ghost use Rattle.raft_accessor.specs.Accessor.{table_in};
 ghost use Rattle.raft_accessor.specs.Merges.{with_newer, with_appended, IsNewerFault, IsAppendedFault, MayAlter, IsAltered, IsTableMerged};
-ghost use Rattle.raft_accessor.specs.Updates.{MayChange, IsUpdated, IsTaken};
+ghost use Rattle.raft_accessor.specs.Updates.{MayChange, IsUpdated, BecomesOutcome};
 ghost use Rattle.raft_accessor.specs.Walks.{KeepsId, Makes};
 
 mod join;
 mod overlay;
+pub(crate) mod steps;
 
 use raft_base::{EntryIndex, Error, FileSeq, LogQueue, Result};
 use raft_table::{GlobalStats, MemTable, TableChange};
@@ -145,7 +146,8 @@ impl RegionTables {
     /// `Memory`. The tables are then as they were.
     pub fn make(&mut self, id: u64, stats: &mut GlobalStats) -> Result<()>
         requires { IsCounted (table_in self.old id) stats.old }
-        ensures taken { IsTaken (Some (table_in self.old id)) (λ e. ⊥) self.old id stats.old result self.new stats.new }
+        ensures taken { BecomesOutcome (Some (table_in self.old id)) (λ e. ⊥) self.old id stats.old
+            result self.new stats.new }
         ensures counts { stats.new ≡ stats.old }
     {
         self.update(id, stats, |_: &mut MemTable, _: &mut GlobalStats| Ok(()))
@@ -159,11 +161,13 @@ impl RegionTables {
     /// Those of [`MemTable::change`], and `Memory`. The tables are then as they were.
     pub fn change(&mut self, id: u64, change: TableChange, stats: &mut GlobalStats) -> Result<u64>
         requires { IsCounted (table_in self.old id) stats.old }
-        ensures taken { IsTaken (after_change (table_in self.old id) change)
+        ensures taken { BecomesOutcome (after_change (table_in self.old id) change)
             (IsChangeFault (table_in self.old id) stats.old change) self.old id stats.old result self.new stats.new }
-        ensures answer { IfOk result (IsAnswer change (table_in self.old id) (table_in self.new id)) }
+        ensures answer { IfOk result (IsAnswer change (table_in self.old id)
+            (table_in self.new id)) }
         ensures allowed { OnOk result (IsAllowed change) }
-        ensures counts { OnOk result (AreCountsAfter change (table_in self.old id) stats.old stats.new) }
+        ensures counts { OnOk result (AreCountsAfter change (table_in self.old id) stats.old
+            stats.new) }
     {
         self.update(
             id,
@@ -183,7 +187,7 @@ impl RegionTables {
     ) -> Option<u64>
         requires run { IsRunIn queue run.now }
         requires counted { IsCounted (table_in self.old id) stats.old }
-        ensures taken { IsTaken (after_replay queue (table_in self.old id) run.now) (λ e. ⊥)
+        ensures taken { BecomesOutcome (after_replay queue (table_in self.old id) run.now) (λ e. ⊥)
             self.old id stats.old (ok_or result Error.Memory) self.new stats.new }
         ensures accepted { OnSome result (live_of (other queue) (table_in self.old id) ≡ 0) }
         ensures counts { OnSome result
@@ -214,7 +218,8 @@ impl RegionTables {
     ) -> Result<()>
         requires files { start ≤ end }
         requires counted { IsCounted (table_in self.old id) stats.old }
-        ensures taken { IsTaken (Some (with_atomic_group (table_in self.old id) start end)) (λ e. ⊥)
+        ensures taken { BecomesOutcome (Some (record (table_in self.old id)
+            { atomic_group = Some (start, end) })) (λ e. ⊥)
             self.old id stats.old result self.new stats.new }
         ensures counts { stats.new ≡ stats.old }
     {
@@ -253,7 +258,8 @@ impl RegionTables {
         ensures fault { IfErr result (λ e. (e ≡ Error.Memory)
             ⊎ ((e ≡ Error.Full) × ((q : LogQueue) × (2 ^ 64 ≤ live q stats.old + live_of q table)))) }
         ensures one { self.new ≡ with_table self.old id (finite.get self.new id) }
-        ensures recounted { IsRecounted (table_in self.old id) (table_in self.new id) stats.old stats.new }
+        ensures recounted { IsRecounted (table_in self.old id) (table_in self.new id) stats.old
+            stats.new }
     {
         self.tables.reserve(1)?;
         stats.add_table(&table)?;
@@ -273,7 +279,8 @@ impl RegionTables {
         ensures own { IfSome result (λ t. t.region_id ≡ id) }
         ensures after { self.new ≡ finite.remove self.old id }
         ensures counts { stats.new ≡ with_table_deleted (table_in self.old id) stats.old }
-        ensures recounted { IsRecounted (table_in self.old id) (empty_table id) stats.old stats.new }
+        ensures recounted { IsRecounted (table_in self.old id) (empty_table id) stats.old
+            stats.new }
     {
         let removed = self.tables.remove(&id);
         delete_replaced(id, &removed, stats);
@@ -420,7 +427,8 @@ fn merge_append(table: &mut MemTable, mut newer: MemTable, stats: &mut GlobalSta
 fn delete_replaced(id: u64, table: &Option<MemTable>, stats: &mut GlobalStats)
     requires { (q : LogQueue) → live_of q (table_of id table.now) ≤ live q stats.old }
     ensures counts { stats.new ≡ with_table_deleted (table_of id table.now) stats.old }
-    ensures live { (q : LogQueue) → live q stats.new + live_of q (table_of id table.now) ≡ live q stats.old }
+    ensures live { (q : LogQueue) → live q stats.new + live_of q (table_of id table.now) ≡ live q
+        stats.old }
 {
     if let Some(table) = table {
         stats.delete_table(table);

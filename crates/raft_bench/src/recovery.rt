@@ -28,7 +28,7 @@ pub(crate) fn time<R: Threads + Files + AllocGlobal + Clock + Sync>(
     rt: &R,
     words: &[String],
 ) -> Result<Option<Timed>> {
-    let Some(request) = Request::parse(words) else {
+    let Some(request) = Request::parse(rt.alloc(), words)? else {
         return Ok(None);
     };
     match request {
@@ -43,7 +43,7 @@ fn time_files<R: Threads + Files + AllocGlobal + Clock + Sync>(
     asked: RecoverWords<'_>,
 ) -> Result<Timed> {
     let (queue, workers) = (asked.queue, asked.workers);
-    let files = read_files(rt, asked.files)?;
+    let files = read_files(rt, asked.files.as_slice())?;
     let segments = file_segments(queue, asked.version, files)?;
     let mut runs = [0; RUNS];
     let mut regions = 0;

@@ -2,7 +2,11 @@
 use Rattle.std.proofs.Common.{◌≡◌, ℕ, zero, suc, ◌+◌, ◌*◌, ◌/◌, ◌%◌, ◌^◌, ◌<◌, refl, sym, ap, ◌∙◌, arith}
 use Rattle.std.proofs.Math.Nat.{pow-suc, mul_assoc, mod-lt, mul-div_cancel, mul-mod_left, mul-one}
 use lib.Bits.{bit_xor, xor_assoc, xor_comm, xor_zero_r, xor_shr, xor_mod, xor_lt}
-use Rattle.raft_checksum.specs.Checksum.{crc_step, crc_steps}
+use Rattle.raft_checksum.specs.Checksum.{crc_steps}
+
+-- one step of the division
+abbrev pub crc_step : ℕ → ℕ
+crc_step register = bit_xor (register / 2) (register % 2 * 0xEDB88320)
 
 -- the four parts of two xors change places
 pub xor_pairs : (a b c d : ℕ) → bit_xor (bit_xor a b) (bit_xor c d) ≡ bit_xor (bit_xor a c) (bit_xor b d)

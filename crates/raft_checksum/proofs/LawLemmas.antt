@@ -2,8 +2,8 @@
 use Rattle.std.proofs.Common.{◌≡◌, ℕ, zero, suc, ◌+◌, ◌*◌, ◌/◌, ◌%◌, ◌^◌, ◌<◌, Bool, true, false, List, [], ◌∷◌, get_or, length, refl, sym, ap, ◌∙◌, arith}
 use Rattle.std.proofs.Math.Nat.{div-add-mod', mod-lt, mul_assoc, mul_comm, pow-suc}
 use lib.Bits.{bit_xor, xor_assoc, xor_comm, xor_self, xor_zero_r, xor_shifted}
-use Rattle.raft_checksum.specs.Checksum.{crc_step, crc_steps, register_after, number_of_bytes, product_of}
-use Rattle.raft_checksum.proofs.DivisionLemmas.{xor_pairs, steps_xor, steps_add, steps_shifted}
+use Rattle.raft_checksum.specs.Checksum.{crc_steps, register_after, number_of_bytes, product_of}
+use Rattle.raft_checksum.proofs.DivisionLemmas.{crc_step, xor_pairs, steps_xor, steps_add, steps_shifted}
 use Rattle.raft_checksum.proofs.WindowLemmas.{xor_shift}
 
 polynomial_bit : (x : ℕ) → x < 2 → x * 0x1DB710641 ≡ bit_xor x (x * 0xEDB88320 * 2)

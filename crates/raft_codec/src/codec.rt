@@ -81,7 +81,8 @@ pub trait NumberEncoder: Write {
     final fn encode_u64(&mut self, v: u64) -> Result<()>
     where
         Self: Sized,
-        ensures written { OnOk result (Appends (Self.contents self.old) (Self.contents self.new) (big_bytes 8 v)) }
+        ensures written { OnOk result (Appends (Self.contents self.old) (Self.contents self.new)
+            (big_bytes 8 v)) }
         ensures io { IfErr result IsIo }
     {
         self.write_u64::<BigEndian>(v)?;
@@ -92,7 +93,8 @@ pub trait NumberEncoder: Write {
     final fn encode_u32(&mut self, v: u32) -> Result<()>
     where
         Self: Sized,
-        ensures written { OnOk result (Appends (Self.contents self.old) (Self.contents self.new) (big_bytes 4 v)) }
+        ensures written { OnOk result (Appends (Self.contents self.old) (Self.contents self.new)
+            (big_bytes 4 v)) }
         ensures io { IfErr result IsIo }
     {
         self.write_u32::<BigEndian>(v)?;
@@ -103,7 +105,8 @@ pub trait NumberEncoder: Write {
     final fn encode_u16(&mut self, v: u16) -> Result<()>
     where
         Self: Sized,
-        ensures written { OnOk result (Appends (Self.contents self.old) (Self.contents self.new) (big_bytes 2 v)) }
+        ensures written { OnOk result (Appends (Self.contents self.old) (Self.contents self.new)
+            (big_bytes 2 v)) }
         ensures io { IfErr result IsIo }
     {
         self.write_u16::<BigEndian>(v)?;
@@ -115,7 +118,8 @@ pub trait NumberEncoder: Write {
     final fn encode_u64_desc(&mut self, v: u64) -> Result<()>
     where
         Self: Sized,
-        ensures written { OnOk result (Appends (Self.contents self.old) (Self.contents self.new) (u64_desc_bytes v)) }
+        ensures written { OnOk result (Appends (Self.contents self.old) (Self.contents self.new)
+            (u64_desc_bytes v)) }
         ensures io { IfErr result IsIo }
     {
         self.write_u64::<BigEndian>(!v)?;
@@ -127,7 +131,8 @@ pub trait NumberEncoder: Write {
     final fn encode_i64(&mut self, v: i64) -> Result<()>
     where
         Self: Sized,
-        ensures written { OnOk result (Appends (Self.contents self.old) (Self.contents self.new) (i64_bytes v)) }
+        ensures written { OnOk result (Appends (Self.contents self.old) (Self.contents self.new)
+            (i64_bytes v)) }
         ensures io { IfErr result IsIo }
     {
         self.write_u64::<BigEndian>(v.cast_unsigned() ^ SIGN_BIT)?;
@@ -138,7 +143,8 @@ pub trait NumberEncoder: Write {
     final fn encode_i64_desc(&mut self, v: i64) -> Result<()>
     where
         Self: Sized,
-        ensures written { OnOk result (Appends (Self.contents self.old) (Self.contents self.new) (i64_desc_bytes v)) }
+        ensures written { OnOk result (Appends (Self.contents self.old) (Self.contents self.new)
+            (i64_desc_bytes v)) }
         ensures io { IfErr result IsIo }
     {
         self.write_u64::<BigEndian>(!(v.cast_unsigned() ^ SIGN_BIT))?;
@@ -149,7 +155,8 @@ pub trait NumberEncoder: Write {
     final fn encode_u16_le(&mut self, v: u16) -> Result<()>
     where
         Self: Sized,
-        ensures written { OnOk result (Appends (Self.contents self.old) (Self.contents self.new) (little_bytes 2 v)) }
+        ensures written { OnOk result (Appends (Self.contents self.old) (Self.contents self.new)
+            (little_bytes 2 v)) }
         ensures io { IfErr result IsIo }
     {
         self.write_u16::<LittleEndian>(v)?;
@@ -160,7 +167,8 @@ pub trait NumberEncoder: Write {
     final fn encode_u32_le(&mut self, v: u32) -> Result<()>
     where
         Self: Sized,
-        ensures written { OnOk result (Appends (Self.contents self.old) (Self.contents self.new) (little_bytes 4 v)) }
+        ensures written { OnOk result (Appends (Self.contents self.old) (Self.contents self.new)
+            (little_bytes 4 v)) }
         ensures io { IfErr result IsIo }
     {
         self.write_u32::<LittleEndian>(v)?;
@@ -171,7 +179,8 @@ pub trait NumberEncoder: Write {
     final fn encode_u64_le(&mut self, v: u64) -> Result<()>
     where
         Self: Sized,
-        ensures written { OnOk result (Appends (Self.contents self.old) (Self.contents self.new) (little_bytes 8 v)) }
+        ensures written { OnOk result (Appends (Self.contents self.old) (Self.contents self.new)
+            (little_bytes 8 v)) }
         ensures io { IfErr result IsIo }
     {
         self.write_u64::<LittleEndian>(v)?;
@@ -206,7 +215,8 @@ pub trait NumberEncoder: Write {
     final fn encode_var_u64(&mut self, v: u64) -> Result<()>
     where
         Self: Sized,
-        ensures written { OnOk result (Appends (Self.contents self.old) (Self.contents self.new) (varint v)) }
+        ensures written { OnOk result (Appends (Self.contents self.old) (Self.contents self.new)
+            (varint v)) }
         ensures io { IfErr result IsIo }
     {
         // Most numbers are this short, and one byte is quickly written.
@@ -224,7 +234,8 @@ pub trait NumberEncoder: Write {
     final fn encode_var_i64(&mut self, v: i64) -> Result<()>
     where
         Self: Sized,
-        ensures written { OnOk result (Appends (Self.contents self.old) (Self.contents self.new) (varint (zigzag v))) }
+        ensures written { OnOk result (Appends (Self.contents self.old) (Self.contents self.new)
+            (varint (zigzag v))) }
         ensures io { IfErr result IsIo }
     {
         self.encode_var_u64(zigzag::code_of(v))

@@ -3,7 +3,7 @@
 use raft_memtable::{LogQueue, MemTableAccessor, MemTableRecoverContext};
 use raft_records::{Error, FilePart, Result};
 use raft_recover::files::file_segments;
-use raft_recover::request::{RecoverWords, read_files};
+use raft_recover::request::{RecoverWords, Request, read_files};
 use raft_recover::{
     Plan, Segment, cut_part, merge_pieces, print_recovered, recover_segments, replay_segment,
 };
@@ -52,13 +52,27 @@ static WAYS: [Way; 7] = [
     Way::Workers(4),
 ];
 
+/// What all cuttings give of the files that words name, if they ask for a recovery.
+pub(crate) fn of_words<R: Threads + Files + AllocGlobal + Sync>(
+    rt: &R,
+    words: &[String],
+) -> Result<Option<Found>> {
+    let Some(request) = Request::parse(rt.alloc(), words)? else {
+        return Ok(None);
+    };
+    match request {
+        Request::Recover(asked) => Ok(Some(of_files(rt, asked)?)),
+        Request::Batch(_) => Ok(None),
+    }
+}
+
 /// Reads files at every cutting.
-pub(crate) fn of_files<R: Threads + Files + AllocGlobal + Sync>(
+fn of_files<R: Threads + Files + AllocGlobal + Sync>(
     rt: &R,
     asked: RecoverWords<'_>,
 ) -> Result<Found> {
     let queue = asked.queue;
-    let files = read_files(rt, asked.files)?;
+    let files = read_files(rt, asked.files.as_slice())?;
     let segments = file_segments(queue, asked.version, files)?;
     let batches = batches_of(rt.alloc(), segments)?;
     if batches.len() > MOST_PARTS {

@@ -9,7 +9,6 @@ mod cuttings;
 use cuttings::{Answer, Found, Way};
 use raft_records::Result;
 use raft_recover::command_words;
-use raft_recover::request::Request;
 use std::io::Write;
 use std::process::ExitCode;
 
@@ -25,21 +24,16 @@ fn main(rt: HostRuntime) -> ExitCode {
     let Ok(words) = command_words(&rt) else {
         return ExitCode::from(MISUSED);
     };
-    let Some(request) = Request::parse(words.as_slice()) else {
-        return ExitCode::from(MISUSED);
-    };
-    let status = match request {
-        Request::Recover(asked) => status_of(&rt, cuttings::of_files(&rt, asked)),
-        Request::Batch(_) => MISUSED,
-    };
-    ExitCode::from(status)
+    let found = cuttings::of_words(&rt, words.as_slice());
+    ExitCode::from(status_of(&rt, found))
 }
 
 /// Prints what was found, and answers the status to end with.
-fn status_of(rt: &HostRuntime, found: Result<Found>) -> u8 {
+fn status_of(rt: &HostRuntime, found: Result<Option<Found>>) -> u8 {
     match found {
-        Ok(Found::Same(answer)) => print(rt, answer),
-        Ok(Found::Different { cutting, way }) => tell(rt, cutting, way),
+        Ok(Some(Found::Same(answer))) => print(rt, answer),
+        Ok(Some(Found::Different { cutting, way })) => tell(rt, cutting, way),
+        Ok(None) => MISUSED,
         Err(_) => REFUSED,
     }
 }

@@ -14,7 +14,7 @@ use std::alloc::Global;
 fn main(rt: HostRuntime) -> Result<()> {
     let alloc = rt.alloc();
     let segments = segments(alloc)?;
-    println!(rt; "the append queue, read by two workers:")?;
+    println!(rt; "the append queue, read by at most two workers:")?;
     let mut tables = recover(&rt, alloc, segments.as_slice(), LogQueue::Append, 2)?;
     print_and_compact(&rt, &mut tables, segments.as_slice())?;
     read_group(&rt)?;

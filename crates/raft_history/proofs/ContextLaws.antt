@@ -10,10 +10,11 @@ use Rattle.raft_table.specs.MarkJoins.{fresh}
 use Rattle.raft_table.specs.Steps.{after}
 use Rattle.raft_table.specs.Table.{Table}
 use Rattle.raft_table.proofs.MarkLaws.{stands_alone}
-use Rattle.raft_history.specs.Batches.{ReadBatch, Event, batches}
-use Rattle.raft_history.specs.Contexts.{IsBounded, FileRange, files_of, Suits, joined_files, follows, Context, Holds, AreExact, StandsIn, StandsFor, IsExactFor, AreMerged, AreRegionsRefused, merged_regions, merged_with, merged}
-use Rattle.raft_history.specs.Effects.{BatchesApart, all_steps, steps_of}
-use Rattle.raft_history.specs.Histories.{records_in_history, FilesFrom, Sound, cleaned_in}
+use Rattle.raft_history.specs.Batches.{BatchSteps, Event, batches}
+use Rattle.raft_history.specs.Contexts.{IsBounded, FileRange, files_of, Suits, joined_files, follows, Context, Holds, AreExact, StandsIn, StandsFor, IsExactFor, AreMerged, AreRegionsRefused, merged_regions, merged_with, merged_context}
+use Rattle.raft_history.specs.Effects.{EachApart, effects, steps_of}
+use Rattle.raft_history.specs.Histories.{FilesFrom, Sound, cleaned_in}
+use Rattle.raft_history.proofs.Words.{records_in_history, all_steps}
 use Rattle.raft_history.specs.MarkedRegions.{MarkedRegions, region_in}
 use Rattle.raft_history.specs.WaitingGroups.{groups_in, joined_groups}
 use Rattle.raft_history.proofs.EffectLemmas.{all_steps-none, effects_behind-none}
@@ -56,10 +57,10 @@ no_steps r = ap (all_steps r) (effects_behind-none []) ∙ all_steps-none r
 
 -- ---- exact regions are one reading
 
-pub exact_accepted : (q : LogQueue) (rs : MarkedRegions) (bs : List ReadBatch) → AreExact q rs bs → (r : ℕ) → (t : Option Table) × (after q r None (steps_of r bs) ≡ Some t)
+pub exact_accepted : (q : LogQueue) (rs : MarkedRegions) (bs : List BatchSteps) → AreExact q rs bs → (r : ℕ) → (t : Option Table) × (after q r None (steps_of r bs) ≡ Some t)
 exact_accepted q rs bs ex r = (finite.get rs.tables r, stands_alone q r (region_in rs r).mark (region_in rs r).table (steps_of r bs) (ex.each r).stands)
 
-pub exact_reading : (q : LogQueue) (rs : MarkedRegions) (bs : List ReadBatch) → AreExact q rs bs → (r : ℕ) → after q r None (steps_of r bs) ≡ Some (finite.get rs.tables r)
+pub exact_reading : (q : LogQueue) (rs : MarkedRegions) (bs : List BatchSteps) → AreExact q rs bs → (r : ℕ) → after q r None (steps_of r bs) ≡ Some (finite.get rs.tables r)
 exact_reading q rs bs ex r = stands_alone q r (region_in rs r).mark (region_in rs r).table (steps_of r bs) (ex.each r).stands
 
 -- without a batch the queue doesn't matter
@@ -87,7 +88,7 @@ pub record Merges (q : LogQueue) (c d : Context) (h k : List Event) : Type 0 whe
   pub older : StandsFor c h
   pub newer : StandsFor d k
 
-parts : (q : LogQueue) (c d : Context) (h k : List Event) → Merges q c d h k → AreExact q c.regions (batches h) → AreExact q d.regions (batches k) → BatchesApart (batches (h ++ k)) → Parts q c d h k
+parts : (q : LogQueue) (c d : Context) (h k : List Event) → Merges q c d h k → AreExact q c.regions (batches h) → AreExact q d.regions (batches k) → EachApart (effects (batches (h ++ k))) → Parts q c d h k
 parts q c d h k m a b apart = record {
   older_groups = m.older.groups;
   newer_groups = m.newer.groups;
@@ -144,7 +145,7 @@ blank_stands q p c d h k rs m e a b = subst (λ l. StandsIn p (merged_with c d r
     both = ap (λ l. l ++ k) x.0 ∙ y.0
 
     blank : AreExact p rs []
-    blank = blank_exact q p rs (subst (λ l. AreExact q rs (batches l)) both (regions_merged q c d h k rs (parts q c d h k m x.1 y.1 (subst (λ l. BatchesApart (batches l)) (sym both) (append_apart 0 [] tt))) e))
+    blank = blank_exact q p rs (subst (λ l. AreExact q rs (batches l)) both (regions_merged q c d h k rs (parts q c d h k m x.1 y.1 (subst (λ l. EachApart (effects (batches l))) (sym both) (append_apart 0 [] tt))) e))
 
 -- the merged regions with all else
 pub regions_stand : (q : LogQueue) (c d : Context) (h k : List Event) (rs : MarkedRegions) → Merges q c d h k → follows c.files d.files ≡ true → AreMerged q c d rs → StandsFor (merged_with c d rs) (h ++ k)
@@ -159,7 +160,7 @@ regions_stand q c d h k rs m f is = record {
     by p (inl n) = (blank_stands q p c d h k rs m is n.0 n.1).0
     by p (inr same) = subst (λ p. StandsIn p (merged_with c d rs) (h ++ k)) same (stands_in q c d h k rs m f is)
 
-pub regions_exact : (q : LogQueue) (c d : Context) (h k : List Event) (rs : MarkedRegions) → Merges q c d h k → IsExactFor c h → IsExactFor d k → BatchesApart (batches (h ++ k)) → follows c.files d.files ≡ true → AreMerged q c d rs → IsExactFor (merged_with c d rs) (h ++ k)
+pub regions_exact : (q : LogQueue) (c d : Context) (h k : List Event) (rs : MarkedRegions) → Merges q c d h k → IsExactFor c h → IsExactFor d k → EachApart (effects (batches (h ++ k))) → follows c.files d.files ≡ true → AreMerged q c d rs → IsExactFor (merged_with c d rs) (h ++ k)
 regions_exact q c d h k rs m a b apart f is = record {
   stands = regions_stand q c d h k rs m f is;
   regions = λ p u. by p (both_none q p c.files d.files m.older_suits m.newer_suits u);
@@ -169,7 +170,7 @@ regions_exact q c d h k rs m a b apart f is = record {
     by p (inl n) = (blank_stands q p c d h k rs m is n.0 n.1).1
     by p (inr same) = subst (λ p. AreExact p rs (batches (h ++ k))) same (regions_merged q c d h k rs (parts q c d h k m (a.regions q m.older_suits) (b.regions q m.newer_suits) apart) is)
 
-merged_some : (q : LogQueue) (c d e : Context) → merged q c d ≡ Some e → (follows c.files d.files ≡ true) × ((rs : MarkedRegions) × AreMerged q c d rs × (merged_with c d rs ≡ e))
+merged_some : (q : LogQueue) (c d e : Context) → merged_context q c d ≡ Some e → (follows c.files d.files ≡ true) × ((rs : MarkedRegions) × AreMerged q c d rs × (merged_with c d rs ≡ e))
 merged_some q c d e is = go (follows c.files d.files) (merged_regions q c d) refl refl is
   where
     go : (b : Bool) (o : Option MarkedRegions) → follows c.files d.files ≡ b → merged_regions q c d ≡ o → cond b (option_map (merged_with c d) o) None ≡ Some e → (follows c.files d.files ≡ true) × ((rs : MarkedRegions) × AreMerged q c d rs × (merged_with c d rs ≡ e))
@@ -177,10 +178,10 @@ merged_some q c d e is = go (follows c.files d.files) (merged_regions q c d) ref
     go true None f r is = absurd cc
     go true (Some rs) f r is = (f, (rs, merged_are q c d rs r, some_is is))
 
-pub merged_stands : (q : LogQueue) (c d e : Context) (h k : List Event) → Merges q c d h k → merged q c d ≡ Some e → StandsFor e (h ++ k)
+pub merged_stands : (q : LogQueue) (c d e : Context) (h k : List Event) → Merges q c d h k → merged_context q c d ≡ Some e → StandsFor e (h ++ k)
 merged_stands q c d e h k m is = let s = merged_some q c d e is in subst (λ e. StandsFor e (h ++ k)) s.1.2 (regions_stand q c d h k s.1.0 m s.0 s.1.1)
 
-pub merged_exact : (q : LogQueue) (c d e : Context) (h k : List Event) → Merges q c d h k → IsExactFor c h → IsExactFor d k → BatchesApart (batches (h ++ k)) → merged q c d ≡ Some e → IsExactFor e (h ++ k)
+pub merged_exact : (q : LogQueue) (c d e : Context) (h k : List Event) → Merges q c d h k → IsExactFor c h → IsExactFor d k → EachApart (effects (batches (h ++ k))) → merged_context q c d ≡ Some e → IsExactFor e (h ++ k)
 merged_exact q c d e h k m a b apart is = let s = merged_some q c d e is in subst (λ e. IsExactFor e (h ++ k)) s.1.2 (regions_exact q c d h k s.1.0 m a b apart s.0 s.1.1)
 
 no_both : {X : Type 0} {o : Option X} {x : X} → o ≡ None → o ≡ Some x → ⊥
@@ -217,7 +218,7 @@ regions_unsound q c d h k m refused sound = by_queue q m refused suits
 pub files_unsound : (q : LogQueue) (c d : Context) (h k : List Event) → Merges q c d h k → follows c.files d.files ≡ false → Sound (h ++ k) → ⊥
 files_unsound q c d h k m f sound = false≢true (sym f ∙ in_order q c d h k m sound)
 
-pub merge_refused : (q : LogQueue) (c d : Context) (h k : List Event) → Merges q c d h k → merged q c d ≡ None → Sound (h ++ k) → ⊥
+pub merge_refused : (q : LogQueue) (c d : Context) (h k : List Event) → Merges q c d h k → merged_context q c d ≡ None → Sound (h ++ k) → ⊥
 merge_refused q c d h k m is sound = go (follows c.files d.files) (merged_regions q c d) refl refl is
   where
     go : (b : Bool) (o : Option MarkedRegions) → follows c.files d.files ≡ b → merged_regions q c d ≡ o → cond b (option_map (merged_with c d) o) None ≡ None → ⊥
@@ -226,7 +227,7 @@ merge_refused q c d h k m is sound = go (follows c.files d.files) (merged_region
     go true (Some rs) f r is = cc
 
 -- in the rewrite queue files alone refuse a merge
-pub rewrite_merges : (c d : Context) → follows c.files d.files ≡ true → merged Rewrite c d ≡ None → ⊥
+pub rewrite_merges : (c d : Context) → follows c.files d.files ≡ true → merged_context Rewrite c d ≡ None → ⊥
 rewrite_merges c d f is = go (merged_regions Rewrite c d) refl (ap (λ b. cond b (option_map (merged_with c d) (merged_regions Rewrite c d)) None) (sym f) ∙ is)
   where
     go : (o : Option MarkedRegions) → merged_regions Rewrite c d ≡ o → option_map (merged_with c d) o ≡ None → ⊥

@@ -1,5 +1,5 @@
 -- The effects behind a cut: those of the newer batches alone, and the groups that become whole.
-use Rattle.std.proofs.Common.{◌≡◌, ℕ, ◌+◌, ◌<◌, ◌≤◌, ◌⊎◌, Bool, true, false, cond, ◌||◌, eqb, List, [], ◌∷◌, ◌++◌, length, Option, Some, None, refl, sym, ap, subst, ◌∙◌, inl, inr, append_assoc, arith}
+use Rattle.std.proofs.Common.{◌≡◌, ◌≢◌, ℕ, ◌+◌, ◌<◌, ◌≤◌, ◌⊎◌, Bool, true, false, cond, ◌||◌, eqb, List, [], ◌∷◌, ◌++◌, length, Option, Some, None, refl, sym, ap, subst, ◌∙◌, inl, inr, append_assoc, arith}
 use Rattle.std.proofs.lemmas.List.{append-nil}
 use Rattle.std.proofs.lemmas.List.Concat.{flat_map-append}
 use Rattle.std.proofs.lemmas.Bool.{eqb-true, eq-eqb}
@@ -7,10 +7,12 @@ use Rattle.std.specs.Prelude.{flat_map, filter_map}
 use Rattle.std.specs.List.{AllByRecursion, list_any, IsDistinct, cons_option}
 use Rattle.raft_records.specs.declared.atomic_group.AtomicGroupStatus.{AtomicGroupStatus}
 use Rattle.raft_records.specs.declared.atomic_group.AtomicGroupStatus.TheVariants.{Begin, Middle, End}
-use Rattle.raft_history.specs.Batches.{GroupMarker, ReadBatch}
-use Rattle.raft_history.specs.Effects.{Effect, completed, effects_behind, whole_steps, region_steps_in, steps_by, steps_in, all_steps, first_in, last_in, IsGroup, Names, EachApart, steps_of_wholes, IsListed, ListsGroups}
+use Rattle.raft_history.specs.Batches.{GroupMarker, BatchSteps}
+use Rattle.raft_history.specs.Effects.{Effect, completed_by, effects_behind, whole_steps, region_steps_in, steps_by, first_in, EachApart, Numbered, numbered_from, is_of, markers_of, open_stretch}
+use Rattle.raft_history.proofs.Words.{region_steps_of, all_steps, are_middles}
+use Rattle.raft_history.specs.WaitingGroups.{steps_of_wholes, IsListed, ListsGroups}
 use Rattle.raft_history.specs.RegionSteps.{RegionStep, names}
-use Rattle.raft_history.specs.WaitingGroup.{Numbered, numbered_from, is_of, markers_of, are_middles, open_stretch, region_steps_of, GroupFront, Open, Ended, Cut, led_by, front_by, front_of, OpenStretch, stretch_of, group_of, WholeGroup, whole_of, whole_group}
+use Rattle.raft_history.specs.WaitingGroup.{GroupFront, Open, Ended, Cut, led_by, front_by, front_of, OpenStretch, stretch_of, group_of, WholeGroup, whole_of, whole_group}
 use Rattle.raft_history.proofs.EffectLemmas.{each_weaker, each-append, each_left, each_right, numbered_from-append, from_on, up_to, effects_behind-append, effects_behind-one, effects_behind-none, all_steps-append, all_steps-one, all_steps-none, steps_in-none, all_steps-unnamed, within, apart_left, apart_last, unnamed_between, by_push, each_markers, each_open}
 use Rattle.raft_history.proofs.MarkerLemmas.{markers_of-append, open_stretch-append, middles_open_none, front_with, front_of-append, FitsFront, fits_front, with_more, whole_is}
 use Rattle.raft_table.specs.Steps.{Step}
@@ -18,7 +20,7 @@ use Rattle.raft_table.specs.Steps.{Step}
 -- the steps of a group that may be whole
 abbrev pub steps_or : ℕ → Option WholeGroup → List Step
 steps_or r None = []
-steps_or r (Some w) = whole_steps r w
+steps_or r (Some w) = whole_steps r w.steps w.start w.end
 
 -- what a group gives at the cut
 abbrev pub given : ℕ → List Numbered → List Numbered → ℕ → List Step
@@ -36,9 +38,12 @@ unfolding steps_of_wholes
 given_wholes r [] olds news = refl
 given_wholes r (g ∷ ids) olds news = rw (whole_is (markers_of g olds) (front_of (markers_of g news))) (go (whole_of (stretch_of (open_stretch (markers_of g olds))) (front_of (markers_of g news))) (given_wholes r ids olds news))
   where
-    go : (w : Option WholeGroup) → flat_map (whole_steps r) (wholes_at ids olds news) ≡ all_given r ids olds news → flat_map (whole_steps r) (cons_option w (wholes_at ids olds news)) ≡ steps_or r w ++ all_given r ids olds news
+    group_steps : WholeGroup → List Step
+    group_steps w = whole_steps r w.steps w.start w.end
+
+    go : (w : Option WholeGroup) → flat_map group_steps (wholes_at ids olds news) ≡ all_given r ids olds news → flat_map group_steps (cons_option w (wholes_at ids olds news)) ≡ steps_or r w ++ all_given r ids olds news
     go None ih = ih
-    go (Some w) ih = ap (λ l. whole_steps r w ++ l) ih
+    go (Some w) ih = ap (λ l. group_steps w ++ l) ih
 
 head_none : (xs ys : List Step) → xs ++ ys ≡ [] → xs ≡ []
 head_none [] ys e = refl
@@ -90,21 +95,21 @@ front_of_one n is m f = refl
 
 -- where the batches stand behind a cut, one more batch gives as much in both readings, or ends a group that the cut divides
 pub record Same (r : ℕ) (ids : List ℕ) (olds news : List Numbered) (p : Numbered) : Type 0 where
-  pub steps : all_steps r (completed (olds ++ news) p) ≡ all_steps r (completed news p)
+  pub steps : all_steps r (completed_by p.batch.marker (olds ++ news) p) ≡ all_steps r (completed_by p.batch.marker news p)
   pub given : all_given r ids olds (news ++ p ∷ []) ≡ all_given r ids olds news
 
 pub record Divided (r : ℕ) (ids : List ℕ) (olds news : List Numbered) (p : Numbered) : Type 0 where
   pub group : GroupMarker
   pub effect : Effect
-  pub completes : completed (olds ++ news) p ≡ effect ∷ []
-  pub alone : completed news p ≡ []
-  pub is_group : IsGroup effect
+  pub completes : completed_by p.batch.marker (olds ++ news) p ≡ effect ∷ []
+  pub alone : completed_by p.batch.marker news p ≡ []
+  pub is_group : effect.earlier ≢ []
   pub began : (n : ℕ) → AllByRecursion (λ q. q.number < n) olds → first_in effect < n
-  pub ends : last_in effect ≡ p.number
-  pub named : Names r effect
+  pub ends : effect.last.number ≡ p.number
+  pub named : names r (region_steps_in effect) ≡ true
   pub marker : p.batch.marker ≡ Some group
   pub others : (g : ℕ) → eqb g group.group ≡ false → given r olds (news ++ p ∷ []) g ≡ given r olds news g
-  pub steps : given r olds (news ++ p ∷ []) group.group ≡ steps_in r effect
+  pub steps : given r olds (news ++ p ∷ []) group.group ≡ steps_by r effect.earlier effect.last
 
 abbrev pub Grows : ℕ → List ℕ → List Numbered → List Numbered → Numbered → Type 0
 Grows r ids olds news p = Same r ids olds news p ⊎ Divided r ids olds news p
@@ -151,17 +156,17 @@ grows_whole r ids olds news n is k f js q qs e h o = go (names r (region_steps_i
     effect : Effect
     effect = record { earlier = q ∷ (qs ++ markers_of k news); last = placed n is (Some record { group = k; status = End }) f }
 
-    completes : completed (olds ++ news) (placed n is (Some record { group = k; status = End }) f) ≡ record { earlier = q ∷ (qs ++ markers_of k news); last = placed n is (Some record { group = k; status = End }) f } ∷ []
+    completes : completed_by (Some record { group = k; status = End }) (olds ++ news) (placed n is (Some record { group = k; status = End }) f) ≡ record { earlier = q ∷ (qs ++ markers_of k news); last = placed n is (Some record { group = k; status = End }) f } ∷ []
     completes = rw (open_across k olds news true (q ∷ qs) h.0 o) refl
 
-    alone : completed news (placed n is (Some record { group = k; status = End }) f) ≡ []
+    alone : completed_by (Some record { group = k; status = End }) news (placed n is (Some record { group = k; status = End }) f) ≡ []
     alone = rw (middles_open_none (markers_of k news) h.0) refl
 
     same_steps : region_steps_of (q ∷ qs) ++ (js ++ is) ≡ region_steps_of (q ∷ (qs ++ markers_of k news)) ++ is
     same_steps = rw (h.1, ← append_assoc (region_steps_of (q ∷ qs)) (region_steps_of (markers_of k news)) is) (ap (λ l. l ++ is) (sym (flat_map-append (λ x. x.batch.steps) (q ∷ qs) (markers_of k news))))
 
     steps : steps_or r (whole_of (stretch_of (open_stretch (markers_of k olds))) (front_with (front_of (markers_of k news)) (Ended is f))) ≡ steps_by r (q ∷ (qs ++ markers_of k news)) (placed n is (Some record { group = k; status = End }) f)
-    steps = rw (o, e) (ap (λ l. whole_steps r record { steps = l; start = q.batch.file; end = f }) same_steps)
+    steps = rw (o, e) (ap (λ l. whole_steps r l q.batch.file f) same_steps)
 
     none : steps_or r (whole_of (stretch_of (open_stretch (markers_of k olds))) (front_of (markers_of k news))) ≡ []
     none = rw (o, e) refl
@@ -231,14 +236,14 @@ grows r ids olds news n is (Some m) f = go m.group m.status
 
 -- one more batch behind a cut
 grow : (r n : ℕ) (ids : List ℕ) (olds news : List Numbered) (p : Numbered) → AllByRecursion (λ q. q.number < n) olds → AllByRecursion (λ q. n ≤ q.number) news → AllByRecursion (λ q. q.number < p.number) (olds ++ news) →
-    IsDistinct eqb ids → IsListed ids p.batch.marker → EachApart (effects_behind olds news ++ completed (olds ++ news) p) →
+    IsDistinct eqb ids → IsListed ids p.batch.marker → EachApart (effects_behind olds news ++ completed_by p.batch.marker (olds ++ news) p) →
     all_steps r (effects_behind olds news) ≡ all_given r ids olds news ++ all_steps r (effects_behind [] news) →
-    all_steps r (effects_behind olds news) ++ all_steps r (completed (olds ++ news) p) ≡ all_given r ids olds (news ++ p ∷ []) ++ (all_steps r (effects_behind [] news) ++ all_steps r (completed news p))
+    all_steps r (effects_behind olds news) ++ all_steps r (completed_by p.batch.marker (olds ++ news) p) ≡ all_given r ids olds (news ++ p ∷ []) ++ (all_steps r (effects_behind [] news) ++ all_steps r (completed_by p.batch.marker news p))
 grow r n ids olds news p below from to one listed apart ih = go (grows r ids olds news p.number p.batch.steps p.batch.marker p.batch.file)
   where
-    go : Grows r ids olds news p → all_steps r (effects_behind olds news) ++ all_steps r (completed (olds ++ news) p) ≡ all_given r ids olds (news ++ p ∷ []) ++ (all_steps r (effects_behind [] news) ++ all_steps r (completed news p))
-    go (inl same) = rw (same.steps, same.given, ih) (append_assoc (all_given r ids olds news) (all_steps r (effects_behind [] news)) (all_steps r (completed news p)))
-    go (inr d) = rw (none, d.completes, d.alone, rest_none, given_one) (all_steps-one r d.effect ∙ sym (append-nil (steps_in r d.effect)) ∙ ap (λ l. steps_in r d.effect ++ l) (sym (all_steps-none r)))
+    go : Grows r ids olds news p → all_steps r (effects_behind olds news) ++ all_steps r (completed_by p.batch.marker (olds ++ news) p) ≡ all_given r ids olds (news ++ p ∷ []) ++ (all_steps r (effects_behind [] news) ++ all_steps r (completed_by p.batch.marker news p))
+    go (inl same) = rw (same.steps, same.given, ih) (append_assoc (all_given r ids olds news) (all_steps r (effects_behind [] news)) (all_steps r (completed_by p.batch.marker news p)))
+    go (inr d) = rw (none, d.completes, d.alone, rest_none, given_one) (all_steps-one r d.effect ∙ sym (append-nil (steps_by r d.effect.earlier d.effect.last)) ∙ ap (λ l. steps_by r d.effect.earlier d.effect.last ++ l) (sym (all_steps-none r)))
       where
         unnamed : AllByRecursion (λ e. names r (region_steps_in e) ≡ false) (effects_behind olds news)
         unnamed = unnamed_between r n p.number (effects_behind olds news) d.effect
@@ -252,7 +257,7 @@ grow r n ids olds news p below from to one listed apart ih = go (grows r ids old
         rest_none : all_steps r (effects_behind [] news) ≡ []
         rest_none = tail_none (all_given r ids olds news) (all_steps r (effects_behind [] news)) (sym ih ∙ none)
 
-        given_one : all_given r ids olds (news ++ p ∷ []) ≡ steps_in r d.effect
+        given_one : all_given r ids olds (news ++ p ∷ []) ≡ steps_by r d.effect.earlier d.effect.last
         given_one = changed_one (given r olds news) (given r olds (news ++ p ∷ [])) d.group.group ids one (subst (IsListed ids) d.marker listed) d.others (head_none (all_given r ids olds news) (all_steps r (effects_behind [] news)) (sym ih ∙ none)) ∙ d.steps
 
 -- no batches behind the cut
@@ -269,17 +274,17 @@ all_given_none r [] olds = refl
 all_given_none r (g ∷ ids) olds = rw (given_none r olds g) (all_given_none r ids olds)
 
 -- the effects behind a cut are those of the newer batches alone, and before them the groups that become whole
-record Holds (r n : ℕ) (ids : List ℕ) (olds : List Numbered) (h : List ReadBatch) : Type 0 where
+record Holds (r n : ℕ) (ids : List ℕ) (olds : List Numbered) (h : List BatchSteps) : Type 0 where
   steps : ListsGroups ids h → EachApart (effects_behind olds (numbered_from n h)) → all_steps r (effects_behind olds (numbered_from n h)) ≡ all_given r ids olds (numbered_from n h) ++ all_steps r (effects_behind [] (numbered_from n h))
 
-pub behind_cut : (r n : ℕ) (ids : List ℕ) (olds : List Numbered) → AllByRecursion (λ q. q.number < n) olds → IsDistinct eqb ids → (h : List ReadBatch) → ListsGroups ids h → EachApart (effects_behind olds (numbered_from n h)) →
+pub behind_cut : (r n : ℕ) (ids : List ℕ) (olds : List Numbered) → AllByRecursion (λ q. q.number < n) olds → IsDistinct eqb ids → (h : List BatchSteps) → ListsGroups ids h → EachApart (effects_behind olds (numbered_from n h)) →
     all_steps r (effects_behind olds (numbered_from n h)) ≡ all_given r ids olds (numbered_from n h) ++ all_steps r (effects_behind [] (numbered_from n h))
 behind_cut r n ids olds below one h = (by_push (Holds r n ids olds) none more h).steps
   where
     none : Holds r n ids olds []
     none = record { steps = λ listed apart. rw (all_given_none r ids olds, effects_behind-none olds, effects_behind-none []) refl }
 
-    more : (k : List ReadBatch) (b : ReadBatch) → Holds r n ids olds k → Holds r n ids olds (k ++ b ∷ [])
+    more : (k : List BatchSteps) (b : BatchSteps) → Holds r n ids olds k → Holds r n ids olds (k ++ b ∷ [])
     more k b ih = record {
       steps = λ listed. rw (numbered_from-append n k (b ∷ []))
           (go (numbered_from n k) record { number = n + length k; batch = b } (from_on n k) (up_to n (n + length k) k (omega arith)) (each_weaker (λ q. q.number < n) (λ q. q.number < n + length k) (λ q h. omega arith) olds below)
@@ -289,5 +294,5 @@ behind_cut r n ids olds below one h = (by_push (Holds r n ids olds) none more h)
         go : (news : List Numbered) (p : Numbered) → AllByRecursion (λ q. n ≤ q.number) news → AllByRecursion (λ q. q.number < p.number) news → AllByRecursion (λ q. q.number < p.number) olds → IsListed ids p.batch.marker →
             (EachApart (effects_behind olds news) → all_steps r (effects_behind olds news) ≡ all_given r ids olds news ++ all_steps r (effects_behind [] news)) →
             EachApart (effects_behind olds (news ++ p ∷ [])) → all_steps r (effects_behind olds (news ++ p ∷ [])) ≡ all_given r ids olds (news ++ p ∷ []) ++ all_steps r (effects_behind [] (news ++ p ∷ []))
-        go news p from to old listed ih = rw (effects_behind-append olds news (p ∷ []), effects_behind-append [] news (p ∷ []), effects_behind-one (olds ++ news) p, effects_behind-one news p, all_steps-append r (effects_behind olds news) (completed (olds ++ news) p), all_steps-append r (effects_behind [] news) (completed news p))
-            (λ apart. grow r n ids olds news p below from (each-append (λ q. q.number < p.number) olds news old to) one listed apart (ih (apart_left (effects_behind olds news) (completed (olds ++ news) p) apart)))
+        go news p from to old listed ih = rw (effects_behind-append olds news (p ∷ []), effects_behind-append [] news (p ∷ []), effects_behind-one (olds ++ news) p, effects_behind-one news p, all_steps-append r (effects_behind olds news) (completed_by p.batch.marker (olds ++ news) p), all_steps-append r (effects_behind [] news) (completed_by p.batch.marker news p))
+            (λ apart. grow r n ids olds news p below from (each-append (λ q. q.number < p.number) olds news old to) one listed apart (ih (apart_left (effects_behind olds news) (completed_by p.batch.marker (olds ++ news) p) apart)))

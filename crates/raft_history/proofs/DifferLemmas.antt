@@ -1,15 +1,16 @@
 -- The groups that become whole at one cut name different regions.
-use Rattle.std.proofs.Common.{◌≡◌, ℕ, ◌+◌, ◌<◌, ◌≤◌, ◌⊎◌, true, List, [], ◌∷◌, ◌++◌, length, Option, Some, None, refl, sym, ap, subst, ◌∙◌, inl, inr, append_assoc, arith}
+use Rattle.std.proofs.Common.{◌≡◌, ◌≢◌, ℕ, ◌+◌, ◌<◌, ◌≤◌, ◌⊎◌, true, List, [], ◌∷◌, ◌++◌, length, Option, Some, None, refl, sym, ap, subst, ◌∙◌, inl, inr, append_assoc, arith}
 use Rattle.std.specs.List.{AllByRecursion}
 use Rattle.std.proofs.lemmas.List.Concat.{flat_map-append}
 use Rattle.std.proofs.lemmas.Bool.{eqb-true}
 use Rattle.raft_records.specs.declared.atomic_group.AtomicGroupStatus.{AtomicGroupStatus}
 use Rattle.raft_records.specs.declared.atomic_group.AtomicGroupStatus.TheVariants.{Begin, Middle, End}
-use Rattle.raft_history.specs.Batches.{GroupMarker, ReadBatch}
-use Rattle.raft_history.specs.Effects.{Effect, effects, region_steps_in, first_in, last_in, IsGroup, AreApart, EachApart, BatchesApart, group_in}
+use Rattle.raft_history.specs.Batches.{GroupMarker, BatchSteps}
+use Rattle.raft_history.specs.Effects.{Effect, effects, region_steps_in, first_in, AreApart, EachApart, Numbered, numbered_from, is_of, markers_of, open_stretch}
+use Rattle.raft_history.proofs.Words.{region_steps_of}
 use Rattle.raft_history.specs.RegionSteps.{RegionStep, names}
 use Rattle.raft_history.specs.Stretches.{IsIn, IsMarkerOf}
-use Rattle.raft_history.specs.WaitingGroup.{Numbered, numbered_from, is_of, markers_of, open_stretch, region_steps_of, GroupFront, Open, Ended, Cut, front_of, front_by, front_behind, led_by, stretch_of, WholeGroup, whole_group, whole_of}
+use Rattle.raft_history.specs.WaitingGroup.{GroupFront, Open, Ended, Cut, front_of, front_by, front_behind, led_by, stretch_of, WholeGroup, whole_group, whole_of, group_in}
 use Rattle.raft_history.proofs.EffectLemmas.{each-append, each_weaker, each_right, each_markers, numbered_from-append, from_on, up_to}
 use Rattle.raft_history.proofs.MarkerLemmas.{markers_of-append, whole_is}
 use Rattle.raft_history.proofs.ShiftLemmas.{group_of-placed}
@@ -64,16 +65,16 @@ ended_is g (p ∷ ps) is f h e = go p.batch.marker refl h.0 e (ended_is g ps)
         at End m e = record { middles = []; end = p; behind = ps; split = refl; goes_on = tt; ends = m; steps = ended_items p.batch.steps is p.batch.file f e; file = ended_file p.batch.steps is p.batch.file f e }
 
 -- the effect of a group that the cut divides
-record IsAcross (h k : List ReadBatch) (g : ℕ) (w : WholeGroup) : Type 0 where
+record IsAcross (h k : List BatchSteps) (g : ℕ) (w : WholeGroup) : Type 0 where
   effect : Effect
   stands : IsIn effect (effects (h ++ k))
   steps : region_steps_in effect ≡ w.steps
-  group : IsGroup effect
+  group : effect.earlier ≢ []
   first : first_in effect < length h
-  last : length h ≤ last_in effect
+  last : length h ≤ effect.last.number
   ends : IsMarkerOf g End effect.last
 
-across : (h k : List ReadBatch) (g : ℕ) (w : WholeGroup) → whole_group (group_in g h) (group_in g k) ≡ Some w → IsAcross h k g w
+across : (h k : List BatchSteps) (g : ℕ) (w : WholeGroup) → whole_group (group_in g h) (group_in g k) ≡ Some w → IsAcross h k g w
 across h k g w e = go (open_stretch (markers_of g (numbered_from 0 h))) refl (front_of (markers_of g (numbered_from (0 + length h) k))) refl
     (ap (whole_of (stretch_of (open_stretch (markers_of g (numbered_from 0 h))))) (ap (λ x. x.front) (group_of-placed (0 + length h) g k)) ∙ sym (whole_is (markers_of g (numbered_from 0 h)) (group_in g k).front) ∙ e)
   where
@@ -150,8 +151,8 @@ apart_any e f (x ∷ xs) other h i j = go (head_or_tail e x xs i) (head_or_tail 
     go (inr a) (inl b) ih = inr (subst (λ z. AreApart z e) b (each_in (AreApart x) e xs h.0 a))
     go (inr a) (inr b) ih = ih a b
 
-pub wholes_differ : (h k : List ReadBatch) → BatchesApart (h ++ k) → (g l : ℕ) → (g ≡ l → ⊥) → (w v : WholeGroup) → whole_group (group_in g h) (group_in g k) ≡ Some w → whole_group (group_in l h) (group_in l k) ≡ Some v → (r : ℕ) → names r w.steps ≡ true → names r v.steps ≡ true → ⊥
-wholes_differ h k apart g l other w v a b r m n = go (apart_any x.effect y.effect (effects (h ++ k)) (λ s. other (same_group g l x.effect.last y.effect.last x.ends y.ends (ap (λ z. z.last) s))) apart.each x.stands y.stands)
+pub wholes_differ : (h k : List BatchSteps) → EachApart (effects (h ++ k)) → (g l : ℕ) → (g ≡ l → ⊥) → (w v : WholeGroup) → whole_group (group_in g h) (group_in g k) ≡ Some w → whole_group (group_in l h) (group_in l k) ≡ Some v → (r : ℕ) → names r w.steps ≡ true → names r v.steps ≡ true → ⊥
+wholes_differ h k apart g l other w v a b r m n = go (apart_any x.effect y.effect (effects (h ++ k)) (λ s. other (same_group g l x.effect.last y.effect.last x.ends y.ends (ap (λ z. z.last) s))) apart x.stands y.stands)
   where
     x : IsAcross h k g w
     x = across h k g w a
@@ -167,5 +168,5 @@ wholes_differ h k apart g l other w v a b r m n = go (apart_any x.effect y.effec
     same_group g l p q a b s = ap group_or (sym a ∙ ap (λ z. z.batch.marker) s ∙ b)
 
     go : AreApart x.effect y.effect ⊎ AreApart y.effect x.effect → ⊥
-    go (inl h) = h record { before = omega (arith, x.first, y.last); behind = omega (arith, y.first, x.last) } (inl x.group) r (ap (names r) x.steps ∙ m) (ap (names r) y.steps ∙ n)
-    go (inr h) = h record { before = omega (arith, y.first, x.last); behind = omega (arith, x.first, y.last) } (inl y.group) r (ap (names r) y.steps ∙ n) (ap (names r) x.steps ∙ m)
+    go (inl h) = h (omega (arith, x.first, y.last)) (omega (arith, y.first, x.last)) (inl x.group) r (ap (names r) x.steps ∙ m) (ap (names r) y.steps ∙ n)
+    go (inr h) = h (omega (arith, y.first, x.last)) (omega (arith, x.first, y.last)) (inl y.group) r (ap (names r) y.steps ∙ n) (ap (names r) x.steps ∙ m)

@@ -1,5 +1,5 @@
 -- Where effects are apart, a region's steps stand in files that never go down.
-use Rattle.std.proofs.Common.{◌≡◌, ℕ, suc, zero, ◌+◌, ◌<◌, ◌≤◌, Bool, true, false, cond, ◌&&◌, List, [], ◌∷◌, ◌++◌, filter, map, Option, Some, None, refl, sym, ap, subst, ◌∙◌, inr, arith, append-nil}
+use Rattle.std.proofs.Common.{◌≡◌, ℕ, suc, zero, ◌+◌, ◌<◌, ◌≤◌, Bool, true, false, cond, ◌&&◌, List, [], ◌∷◌, ◌++◌, filter, map, Option, Some, None, refl, sym, ap, subst, ◌∙◌, inr, arith, append-nil, slice_index_or}
 use Rattle.std.proofs.Math.Nat.{lt_of_not-le}
 use Rattle.std.proofs.lemmas.List.Concat.{flat_map-append}
 use Rattle.std.specs.List.{AllByRecursion}
@@ -14,12 +14,12 @@ use Rattle.raft_records.specs.Group.{is_reserved}
 use Rattle.raft_records.specs.Item.{Item, Content, entries, command, pair}
 use Rattle.raft_table.specs.Steps.{Step, Run, Compact, Truncate, Put, Del, AtomicGroup, Clean}
 use Rattle.raft_table.proofs.MarkEntries.{same_some}
-use Rattle.raft_history.specs.Batches.{Event, GroupMarker, ReadBatch, batches}
-use Rattle.raft_history.specs.Effects.{Effect, ended, completed_as, completed_by, completed, effects_behind, effects, whole_steps, region_steps_in, steps_by, steps_in, all_steps, steps_of, first_by, first_in, last_in, Names, AreApart, EachApart}
-use Rattle.raft_history.specs.Histories.{IsInFile, AreInFile, AreInFiles, FilesFrom, IsSoundIn, Apart}
-use Rattle.raft_history.specs.RegionSteps.{RegionStep, put_step, pair_step, content_step, with_step, names, steps_on, steps_of_items, is_on}
+use Rattle.raft_history.specs.Batches.{Event, GroupMarker, BatchSteps, batches}
+use Rattle.raft_history.specs.Effects.{Effect, completed_as, completed_by, effects_behind, effects, whole_steps, region_steps_in, steps_by, steps_of, first_in, AreApart, EachApart, has_status, Numbered, numbered_from, markers_of, open_stretch}
+use Rattle.raft_history.specs.Histories.{IsInFile, AreInFile, FilesFrom, IsSoundIn, Apart}
+use Rattle.raft_history.specs.RegionSteps.{RegionStep, pair_step, content_step, names, steps_on, steps_of_items}
 use Rattle.raft_history.specs.Stretches.{RiseFrom}
-use Rattle.raft_history.specs.WaitingGroup.{begins, are_middles, Numbered, numbered_from, markers_of, open_stretch, region_steps_of}
+use Rattle.raft_history.proofs.Words.{AreInFiles, with_step, is_on, region_steps_of, all_steps, are_middles}
 use Rattle.raft_history.proofs.EffectLemmas.{each-append, each_weaker, steps_in-none}
 use Rattle.raft_history.proofs.FileOrderLemmas.{StepRises, StepsRise, run_here, steps_lower, rise-append}
 use Rattle.raft_history.proofs.StepListLemmas.{own-append}
@@ -68,7 +68,7 @@ content_here file (command (commands.Compact index)) s h e = subst (StepRises fi
 content_here file (command (commands.Truncate index)) s h e = subst (StepRises file.queue file.seq file.seq) (same_some (Truncate index) s e) (omega arith)
 content_here file (pair p) s h e = go (is_reserved p.key) e
   where
-    put : (value : Option (List ℕ)) (id : Option FileId) → put_step p.key value id ≡ Some s → StepRises file.queue file.seq file.seq s
+    put : (value : Option (List ℕ)) (id : Option FileId) → pair_step operations.Put p.key value id ≡ Some s → StepRises file.queue file.seq file.seq s
     put (Some value) (Some id) e = subst (StepRises file.queue file.seq file.seq) (same_some (Put p.key value id) s e) (omega arith)
     put (Some value) None e = absurd cc
     put None id e = absurd cc
@@ -127,7 +127,7 @@ row_filter q file t n m (p ∷ ps) h = elim (t p) as (λ b. IsRow q file n m (co
 row_open : (q : LogQueue) (file : ℕ → ℕ) (n m : ℕ) (ps : List Numbered) → IsRow q file n m ps → IsRow q file n m (open_stretch ps)
 unfolding open_stretch
 row_open q file n m [] h = h
-row_open q file n m (p ∷ ps) h = elim (begins p.batch.marker && are_middles ps) as (λ b. IsRow q file n m (cond b (p ∷ ps) (open_stretch ps))) [
+row_open q file n m (p ∷ ps) h = elim (has_status Begin p.batch.marker && are_middles ps) as (λ b. IsRow q file n m (cond b (p ∷ ps) (open_stretch ps))) [
   | true ↦ h
   | false ↦ row_lower q file n p.number m (open_stretch ps) h.0 (row_open q file p.number m ps h.2)
 ]
@@ -152,19 +152,19 @@ row_rises q file r n m (p ∷ ps) up h = subst (StepsRise q (file n) (file m)) (
 
 -- the batches of an effect are a row
 abbrev HasRow : LogQueue → (ℕ → ℕ) → Effect → Type 0
-HasRow q file e = IsRow q file (first_in e) (last_in e) (e.earlier ++ e.last ∷ [])
+HasRow q file e = IsRow q file (first_in e) e.last.number (e.earlier ++ e.last ∷ [])
 
-effect_order : (q : LogQueue) (file : ℕ → ℕ) (e : Effect) → HasRow q file e → first_in e ≤ last_in e
-effect_order q file e h = row_order q file (first_in e) (last_in e) (e.earlier ++ e.last ∷ []) h
+effect_order : (q : LogQueue) (file : ℕ → ℕ) (e : Effect) → HasRow q file e → first_in e ≤ e.last.number
+effect_order q file e h = row_order q file (first_in e) e.last.number (e.earlier ++ e.last ∷ []) h
 
-effect_rises : (q : LogQueue) (file : ℕ → ℕ) (r : ℕ) (e : Effect) → NeverFalls file → HasRow q file e → StepsRise q (file (first_in e)) (file (last_in e)) (steps_in r e)
+effect_rises : (q : LogQueue) (file : ℕ → ℕ) (r : ℕ) (e : Effect) → NeverFalls file → HasRow q file e → StepsRise q (file (first_in e)) (file e.last.number) (steps_by r e.earlier e.last)
 unfolding whole_steps
 effect_rises q file r e up h = go e.earlier h
   where
-    go : (l : List Numbered) → IsRow q file (first_by l e.last) (last_in e) (l ++ e.last ∷ []) → StepsRise q (file (first_by l e.last)) (file (last_in e)) (steps_by r l e.last)
-    go [] h = subst (λ is. StepsRise q (file (last_in e)) (file (last_in e)) (steps_on r is)) (append-nil e.last.batch.steps) (row_rises q file r (last_in e) (last_in e) (e.last ∷ []) up h)
-    go (o ∷ os) h = rise-append q (file o.number) (file (last_in e)) (file (last_in e)) (steps_on r all) (cond (names r all) (AtomicGroup o.batch.file e.last.batch.file ∷ []) [])
-        (subst (λ is. StepsRise q (file o.number) (file (last_in e)) (steps_on r is)) same (row_rises q file r o.number (last_in e) ((o ∷ os) ++ e.last ∷ []) up h))
+    go : (l : List Numbered) → IsRow q file (slice_index_or l 0 e.last).number e.last.number (l ++ e.last ∷ []) → StepsRise q (file (slice_index_or l 0 e.last).number) (file e.last.number) (steps_by r l e.last)
+    go [] h = subst (λ is. StepsRise q (file e.last.number) (file e.last.number) (steps_on r is)) (append-nil e.last.batch.steps) (row_rises q file r e.last.number e.last.number (e.last ∷ []) up h)
+    go (o ∷ os) h = rise-append q (file o.number) (file e.last.number) (file e.last.number) (steps_on r all) (cond (names r all) (AtomicGroup o.batch.file e.last.batch.file ∷ []) [])
+        (subst (λ is. StepsRise q (file o.number) (file e.last.number) (steps_on r is)) same (row_rises q file r o.number e.last.number ((o ∷ os) ++ e.last ∷ []) up h))
         (ends (names r all))
       where
         all : List RegionStep
@@ -173,15 +173,15 @@ effect_rises q file r e up h = go e.earlier h
         same : region_steps_of ((o ∷ os) ++ e.last ∷ []) ≡ all
         same = flat_map-append (λ (p : Numbered). p.batch.steps) (o ∷ os) (e.last ∷ []) ∙ ap (λ l. region_steps_of (o ∷ os) ++ l) (append-nil e.last.batch.steps)
 
-        ends : (b : Bool) → StepsRise q (file (last_in e)) (file (last_in e)) (cond b (AtomicGroup o.batch.file e.last.batch.file ∷ []) [])
-        ends true = (file (last_in e), omega arith, omega arith)
+        ends : (b : Bool) → StepsRise q (file e.last.number) (file e.last.number) (cond b (AtomicGroup o.batch.file e.last.batch.file ∷ []) [])
+        ends true = (file e.last.number, omega arith, omega arith)
         ends false = omega arith
 
-completed_rows : (q : LogQueue) (file : ℕ → ℕ) (n : ℕ) (olds : List Numbered) (p : Numbered) → IsRow q file 0 n olds → n ≤ p.number → IsFiled q file p → AllByRecursion (HasRow q file) (completed olds p)
+completed_rows : (q : LogQueue) (file : ℕ → ℕ) (n : ℕ) (olds : List Numbered) (p : Numbered) → IsRow q file 0 n olds → n ≤ p.number → IsFiled q file p → AllByRecursion (HasRow q file) (completed_by p.batch.marker olds p)
 unfolding markers_of
 completed_rows q file n olds p h l f = go p.batch.marker
   where
-    end : (l : List Numbered) → IsRow q file 0 n l → AllByRecursion (HasRow q file) (ended l p)
+    end : (l : List Numbered) → IsRow q file 0 n l → AllByRecursion (HasRow q file) (completed_as End l p)
     end [] h = tt
     end (o ∷ os) h = ((omega arith, h.1, row_push q file o.number n p.number os p h.2 l (omega arith) f), tt)
 
@@ -194,10 +194,10 @@ completed_rows q file n olds p h l f = go p.batch.marker
         at Middle = tt
         at End = end (open_stretch (markers_of m.group olds)) (row_open q file 0 n (markers_of m.group olds) (row_filter q file _ 0 n olds h))
 
-all_rows : (q : LogQueue) (file : ℕ → ℕ) (n : ℕ) (olds : List Numbered) (bs : List ReadBatch) → IsRow q file 0 n olds → AllByRecursion (IsFiled q file) (numbered_from n bs) → AllByRecursion (HasRow q file) (effects_behind olds (numbered_from n bs))
+all_rows : (q : LogQueue) (file : ℕ → ℕ) (n : ℕ) (olds : List Numbered) (bs : List BatchSteps) → IsRow q file 0 n olds → AllByRecursion (IsFiled q file) (numbered_from n bs) → AllByRecursion (HasRow q file) (effects_behind olds (numbered_from n bs))
 unfolding effects_behind
 all_rows q file n olds [] h k = tt
-all_rows q file n olds (b ∷ bs) h k = each-append (HasRow q file) (completed olds (record { number = n; batch = b })) (effects_behind (olds ++ record { number = n; batch = b } ∷ []) (numbered_from (suc n) bs))
+all_rows q file n olds (b ∷ bs) h k = each-append (HasRow q file) (completed_by b.marker olds (record { number = n; batch = b })) (effects_behind (olds ++ record { number = n; batch = b } ∷ []) (numbered_from (suc n) bs))
     (completed_rows q file n olds (record { number = n; batch = b }) h (omega arith) k.0)
     (all_rows q file (suc n) (olds ++ record { number = n; batch = b } ∷ []) bs (row_push q file 0 n (suc n) olds (record { number = n; batch = b }) h (omega arith) (omega arith) k.0) k.1)
 
@@ -205,29 +205,29 @@ all_rows q file n olds (b ∷ bs) h k = each-append (HasRow q file) (completed o
 
 -- where both name the region, the later effect begins in no file below the last of the earlier one
 abbrev Follows : (ℕ → ℕ) → ℕ → Effect → Effect → Type 0
-Follows file r e f = Names r e → Names r f → file (last_in e) ≤ file (first_in f)
+Follows file r e f = names r (region_steps_in e) ≡ true → names r (region_steps_in f) ≡ true → file e.last.number ≤ file (first_in f)
 
 abbrev EachFollows : (ℕ → ℕ) → ℕ → List Effect → Type 0
 EachFollows file r [] = Unit {0}
 EachFollows file r (e ∷ es) = AllByRecursion (Follows file r e) es × EachFollows file r es
 
-begins_behind : (r : ℕ) (e f : Effect) → AreApart e f → first_in e ≤ last_in e → last_in e < last_in f → Names r e → Names r f → last_in e < first_in f
+begins_behind : (r : ℕ) (e f : Effect) → AreApart e f → first_in e ≤ e.last.number → e.last.number < f.last.number → names r (region_steps_in e) ≡ true → names r (region_steps_in f) ≡ true → e.last.number < first_in f
 begins_behind r e f apart low l a b = go f.earlier refl
   where
-    go : (l : List Numbered) → f.earlier ≡ l → last_in e < first_by l f.last
+    go : (l : List Numbered) → f.earlier ≡ l → e.last.number < (slice_index_or l 0 f.last).number
     go [] is = l
-    go (q ∷ qs) is = lt_of_not-le (λ k. apart record { before = omega (arith, low, l); behind = subst (λ x. first_by x f.last ≤ last_in e) (sym is) k } (inr (λ none. none_is none is)) r a b)
+    go (q ∷ qs) is = lt_of_not-le (λ k. apart (omega (arith, low, l)) (subst (λ x. (slice_index_or x 0 f.last).number ≤ e.last.number) (sym is) k) (inr (λ none. none_is none is)) r a b)
       where
         none_is : f.earlier ≡ [] → f.earlier ≡ q ∷ qs → ⊥
         none_is x y = cc
 
-rise_all : (n : ℕ) (es : List Effect) → RiseFrom n es → AllByRecursion (λ e. n ≤ last_in e) es
+rise_all : (n : ℕ) (es : List Effect) → RiseFrom n es → AllByRecursion (λ e. n ≤ e.last.number) es
 rise_all n [] h = tt
-rise_all n (e ∷ es) h = (h.0, each_weaker (λ f. suc (last_in e) ≤ last_in f) (λ f. n ≤ last_in f) (λ f k. omega (arith, h.0, k)) es (rise_all (suc (last_in e)) es h.1))
+rise_all n (e ∷ es) h = (h.0, each_weaker (λ f. suc e.last.number ≤ f.last.number) (λ f. n ≤ f.last.number) (λ f k. omega (arith, h.0, k)) es (rise_all (suc e.last.number) es h.1))
 
-all_follow : (file : ℕ → ℕ) (r : ℕ) (e : Effect) (es : List Effect) → NeverFalls file → first_in e ≤ last_in e → AllByRecursion (AreApart e) es → AllByRecursion (λ f. suc (last_in e) ≤ last_in f) es → AllByRecursion (Follows file r e) es
+all_follow : (file : ℕ → ℕ) (r : ℕ) (e : Effect) (es : List Effect) → NeverFalls file → first_in e ≤ e.last.number → AllByRecursion (AreApart e) es → AllByRecursion (λ f. suc e.last.number ≤ f.last.number) es → AllByRecursion (Follows file r e) es
 all_follow file r e [] up low a l = tt
-all_follow file r e (f ∷ es) up low a l = (λ x y. up (last_in e) (first_in f) (below (begins_behind r e f a.0 low (above l.0) x y)), all_follow file r e es up low a.1 l.1)
+all_follow file r e (f ∷ es) up low a l = (λ x y. up e.last.number (first_in f) (below (begins_behind r e f a.0 low (above l.0) x y)), all_follow file r e es up low a.1 l.1)
   where
     above : {i j : ℕ} → suc i ≤ j → i < j
     above h = omega (arith, h)
@@ -238,26 +238,25 @@ all_follow file r e (f ∷ es) up low a l = (λ x y. up (last_in e) (first_in f)
 each_follows : (q : LogQueue) (file : ℕ → ℕ) (r n : ℕ) (es : List Effect) → NeverFalls file → RiseFrom n es → EachApart es → AllByRecursion (HasRow q file) es → EachFollows file r es
 each_follows q file r n [] up rise apart rows = tt
 each_follows q file r n (e ∷ es) up rise apart rows = (
-  all_follow file r e es up (effect_order q file e rows.0) apart.0 (rise_all (suc (last_in e)) es rise.1),
-  each_follows q file r (suc (last_in e)) es up rise.1 apart.1 rows.1,
+  all_follow file r e es up (effect_order q file e rows.0) apart.0 (rise_all (suc e.last.number) es rise.1),
+  each_follows q file r (suc e.last.number) es up rise.1 apart.1 rows.1,
 )
 
-effects_rise : (q : LogQueue) (file : ℕ → ℕ) (r low : ℕ) (es : List Effect) → NeverFalls file → AllByRecursion (HasRow q file) es → AllByRecursion (λ e. Names r e → low ≤ file (first_in e)) es → EachFollows file r es → (high : ℕ) × StepsRise q low high (all_steps r es)
-unfolding all_steps
+effects_rise : (q : LogQueue) (file : ℕ → ℕ) (r low : ℕ) (es : List Effect) → NeverFalls file → AllByRecursion (HasRow q file) es → AllByRecursion (λ e. names r (region_steps_in e) ≡ true → low ≤ file (first_in e)) es → EachFollows file r es → (high : ℕ) × StepsRise q low high (all_steps r es)
 effects_rise q file r low [] up rows from follows = (low, omega arith)
 effects_rise q file r low (e ∷ es) up rows from follows = go (names r (region_steps_in e)) refl (λ l k. effects_rise q file r l es up rows.1 k follows.1)
   where
-    go : (b : Bool) → names r (region_steps_in e) ≡ b → ((l : ℕ) → AllByRecursion (λ e. Names r e → l ≤ file (first_in e)) es → (high : ℕ) × StepsRise q l high (all_steps r es)) → (high : ℕ) × StepsRise q low high (steps_in r e ++ all_steps r es)
+    go : (b : Bool) → names r (region_steps_in e) ≡ b → ((l : ℕ) → AllByRecursion (λ e. names r (region_steps_in e) ≡ true → l ≤ file (first_in e)) es → (high : ℕ) × StepsRise q l high (all_steps r es)) → (high : ℕ) × StepsRise q low high (steps_by r e.earlier e.last ++ all_steps r es)
     go true is rest =
-        let behind = rest (file (last_in e)) (each_weaker (Follows file r e) (λ f. Names r f → file (last_in e) ≤ file (first_in f)) (λ f k. k is) es follows.0) in
-        (behind.0, rise-append q low (file (last_in e)) behind.0 (steps_in r e) (all_steps r es) (steps_lower q low (file (first_in e)) (file (last_in e)) (steps_in r e) (from.0 is) (effect_rises q file r e up rows.0)) behind.1)
+        let behind = rest (file e.last.number) (each_weaker (Follows file r e) (λ f. names r (region_steps_in f) ≡ true → file e.last.number ≤ file (first_in f)) (λ f k. k is) es follows.0) in
+        (behind.0, rise-append q low (file e.last.number) behind.0 (steps_by r e.earlier e.last) (all_steps r es) (steps_lower q low (file (first_in e)) (file e.last.number) (steps_by r e.earlier e.last) (from.0 is) (effect_rises q file r e up rows.0)) behind.1)
     go false is rest =
         let behind = rest low from.1 in
         (behind.0, subst (λ l. StepsRise q low behind.0 (l ++ all_steps r es)) (sym (steps_in-none r e is)) behind.1)
 
 pub history_rises : (q : LogQueue) (h : List Event) → IsSoundIn q h → Apart h → (r : ℕ) → (high : ℕ) × StepsRise q 0 high (steps_of r (batches h))
-history_rises q h s a r = effects_rise q file r 0 (effects (batches h)) up rows (each_weaker (HasRow q file) (λ e. Names r e → 0 ≤ file (first_in e)) (λ e k n. omega arith) (effects (batches h)) rows)
-    (each_follows q file r 0 (effects (batches h)) up (effects_are (batches h)).rise a.apart.each rows)
+history_rises q h s a r = effects_rise q file r 0 (effects (batches h)) up rows (each_weaker (HasRow q file) (λ e. names r (region_steps_in e) ≡ true → 0 ≤ file (first_in e)) (λ e k n. omega arith) (effects (batches h)) rows)
+    (each_follows q file r 0 (effects (batches h)) up (effects_are (batches h)).rise a.each rows)
   where
     file : ℕ → ℕ
     file = file_of 0 h

@@ -1,15 +1,15 @@
 -- Words on effects: numbers, extents, names and steps.
-use Rattle.std.proofs.Common.{◌≡◌, ℕ, suc, ◌+◌, ◌<◌, ◌≤◌, Bool, true, false, cond, ◌&&◌, ◌||◌, List, [], ◌∷◌, ◌++◌, length, Option, Some, None, refl, sym, ap, subst, ◌∙◌, inr, append_assoc, arith}
+use Rattle.std.proofs.Common.{◌≡◌, ◌≢◌, ℕ, suc, ◌+◌, ◌<◌, ◌≤◌, Bool, true, false, cond, ◌&&◌, ◌||◌, List, [], ◌∷◌, ◌++◌, length, Option, Some, None, refl, sym, ap, subst, ◌∙◌, inr, append_assoc, arith}
 use Rattle.std.proofs.lemmas.List.{append-nil}
 use Rattle.std.proofs.lemmas.List.Concat.{flat_map-append}
 use Rattle.std.specs.Prelude.{filter, map}
 use Rattle.std.specs.List.{AllByRecursion, list_any}
 use Rattle.raft_records.specs.declared.atomic_group.AtomicGroupStatus.{AtomicGroupStatus}
 use Rattle.raft_records.specs.declared.atomic_group.AtomicGroupStatus.TheVariants.{Begin, Middle, End}
-use Rattle.raft_history.specs.Batches.{GroupMarker, ReadBatch}
-use Rattle.raft_history.specs.Effects.{Effect, ended, completed_as, completed_by, completed, effects_behind, whole_steps, region_steps_in, steps_by, steps_in, all_steps, first_in, last_in, IsGroup, Names, AreApart, EachApart}
-use Rattle.raft_history.specs.RegionSteps.{RegionStep, is_on, names, steps_on}
-use Rattle.raft_history.specs.WaitingGroup.{begins, Numbered, numbered_from, is_of, markers_of, are_middles, open_stretch, region_steps_of, WholeGroup}
+use Rattle.raft_history.specs.Batches.{GroupMarker, BatchSteps}
+use Rattle.raft_history.specs.Effects.{Effect, completed_as, completed_by, effects_behind, whole_steps, region_steps_in, steps_by, first_in, AreApart, EachApart, has_status, Numbered, numbered_from, is_of, markers_of, open_stretch}
+use Rattle.raft_history.specs.RegionSteps.{RegionStep, names, steps_on}
+use Rattle.raft_history.proofs.Words.{steps_in, is_on, region_steps_of, all_steps, are_middles}
 
 -- what holds of each
 pub each-append : {X : Type 0} (P : X → Type 0) (xs ys : List X) → AllByRecursion P xs → AllByRecursion P ys → AllByRecursion P (xs ++ ys)
@@ -43,7 +43,7 @@ each_markers P g ps h = each_filter P (λ p. is_of g p.batch.marker) ps h
 pub each_open : (P : Numbered → Type 0) (ps : List Numbered) → AllByRecursion P ps → AllByRecursion P (open_stretch ps)
 unfolding open_stretch
 each_open P [] h = tt
-each_open P (p ∷ ps) h = go (begins p.batch.marker && are_middles ps) (each_open P ps h.1)
+each_open P (p ∷ ps) h = go (has_status Begin p.batch.marker && are_middles ps) (each_open P ps h.1)
   where
     go : (b : Bool) → AllByRecursion P (open_stretch ps) → AllByRecursion P (cond b (p ∷ ps) (open_stretch ps))
     go true k = h
@@ -58,15 +58,15 @@ by_push {X} P none more xs = go [] xs none
     go done (x ∷ todo) h = subst P (append_assoc done (x ∷ []) todo) (go (done ++ x ∷ []) todo (more done x h))
 
 -- numbers
-pub numbered_from-append : (n : ℕ) (h k : List ReadBatch) → numbered_from n (h ++ k) ≡ numbered_from n h ++ numbered_from (n + length h) k
+pub numbered_from-append : (n : ℕ) (h k : List BatchSteps) → numbered_from n (h ++ k) ≡ numbered_from n h ++ numbered_from (n + length h) k
 numbered_from-append n [] k = ap (λ x. numbered_from x k) (omega arith)
 numbered_from-append n (b ∷ bs) k = ap (λ l. record { number = n; batch = b } ∷ l) (numbered_from-append (suc n) bs k ∙ ap (λ x. numbered_from (suc n) bs ++ numbered_from x k) (omega arith))
 
-pub from_on : (n : ℕ) (h : List ReadBatch) → AllByRecursion (λ p. n ≤ p.number) (numbered_from n h)
+pub from_on : (n : ℕ) (h : List BatchSteps) → AllByRecursion (λ p. n ≤ p.number) (numbered_from n h)
 from_on n [] = tt
 from_on n (b ∷ bs) = (omega arith, each_weaker (λ p. suc n ≤ p.number) (λ p. n ≤ p.number) (λ p k. omega arith) (numbered_from (suc n) bs) (from_on (suc n) bs))
 
-pub up_to : (n m : ℕ) (h : List ReadBatch) → n + length h ≤ m → AllByRecursion (λ p. p.number < m) (numbered_from n h)
+pub up_to : (n m : ℕ) (h : List BatchSteps) → n + length h ≤ m → AllByRecursion (λ p. p.number < m) (numbered_from n h)
 up_to n m [] e = tt
 up_to n m (b ∷ bs) e = (omega arith, up_to (suc n) m bs (omega arith))
 
@@ -74,26 +74,23 @@ up_to n m (b ∷ bs) e = (omega arith, up_to (suc n) m bs (omega arith))
 pub effects_behind-append : (olds ps qs : List Numbered) → effects_behind olds (ps ++ qs) ≡ effects_behind olds ps ++ effects_behind (olds ++ ps) qs
 unfolding effects_behind
 effects_behind-append olds [] qs = ap (λ l. effects_behind l qs) (sym (append-nil olds))
-effects_behind-append olds (p ∷ ps) qs = ap (λ l. completed olds p ++ l) (effects_behind-append (olds ++ p ∷ []) ps qs ∙ ap (λ l. effects_behind (olds ++ p ∷ []) ps ++ effects_behind l qs) (append_assoc olds (p ∷ []) ps)) ∙ sym (append_assoc (completed olds p) (effects_behind (olds ++ p ∷ []) ps) (effects_behind (olds ++ p ∷ ps) qs))
+effects_behind-append olds (p ∷ ps) qs = ap (λ l. completed_by p.batch.marker olds p ++ l) (effects_behind-append (olds ++ p ∷ []) ps qs ∙ ap (λ l. effects_behind (olds ++ p ∷ []) ps ++ effects_behind l qs) (append_assoc olds (p ∷ []) ps)) ∙ sym (append_assoc (completed_by p.batch.marker olds p) (effects_behind (olds ++ p ∷ []) ps) (effects_behind (olds ++ p ∷ ps) qs))
 
-pub effects_behind-one : (olds : List Numbered) (p : Numbered) → effects_behind olds (p ∷ []) ≡ completed olds p
+pub effects_behind-one : (olds : List Numbered) (p : Numbered) → effects_behind olds (p ∷ []) ≡ completed_by p.batch.marker olds p
 unfolding effects_behind
-effects_behind-one olds p = append-nil (completed olds p)
+effects_behind-one olds p = append-nil (completed_by p.batch.marker olds p)
 
 pub effects_behind-none : (olds : List Numbered) → effects_behind olds [] ≡ []
 unfolding effects_behind
 effects_behind-none olds = refl
 
 pub all_steps-append : (r : ℕ) (es fs : List Effect) → all_steps r (es ++ fs) ≡ all_steps r es ++ all_steps r fs
-unfolding all_steps
 all_steps-append r es fs = flat_map-append (steps_in r) es fs
 
-pub all_steps-one : (r : ℕ) (e : Effect) → all_steps r (e ∷ []) ≡ steps_in r e
-unfolding all_steps
-all_steps-one r e = append-nil (steps_in r e)
+pub all_steps-one : (r : ℕ) (e : Effect) → all_steps r (e ∷ []) ≡ steps_by r e.earlier e.last
+all_steps-one r e = append-nil (steps_by r e.earlier e.last)
 
 pub all_steps-none : (r : ℕ) → all_steps r [] ≡ []
-unfolding all_steps
 all_steps-none r = refl
 
 -- what isn't named has no steps
@@ -106,32 +103,31 @@ steps_on-none r (i ∷ is) h = go (is_on r i) h (steps_on-none r is)
     go true h ih = cc
     go false h ih = ih h
 
-pub whole_steps-none : (r : ℕ) (w : WholeGroup) → names r w.steps ≡ false → whole_steps r w ≡ []
+pub whole_steps-none : (r : ℕ) (is : List RegionStep) (start end : ℕ) → names r is ≡ false → whole_steps r is start end ≡ []
 unfolding whole_steps
-whole_steps-none r w h = rw (steps_on-none r w.steps h, h) refl
+whole_steps-none r is start end h = rw (steps_on-none r is h, h) refl
 
-pub steps_in-none : (r : ℕ) (e : Effect) → names r (region_steps_in e) ≡ false → steps_in r e ≡ []
+pub steps_in-none : (r : ℕ) (e : Effect) → names r (region_steps_in e) ≡ false → steps_by r e.earlier e.last ≡ []
 steps_in-none r e h = go e.earlier h
   where
     go : (l : List Numbered) → names r (region_steps_of l ++ e.last.batch.steps) ≡ false → steps_by r l e.last ≡ []
     go [] h = steps_on-none r e.last.batch.steps h
-    go (q ∷ qs) h = whole_steps-none r record { steps = region_steps_of (q ∷ qs) ++ e.last.batch.steps; start = q.batch.file; end = e.last.batch.file } h
+    go (q ∷ qs) h = whole_steps-none r (region_steps_of (q ∷ qs) ++ e.last.batch.steps) q.batch.file e.last.batch.file h
 
 pub all_steps-unnamed : (r : ℕ) (es : List Effect) → AllByRecursion (λ e. names r (region_steps_in e) ≡ false) es → all_steps r es ≡ []
-unfolding all_steps
 all_steps-unnamed r [] h = refl
 all_steps-unnamed r (e ∷ es) h = rw (steps_in-none r e h.0) (all_steps-unnamed r es h.1)
 
 -- extents: where effects of the batches from n to below m begin and end
 pub record Within (n m : ℕ) (e : Effect) : Type 0 where
   pub first : first_in e < m
-  pub last : last_in e < m
-  pub from : n ≤ last_in e
+  pub last : e.last.number < m
+  pub from : n ≤ e.last.number
 
-within_completed : (n m : ℕ) (olds : List Numbered) (p : Numbered) → AllByRecursion (λ q. q.number < m) olds → n ≤ p.number → p.number < m → AllByRecursion (Within n m) (completed olds p)
+within_completed : (n m : ℕ) (olds : List Numbered) (p : Numbered) → AllByRecursion (λ q. q.number < m) olds → n ≤ p.number → p.number < m → AllByRecursion (Within n m) (completed_by p.batch.marker olds p)
 within_completed n m olds p below from to = go p.batch.marker
   where
-    end : (l : List Numbered) → AllByRecursion (λ q. q.number < m) l → AllByRecursion (Within n m) (ended l p)
+    end : (l : List Numbered) → AllByRecursion (λ q. q.number < m) l → AllByRecursion (Within n m) (completed_as End l p)
     end [] h = tt
     end (q ∷ qs) h = (record { first = h.0; last = to; from = from }, tt)
 
@@ -147,7 +143,7 @@ within_completed n m olds p below from to = go p.batch.marker
 pub within : (n m : ℕ) (olds ps : List Numbered) → AllByRecursion (λ q. q.number < m) olds → AllByRecursion (λ q. n ≤ q.number) ps → AllByRecursion (λ q. q.number < m) ps → AllByRecursion (Within n m) (effects_behind olds ps)
 unfolding effects_behind
 within n m olds [] below from to = tt
-within n m olds (p ∷ ps) below from to = each-append (Within n m) (completed olds p) (effects_behind (olds ++ p ∷ []) ps) (within_completed n m olds p below from.0 to.0)
+within n m olds (p ∷ ps) below from to = each-append (Within n m) (completed_by p.batch.marker olds p) (effects_behind (olds ++ p ∷ []) ps) (within_completed n m olds p below from.0 to.0)
     (within n m (olds ++ p ∷ []) ps (each-append (λ q. q.number < m) olds (p ∷ []) below (to.0, tt)) from.1 to.1)
 
 -- apart
@@ -164,9 +160,9 @@ apart_last [] f h = tt
 apart_last (e ∷ es) f h = ((each_right (AreApart e) es (f ∷ []) h.0).0, apart_last es f h.1)
 
 -- a group that begins before n and ends at m keeps its regions from what lies between
-pub unnamed_between : (r n m : ℕ) (es : List Effect) (f : Effect) → AllByRecursion (Within n m) es → AllByRecursion (λ e. AreApart e f) es → IsGroup f → first_in f < n → last_in f ≡ m → Names r f → AllByRecursion (λ e. names r (region_steps_in e) ≡ false) es
+pub unnamed_between : (r n m : ℕ) (es : List Effect) (f : Effect) → AllByRecursion (Within n m) es → AllByRecursion (λ e. AreApart e f) es → f.earlier ≢ [] → first_in f < n → f.last.number ≡ m → names r (region_steps_in f) ≡ true → AllByRecursion (λ e. names r (region_steps_in e) ≡ false) es
 unnamed_between r n m [] f w a group first last named = tt
-unnamed_between r n m (e ∷ es) f w a group first last named = (not_true _ (λ k. a.0 record { before = omega (arith, w.0.first); behind = omega (arith, w.0.from) } (inr group) r k named), unnamed_between r n m es f w.1 a.1 group first last named)
+unnamed_between r n m (e ∷ es) f w a group first last named = (not_true _ (λ k. a.0 (omega (arith, w.0.first)) (omega (arith, w.0.from)) (inr group) r k named), unnamed_between r n m es f w.1 a.1 group first last named)
   where
     not_true : (b : Bool) → (b ≡ true → ⊥) → b ≡ false
     not_true true h = absurd (h refl)

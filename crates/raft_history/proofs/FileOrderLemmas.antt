@@ -1,19 +1,19 @@
 -- Steps whose entries stand in files that never go down keep the entries of a table in the order of their files.
 use Rattle.std.proofs.Common.{◌≡◌, ℕ, ◌≤◌, Bool, true, false, cond, List, [], ◌∷◌, ◌++◌, filter, Option, Some, None, refl, sym, ap, subst, ◌∙◌, arith}
-use Rattle.std.specs.Option.{option_map, option_and_then}
+use Rattle.std.specs.Option.{option_map, option_map_or, option_and_then}
 use Rattle.raft_base.specs.declared.pipe_log.FileBlockHandle.{FileBlockHandle}
 use Rattle.raft_base.specs.declared.pipe_log.FileId.{FileId}
 use Rattle.raft_base.specs.declared.pipe_log.LogQueue.{LogQueue}
 use Rattle.raft_base.specs.declared.pipe_log.LogQueue.TheVariants.{Append, Rewrite}
 use Rattle.raft_base.specs.declared.entry_index.EntryIndex.{EntryIndex}
-use Rattle.raft_records.specs.ReadIn.{IsBlockIn}
+use Rattle.raft_records.specs.ReadIn.{IsPlaceInFile}
 use Rattle.raft_table.specs.Queues.{is_same}
-use Rattle.raft_table.specs.Start.{replayed, leaves_hole}
-use Rattle.raft_table.specs.Steps.{Step, Run, Compact, Truncate, Put, Del, AtomicGroup, Clean, stepped, is_there_after, table_of, there_if, after_step, after}
-use Rattle.raft_table.specs.Table.{Table, table_with_entries}
-use Rattle.raft_table.specs.TableEntries.{end_of, below, from, is_block_in, is_placed_in}
+use Rattle.raft_table.specs.Start.{entries_after_replay, leaves_hole}
+use Rattle.raft_table.specs.Steps.{Step, Run, Compact, Truncate, Put, Del, AtomicGroup, Clean, table_of, after_step, after}
+use Rattle.raft_table.specs.Table.{Table}
+use Rattle.raft_table.specs.TableEntries.{end_of, below, from, is_placed_in}
 use Rattle.raft_table.proofs.MarkEntries.{same_some}
-use Rattle.raft_history.specs.Histories.{AreBlocksIn}
+use Rattle.raft_history.proofs.Words.{AreBlocksIn}
 
 -- ---- entries in the order of their files
 
@@ -45,7 +45,7 @@ behind : (q : LogQueue) (low mid high : ℕ) (xs ys : List EntryIndex) → InOrd
 behind q low mid high [] ys h k = lower q low mid high ys h k
 behind q low mid high (x ∷ xs) ys h k = (h.0, h.1, behind q (seq_of x.entries) mid high xs ys h.2 k)
 
-block_here : (file : FileId) (o : Option FileBlockHandle) → IsBlockIn file o → (is_block_in file.queue o ≡ true) × (seq_of o ≡ file.seq)
+block_here : (file : FileId) (o : Option FileBlockHandle) → IsPlaceInFile file o → (option_map_or (λ (place : FileBlockHandle). is_same place.id.queue file.queue) o false ≡ true) × (seq_of o ≡ file.seq)
 block_here file None h = absurd h
 block_here file (Some block) h = (ap (λ (f : FileId). is_same f.queue file.queue) h ∙ same_self file.queue, ap (λ (f : FileId). f.seq) h)
   where
@@ -91,50 +91,43 @@ rise-append q low mid high (s ∷ ss) rs h k = (h.0, h.1, rise-append q h.0 mid 
 
 -- ---- tables
 
-there_order : (q : LogQueue) (high r : ℕ) (b : Bool) (x : Option Table) (u : Option Table) → there_if b x ≡ Some u → 0 ≤ high → ((t : Table) → x ≡ Some t → InOrder q 0 high t.entries) → InOrder q 0 high (table_of r u).entries
-there_order q high r b None u e l h = absurd cc
-there_order q high r true (Some t) u e l h = subst (λ (u : Option Table). InOrder q 0 high (table_of r u).entries) (same_some (Some t) u e) (h t refl)
-there_order q high r false (Some t) u e l h = subst (λ (u : Option Table). InOrder q 0 high (table_of r u).entries) (same_some None u e) l
+-- what a table becomes whose entries are in such files
+changed_order : (q : LogQueue) (low high r : ℕ) (v u : Option Table) → Some v ≡ Some u → low ≤ high → InOrder q 0 low (table_of r v).entries → InOrder q 0 high (table_of r u).entries
+changed_order q low high r v u e l h = subst (λ (u : Option Table). InOrder q 0 high (table_of r u).entries) (same_some v u e) (higher q 0 low high (table_of r v).entries l h)
 
-run_order : (q : LogQueue) (low mid : ℕ) (es run a : List EntryIndex) → InOrder q 0 low es → InOrder q low mid run → replayed q es run ≡ Some a → InOrder q 0 mid a
+run_order : (q : LogQueue) (low mid : ℕ) (es run a : List EntryIndex) → InOrder q 0 low es → InOrder q low mid run → entries_after_replay q es run ≡ Some a → InOrder q 0 mid a
 unfolding below
 run_order q low mid es [] a h k e = subst (InOrder q 0 mid) (same_some es a e) (higher q 0 low mid es k h)
-run_order Append low mid es (x ∷ run) a h k e = go (leaves_hole (end_of es) x.index) e
+run_order Append low mid es (x ∷ run) a h k e = go (leaves_hole es x.index) e
   where
     go : (b : Bool) → cond b None (Some (below x.index es ++ x ∷ run)) ≡ Some a → InOrder Append 0 mid a
     go true e = absurd cc
     go false e = subst (InOrder Append 0 mid) (same_some (below x.index es ++ x ∷ run) a e) (behind Append 0 low mid (below x.index es) (x ∷ run) (some_of Append _ 0 low es h) k)
-run_order Rewrite low mid es (x ∷ run) a h k e = go (leaves_hole (end_of es) x.index) e
+run_order Rewrite low mid es (x ∷ run) a h k e = go (leaves_hole es x.index) e
   where
     go : (b : Bool) → Some (cond b (x ∷ run) (below x.index es ++ x ∷ run)) ≡ Some a → InOrder Rewrite 0 mid a
     go true e = subst (InOrder Rewrite 0 mid) (same_some (x ∷ run) a e) (lower Rewrite 0 low mid (x ∷ run) (omega arith) k)
     go false e = subst (InOrder Rewrite 0 mid) (same_some (below x.index es ++ x ∷ run) a e) (behind Rewrite 0 low mid (below x.index es) (x ∷ run) (some_of Rewrite _ 0 low es h) k)
 
-step_order : (q : LogQueue) (low mid r : ℕ) (o u : Option Table) (s : Step) → StepRises q low mid s → InOrder q 0 low (table_of r o).entries → after_step q r o s ≡ Some u → InOrder q 0 mid (table_of r u).entries
+step_order : (q : LogQueue) (low mid r : ℕ) (o u : Option Table) (s : Step) → StepRises q low mid s → InOrder q 0 low (table_of r o).entries → after_step q (table_of r o) s ≡ Some u → InOrder q 0 mid (table_of r u).entries
 unfolding from below
-step_order q low mid r o u s k h e = there_order q mid r (is_there_after s) (stepped q (table_of r o) s) u e (omega arith) (by s k)
+step_order q low mid r o u (Run run) k h e = go (entries_after_replay q (table_of r o).entries run) refl e
   where
-    same : (t : Table) (es : List EntryIndex) → low ≤ mid → InOrder q 0 low es → es ≡ t.entries → InOrder q 0 mid t.entries
-    same t es l h is = subst (InOrder q 0 mid) is (higher q 0 low mid es l h)
-
-    by : (s : Step) → StepRises q low mid s → (t : Table) → stepped q (table_of r o) s ≡ Some t → InOrder q 0 mid t.entries
-    by (Run run) k t e = go (replayed q (table_of r o).entries run) refl e
-      where
-        go : (y : Option (List EntryIndex)) → replayed q (table_of r o).entries run ≡ y → option_map (table_with_entries (table_of r o)) y ≡ Some t → InOrder q 0 mid t.entries
-        go None p e = absurd cc
-        go (Some a) p e = subst (λ (t : Table). InOrder q 0 mid t.entries) (same_some (table_with_entries (table_of r o) a) t e) (run_order q low mid (table_of r o).entries run a h k p)
-    by (Compact i) k t e = same t (from i (table_of r o).entries) k (some_of q _ 0 low (table_of r o).entries h) (ap (λ (x : Option Table). (table_of r x).entries) e)
-    by (Truncate i) k t e = same t (below i (table_of r o).entries) k (some_of q _ 0 low (table_of r o).entries h) (ap (λ (x : Option Table). (table_of r x).entries) e)
-    by (Put key value id) k t e = same t (table_of r o).entries k h (ap (λ (x : Option Table). (table_of r x).entries) e)
-    by (Del key) k t e = same t (table_of r o).entries k h (ap (λ (x : Option Table). (table_of r x).entries) e)
-    by (AtomicGroup start end) k t e = same t (table_of r o).entries k h (ap (λ (x : Option Table). (table_of r x).entries) e)
-    by Clean k t e = same t [] k (omega arith) (ap (λ (x : Option Table). (table_of r x).entries) e)
+    go : (y : Option (List EntryIndex)) → entries_after_replay q (table_of r o).entries run ≡ y → option_map Some (option_map {U = Table} (λ es. record (table_of r o) { entries = es }) y) ≡ Some u → InOrder q 0 mid (table_of r u).entries
+    go None p e = absurd cc
+    go (Some a) p e = changed_order q mid mid r (Some (record (table_of r o) { entries = a })) u e (omega arith) (run_order q low mid (table_of r o).entries run a h k p)
+step_order q low mid r o u (Compact i) k h e = changed_order q low mid r _ u e k (some_of q _ 0 low (table_of r o).entries h)
+step_order q low mid r o u (Truncate i) k h e = changed_order q low mid r _ u e k (some_of q _ 0 low (table_of r o).entries h)
+step_order q low mid r o u (Put key value id) k h e = changed_order q low mid r _ u e k h
+step_order q low mid r o u (Del key) k h e = changed_order q low mid r _ u e k h
+step_order q low mid r o u (AtomicGroup start end) k h e = changed_order q low mid r _ u e k h
+step_order q low mid r o u Clean k h e = changed_order q low mid r None u e k (omega arith)
 
 pub steps_order : (q : LogQueue) (low high r : ℕ) (o u : Option Table) (ss : List Step) → StepsRise q low high ss → InOrder q 0 low (table_of r o).entries → after q r o ss ≡ Some u → InOrder q 0 high (table_of r u).entries
 steps_order q low high r o u [] k h e = subst (λ (u : Option Table). InOrder q 0 high (table_of r u).entries) (same_some o u e) (higher q 0 low high (table_of r o).entries k h)
-steps_order q low high r o u (s ∷ ss) k h e = go (after_step q r o s) refl e (λ v i e. steps_order q k.0 high r v u ss k.2 i e)
+steps_order q low high r o u (s ∷ ss) k h e = go (after_step q (table_of r o) s) refl e (λ v i e. steps_order q k.0 high r v u ss k.2 i e)
   where
-    go : (x : Option (Option Table)) → after_step q r o s ≡ x → option_and_then (λ v. after q r v ss) x ≡ Some u
+    go : (x : Option (Option Table)) → after_step q (table_of r o) s ≡ x → option_and_then (λ v. after q r v ss) x ≡ Some u
         → ((v : Option Table) → InOrder q 0 k.0 (table_of r v).entries → after q r v ss ≡ Some u → InOrder q 0 high (table_of r u).entries) → InOrder q 0 high (table_of r u).entries
     go None p e rest = absurd cc
     go (Some v) p e rest = rest v (step_order q low k.0 r o v s k.1 h p) e

@@ -8,7 +8,7 @@ use Rattle.std.specs.FinMap.{nat_cmp-IsAntisymmetric}
 use Rattle.raft_base.specs.declared.pipe_log.LogQueue.{LogQueue}
 use Rattle.raft_table.specs.Marks.{Mark}
 use Rattle.raft_table.specs.MarkJoins.{fresh}
-use Rattle.raft_history.specs.Contexts.{follows, Context, AreMerged, AreRegionsRefused, merged_regions, merged_with, merged}
+use Rattle.raft_history.specs.Contexts.{follows, Context, AreMerged, AreRegionsRefused, merged_regions, merged_with, merged_context}
 use Rattle.raft_history.specs.MarkedRegions.{MarkedRegions, MarkedRegion, region_in, joined_marked}
 use Rattle.raft_history.proofs.JoinLemmas.{merged_are, merged_refused}
 
@@ -51,7 +51,7 @@ module _ (q : LogQueue) (c d : Context) (a b : MarkedRegions) (m : AreMerged q c
   unique : a ≡ b
   unique = ap (λ t. record { tables = t; marks = a.marks }) tables ∙ ap (λ k. record { tables = b.tables; marks = k }) marks
 
-pub fold_is : (q : LogQueue) (c d e : Context) → (merged q c d ≡ Some e) ↔ ((follows c.files d.files ≡ true) × AreMerged q c d e.regions × (e ≡ merged_with c d e.regions))
+pub fold_is : (q : LogQueue) (c d e : Context) → (merged_context q c d ≡ Some e) ↔ ((follows c.files d.files ≡ true) × AreMerged q c d e.regions × (e ≡ merged_with c d e.regions))
 fold_is q c d e = (there_by (follows c.files d.files) (merged_regions q c d) refl refl, back)
   where
     there_by : (b : Bool) (o : Option MarkedRegions) → follows c.files d.files ≡ b → merged_regions q c d ≡ o → cond b (option_map (merged_with c d) o) None ≡ Some e
@@ -66,10 +66,10 @@ fold_is q c d e = (there_by (follows c.files d.files) (merged_regions q c d) ref
     back_by true None f r m is = absurd (not_both q c d e.regions m (merged_refused q c d r))
     back_by true (Some rs) f r m is = ap (λ x. Some (merged_with c d x)) (unique q c d rs e.regions (merged_are q c d rs r) m) ∙ ap (λ x. Some x) (sym is)
 
-    back : (follows c.files d.files ≡ true) × AreMerged q c d e.regions × (e ≡ merged_with c d e.regions) → merged q c d ≡ Some e
+    back : (follows c.files d.files ≡ true) × AreMerged q c d e.regions × (e ≡ merged_with c d e.regions) → merged_context q c d ≡ Some e
     back p = back_by (follows c.files d.files) (merged_regions q c d) p.0 refl p.1 p.2
 
-pub fold_refused : (q : LogQueue) (c d : Context) → (merged q c d ≡ None) ↔ ((follows c.files d.files ≡ false) ⊎ AreRegionsRefused q c d)
+pub fold_refused : (q : LogQueue) (c d : Context) → (merged_context q c d ≡ None) ↔ ((follows c.files d.files ≡ false) ⊎ AreRegionsRefused q c d)
 fold_refused q c d = (there_by (follows c.files d.files) (merged_regions q c d) refl refl, back)
   where
     there_by : (b : Bool) (o : Option MarkedRegions) → follows c.files d.files ≡ b → merged_regions q c d ≡ o → cond b (option_map (merged_with c d) o) None ≡ None → (follows c.files d.files ≡ false) ⊎ AreRegionsRefused q c d
@@ -82,6 +82,6 @@ fold_refused q c d = (there_by (follows c.files d.files) (merged_regions q c d) 
     back_by true None r n = refl
     back_by true (Some rs) r n = absurd (not_both q c d rs (merged_are q c d rs r) n)
 
-    back : (follows c.files d.files ≡ false) ⊎ AreRegionsRefused q c d → merged q c d ≡ None
+    back : (follows c.files d.files ≡ false) ⊎ AreRegionsRefused q c d → merged_context q c d ≡ None
     back (inl f) = ap (λ b. cond b (option_map (merged_with c d) (merged_regions q c d)) None) f
     back (inr n) = back_by (follows c.files d.files) (merged_regions q c d) refl n

@@ -6,10 +6,10 @@ use Rattle.std.proofs.lemmas.Bool.{false≢true, eqb-true, eq-eqb}
 use Rattle.std.proofs.lemmas.List.Elements.{filter-append}
 use Rattle.raft_records.specs.declared.atomic_group.AtomicGroupStatus.{AtomicGroupStatus}
 use Rattle.raft_records.specs.declared.atomic_group.AtomicGroupStatus.TheVariants.{Begin, Middle, End}
-use Rattle.raft_history.specs.Batches.{GroupMarker, ReadBatch}
-use Rattle.raft_history.specs.Effects.{Effect, ended, completed_as, completed_by, completed, effects_behind, steps_by, steps_in, whole_steps, all_steps, steps_of, EndsNoEffect, without_group}
+use Rattle.raft_history.specs.Batches.{GroupMarker, BatchSteps}
+use Rattle.raft_history.specs.Effects.{Effect, completed_as, completed_by, effects_behind, steps_by, whole_steps, steps_of, EndsNoEffect, without_group, Numbered, numbered_from, is_of, markers_of, has_status, open_stretch}
 use Rattle.raft_history.specs.RegionSteps.{steps_on}
-use Rattle.raft_history.specs.WaitingGroup.{Numbered, numbered_from, is_of, markers_of, begins, goes_on, are_middles, open_stretch, region_steps_of}
+use Rattle.raft_history.proofs.Words.{region_steps_of, steps_in, all_steps, are_middles}
 use Rattle.raft_history.proofs.EffectLemmas.{each_left, each_right, all_steps-append}
 
 abbrev is_other : ℕ → Numbered → Bool
@@ -43,10 +43,10 @@ abbrev EndsNone : ℕ → List Effect → Type 0
 EndsNone g es = AllByRecursion (λ (e : Effect). is_of g e.last.batch.marker ≡ false) es
 
 -- a batch of the group completes nothing
-completes_none : (g : ℕ) (olds : List Numbered) (p : Numbered) → is_of g p.batch.marker ≡ true → EndsNone g (completed olds p) → completed olds p ≡ []
+completes_none : (g : ℕ) (olds : List Numbered) (p : Numbered) → is_of g p.batch.marker ≡ true → EndsNone g (completed_by p.batch.marker olds p) → completed_by p.batch.marker olds p ≡ []
 completes_none g olds p is h = go p.batch.marker is h
   where
-    at : (ps : List Numbered) → EndsNone g (ended ps p) → ended ps p ≡ []
+    at : (ps : List Numbered) → EndsNone g (completed_as End ps p) → completed_as End ps p ≡ []
     at [] h = refl
     at (q ∷ qs) h = absurd (false≢true (sym h.0 ∙ is))
 
@@ -60,7 +60,7 @@ completes_none g olds p is h = go p.batch.marker is h
     go (Some m) e h = by m.status (open_stretch (markers_of m.group olds)) h
 
 -- another batch completes the same
-completes_same : (g : ℕ) (olds : List Numbered) (p : Numbered) → is_of g p.batch.marker ≡ false → completed (others g olds) p ≡ completed olds p
+completes_same : (g : ℕ) (olds : List Numbered) (p : Numbered) → is_of g p.batch.marker ≡ false → completed_by p.batch.marker (others g olds) p ≡ completed_by p.batch.marker olds p
 completes_same g olds p not_own = go p.batch.marker not_own
   where
     go : (m : Option GroupMarker) → is_of g m ≡ false → completed_by m (others g olds) p ≡ completed_by m olds p
@@ -70,14 +70,14 @@ completes_same g olds p not_own = go p.batch.marker not_own
 effects_same : (g : ℕ) (olds ps : List Numbered) → EndsNone g (effects_behind olds ps) → effects_behind (others g olds) (others g ps) ≡ effects_behind olds ps
 unfolding effects_behind others
 effects_same g olds [] h = refl
-effects_same g olds (p ∷ ps) h = go (is_of g p.batch.marker) refl (effects_same g (olds ++ p ∷ []) ps (each_right _ (completed olds p) (effects_behind (olds ++ p ∷ []) ps) h))
+effects_same g olds (p ∷ ps) h = go (is_of g p.batch.marker) refl (effects_same g (olds ++ p ∷ []) ps (each_right _ (completed_by p.batch.marker olds p) (effects_behind (olds ++ p ∷ []) ps) h))
   where
     go : (b : Bool) → is_of g p.batch.marker ≡ b → effects_behind (filter (is_other g) (olds ++ p ∷ [])) (filter (is_other g) ps) ≡ effects_behind (olds ++ p ∷ []) ps
-        → effects_behind (filter (is_other g) olds) (cond (not b) (p ∷ filter (is_other g) ps) (filter (is_other g) ps)) ≡ completed olds p ++ effects_behind (olds ++ p ∷ []) ps
+        → effects_behind (filter (is_other g) olds) (cond (not b) (p ∷ filter (is_other g) ps) (filter (is_other g) ps)) ≡ completed_by p.batch.marker olds p ++ effects_behind (olds ++ p ∷ []) ps
     go true e ih = ap (λ l. effects_behind l (filter (is_other g) ps)) (sym (filter-append (is_other g) olds (p ∷ []) ∙ ap (λ b. filter (is_other g) olds ++ cond (not b) (p ∷ []) []) e ∙ append-nil (filter (is_other g) olds))) ∙ ih
-        ∙ ap (λ l. l ++ effects_behind (olds ++ p ∷ []) ps) (sym (completes_none g olds p e (each_left _ (completed olds p) (effects_behind (olds ++ p ∷ []) ps) h)))
+        ∙ ap (λ l. l ++ effects_behind (olds ++ p ∷ []) ps) (sym (completes_none g olds p e (each_left _ (completed_by p.batch.marker olds p) (effects_behind (olds ++ p ∷ []) ps) h)))
     go false e ih = ap (λ l. l ++ effects_behind (filter (is_other g) olds ++ p ∷ []) (filter (is_other g) ps)) (completes_same g olds p e)
-        ∙ ap (λ l. completed olds p ++ effects_behind l (filter (is_other g) ps)) (sym (filter-append (is_other g) olds (p ∷ []) ∙ ap (λ b. filter (is_other g) olds ++ cond (not b) (p ∷ []) []) e)) ∙ ap (λ l. completed olds p ++ l) ih
+        ∙ ap (λ l. completed_by p.batch.marker olds p ++ effects_behind l (filter (is_other g) ps)) (sym (filter-append (is_other g) olds (p ∷ []) ∙ ap (λ b. filter (is_other g) olds ++ cond (not b) (p ∷ []) []) e)) ∙ ap (λ l. completed_by p.batch.marker olds p ++ l) ih
 
 -- ---- numbers don't matter
 
@@ -98,7 +98,7 @@ unfolding markers_of
 same_markers g [] [] h = tt
 same_markers g [] (q ∷ qs) h = absurd h
 same_markers g (p ∷ ps) [] h = absurd h
-same_markers g (p ∷ ps) (q ∷ qs) h = go (is_of g p.batch.marker) (is_of g q.batch.marker) (ap (λ (b : ReadBatch). is_of g b.marker) h.0) (same_markers g ps qs h.1)
+same_markers g (p ∷ ps) (q ∷ qs) h = go (is_of g p.batch.marker) (is_of g q.batch.marker) (ap (λ (b : BatchSteps). is_of g b.marker) h.0) (same_markers g ps qs h.1)
   where
     go : (a b : Bool) → a ≡ b → SameBatches (filter (λ p. is_of g p.batch.marker) ps) (filter (λ p. is_of g p.batch.marker) qs)
         → SameBatches (cond a (p ∷ filter (λ p. is_of g p.batch.marker) ps) (filter (λ p. is_of g p.batch.marker) ps)) (cond b (q ∷ filter (λ p. is_of g p.batch.marker) qs) (filter (λ p. is_of g p.batch.marker) qs))
@@ -108,18 +108,17 @@ same_markers g (p ∷ ps) (q ∷ qs) h = go (is_of g p.batch.marker) (is_of g q.
     go false false e k = k
 
 same_middles : (ps qs : List Numbered) → SameBatches ps qs → are_middles ps ≡ are_middles qs
-unfolding are_middles
 same_middles [] [] h = refl
 same_middles [] (q ∷ qs) h = absurd h
 same_middles (p ∷ ps) [] h = absurd h
-same_middles (p ∷ ps) (q ∷ qs) h = ap (λ (b : ReadBatch). goes_on b.marker && are_middles ps) h.0 ∙ ap (λ b. goes_on q.batch.marker && b) (same_middles ps qs h.1)
+same_middles (p ∷ ps) (q ∷ qs) h = ap (λ (b : BatchSteps). has_status Middle b.marker && are_middles ps) h.0 ∙ ap (λ b. has_status Middle q.batch.marker && b) (same_middles ps qs h.1)
 
 same_stretch : (ps qs : List Numbered) → SameBatches ps qs → SameBatches (open_stretch ps) (open_stretch qs)
 unfolding open_stretch
 same_stretch [] [] h = tt
 same_stretch [] (q ∷ qs) h = absurd h
 same_stretch (p ∷ ps) [] h = absurd h
-same_stretch (p ∷ ps) (q ∷ qs) h = go (begins p.batch.marker && are_middles ps) (begins q.batch.marker && are_middles qs) (ap (λ (b : ReadBatch). begins b.marker && are_middles ps) h.0 ∙ ap (λ b. begins q.batch.marker && b) (same_middles ps qs h.1)) (same_stretch ps qs h.1)
+same_stretch (p ∷ ps) (q ∷ qs) h = go (has_status Begin p.batch.marker && are_middles ps) (has_status Begin q.batch.marker && are_middles qs) (ap (λ (b : BatchSteps). has_status Begin b.marker && are_middles ps) h.0 ∙ ap (λ b. has_status Begin q.batch.marker && b) (same_middles ps qs h.1)) (same_stretch ps qs h.1)
   where
     go : (a b : Bool) → a ≡ b → SameBatches (open_stretch ps) (open_stretch qs) → SameBatches (cond a (p ∷ ps) (open_stretch ps)) (cond b (q ∷ qs) (open_stretch qs))
     go true true e k = h
@@ -131,22 +130,21 @@ same_region_steps : (ps qs : List Numbered) → SameBatches ps qs → region_ste
 same_region_steps [] [] h = refl
 same_region_steps [] (q ∷ qs) h = absurd h
 same_region_steps (p ∷ ps) [] h = absurd h
-same_region_steps (p ∷ ps) (q ∷ qs) h = ap (λ (b : ReadBatch). b.steps ++ region_steps_of ps) h.0 ∙ ap (λ l. q.batch.steps ++ l) (same_region_steps ps qs h.1)
+same_region_steps (p ∷ ps) (q ∷ qs) h = ap (λ (b : BatchSteps). b.steps ++ region_steps_of ps) h.0 ∙ ap (λ l. q.batch.steps ++ l) (same_region_steps ps qs h.1)
 
 same_steps : (r : ℕ) (ps qs : List Numbered) (p q : Numbered) → SameBatches ps qs → p.batch ≡ q.batch → steps_by r ps p ≡ steps_by r qs q
-same_steps r [] [] p q h e = ap (λ (b : ReadBatch). steps_on r b.steps) e
+same_steps r [] [] p q h e = ap (λ (b : BatchSteps). steps_on r b.steps) e
 same_steps r [] (y ∷ qs) p q h e = absurd h
 same_steps r (x ∷ ps) [] p q h e = absurd h
 same_steps r (x ∷ ps) (y ∷ qs) p q h e =
-    ap (λ (b : ReadBatch). whole_steps r record { steps = region_steps_of (x ∷ ps) ++ b.steps; start = x.batch.file; end = b.file }) e
-    ∙ ap (λ l. whole_steps r record { steps = l ++ q.batch.steps; start = x.batch.file; end = q.batch.file }) (same_region_steps (x ∷ ps) (y ∷ qs) h)
-    ∙ ap (λ (b : ReadBatch). whole_steps r record { steps = region_steps_of (y ∷ qs) ++ q.batch.steps; start = b.file; end = q.batch.file }) h.0
+    ap (λ (b : BatchSteps). whole_steps r (region_steps_of (x ∷ ps) ++ b.steps) x.batch.file b.file) e
+    ∙ ap (λ l. whole_steps r (l ++ q.batch.steps) x.batch.file q.batch.file) (same_region_steps (x ∷ ps) (y ∷ qs) h)
+    ∙ ap (λ (b : BatchSteps). whole_steps r (region_steps_of (y ∷ qs) ++ q.batch.steps) b.file q.batch.file) h.0
 
-same_completed : (r : ℕ) (olds news : List Numbered) (p q : Numbered) → SameBatches olds news → p.batch ≡ q.batch → all_steps r (completed olds p) ≡ all_steps r (completed news q)
-unfolding all_steps
-same_completed r olds news p q h e = go p.batch.marker q.batch.marker (ap (λ (b : ReadBatch). b.marker) e)
+same_completed : (r : ℕ) (olds news : List Numbered) (p q : Numbered) → SameBatches olds news → p.batch ≡ q.batch → all_steps r (completed_by p.batch.marker olds p) ≡ all_steps r (completed_by q.batch.marker news q)
+same_completed r olds news p q h e = go p.batch.marker q.batch.marker (ap (λ (b : BatchSteps). b.marker) e)
   where
-    at : (ps qs : List Numbered) → SameBatches ps qs → flat_map (steps_in r) (ended ps p) ≡ flat_map (steps_in r) (ended qs q)
+    at : (ps qs : List Numbered) → SameBatches ps qs → flat_map (steps_in r) (completed_as End ps p) ≡ flat_map (steps_in r) (completed_as End qs q)
     at [] [] k = refl
     at [] (y ∷ qs) k = absurd k
     at (x ∷ ps) [] k = absurd k
@@ -170,10 +168,10 @@ same_effects r olds news [] [] h k = refl
 same_effects r olds news [] (q ∷ qs) h k = absurd k
 same_effects r olds news (p ∷ ps) [] h k = absurd k
 same_effects r olds news (p ∷ ps) (q ∷ qs) h k =
-    all_steps-append r (completed olds p) (effects_behind (olds ++ p ∷ []) ps) ∙ ap (λ l. l ++ all_steps r (effects_behind (olds ++ p ∷ []) ps)) (same_completed r olds news p q h k.0)
-    ∙ ap (λ l. all_steps r (completed news q) ++ l) (same_effects r (olds ++ p ∷ []) (news ++ q ∷ []) ps qs (same-append olds news (p ∷ []) (q ∷ []) h (k.0, tt)) k.1) ∙ sym (all_steps-append r (completed news q) (effects_behind (news ++ q ∷ []) qs))
+    all_steps-append r (completed_by p.batch.marker olds p) (effects_behind (olds ++ p ∷ []) ps) ∙ ap (λ l. l ++ all_steps r (effects_behind (olds ++ p ∷ []) ps)) (same_completed r olds news p q h k.0)
+    ∙ ap (λ l. all_steps r (completed_by q.batch.marker news q) ++ l) (same_effects r (olds ++ p ∷ []) (news ++ q ∷ []) ps qs (same-append olds news (p ∷ []) (q ∷ []) h (k.0, tt)) k.1) ∙ sym (all_steps-append r (completed_by q.batch.marker news q) (effects_behind (news ++ q ∷ []) qs))
 
-placed_others : (g n m : ℕ) (h : List ReadBatch) → SameBatches (numbered_from n (without_group g h)) (others g (numbered_from m h))
+placed_others : (g n m : ℕ) (h : List BatchSteps) → SameBatches (numbered_from n (without_group g h)) (others g (numbered_from m h))
 unfolding without_group others
 placed_others g n m [] = tt
 placed_others g n m (b ∷ h) = go (is_of g b.marker) (λ n. placed_others g n (suc m) h)
@@ -183,6 +181,6 @@ placed_others g n m (b ∷ h) = go (is_of g b.marker) (λ n. placed_others g n (
     go true ih = ih n
     go false ih = (refl, ih (suc n))
 
-pub incomplete_changes_nothing : (g : ℕ) (h : List ReadBatch) → EndsNoEffect g h → (r : ℕ) → steps_of r (without_group g h) ≡ steps_of r h
+pub incomplete_changes_nothing : (g : ℕ) (h : List BatchSteps) → EndsNoEffect g h → (r : ℕ) → steps_of r (without_group g h) ≡ steps_of r h
 unfolding others
 incomplete_changes_nothing g h n r = same_effects r [] [] (numbered_from 0 (without_group g h)) (others g (numbered_from 0 h)) tt (placed_others g 0 0 h) ∙ ap (all_steps r) (effects_same g [] (numbered_from 0 h) n)

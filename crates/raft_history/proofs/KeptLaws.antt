@@ -17,7 +17,7 @@ use Rattle.raft_table.specs.MarkJoins.{fresh}
 use Rattle.raft_table.specs.Overlay.{HoldsDeleted, deleted_of}
 use Rattle.raft_table.specs.Table.{Table}
 use Rattle.raft_table.proofs.MarkExact.{deleted_count}
-use Rattle.raft_history.specs.Batches.{ReadBatch, Event, batches}
+use Rattle.raft_history.specs.Batches.{BatchSteps, Event, batches}
 use Rattle.raft_history.specs.Contexts.{Context, Suits, AreExact, IsExactFor}
 use Rattle.raft_history.specs.Effects.{Effect, effects, region_steps_in, is_named, steps_of}
 use Rattle.raft_history.specs.Histories.{IsOneReading}
@@ -59,14 +59,14 @@ any-named : (r : ℕ) (es : List Effect) → list_any (λ x. eqb r x) (named_by 
 any-named r [] = refl
 any-named r (e ∷ es) = any-append r (map (λ (i : RegionStep). i.region) (region_steps_in e)) (named_by es) ∙ ap (λ b. b || list_any (λ x. eqb r x) (named_by es)) (any-items r (region_steps_in e)) ∙ ap (λ b. names r (region_steps_in e) || b) (any-named r es)
 
-get-deleted_in : (r : ℕ) (bs : List ReadBatch) → is_named r bs ≡ true → finite.get (deleted_in bs) r ≡ Some (deleted_of finset.empty (steps_of r bs))
+get-deleted_in : (r : ℕ) (bs : List BatchSteps) → is_named r bs ≡ true → finite.get (deleted_in bs) r ≡ Some (deleted_of finset.empty (steps_of r bs))
 unfolding deleted_in
 get-deleted_in r bs e = finite.get-from_entries nat_cmp_total (map (λ r. (r, deleted_of finset.empty (steps_of r bs))) (named_by (effects bs))) r ∙ find-named (λ r. deleted_of finset.empty (steps_of r bs)) r (named_by (effects bs)) (any-named r (effects bs) ∙ e)
 
 same_tables : (q : LogQueue) (rs : MarkedRegions) (h : List Event) (m : Tables) (l : List ℕ) → AreExact q rs (batches h) → IsOneReading q h m l → rs.tables ≡ m
 same_tables q rs h m l ex is = finite.same_map nat_cmp_total nat_cmp-IsAntisymmetric rs.tables m (λ r. some_is (sym (exact_reading q rs (batches h) ex r) ∙ is.tables_read r))
 
-marked_is : (q : LogQueue) (rs : MarkedRegions) (bs : List ReadBatch) → AreExact q rs bs → (r : ℕ) (m : Mark) → finite.get rs.marks r ≡ Some m → (is_named r bs ≡ true) × HoldsDeleted m (steps_of r bs)
+marked_is : (q : LogQueue) (rs : MarkedRegions) (bs : List BatchSteps) → AreExact q rs bs → (r : ℕ) (m : Mark) → finite.get rs.marks r ≡ Some m → (is_named r bs ≡ true) × HoldsDeleted m (steps_of r bs)
 marked_is q rs bs ex r m e = (sym (ex.marked r) ∙ ap is_some e, subst (λ o. HoldsDeleted (unwrap_or o fresh) (steps_of r bs)) e (ex.each r).deleted)
 
 pub kept_at_most : (q : LogQueue) (c : Context) (h : List Event) (m : Tables) (l : List ℕ) → IsExactFor c h → Suits q c.files → IsOneReading q h m l → IsAtMost (kept_of c) (kept_by q h m)

@@ -11,10 +11,10 @@ use Rattle.std.specs.Ordering.{nat_cmp, eq_by_cmp, is_lt}
 use Rattle.std.specs.Cmp.{nat_cmp_total, unsigned_tied}
 use Rattle.std.specs.FinMap as finite
 use Rattle.std.specs.FinMap.Entries.{find, below_all, is_sorted}
-use Rattle.raft_history.specs.Batches.{GroupMarker, ReadBatch}
-use Rattle.raft_history.specs.Effects.{steps_of, BatchesApart, group_in, wholes, steps_of_wholes, ListsGroups, IsListed}
-use Rattle.raft_history.specs.WaitingGroup.{without_marker, numbered_from, is_of, markers_of, open_stretch, front_of, WaitingGroup, whole_group}
-use Rattle.raft_history.specs.WaitingGroups.{entry_by, groups_in, known, whole_with, whole_groups}
+use Rattle.raft_history.specs.Batches.{GroupMarker, BatchSteps}
+use Rattle.raft_history.specs.Effects.{steps_of, EachApart, effects, numbered_from, is_of, markers_of, open_stretch}
+use Rattle.raft_history.specs.WaitingGroup.{without_marker, front_of, WaitingGroup, whole_group, group_in}
+use Rattle.raft_history.specs.WaitingGroups.{entry_by, groups_in, known, whole_with, whole_groups, wholes, steps_of_wholes, ListsGroups, IsListed}
 use Rattle.raft_history.proofs.EffectLemmas.{each_weaker}
 use Rattle.raft_history.proofs.JoinedLemmas.{joined_steps}
 use Rattle.raft_table.proofs.Shown.{first_of_both, second_of_both}
@@ -22,10 +22,10 @@ use Rattle.raft_table.proofs.Shown.{first_of_both, second_of_both}
 pub tied : (a b : ℕ) → eq_by_cmp nat_cmp a b ≡ eqb a b
 tied a b = unsigned_tied a b
 
-abbrev pub has_marker : ℕ → List ReadBatch → Bool
+abbrev pub has_marker : ℕ → List BatchSteps → Bool
 has_marker g h = list_any (λ b. is_of g b.marker) h
 
-find-entries : (g : ℕ) (all h : List ReadBatch) → find nat_cmp g (flat_map (λ b. entry_by all b.marker) h) ≡ cond (has_marker g h) (Some (group_in g all)) None
+find-entries : (g : ℕ) (all h : List BatchSteps) → find nat_cmp g (flat_map (λ b. entry_by all b.marker) h) ≡ cond (has_marker g h) (Some (group_in g all)) None
 find-entries g all [] = refl
 find-entries g all (b ∷ bs) = go b.marker (find-entries g all bs)
   where
@@ -37,12 +37,12 @@ find-entries g all (b ∷ bs) = go b.marker (find-entries g all bs)
         at true e = ap (λ x. Some (group_in x all)) (sym (eqb-true g m.group e))
         at false e = ih
 
-pub get-groups_in : (g : ℕ) (h : List ReadBatch) → finite.get (groups_in h) g ≡ cond (has_marker g h) (Some (group_in g h)) None
+pub get-groups_in : (g : ℕ) (h : List BatchSteps) → finite.get (groups_in h) g ≡ cond (has_marker g h) (Some (group_in g h)) None
 unfolding groups_in
 get-groups_in g h = finite.get-from_entries nat_cmp_total (flat_map (λ b. entry_by h b.marker) h) g ∙ find-entries g h h
 
 -- a group without a marker
-no_markers : (g n : ℕ) (h : List ReadBatch) → has_marker g h ≡ false → markers_of g (numbered_from n h) ≡ []
+no_markers : (g n : ℕ) (h : List BatchSteps) → has_marker g h ≡ false → markers_of g (numbered_from n h) ≡ []
 unfolding markers_of
 no_markers g n [] e = refl
 no_markers g n (b ∷ bs) e = go (is_of g b.marker) e (no_markers g (suc n) bs)
@@ -51,11 +51,11 @@ no_markers g n (b ∷ bs) e = go (is_of g b.marker) e (no_markers g (suc n) bs)
     go true e ih = cc
     go false e ih = ih e
 
-pub group_in-without_marker : (g : ℕ) (h : List ReadBatch) → has_marker g h ≡ false → group_in g h ≡ without_marker
+pub group_in-without_marker : (g : ℕ) (h : List BatchSteps) → has_marker g h ≡ false → group_in g h ≡ without_marker
 unfolding open_stretch front_of
 group_in-without_marker g h e = rw (no_markers g 0 h e) refl
 
-pub known-groups_in : (g : ℕ) (h : List ReadBatch) → known (groups_in h) g ≡ group_in g h
+pub known-groups_in : (g : ℕ) (h : List BatchSteps) → known (groups_in h) g ≡ group_in g h
 known-groups_in g h = ap (λ o. unwrap_or o without_marker) (get-groups_in g h) ∙ go (has_marker g h) refl
   where
     go : (t : Bool) → has_marker g h ≡ t → unwrap_or (cond t (Some (group_in g h)) None) without_marker ≡ group_in g h
@@ -80,7 +80,7 @@ each_found {X} (e ∷ es) h = (rw (tied e.0 e.0, eq-eqb e.0 e.0 refl) refl, late
     later (f ∷ fs) b k = (rw (tied f.0 e.0, apart e.0 f.0 (first_of_both _ _ b)) k.0, later fs (second_of_both _ _ b) k.1)
 
 -- each entry has what is known of its group
-pub each_known : (h : List ReadBatch) → AllByRecursion (λ e. (has_marker e.0 h ≡ true) × (e.1 ≡ group_in e.0 h)) (finite.entries (groups_in h))
+pub each_known : (h : List BatchSteps) → AllByRecursion (λ e. (has_marker e.0 h ≡ true) × (e.1 ≡ group_in e.0 h)) (finite.entries (groups_in h))
 each_known h = go (finite.entries (groups_in h)) (each_weaker (λ e. find nat_cmp e.0 (finite.entries (groups_in h)) ≡ Some e.1) (λ e. finite.get (groups_in h) e.0 ≡ Some e.1) (λ e k. finite.get-entries (groups_in h) e.0 ∙ k) (finite.entries (groups_in h)) (each_found (finite.entries (groups_in h)) (finite.entries_sorted (groups_in h))))
   where
     is : (g : ℕ) (x : WaitingGroup) (t : Bool) → has_marker g h ≡ t → cond t (Some (group_in g h)) None ≡ Some x → (has_marker g h ≡ true) × (x ≡ group_in g h)
@@ -109,7 +109,7 @@ keys_distinct {X} (e ∷ es) h = (first es (first_of_both _ _ h), keys_distinct 
     first [] b = tt
     first (f ∷ fs) b = (apart e.0 f.0 (first_of_both _ _ b), first fs (second_of_both _ _ b))
 
-lists_marked : (g : ℕ) (h : List ReadBatch) → has_marker g h ≡ true → list_any (λ x. eqb x g) (finite.keys (groups_in h)) ≡ true
+lists_marked : (g : ℕ) (h : List BatchSteps) → has_marker g h ≡ true → list_any (λ x. eqb x g) (finite.keys (groups_in h)) ≡ true
 lists_marked g h e = ap (λ (t : ℕ → Bool). list_any t (finite.keys (groups_in h))) (λ j x. turn x j) ∙ sym (finite.contains_key-keys (groups_in h) g) ∙ ap is_some (get-groups_in g h) ∙ ap (λ b. is_some (cond b (Some (group_in g h)) None)) e
   where
     turn : (x : ℕ) → eqb x g ≡ eq_by_cmp nat_cmp g x
@@ -118,7 +118,7 @@ lists_marked g h e = ap (λ (t : ℕ → Bool). list_any t (finite.keys (groups_
         flip : (a b : ℕ) → eqb a b ≡ eqb b a
         flip a b = grind (arith, nat_tests)
 
-lists_groups : (h all : List ReadBatch) → ((g : ℕ) → has_marker g h ≡ true → has_marker g all ≡ true) → ListsGroups (finite.keys (groups_in all)) h
+lists_groups : (h all : List BatchSteps) → ((g : ℕ) → has_marker g h ≡ true → has_marker g all ≡ true) → ListsGroups (finite.keys (groups_in all)) h
 lists_groups [] all sub = tt
 lists_groups (b ∷ bs) all sub = (go b.marker (λ g e. sub g (rw e refl)), lists_groups bs all (λ g e. sub g (or_right (is_of g b.marker) (has_marker g bs) e)))
   where
@@ -130,12 +130,12 @@ lists_groups (b ∷ bs) all sub = (go b.marker (λ g e. sub g (rw e refl)), list
     go None f = tt
     go (Some m) f = lists_marked m.group all (f m.group (eq-eqb m.group m.group refl))
 
-same_wholes : (h k : List ReadBatch) (es : List (ℕ × WaitingGroup)) → AllByRecursion (λ e. (has_marker e.0 k ≡ true) × (e.1 ≡ group_in e.0 k)) es → wholes (map (λ e. e.0) es) h k ≡ whole_with (groups_in h) es
+same_wholes : (h k : List BatchSteps) (es : List (ℕ × WaitingGroup)) → AllByRecursion (λ e. (has_marker e.0 k ≡ true) × (e.1 ≡ group_in e.0 k)) es → wholes (map (λ e. e.0) es) h k ≡ whole_with (groups_in h) es
 same_wholes h k [] e = refl
 same_wholes h k (x ∷ es) e = rw (known-groups_in x.0 h, e.0.1) (ap (cons_option (whole_group (group_in x.0 h) (group_in x.0 k))) (same_wholes h k es e.1))
 
 -- the steps of joined histories, from what is known of their groups
-pub steps_across : (r : ℕ) (h k : List ReadBatch) → BatchesApart (h ++ k) → steps_of r (h ++ k) ≡ steps_of r h ++ (steps_of_wholes r (whole_groups (groups_in h) (groups_in k)) ++ steps_of r k)
+pub steps_across : (r : ℕ) (h k : List BatchSteps) → EachApart (effects (h ++ k)) → steps_of r (h ++ k) ≡ steps_of r h ++ (steps_of_wholes r (whole_groups (groups_in h) (groups_in k)) ++ steps_of r k)
 steps_across r h k apart =
     joined_steps r (finite.keys (groups_in k)) h k (keys_distinct (finite.entries (groups_in k)) (finite.entries_sorted (groups_in k))) (lists_groups k k (λ g e. e)) apart
     ∙ ap (λ l. steps_of r h ++ (steps_of_wholes r l ++ steps_of r k)) (same_wholes h k (finite.entries (groups_in k)) (each_known k))

@@ -7,14 +7,14 @@ use Rattle.raft_table.specs.TableEntries.{entry_at}
 use Rattle.raft_table.specs.LastWord.{last_entry, last_pair}
 use Rattle.raft_table.specs.Steps.{table_of}
 use Rattle.raft_table.proofs.LastWordLemmas.{last_entry_stands, last_pair_stands}
-use Rattle.raft_history.specs.Batches.{Event, ReadBatch, batches}
+use Rattle.raft_history.specs.Batches.{Event, BatchSteps, batches}
 use Rattle.raft_history.specs.Effects.{steps_of}
 use Rattle.raft_history.specs.Histories.{IsSoundIn, IsOneReading}
 use Rattle.raft_history.specs.RegionSteps.{Tables, steps_on, steps_of_items}
 use Rattle.raft_history.proofs.SoundLemmas.{steps_good, without_marker}
 use Rattle.raft_history.proofs.WithoutMarkers.{plain_steps}
 
-in_order : (r : ℕ) (h : List Event) → flat_map (λ (b : ReadBatch). steps_on r b.steps) (batches h) ≡ flat_map (λ (e : Event). steps_on r (steps_of_items e.items)) h
+in_order : (r : ℕ) (h : List Event) → flat_map (λ (b : BatchSteps). steps_on r b.steps) (batches h) ≡ flat_map (λ (e : Event). steps_on r (steps_of_items e.items)) h
 in_order r [] = refl
 in_order r (e ∷ h) = ap (λ l. steps_on r (steps_of_items e.items) ++ l) (in_order r h)
 

@@ -1,5 +1,6 @@
 -- The least files of the tables of one reading, and of both queues: those of all records, since entries stand in the order of their files.
 use Rattle.std.proofs.Common.{◌≡◌, ℕ, ◌≤◌, Bool, true, false, cond, ◌||◌, List, [], ◌∷◌, ◌++◌, min, nat_le, Option, Some, None, refl, sym, ap, subst, ◌∙◌, append-nil, arith}
+use Rattle.std.specs.Option.{option_map_or}
 use Rattle.std.proofs.lemmas.List.Elements.{filter-append}
 use Rattle.std.specs.Prelude.{filter_map, is_some}
 use Rattle.std.specs.List.{AllByRecursion, slice_get, cons_option}
@@ -11,12 +12,12 @@ use Rattle.raft_base.specs.declared.entry_index.EntryIndex.{EntryIndex}
 use Rattle.raft_table.specs.Fetches.{block_seq, entry_seq}
 use Rattle.raft_table.specs.KeyValues.{lesser, least, files_in}
 use Rattle.raft_table.specs.Marks.{entries_within}
-use Rattle.raft_table.specs.Least.{least_file, lowered}
+use Rattle.raft_table.specs.Least.{least_file, at_most_first_file}
 use Rattle.raft_table.specs.Overlay.{has_clean, greatest_compaction, least_cut, is_unjoined, rewritten_within, overlay, kept_if, overlaid_table}
 use Rattle.raft_table.specs.Queues.{is_same, other}
 use Rattle.raft_table.specs.Steps.{Step, table_of}
 use Rattle.raft_table.specs.Table.{Table}
-use Rattle.raft_table.specs.TableEntries.{end_of, is_block_in, is_placed_in, placed_in}
+use Rattle.raft_table.specs.TableEntries.{end_of, is_placed_in, placed_in}
 use Rattle.raft_history.specs.Batches.{Event, batches}
 use Rattle.raft_history.specs.BothQueues.{IsReadingOfBoth}
 use Rattle.raft_history.specs.Effects.{steps_of, is_named}
@@ -47,7 +48,7 @@ least_each (n ∷ ns) = (
   each_weaker (IsAtOrBelow (least ns)) (IsAtOrBelow (lesser (Some n) (least ns))) (λ m h. right_least (Some n) (least ns) m h) ns (least_each ns),
 )
 
-lowered_least : (group : Option (ℕ × ℕ)) (k : Option ℕ) (n : ℕ) → IsAtOrBelow k n → IsAtOrBelow (lowered group k) n
+lowered_least : (group : Option (ℕ × ℕ)) (k : Option ℕ) (n : ℕ) → IsAtOrBelow k n → IsAtOrBelow (at_most_first_file group k) n
 lowered_least None k n h = h
 lowered_least (Some group) None n h = absurd h
 lowered_least (Some group) (Some a) n h = elim (nat_le a group.1) as (λ b. cond b (min group.0 a) a ≤ n) [
@@ -86,7 +87,7 @@ unfolding is_placed_in entry_files
 first_is_least q low high ms [] h = refl
 first_is_least q low high ms (e ∷ es) h = go e.entries h.0 (λ l. files_from q l high es) h.2
   where
-    go : (o : Option FileBlockHandle) → is_block_in q o ≡ true → ((l : ℕ) → InOrder q l high es → From l (filter_map (λ (e : EntryIndex). block_seq e.entries) es)) → InOrder q (seq_of o) high es
+    go : (o : Option FileBlockHandle) → option_map_or (λ (place : FileBlockHandle). is_same place.id.queue q) o false ≡ true → ((l : ℕ) → InOrder q l high es → From l (filter_map (λ (e : EntryIndex). block_seq e.entries) es)) → InOrder q (seq_of o) high es
         → lesser (block_seq o) (least ms) ≡ least (cons_option (block_seq o) (filter_map (λ (e : EntryIndex). block_seq e.entries) es) ++ ms)
     go None is from h = absurd cc
     go (Some block) is from h = sym (least_behind block.id.seq (filter_map (λ (e : EntryIndex). block_seq e.entries) es) ms (from block.id.seq h))
@@ -100,12 +101,12 @@ unfolding entry_files
 least_is q t h = first_is_least q 0 (h q).0 (files_in q t.keys) (placed_in q t.entries) (h q).1
 
 least_files : (t : Table) → AreInOrder t.entries → AreLeastFiles t
-least_files t h = record { append = least_is Append t h; rewrite = ap (lowered t.atomic_group) (least_is Rewrite t h) }
+least_files t h = record { append = least_is Append t h; rewrite = ap (at_most_first_file t.atomic_group) (least_is Rewrite t h) }
 
 pub none_below : (q : LogQueue) (t : Table) → AreLeastFiles t → HasNoneBelow q t
 none_below Append t h = subst (λ k. AllByRecursion (IsAtOrBelow k) (record_files Append t)) (sym h.append) (least_each (record_files Append t))
 none_below Rewrite t h = subst (λ k. AllByRecursion (IsAtOrBelow k) (record_files Rewrite t)) (sym h.rewrite)
-    (each_weaker (IsAtOrBelow (least (record_files Rewrite t))) (IsAtOrBelow (lowered t.atomic_group (least (record_files Rewrite t)))) (lowered_least t.atomic_group (least (record_files Rewrite t))) (record_files Rewrite t) (least_each (record_files Rewrite t)))
+    (each_weaker (IsAtOrBelow (least (record_files Rewrite t))) (IsAtOrBelow (at_most_first_file t.atomic_group (least (record_files Rewrite t)))) (lowered_least t.atomic_group (least (record_files Rewrite t))) (record_files Rewrite t) (least_each (record_files Rewrite t)))
 
 -- ---- entries of one queue, and of both
 
@@ -125,7 +126,7 @@ none_placed q low high (e ∷ es) h = rw (elsewhere q e.entries h.0) (none_place
     apart Rewrite Append is = cc
     apart Rewrite Rewrite is = refl
 
-    elsewhere : (q : LogQueue) (o : Option FileBlockHandle) → is_block_in q o ≡ true → is_block_in (other q) o ≡ false
+    elsewhere : (q : LogQueue) (o : Option FileBlockHandle) → option_map_or (λ (place : FileBlockHandle). is_same place.id.queue q) o false ≡ true → option_map_or (λ (place : FileBlockHandle). is_same place.id.queue (other q)) o false ≡ false
     elsewhere q None is = refl
     elsewhere q (Some block) is = apart q block.id.queue is
 
@@ -182,7 +183,7 @@ least_of_both h g tables cleaned s a t b r = subst (λ (o : Option Table). AreLe
     old = reading_order Rewrite h b.rewritten [] s a b.rewrite_read r
 
     new : (high : ℕ) × InOrder Append 0 high (table_of r (finite.get b.appended r)).entries
-    new = reading_order Append g b.appended cleaned t (record { apart = append_apart 0 g t.files }) b.append_read r
+    new = reading_order Append g b.appended cleaned t (record { each = append_apart 0 g t.files }) b.append_read r
 
     go : (n : Bool) → AreLeastFiles (table_of r (cond n (overlaid_table r (steps_of r (batches g)) (finite.get b.appended r) (finite.get b.rewritten r)) (finite.get b.rewritten r)))
     go true = least_files (table_of r (overlaid_table r (steps_of r (batches g)) (finite.get b.appended r) (finite.get b.rewritten r)))

@@ -36,3 +36,4 @@ pub mod TotalLemmas
 pub mod UniqueLemmas
 pub mod WithoutMarkers
 pub mod WaitingLemmas
+pub mod Words

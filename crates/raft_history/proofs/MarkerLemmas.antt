@@ -6,16 +6,17 @@ use Rattle.raft_records.specs.declared.atomic_group.AtomicGroupStatus.{AtomicGro
 use Rattle.raft_records.specs.declared.atomic_group.AtomicGroupStatus.TheVariants.{Begin, Middle, End}
 use Rattle.raft_history.specs.Batches.{GroupMarker}
 use Rattle.raft_history.specs.RegionSteps.{RegionStep}
-use Rattle.raft_history.specs.WaitingGroup.{begins, goes_on, Numbered, is_of, markers_of, begins_by, goes_on_by, are_middles, open_stretch, region_steps_of, GroupFront, Open, Ended, Cut, led_by, front_by, front_behind, front_of, stretch_of, WaitingGroup, group_at, group_of, carried, joined_group_by, joined_group, whole_of, whole_group_by}
+use Rattle.raft_history.proofs.Words.{region_steps_of, are_middles}
+use Rattle.raft_history.specs.Effects.{has_status, Numbered, is_of, markers_of, is_same_status, open_stretch}
+use Rattle.raft_history.specs.WaitingGroup.{GroupFront, Open, Ended, Cut, led_by, front_by, front_behind, front_of, stretch_of, WaitingGroup, group_at, group_of, carried_stretch, joined_group_by, joined_group, whole_of, whole_group_by}
 
 pub markers_of-append : (g : ℕ) (ps qs : List Numbered) → markers_of g (ps ++ qs) ≡ markers_of g ps ++ markers_of g qs
 unfolding markers_of
 markers_of-append g ps qs = filter-append (λ p. is_of g p.batch.marker) ps qs
 
 pub are_middles-append : (ps qs : List Numbered) → are_middles (ps ++ qs) ≡ (are_middles ps && are_middles qs)
-unfolding are_middles
 are_middles-append [] qs = refl
-are_middles-append (p ∷ ps) qs = go (goes_on p.batch.marker) (are_middles-append ps qs)
+are_middles-append (p ∷ ps) qs = go (has_status Middle p.batch.marker) (are_middles-append ps qs)
   where
     go : (b : Bool) → are_middles (ps ++ qs) ≡ (are_middles ps && are_middles qs) → (b && are_middles (ps ++ qs)) ≡ ((b && are_middles ps) && are_middles qs)
     go true ih = ih
@@ -23,15 +24,15 @@ are_middles-append (p ∷ ps) qs = go (goes_on p.batch.marker) (are_middles-appe
 
 -- where Middles alone stand, nothing is open
 pub middles_open_none : (ps : List Numbered) → are_middles ps ≡ true → open_stretch ps ≡ []
-unfolding are_middles open_stretch
+unfolding open_stretch
 middles_open_none [] h = refl
 middles_open_none (p ∷ ps) h = go p.batch.marker h (middles_open_none ps)
   where
-    go : (m : Option GroupMarker) → (goes_on m && are_middles ps) ≡ true → (are_middles ps ≡ true → open_stretch ps ≡ []) → cond (begins m && are_middles ps) (p ∷ ps) (open_stretch ps) ≡ []
+    go : (m : Option GroupMarker) → (has_status Middle m && are_middles ps) ≡ true → (are_middles ps ≡ true → open_stretch ps ≡ []) → cond (has_status Begin m && are_middles ps) (p ∷ ps) (open_stretch ps) ≡ []
     go None h ih = cc
     go (Some m) h ih = at m.status h
       where
-        at : (s : AtomicGroupStatus) → (goes_on_by s && are_middles ps) ≡ true → cond (begins_by s && are_middles ps) (p ∷ ps) (open_stretch ps) ≡ []
+        at : (s : AtomicGroupStatus) → (is_same_status Middle s && are_middles ps) ≡ true → cond (is_same_status Begin s && are_middles ps) (p ∷ ps) (open_stretch ps) ≡ []
         at Begin h = cc
         at Middle h = ih h
         at End h = cc
@@ -48,7 +49,7 @@ open_stretch-append [] qs = go (are_middles qs) refl
     go : (b : Bool) → are_middles qs ≡ b → open_stretch qs ≡ cond b [] (open_stretch qs)
     go true h = middles_open_none qs h
     go false h = refl
-open_stretch-append (p ∷ ps) qs = rw (are_middles-append ps qs) (go (begins p.batch.marker) (are_middles ps) (are_middles qs) (open_stretch-append ps qs))
+open_stretch-append (p ∷ ps) qs = rw (are_middles-append ps qs) (go (has_status Begin p.batch.marker) (are_middles ps) (are_middles qs) (open_stretch-append ps qs))
   where
     go : (b m n : Bool) → open_stretch (ps ++ qs) ≡ cond n (with_more (open_stretch ps) qs) (open_stretch qs) → cond (b && (m && n)) (p ∷ (ps ++ qs)) (open_stretch (ps ++ qs)) ≡ cond n (with_more (cond (b && m) (p ∷ ps) (open_stretch ps)) qs) (open_stretch qs)
     go true true true ih = refl
@@ -98,22 +99,22 @@ FitsFront (Ended is f) ps = are_middles ps ≡ false
 FitsFront Cut ps = are_middles ps ≡ false
 
 pub fits_front : (ps : List Numbered) → FitsFront (front_of ps) ps
-unfolding front_of are_middles
+unfolding front_of
 fits_front [] = (refl, refl)
 fits_front (p ∷ ps) = go p.batch.marker refl (front_of ps) (fits_front ps)
   where
     go : (m : Option GroupMarker) → p.batch.marker ≡ m → (f : GroupFront) → FitsFront f ps → FitsFront (front_behind m p.batch.steps p.batch.file f) (p ∷ ps)
     go None is f h = rw is refl
-    go (Some m) is f h = at m.status (ap goes_on is) f h
+    go (Some m) is f h = at m.status (ap (has_status Middle) is) f h
       where
-        at : (s : AtomicGroupStatus) → goes_on p.batch.marker ≡ goes_on_by s → (f : GroupFront) → FitsFront f ps → FitsFront (front_by s p.batch.steps p.batch.file f) (p ∷ ps)
+        at : (s : AtomicGroupStatus) → has_status Middle p.batch.marker ≡ is_same_status Middle s → (f : GroupFront) → FitsFront f ps → FitsFront (front_by s p.batch.steps p.batch.file f) (p ∷ ps)
         at Begin is f h = rw is refl
         at Middle is (Open js) h = (rw is h.0, ap (λ l. p.batch.steps ++ l) h.1)
         at Middle is (Ended js k) h = rw is h
         at Middle is Cut h = rw is h
         at End is f h = rw is refl
 
-stretch_with : (ps qs : List Numbered) → stretch_of (with_more ps qs) ≡ carried (stretch_of ps) (region_steps_of qs)
+stretch_with : (ps qs : List Numbered) → stretch_of (with_more ps qs) ≡ carried_stretch (stretch_of ps) (region_steps_of qs)
 stretch_with [] qs = refl
 stretch_with (p ∷ ps) qs = ap (λ l. Some record { file = p.batch.file; steps = l }) (flat_map-append (λ x. x.batch.steps) (p ∷ ps) qs)
 
@@ -128,9 +129,9 @@ group_at-append ps qs = rw (front_of-append, open_stretch-append) (go (front_of 
         record { front = front_with f g; stretch = stretch_of (cond b (with_more (open_stretch ps) qs) (open_stretch qs)) } ≡ joined_group_by f g record { front = f; stretch = stretch_of (open_stretch ps) } record { front = g; stretch = stretch_of (open_stretch qs) }
     go (Open is) g true e h k = rw (middles_open_none ps h.0, middles_open_none qs e) refl
     go (Open is) g false e h k = refl
-    go (Ended is f) (Open js) true e h k = ap (λ s. record { front = Ended is f; stretch = s }) (stretch_with (open_stretch ps) qs ∙ ap (carried (stretch_of (open_stretch ps))) (sym k.1))
+    go (Ended is f) (Open js) true e h k = ap (λ s. record { front = Ended is f; stretch = s }) (stretch_with (open_stretch ps) qs ∙ ap (carried_stretch (stretch_of (open_stretch ps))) (sym k.1))
     go (Ended is f) (Open js) false e h k = cc
-    go Cut (Open js) true e h k = ap (λ s. record { front = Cut; stretch = s }) (stretch_with (open_stretch ps) qs ∙ ap (carried (stretch_of (open_stretch ps))) (sym k.1))
+    go Cut (Open js) true e h k = ap (λ s. record { front = Cut; stretch = s }) (stretch_with (open_stretch ps) qs ∙ ap (carried_stretch (stretch_of (open_stretch ps))) (sym k.1))
     go Cut (Open js) false e h k = cc
     go (Ended is f) (Ended js l) true e h k = cc
     go (Ended is f) (Ended js l) false e h k = refl

@@ -6,19 +6,19 @@ use Rattle.std.specs.Option.{unwrap_or, option_and_then}
 use Rattle.std.specs.FinMap as finite
 use Rattle.raft_base.specs.declared.pipe_log.LogQueue.{LogQueue}
 use Rattle.raft_base.specs.declared.pipe_log.LogQueue.TheVariants.{Rewrite}
-use Rattle.raft_table.specs.Marks.{Mark, applied, is_there_over}
+use Rattle.raft_table.specs.Marks.{Mark, there_if, table_over_older, is_there_over}
 use Rattle.raft_table.specs.MarkJoins.{joined_mark, fresh, mark_of}
-use Rattle.raft_table.specs.Steps.{Step, Run, Compact, Truncate, Put, Del, AtomicGroup, Clean, AreSteps, there_if, after_step, after}
+use Rattle.raft_table.specs.Steps.{Step, Run, Compact, Truncate, Put, Del, AtomicGroup, Clean, AreSteps, table_of, after_step, after}
 use Rattle.raft_table.specs.Table.{Table}
 use Rattle.raft_table.proofs.MarkLaws.{refused_join}
-use Rattle.raft_history.specs.Batches.{GroupMarker, ReadBatch, Event, batch_of, batches}
+use Rattle.raft_history.specs.Batches.{GroupMarker, BatchSteps, Event, batch_of, batches}
 use Rattle.raft_history.specs.Contexts.{Context, Holds, AreExact, AreMerged, AreRegionsRefused, region_steps_or, completed_steps}
-use Rattle.raft_history.specs.Effects.{BatchesApart, steps_of, steps_of_wholes, is_named}
-use Rattle.raft_history.specs.Histories.{AreInFiles}
+use Rattle.raft_history.specs.Effects.{EachApart, effects, steps_of, is_named}
+use Rattle.raft_history.proofs.Words.{AreInFiles}
 use Rattle.raft_history.specs.MarkedRegions.{MarkedRegions, MarkedRegion, region_in, with_region, regions_after, region_steps_of_wholes, joined_marked}
 use Rattle.raft_history.specs.RegionSteps.{RegionStep, names, steps_on}
 use Rattle.raft_history.specs.WaitingGroup.{WholeGroup, whole_group, one_marker}
-use Rattle.raft_history.specs.WaitingGroups.{WaitingGroups, groups_in, known, whole_groups, steps_by_batch, steps_or, names_by_batch}
+use Rattle.raft_history.specs.WaitingGroups.{WaitingGroups, groups_in, known, whole_groups, steps_by_batch, steps_or, names_by_batch, steps_of_wholes}
 use Rattle.raft_history.proofs.KnownLemmas.{steps_across}
 use Rattle.raft_history.proofs.MoreLemmas.{steps-one}
 use Rattle.raft_history.proofs.NamedLemmas.{has_steps, has_steps-own, has_steps-wholes, named_across, named-one, by_batch}
@@ -36,13 +36,13 @@ holds_marked q r x y (Some m) t ss rs good good' h k none e = holds_joined q r x
 
 refused_marked : (q : LogQueue) (r : ℕ) (x : MarkedRegion) (o : Option Mark) (t : Option Table) (ss rs : List Step) → Holds q r x ss → Holds q r record { mark = unwrap_or o fresh; table = t } rs → joined_marked q r o t x ≡ None → after q r None (ss ++ rs) ≡ None
 refused_marked q r x None t ss rs h k e = absurd cc
-refused_marked q r x (Some m) t ss rs h k e = go (applied q r m t x.table) refl e
+refused_marked q r x (Some m) t ss rs h k e = go (table_over_older q r m t x.table) refl e
   where
-    go : (o : Option (Option Table)) → applied q r m t x.table ≡ o → option_map {U = MarkedRegion} (λ t. record { mark = joined_mark q r x.mark x.table m; table = t }) o ≡ None → after q r None (ss ++ rs) ≡ None
+    go : (o : Option (Option Table)) → table_over_older q r m t x.table ≡ o → option_map {U = MarkedRegion} (λ t. record { mark = joined_mark q r x.mark x.table m; table = t }) o ≡ None → after q r None (ss ++ rs) ≡ None
     go None is e = refused_join q r x.mark m x.table t ss rs h.stands k.stands is
     go (Some w) is e = absurd cc
 
-unnamed : (q : LogQueue) (rs : MarkedRegions) (bs : List ReadBatch) → AreExact q rs bs → (r : ℕ) → finite.get rs.marks r ≡ None → steps_of r bs ≡ []
+unnamed : (q : LogQueue) (rs : MarkedRegions) (bs : List BatchSteps) → AreExact q rs bs → (r : ℕ) → finite.get rs.marks r ≡ None → steps_of r bs ≡ []
 unnamed q rs bs ex r e = (named-steps r bs).0 (sym (ex.marked r) ∙ ap is_some e)
 
 names_wholes : (r : ℕ) (ws : List WholeGroup) → names r (region_steps_of_wholes ws) ≡ list_any (λ w. names r w.steps) ws
@@ -61,10 +61,10 @@ pub record Parts (q : LogQueue) (c d : Context) (h k : List Event) : Type 0 wher
   pub both_files : AreInFiles (h ++ k)
   pub older : AreExact q c.regions (batches h)
   pub newer : AreExact q d.regions (batches k)
-  pub apart : BatchesApart (batches (h ++ k))
+  pub apart : EachApart (effects (batches (h ++ k)))
 
 across : (q : LogQueue) (c d : Context) (h k : List Event) → Parts q c d h k → (r : ℕ) → steps_of r (batches (h ++ k)) ≡ steps_of r (batches h) ++ (steps_on r (region_steps_of_wholes (whole_groups c.groups d.groups)) ++ steps_of r (batches k))
-across q c d h k p r = ap (steps_of r) (batches-append h k) ∙ steps_across r (batches h) (batches k) (subst BatchesApart (batches-append h k) p.apart)
+across q c d h k p r = ap (steps_of r) (batches-append h k) ∙ steps_across r (batches h) (batches k) (subst (λ l. EachApart (effects l)) (batches-append h k) p.apart)
     ∙ sym (ap (λ l. steps_of r (batches h) ++ (l ++ steps_of r (batches k))) (own-wholes r (whole_groups c.groups d.groups)
     ∙ ap (λ g. steps_of_wholes r (whole_groups g d.groups)) p.older_groups ∙ ap (λ g. steps_of_wholes r (whole_groups (groups_in (batches h)) g)) p.newer_groups))
 
@@ -92,7 +92,7 @@ regions_merged q c d h k new p m = record { each = each; marked = marked }
         ∙ ap (λ b. b || (names r (region_steps_of_wholes (whole_groups c.groups d.groups)) || is_some (finite.get d.regions.marks r))) (p.older.marked r)
         ∙ ap (λ b. is_named r (batches h) || (names r (region_steps_of_wholes (whole_groups c.groups d.groups)) || b)) (p.newer.marked r)
         ∙ ap (λ b. is_named r (batches h) || (b || is_named r (batches k))) (names_wholes r (whole_groups c.groups d.groups) ∙ ap (λ g. list_any (λ w. names r w.steps) (whole_groups g d.groups)) p.older_groups ∙ ap (λ g. list_any (λ w. names r w.steps) (whole_groups (groups_in (batches h)) g)) p.newer_groups)
-        ∙ sym (named_across r (batches h) (batches k) (subst BatchesApart (batches-append h k) p.apart)) ∙ ap (is_named r) (sym (batches-append h k))
+        ∙ sym (named_across r (batches h) (batches k) (subst (λ l. EachApart (effects l)) (batches-append h k) p.apart)) ∙ ap (is_named r) (sym (batches-append h k))
 
 -- where the merge is refused, one reading refuses some region's steps
 pub regions_refused : (q : LogQueue) (c d : Context) (h k : List Event) → Parts q c d h k → AreRegionsRefused q c d → (r : ℕ) × (after q r None (steps_of r (batches (h ++ k))) ≡ None)
@@ -106,7 +106,7 @@ regions_refused q c d h k p (inr f) = let r = f.2.0 in (
 
 -- ---- one more batch
 
-own-completed : (r : ℕ) (g : WaitingGroups) (b : ReadBatch) (m : Option GroupMarker) → steps_on r (completed_steps g b m) ≡ steps_by_batch r g b m
+own-completed : (r : ℕ) (g : WaitingGroups) (b : BatchSteps) (m : Option GroupMarker) → steps_on r (completed_steps g b m) ≡ steps_by_batch r g b m
 own-completed r g b None = refl
 own-completed r g b (Some m) = go (whole_group (known g m.group) (one_marker m.status b.steps b.file))
   where
@@ -140,7 +140,7 @@ taken_refused q c h e is files files' ex m = let f = read_refused q c.regions (s
 
 -- ---- the rewrite queue refuses no step
 
-rewrite_step : (r : ℕ) (o : Option Table) (s : Step) → (u : Option Table) × (after_step Rewrite r o s ≡ Some u)
+rewrite_step : (r : ℕ) (o : Option Table) (s : Step) → (u : Option Table) × (after_step Rewrite (table_of r o) s ≡ Some u)
 rewrite_step r o (Run []) = (_, refl)
 rewrite_step r o (Run (e ∷ run)) = (_, refl)
 rewrite_step r o (Compact i) = (_, refl)
@@ -165,14 +165,14 @@ there_some : (b : Bool) (t : Table) → there_if b (Some t) ≡ None → ⊥
 there_some true t e = cc
 there_some false t e = cc
 
-rewrite_applied : (r : ℕ) (m : Mark) (t o : Option Table) → applied Rewrite r m t o ≡ None → ⊥
+rewrite_applied : (r : ℕ) (m : Mark) (t o : Option Table) → table_over_older Rewrite r m t o ≡ None → ⊥
 rewrite_applied r m t o e = there_some (is_there_over m t o) _ e
 
 rewrite_marked : (r : ℕ) (o : Option Mark) (t : Option Table) (x : MarkedRegion) → joined_marked Rewrite r o t x ≡ None → ⊥
 rewrite_marked r None t x e = cc
-rewrite_marked r (Some m) t x e = go (applied Rewrite r m t x.table) refl e
+rewrite_marked r (Some m) t x e = go (table_over_older Rewrite r m t x.table) refl e
   where
-    go : (o : Option (Option Table)) → applied Rewrite r m t x.table ≡ o → option_map {U = MarkedRegion} (λ t. record { mark = joined_mark Rewrite r x.mark x.table m; table = t }) o ≡ None → ⊥
+    go : (o : Option (Option Table)) → table_over_older Rewrite r m t x.table ≡ o → option_map {U = MarkedRegion} (λ t. record { mark = joined_mark Rewrite r x.mark x.table m; table = t }) o ≡ None → ⊥
     go None is e = rewrite_applied r m t x.table is
     go (Some w) is e = cc
 

@@ -12,10 +12,11 @@ use Rattle.std.specs.FinMap.{nat_cmp-IsAntisymmetric, same_map}
 use Rattle.std.specs.FinMap.Entries.{find}
 use Rattle.raft_records.specs.declared.atomic_group.AtomicGroupStatus.{AtomicGroupStatus}
 use Rattle.raft_records.specs.declared.atomic_group.AtomicGroupStatus.TheVariants.{Begin, Middle, End}
-use Rattle.raft_history.specs.Batches.{GroupMarker, ReadBatch}
-use Rattle.raft_history.specs.Effects.{ended, completed_as, completed_by, effects_behind, effects, all_steps, steps_of, group_in}
+use Rattle.raft_history.specs.Batches.{GroupMarker, BatchSteps}
+use Rattle.raft_history.specs.Effects.{completed_as, completed_by, effects_behind, effects, steps_of, Numbered, numbered_from, is_of, markers_of, open_stretch}
+use Rattle.raft_history.proofs.Words.{all_steps}
 use Rattle.raft_history.specs.RegionSteps.{RegionStep}
-use Rattle.raft_history.specs.WaitingGroup.{without_marker, Numbered, numbered_from, is_of, markers_of, open_stretch, are_middles, front_of, Open, Cut, WaitingGroup, joined_group, whole_group, whole_of, OpenStretch, stretch_of, one_marker, group_of}
+use Rattle.raft_history.specs.WaitingGroup.{without_marker, front_of, Open, Cut, WaitingGroup, joined_group, whole_group, whole_of, OpenStretch, stretch_of, one_marker, group_of, group_in}
 use Rattle.raft_history.specs.WaitingGroups.{WaitingGroups, groups_in, known, joined_with, joined_groups, groups_after, steps_or, steps_by_batch}
 use Rattle.raft_history.proofs.EffectLemmas.{effects_behind-one, all_steps-append, all_steps-one, all_steps-none}
 use Rattle.raft_history.proofs.JoinedLemmas.{group_in-append, effects-append}
@@ -40,7 +41,7 @@ get-joined_with older (e ∷ es) q one = get-joined_with (finite.insert older e.
     go true t = rw (find_none q e.0 es t one.0) (ap (λ x. Some (joined_group (known older x) e.1)) (sym (eqb-true q e.0 t)))
     go false t = refl
 
-has_marker-append : (g : ℕ) (h k : List ReadBatch) → has_marker g (h ++ k) ≡ (has_marker g h || has_marker g k)
+has_marker-append : (g : ℕ) (h k : List BatchSteps) → has_marker g (h ++ k) ≡ (has_marker g h || has_marker g k)
 has_marker-append g [] k = refl
 has_marker-append g (b ∷ bs) k = go (is_of g b.marker) (has_marker-append g bs k)
   where
@@ -49,10 +50,10 @@ has_marker-append g (b ∷ bs) k = go (is_of g b.marker) (has_marker-append g bs
     go false ih = ih
 
 -- no more markers
-joined_group-without_marker : (g : ℕ) (h k : List ReadBatch) → has_marker g k ≡ false → group_in g (h ++ k) ≡ group_in g h
+joined_group-without_marker : (g : ℕ) (h k : List BatchSteps) → has_marker g k ≡ false → group_in g (h ++ k) ≡ group_in g h
 joined_group-without_marker g h k e = group_in-append g h k ∙ ap (joined_group (group_in g h)) (group_in-without_marker g k e ∙ sym (group_in-without_marker g [] refl)) ∙ sym (group_in-append g h []) ∙ ap (group_in g) (append-nil h)
 
-pub groups_in-append : (h k : List ReadBatch) → groups_in (h ++ k) ≡ joined_groups (groups_in h) (groups_in k)
+pub groups_in-append : (h k : List BatchSteps) → groups_in (h ++ k) ≡ joined_groups (groups_in h) (groups_in k)
 groups_in-append h k = same_map nat_cmp_total nat_cmp-IsAntisymmetric (groups_in (h ++ k)) (joined_groups (groups_in h) (groups_in k)) (λ q. both q ∙ sym (join q))
   where
     go : (q : ℕ) (s : Bool) → has_marker q h ≡ s → (t : Bool) → has_marker q k ≡ t → cond (s || t) (Some (group_in q (h ++ k))) None ≡ joined_at (cond s (Some (group_in q h)) None) (cond t (Some (group_in q k)) None)
@@ -70,7 +71,7 @@ groups_in-append h k = same_map nat_cmp_total nat_cmp-IsAntisymmetric (groups_in
         ∙ ap (λ x. joined_at x (cond (has_marker q k) (Some (group_in q k)) None)) (get-groups_in q h)
 
 group_in-one : (g : ℕ) (is : List RegionStep) (s : AtomicGroupStatus) (f : ℕ) → group_in g (record { steps = is; marker = Some record { group = g; status = s }; file = f } ∷ []) ≡ one_marker s is f
-unfolding markers_of open_stretch are_middles front_of
+unfolding markers_of open_stretch front_of
 group_in-one g is Begin f = rw (eq-eqb g g refl) (ap (λ l. record { front = Cut; stretch = Some record { file = f; steps = l } }) (append-nil is))
 group_in-one g is Middle f = rw (eq-eqb g g refl) (ap (λ l. record { front = Open l; stretch = None }) (append-nil is))
 group_in-one g is End f = rw (eq-eqb g g refl) refl
@@ -87,14 +88,14 @@ unfolding groups_in
 joined_group-one groups is None f = rw entries_none refl
 joined_group-one groups is (Some m) f = ap (joined_with groups) (one_entry is m f)
 
-pub groups_in-one : (h : List ReadBatch) (b : ReadBatch) → groups_in (h ++ b ∷ []) ≡ groups_after (groups_in h) b b.marker
+pub groups_in-one : (h : List BatchSteps) (b : BatchSteps) → groups_in (h ++ b ∷ []) ≡ groups_after (groups_in h) b b.marker
 groups_in-one h b = groups_in-append h (b ∷ []) ∙ joined_group-one (groups_in h) b.steps b.marker b.file
 
 -- one more batch's steps, in one context
 completed-steps : (r : ℕ) (olds : List Numbered) (p : Numbered) (m : GroupMarker) → all_steps r (completed_as m.status (open_stretch (markers_of m.group olds)) p) ≡ steps_or r (whole_group (group_of m.group olds) (one_marker m.status p.batch.steps p.batch.file))
 completed-steps r olds p m = go m.status
   where
-    stretch : (l : List Numbered) → all_steps r (ended l p) ≡ steps_or r (whole_of (stretch_of l) (one_marker End p.batch.steps p.batch.file).front)
+    stretch : (l : List Numbered) → all_steps r (completed_as End l p) ≡ steps_or r (whole_of (stretch_of l) (one_marker End p.batch.steps p.batch.file).front)
     stretch [] = all_steps-none r
     stretch (q ∷ qs) = all_steps-one r record { earlier = q ∷ qs; last = p }
 
@@ -111,7 +112,7 @@ completed-steps r olds p m = go m.status
     go Middle = rw (whole_is (markers_of m.group olds)) (all_steps-none r ∙ middle (stretch_of (open_stretch (markers_of m.group olds))))
     go End = rw (whole_is (markers_of m.group olds)) (stretch (open_stretch (markers_of m.group olds)))
 
-pub steps-one : (r : ℕ) (h : List ReadBatch) (b : ReadBatch) → steps_of r (h ++ b ∷ []) ≡ steps_of r h ++ steps_by_batch r (groups_in h) b b.marker
+pub steps-one : (r : ℕ) (h : List BatchSteps) (b : BatchSteps) → steps_of r (h ++ b ∷ []) ≡ steps_of r h ++ steps_by_batch r (groups_in h) b b.marker
 steps-one r h b = ap (all_steps r) (effects-append h (b ∷ [])) ∙ all_steps-append r (effects h) (effects_behind (numbered_from 0 h) (numbered_from (length h) (b ∷ [])))
     ∙ ap (λ l. steps_of r h ++ l) (ap (all_steps r) (effects_behind-one (numbered_from 0 h) record { number = length h; batch = b }) ∙ go b.marker)
   where

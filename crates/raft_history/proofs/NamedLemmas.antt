@@ -2,11 +2,11 @@
 use Rattle.std.proofs.Common.{◌≡◌, ℕ, Bool, true, false, cond, ◌||◌, List, [], ◌∷◌, ◌++◌, Option, Some, None, refl, sym, ap, ◌∙◌}
 use Rattle.std.specs.Prelude.{flat_map}
 use Rattle.std.specs.List.{list_any}
-use Rattle.raft_history.specs.Batches.{ReadBatch, GroupMarker}
-use Rattle.raft_history.specs.Effects.{whole_steps, steps_of, steps_of_wholes, BatchesApart, is_named}
+use Rattle.raft_history.specs.Batches.{BatchSteps, GroupMarker}
+use Rattle.raft_history.specs.Effects.{whole_steps, steps_of, EachApart, effects, is_named}
 use Rattle.raft_history.specs.RegionSteps.{RegionStep, names, steps_on}
 use Rattle.raft_history.specs.WaitingGroup.{WholeGroup, whole_group, one_marker}
-use Rattle.raft_history.specs.WaitingGroups.{WaitingGroups, groups_in, known, whole_groups, steps_or, steps_by_batch, names_by, names_by_batch}
+use Rattle.raft_history.specs.WaitingGroups.{WaitingGroups, groups_in, known, whole_groups, steps_or, steps_by_batch, names_by, names_by_batch, steps_of_wholes}
 use Rattle.raft_history.proofs.EffectLemmas.{steps_on-none}
 use Rattle.raft_history.proofs.KnownLemmas.{steps_across}
 use Rattle.raft_history.proofs.MoreLemmas.{steps-one}
@@ -32,13 +32,13 @@ same_test true false f g = g refl
 same_test false true f g = sym (f refl)
 same_test false false f g = refl
 
-pub has_steps-of : (r : ℕ) (h : List ReadBatch) → has_steps (steps_of r h) ≡ is_named r h
+pub has_steps-of : (r : ℕ) (h : List BatchSteps) → has_steps (steps_of r h) ≡ is_named r h
 has_steps-of r h = same_test (has_steps (steps_of r h)) (is_named r h) (λ e. (named-steps r h).1 (no_steps (steps_of r h) e)) (λ e. ap has_steps ((named-steps r h).0 e))
 
 pub has_steps-own : (r : ℕ) (is : List RegionStep) → has_steps (steps_on r is) ≡ names r is
 has_steps-own r is = same_test (has_steps (steps_on r is)) (names r is) (λ e. steps_on-some r is (no_steps (steps_on r is) e)) (λ e. ap has_steps (steps_on-none r is e))
 
-pub has_steps-whole_group : (r : ℕ) (w : WholeGroup) → has_steps (whole_steps r w) ≡ names r w.steps
+pub has_steps-whole_group : (r : ℕ) (w : WholeGroup) → has_steps (whole_steps r w.steps w.start w.end) ≡ names r w.steps
 unfolding whole_steps
 has_steps-whole_group r w = has_steps-append (steps_on r w.steps) (cond (names r w.steps) (AtomicGroup w.start w.end ∷ []) []) ∙ ap (λ b. b || has_steps (cond (names r w.steps) (AtomicGroup w.start w.end ∷ []) [])) (has_steps-own r w.steps) ∙ go (names r w.steps)
   where
@@ -49,9 +49,12 @@ has_steps-whole_group r w = has_steps-append (steps_on r w.steps) (cond (names r
 pub has_steps-wholes : (r : ℕ) (ws : List WholeGroup) → has_steps (steps_of_wholes r ws) ≡ list_any (λ w. names r w.steps) ws
 unfolding steps_of_wholes
 has_steps-wholes r [] = refl
-has_steps-wholes r (w ∷ ws) = has_steps-append (whole_steps r w) (flat_map (whole_steps r) ws) ∙ ap (λ b. b || has_steps (flat_map (whole_steps r) ws)) (has_steps-whole_group r w) ∙ ap (λ b. names r w.steps || b) (has_steps-wholes r ws)
+has_steps-wholes r (w ∷ ws) = has_steps-append (group_steps w) (flat_map group_steps ws) ∙ ap (λ b. b || has_steps (flat_map group_steps ws)) (has_steps-whole_group r w) ∙ ap (λ b. names r w.steps || b) (has_steps-wholes r ws)
+  where
+    group_steps : WholeGroup → List Step
+    group_steps w = whole_steps r w.steps w.start w.end
 
-pub named_across : (r : ℕ) (h k : List ReadBatch) → BatchesApart (h ++ k) → is_named r (h ++ k) ≡ (is_named r h || (list_any (λ w. names r w.steps) (whole_groups (groups_in h) (groups_in k)) || is_named r k))
+pub named_across : (r : ℕ) (h k : List BatchSteps) → EachApart (effects (h ++ k)) → is_named r (h ++ k) ≡ (is_named r h || (list_any (λ w. names r w.steps) (whole_groups (groups_in h) (groups_in k)) || is_named r k))
 named_across r h k apart =
     sym (has_steps-of r (h ++ k)) ∙ ap has_steps (steps_across r h k apart)
     ∙ has_steps-append (steps_of r h) (steps_of_wholes r (whole_groups (groups_in h) (groups_in k)) ++ steps_of r k)
@@ -60,7 +63,7 @@ named_across r h k apart =
     ∙ ap (λ b. is_named r h || (b || has_steps (steps_of r k))) (has_steps-wholes r (whole_groups (groups_in h) (groups_in k)))
     ∙ ap (λ b. is_named r h || (list_any (λ w. names r w.steps) (whole_groups (groups_in h) (groups_in k)) || b)) (has_steps-of r k)
 
-pub by_batch : (r : ℕ) (groups : WaitingGroups) (b : ReadBatch) (m : Option GroupMarker) → has_steps (steps_by_batch r groups b m) ≡ names_by_batch r groups b m
+pub by_batch : (r : ℕ) (groups : WaitingGroups) (b : BatchSteps) (m : Option GroupMarker) → has_steps (steps_by_batch r groups b m) ≡ names_by_batch r groups b m
 by_batch r groups b None = has_steps-own r b.steps
 by_batch r groups b (Some m) = go (whole_group (known groups m.group) (one_marker m.status b.steps b.file))
   where
@@ -68,6 +71,6 @@ by_batch r groups b (Some m) = go (whole_group (known groups m.group) (one_marke
     go None = refl
     go (Some w) = has_steps-whole_group r w
 
-pub named-one : (r : ℕ) (h : List ReadBatch) (b : ReadBatch) → is_named r (h ++ b ∷ []) ≡ (is_named r h || names_by_batch r (groups_in h) b b.marker)
+pub named-one : (r : ℕ) (h : List BatchSteps) (b : BatchSteps) → is_named r (h ++ b ∷ []) ≡ (is_named r h || names_by_batch r (groups_in h) b b.marker)
 named-one r h b = sym (has_steps-of r (h ++ b ∷ [])) ∙ ap has_steps (steps-one r h b) ∙ has_steps-append (steps_of r h) (steps_by_batch r (groups_in h) b b.marker)
     ∙ ap (λ x. x || has_steps (steps_by_batch r (groups_in h) b b.marker)) (has_steps-of r h) ∙ ap (λ x. is_named r h || x) (by_batch r (groups_in h) b b.marker)

@@ -7,12 +7,13 @@ use Rattle.raft_base.specs.declared.pipe_log.LogQueue.{LogQueue}
 use Rattle.raft_table.specs.Steps.{Step, Run, Compact, Truncate, Put, Del, AtomicGroup, Clean}
 use Rattle.raft_records.specs.declared.atomic_group.AtomicGroupStatus.{AtomicGroupStatus}
 use Rattle.raft_records.specs.declared.atomic_group.AtomicGroupStatus.TheVariants.{Begin, Middle, End}
-use Rattle.raft_history.specs.Batches.{GroupMarker, ReadBatch, Event, batches}
-use Rattle.raft_history.specs.Effects.{group_in}
-use Rattle.raft_history.specs.Histories.{IsInFile, AreInFile, AreInFiles, FilesFrom, IsPutIn, IsPairIn, IsStepOfQueue}
+use Rattle.raft_history.specs.Batches.{GroupMarker, BatchSteps, Event, batches}
+use Rattle.raft_history.proofs.Words.{AreInFiles, with_step, region_steps_of}
+use Rattle.raft_history.specs.Histories.{IsInFile, AreInFile, FilesFrom, IsPairIn, IsStepOfQueue}
+use Rattle.raft_history.specs.Effects.{Numbered, numbered_from, markers_of, open_stretch}
 use Rattle.raft_history.specs.MarkedRegions.{named_regions, on_each, region_steps_of_whole, region_steps_of_wholes}
-use Rattle.raft_history.specs.RegionSteps.{RegionStep, put_step, pair_step, content_step, with_step, steps_of_items}
-use Rattle.raft_history.specs.WaitingGroup.{Numbered, numbered_from, markers_of, open_stretch, region_steps_of, GroupFront, Open, Ended, Cut, led_by, front_by, front_behind, front_of, OpenStretch, stretch_of, WaitingGroup, WholeGroup, whole_of, whole_group_by, whole_group}
+use Rattle.raft_history.specs.RegionSteps.{RegionStep, pair_step, content_step, steps_of_items}
+use Rattle.raft_history.specs.WaitingGroup.{GroupFront, Open, Ended, Cut, led_by, front_by, front_behind, front_of, OpenStretch, stretch_of, WaitingGroup, WholeGroup, whole_of, whole_group_by, whole_group, group_in}
 use Rattle.raft_history.specs.WaitingGroups.{groups_in, known, whole_with, whole_groups, front_steps, stretch_steps}
 use Rattle.raft_history.proofs.EffectLemmas.{each-append, each_markers, each_open, each_weaker}
 use Rattle.raft_history.proofs.KnownLemmas.{known-groups_in, each_known}
@@ -62,7 +63,7 @@ stretch_are : (q : LogQueue) (ps : List Numbered) → AllByRecursion (IsOf q) ps
 stretch_are q [] h = tt
 stretch_are q (p ∷ ps) h = items_are q (p ∷ ps) h
 
-group_holds : (q : LogQueue) (g : ℕ) (bs : List ReadBatch) → AllByRecursion (IsOf q) (numbered_from 0 bs) → Holds q (group_in g bs)
+group_holds : (q : LogQueue) (g : ℕ) (bs : List BatchSteps) → AllByRecursion (IsOf q) (numbered_from 0 bs) → Holds q (group_in g bs)
 group_holds q g bs h = (front_are q (markers_of g (numbered_from 0 bs)) (each_markers (IsOf q) g (numbered_from 0 bs) h), stretch_are q (open_stretch (markers_of g (numbered_from 0 bs))) (each_open (IsOf q) (markers_of g (numbered_from 0 bs)) (each_markers (IsOf q) g (numbered_from 0 bs) h)))
 
 abbrev pub OrAre : LogQueue → Option WholeGroup → Type 0
@@ -94,7 +95,7 @@ step_in_queue file (command (commands.Compact index)) s h e = subst (IsStepOfQue
 step_in_queue file (command (commands.Truncate index)) s h e = subst (IsStepOfQueue file.queue) (same_some (Truncate index) s e) tt
 step_in_queue file (pair p) s h e = go (is_reserved p.key) refl e
   where
-    put : (value : Option (List ℕ)) (id : Option FileId) → IsPutIn file value id → put_step p.key value id ≡ Some s → IsStepOfQueue file.queue s
+    put : (value : Option (List ℕ)) (id : Option FileId) → IsPairIn file operations.Put value id → pair_step operations.Put p.key value id ≡ Some s → IsStepOfQueue file.queue s
     put (Some value) (Some id) h e = subst (IsStepOfQueue file.queue) (same_some (Put p.key value id) s e) (ap (λ (f : FileId). f.queue) h)
     put (Some value) None h e = absurd h
     put None id h e = absurd h

@@ -6,12 +6,13 @@ use Rattle.raft_base.specs.declared.entry_index.EntryIndex.{EntryIndex}
 use Rattle.raft_records.specs.declared.key_value.OpType.{OpType}
 use Rattle.raft_records.specs.declared.key_value.OpType.TheVariants.{Put, Del}
 use Rattle.raft_records.specs.Item.{Item, Content, entries, command, pair}
-use Rattle.raft_records.specs.ReadIn.{IsBlockIn, IsReadIn, AreReadIn}
+use Rattle.raft_records.specs.ReadIn.{IsPlaceInFile, IsReadIn, AreReadIn}
 use Rattle.raft_records.specs.Spelling.{IsWritableWith}
 use Rattle.raft_history.proofs.ReadRunLemmas.{read_run}
-use Rattle.raft_history.specs.Histories.{AreBlocksIn, IsPairIn, IsInFile, AreInFile}
+use Rattle.raft_history.specs.Histories.{IsPairIn, IsInFile, AreInFile}
+use Rattle.raft_history.proofs.Words.{AreBlocksIn}
 
-blocks_in : (file : FileId) (es : List EntryIndex) → AllByRecursion (λ (e : EntryIndex). IsBlockIn file e.entries) es → AreBlocksIn file es
+blocks_in : (file : FileId) (es : List EntryIndex) → AllByRecursion (λ (e : EntryIndex). IsPlaceInFile file e.entries) es → AreBlocksIn file es
 blocks_in file [] h = tt
 blocks_in file (e ∷ es) h = (h.0, blocks_in file es h.1)
 

@@ -4,7 +4,7 @@ use Rattle.std.specs.Prelude.{is_some, option_map}
 use Rattle.std.specs.Option.{option_and_then}
 use Rattle.std.specs.FinMap as finite
 use Rattle.raft_base.specs.declared.pipe_log.LogQueue.{LogQueue}
-use Rattle.raft_table.specs.Marks.{applied}
+use Rattle.raft_table.specs.Marks.{table_over_older}
 use Rattle.raft_table.specs.MarkJoins.{joined_mark, end_at_reach, fresh, mark_of, own_of}
 use Rattle.raft_table.specs.Overlay.{HoldsDeleted, IsExactMark}
 use Rattle.raft_table.specs.Steps.{Step, AtomicGroup, IsStep, AreSteps, after_step, after, table_of}
@@ -13,7 +13,8 @@ use Rattle.raft_table.proofs.MarkLaws.{after-append, stands_fresh, stands_one, s
 use Rattle.raft_table.proofs.MarkTables.{one_step, joined_parts}
 use Rattle.raft_table.proofs.MarkExact.{union_empty, holds_one, exact_one, holds_join, exact_join}
 use Rattle.raft_history.specs.Contexts.{Holds}
-use Rattle.raft_history.specs.Effects.{whole_steps, steps_of_wholes}
+use Rattle.raft_history.specs.Effects.{whole_steps}
+use Rattle.raft_history.specs.WaitingGroups.{steps_of_wholes}
 use Rattle.raft_history.specs.MarkedRegions.{MarkedRegions, MarkedRegion, region_in, with_region, stepped_region, regions_after, named_regions, on_each, region_steps_of_whole, region_steps_of_wholes, joined_region}
 use Rattle.raft_history.specs.RegionSteps.{RegionStep, names, steps_on}
 use Rattle.raft_history.specs.WaitingGroup.{WholeGroup}
@@ -37,14 +38,14 @@ own-spans r s (i ∷ is) = go (names i.region is) refl (by_region r i.region) (o
         ∙ ap (λ l. s ∷ l) (ih ∙ ap (λ b. cond b (s ∷ []) []) (ap (λ x. names x is) p ∙ e)) ∙ sym (ap (λ b. cond b (s ∷ []) []) (names_cons r i is ∙ ap (λ b. b || names r is) (ap (λ x. eqb x i.region) p ∙ eqb_self i.region)))
     go false e (inr f) ih = own_other r record { region = i.region; step = s } (on_each (named_regions is) s) f.0 ∙ ih ∙ sym (ap (λ b. cond b (s ∷ []) []) (names_cons r i is ∙ ap (λ b. b || names r is) f.0))
 
-pub own-whole_group : (r : ℕ) (w : WholeGroup) → steps_on r (region_steps_of_whole w) ≡ whole_steps r w
+pub own-whole_group : (r : ℕ) (w : WholeGroup) → steps_on r (region_steps_of_whole w) ≡ whole_steps r w.steps w.start w.end
 unfolding whole_steps
 own-whole_group r w = own-append r w.steps (on_each (named_regions w.steps) (AtomicGroup w.start w.end)) ∙ ap (λ l. steps_on r w.steps ++ l) (own-spans r (AtomicGroup w.start w.end) w.steps)
 
 pub own-wholes : (r : ℕ) (ws : List WholeGroup) → steps_on r (region_steps_of_wholes ws) ≡ steps_of_wholes r ws
 unfolding steps_of_wholes
 own-wholes r [] = own_none r
-own-wholes r (w ∷ ws) = own-append r (region_steps_of_whole w) (region_steps_of_wholes ws) ∙ ap (λ l. l ++ steps_on r (region_steps_of_wholes ws)) (own-whole_group r w) ∙ ap (λ l. whole_steps r w ++ l) (own-wholes r ws)
+own-wholes r (w ∷ ws) = own-append r (region_steps_of_whole w) (region_steps_of_wholes ws) ∙ ap (λ l. l ++ steps_on r (region_steps_of_wholes ws)) (own-whole_group r w) ∙ ap (λ l. whole_steps r w.steps w.start w.end ++ l) (own-wholes r ws)
 
 -- ---- one region
 
@@ -62,9 +63,9 @@ holds_none q r x m t = subst (λ x. Holds q r x []) (sym (ap (λ m. record { mar
     none = record { cleaned = refl; deleted = λ e d. sym (union_empty d); none_deleted = λ e. refl }
 
 pub holds_joined : (q : LogQueue) (r : ℕ) (x n y : MarkedRegion) (ss rs : List Step) → AreSteps ss → AreSteps rs → Holds q r x ss → Holds q r n rs → joined_region q r x n ≡ Some y → Holds q r y (ss ++ rs)
-holds_joined q r x n y ss rs good good' h k e = go (applied q r n.mark n.table x.table) refl e
+holds_joined q r x n y ss rs good good' h k e = go (table_over_older q r n.mark n.table x.table) refl e
   where
-    go : (o : Option (Option Table)) → applied q r n.mark n.table x.table ≡ o → option_map (λ t. record { mark = joined_mark q r x.mark x.table n.mark; table = t }) o ≡ Some y → Holds q r y (ss ++ rs)
+    go : (o : Option (Option Table)) → table_over_older q r n.mark n.table x.table ≡ o → option_map (λ t. record { mark = joined_mark q r x.mark x.table n.mark; table = t }) o ≡ Some y → Holds q r y (ss ++ rs)
     go None is e = absurd cc
     go (Some w) is e = subst (λ y. Holds q r y (ss ++ rs)) (some_is e) record {
       stands = stands_join q r x.mark n.mark x.table n.table w ss rs good good' h.stands k.stands is;
@@ -75,7 +76,7 @@ holds_joined q r x n y ss rs good good' h k e = go (applied q r n.mark n.table x
 pub holds_stepped : (q : LogQueue) (r : ℕ) (x y : MarkedRegion) (ss : List Step) (s : Step) → AreSteps ss → IsStep s → Holds q r x ss → stepped_region q r x s ≡ Some y → Holds q r y (ss ++ s ∷ [])
 holds_stepped q r x y ss s good good' h e =
     holds_joined q r x record { mark = mark_of s; table = own_of r s } y ss (s ∷ []) good (good', tt) h (holds_one_step q r s good')
-    (ap (option_map (λ t. record { mark = joined_mark q r x.mark x.table (mark_of s); table = t })) (one_step q r s x.table h.stands.own_table) ∙ e)
+    (ap (option_map (λ t. record { mark = joined_mark q r x.mark x.table (mark_of s); table = t })) (one_step q r s x.table) ∙ e)
 
 -- ---- all regions
 
@@ -115,12 +116,12 @@ refused_more q r ss rs e = after-append q r None ss rs ∙ ap (option_and_then (
 
 pub read_refused : (q : LogQueue) (rs : MarkedRegions) (is : List RegionStep) (ss : ℕ → List Step) → ((r : ℕ) → AreSteps (ss r)) → ((r : ℕ) → AreSteps (steps_on r is)) → ((r : ℕ) → Holds q r (region_in rs r) (ss r)) → regions_after q rs is ≡ None → (r : ℕ) × (after q r None (ss r ++ steps_on r is) ≡ None)
 read_refused q rs [] ss good good' h e = absurd cc
-read_refused q rs (i ∷ is) ss good good' h e = go (after_step q i.region (region_in rs i.region).table i.step) refl e (λ x k e. read_refused q (with_region rs i.region x) is (λ r. ss r ++ steps_on r (i ∷ [])) (λ r. steps-append (ss r) _ (good r) (rest_good r i is (good' r)).0) (λ r. (rest_good r i is (good' r)).1) k e)
+read_refused q rs (i ∷ is) ss good good' h e = go (after_step q (table_of i.region (region_in rs i.region).table) i.step) refl e (λ x k e. read_refused q (with_region rs i.region x) is (λ r. ss r ++ steps_on r (i ∷ [])) (λ r. steps-append (ss r) _ (good r) (rest_good r i is (good' r)).0) (λ r. (rest_good r i is (good' r)).1) k e)
   where
     put : Option Table → MarkedRegion
     put t = record { mark = joined_mark q i.region (region_in rs i.region).mark (region_in rs i.region).table (mark_of i.step); table = t }
 
-    go : (o : Option (Option Table)) → after_step q i.region (region_in rs i.region).table i.step ≡ o → option_and_then (λ x. regions_after q (with_region rs i.region x) is) (option_map put o) ≡ None
+    go : (o : Option (Option Table)) → after_step q (table_of i.region (region_in rs i.region).table) i.step ≡ o → option_and_then (λ x. regions_after q (with_region rs i.region x) is) (option_map put o) ≡ None
         → ((x : MarkedRegion) → ((r : ℕ) → Holds q r (region_in (with_region rs i.region x) r) (ss r ++ steps_on r (i ∷ []))) → regions_after q (with_region rs i.region x) is ≡ None → (r : ℕ) × (after q r None ((ss r ++ steps_on r (i ∷ [])) ++ steps_on r is) ≡ None))
         → (r : ℕ) × (after q r None (ss r ++ steps_on r (i ∷ is)) ≡ None)
     go None k e ih = (

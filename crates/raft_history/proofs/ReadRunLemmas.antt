@@ -1,5 +1,6 @@
 -- Entries that were read from a file are a run of the file's queue.
-use Rattle.std.proofs.Common.{◌≡◌, ℕ, suc, ◌+◌, ◌<◌, ◌^◌, ◌↔◌, true, List, [], ◌∷◌, Option, Some, None, refl, sym, ap, ◌∙◌, subst, arith}
+use Rattle.std.proofs.Common.{◌≡◌, ℕ, suc, ◌+◌, ◌<◌, ◌^◌, ◌↔◌, true, false, List, [], ◌∷◌, Option, Some, None, refl, sym, ap, ◌∙◌, subst, arith}
+use Rattle.std.specs.Option.{option_map_or}
 use Rattle.std.specs.List.{AllByRecursion}
 use Rattle.raft_base.specs.declared.pipe_log.FileBlockHandle.{FileBlockHandle}
 use Rattle.raft_base.specs.declared.pipe_log.FileId.{FileId}
@@ -7,10 +8,10 @@ use Rattle.raft_base.specs.declared.pipe_log.LogQueue.{LogQueue}
 use Rattle.raft_base.specs.declared.pipe_log.LogQueue.TheVariants.{Append, Rewrite}
 use Rattle.raft_base.specs.declared.entry_index.EntryIndex.{EntryIndex}
 use Rattle.raft_records.specs.Entries.{IsConsecutiveFrom, IsConsecutive}
-use Rattle.raft_records.specs.ReadIn.{IsBlockIn, IsReadIn}
+use Rattle.raft_records.specs.ReadIn.{IsPlaceInFile, IsReadIn}
 use Rattle.raft_records.specs.Item.{entries}
 use Rattle.raft_table.specs.Queues.{is_same}
-use Rattle.raft_table.specs.TableEntries.{RisesFrom, IsRun, IsRunIn, end_of, is_block_in, is_placed_in, placed_in}
+use Rattle.raft_table.specs.TableEntries.{RisesFrom, IsRun, IsRunIn, end_of, is_placed_in}
 
 next_is : (i : ℕ) → i + 1 ≡ suc i
 next_is i = omega arith
@@ -28,14 +29,14 @@ same_queue : (q : LogQueue) → is_same q q ≡ true
 same_queue Append = refl
 same_queue Rewrite = refl
 
-is_in_queue : (file : FileId) (place : Option FileBlockHandle) → IsBlockIn file place → is_block_in file.queue place ≡ true
+is_in_queue : (file : FileId) (place : Option FileBlockHandle) → IsPlaceInFile file place → option_map_or (λ (place : FileBlockHandle). is_same place.id.queue file.queue) place false ≡ true
 is_in_queue file None h = absurd h
 is_in_queue file (Some block) h = ap (λ (f : FileId). is_same f.queue file.queue) h ∙ same_queue file.queue
 
-in_queue : (file : FileId) (es : List EntryIndex) → AllByRecursion (λ (e : EntryIndex). IsBlockIn file e.entries) es → placed_in file.queue es ≡ es
-unfolding placed_in is_placed_in
-in_queue file [] h = refl
-in_queue file (e ∷ es) h = rw (is_in_queue file e.entries h.0) (ap (λ xs. e ∷ xs) (in_queue file es h.1))
+in_queue : (file : FileId) (es : List EntryIndex) → AllByRecursion (λ (e : EntryIndex). IsPlaceInFile file e.entries) es → AllByRecursion (λ (e : EntryIndex). is_placed_in file.queue e ≡ true) es
+unfolding is_placed_in
+in_queue file [] h = tt
+in_queue file (e ∷ es) h = (is_in_queue file e.entries h.0, in_queue file es h.1)
 
 consecutive_run : (es : List EntryIndex) → IsConsecutive es → IsRun es × (end_of es < 2 ^ 64)
 unfolding end_of

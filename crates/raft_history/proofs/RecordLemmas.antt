@@ -17,12 +17,12 @@ use Rattle.raft_base.specs.declared.pipe_log.LogQueue.TheVariants.{Append, Rewri
 use Rattle.raft_base.specs.declared.entry_index.EntryIndex.{EntryIndex}
 use Rattle.raft_table.specs.TableEntries.{below, from, end_of}
 use Rattle.raft_table.specs.KeySets.{KeySet, without}
-use Rattle.raft_table.specs.KeyValues.{Keys, Stored, StoredPair, with_pairs, pairs_over}
-use Rattle.raft_table.specs.Marks.{Mark, entries_within, older_entries, atomic_group_over, table_over, is_refused_over, is_missed, is_there_over, applied}
+use Rattle.raft_table.specs.KeyValues.{Keys, Stored, with_pairs, pairs_over}
+use Rattle.raft_table.specs.Marks.{Mark, entries_within, older_entries, atomic_group_over, table_over, is_refused_over, is_missed, is_there_over, there_if, table_over_older}
 use Rattle.raft_table.specs.MarkJoins.{joined_mark, mark_of}
-use Rattle.raft_table.specs.Start.{replayed, leaves_hole}
-use Rattle.raft_table.specs.Steps.{Step, Run, Compact, Truncate, Put, Del, AtomicGroup, Clean, stepped, is_there_after, there_if, after_step, table_of}
-use Rattle.raft_table.specs.Table.{Table, empty_table, table_with_entries}
+use Rattle.raft_table.specs.Start.{entries_after_replay, leaves_hole}
+use Rattle.raft_table.specs.Steps.{Step, Run, Compact, Truncate, Put, Del, AtomicGroup, Clean, after_step, table_of}
+use Rattle.raft_table.specs.Table.{Table, empty_table}
 use Rattle.raft_records.specs.declared.atomic_group.AtomicGroupStatus.{AtomicGroupStatus}
 use Rattle.raft_records.specs.declared.atomic_group.AtomicGroupStatus.TheVariants.{Begin, Middle, End}
 use Rattle.raft_history.specs.Batches.{GroupMarker, Event, batch_of}
@@ -89,7 +89,7 @@ len_insert m k x = omega (arith, finite.len-insert nat_list_cmp_total m k x, mor
 len_remove : {X : Type 0} (m : finite.FinMap (slice_cmp nat_cmp) X) (k : List ℕ) → finite.len (finite.remove m k) ≤ finite.len m
 len_remove m k = omega (arith, finite.len-remove nat_list_cmp_total m k, less_or_same (finite.contains_key m k) (finite.len m))
 
-len_pairs : (m : Keys) (es : List StoredPair) → finite.len (with_pairs m es) ≤ finite.len m + length es
+len_pairs : (m : Keys) (es : List (List ℕ × Stored)) → finite.len (with_pairs m es) ≤ finite.len m + length es
 len_pairs m [] = omega arith
 len_pairs m (e ∷ es) = omega (arith, len_pairs (finite.insert m e.0 e.1) es, len_insert m e.0 e.1)
 
@@ -120,14 +120,14 @@ part_shorter : (floor : ℕ) (cut : Option ℕ) (es : List EntryIndex) → lengt
 unfolding entries_within
 part_shorter floor cut es = filtered _ es
 
-run_records : (q : LogQueue) (es run after : List EntryIndex) → replayed q es run ≡ Some after → length after ≤ length es + length run
+run_records : (q : LogQueue) (es run after : List EntryIndex) → entries_after_replay q es run ≡ Some after → length after ≤ length es + length run
 run_records q es [] after e = omega (arith, ap length (some_is e))
-run_records Append es (x ∷ run) after e = go (leaves_hole (end_of es) x.index) e
+run_records Append es (x ∷ run) after e = go (leaves_hole es x.index) e
   where
     go : (b : Bool) → cond b None (Some (below x.index es ++ x ∷ run)) ≡ Some after → length after ≤ length es + length (x ∷ run)
     go true e = absurd cc
     go false e = omega (arith, ap length (some_is e), length-append (below x.index es) (x ∷ run), below_shorter x.index es)
-run_records Rewrite es (x ∷ run) after e = go (leaves_hole (end_of es) x.index) e
+run_records Rewrite es (x ∷ run) after e = go (leaves_hole es x.index) e
   where
     go : (b : Bool) → Some (cond b (x ∷ run) (below x.index es ++ x ∷ run)) ≡ Some after → length after ≤ length es + length (x ∷ run)
     go true e = omega (arith, ap length (some_is e))
@@ -138,21 +138,18 @@ there_records b None w n e h = absurd cc
 there_records true (Some x) w n e h = omega (arith, h x refl, ap recs (some_is e))
 there_records false (Some x) w n e h = omega (arith, ap recs (some_is e))
 
-step_records : (q : LogQueue) (r : ℕ) (o w : Option Table) (s : Step) → after_step q r o s ≡ Some w → recs w ≤ recs o + records_of s
-step_records q r o w s e = there_records (is_there_after s) (stepped q (table_of r o) s) w (recs o + records_of s) e (by s)
+step_records : (q : LogQueue) (r : ℕ) (o w : Option Table) (s : Step) → after_step q (table_of r o) s ≡ Some w → recs w ≤ recs o + records_of s
+step_records q r o w (Run run) e = go (entries_after_replay q (table_of r o).entries run) refl e
   where
-    by : (s : Step) (x : Table) → stepped q (table_of r o) s ≡ Some x → table_records x ≤ recs o + records_of s
-    by (Run run) x e = go (replayed q (table_of r o).entries run) refl e
-      where
-        go : (y : Option (List EntryIndex)) → replayed q (table_of r o).entries run ≡ y → option_map (table_with_entries (table_of r o)) y ≡ Some x → table_records x ≤ recs o + length run
-        go None p e = absurd cc
-        go (Some a) p e = omega (arith, ap table_records (some_is e), run_records q (table_of r o).entries run a p, of_table r o)
-    by (Compact i) x e = omega (arith, ap table_records (some_is e), from_shorter i (table_of r o).entries, of_table r o)
-    by (Truncate i) x e = omega (arith, ap table_records (some_is e), below_shorter i (table_of r o).entries, of_table r o)
-    by (Put key value file) x e = omega (arith, ap table_records (some_is e), len_insert (table_of r o).keys key (record { value = value; file = file }), of_table r o)
-    by (Del key) x e = omega (arith, ap table_records (some_is e), len_remove (table_of r o).keys key, of_table r o)
-    by (AtomicGroup start end) x e = omega (arith, ap table_records (some_is e), of_table r o)
-    by Clean x e = omega (arith, ap table_records (some_is e), empty_records (table_of r o).region_id)
+    go : (y : Option (List EntryIndex)) → entries_after_replay q (table_of r o).entries run ≡ y → option_map Some (option_map {U = Table} (λ es. record (table_of r o) { entries = es }) y) ≡ Some w → recs w ≤ recs o + length run
+    go None p e = absurd cc
+    go (Some a) p e = omega (arith, ap recs (some_is e), run_records q (table_of r o).entries run a p, of_table r o)
+step_records q r o w (Compact i) e = omega (arith, ap recs (some_is e), from_shorter i (table_of r o).entries, of_table r o)
+step_records q r o w (Truncate i) e = omega (arith, ap recs (some_is e), below_shorter i (table_of r o).entries, of_table r o)
+step_records q r o w (Put key value file) e = omega (arith, ap recs (some_is e), len_insert (table_of r o).keys key (record { value = value; file = file }), of_table r o)
+step_records q r o w (Del key) e = omega (arith, ap recs (some_is e), len_remove (table_of r o).keys key, of_table r o)
+step_records q r o w (AtomicGroup start end) e = omega (arith, ap recs (some_is e), of_table r o)
+step_records q r o w Clean e = omega (arith, ap recs (some_is e))
 
 older_shorter : (q : LogQueue) (m : Mark) (es : List EntryIndex) → length (older_entries q m es) ≤ length es
 older_shorter Append m es = part_shorter m.floor m.cut es
@@ -170,7 +167,7 @@ over_records q m t o x e = go (is_refused_over q m o.entries) m.cleaned refl e
     go false true k e = omega (arith, ap table_records (some_is e), ap (λ c. finite.len (cond c t.keys (pairs_over t.keys (without m.deleted o.keys)))) k)
     go false false k e = omega (arith, ap table_records (some_is e), ap (λ c. finite.len (cond c t.keys (pairs_over t.keys (without m.deleted o.keys)))) k, len_pairs_over t.keys (without m.deleted o.keys), len_without m.deleted o.keys, length-append (older_entries q m o.entries) t.entries, older_shorter q m o.entries)
 
-join_records : (q : LogQueue) (r : ℕ) (m : Mark) (t o w : Option Table) → applied q r m t o ≡ Some w → recs w ≤ recs o + recs t
+join_records : (q : LogQueue) (r : ℕ) (m : Mark) (t o w : Option Table) → table_over_older q r m t o ≡ Some w → recs w ≤ recs o + recs t
 join_records q r m t o w e = there_records (is_there_over m t o) (table_over q m (table_of r t) (table_of r o)) w (recs o + recs t) e (λ x k. omega (arith, over_records q m (table_of r t) (table_of r o) x k, of_table r t, of_table r o))
 
 -- ---- all regions
@@ -181,12 +178,12 @@ with_records m r (Some t) = total-insert table_records m r t
 
 pub read_records : (q : LogQueue) (rs new : MarkedRegions) (is : List RegionStep) → regions_after q rs is ≡ Some new → all_records new.tables ≤ all_records rs.tables + records_in is
 read_records q rs new [] e = omega (arith, ap (λ (n : MarkedRegions). all_records n.tables) (some_is e))
-read_records q rs new (i ∷ is) e = go (after_step q i.region (finite.get rs.tables i.region) i.step) refl e (λ x e. read_records q (with_region rs i.region x) new is e)
+read_records q rs new (i ∷ is) e = go (after_step q (table_of i.region (finite.get rs.tables i.region)) i.step) refl e (λ x e. read_records q (with_region rs i.region x) new is e)
   where
     put : Option Table → MarkedRegion
     put t = record { mark = joined_mark q i.region (region_in rs i.region).mark (region_in rs i.region).table (mark_of i.step); table = t }
 
-    go : (o : Option (Option Table)) → after_step q i.region (finite.get rs.tables i.region) i.step ≡ o → option_and_then (λ x. regions_after q (with_region rs i.region x) is) (option_map put o) ≡ Some new
+    go : (o : Option (Option Table)) → after_step q (table_of i.region (finite.get rs.tables i.region)) i.step ≡ o → option_and_then (λ x. regions_after q (with_region rs i.region x) is) (option_map put o) ≡ Some new
         → ((x : MarkedRegion) → regions_after q (with_region rs i.region x) is ≡ Some new → all_records new.tables ≤ all_records (with_table rs.tables i.region x.table) + records_in is) → all_records new.tables ≤ all_records rs.tables + records_in (i ∷ is)
     go None k e ih = absurd cc
     go (Some t) k e ih = omega (arith, ih (put t) e, with_records rs.tables i.region t, step_records q i.region (finite.get rs.tables i.region) t i.step k)
@@ -197,9 +194,9 @@ joined_records q mid marks tables new h = total-both table_records new.tables mi
   where
     at : (r : ℕ) (o : Option Mark) → joined_marked q r o (finite.get tables r) (region_in mid r) ≡ Some (region_in new r) → recs (finite.get new.tables r) ≤ recs (finite.get mid.tables r) + recs (finite.get tables r)
     at r None e = omega (arith, ap (λ (x : MarkedRegion). recs x.table) (some_is e))
-    at r (Some m) e = go (applied q r m (finite.get tables r) (finite.get mid.tables r)) refl e
+    at r (Some m) e = go (table_over_older q r m (finite.get tables r) (finite.get mid.tables r)) refl e
       where
-        go : (o : Option (Option Table)) → applied q r m (finite.get tables r) (finite.get mid.tables r) ≡ o → option_map {U = MarkedRegion} (λ t. record { mark = joined_mark q r (region_in mid r).mark (finite.get mid.tables r) m; table = t }) o ≡ Some (region_in new r) → recs (finite.get new.tables r) ≤ recs (finite.get mid.tables r) + recs (finite.get tables r)
+        go : (o : Option (Option Table)) → table_over_older q r m (finite.get tables r) (finite.get mid.tables r) ≡ o → option_map {U = MarkedRegion} (λ t. record { mark = joined_mark q r (region_in mid r).mark (finite.get mid.tables r) m; table = t }) o ≡ Some (region_in new r) → recs (finite.get new.tables r) ≤ recs (finite.get mid.tables r) + recs (finite.get tables r)
         go None k e = absurd cc
         go (Some w) k e = omega (arith, join_records q r m (finite.get tables r) (finite.get mid.tables r) w k, ap (λ (x : MarkedRegion). recs x.table) (some_is e))
 

@@ -15,10 +15,11 @@ use Rattle.raft_table.specs.Overlay.{has_clean, kept_if, overlay_under, overlaid
 use Rattle.raft_table.specs.Steps.{Step, Run, Compact, Truncate, Put, Del, AtomicGroup, Clean, IsStep, AreSteps, table_of}
 use Rattle.raft_table.specs.Table.{Table}
 use Rattle.raft_table.proofs.OverlayLemmas.{overlay_exact}
-use Rattle.raft_history.specs.Batches.{Event, ReadBatch, batches}
+use Rattle.raft_history.specs.Batches.{Event, BatchSteps, batches}
 use Rattle.raft_history.specs.Contexts.{Holds, AreExact}
 use Rattle.raft_history.specs.Effects.{steps_of, is_named}
-use Rattle.raft_history.specs.Histories.{AreInFile, AreInFiles, IsStepOfQueue}
+use Rattle.raft_history.proofs.Words.{AreInFiles}
+use Rattle.raft_history.specs.Histories.{AreInFile, IsStepOfQueue}
 use Rattle.raft_history.specs.Joins.{StandForSteps, AreJoined, overlaid_region}
 use Rattle.raft_history.specs.MarkedRegions.{MarkedRegions, MarkedRegion, no_regions, region_in, regions_after, region_steps_of_whole, joined_marked}
 use Rattle.raft_history.specs.RegionSteps.{RegionStep, steps_on, steps_of_items}
@@ -80,7 +81,7 @@ stand_exact q rs h f ex r = (steps_of r (batches h), steps_good r h f, ex.each r
 
 -- ---- overlays
 
-pub overlay_by_steps : (r : ℕ) (rs : MarkedRegions) (bs : List ReadBatch) (rewritten : Option Table) → AreExact Append rs bs
+pub overlay_by_steps : (r : ℕ) (rs : MarkedRegions) (bs : List BatchSteps) (rewritten : Option Table) → AreExact Append rs bs
     → overlaid_region r (finite.get rs.marks r) (finite.get rs.tables r) rewritten ≡ cond (is_named r bs) (overlaid_table r (steps_of r bs) (finite.get rs.tables r) rewritten) rewritten
 overlay_by_steps r rs bs rewritten ex = go (finite.get rs.marks r) refl
   where

@@ -15,12 +15,12 @@ use Rattle.raft_records.specs.Group.{is_reserved}
 use Rattle.raft_records.specs.Item.{Item, Content, entries, command, pair}
 use Rattle.raft_table.specs.Steps.{Step, Run, Compact, Truncate, Put, Del, AtomicGroup, Clean, IsStep, AreSteps}
 use Rattle.raft_table.proofs.MarkEntries.{same_some}
-use Rattle.raft_history.specs.Batches.{Event, GroupMarker, ReadBatch, marker_in, batch_of, batches}
+use Rattle.raft_history.specs.Batches.{Event, GroupMarker, BatchSteps, marker_in, batch_of, batches}
 use Rattle.raft_history.specs.Contexts.{files_of, joined_files, follows}
-use Rattle.raft_history.specs.Effects.{Effect, ended, completed_as, completed_by, completed, effects_behind, whole_steps, steps_by, all_steps, steps_of, BatchesApart}
-use Rattle.raft_history.specs.Histories.{IsInFile, AreInFile, AreInFiles, AllHaveStatus, FilesFrom, last_from, cleaned_in_batch, cleaned_in}
-use Rattle.raft_history.specs.RegionSteps.{RegionStep, is_on, names, steps_on, put_step, pair_step, content_step, with_step, steps_of_items}
-use Rattle.raft_history.specs.WaitingGroup.{Numbered, numbered_from, markers_of, open_stretch, region_steps_of}
+use Rattle.raft_history.specs.Effects.{Effect, completed_as, completed_by, effects_behind, whole_steps, steps_by, steps_of, EachApart, effects, Numbered, numbered_from, markers_of, open_stretch}
+use Rattle.raft_history.specs.Histories.{IsInFile, AreInFile, FilesFrom, last_from, cleaned_in}
+use Rattle.raft_history.specs.RegionSteps.{RegionStep, names, steps_on, pair_step, content_step, steps_of_items, cleaned_by_steps}
+use Rattle.raft_history.proofs.Words.{AreInFiles, AllHaveStatus, is_on, with_step, region_steps_of, all_steps}
 use Rattle.raft_history.proofs.EffectLemmas.{each-append, each_markers, each_open, all_steps-append}
 use Rattle.raft_history.proofs.StepListLemmas.{steps-append}
 use Rattle.raft_history.proofs.WithoutMarkers.{plain_apart}
@@ -61,13 +61,11 @@ by_good r (q ∷ qs) p h k = whole_good r (region_steps_of (q ∷ qs) ++ p.batch
 all-append : (r : ℕ) (es fs : List Effect) → AreSteps (all_steps r es) → AreSteps (all_steps r fs) → AreSteps (all_steps r (es ++ fs))
 all-append r es fs h k = subst AreSteps (sym (all_steps-append r es fs)) (steps-append (all_steps r es) (all_steps r fs) h k)
 
-ended_good : (r : ℕ) (l : List Numbered) (p : Numbered) → AllByRecursion IsGood l → IsGood p → AreSteps (all_steps r (ended l p))
-unfolding all_steps
+ended_good : (r : ℕ) (l : List Numbered) (p : Numbered) → AllByRecursion IsGood l → IsGood p → AreSteps (all_steps r (completed_as End l p))
 ended_good r [] p h k = tt
 ended_good r (q ∷ qs) p h k = steps-append (steps_by r (q ∷ qs) p) [] (by_good r (q ∷ qs) p h k) tt
 
-completed_good : (r : ℕ) (olds : List Numbered) (p : Numbered) → AllByRecursion IsGood olds → IsGood p → AreSteps (all_steps r (completed olds p))
-unfolding all_steps
+completed_good : (r : ℕ) (olds : List Numbered) (p : Numbered) → AllByRecursion IsGood olds → IsGood p → AreSteps (all_steps r (completed_by p.batch.marker olds p))
 completed_good r olds p h k = go p.batch.marker
   where
     at : (m : GroupMarker) (s : AtomicGroupStatus) → AreSteps (all_steps r (completed_as s (open_stretch (markers_of m.group olds)) p))
@@ -80,9 +78,9 @@ completed_good r olds p h k = go p.batch.marker
     go (Some m) = at m m.status
 
 effects_good : (r : ℕ) (olds ps : List Numbered) → AllByRecursion IsGood olds → AllByRecursion IsGood ps → AreSteps (all_steps r (effects_behind olds ps))
-unfolding effects_behind all_steps
+unfolding effects_behind
 effects_good r olds [] h k = tt
-effects_good r olds (p ∷ ps) h k = all-append r (completed olds p) (effects_behind (olds ++ p ∷ []) ps) (completed_good r olds p h k.0) (effects_good r (olds ++ p ∷ []) ps (each-append IsGood olds (p ∷ []) h (k.0, tt)) k.1)
+effects_good r olds (p ∷ ps) h k = all-append r (completed_by p.batch.marker olds p) (effects_behind (olds ++ p ∷ []) ps) (completed_good r olds p h k.0) (effects_good r (olds ++ p ∷ []) ps (each-append IsGood olds (p ∷ []) h (k.0, tt)) k.1)
 
 run_step : (file : FileId) (content : Content) (s : Step) → IsInFile file content → content_step content ≡ Some s → IsStep s
 run_step file (entries es) s h e = subst IsStep (same_some (Run es) s e) h.0.run
@@ -91,7 +89,7 @@ run_step file (command (commands.Compact index)) s h e = subst IsStep (same_some
 run_step file (command (commands.Truncate index)) s h e = subst IsStep (same_some (Truncate index) s e) tt
 run_step file (pair p) s h e = go (is_reserved p.key) e
   where
-    put : (value : Option (List ℕ)) (id : Option FileId) → put_step p.key value id ≡ Some s → IsStep s
+    put : (value : Option (List ℕ)) (id : Option FileId) → pair_step operations.Put p.key value id ≡ Some s → IsStep s
     put (Some value) (Some id) e = subst IsStep (same_some (Put p.key value id) s e) tt
     put (Some value) None e = absurd cc
     put None id e = absurd cc
@@ -168,12 +166,12 @@ follow_files q (e ∷ h) (d ∷ k) a = test_le _ _ (files-back q 0 (e ∷ h) (d 
 
 pub cleaned-append : (q : LogQueue) (h k : List Event) → cleaned_in q (h ++ k) ≡ cleaned_in q h ++ cleaned_in q k
 cleaned-append q [] k = refl
-cleaned-append q (e ∷ h) k = ap (λ l. cleaned_in_batch q e.items ++ l) (cleaned-append q h k) ∙ sym (append_assoc (cleaned_in_batch q e.items) (cleaned_in q h) (cleaned_in q k))
+cleaned-append q (e ∷ h) k = ap (λ l. cleaned_by_steps q (steps_of_items e.items) ++ l) (cleaned-append q h k) ∙ sym (append_assoc (cleaned_by_steps q (steps_of_items e.items)) (cleaned_in q h) (cleaned_in q k))
 
-pub without_marker : (n : ℕ) (h : List Event) → FilesFrom Append n h → AllByRecursion (λ (b : ReadBatch). b.marker ≡ None) (batches h)
+pub without_marker : (n : ℕ) (h : List Event) → FilesFrom Append n h → AllByRecursion (λ (b : BatchSteps). b.marker ≡ None) (batches h)
 without_marker n [] f = tt
 without_marker n (e ∷ h) f = (ap (λ q. marker_in q e.items) f.0, without_marker e.file.seq h f.2)
 
 -- in the append queue effects are always apart
-pub append_apart : (n : ℕ) (h : List Event) → FilesFrom Append n h → BatchesApart (batches h)
+pub append_apart : (n : ℕ) (h : List Event) → FilesFrom Append n h → EachApart (effects (batches h))
 append_apart n h f = plain_apart (batches h) (without_marker n h f)

@@ -3,7 +3,8 @@ use Rattle.std.proofs.Common.{◌≡◌, ℕ, Bool, true, false, cond, eqb, ◌|
 use Rattle.std.specs.Prelude.{map, filter}
 use Rattle.std.proofs.lemmas.Bool.{eq-eqb}
 use Rattle.raft_table.specs.Steps.{Step, AreSteps}
-use Rattle.raft_history.specs.RegionSteps.{RegionStep, is_on, names, steps_on}
+use Rattle.raft_history.specs.RegionSteps.{RegionStep, names, steps_on}
+use Rattle.raft_history.proofs.Words.{is_on}
 
 pub eqb_self : (r : ℕ) → eqb r r ≡ true
 eqb_self r = eq-eqb r r refl

@@ -5,10 +5,10 @@ use Rattle.std.specs.Prelude.{filter}
 use Rattle.std.specs.List.{AllByRecursion}
 use Rattle.raft_records.specs.declared.atomic_group.AtomicGroupStatus.{AtomicGroupStatus}
 use Rattle.raft_records.specs.declared.atomic_group.AtomicGroupStatus.TheVariants.{Begin, Middle, End}
-use Rattle.raft_history.specs.Batches.{GroupMarker, ReadBatch}
-use Rattle.raft_history.specs.Effects.{Effect, ended, completed_as, completed_by, completed, effects_behind, effects}
+use Rattle.raft_history.specs.Batches.{GroupMarker, BatchSteps}
+use Rattle.raft_history.specs.Effects.{Effect, completed_as, completed_by, effects_behind, effects, has_status, Numbered, numbered_from, is_of, markers_of, is_same_status, open_stretch}
+use Rattle.raft_history.proofs.Words.{are_middles}
 use Rattle.raft_history.specs.Stretches.{IsIn, IsMarkerOf, IsStretch, IsAlone, IsEffect, RiseFrom, AreEffects}
-use Rattle.raft_history.specs.WaitingGroup.{begins, goes_on, Numbered, numbered_from, is_of, markers_of, begins_by, goes_on_by, are_middles, open_stretch}
 use Rattle.raft_history.proofs.EffectLemmas.{each-append, effects_behind-append}
 use Rattle.raft_history.proofs.MarkerLemmas.{markers_of-append, open_stretch-append}
 
@@ -26,41 +26,39 @@ each_marked g (p ∷ ps) = go (is_of g p.batch.marker) refl (each_marked g ps)
     go false e h = h
 
 -- the marker of a batch, by the tests
-is_begin : (g : ℕ) (p : Numbered) → HasMarker g p → begins p.batch.marker ≡ true → IsMarkerOf g Begin p
+is_begin : (g : ℕ) (p : Numbered) → HasMarker g p → has_status Begin p.batch.marker ≡ true → IsMarkerOf g Begin p
 is_begin g p h b = go p.batch.marker h b
   where
-    go : (m : Option GroupMarker) → is_of g m ≡ true → begins m ≡ true → m ≡ Some record { group = g; status = Begin }
+    go : (m : Option GroupMarker) → is_of g m ≡ true → has_status Begin m ≡ true → m ≡ Some record { group = g; status = Begin }
     go None h b = cc
     go (Some m) h b = at m.status b
       where
-        at : (s : AtomicGroupStatus) → begins_by s ≡ true → ◌≡◌ {A = Option GroupMarker} (Some record { group = m.group; status = s }) (Some record { group = g; status = Begin })
+        at : (s : AtomicGroupStatus) → is_same_status Begin s ≡ true → ◌≡◌ {A = Option GroupMarker} (Some record { group = m.group; status = s }) (Some record { group = g; status = Begin })
         at Begin b = ap (λ x. Some record { group = x; status = Begin }) (sym (eqb-true g m.group h))
         at Middle b = cc
         at End b = cc
 
-pub is_middle : (g : ℕ) (p : Numbered) → HasMarker g p → goes_on p.batch.marker ≡ true → IsMarkerOf g Middle p
+pub is_middle : (g : ℕ) (p : Numbered) → HasMarker g p → has_status Middle p.batch.marker ≡ true → IsMarkerOf g Middle p
 is_middle g p h b = go p.batch.marker h b
   where
-    go : (m : Option GroupMarker) → is_of g m ≡ true → goes_on m ≡ true → m ≡ Some record { group = g; status = Middle }
+    go : (m : Option GroupMarker) → is_of g m ≡ true → has_status Middle m ≡ true → m ≡ Some record { group = g; status = Middle }
     go None h b = cc
     go (Some m) h b = at m.status b
       where
-        at : (s : AtomicGroupStatus) → goes_on_by s ≡ true → ◌≡◌ {A = Option GroupMarker} (Some record { group = m.group; status = s }) (Some record { group = g; status = Middle })
+        at : (s : AtomicGroupStatus) → is_same_status Middle s ≡ true → ◌≡◌ {A = Option GroupMarker} (Some record { group = m.group; status = s }) (Some record { group = g; status = Middle })
         at Begin b = cc
         at Middle b = ap (λ x. Some record { group = x; status = Middle }) (sym (eqb-true g m.group h))
         at End b = cc
 
 each_middle : (g : ℕ) (ps : List Numbered) → AllByRecursion (HasMarker g) ps → are_middles ps ≡ true → AllByRecursion (IsMarkerOf g Middle) ps
-unfolding are_middles
 each_middle g [] h e = tt
-each_middle g (p ∷ ps) h e = go (goes_on p.batch.marker) refl e (each_middle g ps h.1)
+each_middle g (p ∷ ps) h e = go (has_status Middle p.batch.marker) refl e (each_middle g ps h.1)
   where
-    go : (b : Bool) → goes_on p.batch.marker ≡ b → (b && are_middles ps) ≡ true → (are_middles ps ≡ true → AllByRecursion (IsMarkerOf g Middle) ps) → IsMarkerOf g Middle p × AllByRecursion (IsMarkerOf g Middle) ps
+    go : (b : Bool) → has_status Middle p.batch.marker ≡ b → (b && are_middles ps) ≡ true → (are_middles ps ≡ true → AllByRecursion (IsMarkerOf g Middle) ps) → IsMarkerOf g Middle p × AllByRecursion (IsMarkerOf g Middle) ps
     go true x e ih = (is_middle g p h.0 x, ih e)
     go false x e ih = cc
 
 middles_are : (g : ℕ) (ps : List Numbered) → AllByRecursion (IsMarkerOf g Middle) ps → are_middles ps ≡ true
-unfolding are_middles
 middles_are g [] h = refl
 middles_are g (p ∷ ps) h = rw h.0 (middles_are g ps h.1)
 
@@ -74,12 +72,12 @@ pub record IsOpen (g : ℕ) (ms : List Numbered) (q : Numbered) (qs : List Numbe
 pub open_is : (g : ℕ) (ms : List Numbered) (q : Numbered) (qs : List Numbered) → AllByRecursion (HasMarker g) ms → open_stretch ms ≡ q ∷ qs → IsOpen g ms q qs
 unfolding open_stretch
 open_is g [] q qs h e = cc
-open_is g (m ∷ ms) q qs h e = go (begins m.batch.marker) refl (are_middles ms) refl e (open_is g ms q qs h.1)
+open_is g (m ∷ ms) q qs h e = go (has_status Begin m.batch.marker) refl (are_middles ms) refl e (open_is g ms q qs h.1)
   where
     rest : IsOpen g ms q qs → IsOpen g (m ∷ ms) q qs
     rest o = record { before = m ∷ o.before; split = ap (λ l. m ∷ l) o.split; begin = o.begin; middles = o.middles }
 
-    go : (b : Bool) → begins m.batch.marker ≡ b → (c : Bool) → are_middles ms ≡ c → cond (b && c) (m ∷ ms) (open_stretch ms) ≡ q ∷ qs → (open_stretch ms ≡ q ∷ qs → IsOpen g ms q qs) → IsOpen g (m ∷ ms) q qs
+    go : (b : Bool) → has_status Begin m.batch.marker ≡ b → (c : Bool) → are_middles ms ≡ c → cond (b && c) (m ∷ ms) (open_stretch ms) ≡ q ∷ qs → (open_stretch ms ≡ q ∷ qs → IsOpen g ms q qs) → IsOpen g (m ∷ ms) q qs
     go true x true y e ih = record { before = []; split = e; begin = subst (IsMarkerOf g Begin) (head m q ms qs e) (is_begin g m h.0 x); middles = subst (AllByRecursion (IsMarkerOf g Middle)) (tail m q ms qs e) (each_middle g ms h.1 y) }
       where
         head : (a b : Numbered) (xs ys : List Numbered) → a ∷ xs ≡ b ∷ ys → a ≡ b
@@ -92,7 +90,7 @@ open_is g (m ∷ ms) q qs h e = go (begins m.batch.marker) refl (are_middles ms)
 
 -- a Begin and Middles at the end of the markers are open
 is_open : (g : ℕ) (before : List Numbered) (q : Numbered) (qs : List Numbered) → IsMarkerOf g Begin q → AllByRecursion (IsMarkerOf g Middle) qs → open_stretch (before ++ q ∷ qs) ≡ q ∷ qs
-unfolding open_stretch are_middles
+unfolding open_stretch
 is_open g before q qs b m = open_stretch-append before (q ∷ qs) ∙ rw (b, middles_are g qs m) refl
 
 -- only effects
@@ -100,10 +98,10 @@ marks_at : (g : ℕ) (before : List Numbered) (p : Numbered) (behind : List Numb
 unfolding markers_of
 marks_at g before p behind h = markers_of-append g before (p ∷ behind) ∙ rw h refl
 
-only_completed : (h : List ReadBatch) (before : List Numbered) (p : Numbered) (behind : List Numbered) → numbered_from 0 h ≡ before ++ p ∷ behind → AllByRecursion (IsEffect h) (completed before p)
+only_completed : (h : List BatchSteps) (before : List Numbered) (p : Numbered) (behind : List Numbered) → numbered_from 0 h ≡ before ++ p ∷ behind → AllByRecursion (IsEffect h) (completed_by p.batch.marker before p)
 only_completed h before p behind is = go p.batch.marker refl
   where
-    end : (g : ℕ) → IsMarkerOf g End p → HasMarker g p → (l : List Numbered) → open_stretch (markers_of g before) ≡ l → AllByRecursion (IsEffect h) (ended l p)
+    end : (g : ℕ) → IsMarkerOf g End p → HasMarker g p → (l : List Numbered) → open_stretch (markers_of g before) ≡ l → AllByRecursion (IsEffect h) (completed_as End l p)
     end g m k [] e = tt
     end g m k (q ∷ qs) e = (
       inr (
@@ -135,10 +133,10 @@ only_completed h before p behind is = go p.batch.marker refl
         at Middle e = tt
         at End e = end m.group e (ap (is_of m.group) e ∙ eq-eqb m.group m.group refl) (open_stretch (markers_of m.group before)) refl
 
-only_effects : (h : List ReadBatch) (before ps : List Numbered) → numbered_from 0 h ≡ before ++ ps → AllByRecursion (IsEffect h) (effects_behind before ps)
+only_effects : (h : List BatchSteps) (before ps : List Numbered) → numbered_from 0 h ≡ before ++ ps → AllByRecursion (IsEffect h) (effects_behind before ps)
 unfolding effects_behind
 only_effects h before [] is = tt
-only_effects h before (p ∷ ps) is = each-append (IsEffect h) (completed before p) (effects_behind (before ++ p ∷ []) ps) (only_completed h before p ps is) (only_effects h (before ++ p ∷ []) ps (is ∙ sym (append_assoc before (p ∷ []) ps)))
+only_effects h before (p ∷ ps) is = each-append (IsEffect h) (completed_by p.batch.marker before p) (effects_behind (before ++ p ∷ []) ps) (only_completed h before p ps is) (only_effects h (before ++ p ∷ []) ps (is ∙ sym (append_assoc before (p ∷ []) ps)))
 
 -- every effect
 record Parts (t : Numbered → Bool) (h xs : List Numbered) (y : Numbered) : Type 0 where
@@ -176,7 +174,7 @@ parts_of t (p ∷ ps) xs y ys e = go (t p) refl e (parts_of t ps)
         d = ih xs y ys e
 
 -- the effect that a batch completes stands among all
-completed_in : (h : List ReadBatch) (before : List Numbered) (p : Numbered) (behind : List Numbered) (e : Effect) → numbered_from 0 h ≡ before ++ p ∷ behind → completed before p ≡ e ∷ [] → IsIn e (effects h)
+completed_in : (h : List BatchSteps) (before : List Numbered) (p : Numbered) (behind : List Numbered) (e : Effect) → numbered_from 0 h ≡ before ++ p ∷ behind → completed_by p.batch.marker before p ≡ e ∷ [] → IsIn e (effects h)
 unfolding effects_behind
 completed_in h before p behind e is one = record {
   before = effects_behind [] before;
@@ -187,12 +185,12 @@ completed_in h before p behind e is one = record {
 same_effect : (e : Effect) (l : List Numbered) → e.earlier ≡ l → record { earlier = l; last = e.last } ≡ e
 same_effect e l h = ap (λ x. record { earlier = x; last = e.last }) (sym h)
 
-every_alone : (h : List ReadBatch) (e : Effect) → IsAlone h e → IsIn e (effects h)
+every_alone : (h : List BatchSteps) (e : Effect) → IsAlone h e → IsIn e (effects h)
 every_alone h e a = completed_in h a.stands.before e.last a.stands.behind e a.stands.split (ap (λ m. completed_by m a.stands.before e.last) a.without_marker ∙ ap (λ x. x ∷ []) (same_effect e [] a.none))
 
-pub every_stretch : (h : List ReadBatch) (g : ℕ) (e : Effect) → IsStretch h g e → IsIn e (effects h)
+pub every_stretch : (h : List BatchSteps) (g : ℕ) (e : Effect) → IsStretch h g e → IsIn e (effects h)
 unfolding markers_of
-every_stretch h g e s = completed_in h d.before e.last d.behind e d.split (ap (λ m. completed_by m d.before e.last) s.ends ∙ ap (λ l. ended l e.last) (ap open_stretch d.kept ∙ is_open g s.before s.begin s.middles s.begins s.goes_on) ∙ ap (λ x. x ∷ []) (same_effect e (s.begin ∷ s.middles) s.earlier))
+every_stretch h g e s = completed_in h d.before e.last d.behind e d.split (ap (λ m. completed_by m d.before e.last) s.ends ∙ ap (λ l. completed_as End l e.last) (ap open_stretch d.kept ∙ is_open g s.before s.begin s.middles s.begins s.goes_on) ∙ ap (λ x. x ∷ []) (same_effect e (s.begin ∷ s.middles) s.earlier))
   where
     d : Parts (λ p. is_of g p.batch.marker) (numbered_from 0 h) (s.before ++ s.begin ∷ s.middles) e.last
     d = parts_of (λ p. is_of g p.batch.marker) (numbered_from 0 h) (s.before ++ s.begin ∷ s.middles) e.last s.behind (s.neighbours ∙ sym (append_assoc s.before (s.begin ∷ s.middles) (e.last ∷ s.behind)))
@@ -202,12 +200,12 @@ rise_lower : (n m : ℕ) (es : List Effect) → n ≤ m → RiseFrom m es → Ri
 rise_lower n m [] k h = tt
 rise_lower n m (e ∷ es) k h = (omega (arith, h.0), h.1)
 
-rise_behind : (n : ℕ) (olds : List Numbered) (h : List ReadBatch) → RiseFrom n (effects_behind olds (numbered_from n h))
+rise_behind : (n : ℕ) (olds : List Numbered) (h : List BatchSteps) → RiseFrom n (effects_behind olds (numbered_from n h))
 unfolding effects_behind
 rise_behind n olds [] = tt
 rise_behind n olds (b ∷ bs) = go b.marker (rise_behind (suc n) (olds ++ record { number = n; batch = b } ∷ []) bs)
   where
-    end : (l : List Numbered) (es : List Effect) → RiseFrom (suc n) es → RiseFrom n (ended l record { number = n; batch = b } ++ es)
+    end : (l : List Numbered) (es : List Effect) → RiseFrom (suc n) es → RiseFrom n (completed_as End l record { number = n; batch = b } ++ es)
     end [] es ih = rise_lower n (suc n) es (omega arith) ih
     end (q ∷ qs) es ih = (omega arith, ih)
 
@@ -220,7 +218,7 @@ rise_behind n olds (b ∷ bs) = go b.marker (rise_behind (suc n) (olds ++ record
         at Middle = rise_lower n (suc n) (effects_behind (olds ++ record { number = n; batch = b } ∷ []) (numbered_from (suc n) bs)) (omega arith) ih
         at End = end (open_stretch (markers_of m.group olds)) (effects_behind (olds ++ record { number = n; batch = b } ∷ []) (numbered_from (suc n) bs)) ih
 
-pub effects_are : (h : List ReadBatch) → AreEffects h (effects h)
+pub effects_are : (h : List BatchSteps) → AreEffects h (effects h)
 effects_are h = record { only = only_effects h [] (numbered_from 0 h) refl; every = every; rise = rise_behind 0 [] h }
   where
     every : (e : Effect) → IsEffect h e → IsIn e (effects h)

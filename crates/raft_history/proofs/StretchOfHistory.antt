@@ -1,5 +1,5 @@
 -- What holds of two histories, one behind the other, holds of each.
-use Rattle.std.proofs.Common.{◌≡◌, ℕ, ◌+◌, List, [], ◌∷◌, ◌++◌, Option, Some, None, refl, sym, ap, subst, ◌∙◌, arith}
+use Rattle.std.proofs.Common.{◌≡◌, ℕ, ◌+◌, List, [], ◌∷◌, ◌++◌, Option, Some, None, refl, sym, ap, subst, ◌∙◌, arith, append-nil}
 use Rattle.std.specs.Prelude.{flat_map, length}
 use Rattle.std.specs.Option.{option_and_then}
 use Rattle.std.proofs.lemmas.List.Concat.{flat_map-append}
@@ -9,22 +9,25 @@ use Rattle.raft_table.specs.Steps.{Step, after}
 use Rattle.raft_table.specs.Table.{Table}
 use Rattle.raft_table.proofs.LaterSteps.{accepted_alone, steps_rewritten}
 use Rattle.raft_table.proofs.MarkLaws.{after-append}
-use Rattle.raft_history.specs.Batches.{Event, ReadBatch, batches}
-use Rattle.raft_history.specs.Effects.{effects, effects_behind, all_steps, steps_of, BatchesApart}
-use Rattle.raft_history.specs.Histories.{records_in_history, IsSmall, AreInFiles, AllHaveStatus, FilesFrom, last_from, IsSoundIn, Sound, Apart, AreOfQueue, IsOfQueue}
-use Rattle.raft_history.specs.RegionSteps.{steps_on}
-use Rattle.raft_history.specs.WaitingGroup.{numbered_from}
+use Rattle.raft_history.specs.Batches.{Event, BatchSteps, batches}
+use Rattle.raft_history.specs.Effects.{effects, effects_behind, steps_of, EachApart, numbered_from}
+use Rattle.raft_history.specs.Histories.{IsSmall, FilesFrom, last_from, IsSoundIn, Sound, Apart, AreOfQueue, IsOfQueue, records_in}
+use Rattle.raft_history.specs.RegionSteps.{steps_on, steps_of_items}
+use Rattle.raft_history.proofs.Words.{AreInFiles, AllHaveStatus, records_in_history, all_steps}
 use Rattle.raft_history.proofs.EffectLemmas.{all_steps-append}
 use Rattle.raft_history.proofs.JoinedLemmas.{effects-append}
 use Rattle.raft_history.proofs.SoundLemmas.{batches-append, files-back, steps_good, without_marker}
 use Rattle.raft_history.proofs.WithoutMarkers.{plain_steps}
+use Rattle.raft_history.proofs.WaitingLemmas.{records-append}
 use Rattle.raft_history.proofs.JoinedLemmas as joined
 
 -- ---- sizes
 
 pub size-append : (h k : List Event) → records_in_history (h ++ k) ≡ records_in_history h + records_in_history k
-size-append [] k = omega arith
-size-append (e ∷ h) k = omega (arith, size-append h k)
+size-append h k = ap records_in (flat_map-append (λ (e : Event). steps_of_items e.items) h k) ∙ records-append (flat_map (λ (e : Event). steps_of_items e.items) h) (flat_map (λ (e : Event). steps_of_items e.items) k)
+
+pub size-one : (e : Event) → records_in_history (e ∷ []) ≡ records_in (steps_of_items e.items)
+size-one e = ap records_in (append-nil (steps_of_items e.items))
 
 pub small_front : (h k : List Event) → IsSmall (h ++ k) → IsSmall h
 small_front h k s = record { few = omega (arith, s.few, size-append h k) }
@@ -58,10 +61,10 @@ of_both q h k a b = record { each = both_of_queue q h k a.each b.each }
 -- ---- apart effects
 
 pub apart_front : (h k : List Event) → Apart (h ++ k) → Apart h
-apart_front h k a = record { apart = joined.apart_front (batches h) (batches k) (subst BatchesApart (batches-append h k) a.apart) }
+apart_front h k a = record { each = joined.apart_front (batches h) (batches k) (subst (λ l. EachApart (effects l)) (batches-append h k) a.each) }
 
 pub apart_back : (h k : List Event) → Apart (h ++ k) → Apart k
-apart_back h k a = record { apart = joined.apart_back (batches h) (batches k) (subst BatchesApart (batches-append h k) a.apart) }
+apart_back h k a = record { each = joined.apart_back (batches h) (batches k) (subst (λ l. EachApart (effects l)) (batches-append h k) a.each) }
 
 -- ---- soundness
 
@@ -97,7 +100,7 @@ parted q r ss rs t is = go (after q r None ss) refl (sym (after-append q r None 
     go None e k = absurd cc
     go (Some u) e k = (u, e, k)
 
-steps_parted : (r : ℕ) (h k : List ReadBatch) → (rs : List Step) × (steps_of r (h ++ k) ≡ steps_of r h ++ rs)
+steps_parted : (r : ℕ) (h k : List BatchSteps) → (rs : List Step) × (steps_of r (h ++ k) ≡ steps_of r h ++ rs)
 steps_parted r h k = (all_steps r (effects_behind (numbered_from 0 h) (numbered_from (length h) k)), ap (all_steps r) (effects-append h k) ∙ all_steps-append r (effects h) _)
 
 accepted_front : (q : LogQueue) (r : ℕ) (h k : List Event) (t : Option Table) → after q r None (steps_of r (batches (h ++ k))) ≡ Some t → (u : Option Table) × (after q r None (steps_of r (batches h)) ≡ Some u)
@@ -109,8 +112,8 @@ accepted_front q r h k t is =
 -- in the append queue each batch's steps stand alone
 pub plain-append : (r : ℕ) (h k : List Event) → FilesFrom Append 0 h → FilesFrom Append 0 k → FilesFrom Append 0 (h ++ k) → steps_of r (batches (h ++ k)) ≡ steps_of r (batches h) ++ steps_of r (batches k)
 plain-append r h k a b c =
-    plain_steps r (batches (h ++ k)) (without_marker 0 (h ++ k) c) ∙ ap (flat_map (λ (b : ReadBatch). steps_on r b.steps)) (batches-append h k) ∙ flat_map-append (λ (b : ReadBatch). steps_on r b.steps) (batches h) (batches k)
-    ∙ ap (λ l. l ++ flat_map (λ (b : ReadBatch). steps_on r b.steps) (batches k)) (sym (plain_steps r (batches h) (without_marker 0 h a))) ∙ ap (λ l. steps_of r (batches h) ++ l) (sym (plain_steps r (batches k) (without_marker 0 k b)))
+    plain_steps r (batches (h ++ k)) (without_marker 0 (h ++ k) c) ∙ ap (flat_map (λ (b : BatchSteps). steps_on r b.steps)) (batches-append h k) ∙ flat_map-append (λ (b : BatchSteps). steps_on r b.steps) (batches h) (batches k)
+    ∙ ap (λ l. l ++ flat_map (λ (b : BatchSteps). steps_on r b.steps) (batches k)) (sym (plain_steps r (batches h) (without_marker 0 h a))) ∙ ap (λ l. steps_of r (batches h) ++ l) (sym (plain_steps r (batches k) (without_marker 0 k b)))
 
 accepted_back : (q : LogQueue) (r : ℕ) (h k : List Event) (t : Option Table) → FilesFrom q 0 h → FilesFrom q 0 k → FilesFrom q 0 (h ++ k) → AreInFiles k → after q r None (steps_of r (batches (h ++ k))) ≡ Some t
     → (u : Option Table) × (after q r None (steps_of r (batches k)) ≡ Some u)

@@ -8,7 +8,8 @@ use Rattle.raft_table.specs.Table.{Table}
 use Rattle.raft_history.specs.Batches.{Event, batch_of, batches}
 use Rattle.raft_history.specs.Contexts.{IsBounded, FileRange, files_of, Suits, joined_files, follows, Context, AreExact, StandsIn, StandsFor, IsExactFor, completed_steps, taken_with, taken_in}
 use Rattle.raft_history.specs.Effects.{steps_of}
-use Rattle.raft_history.specs.Histories.{records_in_history, HaveStatus, AllHaveStatus, AreInFile, AreInFiles, FilesFrom, Sound, cleaned_in_batch, cleaned_in}
+use Rattle.raft_history.proofs.Words.{AllHaveStatus, AreInFiles, records_in_history}
+use Rattle.raft_history.specs.Histories.{HaveStatus, AreInFile, FilesFrom, Sound, cleaned_in}
 use Rattle.raft_history.specs.MarkedRegions.{MarkedRegions, regions_after}
 use Rattle.raft_history.specs.WaitingGroups.{WaitingGroups, groups_in, groups_after}
 use Rattle.raft_history.proofs.ContextLaws.{exact_accepted}
@@ -16,7 +17,8 @@ use Rattle.raft_history.proofs.MergeLaws.{regions_taken, taken_refused, rewrite_
 use Rattle.raft_history.proofs.MoreLemmas.{groups_in-one}
 use Rattle.raft_history.proofs.RecordLemmas.{taken_bounded}
 use Rattle.raft_history.proofs.SoundLemmas.{batches-append, in_files-append, status-append, files_follow, follow_files, files_of-append, cleaned-append}
-use Rattle.raft_history.proofs.StretchOfHistory.{size-append}
+use Rattle.raft_history.proofs.StretchOfHistory.{size-append, size-one}
+use Rattle.raft_history.specs.RegionSteps.{cleaned_by_steps, steps_of_items}
 
 some_is : {X : Type 0} {x y : X} → Some x ≡ Some y → x ≡ y
 some_is e = cc
@@ -55,14 +57,14 @@ one_queue q p (Some x) b s t u = sym s ∙ u
 groups_more : (h : List Event) (e : Event) (g : WaitingGroups) → g ≡ groups_in (batches h) → groups_after g (batch_of e) (batch_of e).marker ≡ groups_in (batches (h ++ e ∷ []))
 groups_more h e g is = ap (λ g. groups_after g (batch_of e) (batch_of e).marker) is ∙ sym (groups_in-one (batches h) (batch_of e)) ∙ ap groups_in (sym (batches-append h (e ∷ [])))
 
-cleaned_one : (q : LogQueue) (e : Event) → cleaned_in q (e ∷ []) ≡ cleaned_in_batch q e.items
-cleaned_one q e = append-nil (cleaned_in_batch q e.items)
+cleaned_one : (q : LogQueue) (e : Event) → cleaned_in q (e ∷ []) ≡ cleaned_by_steps q (steps_of_items e.items)
+cleaned_one q e = append-nil (cleaned_by_steps q (steps_of_items e.items))
 
 pub taken_stands : (c d : Context) (h : List Event) (e : Event) → IsNext c e → StandsFor c h → taken_in c e ≡ Some d → StandsFor d (h ++ e ∷ [])
 taken_stands c d h e n st is = subst (λ d. StandsFor d (h ++ e ∷ [])) s.2 record {
   files = ap (λ p. joined_files p (files_of (e ∷ []))) st.files ∙ sym (files_of-append h (e ∷ []));
   groups = groups_more h e c.groups st.groups;
-  few = subst (IsBounded (taken_with c e s.0)) (omega (arith, size-append h (e ∷ []))) (taken_bounded e.file.queue c e s.0 (records_in_history h) st.few s.1);
+  few = subst (IsBounded (taken_with c e s.0)) (omega (arith, size-append h (e ∷ []), size-one e)) (taken_bounded e.file.queue c e s.0 (records_in_history h) st.few s.1);
   stands = λ p u. subst (λ p. StandsIn p (taken_with c e s.0) (h ++ e ∷ [])) (one_queue e.file.queue p c.files record { queue = e.file.queue; first = e.file.seq; last = e.file.seq } n.suits refl u) own;
 }
   where
@@ -82,7 +84,7 @@ taken_stands c d h e n st is = subst (λ d. StandsFor d (h ++ e ∷ [])) s.2 rec
     own : StandsIn e.file.queue (taken_with c e s.0) (h ++ e ∷ [])
     own = record {
       sound = record { files = files c h e st n; items = in_files c h e st n; markers = have_status c h e st n; accepted = accepted e.file.queue a s.1 };
-      cleaned = ap (λ l. l ++ cleaned_in_batch e.file.queue e.items) a.cleaned ∙ ap (λ l. cleaned_in e.file.queue h ++ l) (sym (cleaned_one e.file.queue e)) ∙ sym (cleaned-append e.file.queue h (e ∷ []));
+      cleaned = ap (λ l. l ++ cleaned_by_steps e.file.queue (steps_of_items e.items)) a.cleaned ∙ ap (λ l. cleaned_in e.file.queue h ++ l) (sym (cleaned_one e.file.queue e)) ∙ sym (cleaned-append e.file.queue h (e ∷ []));
       append = λ q. exact Append (a.append q) (subst (λ q. regions_after q c.regions (completed_steps c.groups (batch_of e) (batch_of e).marker) ≡ Some s.0) q s.1);
     }
 

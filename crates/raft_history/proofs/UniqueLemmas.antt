@@ -1,8 +1,8 @@
 -- The effects of a history are the only list of its effects in order.
 use Rattle.std.proofs.Common.{◌≡◌, ℕ, suc, ◌≤◌, ◌⊎◌, List, [], ◌∷◌, refl, sym, ap, ◌∙◌, inl, inr, arith}
 use Rattle.std.specs.List.{AllByRecursion}
-use Rattle.raft_history.specs.Batches.{ReadBatch}
-use Rattle.raft_history.specs.Effects.{Effect, effects, last_in}
+use Rattle.raft_history.specs.Batches.{BatchSteps}
+use Rattle.raft_history.specs.Effects.{Effect, effects}
 use Rattle.raft_history.specs.Stretches.{IsIn, IsEffect, RiseFrom, AreEffects}
 use Rattle.raft_history.proofs.DifferLemmas.{head_or_tail, in_none, each_in}
 use Rattle.raft_history.proofs.StretchLemmas.{effects_are}
@@ -13,11 +13,11 @@ in_first e es = record { before = []; behind = es; split = refl }
 in_later : (e x : Effect) (es : List Effect) → IsIn e es → IsIn e (x ∷ es)
 in_later e x es i = record { before = x ∷ i.before; behind = i.behind; split = ap (λ l. x ∷ l) i.split }
 
-later_from : (n : ℕ) (es : List Effect) → RiseFrom n es → AllByRecursion (λ e. n ≤ last_in e) es
+later_from : (n : ℕ) (es : List Effect) → RiseFrom n es → AllByRecursion (λ e. n ≤ e.last.number) es
 later_from n [] h = tt
-later_from n (e ∷ es) h = (h.0, lower es (later_from (suc (last_in e)) es h.1))
+later_from n (e ∷ es) h = (h.0, lower es (later_from (suc e.last.number) es h.1))
   where
-    lower : (fs : List Effect) → AllByRecursion (λ f. suc (last_in e) ≤ last_in f) fs → AllByRecursion (λ f. n ≤ last_in f) fs
+    lower : (fs : List Effect) → AllByRecursion (λ f. suc e.last.number ≤ f.last.number) fs → AllByRecursion (λ f. n ≤ f.last.number) fs
     lower [] k = tt
     lower (f ∷ fs) k = (omega (arith, k.0, h.0), lower fs k.1)
 
@@ -29,26 +29,26 @@ same_lists : (n m : ℕ) (es fs : List Effect) → RiseFrom n es → RiseFrom m 
 same_lists n m [] [] h k a b = refl
 same_lists n m [] (f ∷ fs) h k a b = absurd (in_none f (b f (in_first f fs)))
 same_lists n m (e ∷ es) [] h k a b = absurd (in_none e (a e (in_first e es)))
-same_lists n m (e ∷ es) (f ∷ fs) h k a b = go (head_or_tail e f fs (a e (in_first e es))) (head_or_tail f e es (b f (in_first f fs))) (same_lists (suc (last_in e)) (suc (last_in f)) es fs h.1 k.1)
+same_lists n m (e ∷ es) (f ∷ fs) h k a b = go (head_or_tail e f fs (a e (in_first e es))) (head_or_tail f e es (b f (in_first f fs))) (same_lists (suc e.last.number) (suc f.last.number) es fs h.1 k.1)
   where
-    behind_e : (x : Effect) → IsIn x es → suc (last_in e) ≤ last_in x
-    behind_e x i = each_in (λ y. suc (last_in e) ≤ last_in y) x es (later_from (suc (last_in e)) es h.1) i
+    behind_e : (x : Effect) → IsIn x es → suc e.last.number ≤ x.last.number
+    behind_e x i = each_in (λ y. suc e.last.number ≤ y.last.number) x es (later_from (suc e.last.number) es h.1) i
 
-    behind_f : (x : Effect) → IsIn x fs → suc (last_in f) ≤ last_in x
-    behind_f x i = each_in (λ y. suc (last_in f) ≤ last_in y) x fs (later_from (suc (last_in f)) fs k.1) i
+    behind_f : (x : Effect) → IsIn x fs → suc f.last.number ≤ x.last.number
+    behind_f x i = each_in (λ y. suc f.last.number ≤ y.last.number) x fs (later_from (suc f.last.number) fs k.1) i
 
     rest : e ≡ f → HasAll es fs × HasAll fs es
     rest s = (λ x i. not_f (head_or_tail x f fs (a x (in_later x e es i))) i, λ x i. not_e (head_or_tail x e es (b x (in_later x f fs i))) i)
       where
-        same_last : last_in e ≡ last_in f
-        same_last = ap (λ z. last_in z) s
+        same_last : e.last.number ≡ f.last.number
+        same_last = ap (λ z. z.last.number) s
 
         not_f : {x : Effect} → (f ≡ x) ⊎ IsIn x fs → IsIn x es → IsIn x fs
-        not_f {x} (inl t) i = absurd (omega (arith, behind_e x i, same_last, ap (λ z. last_in z) t))
+        not_f {x} (inl t) i = absurd (omega (arith, behind_e x i, same_last, ap (λ z. z.last.number) t))
         not_f {x} (inr t) i = t
 
         not_e : {x : Effect} → (e ≡ x) ⊎ IsIn x es → IsIn x fs → IsIn x es
-        not_e {x} (inl t) i = absurd (omega (arith, behind_f x i, same_last, ap (λ z. last_in z) t))
+        not_e {x} (inl t) i = absurd (omega (arith, behind_f x i, same_last, ap (λ z. z.last.number) t))
         not_e {x} (inr t) i = t
 
     both : e ≡ f → (HasAll es fs → HasAll fs es → es ≡ fs) → e ∷ es ≡ f ∷ fs
@@ -59,5 +59,5 @@ same_lists n m (e ∷ es) (f ∷ fs) h k a b = go (head_or_tail e f fs (a e (in_
     go (inr s) (inl t) ih = both t ih
     go (inr s) (inr t) ih = absurd (omega (arith, behind_f e s, behind_e f t))
 
-pub effects_unique : (h : List ReadBatch) (es : List Effect) → AreEffects h es → es ≡ effects h
+pub effects_unique : (h : List BatchSteps) (es : List Effect) → AreEffects h es → es ≡ effects h
 effects_unique h es a = same_lists 0 0 es (effects h) a.rise (effects_are h).rise (λ e i. (effects_are h).every e (each_in (IsEffect h) e es a.only i)) (λ e i. a.every e (each_in (IsEffect h) e (effects h) (effects_are h).only i))

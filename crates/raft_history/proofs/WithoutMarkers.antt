@@ -2,10 +2,10 @@
 use Rattle.std.proofs.Common.{◌≡◌, ℕ, suc, Bool, true, false, cond, ◌↔◌, ◌||◌, List, [], ◌∷◌, ◌++◌, None, refl, sym, ap, subst, ◌∙◌, inl, inr}
 use Rattle.std.specs.Prelude.{filter, flat_map, map}
 use Rattle.std.specs.List.{AllByRecursion, list_any}
-use Rattle.raft_history.specs.Batches.{ReadBatch}
-use Rattle.raft_history.specs.Effects.{Effect, completed_by, effects_behind, effects, whole_steps, region_steps_in, steps_by, steps_in, all_steps, steps_of, AreApart, EachApart, BatchesApart, is_named}
-use Rattle.raft_history.specs.RegionSteps.{RegionStep, is_on, names, steps_on}
-use Rattle.raft_history.specs.WaitingGroup.{Numbered, numbered_from, region_steps_of}
+use Rattle.raft_history.specs.Batches.{BatchSteps}
+use Rattle.raft_history.specs.Effects.{Effect, completed_by, effects_behind, effects, whole_steps, region_steps_in, steps_by, steps_of, AreApart, EachApart, is_named, Numbered, numbered_from}
+use Rattle.raft_history.specs.RegionSteps.{RegionStep, names, steps_on}
+use Rattle.raft_history.proofs.Words.{is_on, region_steps_of, steps_in, all_steps}
 use Rattle.raft_history.proofs.EffectLemmas.{steps_in-none}
 use Rattle.raft_table.specs.Steps.{Step}
 
@@ -27,7 +27,7 @@ tail_none : (xs ys : List Step) → xs ++ ys ≡ [] → ys ≡ []
 tail_none [] ys e = e
 tail_none (x ∷ xs) ys e = cc
 
-steps_in-some : (r : ℕ) (e : Effect) → steps_in r e ≡ [] → names r (region_steps_in e) ≡ false
+steps_in-some : (r : ℕ) (e : Effect) → steps_by r e.earlier e.last ≡ [] → names r (region_steps_in e) ≡ false
 unfolding whole_steps
 steps_in-some r e h = go e.earlier h
   where
@@ -36,21 +36,19 @@ steps_in-some r e h = go e.earlier h
     go (q ∷ qs) h = steps_on-some r (region_steps_of (q ∷ qs) ++ e.last.batch.steps) (head_none _ _ h)
 
 pub unnamed_steps : (r : ℕ) (es : List Effect) → list_any (λ e. names r (region_steps_in e)) es ≡ false → all_steps r es ≡ []
-unfolding all_steps
 unnamed_steps r [] h = refl
 unnamed_steps r (e ∷ es) h = go (names r (region_steps_in e)) refl h (unnamed_steps r es)
   where
-    go : (b : Bool) → names r (region_steps_in e) ≡ b → (b || list_any (λ e. names r (region_steps_in e)) es) ≡ false → (list_any (λ e. names r (region_steps_in e)) es ≡ false → flat_map (steps_in r) es ≡ []) → steps_in r e ++ flat_map (steps_in r) es ≡ []
+    go : (b : Bool) → names r (region_steps_in e) ≡ b → (b || list_any (λ e. names r (region_steps_in e)) es) ≡ false → (list_any (λ e. names r (region_steps_in e)) es ≡ false → flat_map (steps_in r) es ≡ []) → steps_by r e.earlier e.last ++ flat_map (steps_in r) es ≡ []
     go true k h ih = cc
     go false k h ih = rw (steps_in-none r e k) (ih h)
 
 pub no_steps_unnamed : (r : ℕ) (es : List Effect) → all_steps r es ≡ [] → list_any (λ e. names r (region_steps_in e)) es ≡ false
-unfolding all_steps
 no_steps_unnamed r [] h = refl
-no_steps_unnamed r (e ∷ es) h = rw (steps_in-some r e (head_none _ _ h)) (no_steps_unnamed r es (tail_none (steps_in r e) (flat_map (steps_in r) es) h))
+no_steps_unnamed r (e ∷ es) h = rw (steps_in-some r e (head_none _ _ h)) (no_steps_unnamed r es (tail_none (steps_by r e.earlier e.last) (flat_map (steps_in r) es) h))
 
 -- without markers (as in the append queue) each batch is an effect, and the effects are apart
-alone : (olds : List Numbered) (h : List ReadBatch) (n : ℕ) → AllByRecursion (λ b. b.marker ≡ None) h → effects_behind olds (numbered_from n h) ≡ map (λ p. record { earlier = []; last = p }) (numbered_from n h)
+alone : (olds : List Numbered) (h : List BatchSteps) (n : ℕ) → AllByRecursion (λ b. b.marker ≡ None) h → effects_behind olds (numbered_from n h) ≡ map (λ p. record { earlier = []; last = p }) (numbered_from n h)
 unfolding effects_behind
 alone olds [] n k = refl
 alone olds (b ∷ bs) n k = ap (λ m. completed_by m olds record { number = n; batch = b } ++ effects_behind (olds ++ record { number = n; batch = b } ∷ []) (numbered_from (suc n) bs)) k.0
@@ -61,23 +59,22 @@ singles_apart [] = tt
 singles_apart (p ∷ ps) = (each p ps, singles_apart ps)
   where
     none : (p q : Numbered) → AreApart record { earlier = []; last = p } record { earlier = []; last = q }
-    none p q meets (inl g) r a b = g refl
-    none p q meets (inr g) r a b = g refl
+    none p q before behind (inl g) r a b = g refl
+    none p q before behind (inr g) r a b = g refl
 
     each : (p : Numbered) (qs : List Numbered) → AllByRecursion (AreApart record { earlier = []; last = p }) (map (λ p. record { earlier = []; last = p }) qs)
     each p [] = tt
     each p (q ∷ qs) = (none p q, each p qs)
 
-pub plain_apart : (h : List ReadBatch) → AllByRecursion (λ b. b.marker ≡ None) h → BatchesApart h
-plain_apart h k = record { each = subst EachApart (sym (alone [] h 0 k)) (singles_apart (numbered_from 0 h)) }
+pub plain_apart : (h : List BatchSteps) → AllByRecursion (λ b. b.marker ≡ None) h → EachApart (effects h)
+plain_apart h k = subst EachApart (sym (alone [] h 0 k)) (singles_apart (numbered_from 0 h))
 
-pub plain_steps : (r : ℕ) (h : List ReadBatch) → AllByRecursion (λ b. b.marker ≡ None) h → steps_of r h ≡ flat_map (λ b. steps_on r b.steps) h
-unfolding all_steps
+pub plain_steps : (r : ℕ) (h : List BatchSteps) → AllByRecursion (λ b. b.marker ≡ None) h → steps_of r h ≡ flat_map (λ b. steps_on r b.steps) h
 plain_steps r h k = ap (all_steps r) (alone [] h 0 k) ∙ go 0 h
   where
-    go : (n : ℕ) (h : List ReadBatch) → flat_map (steps_in r) (map (λ p. record { earlier = []; last = p }) (numbered_from n h)) ≡ flat_map (λ b. steps_on r b.steps) h
+    go : (n : ℕ) (h : List BatchSteps) → flat_map (steps_in r) (map (λ p. record { earlier = []; last = p }) (numbered_from n h)) ≡ flat_map (λ b. steps_on r b.steps) h
     go n [] = refl
     go n (b ∷ bs) = ap (λ l. steps_on r b.steps ++ l) (go (suc n) bs)
 
-pub named-steps : (r : ℕ) (h : List ReadBatch) → (is_named r h ≡ false) ↔ (steps_of r h ≡ [])
+pub named-steps : (r : ℕ) (h : List BatchSteps) → (is_named r h ≡ false) ↔ (steps_of r h ≡ [])
 named-steps r h = (unnamed_steps r (effects h), no_steps_unnamed r (effects h))

@@ -16,32 +16,32 @@ pub record Event : Type 0 where
 
 -- ---- group markers
 
--- the group and the status of a marker
+-- the group and the status of a group marker
 pub record GroupMarker : Type 0 where
   pub group : ℕ
   pub status : AtomicGroupStatus
 
--- the marker of a batch: its first one decides; the append queue ignores markers
+-- the group marker of a batch: its first one decides; the append queue ignores group markers
 abbrev pub marker_in : LogQueue → List Item → Option GroupMarker
 marker_in Append items = None
 marker_in Rewrite items = option_map (λ m. record { group = m.0; status = m.1 }) (first_marker items)
 
 -- ---- what is read of a batch
 
--- what is read of a batch: its steps, its marker if it has one, and the number of its file
-pub record ReadBatch : Type 0 where
+-- what is read of a batch: its steps, its group marker if it has one, and the number of its file
+pub record BatchSteps : Type 0 where
   pub steps : List RegionStep
   pub marker : Option GroupMarker
   pub file : ℕ
 
--- a batch with a marker
-abbrev pub batch_with_marker : List RegionStep → ℕ → AtomicGroupStatus → ℕ → ReadBatch
+-- a batch with a group marker
+abbrev pub batch_with_marker : List RegionStep → ℕ → AtomicGroupStatus → ℕ → BatchSteps
 batch_with_marker steps group status file = record { steps = steps; marker = Some (record { group = group; status = status }); file = file }
 
--- what is read of a batch
-abbrev pub batch_of : Event → ReadBatch
+-- a batch by its steps, its group marker and the number of its file
+abbrev pub batch_of : Event → BatchSteps
 batch_of e = record { steps = steps_of_items e.items; marker = marker_in e.file.queue e.items; file = e.file.seq }
 
 -- what is read of each batch
-abbrev pub batches : List Event → List ReadBatch
+abbrev pub batches : List Event → List BatchSteps
 batches h = map batch_of h

@@ -1,5 +1,5 @@
 -- Contexts: what is held of a history of batches, when it stands for that history, and how two neighbours are merged.
-use Rattle.std.specs.Prelude.{◌≡◌, ◌⊎◌, ℕ, ◌+◌, ◌≤◌, Bool, true, ◌||◌, List, [], ◌∷◌, ◌++◌, Option, Some, None, is_some, option_map, nat_le, if◌then◌else◌}
+use Rattle.std.specs.Prelude.{◌≡◌, ◌⊎◌, ℕ, ◌+◌, ◌≤◌, Bool, true, ◌||◌, List, [], ◌∷◌, ◌++◌, flat_map, Option, Some, None, is_some, option_map, nat_le, if◌then◌else◌}
 use Rattle.std.specs.Option.{option_and_then}
 use Rattle.std.specs.FinMap as finite
 use Rattle.raft_base.specs.declared.pipe_log.LogQueue.{LogQueue}
@@ -7,12 +7,12 @@ use Rattle.raft_base.specs.declared.pipe_log.LogQueue.TheVariants.{Append}
 use Rattle.raft_table.specs.Stands.{Stands}
 use Rattle.raft_table.specs.Overlay.{HoldsDeleted, IsExactMark}
 use Rattle.raft_table.specs.Steps.{Step}
-use Rattle.raft_history.specs.Batches.{Event, GroupMarker, ReadBatch, batch_of, batches}
+use Rattle.raft_history.specs.Batches.{Event, GroupMarker, BatchSteps, batch_of, batches}
 use Rattle.raft_history.specs.Effects.{steps_of, is_named}
-use Rattle.raft_history.specs.Histories.{IsSoundIn, records_in_history, last_from, cleaned_in_batch, cleaned_in}
+use Rattle.raft_history.specs.Histories.{IsSoundIn, records_in, last_from, cleaned_in}
 use Rattle.raft_history.specs.MarkedRegions.{MarkedRegions, no_regions, MarkedRegion, region_in, regions_after, region_steps_of_whole, region_steps_of_wholes, joined_marked, joined_regions}
 use Rattle.raft_history.specs.Records.{all_records, waiting_records}
-use Rattle.raft_history.specs.RegionSteps.{RegionStep}
+use Rattle.raft_history.specs.RegionSteps.{RegionStep, steps_of_items, cleaned_by_steps}
 use Rattle.raft_history.specs.WaitingGroup.{WholeGroup, whole_group, one_marker}
 use Rattle.raft_history.specs.WaitingGroups.{WaitingGroups, groups_in, known, joined_groups, whole_groups, groups_after}
 
@@ -48,7 +48,7 @@ follows (Some older) (Some newer) = nat_le older.last newer.first
 
 -- ---- a context
 
--- the marks and tables of regions, the groups that wait, the regions that were cleaned, and the files
+-- the region marks and tables of regions, the groups that wait, the regions that were cleaned, and the files
 pub record Context : Type 0 where
   pub regions : MarkedRegions
   pub groups : WaitingGroups
@@ -59,14 +59,14 @@ pub record Context : Type 0 where
 abbrev pub new_context : Context
 new_context = record { regions = no_regions; groups = finite.empty; cleaned = []; files = None }
 
--- one region's mark and table stand for its steps; the mark has the keys that they delete, and in the append queue their greatest compaction, and the least of run starts and truncations
+-- the region mark of one region and table stand for its steps; the region mark has the keys that they delete, and in the append queue their greatest compaction, and the least of run starts and truncations
 pub record Holds (queue : LogQueue) (r : ℕ) (x : MarkedRegion) (ss : List Step) : Type 0 where
   pub stands : Stands queue r x.mark x.table ss
   pub deleted : HoldsDeleted x.mark ss
   pub exact : queue ≡ Append → IsExactMark x.mark ss
 
--- every region's mark and table stand for its steps in the effects, and the regions that those name, and no others, have a mark
-pub record AreExact (queue : LogQueue) (rs : MarkedRegions) (bs : List ReadBatch) : Type 0 where
+-- the region mark of every region and table stand for its steps in the effects, and the regions that those name, and no others, have a region mark
+pub record AreExact (queue : LogQueue) (rs : MarkedRegions) (bs : List BatchSteps) : Type 0 where
   pub each : (r : ℕ) → Holds queue r (region_in rs r) (steps_of r bs)
   pub marked : (r : ℕ) → is_some (finite.get rs.marks r) ≡ is_named r bs
 
@@ -84,10 +84,10 @@ IsBounded c count = all_records c.regions.tables + waiting_records c.groups ≤ 
 pub record StandsFor (c : Context) (h : List Event) : Type 0 where
   pub files : c.files ≡ files_of h
   pub groups : c.groups ≡ groups_in (batches h)
-  pub few : IsBounded c (records_in_history h)
+  pub few : IsBounded c (records_in (flat_map (λ e. steps_of_items e.items) h))
   pub stands : (queue : LogQueue) → Suits queue c.files → StandsIn queue c h
 
--- the context stands for the history exactly: also in the rewrite queue every region's mark and table stand for its steps in the effects
+-- the context stands for the history exactly: also in the rewrite queue the region mark of every region and table stand for its steps in the effects
 pub record IsExactFor (c : Context) (h : List Event) : Type 0 where
   pub stands : StandsFor c h
   pub regions : (queue : LogQueue) → Suits queue c.files → AreExact queue c.regions (batches h)
@@ -103,8 +103,8 @@ abbrev pub merged_with : Context → Context → MarkedRegions → Context
 merged_with c d rs = record { regions = rs; groups = joined_groups c.groups d.groups; cleaned = c.cleaned ++ d.cleaned; files = joined_files c.files d.files }
 
 -- two neighbours of one queue, merged one region after another; none where the files or a region refuse. A law says that this is the merge of the regions each by itself, in no order
-abbrev pub merged : LogQueue → Context → Context → Option Context
-merged queue c d = if follows c.files d.files then option_map (merged_with c d) (merged_regions queue c d) else None
+abbrev pub merged_context : LogQueue → Context → Context → Option Context
+merged_context queue c d = if follows c.files d.files then option_map (merged_with c d) (merged_regions queue c d) else None
 
 -- the merged regions, each by itself, in no order: what a context that merges holds to
 pub record AreMerged (queue : LogQueue) (c d : Context) (new : MarkedRegions) : Type 0 where
@@ -126,14 +126,14 @@ abbrev pub region_steps_or : Option WholeGroup → List RegionStep
 region_steps_or None = []
 region_steps_or (Some w) = region_steps_of_whole w
 
--- the steps that take effect with a batch: its own where it has no marker, else those of the group that it makes whole
-abbrev pub completed_steps : WaitingGroups → ReadBatch → Option GroupMarker → List RegionStep
+-- the steps that take effect with a batch: its own where it has no group marker, else those of the group that it makes whole
+abbrev pub completed_steps : WaitingGroups → BatchSteps → Option GroupMarker → List RegionStep
 completed_steps groups b None = b.steps
 completed_steps groups b (Some m) = region_steps_or (whole_group (known groups m.group) (one_marker m.status b.steps b.file))
 
 -- a context with one more batch and these regions
 abbrev pub taken_with : Context → Event → MarkedRegions → Context
-taken_with c e rs = record { regions = rs; groups = groups_after c.groups (batch_of e) (batch_of e).marker; cleaned = c.cleaned ++ cleaned_in_batch e.file.queue e.items; files = joined_files c.files (files_of (e ∷ [])) }
+taken_with c e rs = record { regions = rs; groups = groups_after c.groups (batch_of e) (batch_of e).marker; cleaned = c.cleaned ++ cleaned_by_steps e.file.queue (batch_of e).steps; files = joined_files c.files (files_of (e ∷ [])) }
 
 -- a context with one more batch; none where a step is refused
 abbrev pub taken_in : Context → Event → Option Context

@@ -5,89 +5,61 @@ use Rattle.std.specs.FinMap as finite
 use Rattle.raft_base.specs.declared.pipe_log.FileId.{FileId}
 use Rattle.raft_base.specs.declared.pipe_log.LogQueue.{LogQueue}
 use Rattle.raft_base.specs.declared.pipe_log.LogQueue.TheVariants.{Append, Rewrite}
-use Rattle.raft_base.specs.declared.entry_index.EntryIndex.{EntryIndex}
 use Rattle.raft_records.specs.declared.key_value.OpType.{OpType}
 use Rattle.raft_records.specs.declared.key_value.OpType.TheVariants as operations
-use Rattle.raft_records.specs.Group.{is_reserved, IsGroupMarkerContent}
+use Rattle.raft_records.specs.Group.{is_reserved, marker_byte}
 use Rattle.raft_records.specs.Item.{Item, Content, entries, command, pair}
-use Rattle.raft_records.specs.ReadIn.{IsBlockIn}
+use Rattle.raft_records.specs.ReadIn.{IsPlaceInFile}
 use Rattle.raft_table.specs.TableEntries.{IsRunIn}
 use Rattle.raft_table.specs.Steps.{Step, Run, Put, Del, after}
 use Rattle.raft_table.specs.Table.{Table}
 use Rattle.raft_history.specs.Batches.{Event, batches}
-use Rattle.raft_history.specs.Effects.{steps_of, BatchesApart}
+use Rattle.raft_history.specs.Effects.{effects, steps_of, EachApart}
 use Rattle.raft_history.specs.RegionSteps.{RegionStep, Tables, steps_of_items, cleaned_by_steps}
 
--- ---- how many records a history names
+-- ---- how many records steps name
 
--- the entries and key values that a step names
+-- how many entries and key values a step names; a Del counts one
 abbrev pub records_of : Step → ℕ
 records_of (Run run) = length run
 records_of (Put key value file) = 1
 records_of (Del key) = 1
 records_of _ = 0
 
--- the entries and key values that steps name together
+-- how many entries and key values steps name together
 abbrev pub records_in : List RegionStep → ℕ
 records_in [] = 0
 records_in (s ∷ steps) = records_of s.step + records_in steps
 
--- the entries and key values that a history names
-abbrev pub records_in_history : List Event → ℕ
-records_in_history [] = 0
-records_in_history (e ∷ h) = records_in (steps_of_items e.items) + records_in_history h
-
--- fewer than 2^63 entries and key values
+-- the batches of a history name fewer than 2^63 entries and key values together
 pub record IsSmall (h : List Event) : Type 0 where
-  pub few : records_in_history h < 2 ^ 63
+  pub few : records_in (flat_map (λ e. steps_of_items e.items) h) < 2 ^ 63
 
 -- ---- sound histories
 
--- every entry's place is in this file
-abbrev pub AreBlocksIn : FileId → List EntryIndex → Type 0
-AreBlocksIn file [] = Unit {0}
-AreBlocksIn file (e ∷ es) = IsBlockIn file e.entries × AreBlocksIn file es
-
--- a put has a value, and this file
-abbrev pub IsPutIn : FileId → Option (List ℕ) → Option FileId → Type 0
-IsPutIn file (Some value) (Some id) = id ≡ file
-IsPutIn file (Some value) None = ⊥
-IsPutIn file None id = ⊥
-
--- a change of a key that is not reserved, as it may stand in a batch of this file
+-- a change of a key that is not reserved, as it may stand in a batch of this file: a put has a value, and this file
 abbrev pub IsPairIn : FileId → OpType → Option (List ℕ) → Option FileId → Type 0
-IsPairIn file operations.Put value id = IsPutIn file value id
-IsPairIn file operations.Del value id = Unit {0}
+IsPairIn file operations.Put (Some value) (Some id) = id ≡ file
+IsPairIn file operations.Put _ _ = ⊥
+IsPairIn file operations.Del _ _ = Unit {0}
 
--- a content as it may stand in a batch of this file: entries are a run whose places are all there, and so is the file of a put that isn't skipped
+-- a content as it may stand in a batch of this file: entries are a run of its queue, each with a place in the file;
+-- a change of a key that is not reserved may stand in it
 abbrev pub IsInFile : FileId → Content → Type 0
-IsInFile file (entries es) = IsRunIn file.queue es × AreBlocksIn file es
+IsInFile file (entries es) =
+    IsRunIn file.queue es × AllByRecursion (λ e. IsPlaceInFile file e.entries) es
 IsInFile file (command c) = Unit {0}
 IsInFile file (pair p) = is_reserved p.key ≡ false → IsPairIn file p.op_type p.value p.file_id
 
 -- each item is as it may stand in a batch of this file
 abbrev pub AreInFile : FileId → List Item → Type 0
-AreInFile file [] = Unit {0}
-AreInFile file (item ∷ items) = IsInFile file item.content × AreInFile file items
+AreInFile file items = AllByRecursion (λ item. IsInFile file item.content) items
 
--- each batch's items are as they may stand in a batch of its file
-abbrev pub AreInFiles : List Event → Type 0
-AreInFiles [] = Unit {0}
-AreInFiles (e ∷ h) = AreInFile e.file e.items × AreInFiles h
-
--- an item that is a group marker has the byte of a status
-abbrev pub HasStatus : Item → Type 0
-HasStatus item = (byte : ℕ) → IsGroupMarkerContent item.content byte → byte ≤ 2
-
--- in the rewrite queue each group marker of a batch has the byte of a status; the append queue ignores markers
+-- in the rewrite queue each item that is a group marker has the byte of a status; the append queue ignores group markers
 abbrev pub HaveStatus : LogQueue → List Item → Type 0
 HaveStatus Append items = Unit {0}
-HaveStatus Rewrite items = AllByRecursion HasStatus items
-
--- each batch's group markers have the byte of a status, where its queue looks at them
-abbrev pub AllHaveStatus : List Event → Type 0
-AllHaveStatus [] = Unit {0}
-AllHaveStatus (e ∷ h) = HaveStatus e.file.queue e.items × AllHaveStatus h
+HaveStatus Rewrite items =
+    AllByRecursion (λ item. (byte : ℕ) → marker_byte item.content ≡ Some byte → byte ≤ 2) items
 
 -- the files are of one queue, and their numbers never go down from this one
 abbrev pub FilesFrom : LogQueue → ℕ → List Event → Type 0
@@ -99,11 +71,11 @@ abbrev pub last_from : ℕ → List Event → ℕ
 last_from seq [] = seq
 last_from seq (e ∷ h) = last_from e.file.seq h
 
--- a history of this queue that can be read: files in order, items as their files ask, markers with a status, and no region's step refused
+-- a history of this queue that can be read: files in order, items as their files ask, group markers with a status, and no region's step refused
 pub record IsSoundIn (queue : LogQueue) (h : List Event) : Type 0 where
   pub files : FilesFrom queue 0 h
-  pub items : AreInFiles h
-  pub markers : AllHaveStatus h
+  pub items : AllByRecursion (λ e. AreInFile e.file e.items) h
+  pub markers : AllByRecursion (λ e. HaveStatus e.file.queue e.items) h
   pub accepted : (r : ℕ) → (t : Option Table) × (after queue r None (steps_of r (batches h)) ≡ Some t)
 
 -- a history that can be read
@@ -111,9 +83,9 @@ pub record Sound (h : List Event) : Type 0 where
   pub queue : LogQueue
   pub sound : IsSoundIn queue h
 
--- any two effects of the history whose extents overlap, one of them a group, name no common region
+-- any two effects of the history are apart
 pub record Apart (h : List Event) : Type 0 where
-  pub apart : BatchesApart (batches h)
+  pub each : EachApart (effects (batches h))
 
 -- every batch is of this queue
 abbrev pub AreOfQueue : LogQueue → List Event → Type 0
@@ -134,14 +106,9 @@ IsStepOfQueue queue _ = Unit {0}
 
 -- ---- one reading
 
--- the regions that a batch cleans, in the append queue
-abbrev pub cleaned_in_batch : LogQueue → List Item → List ℕ
-cleaned_in_batch Append items = cleaned_by_steps (steps_of_items items)
-cleaned_in_batch Rewrite items = []
-
 -- the regions that a history cleans, in order; none in the rewrite queue
 abbrev pub cleaned_in : LogQueue → List Event → List ℕ
-cleaned_in queue h = flat_map (λ e. cleaned_in_batch queue e.items) h
+cleaned_in queue h = flat_map (λ e. cleaned_by_steps queue (steps_of_items e.items)) h
 
 -- the tables are those that reading all batches in order gives: each region's steps in the effects, from an absent table; and the cleaned regions are those of the history
 pub record IsOneReading (queue : LogQueue) (h : List Event) (tables : Tables) (cleaned : List ℕ) : Type 0 where

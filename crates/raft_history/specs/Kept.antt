@@ -8,7 +8,7 @@ use Rattle.raft_table.specs.KeySets.{KeySet}
 use Rattle.raft_table.specs.Marks.{Mark}
 use Rattle.raft_table.specs.Overlay.{deleted_of}
 use Rattle.raft_table.specs.Table.{Table}
-use Rattle.raft_history.specs.Batches.{Event, ReadBatch, batches}
+use Rattle.raft_history.specs.Batches.{Event, BatchSteps, batches}
 use Rattle.raft_history.specs.Contexts.{Context}
 use Rattle.raft_history.specs.Effects.{Effect, effects, region_steps_in, steps_of}
 use Rattle.raft_history.specs.Histories.{cleaned_in}
@@ -16,7 +16,7 @@ use Rattle.raft_history.specs.Records.{total}
 use Rattle.raft_history.specs.RegionSteps.{RegionStep, Tables}
 use Rattle.raft_history.specs.WaitingGroups.{groups_in, waiting_steps}
 
--- six numbers: entries and key values in tables; regions with a mark and groups with a marker; deleted keys; cleaned regions; items that wait
+-- six numbers: entries and key values in tables; regions with a region mark and groups with a group marker; deleted keys; cleaned regions; items that wait
 pub record Kept : Type 0 where
   pub entries : ℕ
   pub keys : ℕ
@@ -41,10 +41,10 @@ abbrev pub named_by : List Effect → List ℕ
 named_by es = flat_map (λ e. map (λ (s : RegionStep). s.region) (region_steps_in e)) es
 
 -- each region that a history names, with the keys that are deleted there since its last Clean
-unfoldable pub deleted_in : List ReadBatch → finite.FinMap nat_cmp KeySet
+unfoldable pub deleted_in : List BatchSteps → finite.FinMap nat_cmp KeySet
 deleted_in bs = finite.from_entries (map (λ r. (r, deleted_of finset.empty (steps_of r bs))) (named_by (effects bs)))
 
--- what a context of a history may hold, by the tables of one reading: their entries and key values; the regions that the effects name and the groups that have a marker; the keys deleted since each region's last Clean; the cleaned regions; the items of fronts and open stretches
+-- what a context of a history may hold, by the tables of one reading: their entries and key values; the regions that the effects name and the groups that have a group marker; the keys deleted since each region's last Clean; the cleaned regions; the items of fronts and open stretches
 abbrev pub kept_by : LogQueue → List Event → Tables → Kept
 kept_by queue h tables = record {
   entries = total (λ (t : Table). length t.entries) tables;

@@ -5,7 +5,7 @@ use Rattle.raft_base.specs.declared.pipe_log.LogQueue.{LogQueue}
 use Rattle.raft_base.specs.declared.pipe_log.LogQueue.TheVariants.{Append, Rewrite}
 use Rattle.raft_table.specs.Fetches.{block_seq}
 use Rattle.raft_table.specs.KeyValues.{least, files_in}
-use Rattle.raft_table.specs.Least.{lowered, least_of}
+use Rattle.raft_table.specs.Least.{at_most_first_file, least_of}
 use Rattle.raft_table.specs.Table.{Table}
 use Rattle.raft_table.specs.TableEntries.{placed_in}
 
@@ -16,7 +16,7 @@ record_files queue t = filter_map (λ e. block_seq e.entries) (placed_in queue t
 -- the least file in each queue is the least of all records' files there, lowered by the atomic group alone
 pub record AreLeastFiles (t : Table) : Type 0 where
   pub append : least_of Append t ≡ least (record_files Append t)
-  pub rewrite : least_of Rewrite t ≡ lowered t.atomic_group (least (record_files Rewrite t))
+  pub rewrite : least_of Rewrite t ≡ at_most_first_file t.atomic_group (least (record_files Rewrite t))
 
 -- a least number, if there is one, is at or below this one
 abbrev pub IsAtOrBelow : Option ℕ → ℕ → Type 0

@@ -1,15 +1,18 @@
+-- what steps, effects and histories are: what the promise of recovery rests on
+pub mod RegionSteps
 pub mod Batches
-pub mod Contexts
 pub mod Effects
 pub mod Histories
-pub mod Joins
-pub mod Kept
-pub mod LeastFiles
-pub mod MarkedRegions
-pub mod Records
-pub mod RegionSteps
+-- the same in other words, and what else is said of histories
 pub mod Stretches
-pub mod WaitingGroup
-pub mod WaitingGroups
+pub mod LeastFiles
 pub mod BothQueues
 pub mod ReplayMachine
+-- what contexts hold of histories, which recovery's promise doesn't name
+pub mod MarkedRegions
+pub mod WaitingGroup
+pub mod WaitingGroups
+pub mod Contexts
+pub mod Joins
+pub mod Records
+pub mod Kept

@@ -1,26 +1,26 @@
--- The marks and tables of all regions: steps taken in one after another, and two neighbours joined.
+-- The region marks and tables of all regions: steps taken in one after another, and two neighbours joined.
 use Rattle.std.specs.Prelude.{ℕ, List, [], ◌∷◌, ◌++◌, map, flat_map, Option, Some, None, option_map, if◌then◌else◌}
 use Rattle.std.specs.Option.{unwrap_or, option_and_then}
 use Rattle.std.specs.Ordering.{nat_cmp}
 use Rattle.std.specs.FinMap as finite
 use Rattle.raft_base.specs.declared.pipe_log.LogQueue.{LogQueue}
-use Rattle.raft_table.specs.Marks.{Mark, applied}
+use Rattle.raft_table.specs.Marks.{Mark, table_over_older}
 use Rattle.raft_table.specs.MarkJoins.{joined_mark, fresh, mark_of}
-use Rattle.raft_table.specs.Steps.{Step, AtomicGroup, after_step}
+use Rattle.raft_table.specs.Steps.{Step, AtomicGroup, table_of, after_step}
 use Rattle.raft_table.specs.Table.{Table}
 use Rattle.raft_history.specs.RegionSteps.{RegionStep, Tables, with_table, names}
 use Rattle.raft_history.specs.WaitingGroup.{WholeGroup}
 
--- each region's mark, where a step names it
+-- the region mark of each region, where a step names it
 abbrev pub Marks : Type 0
 Marks = finite.FinMap nat_cmp Mark
 
--- the marks and the tables of all regions
+-- the region marks and the tables of all regions
 pub record MarkedRegions : Type 0 where
   pub tables : Tables
   pub marks : Marks
 
--- one region's mark, and its table where it has one
+-- the region mark of one region, and its table where it has one
 pub record MarkedRegion : Type 0 where
   pub mark : Mark
   pub table : Option Table
@@ -29,11 +29,11 @@ pub record MarkedRegion : Type 0 where
 abbrev pub no_regions : MarkedRegions
 no_regions = record { tables = finite.empty; marks = finite.empty }
 
--- a region's mark and table; where it isn't named, the mark of no step and no table
+-- the region mark of a region and table; where it isn't named, the region mark of no step and no table
 abbrev pub region_in : MarkedRegions → ℕ → MarkedRegion
 region_in rs r = record { mark = unwrap_or (finite.get rs.marks r) fresh; table = finite.get rs.tables r }
 
--- one region's mark and table put in the place of its old ones
+-- the region mark of one region and table put in the place of its old ones
 abbrev pub with_region : MarkedRegions → ℕ → MarkedRegion → MarkedRegions
 with_region rs r x = record { tables = with_table rs.tables r x.table; marks = finite.insert rs.marks r x.mark }
 
@@ -41,7 +41,8 @@ with_region rs r x = record { tables = with_table rs.tables r x.table; marks = f
 
 -- one region after a step; none where it is refused
 abbrev pub stepped_region : LogQueue → ℕ → MarkedRegion → Step → Option MarkedRegion
-stepped_region queue r x s = option_map (λ t. record { mark = joined_mark queue r x.mark x.table (mark_of s); table = t }) (after_step queue r x.table s)
+stepped_region queue r x s =
+    option_map (λ t. record { mark = joined_mark queue r x.mark x.table (mark_of s); table = t }) (after_step queue (table_of r x.table) s)
 
 -- all regions after steps in order; none where one is refused
 abbrev pub regions_after : LogQueue → MarkedRegions → List RegionStep → Option MarkedRegions
@@ -69,14 +70,14 @@ region_steps_of_wholes ws = flat_map region_steps_of_whole ws
 
 -- one region of an older and a newer neighbour; none where the newer one's steps are refused
 abbrev pub joined_region : LogQueue → ℕ → MarkedRegion → MarkedRegion → Option MarkedRegion
-joined_region queue r older newer = option_map (λ t. record { mark = joined_mark queue r older.mark older.table newer.mark; table = t }) (applied queue r newer.mark newer.table older.table)
+joined_region queue r older newer = option_map (λ t. record { mark = joined_mark queue r older.mark older.table newer.mark; table = t }) (table_over_older queue r newer.mark newer.table older.table)
 
--- one region, which is as it was where the newer neighbour has no mark of it
+-- one region, which is as it was where the newer neighbour has no region mark of it
 abbrev pub joined_marked : LogQueue → ℕ → Option Mark → Option Table → MarkedRegion → Option MarkedRegion
 joined_marked queue r None t older = Some older
 joined_marked queue r (Some m) t older = joined_region queue r older (record { mark = m; table = t })
 
--- the regions that the newer neighbour marks, one after another, with its tables
+-- the regions that the newer neighbour has a region mark of, one after another, with its tables
 abbrev pub joined_each : LogQueue → Tables → MarkedRegions → List (ℕ × Mark) → Option MarkedRegions
 joined_each queue newer rs [] = Some rs
 joined_each queue newer rs (e ∷ es) = option_and_then (λ x. joined_each queue newer (with_region rs e.0 x) es) (joined_region queue e.0 (region_in rs e.0) (record { mark = e.1; table = finite.get newer e.0 }))

@@ -1,26 +1,27 @@
--- What is known of all groups: a map from the groups that have a marker.
-use Rattle.std.specs.Prelude.{ℕ, Bool, false, List, [], ◌∷◌, ◌++◌, flat_map, filter_map, length, Option, Some, None}
+-- What is known of all groups: a map from the groups that have a group marker.
+use Rattle.std.specs.Prelude.{◌≡◌, ℕ, Bool, true, false, ◌==◌, List, [], ◌∷◌, ◌++◌, flat_map, filter_map, length, Option, Some, None}
+use Rattle.std.specs.List.{AllByRecursion, list_any}
 use Rattle.std.specs.Option.{unwrap_or}
 use Rattle.std.specs.Ordering.{nat_cmp}
 use Rattle.std.specs.FinMap as finite
 use Rattle.std.specs.FinMap.{FinMap}
 use Rattle.raft_table.specs.Steps.{Step}
-use Rattle.raft_history.specs.Batches.{GroupMarker, ReadBatch}
-use Rattle.raft_history.specs.Effects.{whole_steps, group_in}
+use Rattle.raft_history.specs.Batches.{GroupMarker, BatchSteps}
+use Rattle.raft_history.specs.Effects.{whole_steps}
 use Rattle.raft_history.specs.RegionSteps.{RegionStep, steps_on, names}
-use Rattle.raft_history.specs.WaitingGroup.{without_marker, GroupFront, Open, Ended, Cut, OpenStretch, WaitingGroup, joined_group, WholeGroup, whole_group, one_marker}
+use Rattle.raft_history.specs.WaitingGroup.{group_in, without_marker, GroupFront, Open, Ended, Cut, OpenStretch, WaitingGroup, joined_group, WholeGroup, whole_group, one_marker}
 
--- each group that has a marker, with what is known of it
+-- each group that has a group marker, with what is known of it
 abbrev pub WaitingGroups : Type 0
 WaitingGroups = FinMap nat_cmp WaitingGroup
 
--- the group of a marker, if there is one, with what the history says of it
-abbrev pub entry_by : List ReadBatch → Option GroupMarker → List (ℕ × WaitingGroup)
+-- the group of a group marker, if there is one, with what the history says of it
+abbrev pub entry_by : List BatchSteps → Option GroupMarker → List (ℕ × WaitingGroup)
 entry_by h None = []
 entry_by h (Some m) = (m.group, group_in m.group h) ∷ []
 
--- each group that has a marker in the history, with what is known of it
-unfoldable pub groups_in : List ReadBatch → WaitingGroups
+-- each group that has a group marker in the history, with what is known of it
+unfoldable pub groups_in : List BatchSteps → WaitingGroups
 groups_in h = finite.from_entries (flat_map (λ b. entry_by h b.marker) h)
 
 -- what is known of a group
@@ -44,18 +45,18 @@ whole_with older es = filter_map (λ e. whole_group (known older e.0) e.1) es
 abbrev pub whole_groups : WaitingGroups → WaitingGroups → List WholeGroup
 whole_groups older newer = whole_with older (finite.entries newer)
 
--- the groups with one more batch, by its marker
-abbrev pub groups_after : WaitingGroups → ReadBatch → Option GroupMarker → WaitingGroups
+-- the groups with one more batch, by its group marker
+abbrev pub groups_after : WaitingGroups → BatchSteps → Option GroupMarker → WaitingGroups
 groups_after groups b None = groups
 groups_after groups b (Some m) = finite.insert groups m.group (joined_group (known groups m.group) (one_marker m.status b.steps b.file))
 
 -- the steps on a region of a group that may be whole
 abbrev pub steps_or : ℕ → Option WholeGroup → List Step
 steps_or r None = []
-steps_or r (Some w) = whole_steps r w
+steps_or r (Some w) = whole_steps r w.steps w.start w.end
 
--- the steps on a region that take effect with a batch: its own where it has no marker, else those of the group that it makes whole
-abbrev pub steps_by_batch : ℕ → WaitingGroups → ReadBatch → Option GroupMarker → List Step
+-- the steps on a region that take effect with a batch: its own where it has no group marker, else those of the group that it makes whole
+abbrev pub steps_by_batch : ℕ → WaitingGroups → BatchSteps → Option GroupMarker → List Step
 steps_by_batch r groups b None = steps_on r b.steps
 steps_by_batch r groups b (Some m) = steps_or r (whole_group (known groups m.group) (one_marker m.status b.steps b.file))
 
@@ -84,6 +85,25 @@ names_by r None = false
 names_by r (Some w) = names r w.steps
 
 -- whether what takes effect with a batch names the region
-abbrev pub names_by_batch : ℕ → WaitingGroups → ReadBatch → Option GroupMarker → Bool
+abbrev pub names_by_batch : ℕ → WaitingGroups → BatchSteps → Option GroupMarker → Bool
 names_by_batch r groups b None = names r b.steps
 names_by_batch r groups b (Some m) = names_by r (whole_group (known groups m.group) (one_marker m.status b.steps b.file))
+
+-- ---- by a list of groups
+
+-- of the groups in the list those that become whole between two histories
+abbrev pub wholes : List ℕ → List BatchSteps → List BatchSteps → List WholeGroup
+wholes ids older newer = filter_map (λ g. whole_group (group_in g older) (group_in g newer)) ids
+
+-- the steps on a region of groups that are whole, in order
+unfoldable pub steps_of_wholes : ℕ → List WholeGroup → List Step
+steps_of_wholes r ws = flat_map (λ w. whole_steps r w.steps w.start w.end) ws
+
+-- the list has the group of each group marker
+abbrev pub IsListed : List ℕ → Option GroupMarker → Type 0
+IsListed ids None = Unit {0}
+IsListed ids (Some m) = list_any (λ g. g == m.group) ids ≡ true
+
+-- the list has the group of each batch that has a group marker
+abbrev pub ListsGroups : List ℕ → List BatchSteps → Type 0
+ListsGroups ids h = AllByRecursion (λ b. IsListed ids b.marker) h

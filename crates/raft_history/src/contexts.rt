@@ -7,11 +7,11 @@ ghost use Rattle.raft_base.specs.declared.pipe_log.LogQueue.{LogQueue};
 ghost use Rattle.raft_base.specs.declared.pipe_log.LogQueue.TheVariants.{Rewrite};
 ghost use Rattle.raft_history.specs.RegionSteps.{RegionStep, Tables};
 ghost use Rattle.raft_history.specs.Batches.{Event, batches};
-ghost use Rattle.raft_history.specs.Histories.{Sound, Apart, AreInFile, AreInFiles, HaveStatus, FilesFrom, IsStepOfQueue, IsOneReading};
+ghost use Rattle.raft_history.specs.Histories.{Sound, Apart, AreInFile, HaveStatus, FilesFrom, IsStepOfQueue, IsOneReading};
 ghost use Rattle.raft_history.specs.WaitingGroups.{WaitingGroups, groups_in, joined_groups, whole_groups};
 ghost use Rattle.raft_history.specs.Records.{waiting_records, records_in_wholes};
 ghost use Rattle.raft_history.specs.MarkedRegions.{MarkedRegions, region_steps_of_wholes};
-ghost use Rattle.raft_history.specs.Contexts.{Context, StandsFor, IsExactFor, Suits, files_of, follows, new_context, merged, taken_in, merged_with, AreMerged, AreRegionsRefused};
+ghost use Rattle.raft_history.specs.Contexts.{Context, StandsFor, IsExactFor, Suits, files_of, follows, new_context, merged_context, taken_in, merged_with, AreMerged, AreRegionsRefused};
 ghost use Rattle.raft_history.specs.Kept.{kept_of, kept_by, IsAtMost};
 
 /// A new context stands exactly for the empty history.
@@ -40,27 +40,31 @@ pub fn batches_are_taken_in()
 /// both did and the effects of that history are apart. They are refused only where it isn't sound,
 /// in the rewrite queue by its files alone.
 pub fn merges_stand_for_both()
-    ensures stands { (q : LogQueue) (c d e : Context) (h k : List Event) → Suits q c.files → Suits q d.files
-        → StandsFor c h → StandsFor d k → merged q c d ≡ Some e → StandsFor e (h ++ k) }
-    ensures exact { (q : LogQueue) (c d e : Context) (h k : List Event) → Suits q c.files → Suits q d.files
-        → IsExactFor c h → IsExactFor d k → Apart (h ++ k) → merged q c d ≡ Some e → IsExactFor e (h ++ k) }
-    ensures refused { (q : LogQueue) (c d : Context) (h k : List Event) → Suits q c.files → Suits q d.files
-        → StandsFor c h → StandsFor d k → merged q c d ≡ None → Sound (h ++ k) → ⊥ }
-    ensures rewrite { (c d : Context) → follows c.files d.files ≡ true → merged Rewrite c d ≡ None → ⊥ }
+    ensures stands { (q : LogQueue) (c d e : Context) (h k : List Event) → Suits q c.files →
+        Suits q d.files
+        → StandsFor c h → StandsFor d k → merged_context q c d ≡ Some e → StandsFor e (h ++ k) }
+    ensures exact { (q : LogQueue) (c d e : Context) (h k : List Event) → Suits q c.files →
+        Suits q d.files
+        → IsExactFor c h → IsExactFor d k → Apart (h ++ k) → merged_context q c d ≡ Some e → IsExactFor e (h ++ k) }
+    ensures refused { (q : LogQueue) (c d : Context) (h k : List Event) → Suits q c.files →
+        Suits q d.files → StandsFor c h → StandsFor d k → merged_context q c d ≡ None → Sound (h ++ k) → ⊥ }
+    ensures rewrite { (c d : Context) → follows c.files d.files ≡ true →
+        merged_context Rewrite c d ≡ None → ⊥ }
 {}
 
 /// The same, said of the merged regions one by one, in no order: they may be joined into the older
 /// context or the newer one.
 pub fn regions_merge_one_by_one()
-    ensures stands { (q : LogQueue) (c d : Context) (h k : List Event) (regions : MarkedRegions) → Suits q c.files
-        → Suits q d.files → StandsFor c h → StandsFor d k
+    ensures stands { (q : LogQueue) (c d : Context) (h k : List Event) (regions : MarkedRegions) →
+        Suits q c.files → Suits q d.files → StandsFor c h → StandsFor d k
         → follows c.files d.files ≡ true → AreMerged q c d regions → StandsFor (merged_with c d regions) (h ++ k) }
-    ensures exact { (q : LogQueue) (c d : Context) (h k : List Event) (regions : MarkedRegions) → Suits q c.files
-        → Suits q d.files → IsExactFor c h → IsExactFor d k → Apart (h ++ k)
+    ensures exact { (q : LogQueue) (c d : Context) (h k : List Event) (regions : MarkedRegions) →
+        Suits q c.files → Suits q d.files → IsExactFor c h → IsExactFor d k → Apart (h ++ k)
         → follows c.files d.files ≡ true → AreMerged q c d regions → IsExactFor (merged_with c d regions) (h ++ k) }
-    ensures refused { (q : LogQueue) (c d : Context) (h k : List Event) → Suits q c.files → Suits q d.files
-        → StandsFor c h → StandsFor d k → AreRegionsRefused q c d → Sound (h ++ k) → ⊥ }
-    ensures files { (q : LogQueue) (c d : Context) (h k : List Event) → Suits q c.files → Suits q d.files
+    ensures refused { (q : LogQueue) (c d : Context) (h k : List Event) → Suits q c.files →
+        Suits q d.files → StandsFor c h → StandsFor d k → AreRegionsRefused q c d → Sound (h ++ k) → ⊥ }
+    ensures files { (q : LogQueue) (c d : Context) (h k : List Event) → Suits q c.files →
+        Suits q d.files
         → StandsFor c h → StandsFor d k → follows c.files d.files ≡ false → Sound (h ++ k) → ⊥ }
     ensures rewrite { (c d : Context) → AreRegionsRefused Rewrite c d → ⊥ }
 {}
@@ -68,9 +72,9 @@ pub fn regions_merge_one_by_one()
 /// The merge that takes one region after another is that of the regions one by one, and is refused where
 /// that is: so what is said of either holds of both.
 pub fn merges_go_region_by_region()
-    ensures same { (q : LogQueue) (c d e : Context) → (merged q c d ≡ Some e)
+    ensures same { (q : LogQueue) (c d e : Context) → (merged_context q c d ≡ Some e)
         ↔ ((follows c.files d.files ≡ true) × AreMerged q c d e.regions × (e ≡ merged_with c d e.regions)) }
-    ensures refused { (q : LogQueue) (c d : Context) → (merged q c d ≡ None)
+    ensures refused { (q : LogQueue) (c d : Context) → (merged_context q c d ≡ None)
         ↔ ((follows c.files d.files ≡ false) ⊎ AreRegionsRefused q c d) }
 {}
 
@@ -82,7 +86,8 @@ pub fn exact_contexts_are_one_reading()
 
 /// An exact context holds at most what its history may hold, number by number.
 pub fn exact_contexts_keep_little()
-    ensures { (q : LogQueue) (c : Context) (h : List Event) (tables : Tables) (cleaned : List ℕ) → IsExactFor c h
+    ensures { (q : LogQueue) (c : Context) (h : List Event) (tables : Tables) (cleaned : List ℕ) →
+        IsExactFor c h
         → Suits q c.files → IsOneReading q h tables cleaned → IsAtMost (kept_of c) (kept_by q h tables) }
 {}
 
@@ -104,7 +109,9 @@ pub fn waiting_records_stay_few()
 
 /// The steps that become whole between two histories of a queue are such as replays into it ask for.
 pub fn wholes_are_of_the_queue()
-    ensures { (q : LogQueue) (h k : List Event) → FilesFrom q 0 h → AreInFiles h → FilesFrom q 0 k → AreInFiles k
+    ensures { (q : LogQueue) (h k : List Event)
+        → FilesFrom q 0 h → AllByRecursion (λ (e : Event). AreInFile e.file e.items) h
+        → FilesFrom q 0 k → AllByRecursion (λ (e : Event). AreInFile e.file e.items) k
         → AllByRecursion (λ (s : RegionStep). IsStepOfQueue q s.step)
         (region_steps_of_wholes (whole_groups (groups_in (batches h)) (groups_in (batches k)))) }
 {}

@@ -3,51 +3,54 @@
 ghost use Rattle.std.specs.Prelude.{◌≡◌, ◌≢◌, ◌↔◌, ◌||◌, ℕ, List, [], ◌∷◌, ◌++◌, Some, None, true, false, flat_map};
 ghost use Rattle.std.specs.List.{AllByRecursion, list_any};
 ghost use Rattle.raft_history.specs.RegionSteps.{names, steps_on};
-ghost use Rattle.raft_history.specs.WaitingGroup.{WholeGroup, whole_group};
-ghost use Rattle.raft_history.specs.Batches.{ReadBatch};
-ghost use Rattle.raft_history.specs.Effects.{Effect, BatchesApart, effects, steps_of, steps_of_wholes, group_in, is_named, EndsNoEffect, without_group};
+ghost use Rattle.raft_history.specs.WaitingGroup.{WholeGroup, whole_group, group_in};
+ghost use Rattle.raft_history.specs.Batches.{BatchSteps};
+ghost use Rattle.raft_history.specs.Effects.{Effect, EachApart, effects, steps_of, is_named, EndsNoEffect, without_group};
 ghost use Rattle.raft_history.specs.Stretches.{AreEffects};
-ghost use Rattle.raft_history.specs.WaitingGroups.{groups_in, joined_groups, whole_groups, groups_after, steps_by_batch, names_by_batch, known};
+ghost use Rattle.raft_history.specs.WaitingGroups.{groups_in, joined_groups, whole_groups, groups_after, steps_by_batch, names_by_batch, known, steps_of_wholes};
 
-/// The effects of a history are the batches without a marker and the stretches of each group's
-/// markers, in the order of their last batches.
+/// The effects of a history are the batches without a group marker and the stretches of each group's
+/// group markers, in the order of their last batches.
 pub fn effects_are_stretches()
-    ensures are { (h : List ReadBatch) → AreEffects h (effects h) }
-    ensures alone { (h : List ReadBatch) (es : List Effect) → AreEffects h es → es ≡ effects h }
+    ensures are { (h : List BatchSteps) → AreEffects h (effects h) }
+    ensures alone { (h : List BatchSteps) (es : List Effect) → AreEffects h es → es ≡ effects h }
 {}
 
 /// What is known of the groups of two neighbouring histories tells what is known of both, one
 /// behind the other.
 pub fn groups_join()
-    ensures joined { (h k : List ReadBatch) → groups_in (h ++ k) ≡ joined_groups (groups_in h) (groups_in k) }
-    ensures more { (h : List ReadBatch) (b : ReadBatch)
+    ensures joined { (h k : List BatchSteps) →
+        groups_in (h ++ k) ≡ joined_groups (groups_in h) (groups_in k) }
+    ensures more { (h : List BatchSteps) (b : BatchSteps)
         → groups_in (h ++ b ∷ []) ≡ groups_after (groups_in h) b b.marker }
-    ensures each { (g : ℕ) (h : List ReadBatch) → known (groups_in h) g ≡ group_in g h }
+    ensures each { (g : ℕ) (h : List BatchSteps) → known (groups_in h) g ≡ group_in g h }
 {}
 
 /// The steps on a region of two histories, one behind the other: those of the older, of the groups
 /// that become whole between them, and of the newer.
 pub fn steps_join()
-    ensures across { (r : ℕ) (h k : List ReadBatch) → BatchesApart (h ++ k) →
+    ensures across { (r : ℕ) (h k : List BatchSteps) → EachApart (effects (h ++ k)) →
         steps_of r (h ++ k)
         ≡ steps_of r h ++ (steps_of_wholes r (whole_groups (groups_in h) (groups_in k)) ++ steps_of r k) }
-    ensures more { (r : ℕ) (h : List ReadBatch) (b : ReadBatch)
+    ensures more { (r : ℕ) (h : List BatchSteps) (b : BatchSteps)
         → steps_of r (h ++ b ∷ []) ≡ steps_of r h ++ steps_by_batch r (groups_in h) b b.marker }
 {}
 
 /// Groups that become whole between two histories name different regions, where the effects of both,
 /// one behind the other, are apart.
 pub fn wholes_name_different_regions()
-    ensures { (h k : List ReadBatch) → BatchesApart (h ++ k) → (g l : ℕ) → g ≢ l → (w v : WholeGroup)
+    ensures { (h k : List BatchSteps) → EachApart (effects (h ++ k)) → (g l : ℕ) → g ≢ l →
+        (w v : WholeGroup)
         → whole_group (group_in g h) (group_in g k) ≡ Some w → whole_group (group_in l h) (group_in l k) ≡ Some v
         → (r : ℕ) → names r w.steps ≡ true → names r v.steps ≡ true → ⊥ }
 {}
 
-/// Where no batch has a marker, as in the append queue, each batch is an effect, and the effects are
+/// Where no batch has a group marker, as in the append queue, each batch is an effect, and the effects are
 /// apart.
 pub fn batches_without_markers_are_effects()
-    ensures apart { (h : List ReadBatch) → AllByRecursion (λ b. b.marker ≡ None) h → BatchesApart h }
-    ensures steps { (r : ℕ) (h : List ReadBatch) → AllByRecursion (λ b. b.marker ≡ None) h
+    ensures apart { (h : List BatchSteps) → AllByRecursion (λ b. b.marker ≡ None) h →
+        EachApart (effects h) }
+    ensures steps { (r : ℕ) (h : List BatchSteps) → AllByRecursion (λ b. b.marker ≡ None) h
         → steps_of r h ≡ flat_map (λ b. steps_on r b.steps) h }
 {}
 
@@ -55,17 +58,17 @@ pub fn batches_without_markers_are_effects()
 /// histories name, one behind the other, are those of the older, of the groups that become whole
 /// between them, and of the newer.
 pub fn named_regions_have_steps()
-    ensures steps { (r : ℕ) (h : List ReadBatch) → (is_named r h ≡ false) ↔ (steps_of r h ≡ []) }
-    ensures across { (r : ℕ) (h k : List ReadBatch) → BatchesApart (h ++ k)
+    ensures steps { (r : ℕ) (h : List BatchSteps) → (is_named r h ≡ false) ↔ (steps_of r h ≡ []) }
+    ensures across { (r : ℕ) (h k : List BatchSteps) → EachApart (effects (h ++ k))
         → is_named r (h ++ k)
         ≡ (is_named r h
         || (list_any (λ w. names r w.steps) (whole_groups (groups_in h) (groups_in k)) || is_named r k)) }
-    ensures more { (r : ℕ) (h : List ReadBatch) (b : ReadBatch)
+    ensures more { (r : ℕ) (h : List BatchSteps) (b : BatchSteps)
         → is_named r (h ++ b ∷ []) ≡ (is_named r h || names_by_batch r (groups_in h) b b.marker) }
 {}
 
 /// A group that is not whole changes nothing: without its batches every region has the same steps.
 pub fn incomplete_groups_change_nothing()
-    ensures { (g : ℕ) (h : List ReadBatch) → EndsNoEffect g h → (r : ℕ)
+    ensures { (g : ℕ) (h : List BatchSteps) → EndsNoEffect g h → (r : ℕ)
         → steps_of r (without_group g h) ≡ steps_of r h }
 {}

@@ -10,7 +10,7 @@ ghost use Rattle.raft_records.specs.ReadIn.{AreReadIn};
 ghost use Rattle.raft_table.specs.TableEntries.{entry_at};
 ghost use Rattle.raft_table.specs.LastWord.{last_entry, last_pair};
 ghost use Rattle.raft_table.specs.Steps.{after, table_of};
-ghost use Rattle.raft_history.specs.RegionSteps.{RegionStep, Tables, steps_on, steps_of_items, reading};
+ghost use Rattle.raft_history.specs.RegionSteps.{RegionStep, Tables, steps_on, steps_of_items, tables_after};
 ghost use Rattle.raft_history.specs.Batches.{Event};
 ghost use Rattle.raft_history.specs.BothQueues.{IsReadingOfBoth};
 ghost use Rattle.raft_history.specs.LeastFiles.{AreLeastFiles, HasNoneBelow};
@@ -34,9 +34,10 @@ pub fn histories_of_the_append_queue_are_apart()
 /// where they are refused, some region's own steps are.
 pub fn regions_are_read_one_by_one()
     ensures by_region { (queue : LogQueue) (before after_all : Tables) (steps : List RegionStep)
-        → reading queue before steps ≡ Some after_all
+        → tables_after queue before steps ≡ Some after_all
         → (r : ℕ) → after queue r (finite.get before r) (steps_on r steps) ≡ Some (finite.get after_all r) }
-    ensures refused { (queue : LogQueue) (before : Tables) (steps : List RegionStep) → reading queue before steps ≡ None
+    ensures refused { (queue : LogQueue) (before : Tables) (steps : List RegionStep) →
+        tables_after queue before steps ≡ None
         → (r : ℕ) × (after queue r (finite.get before r) (steps_on r steps) ≡ None) }
 {}
 
@@ -61,21 +62,23 @@ pub fn last_words_stand()
 /// those of all its records, lowered in the rewrite queue by its atomic group alone: no record is in a
 /// file below the least one of its queue.
 pub fn least_files_are_least()
-    ensures equal { (queue : LogQueue) (h : List Event) (tables : Tables) (cleaned : List ℕ) → IsSoundIn queue h
-        → Apart h → IsOneReading queue h tables cleaned
+    ensures equal { (queue : LogQueue) (h : List Event) (tables : Tables) (cleaned : List ℕ) →
+        IsSoundIn queue h → Apart h → IsOneReading queue h tables cleaned
         → (r : ℕ) → AreLeastFiles (table_of r (finite.get tables r)) }
-    ensures lowest { (queue : LogQueue) (h : List Event) (tables : Tables) (cleaned : List ℕ) → IsSoundIn queue h
-        → Apart h → IsOneReading queue h tables cleaned
+    ensures lowest { (queue : LogQueue) (h : List Event) (tables : Tables) (cleaned : List ℕ) →
+        IsSoundIn queue h → Apart h → IsOneReading queue h tables cleaned
         → (r : ℕ) (q : LogQueue) → HasNoneBelow q (table_of r (finite.get tables r)) }
 {}
 
 /// So are those of a region's table in what both queues give together, where each history is sound and the
 /// effects of the rewrite queue's are apart.
 pub fn least_files_of_both_are_least()
-    ensures equal { (rewrite append : List Event) (tables : Tables) (cleaned : List ℕ) → IsSoundIn Rewrite rewrite
+    ensures equal { (rewrite append : List Event) (tables : Tables) (cleaned : List ℕ) →
+        IsSoundIn Rewrite rewrite
         → Apart rewrite → IsSoundIn Append append → IsReadingOfBoth rewrite append tables cleaned
         → (r : ℕ) → AreLeastFiles (table_of r (finite.get tables r)) }
-    ensures lowest { (rewrite append : List Event) (tables : Tables) (cleaned : List ℕ) → IsSoundIn Rewrite rewrite
+    ensures lowest { (rewrite append : List Event) (tables : Tables) (cleaned : List ℕ) →
+        IsSoundIn Rewrite rewrite
         → Apart rewrite → IsSoundIn Append append → IsReadingOfBoth rewrite append tables cleaned
         → (r : ℕ) (q : LogQueue) → HasNoneBelow q (table_of r (finite.get tables r)) }
 {}

@@ -1,4 +1,4 @@
-//! Laws of the marks and tables of all regions.
+//! Laws of the region marks and tables of all regions.
 
 ghost use Rattle.std.specs.Prelude.{◌≡◌, ℕ, List, Option, Some, None, if◌then◌else◌};
 ghost use Rattle.std.specs.FinMap as finite;
@@ -9,37 +9,38 @@ ghost use Rattle.raft_base.specs.declared.pipe_log.LogQueue.TheVariants.{Append}
 ghost use Rattle.raft_records.specs.Item.{Item};
 ghost use Rattle.raft_table.specs.Overlay.{overlaid_table};
 ghost use Rattle.raft_table.specs.Table.{Table};
-ghost use Rattle.raft_history.specs.Batches.{Event, ReadBatch, batches};
+ghost use Rattle.raft_history.specs.Batches.{Event, BatchSteps, batches};
 ghost use Rattle.raft_history.specs.Contexts.{AreExact};
 ghost use Rattle.raft_history.specs.Effects.{steps_of, is_named};
-ghost use Rattle.raft_history.specs.Histories.{AreInFile, AreInFiles, IsStepOfQueue};
+ghost use Rattle.raft_history.specs.Histories.{AreInFile, IsStepOfQueue};
 ghost use Rattle.raft_history.specs.Joins.{StandForSteps, AreJoined, overlaid_region};
 ghost use Rattle.raft_history.specs.MarkedRegions.{MarkedRegions, no_regions, regions_after, region_steps_of_whole};
 ghost use Rattle.raft_history.specs.RegionSteps.{RegionStep, steps_of_items};
 ghost use Rattle.raft_history.specs.WaitingGroup.{WholeGroup};
 
-/// That marks and tables stand for some steps is kept by further steps and by joins.
+/// That region marks and tables stand for some steps is kept by further steps and by joins.
 pub fn regions_stand_for_steps()
     ensures none { (q : LogQueue) → StandForSteps q no_regions }
     ensures steps { (q : LogQueue) (rs new : MarkedRegions) (steps : List RegionStep)
         → AllByRecursion (λ (s : RegionStep). IsStepOfQueue q s.step) steps
         → StandForSteps q rs → regions_after q rs steps ≡ Some new → StandForSteps q new }
-    ensures items { (file : FileId) (items : List Item) (rs new : MarkedRegions) → AreInFile file items
+    ensures items { (file : FileId) (items : List Item) (rs new : MarkedRegions) →
+        AreInFile file items
         → StandForSteps file.queue rs → regions_after file.queue rs (steps_of_items items) ≡ Some new
         → StandForSteps file.queue new }
     ensures whole { (q : LogQueue) (rs new : MarkedRegions) (w : WholeGroup)
         → AllByRecursion (λ (s : RegionStep). IsStepOfQueue q s.step) w.steps
         → StandForSteps q rs → regions_after q rs (region_steps_of_whole w) ≡ Some new → StandForSteps q new }
-    ensures joined { (q : LogQueue) (older newer new : MarkedRegions) → StandForSteps q older → StandForSteps q newer
-        → AreJoined q older newer new → StandForSteps q new }
-    ensures exact { (q : LogQueue) (rs : MarkedRegions) (h : List Event) → AreInFiles h → AreExact q rs (batches h)
-        → StandForSteps q rs }
+    ensures joined { (q : LogQueue) (older newer new : MarkedRegions) → StandForSteps q older →
+        StandForSteps q newer → AreJoined q older newer new → StandForSteps q new }
+    ensures exact { (q : LogQueue) (rs : MarkedRegions) (h : List Event)
+        → AllByRecursion (λ (e : Event). AreInFile e.file e.items) h → AreExact q rs (batches h) → StandForSteps q rs }
 {}
 
-/// Over a rewritten table an exact mark and table of the append queue give the overlay by its steps, for
+/// Over a rewritten table an exact region mark and table of the append queue give the overlay by its steps, for
 /// the regions that these name; the others keep their rewritten tables.
 pub fn overlays_are_by_steps()
-    ensures { (r : ℕ) (rs : MarkedRegions) (bs : List ReadBatch) (rewritten : Option Table) → AreExact Append rs bs
-        → overlaid_region r (finite.get rs.marks r) (finite.get rs.tables r) rewritten
+    ensures { (r : ℕ) (rs : MarkedRegions) (bs : List BatchSteps) (rewritten : Option Table) →
+        AreExact Append rs bs → overlaid_region r (finite.get rs.marks r) (finite.get rs.tables r) rewritten
         ≡ (if is_named r bs then overlaid_table r (steps_of r bs) (finite.get rs.tables r) rewritten else rewritten) }
 {}

@@ -1,7 +1,7 @@
 -- Batches that are tested before they are taken in.
-use Rattle.std.proofs.Common.{◌≡◌, true, ◌<◌, ◌≤◌, ◌+◌, ℕ, suc, zero, List, [], ◌∷◌, drop, length, get_or, Option, Some, None, refl, sym, ap, ◌∙◌, arith}
+use Rattle.std.proofs.Common.{◌≡◌, true, false, ◌<◌, ◌≤◌, ◌+◌, ℕ, suc, zero, List, [], ◌∷◌, drop, length, get_or, Option, Some, None, refl, sym, ap, ◌∙◌, arith}
 use Rattle.std.specs.List.{AllByRecursion, slice_get}
-use Rattle.std.specs.Option.{option_or}
+use Rattle.std.specs.Option.{option_map_or, option_or}
 use Rattle.raft_base.specs.declared.pipe_log.FileBlockHandle.{FileBlockHandle}
 use Rattle.raft_base.specs.declared.pipe_log.FileId.{FileId}
 use Rattle.raft_base.specs.declared.pipe_log.LogQueue.{LogQueue}
@@ -9,40 +9,33 @@ use Rattle.raft_base.specs.declared.pipe_log.LogQueue.TheVariants.{Append, Rewri
 use Rattle.raft_base.specs.declared.entry_index.EntryIndex.{EntryIndex}
 use Rattle.raft_records.specs.declared.atomic_group.AtomicGroupStatus.{AtomicGroupStatus}
 use Rattle.raft_records.specs.declared.atomic_group.AtomicGroupStatus.TheVariants.{Begin, Middle, End}
-use Rattle.raft_records.specs.Group.{status_byte, first_marker, or_marker, IsGroupMarkerRead, IsGroupMarkerContent}
-use Rattle.raft_records.specs.Item.{Item, Content, entries, command, pair}
-use Rattle.raft_records.specs.ReadIn.{IsBlockIn}
-use Rattle.raft_records.proofs.GroupLemmas.{marker_is}
-use Rattle.raft_table.specs.TableEntries.{is_block_in, is_placed_in}
+use Rattle.raft_records.specs.Group.{status_byte, first_marker, marker_byte, IsGroupMarkerRead}
+use Rattle.raft_records.specs.Item.{Item}
+use Rattle.raft_records.specs.ReadIn.{IsPlaceInFile}
+use Rattle.raft_records.proofs.GroupLemmas.{one_byte, marker_is}
+use Rattle.raft_table.specs.TableEntries.{is_placed_in}
 use Rattle.raft_table.specs.Queues.{is_same}
-use Rattle.raft_history.specs.Histories.{IsInFile, AreInFile, AreBlocksIn, HasStatus}
+use Rattle.raft_history.specs.Histories.{IsInFile, AreInFile, HaveStatus}
+use Rattle.raft_history.proofs.Words.{AreBlocksIn}
 
-or_or : (m n o : Option (ℕ × AtomicGroupStatus)) → or_marker (option_or m n) o ≡ or_marker m (or_marker n o)
+or_or : (m n o : Option (ℕ × AtomicGroupStatus)) → option_or (option_or m n) o ≡ option_or m (option_or n o)
 or_or None n o = refl
 or_or (Some m) n o = refl
 
-pub or_none : (m : Option (ℕ × AtomicGroupStatus)) → or_marker m (first_marker []) ≡ m
+pub or_none : (m : Option (ℕ × AtomicGroupStatus)) → option_or m (first_marker []) ≡ m
 unfolding first_marker
 or_none None = refl
 or_none (Some m) = refl
 
 -- a group marker that was read has the byte of a status
-read_status : (item : Item) (read : Option (ℕ × AtomicGroupStatus)) → IsGroupMarkerRead item read → HasStatus item
-read_status item None h = λ byte m. absurd (h byte m)
-read_status item (Some read) h = λ byte m. go item.content byte h.1 m
+read_status : (item : Item) (read : Option (ℕ × AtomicGroupStatus)) → IsGroupMarkerRead item read → (byte : ℕ) → marker_byte item.content ≡ Some byte → byte ≤ 2
+read_status item None h = λ byte m. let e : Some byte ≡ None = sym m ∙ h in absurd cc
+read_status item (Some read) h = λ byte m. let same : status_byte read.1 ≡ byte = one_byte (sym h.1 ∙ m) in omega (arith, same, few read.1)
   where
-    one : {a b : ℕ} → Some (a ∷ []) ≡ Some (b ∷ []) → a ≡ b
-    one e = cc
-
     few : (s : AtomicGroupStatus) → status_byte s ≤ 2
     few Begin = omega arith
     few Middle = omega arith
     few End = omega arith
-
-    go : (c : Content) (byte : ℕ) → IsGroupMarkerContent c (status_byte read.1) → IsGroupMarkerContent c byte → byte ≤ 2
-    go (pair p) byte a b = omega (arith, few read.1, one (sym a.value ∙ b.value))
-    go (entries es) byte a b = absurd a
-    go (command c) byte a b = absurd a
 
 -- the elements from an index on begin with the one there
 pub next_item : {X : Type 0} (xs : List X) (i : ℕ) (x : X) → i < length xs → x ≡ get_or xs i x → drop i xs ≡ x ∷ drop (i + 1) xs
@@ -70,8 +63,8 @@ none_left (x ∷ xs) (suc i) past = none_left xs i (omega arith)
 abbrev pub IsTested : FileId → List Item → List Item → Option (ℕ × AtomicGroupStatus) → Type 0
 IsTested file all rest marker =
     (AreInFile file rest → AreInFile file all) × (AreInFile file all → AreInFile file rest)
-    × (AllByRecursion HasStatus rest → AllByRecursion HasStatus all) × (AllByRecursion HasStatus all → AllByRecursion HasStatus rest)
-    × (or_marker marker (first_marker rest) ≡ first_marker all)
+    × (HaveStatus Rewrite rest → HaveStatus Rewrite all) × (HaveStatus Rewrite all → HaveStatus Rewrite rest)
+    × (option_or marker (first_marker rest) ≡ first_marker all)
 
 -- what is known behind one more item
 pub one_more : (file : FileId) (all rest : List Item) (item : Item) (marker found : Option (ℕ × AtomicGroupStatus))
@@ -82,11 +75,11 @@ one_more file all rest item marker found h is read = (
   λ r. (h.1 r).1,
   λ r. h.2 (read_status item found read, r),
   λ r. (h.3 r).1,
-  or_or marker found (first_marker rest) ∙ ap (λ f. or_marker marker (or_marker f (first_marker rest))) (sym (marker_is item found read)) ∙ h.4,
+  or_or marker found (first_marker rest) ∙ ap (λ f. option_or marker (option_or f (first_marker rest))) (sym (marker_is item found read)) ∙ h.4,
 )
 
 -- a place in the file is one of its queue
-pub block_placed : (file : FileId) (e : EntryIndex) → IsBlockIn file e.entries → is_placed_in file.queue e ≡ true
+pub block_placed : (file : FileId) (e : EntryIndex) → IsPlaceInFile file e.entries → is_placed_in file.queue e ≡ true
 unfolding is_placed_in
 block_placed file e h = go e.entries h
   where
@@ -94,7 +87,7 @@ block_placed file e h = go e.entries h
     same Append = refl
     same Rewrite = refl
 
-    go : (o : Option FileBlockHandle) → IsBlockIn file o → is_block_in file.queue o ≡ true
+    go : (o : Option FileBlockHandle) → IsPlaceInFile file o → option_map_or (λ (place : FileBlockHandle). is_same place.id.queue file.queue) o false ≡ true
     go None h = absurd h
     go (Some block) h = ap (λ (id : FileId). is_same id.queue file.queue) h ∙ same file.queue
 

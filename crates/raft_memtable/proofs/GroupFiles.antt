@@ -10,7 +10,7 @@ use Rattle.raft_base.specs.declared.pipe_log.LogQueue.{LogQueue}
 use Rattle.raft_base.specs.declared.pipe_log.LogQueue.TheVariants.{Append, Rewrite}
 use Rattle.raft_table.specs.MarkJoins.{joined_mark, end_at_reach, fresh, mark_of}
 use Rattle.raft_table.specs.Steps.{AtomicGroup, table_of}
-use Rattle.raft_table.specs.Table.{Table, with_atomic_group}
+use Rattle.raft_table.specs.Table.{Table}
 use Rattle.raft_table.proofs.MarkExact.{joined_fresh}
 use Rattle.std.proofs.lemmas.Bool.{eqb-true}
 use Rattle.raft_history.specs.Histories.{records_in}
@@ -19,7 +19,7 @@ use Rattle.raft_history.specs.WaitingGroup.{WholeGroup}
 use Rattle.raft_history.specs.RegionSteps.{RegionStep, Tables, names}
 use Rattle.raft_history.proofs.MapLemmas.{IsOther, by_region, eqb_self}
 use Rattle.raft_history.proofs.StepListLemmas.{names_none, names_cons}
-use Rattle.raft_memtable.specs.MarkedTables.{regions_in, AreStepsOfQueue, IsStepsFault, one_step, AreTaken}
+use Rattle.raft_memtable.specs.MarkedTables.{regions_in, AreStepsOfQueue, IsStepsFault, one_step, AreStepsTaken}
 use Rattle.raft_accessor.specs.Accessor.{live_in_all}
 use Rattle.raft_memtable.specs.declared.marked_tables.MarkedTables.{MarkedTables}
 use Rattle.raft_accessor.proofs.MapLemmas.{same, get_own, get_other, none_some}
@@ -29,7 +29,7 @@ abbrev pub has : ℕ → List ℕ → Bool
 has r ids = list_any (λ id. eqb r id) ids
 
 abbrev filed_table : ℕ → ℕ → ℕ → Option Table → Option Table
-filed_table start end r o = Some (with_atomic_group (table_of r o) start end)
+filed_table start end r o = Some (record (table_of r o) { atomic_group = Some (start, end) })
 
 -- what becomes of each region
 record AreFiled (start end : ℕ) (ids : List ℕ) (rs new : MarkedRegions) : Type 0 where
@@ -50,13 +50,13 @@ module _ (q : LogQueue) (start end : ℕ) where
   own_table : (rs : MarkedRegions) (id : ℕ) (ids : List ℕ)
       → cond (has id ids) (filed_table start end id (finite.get (with_region rs id (filed_region rs id)).tables id)) (finite.get (with_region rs id (filed_region rs id)).tables id) ≡ cond (has id (id ∷ ids)) (filed_table start end id (finite.get rs.tables id)) (finite.get rs.tables id)
   own_table rs id ids =
-      ap (λ o. cond (has id ids) (filed_table start end id o) o) (get_own rs.tables id (with_atomic_group (table_of id (finite.get rs.tables id)) start end)) ∙ either (has id ids) (filed_table start end id (finite.get rs.tables id))
+      ap (λ o. cond (has id ids) (filed_table start end id o) o) (get_own rs.tables id (record (table_of id (finite.get rs.tables id)) { atomic_group = Some (start, end) })) ∙ either (has id ids) (filed_table start end id (finite.get rs.tables id))
       ∙ sym (ap (λ b. cond (b || has id ids) (filed_table start end id (finite.get rs.tables id)) (finite.get rs.tables id)) (eqb_self id))
 
   other_table : (rs : MarkedRegions) (id : ℕ) (ids : List ℕ) (r : ℕ) → IsOther r id
       → cond (has r ids) (filed_table start end r (finite.get (with_region rs id (filed_region rs id)).tables r)) (finite.get (with_region rs id (filed_region rs id)).tables r) ≡ cond (has r (id ∷ ids)) (filed_table start end r (finite.get rs.tables r)) (finite.get rs.tables r)
   other_table rs id ids r f =
-      ap (λ o. cond (has r ids) (filed_table start end r o) o) (get_other rs.tables id r (with_atomic_group (table_of id (finite.get rs.tables id)) start end) f.1)
+      ap (λ o. cond (has r ids) (filed_table start end r o) o) (get_other rs.tables id r (record (table_of id (finite.get rs.tables id)) { atomic_group = Some (start, end) }) f.1)
       ∙ sym (ap (λ b. cond (b || has r ids) (filed_table start end r (finite.get rs.tables r)) (finite.get rs.tables r)) f.0)
 
   own_mark : (rs : MarkedRegions) (id : ℕ) (ids : List ℕ)
@@ -133,7 +133,7 @@ has_named r (s ∷ steps) = go (names s.region steps) refl (has_named r steps) �
     go false e ih = ap (λ b. eqb r s.region || b) ih
 
 -- one region more
-pub file_more : (q : LogQueue) (start end id : ℕ) (ids : List ℕ) (a b c : MarkedTables) (r : Result Unit Error) → AreTaken q (one_step id (AtomicGroup start end)) (Ok tt) a b → AreTaken q (on_each ids (AtomicGroup start end)) r b c → AreTaken q (on_each (id ∷ ids) (AtomicGroup start end)) r a c
+pub file_more : (q : LogQueue) (start end id : ℕ) (ids : List ℕ) (a b c : MarkedTables) (r : Result Unit Error) → AreStepsTaken q (one_step id (AtomicGroup start end)) (Ok tt) a b → AreStepsTaken q (on_each ids (AtomicGroup start end)) r b c → AreStepsTaken q (on_each (id ∷ ids) (AtomicGroup start end)) r a c
 file_more q start end id ids a b c r s t = taken_more q (one_step id (AtomicGroup start end)) (on_each ids (AtomicGroup start end)) a b c r (tt, tt) s t
 
 -- ---- a whole group
@@ -153,7 +153,7 @@ whole_of_queue q w ids h = go w.steps h
     go (s ∷ steps) h = (h.0, go steps h.1)
 
 -- what is told of the group, by what was taken in
-module _ (w : WholeGroup) (ids : List ℕ) (a b : MarkedTables) (r : Result Unit Error) (h : (n : ℕ) → has n ids ≡ names n w.steps) (t : AreTaken Rewrite (w.steps ++ on_each ids (AtomicGroup w.start w.end)) r a b) where
+module _ (w : WholeGroup) (ids : List ℕ) (a b : MarkedTables) (r : Result Unit Error) (h : (n : ℕ) → has n ids ≡ names n w.steps) (t : AreStepsTaken Rewrite (w.steps ++ on_each ids (AtomicGroup w.start w.end)) r a b) where
   pub whole_ok : OnOk r (regions_after Rewrite (regions_in a) (region_steps_of_whole w) ≡ Some (regions_in b))
   whole_ok = elim r as (λ r. OnOk r (regions_after Rewrite (regions_in a) (w.steps ++ on_each ids (AtomicGroup w.start w.end)) ≡ Some (regions_in b)) → OnOk r (regions_after Rewrite (regions_in a) (region_steps_of_whole w) ≡ Some (regions_in b))) [ Ok u ↦ λ e. sym (whole_same Rewrite w ids (regions_in a) h) ∙ e | Err x ↦ λ e. tt ] t.ok
 

@@ -25,7 +25,7 @@ use Rattle.raft_table.specs.Marks.{Mark}
 use Rattle.raft_memtable.specs.KeptShown.{kept_shown}
 use Rattle.raft_memtable.specs.declared.kept.Kept.{Kept}
 use Rattle.raft_memtable.specs.OverlaidContext.{AreOfBothQueues, IsOverlaidWith, IsOfBothExactly, IsMergeAppendFault}
-use Rattle.raft_memtable.specs.RecoverContext.{RecoverContext, reading_on, IsReadingExactly}
+use Rattle.raft_memtable.specs.RecoverContext.{RecoverContext, reading_on, HasReadExactly}
 use Rattle.raft_memtable.specs.declared.context_stage.ContextStage.{ContextStage}
 use Rattle.raft_memtable.specs.RegionOverlays.{AreTooMany}
 
@@ -60,7 +60,7 @@ reading_of_both c d h g tables x y q o = record {
   overlaid = λ r. o r ∙ overlay_by_steps r d.regions (batches g) (finite.get c.regions.tables r) (y.regions Append q.append_suits);
 }
 
-pub of_both : (c d new : RecoverContext) (h g : List Event) → IsOverlaidWith d c new → IsReadingExactly c h → IsReadingExactly d g → IsOfBothExactly new h g
+pub of_both : (c d new : RecoverContext) (h g : List Event) → IsOverlaidWith d c new → HasReadExactly c h → HasReadExactly d g → IsOfBothExactly new h g
 of_both c d new h g m a b = record {
   stage = m.after;
   reading = subst (λ l. IsReadingOfBoth h g new.context.regions.tables l) (sym (ap (λ (x : Context). x.cleaned) m.overlaid)) (reading_of_both c.context d.context h g new.context.regions.tables a.exact b.exact m.queues m.tables);

@@ -18,11 +18,11 @@ use Rattle.raft_table.specs.Queues.{other}
 use Rattle.raft_table.specs.Steps.{after}
 use Rattle.raft_history.specs.Batches.{Event, GroupMarker, batch_of, batches, marker_in}
 use Rattle.raft_history.specs.Contexts.{Context, FileRange, Suits, files_of, follows, joined_files, AreExact, StandsFor, AreMerged, merged_with, completed_steps, region_steps_or, taken_in}
-use Rattle.raft_history.specs.Histories.{IsSoundIn, IsStepOfQueue, records_in, cleaned_in_batch}
+use Rattle.raft_history.specs.Histories.{IsSoundIn, IsStepOfQueue, records_in}
 use Rattle.raft_history.specs.Joins.{StandForSteps, AreJoined}
 use Rattle.raft_history.specs.MarkedRegions.{MarkedRegions, region_in, regions_after, region_steps_of_whole, region_steps_of_wholes}
 use Rattle.raft_history.specs.Records.{all_records, waiting_records, records_or}
-use Rattle.raft_history.specs.RegionSteps.{RegionStep, steps_of_items}
+use Rattle.raft_history.specs.RegionSteps.{RegionStep, steps_of_items, cleaned_by_steps}
 use Rattle.raft_history.specs.WaitingGroup.{WholeGroup, without_marker, joined_group, whole_group, one_marker}
 use Rattle.raft_history.specs.WaitingGroups.{WaitingGroups, known, groups_in, groups_after, whole_groups, joined_groups}
 use Rattle.raft_history.proofs.ContextLaws.{exact_reading, no_steps, regions_stand}
@@ -39,7 +39,7 @@ use Rattle.raft_history.proofs.WaitingLemmas.{joined_weight, waiting_known, merg
 use Rattle.raft_accessor.specs.Accessor.{live_in_all}
 use Rattle.raft_memtable.specs.BatchChecks.{marker_found}
 use Rattle.raft_memtable.specs.MarkedTables.{AreStepsOfQueue, IsStepsFault}
-use Rattle.raft_memtable.specs.ReadStates.{AreAlone, AreOfSteps, IsRead, TakesEffect, MayTakeEffect}
+use Rattle.raft_memtable.specs.ReadStates.{AreAlone, AreOfSteps, IsOfHistory, TakesEffect, MayTakeEffect}
 use Rattle.raft_memtable.specs.RecoverContext.{reading_on, MayFollow, records_held, IsBatchFault, AreNeighbours, IsNeighbourFault}
 use Rattle.raft_memtable.specs.RegionJoins.{IsJoinFault}
 use Rattle.raft_accessor.proofs.LiveLemmas.{live-none}
@@ -62,7 +62,7 @@ untabled c (e ∷ h) st none r = absurd (no (sym st.files ∙ none))
     no : {p : FileRange} → Some p ≡ None → ⊥
     no e = cc
 
-pub alone_of : (q : LogQueue) (c : Context) → IsRead c → Suits q c.files → live_in_all (other q) c.regions.tables ≡ 0
+pub alone_of : (q : LogQueue) (c : Context) → IsOfHistory c → Suits q c.files → live_in_all (other q) c.regions.tables ≡ 0
 alone_of q c r u = go c.files refl u r.alone
   where
     go : (f : Option FileRange) → c.files ≡ f → Suits q f → AreAlone f c.regions.tables → live_in_all (other q) c.regions.tables ≡ 0
@@ -86,7 +86,7 @@ blank q c [] st none = λ r. ([], tt, holds_none q r (region_in c.regions r) (ap
     is_none None e = refl
     is_none (Some x) e = cc
 
-pub steps_of_read : (q : LogQueue) (c : Context) → IsRead c → Suits q c.files → StandForSteps q c.regions
+pub steps_of_read : (q : LogQueue) (c : Context) → IsOfHistory c → Suits q c.files → StandForSteps q c.regions
 steps_of_read q c r u = go c.files refl u r.steps
   where
     go : (f : Option FileRange) → c.files ≡ f → Suits q f → AreOfSteps f c.regions → StandForSteps q c.regions
@@ -114,7 +114,7 @@ found_some Rewrite items id s e = (refl, ap (option_map {U = GroupMarker} (λ m.
 
 -- a context with one more batch, by its marker
 abbrev taken_by : Context → Event → Option GroupMarker → Option Context
-taken_by c e m = option_map {U = Context} (λ rs. record { regions = rs; groups = groups_after c.groups (batch_of e) m; cleaned = c.cleaned ++ cleaned_in_batch e.file.queue e.items; files = joined_files c.files (files_of (e ∷ [])) })
+taken_by c e m = option_map {U = Context} (λ rs. record { regions = rs; groups = groups_after c.groups (batch_of e) m; cleaned = c.cleaned ++ cleaned_by_steps e.file.queue (batch_of e).steps; files = joined_files c.files (files_of (e ∷ [])) })
     (regions_after e.file.queue c.regions (completed_steps c.groups (batch_of e) m))
 
 -- files that are there
@@ -131,16 +131,16 @@ by_fields d groups cleaned files g l f =
     ∙ ap (λ cleaned. some_context (record { regions = d.regions; groups = d.groups; cleaned = cleaned; files = files })) (sym l)
     ∙ ap (λ files. some_context (record { regions = d.regions; groups = d.groups; cleaned = d.cleaned; files = files })) (sym f)
 
-some_by : (c d : Context) (e : Event) (m : Option GroupMarker) → regions_after e.file.queue c.regions (completed_steps c.groups (batch_of e) m) ≡ Some d.regions → taken_by c e m ≡ Some (record { regions = d.regions; groups = groups_after c.groups (batch_of e) m; cleaned = c.cleaned ++ cleaned_in_batch e.file.queue e.items; files = joined_files c.files (files_of (e ∷ [])) })
-some_by c d e m regions = ap (option_map {U = Context} (λ rs. record { regions = rs; groups = groups_after c.groups (batch_of e) m; cleaned = c.cleaned ++ cleaned_in_batch e.file.queue e.items; files = joined_files c.files (files_of (e ∷ [])) })) regions
+some_by : (c d : Context) (e : Event) (m : Option GroupMarker) → regions_after e.file.queue c.regions (completed_steps c.groups (batch_of e) m) ≡ Some d.regions → taken_by c e m ≡ Some (record { regions = d.regions; groups = groups_after c.groups (batch_of e) m; cleaned = c.cleaned ++ cleaned_by_steps e.file.queue (batch_of e).steps; files = joined_files c.files (files_of (e ∷ [])) })
+some_by c d e m regions = ap (option_map {U = Context} (λ rs. record { regions = rs; groups = groups_after c.groups (batch_of e) m; cleaned = c.cleaned ++ cleaned_by_steps e.file.queue (batch_of e).steps; files = joined_files c.files (files_of (e ∷ [])) })) regions
 
 none_by : (c : Context) (e : Event) (m : Option GroupMarker) → regions_after e.file.queue c.regions (completed_steps c.groups (batch_of e) m) ≡ None → taken_by c e m ≡ None
-none_by c e m none = ap (option_map {U = Context} (λ rs. record { regions = rs; groups = groups_after c.groups (batch_of e) m; cleaned = c.cleaned ++ cleaned_in_batch e.file.queue e.items; files = joined_files c.files (files_of (e ∷ [])) })) none
+none_by c e m none = ap (option_map {U = Context} (λ rs. record { regions = rs; groups = groups_after c.groups (batch_of e) m; cleaned = c.cleaned ++ cleaned_by_steps e.file.queue (batch_of e).steps; files = joined_files c.files (files_of (e ∷ [])) })) none
 
 -- a batch without a marker
 pub lone_taken : (c d : Context) (e : Event) → marker_found e.file.queue e.items ≡ None
     → regions_after e.file.queue c.regions (steps_of_items e.items) ≡ Some d.regions → d.groups ≡ c.groups
-    → d.cleaned ≡ c.cleaned ++ cleaned_in_batch e.file.queue e.items → d.files ≡ joined_files c.files (files_of (e ∷ [])) → taken_in c e ≡ Some d
+    → d.cleaned ≡ c.cleaned ++ cleaned_by_steps e.file.queue (batch_of e).steps → d.files ≡ joined_files c.files (files_of (e ∷ [])) → taken_in c e ≡ Some d
 lone_taken c d e m regions groups cleaned files = ap (taken_by c e) (found_none e.file.queue e.items m) ∙ some_by c d e None regions ∙ by_fields d c.groups _ _ groups cleaned files
 
 pub lone_refused : (c : Context) (e : Event) → marker_found e.file.queue e.items ≡ None → regions_after e.file.queue c.regions (steps_of_items e.items) ≡ None → taken_in c e ≡ None
@@ -155,7 +155,7 @@ group_taken c d e id s m regions groups cleaned files =
     let f = found_some e.file.queue e.items id s m in
     ap (taken_by c e) f.1
     ∙ some_by c d e (Some (record { group = id; status = s })) (ap (λ q. regions_after q c.regions (region_steps_or (whole_group (known c.groups id) (one_marker s (steps_of_items e.items) e.file.seq)))) f.0 ∙ regions)
-    ∙ by_fields d _ _ _ groups (cleaned ∙ sym (append-nil c.cleaned) ∙ ap (λ q. c.cleaned ++ cleaned_in_batch q e.items) (sym f.0)) files
+    ∙ by_fields d _ _ _ groups (cleaned ∙ sym (append-nil c.cleaned) ∙ ap (λ q. c.cleaned ++ cleaned_by_steps q (batch_of e).steps) (sym f.0)) files
 
 pub group_refused : (c : Context) (e : Event) (id : ℕ) (s : AtomicGroupStatus) → marker_found e.file.queue e.items ≡ Some (id, s)
     → regions_after Rewrite c.regions (region_steps_or (whole_group (known c.groups id) (one_marker s (steps_of_items e.items) e.file.seq))) ≡ None → taken_in c e ≡ None
@@ -176,14 +176,14 @@ completed_records c e = go (batch_of e).marker
     go (Some m) = omega (arith, or_records (whole_group (known c.groups m.group) (one_marker m.status (steps_of_items e.items) e.file.seq)), whole_records c.groups m.group m.status (steps_of_items e.items) e.file.seq)
 
 -- why a batch is refused that may come next
-pub lone_fault : (c : Context) (e : Event) → IsRead c → MayFollow c e → marker_found e.file.queue e.items ≡ None → (x : Error) → IsStepsFault e.file.queue c.regions (steps_of_items e.items) x → IsBatchFault (reading_on c) e x
+pub lone_fault : (c : Context) (e : Event) → IsOfHistory c → MayFollow c e → marker_found e.file.queue e.items ≡ None → (x : Error) → IsStepsFault e.file.queue c.regions (steps_of_items e.items) x → IsBatchFault (reading_on c) e x
 lone_fault c e r n m (errors.Corruption text) f = inr (lone_refused c e m f)
 lone_fault c e r n m (errors.InvalidArgument text) f = absurd (omega (arith, f, alone_of e.file.queue c r n.queue))
 lone_fault c e r n m errors.Full f = (n, subst (λ m. 2 ^ 64 ≤ live_in_all e.file.queue c.regions.tables + records_in (completed_steps c.groups (batch_of e) m)) (sym (found_none e.file.queue e.items m)) f)
 lone_fault c e r n m errors.Memory f = tt
 lone_fault c e r n m _ f = absurd f
 
-pub group_fault : (c : Context) (e : Event) (id : ℕ) (s : AtomicGroupStatus) → IsRead c → MayFollow c e → marker_found e.file.queue e.items ≡ Some (id, s) → (x : Error)
+pub group_fault : (c : Context) (e : Event) (id : ℕ) (s : AtomicGroupStatus) → IsOfHistory c → MayFollow c e → marker_found e.file.queue e.items ≡ Some (id, s) → (x : Error)
     → IsStepsFault Rewrite c.regions (region_steps_or (whole_group (known c.groups id) (one_marker s (steps_of_items e.items) e.file.seq))) x → IsBatchFault (reading_on c) e x
 group_fault c e id s r n m (errors.Corruption text) f = inr (group_refused c e id s m f)
 group_fault c e id s r n m (errors.InvalidArgument text) f = absurd (omega (arith, f, alone_of Rewrite c r (subst (λ q. Suits q c.files) (found_some e.file.queue e.items id s m).0 n.queue)))
@@ -194,12 +194,12 @@ group_fault c e id s r n m errors.Memory f = tt
 group_fault c e id s r n m _ f = absurd f
 
 -- what a batch with a marker makes whole may be taken in
-pub group_takes : (c : Context) (e : Event) (id : ℕ) (s : AtomicGroupStatus) → IsRead c → MayFollow c e → marker_found e.file.queue e.items ≡ Some (id, s)
+pub group_takes : (c : Context) (e : Event) (id : ℕ) (s : AtomicGroupStatus) → IsOfHistory c → MayFollow c e → marker_found e.file.queue e.items ≡ Some (id, s)
     → MayTakeEffect (whole_group (known c.groups id) (one_marker s (steps_of_items e.items) e.file.seq))
 group_takes c e id s r n m = batch_takes c r.history e (record { group = id; status = s }) r.stands (next_of c e n) (found_some e.file.queue e.items id s m).0
 
 -- the steps that take effect with a batch are of its queue
-completed_in_queue : (c : Context) (e : Event) → IsRead c → MayFollow c e → AreStepsOfQueue e.file.queue (completed_steps c.groups (batch_of e) (batch_of e).marker)
+completed_in_queue : (c : Context) (e : Event) → IsOfHistory c → MayFollow c e → AreStepsOfQueue e.file.queue (completed_steps c.groups (batch_of e) (batch_of e).marker)
 completed_in_queue c e r n = go (batch_of e).marker refl
   where
     of : (w : Option WholeGroup) → MayTakeEffect w → AreStepsOfQueue Rewrite (region_steps_or w)
@@ -216,13 +216,13 @@ completed_in_queue c e r n = go (batch_of e).marker refl
         subst (λ q. AreStepsOfQueue q (region_steps_or (whole_group (known c.groups m.group) (one_marker m.status (steps_of_items e.items) e.file.seq)))) (sym queue)
         (of (whole_group (known c.groups m.group) (one_marker m.status (steps_of_items e.items) e.file.seq)) (batch_takes c r.history e m r.stands (next_of c e n) queue))
 
-steps_more : (c d : Context) (e : Event) → IsRead c → MayFollow c e → taken_in c e ≡ Some d → StandForSteps e.file.queue d.regions
+steps_more : (c d : Context) (e : Event) → IsOfHistory c → MayFollow c e → taken_in c e ≡ Some d → StandForSteps e.file.queue d.regions
 steps_more c d e r n t = let s = taken_some c d e t in
     subst (λ (d : Context). StandForSteps e.file.queue d.regions) s.2
     (stand_after e.file.queue c.regions s.0 (completed_steps c.groups (batch_of e) (batch_of e).marker) (completed_in_queue c e r n) (steps_of_read e.file.queue c r n.queue) s.1)
 
 -- with one more batch it was read from one history more
-pub read_more : (c d : Context) (e : Event) → IsRead c → MayFollow c e → taken_in c e ≡ Some d → live_in_all (other e.file.queue) d.regions.tables ≤ live_in_all (other e.file.queue) c.regions.tables → IsRead d
+pub read_more : (c d : Context) (e : Event) → IsOfHistory c → MayFollow c e → taken_in c e ≡ Some d → live_in_all (other e.file.queue) d.regions.tables ≤ live_in_all (other e.file.queue) c.regions.tables → IsOfHistory d
 read_more c d e r n t few = record {
   history = r.history ++ e ∷ [];
   stands = taken_stands c d r.history e (next_of c e n) r.stands t;
@@ -247,13 +247,13 @@ read_more c d e r n t few = record {
 abbrev pub both_wholes : Context → Context → List WholeGroup
 both_wholes c d = whole_groups c.groups d.groups
 
-pub sound_of : (q : LogQueue) (c : Context) (r : IsRead c) → Suits q c.files → IsSoundIn q r.history
+pub sound_of : (q : LogQueue) (c : Context) (r : IsOfHistory c) → Suits q c.files → IsSoundIn q r.history
 sound_of q c r u = (r.stands.stands q u).sound
 
-wholes_none : (c d : Context) (r : IsRead d) → Suits Append d.files → both_wholes c d ≡ []
+wholes_none : (c d : Context) (r : IsOfHistory d) → Suits Append d.files → both_wholes c d ≡ []
 wholes_none c d r u = ap (whole_groups c.groups) r.stands.groups ∙ no_wholes c.groups r.history (sound_of Append d r u).files
 
-pub merge_takes : (q : LogQueue) (c d : Context) → IsRead c → IsRead d → AreNeighbours q c d → AllByRecursion TakesEffect (both_wholes c d)
+pub merge_takes : (q : LogQueue) (c d : Context) → IsOfHistory c → IsOfHistory d → AreNeighbours q c d → AllByRecursion TakesEffect (both_wholes c d)
 merge_takes Append c d r s n = subst (AllByRecursion TakesEffect) (sym (wholes_none c d s n.newer)) tt
 merge_takes Rewrite c d r s n = subst (λ g. AllByRecursion TakesEffect (whole_groups g d.groups)) (sym r.stands.groups) (subst (λ g. AllByRecursion TakesEffect (whole_groups (groups_in (batches r.history)) g)) (sym s.stands.groups)
     (wholes_take r.history s.history (sound_of Rewrite c r n.older).files (sound_of Rewrite c r n.older).items (sound_of Rewrite d s n.newer).files (sound_of Rewrite d s n.newer).items
@@ -261,11 +261,11 @@ merge_takes Rewrite c d r s n = subst (λ g. AllByRecursion TakesEffect (whole_g
     (ap (λ f. follows f (files_of s.history)) (sym r.stands.files) ∙ ap (follows c.files) (sym s.stands.files) ∙ n.files)))))
 
 -- the append queue has none, so these are steps of either queue
-pub either_queue : (q : LogQueue) (c d : Context) → IsRead d → AreNeighbours q c d → regions_after Rewrite c.regions (region_steps_of_wholes (both_wholes c d)) ≡ regions_after q c.regions (region_steps_of_wholes (both_wholes c d))
+pub either_queue : (q : LogQueue) (c d : Context) → IsOfHistory d → AreNeighbours q c d → regions_after Rewrite c.regions (region_steps_of_wholes (both_wholes c d)) ≡ regions_after q c.regions (region_steps_of_wholes (both_wholes c d))
 either_queue Append c d s n = ap (λ ws. regions_after Rewrite c.regions (region_steps_of_wholes ws)) (wholes_none c d s n.newer) ∙ sym (ap (λ ws. regions_after Append c.regions (region_steps_of_wholes ws)) (wholes_none c d s n.newer))
 either_queue Rewrite c d s n = refl
 
-wholes_in_queue : (q : LogQueue) (c d : Context) → IsRead c → IsRead d → AreNeighbours q c d → AreStepsOfQueue q (region_steps_of_wholes (both_wholes c d))
+wholes_in_queue : (q : LogQueue) (c d : Context) → IsOfHistory c → IsOfHistory d → AreNeighbours q c d → AreStepsOfQueue q (region_steps_of_wholes (both_wholes c d))
 wholes_in_queue Append c d r s n = subst (λ ws. AreStepsOfQueue Append (region_steps_of_wholes ws)) (sym (wholes_none c d s n.newer)) tt
 wholes_in_queue Rewrite c d r s n = all (both_wholes c d) (merge_takes Rewrite c d r s n)
   where
@@ -275,8 +275,8 @@ wholes_in_queue Rewrite c d r s n = all (both_wholes c d) (merge_takes Rewrite c
 
 -- behind what two neighbours make whole
 pub record IsMiddle (q : LogQueue) (c d : Context) (middle : MarkedRegions) : Type 0 where
-  pub older : IsRead c
-  pub newer : IsRead d
+  pub older : IsOfHistory c
+  pub newer : IsOfHistory d
   pub neighbours : AreNeighbours q c d
   pub taken : regions_after Rewrite c.regions (region_steps_of_wholes (both_wholes c d)) ≡ Some middle
   pub few : live_in_all Append middle.tables ≤ live_in_all Append c.regions.tables
@@ -292,7 +292,7 @@ pub middle_records : (q : LogQueue) (c d : Context) (middle : MarkedRegions) →
 middle_records q c d middle m = omega (arith, read_records Rewrite c.regions middle (region_steps_of_wholes (both_wholes c d)) m.taken, wholes-records (both_wholes c d), merged_waiting c.groups d.groups)
 
 -- the groups are refused
-pub wholes_fault : (q : LogQueue) (c d : Context) → IsRead c → IsRead d → AreNeighbours q c d → both_wholes c d ≢ [] → (x : Error) → IsStepsFault Rewrite c.regions (region_steps_of_wholes (both_wholes c d)) x → IsNeighbourFault q (reading_on c) (reading_on d) x
+pub wholes_fault : (q : LogQueue) (c d : Context) → IsOfHistory c → IsOfHistory d → AreNeighbours q c d → both_wholes c d ≢ [] → (x : Error) → IsStepsFault Rewrite c.regions (region_steps_of_wholes (both_wholes c d)) x → IsNeighbourFault q (reading_on c) (reading_on d) x
 wholes_fault Append c d r s n some x f = absurd (some (wholes_none c d s n.newer))
 wholes_fault Rewrite c d r s n some (errors.Corruption text) f = ((n.older, n.newer), inr (inl f))
 wholes_fault Rewrite c d r s n some (errors.InvalidArgument text) f = absurd (omega (arith, f, alone_of Rewrite c r n.older))
@@ -319,7 +319,7 @@ join_merged q c d middle new m h = let j = h (middle_steps q c d middle m) (step
 
 -- both were read from both histories, one behind the other
 pub join_read : (q : LogQueue) (c d new : Context) (middle : MarkedRegions) → IsMiddle q c d middle → (StandForSteps q middle → StandForSteps q d.regions → AreJoined q middle d.regions new.regions)
-    → new ≡ merged_with c d new.regions → live_in_all (other q) new.regions.tables ≡ 0 → IsRead new
+    → new ≡ merged_with c d new.regions → live_in_all (other q) new.regions.tables ≡ 0 → IsOfHistory new
 join_read q c d new middle m h is alone = record {
   history = m.older.history ++ m.newer.history;
   stands = subst (λ x. StandsFor x (m.older.history ++ m.newer.history)) (sym is) (regions_stand q c d m.older.history m.newer.history new.regions

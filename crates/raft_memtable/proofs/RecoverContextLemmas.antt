@@ -11,15 +11,15 @@ use Rattle.raft_history.specs.Histories.{IsSmall, Sound, Apart, IsOfQueue, IsOne
 use Rattle.raft_history.proofs.ContextLaws.{Merges, exact_reading, regions_stand, regions_exact, regions_unsound}
 use Rattle.raft_history.proofs.NewLaws.{new_exact}
 use Rattle.raft_history.proofs.SoundLemmas.{follow_files}
-use Rattle.raft_history.proofs.StretchOfHistory.{size-append, of_front, of_back}
+use Rattle.raft_history.proofs.StretchOfHistory.{size-append, size-one, of_front, of_back}
 use Rattle.raft_history.proofs.TakenLaws.{IsNext, taken_stands, taken_exact, taken_none, next_sound}
 use Rattle.raft_history.specs.Kept.{kept_of, kept_by, IsAtMost}
 use Rattle.raft_history.specs.RegionSteps.{Tables}
 use Rattle.raft_history.proofs.KeptLaws.{kept_at_most}
-use Rattle.raft_memtable.specs.ReadStates.{IsRead}
+use Rattle.raft_memtable.specs.ReadStates.{IsOfHistory}
 use Rattle.raft_memtable.proofs.LiveSteps.{live-le-all}
 use Rattle.raft_memtable.proofs.ReadStateLemmas.{completed_records}
-use Rattle.raft_memtable.specs.RecoverContext.{RecoverContext, IsReading, IsReadingExactly, MayFollow, IsTakenIn, reading_on, IsBatchFault, AreNeighbours, IsMergedWith, IsNeighbourFault}
+use Rattle.raft_memtable.specs.RecoverContext.{RecoverContext, HasRead, HasReadExactly, MayFollow, IsBatchTaken, reading_on, IsBatchFault, AreNeighbours, IsMergedWith, IsNeighbourFault}
 use Rattle.raft_memtable.specs.declared.context_stage.ContextStage.{ContextStage}
 use Rattle.raft_memtable.specs.declared.context_stage.ContextStage.TheVariants.{Reading}
 
@@ -39,10 +39,10 @@ if_ok (Err e) f p = p
 
 -- ---- a new context
 
-pub new_read : IsRead new_context
+pub new_read : IsOfHistory new_context
 new_read = record { history = []; stands = new_exact.stands; alone = tt; steps = tt }
 
-pub new_reads_as : (c : Context) → c ≡ new_context → IsReadingExactly (record { stage = Reading; context = c }) []
+pub new_reads_as : (c : Context) → c ≡ new_context → HasReadExactly (record { stage = Reading; context = c }) []
 new_reads_as c e = record { stage = refl; exact = subst (λ c. IsExactFor c []) (sym e) new_exact }
 
 -- ---- one more batch
@@ -53,16 +53,16 @@ next_of c e m = record { suits = m.queue; follows = m.files; in_file = m.items; 
 may_of : (c : Context) (e : Event) → IsNext c e → MayFollow c e
 may_of c e n = record { queue = n.suits; files = n.follows; items = n.in_file; markers = n.status }
 
-pub replay_stands : (c d : RecoverContext) (h : List Event) (e : Event) → IsTakenIn e c d → IsReading c h → IsReading d (h ++ e ∷ [])
+pub replay_stands : (c d : RecoverContext) (h : List Event) (e : Event) → IsBatchTaken e c d → HasRead c h → HasRead d (h ++ e ∷ [])
 replay_stands c d h e t r = record { stage = t.after; stands = taken_stands c.context d.context h e (next_of c.context e t.next) r.stands t.taken }
 
-pub replay_exact : (c d : RecoverContext) (h : List Event) (e : Event) → IsTakenIn e c d → IsReadingExactly c h → IsReadingExactly d (h ++ e ∷ [])
+pub replay_exact : (c d : RecoverContext) (h : List Event) (e : Event) → IsBatchTaken e c d → HasReadExactly c h → HasReadExactly d (h ++ e ∷ [])
 replay_exact c d h e t r = record { stage = t.after; exact = taken_exact c.context d.context h e (next_of c.context e t.next) r.exact t.taken }
 
-pub replay_unsound : (c : RecoverContext) (h : List Event) (e : Event) → IsSmall (h ++ e ∷ []) → IsReading c h → (x : Error) → x ≢ errors.Memory → IsBatchFault c e x → Sound (h ++ e ∷ []) → ⊥
+pub replay_unsound : (c : RecoverContext) (h : List Event) (e : Event) → IsSmall (h ++ e ∷ []) → HasRead c h → (x : Error) → x ≢ errors.Memory → IsBatchFault c e x → Sound (h ++ e ∷ []) → ⊥
 replay_unsound c h e small r (errors.Corruption text) k (inl unfit) sound = unfit (may_of c.context e (next_sound c.context h e r.stands sound))
 replay_unsound c h e small r (errors.Corruption text) k (inr none) sound = taken_none c.context h e (next_sound c.context h e r.stands sound) r.stands none sound
-replay_unsound c h e small r errors.Full k full sound = omega (arith, full.1, live-le-all e.file.queue c.context.regions.tables, completed_records c.context e, small.few, r.stands.few, size-append h (e ∷ []))
+replay_unsound c h e small r errors.Full k full sound = omega (arith, full.1, live-le-all e.file.queue c.context.regions.tables, completed_records c.context e, small.few, r.stands.few, size-append h (e ∷ []), size-one e)
 replay_unsound c h e small r errors.Failed k stage sound = stage r.stage
 replay_unsound c h e small r errors.Memory k f sound = k refl
 replay_unsound c h e small r _ k f sound = f
@@ -80,16 +80,16 @@ batch_fault s c e _ f = absurd f
 merges : (q : LogQueue) (c d : Context) (h g : List Event) → AreNeighbours q c d → StandsFor c h → StandsFor d g → Merges q c d h g
 merges q c d h g n a b = record { older_suits = n.older; newer_suits = n.newer; older = a; newer = b }
 
-pub merge_stands : (q : LogQueue) (c d new : RecoverContext) (h g : List Event) → IsMergedWith q d c new → IsReading c h → IsReading d g → IsReading new (h ++ g)
+pub merge_stands : (q : LogQueue) (c d new : RecoverContext) (h g : List Event) → IsMergedWith q d c new → HasRead c h → HasRead d g → HasRead new (h ++ g)
 merge_stands q c d new h g m a b = record {
   stage = m.after;
   stands = subst (λ x. StandsFor x (h ++ g)) (sym m.merged) (regions_stand q c.context d.context h g new.context.regions (merges q c.context d.context h g m.neighbours a.stands b.stands) m.neighbours.files m.regions);
 }
 
-pub merge_exact : (q : LogQueue) (c d new : RecoverContext) (h g : List Event) → Apart (h ++ g) → IsMergedWith q d c new → IsReadingExactly c h → IsReadingExactly d g → IsReadingExactly new (h ++ g)
+pub merge_exact : (q : LogQueue) (c d new : RecoverContext) (h g : List Event) → Apart (h ++ g) → IsMergedWith q d c new → HasReadExactly c h → HasReadExactly d g → HasReadExactly new (h ++ g)
 merge_exact q c d new h g apart m a b = record {
   stage = m.after;
-  exact = subst (λ x. IsExactFor x (h ++ g)) (sym m.merged) (regions_exact q c.context d.context h g new.context.regions (merges q c.context d.context h g m.neighbours a.exact.stands b.exact.stands) a.exact b.exact apart.apart m.neighbours.files m.regions);
+  exact = subst (λ x. IsExactFor x (h ++ g)) (sym m.merged) (regions_exact q c.context d.context h g new.context.regions (merges q c.context d.context h g m.neighbours a.exact.stands b.exact.stands) a.exact b.exact apart.each m.neighbours.files m.regions);
 }
 
 pub suits_of : (q : LogQueue) (h : List Event) → IsOfQueue q h → Suits q (files_of h)
@@ -103,7 +103,7 @@ neighbours q c d h g o a b sound = record {
   files = ap (λ x. follows x d.files) a.files ∙ ap (follows (files_of h)) b.files ∙ follow_files sound.queue h g sound.sound.files;
 }
 
-pub merge_unsound : (q : LogQueue) (c d : RecoverContext) (h g : List Event) → IsSmall (h ++ g) → IsOfQueue q (h ++ g) → IsReading c h → IsReading d g → (x : Error) → x ≢ errors.Memory → IsNeighbourFault q c d x → Sound (h ++ g) → ⊥
+pub merge_unsound : (q : LogQueue) (c d : RecoverContext) (h g : List Event) → IsSmall (h ++ g) → IsOfQueue q (h ++ g) → HasRead c h → HasRead d g → (x : Error) → x ≢ errors.Memory → IsNeighbourFault q c d x → Sound (h ++ g) → ⊥
 merge_unsound q c d h g small o a b (errors.InvalidArgument text) k other sound = let n = neighbours q c.context d.context h g o a.stands b.stands sound in other (n.older, n.newer)
 merge_unsound q c d h g small o a b (errors.Corruption text) k (both, inl files) sound = false≢true (sym files ∙ (neighbours q c.context d.context h g o a.stands b.stands sound).files)
 merge_unsound q c d h g small o a b (errors.Corruption text) k (both, inr refused) sound = regions_unsound q c.context d.context h g (merges q c.context d.context h g (neighbours q c.context d.context h g o a.stands b.stands sound) a.stands b.stands) refused sound
@@ -125,10 +125,10 @@ neighbour_fault q s t c d _ f = absurd f
 
 -- ---- what was read
 
-pub one_reading : (q : LogQueue) (c : RecoverContext) (h : List Event) → IsReadingExactly c h → Suits q c.context.files → IsOneReading q h c.context.regions.tables c.context.cleaned
+pub one_reading : (q : LogQueue) (c : RecoverContext) (h : List Event) → HasReadExactly c h → Suits q c.context.files → IsOneReading q h c.context.regions.tables c.context.cleaned
 one_reading q c h r u = record { tables_read = exact_reading q c.context.regions (batches h) (r.exact.regions q u); regions_cleaned = (r.exact.stands.stands q u).cleaned }
 
 -- ---- numbers
 
-pub keeps_little : (q : LogQueue) (c : RecoverContext) (h : List Event) (tables : Tables) (cleaned : List ℕ) → IsReadingExactly c h → Suits q c.context.files → IsOneReading q h tables cleaned → IsAtMost (kept_of c.context) (kept_by q h tables)
+pub keeps_little : (q : LogQueue) (c : RecoverContext) (h : List Event) (tables : Tables) (cleaned : List ℕ) → HasReadExactly c h → Suits q c.context.files → IsOneReading q h tables cleaned → IsAtMost (kept_of c.context) (kept_by q h tables)
 keeps_little q c h tables cleaned r u one = kept_at_most q c.context h tables cleaned r.exact u one

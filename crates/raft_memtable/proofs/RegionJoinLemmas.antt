@@ -13,7 +13,7 @@ use Rattle.raft_base.specs.declared.errors.Error.TheVariants as errors
 use Rattle.raft_base.specs.declared.pipe_log.LogQueue.{LogQueue}
 use Rattle.raft_table.specs.Counts.{Counts}
 use Rattle.raft_table.specs.MarkMerge.{IsFaultUnder, IsRunOver}
-use Rattle.raft_table.specs.Marks.{Mark, applied}
+use Rattle.raft_table.specs.Marks.{Mark, table_over_older}
 use Rattle.raft_table.specs.MarkJoins.{fresh, joined_mark, joined_at, end_at_reach}
 use Rattle.raft_table.specs.Queues.{other}
 use Rattle.raft_table.specs.Steps.{table_of}
@@ -27,11 +27,11 @@ use Rattle.raft_history.specs.MarkedRegions.{Marks, MarkedRegions, region_in, wi
 use Rattle.raft_history.specs.Records.{total_of, total, table_records, all_records}
 use Rattle.raft_history.specs.RegionSteps.{Tables, with_table}
 use Rattle.raft_history.proofs.JoinLemmas.{each_joined, each_refused, each_marked}
-use Rattle.raft_accessor.specs.Accessor.{table_in, live_in, live_of_all, live_in_all, AreCountsOf}
+use Rattle.raft_accessor.specs.Accessor.{table_in, live_in, live_in_all, AreCountsOf}
 use Rattle.raft_memtable.specs.RegionMarks.{mark_in}
 use Rattle.raft_accessor.specs.TableJoins.{IsMixFault}
 use Rattle.raft_memtable.specs.RegionJoins.{AreRunsOver, IsJoinFault}
-use Rattle.raft_accessor.proofs.LiveLemmas.{live-remove, live-with, live-table_of}
+use Rattle.raft_accessor.proofs.LiveLemmas.{live_of_all, live-all, live-remove, live-with, live-table_of}
 use Rattle.raft_accessor.proofs.MapLemmas.{none_some, by_id, eq_self, self_same, get_own, get_left, with_other}
 use Rattle.raft_accessor.proofs.RegionTablesLemmas.{same_test}
 use Rattle.std.proofs.lemmas.Bool.{false≢true}
@@ -43,8 +43,8 @@ live_all-le q [] = omega arith
 live_all-le q (e ∷ es) = omega (arith, live_all-le q es, entry_count-le q e.1.entries, pair_count-le-len q e.1.keys)
 
 pub live-le-records : (q : LogQueue) (m : Tables) → live_in_all q m ≤ all_records m
-unfolding live_in_all total
-live-le-records q m = live_all-le q (finite.entries m)
+unfolding total
+live-le-records q m = rw (live-all q m) (live_all-le q (finite.entries m))
 
 -- ---- marks in any order
 
@@ -158,7 +158,7 @@ module _ (queue : LogQueue) (newer : Tables) (first : MarkedRegions) (all : List
   pub joining_fault : (counts : Counts) (e : Error) → AreCountsOf now.tables counts → AreRunsOf queue newer first.tables all → IsFaultUnder queue counts m (table_of id (finite.get left id)) (table_in now.tables id) e → IsLoopFault queue newer first all e
   joining_fault counts (errors.Corruption text) counted runs r = each_here runs ∙ ap (option_and_then (λ x. joined_each queue newer (with_region now id x) es)) none
     where
-      gone : applied queue id m (finite.get left id) (finite.get now.tables id) ≡ None
+      gone : table_over_older queue id m (finite.get left id) (finite.get now.tables id) ≡ None
       gone = rw r refl
 
       none : joined_region queue id (region_in now id) record { mark = m; table = finite.get left id } ≡ None
@@ -232,7 +232,7 @@ region_with old new id m t e =
     mark_now old new id m e = ap (λ (o : Option Mark). unwrap_or o fresh) (ap (λ x. finite.get x id) e ∙ get_own old.marks id m)
 
 pub region_joined : (queue : LogQueue) (old new : MarkedRegions) (id : ℕ) (m : Mark) (newer : Option Table) (end : ℕ) → end ≡ end_at_reach m (table_in old.tables id) → new.marks ≡ finite.insert old.marks id (joined_at queue end (mark_in old.marks id) m)
-    → applied queue id m newer (finite.get old.tables id) ≡ Some (finite.get new.tables id) → joined_region queue id (region_in old id) record { mark = m; table = newer } ≡ Some (region_in new id)
+    → table_over_older queue id m newer (finite.get old.tables id) ≡ Some (finite.get new.tables id) → joined_region queue id (region_in old id) record { mark = m; table = newer } ≡ Some (region_in new id)
 region_joined queue old new id m newer end at e is =
     let now : (region_in new id).mark ≡ joined_at queue end (mark_in old.marks id) m = ap (λ (o : Option Mark). unwrap_or o fresh) (ap (λ x. finite.get x id) e ∙ get_own old.marks id _) in
     ap (option_map (λ t. record { mark = joined_mark queue id (region_in old id).mark (region_in old id).table m; table = t })) is

@@ -17,16 +17,16 @@ use Rattle.raft_table.specs.TableEntries.{IsRunIn, end_of}
 use Rattle.raft_table.specs.MarkJoins.{joined_mark, joined_at, end_at_reach, fresh, mark_of}
 use Rattle.raft_table.specs.Marks.{Mark}
 use Rattle.raft_table.specs.Queues.{other, count_in, is_same}
-use Rattle.raft_table.specs.Steps.{Step, Run, Put, Clean, table_of, there_if, after_step}
+use Rattle.raft_table.specs.Steps.{Step, Run, Put, Clean, table_of, after_step}
 use Rattle.raft_table.specs.Table.{Table, after_replay, IsTablePutFault}
 use Rattle.raft_table.proofs.MarkExact.{joined_fresh}
 use Rattle.raft_table.proofs.MarkWords.{within-whole}
 use Rattle.raft_table.proofs.TableLemmas.{count_in_own}
 use Rattle.raft_history.specs.Histories.{records_in}
 use Rattle.raft_history.specs.MarkedRegions.{Marks, MarkedRegions, MarkedRegion, region_in, with_region, stepped_region, regions_after}
-use Rattle.raft_history.specs.RegionSteps.{RegionStep, Tables, with_table, steps_of_items, cleaned_by}
+use Rattle.raft_history.specs.RegionSteps.{RegionStep, Tables, with_table, steps_of_items, cleaned_by, cleaned_by_steps}
 use Rattle.raft_accessor.specs.Accessor.{Accessor, table_in, live_in_all, AreCountsOf}
-use Rattle.raft_memtable.specs.MarkedTables.{regions_in, AreStepsOfQueue, IsStepsFault, one_step, first_index, listed, AreTaken}
+use Rattle.raft_memtable.specs.MarkedTables.{regions_in, AreStepsOfQueue, IsStepsFault, one_step, first_index, AreStepsTaken}
 use Rattle.raft_memtable.specs.RegionMarks.{mark_in}
 use Rattle.raft_accessor.specs.Updates.{IsReplayFault}
 use Rattle.raft_accessor.specs.Writes.{Replaying, IsWriteFault}
@@ -52,11 +52,11 @@ pub records-append : (xs ys : List RegionStep) → records_in (xs ++ ys) ≡ rec
 records-append [] ys = omega arith
 records-append (x ∷ xs) ys = omega (arith, records-append xs ys)
 
-listed-nil : (q : LogQueue) → listed q [] ≡ []
+listed-nil : (q : LogQueue) → cleaned_by_steps q [] ≡ []
 listed-nil Append = refl
 listed-nil Rewrite = refl
 
-listed-append : (q : LogQueue) (xs ys : List RegionStep) → listed q (xs ++ ys) ≡ listed q xs ++ listed q ys
+listed-append : (q : LogQueue) (xs ys : List RegionStep) → cleaned_by_steps q (xs ++ ys) ≡ cleaned_by_steps q xs ++ cleaned_by_steps q ys
 listed-append Append xs ys = flat_map-append (λ s. cleaned_by s.region s.step) xs ys
 listed-append Rewrite xs ys = refl
 
@@ -80,27 +80,27 @@ fault-front q rs xs ys errors.Full f = omega (arith, f, records-append xs ys)
 fault-front q rs xs ys errors.Memory f = tt
 fault-front q rs xs ys _ f = absurd f
 
-pub taken_none : (q : LogQueue) (a : MarkedTables) → AreTaken q [] (Ok tt) a a
+pub taken_none : (q : LogQueue) (a : MarkedTables) → AreStepsTaken q [] (Ok tt) a a
 taken_none q a = record { ok = refl; cleaned = sym (ap (λ l. a.accessor.cleaned ++ l) (listed-nil q) ∙ append-nil a.accessor.cleaned); fault = tt }
 
-pub taken_memory : (q : LogQueue) (steps : List RegionStep) (a b : MarkedTables) (e : Error) → e ≡ errors.Memory → AreTaken q steps (Err e) a b
+pub taken_memory : (q : LogQueue) (steps : List RegionStep) (a b : MarkedTables) (e : Error) → e ≡ errors.Memory → AreStepsTaken q steps (Err e) a b
 taken_memory q steps a b e is = record { ok = tt; cleaned = tt; fault = subst (IsStepsFault q (regions_in a) steps) (sym is) tt }
 
 -- steps behind some that are taken in
-pub taken_more : (q : LogQueue) (xs ys : List RegionStep) (a b c : MarkedTables) (r : Result Unit Error) → AreStepsOfQueue q xs → AreTaken q xs (Ok tt) a b → AreTaken q ys r b c → AreTaken q (xs ++ ys) r a c
+pub taken_more : (q : LogQueue) (xs ys : List RegionStep) (a b c : MarkedTables) (r : Result Unit Error) → AreStepsOfQueue q xs → AreStepsTaken q xs (Ok tt) a b → AreStepsTaken q ys r b c → AreStepsTaken q (xs ++ ys) r a c
 taken_more q xs ys a b c r h s t =
     let rest : regions_after q (regions_in a) (xs ++ ys) ≡ regions_after q (regions_in b) ys = after-append q (regions_in a) xs ys ∙ ap (option_and_then (λ x. regions_after q x ys)) s.ok in
     record {
       ok = elim r as (λ r. OnOk r (regions_after q (regions_in b) ys ≡ Some (regions_in c)) → OnOk r (regions_after q (regions_in a) (xs ++ ys) ≡ Some (regions_in c))) [ Ok u ↦ λ e. rest ∙ e | Err x ↦ λ e. tt ] t.ok;
-      cleaned = elim r as (λ r. OnOk r (c.accessor.cleaned ≡ b.accessor.cleaned ++ listed q ys) → OnOk r (c.accessor.cleaned ≡ a.accessor.cleaned ++ listed q (xs ++ ys))) [
-        | Ok u ↦ λ e. e ∙ ap (λ l. l ++ listed q ys) s.cleaned ∙ append_assoc a.accessor.cleaned (listed q xs) (listed q ys) ∙ ap (λ l. a.accessor.cleaned ++ l) (sym (listed-append q xs ys))
+      cleaned = elim r as (λ r. OnOk r (c.accessor.cleaned ≡ b.accessor.cleaned ++ cleaned_by_steps q ys) → OnOk r (c.accessor.cleaned ≡ a.accessor.cleaned ++ cleaned_by_steps q (xs ++ ys))) [
+        | Ok u ↦ λ e. e ∙ ap (λ l. l ++ cleaned_by_steps q ys) s.cleaned ∙ append_assoc a.accessor.cleaned (cleaned_by_steps q xs) (cleaned_by_steps q ys) ∙ ap (λ l. a.accessor.cleaned ++ l) (sym (listed-append q xs ys))
         | Err x ↦ λ e. tt
       ] t.cleaned;
       fault = elim r as (λ r. IfErr r (IsStepsFault q (regions_in b) ys) → IfErr r (IsStepsFault q (regions_in a) (xs ++ ys))) [ Ok u ↦ λ f. tt | Err x ↦ λ f. fault-behind q (regions_in a) (regions_in b) xs ys x h s.ok f ] t.fault;
     }
 
 -- where some are refused, so are they with more behind them
-pub taken_refused : (q : LogQueue) (xs ys : List RegionStep) (a b : MarkedTables) (e : Error) → AreTaken q xs (Err e) a b → AreTaken q (xs ++ ys) (Err e) a b
+pub taken_refused : (q : LogQueue) (xs ys : List RegionStep) (a b : MarkedTables) (e : Error) → AreStepsTaken q xs (Err e) a b → AreStepsTaken q (xs ++ ys) (Err e) a b
 taken_refused q xs ys a b e s = record { ok = tt; cleaned = tt; fault = fault-front q (regions_in a) xs ys e s.fault }
 
 -- ---- one step
@@ -113,8 +113,8 @@ module _ (q : LogQueue) (id : ℕ) (s : Step) (a b : MarkedTables) where
   put t = record { mark = joined_mark q id (mark_in a.marks id) (finite.get a.accessor.tables id) (mark_of s); table = t }
 
   -- by what the marks answer
-  pub step_taken : (r : Result Unit Error) (t : Option Table) → after_step q id (finite.get a.accessor.tables id) s ≡ Some t → b.accessor.tables ≡ with_table a.accessor.tables id t
-      → b.accessor.cleaned ≡ a.accessor.cleaned ++ listed q (one_step id s) → OnOk r (b.marks ≡ finite.insert a.marks id (joined_mark q id (mark_in a.marks id) (finite.get a.accessor.tables id) (mark_of s))) → IfErr r (λ e. e ≡ errors.Memory) → AreTaken q (one_step id s) r a b
+  pub step_taken : (r : Result Unit Error) (t : Option Table) → after_step q (table_of id (finite.get a.accessor.tables id)) s ≡ Some t → b.accessor.tables ≡ with_table a.accessor.tables id t
+      → b.accessor.cleaned ≡ a.accessor.cleaned ++ cleaned_by_steps q (one_step id s) → OnOk r (b.marks ≡ finite.insert a.marks id (joined_mark q id (mark_in a.marks id) (finite.get a.accessor.tables id) (mark_of s))) → IfErr r (λ e. e ≡ errors.Memory) → AreStepsTaken q (one_step id s) r a b
   step_taken (Ok u) t e k l m n = record {
     ok = ap (λ o. option_and_then (λ x. regions_after q (with_region (regions_in a) id x) []) (option_map put o)) e ∙ ap Some (ap (λ ts. made ts (finite.insert a.marks id (put t).mark)) (sym k) ∙ ap (made b.accessor.tables) (sym m));
     cleaned = l;
@@ -122,20 +122,20 @@ module _ (q : LogQueue) (id : ℕ) (s : Step) (a b : MarkedTables) where
   }
   step_taken (Err x) t e k l m n = taken_memory q (one_step id s) a b x n
 
-  pub step_refused : (e : Error) → IsStepsFault q (regions_in a) (one_step id s) e → AreTaken q (one_step id s) (Err e) a b
+  pub step_refused : (e : Error) → IsStepsFault q (regions_in a) (one_step id s) e → AreStepsTaken q (one_step id s) (Err e) a b
   step_refused e f = record { ok = tt; cleaned = tt; fault = f }
 
-  pub no_step : after_step q id (finite.get a.accessor.tables id) s ≡ None → regions_after q (regions_in a) (one_step id s) ≡ None
+  pub no_step : after_step q (table_of id (finite.get a.accessor.tables id)) s ≡ None → regions_after q (regions_in a) (one_step id s) ≡ None
   no_step none = ap (λ o. option_and_then (λ x. regions_after q (with_region (regions_in a) id x) []) (option_map put o)) none
 
 -- a step that changes a table, which is there afterwards
 module _ (q : LogQueue) (id : ℕ) (s : Step) (a : MarkedTables) (mid : Accessor) (marks : Marks) where
-  none_cleaned : (p : LogQueue) → cleaned_by id s ≡ [] → listed p (one_step id s) ≡ []
+  none_cleaned : (p : LogQueue) → cleaned_by id s ≡ [] → cleaned_by_steps p (one_step id s) ≡ []
   none_cleaned Append e = ap (λ l. l ++ []) e
   none_cleaned Rewrite e = refl
 
-  pub changed_taken : (r : Result Unit Error) (outcome : Option Table) → after_step q id (finite.get a.accessor.tables id) s ≡ option_map (λ t. Some t) outcome → outcome ≡ Some (table_in mid.tables id) → mid.tables ≡ finite.insert a.accessor.tables id (table_in mid.tables id)
-      → mid.cleaned ≡ a.accessor.cleaned → cleaned_by id s ≡ [] → OnOk r (marks ≡ finite.insert a.marks id (joined_mark q id (mark_in a.marks id) (finite.get a.accessor.tables id) (mark_of s))) → IfErr r (λ e. e ≡ errors.Memory) → AreTaken q (one_step id s) r a (record { accessor = mid; marks = marks })
+  pub changed_taken : (r : Result Unit Error) (outcome : Option Table) → after_step q (table_of id (finite.get a.accessor.tables id)) s ≡ option_map (λ t. Some t) outcome → outcome ≡ Some (table_in mid.tables id) → mid.tables ≡ finite.insert a.accessor.tables id (table_in mid.tables id)
+      → mid.cleaned ≡ a.accessor.cleaned → cleaned_by id s ≡ [] → OnOk r (marks ≡ finite.insert a.marks id (joined_mark q id (mark_in a.marks id) (finite.get a.accessor.tables id) (mark_of s))) → IfErr r (λ e. e ≡ errors.Memory) → AreStepsTaken q (one_step id s) r a (record { accessor = mid; marks = marks })
   changed_taken r outcome e k t l n m f =
       step_taken q id s a (record { accessor = mid; marks = marks }) r (Some (table_in mid.tables id)) (e ∙ ap (option_map (λ t. Some t)) k) t
       (l ∙ sym (ap (λ l. a.accessor.cleaned ++ l) (none_cleaned q n) ∙ append-nil a.accessor.cleaned)) m f
@@ -148,7 +148,7 @@ none_of (Some t) e = absurd cc
 
 run_by : (q : LogQueue) (id : ℕ) (run : List EntryIndex) (a b : MarkedTables) (n : ℕ) (e : Error) → IsRunIn q run → n ≡ live_in_all q a.accessor.tables → IsWriteFault (Replaying q) id (finite.get a.accessor.tables id) n (entries run) e → IsStepsFault q (regions_in a) (one_step id (Run run)) e
 run_by q id run a b n (errors.Corruption text) h is (inl f) = absurd (f h)
-run_by q id run a b n (errors.Corruption text) h is (inr f) = no_step q id (Run run) a b (ap (there_if true) (none_of _ f))
+run_by q id run a b n (errors.Corruption text) h is (inr f) = no_step q id (Run run) a b (ap (λ (t : Option Table). option_map Some t) (none_of _ f))
 run_by q id run a b n (errors.InvalidArgument text) h is f = omega (arith, f, table_live-le (other q) a.accessor.tables id)
 run_by q id run a b n errors.Full h is f = omega (arith, f, is)
 run_by q id run a b n errors.Memory h is f = tt
@@ -185,44 +185,40 @@ pub no_run : (run : List EntryIndex) → first_index run ≡ None → mark_of (R
 no_run [] e = refl
 no_run (x ∷ run) e = absurd (none_some (sym e))
 
-pub run_step : (q : LogQueue) (id : ℕ) (o : Option Table) (run : List EntryIndex) → after_step q id o (Run run) ≡ option_map (λ t. Some t) (after_replay q (table_of id o) run)
-run_step q id o run = go (after_replay q (table_of id o) run)
-  where
-    go : (t : Option Table) → there_if true t ≡ option_map (λ t. Some t) t
-    go None = refl
-    go (Some t) = refl
+pub run_step : (q : LogQueue) (id : ℕ) (o : Option Table) (run : List EntryIndex) → after_step q (table_of id o) (Run run) ≡ option_map (λ t. Some t) (after_replay q (table_of id o) run)
+run_step q id o run = refl
 
 -- ---- steps that are refused
 
-pub run_taken : (q : LogQueue) (id : ℕ) (run : List EntryIndex) (a b : MarkedTables) (e : Error) → IsRunIn q run → AreCountsOf a.accessor.tables a.accessor.counts → (e ≡ errors.Memory) ⊎ IsReplayFault q run (table_in a.accessor.tables id) a.accessor.counts e → AreTaken q (one_step id (Run run)) (Err e) a b
+pub run_taken : (q : LogQueue) (id : ℕ) (run : List EntryIndex) (a b : MarkedTables) (e : Error) → IsRunIn q run → AreCountsOf a.accessor.tables a.accessor.counts → (e ≡ errors.Memory) ⊎ IsReplayFault q run (table_in a.accessor.tables id) a.accessor.counts e → AreStepsTaken q (one_step id (Run run)) (Err e) a b
 run_taken q id run a b e h counted (inl is) = taken_memory q (one_step id (Run run)) a b e is
 run_taken q id run a b e h counted (inr f) = step_refused q id (Run run) a b e (run_by q id run a b (live q a.accessor.counts) e h (counted q) (replay_fault q id (finite.get a.accessor.tables id) run a.accessor.counts e f))
 
-pub put_taken : (q : LogQueue) (id : ℕ) (key value : List ℕ) (file : FileId) (replaced : Option FileId) (a b : MarkedTables) (e : Error) → file.queue ≡ q → AreCountsOf a.accessor.tables a.accessor.counts → (e ≡ errors.Memory) ⊎ IsTablePutFault file.queue a.accessor.counts replaced e → AreTaken q (one_step id (Put key value file)) (Err e) a b
+pub put_taken : (q : LogQueue) (id : ℕ) (key value : List ℕ) (file : FileId) (replaced : Option FileId) (a b : MarkedTables) (e : Error) → file.queue ≡ q → AreCountsOf a.accessor.tables a.accessor.counts → (e ≡ errors.Memory) ⊎ IsTablePutFault file.queue a.accessor.counts replaced e → AreStepsTaken q (one_step id (Put key value file)) (Err e) a b
 put_taken q id key value file replaced a b e h counted (inl is) = taken_memory q (one_step id (Put key value file)) a b e is
 put_taken q id key value file replaced a b e h counted (inr f) = step_refused q id (Put key value file) a b e (put_by q id key value file replaced a e (counted q) (subst (λ q. IsTablePutFault q a.accessor.counts replaced e) h f))
 
 -- ---- a region that is cleaned
 
-cleaned_list : (q : LogQueue) (id : ℕ) (old : List ℕ) → cond (is_same Append q) (old ++ id ∷ []) old ≡ old ++ listed q (one_step id Clean)
+cleaned_list : (q : LogQueue) (id : ℕ) (old : List ℕ) → cond (is_same Append q) (old ++ id ∷ []) old ≡ old ++ cleaned_by_steps q (one_step id Clean)
 cleaned_list Append id old = refl
 cleaned_list Rewrite id old = sym (append-nil old)
 
 pub clean_taken : (q : LogQueue) (id : ℕ) (a : MarkedTables) (mid : Accessor) (marks : Marks) (r : Result Unit Error) (b : Bool) → b ≡ is_same Append q → mid.tables ≡ finite.remove a.accessor.tables id → mid.cleaned ≡ cond b (a.accessor.cleaned ++ id ∷ []) a.accessor.cleaned
-    → OnOk r (marks ≡ finite.insert a.marks id (joined_mark q id (mark_in a.marks id) (finite.get a.accessor.tables id) (mark_of Clean))) → IfErr r (λ e. e ≡ errors.Memory) → AreTaken q (one_step id Clean) r a (record { accessor = mid; marks = marks })
+    → OnOk r (marks ≡ finite.insert a.marks id (joined_mark q id (mark_in a.marks id) (finite.get a.accessor.tables id) (mark_of Clean))) → IfErr r (λ e. e ≡ errors.Memory) → AreStepsTaken q (one_step id Clean) r a (record { accessor = mid; marks = marks })
 clean_taken q id a mid marks r b e t l m f =
     step_taken q id Clean a (record { accessor = mid; marks = marks }) r None refl t (l ∙ ap (λ b. cond b (a.accessor.cleaned ++ id ∷ []) a.accessor.cleaned) e ∙ cleaned_list q id a.accessor.cleaned) m f
 
 -- ---- items, one after another
 
 -- what a run tried first tells: it is taken in, or all is as it was
-pub tried : (q : LogQueue) (steps : List RegionStep) (a b : MarkedTables) (taken : Bool) → taken ≡ true → MatchBool taken (AreTaken q steps (Ok tt) a b) (b ≡ a) → AreTaken q steps (Ok tt) a b
+pub tried : (q : LogQueue) (steps : List RegionStep) (a b : MarkedTables) (taken : Bool) → taken ≡ true → MatchBool taken (AreStepsTaken q steps (Ok tt) a b) (b ≡ a) → AreStepsTaken q steps (Ok tt) a b
 tried q steps a b taken e h = rw e at h
 
-pub not_tried : (q : LogQueue) (steps : List RegionStep) (a b c : MarkedTables) (r : Result Unit Error) (taken : Bool) → taken ≡ false → MatchBool taken (AreTaken q steps (Ok tt) a b) (b ≡ a) → AreTaken q steps r b c → AreTaken q steps r a c
+pub not_tried : (q : LogQueue) (steps : List RegionStep) (a b c : MarkedTables) (r : Result Unit Error) (taken : Bool) → taken ≡ false → MatchBool taken (AreStepsTaken q steps (Ok tt) a b) (b ≡ a) → AreStepsTaken q steps r b c → AreStepsTaken q steps r a c
 not_tried q steps a b c r taken e h t =
     let k : b ≡ a = rw e at h in
-    subst (λ x. AreTaken q steps r x c) k t
+    subst (λ x. AreStepsTaken q steps r x c) k t
 
 split_items : (q : LogQueue) (x : LogItem) (xs ys : List LogItem) → ys ≡ x ∷ xs → steps_of_items (map item_of ys) ≡ steps_of_items (item_of x ∷ []) ++ steps_of_items (map item_of xs)
 split_items q x xs ys e = ap (λ l. steps_of_items (map item_of l)) e ∙ steps_both (x ∷ []) xs
@@ -241,15 +237,15 @@ first_of_queue q x xs ys e h = of_queue_front q (steps_of_items (item_of x ∷ [
 pub rest_of_queue : (q : LogQueue) (x : LogItem) (xs ys : List LogItem) → ys ≡ x ∷ xs → AreStepsOfQueue q (steps_of_items (map item_of ys)) → AreStepsOfQueue q (steps_of_items (map item_of xs))
 rest_of_queue q x xs ys e h = of_queue_back q (steps_of_items (item_of x ∷ [])) (steps_of_items (map item_of xs)) (subst (AreStepsOfQueue q) (split_items q x xs ys e) h)
 
-pub each_more : (q : LogQueue) (x : LogItem) (xs ys : List LogItem) (a b c : MarkedTables) (r : Result Unit Error) → ys ≡ x ∷ xs → AreStepsOfQueue q (steps_of_items (map item_of ys)) → AreTaken q (steps_of_items (item_of x ∷ [])) (Ok tt) a b → AreTaken q (steps_of_items (map item_of xs)) r b c
-    → AreTaken q (steps_of_items (map item_of ys)) r a c
+pub each_more : (q : LogQueue) (x : LogItem) (xs ys : List LogItem) (a b c : MarkedTables) (r : Result Unit Error) → ys ≡ x ∷ xs → AreStepsOfQueue q (steps_of_items (map item_of ys)) → AreStepsTaken q (steps_of_items (item_of x ∷ [])) (Ok tt) a b → AreStepsTaken q (steps_of_items (map item_of xs)) r b c
+    → AreStepsTaken q (steps_of_items (map item_of ys)) r a c
 each_more q x xs ys a b c r e h s t =
-    subst (λ l. AreTaken q l r a c) (sym (split_items q x xs ys e)) (taken_more q (steps_of_items (item_of x ∷ [])) (steps_of_items (map item_of xs)) a b c r (first_of_queue q x xs ys e h) s t)
+    subst (λ l. AreStepsTaken q l r a c) (sym (split_items q x xs ys e)) (taken_more q (steps_of_items (item_of x ∷ [])) (steps_of_items (map item_of xs)) a b c r (first_of_queue q x xs ys e h) s t)
 
-pub each_refused : (q : LogQueue) (x : LogItem) (xs ys : List LogItem) (a b : MarkedTables) (e : Error) → ys ≡ x ∷ xs → AreTaken q (steps_of_items (item_of x ∷ [])) (Err e) a b → AreTaken q (steps_of_items (map item_of ys)) (Err e) a b
-each_refused q x xs ys a b e is s = subst (λ l. AreTaken q l (Err e) a b) (sym (split_items q x xs ys is)) (taken_refused q (steps_of_items (item_of x ∷ [])) (steps_of_items (map item_of xs)) a b e s)
+pub each_refused : (q : LogQueue) (x : LogItem) (xs ys : List LogItem) (a b : MarkedTables) (e : Error) → ys ≡ x ∷ xs → AreStepsTaken q (steps_of_items (item_of x ∷ [])) (Err e) a b → AreStepsTaken q (steps_of_items (map item_of ys)) (Err e) a b
+each_refused q x xs ys a b e is s = subst (λ l. AreStepsTaken q l (Err e) a b) (sym (split_items q x xs ys is)) (taken_refused q (steps_of_items (item_of x ∷ [])) (steps_of_items (map item_of xs)) a b e s)
 
-pub no_items : (q : LogQueue) (items : List LogItem) (a : MarkedTables) → length items ≡ 0 → AreTaken q (steps_of_items (map item_of items)) (Ok tt) a a
+pub no_items : (q : LogQueue) (items : List LogItem) (a : MarkedTables) → length items ≡ 0 → AreStepsTaken q (steps_of_items (map item_of items)) (Ok tt) a a
 no_items q [] a e = taken_none q a
 no_items q (x ∷ items) a e = absurd (omega (arith, e))
 

@@ -8,10 +8,10 @@ use Rattle.std.specs.FinMap as finite
 use Rattle.std.proofs.lemmas.Bool.Decides.{nat_tests}
 use Rattle.raft_records.specs.declared.atomic_group.AtomicGroupStatus.{AtomicGroupStatus}
 use Rattle.raft_history.specs.RegionSteps.{RegionStep}
-use Rattle.raft_history.specs.Batches.{ReadBatch, batch_with_marker}
-use Rattle.raft_history.specs.Effects.{BatchesApart, steps_of, steps_of_wholes}
+use Rattle.raft_history.specs.Batches.{BatchSteps, batch_with_marker}
+use Rattle.raft_history.specs.Effects.{EachApart, effects, steps_of}
 use Rattle.raft_history.specs.WaitingGroup.{WaitingGroup, joined_group, WholeGroup, whole_group, one_marker}
-use Rattle.raft_history.specs.WaitingGroups.{WaitingGroups, groups_in, steps_or, known, joined_groups, whole_with, whole_groups}
+use Rattle.raft_history.specs.WaitingGroups.{WaitingGroups, groups_in, steps_or, known, joined_groups, whole_with, whole_groups, steps_of_wholes}
 use Rattle.raft_history.proofs.KnownLemmas.{keys_distinct, tied, steps_across}
 use Rattle.raft_history.proofs.MoreLemmas.{groups_in-append, groups_in-one, steps-one}
 
@@ -47,14 +47,14 @@ none_left n h = go (ltb 0 n) refl
     go false e = omega (arith, ltb-false 0 n e)
 
 -- one more batch with a marker, and a newer history, behind a history
-pub stands-one : (m n : WaitingGroups) (h : List ReadBatch) (is : List RegionStep) (g : ℕ) (s : AtomicGroupStatus) (f : ℕ) (x : WaitingGroup) → m ≡ groups_in h → x ≡ one_marker s is f → n ≡ finite.insert m g (joined_group (known m g) x) → n ≡ groups_in (h ++ batch_with_marker is g s f ∷ [])
+pub stands-one : (m n : WaitingGroups) (h : List BatchSteps) (is : List RegionStep) (g : ℕ) (s : AtomicGroupStatus) (f : ℕ) (x : WaitingGroup) → m ≡ groups_in h → x ≡ one_marker s is f → n ≡ finite.insert m g (joined_group (known m g) x) → n ≡ groups_in (h ++ batch_with_marker is g s f ∷ [])
 stands-one m n h is g s f x e k put = put ∙ ap (λ y. finite.insert m g (joined_group (known m g) y)) k ∙ ap (λ y. finite.insert y g (joined_group (known y g) (one_marker s is f))) e ∙ sym (groups_in-one h (batch_with_marker is g s f))
 
-pub steps-with_marker : (m : WaitingGroups) (h : List ReadBatch) (r : ℕ) (is : List RegionStep) (g : ℕ) (s : AtomicGroupStatus) (f : ℕ) (x : WaitingGroup) (w : Option WholeGroup) → m ≡ groups_in h → x ≡ one_marker s is f → w ≡ whole_group (known m g) x → steps_of r (h ++ batch_with_marker is g s f ∷ []) ≡ steps_of r h ++ steps_or r w
+pub steps-with_marker : (m : WaitingGroups) (h : List BatchSteps) (r : ℕ) (is : List RegionStep) (g : ℕ) (s : AtomicGroupStatus) (f : ℕ) (x : WaitingGroup) (w : Option WholeGroup) → m ≡ groups_in h → x ≡ one_marker s is f → w ≡ whole_group (known m g) x → steps_of r (h ++ batch_with_marker is g s f ∷ []) ≡ steps_of r h ++ steps_or r w
 steps-with_marker m h r is g s f x w e k is_whole = steps-one r h (batch_with_marker is g s f) ∙ ap (λ y. steps_of r h ++ steps_or r y) (sym (is_whole ∙ ap (whole_group (known m g)) k ∙ ap (λ y. whole_group (known y g) (one_marker s is f)) e))
 
-pub stands-joined : (m n o : WaitingGroups) (h k : List ReadBatch) → o ≡ joined_groups m n → m ≡ groups_in h → n ≡ groups_in k → o ≡ groups_in (h ++ k)
+pub stands-joined : (m n o : WaitingGroups) (h k : List BatchSteps) → o ≡ joined_groups m n → m ≡ groups_in h → n ≡ groups_in k → o ≡ groups_in (h ++ k)
 stands-joined m n o h k j e f = j ∙ ap (λ x. joined_groups x n) e ∙ ap (joined_groups (groups_in h)) f ∙ sym (groups_in-append h k)
 
-pub steps-joined : (m n : WaitingGroups) (h k : List ReadBatch) (r : ℕ) (ws : List WholeGroup) → ws ≡ whole_groups m n → m ≡ groups_in h → n ≡ groups_in k → BatchesApart (h ++ k) → steps_of r (h ++ k) ≡ steps_of r h ++ (steps_of_wholes r ws ++ steps_of r k)
+pub steps-joined : (m n : WaitingGroups) (h k : List BatchSteps) (r : ℕ) (ws : List WholeGroup) → ws ≡ whole_groups m n → m ≡ groups_in h → n ≡ groups_in k → EachApart (effects (h ++ k)) → steps_of r (h ++ k) ≡ steps_of r h ++ (steps_of_wholes r ws ++ steps_of r k)
 steps-joined m n h k r ws j e f apart = steps_across r h k apart ∙ ap (λ x. steps_of r h ++ (steps_of_wholes r x ++ steps_of r k)) (sym (j ∙ ap (λ x. whole_groups x n) e ∙ ap (whole_groups (groups_in h)) f))

@@ -6,7 +6,8 @@ use Rattle.std.proofs.lemmas.List.{length-append, map-append}
 use Rattle.raft_records.specs.declared.log_item.LogItem.{LogItem}
 use Rattle.raft_records.specs.Item.{Item, item_of, content_of}
 use Rattle.raft_table.specs.Steps.{Step}
-use Rattle.raft_history.specs.RegionSteps.{content_step, with_step, steps_of_items, names}
+use Rattle.raft_history.specs.RegionSteps.{content_step, steps_of_items, names}
+use Rattle.raft_history.proofs.Words.{with_step}
 use Rattle.raft_history.proofs.StepListLemmas.{names_none, names_cons}
 use Rattle.raft_memtable.specs.WaitingItems.{has_step}
 

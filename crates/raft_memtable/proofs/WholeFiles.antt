@@ -8,12 +8,13 @@ use Rattle.raft_base.specs.declared.pipe_log.LogQueue.{LogQueue}
 use Rattle.raft_base.specs.declared.pipe_log.LogQueue.TheVariants.{Append, Rewrite}
 use Rattle.raft_records.specs.declared.atomic_group.AtomicGroupStatus.{AtomicGroupStatus}
 use Rattle.raft_records.specs.declared.atomic_group.AtomicGroupStatus.TheVariants.{Begin, Middle, End}
-use Rattle.raft_history.specs.Batches.{GroupMarker, ReadBatch, Event, batches}
+use Rattle.raft_history.specs.Batches.{GroupMarker, BatchSteps, Event, batches}
 use Rattle.raft_history.specs.Contexts.{Context, Suits, StandsFor, StandsIn, files_of, follows}
-use Rattle.raft_history.specs.Effects.{group_in}
-use Rattle.raft_history.specs.Histories.{FilesFrom, AreInFiles, last_from, IsStepOfQueue}
+use Rattle.raft_history.proofs.Words.{AreInFiles}
+use Rattle.raft_history.specs.Histories.{FilesFrom, last_from, IsStepOfQueue}
+use Rattle.raft_history.specs.Effects.{Numbered, numbered_from, markers_of, open_stretch}
 use Rattle.raft_history.specs.RegionSteps.{RegionStep, steps_of_items}
-use Rattle.raft_history.specs.WaitingGroup.{Numbered, numbered_from, markers_of, open_stretch, GroupFront, Open, Ended, Cut, led_by, front_by, front_behind, front_of, OpenStretch, stretch_of, WaitingGroup, WholeGroup, whole_of, whole_group_by, whole_group, one_marker}
+use Rattle.raft_history.specs.WaitingGroup.{GroupFront, Open, Ended, Cut, led_by, front_by, front_behind, front_of, OpenStretch, stretch_of, WaitingGroup, WholeGroup, whole_of, whole_group_by, whole_group, one_marker, group_in}
 use Rattle.raft_history.specs.WaitingGroups.{WaitingGroups, groups_in, known, whole_with, whole_groups, front_steps, stretch_steps, entry_by}
 use Rattle.raft_history.proofs.EffectLemmas.{each-append, each_weaker, each_markers, each_open}
 use Rattle.raft_history.proofs.KnownLemmas.{known-groups_in, each_known}
@@ -151,16 +152,16 @@ pub no_wholes : (older : WaitingGroups) (k : List Event) → FilesFrom Append 0 
 unfolding groups_in
 no_wholes older k f = ap (whole_with older) (none (batches k) (without_marker 0 k f))
   where
-    flat : (all bs : List ReadBatch) → AllByRecursion (λ (b : ReadBatch). b.marker ≡ None) bs → flat_map (λ (b : ReadBatch). entry_by all b.marker) bs ≡ []
+    flat : (all bs : List BatchSteps) → AllByRecursion (λ (b : BatchSteps). b.marker ≡ None) bs → flat_map (λ (b : BatchSteps). entry_by all b.marker) bs ≡ []
     flat all [] u = refl
-    flat all (b ∷ bs) u = ap (λ m. entry_by all m ++ flat_map (λ (b : ReadBatch). entry_by all b.marker) bs) u.0 ∙ flat all bs u.1
+    flat all (b ∷ bs) u = ap (λ m. entry_by all m ++ flat_map (λ (b : BatchSteps). entry_by all b.marker) bs) u.0 ∙ flat all bs u.1
 
     empty : (es : List (ℕ × WaitingGroup)) → length es ≡ 0 → es ≡ []
     empty [] e = refl
     empty (x ∷ es) e = absurd (omega (arith, e))
 
-    is_empty : (bs : List ReadBatch) → AllByRecursion (λ (b : ReadBatch). b.marker ≡ None) bs → groups_in bs ≡ finite.empty
+    is_empty : (bs : List BatchSteps) → AllByRecursion (λ (b : BatchSteps). b.marker ≡ None) bs → groups_in bs ≡ finite.empty
     is_empty bs u = ap (λ es. finite.from_entries es) (flat bs bs u)
 
-    none : (bs : List ReadBatch) → AllByRecursion (λ (b : ReadBatch). b.marker ≡ None) bs → finite.entries (groups_in bs) ≡ []
+    none : (bs : List BatchSteps) → AllByRecursion (λ (b : BatchSteps). b.marker ≡ None) bs → finite.entries (groups_in bs) ≡ []
     none bs u = ap finite.entries (is_empty bs u) ∙ empty (finite.entries finite.empty) (sym (finite.len-entries {K = ℕ} {X = WaitingGroup} {R = nat_cmp} finite.empty) ∙ finite.len-empty nat_cmp WaitingGroup)

@@ -6,7 +6,7 @@ use Rattle.raft_records.specs.Group.{first_marker}
 use Rattle.raft_records.specs.Item.{Item}
 use Rattle.raft_records.specs.declared.atomic_group.AtomicGroupStatus.{AtomicGroupStatus}
 
--- the first one in the rewrite queue; the append queue ignores markers
+-- the first one in the rewrite queue; the append queue ignores group markers
 abbrev pub marker_found : LogQueue → List Item → Option (ℕ × AtomicGroupStatus)
 marker_found Append items = None
 marker_found Rewrite items = first_marker items

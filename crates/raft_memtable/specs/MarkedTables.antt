@@ -1,11 +1,10 @@
--- The tables of all regions beside their marks, with steps taken in.
+-- The tables of all regions beside their region marks, with steps taken in.
 use Rattle.std.specs.Prelude.{◌≡◌, ℕ, ◌+◌, ◌<◌, ◌≤◌, ◌^◌, List, [], ◌∷◌, ◌++◌, Option, Some, None, Result, IfErr}
 use Rattle.std.specs.List.{AllByRecursion}
 use Rattle.std.specs.Result.{OnOk}
 use Rattle.raft_base.specs.declared.errors.Error.{Error}
 use Rattle.raft_base.specs.declared.errors.Error.TheVariants as errors
 use Rattle.raft_base.specs.declared.pipe_log.LogQueue.{LogQueue}
-use Rattle.raft_base.specs.declared.pipe_log.LogQueue.TheVariants.{Append, Rewrite}
 use Rattle.raft_base.specs.declared.entry_index.EntryIndex.{EntryIndex}
 use Rattle.raft_history.specs.Histories.{IsStepOfQueue, records_in}
 use Rattle.raft_history.specs.MarkedRegions.{MarkedRegions, regions_after}
@@ -15,7 +14,7 @@ use Rattle.raft_table.specs.Steps.{Step}
 use Rattle.raft_accessor.specs.Accessor.{live_in_all}
 use Rattle.raft_memtable.specs.declared.marked_tables.MarkedTables.{MarkedTables}
 
--- the marks and the tables, without the counts
+-- the region marks and the tables, without the counts
 abbrev pub regions_in : MarkedTables → MarkedRegions
 regions_in m = record { tables = m.accessor.tables; marks = m.marks }
 
@@ -32,11 +31,6 @@ abbrev pub first_index : List EntryIndex → Option ℕ
 first_index [] = None
 first_index (e ∷ run) = Some e.index
 
--- the regions that steps of a queue list as cleaned: those of the append queue alone
-abbrev pub listed : LogQueue → List RegionStep → List ℕ
-listed Append steps = cleaned_by_steps steps
-listed Rewrite steps = []
-
 -- why steps are refused: one reading refuses one of them, the tables have a record of the other queue, the live records and those of the steps are 2^64 or more, or want of memory
 abbrev pub IsStepsFault : LogQueue → MarkedRegions → List RegionStep → Error → Type 0
 IsStepsFault queue rs steps (errors.Corruption text) = regions_after queue rs steps ≡ None
@@ -45,8 +39,8 @@ IsStepsFault queue rs steps errors.Full = 2 ^ 64 ≤ live_in_all queue rs.tables
 IsStepsFault queue rs steps errors.Memory = Unit {0}
 IsStepsFault queue rs steps _ = ⊥
 
--- steps are taken into the marks and the tables, or refused
-pub record AreTaken (queue : LogQueue) (steps : List RegionStep) (r : Result Unit Error) (old new : MarkedTables) : Type 0 where
+-- steps are taken into the region marks and the tables, or refused
+pub record AreStepsTaken (queue : LogQueue) (steps : List RegionStep) (r : Result Unit Error) (old new : MarkedTables) : Type 0 where
   pub ok : OnOk r (regions_after queue (regions_in old) steps ≡ Some (regions_in new))
-  pub cleaned : OnOk r (new.accessor.cleaned ≡ old.accessor.cleaned ++ listed queue steps)
+  pub cleaned : OnOk r (new.accessor.cleaned ≡ old.accessor.cleaned ++ cleaned_by_steps queue steps)
   pub fault : IfErr r (IsStepsFault queue (regions_in old) steps)

@@ -18,7 +18,7 @@ pub record AreOfBothQueues (rewrite append : Context) : Type 0 where
   pub rewrite_suits : Suits Rewrite rewrite.files
   pub append_suits : Suits Append append.files
 
--- a context of the rewrite queue with these tables and the cleaned regions of the append queue; no mark is left, and no group waits
+-- a context of the rewrite queue with these tables and the cleaned regions of the append queue; no region mark is left, and no group waits
 abbrev pub overlaid_with : Context → Context → Tables → Context
 overlaid_with rewrite append tables = record { regions = record { tables = tables; marks = finite.empty }; groups = finite.empty; cleaned = append.cleaned; files = rewrite.files }
 
@@ -31,7 +31,7 @@ pub record IsOverlaidWith (append old new : RecoverContext) : Type 0 where
   pub overlaid : new.context ≡ overlaid_with old.context append.context new.context.regions.tables
   pub after : new.stage ≡ Overlaid
 
--- the context has taken in that of the append queue, and has what one reading of a history of each queue gives, without a mark or a group
+-- the context has taken in that of the append queue, and has what one reading of a history of each queue gives, without a region mark or a group
 pub record IsOfBothExactly (c : RecoverContext) (rewrite append : List Event) : Type 0 where
   pub stage : c.stage ≡ Overlaid
   pub reading : IsReadingOfBoth rewrite append c.context.regions.tables c.context.cleaned

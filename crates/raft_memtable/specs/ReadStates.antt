@@ -22,13 +22,13 @@ abbrev pub AreAlone : Option FileRange → Tables → Type 0
 AreAlone None tables = Unit {0}
 AreAlone (Some files) tables = live_in_all (other files.queue) tables ≡ 0
 
--- with files of a queue, each region's mark and table stand for some steps
+-- with files of a queue, the region mark of each region and table stand for some steps
 abbrev pub AreOfSteps : Option FileRange → MarkedRegions → Type 0
 AreOfSteps None rs = Unit {0}
 AreOfSteps (Some files) rs = StandForSteps files.queue rs
 
--- the context was read from some history, its tables are of that history's queue, and they and the marks are those of some steps
-pub record IsRead (c : Context) : Type 0 where
+-- the context was read from some history, its tables are of that history's queue, and they and the region marks are those of some steps
+pub record IsOfHistory (c : Context) : Type 0 where
   pub history : List Event
   pub stands : StandsFor c history
   pub alone : AreAlone c.files c.regions.tables

@@ -25,12 +25,12 @@ abbrev pub blank_context : RecoverContext
 blank_context = reading_on new_context
 
 -- the context reads on, and stands for the history
-pub record IsReading (c : RecoverContext) (h : List Event) : Type 0 where
+pub record HasRead (c : RecoverContext) (h : List Event) : Type 0 where
   pub stage : c.stage ≡ Reading
   pub stands : StandsFor c.context h
 
 -- the context reads on, and stands for the history exactly
-pub record IsReadingExactly (c : RecoverContext) (h : List Event) : Type 0 where
+pub record HasReadExactly (c : RecoverContext) (h : List Event) : Type 0 where
   pub stage : c.stage ≡ Reading
   pub exact : IsExactFor c.context h
 
@@ -46,7 +46,7 @@ records_held c = all_records c.regions.tables + waiting_records c.groups
 
 -- ---- one more batch
 
--- a batch may come next: its file is of the context's queue, and not below the last one; its items are such as may stand in that file, and its markers have a status
+-- a batch may come next: its file is of the context's queue, and not below the last one; its items are such as may stand in that file, and its group markers have a status
 pub record MayFollow (c : Context) (e : Event) : Type 0 where
   pub queue : Suits e.file.queue c.files
   pub files : follows c.files (files_of (e ∷ [])) ≡ true
@@ -54,7 +54,7 @@ pub record MayFollow (c : Context) (e : Event) : Type 0 where
   pub markers : HaveStatus e.file.queue e.items
 
 -- the batch was taken in
-pub record IsTakenIn (e : Event) (old new : RecoverContext) : Type 0 where
+pub record IsBatchTaken (e : Event) (old new : RecoverContext) : Type 0 where
   pub before : old.stage ≡ Reading
   pub next : MayFollow old.context e
   pub taken : taken_in old.context e ≡ Some new.context

@@ -15,7 +15,7 @@ use Rattle.raft_memtable.specs.WaitingGroupsCode.{groups_code}
 use Rattle.raft_memtable.specs.contracts.context_stage.ContextStage as stage
 use Rattle.raft_memtable.specs.declared.context_stage.ContextStage.{ContextStage}
 
--- regions as their tables and their marks
+-- regions as their tables and their region marks
 abbrev pub regions_code : Coded MarkedRegions
 regions_code = code_by (Tables × Marks) (coded× tables_code (finite.code coded_ℕ mark_code)) (λ r. (r.tables, r.marks)) (λ p. record { tables = p.0; marks = p.1 }) (λ _. refl)
 

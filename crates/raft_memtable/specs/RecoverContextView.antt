@@ -2,7 +2,7 @@
 use Rattle.std.specs.Prelude.{◌≡◌}
 use Rattle.raft_memtable.specs.declared.recover_context.MemTableRecoverContext.TheInside.{Inside}
 use Rattle.raft_memtable.specs.declared.context_stage.ContextStage.TheVariants.{Reading}
-use Rattle.raft_memtable.specs.ReadStates.{context_in, IsRead}
+use Rattle.raft_memtable.specs.ReadStates.{context_in, IsOfHistory}
 use Rattle.raft_memtable.specs.RecoverContext.{RecoverContext}
 
 -- the stage, and what was read
@@ -11,4 +11,4 @@ recover_context_shown a = record { stage = a.stage; context = context_in a.state
 
 -- a context that reads on holds what some history gives
 pub record IsContextKept (a : Inside) : Type 0 where
-  pub read : a.stage ≡ Reading → IsRead (context_in a.state)
+  pub read : a.stage ≡ Reading → IsOfHistory (context_in a.state)

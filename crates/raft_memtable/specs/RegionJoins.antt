@@ -1,4 +1,4 @@
--- Regions joined with those of a newer neighbour, each under its mark.
+-- Regions joined with those of a newer neighbour, each under its region mark.
 use Rattle.std.specs.Prelude.{◌≡◌, ◌⊎◌, ℕ, ◌+◌, ◌<◌, ◌≤◌, ◌^◌, Some}
 use Rattle.std.specs.FinMap as finite
 use Rattle.raft_base.specs.declared.errors.Error.{Error}
@@ -13,7 +13,7 @@ use Rattle.raft_table.specs.Marks.{Mark}
 use Rattle.raft_table.specs.Queues.{other}
 use Rattle.raft_accessor.specs.Accessor.{table_in, live_in_all}
 
--- what each of these marks makes of its region's entries over the older ones is a run, as it is where they stand for steps
+-- what each of these region marks makes of its region's entries over the older ones is a run, as it is where they stand for steps
 abbrev pub AreRunsOver : LogQueue → Marks → Tables → Tables → Type 0
 AreRunsOver queue marks newer older = (r : ℕ) (m : Mark) → finite.get marks r ≡ Some m → IsRunOver queue m (table_in newer r) (table_in older r)
 

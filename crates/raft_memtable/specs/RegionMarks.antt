@@ -1,4 +1,4 @@
--- The marks of regions, and changes of one of them.
+-- The region marks of regions, and changes of one of them.
 use Rattle.std.specs.Prelude.{◌≡◌, ℕ, Result}
 use Rattle.std.specs.declared.alloc.AllocError.{AllocError}
 use Rattle.std.specs.Borrow.{MutBor}
@@ -10,15 +10,15 @@ use Rattle.raft_history.specs.MarkedRegions.{Marks}
 use Rattle.raft_table.specs.MarkJoins.{fresh}
 use Rattle.raft_table.specs.Marks.{Mark}
 
--- a region's mark, that of no step where it has none
+-- the region mark of a region, that of no step where it has none
 abbrev pub mark_in : Marks → ℕ → Mark
 mark_in marks id = unwrap_or (finite.get marks id) fresh
 
--- a call that changes a mark, or finds no memory for that
+-- a call that changes a region mark, or finds no memory for that
 abbrev pub MarkChange : Type 0 → Type 1
 MarkChange F = Once F (MutBor Mark × Unit {0}) (Result (Unit {0}) AllocError × (MutBor Mark × Unit {0}))
 
--- at a mark, the call may answer r and leave that mark
+-- at a region mark, the call may answer r and leave that region mark
 pub record ChangesMark {F : Type 0} (g : MarkChange F) (f : F) (old : Mark) (r : Result (Unit {0}) AllocError) (new : Mark) : Type 0 where
   pub mark : MutBor Mark
   pub shows : mark.now ≡ old
@@ -26,11 +26,11 @@ pub record ChangesMark {F : Type 0} (g : MarkChange F) (f : F) (old : Mark) (r :
   pub met : g.post f (mark, tt) (r, (left, tt))
   pub leaves : left.now ≡ new
 
--- the call may be made at a mark
+-- the call may be made at a region mark
 pub record MayChangeMark {F : Type 0} (g : MarkChange F) (f : F) (old : Mark) : Type 0 where
   pub pre : (mark : MutBor Mark) → mark.now ≡ old → g.pre f (mark, tt)
 
--- a region's mark was changed by a call, that of no step where it had none, and no other mark was; where there was no memory all marks stay if the call leaves its mark
+-- the region mark of a region was changed by a call, that of no step where it had none, and no other region mark was; where there was no memory all region marks stay if the call leaves its region mark
 pub record IsMarkUpdated {F : Type 0} (g : MarkChange F) (f : F) (old : Marks) (id : ℕ) (r : Result (Unit {0}) AllocError) (new : Marks) : Type 0 where
   pub changed : OnOk r (ChangesMark g f (mark_in old id) r (mark_in new id))
   pub one : OnOk r (new ≡ finite.insert old id (mark_in new id))

@@ -1,12 +1,11 @@
 //! Tests of a batch before it is taken in.
 
 ghost use Rattle.std.specs.Prelude.{◌≡◌, ◌≢◌, ◌↔◌, IsTrue, MatchBool, IfOk, IfErr, OnOk, None, map};
-ghost use Rattle.std.specs.List.{AllByRecursion};
 ghost use Rattle.raft_base.specs.declared.pipe_log.LogQueue.TheVariants.{Append, Rewrite};
 ghost use Rattle.raft_records.specs.Group.{first_marker};
 ghost use Rattle.raft_records.specs.Item.{item_of, content_of, entries as entries_of, pair, pair_of};
-ghost use Rattle.raft_records.specs.ReadIn.{IsBlockIn};
-ghost use Rattle.raft_history.specs.Histories.{IsInFile, AreInFile, HasStatus, HaveStatus};
+ghost use Rattle.raft_records.specs.ReadIn.{IsPlaceInFile};
+ghost use Rattle.raft_history.specs.Histories.{IsInFile, AreInFile, HaveStatus};
 ghost use Rattle.raft_memtable.specs.BatchChecks.{marker_found};
 ghost use Rattle.raft_accessor.specs.Updates.{IsRefusal};
 
@@ -66,11 +65,11 @@ fn check_rewrite_batch(
     file: FileId,
 ) -> Result<Option<(u64, AtomicGroupStatus)>>
     ensures items { OnOk result (AreInFile file (map item_of items.now)) }
-    ensures markers { OnOk result (AllByRecursion HasStatus (map item_of items.now)) }
+    ensures markers { OnOk result (HaveStatus Rewrite (map item_of items.now)) }
     ensures marker { IfOk result (λ marker. marker ≡ first_marker (map item_of items.now)) }
     ensures refused { IfErr result
         (λ e. e ≢ Error.Memory
-        → AreInFile file (map item_of items.now) → AllByRecursion HasStatus (map item_of items.now) → ⊥) }
+        → AreInFile file (map item_of items.now) → HaveStatus Rewrite (map item_of items.now) → ⊥) }
     ensures fault { IfErr result IsRefusal }
 {
     let mut marker = None;
@@ -88,7 +87,8 @@ fn check_rewrite_batch(
 
 /// Whether all items may stand in a batch of the file.
 fn are_in_file(items: &[LogItem], file: FileId) -> bool
-    ensures { MatchBool result (AreInFile file (map item_of items.now)) (AreInFile file (map item_of items.now) → ⊥) }
+    ensures { MatchBool result (AreInFile file (map item_of items.now))
+        (AreInFile file (map item_of items.now) → ⊥) }
 {
     for item in items {
         if !is_in_file(item, file) {
@@ -112,7 +112,8 @@ fn is_in_file(item: &LogItem, file: FileId) -> bool
 
 /// Whether a change of a key may stand in a batch of the file.
 fn is_pair_in(kv: &KeyValue, file: FileId) -> bool
-    ensures { MatchBool result (IsInFile file (pair (pair_of kv.now))) (IsInFile file (pair (pair_of kv.now)) → ⊥) }
+    ensures { MatchBool result (IsInFile file (pair (pair_of kv.now)))
+        (IsInFile file (pair (pair_of kv.now)) → ⊥) }
 {
     if is_reserved(kv.key.as_slice()) {
         return true;
@@ -152,7 +153,8 @@ fn is_run_in(entries: &[EntryIndex], file: FileId) -> bool
 
 /// Whether an entry's place is in the file.
 fn is_block_in(entry: &EntryIndex, file: FileId) -> bool
-    ensures { MatchBool result (IsBlockIn file entry.now.entries) (IsBlockIn file entry.now.entries → ⊥) }
+    ensures { MatchBool result (IsPlaceInFile file entry.now.entries)
+        (IsPlaceInFile file entry.now.entries → ⊥) }
 {
     match entry.entries {
         Some(block) => block.id == file,

@@ -19,7 +19,8 @@ pub(crate) struct FileRange {
 impl FileRange {
     /// The files of one batch.
     pub(crate) fn of(file: FileId) -> FileRange
-        ensures { range_shown result ≡ record { queue = file.queue; first = file.seq; last = file.seq } }
+        ensures { range_shown result
+            ≡ record { queue = file.queue; first = file.seq; last = file.seq } }
     {
         FileRange {
             queue: file.queue,

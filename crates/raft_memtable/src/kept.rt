@@ -8,9 +8,9 @@ pub struct Kept {
     pub entries: u128,
     /// Key values in all tables.
     pub keys: u128,
-    /// Regions that have a mark, and groups that have a marker.
+    /// Regions that have a region mark, and groups that have a group marker.
     pub marks: u128,
-    /// Keys in the marks that were deleted.
+    /// Keys in the region marks that were deleted.
     pub deleted_keys: u128,
     /// Regions in the list of those that were cleaned.
     pub cleaned: u128,

@@ -1,16 +1,16 @@
-//! The tables of all regions beside their marks.
+//! The tables of all regions beside their region marks.
 
 ghost use Rattle.std.specs.Prelude.{◌≡◌, ◌≤◌, ◌++◌, [], ◌∷◌, map, Ok, OnOk, IfOk, IfErr, MatchBool, Some, None};
 ghost use Rattle.raft_base.specs.declared.pipe_log.LogQueue.TheVariants.{Append, Rewrite};
 ghost use Rattle.raft_records.specs.Item.{item_of, pair, pair_of};
-ghost use Rattle.raft_history.specs.Histories.{AreInFile, cleaned_in_batch};
+ghost use Rattle.raft_history.specs.Histories.{AreInFile};
 ghost use Rattle.raft_history.specs.MarkedRegions.{no_regions, regions_after, on_each, region_steps_of_whole};
-ghost use Rattle.raft_history.specs.RegionSteps.{steps_of_items};
+ghost use Rattle.raft_history.specs.RegionSteps.{steps_of_items, cleaned_by_steps};
 ghost use Rattle.raft_table.specs.Queues.{other, is_same};
 ghost use Rattle.raft_table.specs.Steps.{Run, Compact, Truncate, Put, Del, AtomicGroup, Clean};
 ghost use Rattle.raft_accessor.specs.Accessor.{live_in_all};
 ghost use Rattle.raft_accessor.specs.ItemWrites.{pair_change};
-ghost use Rattle.raft_memtable.specs.MarkedTables.{regions_in, AreStepsOfQueue, IsStepsFault, one_step, first_index, AreTaken};
+ghost use Rattle.raft_memtable.specs.MarkedTables.{regions_in, AreStepsOfQueue, IsStepsFault, one_step, first_index, AreStepsTaken};
 ghost use Rattle.raft_memtable.specs.WaitingShown.{whole_shown};
 
 mod join;
@@ -23,7 +23,7 @@ use raft_base::{EntryIndex, Error, FileId, FileSeq, LogQueue, Result};
 use raft_records::{Command, KeyValue, LogItem, LogItemBatch, LogItemContent, OpType, is_reserved};
 use std::alloc::{AllocError, Global};
 
-/// The tables of all regions, and the mark of each region that a step named.
+/// The tables of all regions, and the region mark of each region that a step named.
 #[derive(Drop)]
 pub(crate) struct MarkedTables {
     pub(crate) accessor: MemTableAccessor,
@@ -31,7 +31,7 @@ pub(crate) struct MarkedTables {
 }
 
 impl MarkedTables {
-    /// No tables and no marks.
+    /// No tables and no region marks.
     ///
     /// # Errors
     ///
@@ -60,8 +60,9 @@ impl MarkedTables {
         ensures ok { OnOk result
             (regions_after file.queue (regions_in self.old) (steps_of_items items) ≡ Some (regions_in self.new)) }
         ensures cleaned { OnOk result
-            (self.new.accessor.cleaned ≡ self.old.accessor.cleaned ++ cleaned_in_batch file.queue items) }
-        ensures fault { IfErr result (IsStepsFault file.queue (regions_in self.old) (steps_of_items items)) }
+            (self.new.accessor.cleaned ≡ self.old.accessor.cleaned ++ cleaned_by_steps file.queue (steps_of_items items)) }
+        ensures fault { IfErr result (IsStepsFault file.queue (regions_in self.old)
+            (steps_of_items items)) }
         ensures other { OnOk result
             (live_in_all (other file.queue) self.new.accessor.tables
             ≤ live_in_all (other file.queue) self.old.accessor.tables) }
@@ -97,7 +98,8 @@ impl MarkedTables {
     /// Takes in items, in order.
     fn take_each(&mut self, queue: LogQueue, items: Vec<LogItem>) -> Result<()>
         requires { AreStepsOfQueue queue (steps_of_items (map item_of items.items)) }
-        ensures { AreTaken queue (steps_of_items (map item_of items.items)) result self.old self.new }
+        ensures { AreStepsTaken queue (steps_of_items (map item_of items.items)) result self.old
+            self.new }
     {
         for item in items {
             if !self.try_run(queue, &item)? {
@@ -112,11 +114,11 @@ impl MarkedTables {
     ///
     /// # Errors
     ///
-    /// `AllocError`. The run is then in its table, and not in the mark.
+    /// `AllocError`. The run is then in its table, and not in the region mark.
     fn try_run(&mut self, queue: LogQueue, item: &LogItem) -> std::result::Result<bool, AllocError>
         requires { AreStepsOfQueue queue (steps_of_items (item_of item.now ∷ [])) }
         ensures { IfOk result (λ taken. MatchBool taken
-            (AreTaken queue (steps_of_items (item_of item.now ∷ [])) (Ok tt) self.old self.new)
+            (AreStepsTaken queue (steps_of_items (item_of item.now ∷ [])) (Ok tt) self.old self.new)
             (self.new ≡ self.old)) }
     {
         let id = item.raft_group_id;
@@ -136,7 +138,8 @@ impl MarkedTables {
     /// Takes in the files of a group for each of these regions.
     fn take_files(&mut self, regions: &[u64], start: FileSeq, end: FileSeq) -> Result<()>
         requires { start ≤ end }
-        ensures { AreTaken Rewrite (on_each regions.now (AtomicGroup start end)) result self.old self.new }
+        ensures { AreStepsTaken Rewrite (on_each regions.now (AtomicGroup start end)) result
+            self.old self.new }
     {
         for id in regions {
             self.accessor.apply_rewrite_atomic_group(*id, start, end)?;
@@ -145,10 +148,12 @@ impl MarkedTables {
         Ok(())
     }
 
-    /// Takes in an item.
+    /// Takes in an item: its step on the table and on the region mark. `RegionTables::replay_item` does the same without a region mark;
+    /// the law that both read items alike is [`items_are_read_as_steps`](crate::reading::items_are_read_as_steps).
     fn take_item(&mut self, queue: LogQueue, item: LogItem) -> Result<()>
         requires { AreStepsOfQueue queue (steps_of_items (item_of item ∷ [])) }
-        ensures { AreTaken queue (steps_of_items (item_of item ∷ [])) result self.old self.new }
+        ensures { AreStepsTaken queue (steps_of_items (item_of item ∷ [])) result self.old
+            self.new }
     {
         let LogItem {
             raft_group_id: id,
@@ -170,7 +175,7 @@ impl MarkedTables {
     /// Takes in a run.
     fn take_run(&mut self, queue: LogQueue, id: u64, run: Vec<EntryIndex>) -> Result<()>
         requires { AreStepsOfQueue queue (one_step id (Run run.items)) }
-        ensures { AreTaken queue (one_step id (Run run.items)) result self.old self.new }
+        ensures { AreStepsTaken queue (one_step id (Run run.items)) result self.old self.new }
     {
         let start = start_of(&run);
         let end = self.accessor.replay_run(queue, id, run)?;
@@ -182,7 +187,7 @@ impl MarkedTables {
 
     /// Takes in a compaction.
     fn take_compaction(&mut self, queue: LogQueue, id: u64, index: u64) -> Result<()>
-        ensures { AreTaken queue (one_step id (Compact index)) result self.old self.new }
+        ensures { AreStepsTaken queue (one_step id (Compact index)) result self.old self.new }
     {
         self.accessor.compact(id, index)?;
         Ok(self.marks.add_compaction(id, index)?)
@@ -190,7 +195,7 @@ impl MarkedTables {
 
     /// Takes in a truncation.
     fn take_truncation(&mut self, queue: LogQueue, id: u64, index: u64) -> Result<()>
-        ensures { AreTaken queue (one_step id (Truncate index)) result self.old self.new }
+        ensures { AreStepsTaken queue (one_step id (Truncate index)) result self.old self.new }
     {
         self.accessor.truncate(id, index)?;
         Ok(self.marks.add_truncation(id, index)?)
@@ -198,7 +203,7 @@ impl MarkedTables {
 
     /// Takes in the clean of a region, which is listed in the append queue.
     fn take_clean(&mut self, queue: LogQueue, id: u64) -> Result<()>
-        ensures { AreTaken queue (one_step id Clean) result self.old self.new }
+        ensures { AreStepsTaken queue (one_step id Clean) result self.old self.new }
     {
         self.accessor.remove(id, is_append(queue))?;
         Ok(self.marks.add_clean(id)?)
@@ -207,7 +212,8 @@ impl MarkedTables {
     /// Takes in the change of a key, unless it is reserved or a put without a value or a file.
     fn take_pair(&mut self, queue: LogQueue, id: u64, kv: KeyValue) -> Result<()>
         requires { AreStepsOfQueue queue (steps_of_items (pair_change id (pair_of kv) ∷ [])) }
-        ensures { AreTaken queue (steps_of_items (pair_change id (pair_of kv) ∷ [])) result self.old self.new }
+        ensures { AreStepsTaken queue (steps_of_items (pair_change id (pair_of kv) ∷ [])) result
+            self.old self.new }
     {
         if is_reserved(&kv.key) {
             return Ok(());
@@ -235,7 +241,8 @@ impl MarkedTables {
         file: FileId,
     ) -> Result<()>
         requires { file.queue ≡ queue }
-        ensures { AreTaken queue (one_step id (Put key.items value.items file)) result self.old self.new }
+        ensures { AreStepsTaken queue (one_step id (Put key.items value.items file)) result self.old
+            self.new }
     {
         self.accessor.put(id, key, value, file)?;
         Ok(self.marks.mark(id)?)
@@ -243,7 +250,7 @@ impl MarkedTables {
 
     /// Takes in a key that is deleted.
     fn take_delete(&mut self, queue: LogQueue, id: u64, key: Vec<u8>) -> Result<()>
-        ensures { AreTaken queue (one_step id (Del key.items)) result self.old self.new }
+        ensures { AreStepsTaken queue (one_step id (Del key.items)) result self.old self.new }
     {
         self.accessor.delete(id, &key)?;
         Ok(self.marks.add_deleted(id, key)?)

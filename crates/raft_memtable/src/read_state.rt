@@ -12,7 +12,7 @@ ghost use Rattle.raft_accessor.specs.Accessor.{live_in_all};
 ghost use Rattle.raft_memtable.specs.BatchChecks.{marker_found};
 ghost use Rattle.raft_memtable.specs.KeptShown.{kept_shown};
 ghost use Rattle.raft_memtable.specs.MarkedTables.{regions_in, IsStepsFault};
-ghost use Rattle.raft_memtable.specs.ReadStates.{context_in, IsRead, TakesEffect, MayTakeEffect};
+ghost use Rattle.raft_memtable.specs.ReadStates.{context_in, IsOfHistory, TakesEffect, MayTakeEffect};
 ghost use Rattle.raft_memtable.specs.RecoverContext.{reading_on, MayFollow, IsBatchFault, AreNeighbours, IsNeighbourFault};
 ghost use Rattle.raft_memtable.specs.WaitingShown.{whole_shown};
 
@@ -29,7 +29,7 @@ use raft_base::{Error, FileId, LogQueue, Result};
 use raft_records::{AtomicGroupStatus, LogItemBatch};
 use std::alloc::Global;
 
-/// The tables and marks of all regions, the groups that wait, and the files of the batches.
+/// The tables and region marks of all regions, the groups that wait, and the files of the batches.
 #[derive(Drop)]
 pub(crate) struct ReadState {
     pub(crate) regions: MarkedTables,
@@ -58,11 +58,13 @@ impl ReadState {
 
     /// Takes in one more batch, that was written to this file.
     pub(crate) fn replay(&mut self, batch: LogItemBatch, file: FileId) -> Result<()>
-        requires { IsRead (context_in self.old) }
+        requires { IsOfHistory (context_in self.old) }
         ensures next { OnOk result (MayFollow (context_in self.old) (event batch file)) }
-        ensures taken { OnOk result (taken_in (context_in self.old) (event batch file) ≡ Some (context_in self.new)) }
-        ensures read { OnOk result (IsRead (context_in self.new)) }
-        ensures fault { IfErr result (IsBatchFault (reading_on (context_in self.old)) (event batch file)) }
+        ensures taken { OnOk result (taken_in (context_in self.old) (event batch file)
+            ≡ Some (context_in self.new)) }
+        ensures read { OnOk result (IsOfHistory (context_in self.new)) }
+        ensures fault { IfErr result (IsBatchFault (reading_on (context_in self.old))
+            (event batch file)) }
     {
         match self.check(&batch, file)? {
             None => self.take_lone_batch(batch, file),
@@ -74,7 +76,8 @@ impl ReadState {
     fn check(&self, batch: &LogItemBatch, file: FileId) -> Result<Option<(u64, AtomicGroupStatus)>>
         ensures next { OnOk result (MayFollow (context_in self.now) (event batch.now file)) }
         ensures marker { IfOk result (λ marker. marker ≡ marker_found file.queue batch.now) }
-        ensures fault { IfErr result (IsBatchFault (reading_on (context_in self.now)) (event batch.now file)) }
+        ensures fault { IfErr result (IsBatchFault (reading_on (context_in self.now))
+            (event batch.now file)) }
     {
         if !FileRange::suits(self.files, file.queue) {
             return Err(Error::Corruption(format!(in self.alloc; "a batch of the other queue")?));
@@ -89,12 +92,14 @@ impl ReadState {
 
     /// Takes in a batch without a group marker, which takes effect at once.
     fn take_lone_batch(&mut self, batch: LogItemBatch, file: FileId) -> Result<()>
-        requires read { IsRead (context_in self.old) }
+        requires read { IsOfHistory (context_in self.old) }
         requires next { MayFollow (context_in self.old) (event batch file) }
         requires without_marker { marker_found file.queue batch ≡ None }
-        ensures taken { OnOk result (taken_in (context_in self.old) (event batch file) ≡ Some (context_in self.new)) }
-        ensures read { OnOk result (IsRead (context_in self.new)) }
-        ensures fault { IfErr result (IsBatchFault (reading_on (context_in self.old)) (event batch file)) }
+        ensures taken { OnOk result (taken_in (context_in self.old) (event batch file)
+            ≡ Some (context_in self.new)) }
+        ensures read { OnOk result (IsOfHistory (context_in self.new)) }
+        ensures fault { IfErr result (IsBatchFault (reading_on (context_in self.old))
+            (event batch file)) }
     {
         self.regions.take_items(file, batch)?;
         self.files = FileRange::joined(self.files, Some(FileRange::of(file)));
@@ -109,12 +114,14 @@ impl ReadState {
         batch: LogItemBatch,
         file: FileId,
     ) -> Result<()>
-        requires read { IsRead (context_in self.old) }
+        requires read { IsOfHistory (context_in self.old) }
         requires next { MayFollow (context_in self.old) (event batch file) }
         requires with_marker { marker_found file.queue batch ≡ Some (id, status) }
-        ensures taken { OnOk result (taken_in (context_in self.old) (event batch file) ≡ Some (context_in self.new)) }
-        ensures read { OnOk result (IsRead (context_in self.new)) }
-        ensures fault { IfErr result (IsBatchFault (reading_on (context_in self.old)) (event batch file)) }
+        ensures taken { OnOk result (taken_in (context_in self.old) (event batch file)
+            ≡ Some (context_in self.new)) }
+        ensures read { OnOk result (IsOfHistory (context_in self.new)) }
+        ensures fault { IfErr result (IsBatchFault (reading_on (context_in self.old))
+            (event batch file)) }
     {
         let items = WaitingItems::of_items(batch.into_items());
         let whole = self.groups.take_in(id, status, items, file.seq)?;
@@ -125,14 +132,15 @@ impl ReadState {
 
     /// Takes in what was read of the batches that follow, all of this queue.
     pub(crate) fn merge(&mut self, newer: ReadState, queue: LogQueue) -> Result<()>
-        requires older { IsRead (context_in self.old) }
-        requires newer { IsRead (context_in newer) }
-        ensures neighbours { OnOk result (AreNeighbours queue (context_in self.old) (context_in newer)) }
+        requires older { IsOfHistory (context_in self.old) }
+        requires newer { IsOfHistory (context_in newer) }
+        ensures neighbours { OnOk result (AreNeighbours queue (context_in self.old)
+            (context_in newer)) }
         ensures regions { OnOk result
             (AreMerged queue (context_in self.old) (context_in newer) (context_in self.new).regions) }
         ensures merged { OnOk result
             (context_in self.new ≡ merged_with (context_in self.old) (context_in newer) (context_in self.new).regions) }
-        ensures read { OnOk result (IsRead (context_in self.new)) }
+        ensures read { OnOk result (IsOfHistory (context_in self.new)) }
         ensures fault { IfErr result
             (IsNeighbourFault queue (reading_on (context_in self.old)) (reading_on (context_in newer))) }
     {
@@ -158,7 +166,8 @@ impl ReadState {
 
     /// Whether what was read of newer batches may be taken in.
     fn check_neighbour(&self, newer: &ReadState, queue: LogQueue) -> Result<()>
-        ensures ok { OnOk result (AreNeighbours queue (context_in self.now) (context_in newer.now)) }
+        ensures ok { OnOk result (AreNeighbours queue (context_in self.now)
+            (context_in newer.now)) }
         ensures fault { IfErr result
             (IsNeighbourFault queue (reading_on (context_in self.now)) (reading_on (context_in newer.now))) }
     {
@@ -177,14 +186,14 @@ impl ReadState {
 
     /// Takes in a neighbour.
     fn join(&mut self, newer: ReadState, queue: LogQueue) -> Result<()>
-        requires older { IsRead (context_in self.old) }
-        requires newer { IsRead (context_in newer) }
+        requires older { IsOfHistory (context_in self.old) }
+        requires newer { IsOfHistory (context_in newer) }
         requires neighbours { AreNeighbours queue (context_in self.old) (context_in newer) }
         ensures regions { OnOk result
             (AreMerged queue (context_in self.old) (context_in newer) (context_in self.new).regions) }
         ensures merged { OnOk result
             (context_in self.new ≡ merged_with (context_in self.old) (context_in newer) (context_in self.new).regions) }
-        ensures read { OnOk result (IsRead (context_in self.new)) }
+        ensures read { OnOk result (IsOfHistory (context_in self.new)) }
         ensures fault { IfErr result
             (IsNeighbourFault queue (reading_on (context_in self.old)) (reading_on (context_in newer))) }
     {

@@ -14,7 +14,7 @@ ghost use Rattle.raft_history.specs.ReplayMachine.{event};
 ghost use Rattle.raft_accessor.specs.Accessor.{AreCountsOf};
 ghost use Rattle.raft_memtable.specs.KeptShown.{kept_shown, IsKeptFault};
 ghost use Rattle.raft_memtable.specs.OverlaidContext.{IsOverlaidWith, IsOfBothExactly, IsMergeAppendFault};
-ghost use Rattle.raft_memtable.specs.RecoverContext.{blank_context, IsReading, IsReadingExactly, IsTakenIn, IsBatchFault, IsMergedWith, IsNeighbourFault, refused_stage};
+ghost use Rattle.raft_memtable.specs.RecoverContext.{blank_context, HasRead, HasReadExactly, IsBatchTaken, IsBatchFault, IsMergedWith, IsNeighbourFault, refused_stage};
 ghost use Rattle.raft_memtable.specs.declared.context_stage.ContextStage.TheVariants.{Reading, Overlaid, Failed};
 
 use crate::context_stage::ContextStage;
@@ -27,7 +27,7 @@ use raft_records::LogItemBatch;
 use std::alloc::Global;
 use std::marker::Model;
 
-/// What was read of a queue: the tables of all regions with their counts, a mark of each region, the
+/// What was read of a queue: the tables of all regions with their counts, a region mark of each region, the
 /// groups that wait, and the files.
 #[derive(Drop)]
 pub struct MemTableRecoverContext {
@@ -58,7 +58,7 @@ impl MemTableRecoverContext {
     /// `Memory`.
     pub fn new(alloc: Global) -> Result<MemTableRecoverContext>
         ensures ok { IfOk result (λ context. context ≡ blank_context) }
-        ensures exact { IfOk result (λ context. IsReadingExactly context []) }
+        ensures exact { IfOk result (λ context. HasReadExactly context []) }
         ensures memory { IfErr result (λ e. e ≡ Error.Memory) }
     {
         Ok(MemTableRecoverContext {
@@ -80,7 +80,7 @@ impl MemTableRecoverContext {
     /// hole; `Full` where the live records and those that the batch, or the group that it ends, names are more
     /// than 2^64 - 1; `Memory`.
     pub fn replay(&mut self, batch: LogItemBatch, file_id: FileId) -> Result<()>
-        ensures ok { OnOk result (IsTakenIn (event batch file_id) self.old self.new) }
+        ensures ok { OnOk result (IsBatchTaken (event batch file_id) self.old self.new) }
         ensures fault { IfErr result (IsBatchFault self.old (event batch file_id)) }
         ensures err { OnErr result (self.new.stage ≡ refused_stage self.old.stage) }
         ensures unchanged { self.old.stage ≢ Reading → self.new ≡ self.old }
@@ -112,7 +112,8 @@ impl MemTableRecoverContext {
         ensures fault { IfErr result (IsNeighbourFault queue self.old rhs) }
         ensures err { OnErr result (self.new.stage ≡ refused_stage self.old.stage) }
         ensures unchanged { self.old.stage ≢ Reading → self.new ≡ self.old }
-        ensures failed { (self.old.stage ≢ Reading) ⊎ (rhs.stage ≢ Reading) → IfErr result (λ e. e ≡ Error.Failed) }
+        ensures failed { (self.old.stage ≢ Reading) ⊎ (rhs.stage ≢ Reading) →
+            IfErr result (λ e. e ≡ Error.Failed) }
     {
         if self.stage != ContextStage::Reading {
             return Err(Error::Failed);
@@ -149,15 +150,16 @@ impl MemTableRecoverContext {
     /// records; `Memory`.
     pub fn merge_append_context(&mut self, append: MemTableRecoverContext) -> Result<()>
         ensures ok { OnOk result (IsOverlaidWith append self.old self.new) }
-        ensures exact { (rewrite appended : List Event) → IsReadingExactly self.old rewrite
-            → IsReadingExactly append appended → OnOk result (IsOfBothExactly self.new rewrite appended) }
+        ensures exact { (rewrite appended : List Event) → HasReadExactly self.old rewrite
+            → HasReadExactly append appended → OnOk result (IsOfBothExactly self.new rewrite appended) }
         ensures fault { IfErr result (IsMergeAppendFault self.old append) }
         ensures memory { (rewrite appended : List Event) → IsSmall rewrite → IsSmall appended
-            → IsOfQueue Rewrite rewrite → IsOfQueue Append appended → IsReading self.old rewrite
-            → IsReading append appended → IfErr result (λ e. e ≡ Error.Memory) }
+            → IsOfQueue Rewrite rewrite → IsOfQueue Append appended → HasRead self.old rewrite
+            → HasRead append appended → IfErr result (λ e. e ≡ Error.Memory) }
         ensures err { OnErr result (self.new.stage ≡ refused_stage self.old.stage) }
         ensures unchanged { self.old.stage ≢ Reading → self.new ≡ self.old }
-        ensures failed { (self.old.stage ≢ Reading) ⊎ (append.stage ≢ Reading) → IfErr result (λ e. e ≡ Error.Failed) }
+        ensures failed { (self.old.stage ≢ Reading) ⊎ (append.stage ≢ Reading) →
+            IfErr result (λ e. e ≡ Error.Failed) }
     {
         if self.stage != ContextStage::Reading {
             return Err(Error::Failed);
@@ -188,7 +190,7 @@ impl MemTableRecoverContext {
     pub fn kept(&self) -> Result<Kept>
         ensures ok { IfOk result (λ kept. kept_shown kept ≡ kept_of self.now.context) }
         ensures little { (queue : LogQueue) (h : List Event) (tables : Tables) (cleaned : List ℕ)
-            → IsReadingExactly self.now h
+            → HasReadExactly self.now h
             → Suits queue self.now.context.files → IsOneReading queue h tables cleaned
             → IfOk result (λ kept. IsAtMost (kept_shown kept) (kept_by queue h tables)) }
         ensures overlaid { (rewrite append : List Event) → IsOfBothExactly self.now rewrite append
@@ -211,8 +213,10 @@ impl MemTableRecoverContext {
     pub fn finish(self) -> Result<MemTableAccessor>
         ensures tables { IfOk result (λ accessor. accessor.tables ≡ self.context.regions.tables) }
         ensures cleaned { IfOk result (λ accessor. accessor.cleaned ≡ self.context.cleaned) }
-        ensures exact_counts { IfOk result (λ accessor. AreCountsOf accessor.tables accessor.counts) }
-        ensures reading { (queue : LogQueue) (h : List Event) → IsReadingExactly self h → Suits queue self.context.files
+        ensures exact_counts { IfOk result (λ accessor. AreCountsOf accessor.tables
+            accessor.counts) }
+        ensures reading { (queue : LogQueue) (h : List Event) → HasReadExactly self h →
+            Suits queue self.context.files
             → IfOk result (λ accessor. IsOneReading queue h accessor.tables accessor.cleaned) }
         ensures overlaid { (rewrite append : List Event) → IsOfBothExactly self rewrite append
             → IfOk result (λ accessor. IsReadingOfBoth rewrite append accessor.tables accessor.cleaned) }
@@ -230,11 +234,11 @@ impl MemTableRecoverContext {
 }
 
 impl ReplayMachine for MemTableRecoverContext {
-    ghost use Rattle.raft_memtable.specs.RecoverContext.{IsReading, IsReadingExactly};
+    ghost use Rattle.raft_memtable.specs.RecoverContext.{HasRead, HasReadExactly};
 
-    ghost stands_for = { IsReading };
+    ghost stands_for = { HasRead };
 
-    ghost stands_exactly = { IsReadingExactly };
+    ghost stands_exactly = { HasReadExactly };
 
     fn replay(&mut self, batch: LogItemBatch, file_id: FileId) -> Result<()> {
         self.replay(batch, file_id)
@@ -260,9 +264,9 @@ impl MemTableRecoverContextFactory {
 
 impl Factory<MemTableRecoverContext> for MemTableRecoverContextFactory {
     ghost use Rattle.std.specs.Prelude.{[]};
-    ghost use Rattle.raft_memtable.specs.RecoverContext.{IsReadingExactly};
+    ghost use Rattle.raft_memtable.specs.RecoverContext.{HasReadExactly};
 
-    ghost gives = { λ _ context. IsReadingExactly context [] };
+    ghost gives = { λ _ context. HasReadExactly context [] };
 
     ghost may_refuse = { λ _ e. ⊥ };
 

@@ -1,4 +1,4 @@
-//! The marks of some regions.
+//! The region marks of some regions.
 
 ghost use Rattle.std.specs.Prelude.{◌≡◌, ℕ, nat_eq, OnOk, OnErr, Ok, Err, Some, None, MatchResult, option_map, alloc_error};
 ghost use Rattle.std.specs.FinMap as finite;
@@ -18,7 +18,7 @@ use std::collections::HashMap;
 use std::collections::hash_map::IntoIter;
 use std::marker::Model;
 
-/// The marks of some regions, each under its region's id.
+/// The region marks of some regions, each under its region's id.
 #[derive(Drop)]
 pub struct RegionMarks {
     marks: HashMap<u64, Mark>,
@@ -41,7 +41,7 @@ impl Model for RegionMarks {
 }
 
 impl RegionMarks {
-    /// No marks.
+    /// No region marks.
     pub fn new(alloc: Global) -> RegionMarks
         ensures { result ≡ finite.empty }
     {
@@ -51,21 +51,21 @@ impl RegionMarks {
         }
     }
 
-    /// The mark of a region.
+    /// The region mark of a region.
     pub fn get(&self, id: u64) -> Option<&Mark>
         ensures { option_map (λ m. m.now) result ≡ finite.get self.now id }
     {
         self.marks.get(&id)
     }
 
-    /// How many regions have a mark.
+    /// How many regions have a region mark.
     pub fn len(&self) -> usize
         ensures { result ≡ finite.len self.now }
     {
         self.marks.len()
     }
 
-    /// How many deleted keys all marks hold together.
+    /// How many deleted keys all region marks hold together.
     pub fn deleted_keys(&self) -> u128
         ensures { result ≡ total (λ (m : Mark). finset.len m.deleted) self.now }
     {
@@ -76,11 +76,11 @@ impl RegionMarks {
         count
     }
 
-    /// Gives a region that has no mark the mark of no step.
+    /// Gives a region that has no region mark the region mark of no step.
     ///
     /// # Errors
     ///
-    /// `AllocError`. The marks are then as they were.
+    /// `AllocError`. The region marks are then as they were.
     pub fn mark(&mut self, id: u64) -> Result<(), AllocError>
         ensures ok { OnOk result (self.new ≡ finite.insert self.old id (mark_in self.old id)) }
         ensures err { OnErr result (self.new ≡ self.old) }
@@ -88,12 +88,12 @@ impl RegionMarks {
         self.update(id, |_: &mut Mark| Ok(()))
     }
 
-    /// Joins the mark of a run that starts at `start` to a region's mark, where the region's own entries
+    /// Joins the region mark of a run that starts at `start` to the region mark of a region, where the region's own entries
     /// end at `end`.
     ///
     /// # Errors
     ///
-    /// `AllocError`. The marks are then as they were.
+    /// `AllocError`. The region marks are then as they were.
     pub fn add_run(
         &mut self,
         id: u64,
@@ -112,11 +112,11 @@ impl RegionMarks {
         })
     }
 
-    /// Joins the mark of a compaction to a region's mark.
+    /// Joins the region mark of a compaction to the region mark of a region.
     ///
     /// # Errors
     ///
-    /// `AllocError`. The marks are then as they were.
+    /// `AllocError`. The region marks are then as they were.
     pub fn add_compaction(&mut self, id: u64, index: u64) -> Result<(), AllocError>
         ensures ok { (queue : LogQueue) (end : ℕ)
             → OnOk result (self.new
@@ -129,11 +129,11 @@ impl RegionMarks {
         })
     }
 
-    /// Joins the mark of a truncation to a region's mark.
+    /// Joins the region mark of a truncation to the region mark of a region.
     ///
     /// # Errors
     ///
-    /// `AllocError`. The marks are then as they were.
+    /// `AllocError`. The region marks are then as they were.
     pub fn add_truncation(&mut self, id: u64, index: u64) -> Result<(), AllocError>
         ensures ok { (queue : LogQueue) (end : ℕ)
             → OnOk result (self.new
@@ -146,11 +146,11 @@ impl RegionMarks {
         })
     }
 
-    /// Joins the mark of a deleted key to a region's mark.
+    /// Joins the region mark of a deleted key to the region mark of a region.
     ///
     /// # Errors
     ///
-    /// `AllocError`. The marks are then as they were.
+    /// `AllocError`. The region marks are then as they were.
     pub fn add_deleted(&mut self, id: u64, key: Vec<u8>) -> Result<(), AllocError>
         ensures ok { (queue : LogQueue) (end : ℕ)
             → OnOk result (self.new
@@ -163,11 +163,11 @@ impl RegionMarks {
         )
     }
 
-    /// Joins the mark of a clean to a region's mark.
+    /// Joins the region mark of a clean to the region mark of a region.
     ///
     /// # Errors
     ///
-    /// `AllocError`. The marks are then as they were.
+    /// `AllocError`. The region marks are then as they were.
     pub fn add_clean(&mut self, id: u64) -> Result<(), AllocError>
         ensures ok { (queue : LogQueue) (end : ℕ)
             → OnOk result (self.new
@@ -180,12 +180,12 @@ impl RegionMarks {
         })
     }
 
-    /// Joins the mark of newer steps to a region's mark, whose first run comes behind own entries of the
+    /// Joins the region mark of newer steps to the region mark of a region, whose first run comes behind own entries of the
     /// region that end at `end_at_reach`.
     ///
     /// # Errors
     ///
-    /// `AllocError`. The region's mark may then lack deleted keys, and serves no more.
+    /// `AllocError`. The region mark of the region may then lack deleted keys, and serves no more.
     pub fn join(
         &mut self,
         id: u64,
@@ -202,7 +202,7 @@ impl RegionMarks {
         })
     }
 
-    /// The marks, each with its region, in no set order.
+    /// The region marks, each with its region, in no set order.
     pub(crate) fn into_entries(self) -> IntoIter<u64, Mark>
         ensures entries { finite.from_entries result ≡ self }
         ensures once { IsDistinct nat_eq (keys_of result) }
@@ -210,7 +210,7 @@ impl RegionMarks {
         self.marks.into_iter()
     }
 
-    /// Changes a region's mark, that of no step where it has none. It is looked up once where it is there.
+    /// Changes the region mark of a region, that of no step where it has none. It is looked up once where it is there.
     #[inline(always)]
     fn update<F: FnOnce(&mut Mark) -> Result<(), AllocError>>(
         &mut self,

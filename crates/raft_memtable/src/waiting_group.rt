@@ -2,7 +2,7 @@
 
 ghost use Rattle.std.specs.Prelude.{◌≡◌, ◌<◌, ◌^◌, length, IfOk};
 ghost use Rattle.std.specs.Option.{option_map};
-ghost use Rattle.raft_history.specs.WaitingGroup.{Ended, joined_group, whole_group, whole_of, one_marker, led_by, carried, without_marker};
+ghost use Rattle.raft_history.specs.WaitingGroup.{Ended, joined_group, whole_group, whole_of, one_marker, led_by, carried_stretch, without_marker};
 ghost use Rattle.raft_history.specs.WaitingGroups.{held_steps, front_steps};
 ghost use Rattle.raft_memtable.specs.WaitingShown.{front_shown, stretch_shown, group_shown, whole_shown};
 
@@ -76,7 +76,7 @@ impl GroupFront {
 }
 
 impl WaitingGroup {
-    /// What is known of a group without a marker.
+    /// What is known of a group without a group marker.
     pub fn without_marker(alloc: Global) -> WaitingGroup
         ensures { group_shown result ≡ without_marker }
     {
@@ -86,7 +86,7 @@ impl WaitingGroup {
         }
     }
 
-    /// What is known of a group from one batch with its marker.
+    /// What is known of a group from one batch with its group marker.
     pub fn one_marker(status: AtomicGroupStatus, items: WaitingItems, file: FileSeq) -> WaitingGroup
         ensures { group_shown result ≡ one_marker status items file }
     {
@@ -125,7 +125,8 @@ impl WaitingGroup {
     ///
     /// Where there is no memory to put the newer items behind the older ones.
     pub fn join(self, newer: WaitingGroup) -> Result<(WaitingGroup, Option<WholeGroup>), AllocError>
-        ensures known { IfOk result (λ r. group_shown r.0 ≡ joined_group (group_shown self) (group_shown newer)) }
+        ensures known { IfOk result (λ r. group_shown r.0 ≡ joined_group (group_shown self)
+            (group_shown newer)) }
         ensures whole { IfOk result (λ r. option_map whole_shown r.1
             ≡ whole_group (group_shown self) (group_shown newer)) }
     {
@@ -137,41 +138,16 @@ impl WaitingGroup {
             front: newer_front,
             stretch: newer_stretch,
         } = newer;
-        match (older_front, newer_front) {
-            (GroupFront::Open(items), newer_front) => {
-                let front = newer_front.led_by(items)?;
-                Ok((
-                    WaitingGroup {
-                        front,
-                        stretch: newer_stretch,
-                    },
-                    None,
-                ))
-            }
-            (front, GroupFront::Open(items)) => {
-                let stretch = going_on(older_stretch, items)?;
-                Ok((WaitingGroup { front, stretch }, None))
-            }
+        let (front, stretch, whole) = match (older_front, newer_front) {
+            (GroupFront::Open(items), front) => (front.led_by(items)?, newer_stretch, None),
+            (front, GroupFront::Open(items)) => (front, going_on(older_stretch, items)?, None),
             (front, GroupFront::Ended(items, end)) => {
                 let whole = ended(older_stretch, items, end)?;
-                Ok((
-                    WaitingGroup {
-                        front,
-                        stretch: newer_stretch,
-                    },
-                    whole,
-                ))
+                (front, newer_stretch, whole)
             }
-            (front, GroupFront::Cut) => {
-                Ok((
-                    WaitingGroup {
-                        front,
-                        stretch: newer_stretch,
-                    },
-                    None,
-                ))
-            }
-        }
+            (front, GroupFront::Cut) => (front, newer_stretch, None),
+        };
+        Ok((WaitingGroup { front, stretch }, whole))
     }
 }
 
@@ -180,7 +156,7 @@ fn going_on(
     stretch: Option<OpenStretch>,
     items: WaitingItems,
 ) -> Result<Option<OpenStretch>, AllocError>
-    ensures { IfOk result (λ r. stretch_shown r ≡ carried (stretch_shown stretch) items) }
+    ensures { IfOk result (λ r. stretch_shown r ≡ carried_stretch (stretch_shown stretch) items) }
 {
     match stretch {
         Some(open) => {
@@ -198,7 +174,8 @@ fn ended(
     items: WaitingItems,
     end: FileSeq,
 ) -> Result<Option<WholeGroup>, AllocError>
-    ensures { IfOk result (λ r. option_map whole_shown r ≡ whole_of (stretch_shown stretch) (Ended items end)) }
+    ensures { IfOk result (λ r. option_map whole_shown r ≡ whole_of (stretch_shown stretch)
+        (Ended items end)) }
 {
     match stretch {
         Some(open) => {

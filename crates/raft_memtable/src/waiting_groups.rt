@@ -6,10 +6,10 @@ ghost use Rattle.std.specs.FinMap as finite;
 ghost use Rattle.std.specs.Ordering.{nat_cmp};
 ghost use Rattle.std.specs.BTreeMap.{IsOrdered, is_at};
 ghost use Rattle.std.specs.Map.{remove_entry};
-ghost use Rattle.raft_history.specs.Batches.{ReadBatch, batch_with_marker};
-ghost use Rattle.raft_history.specs.Effects.{BatchesApart, steps_of, steps_of_wholes};
+ghost use Rattle.raft_history.specs.Batches.{BatchSteps, batch_with_marker};
+ghost use Rattle.raft_history.specs.Effects.{EachApart, effects, steps_of};
 ghost use Rattle.raft_history.specs.WaitingGroup.{joined_group, whole_group, one_marker};
-ghost use Rattle.raft_history.specs.WaitingGroups.{groups_in, waiting_steps, steps_or, known, joined_groups, whole_groups};
+ghost use Rattle.raft_history.specs.WaitingGroups.{groups_in, waiting_steps, steps_or, known, joined_groups, whole_groups, steps_of_wholes};
 ghost use Rattle.raft_memtable.specs.WaitingShown.{seen_entries, group_shown, whole_shown};
 
 use crate::waiting_group::{WaitingGroup, WholeGroup};
@@ -20,7 +20,7 @@ use std::alloc::{AllocError, Global};
 use std::collections::BTreeMap;
 use std::marker::Model;
 
-/// What is known of the groups that have a marker.
+/// What is known of the groups that have a group marker.
 #[derive(Debug, Drop)]
 pub struct WaitingGroups {
     groups: BTreeMap<u64, WaitingGroup>,
@@ -43,7 +43,7 @@ impl Model for WaitingGroups {
 }
 
 impl WaitingGroups {
-    /// No group has a marker.
+    /// No group has a group marker.
     pub fn new(alloc: Global) -> WaitingGroups
         ensures { result ≡ finite.empty }
     {
@@ -53,7 +53,7 @@ impl WaitingGroups {
         }
     }
 
-    /// How many groups have a marker.
+    /// How many groups have a group marker.
     pub fn len(&self) -> usize
         ensures { result ≡ finite.len self.now }
     {
@@ -71,7 +71,7 @@ impl WaitingGroups {
         count
     }
 
-    /// Takes in one more batch, with a marker of the group `id`. Answers the group if the batch makes
+    /// Takes in one more batch, with a group marker of the group `id`. Answers the group if the batch makes
     /// it whole.
     ///
     /// # Errors
@@ -88,9 +88,9 @@ impl WaitingGroups {
             ≡ finite.insert self.old id (joined_group (known self.old id) (one_marker status items file))) }
         ensures whole { IfOk result (λ w. option_map whole_shown w
             ≡ whole_group (known self.old id) (one_marker status items file)) }
-        ensures stands { (h : List ReadBatch) → self.old ≡ groups_in h
+        ensures stands { (h : List BatchSteps) → self.old ≡ groups_in h
             → OnOk result (self.new ≡ groups_in (h ++ batch_with_marker items id status file ∷ [])) }
-        ensures steps { (h : List ReadBatch) (r : ℕ) → self.old ≡ groups_in h
+        ensures steps { (h : List BatchSteps) (r : ℕ) → self.old ≡ groups_in h
             → IfOk result (λ w. steps_of r (h ++ batch_with_marker items id status file ∷ [])
             ≡ steps_of r h ++ steps_or r (option_map whole_shown w)) }
     {
@@ -107,10 +107,10 @@ impl WaitingGroups {
     pub fn join(&mut self, newer: WaitingGroups) -> Result<Vec<WholeGroup>, AllocError>
         ensures known { OnOk result (self.new ≡ joined_groups self.old newer) }
         ensures wholes { IfOk result (λ w. map whole_shown w.items ≡ whole_groups self.old newer) }
-        ensures stands { (h k : List ReadBatch) → self.old ≡ groups_in h → newer ≡ groups_in k
+        ensures stands { (h k : List BatchSteps) → self.old ≡ groups_in h → newer ≡ groups_in k
             → OnOk result (self.new ≡ groups_in (h ++ k)) }
-        ensures steps { (h k : List ReadBatch) (r : ℕ) → self.old ≡ groups_in h → newer ≡ groups_in k
-            → BatchesApart (h ++ k)
+        ensures steps { (h k : List BatchSteps) (r : ℕ) → self.old ≡ groups_in h →
+            newer ≡ groups_in k → EachApart (effects (h ++ k))
             → IfOk result (λ w. steps_of r (h ++ k)
             ≡ steps_of r h ++ (steps_of_wholes r (map whole_shown w.items) ++ steps_of r k)) }
     {

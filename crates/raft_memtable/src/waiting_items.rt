@@ -11,7 +11,7 @@ use std::alloc::{AllocError, Global};
 use std::marker::Model;
 
 /// Items that wait for the end of their group. Each of them changes a table: the others, as the
-/// group's own markers, are dropped when they come in.
+/// group's own group markers, are dropped when they come in.
 #[derive(Debug, Drop)]
 pub struct WaitingItems {
     items: Vec<LogItem>,
@@ -75,7 +75,8 @@ impl WaitingItems {
     ///
     /// Where there is no memory for them.
     pub fn regions(&self) -> Result<Vec<u64>, AllocError>
-        ensures { IfOk result (λ ids. (r : ℕ) → list_any (λ id. eqb r id) ids.items ≡ names r self.now) }
+        ensures { IfOk result (λ ids. (r : ℕ) →
+            list_any (λ id. eqb r id) ids.items ≡ names r self.now) }
     {
         let mut ids: Vec<u64> = Vec::new(*self.items.allocator());
         for item in &self.items {
@@ -97,7 +98,8 @@ impl WaitingItems {
 
 /// Whether a region is the last of these.
 fn is_last(ids: &[u64], id: u64) -> bool
-    ensures { (r : ℕ) → IsTrue result → list_any (λ i. eqb r i) (ids.now ++ id ∷ []) ≡ list_any (λ i. eqb r i) ids.now }
+    ensures { (r : ℕ) → IsTrue result → list_any (λ i. eqb r i) (ids.now ++ id ∷ []) ≡ list_any
+        (λ i. eqb r i) ids.now }
 {
     match ids.last() {
         Some(last) => *last == id,

@@ -20,7 +20,7 @@ fn file(seq: u64) -> FileId {
     FileId::new(LogQueue::Rewrite, seq)
 }
 
-/// Adds the marker of a group with this status.
+/// Adds the group marker of a group with this status.
 fn add_marker(
     alloc: Global,
     group: u64,
@@ -41,7 +41,7 @@ fn add_marker(
     }
 }
 
-/// The bytes of a batch with this marker of a group, which puts a key in a region.
+/// The bytes of a batch with this group marker of a group, which puts a key in a region.
 pub(crate) fn part_of(
     alloc: Global,
     group: u64,
@@ -156,7 +156,7 @@ fn is_refused(
     Ok(is_failed(again)? && is_failed(context.finish())?)
 }
 
-/// A context that replayed a batch with these markers.
+/// A context that replayed a batch with these group markers.
 fn replayed(
     alloc: Global,
     markers: &[(u64, &[u8])],
@@ -167,20 +167,20 @@ fn replayed(
     Ok(context)
 }
 
-/// Whether a batch with these markers takes effect at once, and its puts of the group markers' key in region 9 have
+/// Whether a batch with these group markers takes effect at once, and its puts of the group markers' key in region 9 have
 /// none.
 fn has_table(alloc: Global, markers: &[(u64, &[u8])], file: FileId) -> Result<bool> {
     let accessor = replayed(alloc, markers, file)?.finish()?;
     Ok(accessor.get(5).is_some() && accessor.get(9).is_none())
 }
 
-/// Whether a batch with this marker is refused.
+/// Whether a batch with this group marker is refused.
 fn is_marker_refused(alloc: Global, markers: &[(u64, &[u8])]) -> Result<bool> {
     let batch = batch_with_markers(alloc, markers)?;
     is_refused(alloc, MemTableRecoverContext::new(alloc)?, batch, file(1))
 }
 
-/// The last group of region 5, where one batch has two markers and the next one ends the group of the first.
+/// The last group of region 5, where one batch has two group markers and the next one ends the group of the first.
 fn first_group(alloc: Global) -> Result<Option<(u64, u64)>> {
     let two = [(9, [0u8].as_slice()), (8, [2u8].as_slice())];
     let mut context = replayed(alloc, &two, file(1))?;
@@ -190,8 +190,8 @@ fn first_group(alloc: Global) -> Result<Option<(u64, u64)>> {
     Ok(accessor.get(5).and_then(|table| table.atomic_group()))
 }
 
-/// A marker with an unknown status is refused in the rewrite queue alone, one with two bytes is none,
-/// and of two markers in a batch the first counts.
+/// A group marker with an unknown status is refused in the rewrite queue alone, one with two bytes is none,
+/// and of two group markers in a batch the first counts.
 fn markers_are_read(alloc: Global) -> Result<bool> {
     let unknown = [(9, [3u8].as_slice())];
     let long = [(9, [0u8, 0].as_slice())];

@@ -7,7 +7,7 @@ use raft_memtable::{Error, LogQueue, MemTableAccessor, MemTableRecoverContext, R
 use raft_records::{AtomicGroupStatus, FilePart};
 use std::alloc::Global;
 
-/// The markers of four batches.
+/// The group markers of four batches.
 type Statuses = [AtomicGroupStatus; 4];
 
 const STATUSES: [AtomicGroupStatus; 3] = [Begin, Middle, End];
@@ -37,7 +37,7 @@ fn cuttings() -> &'static [Cutting] {
     &CUTTINGS
 }
 
-/// Whether markers of a group, one behind the other, are a whole stretch.
+/// Whether group markers of a group, one behind the other, are a whole stretch.
 fn is_whole(statuses: &[AtomicGroupStatus]) -> bool {
     match statuses {
         [Begin, middles @ .., End] => middles.iter().all(|status| *status == Middle),
@@ -45,7 +45,7 @@ fn is_whole(statuses: &[AtomicGroupStatus]) -> bool {
     }
 }
 
-/// What the markers ask for: each whole stretch has the keys of its batches, and is the region's last
+/// What the group markers ask for: each whole stretch has the keys of its batches, and is the region's last
 /// group if none comes behind it.
 fn owed(statuses: &Statuses) -> Effect {
     let mut keys = [false; 4];
@@ -77,7 +77,7 @@ fn whole_stretches_are_found(rt: HostRuntime) {
     }
 }
 
-/// Four batches with these markers of group 9, in the files 1 to 4: each puts a key in region 5.
+/// Four batches with these group markers of group 9, in the files 1 to 4: each puts a key in region 5.
 fn parts_of(alloc: Global, statuses: &Statuses) -> Result<Vec<FilePart>> {
     let mut parts = Vec::new(alloc);
     let mut seq = 1u64;
@@ -144,7 +144,7 @@ fn have_effect(tables: &MemTableAccessor, effect: Effect) -> bool {
         && tables.is_empty() == (records == 0)
 }
 
-/// Whether these markers have the effect that is owed, however the batches are read and merged.
+/// Whether these group markers have the effect that is owed, however the batches are read and merged.
 fn has_effect(alloc: Global, statuses: &Statuses) -> Result<bool> {
     let parts = parts_of(alloc, statuses)?;
     let effect = owed(statuses);
@@ -157,7 +157,7 @@ fn has_effect(alloc: Global, statuses: &Statuses) -> Result<bool> {
     Ok(true)
 }
 
-/// Whether all lists of markers that begin with these two have their effects.
+/// Whether all lists of group markers that begin with these two have their effects.
 fn all_behind_have_effects(
     alloc: Global,
     first: AtomicGroupStatus,

@@ -23,16 +23,17 @@ use Rattle.raft_records.specs.declared.key_value.OpType.{OpType}
 use Rattle.raft_records.specs.declared.key_value.OpType.TheVariants.{Put, Del}
 use Rattle.raft_records.specs.Item.{Item, Content, entries, command, pair, IsInBytes}
 use Rattle.raft_records.specs.Entries.{IsConsecutiveFrom, IsConsecutive, Tile}
-use Rattle.raft_records.specs.Grammar.{tail_of, IsTail, behind_entry, AreIndexAndTails, IsPairOf, IsContent, IsItem, end_behind, behind_item}
+use Rattle.raft_records.specs.Grammar.{tail_of, IsTail, AreIndexAndTails, IsPairOf, IsContent, IsItem, end_behind}
+use Rattle.raft_records.proofs.Names.{behind_entry, behind_item, placed_entry}
 use Rattle.raft_records.specs.Spelling.{IsWritableWith, tails_bytes, entries_bytes, item_bytes}
-use Rattle.raft_records.specs.ItemBatch.{FitsBehind, FitTogether, end_of_items, placed_entry, placed, IsKeptBeside, AreItems, IsCountAndItems, signed, checksum_bytes, IsItemBatch, HasSeal, AreItemsFault, batch_bytes}
+use Rattle.raft_records.specs.ItemBatch.{FitsBehind, FitTogether, end_of_items, placed_item, IsKeptBeside, AreItems, signed_crc, checksum_bytes, IsItemBatch, HasSeal, AreItemsFault, batch_bytes}
 use Rattle.raft_records.specs.Range.{IsInRange}
 use Rattle.raft_records.specs.Faults.{IsItemFault}
 use Rattle.raft_records.proofs.ContentLemmas.{item_one_front}
 use Rattle.raft_records.proofs.InBytesLemmas.{in_bytes_append, in_bytes_placed}
 use Rattle.raft_records.proofs.RangeLemmas.{range_append, range_placed}
 use Rattle.raft_records.proofs.SealLemmas.{four, content_is}
-use Rattle.raft_records.specs.Sizes.{item_size, items_size, saturated}
+use Rattle.raft_records.specs.Sizes.{item_size, items_size, at_most_usize}
 
 -- ---- one more item
 
@@ -48,15 +49,15 @@ pub size_push : (xs : List Item) (x : Item) → items_size (xs ++ x ∷ []) ≡ 
 size_push [] x = omega arith
 size_push (y ∷ ys) x = omega (arith, size_push ys x)
 
-pub kept_push : (xs : List Item) (x : Item) (size entry_bytes size' : ℕ) (checksum : Option ℕ) → IsKeptBeside xs size entry_bytes checksum → FitsBehind (end_of_items 0 xs) x.content → IsInRange x → IsInBytes x.content → size' ≡ saturated (size + saturated (item_size x)) → IsKeptBeside (xs ++ x ∷ []) size' (behind_item (end_of_items 0 xs) x) None
+pub kept_push : (xs : List Item) (x : Item) (size entry_bytes size' : ℕ) (checksum : Option ℕ) → IsKeptBeside xs size entry_bytes checksum → FitsBehind (end_of_items 0 xs) x.content → IsInRange x → IsInBytes x.content → size' ≡ at_most_usize (size + at_most_usize (item_size x)) → IsKeptBeside (xs ++ x ∷ []) size' (behind_item (end_of_items 0 xs) x) None
 kept_push xs x size entry_bytes size' checksum k f r b e =
-    let before : size ≡ saturated (items_size xs) = k.size in
+    let before : size ≡ at_most_usize (items_size xs) = k.size in
     let pushed : items_size (xs ++ x ∷ []) ≡ items_size xs + item_size x = size_push xs x in
     record { fit = fit_push 0 xs x k.fit f; in_range = range_append xs (x ∷ []) k.in_range (r, tt); in_bytes = in_bytes_append xs (x ∷ []) k.in_bytes (b, tt); entry_bytes = sym (end_push 0 xs x); size = omega arith; checksum = λ crc some. absurd cc }
 
 -- ---- places
 
-pub fits_placed : (block : FileBlockHandle) (c : CompressionType) (s : ℕ) (content : Content) → FitsBehind s content → FitsBehind s (placed block c (record { raft_group_id = 0; content = content })).content
+pub fits_placed : (block : FileBlockHandle) (c : CompressionType) (s : ℕ) (content : Content) → FitsBehind s content → FitsBehind s (placed_item block c (record { raft_group_id = 0; content = content })).content
 fits_placed block c s (entries es) h = (consecutive_placed es h.0, tile_placed s es h.1)
   where
     from_placed : (i : ℕ) (es : List EntryIndex) → IsConsecutiveFrom i es → IsConsecutiveFrom i (map (placed_entry block c) es)
@@ -77,10 +78,10 @@ end_placed : (block : FileBlockHandle) (c : CompressionType) (s : ℕ) (es : Lis
 end_placed block c s [] = refl
 end_placed block c s (e ∷ es) = end_placed block c (tail_of e) es
 
-pub behind_placed : (block : FileBlockHandle) (c : CompressionType) (s : ℕ) (x : Item) → behind_item s (placed block c x) ≡ behind_item s x
+pub behind_placed : (block : FileBlockHandle) (c : CompressionType) (s : ℕ) (x : Item) → behind_item s (placed_item block c x) ≡ behind_item s x
 behind_placed block c s x = go x.content
   where
-    go : (content : Content) → behind_item s (placed block c (record { raft_group_id = x.raft_group_id; content = content })) ≡ behind_item s (record { raft_group_id = x.raft_group_id; content = content })
+    go : (content : Content) → behind_item s (placed_item block c (record { raft_group_id = x.raft_group_id; content = content })) ≡ behind_item s (record { raft_group_id = x.raft_group_id; content = content })
     go (entries es) = end_placed block c s es
     go (command y) = refl
     go (pair p) = refl
@@ -124,9 +125,9 @@ pub end_is_state : (s : ℕ) (xs : List Item) → end_of_items s xs ≡ state_af
 end_is_state s [] = refl
 end_is_state s (x ∷ xs) = end_is_state (behind_item s x) xs
 
-pub end_of_placed : (block : FileBlockHandle) (c : CompressionType) (s : ℕ) (xs : List Item) → end_of_items s (map (placed block c) xs) ≡ end_of_items s xs
+pub end_of_placed : (block : FileBlockHandle) (c : CompressionType) (s : ℕ) (xs : List Item) → end_of_items s (map (placed_item block c) xs) ≡ end_of_items s xs
 end_of_placed block c s [] = refl
-end_of_placed block c s (x ∷ xs) = ap (λ (t : ℕ). end_of_items t (map (placed block c) xs)) (behind_placed block c s x) ∙ end_of_placed block c (behind_item s x) xs
+end_of_placed block c s (x ∷ xs) = ap (λ (t : ℕ). end_of_items t (map (placed_item block c) xs)) (behind_placed block c s x) ∙ end_of_placed block c (behind_item s x) xs
 
 -- one more item behind those that were read
 pub one_more_item : (bytes mid rest : List ℕ) (xs : List Item) (x : Item) (s : ℕ) → Reads (IsSequence behind_item IsItem 0) bytes mid xs → s ≡ end_of_items 0 xs → Reads (IsItem s) mid rest x → Reads (IsSequence behind_item IsItem 0) bytes rest (xs ++ x ∷ [])
@@ -137,16 +138,20 @@ pub no_more_items : (bytes mid : List ℕ) (xs : List Item) (s count : ℕ) → 
 no_more_items bytes mid xs s count r e lt none front rest ys a split =
     let here : HasNoFront (IsItem (state_after behind_item 0 xs)) mid = subst (λ (t : ℕ). HasNoFront (IsItem t) mid) (e ∙ end_is_state 0 xs) none in
     let len : length ys ≡ count = a.count in
-    stuck behind_item IsItem item_one_front 0 xs ys r here front rest a.items_spelled split (omega arith)
+    stuck behind_item IsItem item_one_front 0 xs ys r here front rest a.spelled split (omega arith)
 
 pub item_fault : (bytes mid : List ℕ) (xs : List Item) (s count more : ℕ) (fault : Error) → Reads (IsSequence behind_item IsItem 0) bytes mid xs → s ≡ end_of_items 0 xs → count ≡ length xs + suc more → IsItemFault s mid fault → AreItemsFault count bytes fault
 item_fault bytes mid xs s count more fault r e c f =
     inr (fault_after behind_item IsItem IsItemFault 0 xs count (suc more) fault c r (inl (subst (λ (t : ℕ). IsItemFault t mid fault) (e ∙ end_is_state 0 xs) f)))
 
 items_one_front : (n : ℕ) → HasOneFront (AreItems n)
-items_one_front n a b more rest xs ys p q e = sequence_one_front behind_item IsItem item_one_front 0 xs ys a b more rest (p.count ∙ sym q.count) p.items_spelled q.items_spelled e
+items_one_front n a b more rest xs ys p q e = sequence_one_front behind_item IsItem item_one_front 0 xs ys a b more rest (p.count ∙ sym q.count) p.spelled q.spelled e
 
 -- ---- the whole batch
+
+-- the count of items and the items
+abbrev pub IsCountAndItems : List ℕ → List Item → Type 0
+IsCountAndItems bytes items = IsFollowedBy IsVarint AreItems bytes (length items) items
 
 pub counted_read : (n : ℕ) (content mid rest : List ℕ) (xs : List Item) → Reads IsVarint content mid n → Reads (AreItems n) mid rest xs → Reads IsCountAndItems content rest xs
 counted_read n content mid rest xs r t =
@@ -164,7 +169,7 @@ batch_read signature bytes content rest xs s r =
 -- the content of an item batch is its count, its items and its rest
 pub batch_content : (signature : Option ℕ) (bytes content rest : List ℕ) (xs : List Item) → HasSeal signature bytes content → (b : IsItemBatch bytes signature xs rest) → content ≡ b.front ++ rest
 batch_content signature bytes content rest xs s b =
-    (content_is signature bytes (b.front ++ rest) content (checksum_bytes signature (b.front ++ rest)) b.split (four (signed signature (crc32_of (b.front ++ rest)))) s).0
+    (content_is signature bytes (b.front ++ rest) content (checksum_bytes signature (b.front ++ rest)) b.split (four (signed_crc signature (crc32_of (b.front ++ rest)))) s).0
 
 counted_some : (front : List ℕ) (xs : List Item) → IsCountAndItems front xs → 0 < length front
 counted_some front xs p = omega (arith, ap length p.split, length-append p.first p.second, varint_some p.first (length xs) p.first_spells)
@@ -211,47 +216,47 @@ entries_placed block c (e ∷ es) =
     ap (λ (n : ℕ). varint (suc n) ++ (varint e.index ++ tails_bytes (map (placed_entry block c) (e ∷ es)))) (length-map es (placed_entry block c))
     ∙ ap (λ (t : List ℕ). varint (suc (length es)) ++ (varint e.index ++ t)) (tails_placed block c (e ∷ es))
 
-bytes_placed : (block : FileBlockHandle) (c : CompressionType) (x : Item) → item_bytes (placed block c x) ≡ item_bytes x
+bytes_placed : (block : FileBlockHandle) (c : CompressionType) (x : Item) → item_bytes (placed_item block c x) ≡ item_bytes x
 bytes_placed block c x = go x.content
   where
-    go : (content : Content) → item_bytes (placed block c (record { raft_group_id = x.raft_group_id; content = content })) ≡ item_bytes (record { raft_group_id = x.raft_group_id; content = content })
+    go : (content : Content) → item_bytes (placed_item block c (record { raft_group_id = x.raft_group_id; content = content })) ≡ item_bytes (record { raft_group_id = x.raft_group_id; content = content })
     go (entries es) = ap (λ (t : List ℕ). varint x.raft_group_id ++ 1 ∷ t) (entries_placed block c es)
     go (command y) = refl
     go (pair p) = refl
 
-all_placed : (block : FileBlockHandle) (c : CompressionType) (xs : List Item) → flat_map item_bytes (map (placed block c) xs) ≡ flat_map item_bytes xs
+all_placed : (block : FileBlockHandle) (c : CompressionType) (xs : List Item) → flat_map item_bytes (map (placed_item block c) xs) ≡ flat_map item_bytes xs
 all_placed block c [] = refl
-all_placed block c (x ∷ xs) = ap (λ (t : List ℕ). t ++ flat_map item_bytes (map (placed block c) xs)) (bytes_placed block c x) ∙ ap (λ (t : List ℕ). item_bytes x ++ t) (all_placed block c xs)
+all_placed block c (x ∷ xs) = ap (λ (t : List ℕ). t ++ flat_map item_bytes (map (placed_item block c) xs)) (bytes_placed block c x) ∙ ap (λ (t : List ℕ). item_bytes x ++ t) (all_placed block c xs)
 
-pub batch_placed : (block : FileBlockHandle) (c : CompressionType) (xs : List Item) → batch_bytes (map (placed block c) xs) ≡ batch_bytes xs
+pub batch_placed : (block : FileBlockHandle) (c : CompressionType) (xs : List Item) → batch_bytes (map (placed_item block c) xs) ≡ batch_bytes xs
 unfolding batch_bytes
-batch_placed block c xs = ap (λ (n : ℕ). varint n ++ flat_map item_bytes (map (placed block c) xs)) (length-map xs (placed block c)) ∙ ap (λ (t : List ℕ). varint (length xs) ++ t) (all_placed block c xs)
+batch_placed block c xs = ap (λ (n : ℕ). varint n ++ flat_map item_bytes (map (placed_item block c) xs)) (length-map xs (placed_item block c)) ∙ ap (λ (t : List ℕ). varint (length xs) ++ t) (all_placed block c xs)
 
-size_placed : (block : FileBlockHandle) (c : CompressionType) (x : Item) → item_size (placed block c x) ≡ item_size x
+size_placed : (block : FileBlockHandle) (c : CompressionType) (x : Item) → item_size (placed_item block c x) ≡ item_size x
 size_placed block c x = go x.content
   where
-    go : (content : Content) → item_size (placed block c (record { raft_group_id = x.raft_group_id; content = content })) ≡ item_size (record { raft_group_id = x.raft_group_id; content = content })
+    go : (content : Content) → item_size (placed_item block c (record { raft_group_id = x.raft_group_id; content = content })) ≡ item_size (record { raft_group_id = x.raft_group_id; content = content })
     go (entries []) = refl
     go (entries (e ∷ es)) = omega (arith, length-map es (placed_entry block c))
     go (command y) = refl
     go (pair p) = refl
 
-sizes_placed : (block : FileBlockHandle) (c : CompressionType) (xs : List Item) → items_size (map (placed block c) xs) ≡ items_size xs
+sizes_placed : (block : FileBlockHandle) (c : CompressionType) (xs : List Item) → items_size (map (placed_item block c) xs) ≡ items_size xs
 sizes_placed block c [] = refl
 sizes_placed block c (x ∷ xs) = omega (arith, size_placed block c x, sizes_placed block c xs)
 
-fit_placed : (block : FileBlockHandle) (c : CompressionType) (s : ℕ) (xs : List Item) → FitTogether s xs → FitTogether s (map (placed block c) xs)
+fit_placed : (block : FileBlockHandle) (c : CompressionType) (s : ℕ) (xs : List Item) → FitTogether s xs → FitTogether s (map (placed_item block c) xs)
 fit_placed block c s [] h = tt
 fit_placed block c s (x ∷ xs) h =
-    (fits_placed block c s x.content h.0, subst (λ (t : ℕ). FitTogether t (map (placed block c) xs)) (sym (behind_placed block c s x)) (fit_placed block c (behind_item s x) xs h.1))
+    (fits_placed block c s x.content h.0, subst (λ (t : ℕ). FitTogether t (map (placed_item block c) xs)) (sym (behind_placed block c s x)) (fit_placed block c (behind_item s x) xs h.1))
 
-pub placed_kept : (block : FileBlockHandle) (c : CompressionType) (xs : List Item) (size bytes : ℕ) (crc : Option ℕ) → IsKeptBeside xs size bytes crc → IsKeptBeside (map (placed block c) xs) size bytes crc
+pub placed_kept : (block : FileBlockHandle) (c : CompressionType) (xs : List Item) (size bytes : ℕ) (crc : Option ℕ) → IsKeptBeside xs size bytes crc → IsKeptBeside (map (placed_item block c) xs) size bytes crc
 placed_kept block c xs size bytes crc k =
     record {
       fit = fit_placed block c 0 xs k.fit;
       in_range = range_placed block c xs k.in_range;
       in_bytes = in_bytes_placed block c xs k.in_bytes;
-      size = k.size ∙ ap saturated (sym (sizes_placed block c xs));
+      size = k.size ∙ ap at_most_usize (sym (sizes_placed block c xs));
       entry_bytes = k.entry_bytes ∙ sym (end_of_placed block c 0 xs);
       checksum = λ n some. k.checksum n some ∙ ap crc32_of (sym (batch_placed block c xs));
     }
@@ -280,7 +285,7 @@ pub one_file : (bytes rest rest' : List ℕ) (s t : ℕ) (xs ys : List Item) →
 one_file bytes rest rest' s t xs ys sf tf b d =
     let content = b.front ++ rest in
     let sealed : HasSeal (Some t) bytes (d.front ++ rest') = record { some = omega (arith, length-append d.front rest', counted_some d.front ys d.counted); split = d.split } in
-    let is = content_is (Some t) bytes content (d.front ++ rest') (checksum_bytes (Some s) content) b.split (four (signed (Some s) (crc32_of content))) sealed in
+    let is = content_is (Some t) bytes content (d.front ++ rest') (checksum_bytes (Some s) content) b.split (four (signed_crc (Some s) (crc32_of content))) sealed in
     let crcs : crc32_of (d.front ++ rest') ≡ crc32_of content = ap crc32_of is.0 in
     let seals : little_bytes 4 (bit_xor (crc32_of content) t) ≡ little_bytes 4 (bit_xor (crc32_of content) s) = ap (λ (n : ℕ). little_bytes 4 (bit_xor n t)) (sym crcs) ∙ is.1 in
     let numbers = (IsReadAgain-little_bytes 4).one_front (little_bytes 4 (bit_xor (crc32_of content) t)) (little_bytes 4 (bit_xor (crc32_of content) s)) [] [] (bit_xor (crc32_of content) t) (bit_xor (crc32_of content) s) (record { in_range = xor_of_32 (crc32_of content) t (crc_fits content) tf; written = refl }) (record { in_range = xor_of_32 (crc32_of content) s (crc_fits content) sf; written = refl }) (ap (λ (x : List ℕ). x ++ []) seals) in

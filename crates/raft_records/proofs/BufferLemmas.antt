@@ -8,8 +8,8 @@ use Rattle.raft_base.specs.declared.compression_type.CompressionType.{Compressio
 use Rattle.raft_base.specs.declared.compression_type.CompressionType.TheVariants as compressions
 use Rattle.raft_base.specs.Compression.{compression_byte}
 use Rattle.raft_records.specs.Item.{Item}
-use Rattle.raft_records.specs.Grammar.{behind_item}
-use Rattle.raft_records.specs.ItemBatch.{checksum_bytes, batch_bytes, entry_bytes_of, IsEncoded, signed, no_checksum}
+use Rattle.raft_records.proofs.Names.{behind_item}
+use Rattle.raft_records.specs.ItemBatch.{checksum_bytes, batch_bytes, entry_bytes_of, IsEncoded, signed_crc, no_checksum}
 use Rattle.raft_records.specs.LogBatch.{Stage, populating, encoded, sealed, header_bytes, entry_block, item_offset, unsealed_bytes, encoded_length, log_batch_bytes}
 use Rattle.raft_records.specs.Buffer.{entry_bytes_in, IsUnsealed, IsEncodedAs, IsHeldAt, IsHeld}
 use Rattle.raft_records.specs.Spelling.{Keeps}
@@ -22,7 +22,7 @@ header_len offset c len =
     omega (arith, length-append (big_bytes 8 (len * 256 + compression_byte c)) (big_bytes 8 offset), (IsReadAgain-big_bytes 8).counted (len * 256 + compression_byte c), (IsReadAgain-big_bytes 8).counted offset)
 
 pub checksum_len : (signature : Option ℕ) (bytes : List ℕ) → length (checksum_bytes signature bytes) ≡ 4
-checksum_len signature bytes = four (signed signature (crc32_of bytes))
+checksum_len signature bytes = four (signed_crc signature (crc32_of bytes))
 
 -- a block begins with its entry bytes
 block_begins : (es : List ℕ) → (more : List ℕ) × (entry_block es ≡ es ++ more)

@@ -8,7 +8,8 @@ use Rattle.raft_codec.proofs.ReadingLemmas.{reads_pair, no_first, no_second, pai
 use Rattle.raft_codec.proofs.SequenceLemmas.{reads_more, state_after-push, stuck, sequence_one_front, fault_after}
 use Rattle.raft_base.specs.declared.compression_type.CompressionType.TheVariants as compressions
 use Rattle.raft_base.specs.declared.entry_index.EntryIndex.{EntryIndex}
-use Rattle.raft_records.specs.Grammar.{tail_of, IsTail, behind_entry, AreTails, AreIndexAndTails, IsEntries, end_behind}
+use Rattle.raft_records.specs.Grammar.{tail_of, IsTail, AreTails, AreIndexAndTails, IsEntries, end_behind}
+use Rattle.raft_records.proofs.Names.{behind_entry}
 use Rattle.raft_records.specs.Faults.{IsTailFault, IsTailsFault, IsEntriesFault}
 
 -- ---- one tail offset

@@ -13,7 +13,7 @@ use Rattle.raft_base.specs.Compression.{compression_byte}
 use Rattle.raft_records.specs.Item.{Item, Content, entries, command, pair, bare}
 use Rattle.raft_records.specs.Range.{AreInRange}
 use Rattle.raft_records.specs.Spelling.{content_bytes, item_bytes}
-use Rattle.raft_records.specs.ItemBatch.{signed, checksum_bytes, batch_bytes, IsItemBatch}
+use Rattle.raft_records.specs.ItemBatch.{signed_crc, checksum_bytes, batch_bytes, IsItemBatch}
 use Rattle.raft_records.specs.LogBatch.{IsBatchOf, header_bytes, entry_block, item_offset, unsealed_bytes, encoded_length, log_batch_bytes, IsLaidOut, IsLogBatch, IsReadable}
 use Rattle.raft_records.specs.Header.{IsHeader, IsBlockOf}
 use Rattle.raft_records.specs.Parts.{IsFramed, HasParts}
@@ -196,7 +196,7 @@ log_batch_length signature (x ∷ xs) es =
     let block = entry_block es in
     let batch = batch_bytes items in
     let seal = checksum_bytes signature batch in
-    omega (arith, length-append (head ++ (block ++ batch)) seal, length-append head (block ++ batch), length-append block batch, header_len (item_offset es) compressions.None (encoded_length items es), four (signed signature (crc32_of batch)))
+    omega (arith, length-append (head ++ (block ++ batch)) seal, length-append head (block ++ batch), length-append block batch, header_len (item_offset es) compressions.None (encoded_length items es), four (signed_crc signature (crc32_of batch)))
 
 pub log_batch_spelled : (signature : Option ℕ) (items : List Item) (es : List ℕ) → IsBatchOf items es → AreInRange items → items ≢ [] → encoded_length items es < 2 ^ 56 → IsLogBatch (log_batch_bytes signature items es) signature (map bare items) es
 log_batch_spelled signature [] es b r some fits = absurd (some refl)
@@ -209,7 +209,7 @@ log_batch_spelled signature (x ∷ xs) es b r some fits =
     let seal = checksum_bytes signature batch in
     let bytes = unsealed_bytes len items es ++ seal in
     let parted : bytes ≡ head ++ (block ++ (batch ++ seal)) = append_assoc head (block ++ batch) seal ∙ ap (λ (t : List ℕ). head ++ t) (append_assoc block batch seal) in
-    let counted : length bytes ≡ len = omega (arith, ap length parted, length-append head (block ++ (batch ++ seal)), length-append block (batch ++ seal), length-append batch seal, header_len (item_offset es) compressions.None len, four (signed signature (crc32_of batch))) in
+    let counted : length bytes ≡ len = omega (arith, ap length parted, length-append head (block ++ (batch ++ seal)), length-append block (batch ++ seal), length-append batch seal, header_len (item_offset es) compressions.None len, four (signed_crc signature (crc32_of batch))) in
     let count : length items < 2 ^ 64 = omega (arith, batch_count_le items, fits) in
     record {
       footer = batch ++ seal;

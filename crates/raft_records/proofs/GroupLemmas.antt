@@ -1,5 +1,5 @@
 -- On group markers.
-use Rattle.std.proofs.Common.{◌≡◌, ◌↔◌, ℕ, ◌<◌, Bool, true, false, eqb, List, [], ◌∷◌, Option, Some, None, IsTrue, refl, sym, ap, subst, ◌∙◌, arith}
+use Rattle.std.proofs.Common.{◌≡◌, ◌↔◌, ℕ, ◌<◌, Bool, true, eqb, if◌then◌else◌, List, Option, Some, None, option_map, option_and_then, IsTrue, refl, sym, ap, subst, ◌∙◌, arith}
 use lib.Dec.{T}
 use Rattle.std.specs.declared.cmp.Ordering.{Ordering}
 use Rattle.std.specs.declared.cmp.Ordering.TheVariants.{Less, Equal, Greater}
@@ -7,18 +7,14 @@ use Rattle.std.specs.Ordering.{is_eq}
 use Rattle.std.specs.Cmp.Lexicographic.{pointwise}
 use Rattle.std.proofs.lemmas.Map.Text.{is_eq-slice_cmp}
 use Rattle.std.specs.FinMap.{nat_cmp-IsAntisymmetric, slice_cmp-IsAntisymmetric}
-use Rattle.raft_records.specs.declared.key_value.OpType.{OpType}
-use Rattle.raft_records.specs.declared.key_value.OpType.TheVariants.{Put, Del}
 use Rattle.raft_base.specs.declared.errors.Error.{Error}
 use Rattle.raft_records.specs.declared.atomic_group.AtomicGroupStatus.{AtomicGroupStatus}
 use Rattle.raft_records.specs.declared.atomic_group.AtomicGroupStatus.TheVariants.{Begin, Middle, End}
-use Rattle.raft_records.specs.Item.{Item, Content, Pair, entries, command, pair}
-use Rattle.raft_records.specs.Group.{reserved_key, is_reserved, status_byte, status_of, status_in, marker_with, marker_of_change, marker_of_content, marker_of, IsGroupMarker, IsGroupMarkerContent, IsGroupMarkerRead, IsGroupMarkerFault}
+use Rattle.raft_records.specs.Item.{Item}
+use Rattle.raft_records.specs.Group.{reserved_key, is_reserved, status_byte, status_of, group_marker_item, marker_byte, marker_of, IsGroupMarkerRead, IsGroupMarkerFault}
 
-one_byte : (c : Content) (a b : ℕ) → IsGroupMarkerContent c a → IsGroupMarkerContent c b → a ≡ b
-one_byte (pair p) a b h k = let e : Some (a ∷ []) ≡ Some (b ∷ []) = sym h.value ∙ k.value in cc
-one_byte (entries es) a b h k = absurd h
-one_byte (command c) a b h k = absurd h
+pub one_byte : {a b : ℕ} → Some a ≡ Some b → a ≡ b
+one_byte e = cc
 
 one_status : (s t : AtomicGroupStatus) → status_byte s ≡ status_byte t → s ≡ t
 one_status Begin Begin e = refl
@@ -31,10 +27,10 @@ one_status Middle End e = absurd (omega arith)
 one_status End Begin e = absurd (omega arith)
 one_status End Middle e = absurd (omega arith)
 
-pub marker_read : (item : Item) (status : AtomicGroupStatus) (read : Option (ℕ × AtomicGroupStatus)) → IsGroupMarkerContent item.content (status_byte status) → IsGroupMarkerRead item read → read ≡ Some (item.raft_group_id, status)
-marker_read item status None m r = absurd (r (status_byte status) m)
+pub marker_read : (item : Item) (status : AtomicGroupStatus) (read : Option (ℕ × AtomicGroupStatus)) → marker_byte item.content ≡ Some (status_byte status) → IsGroupMarkerRead item read → read ≡ Some (item.raft_group_id, status)
+marker_read item status None m r = let e : Some (status_byte status) ≡ None = sym m ∙ r in absurd cc
 marker_read item status (Some (id, other)) m r =
-    let same : other ≡ status = one_status other status (one_byte item.content (status_byte other) (status_byte status) r.1 m) in
+    let same : other ≡ status = one_status other status (one_byte (sym r.1 ∙ m)) in
     let group : id ≡ item.raft_group_id = r.0 in
     λ i. Some (group i, same i)
 
@@ -43,9 +39,10 @@ low Begin = omega arith
 low Middle = omega arith
 low End = omega arith
 
-pub marker_accepted : (item : Item) (status : AtomicGroupStatus) (e : Error) → IsGroupMarkerContent item.content (status_byte status) → IsGroupMarkerFault item e → ⊥
+pub marker_accepted : (item : Item) (status : AtomicGroupStatus) (e : Error) → marker_byte item.content ≡ Some (status_byte status) → IsGroupMarkerFault item e → ⊥
 marker_accepted item status e m f =
-    absurd (omega (arith, one_byte item.content (status_byte status) f.byte m f.marker, f.fault.0, low status))
+    let same : status_byte status ≡ f.byte = one_byte (sym m ∙ f.marker) in
+    absurd (omega (arith, same, f.fault.0, low status))
 
 -- ---- the reserved key as a test
 
@@ -69,6 +66,11 @@ reserved_by key = sym (is_eq-slice_cmp key reserved_key)
 pub reserved_test : (key : List ℕ) → IsTrue (is_reserved key) ↔ (key ≡ reserved_key)
 reserved_test key = (reserved_is key, λ e. ap is_reserved e ∙ is_reserved_key)
 
+-- ---- the byte of a marker
+
+pub marker_written : (id : ℕ) (status : AtomicGroupStatus) → marker_byte (group_marker_item id status).content ≡ Some (status_byte status)
+marker_written id status = ap (λ (b : Bool). if b then Some (status_byte status) else None) is_reserved_key
+
 -- ---- the marker that an item is
 
 status_again : (s : AtomicGroupStatus) → status_of (status_byte s) ≡ Some s
@@ -76,36 +78,15 @@ status_again Begin = refl
 status_again Middle = refl
 status_again End = refl
 
-is_marker : (g : ℕ) (p : Pair) (s : AtomicGroupStatus) → IsGroupMarker p (status_byte s) → marker_of_change g p.op_type p.key p.value ≡ Some (g, s)
-is_marker g p s m = rw (m.put, m.key, m.value, is_reserved_key) (ap (marker_with g) (status_again s))
+abbrev with_status : ℕ → AtomicGroupStatus → ℕ × AtomicGroupStatus
+with_status group status = (group, status)
 
-one_byte_value : (v : Option (List ℕ)) (s : AtomicGroupStatus) → status_in v ≡ Some s → (b : ℕ) × (v ≡ Some (b ∷ []))
-one_byte_value None s h = cc
-one_byte_value (Some []) s h = cc
-one_byte_value (Some (b ∷ [])) s h = (b, refl)
-one_byte_value (Some (b ∷ c ∷ bs)) s h = cc
-
-is_none : (g : ℕ) (p : Pair) → ((b : ℕ) → IsGroupMarker p b → ⊥) → marker_of_change g p.op_type p.key p.value ≡ None
-is_none g p h = go p.op_type refl (is_reserved p.key) refl (status_in p.value) refl
-  where
-    go : (o : OpType) → p.op_type ≡ o → (x : Bool) → is_reserved p.key ≡ x → (s : Option AtomicGroupStatus) → status_in p.value ≡ s → marker_of_change g p.op_type p.key p.value ≡ None
-    go Del d x e s f = rw d refl
-    go Put d false e s f = rw (d, e) refl
-    go Put d true e None f = rw (d, e, f) refl
-    go Put d true e (Some s) f =
-        let b = one_byte_value p.value s f in
-        absurd (h b.0 record { put = d; key = reserved_is p.key e; value = b.1 })
+abbrev marker_by : ℕ → Option ℕ → Option (ℕ × AtomicGroupStatus)
+marker_by group byte = option_map (with_status group) (option_and_then status_of byte)
 
 pub marker_is : (item : Item) (read : Option (ℕ × AtomicGroupStatus)) → IsGroupMarkerRead item read → marker_of item ≡ read
-marker_is item (Some read) h = go item.content h.1
-  where
-    go : (c : Content) → IsGroupMarkerContent c (status_byte read.1) → marker_of_content item.raft_group_id c ≡ Some read
-    go (pair p) m = is_marker item.raft_group_id p read.1 m ∙ ap (λ g. Some (g, read.1)) (sym h.0)
-    go (entries es) m = absurd m
-    go (command c) m = absurd m
-marker_is item None h = go item.content h
-  where
-    go : (c : Content) → ((b : ℕ) → IsGroupMarkerContent c b → ⊥) → marker_of_content item.raft_group_id c ≡ None
-    go (pair p) n = is_none item.raft_group_id p n
-    go (entries es) n = refl
-    go (command c) n = refl
+marker_is item None h = ap (marker_by item.raft_group_id) h
+marker_is item (Some (id, status)) h =
+    ap (marker_by item.raft_group_id) h.1
+    ∙ ap (option_map (with_status item.raft_group_id)) (status_again status)
+    ∙ ap (λ (g : ℕ). Some (with_status g status)) (sym h.0)

@@ -7,7 +7,7 @@ use Rattle.raft_records.specs.declared.key_value.OpType.{OpType}
 use Rattle.raft_records.specs.declared.key_value.OpType.TheVariants.{Put, Del}
 use Rattle.raft_records.specs.Grammar.{IsPairOf, IsContent, IsItem}
 use Rattle.raft_records.specs.Item.{Item, Content, entries, command, pair, written_value, IsInBytes, AreInBytes}
-use Rattle.raft_records.specs.ItemBatch.{placed_content, placed, raised_content, raised}
+use Rattle.raft_records.specs.ItemBatch.{placed_content, placed_item, raised_content, raised_item}
 
 pub in_bytes_append : (xs ys : List Item) → AreInBytes xs → AreInBytes ys → AreInBytes (xs ++ ys)
 in_bytes_append [] ys h k = k
@@ -18,7 +18,7 @@ content_in_bytes_placed block c (entries es) h = tt
 content_in_bytes_placed block c (command k) h = tt
 content_in_bytes_placed block c (pair p) h = h
 
-pub in_bytes_placed : (block : FileBlockHandle) (c : CompressionType) (xs : List Item) → AreInBytes xs → AreInBytes (map (placed block c) xs)
+pub in_bytes_placed : (block : FileBlockHandle) (c : CompressionType) (xs : List Item) → AreInBytes xs → AreInBytes (map (placed_item block c) xs)
 in_bytes_placed block c [] h = tt
 in_bytes_placed block c (x ∷ xs) h = (content_in_bytes_placed block c x.content h.0, in_bytes_placed block c xs h.1)
 
@@ -27,7 +27,7 @@ content_in_bytes_raised s (entries es) h = tt
 content_in_bytes_raised s (command k) h = tt
 content_in_bytes_raised s (pair p) h = h
 
-pub in_bytes_raised : (s : ℕ) (xs : List Item) → AreInBytes xs → AreInBytes (map (raised s) xs)
+pub in_bytes_raised : (s : ℕ) (xs : List Item) → AreInBytes xs → AreInBytes (map (raised_item s) xs)
 in_bytes_raised s [] h = tt
 in_bytes_raised s (x ∷ xs) h = (content_in_bytes_raised s x.content h.0, in_bytes_raised s xs h.1)
 

@@ -10,7 +10,7 @@ use Rattle.raft_base.specs.declared.pipe_log.FileId.{FileId}
 use Rattle.raft_records.specs.declared.key_value.OpType.{OpType}
 use Rattle.raft_records.specs.declared.key_value.OpType.TheVariants.{Put, Del}
 use Rattle.raft_records.specs.Item.{Pair}
-use Rattle.raft_records.specs.Grammar.{IsCommand, IsText, IsByteString, IsKeyAndValue, IsKeyValue, IsPairOf, IsPutRead, IsDelRead}
+use Rattle.raft_records.specs.Grammar.{IsCommand, IsByteString, IsKeyValue, IsPairOf}
 
 -- ---- commands
 
@@ -23,6 +23,10 @@ truncate_read bytes behind rest index e r =
     subst (λ (b : List ℕ). Reads IsCommand b rest (Truncate index)) (sym e) (reads_as (IsTagged 3 IsVarint) IsCommand index (Truncate index) (λ a p. p) (reads_tagged 3 IsVarint index r))
 
 -- ---- byte strings
+
+-- these bytes, n of them
+abbrev IsText : ℕ → List ℕ → List ℕ → Type 0
+IsText n bytes text = (bytes ≡ text) × (length text ≡ n)
 
 -- two fronts of one list that are as long are one
 pub same_length : (a b more rest : List ℕ) → length a ≡ length b → a ++ more ≡ b ++ rest → a ≡ b
@@ -66,6 +70,18 @@ text_one_front a b more rest x y p q e =
 
 -- ---- key values
 
+-- a key and its value
+abbrev pub IsKeyAndValue : List ℕ → List ℕ × List ℕ → Type 0
+IsKeyAndValue bytes both = IsFollowedBy IsByteString (λ _. IsByteString) bytes both.0 both.1
+
+-- key and value of a Put were read, which has no file
+abbrev pub IsPutRead : List ℕ → List ℕ → Pair → Type 0
+IsPutRead old new p = (value : List ℕ) × (p ≡ record { op_type = Put; key = p.key; value = Some value; file_id = None }) × Reads IsKeyAndValue old new (p.key, value)
+
+-- the key of a Del was read, which has no value and no file
+abbrev pub IsDelRead : List ℕ → List ℕ → Pair → Type 0
+IsDelRead old new p = (p ≡ record { op_type = Del; key = p.key; value = None; file_id = None }) × Reads IsByteString old new p.key
+
 abbrev pub pair_with : OpType → List ℕ → Option (List ℕ) → Option FileId → Pair
 pair_with o key v f = record { op_type = o; key = key; value = v; file_id = f }
 
@@ -84,17 +100,17 @@ pub both_read : (key value : List ℕ) {bytes mid rest : List ℕ} → Reads IsB
 both_read key value r s =
     reads_as (λ a (v : List ℕ). IsFollowedBy IsByteString (λ _. IsByteString) a key v) IsKeyAndValue value (key, value) (λ a p. p) (reads_pair IsByteString (λ _. IsByteString) key value r s)
 
-pub put_read : (bytes behind rest : List ℕ) (p : Pair) → bytes ≡ 1 ∷ behind → IsPutRead behind rest p → Reads IsKeyValue bytes rest p
-put_read bytes behind rest p e r =
+pub put_read : (behind rest : List ℕ) (p : Pair) → IsPutRead behind rest p → Reads IsKeyValue (1 ∷ behind) rest p
+put_read behind rest p r =
     let put : Pair = record { op_type = Put; key = p.key; value = Some r.0; file_id = None } in
     let read : Reads IsKeyValue (1 ∷ behind) rest put = reads_as (IsTagged 1 IsKeyAndValue) IsKeyValue (p.key, r.0) put (λ a q. q) (reads_tagged 1 IsKeyAndValue (p.key, r.0) r.2) in
-    subst (λ (b : List ℕ). Reads IsKeyValue b rest p) (sym e) (subst (λ (q : Pair). Reads IsKeyValue (1 ∷ behind) rest q) (sym r.1) read)
+    subst (λ (q : Pair). Reads IsKeyValue (1 ∷ behind) rest q) (sym r.1) read
 
-pub del_read : (bytes behind rest : List ℕ) (p : Pair) → bytes ≡ 2 ∷ behind → IsDelRead behind rest p → Reads IsKeyValue bytes rest p
-del_read bytes behind rest p e r =
+pub del_read : (behind rest : List ℕ) (p : Pair) → IsDelRead behind rest p → Reads IsKeyValue (2 ∷ behind) rest p
+del_read behind rest p r =
     let del : Pair = record { op_type = Del; key = p.key; value = None; file_id = None } in
     let read : Reads IsKeyValue (2 ∷ behind) rest del = reads_as (IsTagged 2 IsByteString) IsKeyValue p.key del (λ a q. q) (reads_tagged 2 IsByteString p.key r.1) in
-    subst (λ (b : List ℕ). Reads IsKeyValue b rest p) (sym e) (subst (λ (q : Pair). Reads IsKeyValue (2 ∷ behind) rest q) (sym r.0) read)
+    subst (λ (q : Pair). Reads IsKeyValue (2 ∷ behind) rest q) (sym r.0) read
 
 no_put_of : (behind front rest key : List ℕ) (o : OpType) (v : Option (List ℕ)) (f : Option FileId) → HasNoFront IsKeyAndValue behind → IsPairOf o v f key front → 1 ∷ behind ≡ front ++ rest → ⊥
 no_put_of behind front rest key Put (Some v) None none p e = no_tagged 1 IsKeyAndValue none front rest (key, v) p e
@@ -104,8 +120,8 @@ no_put_of behind front rest key Put (Some v) (Some f) none p e = p
 no_put_of behind front rest key Del (Some v) f none p e = p
 no_put_of behind front rest key Del None (Some f) none p e = p
 
-pub no_put : (bytes behind : List ℕ) → bytes ≡ 1 ∷ behind → HasNoFront IsKeyAndValue behind → HasNoFront IsKeyValue bytes
-no_put bytes behind split none front rest x p e = no_put_of behind front rest x.key x.op_type x.value x.file_id none p (sym split ∙ e)
+pub no_put : {behind : List ℕ} → HasNoFront IsKeyAndValue behind → HasNoFront IsKeyValue (1 ∷ behind)
+no_put {behind} none front rest x p e = no_put_of behind front rest x.key x.op_type x.value x.file_id none p e
 
 no_del_of : (behind front rest key : List ℕ) (o : OpType) (v : Option (List ℕ)) (f : Option FileId) → HasNoFront IsByteString behind → IsPairOf o v f key front → 2 ∷ behind ≡ front ++ rest → ⊥
 no_del_of behind front rest key Put (Some v) None none p e = absurd (omega (arith, (tagged_at 1 2 IsKeyAndValue behind front rest (key, v) p e).0))
@@ -115,8 +131,8 @@ no_del_of behind front rest key Put (Some v) (Some f) none p e = p
 no_del_of behind front rest key Del (Some v) f none p e = p
 no_del_of behind front rest key Del None (Some f) none p e = p
 
-pub no_del : (bytes behind : List ℕ) → bytes ≡ 2 ∷ behind → HasNoFront IsByteString behind → HasNoFront IsKeyValue bytes
-no_del bytes behind split none front rest x p e = no_del_of behind front rest x.key x.op_type x.value x.file_id none p (sym split ∙ e)
+pub no_del : {behind : List ℕ} → HasNoFront IsByteString behind → HasNoFront IsKeyValue (2 ∷ behind)
+no_del {behind} none front rest x p e = no_del_of behind front rest x.key x.op_type x.value x.file_id none p e
 
 pair_one_of : (a b more rest key key' : List ℕ) (o o' : OpType) (v v' : Option (List ℕ)) (f f' : Option FileId) → IsPairOf o v f key a → IsPairOf o' v' f' key' b → a ++ more ≡ b ++ rest → (a ≡ b) × (pair_with o key v f ≡ pair_with o' key' v' f')
 pair_one_of a b more rest key key' Put Put (Some v) (Some v') None None p q e =

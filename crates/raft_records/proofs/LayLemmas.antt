@@ -4,9 +4,10 @@ use Rattle.std.proofs.lemmas.List.{length-map, length-take-le, take_more, drop_m
 use Rattle.raft_base.specs.declared.entry_index.EntryIndex.{EntryIndex}
 use Rattle.raft_records.specs.Item.{Item, Content, entries, command, pair}
 use Rattle.raft_records.specs.Entries.{IsConsecutiveFrom, IsConsecutive, Tile}
-use Rattle.raft_records.specs.Grammar.{tail_of, end_behind, behind_item}
-use Rattle.raft_records.specs.ItemBatch.{FitsBehind, FitTogether, end_of_items, entry_bytes_of, laid, entry_lengths, raised_entry, raised_content, raised, CanRaise, CanRaiseContent, IsKeptBeside}
-use Rattle.raft_records.specs.Sizes.{item_size, items_size, saturated}
+use Rattle.raft_records.specs.Grammar.{tail_of, end_behind}
+use Rattle.raft_records.proofs.Names.{behind_item}
+use Rattle.raft_records.specs.ItemBatch.{FitsBehind, FitTogether, end_of_items, entry_bytes_of, laid, entry_lengths, raised_entry, raised_content, raised_item, CanRaise, CanRaiseContent, IsKeptBeside}
+use Rattle.raft_records.specs.Sizes.{item_size, items_size, at_most_usize}
 use Rattle.raft_records.proofs.InBytesLemmas.{in_bytes_append, in_bytes_raised}
 use Rattle.raft_records.proofs.RangeLemmas.{range_append, range_raised}
 
@@ -133,32 +134,32 @@ raised_content_fits s by (entries es) h lt = (raised_consecutive by es h.0, rais
 raised_content_fits s by (command c) h lt = h
 raised_content_fits s by (pair p) h lt = h
 
-raised_content_end : (s by : ℕ) (c : Content) → behind_item (s + by) (raised by (record { raft_group_id = 0; content = c })) ≡ behind_item s (record { raft_group_id = 0; content = c }) + by
+raised_content_end : (s by : ℕ) (c : Content) → behind_item (s + by) (raised_item by (record { raft_group_id = 0; content = c })) ≡ behind_item s (record { raft_group_id = 0; content = c }) + by
 raised_content_end s by (entries es) = raised_end s by es
 raised_content_end s by (command c) = refl
 raised_content_end s by (pair p) = refl
 
-pub raised_fit : (s by : ℕ) (xs : List Item) → FitTogether s xs → end_of_items s xs + by < 2 ^ 32 → FitTogether (s + by) (map (raised by) xs)
+pub raised_fit : (s by : ℕ) (xs : List Item) → FitTogether s xs → end_of_items s xs + by < 2 ^ 32 → FitTogether (s + by) (map (raised_item by) xs)
 raised_fit s by [] h lt = tt
 raised_fit s by (x ∷ xs) h lt = (
   raised_content_fits s by x.content h.0 (omega (arith, items_end (behind_item s x) xs h.1)),
-  subst (λ (o : ℕ). FitTogether o (map (raised by) xs)) (sym (raised_content_end s by x.content)) (raised_fit (behind_item s x) by xs h.1 lt),
+  subst (λ (o : ℕ). FitTogether o (map (raised_item by) xs)) (sym (raised_content_end s by x.content)) (raised_fit (behind_item s x) by xs h.1 lt),
 )
 
-pub raised_items_end : (s by : ℕ) (xs : List Item) → end_of_items (s + by) (map (raised by) xs) ≡ end_of_items s xs + by
+pub raised_items_end : (s by : ℕ) (xs : List Item) → end_of_items (s + by) (map (raised_item by) xs) ≡ end_of_items s xs + by
 raised_items_end s by [] = refl
-raised_items_end s by (x ∷ xs) = ap (λ (o : ℕ). end_of_items o (map (raised by) xs)) (raised_content_end s by x.content) ∙ raised_items_end (behind_item s x) by xs
+raised_items_end s by (x ∷ xs) = ap (λ (o : ℕ). end_of_items o (map (raised_item by) xs)) (raised_content_end s by x.content) ∙ raised_items_end (behind_item s x) by xs
 
-raised_size : (by : ℕ) (x : Item) → item_size (raised by x) ≡ item_size x
+raised_size : (by : ℕ) (x : Item) → item_size (raised_item by x) ≡ item_size x
 raised_size by x = go x.content
   where
-    go : (c : Content) → item_size (raised by (record { raft_group_id = x.raft_group_id; content = c })) ≡ item_size (record { raft_group_id = x.raft_group_id; content = c })
+    go : (c : Content) → item_size (raised_item by (record { raft_group_id = x.raft_group_id; content = c })) ≡ item_size (record { raft_group_id = x.raft_group_id; content = c })
     go (entries []) = refl
     go (entries (e ∷ es)) = omega (arith, length-map es (raised_entry by))
     go (command c) = refl
     go (pair p) = refl
 
-pub raised_items_size : (by : ℕ) (xs : List Item) → items_size (map (raised by) xs) ≡ items_size xs
+pub raised_items_size : (by : ℕ) (xs : List Item) → items_size (map (raised_item by) xs) ≡ items_size xs
 raised_items_size by [] = refl
 raised_items_size by (x ∷ xs) = omega (arith, raised_size by x, raised_items_size by xs)
 
@@ -176,26 +177,26 @@ size_append : (xs ys : List Item) → items_size (xs ++ ys) ≡ items_size xs + 
 size_append [] ys = omega arith
 size_append (x ∷ xs) ys = omega (arith, size_append xs ys)
 
-pub merged_end : (xs ys : List Item) → entry_bytes_of (xs ++ map (raised (entry_bytes_of xs)) ys) ≡ entry_bytes_of xs + entry_bytes_of ys
+pub merged_end : (xs ys : List Item) → entry_bytes_of (xs ++ map (raised_item (entry_bytes_of xs)) ys) ≡ entry_bytes_of xs + entry_bytes_of ys
 merged_end xs ys =
     let start : entry_bytes_of xs ≡ 0 + entry_bytes_of xs = omega arith in
-    omega (arith, end_append 0 xs (map (raised (entry_bytes_of xs)) ys), ap (λ (o : ℕ). end_of_items o (map (raised (entry_bytes_of xs)) ys)) start, raised_items_end 0 (entry_bytes_of xs) ys)
+    omega (arith, end_append 0 xs (map (raised_item (entry_bytes_of xs)) ys), ap (λ (o : ℕ). end_of_items o (map (raised_item (entry_bytes_of xs)) ys)) start, raised_items_end 0 (entry_bytes_of xs) ys)
 
-pub merged_kept : (xs ys : List Item) (size size' bytes bytes' total : ℕ) (crc crc' : Option ℕ) → IsKeptBeside xs size bytes crc → IsKeptBeside ys size' bytes' crc' → bytes + bytes' < 2 ^ 32 → total ≡ saturated (size + size') → IsKeptBeside (xs ++ map (raised bytes) ys) total (bytes + bytes') None
+pub merged_kept : (xs ys : List Item) (size size' bytes bytes' total : ℕ) (crc crc' : Option ℕ) → IsKeptBeside xs size bytes crc → IsKeptBeside ys size' bytes' crc' → bytes + bytes' < 2 ^ 32 → total ≡ at_most_usize (size + size') → IsKeptBeside (xs ++ map (raised_item bytes) ys) total (bytes + bytes') None
 merged_kept xs ys size size' bytes bytes' total crc crc' k l lt sum =
     let here : bytes ≡ end_of_items 0 xs = k.entry_bytes in
     let there : bytes' ≡ end_of_items 0 ys = l.entry_bytes in
-    let fit : FitTogether (0 + bytes) (map (raised bytes) ys) = raised_fit 0 bytes ys l.fit (omega arith) in
+    let fit : FitTogether (0 + bytes) (map (raised_item bytes) ys) = raised_fit 0 bytes ys l.fit (omega arith) in
     let start : 0 + bytes ≡ end_of_items 0 xs = omega arith in
-    let first : size ≡ saturated (items_size xs) = k.size in
-    let second : size' ≡ saturated (items_size ys) = l.size in
-    let sizes : items_size (xs ++ map (raised bytes) ys) ≡ items_size xs + items_size ys = omega (arith, size_append xs (map (raised bytes) ys), raised_items_size bytes ys) in
+    let first : size ≡ at_most_usize (items_size xs) = k.size in
+    let second : size' ≡ at_most_usize (items_size ys) = l.size in
+    let sizes : items_size (xs ++ map (raised_item bytes) ys) ≡ items_size xs + items_size ys = omega (arith, size_append xs (map (raised_item bytes) ys), raised_items_size bytes ys) in
     record {
-      fit = fit_append 0 xs (map (raised bytes) ys) k.fit (subst (λ (o : ℕ). FitTogether o (map (raised bytes) ys)) start fit);
-      in_range = range_append xs (map (raised bytes) ys) k.in_range (range_raised bytes ys l.in_range);
-      in_bytes = in_bytes_append xs (map (raised bytes) ys) k.in_bytes (in_bytes_raised bytes ys l.in_bytes);
+      fit = fit_append 0 xs (map (raised_item bytes) ys) k.fit (subst (λ (o : ℕ). FitTogether o (map (raised_item bytes) ys)) start fit);
+      in_range = range_append xs (map (raised_item bytes) ys) k.in_range (range_raised bytes ys l.in_range);
+      in_bytes = in_bytes_append xs (map (raised_item bytes) ys) k.in_bytes (in_bytes_raised bytes ys l.in_bytes);
       size = omega arith;
-      entry_bytes = sym (end_append 0 xs (map (raised bytes) ys) ∙ ap (λ (o : ℕ). end_of_items o (map (raised bytes) ys)) (sym start) ∙ raised_items_end 0 bytes ys ∙ omega arith);
+      entry_bytes = sym (end_append 0 xs (map (raised_item bytes) ys) ∙ ap (λ (o : ℕ). end_of_items o (map (raised_item bytes) ys)) (sym start) ∙ raised_items_end 0 bytes ys ∙ omega arith);
       checksum = λ c some. absurd cc;
     }
 
@@ -210,10 +211,10 @@ item_rest_at : (front xs ys : List Item) (i : ℕ) (d : Item) → ys ≡ front +
 item_rest_at front xs ys i d e len lt = ap (λ (t : List Item). get_or t i d) (e ∙ ap (λ (t : List Item). front ++ t) (drop_more xs i d lt)) ∙ get_or_at front (get_or xs i d) (drop (i + 1) xs) d i len
 
 -- the item that a loop raises next can be raised
-pub raise_next : (by end i : ℕ) (xs ys : List Item) (x : Item) → i < length xs → ys ≡ map (raised by) (take i xs) ++ drop i xs → x ≡ get_or ys i x → FitTogether 0 xs → end ≡ entry_bytes_of xs → by + end < 2 ^ 32 → CanRaiseContent by x.content
+pub raise_next : (by end i : ℕ) (xs ys : List Item) (x : Item) → i < length xs → ys ≡ map (raised_item by) (take i xs) ++ drop i xs → x ≡ get_or ys i x → FitTogether 0 xs → end ≡ entry_bytes_of xs → by + end < 2 ^ 32 → CanRaiseContent by x.content
 raise_next by end i xs ys x lt e at fit ends room =
-    let len : length (map (raised by) (take i xs)) ≡ i = length-map (take i xs) (raised by) ∙ length-take-le i xs (omega arith) in
-    let seen : x ≡ get_or xs i x = at ∙ item_rest_at (map (raised by) (take i xs)) xs ys i x e len lt in
+    let len : length (map (raised_item by) (take i xs)) ≡ i = length-map (take i xs) (raised_item by) ∙ length-take-le i xs (omega arith) in
+    let seen : x ≡ get_or xs i x = at ∙ item_rest_at (map (raised_item by) (take i xs)) xs ys i x e len lt in
     let last : end_of_items 0 xs ≤ end = omega (arith, ends) in
     let sum : end + by < 2 ^ 32 = omega arith in
     subst (λ (v : Item). CanRaiseContent by v.content) (sym seen) (items_raise_at 0 by end xs i x fit last sum lt)

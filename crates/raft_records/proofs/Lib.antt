@@ -14,6 +14,7 @@ pub mod JoinLemmas
 pub mod LayLemmas
 pub mod LengthLemmas
 pub mod LineLemmas
+pub mod Names
 pub mod PartLemmas
 pub mod PlaceLemmas
 pub mod PlacementLemmas

@@ -2,7 +2,8 @@
 use Rattle.std.proofs.Common.{◌≡◌, ◌≢◌, ℕ, ◌+◌, ◌-◌, ◌^◌, ◌<◌, ◌≤◌, List, [], ◌∷◌, ◌++◌, map, length, take, drop, Option, Some, None, refl, sym, ap, ◌∙◌, subst, append_assoc, arith}
 use Rattle.raft_base.specs.declared.pipe_log.FileBlockHandle.{FileBlockHandle}
 use Rattle.raft_base.specs.declared.compression_type.CompressionType.TheVariants as compressions
-use Rattle.raft_records.specs.FilePart.{Part, part_signature, IsNext, entries_place}
+use Rattle.raft_records.specs.FilePart.{Part, IsNext}
+use Rattle.raft_records.proofs.Names.{part_signature, entries_place}
 use Rattle.raft_records.specs.Range.{AreInRange}
 use Rattle.raft_records.proofs.BatchLemmas.{one_batch}
 use Rattle.raft_records.proofs.ItemLemmas.{same_length}
@@ -12,7 +13,7 @@ use Rattle.std.proofs.Math.Seq.{take-add}
 use Rattle.raft_codec.specs.Reading.{Reads, HasNoFront}
 use Rattle.raft_base.specs.declared.compression_type.CompressionType.{CompressionType}
 use Rattle.raft_records.specs.Item.{Item, bare, AreInBytes}
-use Rattle.raft_records.specs.ItemBatch.{IsItemBatch, placed}
+use Rattle.raft_records.specs.ItemBatch.{IsItemBatch, placed_item}
 use Rattle.raft_records.specs.LogBatch.{IsBatchOf, IsReadable, entry_block, entry_place, item_offset, encoded_length, log_batch_bytes}
 use Rattle.raft_records.specs.Header.{IsHeader}
 use Rattle.raft_records.specs.Parts.{IsFramed}
@@ -101,7 +102,7 @@ encoded_some (x ∷ xs) es some = omega arith
 one_type : (c : CompressionType) → c ≡ compressions.None
 one_type compressions.None = refl
 
-pub written_next : (part : Part) (at : ℕ) (block : FileBlockHandle) (items : List Item) (es rest : List ℕ) (answer : Option (List Item × ℕ)) → IsBatchOf items es → AreInRange items → AreInBytes items → items ≢ [] → encoded_length items es < 2 ^ 56 → block.id ≡ part.id → block.offset ≡ part.offset + at → drop at part.bytes ≡ log_batch_bytes (part_signature part) items es ++ rest → IsNext part at answer → answer ≡ Some (map (placed (entry_place block es) compressions.None) items, at + encoded_length items es)
+pub written_next : (part : Part) (at : ℕ) (block : FileBlockHandle) (items : List Item) (es rest : List ℕ) (answer : Option (List Item × ℕ)) → IsBatchOf items es → AreInRange items → AreInBytes items → items ≢ [] → encoded_length items es < 2 ^ 56 → block.id ≡ part.id → block.offset ≡ part.offset + at → drop at part.bytes ≡ log_batch_bytes (part_signature part) items es ++ rest → IsNext part at answer → answer ≡ Some (map (placed_item (entry_place block es) compressions.None) items, at + encoded_length items es)
 written_next part at block items es rest None b r held some fits id offset stands n =
     absurd (omega (arith, n, ap length stands, length-drop at part.bytes, length-append (log_batch_bytes (part_signature part) items es) rest, log_batch_length (part_signature part) items es, encoded_some items es some))
 written_next part at block items es rest (Some next) b r held some fits id offset stands n =
@@ -111,9 +112,9 @@ written_next part at block items es rest (Some next) b r held some fits id offse
     let len : n.offset - 16 ≡ length (entry_block es) = omega (arith, one.1) in
     let begin : part.offset + at + 16 ≡ block.offset + 16 = omega (arith, offset) in
     let moved_to : entries_place part at n.offset ≡ entry_place block es = λ i. record { id = sym id i; offset = begin i; len = len i } in
-    let moved : map (placed (entries_place part at n.offset) n.frame.compression) n.read ≡ map (placed (entry_place block es) compressions.None) (map bare items) =
-    ap (λ p. map (placed p n.frame.compression) n.read) moved_to ∙ ap (λ c. map (placed (entry_place block es) c) n.read) (one_type n.frame.compression) ∙ ap (map (placed (entry_place block es) compressions.None)) one.3 in
-    let items_are : next.0 ≡ map (placed (entry_place block es) compressions.None) items = n.places ∙ moved ∙ items_read (entry_place block es) compressions.None items held in
+    let moved : map (placed_item (entries_place part at n.offset) n.frame.compression) n.read ≡ map (placed_item (entry_place block es) compressions.None) (map bare items) =
+    ap (λ p. map (placed_item p n.frame.compression) n.read) moved_to ∙ ap (λ c. map (placed_item (entry_place block es) c) n.read) (one_type n.frame.compression) ∙ ap (map (placed_item (entry_place block es) compressions.None)) one.3 in
+    let items_are : next.0 ≡ map (placed_item (entry_place block es) compressions.None) items = n.places ∙ moved ∙ items_read (entry_place block es) compressions.None items held in
     λ i. Some (items_are i, ends i)
 
 pub written_accepted : (part : Part) (at : ℕ) (items : List Item) (es rest : List ℕ) → IsBatchOf items es → AreInRange items → items ≢ [] → encoded_length items es < 2 ^ 56 → drop at part.bytes ≡ log_batch_bytes (part_signature part) items es ++ rest → HasNoFront (λ bytes. IsReadable bytes (part_signature part)) (drop at part.bytes) → ⊥

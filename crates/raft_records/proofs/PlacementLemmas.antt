@@ -11,8 +11,9 @@ use Rattle.raft_records.specs.declared.entry_indexes.Placement.{Placement}
 use Rattle.raft_records.specs.declared.key_value.OpType.{OpType}
 use Rattle.raft_records.specs.declared.key_value.OpType.TheVariants.{Put, Del}
 use Rattle.raft_records.specs.Item.{Item, Content, entries, command, pair, bare_entry}
-use Rattle.raft_records.specs.Grammar.{tail_of, IsTail, behind_entry, AreIndexAndTails, IsEntries, IsPairOf, IsContent, IsItem, end_behind}
-use Rattle.raft_records.specs.ItemBatch.{placed}
+use Rattle.raft_records.specs.Grammar.{tail_of, IsTail, AreIndexAndTails, IsEntries, IsPairOf, IsContent, IsItem, end_behind}
+use Rattle.raft_records.proofs.Names.{behind_entry}
+use Rattle.raft_records.specs.ItemBatch.{placed_item}
 use Rattle.raft_records.specs.Placement.{entry_between, entry_in, content_in, item_in}
 use Rattle.raft_records.proofs.EntryLemmas.{AreReadSoFar, one_more_read, end_read}
 
@@ -21,10 +22,10 @@ unplaced = record { block = None; compression_type = compressions.None }
 
 -- ---- in a block
 
-pub item_placed : (block : FileBlockHandle) (c : CompressionType) (x : Item) → item_in (record { block = Some block; compression_type = c }) x ≡ placed block c x
+pub item_placed : (block : FileBlockHandle) (c : CompressionType) (x : Item) → item_in (record { block = Some block; compression_type = c }) x ≡ placed_item block c x
 item_placed block c x = ap (λ (y : Content). record { raft_group_id = x.raft_group_id; content = y }) (go x.content)
   where
-    go : (y : Content) → content_in (record { block = Some block; compression_type = c }) y ≡ (placed block c (record { raft_group_id = x.raft_group_id; content = y })).content
+    go : (y : Content) → content_in (record { block = Some block; compression_type = c }) y ≡ (placed_item block c (record { raft_group_id = x.raft_group_id; content = y })).content
     go (entries es) = refl
     go (command d) = refl
     go (pair p) = refl

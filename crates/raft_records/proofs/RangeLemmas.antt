@@ -12,28 +12,29 @@ use Rattle.raft_records.specs.declared.key_value.OpType.{OpType}
 use Rattle.raft_records.specs.declared.key_value.OpType.TheVariants.{Put, Del}
 use Rattle.raft_records.specs.Item.{Item, Content, entries, command, pair}
 use Rattle.raft_records.specs.Range.{HasIndex, HasLength, IsContentInRange, AreInRange}
-use Rattle.raft_records.specs.Grammar.{IsCommand, IsPairOf, IsContent, IsItem, behind_item}
-use Rattle.raft_records.specs.ItemBatch.{placed_entry, placed, raised_entry, raised}
+use Rattle.raft_records.specs.Grammar.{IsCommand, IsPairOf, IsContent, IsItem}
+use Rattle.raft_records.proofs.Names.{behind_item, placed_entry}
+use Rattle.raft_records.specs.ItemBatch.{placed_item, raised_entry, raised_item}
 
 pub range_append : (xs ys : List Item) → AreInRange xs → AreInRange ys → AreInRange (xs ++ ys)
 range_append [] ys h k = k
 range_append (x ∷ xs) ys h k = (h.0, range_append xs ys h.1 k)
 
-content_placed : (block : FileBlockHandle) (c : CompressionType) (content : Content) → IsContentInRange content → IsContentInRange (placed block c (record { raft_group_id = 0; content = content })).content
+content_placed : (block : FileBlockHandle) (c : CompressionType) (content : Content) → IsContentInRange content → IsContentInRange (placed_item block c (record { raft_group_id = 0; content = content })).content
 content_placed block c (entries es) h = subst (λ (n : ℕ). n < 2 ^ 64) (sym (length-map es (placed_entry block c))) h
 content_placed block c (command k) h = h
 content_placed block c (pair p) h = h
 
-pub range_placed : (block : FileBlockHandle) (c : CompressionType) (xs : List Item) → AreInRange xs → AreInRange (map (placed block c) xs)
+pub range_placed : (block : FileBlockHandle) (c : CompressionType) (xs : List Item) → AreInRange xs → AreInRange (map (placed_item block c) xs)
 range_placed block c [] h = tt
 range_placed block c (x ∷ xs) h = ((h.0.0, content_placed block c x.content h.0.1), range_placed block c xs h.1)
 
-content_raised : (s : ℕ) (content : Content) → IsContentInRange content → IsContentInRange (raised s (record { raft_group_id = 0; content = content })).content
+content_raised : (s : ℕ) (content : Content) → IsContentInRange content → IsContentInRange (raised_item s (record { raft_group_id = 0; content = content })).content
 content_raised s (entries es) h = subst (λ (n : ℕ). n < 2 ^ 64) (sym (length-map es (raised_entry s))) h
 content_raised s (command k) h = h
 content_raised s (pair p) h = h
 
-pub range_raised : (s : ℕ) (xs : List Item) → AreInRange xs → AreInRange (map (raised s) xs)
+pub range_raised : (s : ℕ) (xs : List Item) → AreInRange xs → AreInRange (map (raised_item s) xs)
 range_raised s [] h = tt
 range_raised s (x ∷ xs) h = ((h.0.0, content_raised s x.content h.0.1), range_raised s xs h.1)
 

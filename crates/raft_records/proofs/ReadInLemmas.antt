@@ -5,13 +5,14 @@ use Rattle.raft_base.specs.declared.pipe_log.FileBlockHandle.{FileBlockHandle}
 use Rattle.raft_codec.specs.Reading.{IsSequence}
 use Rattle.raft_base.specs.declared.compression_type.CompressionType.{CompressionType}
 use Rattle.raft_base.specs.declared.entry_index.EntryIndex.{EntryIndex}
-use Rattle.raft_records.specs.Grammar.{IsItem, behind_item}
-use Rattle.raft_records.specs.ReadIn.{IsBlockIn, IsReadIn, AreReadIn}
+use Rattle.raft_records.specs.Grammar.{IsItem}
+use Rattle.raft_records.proofs.Names.{behind_item, placed_entry}
+use Rattle.raft_records.specs.ReadIn.{IsPlaceInFile, IsReadIn, AreReadIn}
 use Rattle.raft_records.specs.Item.{Item, Content, entries, command, pair}
-use Rattle.raft_records.specs.ItemBatch.{FitsBehind, IsDecoded, IsItemBatch, placed, placed_content, placed_entry}
+use Rattle.raft_records.specs.ItemBatch.{FitsBehind, IsDecoded, IsItemBatch, placed_item, placed_content}
 use Rattle.raft_records.proofs.BatchLemmas.{item_fits, fits_placed}
 
-places_in_file : (block : FileBlockHandle) (c : CompressionType) (es : List EntryIndex) → AllByRecursion (λ (e : EntryIndex). IsBlockIn block.id e.entries) (map (placed_entry block c) es)
+places_in_file : (block : FileBlockHandle) (c : CompressionType) (es : List EntryIndex) → AllByRecursion (λ (e : EntryIndex). IsPlaceInFile block.id e.entries) (map (placed_entry block c) es)
 places_in_file block c [] = tt
 places_in_file block c (e ∷ es) = (refl, places_in_file block c es)
 
@@ -20,13 +21,13 @@ content_in_file block c s (entries es) f = (f.0, places_in_file block c es)
 content_in_file block c s (command x) f = tt
 content_in_file block c s (pair p) f = (f, refl)
 
-items_in_file : (block : FileBlockHandle) (c : CompressionType) (s : ℕ) (bytes : List ℕ) (items : List Item) → IsSequence behind_item IsItem s bytes items → AreReadIn block.id (map (placed block c) items)
+items_in_file : (block : FileBlockHandle) (c : CompressionType) (s : ℕ) (bytes : List ℕ) (items : List Item) → IsSequence behind_item IsItem s bytes items → AreReadIn block.id (map (placed_item block c) items)
 items_in_file block c s bytes [] q = tt
 items_in_file block c s bytes (x ∷ xs) q =
     (content_in_file block c s x.content (fits_placed block c s x.content (item_fits s q.first x q.first_spells)), items_in_file block c (behind_item s x) q.second xs q.second_spells)
 
-pub batch_in_file : (block : FileBlockHandle) (c : CompressionType) (bytes rest : List ℕ) (signature : Option ℕ) (items : List Item) → IsItemBatch bytes signature items rest → AreReadIn block.id (map (placed block c) items)
-batch_in_file block c bytes rest signature items b = items_in_file block c 0 b.counted.second items b.counted.second_spells.items_spelled
+pub batch_in_file : (block : FileBlockHandle) (c : CompressionType) (bytes rest : List ℕ) (signature : Option ℕ) (items : List Item) → IsItemBatch bytes signature items rest → AreReadIn block.id (map (placed_item block c) items)
+batch_in_file block c bytes rest signature items b = items_in_file block c 0 b.counted.second items b.counted.second_spells.spelled
 
 pub decoded_in_file : (old new : List ℕ) (signature : Option ℕ) (block : FileBlockHandle) (c : CompressionType) (items : List Item) → IsDecoded old signature block c items new → AreReadIn block.id items
 decoded_in_file old new signature block c items d = rw d.places (batch_in_file block c old new signature d.read d.batch)

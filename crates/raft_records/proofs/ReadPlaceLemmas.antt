@@ -4,7 +4,8 @@ use Rattle.raft_base.specs.declared.pipe_log.FileBlockHandle.{FileBlockHandle}
 use Rattle.raft_base.specs.declared.compression_type.CompressionType.{CompressionType}
 use Rattle.raft_base.specs.declared.entry_index.EntryIndex.{EntryIndex}
 use Rattle.raft_records.specs.Item.{Item, Content, entries, command, pair, bare_entry, bare_content, bare, IsInBytes, AreInBytes}
-use Rattle.raft_records.specs.ItemBatch.{placed_entry, placed_content, placed}
+use Rattle.raft_records.specs.ItemBatch.{placed_content, placed_item}
+use Rattle.raft_records.proofs.Names.{placed_entry}
 
 entries_read : (block : FileBlockHandle) (c : CompressionType) (es : List EntryIndex) → map (placed_entry block c) (map bare_entry es) ≡ map (placed_entry block c) es
 entries_read block c [] = refl
@@ -15,7 +16,7 @@ content_read block c (entries es) h = ap entries (entries_read block c es)
 content_read block c (command k) h = refl
 content_read block c (pair p) h = λ i. pair (record { op_type = p.op_type; key = p.key; value = h i; file_id = Some block.id })
 
-pub items_read : (block : FileBlockHandle) (c : CompressionType) (items : List Item) → AreInBytes items → map (placed block c) (map bare items) ≡ map (placed block c) items
+pub items_read : (block : FileBlockHandle) (c : CompressionType) (items : List Item) → AreInBytes items → map (placed_item block c) (map bare items) ≡ map (placed_item block c) items
 items_read block c [] h = refl
 items_read block c (x ∷ xs) h =
     let first = content_read block c x.content h.0 in

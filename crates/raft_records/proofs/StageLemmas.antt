@@ -7,8 +7,8 @@ use Rattle.raft_records.specs.declared.log_batch.BufState.{BufState}
 use Rattle.raft_records.specs.declared.log_batch.BufState.TheVariants as states
 use Rattle.raft_records.specs.LogBatchModel.{stage_of}
 use Rattle.raft_records.specs.Item.{Item}
-use Rattle.raft_records.specs.Grammar.{behind_item}
-use Rattle.raft_records.specs.ItemBatch.{checksum_bytes, batch_bytes, entry_bytes_of, IsEncoded, signed, no_checksum}
+use Rattle.raft_records.proofs.Names.{behind_item}
+use Rattle.raft_records.specs.ItemBatch.{checksum_bytes, batch_bytes, entry_bytes_of, IsEncoded, signed_crc, no_checksum}
 use Rattle.raft_records.specs.LogBatch.{Stage, Batch, populating, encoded, sealed, header_bytes, entry_block, item_offset, unsealed_bytes, encoded_length, log_batch_bytes, approximate_length}
 use Rattle.raft_records.specs.Buffer.{entry_bytes_in, IsUnsealed, IsHeldAt, IsShortAt, IsHeld}
 use Rattle.raft_records.proofs.SealLemmas.{four}
@@ -79,7 +79,7 @@ held_unsigned populating items es buf ne h = absurd (ne refl)
 held_unsigned encoded items es buf ne h = h
 held_unsigned (sealed s) [] es buf ne h = record { whole = h.whole; fits = h.fits; held = h.held; short = h.short }
 held_unsigned (sealed s) (x ∷ xs) es buf ne h =
-    record { whole = h.whole; fits = h.fits; held = record { seal = checksum_bytes s (batch_bytes (x ∷ xs)); four = four (signed s (crc32_of (batch_bytes (x ∷ xs)))); split = h.held }; short = h.short }
+    record { whole = h.whole; fits = h.fits; held = record { seal = checksum_bytes s (batch_bytes (x ∷ xs)); four = four (signed_crc s (crc32_of (batch_bytes (x ∷ xs)))); split = h.held }; short = h.short }
 
 pub sealed_held : (signature : Option ℕ) (items : List Item) (es buf : List ℕ) → length es ≡ entry_bytes_of items → length es < 2 ^ 31 → buf ≡ log_batch_bytes signature items es → length buf < 2 ^ 56 → IsHeld (sealed signature) items (entry_bytes_in items buf) buf × (entry_bytes_in items buf ≡ es)
 sealed_held signature [] es buf counted lt h short =
@@ -113,7 +113,7 @@ sealed_len signature (x ∷ xs) es buf new some u e =
     let items = x ∷ xs in
     let front = unsealed_bytes (encoded_length items es) items es in
     let seal = checksum_bytes signature (batch_bytes items) in
-    omega (arith, ap length e, length-append front seal, four (signed signature (crc32_of (batch_bytes items))), ap length u.split, length-append front u.seal, u.four)
+    omega (arith, ap length e, length-append front seal, four (signed_crc signature (crc32_of (batch_bytes items))), ap length u.split, length-append front u.seal, u.four)
 
 -- the signed bytes are as many as the unsigned ones
 pub sealed_short : (signature : Option ℕ) (items : List Item) (es buf new : List ℕ) → IsHeld encoded items es buf → new ≡ log_batch_bytes signature items es → length new < 2 ^ 56

@@ -12,7 +12,8 @@ use Rattle.raft_records.specs.declared.key_value.OpType.{OpType}
 use Rattle.raft_records.specs.declared.key_value.OpType.TheVariants.{Put, Del}
 use Rattle.raft_records.specs.Item.{Item, Content, entries, command, pair, bare_entry, bare_content, bare, written_value}
 use Rattle.raft_records.specs.Entries.{IsConsecutiveFrom, IsConsecutive, Tile}
-use Rattle.raft_records.specs.Grammar.{op_type_byte, IsCommand, IsByteString, IsPairOf, tail_of, IsTail, behind_entry, AreIndexAndTails, IsEntries, IsContent, IsItem, end_behind, behind_item}
+use Rattle.raft_records.specs.Grammar.{op_type_byte, IsCommand, IsByteString, IsPairOf, tail_of, IsTail, AreIndexAndTails, IsEntries, IsContent, IsItem, end_behind}
+use Rattle.raft_records.proofs.Names.{behind_entry, behind_item}
 use Rattle.raft_records.specs.Spelling.{command_bytes, byte_string, value_bytes, pair_bytes, tails_bytes, run_bytes, entries_bytes, content_bytes, item_bytes, IsWritableWith}
 use Rattle.raft_records.specs.ItemBatch.{FitsBehind, FitTogether, AreItems, IsItemBatch, batch_bytes, checksum_bytes}
 use Rattle.raft_records.specs.Range.{HasIndex, HasLength, IsContentInRange, IsInRange, AreInRange}
@@ -97,7 +98,7 @@ items_spelled s (x ∷ xs) f r =
 pub batch_spelled : (signature : Option ℕ) (items : List Item) → FitTogether 0 items → AreInRange items → length items < 2 ^ 64 → IsItemBatch (batch_bytes items ++ checksum_bytes signature (batch_bytes items)) signature (map bare items) []
 unfolding batch_bytes
 batch_spelled signature items f r lt =
-    let counted : IsFollowedBy IsVarint AreItems (batch_bytes items) (length items) (map bare items) = record { first = varint (length items); second = flat_map item_bytes items; first_spells = varint_spells (length items) lt; second_spells = record { items_spelled = items_spelled 0 items f r; count = length-map items bare }; split = refl } in
+    let counted : IsFollowedBy IsVarint AreItems (batch_bytes items) (length items) (map bare items) = record { first = varint (length items); second = flat_map item_bytes items; first_spells = varint_spells (length items) lt; second_spells = record { spelled = items_spelled 0 items f r; count = length-map items bare }; split = refl } in
     record {
       front = batch_bytes items;
       counted = subst (λ (n : ℕ). IsFollowedBy IsVarint AreItems (batch_bytes items) n (map bare items)) (sym (length-map items bare)) counted;

@@ -1,5 +1,5 @@
 -- Why items are refused: which error comes for which bytes.
-use Rattle.std.specs.Prelude.{◌≡◌, ◌≢◌, ℕ, ◌-◌, ◌^◌, ◌<◌, ◌≤◌, ◌⊎◌, List, [], ◌∷◌, ◌++◌, length, Any, codes}
+use Rattle.std.specs.Prelude.{◌≡◌, ◌≢◌, ℕ, ◌+◌, ◌-◌, ◌^◌, ◌<◌, ◌≤◌, ◌⊎◌, List, [], ◌∷◌, ◌++◌, length, Any, codes}
 use Rattle.std.specs.IoError.{error_kind}
 use Rattle.std.specs.declared.io.ErrorKind.TheVariants.{UnexpectedEof}
 use Rattle.std.specs.Fmt.{decimal}
@@ -13,7 +13,7 @@ use Rattle.raft_base.specs.declared.entry_index.EntryIndex.{EntryIndex}
 use Rattle.raft_base.specs.Corruption.{IsCorruption}
 use Rattle.raft_records.specs.Item.{Pair, Item}
 use Rattle.raft_records.specs.Entries.{AreWritable}
-use Rattle.raft_records.specs.Grammar.{IsByteString, IsTail, behind_entry}
+use Rattle.raft_records.specs.Grammar.{IsByteString, IsTail, tail_of}
 use Rattle.raft_records.specs.Spelling.{IsWritablePair, IsWritable}
 
 -- want of memory
@@ -76,7 +76,8 @@ IsTailFault next bytes e =
 
 -- a fault in one of so many tail offsets, or there is no memory for them
 abbrev pub IsTailsFault : ℕ → ℕ × ℕ → List ℕ → Error → Type 0
-IsTailsFault count next bytes e = IsMemory e ⊎ IsSequenceFault behind_entry IsTail IsTailFault count next bytes e
+IsTailsFault count next bytes e =
+    IsMemory e ⊎ IsSequenceFault (λ (at : ℕ × ℕ) x. (at.0 + 1, tail_of x)) IsTail IsTailFault count next bytes e
 
 -- behind the count, which is not 0: no first index, or a fault in the tail offsets
 abbrev pub AreIndexAndTailsFault : ℕ → ℕ → List ℕ → Error → Type 0

@@ -2,7 +2,6 @@
 use Rattle.std.specs.Prelude.{◌≡◌, ℕ, ◌+◌, ◌-◌, ◌^◌, ◌<◌, ◌≤◌, ◌⊎◌, List, ◌++◌, length, map, drop, take, Option, Some, None}
 use Rattle.raft_base.specs.declared.errors.Error.{Error}
 use Rattle.raft_base.specs.declared.errors.Error.TheVariants as errors
-use Rattle.raft_base.specs.declared.pipe_log.FileBlockHandle.{FileBlockHandle}
 use Rattle.raft_base.specs.declared.pipe_log.FileId.{FileId}
 use Rattle.raft_base.specs.declared.pipe_log.Version.{Version}
 use Rattle.raft_codec.specs.Reading.{Reads}
@@ -11,7 +10,7 @@ use Rattle.raft_base.specs.declared.compression_type.CompressionType.{Compressio
 use Rattle.raft_records.specs.Faults.{IsMemory, IsAnyCorruption}
 use Rattle.raft_records.specs.Header.{IsHeader, IsHeaderFault}
 use Rattle.raft_records.specs.Item.{Item}
-use Rattle.raft_records.specs.ItemBatch.{placed, IsItemBatchFault}
+use Rattle.raft_records.specs.ItemBatch.{placed_item, IsItemBatchFault}
 use Rattle.raft_records.specs.Parts.{IsFramed}
 
 -- bytes of a file, from this offset on
@@ -21,28 +20,22 @@ pub record Part : Type 0 where
   pub offset : ℕ
   pub bytes : List ℕ
 
--- the signature of the part's file
-abbrev pub part_signature : Part → Option ℕ
-part_signature part = signature_in part.version part.id.seq
-
 -- a part ends past the last offset
 abbrev pub IsPartRefusal : ℕ → Error → Type 0
 IsPartRefusal end (errors.InvalidArgument text) = 2 ^ 64 ≤ end
 IsPartRefusal end e = IsMemory e
 
--- where the entry bytes of a batch lie in the file: behind its header, up to its item batch
-abbrev pub entries_place : Part → ℕ → ℕ → FileBlockHandle
-entries_place part at offset = record { id = part.id; offset = part.offset + at + 16; len = offset - 16 }
-
--- a readable batch stands at this place of a part, and these are its items with their places in the file; the next one begins behind it
+-- a readable batch begins at this byte of a part, and these are its items with their places in the file:
+-- the entry bytes lie behind the header, up to the item batch; the next batch begins behind it
 pub record IsBatchAt (part : Part) (at : ℕ) (items : List Item) (next : ℕ) : Type 0 where
   pub bytes : List ℕ
   pub read : List Item
   pub offset : ℕ
-  pub frame : IsFramed bytes (part_signature part) read offset
+  pub frame : IsFramed bytes (signature_in part.version part.id.seq) read offset
   pub stands : drop at part.bytes ≡ bytes ++ drop next part.bytes
   pub ends : next ≡ at + length bytes
-  pub places : items ≡ map (placed (entries_place part at offset) frame.compression) read
+  pub places : items ≡
+      map (placed_item (record { id = part.id; offset = part.offset + at + 16; len = offset - 16 }) frame.compression) read
 
 -- the end of the part, or the batch that stands there
 abbrev pub IsNext : Part → ℕ → Option (List Item × ℕ) → Type 0

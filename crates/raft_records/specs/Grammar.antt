@@ -1,6 +1,6 @@
 -- The bytes of log items, by cases.
 use Rattle.std.specs.Prelude.{◌≡◌, ℕ, ◌+◌, ◌-◌, ◌^◌, ◌<◌, List, [], ◌∷◌, length, Option, Some, None}
-use Rattle.raft_codec.specs.Reading.{Reads, IsTagged, IsFollowedBy, IsSequence}
+use Rattle.raft_codec.specs.Reading.{IsTagged, IsFollowedBy, IsSequence}
 use Rattle.raft_codec.specs.Varint.{IsVarint}
 use Rattle.raft_base.specs.declared.pipe_log.FileId.{FileId}
 use Rattle.raft_base.specs.declared.entry_index.EntryIndex.{EntryIndex}
@@ -21,31 +21,17 @@ IsCommand bytes Clean = bytes ≡ 1 ∷ []
 IsCommand bytes (Compact index) = IsTagged 2 IsVarint bytes index
 IsCommand bytes (Truncate index) = IsTagged 3 IsVarint bytes index
 
--- these bytes, n of them
-abbrev pub IsText : ℕ → List ℕ → List ℕ → Type 0
-IsText n bytes text = (bytes ≡ text) × (length text ≡ n)
-
--- a length, and that many bytes
+-- a length, and that many bytes behind it
 abbrev pub IsByteString : List ℕ → List ℕ → Type 0
-IsByteString bytes text = IsFollowedBy IsVarint IsText bytes (length text) text
+IsByteString bytes text =
+    IsFollowedBy IsVarint (λ n rest (behind : List ℕ). (rest ≡ behind) × (length behind ≡ n)) bytes (length text) text
 
--- a key and its value
-abbrev pub IsKeyAndValue : List ℕ → List ℕ × List ℕ → Type 0
-IsKeyAndValue bytes both = IsFollowedBy IsByteString (λ _. IsByteString) bytes both.0 both.1
-
--- a Put has an op type byte, key and value, a Del an op type byte and a key; the file is not in the bytes
+-- a Put has an op type byte, a key and a value, a Del an op type byte and a key; the file is not in the bytes
 abbrev pub IsPairOf : OpType → Option (List ℕ) → Option FileId → List ℕ → List ℕ → Type 0
-IsPairOf Put (Some value) None key bytes = IsTagged 1 IsKeyAndValue bytes (key, value)
+IsPairOf Put (Some value) None key bytes =
+    IsTagged 1 (λ rest. IsFollowedBy IsByteString (λ _. IsByteString) rest key) bytes value
 IsPairOf Del None None key bytes = IsTagged 2 IsByteString bytes key
 IsPairOf _ _ _ key bytes = ⊥
-
--- key and value of a Put were read, which has no file
-abbrev pub IsPutRead : List ℕ → List ℕ → Pair → Type 0
-IsPutRead old new p = (value : List ℕ) × (p ≡ record { op_type = Put; key = p.key; value = Some value; file_id = None }) × Reads IsKeyAndValue old new (p.key, value)
-
--- the key of a Del was read, which has no value and no file
-abbrev pub IsDelRead : List ℕ → List ℕ → Pair → Type 0
-IsDelRead old new p = (p ≡ record { op_type = Del; key = p.key; value = None; file_id = None }) × Reads IsByteString old new p.key
 
 -- the bytes of a change of a key
 abbrev pub IsKeyValue : List ℕ → Pair → Type 0
@@ -65,13 +51,10 @@ pub record IsTail (next : ℕ × ℕ) (bytes : List ℕ) (e : EntryIndex) : Type
   pub tail_fits : tail_of e < 2 ^ 32
   pub bare : e ≡ bare_entry e
 
--- the index and the offset behind an entry
-abbrev pub behind_entry : ℕ × ℕ → EntryIndex → ℕ × ℕ
-behind_entry next e = (next.0 + 1, tail_of e)
-
--- n tail offsets, one behind the other, the first for this index and offset
+-- n tail offsets, one behind the other, the first for this index and offset; each further entry has the
+-- next index and begins where the one before it ends
 pub record AreTails (n : ℕ) (next : ℕ × ℕ) (bytes : List ℕ) (es : List EntryIndex) : Type 0 where
-  pub tails : IsSequence behind_entry IsTail next bytes es
+  pub tails : IsSequence (λ (at : ℕ × ℕ) e. (at.0 + 1, tail_of e)) IsTail next bytes es
   pub count : length es ≡ n
 
 -- n entries behind s entry bytes: the first index and the tail offsets; nothing where there are none
@@ -93,17 +76,12 @@ IsContent s bytes (pair p) = IsTagged 3 IsKeyValue bytes p
 abbrev pub IsItem : ℕ → List ℕ → Item → Type 0
 IsItem s bytes item = IsFollowedBy IsVarint (λ _. IsContent s) bytes item.raft_group_id item.content
 
--- the entry bytes up to the end of these entries, which come behind s of them
+-- how many entry bytes there are up to the end of these entries, which come behind s of them
 abbrev pub end_behind : ℕ → List EntryIndex → ℕ
 end_behind s [] = s
 end_behind s (e ∷ es) = end_behind (tail_of e) es
 
--- the entry bytes up to the end of an item behind s of them
-abbrev pub entry_bytes_with : ℕ → Content → ℕ
-entry_bytes_with s (entries es) = end_behind s es
-entry_bytes_with s (command c) = s
-entry_bytes_with s (pair p) = s
-
--- the entry bytes up to the end of an item, its region left aside
-abbrev pub behind_item : ℕ → Item → ℕ
-behind_item s item = entry_bytes_with s item.content
+-- how many entry bytes there are up to the end of a content, which comes behind s of them
+abbrev pub end_of_content : ℕ → Content → ℕ
+end_of_content s (entries es) = end_behind s es
+end_of_content s _ = s

@@ -2,6 +2,7 @@
 use Rattle.std.specs.Prelude.{◌≡◌, ◌≢◌, ℕ, ◌<◌, ◌==◌, Bool, List, [], ◌∷◌, ◌++◌, codes, Option, Some, None, if◌then◌else◌}
 use Rattle.std.specs.Cmp.Lexicographic.{slice_cmp}
 use Rattle.std.specs.Fmt.{decimal}
+use Rattle.std.specs.Option.{option_map, option_and_then, option_or}
 use Rattle.std.specs.Ordering.{nat_cmp, eq_by_cmp}
 use Rattle.raft_base.specs.declared.errors.Error.{Error}
 use Rattle.raft_base.specs.declared.errors.Error.TheVariants as errors
@@ -10,9 +11,9 @@ use Rattle.raft_base.specs.Corruption.{IsCorruption}
 use Rattle.raft_records.specs.declared.atomic_group.AtomicGroupStatus.{AtomicGroupStatus}
 use Rattle.raft_records.specs.declared.atomic_group.AtomicGroupStatus.TheVariants.{Begin, Middle, End}
 use Rattle.raft_records.specs.declared.key_value.OpType.{OpType}
-use Rattle.raft_records.specs.declared.key_value.OpType.TheVariants.{Put, Del}
+use Rattle.raft_records.specs.declared.key_value.OpType.TheVariants.{Put}
 use Rattle.raft_records.specs.Faults.{IsMemory}
-use Rattle.raft_records.specs.Item.{Item, Content, entries, command, pair, Pair, pair_item}
+use Rattle.raft_records.specs.Item.{Item, Content, pair, pair_item}
 
 -- the key of every group marker: two underscores and the byte 1
 abbrev pub reserved_key : List ℕ
@@ -28,65 +29,39 @@ status_byte Begin = 0
 status_byte Middle = 1
 status_byte End = 2
 
--- the marker of a group: a Put of the reserved key, the group's id in the place of a region's
+-- the group marker of a group: a Put of the reserved key, the group's id in the place of a region's
 abbrev pub group_marker_item : ℕ → AtomicGroupStatus → Item
 group_marker_item id status = pair_item id Put reserved_key (Some (status_byte status ∷ []))
 
--- a Put of the reserved key whose value is this one byte
-pub record IsGroupMarker (p : Pair) (byte : ℕ) : Type 0 where
-  pub put : p.op_type ≡ Put
-  pub key : p.key ≡ reserved_key
-  pub value : p.value ≡ Some (byte ∷ [])
+-- the byte of a group marker: a Put of the reserved key whose value is one byte; nothing of any other change
+abbrev pub marker_byte_in : OpType → List ℕ → Option (List ℕ) → Option ℕ
+marker_byte_in Put key (Some (byte ∷ [])) = if is_reserved key then Some byte else None
+marker_byte_in _ key value = None
 
--- a content that is a group marker with this byte
-abbrev pub IsGroupMarkerContent : Content → ℕ → Type 0
-IsGroupMarkerContent (pair p) byte = IsGroupMarker p byte
-IsGroupMarkerContent (entries es) byte = ⊥
-IsGroupMarkerContent (command c) byte = ⊥
+-- the byte of a content that is a group marker; nothing of any other content
+abbrev pub marker_byte : Content → Option ℕ
+marker_byte (pair p) = marker_byte_in p.op_type p.key p.value
+marker_byte _ = None
 
 -- what an item says of groups: the group and its status where it is a group marker, else nothing
 abbrev pub IsGroupMarkerRead : Item → Option (ℕ × AtomicGroupStatus) → Type 0
-IsGroupMarkerRead item None = (byte : ℕ) → IsGroupMarkerContent item.content byte → ⊥
-IsGroupMarkerRead item (Some read) = (read.0 ≡ item.raft_group_id) × IsGroupMarkerContent item.content (status_byte read.1)
+IsGroupMarkerRead item None = marker_byte item.content ≡ None
+IsGroupMarkerRead item (Some read) =
+    (read.0 ≡ item.raft_group_id) × (marker_byte item.content ≡ Some (status_byte read.1))
 
 -- the status that a byte stands for, if any
 abbrev pub status_of : ℕ → Option AtomicGroupStatus
 status_of byte = if byte == 0 then Some Begin else if byte == 1 then Some Middle else if byte == 2 then Some End else None
 
--- the status in a value of one byte, if that stands for one
-abbrev pub status_in : Option (List ℕ) → Option AtomicGroupStatus
-status_in (Some (byte ∷ [])) = status_of byte
-status_in _ = None
-
--- a group and this status of it, if any
-abbrev pub marker_with : ℕ → Option AtomicGroupStatus → Option (ℕ × AtomicGroupStatus)
-marker_with group None = None
-marker_with group (Some status) = Some (group, status)
-
--- the group marker that a change of a key is, if it is one
-abbrev pub marker_of_change : ℕ → OpType → List ℕ → Option (List ℕ) → Option (ℕ × AtomicGroupStatus)
-marker_of_change group Put key value = if is_reserved key then marker_with group (status_in value) else None
-marker_of_change group Del key value = None
-
--- the group marker that a content is, if it is one
-abbrev pub marker_of_content : ℕ → Content → Option (ℕ × AtomicGroupStatus)
-marker_of_content group (entries es) = None
-marker_of_content group (command c) = None
-marker_of_content group (pair p) = marker_of_change group p.op_type p.key p.value
-
--- the group and the status of an item that is a group marker; nothing of any other item
+-- the group and the status that a group marker says; nothing of an item that is none, or has the byte of no status
 abbrev pub marker_of : Item → Option (ℕ × AtomicGroupStatus)
-marker_of item = marker_of_content item.raft_group_id item.content
-
--- this marker, or else the other
-abbrev pub or_marker : Option (ℕ × AtomicGroupStatus) → Option (ℕ × AtomicGroupStatus) → Option (ℕ × AtomicGroupStatus)
-or_marker None other = other
-or_marker (Some marker) other = Some marker
+marker_of item =
+    option_map (λ status. (item.raft_group_id, status)) (option_and_then status_of (marker_byte item.content))
 
 -- the first group marker among items, which says to which group their batch belongs
 unfoldable pub first_marker : List Item → Option (ℕ × AtomicGroupStatus)
 first_marker [] = None
-first_marker (item ∷ items) = or_marker (marker_of item) (first_marker items)
+first_marker (item ∷ items) = option_or (marker_of item) (first_marker items)
 
 -- a byte that stands for no status
 abbrev pub IsStatusFault : ℕ → Error → Type 0
@@ -95,10 +70,10 @@ IsStatusFault byte e = (2 < byte) × IsCorruption (codes "Unrecognized atomic gr
 -- a group marker whose byte stands for no status
 pub record IsGroupMarkerFault (item : Item) (e : Error) : Type 0 where
   pub byte : ℕ
-  pub marker : IsGroupMarkerContent item.content byte
+  pub marker : marker_byte item.content ≡ Some byte
   pub fault : IsStatusFault byte e
 
--- a group that is being written: its id, and the status of the last marker that was added, if any
+-- a group that is being written: its id, and the status of the last group marker that was added, if any
 pub record Group : Type 0 where
   pub id : ℕ
   pub state : Option AtomicGroupStatus

@@ -25,7 +25,7 @@ pub data Content : Type 0 where
   command : Command → Content
   pair : Pair → Content
 
--- a change of one region's records
+-- what is said of one region; of a group marker the id is that of the group
 pub record Item : Type 0 where
   pub raft_group_id : ℕ
   pub content : Content
@@ -44,9 +44,9 @@ content_of (contents.Kv kv) = pair (pair_of kv)
 abbrev pub item_of : LogItem → Item
 item_of item = record { raft_group_id = item.raft_group_id; content = content_of item.content }
 
--- an entry without a place
+-- an entry without its place and compression type
 abbrev pub bare_entry : EntryIndex → EntryIndex
-bare_entry e = record { index = e.index; entries = None; compression_type = compressions.None; entry_offset = e.entry_offset; entry_len = e.entry_len }
+bare_entry e = record e { entries = None; compression_type = compressions.None }
 
 -- the value that is written: a Del has none
 abbrev pub written_value : OpType → Option (List ℕ) → Option (List ℕ)
@@ -55,7 +55,7 @@ written_value Del value = None
 
 -- a change of a key without what its bytes don't hold
 abbrev pub bare_pair : Pair → Pair
-bare_pair p = record { op_type = p.op_type; key = p.key; value = written_value p.op_type p.value; file_id = None }
+bare_pair p = record p { value = written_value p.op_type p.value; file_id = None }
 
 -- a content without what its bytes don't hold
 abbrev pub bare_content : Content → Content
@@ -65,7 +65,7 @@ bare_content (pair p) = pair (bare_pair p)
 
 -- an item without what its bytes don't hold: places, compression types, files, and a Del's value
 abbrev pub bare : Item → Item
-bare item = record { raft_group_id = item.raft_group_id; content = bare_content item.content }
+bare item = record item { content = bare_content item.content }
 
 -- entries of a region
 abbrev pub entries_item : ℕ → List EntryIndex → Item

@@ -13,36 +13,32 @@ use Rattle.raft_base.specs.declared.entry_index.EntryIndex.{EntryIndex}
 use Rattle.raft_base.specs.Corruption.{IsCorruption}
 use Rattle.raft_records.specs.Item.{Item, Content, entries, command, pair, AreInBytes}
 use Rattle.raft_records.specs.Entries.{IsConsecutive, Tile}
-use Rattle.raft_records.specs.Grammar.{IsItem, behind_item}
+use Rattle.raft_records.specs.Grammar.{IsItem, end_of_content}
 use Rattle.raft_records.specs.Spelling.{item_bytes, IsWritablePair}
 use Rattle.raft_records.specs.Range.{AreInRange}
-use Rattle.raft_records.specs.Sizes.{items_size, saturated}
+use Rattle.raft_records.specs.Sizes.{items_size, at_most_usize}
 use Rattle.raft_records.specs.Faults.{IsMemory, IsNumberFault, IsItemFault}
 
 -- ---- bytes
 
 -- n items, one behind the other, the first behind no entry bytes
 pub record AreItems (n : ℕ) (bytes : List ℕ) (items : List Item) : Type 0 where
-  pub items_spelled : IsSequence behind_item IsItem 0 bytes items
+  pub spelled : IsSequence (λ s (item : Item). end_of_content s item.content) IsItem 0 bytes items
   pub count : length items ≡ n
 
--- the count of items and the items
-abbrev pub IsCountAndItems : List ℕ → List Item → Type 0
-IsCountAndItems bytes items = IsFollowedBy IsVarint AreItems bytes (length items) items
-
 -- a CRC as it is written: xored with the file's signature where there is one
-abbrev pub signed : Option ℕ → ℕ → ℕ
-signed None crc = crc
-signed (Some signature) crc = bit_xor crc signature
+abbrev pub signed_crc : Option ℕ → ℕ → ℕ
+signed_crc None crc = crc
+signed_crc (Some signature) crc = bit_xor crc signature
 
 -- the four bytes behind these: their CRC, signed
 abbrev pub checksum_bytes : Option ℕ → List ℕ → List ℕ
-checksum_bytes signature bytes = little_bytes 4 (signed signature (crc32_of bytes))
+checksum_bytes signature bytes = little_bytes 4 (signed_crc signature (crc32_of bytes))
 
 -- an item batch: the count and the items, a rest that is free, and the signed CRC of all before it
 pub record IsItemBatch (bytes : List ℕ) (signature : Option ℕ) (items : List Item) (rest : List ℕ) : Type 0 where
   pub front : List ℕ
-  pub counted : IsCountAndItems front items
+  pub counted : IsFollowedBy IsVarint AreItems front (length items) items
   pub split : bytes ≡ (front ++ rest) ++ checksum_bytes signature (front ++ rest)
 
 -- what an encoder writes before the checksum: count and items in shortest spelling
@@ -61,26 +57,22 @@ pub record IsEncoded (items : List Item) (bytes : List ℕ) : Type 0 where
 
 -- ---- places
 
--- an entry in this block
-abbrev pub placed_entry : FileBlockHandle → CompressionType → EntryIndex → EntryIndex
-placed_entry block compression e =
-    record { index = e.index; entries = Some block; compression_type = compression; entry_offset = e.entry_offset; entry_len = e.entry_len }
-
--- a content whose entries are in this block, or whose key value is in its file
+-- a content whose entries are at this place, compressed so, or whose key value is in its file
 abbrev pub placed_content : FileBlockHandle → CompressionType → Content → Content
-placed_content block compression (entries es) = entries (map (placed_entry block compression) es)
-placed_content block compression (command c) = command c
-placed_content block compression (pair p) = pair (record { op_type = p.op_type; key = p.key; value = p.value; file_id = Some block.id })
+placed_content place compression (entries es) =
+    entries (map (λ (e : EntryIndex). record e { entries = Some place; compression_type = compression }) es)
+placed_content place compression (command c) = command c
+placed_content place compression (pair p) = pair (record p { file_id = Some place.id })
 
--- an item whose entries are in this block and whose key value is in its file
-abbrev pub placed : FileBlockHandle → CompressionType → Item → Item
-placed block compression item = record { raft_group_id = item.raft_group_id; content = placed_content block compression item.content }
+-- an item whose entries are at this place, compressed so, and whose key value is in its file
+abbrev pub placed_item : FileBlockHandle → CompressionType → Item → Item
+placed_item place compression x = record x { content = placed_content place compression x.content }
 
 -- the items of an item batch were read, and each got its place; the new bytes are the batch's rest
-pub record IsDecoded (old : List ℕ) (signature : Option ℕ) (block : FileBlockHandle) (compression : CompressionType) (items : List Item) (new : List ℕ) : Type 0 where
+pub record IsDecoded (old : List ℕ) (signature : Option ℕ) (place : FileBlockHandle) (compression : CompressionType) (items : List Item) (new : List ℕ) : Type 0 where
   pub read : List Item
   pub batch : IsItemBatch old signature read new
-  pub places : items ≡ map (placed block compression) read
+  pub places : items ≡ map (placed_item place compression) read
 
 -- ---- what a batch holds
 
@@ -93,12 +85,13 @@ FitsBehind s (pair p) = IsWritablePair p
 -- items that can be written one behind the other: their entries' bytes run on
 abbrev pub FitTogether : ℕ → List Item → Type 0
 FitTogether s [] = Unit {0}
-FitTogether s (item ∷ items) = FitsBehind s item.content × FitTogether (behind_item s item) items
+FitTogether s (item ∷ items) =
+    FitsBehind s item.content × FitTogether (end_of_content s item.content) items
 
 -- how many entry bytes there are, behind s of them
 abbrev pub end_of_items : ℕ → List Item → ℕ
 end_of_items s [] = s
-end_of_items s (item ∷ items) = end_of_items (behind_item s item) items
+end_of_items s (item ∷ items) = end_of_items (end_of_content s item.content) items
 
 -- the entry bytes of a batch
 abbrev pub entry_bytes_of : List Item → ℕ
@@ -107,8 +100,7 @@ entry_bytes_of items = end_of_items 0 items
 -- entries whose bytes are laid from s on
 abbrev pub laid : ℕ → List EntryIndex → List EntryIndex
 laid s [] = []
-laid s (e ∷ es) =
-    record { index = e.index; entries = e.entries; compression_type = e.compression_type; entry_offset = s; entry_len = e.entry_len } ∷ laid (s + e.entry_len) es
+laid s (e ∷ es) = record e { entry_offset = s } ∷ laid (s + e.entry_len) es
 
 -- the bytes of these entries together
 abbrev pub entry_lengths : List EntryIndex → ℕ
@@ -117,8 +109,7 @@ entry_lengths (e ∷ es) = e.entry_len + entry_lengths es
 
 -- an entry whose bytes stand s further back
 abbrev pub raised_entry : ℕ → EntryIndex → EntryIndex
-raised_entry s e =
-    record { index = e.index; entries = e.entries; compression_type = e.compression_type; entry_offset = e.entry_offset + s; entry_len = e.entry_len }
+raised_entry s e = record e { entry_offset = e.entry_offset + s }
 
 -- a content whose entries stand behind s more entry bytes
 abbrev pub raised_content : ℕ → Content → Content
@@ -127,8 +118,8 @@ raised_content s (command c) = command c
 raised_content s (pair p) = pair p
 
 -- an item behind s more entry bytes
-abbrev pub raised : ℕ → Item → Item
-raised s item = record { raft_group_id = item.raft_group_id; content = raised_content s item.content }
+abbrev pub raised_item : ℕ → Item → Item
+raised_item s item = record item { content = raised_content s item.content }
 
 -- each entry's bytes can stand so much further back
 abbrev pub CanRaise : ℕ → List EntryIndex → Type 0
@@ -165,8 +156,8 @@ pub record IsChecksumFault (signature : Option ℕ) (bytes : List ℕ) (e : Erro
   pub found : ℕ
   pub found_fits : found < 2 ^ 32
   pub split : bytes ≡ content ++ little_bytes 4 found
-  pub differs : crc32_of content ≢ signed signature found
-  pub error : IsCorruption (codes "Checksum expected " ++ (decimal (signed signature found) ++ (codes " but got " ++ decimal (crc32_of content)))) e
+  pub differs : crc32_of content ≢ signed_crc signature found
+  pub error : IsCorruption (codes "Checksum expected " ++ (decimal (signed_crc signature found) ++ (codes " but got " ++ decimal (crc32_of content)))) e
 
 -- bytes that are too short, or end in a wrong checksum
 abbrev pub IsSealFault : Option ℕ → List ℕ → Error → Type 0
@@ -180,7 +171,8 @@ pub record HasSeal (signature : Option ℕ) (bytes content : List ℕ) : Type 0 
 
 -- no count, or a fault in one of the items, or there is no memory for them
 abbrev pub AreItemsFault : ℕ → List ℕ → Error → Type 0
-AreItemsFault n bytes e = IsMemory e ⊎ IsSequenceFault behind_item IsItem IsItemFault n 0 bytes e
+AreItemsFault n bytes e =
+    IsMemory e ⊎ IsSequenceFault (λ s (item : Item). end_of_content s item.content) IsItem IsItemFault n 0 bytes e
 
 -- no item batch: a fault of its seal, or behind a good one a fault of the count or the items
 abbrev pub IsItemBatchFault : Option ℕ → List ℕ → Error → Type 0
@@ -193,6 +185,6 @@ pub record IsKeptBeside (items : List Item) (item_bytes entries_size : ℕ) (crc
   pub fit : FitTogether 0 items
   pub in_range : AreInRange items
   pub in_bytes : AreInBytes items
-  pub size : item_bytes ≡ saturated (items_size items)
+  pub size : item_bytes ≡ at_most_usize (items_size items)
   pub entry_bytes : entries_size ≡ entry_bytes_of items
   pub checksum : (c : ℕ) → crc ≡ Some c → c ≡ crc32_of (batch_bytes items)

@@ -12,8 +12,8 @@ use Rattle.raft_base.specs.Compression.{compression_byte}
 use Rattle.raft_records.specs.Entries.{IsConsecutive, with_lengths}
 use Rattle.raft_records.specs.Faults.{IsMemoryOrMessage}
 use Rattle.raft_records.specs.Item.{Item, entries_item}
-use Rattle.raft_records.specs.Sizes.{batch_size, saturated}
-use Rattle.raft_records.specs.ItemBatch.{checksum_bytes, batch_bytes, entry_bytes_of, FitTogether, IsItemBatch, laid, raised}
+use Rattle.raft_records.specs.Sizes.{batch_size, at_most_usize}
+use Rattle.raft_records.specs.ItemBatch.{checksum_bytes, batch_bytes, entry_bytes_of, FitTogether, IsItemBatch, laid, raised_item}
 
 -- how far a batch has come: items may still be added; its bytes stand; they are signed, or have no signature
 pub data Stage : Type 0 where
@@ -51,7 +51,7 @@ empty_batch = record { items = []; entry_bytes = []; stage = populating }
 -- all of another batch behind this one: its entries' bytes stand behind the first one's
 abbrev pub with_batch : Batch → Batch → Batch
 with_batch b more =
-    record b { items = b.items ++ map (raised (length b.entry_bytes)) more.items; entry_bytes = b.entry_bytes ++ more.entry_bytes }
+    record b { items = b.items ++ map (raised_item (length b.entry_bytes)) more.items; entry_bytes = b.entry_bytes ++ more.entry_bytes }
 
 -- a batch and these entries of a region, whose bytes are these strings and stand behind the batch's own; no entries add nothing
 abbrev pub with_entries_added : Batch → ℕ → List EntryIndex → List (List ℕ) → Batch
@@ -86,10 +86,10 @@ abbrev pub entry_block : List ℕ → List ℕ
 entry_block [] = []
 entry_block (byte ∷ bytes) = (byte ∷ bytes) ++ checksum_bytes None (byte ∷ bytes)
 
--- where the entry block of a batch stands that was written to this block
+-- where the entry bytes of a batch stand that was written to this place
 abbrev pub entry_place : FileBlockHandle → List ℕ → FileBlockHandle
-entry_place block entry_bytes =
-    record { id = block.id; offset = block.offset + 16; len = length (entry_block entry_bytes) }
+entry_place place entry_bytes =
+    record { id = place.id; offset = place.offset + 16; len = length (entry_block entry_bytes) }
 
 -- where the item batch begins: behind the header and the entry block
 abbrev pub item_offset : List ℕ → ℕ
@@ -108,7 +108,7 @@ encoded_length (item ∷ items) entry_bytes = item_offset entry_bytes + length (
 -- the approximate length: none without items; of an open batch header, entry bytes, their checksum and items as if each number took eight bytes; else the length itself
 abbrev pub approximate_length : Stage → List Item → List ℕ → ℕ
 approximate_length stage [] entry_bytes = 0
-approximate_length populating (item ∷ items) entry_bytes = saturated (16 + length entry_bytes + 4 + batch_size (item ∷ items))
+approximate_length populating (item ∷ items) entry_bytes = at_most_usize (16 + length entry_bytes + 4 + batch_size (item ∷ items))
 approximate_length encoded (item ∷ items) entry_bytes = encoded_length (item ∷ items) entry_bytes
 approximate_length (sealed signature) (item ∷ items) entry_bytes = encoded_length (item ∷ items) entry_bytes
 

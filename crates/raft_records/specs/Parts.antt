@@ -8,7 +8,7 @@ use Rattle.raft_records.specs.ItemBatch.{IsItemBatch}
 use Rattle.raft_records.specs.LogBatch.{IsBatchOf, encoded_length, log_batch_bytes, IsLogBatch}
 use Rattle.raft_records.specs.Header.{IsHeader, IsBlockOf}
 
--- a header in front, which says that the bytes are just as many as they are, and from the offset in it an item batch to the end
+-- the bytes begin with a header, which gives their number and an offset; from that offset to the end is an item batch
 pub record IsFramed (bytes : List ℕ) (signature : Option ℕ) (items : List Item) (offset : ℕ) : Type 0 where
   pub compression : CompressionType
   pub rest : List ℕ

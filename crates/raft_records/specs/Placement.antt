@@ -11,21 +11,21 @@ use Rattle.raft_records.specs.Item.{Item, Content, entries, command, pair}
 abbrev pub entry_between : ℕ → ℕ → ℕ → EntryIndex
 entry_between index offset tail = record { index = index; entries = None; compression_type = compressions.None; entry_offset = offset; entry_len = tail - offset }
 
--- the file of a block
+-- the file of a place
 abbrev pub file_in : Option FileBlockHandle → Option FileId
 file_in None = None
-file_in (Some block) = Some block.id
+file_in (Some place) = Some place.id
 
 -- an entry in this place
 abbrev pub entry_in : Placement → EntryIndex → EntryIndex
-entry_in place e = record { index = e.index; entries = place.block; compression_type = place.compression_type; entry_offset = e.entry_offset; entry_len = e.entry_len }
+entry_in place e = record e { entries = place.block; compression_type = place.compression_type }
 
 -- a content in this place
 abbrev pub content_in : Placement → Content → Content
 content_in place (entries es) = entries (map (entry_in place) es)
 content_in place (command c) = command c
-content_in place (pair p) = pair (record { op_type = p.op_type; key = p.key; value = p.value; file_id = file_in place.block })
+content_in place (pair p) = pair (record p { file_id = file_in place.block })
 
 -- an item in this place
 abbrev pub item_in : Placement → Item → Item
-item_in place item = record { raft_group_id = item.raft_group_id; content = content_in place item.content }
+item_in place item = record item { content = content_in place item.content }

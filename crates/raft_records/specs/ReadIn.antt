@@ -9,13 +9,14 @@ use Rattle.raft_records.specs.Item.{Item, Content, entries, command, pair}
 use Rattle.raft_records.specs.Spelling.{IsWritablePair}
 
 -- a place in this file
-abbrev pub IsBlockIn : FileId → Option FileBlockHandle → Type 0
-IsBlockIn file None = ⊥
-IsBlockIn file (Some block) = block.id ≡ file
+abbrev pub IsPlaceInFile : FileId → Option FileBlockHandle → Type 0
+IsPlaceInFile file None = ⊥
+IsPlaceInFile file (Some place) = place.id ≡ file
 
 -- entries are consecutive and have their places in the file; a change of a key is of this file, and a Put has a value
 abbrev pub IsReadIn : FileId → Content → Type 0
-IsReadIn file (entries es) = IsConsecutive es × AllByRecursion (λ (e : EntryIndex). IsBlockIn file e.entries) es
+IsReadIn file (entries es) =
+    IsConsecutive es × AllByRecursion (λ (e : EntryIndex). IsPlaceInFile file e.entries) es
 IsReadIn file (command c) = Unit {0}
 IsReadIn file (pair p) = IsWritablePair p × (p.file_id ≡ Some file)
 

@@ -41,8 +41,8 @@ items_size [] = 0
 items_size (item ∷ items) = item_size item + items_size items
 
 -- capped at the greatest usize
-abbrev pub saturated : ℕ → ℕ
-saturated n = min n (2 ^ 64 - 1)
+abbrev pub at_most_usize : ℕ → ℕ
+at_most_usize n = min n (2 ^ 64 - 1)
 
 -- the count, the items and the checksum
 abbrev pub batch_size : List Item → ℕ

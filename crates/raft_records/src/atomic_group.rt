@@ -1,11 +1,11 @@
 //! Atomic groups of log batches, which take effect together or not at all.
 
-ghost use Rattle.std.specs.Prelude.{◌≡◌, ℕ, [], ◌∷◌, ◌++◌, Option, Some, None, IfErr, OnOk, OnErr, ◌↔◌, List, IsTrue, IfOk, IfSome, IfNone};
+ghost use Rattle.std.specs.Prelude.{◌≡◌, ℕ, [], ◌∷◌, ◌++◌, Option, Some, None, IfErr, OnOk, OnErr, ◌↔◌, List, IsTrue, IfOk};
 ghost use Rattle.raft_base.specs.declared.errors.Error.{Error as Refusal};
 ghost use Rattle.raft_records.specs.declared.atomic_group.AtomicGroupStatus.{AtomicGroupStatus as Status};
 ghost use Rattle.raft_records.specs.declared.atomic_group.AtomicGroupStatus.TheVariants.{Begin, Middle, End};
-ghost use Rattle.raft_records.specs.Group.{IsRunning, group_marker_item, status_byte, IsGroupMarkerContent, IsGroupMarkerRead, IsGroupMarkerFault, reserved_key, is_reserved, marker_of, IsGroupMarker};
-ghost use Rattle.raft_records.specs.Item.{Item, item_of, pair_of};
+ghost use Rattle.raft_records.specs.Group.{IsRunning, group_marker_item, status_byte, marker_byte, IsGroupMarkerRead, IsGroupMarkerFault, reserved_key, is_reserved, marker_of};
+ghost use Rattle.raft_records.specs.Item.{Item, item_of, pair, pair_of};
 ghost use Rattle.raft_records.specs.LogBatch.{populating};
 
 use crate::{KeyValue, LogBatch, LogItem, LogItemContent, OpType};
@@ -30,7 +30,7 @@ pub enum AtomicGroupStatus {
 impl AtomicGroupStatus {
     ghost use Rattle.raft_records.specs.Group.{status_byte, IsStatusFault};
 
-    /// The group whose marker an item is, and its status; nothing of an item that is no group marker.
+    /// The group whose group marker an item is, and its status; nothing of an item that is no group marker.
     /// A group marker whose byte stands for no status is `Corruption`.
     pub fn parse(alloc: Global, item: &LogItem) -> Result<Option<(u64, AtomicGroupStatus)>>
         ensures ok { IfOk result (IsGroupMarkerRead (item_of item.now)) }
@@ -81,8 +81,7 @@ pub fn is_reserved(key: &[u8]) -> bool
 
 /// The byte of a group marker, if the change is one.
 fn marker_byte(kv: &KeyValue) -> Option<u8>
-    ensures some { IfSome result (IsGroupMarker (pair_of kv.now)) }
-    ensures none { IfNone result ((byte : ℕ) → IsGroupMarker (pair_of kv.now) byte → ⊥) }
+    ensures { result ≡ marker_byte (pair (pair_of kv.now)) }
 {
     if kv.op_type != OpType::Put || !is_reserved(kv.key.as_slice()) {
         return None;
@@ -118,7 +117,7 @@ impl AtomicGroupBuilder {
         AtomicGroupBuilder { id, status: None }
     }
 
-    /// The status of the marker that was added last, if any was.
+    /// The status of the group marker that was added last, if any was.
     pub fn state(&self) -> Option<AtomicGroupStatus>
         ensures { result ≡ self.now.state }
     {
@@ -171,7 +170,7 @@ impl AtomicGroupBuilder {
         self.add_marker(AtomicGroupStatus::End, log_batch)
     }
 
-    /// Adds the group's marker with this status to an open batch.
+    /// Adds a group marker with this status to an open batch.
     fn add_marker(&mut self, status: AtomicGroupStatus, log_batch: &mut LogBatch) -> Result<()>
         requires { log_batch.old.stage ≡ populating }
         ensures ok { OnOk result (log_batch.new ≡ record log_batch.old {
@@ -191,16 +190,16 @@ impl AtomicGroupBuilder {
     }
 }
 
-/// What is added as a group marker is read as the marker of its group with its status, and never
+/// What is added as a group marker is read as the group marker of its group with its status, and never
 /// refused. What is read is a function of the item; the reserved key is told by a test.
 pub fn group_markers_are_read_again()
     ensures is_marker { (id : ℕ) (status : Status) →
-        IsGroupMarkerContent (group_marker_item id status).content (status_byte status) }
+        marker_byte (group_marker_item id status).content ≡ Some (status_byte status) }
     ensures read { (item : Item) (status : Status) (read : Option (ℕ × Status)) →
-        IsGroupMarkerContent item.content (status_byte status) → IsGroupMarkerRead item read →
+        marker_byte item.content ≡ Some (status_byte status) → IsGroupMarkerRead item read →
         read ≡ Some (item.raft_group_id, status) }
     ensures accepted { (item : Item) (status : Status) (e : Refusal) →
-        IsGroupMarkerContent item.content (status_byte status) → IsGroupMarkerFault item e → ⊥ }
+        marker_byte item.content ≡ Some (status_byte status) → IsGroupMarkerFault item e → ⊥ }
     ensures value { (item : Item) (read : Option (ℕ × Status)) →
         IsGroupMarkerRead item read → marker_of item ≡ read }
     ensures reserved { (key : List ℕ) → IsTrue (is_reserved key) ↔ (key ≡ reserved_key) }

@@ -2,7 +2,7 @@
 
 ghost use Rattle.std.specs.Prelude.{◌≡◌, ◌≢◌, List, ℕ, length, IfOk, IfErr};
 ghost use Rattle.byteorder.specs.Endian.{little_bytes};
-ghost use Rattle.raft_records.specs.ItemBatch.{signed, HasSeal, IsSealFault};
+ghost use Rattle.raft_records.specs.ItemBatch.{signed_crc, HasSeal, IsSealFault};
 
 use raft_base::{Error, Result};
 use raft_checksum::crc32;
@@ -16,7 +16,8 @@ pub(crate) const LOG_BATCH_CHECKSUM_LEN: usize = 4;
 /// the signature if there is one. `Corruption` where it isn't, or where nothing stands before it.
 pub(crate) fn verify_checksum(alloc: Global, bytes: &[u8], signature: Option<u32>) -> Result<&[u8]>
     ensures ok { IfOk result (λ content. HasSeal signature bytes.now content.now) }
-    ensures refused { IfErr result (λ e. (content : List ℕ) → HasSeal signature bytes.now content → ⊥) }
+    ensures refused { IfErr result (λ e. (content : List ℕ) → HasSeal signature bytes.now content →
+        ⊥) }
     ensures fault { IfErr result (IsSealFault signature bytes.now) }
 {
     let len = bytes.len();
@@ -50,7 +51,7 @@ fn checksum_of(seal: &[u8]) -> u32
 /// A checksum xored with the signature, if there is one: as it is written, or, of one that was
 /// written, as it was before.
 pub(crate) fn sign(checksum: u32, signature: Option<u32>) -> u32
-    ensures { result ≡ signed signature checksum }
+    ensures { result ≡ signed_crc signature checksum }
 {
     match signature {
         Some(signature) => checksum ^ signature,

@@ -1,14 +1,14 @@
 //! Where the entries of a region's log stand.
 
-ghost use Rattle.std.specs.Prelude.{◌≡◌, ◌≢◌, ◌↔◌, ◌-◌, ◌^◌, ◌<◌, ◌≤◌, List, ◌++◌, map, length, IsTrue, IfOk, IfErr, IfSome, OnOk, OnErr, OnSome, ℕ};
+ghost use Rattle.std.specs.Prelude.{◌≡◌, ◌≢◌, ◌↔◌, ◌-◌, ◌^◌, ◌<◌, ◌≤◌, List, ◌++◌, map, length, Some, IsTrue, IfOk, IfErr, IfSome, OnOk, OnErr, OnSome, ℕ};
 ghost use Rattle.raft_codec.specs.Reading.{Reads, HasNoFront};
 ghost use Rattle.raft_records.specs.Grammar.{IsEntries, IsTail, AreTails, end_behind};
 ghost use Rattle.raft_records.specs.Faults.{IsEntriesFault, IsTailFault, IsTailsFault, IsEntriesRefusal};
 ghost use Rattle.raft_records.specs.Entries.{IsConsecutive, RunOn, AreWritable};
 ghost use Rattle.raft_codec.specs.Varint.{varint};
-ghost use Rattle.raft_records.specs.ItemBatch.{placed_entry, raised_entry, CanRaise};
+ghost use Rattle.raft_records.specs.ItemBatch.{raised_entry, CanRaise};
 ghost use Rattle.raft_records.specs.Placement.{entry_between, file_in, entry_in};
-ghost use Rattle.raft_records.specs.Sizes.{entries_size, saturated};
+ghost use Rattle.raft_records.specs.Sizes.{entries_size, at_most_usize};
 ghost use Rattle.raft_records.specs.Spelling.{Keeps, tails_bytes, entries_bytes};
 
 use raft_base::{CompressionType, EntryIndex, Error, FileBlockHandle, FileId, Result};
@@ -92,7 +92,7 @@ impl EntryIndexes {
 
     /// The approximate length of the entries' bytes, capped at `usize::MAX`.
     pub(crate) fn approximate_size(&self) -> usize
-        ensures { result ≡ saturated (entries_size self.now.0.items) }
+        ensures { result ≡ at_most_usize (entries_size self.now.0.items) }
     {
         let tails = self.0.len().saturating_mul(8);
         let first = if self.0.is_empty() { 0 } else { 8 };
@@ -101,7 +101,9 @@ impl EntryIndexes {
 
     /// Gives each entry its place.
     pub(crate) fn place(&mut self, block: FileBlockHandle, compression_type: CompressionType)
-        ensures { self.new.0.items ≡ map (placed_entry block compression_type) self.old.0.items }
+        ensures { self.new.0.items ≡
+            map (λ (e : EntryIndex). record e { entries = Some block; compression_type = compression_type })
+            self.old.0.items }
     {
         for entry in self.0.iter_mut() {
             entry.entries = Some(block);
@@ -167,8 +169,10 @@ impl EntryIndexes {
         buf: &mut BytesSlice<'_>,
         entries_size: &mut u32,
     ) -> Result<EntryIndexes>
-        ensures ok { IfOk result (λ es. Reads (IsEntries entries_size.old) buf.old.now buf.new.now es.0.items) }
-        ensures size { IfOk result (λ es. entries_size.new ≡ end_behind entries_size.old es.0.items) }
+        ensures ok { IfOk result (λ es. Reads (IsEntries entries_size.old) buf.old.now buf.new.now
+            es.0.items) }
+        ensures size { IfOk result (λ es. entries_size.new ≡ end_behind entries_size.old
+            es.0.items) }
         ensures err { OnErr result (buf.new.now ≡ buf.old.now) }
         ensures size_err { OnErr result (entries_size.new ≡ entries_size.old) }
         ensures refused { IfErr result (λ e. e ≢ Error.Memory →
@@ -194,7 +198,8 @@ impl EntryIndexes {
             Reads (IsEntries entries_size) bytes.now read.2.now es
             × (read.0.0.items ≡ map (entry_in place) es)) }
         ensures size { IfOk result (λ read. read.1 ≡ end_behind entries_size read.0.0.items) }
-        ensures refused { IfErr result (λ e. e ≢ Error.Memory → HasNoFront (IsEntries entries_size) bytes.now) }
+        ensures refused { IfErr result (λ e. e ≢ Error.Memory →
+            HasNoFront (IsEntries entries_size) bytes.now) }
         ensures fault { IfErr result (IsEntriesFault entries_size bytes.now) }
     {
         let (count, behind) = codec::parse_var_u64(bytes)?;
@@ -213,7 +218,8 @@ fn append_run(
     first: u64,
     entries: &[EntryIndex],
 ) -> std::result::Result<(), AllocError>
-    ensures ok { OnOk result (buf.new.items ≡ buf.old.items ++ (varint first ++ tails_bytes entries.now)) }
+    ensures ok { OnOk result (buf.new.items ≡ buf.old.items ++ (varint first ++ tails_bytes
+        entries.now)) }
     ensures err { OnErr result (Keeps buf.old.items buf.new.items) }
 {
     codec::append_var_u64(buf, first)?;

@@ -2,7 +2,8 @@
 
 ghost use Rattle.std.specs.Prelude.{◌≡◌, ◌≢◌, ℕ, ◌+◌, ◌^◌, ◌<◌, ◌≤◌, length, take, drop, IfOk, IfErr, IfSome, OnOk, OnErr};
 ghost use Rattle.raft_codec.specs.Reading.{HasNoFront};
-ghost use Rattle.raft_records.specs.FilePart.{IsPartRefusal, IsNext, IsNextFault, part_signature};
+ghost use Rattle.raft_base.specs.Signature.{signature_in};
+ghost use Rattle.raft_records.specs.FilePart.{IsPartRefusal, IsNext, IsNextFault};
 ghost use Rattle.raft_records.specs.ReadIn.{AreReadIn};
 ghost use Rattle.raft_records.specs.LogBatch.{IsReadable};
 
@@ -42,7 +43,8 @@ impl FilePart {
         ensures ok { IfOk result (λ part. part
             ≡ record { id = id; version = version; offset = offset; bytes = bytes.items }) }
         ensures accepted { OnOk result (offset + length bytes.items < 2 ^ 64) }
-        ensures refused { IfErr result (λ e. e ≢ Error.Memory → 2 ^ 64 ≤ offset + length bytes.items) }
+        ensures refused { IfErr result (λ e. e ≢ Error.Memory →
+            2 ^ 64 ≤ offset + length bytes.items) }
         ensures fault { IfErr result (IsPartRefusal (offset + length bytes.items)) }
     {
         let alloc = *bytes.allocator();
@@ -68,7 +70,8 @@ impl FilePart {
     /// `Memory`. The part is then as it was.
     pub fn split_off(&mut self, at: usize) -> Result<FilePart>
         requires { at ≤ length self.old.bytes }
-        ensures front { OnOk result (self.new ≡ record self.old { bytes = take at self.old.bytes }) }
+        ensures front { OnOk result (self.new ≡ record self.old
+            { bytes = take at self.old.bytes }) }
         ensures rest { IfOk result (λ rest. rest
             ≡ record self.old { offset = self.old.offset + at; bytes = drop at self.old.bytes }) }
         ensures err { OnErr result (self.new ≡ self.old) }
@@ -136,9 +139,10 @@ pub fn next_batch(part: &FilePart, at: usize) -> Result<Option<(LogItemBatch, us
     ensures ok { IfOk result (IsNext part.now at) }
     ensures in_file { IfOk result (λ next. IfSome next (λ batch. AreReadIn part.now.id batch.0)) }
     ensures some { OnErr result (at < length part.now.bytes) }
-    ensures refused { IfErr result (λ e. e ≢ Error.Memory →
-        HasNoFront (λ bytes. IsReadable bytes (part_signature part.now)) (drop at part.now.bytes)) }
-    ensures fault { IfErr result (IsNextFault (part_signature part.now) (drop at part.now.bytes)) }
+    ensures refused { IfErr result (λ e. e ≢ Error.Memory → HasNoFront
+        (λ bytes. IsReadable bytes (signature_in part.now.version part.now.id.seq)) (drop at part.now.bytes)) }
+    ensures fault { IfErr result
+        (IsNextFault (signature_in part.now.version part.now.id.seq) (drop at part.now.bytes)) }
 {
     if at == part.bytes.len() {
         return Ok(None);

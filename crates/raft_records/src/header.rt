@@ -110,7 +110,8 @@ fn close_entry_block(buf: &mut Vec<u8>) -> std::result::Result<(), AllocError>
 
 /// Where the item batch begins behind that many entry bytes.
 pub(crate) fn offset_behind(entries_size: u32) -> usize
-    ensures { (entry_bytes : List ℕ) → length entry_bytes ≡ entries_size → result ≡ item_offset entry_bytes }
+    ensures { (entry_bytes : List ℕ) → length entry_bytes ≡ entries_size →
+        result ≡ item_offset entry_bytes }
 {
     if entries_size == 0 {
         LOG_BATCH_HEADER_LEN
@@ -153,7 +154,8 @@ pub(crate) fn encode_behind(buf: &mut Vec<u8>, item_batch: &mut LogItemBatch) ->
     requires room { 16 ≤ length buf.old.items }
     requires some { item_batch.old ≢ [] }
     ensures ok { OnOk result (IsUnsealed item_batch.old (drop 16 buf.old.items) buf.new.items) }
-    ensures accepted { OnOk result (encoded_length item_batch.old (drop 16 buf.old.items) < 2 ^ 56) }
+    ensures accepted { OnOk result (encoded_length item_batch.old (drop 16 buf.old.items) < 2
+        ^ 56) }
     ensures same { item_batch.new ≡ item_batch.old }
     ensures err { OnErr result (Keeps buf.old.items buf.new.items) }
     ensures fault { IfErr result (λ e. e ≢ Error.Memory →
@@ -172,7 +174,8 @@ pub(crate) fn encode_behind(buf: &mut Vec<u8>, item_batch: &mut LogItemBatch) ->
 
 /// Signs the bytes of a batch for a file.
 pub(crate) fn seal(item_batch: &LogItemBatch, buf: &mut Vec<u8>, context: &LogFileContext)
-    requires { IsHeld encoded item_batch.now (entry_bytes_in item_batch.now buf.old.items) buf.old.items }
+    requires { IsHeld encoded item_batch.now (entry_bytes_in item_batch.now buf.old.items)
+        buf.old.items }
     ensures { buf.new.items ≡ log_batch_bytes (signature_of context.now) item_batch.now
         (entry_bytes_in item_batch.now buf.old.items) }
 {

@@ -1,12 +1,12 @@
 //! Key values of a region.
 
-ghost use Rattle.std.specs.Prelude.{◌≡◌, ◌≢◌, ◌↔◌, ◌<◌, ◌^◌, ◌++◌, length, None, IsTrue, IfOk, IfErr, OnOk, OnErr};
+ghost use Rattle.std.specs.Prelude.{◌≡◌, ◌≢◌, ◌↔◌, ◌<◌, ◌^◌, ◌∷◌, ◌++◌, length, None, IsTrue, IfOk, IfErr, OnOk, OnErr};
 ghost use Rattle.raft_codec.specs.Reading.{Reads, HasNoFront};
-ghost use Rattle.raft_records.specs.Grammar.{IsByteString, IsKeyAndValue, IsKeyValue, IsPutRead, IsDelRead};
+ghost use Rattle.raft_records.specs.Grammar.{IsByteString, IsKeyValue};
 ghost use Rattle.raft_records.specs.Item.{pair_of};
 ghost use Rattle.raft_records.specs.Faults.{IsByteStringFault, IsPutFault, IsDelFault, IsKeyValueFault, IsOpTypeFault, IsPairRefusal};
 ghost use Rattle.raft_records.specs.Range.{HasLength};
-ghost use Rattle.raft_records.specs.Sizes.{pair_size, saturated};
+ghost use Rattle.raft_records.specs.Sizes.{pair_size, at_most_usize};
 ghost use Rattle.raft_records.specs.Spelling.{Keeps, byte_string, pair_bytes, IsWritablePair};
 
 use raft_base::{Error, FileId, Result};
@@ -82,7 +82,7 @@ impl KeyValue {
 
     /// The approximate length of the change's bytes, capped at `usize::MAX`.
     pub(crate) fn approximate_size(&self) -> usize
-        ensures { result ≡ saturated (pair_size (pair_of self.now)) }
+        ensures { result ≡ at_most_usize (pair_size (pair_of self.now)) }
     {
         let value = match &self.value {
             Some(value) => value.len(),
@@ -176,8 +176,10 @@ impl KeyValue {
 
     /// A `Put` behind its op type byte.
     fn parse_put(alloc: Global, bytes: &[u8]) -> Result<(KeyValue, &[u8])>
-        ensures ok { IfOk result (λ read. IsPutRead bytes.now read.1.now (pair_of read.0)) }
-        ensures refused { IfErr result (λ e. e ≢ Error.Memory → HasNoFront IsKeyAndValue bytes.now) }
+        ensures ok { IfOk result (λ read. Reads IsKeyValue (1 ∷ bytes.now) read.1.now
+            (pair_of read.0)) }
+        ensures refused { IfErr result (λ e. e ≢ Error.Memory →
+            HasNoFront IsKeyValue (1 ∷ bytes.now)) }
         ensures fault { IfErr result (IsPutFault bytes.now) }
     {
         let (key, behind) = parse_byte_string(alloc, bytes)?;
@@ -189,8 +191,10 @@ impl KeyValue {
 
     /// A `Del` behind its op type byte.
     fn parse_del(alloc: Global, bytes: &[u8]) -> Result<(KeyValue, &[u8])>
-        ensures ok { IfOk result (λ read. IsDelRead bytes.now read.1.now (pair_of read.0)) }
-        ensures refused { IfErr result (λ e. e ≢ Error.Memory → HasNoFront IsByteString bytes.now) }
+        ensures ok { IfOk result (λ read. Reads IsKeyValue (2 ∷ bytes.now) read.1.now
+            (pair_of read.0)) }
+        ensures refused { IfErr result (λ e. e ≢ Error.Memory →
+            HasNoFront IsKeyValue (2 ∷ bytes.now)) }
         ensures fault { IfErr result (IsDelFault bytes.now) }
     {
         let (key, rest) = parse_byte_string(alloc, bytes)?;

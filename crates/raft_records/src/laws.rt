@@ -9,9 +9,9 @@ ghost use Rattle.raft_base.specs.declared.compression_type.CompressionType.{Comp
 ghost use Rattle.raft_base.specs.declared.entry_index.EntryIndex.{EntryIndex};
 ghost use Rattle.raft_base.specs.declared.compression_type.CompressionType.TheVariants as compressions;
 ghost use Rattle.raft_records.specs.declared.command.Command.{Command};
-ghost use Rattle.raft_records.specs.FilePart.{Part, part_signature, IsNext};
+ghost use Rattle.raft_records.specs.FilePart.{Part, IsNext};
 ghost use Rattle.raft_records.specs.Item.{Item, bare, Pair, bare_entry, bare_pair, entries, command, pair, AreInBytes};
-ghost use Rattle.raft_records.specs.ItemBatch.{placed, IsItemBatch};
+ghost use Rattle.raft_records.specs.ItemBatch.{placed_item, IsItemBatch};
 ghost use Rattle.raft_records.specs.LogBatch.{IsBatchOf, IsLogBatch, IsReadable, encoded_length, entry_place, log_batch_bytes};
 ghost use Rattle.raft_records.specs.Header.{IsHeader, IsBlockOf};
 ghost use Rattle.raft_records.specs.Range.{AreInRange, IsContentInRange};
@@ -28,7 +28,8 @@ pub fn items_are_read_again()
     ensures item { ItemIsSpelled }
     ensures one_front { (s : ℕ) → HasOneFront (IsItem s) }
     ensures batch { BatchIsSpelled }
-    ensures one_batch { (bytes rest rest' : List ℕ) (signature : Option ℕ) (items items' : List Item) →
+    ensures one_batch { (bytes rest rest' : List ℕ) (signature : Option ℕ)
+        (items items' : List Item) →
         IsItemBatch bytes signature items rest → IsItemBatch bytes signature items' rest' →
         (items ≡ items') × (rest ≡ rest') }
 {}
@@ -64,7 +65,8 @@ pub fn batches_belong_to_one_file()
 /// bytes.
 pub fn log_batches_are_read_again()
     ensures written { LogBatchIsSpelled }
-    ensures parts { (bytes : List ℕ) (signature : Option ℕ) (items : List Item) (entry_bytes : List ℕ) →
+    ensures parts { (bytes : List ℕ) (signature : Option ℕ) (items : List Item)
+        (entry_bytes : List ℕ) →
         IsLogBatch bytes signature items entry_bytes ↔ HasParts bytes signature items entry_bytes }
     ensures readable { (bytes : List ℕ) (signature : Option ℕ) (items : List Item) →
         IsReadable bytes signature items ↔ ((offset : ℕ) × IsFramed bytes signature items offset) }
@@ -93,22 +95,22 @@ pub fn log_batches_belong_to_one_file()
 /// `finish_write` leaves, and where the bytes end. What is asked of the items holds of every batch, as
 /// its `is_read_again` tells.
 pub fn written_batches_are_next()
-    ensures next { (part : Part) (at : ℕ) (block : FileBlockHandle) (items : List Item) (entry_bytes rest : List ℕ)
-        (answer : Option (List Item × ℕ)) →
+    ensures next { (part : Part) (at : ℕ) (block : FileBlockHandle) (items : List Item)
+        (entry_bytes rest : List ℕ) (answer : Option (List Item × ℕ)) →
         IsBatchOf items entry_bytes → AreInRange items → AreInBytes items → items ≢ [] →
         encoded_length items entry_bytes < 2 ^ 56 →
         block.id ≡ part.id → block.offset ≡ part.offset + at →
-        drop at part.bytes ≡ log_batch_bytes (part_signature part) items entry_bytes ++ rest →
+        drop at part.bytes ≡ log_batch_bytes (signature_in part.version part.id.seq) items entry_bytes ++ rest →
         IsNext part at answer →
         answer ≡ Some (
-          map (placed (entry_place block entry_bytes) compressions.None) items,
+          map (placed_item (entry_place block entry_bytes) compressions.None) items,
           at + encoded_length items entry_bytes,
         ) }
     ensures accepted { (part : Part) (at : ℕ) (items : List Item) (entry_bytes rest : List ℕ) →
         IsBatchOf items entry_bytes → AreInRange items → items ≢ [] →
         encoded_length items entry_bytes < 2 ^ 56 →
-        drop at part.bytes ≡ log_batch_bytes (part_signature part) items entry_bytes ++ rest →
-        HasNoFront (λ bytes. IsReadable bytes (part_signature part)) (drop at part.bytes) → ⊥ }
+        drop at part.bytes ≡ log_batch_bytes (signature_in part.version part.id.seq) items entry_bytes ++ rest →
+        HasNoFront (λ bytes. IsReadable bytes (signature_in part.version part.id.seq)) (drop at part.bytes) → ⊥ }
 {}
 
 /// What is read of a written batch is what the batch holds once the write has given its items their
@@ -116,5 +118,5 @@ pub fn written_batches_are_next()
 pub fn placed_items_are_read()
     ensures { (block : FileBlockHandle) (compression : CompressionType) (items : List Item) →
         AreInBytes items →
-        map (placed block compression) (map bare items) ≡ map (placed block compression) items }
+        map (placed_item block compression) (map bare items) ≡ map (placed_item block compression) items }
 {}

@@ -12,7 +12,7 @@ ghost use Rattle.raft_records.specs.Range.{AreInRange};
 ghost use Rattle.raft_records.specs.Header.{IsHeader, IsHeaderFault, IsBlockOf, IsBlockFault};
 ghost use Rattle.raft_records.specs.declared.key_value.OpType.TheVariants.{Put, Del};
 ghost use Rattle.raft_records.specs.Group.{reserved_key, IsKeyRefusal, IsMessageRefusal};
-ghost use Rattle.raft_records.specs.ItemBatch.{placed};
+ghost use Rattle.raft_records.specs.ItemBatch.{placed_item};
 
 use crate::checksum::LOG_BATCH_CHECKSUM_LEN;
 use crate::header::{
@@ -142,7 +142,8 @@ impl LogBatch {
     /// length itself once they are made. It is at least their length where all region ids and indexes
     /// are below 2^56, unless the batch is too long to be encoded.
     pub fn approximate_size(&self) -> usize
-        ensures size { result ≡ approximate_length self.now.stage self.now.items self.now.entry_bytes }
+        ensures size { result ≡ approximate_length self.now.stage self.now.items
+            self.now.entry_bytes }
         ensures covers { HaveSmallNumbers self.now.items →
             encoded_length self.now.items self.now.entry_bytes < 2 ^ 56 →
             encoded_length self.now.items self.now.entry_bytes ≤ result }
@@ -187,8 +188,10 @@ impl LogBatch {
     pub fn finish_populate(&mut self) -> Result<usize>
         requires { self.old.stage ≡ populating }
         ensures ok { OnOk result (self.new ≡ record self.old { stage = encoded }) }
-        ensures len { IfOk result (λ len. len ≡ encoded_length self.old.items self.old.entry_bytes) }
-        ensures accepted { OnOk result (encoded_length self.old.items self.old.entry_bytes < 2 ^ 56) }
+        ensures len { IfOk result (λ len. len ≡ encoded_length self.old.items
+            self.old.entry_bytes) }
+        ensures accepted { OnOk result (encoded_length self.old.items self.old.entry_bytes < 2
+            ^ 56) }
         ensures err { OnErr result (self.new ≡ self.old) }
         ensures refused { OnErr result (self.old.items ≢ []) }
         ensures fault { IfErr result (λ e. e ≢ Error.Memory →
@@ -376,9 +379,10 @@ impl LogBatch {
         requires sealed { IsSealedStage self.old.stage }
         requires offset { block.offset ≤ 2 ^ 64 - 17 }
         ensures placed { self.new ≡ record self.old {
-          items = map (placed (entry_place block self.old.entry_bytes) compressions.None) self.old.items;
+          items = map (placed_item (entry_place block self.old.entry_bytes) compressions.None) self.old.items;
         } }
-        ensures bytes { (signature : Option ℕ) → log_batch_bytes signature self.new.items self.new.entry_bytes
+        ensures bytes { (signature : Option ℕ) →
+            log_batch_bytes signature self.new.items self.new.entry_bytes
             ≡ log_batch_bytes signature self.old.items self.old.entry_bytes }
     {
         let entry_place = FileBlockHandle {

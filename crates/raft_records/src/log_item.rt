@@ -3,13 +3,13 @@
 ghost use Rattle.std.specs.Prelude.{◌≡◌, ◌≢◌, ◌↔◌, ◌++◌, IsTrue, IfOk, IfErr, OnOk, OnErr};
 ghost use Rattle.std.specs.Option.{option_map};
 ghost use Rattle.raft_codec.specs.Reading.{Reads, HasNoFront};
-ghost use Rattle.raft_records.specs.Grammar.{IsItem, IsContent, behind_item, entry_bytes_with};
+ghost use Rattle.raft_records.specs.Grammar.{IsItem, IsContent, end_of_content};
 ghost use Rattle.raft_records.specs.Item.{Item, Content, item_of, content_of, entries_item, command_item, pair_item};
 ghost use Rattle.raft_records.specs.Faults.{IsItemFault, IsContentFault, IsItemRefusal};
-ghost use Rattle.raft_records.specs.ItemBatch.{placed, raised, CanRaiseContent};
+ghost use Rattle.raft_records.specs.ItemBatch.{placed_item, raised_item, CanRaiseContent};
 ghost use Rattle.raft_records.specs.Placement.{content_in, item_in};
 ghost use Rattle.raft_records.specs.Range.{IsInRange};
-ghost use Rattle.raft_records.specs.Sizes.{item_size, saturated};
+ghost use Rattle.raft_records.specs.Sizes.{item_size, at_most_usize};
 ghost use Rattle.raft_records.specs.Spelling.{Keeps, item_bytes, content_bytes, IsWritable};
 
 use crate::entry_indexes::{Placement, UNPLACED};
@@ -93,7 +93,7 @@ impl LogItem {
 
     /// The approximate length of the item's bytes, capped at `usize::MAX`.
     pub(crate) fn approximate_size(&self) -> usize
-        ensures { result ≡ saturated (item_size (item_of self.now)) }
+        ensures { result ≡ at_most_usize (item_size (item_of self.now)) }
     {
         let content = match &self.content {
             LogItemContent::EntryIndexes(entries) => entries.approximate_size(),
@@ -105,7 +105,7 @@ impl LogItem {
 
     /// Gives the item's entries their place, its key value its file.
     pub(crate) fn place(&mut self, block: FileBlockHandle, compression_type: CompressionType)
-        ensures { item_of self.new ≡ placed block compression_type (item_of self.old) }
+        ensures { item_of self.new ≡ placed_item block compression_type (item_of self.old) }
     {
         match &mut self.content {
             LogItemContent::EntryIndexes(entries) => entries.place(block, compression_type),
@@ -117,7 +117,7 @@ impl LogItem {
     /// Raises the offsets of the item's entries: their bytes stand `by` bytes further back.
     pub(crate) fn raise_offsets(&mut self, by: u32)
         requires { CanRaiseContent by (content_of self.old.content) }
-        ensures { item_of self.new ≡ raised by (item_of self.old) }
+        ensures { item_of self.new ≡ raised_item by (item_of self.old) }
     {
         match &mut self.content {
             LogItemContent::EntryIndexes(entries) => entries.raise_offsets(by),
@@ -195,7 +195,7 @@ impl LogItem {
         ensures ok { IfOk result (λ item.
             Reads (IsItem entries_size.old) buf.old.now buf.new.now (item_of item)) }
         ensures size { IfOk result (λ item.
-            entries_size.new ≡ behind_item entries_size.old (item_of item)) }
+            entries_size.new ≡ end_of_content entries_size.old (content_of item.content)) }
         ensures err { OnErr result (buf.new.now ≡ buf.old.now) }
         ensures size_err { OnErr result (entries_size.new ≡ entries_size.old) }
         ensures refused { IfErr result (λ e. e ≢ Error.Memory →
@@ -219,7 +219,8 @@ impl LogItem {
     ) -> Result<(LogItem, u32, &[u8])>
         ensures ok { IfOk result (λ read. (item : Item) ×
             Reads (IsItem entries_size) bytes.now read.2.now item × (item_of read.0 ≡ item_in place item)) }
-        ensures size { IfOk result (λ read. read.1 ≡ behind_item entries_size (item_of read.0)) }
+        ensures size { IfOk result (λ read. read.1 ≡ end_of_content entries_size
+            (content_of read.0.content)) }
         ensures refused { IfErr result (λ e. e ≢ Error.Memory →
             HasNoFront (IsItem entries_size) bytes.now) }
         ensures fault { IfErr result (IsItemFault entries_size bytes.now) }
@@ -247,7 +248,8 @@ impl LogItemContent {
     /// Appends the type byte and the content's bytes. On `Err` some bytes may stand behind those of
     /// the vector.
     fn write(&self, buf: &mut Vec<u8>) -> std::result::Result<(), AllocError>
-        ensures ok { OnOk result (buf.new.items ≡ buf.old.items ++ content_bytes (content_of self.now)) }
+        ensures ok { OnOk result (buf.new.items ≡ buf.old.items ++ content_bytes
+            (content_of self.now)) }
         ensures err { OnErr result (Keeps buf.old.items buf.new.items) }
     {
         match self {
@@ -279,7 +281,7 @@ impl LogItemContent {
             Reads (IsContent entries_size) bytes.now read.2.now content
             × (content_of read.0 ≡ content_in place content)) }
         ensures size { IfOk result (λ read.
-            read.1 ≡ entry_bytes_with entries_size (content_of read.0)) }
+            read.1 ≡ end_of_content entries_size (content_of read.0)) }
         ensures refused { IfErr result (λ e. e ≢ Error.Memory →
             HasNoFront (IsContent entries_size) bytes.now) }
         ensures fault { IfErr result (IsContentFault entries_size bytes.now) }

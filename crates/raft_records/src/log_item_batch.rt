@@ -6,14 +6,14 @@ ghost use Rattle.std.specs.Slice.Iter.{iter_rest};
 ghost use Rattle.raft_base.specs.declared.pipe_log.Version.TheVariants.{V2};
 ghost use Rattle.raft_codec.specs.Reading.{Reads, HasNoFront, HasOneFront};
 ghost use Rattle.raft_base.specs.Signature.{signature_of, signature_in};
-ghost use Rattle.raft_records.specs.Grammar.{IsCommand, IsEntries, IsItem, IsKeyValue, behind_item};
+ghost use Rattle.raft_records.specs.Grammar.{IsCommand, IsEntries, IsItem, IsKeyValue, end_of_content};
 ghost use Rattle.raft_records.specs.ReadIn.{AreReadIn};
 ghost use Rattle.raft_records.specs.Item.{Item, Pair, bare, bare_entry, bare_pair, entries, command, pair, content_of, item_of, entries_item, command_item, pair_item, AreInBytes, IsInBytes};
 ghost use Rattle.raft_records.specs.Entries.{IsConsecutive, Tile};
-ghost use Rattle.raft_records.specs.ItemBatch.{AreItems, IsItemBatch, IsDecoded, AreItemsFault, IsItemBatchFault, checksum_bytes, batch_bytes, placed, raised, laid, entry_lengths, entry_bytes_of, end_of_items, FitsBehind, IsEncoded, no_checksum, FitTogether, first_entry};
+ghost use Rattle.raft_records.specs.ItemBatch.{AreItems, IsItemBatch, IsDecoded, AreItemsFault, IsItemBatchFault, checksum_bytes, batch_bytes, placed_item, raised_item, laid, entry_lengths, entry_bytes_of, end_of_items, FitsBehind, IsEncoded, no_checksum, FitTogether, first_entry};
 ghost use Rattle.raft_records.specs.Faults.{IsMemoryOrMessage};
 ghost use Rattle.raft_records.specs.Spelling.{Keeps, IsWritablePair, command_bytes, entries_bytes, pair_bytes};
-ghost use Rattle.raft_records.specs.Sizes.{items_size, batch_size, saturated, HaveSmallNumbers};
+ghost use Rattle.raft_records.specs.Sizes.{items_size, batch_size, at_most_usize, HaveSmallNumbers};
 ghost use Rattle.raft_records.specs.Range.{IsContentInRange, AreInRange};
 ghost use Rattle.raft_records.specs.Written.{ItemIsSpelled, BatchIsSpelled};
 ghost use Rattle.raft_records.specs.declared.key_value.OpType.TheVariants.{Put, Del};
@@ -136,7 +136,7 @@ impl LogItemBatch {
     /// The approximate length of the batch's bytes, capped at `usize::MAX`. It is at least their length
     /// where all region ids and indexes are below 2^56, of bytes that a log batch can hold.
     pub fn approximate_size(&self) -> usize
-        ensures size { result ≡ saturated (batch_size self.now) }
+        ensures size { result ≡ at_most_usize (batch_size self.now) }
         ensures covers { HaveSmallNumbers self.now → length (batch_bytes self.now) < 2 ^ 56 →
             length (batch_bytes self.now) + 4 ≤ result }
     {
@@ -187,7 +187,8 @@ impl LogItemBatch {
 
     /// Adds the removal of a region's key. On `Err` the batch is as it was.
     pub fn delete(&mut self, region_id: u64, key: Vec<u8>) -> Result<()>
-        ensures ok { OnOk result (self.new ≡ self.old ++ pair_item region_id Del key.items None ∷ []) }
+        ensures ok { OnOk result (self.new ≡ self.old ++ pair_item region_id Del key.items
+            None ∷ []) }
         ensures err { OnErr result (self.new ≡ self.old) }
         ensures memory { IfErr result (λ e. e ≡ Error.Memory) }
     {
@@ -235,7 +236,8 @@ impl LogItemBatch {
     /// `Err` both are as they were.
     pub fn merge(&mut self, rhs: &mut LogItemBatch) -> Result<()>
         requires { entry_bytes_of self.old + entry_bytes_of rhs.old < 2 ^ 32 }
-        ensures ok { OnOk result (self.new ≡ self.old ++ map (raised (entry_bytes_of self.old)) rhs.old) }
+        ensures ok { OnOk result (self.new ≡ self.old ++ map (raised_item (entry_bytes_of self.old))
+            rhs.old) }
         ensures emptied { OnOk result (rhs.new ≡ []) }
         ensures err { OnErr result (self.new ≡ self.old) }
         ensures rhs_err { OnErr result (rhs.new ≡ rhs.old) }
@@ -277,7 +279,7 @@ impl LogItemBatch {
 
     /// Gives every entry its place and every key value its file. It takes no memory.
     pub(crate) fn place(&mut self, block: FileBlockHandle, compression_type: CompressionType)
-        ensures { self.new ≡ map (placed block compression_type) self.old }
+        ensures { self.new ≡ map (placed_item block compression_type) self.old }
     {
         self.read_in = None;
         place_items(&mut self.items, block, compression_type);
@@ -286,7 +288,8 @@ impl LogItemBatch {
     /// Appends the batch's bytes to the vector, four zero bytes in the place of the checksum. On
     /// `Err` the vector is as it was.
     pub fn encode(&mut self, buf: &mut Vec<u8>) -> Result<()>
-        ensures ok { OnOk result (buf.new.items ≡ buf.old.items ++ (batch_bytes self.old ++ no_checksum)) }
+        ensures ok { OnOk result (buf.new.items
+            ≡ buf.old.items ++ (batch_bytes self.old ++ no_checksum)) }
         ensures err { OnErr result (buf.new.items ≡ buf.old.items) }
         ensures same { self.new ≡ self.old }
         ensures memory { IfErr result (λ e. e ≡ Error.Memory) }
@@ -333,7 +336,8 @@ impl LogItemBatch {
             IsDecoded buf.old.now (signature_of context.now) entries compression_type batch buf.new.now) }
         ensures in_file { IfOk result (AreReadIn entries.id) }
         ensures err { OnErr result (buf.new.now ≡ buf.old.now) }
-        ensures refused { IfErr result (λ e. e ≢ Error.Memory → (items : List Item) (rest : List ℕ) →
+        ensures refused { IfErr result (λ e. e ≢ Error.Memory →
+            (items : List Item) (rest : List ℕ) →
             IsItemBatch buf.old.now (signature_of context.now) items rest → ⊥) }
         ensures fault { IfErr result (IsItemBatchFault (signature_of context.now) buf.old.now) }
     {
@@ -360,7 +364,8 @@ impl LogItemBatch {
     fn add(&mut self, item: LogItem, entries_size: u32) -> Result<()>
         requires fits { FitsBehind (entry_bytes_of self.old) (content_of item.content) }
         requires in_bytes { IsInBytes (content_of item.content) }
-        requires end { entries_size ≡ behind_item (entry_bytes_of self.old) (item_of item) }
+        requires end { entries_size ≡ end_of_content (entry_bytes_of self.old)
+            (content_of item.content) }
         ensures ok { OnOk result (self.new ≡ self.old ++ item_of item ∷ []) }
         ensures err { OnErr result (self.new ≡ self.old) }
         ensures memory { IfErr result (λ e. e ≡ Error.Memory) }
@@ -453,7 +458,7 @@ fn parse_items(
     compression_type: CompressionType,
 ) -> Result<(LogItemBatch, &[u8])>
     ensures ok { IfOk result (λ read. (items : List Item) ×
-        Reads (AreItems count) bytes.now read.1.now items × (read.0 ≡ map (placed block compression_type) items)) }
+        Reads (AreItems count) bytes.now read.1.now items × (read.0 ≡ map (placed_item block compression_type) items)) }
     ensures refused { IfErr result (λ e. e ≢ Error.Memory → HasNoFront (AreItems count) bytes.now) }
     ensures fault { IfErr result (AreItemsFault count bytes.now) }
 {
@@ -477,7 +482,7 @@ fn parse_items(
 /// Gives each item its place.
 fn place_items(items: &mut Vec<LogItem>, block: FileBlockHandle, compression_type: CompressionType)
     ensures { map item_of items.new.items
-        ≡ map (placed block compression_type) (map item_of items.old.items) }
+        ≡ map (placed_item block compression_type) (map item_of items.old.items) }
 {
     for item in items.iter_mut() {
         item.place(block, compression_type);
@@ -503,7 +508,7 @@ fn set_offsets(entries: &mut Vec<EntryIndex>, start: u32) -> u32
 fn raise_item_offsets(items: &mut Vec<LogItem>, by: u32)
     requires fit { FitTogether 0 (map item_of items.old.items) }
     requires room { by + entry_bytes_of (map item_of items.old.items) < 2 ^ 32 }
-    ensures { map item_of items.new.items ≡ map (raised by) (map item_of items.old.items) }
+    ensures { map item_of items.new.items ≡ map (raised_item by) (map item_of items.old.items) }
 {
     for item in items.iter_mut() {
         item.raise_offsets(by);

@@ -45,7 +45,8 @@ pub fn print_batch<R: Read, W: Write>(
 /// fails; a front of the bytes, and not all of them, was written then.
 pub fn write_whole<W: Write>(writer: &mut W, bytes: &[u8]) -> Result<()>
     ensures ok { OnOk result (Appends (W.contents writer.old) (W.contents writer.new) bytes.now) }
-    ensures err { OnErr result (AppendsFront (W.contents writer.old) (W.contents writer.new) bytes.now) }
+    ensures err { OnErr result (AppendsFront (W.contents writer.old) (W.contents writer.new)
+        bytes.now) }
     ensures fault { IfErr result IsIoError }
 {
     let mut rest = bytes;
@@ -159,7 +160,8 @@ fn append_content(
 
 /// Appends how many entries there are, the first one's index and the last one's tail offset.
 fn append_entries(entries: &[EntryIndex], text: &mut String) -> std::result::Result<(), AllocError>
-    ensures { OnOk result (string_bytes text.new ≡ string_bytes text.old ++ entries_text entries.now) }
+    ensures { OnOk result (string_bytes text.new ≡ string_bytes text.old ++ entries_text
+        entries.now) }
 {
     let (Some(first), Some(last)) = (entries.first(), entries.last()) else {
         return text.push_str("entries 0");
@@ -224,7 +226,8 @@ fn append_counts(
     rest: usize,
     text: &mut String,
 ) -> std::result::Result<(), AllocError>
-    ensures { OnOk result (string_bytes text.new ≡ string_bytes text.old ++ counts_line items rest) }
+    ensures { OnOk result (string_bytes text.new ≡ string_bytes text.old ++ counts_line items
+        rest) }
 {
     writeln!(text, "items {items} rest {rest}")
 }

@@ -115,7 +115,7 @@ fn is_only_item(mut batch: LogBatch, item: &[u8]) -> Result<bool> {
     Ok(len == 30 && batch.encoded_bytes().get(17..26) == Some(item))
 }
 
-/// Whether each batch of a group has its marker as its only item.
+/// Whether each batch of a group has its group marker as its only item.
 fn have_markers(alloc: Global) -> Result<bool> {
     let mut all = true;
     for (batch, item) in batches_with_markers(alloc)? {

@@ -192,7 +192,7 @@ fn parsed(
     AtomicGroupStatus::parse(alloc, &marker(alloc, op_type, value)?)
 }
 
-/// Whether a marker with this byte is refused as corrupt.
+/// Whether a group marker with this byte is refused as corrupt.
 fn is_no_status(alloc: Global, byte: u8) -> Result<bool> {
     match parsed(alloc, OpType::Put, Some(&[byte])) {
         Ok(_read) => Ok(false),

@@ -1,5 +1,5 @@
 -- Files as segments of one part.
-use Rattle.std.proofs.Common.{◌≡◌, ◌↔◌, ℕ, List, [], ◌∷◌, ◌++◌, Vec, length, map, get_or, drop, refl, sym, ap, ◌∙◌, subst, arith, append_assoc, append-nil}
+use Rattle.std.proofs.Common.{◌≡◌, ℕ, List, [], ◌∷◌, ◌++◌, Vec, length, map, get_or, drop, refl, sym, ap, ◌∙◌, subst, arith, append_assoc, append-nil}
 use Rattle.std.specs.Global.{Global}
 use Rattle.std.proofs.lemmas.List.{map-append}
 use Rattle.std.specs.List.{AllByRecursion}
@@ -8,9 +8,10 @@ use Rattle.raft_base.specs.declared.pipe_log.LogQueue.{LogQueue}
 use Rattle.raft_base.specs.declared.pipe_log.Version.{Version}
 use Rattle.raft_records.specs.FilePart.{Part}
 use Rattle.raft_history.specs.Batches.{Event}
-use Rattle.raft_replay.specs.Segments.{ReadsParts, ReadsSegments, PartsAreOf, SegmentsAreOf}
+use Rattle.raft_replay.specs.Segments.{SegmentsHold, SegmentsAreOf}
+use Rattle.raft_replay.proofs.Words.{PartsHold, PartsAreOf}
 use Rattle.raft_replay.proofs.CutPartLemmas.{uncut}
-use Rattle.raft_recover.specs.Files.{whole_file, segment_shown, ReadsFiles}
+use Rattle.raft_recover.specs.Files.{whole_file, segment_shown, FilesHold}
 use Rattle.raft_recover.specs.AskedRequests.{file_shown}
 
 module _ (queue : LogQueue) (version : Version) where
@@ -50,26 +51,26 @@ module _ (queue : LogQueue) (version : Version) where
   as_many (s ∷ ss) [] all = let n = ap length all in absurd (omega arith)
   as_many (s ∷ ss) (f ∷ fs) all = let rest = as_many ss fs (tail_same s ss f fs all) in omega (arith, rest)
 
-  pub files_read : (ss : List (Vec Part Global)) (fs : List (ℕ × Vec ℕ Global)) → AreWhole ss fs → (h : List Event) → ReadsFiles queue version (map file_shown fs) h → ReadsSegments ss h
+  pub files_read : (ss : List (Vec Part Global)) (fs : List (ℕ × Vec ℕ Global)) → AreWhole ss fs → (h : List Event) → FilesHold queue version (map file_shown fs) h → SegmentsHold ss h
   files_read [] [] all h r = r
   files_read [] (f ∷ fs) all h r = let n = ap length all in absurd (omega arith)
   files_read (s ∷ ss) [] all h r = let n = ap length all in absurd (omega arith)
   files_read (s ∷ ss) (f ∷ fs) all h r = record {
     first = r.first;
     rest = r.rest;
-    first_reads = subst (λ l. ReadsParts l r.first) (sym (head_same s ss f fs all)) ((uncut (whole f) r.first).0 r.first_reads);
+    first_reads = subst (λ l. PartsHold l r.first) (sym (head_same s ss f fs all)) ((uncut (whole f) r.first).0 r.first_reads);
     rest_reads = files_read ss fs (tail_same s ss f fs all) r.rest r.rest_reads;
     split = r.split;
   }
 
-  pub segments_read : (ss : List (Vec Part Global)) (fs : List (ℕ × Vec ℕ Global)) → AreWhole ss fs → (h : List Event) → ReadsSegments ss h → ReadsFiles queue version (map file_shown fs) h
+  pub segments_read : (ss : List (Vec Part Global)) (fs : List (ℕ × Vec ℕ Global)) → AreWhole ss fs → (h : List Event) → SegmentsHold ss h → FilesHold queue version (map file_shown fs) h
   segments_read [] [] all h r = r
   segments_read [] (f ∷ fs) all h r = let n = ap length all in absurd (omega arith)
   segments_read (s ∷ ss) [] all h r = let n = ap length all in absurd (omega arith)
   segments_read (s ∷ ss) (f ∷ fs) all h r = record {
     first = r.first;
     rest = r.rest;
-    first_reads = (uncut (whole f) r.first).1 (subst (λ l. ReadsParts l r.first) (head_same s ss f fs all) r.first_reads);
+    first_reads = (uncut (whole f) r.first).1 (subst (λ l. PartsHold l r.first) (head_same s ss f fs all) r.first_reads);
     rest_reads = segments_read ss fs (tail_same s ss f fs all) r.rest r.rest_reads;
     split = r.split;
   }

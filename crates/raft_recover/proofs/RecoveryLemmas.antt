@@ -11,15 +11,15 @@ use Rattle.raft_history.specs.Batches.{Event}
 use Rattle.raft_history.specs.Contexts.{Suits, files_of}
 use Rattle.raft_history.specs.Histories.{IsSmall, IsOneReading, IsOfQueue}
 use Rattle.raft_accessor.specs.Accessor.{Accessor, AreCountsOf}
-use Rattle.raft_table.specs.Start.{IsInvalidArgument}
-use Rattle.raft_memtable.specs.RecoverContext.{RecoverContext, IsReading, IsReadingExactly}
+use Rattle.raft_base.specs.Errors.{IsInvalidArgument}
+use Rattle.raft_memtable.specs.RecoverContext.{RecoverContext, HasRead, HasReadExactly}
 use Rattle.raft_memtable.specs.declared.context_stage.ContextStage.{ContextStage}
 use Rattle.raft_memtable.specs.declared.context_stage.ContextStage.TheVariants as stages
 use Rattle.raft_replay.specs.Replays.{IsReplayed}
-use Rattle.raft_replay.specs.Segments.{ReadsSegments, CannotBeRead, SegmentsAreOf}
-use Rattle.raft_replay.proofs.MachineOrderLemmas.{segments_of}
+use Rattle.raft_replay.specs.Segments.{SegmentsHold, CannotBeRead, SegmentsAreOf}
+use Rattle.raft_replay.proofs.MachineOrderLemmas.{segments_read_of_queue}
 use Rattle.raft_replay.proofs.SegmentLemmas.{segments_unique}
-use Rattle.raft_recover.specs.Files.{ReadsFiles, FilesCannotBeRead, IsPrintFailure, PrintsRecovered}
+use Rattle.raft_recover.specs.Files.{FilesHold, FilesCannotBeRead, IsPrintFailure, PrintsRecovered}
 use Rattle.raft_recover.specs.Recovery.{IsRecovered}
 use Rattle.raft_recover.specs.Requests.{File}
 use Rattle.raft_recover.specs.TableLines.{PrintsTables, PrintsFrontOfTables}
@@ -35,15 +35,15 @@ is_failed stages.Failed = Unit {0}
 is_failed _ = ⊥
 
 module _ (queue : LogQueue) (segments : List (Vec Part Global)) (of_queue : SegmentsAreOf queue segments) (m : RecoverContext)
-    (replayed : IsReplayed IsReading IsReadingExactly segments m) where
+    (replayed : IsReplayed HasRead HasReadExactly segments m) where
   suited : IsSmall replayed.history → Suits queue m.context.files
   suited small =
       subst (Suits queue) (sym (replayed.stands small).stands.files)
-      (suits queue replayed.history (segments_of queue segments of_queue replayed.history replayed.reads))
+      (suits queue replayed.history (segments_read_of_queue queue segments of_queue replayed.history replayed.reads))
 
   pub recovered : (r : Result Accessor Error)
-      → ((q : LogQueue) (h : List Event) → IsReadingExactly m h → Suits q m.context.files → IfOk r (λ a. IsOneReading q h a.tables a.cleaned))
-      → IfOk r (λ a. AreCountsOf a.tables a.counts) → IfOk r (IsRecovered queue (ReadsSegments segments))
+      → ((q : LogQueue) (h : List Event) → HasReadExactly m h → Suits q m.context.files → IfOk r (λ a. IsOneReading q h a.tables a.cleaned))
+      → IfOk r (λ a. AreCountsOf a.tables a.counts) → IfOk r (IsRecovered queue (SegmentsHold segments))
   recovered (Ok a) one counted = record {
     history = replayed.history;
     reads = replayed.reads;
@@ -64,9 +64,9 @@ module _ (queue : LogQueue) (segments : List (Vec Part Global)) (of_queue : Segm
 
 -- ---- other segments of which the same is read
 
-module _ (queue : LogQueue) (segments shares : List (Vec Part Global)) (same : (h : List Event) → ReadsSegments segments h ↔ ReadsSegments shares h)
+module _ (queue : LogQueue) (segments shares : List (Vec Part Global)) (same : (h : List Event) → SegmentsHold segments h ↔ SegmentsHold shares h)
     (of_queue : (q : LogQueue) → SegmentsAreOf q segments ↔ SegmentsAreOf q shares) where
-  pub shares_recovered : (r : Result Accessor Error) → IfOk r (IsRecovered queue (ReadsSegments shares)) → IfOk r (IsRecovered queue (ReadsSegments segments))
+  pub shares_recovered : (r : Result Accessor Error) → IfOk r (IsRecovered queue (SegmentsHold shares)) → IfOk r (IsRecovered queue (SegmentsHold segments))
   shares_recovered (Ok a) r = record {
     history = r.history;
     reads = (same r.history).1 r.reads;
@@ -99,8 +99,8 @@ module _ (queue : LogQueue) (segments shares : List (Vec Part Global)) (same : (
 -- ---- files as segments
 
 module _ (queue : LogQueue) (version : Version) (ss : List (Vec Part Global)) (files : List File)
-    (same : (h : List Event) → ReadsFiles queue version files h ↔ ReadsSegments ss h) where
-  files_recovered : (a : Accessor) → IsRecovered queue (ReadsSegments ss) a → IsRecovered queue (ReadsFiles queue version files) a
+    (same : (h : List Event) → FilesHold queue version files h ↔ SegmentsHold ss h) where
+  files_recovered : (a : Accessor) → IsRecovered queue (SegmentsHold ss) a → IsRecovered queue (FilesHold queue version files) a
   files_recovered a r = record {
     history = r.history;
     reads = (same r.history).1 r.reads;
@@ -112,7 +112,7 @@ module _ (queue : LogQueue) (version : Version) (ss : List (Vec Part Global)) (f
   pub files_refused : CannotBeRead ss → FilesCannotBeRead queue version files
   files_refused cannot = record { unsound = λ h reads. cannot.unsound h ((same h).0 reads) }
 
-  module _ (a : Accessor) (r : IsRecovered queue (ReadsSegments ss) a) where
+  module _ (a : Accessor) (r : IsRecovered queue (SegmentsHold ss) a) where
     pub tables_printed : {X : Type 0} (printed : Result X Error) (old new : Option (List ℕ)) → OnOk printed (PrintsTables a old new) → OnOk printed (PrintsRecovered queue version files old new)
     tables_printed (Ok x) old new done = record { accessor = a; recovered = files_recovered a r; printed = done }
     tables_printed (Err e) old new done = tt

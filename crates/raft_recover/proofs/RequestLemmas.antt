@@ -1,16 +1,14 @@
 -- What words ask for.
-use Rattle.std.proofs.Common.{◌≡◌, ◌≢◌, ℕ, zero, suc, ◌+◌, ◌-◌, ◌<◌, ◌≤◌, List, [], ◌∷◌, ◌++◌, length, get_or, take, drop, codes, Bool, true, false, not, Bor, Option, None, Some, IfNone, MatchOption, arith, refl, subst, ap, sym, ◌∙◌, append_assoc}
-use Rattle.std.proofs.lemmas.List.{take_all, append-nil}
+use Rattle.std.proofs.Common.{◌≡◌, ◌≢◌, ℕ, zero, suc, ◌+◌, ◌-◌, ◌<◌, ◌≤◌, List, [], ◌∷◌, ◌++◌, length, get_or, take, drop, map, codes, Bool, true, false, not, Bor, Option, None, Some, IfNone, MatchOption, arith, refl, subst, ap, sym, ◌∙◌, append_assoc}
+use Rattle.std.proofs.lemmas.List.{take_all, append-nil, map_push, map_more}
 use Rattle.std.specs.Char.{digit_value}
 use Rattle.std.specs.Str.Parse.{AllDigits}
 use Rattle.std.proofs.lemmas.Str.Pattern.{IsSplitOnceResult, split_after}
 use Rattle.std.specs.Str.{bytes_eq}
 use Rattle.std.proofs.lemmas.Slice.Eq.{bytes_eq-Decides}
 use Rattle.std.specs.List.{AllByRecursion}
-use Rattle.raft_base.specs.declared.errors.Error.{Error}
-use Rattle.raft_base.specs.declared.errors.Error.TheVariants as errors
 use Rattle.raft_base.specs.declared.pipe_log.LogFileContext.{LogFileContext}
-use Rattle.raft_recover.specs.Requests.{NamesFile, IsPathWord, AsksBatch, File, IsFileOfWord, AreRead, IsFilesFault}
+use Rattle.raft_recover.specs.Requests.{NamesFile, NamesPath, IsPathWord, AsksBatch, NamedFile, AreNamed}
 
 -- a list of four is its items
 pub four_items : {X : Type 0} (xs : List X) (a b c d : X) → 4 ≤ length xs → length xs < 5 → a ≡ get_or xs 0 a → b ≡ get_or xs 1 b → c ≡ get_or xs 2 c → d ≡ get_or xs 3 d → xs ≡ a ∷ b ∷ c ∷ d ∷ []
@@ -52,13 +50,6 @@ pub none_holds : {X : Type 0} (r : Option X) {P : Type 0} → P → IfNone r P
 none_holds None p = p
 none_holds (Some x) p = tt
 
--- the file of one of some words isn't read
-pub files_fault : (words : List (List ℕ)) (word : List ℕ) (e : Error) → (AllByRecursion IsPathWord words → IsPathWord word) → IsFilesFault (word ∷ []) e → IsFilesFault words e
-files_fault words word (errors.InvalidArgument text) h f = λ all. f (h all, tt)
-files_fault words word (errors.Io e) h f = tt
-files_fault words word errors.Memory h f = tt
-files_fault words word _ h f = absurd f
-
 -- digits are no `=`
 no_equals : (ds : List ℕ) → AllDigits 10 ds → (i : ℕ) → i < length ds → get_or ds i 0 ≢ 61
 no_equals [] h i low = absurd (omega arith)
@@ -81,27 +72,43 @@ four_and_more (w ∷ x ∷ y ∷ z ∷ vs) a b c d low p q r s =
     let same : w ∷ x ∷ y ∷ z ∷ vs ≡ a ∷ b ∷ c ∷ d ∷ vs = cc in
     same ∙ ap (λ rest. a ∷ b ∷ c ∷ d ∷ rest) (sym rest)
 
+-- the texts of four words and of those behind them
+pub four_texts : {X : Type 0} (f : X → List ℕ) (ws rest : List X) (a b c d : X) (ta tb tc td : List ℕ) → ws ≡ a ∷ b ∷ c ∷ d ∷ rest → ta ≡ f a → tb ≡ f b → tc ≡ f c → td ≡ f d → map f ws ≡ ta ∷ tb ∷ tc ∷ td ∷ map f rest
+four_texts f ws rest a b c d ta tb tc td split p q r s = rw (p, q, r, s) (ap (map f) split)
+
+-- the words behind four are the same, however the four are named
+pub same_rest : (words rest files : List (List ℕ)) (a b c d e f g h : List ℕ) → words ≡ a ∷ b ∷ c ∷ d ∷ rest → words ≡ e ∷ f ∷ g ∷ h ∷ files → files ≡ rest
+same_rest words rest files a b c d e f g h split form = cc
+
 -- words whose first is `recover`
 pub recover_first : (words rest : List (List ℕ)) (command a b c : List ℕ) → words ≡ command ∷ a ∷ b ∷ c ∷ rest → command ≡ codes "recover" → words ≡ codes "recover" ∷ a ∷ b ∷ c ∷ rest
 recover_first words rest command a b c split recover = rw (← recover) split
 
--- a word's file goes behind those so far
-pub one_more : (all words : List (List ℕ)) (word : List ℕ) (files shown : List File) (file : File) → ((rest : List File) → AreRead (word ∷ words) rest → AreRead all (files ++ rest)) → IsFileOfWord word file → shown ≡ files ++ file ∷ [] → (rest : List File) → AreRead words rest → AreRead all (shown ++ rest)
-one_more all words word files shown file before read same rest more =
-    let parted : shown ++ rest ≡ files ++ (file ∷ rest) = rw same (append_assoc files (file ∷ []) rest) in
-    subst (AreRead all) (sym parted) (before (file ∷ rest) (read, more))
+-- one more word names one more file
+pub named_more : (words : List (List ℕ)) (files : List NamedFile) (word : List ℕ) (file : NamedFile) → AreNamed words files → NamesPath word file.0 file.1 → AreNamed (words ++ word ∷ []) (files ++ file ∷ [])
+named_more [] [] word file all one = (one, tt)
+named_more [] (f ∷ fs) word file all one = absurd all
+named_more (w ∷ ws) [] word file all one = absurd all
+named_more (w ∷ ws) (f ∷ fs) word file all one = (all.0, named_more ws fs word file all.1 one)
 
--- no more words are left
-pub all_read : (all : List (List ℕ)) (files : List File) → ((rest : List File) → AreRead [] rest → AreRead all (files ++ rest)) → AreRead all files
-all_read all files before = subst (AreRead all) (append-nil files) (before [] tt)
+-- words that each name a file name some files
+pub files_of_words : (words : List (List ℕ)) → AllByRecursion IsPathWord words → (files : List NamedFile) × AreNamed words files
+files_of_words [] all = ([], tt)
+files_of_words (w ∷ ws) all = let rest = files_of_words ws all.1 in ((all.0.seq, all.0.path) ∷ rest.0, (all.0.named, rest.1))
+
+-- of words that name files each names one
+pub each_names : (words : List (List ℕ)) (files : List NamedFile) → AreNamed words files → AllByRecursion IsPathWord words
+each_names [] files all = tt
+each_names (w ∷ ws) [] all = absurd all
+each_names (w ∷ ws) (f ∷ fs) all = (record { seq = f.0; path = f.1; named = all.0 }, each_names ws fs all.1)
 
 -- an item, and those behind it
-pub next_item : {X : Type 0} (xs : List X) (i : ℕ) (x : X) → i < length xs → x ≡ get_or xs i x → drop i xs ≡ x ∷ drop (i + 1) xs
-next_item [] i x low is = absurd (omega arith)
-next_item (y ∷ ys) zero x low is = ap (λ z. z ∷ ys) (sym is)
-next_item (y ∷ ys) (suc i) x low is =
+pub next_at : {X : Type 0} (xs : List X) (i : ℕ) (d : X) → i < length xs → drop i xs ≡ get_or xs i d ∷ drop (i + 1) xs
+next_at [] i d low = absurd (omega arith)
+next_at (y ∷ ys) zero d low = refl
+next_at (y ∷ ys) (suc i) d low =
     let behind : suc i + 1 ≡ suc (i + 1) = omega arith in
-    rw behind (next_item ys i x (omega arith) is)
+    rw behind (next_at ys i d (omega arith))
 
 -- nothing stands behind the last item
 pub none_left : {X : Type 0} (xs : List X) (i : ℕ) → length xs ≤ i → drop i xs ≡ []
@@ -109,3 +116,24 @@ none_left [] zero past = refl
 none_left [] (suc i) past = refl
 none_left (x ∷ xs) zero past = absurd (omega arith)
 none_left (x ∷ xs) (suc i) past = none_left xs i (omega arith)
+
+-- so many items and the next one are so many and one more
+pub front_more : {X Y : Type 0} (f : X → Y) (xs : List X) (i : ℕ) (x : X) → i < length xs → x ≡ get_or xs i x → map f (take (i + 1) xs) ≡ map f (take i xs) ++ f x ∷ []
+front_more f xs i x low is = map_more f xs i x low ∙ ap (λ y. map f (take i xs) ++ f y ∷ []) (sym is)
+
+-- the number of the next file goes behind those so far
+pub number_more : {X Y : Type 0} (f : X → ℕ) (g : Y → ℕ) (xs : List X) (x : X) (ys : List Y) (i : ℕ) (d : Y) → i < length ys → f x ≡ g (get_or ys i d) → map f xs ++ map g (drop i ys) ≡ map g ys → map f (xs ++ x ∷ []) ++ map g (drop (i + 1) ys) ≡ map g ys
+number_more f g xs x ys i d low same before =
+    let y = get_or ys i d in
+    let left : map g (drop i ys) ≡ g y ∷ map g (drop (i + 1) ys) = ap (map g) (next_at ys i d low) in
+    ap (λ l. l ++ map g (drop (i + 1) ys)) (map_push f xs x ∙ ap (λ n. map f xs ++ n ∷ []) same)
+    ∙ append_assoc (map f xs) (g y ∷ []) (map g (drop (i + 1) ys)) ∙ ap (λ l. map f xs ++ l) (sym left) ∙ before
+
+-- all numbers stand where no file is left
+pub numbers_all : {X Y : Type 0} (f : X → ℕ) (g : Y → ℕ) (xs : List X) (ys : List Y) (i : ℕ) → length ys ≤ i → map f xs ++ map g (drop i ys) ≡ map g ys → map f xs ≡ map g ys
+numbers_all f g xs ys i past before = sym (ap (λ l. map f xs ++ map g l) (none_left ys i past) ∙ append-nil (map f xs)) ∙ before
+
+-- a map over a map
+pub map_of_map : {X Y Z : Type 0} (f : Y → Z) (g : X → Y) (xs : List X) → map f (map g xs) ≡ map (λ x. f (g x)) xs
+map_of_map f g [] = refl
+map_of_map f g (x ∷ xs) = ap (λ l. f (g x) ∷ l) (map_of_map f g xs)

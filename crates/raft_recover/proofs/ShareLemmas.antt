@@ -1,5 +1,5 @@
 -- Parts that are read alike, and segments as the parts in them.
-use Rattle.std.proofs.Common.{◌≡◌, ◌↔◌, ℕ, ◌+◌, ◌<◌, List, [], ◌∷◌, ◌++◌, Vec, length, get_or, drop, sym, refl, ap, ◌∙◌, subst, arith, append_assoc, append-nil}
+use Rattle.std.proofs.Common.{◌≡◌, ◌↔◌, ℕ, ◌+◌, ◌<◌, List, [], ◌∷◌, ◌++◌, Vec, length, get_or, drop, sym, ap, ◌∙◌, subst, arith, append_assoc, append-nil}
 use Rattle.std.specs.Global.{Global}
 use Rattle.std.specs.List.{AllByRecursion, All}
 use Rattle.std.proofs.lemmas.List.Elements.{All-from_recursion, recursion_from_All}
@@ -7,7 +7,8 @@ use Rattle.raft_base.specs.declared.pipe_log.FileId.{FileId}
 use Rattle.raft_base.specs.declared.pipe_log.LogQueue.{LogQueue}
 use Rattle.raft_records.specs.FilePart.{Part}
 use Rattle.raft_history.specs.Batches.{Event}
-use Rattle.raft_replay.specs.Segments.{ReadsPart, ReadsParts, ReadsSegments, AreCutFrom, PartsAreOf, SegmentsAreOf}
+use Rattle.raft_replay.specs.Segments.{SegmentsHold, AreCutFrom, SegmentsAreOf}
+use Rattle.raft_replay.proofs.Words.{PartHolds, PartsHold, PartsAreOf}
 use Rattle.raft_replay.proofs.CutPartLemmas.{uncut}
 use Rattle.raft_replay.proofs.MachineOrderLemmas.{each_join, each_cut}
 use Rattle.raft_replay.proofs.SegmentLemmas.{left_from}
@@ -50,7 +51,7 @@ rests queue xs ys p = All-from_recursion (IsOf queue) ys (rest_of queue xs ys (r
 
 pub alike_same : (xs ys : List Part) → xs ≡ ys → AreAlike xs ys
 alike_same xs ys same = record {
-  read = λ h. (subst (λ (l : List Part). ReadsParts l h) same, subst (λ (l : List Part). ReadsParts l h) (sym same));
+  read = λ h. (subst (λ (l : List Part). PartsHold l h) same, subst (λ (l : List Part). PartsHold l h) (sym same));
   of_queue = λ queue. (subst (PartsAreOf queue) same, subst (PartsAreOf queue) (sym same));
 }
 
@@ -60,15 +61,15 @@ alike_then xs ys zs p q = record {
   of_queue = λ queue. (λ r. (q.of_queue queue).0 ((p.of_queue queue).0 r), λ r. (p.of_queue queue).1 ((q.of_queue queue).1 r));
 }
 
-read_behind : (xs ys zs : List Part) → ((h : List Event) → ReadsParts xs h → ReadsParts ys h) → (h : List Event) → ReadsParts (xs ++ zs) h → ReadsParts (ys ++ zs) h
+read_behind : (xs ys zs : List Part) → ((h : List Event) → PartsHold xs h → PartsHold ys h) → (h : List Event) → PartsHold (xs ++ zs) h → PartsHold (ys ++ zs) h
 read_behind xs ys zs same h reads =
-    let r = each_cut ReadsPart xs zs h reads in
-    subst (ReadsParts (ys ++ zs)) (sym r.split) (each_join ReadsPart ys zs r.first r.rest (same r.first r.first_reads) r.rest_reads)
+    let r = each_cut PartHolds xs zs h reads in
+    subst (PartsHold (ys ++ zs)) (sym r.split) (each_join PartHolds ys zs r.first r.rest (same r.first r.first_reads) r.rest_reads)
 
-read_before : (xs ys zs : List Part) → ((h : List Event) → ReadsParts xs h → ReadsParts ys h) → (h : List Event) → ReadsParts (zs ++ xs) h → ReadsParts (zs ++ ys) h
+read_before : (xs ys zs : List Part) → ((h : List Event) → PartsHold xs h → PartsHold ys h) → (h : List Event) → PartsHold (zs ++ xs) h → PartsHold (zs ++ ys) h
 read_before xs ys zs same h reads =
-    let r = each_cut ReadsPart zs xs h reads in
-    subst (ReadsParts (zs ++ ys)) (sym r.split) (each_join ReadsPart zs ys r.first r.rest r.first_reads (same r.rest r.rest_reads))
+    let r = each_cut PartHolds zs xs h reads in
+    subst (PartsHold (zs ++ ys)) (sym r.split) (each_join PartHolds zs ys r.first r.rest r.first_reads (same r.rest r.rest_reads))
 
 -- with the same parts behind them
 pub alike_behind : (xs ys zs : List Part) → AreAlike xs ys → AreAlike (xs ++ zs) (ys ++ zs)
@@ -138,15 +139,15 @@ pub within_push : (segments : List (Vec Part Global)) (segment : Vec Part Global
 within_push [] segment = append-nil segment.items
 within_push (s ∷ ss) segment = ap (λ (l : List Part). s.items ++ l) (within_push ss segment) ∙ sym (append_assoc s.items (parts_within ss) segment.items)
 
-pub read_within : (segments : List (Vec Part Global)) (h : List Event) → ReadsSegments segments h → ReadsParts (parts_within segments) h
+pub read_within : (segments : List (Vec Part Global)) (h : List Event) → SegmentsHold segments h → PartsHold (parts_within segments) h
 read_within [] h r = r
 read_within (s ∷ ss) h r =
-    subst (ReadsParts (s.items ++ parts_within ss)) (sym r.split) (each_join ReadsPart s.items (parts_within ss) r.first r.rest r.first_reads (read_within ss r.rest r.rest_reads))
+    subst (PartsHold (s.items ++ parts_within ss)) (sym r.split) (each_join PartHolds s.items (parts_within ss) r.first r.rest r.first_reads (read_within ss r.rest r.rest_reads))
 
-pub within_read : (segments : List (Vec Part Global)) (h : List Event) → ReadsParts (parts_within segments) h → ReadsSegments segments h
+pub within_read : (segments : List (Vec Part Global)) (h : List Event) → PartsHold (parts_within segments) h → SegmentsHold segments h
 within_read [] h r = r
 within_read (s ∷ ss) h r =
-    let c = each_cut ReadsPart s.items (parts_within ss) h r in
+    let c = each_cut PartHolds s.items (parts_within ss) h r in
     record {
       first = c.first;
       rest = c.rest;
@@ -174,10 +175,10 @@ within_of queue segments p = All-from_recursion (λ s. PartsAreOf queue s.items)
 
 -- shares of the parts that segments were cut into
 module _ (segments shares : List (Vec Part Global)) (parts : List Part) (alike : AreAlike (parts_within segments) parts) (same : parts_within shares ≡ parts) where
-  pub shares_read : (h : List Event) → ReadsSegments segments h ↔ ReadsSegments shares h
+  pub shares_read : (h : List Event) → SegmentsHold segments h ↔ SegmentsHold shares h
   shares_read h = (
-    λ r. within_read shares h (subst (λ (l : List Part). ReadsParts l h) (sym same) ((alike.read h).0 (read_within segments h r))),
-    λ r. within_read segments h ((alike.read h).1 (subst (λ (l : List Part). ReadsParts l h) same (read_within shares h r))),
+    λ r. within_read shares h (subst (λ (l : List Part). PartsHold l h) (sym same) ((alike.read h).0 (read_within segments h r))),
+    λ r. within_read segments h ((alike.read h).1 (subst (λ (l : List Part). PartsHold l h) same (read_within shares h r))),
   )
 
   pub shares_of_queue : (queue : LogQueue) → SegmentsAreOf queue segments ↔ SegmentsAreOf queue shares

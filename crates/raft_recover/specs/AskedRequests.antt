@@ -1,14 +1,19 @@
 -- What the program's requests ask for, and the bytes of files, as plain values.
-use Rattle.std.specs.Prelude.{ℕ, List, map, string_bytes, Vec}
+use Rattle.std.specs.Prelude.{ℕ, List, map, Vec}
+use Rattle.std.specs.Borrow.{Bor}
 use Rattle.std.specs.Global.{Global}
 use Rattle.raft_recover.specs.declared.request.RecoverWords.{RecoverWords}
 use Rattle.raft_recover.specs.declared.request.Request.{Request}
 use Rattle.raft_recover.specs.declared.request.Request.TheVariants.{Batch, Recover}
 use Rattle.raft_recover.specs.Requests as requests
 
--- a recovery by the words of its files
+-- a file by its number and its path
+abbrev pub path_shown : ℕ × Bor (List ℕ) → requests.NamedFile
+path_shown file = (file.0, file.1.now)
+
+-- the recovery that words ask for
 abbrev pub asks_for : RecoverWords → requests.AskedRecovery
-asks_for r = record { queue = r.queue; version = r.version; workers = r.workers; files = map string_bytes r.files.now }
+asks_for r = record { queue = r.queue; version = r.version; workers = r.workers; files = map path_shown r.files.items }
 
 -- the words ask for it
 abbrev pub IsAsked : List (List ℕ) → Request → Type 0

@@ -1,14 +1,16 @@
--- What is promised of recovery. For every list of segments of one queue, on 1 to 256 workers and whatever their turns, `recover` gives the tables, places, key values, least files, cleaned regions and live counts of reading all batches in order, or refuses exactly where that reading refuses.
+-- What is promised of recovery: for every list of segments of one queue, for 1 to 256 workers and whatever their turns, `recover` gives
+-- the tables, places, key values, cleaned regions and live counts of reading all batches in order, and it returns an error exactly where
+-- that reading does; of histories that are small and whose effects are apart. The least files follow from the tables.
 use Rattle.std.specs.Prelude.{List}
 use Rattle.raft_base.specs.declared.pipe_log.LogQueue.{LogQueue}
 use Rattle.raft_history.specs.Batches.{Event}
 use Rattle.raft_history.specs.Histories.{IsSmall, IsSoundIn, Apart, IsOneReading}
 use Rattle.raft_accessor.specs.Accessor.{Accessor, AreCountsOf}
 
--- what recovery gives of the batches that are read: the live counts are those of the tables; where the batches name fewer than 2^63 records, they are a history of the queue that can be read, and, where groups keep apart, tables and cleaned regions are those of one reading of it
-pub record IsRecovered (queue : LogQueue) (Reads : List Event → Type 0) (accessor : Accessor) : Type 0 where
+-- what recovery gives of the batches that are read: the live counts are those of the tables; where the batches name fewer than 2^63 records, they are a history of the queue that can be read, and, where effects are apart, tables and cleaned regions are those of one reading of it
+pub record IsRecovered (queue : LogQueue) (IsHistory : List Event → Type 0) (accessor : Accessor) : Type 0 where
   pub history : List Event
-  pub reads : Reads history
+  pub reads : IsHistory history
   pub sound : IsSmall history → IsSoundIn queue history
   pub one_reading : IsSmall history → Apart history → IsOneReading queue history accessor.tables accessor.cleaned
   pub exact_counts : AreCountsOf accessor.tables accessor.counts

@@ -1,6 +1,5 @@
 -- What the words of a command line ask for, and the words that name refusals.
-use Rattle.std.specs.Prelude.{◌≡◌, ℕ, ◌^◌, ◌<◌, List, [], ◌∷◌, ◌++◌, codes}
-use Rattle.std.specs.List.{AllByRecursion}
+use Rattle.std.specs.Prelude.{◌≡◌, ℕ, ◌^◌, ◌<◌, List, [], ◌∷◌, ◌++◌, map, codes}
 use Rattle.std.specs.Str.Parse.{IsNumeral, digits_value}
 use Rattle.raft_base.specs.declared.errors.Error.{Error}
 use Rattle.raft_base.specs.declared.errors.Error.TheVariants as errors
@@ -52,46 +51,49 @@ pub record IsPathWord (word : List ℕ) : Type 0 where
   pub path : List ℕ
   pub named : NamesPath word seq path
 
+-- a file as a word names it: its number and its path
+abbrev pub NamedFile : Type 0
+NamedFile = ℕ × List ℕ
+
+-- each word names its file, in order
+abbrev pub AreNamed : List (List ℕ) → List NamedFile → Type 0
+AreNamed [] [] = Unit {0}
+AreNamed [] (file ∷ files) = ⊥
+AreNamed (word ∷ words) [] = ⊥
+AreNamed (word ∷ words) (file ∷ files) = NamesPath word file.0 file.1 × AreNamed words files
+
 -- a file as it is handed on: its number and its bytes
 abbrev pub File : Type 0
 File = ℕ × List ℕ
 
--- the word names the file by its number and some path
-pub record IsFileOfWord (word : List ℕ) (file : File) : Type 0 where
-  pub path : List ℕ
-  pub named : NamesPath word file.0 path
+-- a file for each that is named, under its number, in order, whatever its bytes
+abbrev pub AreFilesOf : List NamedFile → List File → Type 0
+AreFilesOf named files = map (λ (file : File). file.0) files ≡ map (λ (file : NamedFile). file.0) named
 
--- a file for each word, in order, whatever its bytes
-abbrev pub AreRead : List (List ℕ) → List File → Type 0
-AreRead [] [] = Unit {0}
-AreRead [] (file ∷ files) = ⊥
-AreRead (word ∷ words) [] = ⊥
-AreRead (word ∷ words) (file ∷ files) = IsFileOfWord word file × AreRead words files
+-- why files are not read: a reading failed, or want of memory
+abbrev pub IsFilesFault : Error → Type 0
+IsFilesFault (errors.Io e) = Unit {0}
+IsFilesFault errors.Memory = Unit {0}
+IsFilesFault _ = ⊥
 
--- why files are not read: some word names none, a reading failed, or want of memory
-abbrev pub IsFilesFault : List (List ℕ) → Error → Type 0
-IsFilesFault words (errors.InvalidArgument text) = AllByRecursion IsPathWord words → ⊥
-IsFilesFault words (errors.Io e) = Unit {0}
-IsFilesFault words errors.Memory = Unit {0}
-IsFilesFault words _ = ⊥
-
--- a queue, the version of its files, a number of workers, and a word for each file
+-- a queue, the version of its files, a number of workers, and the files
 pub record AskedRecovery : Type 0 where
   pub queue : LogQueue
   pub version : Version
   pub workers : ℕ
-  pub files : List (List ℕ)
+  pub files : List NamedFile
 
--- `recover` and a recovery
+-- `recover` and a recovery, with a word for each file
 pub record AsksRecovery (words : List (List ℕ)) (recovery : AskedRecovery) : Type 0 where
   pub queue : List ℕ
   pub version : List ℕ
   pub workers : List ℕ
-  pub form : words ≡ codes "recover" ∷ queue ∷ version ∷ workers ∷ recovery.files
+  pub files : List (List ℕ)
+  pub form : words ≡ codes "recover" ∷ queue ∷ version ∷ workers ∷ files
   pub queue_named : queue ≡ queue_word recovery.queue
   pub version_named : version ≡ version_word recovery.version
   pub workers_named : IsNumberWord workers recovery.workers
-  pub files_named : AllByRecursion IsPathWord recovery.files
+  pub files_named : AreNamed files recovery.files
 
 -- neither a batch nor a recovery is asked for
 pub record AsksNothing (words : List (List ℕ)) : Type 0 where

@@ -1,10 +1,10 @@
 -- Segments as shares: what is the same of parts, read in order.
-use Rattle.std.specs.Prelude.{◌↔◌, List, [], ◌∷◌, ◌++◌, Vec}
+use Rattle.std.specs.Prelude.{◌≡◌, ◌↔◌, List, [], ◌∷◌, ◌++◌, All, Vec}
 use Rattle.std.specs.Global.{Global}
 use Rattle.raft_base.specs.declared.pipe_log.LogQueue.{LogQueue}
 use Rattle.raft_records.specs.FilePart.{Part}
 use Rattle.raft_history.specs.Batches.{Event}
-use Rattle.raft_replay.specs.Segments.{ReadsParts, PartsAreOf}
+use Rattle.raft_replay.specs.Segments.{HoldsFrom, EachHolds}
 
 -- the parts of all segments, in order
 abbrev pub parts_within : List (Vec Part Global) → List Part
@@ -13,5 +13,7 @@ parts_within (segment ∷ segments) = segment.items ++ parts_within segments
 
 -- the same is read of these parts and of those, and they are of the same queues
 pub record AreAlike (these those : List Part) : Type 0 where
-  pub read : (h : List Event) → ReadsParts these h ↔ ReadsParts those h
-  pub of_queue : (queue : LogQueue) → PartsAreOf queue these ↔ PartsAreOf queue those
+  pub read : (h : List Event)
+      → EachHolds (λ part. HoldsFrom part 0) these h ↔ EachHolds (λ part. HoldsFrom part 0) those h
+  pub of_queue : (queue : LogQueue)
+      → All (λ part. part.id.queue ≡ queue) these ↔ All (λ part. part.id.queue ≡ queue) those

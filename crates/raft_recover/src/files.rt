@@ -2,8 +2,8 @@
 
 ghost use Rattle.std.specs.Prelude.{◌≡◌, ◌↔◌, ◌^◌, ◌<◌, List, IfOk, IfErr, length, map};
 ghost use Rattle.raft_history.specs.Batches.{Event};
-ghost use Rattle.raft_replay.specs.Segments.{ReadsSegments, SegmentsAreOf};
-ghost use Rattle.raft_recover.specs.Files.{ReadsFiles};
+ghost use Rattle.raft_replay.specs.Segments.{SegmentsHold, SegmentsAreOf};
+ghost use Rattle.raft_recover.specs.Files.{FilesHold};
 ghost use Rattle.raft_recover.specs.AskedRequests.{file_shown};
 
 use raft_base::{Error, FileId, FileSeq, LogQueue, Result, Version};
@@ -21,7 +21,7 @@ pub fn file_segments(
     files: Vec<(FileSeq, Vec<u8>)>,
 ) -> Result<Vec<Segment>>
     ensures read { IfOk result (λ segments. (h : List Event) →
-        ReadsFiles queue version (map file_shown files.items) h ↔ ReadsSegments segments.items h) }
+        FilesHold queue version (map file_shown files.items) h ↔ SegmentsHold segments.items h) }
     ensures of_queue { IfOk result (λ segments. SegmentsAreOf queue segments.items) }
     ensures count { IfOk result (λ segments. length segments.items ≡ length files.items) }
     ensures memory { IfErr result (λ e. e ≡ Error.Memory) }

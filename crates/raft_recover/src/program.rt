@@ -53,8 +53,10 @@ pub fn run<S: Files + AllocGlobal + Threads + Sync, R: Read, W: Write, E: Write>
     ensures untouched { result ≡ 2 → Keeps (W.contents out.old) (W.contents out.new) }
     ensures quiet { result ≡ 0 → Keeps (E.contents err.old) (E.contents err.new) }
 {
-    let Some(request) = Request::parse(words) else {
-        return misused(err);
+    let request = match Request::parse(rt.alloc(), words) {
+        Ok(Some(request)) => request,
+        Ok(None) => return misused(err),
+        Err(memory) => return refused(refusal(&memory), err),
     };
     match answer(rt, request, input, out) {
         Ok(()) => Status::Done as u8,
@@ -135,7 +137,7 @@ fn print_files<S: Files + AllocGlobal + Threads + Sync, W: Write>(
         IfErr result (λ _. Keeps (W.contents out.old) (W.contents out.new)
         ⊎ IsRecoveryFrontPrinted words (W.contents out.old) (W.contents out.new)) }
 {
-    let files = read_files(rt, recovery.files)?;
+    let files = read_files(rt, recovery.files.as_slice())?;
     recover_bytes(
         rt,
         rt.alloc(),

@@ -15,15 +15,21 @@ use std::alloc::{AllocError, Global};
 use std::io::Write;
 
 /// Prints the tables of all regions, a line for each by rising region, then the cleaned regions and the numbers of live
-/// records. Where memory is short nothing is written. A failure of the writer is `Io`; a front of the lines may stand
-/// then, and not all of them.
+/// records.
+///
+/// # Errors
+///
+/// `Memory`, with nothing written, and `Io` where the writer fails: a front of the lines may stand then, and not all of
+/// them.
 pub fn print_recovered<W: Write>(
     alloc: Global,
     accessor: &MemTableAccessor,
     writer: &mut W,
 ) -> Result<()>
-    ensures ok { OnOk result (PrintsTables accessor.now (W.contents writer.old) (W.contents writer.new)) }
-    ensures silent { IfErr result (λ e. (IsIoError e → ⊥) → Keeps (W.contents writer.old) (W.contents writer.new)) }
+    ensures ok { OnOk result (PrintsTables accessor.now (W.contents writer.old)
+        (W.contents writer.new)) }
+    ensures silent { IfErr result (λ e. (IsIoError e → ⊥) →
+        Keeps (W.contents writer.old) (W.contents writer.new)) }
     ensures cut_short { IfErr result (λ e. IsIoError e →
         PrintsFrontOfTables accessor.now (W.contents writer.old) (W.contents writer.new)) }
     ensures fault { IfErr result (λ e. (IsIoError e → ⊥) → e ≡ Error.Memory) }
@@ -33,7 +39,11 @@ pub fn print_recovered<W: Write>(
     Ok(())
 }
 
-/// The text of the tables of all regions.
+/// The text of the tables of all regions: the lines of [`print_recovered`].
+///
+/// # Errors
+///
+/// `Memory`.
 pub fn recovered_text(alloc: Global, accessor: &MemTableAccessor) -> Result<String>
     ensures ok { IfOk result (λ text. IsTextOfTables accessor.now (string_bytes text)) }
     ensures memory { IfErr result (λ e. e ≡ Error.Memory) }
@@ -85,7 +95,8 @@ fn append_table(table: &MemTable, text: &mut String) -> std::result::Result<(), 
 
 /// Appends the first index of a table and the one behind the last, `-` where it has no entries.
 fn append_range(table: &MemTable, text: &mut String) -> std::result::Result<(), AllocError>
-    ensures { OnOk result (string_bytes text.new ≡ string_bytes text.old ++ range_text table.now.entries) }
+    ensures { OnOk result (string_bytes text.new ≡ string_bytes text.old ++ range_text
+        table.now.entries) }
 {
     table.holds_one_run();
     let (Some(first), Some(last)) = (table.first_index(), table.last_index()) else {
@@ -107,7 +118,8 @@ fn append_file(seq: Option<FileSeq>, text: &mut String) -> std::result::Result<(
 
 /// Appends the line of the cleaned regions.
 fn append_cleaned(regions: &[u64], text: &mut String) -> std::result::Result<(), AllocError>
-    ensures { OnOk result (string_bytes text.new ≡ string_bytes text.old ++ cleaned_line regions.now) }
+    ensures { OnOk result (string_bytes text.new ≡ string_bytes text.old ++ cleaned_line
+        regions.now) }
 {
     text.push_str("cleaned")?;
     if regions.is_empty() {

@@ -14,8 +14,8 @@ ghost use Rattle.std.specs.Prelude.{
   map,
 };
 ghost use Rattle.std.specs.Io.KnownBytes.{Keeps};
-ghost use Rattle.raft_table.specs.Start.{IsInvalidArgument};
-ghost use Rattle.raft_replay.specs.Segments.{ReadsSegments, CannotBeRead, SegmentsAreOf};
+ghost use Rattle.raft_base.specs.Errors.{IsInvalidArgument};
+ghost use Rattle.raft_replay.specs.Segments.{SegmentsHold, CannotBeRead, SegmentsAreOf};
 ghost use Rattle.raft_recover.specs.Files.{FilesCannotBeRead, IsPrintFailure, PrintsRecovered};
 ghost use Rattle.raft_recover.specs.Recovery.{IsRecovered};
 ghost use Rattle.raft_recover.specs.AskedRequests.{file_shown};
@@ -34,7 +34,7 @@ use std::thread::Threads;
 /// Segments must be fewer: workers draw their numbers from tickets, which are as many.
 const SEGMENT_LIMIT: usize = 1 << 62;
 
-/// How many bytes a worker gets at least, if there are as many: below that a further piece costs more than its worker saves.
+/// About how many bytes a share has at least: for fewer a further piece costs more than its worker saves.
 const LEAST_SHARE: usize = 1 << 20;
 
 /// The tables of all regions, their cleaned regions and live counts: those of reading the batches of all segments, of
@@ -58,8 +58,9 @@ pub fn recover<R: Threads + Sync>(
     queue: LogQueue,
     workers: usize,
 ) -> Result<MemTableAccessor>
-    ensures ok { IfOk result (IsRecovered queue (ReadsSegments segments.entry.now)) }
-    ensures accepted { OnOk result ((0 < workers) × (workers ≤ 256) × SegmentsAreOf queue segments.entry.now) }
+    ensures ok { IfOk result (IsRecovered queue (SegmentsHold segments.entry.now)) }
+    ensures accepted { OnOk result ((0 < workers) × (workers ≤ 256) ×
+        SegmentsAreOf queue segments.entry.now) }
     ensures refused { (0 < workers) × (workers ≤ 256) × (length segments.entry.now < 2 ^ 62)
         × SegmentsAreOf queue segments.entry.now
         → IfErr result (λ e. e ≢ Error.Memory → CannotBeRead segments.entry.now) }
@@ -74,7 +75,12 @@ pub fn recover<R: Threads + Sync>(
     recover_segments(rt, alloc, shares.as_slice(), queue, workers)
 }
 
-/// The same, but the segments are read as they are: each worker takes the next one that is left.
+/// The tables as [`recover`] gives them, but the segments are read as they are: each worker takes the next one that is
+/// left.
+///
+/// # Errors
+///
+/// Those of [`recover`].
 pub fn recover_segments<R: Threads + Sync>(
     rt: &R,
     alloc: Global,
@@ -82,8 +88,9 @@ pub fn recover_segments<R: Threads + Sync>(
     queue: LogQueue,
     workers: usize,
 ) -> Result<MemTableAccessor>
-    ensures ok { IfOk result (IsRecovered queue (ReadsSegments segments.entry.now)) }
-    ensures accepted { OnOk result ((0 < workers) × (workers ≤ 256) × SegmentsAreOf queue segments.entry.now) }
+    ensures ok { IfOk result (IsRecovered queue (SegmentsHold segments.entry.now)) }
+    ensures accepted { OnOk result ((0 < workers) × (workers ≤ 256) ×
+        SegmentsAreOf queue segments.entry.now) }
     ensures refused { (0 < workers) × (workers ≤ 256) × (length segments.entry.now < 2 ^ 62)
         × SegmentsAreOf queue segments.entry.now
         → IfErr result (λ e. e ≢ Error.Memory → CannotBeRead segments.entry.now) }

@@ -1,18 +1,20 @@
 //! What the words of a command line ask for.
 
-ghost use Rattle.std.specs.Prelude.{◌≡◌, ℕ, List, [], ◌∷◌, IfOk, IfErr, IfSome, IfNone, MatchBool, map, string_bytes};
+ghost use Rattle.std.specs.Prelude.{◌≡◌, ℕ, List, [], ◌∷◌, ◌++◌, IfOk, IfErr, IfSome, IfNone, map, string_bytes};
 ghost use Rattle.std.specs.List.{AllByRecursion};
 ghost use Rattle.raft_base.specs.declared.pipe_log.LogFileContext.{LogFileContext};
 ghost use Rattle.raft_base.specs.declared.pipe_log.LogQueue.{LogQueue};
 ghost use Rattle.raft_base.specs.declared.pipe_log.Version.{Version};
-ghost use Rattle.raft_recover.specs.Requests.{queue_word, version_word, IsNumberWord, NamesFile, NamesPath, IsPathWord, IsFileOfWord, AreRead, IsFilesFault, AskedRecovery, AsksBatch, AsksRecovery, AsksNothing};
-ghost use Rattle.raft_recover.specs.AskedRequests.{IsAsked, asks_for, file_shown};
+ghost use Rattle.raft_recover.specs.Requests.{queue_word, version_word, IsNumberWord, NamesFile, NamesPath, IsPathWord, AreNamed, AreFilesOf, IsFilesFault, AskedRecovery, AsksBatch, AsksRecovery, AsksNothing};
+ghost use Rattle.raft_recover.specs.AskedRequests.{IsAsked, asks_for, path_shown, file_shown};
 
 use raft_base::{Error, FileId, FileSeq, LogFileContext, LogQueue, Result, Version};
+use std::alloc::Global;
 use std::fs;
 use std::rt::Files;
 
 /// What the words of a command line ask for.
+#[derive(Drop)]
 pub enum Request<'a> {
     /// The lines of the item batch in the input, which is of this file.
     Batch(LogFileContext),
@@ -20,25 +22,34 @@ pub enum Request<'a> {
     Recover(RecoverWords<'a>),
 }
 
-/// The words that ask for the tables of files of a queue.
-#[derive(Clone, Copy)]
+/// What the words say that ask for the tables of files of a queue.
+#[derive(Drop)]
 pub struct RecoverWords<'a> {
     pub queue: LogQueue,
     pub version: Version,
     pub workers: usize,
-    /// A word for each file: its number, `=` and its path.
-    pub files: &'a [String],
+    /// The number and the path of each file.
+    pub files: Vec<(FileSeq, &'a str)>,
 }
 
 impl<'a> Request<'a> {
     /// What the words ask for, if it is something that the program does.
-    pub fn parse(words: &'a [String]) -> Option<Request<'a>>
-        ensures asked { IfSome result (IsAsked (map string_bytes words.now)) }
-        ensures refused { IfNone result (AsksNothing (map string_bytes words.now)) }
+    ///
+    /// # Errors
+    ///
+    /// `Memory`, and only where they ask for something.
+    pub fn parse(alloc: Global, words: &'a [String]) -> Result<Option<Request<'a>>>
+        ensures asked { IfOk result (λ r. IfSome r (IsAsked (map string_bytes words.now))) }
+        ensures refused { IfOk result (λ r. IfNone r (AsksNothing (map string_bytes words.now))) }
+        ensures memory { IfErr result (λ e. (e ≡ Error.Memory) ×
+            (AsksNothing (map string_bytes words.now) → ⊥)) }
     {
-        match batch_request(words) {
-            Some(context) => Some(Request::Batch(context)),
-            None => Some(Request::Recover(recovery_request(words)?)),
+        if let Some(context) = batch_request(words) {
+            return Ok(Some(Request::Batch(context)));
+        }
+        match recovery_request(alloc, words)? {
+            Some(recovery) => Ok(Some(Request::Recover(recovery))),
+            None => Ok(None),
         }
     }
 }
@@ -71,36 +82,82 @@ fn file_named(queue: &str, seq: &str, version: &str) -> Option<LogFileContext>
 }
 
 /// The files whose tables the words ask for.
-fn recovery_request(words: &[String]) -> Option<RecoverWords<'_>>
-    ensures asked { IfSome result (λ r. AsksRecovery (map string_bytes words.now) (asks_for r)) }
-    ensures refused { IfNone result ((recovery : AskedRecovery) → AsksRecovery (map string_bytes words.now) recovery
-        → ⊥) }
+///
+/// # Errors
+///
+/// `Memory`, and only where they ask for tables.
+fn recovery_request<'a>(alloc: Global, words: &'a [String]) -> Result<Option<RecoverWords<'a>>>
+    ensures asked { IfOk result (λ r. IfSome r (λ recovery.
+        AsksRecovery (map string_bytes words.now) (asks_for recovery))) }
+    ensures refused { IfOk result (λ r. IfNone r ((recovery : AskedRecovery) →
+        AsksRecovery (map string_bytes words.now) recovery → ⊥)) }
+    ensures memory { IfErr result (λ e. (e ≡ Error.Memory)
+        × (recovery : AskedRecovery) × AsksRecovery (map string_bytes words.now) recovery) }
 {
     let [command, queue, version, workers, files @ ..] = words else {
-        return None;
+        return Ok(None);
     };
-    if command.as_str() != "recover" || !name_paths(files) {
-        return None;
+    if command.as_str() != "recover" {
+        return Ok(None);
     }
-    Some(RecoverWords {
-        queue: queue_named(queue.as_str())?,
-        version: version_named(version.as_str())?,
-        workers: number_named(workers.as_str())? as usize,
+    let Some(queue) = queue_named(queue.as_str()) else {
+        return Ok(None);
+    };
+    let Some(version) = version_named(version.as_str()) else {
+        return Ok(None);
+    };
+    let Some(workers) = number_named(workers.as_str()) else {
+        return Ok(None);
+    };
+    let Some(files) = files_named(alloc, files)? else {
+        return Ok(None);
+    };
+    Ok(Some(RecoverWords {
+        queue,
+        version,
+        workers: workers as usize,
         files,
-    })
+    }))
 }
 
-/// Whether each word names a file by its number and its path.
-fn name_paths(words: &[String]) -> bool
-    ensures { MatchBool result (AllByRecursion IsPathWord (map string_bytes words.now))
-        (AllByRecursion IsPathWord (map string_bytes words.now) → ⊥) }
+/// The number and the path of the file that each word names, if each names one.
+///
+/// # Errors
+///
+/// `Memory`, and only where each names one.
+fn files_named<'a>(alloc: Global, words: &'a [String]) -> Result<Option<Vec<(FileSeq, &'a str)>>>
+    ensures named { IfOk result (λ r. IfSome r (λ files.
+        AreNamed (map string_bytes words.now) (map path_shown files.items))) }
+    ensures refused { IfOk result (λ r. IfNone r
+        (AllByRecursion IsPathWord (map string_bytes words.now) → ⊥)) }
+    ensures memory { IfErr result (λ e. (e ≡ Error.Memory)
+        × AllByRecursion IsPathWord (map string_bytes words.now)) }
 {
+    let mut files = Ok(Vec::new(alloc));
     for word in words {
-        if path_named(word.as_str()).is_none() {
-            return false;
-        }
+        let Some(file) = path_named(word.as_str()) else {
+            return Ok(None);
+        };
+        files = with_file(files, file);
     }
-    true
+    Ok(Some(files?))
+}
+
+/// The files so far and one more, if there was memory for those and is for this one.
+fn with_file<'a>(
+    files: Result<Vec<(FileSeq, &'a str)>>,
+    file: (FileSeq, &'a str),
+) -> Result<Vec<(FileSeq, &'a str)>>
+    ensures named { (words : List (List ℕ)) (word : List ℕ)
+        → IfOk files.entry (λ files. AreNamed words (map path_shown files.items))
+        → NamesPath word file.entry.0 file.entry.1.now
+        → IfOk result (λ files. AreNamed (words ++ word ∷ []) (map path_shown files.items)) }
+    ensures memory { IfErr files.entry (λ e. e ≡ Error.Memory) →
+        IfErr result (λ e. e ≡ Error.Memory) }
+{
+    let mut files = files?;
+    files.push(file)?;
+    Ok(files)
 }
 
 /// The number and the path of a file, on both sides of a word's first `=`.
@@ -112,34 +169,24 @@ pub fn path_named(word: &str) -> Option<(FileSeq, &str)>
     Some((number_named(seq)?, path))
 }
 
-/// Reads the files that words name, one behind the other.
+/// Reads files by their paths, one behind the other.
 ///
 /// # Errors
 ///
-/// `InvalidArgument` for a word that names no file, `Io` where a file can't be read, `Memory`.
+/// `Io` where a file can't be read, `Memory`.
 pub fn read_files<R: Files + AllocGlobal>(
     rt: &R,
-    words: &[String],
+    named: &[(FileSeq, &str)],
 ) -> Result<Vec<(FileSeq, Vec<u8>)>>
-    ensures ok { IfOk result (λ files. AreRead (map string_bytes words.now) (map file_shown files.items)) }
-    ensures fault { IfErr result (IsFilesFault (map string_bytes words.now)) }
+    ensures ok { IfOk result (λ files. AreFilesOf (map path_shown named.now)
+        (map file_shown files.items)) }
+    ensures fault { IfErr result IsFilesFault }
 {
-    let mut files = Vec::with_capacity(rt.alloc(), words.len())?;
-    for word in words {
-        files.push(read_file(rt, word.as_str())?)?;
+    let mut files = Vec::with_capacity(rt.alloc(), named.len())?;
+    for &(seq, path) in named {
+        files.push((seq, fs::read(rt, path)?))?;
     }
     Ok(files)
-}
-
-/// Reads the file that a word names.
-fn read_file<R: Files + AllocGlobal>(rt: &R, word: &str) -> Result<(FileSeq, Vec<u8>)>
-    ensures ok { IfOk result (λ file. IsFileOfWord word.now (file_shown file)) }
-    ensures fault { IfErr result (IsFilesFault (word.now ∷ [])) }
-{
-    let Some((seq, path)) = path_named(word) else {
-        return Err(Error::InvalidArgument(format!(in rt.alloc(); "no file is named: {word}")?));
-    };
-    Ok((seq, fs::read(rt, path)?))
 }
 
 /// The queue that a word names.

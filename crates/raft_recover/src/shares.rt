@@ -3,7 +3,7 @@
 ghost use Rattle.std.specs.Prelude.{◌≡◌, ◌↔◌, ◌<◌, ◌≤◌, ◌++◌, List, IfOk, IfErr, OnOk, length};
 ghost use Rattle.raft_base.specs.declared.pipe_log.LogQueue.{LogQueue};
 ghost use Rattle.raft_history.specs.Batches.{Event};
-ghost use Rattle.raft_replay.specs.Segments.{ReadsSegments, SegmentsAreOf};
+ghost use Rattle.raft_replay.specs.Segments.{SegmentsHold, SegmentsAreOf};
 ghost use Rattle.raft_recover.specs.Shares.{parts_within, AreAlike};
 
 use raft_base::{Error, Result};
@@ -30,7 +30,7 @@ pub fn equal_shares(
 ) -> Result<Vec<Segment>>
     requires { (0 < count) × (0 < least) }
     ensures read { IfOk result (λ shares. (h : List Event) →
-        ReadsSegments segments.entry.now h ↔ ReadsSegments shares.items h) }
+        SegmentsHold segments.entry.now h ↔ SegmentsHold shares.items h) }
     ensures of_queue { IfOk result (λ shares. (queue : LogQueue) →
         SegmentsAreOf queue segments.entry.now ↔ SegmentsAreOf queue shares.items) }
     ensures few { IfOk result (λ shares. length shares.items ≤ count) }
@@ -114,7 +114,8 @@ fn end_share(
     wanted: bool,
     count: usize,
 ) -> Result<()>
-    ensures same { OnOk result (parts_within shares.new.items ++ last.new.items ≡ parts_within shares.old.items ++ last.old.items) }
+    ensures same { OnOk result (parts_within shares.new.items ++ last.new.items ≡ parts_within
+        shares.old.items ++ last.old.items) }
     ensures few { length shares.old.items < count → OnOk result (length shares.new.items < count) }
     ensures memory { IfErr result (λ e. e ≡ Error.Memory) }
 {

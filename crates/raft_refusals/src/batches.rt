@@ -164,7 +164,7 @@ fn merge_open(batch: &mut LogBatch, behind: &mut LogBatch) -> Result<()> {
     batch.merge(behind)
 }
 
-/// The three markers of a group, each on a batch of its own.
+/// The three group markers of a group, each on a batch of its own.
 pub(crate) fn group(found: &mut Found) -> Result<()> {
     let mut builder = AtomicGroupBuilder::with_id(9);
     for _ in 0..3 {
@@ -176,7 +176,7 @@ pub(crate) fn group(found: &mut Found) -> Result<()> {
     Ok(())
 }
 
-/// Adds the next marker; where there is no memory batch and builder have to be as they were.
+/// Adds the next group marker; where there is no memory batch and builder have to be as they were.
 fn mark_again(
     found: &mut Found,
     builder: &mut AtomicGroupBuilder,
@@ -193,7 +193,7 @@ fn mark_again(
     found.again(answer)
 }
 
-/// Adds the marker that follows the builder's last one.
+/// Adds the group marker that follows the builder's last one.
 fn mark(builder: &mut AtomicGroupBuilder, batch: &mut LogBatch) -> Result<()> {
     if !batch.is_open() {
         return Err(Error::Failed);

@@ -1,7 +1,7 @@
 //! Contexts that read batches, are merged and put over one another.
 
 use crate::found::{Found, is_refused};
-use crate::histories::{APPENDED, Batch, REWRITTEN, histories, overlays, part_of, segments_of};
+use crate::histories::{APPENDED, Batch, REWRITTEN, batch_segments, histories, overlays, part_of};
 use crate::steps::Step;
 use crate::writes::print;
 use raft_memtable::{Error, FileId, LogItemBatch, LogQueue, MemTableRecoverContext, Result};
@@ -24,7 +24,7 @@ pub(crate) fn merge_many(found: &mut Found) -> Result<()> {
 }
 
 fn merge_row(found: &mut Found, queue: LogQueue, batches: &[Batch]) -> Result<()> {
-    let segments = segments_of(found.alloc, queue, batches)?;
+    let segments = batch_segments(found.alloc, queue, batches)?;
     let answer = merged(found, queue, segments.as_slice());
     print_context(found, answer)
 }
@@ -94,7 +94,7 @@ pub(crate) fn overlay(found: &mut Found) -> Result<()> {
 }
 
 fn overlay_row(found: &mut Found, rewritten: &[Batch], appended: &[Batch]) -> Result<()> {
-    let segments = segments_of(found.alloc, LogQueue::Rewrite, rewritten)?;
+    let segments = batch_segments(found.alloc, LogQueue::Rewrite, rewritten)?;
     let mut context = merged(found, LogQueue::Rewrite, segments.as_slice())?;
     let append = appended_context(found, appended)?;
     let answer = context.merge_append_context(append);
@@ -104,7 +104,7 @@ fn overlay_row(found: &mut Found, rewritten: &[Batch], appended: &[Batch]) -> Re
 }
 
 fn appended_context(found: &mut Found, batches: &[Batch]) -> Result<MemTableRecoverContext> {
-    let segments = segments_of(found.alloc, LogQueue::Append, batches)?;
+    let segments = batch_segments(found.alloc, LogQueue::Append, batches)?;
     merged(found, LogQueue::Append, segments.as_slice())
 }
 
@@ -117,7 +117,7 @@ pub(crate) fn kept(found: &mut Found) -> Result<()> {
         replay(found, &mut context, &part)?;
     }
     kept_again(found, &context)?;
-    let segments = segments_of(found.alloc, LogQueue::Rewrite, REWRITTEN.batches)?;
+    let segments = batch_segments(found.alloc, LogQueue::Rewrite, REWRITTEN.batches)?;
     let context = merged(found, LogQueue::Rewrite, segments.as_slice())?;
     kept_again(found, &context)
 }

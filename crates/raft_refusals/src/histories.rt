@@ -183,7 +183,7 @@ pub(crate) fn overlays() -> &'static [Overlay] {
 }
 
 /// The batches as segments of one part each.
-pub(crate) fn segments_of(
+pub(crate) fn batch_segments(
     alloc: Global,
     queue: LogQueue,
     batches: &[Batch],

@@ -1,7 +1,7 @@
 //! Recoveries of segments by several workers, of given draws, and of pieces.
 
 use crate::found::{Found, is_refused};
-use crate::histories::{APPENDED, History, REWRITTEN, segments_of};
+use crate::histories::{APPENDED, History, REWRITTEN, batch_segments};
 use crate::writes::print;
 use raft_memtable::{
     Error, LogQueue, MemTableAccessor, MemTableRecoverContext, MemTableRecoverContextFactory,
@@ -59,7 +59,7 @@ fn recover_again<R: Threads + Sync>(
     history: &History,
     how: How,
 ) -> Result<()> {
-    let segments = segments_of(found.alloc, history.queue, history.batches)?;
+    let segments = batch_segments(found.alloc, history.queue, history.batches)?;
     let before = number(segments.as_slice());
     let mut answer = tables_of(rt, found.alloc, segments.as_slice(), history.queue, how);
     if is_refused(&answer) {

@@ -53,7 +53,7 @@ pub(crate) enum Step {
     Put(u64, &'static [u8], &'static [u8]),
     PutLine(u64, &'static [u8], Line),
     Delete(u64, &'static [u8]),
-    /// A group's marker.
+    /// A group marker.
     Marker(u64, AtomicGroupStatus),
 }
 

@@ -8,10 +8,11 @@ use Rattle.raft_history.specs.Batches.{Event}
 use Rattle.raft_history.specs.Histories.{IsSmall, Sound}
 use Rattle.raft_history.proofs.StretchOfHistory.{small_front, small_back, sound_front, sound_back}
 use Rattle.raft_replay.specs.declared.piece.Piece.{Piece}
-use Rattle.raft_replay.specs.Covers.{IsPiece, covers, covering}
+use Rattle.raft_replay.specs.Covers.{IsPiece, covers, cover_count}
 use Rattle.raft_tickets.specs.Draws.{Draw, AreBelow, HasEnded}
 use Rattle.raft_replay.specs.Replays.{HasReplayed, CannotFollow}
-use Rattle.raft_replay.specs.Segments.{ReadsParts, ReadsSegments, CannotBeRead}
+use Rattle.raft_replay.specs.Segments.{SegmentsHold, CannotBeRead}
+use Rattle.raft_replay.proofs.Words.{PartsHold}
 use Rattle.raft_tickets.specs.Weights.{occurrences}
 use Rattle.raft_replay.proofs.MachineOrderLemmas.{each_join, each_cut, each_single}
 use Rattle.raft_replay.proofs.SegmentLemmas.{segments_unique}
@@ -36,7 +37,7 @@ pub covers_more : (from count x : ℕ) → covers from (count + 1) x ≡ covers 
 covers_more from count x = grind (arith, nat_tests)
 
 abbrev SegmentReads : Vec Part Global → List Event → Type 0
-SegmentReads segment h = ReadsParts segment.items h
+SegmentReads segment h = PartsHold segment.items h
 
 -- ---- one segment more
 
@@ -52,12 +53,12 @@ module _ {M : Type 0} (stands_for stands_exactly : M → List Event → Type 0) 
         take_more (drop from segments) count segment long
         ∙ ap (λ (s : Vec Part Global). take count (drop from segments) ++ s ∷ []) (get_or-drop from segments count segment ∙ sym is)
 
-    pub piece_more : (n : M) → HasReplayed (ReadsParts segment.items) stands_for stands_exactly m n → IsPiece stands_exactly segments from (count + 1) n
+    pub piece_more : (n : M) → HasReplayed (PartsHold segment.items) stands_for stands_exactly m n → IsPiece stands_exactly segments from (count + 1) n
     piece_more n more = record {
       inside = omega arith;
       history = piece.history ++ more.history;
       reads =
-          subst (λ (l : List (Vec Part Global)). ReadsSegments l (piece.history ++ more.history)) (sym one_longer)
+          subst (λ (l : List (Vec Part Global)). SegmentsHold l (piece.history ++ more.history)) (sym one_longer)
           (each_join SegmentReads (take count (drop from segments)) (segment ∷ []) piece.history more.history piece.reads
           (each_single SegmentReads segment more.history more.reads));
       exact = λ small. more.exact piece.history small (piece.exact (small_front piece.history more.history small));
@@ -71,11 +72,11 @@ module _ {M : Type 0} (stands_for stands_exactly : M → List Event → Type 0) 
         ∙ ap (λ (l : List (Vec Part Global)). take from segments ++ l)
         (sym (take-append-drop count (drop from segments)) ∙ ap (λ (l : List (Vec Part Global)). take count (drop from segments) ++ l) (drop-drop count from segments ∙ rest))
 
-    pub piece_refused : CannotFollow (ReadsParts segment.items) (stands_for m) → CannotBeRead segments
+    pub piece_refused : CannotFollow (PartsHold segment.items) (stands_for m) → CannotBeRead segments
     piece_refused cannot = record {
       unsound = λ h reads small sound.
           let front = each_cut SegmentReads (take from segments) (take count (drop from segments) ++ segment ∷ drop (from + count + 1) segments) h
-          (subst (λ (l : List (Vec Part Global)). ReadsSegments l h) around reads) in
+          (subst (λ (l : List (Vec Part Global)). SegmentsHold l h) around reads) in
           let few = small_back front.first front.rest (subst IsSmall front.split small) in
           let good = sound_back front.first front.rest (subst Sound front.split sound) in
           let mid = each_cut SegmentReads (take count (drop from segments)) (segment ∷ drop (from + count + 1) segments) front.rest front.rest_reads in
@@ -127,11 +128,11 @@ none_left total before after (inr ended) =
 
 -- a segment that was drawn is one more of a piece's
 pub cover_step : {M : Type 0} (x n : ℕ) (old mid new : List (Piece M)) (p q : Piece M) (before after : List ℕ)
-    → covering x mid + covers p.from p.count x ≡ covering x old → p.from + p.count ≡ n → q.from ≡ p.from → q.count ≡ p.count + 1 → new ≡ mid ++ q ∷ []
-    → after ≡ before ++ n ∷ [] → covering x old ≡ occurrences x before → covering x new ≡ occurrences x after
+    → cover_count x mid + covers p.from p.count x ≡ cover_count x old → p.from + p.count ≡ n → q.from ≡ p.from → q.count ≡ p.count + 1 → new ≡ mid ++ q ∷ []
+    → after ≡ before ++ n ∷ [] → cover_count x old ≡ occurrences x before → cover_count x new ≡ occurrences x after
 cover_step {M} x n old mid new p q before after kept next from count push drew covered =
     let a = weigh-append (λ (r : Piece M). covers r.from r.count x) mid (q ∷ []) in
-    let b : covering x new ≡ covering x (mid ++ q ∷ []) = ap (λ (l : List (Piece M)). covering x l) push in
+    let b : cover_count x new ≡ cover_count x (mid ++ q ∷ []) = ap (λ (l : List (Piece M)). cover_count x l) push in
     let d : covers q.from q.count x ≡ covers p.from (p.count + 1) x = λ i. covers (from i) (count i) x in
     let e = covers_more p.from p.count x in
     let f : once_at x (p.from + p.count) ≡ once_at x n = ap (once_at x) next in

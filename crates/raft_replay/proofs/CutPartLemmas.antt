@@ -4,13 +4,15 @@ use Rattle.std.proofs.lemmas.List.{drop-take, drop-drop, take-take, length-take-
 use Rattle.std.proofs.Math.Seq.{take-append-add}
 use Rattle.raft_base.specs.declared.pipe_log.FileBlockHandle.{FileBlockHandle}
 use Rattle.raft_base.specs.declared.compression_type.CompressionType.{CompressionType}
-use Rattle.raft_records.specs.FilePart.{Part, IsBatchAt, HasHeader, entries_place}
+use Rattle.raft_records.specs.FilePart.{Part, IsBatchAt, HasHeader}
+use Rattle.raft_records.proofs.Names.{entries_place}
 use Rattle.raft_records.specs.Item.{Item}
-use Rattle.raft_records.specs.ItemBatch.{placed}
+use Rattle.raft_records.specs.ItemBatch.{placed_item}
 use Rattle.raft_records.proofs.FrameLemmas.{header_one}
 use Rattle.raft_history.specs.Batches.{Event}
 use Rattle.raft_replay.specs.Cuts.{bytes_before, rest_of, BatchesMeet}
-use Rattle.raft_replay.specs.Segments.{IsReadBehind, ReadsFrom, ReadsPart, ReadsParts, AreCutFrom}
+use Rattle.raft_replay.specs.Segments.{AreHeldInTurn, HoldsFrom, AreCutFrom}
+use Rattle.raft_replay.proofs.Words.{PartHolds, PartsHold}
 use Rattle.raft_replay.proofs.MachineOrderLemmas.{each_join, each_cut, each_single}
 use Rattle.raft_replay.proofs.SegmentLemmas.{batch_inside}
 
@@ -92,7 +94,7 @@ in_rest part at j k items b = record {
   frame = b.frame;
   stands = drop-drop j at part.bytes ∙ b.stands ∙ ap (λ (t : List ℕ). b.bytes ++ t) (sym (drop-drop k at part.bytes));
   ends = let e = b.ends in omega arith;
-  places = b.places ∙ ap (λ (p : FileBlockHandle). map (placed p b.frame.compression) b.read) (sym (place_from part at j b.offset));
+  places = b.places ∙ ap (λ (p : FileBlockHandle). map (placed_item p b.frame.compression) b.read) (sym (place_from part at j b.offset));
 }
 
 of_rest : (part : Part) (at j k : ℕ) (items : List Item) → IsBatchAt (rest_of part at) j items k → IsBatchAt part (at + j) items (at + k)
@@ -103,7 +105,7 @@ of_rest part at j k items b = record {
   frame = b.frame;
   stands = sym (drop-drop j at part.bytes) ∙ b.stands ∙ ap (λ (t : List ℕ). b.bytes ++ t) (drop-drop k at part.bytes);
   ends = let e = b.ends in omega arith;
-  places = b.places ∙ ap (λ (p : FileBlockHandle). map (placed p b.frame.compression) b.read) (place_from part at j b.offset);
+  places = b.places ∙ ap (λ (p : FileBlockHandle). map (placed_item p b.frame.compression) b.read) (place_from part at j b.offset);
 }
 
 -- the batch that stands at a place is as long as the header there says
@@ -119,22 +121,22 @@ header_ends part i next offset len items h b =
 
 -- ---- what is read in front of a place and from there on
 
-rest_read : (part : Part) (at j : ℕ) (h : List Event) → at ≤ length part.bytes → ReadsFrom part (at + j) h → ReadsFrom (rest_of part at) j h
+rest_read : (part : Part) (at j : ℕ) (h : List Event) → at ≤ length part.bytes → HoldsFrom part (at + j) h → HoldsFrom (rest_of part at) j h
 rest_read part at j [] inside ends = let n = length-drop at part.bytes in omega (arith, n, inside)
 rest_read part at j (e ∷ h) inside reads =
     let b = reads.1.1 in
     let k : ℕ = j + length b.bytes in
     let next : reads.1.0 ≡ at + k = let ends = b.ends in omega arith in
-    (reads.0, (k, in_rest part at j k e.items (subst (λ (n : ℕ). IsBatchAt part (at + j) e.items n) next b), rest_read part at k h inside (subst (λ (n : ℕ). ReadsFrom part n h) next reads.1.2)))
+    (reads.0, (k, in_rest part at j k e.items (subst (λ (n : ℕ). IsBatchAt part (at + j) e.items n) next b), rest_read part at k h inside (subst (λ (n : ℕ). HoldsFrom part n h) next reads.1.2)))
 
-read_rest : (part : Part) (at j : ℕ) (h : List Event) → at ≤ length part.bytes → ReadsFrom (rest_of part at) j h → ReadsFrom part (at + j) h
+read_rest : (part : Part) (at j : ℕ) (h : List Event) → at ≤ length part.bytes → HoldsFrom (rest_of part at) j h → HoldsFrom part (at + j) h
 read_rest part at j [] inside ends = let n = length-drop at part.bytes in omega (arith, n, inside)
 read_rest part at j (e ∷ h) inside reads =
     (reads.0, (at + reads.1.0, of_rest part at j reads.1.0 e.items reads.1.1, read_rest part at reads.1.0 h inside reads.1.2))
 
 -- what is read in front of a place, and then from there on
-front_joined : (part : Part) (at i : ℕ) (h g : List Event) → at ≤ length part.bytes → ReadsFrom (bytes_before part at) i h → ReadsFrom part at g → ReadsFrom part i (h ++ g)
-front_joined part at i [] g inside ends reads = subst (λ (n : ℕ). ReadsFrom part n g) (sym (ends ∙ length-take-le at part.bytes inside)) reads
+front_joined : (part : Part) (at i : ℕ) (h g : List Event) → at ≤ length part.bytes → HoldsFrom (bytes_before part at) i h → HoldsFrom part at g → HoldsFrom part i (h ++ g)
+front_joined part at i [] g inside ends reads = subst (λ (n : ℕ). HoldsFrom part n g) (sym (ends ∙ length-take-le at part.bytes inside)) reads
 front_joined part at i (e ∷ h) g inside first reads =
     (first.0, (first.1.0, of_front part at i first.1.0 e.items first.1.1, front_joined part at first.1.0 h g inside first.1.2 reads))
 
@@ -146,49 +148,49 @@ meet_first part h reads = record { first = []; rest = h; first_reads = sym (leng
 
 -- one batch more is read in front of the next place
 module _ (part : Part) (i len : ℕ) (inside : i + len ≤ length part.bytes) where
-  grown : (first : List Event) (e : Event) → ReadsPart (bytes_before part i) first → e.file ≡ part.id → IsBatchAt part i e.items (i + len)
-      → ReadsPart (bytes_before part (i + len)) (first ++ e ∷ [])
+  grown : (first : List Event) (e : Event) → PartHolds (bytes_before part i) first → e.file ≡ part.id → IsBatchAt part i e.items (i + len)
+      → PartHolds (bytes_before part (i + len)) (first ++ e ∷ [])
   grown first e reads file b =
       let at = i + len in
       let few : i ≤ length (take at part.bytes) = let n = length-take-le at part.bytes inside in omega (arith, n) in
       let same = sym (take-take i at part.bytes (omega arith)) in
-      let old = subst (λ (xs : List ℕ). ReadsFrom (record part { bytes = xs }) 0 first) same reads in
+      let old = subst (λ (xs : List ℕ). HoldsFrom (record part { bytes = xs }) 0 first) same reads in
       front_joined (bytes_before part at) i 0 first (e ∷ []) few old
       (file, (at, in_front part at i at e.items (omega arith) b, sym (length-take-le at part.bytes inside)))
 
   pub meet_next : (offset : ℕ) → 0 < len → HasHeader (drop i part.bytes) offset len → BatchesMeet part i → BatchesMeet part (i + len)
   meet_next offset some header meet h reads = let r = meet h reads in behind r r.rest refl
     where
-      behind : (r : IsReadBehind (ReadsPart (bytes_before part i)) (ReadsFrom part i) h) (left : List Event) → r.rest ≡ left
-          → IsReadBehind (ReadsPart (bytes_before part (i + len))) (ReadsFrom part (i + len)) h
+      behind : (r : AreHeldInTurn (PartHolds (bytes_before part i)) (HoldsFrom part i) h) (left : List Event) → r.rest ≡ left
+          → AreHeldInTurn (PartHolds (bytes_before part (i + len))) (HoldsFrom part (i + len)) h
       behind r [] none =
-          let ends : i ≡ length part.bytes = subst (ReadsFrom part i) none r.rest_reads in
+          let ends : i ≡ length part.bytes = subst (HoldsFrom part i) none r.rest_reads in
           absurd (omega (arith, ends, inside, some))
       behind r (e ∷ g) is =
-          let left = subst (ReadsFrom part i) is r.rest_reads in
+          let left = subst (HoldsFrom part i) is r.rest_reads in
           let next = header_ends part i left.1.0 offset len e.items header left.1.1 in
           record {
             first = r.first ++ e ∷ [];
             rest = g;
             first_reads = grown r.first e r.first_reads left.0 (subst (λ (n : ℕ). IsBatchAt part i e.items n) next left.1.1);
-            rest_reads = subst (λ (n : ℕ). ReadsFrom part n g) next left.1.2;
+            rest_reads = subst (λ (n : ℕ). HoldsFrom part n g) next left.1.2;
             split = r.split ∙ ap (λ (t : List Event). r.first ++ t) is ∙ sym (append_assoc r.first (e ∷ []) g);
           }
 
 -- ---- parts in place of one
 
 -- one part alone
-one_part : (p : Part) (h : List Event) → ReadsParts (p ∷ []) h → ReadsPart p h
-one_part p h r = subst (ReadsPart p) (sym (r.split ∙ ap (λ t. r.first ++ t) r.rest_reads ∙ append-nil r.first)) r.first_reads
+one_part : (p : Part) (h : List Event) → PartsHold (p ∷ []) h → PartHolds p h
+one_part p h r = subst (PartHolds p) (sym (r.split ∙ ap (λ t. r.first ++ t) r.rest_reads ∙ append-nil r.first)) r.first_reads
 
 pub uncut : (part : Part) → AreCutFrom part (part ∷ [])
-uncut part h = (each_single ReadsPart part h, one_part part h)
+uncut part h = (each_single PartHolds part h, one_part part h)
 
 -- a part that is cut where batches meet
 pub cut_in_two : (part : Part) (at : ℕ) → at ≤ length part.bytes → BatchesMeet part at → AreCutFrom part (bytes_before part at ∷ rest_of part at ∷ [])
 cut_in_two part at inside meet h = (to, from)
   where
-    to : ReadsPart part h → ReadsParts (bytes_before part at ∷ rest_of part at ∷ []) h
+    to : PartHolds part h → PartsHold (bytes_before part at ∷ rest_of part at ∷ []) h
     to reads =
         let r = meet h reads in
         let first : at + 0 ≡ at = omega arith in
@@ -196,36 +198,36 @@ cut_in_two part at inside meet h = (to, from)
           first = r.first;
           rest = r.rest;
           first_reads = r.first_reads;
-          rest_reads = each_single ReadsPart (rest_of part at) r.rest (rest_read part at 0 r.rest inside (subst (λ (n : ℕ). ReadsFrom part n r.rest) (sym first) r.rest_reads));
+          rest_reads = each_single PartHolds (rest_of part at) r.rest (rest_read part at 0 r.rest inside (subst (λ (n : ℕ). HoldsFrom part n r.rest) (sym first) r.rest_reads));
           split = r.split;
         }
 
-    from : ReadsParts (bytes_before part at ∷ rest_of part at ∷ []) h → ReadsPart part h
+    from : PartsHold (bytes_before part at ∷ rest_of part at ∷ []) h → PartHolds part h
     from r =
         let first : at + 0 ≡ at = omega arith in
-        let rest = subst (λ (n : ℕ). ReadsFrom part n r.rest) first (read_rest part at 0 r.rest inside (one_part (rest_of part at) r.rest r.rest_reads)) in
-        subst (ReadsPart part) (sym r.split) (front_joined part at 0 r.first r.rest inside r.first_reads rest)
+        let rest = subst (λ (n : ℕ). HoldsFrom part n r.rest) first (read_rest part at 0 r.rest inside (one_part (rest_of part at) r.rest r.rest_reads)) in
+        subst (PartHolds part) (sym r.split) (front_joined part at 0 r.first r.rest inside r.first_reads rest)
 
 -- the same is read where a part among others is cut
 pub cut_among : (old new : List Part) (part : Part) (cut : List Part) → AreCutFrom part cut
-    → (h : List Event) → ReadsParts (old ++ part ∷ new) h ↔ ReadsParts (old ++ cut ++ new) h
+    → (h : List Event) → PartsHold (old ++ part ∷ new) h ↔ PartsHold (old ++ cut ++ new) h
 cut_among old new part cut same h = (to, from)
   where
-    to : ReadsParts (old ++ part ∷ new) h → ReadsParts (old ++ cut ++ new) h
+    to : PartsHold (old ++ part ∷ new) h → PartsHold (old ++ cut ++ new) h
     to reads =
-        let r = each_cut ReadsPart old (part ∷ new) h reads in
+        let r = each_cut PartHolds old (part ∷ new) h reads in
         let s = r.rest_reads in
-        let behind = each_join ReadsPart cut new s.first s.rest ((same s.first).0 s.first_reads) s.rest_reads in
-        subst (ReadsParts (old ++ cut ++ new)) (ap (λ (t : List Event). r.first ++ t) (sym s.split) ∙ sym r.split)
-        (subst (λ (ps : List Part). ReadsParts ps (r.first ++ (s.first ++ s.rest))) (sym (append_assoc old cut new)) (each_join ReadsPart old (cut ++ new) r.first (s.first ++ s.rest) r.first_reads behind))
+        let behind = each_join PartHolds cut new s.first s.rest ((same s.first).0 s.first_reads) s.rest_reads in
+        subst (PartsHold (old ++ cut ++ new)) (ap (λ (t : List Event). r.first ++ t) (sym s.split) ∙ sym r.split)
+        (subst (λ (ps : List Part). PartsHold ps (r.first ++ (s.first ++ s.rest))) (sym (append_assoc old cut new)) (each_join PartHolds old (cut ++ new) r.first (s.first ++ s.rest) r.first_reads behind))
 
-    from : ReadsParts (old ++ cut ++ new) h → ReadsParts (old ++ part ∷ new) h
+    from : PartsHold (old ++ cut ++ new) h → PartsHold (old ++ part ∷ new) h
     from reads =
-        let r = each_cut ReadsPart old (cut ++ new) h (subst (λ (ps : List Part). ReadsParts ps h) (append_assoc old cut new) reads) in
-        let s = each_cut ReadsPart cut new r.rest r.rest_reads in
-        let behind : ReadsParts (part ∷ new) (s.first ++ s.rest) = record { first = s.first; rest = s.rest; first_reads = (same s.first).1 s.first_reads; rest_reads = s.rest_reads; split = refl } in
-        subst (ReadsParts (old ++ part ∷ new)) (ap (λ (t : List Event). r.first ++ t) (sym s.split) ∙ sym r.split)
-        (each_join ReadsPart old (part ∷ new) r.first (s.first ++ s.rest) r.first_reads behind)
+        let r = each_cut PartHolds old (cut ++ new) h (subst (λ (ps : List Part). PartsHold ps h) (append_assoc old cut new) reads) in
+        let s = each_cut PartHolds cut new r.rest r.rest_reads in
+        let behind : PartsHold (part ∷ new) (s.first ++ s.rest) = record { first = s.first; rest = s.rest; first_reads = (same s.first).1 s.first_reads; rest_reads = s.rest_reads; split = refl } in
+        subst (PartsHold (old ++ part ∷ new)) (ap (λ (t : List Event). r.first ++ t) (sym s.split) ∙ sym r.split)
+        (each_join PartHolds old (part ∷ new) r.first (s.first ++ s.rest) r.first_reads behind)
 
 -- one part more is cut off the last
 pub cut_again : (part left front rest : Part) (old new : List Part) (at : ℕ) → AreCutFrom part (old ++ left ∷ []) → at ≤ length left.bytes → BatchesMeet left at
@@ -240,6 +242,6 @@ cut_again part left front rest old new at before inside meet front_is rest_is ne
     ∙ ap (λ (p : Part). old ++ p ∷ [] ++ rest_of left at ∷ []) (sym front_is)
     ∙ ap (λ (l : List Part). l ++ rest_of left at ∷ []) (sym new_is)
     ∙ ap (λ (p : Part). new ++ p ∷ []) (sym rest_is) in (
-      λ reads. subst (λ (ps : List Part). ReadsParts ps h) same (two.0 (one.0 reads)),
-      λ reads. one.1 (two.1 (subst (λ (ps : List Part). ReadsParts ps h) (sym same) reads)),
+      λ reads. subst (λ (ps : List Part). PartsHold ps h) same (two.0 (one.0 reads)),
+      λ reads. one.1 (two.1 (subst (λ (ps : List Part). PartsHold ps h) (sym same) reads)),
     )

@@ -6,4 +6,5 @@ pub mod MergeLemmas
 pub mod MidwayLemmas
 pub mod SegmentLemmas
 pub mod WalkLemmas
+pub mod Words
 pub mod WorkedLemmas

@@ -12,10 +12,11 @@ use Rattle.raft_records.specs.FilePart.{Part}
 use Rattle.raft_history.specs.Batches.{Event}
 use Rattle.raft_history.proofs.StretchOfHistory.{small_front, small_back}
 use Rattle.raft_replay.specs.declared.piece.Piece.{Piece}
-use Rattle.raft_replay.specs.Covers.{IsPieceOf, covers, covering, CoverOnce}
+use Rattle.raft_replay.specs.Covers.{IsPieceOf, covers, cover_count, CoverOnce}
 use Rattle.raft_replay.specs.MachineOrder.{AreInOrder}
-use Rattle.raft_replay.specs.PieceMerges.{concatenated}
-use Rattle.raft_replay.specs.Segments.{ReadsParts, ReadsSegments}
+use Rattle.raft_replay.specs.PieceMerges.{histories_in_turn}
+use Rattle.raft_replay.specs.Segments.{SegmentsHold}
+use Rattle.raft_replay.proofs.Words.{PartsHold}
 use Rattle.raft_tickets.specs.Weights.{weigh}
 use Rattle.raft_replay.proofs.CoverLemmas.{covers_inside, covers_below, covers_behind, covers_none}
 use Rattle.raft_replay.proofs.MachineOrderLemmas.{each_join}
@@ -39,20 +40,20 @@ module _ {M : Type 0} where
   )
 
   -- pieces that all begin above a number don't cover it
-  above_none : (x n : ℕ) → x < n → (ps : List (Piece M)) → AllByRecursion (λ q. n ≤ q.from) ps → covering x ps ≡ 0
+  above_none : (x n : ℕ) → x < n → (ps : List (Piece M)) → AllByRecursion (λ q. n ≤ q.from) ps → cover_count x ps ≡ 0
   above_none x n less [] all = refl
   above_none x n less (p ∷ ps) all =
       let low = all.0 in let one = covers_below p.from p.count x (omega arith) in let rest = above_none x n less ps all.1 in omega arith
 
   module _ (stands_exactly : M → List Event → Type 0) (segments : List (Vec Part Global)) where
     abbrev SegmentReads : Vec Part Global → List Event → Type 0
-    SegmentReads segment h = ReadsParts segment.items h
+    SegmentReads segment h = PartsHold segment.items h
 
     -- they cover each segment from here on once, and none before
     pub record CoverFrom (low : ℕ) (ps : List (Piece M)) : Type 0 where
       pub inside : low ≤ length segments
-      pub once : (x : ℕ) → low ≤ x → x < length segments → covering x ps ≡ 1
-      pub none : (x : ℕ) → x < low → covering x ps ≡ 0
+      pub once : (x : ℕ) → low ≤ x → x < length segments → cover_count x ps ≡ 1
+      pub none : (x : ℕ) → x < low → cover_count x ps ≡ 0
 
     abbrev Are : List (Piece M) → Type 0
     Are ps = AllByRecursion (IsPieceOf stands_exactly segments) ps
@@ -71,23 +72,23 @@ module _ {M : Type 0} where
         record {
           histories = piece.history ∷ line.histories;
           reads =
-              subst (λ (l : List (Vec Part Global)). ReadsSegments l (piece.history ++ concatenated line.histories)) whole
-              (each_join SegmentReads (take p.count (drop p.from segments)) (drop (low + p.count) segments) piece.history (concatenated line.histories) piece.reads line.reads);
+              subst (λ (l : List (Vec Part Global)). SegmentsHold l (piece.history ++ histories_in_turn line.histories)) whole
+              (each_join SegmentReads (take p.count (drop p.from segments)) (drop (low + p.count) segments) piece.history (histories_in_turn line.histories) piece.reads line.reads);
           stand = λ small.
-              (piece.exact (small_front piece.history (concatenated line.histories) small), line.stand (small_back piece.history (concatenated line.histories) small));
+              (piece.exact (small_front piece.history (histories_in_turn line.histories) small), line.stand (small_back piece.history (histories_in_turn line.histories) small));
         }
 
     -- a piece of no segments in front of those in line
     idle_in_front : (p : Piece M) (low : ℕ) (ps : List (Piece M)) → IsPieceOf stands_exactly segments p → p.count ≡ 0
         → AreInOrder stands_exactly (drop low segments) (machines ps) → AreInOrder stands_exactly (drop low segments) (machines (p ∷ ps))
     idle_in_front p low ps piece idle line =
-        let nothing : piece.history ≡ [] = subst (λ (n : ℕ). ReadsSegments (take n (drop p.from segments)) piece.history) idle piece.reads in
-        let whole : piece.history ++ concatenated line.histories ≡ concatenated line.histories = ap (λ (t : List Event). t ++ concatenated line.histories) nothing in
+        let nothing : piece.history ≡ [] = subst (λ (n : ℕ). SegmentsHold (take n (drop p.from segments)) piece.history) idle piece.reads in
+        let whole : piece.history ++ histories_in_turn line.histories ≡ histories_in_turn line.histories = ap (λ (t : List Event). t ++ histories_in_turn line.histories) nothing in
         record {
           histories = piece.history ∷ line.histories;
-          reads = subst (ReadsSegments (drop low segments)) (sym whole) line.reads;
+          reads = subst (SegmentsHold (drop low segments)) (sym whole) line.reads;
           stand = λ small.
-              (piece.exact (small_front piece.history (concatenated line.histories) small), line.stand (small_back piece.history (concatenated line.histories) small));
+              (piece.exact (small_front piece.history (histories_in_turn line.histories) small), line.stand (small_back piece.history (histories_in_turn line.histories) small));
         }
 
     -- a piece of some segments begins where the others are still to begin
@@ -109,7 +110,7 @@ module _ {M : Type 0} where
         none_left (inl some_left) = let once = cover.once low (omega arith) some_left in absurd (omega arith)
         none_left (inr past) = record {
           histories = [];
-          reads = subst (λ (l : List (Vec Part Global)). ReadsSegments l []) (sym (drop_all low segments past)) refl;
+          reads = subst (λ (l : List (Vec Part Global)). SegmentsHold l []) (sym (drop_all low segments past)) refl;
           stand = λ small. tt;
         }
     lined low (p ∷ ps) up are cover = by (cases_lt 0 p.count) (λ n c. lined n ps up.1 are.1 c)
@@ -126,7 +127,7 @@ module _ {M : Type 0} where
               none = λ x below. covered x (cases_lt x low) below;
             })
           where
-            covered : (x : ℕ) → (x < low) ⊎ (low ≤ x) → x < low + p.count → covering x ps ≡ 0
+            covered : (x : ℕ) → (x < low) ⊎ (low ≤ x) → x < low + p.count → cover_count x ps ≡ 0
             covered x (inl before) below = let none = cover.none x before in omega arith
             covered x (inr behind) below =
                 let here = begins_here p low ps are.0 some_segments up.0 cover in let inside = are.0.inside in

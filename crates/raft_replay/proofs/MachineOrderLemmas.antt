@@ -12,9 +12,10 @@ use Rattle.raft_records.specs.FilePart.{Part}
 use Rattle.raft_history.specs.Batches.{Event}
 use Rattle.raft_history.specs.Histories.{IsSmall, Sound, AreOfQueue, IsOfQueue}
 use Rattle.raft_history.proofs.StretchOfHistory.{small_front, small_back, sound_front, sound_back, of_both}
-use Rattle.raft_replay.specs.PieceMerges.{concatenated, StandForEach, IsMerged, CannotMerge, Merges}
+use Rattle.raft_replay.specs.PieceMerges.{histories_in_turn, StandForEach, IsMerged, CannotMerge, Merges}
 use Rattle.raft_replay.specs.Replays.{HasReplayed, CannotFollow, IsReplayed}
-use Rattle.raft_replay.specs.Segments.{IsReadBehind, ReadsFrom, ReadsPart, ReadsEach, ReadsParts, ReadsSegments, CannotBeRead, PartsAreOf, SegmentsAreOf}
+use Rattle.raft_replay.specs.Segments.{AreHeldInTurn, HoldsFrom, EachHolds, SegmentsHold, CannotBeRead, SegmentsAreOf}
+use Rattle.raft_replay.proofs.Words.{PartHolds, PartsHold, PartsAreOf}
 use Rattle.raft_replay.specs.Schedules.{switches, count_below, pieces_in}
 use Rattle.raft_replay.specs.MachineOrder.{AreInOrder, IsUnderway}
 use Rattle.raft_replay.proofs.MergeLemmas.{joined-append, each-append}
@@ -23,8 +24,8 @@ use Rattle.raft_replay.proofs.SegmentLemmas.{segments_unique}
 -- ---- what is read of two lists, one behind the other
 
 module _ {A : Type 0} (Reads : A → List Event → Type 0) where
-  pub each_join : (xs ys : List A) (g h : List Event) → ReadsEach Reads xs g → ReadsEach Reads ys h → ReadsEach Reads (xs ++ ys) (g ++ h)
-  each_join [] ys g h first second = subst (λ (t : List Event). ReadsEach Reads ys (t ++ h)) (sym first) second
+  pub each_join : (xs ys : List A) (g h : List Event) → EachHolds Reads xs g → EachHolds Reads ys h → EachHolds Reads (xs ++ ys) (g ++ h)
+  each_join [] ys g h first second = subst (λ (t : List Event). EachHolds Reads ys (t ++ h)) (sym first) second
   each_join (x ∷ xs) ys g h first second = record {
     first = first.first;
     rest = first.rest ++ h;
@@ -33,8 +34,8 @@ module _ {A : Type 0} (Reads : A → List Event → Type 0) where
     split = ap (λ (t : List Event). t ++ h) first.split ∙ append_assoc first.first first.rest h;
   }
 
-  pub each_cut : (xs ys : List A) (h : List Event) → ReadsEach Reads (xs ++ ys) h
-      → IsReadBehind (λ g. ReadsEach Reads xs g) (λ g. ReadsEach Reads ys g) h
+  pub each_cut : (xs ys : List A) (h : List Event) → EachHolds Reads (xs ++ ys) h
+      → AreHeldInTurn (λ g. EachHolds Reads xs g) (λ g. EachHolds Reads ys g) h
   each_cut [] ys h all = record { first = []; rest = h; first_reads = refl; rest_reads = all; split = refl }
   each_cut (x ∷ xs) ys h all =
       let cut = each_cut xs ys all.rest all.rest_reads in
@@ -46,31 +47,31 @@ module _ {A : Type 0} (Reads : A → List Event → Type 0) where
         split = all.split ∙ ap (λ (t : List Event). all.first ++ t) cut.split ∙ sym (append_assoc all.first cut.first cut.rest);
       }
 
-  pub each_single : (x : A) (h : List Event) → Reads x h → ReadsEach Reads (x ∷ []) h
+  pub each_single : (x : A) (h : List Event) → Reads x h → EachHolds Reads (x ∷ []) h
   each_single x h reads = record { first = h; rest = []; first_reads = reads; rest_reads = refl; split = sym (append-nil h) }
 
 abbrev SegmentReads : Vec Part Global → List Event → Type 0
-SegmentReads segment h = ReadsParts segment.items h
+SegmentReads segment h = PartsHold segment.items h
 
 -- ---- what is read of parts of a queue is of the queue
 
-part_of : (queue : LogQueue) (part : Part) (at : ℕ) → part.id.queue ≡ queue → (h : List Event) → ReadsFrom part at h → AreOfQueue queue h
+part_of : (queue : LogQueue) (part : Part) (at : ℕ) → part.id.queue ≡ queue → (h : List Event) → HoldsFrom part at h → AreOfQueue queue h
 part_of queue part at is [] reads = tt
 part_of queue part at is (e ∷ h) reads = (ap (λ (file : _). file.queue) reads.0 ∙ is, part_of queue part reads.1.0 is h reads.1.2)
 
 each_of : {A : Type 0} (Reads : A → List Event → Type 0) (P : A → Type 0) (queue : LogQueue) → ((x : A) → P x → (h : List Event) → Reads x h → IsOfQueue queue h)
-    → (xs : List A) → AllByRecursion P xs → (h : List Event) → ReadsEach Reads xs h → IsOfQueue queue h
+    → (xs : List A) → AllByRecursion P xs → (h : List Event) → EachHolds Reads xs h → IsOfQueue queue h
 each_of Reads P queue one [] all h reads = subst (IsOfQueue queue) (sym reads) record { each = tt }
 each_of Reads P queue one (x ∷ xs) all h reads =
     subst (IsOfQueue queue) (sym reads.split)
     (of_both queue reads.first reads.rest (one x all.0 reads.first reads.first_reads) (each_of Reads P queue one xs all.1 reads.rest reads.rest_reads))
 
-parts_of : (queue : LogQueue) (parts : List Part) → PartsAreOf queue parts → (h : List Event) → ReadsParts parts h → IsOfQueue queue h
+parts_of : (queue : LogQueue) (parts : List Part) → PartsAreOf queue parts → (h : List Event) → PartsHold parts h → IsOfQueue queue h
 parts_of queue parts all =
-    each_of ReadsPart (λ part. part.id.queue ≡ queue) queue (λ part is h reads. record { each = part_of queue part 0 is h reads }) parts (recursion_from_All _ parts all)
+    each_of PartHolds (λ part. part.id.queue ≡ queue) queue (λ part is h reads. record { each = part_of queue part 0 is h reads }) parts (recursion_from_All _ parts all)
 
-pub segments_of : (queue : LogQueue) (segments : List (Vec Part Global)) → SegmentsAreOf queue segments → (h : List Event) → ReadsSegments segments h → IsOfQueue queue h
-segments_of queue segments all =
+pub segments_read_of_queue : (queue : LogQueue) (segments : List (Vec Part Global)) → SegmentsAreOf queue segments → (h : List Event) → SegmentsHold segments h → IsOfQueue queue h
+segments_read_of_queue queue segments all =
     each_of SegmentReads (λ segment. PartsAreOf queue segment.items) queue (λ segment is h reads. parts_of queue segment.items is h reads) segments
     (recursion_from_All _ segments all)
 
@@ -89,31 +90,31 @@ module _ {M : Type 0} (stands_for stands_exactly : M → List Event → Type 0) 
 
   module _ (segments : List (Vec Part Global)) (ms : List M) (m : M) (underway : IsUnderway stands_exactly segments ms m) where
     -- it goes on by one segment
-    pub gone_on : (segment : Vec Part Global) (n : M) → HasReplayed (ReadsParts segment.items) stands_for stands_exactly m n
+    pub gone_on : (segment : Vec Part Global) (n : M) → HasReplayed (PartsHold segment.items) stands_for stands_exactly m n
         → IsUnderway stands_exactly (segments ++ segment ∷ []) ms n
     gone_on segment n more =
-        let two = append_assoc (concatenated underway.histories) underway.last more.history in
+        let two = append_assoc (histories_in_turn underway.histories) underway.last more.history in
         record {
           histories = underway.histories;
           last = underway.last ++ more.history;
           reads =
-              subst (ReadsSegments (segments ++ segment ∷ [])) two
-              (each_join SegmentReads segments (segment ∷ []) (concatenated underway.histories ++ underway.last) more.history underway.reads
+              subst (SegmentsHold (segments ++ segment ∷ [])) two
+              (each_join SegmentReads segments (segment ∷ []) (histories_in_turn underway.histories ++ underway.last) more.history underway.reads
               (each_single SegmentReads segment more.history more.reads));
-          stand = λ small. underway.stand (small_front (concatenated underway.histories ++ underway.last) more.history (subst IsSmall (sym two) small));
+          stand = λ small. underway.stand (small_front (histories_in_turn underway.histories ++ underway.last) more.history (subst IsSmall (sym two) small));
           exact = λ small.
-              let before = small_front (concatenated underway.histories ++ underway.last) more.history (subst IsSmall (sym two) small) in
-              more.exact underway.last (small_back (concatenated underway.histories) (underway.last ++ more.history) small) (underway.exact before);
+              let before = small_front (histories_in_turn underway.histories ++ underway.last) more.history (subst IsSmall (sym two) small) in
+              more.exact underway.last (small_back (histories_in_turn underway.histories) (underway.last ++ more.history) small) (underway.exact before);
         }
 
-    one_more : concatenated (underway.histories ++ underway.last ∷ []) ≡ concatenated underway.histories ++ underway.last
-    one_more = joined-append underway.histories (underway.last ∷ []) ∙ ap (λ (t : List Event). concatenated underway.histories ++ t) (append-nil underway.last)
+    one_more : histories_in_turn (underway.histories ++ underway.last ∷ []) ≡ histories_in_turn underway.histories ++ underway.last
+    one_more = joined-append underway.histories (underway.last ∷ []) ∙ ap (λ (t : List Event). histories_in_turn underway.histories ++ t) (append-nil underway.last)
 
     -- it is the last in line
     pub finished : AreInOrder stands_exactly segments (ms ++ m ∷ [])
     finished = record {
       histories = underway.histories ++ underway.last ∷ [];
-      reads = subst (ReadsSegments segments) (sym one_more) underway.reads;
+      reads = subst (SegmentsHold segments) (sym one_more) underway.reads;
       stand = λ small.
           let few = subst IsSmall one_more small in
           each-append stands_exactly ms (m ∷ []) underway.histories (underway.last ∷ []) (underway.stand few) (underway.exact few, tt);
@@ -124,36 +125,36 @@ module _ {M : Type 0} (stands_for stands_exactly : M → List Event → Type 0) 
     next_begun n new = record {
       histories = finished.histories;
       last = [];
-      reads = subst (ReadsSegments segments) (sym (append-nil (concatenated finished.histories))) finished.reads;
-      stand = λ small. finished.stand (subst IsSmall (append-nil (concatenated finished.histories)) small);
+      reads = subst (SegmentsHold segments) (sym (append-nil (histories_in_turn finished.histories))) finished.reads;
+      stand = λ small. finished.stand (subst IsSmall (append-nil (histories_in_turn finished.histories)) small);
       exact = λ small. new;
     }
 
     -- what can't follow it can't be read behind its segments
     pub stopped : (all rest : List (Vec Part Global)) (segment : Vec Part Global) → all ≡ segments ++ segment ∷ rest
-        → CannotFollow (ReadsParts segment.items) (stands_for m) → CannotBeRead all
+        → CannotFollow (PartsHold segment.items) (stands_for m) → CannotBeRead all
     stopped all rest segment is cannot = record {
       unsound = λ h reads small sound.
-          let cut = each_cut SegmentReads segments (segment ∷ rest) h (subst (λ (l : List (Vec Part Global)). ReadsSegments l h) is reads) in
-          let same = segments_unique segments cut.first (concatenated underway.histories ++ underway.last) cut.first_reads underway.reads in
+          let cut = each_cut SegmentReads segments (segment ∷ rest) h (subst (λ (l : List (Vec Part Global)). SegmentsHold l h) is reads) in
+          let same = segments_unique segments cut.first (histories_in_turn underway.histories ++ underway.last) cut.first_reads underway.reads in
           let next = cut.rest_reads in
-          let whole : h ≡ concatenated underway.histories ++ underway.last ++ next.first ++ next.rest =
-          cut.split ∙ ap (λ (t : List Event). t ++ cut.rest) same ∙ ap (λ (t : List Event). concatenated underway.histories ++ underway.last ++ t) next.split
-          ∙ sym (append_assoc (concatenated underway.histories ++ underway.last) next.first next.rest) in
-          let few = small_front (concatenated underway.histories ++ underway.last ++ next.first) next.rest (subst IsSmall whole small) in
-          let good = sound_front (concatenated underway.histories ++ underway.last ++ next.first) next.rest (subst Sound whole sound) in
-          let two = append_assoc (concatenated underway.histories) underway.last next.first in
-          let stands = exact_stands m underway.last (underway.exact (small_front (concatenated underway.histories ++ underway.last) next.first few)) in
-          cannot.unsound underway.last next.first next.first_reads (small_back (concatenated underway.histories) (underway.last ++ next.first) (subst IsSmall two few)) stands
-          (sound_back (concatenated underway.histories) (underway.last ++ next.first) (subst Sound two good));
+          let whole : h ≡ histories_in_turn underway.histories ++ underway.last ++ next.first ++ next.rest =
+          cut.split ∙ ap (λ (t : List Event). t ++ cut.rest) same ∙ ap (λ (t : List Event). histories_in_turn underway.histories ++ underway.last ++ t) next.split
+          ∙ sym (append_assoc (histories_in_turn underway.histories ++ underway.last) next.first next.rest) in
+          let few = small_front (histories_in_turn underway.histories ++ underway.last ++ next.first) next.rest (subst IsSmall whole small) in
+          let good = sound_front (histories_in_turn underway.histories ++ underway.last ++ next.first) next.rest (subst Sound whole sound) in
+          let two = append_assoc (histories_in_turn underway.histories) underway.last next.first in
+          let stands = exact_stands m underway.last (underway.exact (small_front (histories_in_turn underway.histories ++ underway.last) next.first few)) in
+          cannot.unsound underway.last next.first next.first_reads (small_back (histories_in_turn underway.histories) (underway.last ++ next.first) (subst IsSmall two few)) stands
+          (sound_back (histories_in_turn underway.histories) (underway.last ++ next.first) (subst Sound two good));
     }
 
   -- one machine alone
   pub replayed_alone : (segments : List (Vec Part Global)) (m : M) → IsUnderway stands_exactly segments [] m → IsReplayed stands_for stands_exactly segments m
   replayed_alone segments m underway = alone underway.histories underway.last underway.reads underway.stand underway.exact
     where
-      alone : (hs : List (List Event)) (last : List Event) → ReadsSegments segments (concatenated hs ++ last)
-          → (IsSmall (concatenated hs ++ last) → StandForEach stands_exactly [] hs) → (IsSmall (concatenated hs ++ last) → stands_exactly m last)
+      alone : (hs : List (List Event)) (last : List Event) → SegmentsHold segments (histories_in_turn hs ++ last)
+          → (IsSmall (histories_in_turn hs ++ last) → StandForEach stands_exactly [] hs) → (IsSmall (histories_in_turn hs ++ last) → stands_exactly m last)
           → IsReplayed stands_for stands_exactly segments m
       alone [] last reads none exact = record {
         history = last;
@@ -162,7 +163,7 @@ module _ {M : Type 0} (stands_for stands_exactly : M → List Event → Type 0) 
         exact = λ small apart. exact small;
       }
       alone (h ∷ hs) last reads none exact = record {
-        history = h ++ concatenated hs ++ last;
+        history = h ++ histories_in_turn hs ++ last;
         reads = reads;
         stands = λ small. absurd (none small);
         exact = λ small apart. absurd (none small);
@@ -172,7 +173,7 @@ module _ {M : Type 0} (stands_for stands_exactly : M → List Event → Type 0) 
     -- all of them merged
     pub replayed_merged : (m : M) → IsMerged stands_for stands_exactly ms m → IsReplayed stands_for stands_exactly segments m
     replayed_merged m merged = record {
-      history = concatenated line.histories;
+      history = histories_in_turn line.histories;
       reads = line.reads;
       stands = λ small. merged.stands line.histories small (each_stands ms line.histories (line.stand small));
       exact = λ small apart. merged.exact line.histories small apart (line.stand small);
@@ -182,9 +183,9 @@ module _ {M : Type 0} (stands_for stands_exactly : M → List Event → Type 0) 
     pub unmerged : CannotMerge stands_for queue ms → CannotBeRead segments
     unmerged cannot = record {
       unsound = λ h reads small sound.
-          let same = segments_unique segments h (concatenated line.histories) reads line.reads in
+          let same = segments_unique segments h (histories_in_turn line.histories) reads line.reads in
           let few = subst IsSmall same small in
-          cannot.unsound line.histories few (segments_of queue segments of (concatenated line.histories) line.reads)
+          cannot.unsound line.histories few (segments_read_of_queue queue segments of (histories_in_turn line.histories) line.reads)
           (each_stands ms line.histories (line.stand few)) (subst Sound same sound);
     }
 
@@ -207,11 +208,11 @@ module _ {M : Type 0} (stands_for stands_exactly : M → List Event → Type 0) 
   pub replayed_none : (segments : List (Vec Part Global)) (m : M) → AreInOrder stands_exactly segments [] → stands_exactly m [] → IsReplayed stands_for stands_exactly segments m
   replayed_none segments m line new = none_of line.histories line.reads line.stand
     where
-      none_of : (hs : List (List Event)) → ReadsSegments segments (concatenated hs) → (IsSmall (concatenated hs) → StandForEach stands_exactly [] hs)
+      none_of : (hs : List (List Event)) → SegmentsHold segments (histories_in_turn hs) → (IsSmall (histories_in_turn hs) → StandForEach stands_exactly [] hs)
           → IsReplayed stands_for stands_exactly segments m
       none_of [] reads none = record { history = []; reads = reads; stands = λ small. exact_stands m [] new; exact = λ small apart. new }
       none_of (h ∷ hs) reads none = record {
-        history = h ++ concatenated hs;
+        history = h ++ histories_in_turn hs;
         reads = reads;
         stands = λ small. absurd (none small);
         exact = λ small apart. absurd (none small);

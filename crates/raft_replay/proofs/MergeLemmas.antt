@@ -7,15 +7,15 @@ use Rattle.raft_history.proofs.StretchOfHistory.{small_front, small_back, sound_
 use Rattle.raft_replay.specs.declared.plan.Plan.{Plan}
 use Rattle.raft_replay.specs.declared.plan.Plan.TheVariants.{One, Join'}
 use Rattle.raft_replay.specs.Plans.{leaves}
-use Rattle.raft_replay.specs.PieceMerges.{concatenated, StandForEach, IsMerged, CannotMerge}
+use Rattle.raft_replay.specs.PieceMerges.{histories_in_turn, StandForEach, IsMerged, CannotMerge}
 
 pub leaves_positive : (p : Plan) → 0 < leaves p
 leaves_positive One = omega arith
 leaves_positive (Join' p a q b) = let l = leaves_positive a in let r = leaves_positive b in omega arith
 
-pub joined-append : (fs gs : List (List Event)) → concatenated (fs ++ gs) ≡ concatenated fs ++ concatenated gs
+pub joined-append : (fs gs : List (List Event)) → histories_in_turn (fs ++ gs) ≡ histories_in_turn fs ++ histories_in_turn gs
 joined-append [] gs = refl
-joined-append (f ∷ fs) gs = ap (λ (t : List Event). f ++ t) (joined-append fs gs) ∙ sym (append_assoc f (concatenated fs) (concatenated gs))
+joined-append (f ∷ fs) gs = ap (λ (t : List Event). f ++ t) (joined-append fs gs) ∙ sym (append_assoc f (histories_in_turn fs) (histories_in_turn gs))
 
 module _ {M : Type 0} (Stands : M → List Event → Type 0) where
   -- the histories of pieces are those of the first ones and those of the others
@@ -40,7 +40,7 @@ module _ {M : Type 0} (Stands : M → List Event → Type 0) where
   each-append (x ∷ xs) ys (f ∷ fs) gs first second = (first.0, each-append xs ys fs gs first.1 second)
 
   -- one piece has one history
-  pub each_one : (x : M) (hs : List (List Event)) → StandForEach Stands (x ∷ []) hs → Stands x (concatenated hs)
+  pub each_one : (x : M) (hs : List (List Event)) → StandForEach Stands (x ∷ []) hs → Stands x (histories_in_turn hs)
   each_one x [] all = absurd all
   each_one x (h ∷ []) all = subst (λ (t : List Event). Stands x t) (sym (append-nil h)) all.0
   each_one x (h ∷ g ∷ hs) all = absurd all.1
@@ -54,8 +54,8 @@ module _ {M : Type 0} (stands_for stands_exactly : M → List Event → Type 0) 
     halves Stands hs each = each_split Stands xs ys hs (subst (λ (l : List M). StandForEach Stands l hs) is each)
 
     -- the histories of both halves, one behind the other
-    both : (Stands : M → List Event → Type 0) (hs : List (List Event)) (two : Halves Stands xs ys hs) → concatenated hs ≡ concatenated two.fronts ++ concatenated two.backs
-    both Stands hs two = ap concatenated two.split ∙ joined-append two.fronts two.backs
+    both : (Stands : M → List Event → Type 0) (hs : List (List Event)) (two : Halves Stands xs ys hs) → histories_in_turn hs ≡ histories_in_turn two.fronts ++ histories_in_turn two.backs
+    both Stands hs two = ap histories_in_turn two.split ∙ joined-append two.fronts two.backs
 
     pub front_refused : (queue : LogQueue) → CannotMerge stands_for queue xs → CannotMerge stands_for queue zs
     front_refused queue cannot = record {
@@ -69,8 +69,8 @@ module _ {M : Type 0} (stands_for stands_exactly : M → List Event → Type 0) 
     back_refused queue cannot = record {
       unsound = λ hs small of each sound.
           let two = halves stands_for hs each in let is = both stands_for hs two in
-          cannot.unsound two.backs (small_back (concatenated two.fronts) _ (subst IsSmall is small)) (of_back queue (concatenated two.fronts) _ (subst (IsOfQueue queue) is of)) two.second
-          (sound_back (concatenated two.fronts) _ (subst Sound is sound));
+          cannot.unsound two.backs (small_back (histories_in_turn two.fronts) _ (subst IsSmall is small)) (of_back queue (histories_in_turn two.fronts) _ (subst (IsOfQueue queue) is of)) two.second
+          (sound_back (histories_in_turn two.fronts) _ (subst Sound is sound));
     }
 
     module _ (x y : M) (first : IsMerged stands_for stands_exactly xs x) (second : IsMerged stands_for stands_exactly ys y) where
@@ -80,8 +80,8 @@ module _ {M : Type 0} (stands_for stands_exactly : M → List Event → Type 0) 
       merge_refused queue refused = record {
         unsound = λ hs small of each sound.
             let two = halves stands_for hs each in let is = both stands_for hs two in let few = subst IsSmall is small in
-            refused (concatenated two.fronts) (concatenated two.backs) few (subst (IsOfQueue queue) is of)
-            (first.stands two.fronts (small_front _ _ few) two.first) (second.stands two.backs (small_back (concatenated two.fronts) _ few) two.second)
+            refused (histories_in_turn two.fronts) (histories_in_turn two.backs) few (subst (IsOfQueue queue) is of)
+            (first.stands two.fronts (small_front _ _ few) two.first) (second.stands two.backs (small_back (histories_in_turn two.fronts) _ few) two.second)
             (subst Sound is sound);
       }
 
@@ -93,12 +93,12 @@ module _ {M : Type 0} (stands_for stands_exactly : M → List Event → Type 0) 
         stands = λ hs small each.
             let two = halves stands_for hs each in let is = both stands_for hs two in let few = subst IsSmall is small in
             subst (λ (t : List Event). stands_for z t) (sym is)
-            (stands (concatenated two.fronts) (concatenated two.backs) few (first.stands two.fronts (small_front _ _ few) two.first)
-            (second.stands two.backs (small_back (concatenated two.fronts) _ few) two.second));
+            (stands (histories_in_turn two.fronts) (histories_in_turn two.backs) few (first.stands two.fronts (small_front _ _ few) two.first)
+            (second.stands two.backs (small_back (histories_in_turn two.fronts) _ few) two.second));
         exact = λ hs small apart each.
             let two = halves stands_exactly hs each in let is = both stands_exactly hs two in let few = subst IsSmall is small in let keep = subst Apart is apart in
             subst (λ (t : List Event). stands_exactly z t) (sym is)
-            (exact (concatenated two.fronts) (concatenated two.backs) few keep
+            (exact (histories_in_turn two.fronts) (histories_in_turn two.backs) few keep
             (first.exact two.fronts (small_front _ _ few) (apart_front _ _ keep) two.first)
-            (second.exact two.backs (small_back (concatenated two.fronts) _ few) (apart_back (concatenated two.fronts) _ keep) two.second));
+            (second.exact two.backs (small_back (histories_in_turn two.fronts) _ few) (apart_back (histories_in_turn two.fronts) _ keep) two.second));
       }

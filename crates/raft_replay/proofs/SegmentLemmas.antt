@@ -5,9 +5,10 @@ use Rattle.std.specs.Global.{Global}
 use Rattle.raft_base.specs.declared.pipe_log.FileId.{FileId}
 use Rattle.raft_codec.specs.Reading.{HasNoFront}
 use Rattle.raft_base.specs.declared.compression_type.CompressionType.{CompressionType}
-use Rattle.raft_records.specs.FilePart.{Part, part_signature, IsBatchAt, entries_place}
+use Rattle.raft_records.specs.FilePart.{Part, IsBatchAt}
+use Rattle.raft_records.proofs.Names.{part_signature, entries_place}
 use Rattle.raft_records.specs.Item.{Item}
-use Rattle.raft_records.specs.ItemBatch.{IsItemBatch, placed}
+use Rattle.raft_records.specs.ItemBatch.{IsItemBatch, placed_item}
 use Rattle.raft_records.specs.LogBatch.{IsReadable}
 use Rattle.raft_records.specs.Parts.{IsFramed}
 use Rattle.raft_records.proofs.BatchLemmas.{one_batch}
@@ -17,7 +18,8 @@ use Rattle.raft_history.specs.Batches.{Event}
 use Rattle.raft_history.specs.Histories.{IsSmall, Sound}
 use Rattle.raft_history.specs.ReplayMachine.{event}
 use Rattle.raft_replay.specs.Replays.{CannotFollow}
-use Rattle.raft_replay.specs.Segments.{ReadsFrom, ReadsPart, ReadsEach, ReadsParts, ReadsSegments}
+use Rattle.raft_replay.specs.Segments.{HoldsFrom, EachHolds, SegmentsHold}
+use Rattle.raft_replay.proofs.Words.{PartHolds, PartsHold}
 use Rattle.raft_replay.proofs.MidwayLemmas.{IsCut, first_refused}
 
 -- ---- one batch
@@ -44,9 +46,9 @@ pub batch_unique : (part : Part) (at : ℕ) (items items' : List Item) (next nex
 batch_unique part at items items' next next' b d =
     let one = one_frame b.bytes d.bytes (drop next part.bytes) (drop next' part.bytes) (part_signature part) b.read d.read b.offset d.offset b.frame d.frame
     (sym b.stands ∙ d.stands) in
-    let places = ap (λ (p : ℕ). map (placed (entries_place part at p) b.frame.compression) b.read) one.1
-    ∙ ap (λ (c : CompressionType). map (placed (entries_place part at d.offset) c) b.read) one.2
-    ∙ ap (map (placed (entries_place part at d.offset) d.frame.compression)) one.3 in
+    let places = ap (λ (p : ℕ). map (placed_item (entries_place part at p) b.frame.compression) b.read) one.1
+    ∙ ap (λ (c : CompressionType). map (placed_item (entries_place part at d.offset) c) b.read) one.2
+    ∙ ap (map (placed_item (entries_place part at d.offset) d.frame.compression)) one.3 in
     (b.places ∙ places ∙ sym d.places, b.ends ∙ ap (λ (t : List ℕ). at + length t) one.0 ∙ sym d.ends)
 
 -- where no batch is readable none stands
@@ -75,49 +77,49 @@ IsUnique Reads = (g h : List Event) → Reads g → Reads h → g ≡ h
 same_event : (d e : Event) → d.items ≡ e.items → d.file ≡ e.file → d ≡ e
 same_event d e items file = λ i. record { items = items i; file = file i }
 
-pub part_unique : (part : Part) (at : ℕ) → IsUnique (ReadsFrom part at)
+pub part_unique : (part : Part) (at : ℕ) → IsUnique (HoldsFrom part at)
 part_unique part at [] [] p q = refl
 part_unique part at [] (e ∷ h) p q = let b = batch_inside part at e.items q.1.0 q.1.1 in absurd (omega arith)
 part_unique part at (e ∷ g) [] p q = let b = batch_inside part at e.items p.1.0 p.1.1 in absurd (omega arith)
 part_unique part at (d ∷ g) (e ∷ h) p q =
     let one = batch_unique part at d.items e.items p.1.0 q.1.0 p.1.1 q.1.1 in
     let first = same_event d e one.0 (p.0 ∙ sym q.0) in
-    let rest = part_unique part q.1.0 g h (subst (λ (n : ℕ). ReadsFrom part n g) one.1 p.1.2) q.1.2 in
+    let rest = part_unique part q.1.0 g h (subst (λ (n : ℕ). HoldsFrom part n g) one.1 p.1.2) q.1.2 in
     λ i. first i ∷ rest i
 
-pub each_unique : {A : Type 0} (Reads : A → List Event → Type 0) → ((x : A) → IsUnique (Reads x)) → (xs : List A) → IsUnique (ReadsEach Reads xs)
+pub each_unique : {A : Type 0} (Reads : A → List Event → Type 0) → ((x : A) → IsUnique (Reads x)) → (xs : List A) → IsUnique (EachHolds Reads xs)
 each_unique Reads one [] g h p q = p ∙ sym q
 each_unique Reads one (x ∷ xs) g h p q =
     let first = one x p.first q.first p.first_reads q.first_reads in
     let rest = each_unique Reads one xs p.rest q.rest p.rest_reads q.rest_reads in
     p.split ∙ (λ i. first i ++ rest i) ∙ sym q.split
 
-pub parts_unique : (parts : List Part) → IsUnique (ReadsParts parts)
-parts_unique parts = each_unique ReadsPart (λ part. part_unique part 0) parts
+pub parts_unique : (parts : List Part) → IsUnique (PartsHold parts)
+parts_unique parts = each_unique PartHolds (λ part. part_unique part 0) parts
 
-pub segments_unique : (segments : List (Vec Part Global)) → IsUnique (ReadsSegments segments)
-segments_unique segments = each_unique (λ segment. ReadsParts segment.items) (λ segment. parts_unique segment.items) segments
+pub segments_unique : (segments : List (Vec Part Global)) → IsUnique (SegmentsHold segments)
+segments_unique segments = each_unique (λ segment. PartsHold segment.items) (λ segment. parts_unique segment.items) segments
 
 -- ---- where a reading is cut
 
 -- a batch that stands at a place is the first of what is read from there on
 pub first_batch : (part : Part) (at : ℕ) (items : List Item) (file : FileId) (next : ℕ) → IsBatchAt part at items next → file ≡ part.id
-    → IsCut (ReadsFrom part at) (ReadsFrom part next) (event items file ∷ [])
+    → IsCut (HoldsFrom part at) (HoldsFrom part next) (event items file ∷ [])
 first_batch part at items file next b is = record { joins = λ r left. (is, (next, b, left)); cuts = cuts }
   where
-    cuts : (g : List Event) → ReadsFrom part at g → (r : List Event) × ReadsFrom part next r × (g ≡ (event items file ∷ []) ++ r)
+    cuts : (g : List Event) → HoldsFrom part at g → (r : List Event) × HoldsFrom part next r × (g ≡ (event items file ∷ []) ++ r)
     cuts [] ends = let inside = batch_inside part at items next b in absurd (omega arith)
     cuts (e ∷ g) reads =
         let one = batch_unique part at e.items items reads.1.0 next reads.1.1 b in
         let first = same_event e (event items file) one.0 (reads.0 ∙ sym is) in
-        (g, subst (λ (n : ℕ). ReadsFrom part n g) one.1 reads.1.2, λ i. first i ∷ g)
+        (g, subst (λ (n : ℕ). HoldsFrom part n g) one.1 reads.1.2, λ i. first i ∷ g)
 
 -- where no batch is readable before the end, nothing is read
 pub unreadable : (part : Part) (at : ℕ) (Stood : List Event → Type 0) → at < length part.bytes
-    → HasNoFront (λ bytes. IsReadable bytes (part_signature part)) (drop at part.bytes) → CannotFollow (ReadsFrom part at) Stood
+    → HasNoFront (λ bytes. IsReadable bytes (part_signature part)) (drop at part.bytes) → CannotFollow (HoldsFrom part at) Stood
 unreadable part at Stood left none = record { unsound = λ h g reads small stood sound. unread g reads }
   where
-    unread : (g : List Event) → ReadsFrom part at g → ⊥
+    unread : (g : List Event) → HoldsFrom part at g → ⊥
     unread [] ends = omega arith
     unread (e ∷ g) reads = batch_none part at e.items reads.1.0 none reads.1.1
 
@@ -133,29 +135,29 @@ event_refused e Stood refused = record {
 module _ {A : Type 0} (Reads : A → List Event → Type 0) where
   -- what is read of one is the first of what is read of it and others
   pub first_of_each : (x : A) (xs : List A) (first : List Event) → IsUnique (Reads x) → Reads x first
-      → IsCut (λ h. ReadsEach Reads (x ∷ xs) h) (λ h. ReadsEach Reads xs h) first
+      → IsCut (λ h. EachHolds Reads (x ∷ xs) h) (λ h. EachHolds Reads xs h) first
   first_of_each x xs first one reads = record {
     joins = λ r left. record { first = first; rest = r; first_reads = reads; rest_reads = left; split = refl };
     cuts = λ g all. (all.rest, all.rest_reads, all.split ∙ ap (λ (t : List Event). t ++ all.rest) (one all.first first all.first_reads reads));
   }
 
   -- what can't follow of one can't follow of it and others
-  pub first_of_each_refused : (x : A) (xs : List A) (Stood : List Event → Type 0) → CannotFollow (Reads x) Stood → CannotFollow (λ h. ReadsEach Reads (x ∷ xs) h) Stood
+  pub first_of_each_refused : (x : A) (xs : List A) (Stood : List Event → Type 0) → CannotFollow (Reads x) Stood → CannotFollow (λ h. EachHolds Reads (x ∷ xs) h) Stood
   first_of_each_refused x xs Stood cannot = first_refused (λ g all. (all.first, all.rest, all.first_reads, all.split)) cannot
 
   -- the same lists are read in the same way
   pub cut_at : (left rest : List A) (x : A) (first : List Event) → left ≡ x ∷ rest → IsUnique (Reads x) → Reads x first
-      → IsCut (λ h. ReadsEach Reads left h) (λ h. ReadsEach Reads rest h) first
+      → IsCut (λ h. EachHolds Reads left h) (λ h. EachHolds Reads rest h) first
   cut_at left rest x first is one reads =
-      subst (λ (l : List A). IsCut (λ h. ReadsEach Reads l h) (λ h. ReadsEach Reads rest h) first) (sym is) (first_of_each x rest first one reads)
+      subst (λ (l : List A). IsCut (λ h. EachHolds Reads l h) (λ h. EachHolds Reads rest h) first) (sym is) (first_of_each x rest first one reads)
 
   pub cut_refused : (left rest : List A) (x : A) (Stood : List Event → Type 0) → left ≡ x ∷ rest → CannotFollow (Reads x) Stood
-      → CannotFollow (λ h. ReadsEach Reads left h) Stood
+      → CannotFollow (λ h. EachHolds Reads left h) Stood
   cut_refused left rest x Stood is cannot =
-      subst (λ (l : List A). CannotFollow (λ h. ReadsEach Reads l h) Stood) (sym is) (first_of_each_refused x rest Stood cannot)
+      subst (λ (l : List A). CannotFollow (λ h. EachHolds Reads l h) Stood) (sym is) (first_of_each_refused x rest Stood cannot)
 
-  pub nothing_left : (i : ℕ) (xs : List A) → length xs ≤ i → ReadsEach Reads (drop i xs) []
-  nothing_left i xs past = subst (λ (l : List A). ReadsEach Reads l []) (sym (drop_all i xs past)) refl
+  pub nothing_left : (i : ℕ) (xs : List A) → length xs ≤ i → EachHolds Reads (drop i xs) []
+  nothing_left i xs past = subst (λ (l : List A). EachHolds Reads l []) (sym (drop_all i xs past)) refl
 
 -- the element at a place is the first of what is left from there on
 pub left_from : {A : Type 0} (xs : List A) (i : ℕ) (x : A) → i < length xs → x ≡ get_or xs i x → drop i xs ≡ x ∷ drop (i + 1) xs

@@ -8,14 +8,14 @@ use Rattle.raft_history.specs.Batches.{Event}
 use Rattle.raft_history.specs.Histories.{IsSmall}
 use Rattle.raft_replay.specs.declared.piece.Piece.{Piece}
 use Rattle.raft_tickets.specs.Draws.{TicketBook, Drawer, IsSeatOf, HasEnded}
-use Rattle.raft_replay.specs.Segments.{ReadsSegments, CannotBeRead}
+use Rattle.raft_replay.specs.Segments.{SegmentsHold, CannotBeRead}
 use Rattle.raft_tickets.specs.Weights.{weigh, occurrences}
 
 -- a machine that stands exactly for so many segments from this one on
 pub record IsPiece {M : Type 0} (stands_exactly : M → List Event → Type 0) (segments : List (Vec Part Global)) (from count : ℕ) (machine : M) : Type 0 where
   pub inside : from + count ≤ length segments
   pub history : List Event
-  pub reads : ReadsSegments (take count (drop from segments)) history
+  pub reads : SegmentsHold (take count (drop from segments)) history
   pub exact : IsSmall history → stands_exactly machine history
 
 -- a piece whose machine stands exactly for its segments
@@ -27,17 +27,17 @@ abbrev pub covers : ℕ → ℕ → ℕ → ℕ
 covers from count x = if nat_le from x && nat_lt x (from + count) then 1 else 0
 
 -- how many pieces have the segment
-abbrev pub covering : {M : Type 0} → ℕ → List (Piece M) → ℕ
-covering x pieces = weigh (λ piece. covers piece.from piece.count x) pieces
+abbrev pub cover_count : {M : Type 0} → ℕ → List (Piece M) → ℕ
+cover_count x pieces = weigh (λ piece. covers piece.from piece.count x) pieces
 
 -- each segment is in one piece
 abbrev pub CoverOnce : {M : Type 0} → List (Vec Part Global) → List (Piece M) → Type 0
-CoverOnce segments pieces = (x : ℕ) → x < length segments → covering x pieces ≡ 1
+CoverOnce segments pieces = (x : ℕ) → x < length segments → cover_count x pieces ≡ 1
 
 -- pieces of what a seat has drawn, up to its end
 pub record IsDone {M : Type 0} (stands_exactly : M → List Event → Type 0) (segments : List (Vec Part Global)) (drawn : List ℕ) (pieces : List (Piece M)) : Type 0 where
   pub each : All (IsPieceOf stands_exactly segments) pieces
-  pub covered : (x : ℕ) → x < length segments → covering x pieces ≡ occurrences x drawn
+  pub covered : (x : ℕ) → x < length segments → cover_count x pieces ≡ occurrences x drawn
   pub ended : HasEnded (length segments) drawn
 
 -- what a worker gives back: pieces of what its seat has drawn, or a refusal, want of memory and the factory's own aside only where the segments can't be read
@@ -49,5 +49,5 @@ Gives stands_exactly Own segments drawn result =
 pub record AreDone {M : Type 0} (stands_exactly : M → List Event → Type 0) (segments : List (Vec Part Global)) (tickets : TicketBook) (seats : List Drawer) (pieces : List (Piece M)) : Type 0 where
   pub of_tickets : All (IsSeatOf tickets) seats
   pub each : All (IsPieceOf stands_exactly segments) pieces
-  pub covered : (x : ℕ) → x < length segments → covering x pieces ≡ weigh (λ seat. occurrences x seat.drawn) seats
+  pub covered : (x : ℕ) → x < length segments → cover_count x pieces ≡ weigh (λ seat. occurrences x seat.drawn) seats
   pub ended : All (λ seat. HasEnded (length segments) seat.drawn) seats

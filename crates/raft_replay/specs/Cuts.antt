@@ -2,7 +2,7 @@
 use Rattle.std.specs.Prelude.{ℕ, ◌+◌, List, take, drop}
 use Rattle.raft_records.specs.FilePart.{Part}
 use Rattle.raft_history.specs.Batches.{Event}
-use Rattle.raft_replay.specs.Segments.{IsReadBehind, ReadsFrom, ReadsPart}
+use Rattle.raft_replay.specs.Segments.{AreHeldInTurn, HoldsFrom}
 
 -- the bytes in front of a place
 abbrev pub bytes_before : Part → ℕ → Part
@@ -14,4 +14,5 @@ rest_of part at = record part { offset = part.offset + at; bytes = drop at part.
 
 -- whatever is read of a part, it is what is read in front of this place and what is read from there on
 abbrev pub BatchesMeet : Part → ℕ → Type 0
-BatchesMeet part at = (h : List Event) → ReadsPart part h → IsReadBehind (ReadsPart (bytes_before part at)) (ReadsFrom part at) h
+BatchesMeet part at =
+    (h : List Event) → HoldsFrom part 0 h → AreHeldInTurn (HoldsFrom (bytes_before part at) 0) (HoldsFrom part at) h

@@ -7,9 +7,9 @@ use Rattle.raft_history.specs.Batches.{Event}
 use Rattle.raft_history.specs.Histories.{IsSmall, Sound, Apart, IsOfQueue}
 
 -- histories, one behind the other
-abbrev pub concatenated : List (List Event) → List Event
-concatenated [] = []
-concatenated (h ∷ hs) = h ++ concatenated hs
+abbrev pub histories_in_turn : List (List Event) → List Event
+histories_in_turn [] = []
+histories_in_turn (h ∷ hs) = h ++ histories_in_turn hs
 
 -- each machine stands for its own history
 abbrev pub StandForEach : {M : Type 0} → (M → List Event → Type 0) → List M → List (List Event) → Type 0
@@ -20,12 +20,12 @@ StandForEach Stands (m ∷ ms) (h ∷ hs) = Stands m h × StandForEach Stands ms
 
 -- the machine stands for whatever histories the pieces stand for, one behind the other, and exactly if they do and groups keep apart
 pub record IsMerged {M : Type 0} (stands_for stands_exactly : M → List Event → Type 0) (pieces : List M) (merged : M) : Type 0 where
-  pub stands : (hs : List (List Event)) → IsSmall (concatenated hs) → StandForEach stands_for pieces hs → stands_for merged (concatenated hs)
-  pub exact : (hs : List (List Event)) → IsSmall (concatenated hs) → Apart (concatenated hs) → StandForEach stands_exactly pieces hs → stands_exactly merged (concatenated hs)
+  pub stands : (hs : List (List Event)) → IsSmall (histories_in_turn hs) → StandForEach stands_for pieces hs → stands_for merged (histories_in_turn hs)
+  pub exact : (hs : List (List Event)) → IsSmall (histories_in_turn hs) → Apart (histories_in_turn hs) → StandForEach stands_exactly pieces hs → stands_exactly merged (histories_in_turn hs)
 
 -- whatever histories of this queue the pieces stand for, one behind the other they make none that can be read
 pub record CannotMerge {M : Type 0} (stands_for : M → List Event → Type 0) (queue : LogQueue) (pieces : List M) : Type 0 where
-  pub unsound : (hs : List (List Event)) → IsSmall (concatenated hs) → IsOfQueue queue (concatenated hs) → StandForEach stands_for pieces hs → ¬ (Sound (concatenated hs))
+  pub unsound : (hs : List (List Event)) → IsSmall (histories_in_turn hs) → IsOfQueue queue (histories_in_turn hs) → StandForEach stands_for pieces hs → ¬ (Sound (histories_in_turn hs))
 
 -- what a merge answers: the merged machine, or a refusal, want of memory aside only where the pieces can't be merged
 abbrev pub Merges : {M : Type 0} → (M → List Event → Type 0) → (M → List Event → Type 0) → LogQueue → List M → Result M Error → Type 0

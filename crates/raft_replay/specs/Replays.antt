@@ -4,7 +4,7 @@ use Rattle.std.specs.Global.{Global}
 use Rattle.raft_records.specs.FilePart.{Part}
 use Rattle.raft_history.specs.Batches.{Event}
 use Rattle.raft_history.specs.Histories.{IsSmall, Sound, Apart}
-use Rattle.raft_replay.specs.Segments.{ReadsSegments}
+use Rattle.raft_replay.specs.Segments.{SegmentsHold}
 
 -- the machine has replayed all that is read: it stands for that behind whatever it stood for, and exactly if it did exactly
 pub record HasReplayed {M : Type 0} (Reads : List Event → Type 0) (stands_for stands_exactly : M → List Event → Type 0) (old new : M) : Type 0 where
@@ -20,6 +20,6 @@ pub record CannotFollow (Reads Stood : List Event → Type 0) : Type 0 where
 -- the machine stands for the batches of all segments, in order, and exactly where groups keep apart
 pub record IsReplayed {M : Type 0} (stands_for stands_exactly : M → List Event → Type 0) (segments : List (Vec Part Global)) (machine : M) : Type 0 where
   pub history : List Event
-  pub reads : ReadsSegments segments history
+  pub reads : SegmentsHold segments history
   pub stands : IsSmall history → stands_for machine history
   pub exact : IsSmall history → Apart history → stands_exactly machine history

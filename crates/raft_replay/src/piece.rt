@@ -37,7 +37,7 @@ pub(crate) struct Piece<M> {
 }
 
 impl<M: ReplayMachine> Piece<M> {
-    ghost use Rattle.raft_replay.specs.Covers.{IsPieceOf, CoverOnce, covers, covering};
+    ghost use Rattle.raft_replay.specs.Covers.{IsPieceOf, CoverOnce, covers, cover_count};
 
     /// The piece that goes on with this segment: the last one where it ends there, else a new one.
     pub(crate) fn at<F: Factory<M>>(
@@ -53,7 +53,7 @@ impl<M: ReplayMachine> Piece<M> {
             IfOk result (λ p. IsPieceOf M.stands_exactly segments p
             × All (IsPieceOf M.stands_exactly segments) pieces.new.items) }
         ensures covered { IfOk result (λ p. (x : ℕ) →
-            covering x pieces.new.items + covers p.from p.count x ≡ covering x pieces.old.items) }
+            cover_count x pieces.new.items + covers p.from p.count x ≡ cover_count x pieces.old.items) }
         ensures err { IfErr result (λ e. e ≢ Error.Memory → F.may_refuse factory.entry.now e) }
     {
         let Some(last) = pieces.pop() else {
@@ -106,7 +106,8 @@ impl<M: ReplayMachine> Piece<M> {
 
     /// The machines of pieces, in the order of what they have replayed.
     pub(crate) fn line_up(alloc: Global, mut pieces: Vec<Piece<M>>) -> Result<Vec<M>>
-        ensures ok { (segments : List (Vec Part Global)) → All (IsPieceOf M.stands_exactly segments) pieces.items →
+        ensures ok { (segments : List (Vec Part Global)) →
+            All (IsPieceOf M.stands_exactly segments) pieces.items →
             CoverOnce segments pieces.items → IfOk result (λ v. AreInOrder M.stands_exactly segments v.items) }
         ensures fault { IfErr result (λ e. e ≡ Error.Memory) }
     {

@@ -21,7 +21,7 @@ ghost use Rattle.std.specs.Prelude.{
 };
 ghost use Rattle.std.specs.Thread.{IsSync};
 ghost use denote.Param.Send.{IsSend};
-ghost use Rattle.raft_table.specs.Start.{IsInvalidArgument};
+ghost use Rattle.raft_base.specs.Errors.{IsInvalidArgument};
 ghost use Rattle.raft_replay.specs.PieceMerges.{IsMerged, CannotMerge, Merges};
 ghost use Rattle.raft_replay.specs.PlanWalks.{IsNext, IsReached, cost};
 ghost use Rattle.raft_replay.specs.Plans.{leaves};
@@ -38,7 +38,11 @@ pub(crate) const MAX_LEVELS: usize = 64;
 /// Merges neighbouring pieces as the plan says: both branches of a join at once, where both have pieces to merge, through
 /// 64 levels of the plan, which is more than any plan by halves has; what lies deeper is merged one after another. A
 /// branch for which no thread can be started is walked by the caller. However deep the plan is, little stack is needed.
-/// `InvalidArgument` where the plan is of another number of pieces.
+///
+/// # Errors
+///
+/// `InvalidArgument` where the plan is of another number of pieces, then whatever a merge of two neighbours answers, and
+/// `Memory`.
 pub fn merge_pieces<M: ReplayMachine, R: Threads + Sync>(
     rt: &R,
     pieces: Vec<M>,
@@ -99,10 +103,12 @@ fn oldest_of<'a, M: ReplayMachine>(
     pieces: &mut Vec<M>,
 ) -> Result<M>
     requires { leaves plan.now ≤ vec_len pieces.old }
-    ensures ok { (all : List M) → IsNext M.stands_for M.stands_exactly all plan.entry.now (reverse waiting.old.items)
+    ensures ok { (all : List M) → IsNext M.stands_for M.stands_exactly all plan.entry.now
+        (reverse waiting.old.items)
         (reverse pieces.old.items) → IfOk result (IsReached M.stands_for M.stands_exactly all
         (reverse waiting.new.items) (reverse pieces.new.items)) }
-    ensures cost { OnOk result (weigh cost waiting.new.items + 2 ≡ weigh cost waiting.old.items + 2 * leaves plan.entry.now) }
+    ensures cost { OnOk result (weigh cost waiting.new.items + 2 ≡ weigh cost waiting.old.items + 2
+        * leaves plan.entry.now) }
     ensures fault { IfErr result (λ e. e ≡ Error.Memory) }
 {
     while let Plan::Join(left, right) = plan {
@@ -122,9 +128,10 @@ fn merge_waiting<M: ReplayMachine>(
     mut pieces: Vec<M>,
     queue: LogQueue,
 ) -> Result<M>
-    requires { (all : List M) × IsReached M.stands_for M.stands_exactly all (reverse waiting.items) (reverse pieces.items)
-        merged }
-    ensures { (all : List M) → IsReached M.stands_for M.stands_exactly all (reverse waiting.entry.items) (reverse pieces.items)
+    requires { (all : List M) × IsReached M.stands_for M.stands_exactly all (reverse waiting.items)
+        (reverse pieces.items) merged }
+    ensures { (all : List M) → IsReached M.stands_for M.stands_exactly all
+        (reverse waiting.entry.items) (reverse pieces.items)
         merged → Merges M.stands_for M.stands_exactly queue all result }
 {
     while let Some(next) = waiting.pop() {
@@ -141,13 +148,16 @@ fn merge_next<'a, M: ReplayMachine>(
     pieces: &mut Vec<M>,
     queue: LogQueue,
 ) -> Result<M>
-    requires { (all : List M) × IsReached M.stands_for M.stands_exactly all (next ∷ reverse waiting.old.items)
-        (reverse pieces.old.items) merged }
-    ensures ok { (all : List M) → IsReached M.stands_for M.stands_exactly all (next.entry ∷ reverse waiting.old.items)
+    requires { (all : List M) × IsReached M.stands_for M.stands_exactly all
+        (next ∷ reverse waiting.old.items) (reverse pieces.old.items) merged }
+    ensures ok { (all : List M) → IsReached M.stands_for M.stands_exactly all
+        (next.entry ∷ reverse waiting.old.items)
         (reverse pieces.old.items) merged → IfOk result (IsReached M.stands_for M.stands_exactly all
         (reverse waiting.new.items) (reverse pieces.new.items)) }
-    ensures cost { OnOk result (weigh cost waiting.new.items < weigh cost waiting.old.items + cost next.entry) }
-    ensures refused { IfErr result (λ e. e ≢ Error.Memory → (all : List M) → IsReached M.stands_for M.stands_exactly all
+    ensures cost { OnOk result (weigh cost waiting.new.items < weigh cost waiting.old.items + cost
+        next.entry) }
+    ensures refused { IfErr result (λ e. e ≢ Error.Memory → (all : List M) →
+        IsReached M.stands_for M.stands_exactly all
         (next.entry ∷ reverse waiting.old.items) (reverse pieces.old.items) merged → CannotMerge M.stands_for queue all) }
 {
     match next {
@@ -234,7 +244,8 @@ fn cut<M: ReplayMachine>(mut pieces: Vec<M>, left: &Plan, right: &Plan) -> Resul
 
 /// Two merged neighbours merged, or the first refusal of either.
 fn merge_both<M: ReplayMachine>(older: Result<M>, newer: Result<M>, queue: LogQueue) -> Result<M>
-    ensures { (xs ys zs : List M) → zs ≡ xs ++ ys → Merges M.stands_for M.stands_exactly queue xs older →
+    ensures { (xs ys zs : List M) → zs ≡ xs ++ ys →
+        Merges M.stands_for M.stands_exactly queue xs older →
         Merges M.stands_for M.stands_exactly queue ys newer → Merges M.stands_for M.stands_exactly queue zs result }
 {
     let mut older = older?;

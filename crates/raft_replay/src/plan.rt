@@ -91,6 +91,10 @@ impl Plan {
     }
 
     /// The plan of this many pieces by halves.
+    ///
+    /// # Errors
+    ///
+    /// `Memory`.
     pub fn halves(alloc: Global, count: usize) -> Result<Plan>
         requires { 0 < count }
         ensures ok { IfOk result (λ plan. leaves plan ≡ count) }

@@ -8,6 +8,7 @@ ghost use Rattle.std.specs.Prelude.{
   ◌^◌,
   ◌<◌,
   ◌↔◌,
+  All,
   EachIndex,
   List,
   [],
@@ -24,10 +25,10 @@ ghost use Rattle.std.specs.Prelude.{
 };
 ghost use Rattle.std.specs.Global.{Global};
 ghost use Rattle.raft_records.specs.FilePart.{Part};
-ghost use Rattle.raft_table.specs.Start.{IsInvalidArgument};
+ghost use Rattle.raft_base.specs.Errors.{IsInvalidArgument};
 ghost use Rattle.raft_replay.specs.Plans.{leaves};
 ghost use Rattle.raft_replay.specs.MachineOrder.{IsUnderway};
-ghost use Rattle.raft_replay.specs.Segments.{CannotBeRead, PartsAreOf, SegmentsAreOf};
+ghost use Rattle.raft_replay.specs.Segments.{CannotBeRead, SegmentsAreOf};
 ghost use Rattle.raft_replay.specs.Replays.{IsReplayed};
 ghost use Rattle.raft_replay.specs.Schedules.{IsSchedule, switches, count_below, pieces_in};
 
@@ -42,9 +43,12 @@ use std::alloc::Global;
 /// Does on the caller's thread what workers would do if `draws` named, segment by segment, who draws next; behind its
 /// end worker 0 draws. A worker that draws the segment after its last one goes on in the same machine, else it begins
 /// another; the pieces are merged by the plan. Without segments it is a new machine, whatever the plan.
+///
+/// # Errors
+///
 /// `InvalidArgument` for another number of workers than 1 to 256, for a part of another queue, for a worker that isn't
-/// there, and for a plan of another number of pieces. Any other refusal than that, than `Memory` and than the factory's
-/// own comes only where a part isn't a row of readable batches or all batches, in order, can't be read.
+/// there, and for a plan of another number of pieces; `Memory`; the factory's own. Any other comes only where a part isn't
+/// a row of readable batches or all batches, in order, can't be read.
 pub fn replay_scheduled<M: ReplayMachine, F: Factory<M>>(
     alloc: Global,
     factory: &F,
@@ -56,11 +60,12 @@ pub fn replay_scheduled<M: ReplayMachine, F: Factory<M>>(
 ) -> Result<M>
     requires { (m : M) → F.gives factory.now m → M.stands_exactly m [] }
     ensures ok { IfOk result (IsReplayed M.stands_for M.stands_exactly segments.entry.now) }
-    ensures accepted { OnOk result (IsSchedule segments.entry.now queue workers draws.entry.now plan.entry.now) }
+    ensures accepted { OnOk result (IsSchedule segments.entry.now queue workers draws.entry.now
+        plan.entry.now) }
     ensures refused { IsSchedule segments.entry.now queue workers draws.entry.now plan.entry.now →
         IfErr result (λ e. e ≢ Error.Memory → ¬ (F.may_refuse factory.entry.now e) → CannotBeRead segments.entry.now) }
-    ensures fault { (IsSchedule segments.entry.now queue workers draws.entry.now plan.entry.now → ⊥) →
-        IfErr result (λ e. e ≢ Error.Memory → IsInvalidArgument e) }
+    ensures fault { (IsSchedule segments.entry.now queue workers draws.entry.now plan.entry.now →
+        ⊥) → IfErr result (λ e. e ≢ Error.Memory → IsInvalidArgument e) }
 {
     if !is_schedule(segments, queue, workers, draws, plan) {
         return Err(Error::InvalidArgument(format!(in alloc;
@@ -114,7 +119,7 @@ fn is_schedule(
 ) -> bool
     ensures { IsTrue result ↔ IsSchedule segments.now queue workers draws.now plan.now }
 {
-    if workers == 0 || workers > MAX_WORKERS || !are_of(segments, queue) {
+    if workers == 0 || workers > MAX_WORKERS || !segments_are_of(segments, queue) {
         return false;
     }
     if !are_known(draws, workers) {
@@ -139,7 +144,7 @@ fn fits_pieces(plan: &Plan, segments: usize, draws: &[usize]) -> bool
 }
 
 /// Whether every part of every segment is of the queue.
-pub(crate) fn are_of(segments: &[Segment], queue: LogQueue) -> bool
+pub(crate) fn segments_are_of(segments: &[Segment], queue: LogQueue) -> bool
     ensures { IsTrue result ↔ SegmentsAreOf queue segments.now }
 {
     for segment in segments {
@@ -152,7 +157,7 @@ pub(crate) fn are_of(segments: &[Segment], queue: LogQueue) -> bool
 
 /// Whether every part is of the queue.
 fn parts_are_of(parts: &Vec<FilePart>, queue: LogQueue) -> bool
-    ensures { IsTrue result ↔ PartsAreOf queue parts.now.items }
+    ensures { IsTrue result ↔ All (λ part. part.id.queue ≡ queue) parts.now.items }
 {
     for part in parts {
         if part.id().queue != queue {
@@ -199,7 +204,8 @@ fn piece_behind<M: ReplayMachine, F: Factory<M>>(
     ensures ok { IfOk result (λ m. (segments : List (Vec Part Global)) →
         IsUnderway M.stands_exactly segments machines.old.items current →
         IsUnderway M.stands_exactly segments machines.new.items m) }
-    ensures count { OnOk result (vec_len machines.new ≡ vec_len machines.old + (if changes then 1 else 0)) }
+    ensures count { OnOk result (vec_len machines.new ≡ vec_len
+        machines.old + (if changes then 1 else 0)) }
     ensures err { IfErr result (λ e. e ≢ Error.Memory → F.may_refuse factory.entry.now e) }
 {
     if !changes {

@@ -5,7 +5,7 @@ ghost use Rattle.std.specs.Global.{Global};
 ghost use Rattle.raft_records.specs.FilePart.{Part};
 ghost use Rattle.raft_history.specs.Batches.{Event};
 ghost use Rattle.raft_replay.specs.Replays.{HasReplayed, CannotFollow};
-ghost use Rattle.raft_replay.specs.Segments.{ReadsPart, ReadsParts, ReadsSegments};
+ghost use Rattle.raft_replay.specs.Segments.{HoldsFrom, EachHolds, SegmentsHold};
 
 use raft_base::{Error, Result};
 use raft_history::ReplayMachine;
@@ -14,13 +14,17 @@ use raft_records::{FilePart, next_batch};
 /// Parts of files of a queue, one behind the other.
 pub type Segment = Vec<FilePart>;
 
-/// Replays every batch of every part, in order. A refusal other than `Memory` comes only where a part isn't a row of
-/// readable batches, or where the batches behind those that the machine stands for can't be read.
+/// Replays every batch of every part, in order.
+///
+/// # Errors
+///
+/// `Memory`. Any other comes only where a part isn't a row of readable batches, or where the batches behind those that the
+/// machine stands for can't be read. How many batches the machine has then replayed is not known.
 pub fn replay_segment<M: ReplayMachine>(machine: &mut M, segment: &Segment) -> Result<()>
-    ensures ok { OnOk result (HasReplayed (ReadsParts segment.entry.now.items) M.stands_for M.stands_exactly
-        machine.old machine.new) }
+    ensures ok { OnOk result (HasReplayed (EachHolds (λ part. HoldsFrom part 0)
+        segment.entry.now.items) M.stands_for M.stands_exactly machine.old machine.new) }
     ensures refused { IfErr result (λ e. e ≢ Error.Memory →
-        CannotFollow (ReadsParts segment.entry.now.items) (M.stands_for machine.old)) }
+        CannotFollow (EachHolds (λ part. HoldsFrom part 0) segment.entry.now.items) (M.stands_for machine.old)) }
 {
     for part in segment {
         replay_part(machine, part)?;
@@ -30,9 +34,10 @@ pub fn replay_segment<M: ReplayMachine>(machine: &mut M, segment: &Segment) -> R
 
 /// Replays the batches of a part.
 fn replay_part<M: ReplayMachine>(machine: &mut M, part: &FilePart) -> Result<()>
-    ensures ok { OnOk result (HasReplayed (ReadsPart part.now) M.stands_for M.stands_exactly machine.old machine.new) }
+    ensures ok { OnOk result (HasReplayed (HoldsFrom part.now 0) M.stands_for M.stands_exactly
+        machine.old machine.new) }
     ensures refused { IfErr result (λ e. e ≢ Error.Memory →
-        CannotFollow (ReadsPart part.now) (M.stands_for machine.old)) }
+        CannotFollow (HoldsFrom part.now 0) (M.stands_for machine.old)) }
 {
     let mut at = 0;
     while let Some((batch, next)) = next_batch(part, at)? {
@@ -45,5 +50,5 @@ fn replay_part<M: ReplayMachine>(machine: &mut M, part: &FilePart) -> Result<()>
 /// The parts of segments read as one history at most.
 pub fn segments_read_as_one_history()
     ensures { (segments : List (Vec Part Global)) (g h : List Event)
-        → ReadsSegments segments g → ReadsSegments segments h → g ≡ h }
+        → SegmentsHold segments g → SegmentsHold segments h → g ≡ h }
 {}

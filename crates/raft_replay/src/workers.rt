@@ -22,7 +22,7 @@ ghost use Rattle.std.specs.Prelude.{
 };
 ghost use Rattle.std.specs.Global.{Global};
 ghost use Rattle.raft_records.specs.FilePart.{Part};
-ghost use Rattle.raft_table.specs.Start.{IsInvalidArgument};
+ghost use Rattle.raft_base.specs.Errors.{IsInvalidArgument};
 ghost use Rattle.raft_replay.specs.Covers.{IsPieceOf, CoverOnce, AreDone, Gives};
 ghost use Rattle.raft_tickets.specs.Draws.{TicketBook, IsSeatOf, IsNewSeatOf};
 ghost use Rattle.raft_replay.specs.WorkedWords.{IsBack, HasRefusal};
@@ -31,7 +31,7 @@ ghost use Rattle.raft_replay.specs.Replays.{IsReplayed};
 
 use crate::piece::Piece;
 use crate::pieces::{MAX_LEVELS, merge_at_once};
-use crate::scheduled::are_of;
+use crate::scheduled::segments_are_of;
 use crate::{Gate, Plan, Segment};
 use raft_base::{Error, Factory, LogQueue, Result};
 use raft_history::ReplayMachine;
@@ -51,9 +51,12 @@ const SEGMENT_LIMIT: usize = 1 << 62;
 /// the caller. Each change of drawer makes a piece, and all pieces are held until the last segment is replayed: so hand in
 /// few segments, one to four for each worker, of about one size. The answer is the same for any cut into segments, and
 /// whatever the workers' turns: the machine stands for all batches in order, exactly where groups keep apart.
-/// `InvalidArgument` for another number of workers, for 2^62 segments and more, and for a part of another queue. Any other
-/// refusal than that, than `Memory` and than the factory's own comes only where a part isn't a row of readable batches or
-/// all batches, in order, can't be read.
+///
+/// # Errors
+///
+/// `InvalidArgument` for another number of workers, for 2^62 segments and more, and for a part of another queue; `Memory`;
+/// the factory's own. Any other comes only where a part isn't a row of readable batches or all batches, in order, can't be
+/// read.
 pub fn replay_segments<M: ReplayMachine, F: Factory<M>, G: Gate, R: Threads + Sync>(
     rt: &R,
     alloc: Global,
@@ -65,14 +68,15 @@ pub fn replay_segments<M: ReplayMachine, F: Factory<M>, G: Gate, R: Threads + Sy
 ) -> Result<M>
     requires { (m : M) → F.gives factory.now m → M.stands_exactly m [] }
     ensures ok { IfOk result (IsReplayed M.stands_for M.stands_exactly segments.entry.now) }
-    ensures accepted { OnOk result ((0 < workers) × (workers ≤ 256) × SegmentsAreOf queue segments.entry.now) }
+    ensures accepted { OnOk result ((0 < workers) × (workers ≤ 256) ×
+        SegmentsAreOf queue segments.entry.now) }
     ensures refused { (0 < workers) × (workers ≤ 256) × (length segments.entry.now < 2 ^ 62) ×
         SegmentsAreOf queue segments.entry.now → IfErr result (λ e. e ≢ Error.Memory →
         ¬ (F.may_refuse factory.entry.now e) → CannotBeRead segments.entry.now) }
     ensures fault { ((0 < workers) × (workers ≤ 256) × (length segments.entry.now < 2 ^ 62) ×
         SegmentsAreOf queue segments.entry.now → ⊥) → IfErr result (λ e. e ≢ Error.Memory → IsInvalidArgument e) }
 {
-    if !is_work(segments, queue, workers) {
+    if !are_accepted(segments, queue, workers) {
         return Err(Error::InvalidArgument(format!(in alloc;
             "{workers} workers, or parts of another queue"
         )?));
@@ -86,15 +90,16 @@ pub fn replay_segments<M: ReplayMachine, F: Factory<M>, G: Gate, R: Threads + Sy
     merge_at_once(rt, machines, &plan, queue, MAX_LEVELS)
 }
 
-/// Whether so many workers replay segments of this queue.
-fn is_work(segments: &[Segment], queue: LogQueue, workers: usize) -> bool
+/// Whether so many workers may replay these segments: 1 to 256 workers, fewer than 2^62 segments, and every part of the
+/// queue.
+fn are_accepted(segments: &[Segment], queue: LogQueue, workers: usize) -> bool
     ensures { IsTrue result ↔ ((0 < workers) × (workers ≤ 256) × (length segments.now < 2 ^ 62) ×
         SegmentsAreOf queue segments.now) }
 {
     if workers == 0 || workers > MAX_WORKERS || segments.len() >= SEGMENT_LIMIT {
         return false;
     }
-    are_of(segments, queue)
+    segments_are_of(segments, queue)
 }
 
 /// The pieces that the workers make: each segment is in one of them. No more workers are started than there are segments.
@@ -108,7 +113,8 @@ fn drawn_pieces<M: ReplayMachine, F: Factory<M>, G: Gate, R: Threads + Sync>(
 ) -> Result<Vec<Piece<M>>>
     requires factory { (m : M) → F.gives factory.now m → M.stands_exactly m [] }
     requires workers { (0 < workers) × (workers ≤ 256) × (length segments.now < 2 ^ 62) }
-    ensures pieces { IfOk result (λ v. All (IsPieceOf M.stands_exactly segments.entry.now) v.items) }
+    ensures pieces { IfOk result (λ v. All (IsPieceOf M.stands_exactly segments.entry.now)
+        v.items) }
     ensures tile { IfOk result (λ v. CoverOnce segments.entry.now v.items) }
     ensures refused { IfErr result (λ e. e ≢ Error.Memory → ¬ (F.may_refuse factory.entry.now e) →
         CannotBeRead segments.entry.now) }
@@ -153,7 +159,7 @@ struct Worked<M: ReplayMachine> {
     pieces: Result<Vec<Piece<M>>>,
 }
 
-/// Each seat's worker at once.
+/// Each seat's worker at once; each gives its seat back.
 fn run_workers<M: ReplayMachine, F: Factory<M>, G: Gate, R: Threads + Sync>(
     rt: &R,
     alloc: Global,
@@ -176,27 +182,12 @@ fn run_workers<M: ReplayMachine, F: Factory<M>, G: Gate, R: Threads + Sync>(
             ((m : M) → F.gives factory.now m → M.stands_exactly m []) }
         ensures { IsSeatOf tickets.entry.now result.seat ×
             Gives M.stands_exactly (F.may_refuse factory.entry.now) segments.entry.now result.seat.drawn result.pieces }
-    { work(alloc, factory, segments, tickets, gate, seat) };
+    {
+        let mut seat = seat;
+        let pieces = replay_drawn(alloc, factory, segments, tickets, gate, &mut seat);
+        Worked { seat, pieces }
+    };
     Ok(thread::map_vec(rt, seats, &one)?)
-}
-
-/// A worker, which gives its seat back.
-fn work<M: ReplayMachine, F: Factory<M>, G: Gate>(
-    alloc: Global,
-    factory: &F,
-    segments: &[Segment],
-    tickets: &Tickets,
-    gate: &G,
-    mut seat: TicketSeat,
-) -> Worked<M>
-    requires factory { (m : M) → F.gives factory.now m → M.stands_exactly m [] }
-    requires seat { IsNewSeatOf tickets.now seat }
-    requires total { tickets.now.total ≡ length segments.now }
-    ensures { IsSeatOf tickets.entry.now result.seat ×
-        Gives M.stands_exactly (F.may_refuse factory.entry.now) segments.entry.now result.seat.drawn result.pieces }
-{
-    let pieces = replay_drawn(alloc, factory, segments, tickets, gate, &mut seat);
-    Worked { seat, pieces }
 }
 
 /// Replays the segments that the seat draws, until none is left.
@@ -212,7 +203,8 @@ fn replay_drawn<M: ReplayMachine, F: Factory<M>, G: Gate>(
     requires seat { IsNewSeatOf tickets.now seat.old }
     requires total { tickets.now.total ≡ length segments.now }
     ensures seat { IsSeatOf tickets.entry.now seat.new }
-    ensures given { Gives M.stands_exactly (F.may_refuse factory.entry.now) segments.entry.now seat.new.drawn result }
+    ensures given { Gives M.stands_exactly (F.may_refuse factory.entry.now) segments.entry.now
+        seat.new.drawn result }
 {
     let mut pieces = Vec::new(alloc);
     while let Some(number) = tickets.draw(seat) {

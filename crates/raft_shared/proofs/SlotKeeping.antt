@@ -17,7 +17,7 @@ use Rattle.raft_accessor.specs.Accessor.{slot_of, table_in, live_in_all, AreCoun
 use Rattle.raft_accessor.specs.AccessorCalls.{IsTableChanged, IsWritten}
 use Rattle.raft_accessor.specs.ItemWrites.{IsItemWritten}
 use Rattle.raft_shared.specs.SlotView.{slot_shown, AreOf, IsSlotKept}
-use Rattle.raft_accessor.specs.Updates.{IsTaken}
+use Rattle.raft_accessor.specs.Updates.{BecomesOutcome}
 use Rattle.raft_accessor.specs.Writes.{Writing, queue_of, lists, cleaned_by_command, cleaned_by_content, listed_by, IsWriteFault, AreWritten}
 use Rattle.std.specs.Ordering.{nat_cmp}
 use Rattle.raft_base.specs.declared.pipe_log.LogQueue.TheVariants.{Append, Rewrite}
@@ -71,7 +71,7 @@ all-after P w item r old new p h = elim r as (λ r. OnOk r (new ≡ old ++ liste
 -- ---- calls
 
 -- a change of a table
-pub slot-changed : {R : Type 0} (outcome : Option Table) (IsFault : Error → Type 0) (a b : Inside) (id : ℕ) (r : Result R Error) → IsTaken outcome IsFault a.tables id a.stats r b.tables b.stats
+pub slot-changed : {R : Type 0} (outcome : Option Table) (IsFault : Error → Type 0) (a b : Inside) (id : ℕ) (r : Result R Error) → BecomesOutcome outcome IsFault a.tables id a.stats r b.tables b.stats
     → b.cleaned.items ≡ a.cleaned.items → IsTableChanged outcome IsFault id r (slot_shown a).content (slot_shown b).content
 slot-changed outcome IsFault a b id r t l = record {
   ok = t.ok;

@@ -8,7 +8,7 @@ ghost use Rattle.raft_records.specs.Item.{item_of, command_item};
 ghost use Rattle.raft_records.specs.LogBatch.{populating};
 ghost use Rattle.raft_records.specs.declared.command.Command.TheVariants.{Clean};
 ghost use Rattle.raft_table.specs.Change.{after_change, AreCountsAfter, IsAllowed, IsAnswer, IsChangeFault};
-ghost use Rattle.raft_table.specs.Table.{Table, with_atomic_group, with_table_added, with_table_deleted, live_of};
+ghost use Rattle.raft_table.specs.Table.{Table, with_table_added, with_table_deleted, live_of};
 ghost use Rattle.raft_accessor.specs.Accessor.{slot_of, table_in, live_in_all};
 ghost use Rattle.raft_accessor.specs.AccessorCalls.{IsTableChanged, IsWritten};
 ghost use Rattle.raft_shared.specs.Slot.{IsSlotTable, HoldsOwnTables};
@@ -107,7 +107,8 @@ impl Slot {
         ids: &mut Vec<u64>,
     ) -> Result<()>
         requires { (state : F) (x : _) → F.pre state x }
-        ensures ok { OnOk result ((ts : List Table) × IsPermutation ts (finite.values self.now.content.tables)
+        ensures ok { OnOk result ((ts : List Table) ×
+            IsPermutation ts (finite.values self.now.content.tables)
             × FoldsTo (KeepsId F.FnMut) (wanted.old, ids.old.items) ts (wanted.new, ids.new.items)) }
         ensures memory { IfErr result (λ e. e ≡ Error.Memory) }
     {
@@ -186,7 +187,8 @@ impl Slot {
     ) -> Result<()>
         requires slot { slot_of id ≡ self.old.number }
         requires files { start ≤ end }
-        ensures changed { IsTableChanged (Some (with_atomic_group (table_in self.old.content.tables id) start end))
+        ensures changed { IsTableChanged (Some (record (table_in self.old.content.tables id)
+            { atomic_group = Some (start, end) }))
             (λ e. ⊥)
             id result self.old.content self.new.content }
         ensures counts { self.new.content.counts ≡ self.old.content.counts }
@@ -206,14 +208,16 @@ impl Slot {
     pub fn insert(&mut self, id: u64, table: MemTable) -> Result<Option<MemTable>>
         requires slot { slot_of id ≡ self.old.number }
         requires region { table.region_id ≡ id }
-        ensures ok { OnOk result (self.new.content.tables ≡ finite.insert self.old.content.tables id table) }
+        ensures ok { OnOk result (self.new.content.tables ≡ finite.insert self.old.content.tables id
+            table) }
         ensures replaced { IfOk result (λ t. t ≡ finite.get self.old.content.tables id) }
         ensures own { IfOk result (λ t. IfSome t (IsSlotTable self.old.number id)) }
         ensures counts { OnOk result (self.new.content.counts
             ≡ with_table_deleted (table_in self.old.content.tables id) (with_table_added table self.old.content.counts)) }
         ensures err { OnErr result (self.new.content.tables ≡ self.old.content.tables) }
         ensures counts_err { OnErr result (self.new.content.counts ≡ self.old.content.counts) }
-        ensures fault { IfErr result (λ e. (e ≡ Error.Memory) ⊎ ((e ≡ Error.Full) × ((q : LogQueue) ×
+        ensures fault { IfErr result (λ e. (e ≡ Error.Memory) ⊎
+            ((e ≡ Error.Full) × ((q : LogQueue) ×
             (2 ^ 64 ≤ live_in_all q self.old.content.tables + live_of q table)))) }
         ensures cleaned { self.new.content.cleaned ≡ self.old.content.cleaned }
         ensures number { self.new.number ≡ self.old.number }
@@ -229,7 +233,8 @@ impl Slot {
     /// `Memory`, where the region is to be listed. The slot is then as it was.
     pub fn remove(&mut self, id: u64, record_tombstone: bool) -> Result<Option<MemTable>>
         requires { slot_of id ≡ self.old.number }
-        ensures tables { OnOk result (self.new.content.tables ≡ finite.remove self.old.content.tables id) }
+        ensures tables { OnOk result (self.new.content.tables ≡ finite.remove
+            self.old.content.tables id) }
         ensures taken { IfOk result (λ t. t ≡ finite.get self.old.content.tables id) }
         ensures own { IfOk result (λ t. IfSome t (IsSlotTable self.old.number id)) }
         ensures counts { OnOk result (self.new.content.counts
@@ -253,7 +258,8 @@ impl Slot {
     /// Those of [`RegionTables::append_item`]. Tables and list are then as they were.
     pub fn apply_append_write(&mut self, item: LogItem) -> Result<()>
         requires { slot_of item.raft_group_id ≡ self.old.number }
-        ensures written { IsWritten Appending (item_of item) result self.old.content self.new.content }
+        ensures written { IsWritten Appending (item_of item) result self.old.content
+            self.new.content }
         ensures number { self.new.number ≡ self.old.number }
     {
         self.tables
@@ -274,7 +280,8 @@ impl Slot {
         new_file: FileSeq,
     ) -> Result<()>
         requires { slot_of item.raft_group_id ≡ self.old.number }
-        ensures written { IsWritten (Rewriting gate new_file) (item_of item) result self.old.content self.new.content }
+        ensures written { IsWritten (Rewriting gate new_file) (item_of item) result self.old.content
+            self.new.content }
         ensures number { self.new.number ≡ self.old.number }
     {
         self.tables
@@ -292,7 +299,8 @@ impl Slot {
         ensures logs { OnOk result (logs.new ≡ record logs.old {
           items = logs.old.items ++ map (λ id. command_item id Clean) self.old.content.cleaned;
         }) }
-        ensures ok { OnOk result (self.new ≡ record self.old { content = record self.old.content { cleaned = [] } }) }
+        ensures ok { OnOk result (self.new ≡ record self.old
+            { content = record self.old.content { cleaned = [] } }) }
         ensures err { OnErr result (self.new ≡ self.old) }
         ensures logs_err { OnErr result (logs.new ≡ logs.old) }
         ensures memory { IfErr result (λ e. e ≡ Error.Memory) }

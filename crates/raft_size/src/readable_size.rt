@@ -21,16 +21,16 @@ use std::ops::{Div, Mul};
 use std::str::FromStr;
 use toml::Value;
 
-// The most digits of a number.
+/// The most digits of a number.
 const DIGITS: usize = 20;
 
-// The most characters of a unit.
+/// The most characters of a unit.
 const UNIT_LEN: usize = 3;
 
-// Room for digits and a unit.
+/// Room for digits and a unit.
 const TEXT_ROOM: usize = 24;
 
-// Room for the text of a `SizeError`.
+/// Room for the text of a `SizeError`.
 const ERROR_ROOM: usize = 80;
 
 /// A size in bytes. It is printed and read with a unit, as `2KiB` or `0.5 MB`.
@@ -82,7 +82,7 @@ impl ReadableSize {
             → IsReadAs (size_text n) r → r ≡ Ok (record { 0 = n }) }
     {}
 
-    // The number and the unit that are printed.
+    /// The number and the unit that are printed.
     fn printed(self) -> (u64, &'static str)
         ensures text { size_text self.0 ≡ decimal result.0 ++ result.1.now }
         ensures unit { length result.1.now ≤ 3 }

@@ -5,13 +5,13 @@ ghost use Rattle.std.specs.Str.Parse.{AllDigits, IsNumeral, digits_value, digits
 ghost use Rattle.raft_size.specs.SizeNumber.{Number, IsNumber, IsExponent, digits_of, significant, size_of};
 ghost use Rattle.raft_size.specs.SizeReading.{has_minus, behind_sign, NoDigitFirst, TakesFraction, parts_of, HasDigitsAlone, scaled_size};
 
-// Above every number of 20 digits.
+/// Above every number of 20 digits.
 const SIGNIFICAND_LIMIT: u128 = 100_000_000_000_000_000_000;
 
-// Above the length of every text, by more than the digits that a size can have.
+/// Above the length of every text, by more than the digits that a size can have.
 const EXPONENT_LIMIT: u128 = 1 << 65;
 
-// A number, taken apart.
+/// A number, taken apart.
 #[derive(Clone, Copy)]
 pub(super) struct SizeNumber<'a> {
     is_negative: bool,
@@ -22,7 +22,7 @@ pub(super) struct SizeNumber<'a> {
 }
 
 impl<'a> SizeNumber<'a> {
-    // The number that the text is, if it is one.
+    /// The number that the text is, if it is one.
     pub(super) fn parse(text: &'a [u8]) -> Option<SizeNumber<'a>>
         ensures number { IfSome result (λ number. IsNumber text.now (parts_of number)) }
         ensures digits { IfSome result (λ number. HasDigitsAlone (parts_of number)) }
@@ -44,12 +44,14 @@ impl<'a> SizeNumber<'a> {
         })
     }
 
-    // The number that the digits make with the point taken out, if they are few enough.
+    /// The number that the digits make with the point taken out, if they are few enough.
     pub(super) fn significand(&self) -> Option<u128>
         requires { HasDigitsAlone (parts_of self.now) }
-        ensures value { IfSome result (λ value. value ≡ digits_value 10 (digits_of (parts_of self.now))) }
+        ensures value { IfSome result (λ value. value ≡ digits_value 10
+            (digits_of (parts_of self.now))) }
         ensures bound { IfSome result (λ value. value < 10 ^ 20) }
-        ensures few { IfSome result (λ _. length (significant (digits_of (parts_of self.now))) ≤ 20) }
+        ensures few { IfSome result (λ _. length (significant (digits_of (parts_of self.now)))
+            ≤ 20) }
         ensures many { IfNone result (20 < length (significant (digits_of (parts_of self.now)))) }
     {
         let whole = value_up_to(SIGNIFICAND_LIMIT, 0, self.whole);
@@ -61,7 +63,7 @@ impl<'a> SizeNumber<'a> {
         }
     }
 
-    // The size of so many units.
+    /// The size of so many units.
     pub(super) fn size(&self, significand: u128, factor: u64) -> u64
         requires digits { HasDigitsAlone (parts_of self.now) }
         requires significand { significand ≡ digits_value 10 (digits_of (parts_of self.now)) }
@@ -83,7 +85,7 @@ impl<'a> SizeNumber<'a> {
     }
 }
 
-// Whether a minus sign stands in front, and what stands behind the sign.
+/// Whether a minus sign stands in front, and what stands behind the sign.
 fn split_sign(text: &[u8]) -> (bool, &[u8])
     ensures minus { result.0 ≡ has_minus text.now }
     ensures rest { result.1.now ≡ behind_sign text.now }
@@ -95,7 +97,7 @@ fn split_sign(text: &[u8]) -> (bool, &[u8])
     }
 }
 
-// The digits in front, and the rest.
+/// The digits in front, and the rest.
 fn split_digits(text: &[u8]) -> (&[u8], &[u8])
     ensures split { text.now ≡ result.0.now ++ result.1.now }
     ensures digits { AllDigits 10 result.0.now }
@@ -109,7 +111,7 @@ fn split_digits(text: &[u8]) -> (&[u8], &[u8])
     text.split_at(text.len())
 }
 
-// The digits behind a point in front, and the rest.
+/// The digits behind a point in front, and the rest.
 fn split_fraction(behind: &[u8]) -> (&[u8], &[u8])
     requires { NoDigitFirst behind.now }
     ensures split { TakesFraction behind.now result.0.now result.1.now }
@@ -122,10 +124,11 @@ fn split_fraction(behind: &[u8]) -> (&[u8], &[u8])
     }
 }
 
-// Whether an exponent's sign is a minus, and its digits.
+/// Whether an exponent's sign is a minus, and its digits.
 fn parse_exponent(text: &[u8]) -> Option<(bool, &[u8])>
     ensures exponent { IfSome result (λ exponent. IsExponent text.now exponent.0 exponent.1.now) }
-    ensures none { IfNone result ((minus : Bool) (digits : List ℕ) → IsExponent text.now minus digits → ⊥) }
+    ensures none { IfNone result ((minus : Bool) (digits : List ℕ) →
+        IsExponent text.now minus digits → ⊥) }
 {
     match text {
         [] => Some((false, text)),
@@ -135,7 +138,7 @@ fn parse_exponent(text: &[u8]) -> Option<(bool, &[u8])>
     }
 }
 
-// Whether a power's sign is a minus, and its digits.
+/// Whether a power's sign is a minus, and its digits.
 fn parse_power(text: &[u8]) -> Option<(bool, &[u8])>
     ensures minus { IfSome result (λ power. power.0 ≡ has_minus text.now) }
     ensures digits { IfSome result (λ power. power.1.now ≡ behind_sign text.now) }
@@ -150,7 +153,7 @@ fn parse_power(text: &[u8]) -> Option<(bool, &[u8])>
     Some((is_negative, digits))
 }
 
-// The number that the digits make behind those of `start`, capped at the limit.
+/// The number that the digits make behind those of `start`, capped at the limit.
 fn value_up_to(limit: u128, start: u128, digits: &[u8]) -> u128
     requires limit { limit < 2 ^ 100 }
     requires start { start ≤ limit }
@@ -164,7 +167,7 @@ fn value_up_to(limit: u128, start: u128, digits: &[u8]) -> u128
     value
 }
 
-// The value times powers of ten and divided by others, cut down and capped at the greatest size.
+/// The value times powers of ten and divided by others, cut down and capped at the greatest size.
 fn scaled(value: u128, up: u128, down: u128) -> u64
     requires { value < 2 ^ 120 }
     ensures { result ≡ scaled_size value up down }
@@ -176,7 +179,7 @@ fn scaled(value: u128, up: u128, down: u128) -> u64
     }
 }
 
-// The value divided by a power of ten, cut down and capped at the greatest size.
+/// The value divided by a power of ten, cut down and capped at the greatest size.
 fn lowered(value: u128, power: u128) -> u64
     requires { value < 2 ^ 120 }
     ensures { result ≡ scaled_size value 0 power }
@@ -188,7 +191,7 @@ fn lowered(value: u128, power: u128) -> u64
     }
 }
 
-// The value times a power of ten, capped at the greatest size.
+/// The value times a power of ten, capped at the greatest size.
 fn raised(value: u128, power: u128) -> u64
     ensures { result ≡ scaled_size value power 0 }
 {
@@ -202,7 +205,7 @@ fn raised(value: u128, power: u128) -> u64
     }
 }
 
-// The number, capped at the greatest size.
+/// The number, capped at the greatest size.
 fn held(number: u128) -> u64
     ensures { result ≡ min (2 ^ 64 - 1) number }
 {

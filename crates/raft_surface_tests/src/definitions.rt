@@ -15,14 +15,14 @@ ghost use Rattle.raft_records.specs.Varint.{IsVarint as IsNumber};
 ghost use Rattle.raft_memtable.specs.Accessor.{AreCountsOf, slot_of};
 ghost use Rattle.raft_memtable.specs.AccessorCalls.{IsWritten};
 ghost use Rattle.raft_memtable.specs.Histories.{IsSmall};
-ghost use Rattle.raft_memtable.specs.RecoverContext.{IsReadingExactly};
+ghost use Rattle.raft_memtable.specs.RecoverContext.{HasReadExactly};
 ghost use Rattle.raft_memtable.specs.ReplayMachine.{event};
-ghost use Rattle.raft_memtable.specs.Table.{IsCounted, compacted};
-ghost use Rattle.raft_memtable.specs.TableEntries.{IsRunIn};
+ghost use Rattle.raft_memtable.specs.Table.{IsCounted};
+ghost use Rattle.raft_memtable.specs.TableEntries.{IsRunIn, from};
 ghost use Rattle.raft_memtable.specs.Writes.{Appending};
 ghost use Rattle.raft_recover.specs.Draws.{IsSeatOf};
 ghost use Rattle.raft_recover.specs.Recovery.{IsRecovered};
-ghost use Rattle.raft_recover.specs.Segments.{ReadsSegments, SegmentsAreOf};
+ghost use Rattle.raft_recover.specs.Segments.{SegmentsHold, SegmentsAreOf};
 ghost use Rattle.raft_recover.specs.Slot.{HoldsOwnTables};
 
 use raft_base::codec::{BytesSlice, decode_var_u64};
@@ -107,7 +107,7 @@ fn append(table: &mut MemTable, run: Vec<EntryIndex>, stats: &mut GlobalStats) -
 /// Of `raft_table`.
 fn compact(table: &mut MemTable, stats: &mut GlobalStats) -> u64
     requires { IsCounted table.old stats.old }
-    ensures { table.new ≡ compacted 5 table.old }
+    ensures { table.new ≡ record table.old { entries = from 5 table.old.entries } }
 {
     table.compact_to(5, stats)
 }
@@ -144,7 +144,7 @@ fn is_empty(slot: &Slot) -> bool
 
 /// Of `raft_memtable`.
 fn tables_of_nothing(context: MemTableRecoverContext) -> Result<MemTableAccessor>
-    requires { IsReadingExactly context [] }
+    requires { HasReadExactly context [] }
 {
     context.finish()
 }
@@ -164,7 +164,7 @@ fn appended<R: Threads + Sync>(
     segments: &[Segment],
 ) -> Result<MemTableAccessor>
     requires { SegmentsAreOf Append segments.now }
-    ensures { IfOk result (IsRecovered Append (ReadsSegments segments.entry.now)) }
+    ensures { IfOk result (IsRecovered Append (SegmentsHold segments.entry.now)) }
 {
     recover(rt, alloc, segments, LogQueue::Append, 4)
 }

@@ -10,7 +10,7 @@ use Rattle.std.proofs.lemmas.List.Sums.{prefix_len-le-length}
 use Rattle.raft_base.specs.declared.pipe_log.FileId.{FileId}
 use Rattle.raft_base.specs.declared.entry_index.EntryIndex.{EntryIndex}
 use Rattle.raft_table.specs.TableEntries.{RisesFrom, AreTableEntries, start_of}
-use Rattle.raft_table.specs.KeyValues.{Keys, Stored, value_at, file_at, with_put, with_moved, moved_to}
+use Rattle.raft_table.specs.KeyValues.{Keys, Stored, value_at, file_at, with_moved, moved_to}
 use Rattle.raft_table.specs.Rewriting.{may_move, indexes_of, MovesPlacesAlone}
 use Rattle.raft_table.specs.Table.{MovesKeyAlone}
 use Rattle.raft_table.proofs.RunLemmas.{RisesFrom-append, RisesFrom-take, RisesFrom-drop}
@@ -76,14 +76,14 @@ same_key k key e = slice_cmp-IsAntisymmetric nat_cmp-IsAntisymmetric k key (equa
 pub key_moves : (key : List ℕ) (keys : Keys) (file : FileId) → MovesKeyAlone key keys (with_moved keys key file)
 key_moves key keys file = at (finite.get keys key) refl
   where
-    get_put : (s : Stored) (k : List ℕ) → finite.get (with_put keys key s.value file) k ≡ cond (eq_by_cmp (slice_cmp nat_cmp) k key) (Some (record { value = s.value; file = file })) (finite.get keys k)
+    get_put : (s : Stored) (k : List ℕ) → finite.get (finite.insert keys key (record { value = s.value; file = file })) k ≡ cond (eq_by_cmp (slice_cmp nat_cmp) k key) (Some (record { value = s.value; file = file })) (finite.get keys k)
     get_put s k = finite.get-insert nat_list_cmp_total keys key (record { value = s.value; file = file }) k
 
-    value : (s : Stored) (k : List ℕ) → finite.get keys key ≡ Some s → (b : Bool) → eq_by_cmp (slice_cmp nat_cmp) k key ≡ b → value_at (with_put keys key s.value file) k ≡ value_at keys k
+    value : (s : Stored) (k : List ℕ) → finite.get keys key ≡ Some s → (b : Bool) → eq_by_cmp (slice_cmp nat_cmp) k key ≡ b → value_at (finite.insert keys key (record { value = s.value; file = file })) k ≡ value_at keys k
     value s k is true t = rw (get_put s k, t, same_key k key t, is) refl
     value s k is false t = rw (get_put s k, t) refl
 
-    other : (s : Stored) (k : List ℕ) → k ≢ key → (b : Bool) → eq_by_cmp (slice_cmp nat_cmp) k key ≡ b → file_at (with_put keys key s.value file) k ≡ file_at keys k
+    other : (s : Stored) (k : List ℕ) → k ≢ key → (b : Bool) → eq_by_cmp (slice_cmp nat_cmp) k key ≡ b → file_at (finite.insert keys key (record { value = s.value; file = file })) k ≡ file_at keys k
     other s k d true t = absurd (d (same_key k key t))
     other s k d false t = rw (get_put s k, t) refl
 

@@ -3,8 +3,8 @@ use Rattle.std.proofs.Common.{◌≡◌, ℕ, zero, suc, ◌+◌, ◌-◌, ◌<�
 use Rattle.std.proofs.lemmas.List.{append_assoc, length-append, length-drop, length-take-le, take_more, drop_more, drop-append-le}
 use Rattle.std.proofs.lemmas.Bool.{cases_lt}
 use Rattle.raft_base.specs.declared.pipe_log.LogQueue.TheVariants.{Append, Rewrite}
-use Rattle.raft_table.specs.Blocks.{BlockSpans, expanded, AreDistinctBlocks}
-use Rattle.raft_table.specs.BlockWords.{count, starts_of, AreKept, advanced, cut_last, cut_first, joined_blocks, seam, IsAt}
+use Rattle.raft_table.specs.Blocks.{BlockSpans, entries_in_blocks, AreDistinctBlocks}
+use Rattle.raft_table.specs.BlockWords.{count, starts_of, AreKept, without_first_spans, cut_last, cut_first, joined_blocks, seam, IsAt}
 use Rattle.raft_table.specs.TableEntries.{AreTableEntries, entry_count}
 use Rattle.raft_table.specs.Fetches.{is_same_block}
 use Rattle.raft_table.proofs.RunLemmas.{RisesFrom-drop, start-of_rising}
@@ -39,7 +39,7 @@ later_block p q k w o v bs a b l =
       | inr x ↦ x
     ]
 
-cut_first_is : (w o : ℕ) (bs : List BlockSpans) (b t : BlockSpans) → w < length bs → b ≡ get_or bs w b → t ≡ advanced o b → cut_first o (drop w bs) ≡ t ∷ drop (w + 1) bs
+cut_first_is : (w o : ℕ) (bs : List BlockSpans) (b t : BlockSpans) → w < length bs → b ≡ get_or bs w b → t ≡ without_first_spans o b → cut_first o (drop w bs) ≡ t ∷ drop (w + 1) bs
 cut_first_is w o bs b t l e f =
     ap (cut_first o) (drop_more bs w b l ∙ ap (λ y. y ∷ drop (w + 1) bs) (sym e)) ∙ ap (λ y. y ∷ drop (w + 1) bs) (sym f)
 
@@ -53,27 +53,27 @@ pushed_starts j x ys t ss e f =
     ap (λ zs. zs ++ drop (seam ys (t ∷ [])) (x ∷ [])) e ∙ ap (λ z. starts_of j ys ++ drop (seam ys (t ∷ [])) (z ∷ [])) f ∙ sym (joined_starts j ys (t ∷ []))
 
 -- where a run between others starts
-pub between_start : {i n j m : ℕ} {bs ys : List BlockSpans} {ss us : List ℕ} {r q : ℕ} → AreKept i n bs ss r → AreKept j m ys us q → (p : ℕ) → 0 < m → p + m < n → AreTableEntries (take p (expanded i bs) ++ expanded j ys ++ drop (p + m) (expanded i bs)) → j ≡ i + p
+pub between_start : {i n j m : ℕ} {bs ys : List BlockSpans} {ss us : List ℕ} {r q : ℕ} → AreKept i n bs ss r → AreKept j m ys us q → (p : ℕ) → 0 < m → p + m < n → AreTableEntries (take p (entries_in_blocks i bs) ++ entries_in_blocks j ys ++ drop (p + m) (entries_in_blocks i bs)) → j ≡ i + p
 between_start {i} {n} {j} {m} {bs} {ys} h g p l f s =
-    let es = expanded i bs in
+    let es = entries_in_blocks i bs in
     let d = p + m in
     let le = (kept_facts h).length in
     let ly = (kept_facts g).length in
     let ld = length-drop d es in
-    let behind = behind_index j (expanded j ys) (drop d es) (behind_sound (take p es) (expanded j ys) (drop d es) s) (rises_expanded j ys) (omega arith) (omega arith) in
+    let behind = behind_index j (entries_in_blocks j ys) (drop d es) (behind_sound (take p es) (entries_in_blocks j ys) (drop d es) s) (rises_expanded j ys) (omega arith) (omega arith) in
     let start = start-of_rising (i + d) (drop d es) (RisesFrom-drop d i es (rises_expanded i bs) (omega arith)) (omega arith) in
     omega arith
 
 -- what is kept where a run stands between the first entries and those from a place on, the first block of which is cut
-pub kept_between : {i n j m : ℕ} {bs ys : List BlockSpans} {ss us : List ℕ} {r q : ℕ} → AreKept i n bs ss r → AreKept j m ys us q → (p k w o x : ℕ) (front : List BlockSpans) (b t : BlockSpans) → IsFront i p k bs front → IsAt (p + m) bs w o → 0 < m → x ≡ i + (p + m) → b ≡ get_or bs w b → t ≡ advanced o b → AreTableEntries (take p (expanded i bs) ++ expanded j ys ++ drop (p + m) (expanded i bs)) → IsKeptAs i n (joined_blocks front (joined_blocks ys (t ∷ [])) ++ drop (w + 1) bs) (take k ss ++ drop (seam front (joined_blocks ys (t ∷ []))) (us ++ drop (seam ys (t ∷ [])) (x ∷ [])) ++ drop (w + 1) ss) (min r p + q + (r - min r (p + m))) (take p (expanded i bs) ++ expanded j ys ++ drop (p + m) (expanded i bs))
+pub kept_between : {i n j m : ℕ} {bs ys : List BlockSpans} {ss us : List ℕ} {r q : ℕ} → AreKept i n bs ss r → AreKept j m ys us q → (p k w o x : ℕ) (front : List BlockSpans) (b t : BlockSpans) → IsFront i p k bs front → IsAt (p + m) bs w o → 0 < m → x ≡ i + (p + m) → b ≡ get_or bs w b → t ≡ without_first_spans o b → AreTableEntries (take p (entries_in_blocks i bs) ++ entries_in_blocks j ys ++ drop (p + m) (entries_in_blocks i bs)) → IsKeptAs i n (joined_blocks front (joined_blocks ys (t ∷ [])) ++ drop (w + 1) bs) (take k ss ++ drop (seam front (joined_blocks ys (t ∷ []))) (us ++ drop (seam ys (t ∷ [])) (x ∷ [])) ++ drop (w + 1) ss) (min r p + q + (r - min r (p + m))) (take p (entries_in_blocks i bs) ++ entries_in_blocks j ys ++ drop (p + m) (entries_in_blocks i bs))
 kept_between {i} {n} {j} {m} {bs} {ys} {ss} {us} {r} {q} h g p k w o x front b t f a l ex eb et s =
-    let es = expanded i bs in
+    let es = entries_in_blocks i bs in
     let d = p + m in
     let rest = drop (w + 1) bs in
     let more = joined_blocks ys (t ∷ []) in
     let kd = kept_drop i n d w o bs ss r h a in
     let is = cut_first_is w o bs b t a.block eb et in
-    let behind : expanded (i + d) (t ∷ rest) ≡ drop d es = subst (λ zs. expanded (i + d) zs ≡ drop d es) is kd.1 in
+    let behind : entries_in_blocks (i + d) (t ∷ rest) ≡ drop d es = subst (λ zs. entries_in_blocks (i + d) zs ≡ drop d es) is kd.1 in
     let back : AreDistinctBlocks (t ∷ rest) = subst AreDistinctBlocks is kd.0.distinct in
     let n0 = h.len in
     let pw = place_within d w o bs a in
@@ -93,19 +93,19 @@ kept_between {i} {n} {j} {m} {bs} {ys} {ss} {us} {r} {q} h g p k w o x front b t
     ap (drop (w + 1)) h.starts ∙ starts_drop (w + 1) i bs ∙ ap (λ z. starts_of z rest) (let e : i + count (take (w + 1) bs) ≡ i + p + count more = omega arith in e) in
     let str : AreDistinctBlocks (more ++ rest) = subst AreDistinctBlocks (sym (joined_append ys (t ∷ []) rest (omega arith))) (joined_stretches ys (t ∷ rest) g.distinct back) in
     let top = take p es in
-    let mid = expanded (i + p) ys in
-    let seg = expanded (i + p + count ys) (t ∷ []) in
-    let low = expanded (i + p + count more) rest in
+    let mid = entries_in_blocks (i + p) ys in
+    let seg = entries_in_blocks (i + p + count ys) (t ∷ []) in
+    let low = entries_in_blocks (i + p + count more) rest in
     let tail : seg ++ low ≡ drop d es =
-    ap (λ z. seg ++ expanded z rest) (let e : i + p + count more ≡ i + p + count ys + count (t ∷ []) = omega arith in e)
+    ap (λ z. seg ++ entries_in_blocks z rest) (let e : i + p + count more ≡ i + p + count ys + count (t ∷ []) = omega arith in e)
     ∙ sym (expanded-append (i + p + count ys) (t ∷ []) rest)
-    ∙ ap (λ z. expanded z (t ∷ rest)) (let e : i + p + count ys ≡ i + d = omega arith in e) ∙ behind in
-    let whole : top ++ expanded (i + p) more ++ low ≡ top ++ expanded j ys ++ drop d es =
+    ∙ ap (λ z. entries_in_blocks z (t ∷ rest)) (let e : i + p + count ys ≡ i + d = omega arith in e) ∙ behind in
+    let whole : top ++ entries_in_blocks (i + p) more ++ low ≡ top ++ entries_in_blocks j ys ++ drop d es =
     ap (λ z. top ++ z ++ low) (joined_expanded (i + p) ys (t ∷ []))
     ∙ ap (λ z. z ++ low) (sym (append_assoc top mid seg)) ∙ append_assoc (top ++ mid) seg low
-    ∙ ap (λ z. top ++ mid ++ z) tail ∙ ap (λ z. top ++ expanded z ys ++ drop d es) (sym y) in
-    let ca = entry_count-append Rewrite (top ++ expanded j ys) (drop d es) in
-    let cb = entry_count-append Rewrite top (expanded j ys) in
+    ∙ ap (λ z. top ++ mid ++ z) tail ∙ ap (λ z. top ++ entries_in_blocks z ys ++ drop d es) (sym y) in
+    let ca = entry_count-append Rewrite (top ++ entries_in_blocks j ys) (drop d es) in
+    let cb = entry_count-append Rewrite top (entries_in_blocks j ys) in
     let cf = entries_in_front p es h.table_entries.in_front in
     let cd = entries_in_front d es h.table_entries.in_front in
     let ce = entry_count-cut Rewrite d es in
@@ -124,7 +124,7 @@ pushed_length j x ys t ss e =
     ∙ ap length (pushed_starts j z ys t ss e refl) ∙ length-starts j (joined_blocks ys (t ∷ []))
 
 -- numbers of entries and of a run between them
-pub between_fits : {i n j m : ℕ} {bs ys : List BlockSpans} {ss us : List ℕ} {r q : ℕ} → AreKept i n bs ss r → AreKept j m ys us q → (p : ℕ) → 0 < length (expanded j ys) → p + length (expanded j ys) < length (expanded i bs) → (0 < m) × (p + m < n) × (i + n < 2 ^ 64) × (q ≤ m) × (r ≤ n)
+pub between_fits : {i n j m : ℕ} {bs ys : List BlockSpans} {ss us : List ℕ} {r q : ℕ} → AreKept i n bs ss r → AreKept j m ys us q → (p : ℕ) → 0 < length (entries_in_blocks j ys) → p + length (entries_in_blocks j ys) < length (entries_in_blocks i bs) → (0 < m) × (p + m < n) × (i + n < 2 ^ 64) × (q ≤ m) × (r ≤ n)
 between_fits {i} {n} {j} {m} h g p l f =
     let le = (kept_facts h).length in
     let ly = (kept_facts g).length in
@@ -144,7 +144,7 @@ cut_front_at i (suc p) k v bs str e f =
     subst (λ z. IsFront i (suc p) z bs (cut_last v (take z bs))) x
     (subst (λ z. IsFront i (suc p) (k - 1 + 1) bs (cut_last z (take (k - 1 + 1) bs))) y (front_of i (suc p) (k - 1) (v - 1) bs str (omega arith) u.0))
 
-pub put_between : {i n j m : ℕ} {bs ys : List BlockSpans} {ss us : List ℕ} {r q : ℕ} → AreKept i n bs ss r → AreKept j m ys us q → (p k v w o x : ℕ) (b t : BlockSpans) → (p ≡ 0 → (k ≡ 0) × (v ≡ 0)) → (0 < p → IsAt (p - 1) bs (k - 1) (v - 1) × (0 < k) × (0 < v)) → IsAt (p + m) bs w o → 0 < m → x ≡ i + (p + m) → b ≡ get_or bs w b → t ≡ advanced o b → AreTableEntries (take p (expanded i bs) ++ expanded j ys ++ drop (p + m) (expanded i bs)) → IsKeptAs i n (joined_blocks (cut_last v (take k bs)) (joined_blocks ys (t ∷ [])) ++ drop (w + 1) bs) (take k ss ++ drop (seam (take k bs) (joined_blocks ys (t ∷ []))) (us ++ drop (seam ys (t ∷ [])) (x ∷ [])) ++ drop (w + 1) ss) (min r p + q + (r - min r (p + m))) (take p (expanded i bs) ++ expanded j ys ++ drop (p + m) (expanded i bs))
+pub put_between : {i n j m : ℕ} {bs ys : List BlockSpans} {ss us : List ℕ} {r q : ℕ} → AreKept i n bs ss r → AreKept j m ys us q → (p k v w o x : ℕ) (b t : BlockSpans) → (p ≡ 0 → (k ≡ 0) × (v ≡ 0)) → (0 < p → IsAt (p - 1) bs (k - 1) (v - 1) × (0 < k) × (0 < v)) → IsAt (p + m) bs w o → 0 < m → x ≡ i + (p + m) → b ≡ get_or bs w b → t ≡ without_first_spans o b → AreTableEntries (take p (entries_in_blocks i bs) ++ entries_in_blocks j ys ++ drop (p + m) (entries_in_blocks i bs)) → IsKeptAs i n (joined_blocks (cut_last v (take k bs)) (joined_blocks ys (t ∷ [])) ++ drop (w + 1) bs) (take k ss ++ drop (seam (take k bs) (joined_blocks ys (t ∷ []))) (us ++ drop (seam ys (t ∷ [])) (x ∷ [])) ++ drop (w + 1) ss) (min r p + q + (r - min r (p + m))) (take p (entries_in_blocks i bs) ++ entries_in_blocks j ys ++ drop (p + m) (entries_in_blocks i bs))
 put_between {i} {n} {j} {m} {bs} {ys} {ss} {us} {r} {q} h g p k v w o x b t e f a l ex eb et s =
     rw (← seam_cut v (take k bs) (joined_blocks ys (t ∷ []))) (kept_between h g p k w o x (cut_last v (take k bs)) b t (cut_front_at i p k v bs h.distinct e f) a l ex eb et s)
 

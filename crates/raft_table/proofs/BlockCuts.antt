@@ -2,8 +2,8 @@
 use Rattle.std.proofs.Common.{◌≡◌, ◌^◌, ℕ, zero, suc, ◌+◌, ◌-◌, ◌<◌, ◌≤◌, min, List, [], ◌∷◌, ◌++◌, length, get_or, set, take, drop, refl, sym, ap, ◌∙◌, subst, arith}
 use Rattle.std.proofs.lemmas.List.{nil_from_length, append-nil, length-drop, length-take-le, take-append-drop}
 use Rattle.raft_base.specs.declared.pipe_log.LogQueue.TheVariants.{Append, Rewrite}
-use Rattle.raft_table.specs.Blocks.{BlockSpans, spread, expanded, Differs, AreDistinctBlocks}
-use Rattle.raft_table.specs.BlockWords.{count, starts_of, AreKept, shortened, advanced, cut_last, cut_first, IsAt, IsIndexOf}
+use Rattle.raft_table.specs.Blocks.{BlockSpans, spread, entries_in_blocks, Differs, AreDistinctBlocks}
+use Rattle.raft_table.specs.BlockWords.{count, starts_of, AreKept, first_spans, without_first_spans, cut_last, cut_first, IsAt, IsIndexOf}
 use Rattle.raft_table.specs.TableEntries.{AreTableEntries, start_of, end_of, placed_in, entry_count}
 use Rattle.raft_table.proofs.PlaceLemmas.{entries_in_both}
 use Rattle.raft_table.proofs.RunLemmas.{start-of_rising, end_of-run}
@@ -13,24 +13,24 @@ use Rattle.raft_table.proofs.BlockSearch.{at_place, below_place, place_within}
 
 -- what the numbers that are kept say
 pub record KeptFacts (i n : ℕ) (bs : List BlockSpans) (r : ℕ) : Type 0 where
-  pub length : length (expanded i bs) ≡ n
-  pub both : r + entry_count Append (expanded i bs) ≡ n
-  pub empty : n ≡ 0 → expanded i bs ≡ []
-  pub start : 0 < n → start_of (expanded i bs) ≡ i
-  pub end : 0 < n → end_of (expanded i bs) ≡ i + n
+  pub length : length (entries_in_blocks i bs) ≡ n
+  pub both : r + entry_count Append (entries_in_blocks i bs) ≡ n
+  pub empty : n ≡ 0 → entries_in_blocks i bs ≡ []
+  pub start : 0 < n → start_of (entries_in_blocks i bs) ≡ i
+  pub end : 0 < n → end_of (entries_in_blocks i bs) ≡ i + n
   pub bounded : 0 < n → i + n < 2 ^ 64
 
 pub kept_facts : {i n : ℕ} {bs : List BlockSpans} {ss : List ℕ} {r : ℕ} → AreKept i n bs ss r → KeptFacts i n bs r
 kept_facts {i} {n} {bs} {ss} {r} k =
-    let l : length (expanded i bs) ≡ n = length-expanded i bs ∙ sym k.len in
-    let b = entries_in_both (expanded i bs) k.table_entries.in_front in
+    let l : length (entries_in_blocks i bs) ≡ n = length-expanded i bs ∙ sym k.len in
+    let b = entries_in_both (entries_in_blocks i bs) k.table_entries.in_front in
     let h = k.rewritten in
-    let e : 0 < n → end_of (expanded i bs) ≡ i + n = λ p. end_of-run i (expanded i bs) (rises_expanded i bs) (omega arith) ∙ omega arith in
+    let e : 0 < n → end_of (entries_in_blocks i bs) ≡ i + n = λ p. end_of-run i (entries_in_blocks i bs) (rises_expanded i bs) (omega arith) ∙ omega arith in
     record {
       length = l;
       both = omega arith;
-      empty = λ e. nil_from_length (expanded i bs) (l ∙ e);
-      start = λ p. start-of_rising i (expanded i bs) (rises_expanded i bs) (omega arith);
+      empty = λ e. nil_from_length (entries_in_blocks i bs) (l ∙ e);
+      start = λ p. start-of_rising i (entries_in_blocks i bs) (rises_expanded i bs) (omega arith);
       end = e;
       bounded = λ p. let q = e p in let s = k.table_entries.bounded in omega arith;
     }
@@ -65,14 +65,14 @@ Differs-same b c [] e h = tt
 Differs-same b c (x ∷ bs) e h = λ f. h (sym e ∙ f)
 
 -- the blocks from a place on
-pub kept_drop : (i n p k o : ℕ) (bs : List BlockSpans) (ss : List ℕ) (r : ℕ) → AreKept i n bs ss r → IsAt p bs k o → AreKept (i + p) (n - p) (cut_first o (drop k bs)) (set (drop k ss) 0 (i + p)) (r - min r p) × (expanded (i + p) (cut_first o (drop k bs)) ≡ drop p (expanded i bs))
+pub kept_drop : (i n p k o : ℕ) (bs : List BlockSpans) (ss : List ℕ) (r : ℕ) → AreKept i n bs ss r → IsAt p bs k o → AreKept (i + p) (n - p) (cut_first o (drop k bs)) (set (drop k ss) 0 (i + p)) (r - min r p) × (entries_in_blocks (i + p) (cut_first o (drop k bs)) ≡ drop p (entries_in_blocks i bs))
 kept_drop i n p k o bs ss r h a = at (drop k bs) refl
   where
-    at : (back : List BlockSpans) → drop k bs ≡ back → AreKept (i + p) (n - p) (cut_first o back) (set (drop k ss) 0 (i + p)) (r - min r p) × (expanded (i + p) (cut_first o back) ≡ drop p (expanded i bs))
+    at : (back : List BlockSpans) → drop k bs ≡ back → AreKept (i + p) (n - p) (cut_first o back) (set (drop k ss) 0 (i + p)) (r - min r p) × (entries_in_blocks (i + p) (cut_first o back) ≡ drop p (entries_in_blocks i bs))
     at [] q = absurd (let l = a.block in omega (arith, ap length q, length-drop k bs))
     at (b ∷ rest) q =
         let s = split_drop k bs b rest b q in
-        let es = expanded i bs in
+        let es = entries_in_blocks i bs in
         let inside : o < length b.spans = subst (λ (y : BlockSpans). o < length y.spans) s.0 (a.inside b) in
         let cc = count_cut k bs in
         let total : count (take k bs) + (length b.spans + count rest) ≡ count bs = ap (λ ys. count (take k bs) + count ys) (sym q) ∙ cc in
@@ -80,10 +80,10 @@ kept_drop i n p k o bs ss r h a = at (drop k bs) refl
         let w = a.place in
         let ln : length (drop o b.spans) ≡ length b.spans - o = length-drop o b.spans in
         let pos : i + p + length (drop o b.spans) ≡ i + count (take (suc k) bs) = omega arith in
-        let whole : drop p es ≡ spread (i + p) b.handle (drop o b.spans) ++ expanded (i + count (take (suc k) bs)) rest =
-        subst (λ (ys : List BlockSpans). drop p es ≡ spread (i + p) b.handle (drop o b.spans) ++ expanded (i + count (take (suc k) bs)) ys) s.1
-        (subst (λ (y : BlockSpans). drop p es ≡ spread (i + p) y.handle (drop o y.spans) ++ expanded (i + count (take (suc k) bs)) (drop (suc k) bs)) s.0 (at_place i p k o bs b a)) in
-        let cut : drop p es ≡ expanded (i + p) (advanced o b ∷ rest) = rw pos whole in
+        let whole : drop p es ≡ spread (i + p) b.handle (drop o b.spans) ++ entries_in_blocks (i + count (take (suc k) bs)) rest =
+        subst (λ (ys : List BlockSpans). drop p es ≡ spread (i + p) b.handle (drop o b.spans) ++ entries_in_blocks (i + count (take (suc k) bs)) ys) s.1
+        (subst (λ (y : BlockSpans). drop p es ≡ spread (i + p) y.handle (drop o y.spans) ++ entries_in_blocks (i + count (take (suc k) bs)) (drop (suc k) bs)) s.0 (at_place i p k o bs b a)) in
+        let cut : drop p es ≡ entries_in_blocks (i + p) (without_first_spans o b ∷ rest) = rw pos whole in
         let kl = h.len in
         let le : p ≤ length es = rw (length-expanded i bs) (omega arith) in
         let counts = cut_counts p es h.table_entries le in
@@ -94,7 +94,7 @@ kept_drop i n p k o bs ss r h a = at (drop k bs) refl
         let ps : i + count (take k bs) + length b.spans ≡ i + p + length (drop o b.spans) = omega arith in (
           record {
             table_entries = subst AreTableEntries cut (AreTableEntries-drop p es h.table_entries);
-            distinct = (omega arith, Differs-same b (advanced o b) rest refl str.1, str.2);
+            distinct = (omega arith, Differs-same b (without_first_spans o b) rest refl str.1, str.2);
             starts = rw (ds, ps) refl;
             len = omega arith;
             rewritten = subst (λ xs. r - min r p ≡ entry_count Rewrite xs) cut (omega arith);
@@ -104,21 +104,21 @@ kept_drop i n p k o bs ss r h a = at (drop k bs) refl
 
 -- blocks that stay up to a place among them, so many of them and of their entries
 pub record IsFront (i p k : ℕ) (bs front : List BlockSpans) : Type 0 where
-  pub entries : expanded i front ≡ take p (expanded i bs)
+  pub entries : entries_in_blocks i front ≡ take p (entries_in_blocks i bs)
   pub distinct : AreDistinctBlocks front
   pub starts : starts_of i front ≡ take k (starts_of i bs)
   pub count : count front ≡ p
 
-cut_is : (k m : ℕ) (bs : List BlockSpans) (b : BlockSpans) (rest : List BlockSpans) → drop k bs ≡ b ∷ rest → cut_last m (take (suc k) bs) ≡ take k bs ++ shortened m b ∷ []
+cut_is : (k m : ℕ) (bs : List BlockSpans) (b : BlockSpans) (rest : List BlockSpans) → drop k bs ≡ b ∷ rest → cut_last m (take (suc k) bs) ≡ take k bs ++ first_spans m b ∷ []
 cut_is k m [] b rest h = none k h
   where
-    none : (k : ℕ) → drop k [] ≡ b ∷ rest → cut_last m (take (suc k) []) ≡ take k [] ++ shortened m b ∷ []
+    none : (k : ℕ) → drop k [] ≡ b ∷ rest → cut_last m (take (suc k) []) ≡ take k [] ++ first_spans m b ∷ []
     none zero h = absurd (omega (arith, ap length h))
     none (suc k) h = absurd (omega (arith, ap length h))
-cut_is zero m (x ∷ bs) b rest h = let s = split_drop 0 (x ∷ bs) b rest b h in ap (λ (y : BlockSpans). shortened m y ∷ []) s.0
+cut_is zero m (x ∷ bs) b rest h = let s = split_drop 0 (x ∷ bs) b rest b h in ap (λ (y : BlockSpans). first_spans m y ∷ []) s.0
 cut_is (suc k) m (x ∷ []) b rest h = none k h
   where
-    none : (k : ℕ) → drop k [] ≡ b ∷ rest → cut_last m (take (suc (suc k)) (x ∷ [])) ≡ take (suc k) (x ∷ []) ++ shortened m b ∷ []
+    none : (k : ℕ) → drop k [] ≡ b ∷ rest → cut_last m (take (suc (suc k)) (x ∷ [])) ≡ take (suc k) (x ∷ []) ++ first_spans m b ∷ []
     none zero h = absurd (omega (arith, ap length h))
     none (suc k) h = absurd (omega (arith, ap length h))
 cut_is (suc k) m (x ∷ y ∷ bs) b rest h = ap (λ ys. x ∷ ys) (cut_is k m (y ∷ bs) b rest h)
@@ -139,7 +139,7 @@ front_at i p k o bs str a = at (drop k bs) refl
     at [] q = absurd (let l = a.block in omega (arith, ap length q, length-drop k bs))
     at (b ∷ rest) q =
         let s = split_drop k bs b rest b q in
-        let c = shortened (suc o) b in
+        let c = first_spans (suc o) b in
         let inside : o < length b.spans = subst (λ (y : BlockSpans). o < length y.spans) s.0 (a.inside b) in
         let lc : length (take (suc o) b.spans) ≡ suc o = length-take-le (suc o) b.spans (omega arith) in
         let front = take k bs in
@@ -148,11 +148,11 @@ front_at i p k o bs str a = at (drop k bs) refl
         let l = a.block in
         let lf : length front ≡ k = length-take-le k bs (omega arith) in
         let is = cut_is k (suc o) bs b rest q in
-        let below : take (suc p) (expanded i bs) ≡ expanded i front ++ spread (i + count front) b.handle (take (suc o) b.spans) =
-        subst (λ (y : BlockSpans). take (suc p) (expanded i bs) ≡ expanded i front ++ spread (i + count front) y.handle (take (suc o) y.spans)) s.0
+        let below : take (suc p) (entries_in_blocks i bs) ≡ entries_in_blocks i front ++ spread (i + count front) b.handle (take (suc o) b.spans) =
+        subst (λ (y : BlockSpans). take (suc p) (entries_in_blocks i bs) ≡ entries_in_blocks i front ++ spread (i + count front) y.handle (take (suc o) y.spans)) s.0
         (below_place i (suc p) k (suc o) bs b l (omega arith) (a.inside b)) in
-        let ends : expanded i (front ++ c ∷ []) ≡ expanded i front ++ spread (i + count front) b.handle (take (suc o) b.spans) =
-        expanded-append i front (c ∷ []) ∙ ap (λ xs. expanded i front ++ xs) (append-nil (spread (i + count front) b.handle (take (suc o) b.spans))) in
+        let ends : entries_in_blocks i (front ++ c ∷ []) ≡ entries_in_blocks i front ++ spread (i + count front) b.handle (take (suc o) b.spans) =
+        expanded-append i front (c ∷ []) ∙ ap (λ xs. entries_in_blocks i front ++ xs) (append-nil (spread (i + count front) b.handle (take (suc o) b.spans))) in
         rw is (record {
           entries = ends ∙ sym below;
           distinct = stretches_back front b c rest refl (omega arith) (subst AreDistinctBlocks (sym whole) str);
@@ -161,10 +161,10 @@ front_at i p k o bs str a = at (drop k bs) refl
         })
 
 -- the blocks up to a place
-pub kept_take : (i n p k o : ℕ) (bs : List BlockSpans) (ss : List ℕ) (r : ℕ) → AreKept i n bs ss r → IsAt p bs k o → AreKept i (suc p) (cut_last (suc o) (take (suc k) bs)) (take (suc k) ss) (min r (suc p)) × (expanded i (cut_last (suc o) (take (suc k) bs)) ≡ take (suc p) (expanded i bs))
+pub kept_take : (i n p k o : ℕ) (bs : List BlockSpans) (ss : List ℕ) (r : ℕ) → AreKept i n bs ss r → IsAt p bs k o → AreKept i (suc p) (cut_last (suc o) (take (suc k) bs)) (take (suc k) ss) (min r (suc p)) × (entries_in_blocks i (cut_last (suc o) (take (suc k) bs)) ≡ take (suc p) (entries_in_blocks i bs))
 kept_take i n p k o bs ss r h a =
     let f = front_at i p k o bs h.distinct a in
-    let es = expanded i bs in
+    let es = entries_in_blocks i bs in
     let c = f.count in
     let le : suc p ≤ length es = rw (length-expanded i bs) (place_within p k o bs a) in
     let counts = cut_counts (suc p) es h.table_entries le in
@@ -187,9 +187,9 @@ front_of i w k o bs str l a =
     let g : o + 1 ≡ suc o = omega arith in
     rw (f, g) (subst (λ n. IsFront i n (suc k) bs (cut_last (suc o) (take (suc k) bs))) e (front_at i (w - 1) k o bs str a))
 
-pub kept_front : {n r : ℕ} {ss : List ℕ} (i w k o : ℕ) (bs : List BlockSpans) → AreKept i n bs ss r → 0 < w → IsAt (w - 1) bs k o → AreKept i w (cut_last (o + 1) (take (k + 1) bs)) (take (k + 1) ss) (min r w) × (expanded i (cut_last (o + 1) (take (k + 1) bs)) ≡ take w (expanded i bs))
+pub kept_front : {n r : ℕ} {ss : List ℕ} (i w k o : ℕ) (bs : List BlockSpans) → AreKept i n bs ss r → 0 < w → IsAt (w - 1) bs k o → AreKept i w (cut_last (o + 1) (take (k + 1) bs)) (take (k + 1) ss) (min r w) × (entries_in_blocks i (cut_last (o + 1) (take (k + 1) bs)) ≡ take w (entries_in_blocks i bs))
 kept_front {n} {r} {ss} i w k o bs h l a =
     let e : suc (w - 1) ≡ w = omega arith in
     let f : k + 1 ≡ suc k = omega arith in
     let g : o + 1 ≡ suc o = omega arith in
-    rw (f, g) (subst (λ m. AreKept i m (cut_last (suc o) (take (suc k) bs)) (take (suc k) ss) (min r m) × (expanded i (cut_last (suc o) (take (suc k) bs)) ≡ take m (expanded i bs))) e (kept_take i n (w - 1) k o bs ss r h a))
+    rw (f, g) (subst (λ m. AreKept i m (cut_last (suc o) (take (suc k) bs)) (take (suc k) ss) (min r m) × (entries_in_blocks i (cut_last (suc o) (take (suc k) bs)) ≡ take m (entries_in_blocks i bs))) e (kept_take i n (w - 1) k o bs ss r h a))

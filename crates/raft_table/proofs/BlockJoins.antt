@@ -5,8 +5,8 @@ use Rattle.std.proofs.lemmas.Bool.Decides.{nat_tests}
 use Rattle.raft_base.specs.declared.pipe_log.FileBlockHandle.{FileBlockHandle}
 use Rattle.raft_base.specs.declared.pipe_log.LogQueue.{LogQueue}
 use Rattle.raft_base.specs.declared.pipe_log.LogQueue.TheVariants.{Append, Rewrite}
-use Rattle.raft_table.specs.Blocks.{BlockSpans, spread, expanded, Differs, AreDistinctBlocks}
-use Rattle.raft_table.specs.BlockWords.{count, starts_of, AreKept, lengthened, cut_last, joined_blocks, seam}
+use Rattle.raft_table.specs.Blocks.{BlockSpans, spread, entries_in_blocks, Differs, AreDistinctBlocks}
+use Rattle.raft_table.specs.BlockWords.{count, starts_of, AreKept, with_spans_behind, cut_last, joined_blocks, seam}
 use Rattle.raft_table.specs.TableEntries.{AreTableEntries, entry_count}
 use Rattle.raft_table.specs.Fetches.{is_same_block}
 use Rattle.raft_table.specs.Queues.{is_same}
@@ -75,26 +75,26 @@ joined_append (b ∷ []) (c ∷ y) r l = at (is_same_block b.handle c.handle) re
     at false h = rw h refl
 joined_append (b ∷ d ∷ f) (c ∷ y) r l = ap (λ ys. b ∷ ys) (joined_append (d ∷ f) (c ∷ y) r l)
 
-pub joined_expanded : (i : ℕ) (f y : List BlockSpans) → expanded i (joined_blocks f y) ≡ expanded i f ++ expanded (i + count f) y
-joined_expanded i [] y = ap (λ n. expanded n y) (omega arith)
-joined_expanded i (b ∷ []) [] = sym (append-nil (expanded i (b ∷ [])))
+pub joined_expanded : (i : ℕ) (f y : List BlockSpans) → entries_in_blocks i (joined_blocks f y) ≡ entries_in_blocks i f ++ entries_in_blocks (i + count f) y
+joined_expanded i [] y = ap (λ n. entries_in_blocks n y) (omega arith)
+joined_expanded i (b ∷ []) [] = sym (append-nil (entries_in_blocks i (b ∷ [])))
 joined_expanded i (b ∷ []) (c ∷ y) = at (is_same_block b.handle c.handle) refl
   where
     n : i + (length b.spans + 0) ≡ i + length b.spans
     n = omega arith
 
-    at : (t : Bool) → is_same_block b.handle c.handle ≡ t → expanded i (joined_blocks (b ∷ []) (c ∷ y)) ≡ expanded i (b ∷ []) ++ expanded (i + (length b.spans + 0)) (c ∷ y)
-    at false h = rw (h, n) (ap (λ xs. xs ++ expanded (i + length b.spans) (c ∷ y)) (sym (append-nil (spread i b.handle b.spans))))
+    at : (t : Bool) → is_same_block b.handle c.handle ≡ t → entries_in_blocks i (joined_blocks (b ∷ []) (c ∷ y)) ≡ entries_in_blocks i (b ∷ []) ++ entries_in_blocks (i + (length b.spans + 0)) (c ∷ y)
+    at false h = rw (h, n) (ap (λ xs. xs ++ entries_in_blocks (i + length b.spans) (c ∷ y)) (sym (append-nil (spread i b.handle b.spans))))
     at true h =
         let e = same_block b.handle c.handle h in
         let m : i + length (b.spans ++ c.spans) ≡ i + length b.spans + length c.spans = omega (arith, length-append b.spans c.spans) in
         rw (h, n, m, spread-append i b.handle b.spans c.spans, append-nil (spread i b.handle b.spans), ← e)
-        (append_assoc (spread i b.handle b.spans) (spread (i + length b.spans) b.handle c.spans) (expanded (i + length b.spans + length c.spans) y))
+        (append_assoc (spread i b.handle b.spans) (spread (i + length b.spans) b.handle c.spans) (entries_in_blocks (i + length b.spans + length c.spans) y))
 joined_expanded i (b ∷ d ∷ f) y =
     let k = i + length b.spans in
     let m : i + (length b.spans + count (d ∷ f)) ≡ k + count (d ∷ f) = omega arith in
     rw m (ap (λ xs. spread i b.handle b.spans ++ xs) (joined_expanded k (d ∷ f) y)
-    ∙ sym (append_assoc (spread i b.handle b.spans) (expanded k (d ∷ f)) (expanded (k + count (d ∷ f)) y)))
+    ∙ sym (append_assoc (spread i b.handle b.spans) (entries_in_blocks k (d ∷ f)) (entries_in_blocks (k + count (d ∷ f)) y)))
 
 pub joined_starts : (i : ℕ) (f y : List BlockSpans) → starts_of i (joined_blocks f y) ≡ starts_of i f ++ drop (seam f y) (starts_of (i + count f) y)
 joined_starts i [] y = ap (λ n. starts_of n y) (omega arith)
@@ -117,7 +117,7 @@ joined_starts i (b ∷ d ∷ f) y =
 pub joined_count : (f y : List BlockSpans) → count (joined_blocks f y) ≡ count f + count y
 joined_count f y =
     let a = length-expanded 0 (joined_blocks f y) in
-    let b = length-append (expanded 0 f) (expanded (0 + count f) y) in
+    let b = length-append (entries_in_blocks 0 f) (entries_in_blocks (0 + count f) y) in
     let c = length-expanded 0 f in
     let d = length-expanded (0 + count f) y in
     let e = ap length (joined_expanded 0 f y) in
@@ -132,7 +132,7 @@ joined_stretches (b ∷ []) (c ∷ y) h k = at (is_same_block b.handle c.handle)
     at false t = rw t (h.0, other_block b.handle c.handle t, k)
     at true t =
         let e = same_block b.handle c.handle t in
-        rw t (let l = h.0 in omega (arith, length-append b.spans c.spans), Differs-same c (lengthened b c.spans) y e k.1, k.2)
+        rw t (let l = h.0 in omega (arith, length-append b.spans c.spans), Differs-same c (with_spans_behind b c.spans) y e k.1, k.2)
 joined_stretches (b ∷ d ∷ f) y h k = (h.0, first d f y h.1, joined_stretches (d ∷ f) y h.2 k)
   where
     first : (d : BlockSpans) (f y : List BlockSpans) → b.handle ≢ d.handle → Differs b (joined_blocks (d ∷ f) y)
@@ -152,11 +152,11 @@ seam_cut m (b ∷ d ∷ []) y = seam_cut m (d ∷ []) y
 seam_cut m (b ∷ d ∷ x ∷ f) y = seam_cut m (d ∷ x ∷ f) y
 
 -- what is kept after blocks were put behind a front, and before those that stay behind
-pub kept_put : (i p k n : ℕ) (bs front y rest : List BlockSpans) (ss tt rs : List ℕ) (r : ℕ) → IsFront i p k bs front → ss ≡ starts_of i bs → tt ≡ starts_of (i + p) y → rs ≡ starts_of (i + p + count y) rest → 0 < length y → AreDistinctBlocks (y ++ rest) → n ≡ p + count y + count rest → AreTableEntries (take p (expanded i bs) ++ expanded (i + p) y ++ expanded (i + p + count y) rest) → r ≡ entry_count Rewrite (take p (expanded i bs) ++ expanded (i + p) y ++ expanded (i + p + count y) rest) → AreKept i n (joined_blocks front y ++ rest) (take k ss ++ drop (seam front y) tt ++ rs) r × (expanded i (joined_blocks front y ++ rest) ≡ take p (expanded i bs) ++ expanded (i + p) y ++ expanded (i + p + count y) rest)
+pub kept_put : (i p k n : ℕ) (bs front y rest : List BlockSpans) (ss tt rs : List ℕ) (r : ℕ) → IsFront i p k bs front → ss ≡ starts_of i bs → tt ≡ starts_of (i + p) y → rs ≡ starts_of (i + p + count y) rest → 0 < length y → AreDistinctBlocks (y ++ rest) → n ≡ p + count y + count rest → AreTableEntries (take p (entries_in_blocks i bs) ++ entries_in_blocks (i + p) y ++ entries_in_blocks (i + p + count y) rest) → r ≡ entry_count Rewrite (take p (entries_in_blocks i bs) ++ entries_in_blocks (i + p) y ++ entries_in_blocks (i + p + count y) rest) → AreKept i n (joined_blocks front y ++ rest) (take k ss ++ drop (seam front y) tt ++ rs) r × (entries_in_blocks i (joined_blocks front y ++ rest) ≡ take p (entries_in_blocks i bs) ++ entries_in_blocks (i + p) y ++ entries_in_blocks (i + p + count y) rest)
 kept_put i p k n bs front y rest ss tt rs r f e g h l str len sound q =
     let c = f.count in
     let m : i + count (joined_blocks front y) ≡ i + p + count y = omega (arith, joined_count front y) in
-    let whole : expanded i (joined_blocks front y ++ rest) ≡ take p (expanded i bs) ++ expanded (i + p) y ++ expanded (i + p + count y) rest =
+    let whole : entries_in_blocks i (joined_blocks front y ++ rest) ≡ take p (entries_in_blocks i bs) ++ entries_in_blocks (i + p) y ++ entries_in_blocks (i + p + count y) rest =
     expanded-append i (joined_blocks front y) rest ∙ rw (m, joined_expanded i front y, f.entries, c) refl in
     let starts : take k ss ++ drop (seam front y) tt ++ rs ≡ starts_of i (joined_blocks front y ++ rest) =
     sym (starts-append i (joined_blocks front y) rest ∙ rw (m, joined_starts i front y, f.starts, c, e, g, h) refl) in (

@@ -6,7 +6,7 @@ use Rattle.raft_base.specs.declared.pipe_log.LogQueue.{LogQueue}
 use Rattle.raft_base.specs.declared.pipe_log.LogQueue.TheVariants.{Append, Rewrite}
 use Rattle.raft_base.specs.declared.compression_type.CompressionType.TheVariants as compression
 use Rattle.raft_base.specs.declared.entry_index.EntryIndex.{EntryIndex}
-use Rattle.raft_table.specs.Blocks.{BlockSpans, spread, expanded, AreDistinctBlocks}
+use Rattle.raft_table.specs.Blocks.{BlockSpans, spread, entries_in_blocks, AreDistinctBlocks}
 use Rattle.raft_table.specs.BlockWords.{count, starts_of, AreKept, cut_last, joined_blocks, seam}
 use Rattle.raft_table.specs.TableEntries.{RisesFrom, AreTableEntries, start_of, placed_in, is_placed_in, entry_count}
 use Rattle.raft_table.specs.Queues.{is_same, count_in}
@@ -53,7 +53,7 @@ sound_fits i es h r l = let e = end_of-run i es r l in let b = h.bounded in omeg
 
 all_front : (i n : ℕ) (bs : List BlockSpans) → AreDistinctBlocks bs → n ≡ count bs → IsFront i n (length bs) bs bs
 all_front i n bs h e = record {
-  entries = sym (take_all n (expanded i bs) (let l = length-expanded i bs in omega arith));
+  entries = sym (take_all n (entries_in_blocks i bs) (let l = length-expanded i bs in omega arith));
   distinct = h;
   starts = sym (take_all (length bs) (starts_of i bs) (let l = length-starts i bs in omega arith));
   count = sym e;
@@ -66,20 +66,20 @@ none_in = refl
 -- the entries of one block behind others
 pub record IsPushed (i j n x : ℕ) (bs : List BlockSpans) (ss : List ℕ) (r : ℕ) (t : BlockSpans) : Type 0 where
   pub kept : AreKept j (n + length t.spans) (joined_blocks bs (t ∷ [])) (ss ++ drop (seam bs (t ∷ [])) (x ∷ [])) (r + count_in Rewrite t.handle.id.queue (length t.spans))
-  pub entries : expanded j (joined_blocks bs (t ∷ [])) ≡ expanded i bs ++ spread x t.handle t.spans
+  pub entries : entries_in_blocks j (joined_blocks bs (t ∷ [])) ≡ entries_in_blocks i bs ++ spread x t.handle t.spans
 
-pub pushed_fits : {i n : ℕ} {bs : List BlockSpans} {ss : List ℕ} {r : ℕ} → AreKept i n bs ss r → (x : ℕ) (t : BlockSpans) → 0 < length t.spans → AreTableEntries (expanded i bs ++ spread x t.handle t.spans) → (n + length t.spans < 2 ^ 64) × (r + count_in Rewrite t.handle.id.queue (length t.spans) ≤ n + length t.spans)
+pub pushed_fits : {i n : ℕ} {bs : List BlockSpans} {ss : List ℕ} {r : ℕ} → AreKept i n bs ss r → (x : ℕ) (t : BlockSpans) → 0 < length t.spans → AreTableEntries (entries_in_blocks i bs ++ spread x t.handle t.spans) → (n + length t.spans < 2 ^ 64) × (r + count_in Rewrite t.handle.id.queue (length t.spans) ≤ n + length t.spans)
 pushed_fits {i} {n} {bs} {ss} {r} h x t l s =
-    let es = expanded i bs ++ spread x t.handle t.spans in
+    let es = entries_in_blocks i bs ++ spread x t.handle t.spans in
     let f = (kept_facts h).length in
     let b = (kept_facts h).both in
     let g = length-spread x t.handle t.spans in
-    let m = length-append (expanded i bs) (spread x t.handle t.spans) in
+    let m = length-append (entries_in_blocks i bs) (spread x t.handle t.spans) in
     let u = sound_fits (start_of es) es s (sound_rising es s) (omega arith) in
     let c = count_in_le Rewrite t.handle.id.queue (length t.spans) in
     (omega arith, omega arith)
 
-pub kept_push : {i n : ℕ} {bs : List BlockSpans} {ss : List ℕ} {r : ℕ} → AreKept i n bs ss r → (j x : ℕ) (t : BlockSpans) → 0 < length t.spans → AreTableEntries (expanded i bs ++ spread x t.handle t.spans) → (n ≡ 0 → j ≡ x) → (0 < n → j ≡ i) → IsPushed i j n x bs ss r t
+pub kept_push : {i n : ℕ} {bs : List BlockSpans} {ss : List ℕ} {r : ℕ} → AreKept i n bs ss r → (j x : ℕ) (t : BlockSpans) → 0 < length t.spans → AreTableEntries (entries_in_blocks i bs ++ spread x t.handle t.spans) → (n ≡ 0 → j ≡ x) → (0 < n → j ≡ i) → IsPushed i j n x bs ss r t
 kept_push {i} {n} {bs = []} {ss} {r} h j x t l s e f =
     let z : n ≡ 0 = h.len in
     let q : r ≡ 0 = h.rewritten ∙ none_in in
@@ -100,13 +100,13 @@ kept_push {i} {n} {bs = b ∷ bs} {ss} {r} h j x t l s e f =
     let xs = b ∷ bs in
     let k = h.len in
     let p = h.distinct.0 in
-    let a = expanded i xs in
+    let a = entries_in_blocks i xs in
     let la = (kept_facts h).length in
     let g = length-spread x t.handle t.spans in
     let y : x ≡ i + n = sym (start-of_rising x (spread x t.handle t.spans) (rises_spread x t.handle t.spans) (omega arith)) ∙ behind_index i a (spread x t.handle t.spans) s (rises_expanded i xs) (omega arith) (omega arith) ∙ omega arith in
     let fr = all_front i n xs h.distinct k in
-    let v : expanded (i + n) (t ∷ []) ≡ spread x t.handle t.spans = append-nil (spread (i + n) t.handle t.spans) ∙ ap (λ m. spread m t.handle t.spans) (sym y) in
-    let whole : take n a ++ expanded (i + n) (t ∷ []) ++ [] ≡ a ++ spread x t.handle t.spans = append-nil (take n a ++ expanded (i + n) (t ∷ [])) ∙ rw (v, take_all n a (omega arith)) refl in
+    let v : entries_in_blocks (i + n) (t ∷ []) ≡ spread x t.handle t.spans = append-nil (spread (i + n) t.handle t.spans) ∙ ap (λ m. spread m t.handle t.spans) (sym y) in
+    let whole : take n a ++ entries_in_blocks (i + n) (t ∷ []) ++ [] ≡ a ++ spread x t.handle t.spans = append-nil (take n a ++ entries_in_blocks (i + n) (t ∷ [])) ∙ rw (v, take_all n a (omega arith)) refl in
     let c1 = entry_count-append Rewrite a (spread x t.handle t.spans) in
     let c2 = entries_in_spread Rewrite x t.handle t.spans in
     let c3 = h.rewritten in
@@ -117,30 +117,30 @@ kept_push {i} {n} {bs = b ∷ bs} {ss} {r} h j x t l s e f =
     append-nil (take (length xs) ss ++ drop (seam xs (t ∷ [])) (x ∷ [])) ∙ ap (λ ys. ys ++ drop (seam xs (t ∷ [])) (x ∷ [])) (take_all (length xs) ss (let q = kept_length h in omega arith)) in
     rw (f (omega arith)) (record {
       kept = subst (λ ys. AreKept i (n + length t.spans) ys (ss ++ drop (seam xs (t ∷ [])) (x ∷ [])) (r + count_in Rewrite t.handle.id.queue (length t.spans))) n1 (subst (λ ys. AreKept i (n + length t.spans) (joined_blocks xs (t ∷ []) ++ []) ys (r + count_in Rewrite t.handle.id.queue (length t.spans))) n2 put.0);
-      entries = ap (expanded i) (sym n1) ∙ put.1 ∙ whole;
+      entries = ap (entries_in_blocks i) (sym n1) ∙ put.1 ∙ whole;
     })
 
 -- blocks put behind a front, and nothing behind them
 pub record IsKeptAs (i n : ℕ) (bs : List BlockSpans) (ss : List ℕ) (r : ℕ) (es : List EntryIndex) : Type 0 where
   pub kept : AreKept i n bs ss r
-  pub entries : expanded i bs ≡ es
+  pub entries : entries_in_blocks i bs ≡ es
 
-pub kept_join : {i n j m : ℕ} {bs ys : List BlockSpans} {ss tt : List ℕ} {r q : ℕ} → AreKept i n bs ss r → AreKept j m ys tt q → (w k o rest : ℕ) → 0 < w → w ≤ n → IsFront i w k bs (cut_last o (take k bs)) → 0 < m → AreTableEntries (take w (expanded i bs) ++ expanded j ys) → rest ≡ length bs → IsKeptAs i (w + m) (joined_blocks (cut_last o (take k bs)) ys ++ drop rest bs) (take k ss ++ drop (seam (take k bs) ys) tt ++ drop rest ss) (min r w + q) (take w (expanded i bs) ++ expanded j ys)
+pub kept_join : {i n j m : ℕ} {bs ys : List BlockSpans} {ss tt : List ℕ} {r q : ℕ} → AreKept i n bs ss r → AreKept j m ys tt q → (w k o rest : ℕ) → 0 < w → w ≤ n → IsFront i w k bs (cut_last o (take k bs)) → 0 < m → AreTableEntries (take w (entries_in_blocks i bs) ++ entries_in_blocks j ys) → rest ≡ length bs → IsKeptAs i (w + m) (joined_blocks (cut_last o (take k bs)) ys ++ drop rest bs) (take k ss ++ drop (seam (take k bs) ys) tt ++ drop rest ss) (min r w + q) (take w (entries_in_blocks i bs) ++ entries_in_blocks j ys)
 kept_join {i} {n} {j} {m} {bs} {ys} {ss} {tt} {r} {q} h g w k o rest l d f p s e =
-    let es = expanded i bs in
+    let es = entries_in_blocks i bs in
     let le = (kept_facts h).length in
     let ly = (kept_facts g).length in
     let lt : length (take w es) ≡ w = length-take-le w es (omega arith) in
     let front = cut_last o (take k bs) in
     let up : RisesFrom i (take w es) = subst (RisesFrom i) f.entries (rises_expanded i front) in
-    let y : j ≡ i + w = sym ((kept_facts g).start p) ∙ behind_index i (take w es) (expanded j ys) s up (omega arith) (omega arith) ∙ omega arith in
+    let y : j ≡ i + w = sym ((kept_facts g).start p) ∙ behind_index i (take w es) (entries_in_blocks j ys) s up (omega arith) (omega arith) ∙ omega arith in
     let gl = g.len in
     let some : 0 < length ys = filled ys (omega arith) in
     let n1 : drop rest bs ≡ [] = drop_all rest bs (omega arith) in
     let n2 : drop rest ss ≡ [] = drop_all rest ss (let z = kept_length h in omega arith) in
-    let whole : take w es ++ expanded (i + w) ys ++ [] ≡ take w es ++ expanded j ys = append-nil (take w es ++ expanded (i + w) ys) ∙ ap (λ z. take w es ++ expanded z ys) (sym y) in
+    let whole : take w es ++ entries_in_blocks (i + w) ys ++ [] ≡ take w es ++ entries_in_blocks j ys = append-nil (take w es ++ entries_in_blocks (i + w) ys) ∙ ap (λ z. take w es ++ entries_in_blocks z ys) (sym y) in
     let cc = cut_counts w es h.table_entries (omega arith) in
-    let c1 = entry_count-append Rewrite (take w es) (expanded j ys) in
+    let c1 = entry_count-append Rewrite (take w es) (entries_in_blocks j ys) in
     let c2 = h.rewritten in
     let c3 = g.rewritten in
     let put = kept_put i w k (w + m) bs front ys [] ss tt [] (min r w + q) f h.starts (g.starts ∙ ap (λ z. starts_of z ys) y) refl some (subst AreDistinctBlocks (sym (append-nil ys)) g.distinct) (omega arith)
@@ -151,6 +151,6 @@ kept_join {i} {n} {j} {m} {bs} {ys} {ss} {tt} {r} {q} h g w k o rest l d f p s e
     filled [] l = l
     filled (c ∷ cs) l = omega arith
 
-pub blocks_filled : (i : ℕ) (bs : List BlockSpans) → 0 < length (expanded i bs) → 0 < length bs
+pub blocks_filled : (i : ℕ) (bs : List BlockSpans) → 0 < length (entries_in_blocks i bs) → 0 < length bs
 blocks_filled i [] l = l
 blocks_filled i (b ∷ bs) l = omega arith

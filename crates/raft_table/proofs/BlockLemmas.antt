@@ -3,7 +3,7 @@ use Rattle.std.proofs.Common.{◌≡◌, ℕ, zero, suc, ◌+◌, ◌<◌, ◌�
 use Rattle.std.proofs.lemmas.List.{append_assoc, length-append}
 use Rattle.std.specs.List.Sorted.{IsNonDecreasingBy}
 use Rattle.raft_base.specs.declared.pipe_log.FileBlockHandle.{FileBlockHandle}
-use Rattle.raft_table.specs.Blocks.{BlockSpans, spread, expanded}
+use Rattle.raft_table.specs.Blocks.{BlockSpans, spread, entries_in_blocks}
 use Rattle.raft_table.specs.BlockWords.{count, starts_of}
 use Rattle.raft_table.specs.TableEntries.{RisesFrom}
 use Rattle.raft_table.proofs.RunLemmas.{RisesFrom-append}
@@ -30,22 +30,22 @@ spread_drop (suc n) i h (s ∷ ss) l =
     let e : i + suc n ≡ suc i + n = omega arith in
     rw e (spread_drop n (suc i) h ss (omega arith))
 
-pub length-expanded : (i : ℕ) (bs : List BlockSpans) → length (expanded i bs) ≡ count bs
+pub length-expanded : (i : ℕ) (bs : List BlockSpans) → length (entries_in_blocks i bs) ≡ count bs
 length-expanded i [] = refl
 length-expanded i (b ∷ bs) =
-    length-append (spread i b.handle b.spans) (expanded (i + length b.spans) bs)
+    length-append (spread i b.handle b.spans) (entries_in_blocks (i + length b.spans) bs)
     ∙ rw (length-spread i b.handle b.spans, length-expanded (i + length b.spans) bs) refl
 
 pub count-append : (a b : List BlockSpans) → count (a ++ b) ≡ count a + count b
 count-append [] b = omega arith
 count-append (x ∷ a) b = rw (count-append a b) (omega arith)
 
-pub expanded-append : (i : ℕ) (a b : List BlockSpans) → expanded i (a ++ b) ≡ expanded i a ++ expanded (i + count a) b
+pub expanded-append : (i : ℕ) (a b : List BlockSpans) → entries_in_blocks i (a ++ b) ≡ entries_in_blocks i a ++ entries_in_blocks (i + count a) b
 expanded-append i [] b = let e : i + 0 ≡ i = omega arith in rw e refl
 expanded-append i (x ∷ a) b =
     let n = length x.spans in
     let e : i + (n + count a) ≡ i + n + count a = omega arith in
-    rw (expanded-append (i + n) a b, e) (sym (append_assoc (spread i x.handle x.spans) (expanded (i + n) a) (expanded (i + n + count a) b)))
+    rw (expanded-append (i + n) a b, e) (sym (append_assoc (spread i x.handle x.spans) (entries_in_blocks (i + n) a) (entries_in_blocks (i + n + count a) b)))
 
 pub starts-append : (i : ℕ) (a b : List BlockSpans) → starts_of i (a ++ b) ≡ starts_of i a ++ starts_of (i + count a) b
 starts-append i [] b = let e : i + 0 ≡ i = omega arith in rw e refl
@@ -79,10 +79,10 @@ pub rises_spread : (i : ℕ) (h : FileBlockHandle) (ss : List (ℕ × ℕ)) → 
 rises_spread i h [] = tt
 rises_spread i h (s ∷ ss) = (refl, rises_spread (suc i) h ss)
 
-pub rises_expanded : (i : ℕ) (bs : List BlockSpans) → RisesFrom i (expanded i bs)
+pub rises_expanded : (i : ℕ) (bs : List BlockSpans) → RisesFrom i (entries_in_blocks i bs)
 rises_expanded i [] = tt
 rises_expanded i (b ∷ bs) =
-    RisesFrom-append i (spread i b.handle b.spans) (expanded (i + length b.spans) bs) (rises_spread i b.handle b.spans)
+    RisesFrom-append i (spread i b.handle b.spans) (entries_in_blocks (i + length b.spans) bs) (rises_spread i b.handle b.spans)
     (rw (length-spread i b.handle b.spans) (rises_expanded (i + length b.spans) bs))
 
 pub starts_drop : (j i : ℕ) (bs : List BlockSpans) → drop j (starts_of i bs) ≡ starts_of (i + count (take j bs)) (drop j bs)

@@ -4,7 +4,7 @@ use Rattle.std.specs.List.{slice_get}
 use Rattle.std.proofs.lemmas.List.{append-nil, length-append, length-drop, take-append-le, drop-take}
 use Rattle.raft_base.specs.declared.pipe_log.FileBlockHandle.{FileBlockHandle}
 use Rattle.raft_base.specs.declared.entry_index.EntryIndex.{EntryIndex}
-use Rattle.raft_table.specs.Blocks.{BlockSpans, spread, expanded, AreDistinctBlocks}
+use Rattle.raft_table.specs.Blocks.{BlockSpans, spread, entries_in_blocks, AreDistinctBlocks}
 use Rattle.raft_table.specs.BlockWords.{count, IsAt}
 use Rattle.raft_table.specs.TableEntries.{start_of}
 use Rattle.raft_table.specs.Fetches.{change_count, block_count, entry_seq, is_same_place}
@@ -15,13 +15,13 @@ use Rattle.raft_table.proofs.BlockSearch.{at_place, entry_of}
 use Rattle.raft_table.proofs.BlockJoins.{same_block_self, other_block_is}
 
 -- the entries of blocks start where they do
-pub expanded_start : (i : ℕ) (bs : List BlockSpans) → AreDistinctBlocks bs → expanded (start_of (expanded i bs)) bs ≡ expanded i bs
+pub expanded_start : (i : ℕ) (bs : List BlockSpans) → AreDistinctBlocks bs → entries_in_blocks (start_of (entries_in_blocks i bs)) bs ≡ entries_in_blocks i bs
 expanded_start i [] h = refl
 expanded_start i (b ∷ bs) h =
-    let l = length-append (spread i b.handle b.spans) (expanded (i + length b.spans) bs) in
+    let l = length-append (spread i b.handle b.spans) (entries_in_blocks (i + length b.spans) bs) in
     let m = length-spread i b.handle b.spans in
     let p = h.0 in
-    ap (λ n. expanded n (b ∷ bs)) (start-of_rising i (expanded i (b ∷ bs)) (rises_expanded i (b ∷ bs)) (omega arith))
+    ap (λ n. entries_in_blocks n (b ∷ bs)) (start-of_rising i (entries_in_blocks i (b ∷ bs)) (rises_expanded i (b ∷ bs)) (omega arith))
 
 same_step : (a b : EntryIndex) (es : List EntryIndex) → is_same_place a.entries b.entries ≡ true → change_count (a ∷ b ∷ es) ≡ change_count (b ∷ es)
 same_step a b es h = rw h (omega arith)
@@ -47,16 +47,16 @@ changes_front i h [] j g ts es l m d = absurd (omega arith)
 changes_front i h (s ∷ ss) j g [] es l m d = absurd (omega arith)
 changes_front i h (s ∷ ss) j g (t ∷ ts) es l m d = changes_more i h s ss (entry_of j g t) (spread (suc j) g ts ++ es) (other_block_is h g d)
 
-change_count_is : (i : ℕ) (b : BlockSpans) (bs : List BlockSpans) → AreDistinctBlocks (b ∷ bs) → change_count (expanded i (b ∷ bs)) ≡ length bs
+change_count_is : (i : ℕ) (b : BlockSpans) (bs : List BlockSpans) → AreDistinctBlocks (b ∷ bs) → change_count (entries_in_blocks i (b ∷ bs)) ≡ length bs
 change_count_is i b [] h = rw (append-nil (spread i b.handle b.spans)) (changes_last i b.handle b.spans h.0)
 change_count_is i b (c ∷ cs) h =
     let j = i + length b.spans in
-    changes_front i b.handle b.spans j c.handle c.spans (expanded (j + length c.spans) cs) h.0 h.2.0 h.1 ∙ ap suc (change_count_is j c cs h.2)
+    changes_front i b.handle b.spans j c.handle c.spans (entries_in_blocks (j + length c.spans) cs) h.0 h.2.0 h.1 ∙ ap suc (change_count_is j c cs h.2)
 
 -- as many stretches of entries as blocks
-pub block_count_is : (i : ℕ) (bs : List BlockSpans) → AreDistinctBlocks bs → block_count (expanded i bs) ≡ length bs
+pub block_count_is : (i : ℕ) (bs : List BlockSpans) → AreDistinctBlocks bs → block_count (entries_in_blocks i bs) ≡ length bs
 block_count_is i [] h = refl
-block_count_is i (b ∷ bs) h = some (expanded i (b ∷ bs)) (let l = length-append (spread i b.handle b.spans) (expanded (i + length b.spans) bs) in let m = length-spread i b.handle b.spans in let p = h.0 in omega arith) ∙ ap suc (change_count_is i b bs h)
+block_count_is i (b ∷ bs) h = some (entries_in_blocks i (b ∷ bs)) (let l = length-append (spread i b.handle b.spans) (entries_in_blocks (i + length b.spans) bs) in let m = length-spread i b.handle b.spans in let p = h.0 in omega arith) ∙ ap suc (change_count_is i b bs h)
   where
     some : (es : List EntryIndex) → 0 < length es → block_count es ≡ suc (change_count es)
     some [] l = absurd (omega arith)
@@ -68,20 +68,20 @@ head_seq x zero h (s ∷ ss) rest l = refl
 head_seq x (suc o) h (s ∷ ss) rest l = head_seq x o h ss rest (omega arith)
 
 -- the file number of the entry at a place
-pub seq_at_place : (i p k o : ℕ) (bs : List BlockSpans) (b : BlockSpans) → IsAt p bs k o → b ≡ get_or bs k b → Some b.handle.id.seq ≡ entry_seq (slice_get (expanded i bs) p)
+pub seq_at_place : (i p k o : ℕ) (bs : List BlockSpans) (b : BlockSpans) → IsAt p bs k o → b ≡ get_or bs k b → Some b.handle.id.seq ≡ entry_seq (slice_get (entries_in_blocks i bs) p)
 seq_at_place i p k o bs b a e =
-    let rest = expanded (i + count (take (suc k) bs)) (drop (suc k) bs) in
-    let tail : drop p (expanded i bs) ≡ spread (i + p) b.handle (drop o b.spans) ++ rest =
-    subst (λ (y : BlockSpans). drop p (expanded i bs) ≡ spread (i + p) y.handle (drop o y.spans) ++ rest) (sym e) (at_place i p k o bs b a) in
+    let rest = entries_in_blocks (i + count (take (suc k) bs)) (drop (suc k) bs) in
+    let tail : drop p (entries_in_blocks i bs) ≡ spread (i + p) b.handle (drop o b.spans) ++ rest =
+    subst (λ (y : BlockSpans). drop p (entries_in_blocks i bs) ≡ spread (i + p) y.handle (drop o y.spans) ++ rest) (sym e) (at_place i p k o bs b a) in
     let inside : o < length b.spans = subst (λ (y : BlockSpans). o < length y.spans) (sym e) (a.inside b) in
-    sym (ap entry_seq (sym (slice_get_drop p (expanded i bs)) ∙ ap (λ xs. slice_get xs 0) tail) ∙ head_seq (i + p) o b.handle b.spans rest inside)
+    sym (ap entry_seq (sym (slice_get_drop p (entries_in_blocks i bs)) ∙ ap (λ xs. slice_get xs 0) tail) ∙ head_seq (i + p) o b.handle b.spans rest inside)
 
 -- a part of the entries that stands in one block
-pub block_part : (i p k o n : ℕ) (bs : List BlockSpans) (b : BlockSpans) → IsAt p bs k o → b ≡ get_or bs k b → o + n ≤ length b.spans → drop p (take (p + n) (expanded i bs)) ≡ spread (i + p) b.handle (take n (drop o b.spans))
+pub block_part : (i p k o n : ℕ) (bs : List BlockSpans) (b : BlockSpans) → IsAt p bs k o → b ≡ get_or bs k b → o + n ≤ length b.spans → drop p (take (p + n) (entries_in_blocks i bs)) ≡ spread (i + p) b.handle (take n (drop o b.spans))
 block_part i p k o n bs b a e l =
-    let rest = expanded (i + count (take (suc k) bs)) (drop (suc k) bs) in
-    let tail : drop p (expanded i bs) ≡ spread (i + p) b.handle (drop o b.spans) ++ rest =
-    subst (λ (y : BlockSpans). drop p (expanded i bs) ≡ spread (i + p) y.handle (drop o y.spans) ++ rest) (sym e) (at_place i p k o bs b a) in
-    drop-take p n (expanded i bs) ∙ ap (take n) tail
+    let rest = entries_in_blocks (i + count (take (suc k) bs)) (drop (suc k) bs) in
+    let tail : drop p (entries_in_blocks i bs) ≡ spread (i + p) b.handle (drop o b.spans) ++ rest =
+    subst (λ (y : BlockSpans). drop p (entries_in_blocks i bs) ≡ spread (i + p) y.handle (drop o y.spans) ++ rest) (sym e) (at_place i p k o bs b a) in
+    drop-take p n (entries_in_blocks i bs) ∙ ap (take n) tail
     ∙ take-append-le n (spread (i + p) b.handle (drop o b.spans)) rest (rw (length-spread (i + p) b.handle (drop o b.spans)) (omega (arith, length-drop o b.spans)))
     ∙ spread_take n (i + p) b.handle (drop o b.spans)

@@ -4,7 +4,7 @@ use Rattle.std.proofs.lemmas.List.{append_assoc, length-append, length-drop, len
 use Rattle.raft_base.specs.declared.pipe_log.FileBlockHandle.{FileBlockHandle}
 use Rattle.raft_table.specs.declared.memtable.block.Block.{Block}
 use Rattle.raft_table.specs.Blocks.{BlockSpans, block_spans, shown}
-use Rattle.raft_table.specs.BlockWords.{shortened, advanced, lengthened, cut_last, cut_first, joined_blocks, seam, IsAt}
+use Rattle.raft_table.specs.BlockWords.{first_spans, without_first_spans, with_spans_behind, cut_last, cut_first, joined_blocks, seam, IsAt}
 use Rattle.raft_table.specs.Fetches.{is_same_block}
 use Rattle.raft_table.proofs.BlockSearch.{take_past}
 use Rattle.raft_table.proofs.BlockJoins.{same_block_self, other_block_is}
@@ -52,9 +52,9 @@ stretch_is c s h e = ap (λ x. make x c.spans.items) h ∙ ap (λ y. make s.hand
     make : FileBlockHandle → List (ℕ × ℕ) → BlockSpans
     make h ss = record { handle = h; spans = ss }
 
-cut_last_set : (k m : ℕ) (xs : List BlockSpans) (b : BlockSpans) → length xs ≡ suc k → b ≡ get_or xs k b → set xs k (shortened m b) ≡ cut_last m xs
+cut_last_set : (k m : ℕ) (xs : List BlockSpans) (b : BlockSpans) → length xs ≡ suc k → b ≡ get_or xs k b → set xs k (first_spans m b) ≡ cut_last m xs
 cut_last_set k m [] b l e = absurd (omega arith)
-cut_last_set zero m (x ∷ []) b l e = ap (λ (y : BlockSpans). shortened m y ∷ []) e
+cut_last_set zero m (x ∷ []) b l e = ap (λ (y : BlockSpans). first_spans m y ∷ []) e
 cut_last_set zero m (x ∷ y ∷ xs) b l e = absurd (omega arith)
 cut_last_set (suc k) m (x ∷ []) b l e = absurd (omega arith)
 cut_last_set (suc k) m (x ∷ y ∷ xs) b l e = ap (λ ys. x ∷ ys) (cut_last_set k m (y ∷ xs) b (omega arith) e)
@@ -62,7 +62,7 @@ cut_last_set (suc k) m (x ∷ y ∷ xs) b l e = ap (λ ys. x ∷ ys) (cut_last_s
 pub cut_last_shown : (k m : ℕ) (bs : List Block) (b c : Block) → length bs ≡ suc k → b ≡ get_or bs k b → c.handle ≡ b.handle → c.spans.items ≡ take m b.spans.items → shown (set bs k c) ≡ cut_last m (shown bs)
 cut_last_shown k m bs b c l e h s =
     map-set block_spans bs k c
-    ∙ ap (set (shown bs) k) (stretch_is c (shortened m (block_spans b)) h s)
+    ∙ ap (set (shown bs) k) (stretch_is c (first_spans m (block_spans b)) h s)
     ∙ cut_last_set k m (shown bs) (block_spans b) (length-map bs block_spans ∙ l) (shown_at bs k b (omega arith) e)
 
 pub cut_back_shown : (k m : ℕ) (old bs : List Block) (b c : Block) → k < length old → bs ≡ take (k + 1) old → b ≡ get_or bs k b → c.handle ≡ b.handle → c.spans.items ≡ take m b.spans.items → shown (set bs k c) ≡ cut_last m (take (k + 1) (shown old))
@@ -77,7 +77,7 @@ cut_front_shown k m old bs b c l t e h s =
   where
     first : (bs : List Block) → 0 < length bs → b ≡ get_or bs 0 b → shown (set bs 0 c) ≡ cut_first m (shown bs)
     first [] l e = absurd (omega arith)
-    first (x ∷ bs) l e = ap (λ y. y ∷ shown bs) (stretch_is c (advanced m (block_spans b)) h s ∙ ap (λ (y : Block). advanced m (block_spans y)) e)
+    first (x ∷ bs) l e = ap (λ y. y ∷ shown bs) (stretch_is c (without_first_spans m (block_spans b)) h s ∙ ap (λ (y : Block). without_first_spans m (block_spans y)) e)
 
 -- the block of a queue where an entry stands
 pub record IsBlockAt (bs : List Block) (k o : ℕ) (b : Block) : Type 0 where
@@ -108,25 +108,25 @@ seam_last [] b c cs = refl
 seam_last (x ∷ []) b c cs = refl
 seam_last (x ∷ y ∷ a) b c cs = seam_last (y ∷ a) b c cs
 
-cut_last_last : (m : ℕ) (a : List BlockSpans) (b : BlockSpans) → cut_last m (a ++ b ∷ []) ≡ a ++ shortened m b ∷ []
+cut_last_last : (m : ℕ) (a : List BlockSpans) (b : BlockSpans) → cut_last m (a ++ b ∷ []) ≡ a ++ first_spans m b ∷ []
 cut_last_last m [] b = refl
 cut_last_last m (x ∷ []) b = refl
 cut_last_last m (x ∷ y ∷ a) b = ap (λ ys. x ∷ ys) (cut_last_last m (y ∷ a) b)
 
 -- two that meet, by whether they have the same handle
-pub meets_same : (k m : ℕ) (xs : List BlockSpans) (b c : BlockSpans) (cs : List BlockSpans) → k < length xs → b ≡ get_or xs k b → b.handle ≡ c.handle → joined_blocks (cut_last m (take (k + 1) xs)) (c ∷ cs) ≡ take (k + 1) (set xs k (lengthened (shortened m b) c.spans)) ++ cs
+pub meets_same : (k m : ℕ) (xs : List BlockSpans) (b c : BlockSpans) (cs : List BlockSpans) → k < length xs → b ≡ get_or xs k b → b.handle ≡ c.handle → joined_blocks (cut_last m (take (k + 1) xs)) (c ∷ cs) ≡ take (k + 1) (set xs k (with_spans_behind (first_spans m b) c.spans)) ++ cs
 meets_same k m xs b c cs l e h =
     let t : is_same_block b.handle c.handle ≡ true = rw h (same_block_self c.handle) in
     let w : take (k + 1) xs ≡ take k xs ++ b ∷ [] = take_more xs k b l ∙ ap (λ y. take k xs ++ y ∷ []) (sym e) in
-    ap (λ ys. joined_blocks (cut_last m ys) (c ∷ cs)) w ∙ ap (λ ys. joined_blocks ys (c ∷ cs)) (cut_last_last m (take k xs) b) ∙ joined_last (take k xs) (shortened m b) c cs
-    ∙ rw (t, take_more_set xs k (lengthened (shortened m b) c.spans) l) (sym (append_assoc (take k xs) (lengthened (shortened m b) c.spans ∷ []) cs))
+    ap (λ ys. joined_blocks (cut_last m ys) (c ∷ cs)) w ∙ ap (λ ys. joined_blocks ys (c ∷ cs)) (cut_last_last m (take k xs) b) ∙ joined_last (take k xs) (first_spans m b) c cs
+    ∙ rw (t, take_more_set xs k (with_spans_behind (first_spans m b) c.spans) l) (sym (append_assoc (take k xs) (with_spans_behind (first_spans m b) c.spans ∷ []) cs))
 
-pub meets_other : (k m : ℕ) (xs : List BlockSpans) (b c : BlockSpans) (cs : List BlockSpans) → k < length xs → b ≡ get_or xs k b → b.handle ≢ c.handle → joined_blocks (cut_last m (take (k + 1) xs)) (c ∷ cs) ≡ take (k + 1) (set xs k (shortened m b)) ++ c ∷ cs
+pub meets_other : (k m : ℕ) (xs : List BlockSpans) (b c : BlockSpans) (cs : List BlockSpans) → k < length xs → b ≡ get_or xs k b → b.handle ≢ c.handle → joined_blocks (cut_last m (take (k + 1) xs)) (c ∷ cs) ≡ take (k + 1) (set xs k (first_spans m b)) ++ c ∷ cs
 meets_other k m xs b c cs l e h =
     let t : is_same_block b.handle c.handle ≡ false = other_block_is b.handle c.handle h in
     let w : take (k + 1) xs ≡ take k xs ++ b ∷ [] = take_more xs k b l ∙ ap (λ y. take k xs ++ y ∷ []) (sym e) in
-    ap (λ ys. joined_blocks (cut_last m ys) (c ∷ cs)) w ∙ ap (λ ys. joined_blocks ys (c ∷ cs)) (cut_last_last m (take k xs) b) ∙ joined_last (take k xs) (shortened m b) c cs
-    ∙ rw (t, take_more_set xs k (shortened m b) l) (sym (append_assoc (take k xs) (shortened m b ∷ []) (c ∷ cs)))
+    ap (λ ys. joined_blocks (cut_last m ys) (c ∷ cs)) w ∙ ap (λ ys. joined_blocks ys (c ∷ cs)) (cut_last_last m (take k xs) b) ∙ joined_last (take k xs) (first_spans m b) c cs
+    ∙ rw (t, take_more_set xs k (first_spans m b) l) (sym (append_assoc (take k xs) (first_spans m b ∷ []) (c ∷ cs)))
 
 pub seam_same : (k : ℕ) (xs : List BlockSpans) (b c : BlockSpans) (cs : List BlockSpans) → k < length xs → b ≡ get_or xs k b → b.handle ≡ c.handle → seam (take (k + 1) xs) (c ∷ cs) ≡ 1
 seam_same k xs b c cs l e h =
@@ -164,7 +164,7 @@ pushed_same k bs b c y l e h g s =
     let at = shown_at bs k b (omega arith) e in
     let t : is_same_block b.handle y.handle ≡ true = rw h (same_block_self y.handle) in
     let w : xs ≡ take k xs ++ block_spans b ∷ [] = sym (take_all (k + 1) xs (omega arith)) ∙ take_more xs k (block_spans b) (omega arith) ∙ ap (λ z. take k xs ++ z ∷ []) (sym at) in
-    let new = lengthened (block_spans b) y.spans.items in
+    let new = with_spans_behind (block_spans b) y.spans.items in
     let left : shown (set bs k c) ≡ take k xs ++ new ∷ [] =
     map-set block_spans bs k c ∙ ap (set xs k) (stretch_is c new g s)
     ∙ sym (take_all (k + 1) (set xs k new) (omega (arith, length-set xs k new))) ∙ take_more_set xs k new (omega arith) in
@@ -196,11 +196,11 @@ met_other kept m bs more a b c y p l q e f d g h s =
     let first = first_of more y q f in
     let at = shown_at bs k b (omega arith) g in
     let n = length-map bs block_spans in
-    let new : shown (set bs k c) ≡ set (shown bs) k (shortened m (block_spans b)) = map-set block_spans bs k c ∙ ap (set (shown bs) k) (stretch_is c (shortened m (block_spans b)) h s) in
+    let new : shown (set bs k c) ≡ set (shown bs) k (first_spans m (block_spans b)) = map-set block_spans bs k c ∙ ap (set (shown bs) k) (stretch_is c (first_spans m (block_spans b)) h s) in
     let dif : b.handle ≢ y.handle = λ z. d (ap (λ (x : Block). x.handle) (sym one) ∙ z) in
-    rw (new, first) (subst (λ z. AreMet z m (shown bs) (set (shown bs) k (shortened m (block_spans b))) (block_spans y ∷ shown (drop 1 more)) (block_spans y ∷ shown (drop 1 more)) 0) w (record {
+    rw (new, first) (subst (λ z. AreMet z m (shown bs) (set (shown bs) k (first_spans m (block_spans b))) (block_spans y ∷ shown (drop 1 more)) (block_spans y ∷ shown (drop 1 more)) 0) w (record {
       front = sym (meets_other k m (shown bs) (block_spans b) (block_spans y) (shown (drop 1 more)) (omega arith) at dif);
-      behind = λ z o. drop-set-lt z (shown bs) k (shortened m (block_spans b)) (omega arith);
+      behind = λ z o. drop-set-lt z (shown bs) k (first_spans m (block_spans b)) (omega arith);
       seam = seam_other k (shown bs) (block_spans b) (block_spans y) (shown (drop 1 more)) (omega arith) at dif;
     }))
 
@@ -212,7 +212,7 @@ met_same kept m bs more a b c y p l q e f d g h s =
     let first = first_of more y q f in
     let at = shown_at bs k b (omega arith) g in
     let n = length-map bs block_spans in
-    let longer = lengthened (shortened m (block_spans b)) y.spans.items in
+    let longer = with_spans_behind (first_spans m (block_spans b)) y.spans.items in
     let new : shown (set bs k c) ≡ set (shown bs) k longer = map-set block_spans bs k c ∙ ap (set (shown bs) k) (stretch_is c longer h s) in
     let same : b.handle ≡ y.handle = ap (λ (x : Block). x.handle) one ∙ d in
     rw (new, first) (subst (λ z. AreMet z m (shown bs) (set (shown bs) k longer) (block_spans y ∷ shown (drop 1 more)) (shown (drop 1 more)) 1) w (record {

@@ -7,7 +7,7 @@ use Rattle.std.specs.List.Sorted.{IsNonDecreasingBy}
 use Rattle.raft_base.specs.declared.pipe_log.FileBlockHandle.{FileBlockHandle}
 use Rattle.raft_base.specs.declared.compression_type.CompressionType.TheVariants as compression
 use Rattle.raft_base.specs.declared.entry_index.EntryIndex.{EntryIndex}
-use Rattle.raft_table.specs.Blocks.{BlockSpans, spread, expanded}
+use Rattle.raft_table.specs.Blocks.{BlockSpans, spread, entries_in_blocks}
 use Rattle.raft_table.specs.BlockWords.{count, starts_of, IsIndexOf, IsAt}
 use Rattle.raft_table.specs.TableEntries.{RisesFrom, entry_at}
 use Rattle.raft_table.proofs.RunLemmas.{RisesFrom-take}
@@ -77,14 +77,14 @@ found_some ss x zero h up = let a = up 0 0 (omega arith) (index_some ss x h) in 
 found_some ss x (suc k) h up = omega arith
 
 -- what stands from a place on
-pub at_place : (i p k o : ℕ) (bs : List BlockSpans) (d : BlockSpans) → IsAt p bs k o → drop p (expanded i bs) ≡ spread (i + p) (get_or bs k d).handle (drop o (get_or bs k d).spans) ++ expanded (i + count (take (suc k) bs)) (drop (suc k) bs)
+pub at_place : (i p k o : ℕ) (bs : List BlockSpans) (d : BlockSpans) → IsAt p bs k o → drop p (entries_in_blocks i bs) ≡ spread (i + p) (get_or bs k d).handle (drop o (get_or bs k d).spans) ++ entries_in_blocks (i + count (take (suc k) bs)) (drop (suc k) bs)
 at_place i p k o [] d a = absurd (let l = a.block in omega arith)
 at_place i p zero o (b ∷ bs) d a =
     let l = a.inside d in
     let q : p ≡ o = sym a.place ∙ omega arith in
     let n : i + (length b.spans + 0) ≡ i + length b.spans = omega arith in
-    rw (q, n) (drop-append-le o (spread i b.handle b.spans) (expanded (i + length b.spans) bs) (rw (length-spread i b.handle b.spans) (omega arith))
-    ∙ ap (λ es. es ++ expanded (i + length b.spans) bs) (spread_drop o i b.handle b.spans (omega arith)))
+    rw (q, n) (drop-append-le o (spread i b.handle b.spans) (entries_in_blocks (i + length b.spans) bs) (rw (length-spread i b.handle b.spans) (omega arith))
+    ∙ ap (λ es. es ++ entries_in_blocks (i + length b.spans) bs) (spread_drop o i b.handle b.spans (omega arith)))
 at_place i p (suc k) o (b ∷ bs) d a =
     let n = length b.spans in
     let l = a.block in
@@ -93,28 +93,28 @@ at_place i p (suc k) o (b ∷ bs) d a =
     let u : i + n + (count (take k bs) + o) ≡ i + p = omega arith in
     let v : i + n + count (take (suc k) bs) ≡ i + (n + count (take (suc k) bs)) = omega arith in
     let rest : IsAt (count (take k bs) + o) bs k o = record { block = omega arith; place = refl; inside = a.inside } in
-    ap (λ m. drop m (expanded i (b ∷ bs))) (q ∙ z)
-    ∙ drop_past (spread i b.handle b.spans) (expanded (i + n) bs) (count (take k bs) + o)
+    ap (λ m. drop m (entries_in_blocks i (b ∷ bs))) (q ∙ z)
+    ∙ drop_past (spread i b.handle b.spans) (entries_in_blocks (i + n) bs) (count (take k bs) + o)
     ∙ at_place (i + n) (count (take k bs) + o) k o bs d rest
     ∙ rw (u, v) refl
 
 -- what stands below it
-pub below_place : (i p k o : ℕ) (bs : List BlockSpans) (d : BlockSpans) → k < length bs → count (take k bs) + o ≡ p → o ≤ length (get_or bs k d).spans → take p (expanded i bs) ≡ expanded i (take k bs) ++ spread (i + count (take k bs)) (get_or bs k d).handle (take o (get_or bs k d).spans)
+pub below_place : (i p k o : ℕ) (bs : List BlockSpans) (d : BlockSpans) → k < length bs → count (take k bs) + o ≡ p → o ≤ length (get_or bs k d).spans → take p (entries_in_blocks i bs) ≡ entries_in_blocks i (take k bs) ++ spread (i + count (take k bs)) (get_or bs k d).handle (take o (get_or bs k d).spans)
 below_place i p k o [] d l e m = absurd (omega arith)
 below_place i p zero o (b ∷ bs) d l e m =
     let q : p ≡ o = sym e ∙ omega arith in
     let z : i + 0 ≡ i = omega arith in
-    rw (q, z) (take-append-le o (spread i b.handle b.spans) (expanded (i + length b.spans) bs) (rw (length-spread i b.handle b.spans) m)
+    rw (q, z) (take-append-le o (spread i b.handle b.spans) (entries_in_blocks (i + length b.spans) bs) (rw (length-spread i b.handle b.spans) m)
     ∙ spread_take o i b.handle b.spans)
 below_place i p (suc k) o (b ∷ bs) d l e m =
     let n = length b.spans in
     let q : p ≡ n + (count (take k bs) + o) = sym e ∙ omega arith in
     let z : n + (count (take k bs) + o) ≡ length (spread i b.handle b.spans) + (count (take k bs) + o) = rw (length-spread i b.handle b.spans) refl in
     let v : i + (n + count (take k bs)) ≡ i + n + count (take k bs) = omega arith in
-    ap (λ w. take w (expanded i (b ∷ bs))) (q ∙ z)
-    ∙ take_past (spread i b.handle b.spans) (expanded (i + n) bs) (count (take k bs) + o)
+    ap (λ w. take w (entries_in_blocks i (b ∷ bs))) (q ∙ z)
+    ∙ take_past (spread i b.handle b.spans) (entries_in_blocks (i + n) bs) (count (take k bs) + o)
     ∙ ap (λ es. spread i b.handle b.spans ++ es) (below_place (i + n) (count (take k bs) + o) k o bs d (omega arith) refl m)
-    ∙ rw v (sym (append_assoc (spread i b.handle b.spans) (expanded (i + n) (take k bs)) (spread (i + n + count (take k bs)) (get_or bs k d).handle (take o (get_or bs k d).spans))))
+    ∙ rw v (sym (append_assoc (spread i b.handle b.spans) (entries_in_blocks (i + n) (take k bs)) (spread (i + n + count (take k bs)) (get_or bs k d).handle (take o (get_or bs k d).spans))))
 
 -- look-ups go past what stands below
 skip : (x s : ℕ) (a b : List EntryIndex) → RisesFrom s a → s + length a ≤ x → entry_at x (a ++ b) ≡ entry_at x b
@@ -133,26 +133,26 @@ head_of x o h ss s rest l e =
     rw (drop_more ss o s l, ← e, t) refl
 
 -- the entry at an index, by where it stands
-pub entry_at_place : (x i k o : ℕ) (bs : List BlockSpans) (b : BlockSpans) (s : ℕ × ℕ) → i ≤ x → IsAt (x - i) bs k o → b ≡ get_or bs k b → s ≡ get_or b.spans o s → Some (entry_of x b.handle s) ≡ entry_at x (expanded i bs)
+pub entry_at_place : (x i k o : ℕ) (bs : List BlockSpans) (b : BlockSpans) (s : ℕ × ℕ) → i ≤ x → IsAt (x - i) bs k o → b ≡ get_or bs k b → s ≡ get_or b.spans o s → Some (entry_of x b.handle s) ≡ entry_at x (entries_in_blocks i bs)
 entry_at_place x i k o bs b s lo a e f =
-    let es = expanded i bs in
+    let es = entries_in_blocks i bs in
     let p = x - i in
     let l = a.block in
     let inside : o < length b.spans = subst (λ (y : BlockSpans). o < length y.spans) (sym e) (a.inside b) in
-    let tail : drop p es ≡ spread (i + p) b.handle (drop o b.spans) ++ expanded (i + count (take (suc k) bs)) (drop (suc k) bs) =
-    subst (λ (y : BlockSpans). drop p es ≡ spread (i + p) y.handle (drop o y.spans) ++ expanded (i + count (take (suc k) bs)) (drop (suc k) bs)) (sym e) (at_place i p k o bs b a) in
+    let tail : drop p es ≡ spread (i + p) b.handle (drop o b.spans) ++ entries_in_blocks (i + count (take (suc k) bs)) (drop (suc k) bs) =
+    subst (λ (y : BlockSpans). drop p es ≡ spread (i + p) y.handle (drop o y.spans) ++ entries_in_blocks (i + count (take (suc k) bs)) (drop (suc k) bs)) (sym e) (at_place i p k o bs b a) in
     let q : i + p ≡ x = omega arith in
     let fit : p ≤ length es = rw (length-expanded i bs) (omega (arith, place_within p k o bs a)) in
     let g : length (take p es) ≡ p = length-take-le p es fit in
     sym (ap (entry_at x) (sym (take-append-drop p es))
     ∙ skip x i (take p es) (drop p es) (RisesFrom-take p i es (rises_expanded i bs)) (omega arith)
-    ∙ rw (tail, q) (head_of x o b.handle b.spans s (expanded (i + count (take (suc k) bs)) (drop (suc k) bs)) inside f))
+    ∙ rw (tail, q) (head_of x o b.handle b.spans s (entries_in_blocks (i + count (take (suc k) bs)) (drop (suc k) bs)) inside f))
 
 -- the entry at a place
-pub entry_is : (i p k o : ℕ) (bs : List BlockSpans) (b : BlockSpans) (s : ℕ × ℕ) (d : EntryIndex) → IsAt p bs k o → b ≡ get_or bs k b → s ≡ get_or b.spans o s → entry_of (i + p) b.handle s ≡ get_or (expanded i bs) p d
+pub entry_is : (i p k o : ℕ) (bs : List BlockSpans) (b : BlockSpans) (s : ℕ × ℕ) (d : EntryIndex) → IsAt p bs k o → b ≡ get_or bs k b → s ≡ get_or b.spans o s → entry_of (i + p) b.handle s ≡ get_or (entries_in_blocks i bs) p d
 entry_is i p k o bs b s d a e f =
-    let es = expanded i bs in
-    let rest = expanded (i + count (take (suc k) bs)) (drop (suc k) bs) in
+    let es = entries_in_blocks i bs in
+    let rest = entries_in_blocks (i + count (take (suc k) bs)) (drop (suc k) bs) in
     let inside : o < length b.spans = subst (λ (y : BlockSpans). o < length y.spans) (sym e) (a.inside b) in
     let tail : drop p es ≡ spread (i + p) b.handle (drop o b.spans) ++ rest =
     subst (λ (y : BlockSpans). drop p es ≡ spread (i + p) y.handle (drop o y.spans) ++ rest) (sym e) (at_place i p k o bs b a) in

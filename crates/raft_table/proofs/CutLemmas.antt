@@ -12,7 +12,7 @@ use Rattle.raft_table.specs.Marks.{entries_within}
 use Rattle.raft_table.proofs.KeyValueReads.{entries-empty}
 use Rattle.raft_table.proofs.RunLemmas.{filter_comm, below_start, from_start}
 use Rattle.raft_table.proofs.SoundLemmas.{sound_rising, below_cut, from_cut}
-use Rattle.raft_table.specs.MarkJoins.{capped}
+use Rattle.raft_table.specs.MarkJoins.{at_most_bound}
 use Rattle.raft_table.proofs.PartEnds.{end_of-part_run}
 use Rattle.raft_table.proofs.MarkWords.{within-within, within-from, within-below}
 
@@ -55,18 +55,18 @@ unfolding placed_in
 none-fewer q es = omega arith
 
 -- where the entries within bounds end, told by the start and the end of all
-pub end_of-within : (s : ℕ) (es : List EntryIndex) (floor : ℕ) (cut : Option ℕ) → RisesFrom s es → end_of (entries_within floor cut es) ≡ cond (ltb (max s floor) (capped (end_of es) cut)) (capped (end_of es) cut) 0
+pub end_of-within : (s : ℕ) (es : List EntryIndex) (floor : ℕ) (cut : Option ℕ) → RisesFrom s es → end_of (entries_within floor cut es) ≡ cond (ltb (max s floor) (at_most_bound (end_of es) cut)) (at_most_bound (end_of es) cut) 0
 end_of-within s es floor None h = end_of-part_run s floor None es h
 end_of-within s es floor (Some c) h = end_of-part_run s floor (Some c) es h
 
-pub end_met : (s : ℕ) (es : List EntryIndex) (floor : ℕ) (cut : Option ℕ) (end m x : ℕ) → RisesFrom s es → end ≡ end_of es → x ≡ capped end cut → m ≡ max s floor → m < x → x ≡ end_of (entries_within floor cut es)
-end_met s es floor cut end m x h e f g l = sym (end_of-within s es floor cut h ∙ go (capped (end_of es) cut) (f ∙ ap (λ n. capped n cut) e))
+pub end_met : (s : ℕ) (es : List EntryIndex) (floor : ℕ) (cut : Option ℕ) (end m x : ℕ) → RisesFrom s es → end ≡ end_of es → x ≡ at_most_bound end cut → m ≡ max s floor → m < x → x ≡ end_of (entries_within floor cut es)
+end_met s es floor cut end m x h e f g l = sym (end_of-within s es floor cut h ∙ go (at_most_bound (end_of es) cut) (f ∙ ap (λ n. at_most_bound n cut) e))
   where
     go : (n : ℕ) → x ≡ n → cond (ltb (max s floor) n) n 0 ≡ x
     go n k = grind (arith, nat_tests)
 
-pub end_unmet : (s : ℕ) (es : List EntryIndex) (floor : ℕ) (cut : Option ℕ) (end m x : ℕ) → RisesFrom s es → end ≡ end_of es → x ≡ capped end cut → m ≡ max s floor → x ≤ m → 0 ≡ end_of (entries_within floor cut es)
-end_unmet s es floor cut end m x h e f g l = sym (end_of-within s es floor cut h ∙ go (capped (end_of es) cut) (f ∙ ap (λ n. capped n cut) e))
+pub end_unmet : (s : ℕ) (es : List EntryIndex) (floor : ℕ) (cut : Option ℕ) (end m x : ℕ) → RisesFrom s es → end ≡ end_of es → x ≡ at_most_bound end cut → m ≡ max s floor → x ≤ m → 0 ≡ end_of (entries_within floor cut es)
+end_unmet s es floor cut end m x h e f g l = sym (end_of-within s es floor cut h ∙ go (at_most_bound (end_of es) cut) (f ∙ ap (λ n. at_most_bound n cut) e))
   where
     go : (n : ℕ) → x ≡ n → cond (ltb (max s floor) n) n 0 ≡ 0
     go n k = grind (arith, nat_tests)

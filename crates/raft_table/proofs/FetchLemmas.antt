@@ -7,7 +7,7 @@ use Rattle.std.proofs.lemmas.Bool.{cases_lt}
 use Rattle.std.proofs.lemmas.Bool.Decides.{nat_tests}
 use Rattle.raft_base.specs.declared.pipe_log.LogQueue.TheVariants.{Append, Rewrite}
 use Rattle.raft_base.specs.declared.entry_index.EntryIndex.{EntryIndex}
-use Rattle.raft_table.specs.TableEntries.{AreTableEntries, start_of, from, between, placed_in, entry_count}
+use Rattle.raft_table.specs.TableEntries.{AreTableEntries, start_of, from, entries_between, placed_in, entry_count}
 use Rattle.raft_table.specs.Fetches.{total_len, is_too_many, IsLimitCount, FetchesWithin, NotFound, Compacted, Found, range_answer, appended_before, change_count}
 use Rattle.raft_table.specs.Rewriting.{is_placed_before}
 use Rattle.raft_table.proofs.RunLemmas.{RisesFrom-take}
@@ -93,8 +93,8 @@ range_behind begin end es h l a b c = let e = sound_end es h l in rw e (grind (a
 pub range_found : (begin end : ℕ) (es : List EntryIndex) → AreTableEntries es → 0 < length es → begin < end → start_of es ≤ begin → end ≤ start_of es + length es → range_answer begin end es ≡ Found
 range_found begin end es h l a b c = let e = sound_end es h l in rw e (grind (arith, nat_tests))
 
-pub between_is : (begin end : ℕ) (es : List EntryIndex) → AreTableEntries es → between begin end es ≡ drop (begin - start_of es) (take (end - start_of es) es)
-unfolding between
+pub between_is : (begin end : ℕ) (es : List EntryIndex) → AreTableEntries es → entries_between begin end es ≡ drop (begin - start_of es) (take (end - start_of es) es)
+unfolding entries_between
 between_is begin end es h =
     ap (from begin) (below_is end (start_of es) es (sound_rising es h))
     ∙ from_is begin (start_of es) (take (end - start_of es) es) (RisesFrom-take (end - start_of es) (start_of es) es (sound_rising es h))
@@ -107,7 +107,7 @@ part_front a b n xs h l =
     let r = ap length p in
     drop-take a n xs ∙ sym (ap (take n) p ∙ take-take n (b - a) (drop a xs) (omega arith))
 
-pub fetched_part : (limit : Option ℕ) (begin end n : ℕ) (es old new : List EntryIndex) → AreTableEntries es → start_of es ≤ begin → begin ≤ end → IsLimitCount limit (drop (begin - start_of es) (take (end - start_of es) es)) n → new ≡ old ++ drop (begin - start_of es) (take (begin - start_of es + n) es) → FetchesWithin limit (between begin end es) old new
+pub fetched_part : (limit : Option ℕ) (begin end n : ℕ) (es old new : List EntryIndex) → AreTableEntries es → start_of es ≤ begin → begin ≤ end → IsLimitCount limit (drop (begin - start_of es) (take (end - start_of es) es)) n → new ≡ old ++ drop (begin - start_of es) (take (begin - start_of es + n) es) → FetchesWithin limit (entries_between begin end es) old new
 fetched_part limit begin end n es old new h a b w e =
     let p = between_is begin end es h in
     record {

@@ -6,7 +6,7 @@ use Rattle.raft_base.specs.declared.entry_index.EntryIndex.{EntryIndex}
 use Rattle.raft_table.specs.Counts.{Counts, live, with_added}
 use Rattle.raft_table.specs.TableEntries.{AreTableEntries, IsRunIn, start_of, placed_in, entry_count, AreCounted, AreRecounted}
 use Rattle.raft_table.specs.Queues.{count_in, of_queue}
-use Rattle.raft_table.specs.Start.{replayed, replaced_by, counts_without, counts_with_run}
+use Rattle.raft_table.specs.Start.{entries_after_replay, replaced_by, counts_without, counts_with_run}
 use Rattle.raft_table.specs.StartOf.{IsKeptUnder}
 use Rattle.raft_table.proofs.GoneLemmas.{from_rest}
 use Rattle.raft_table.proofs.PlaceLemmas.{each_queue, entry_count-append, entry_count-cut, entries_in_one}
@@ -15,7 +15,7 @@ use Rattle.raft_table.proofs.StartLemmas.{MayJoin, sound_joined, sound_run}
 -- a run behind so many entries that stay
 pub record IsReplay (rule : LogQueue) (es run : List EntryIndex) (n : ℕ) : Type 0 where
   pub within : n ≤ length es
-  pub after : replayed rule es run ≡ Some (take n es ++ run)
+  pub after : entries_after_replay rule es run ≡ Some (take n es ++ run)
   pub gone : replaced_by es run ≡ drop n es
 
 pub is_replay : (rule : LogQueue) (es run : List EntryIndex) (n : ℕ) → AreTableEntries es → 0 < length run → IsKeptUnder rule es (start_of run) n → IsReplay rule es run n
@@ -26,7 +26,7 @@ is_replay rule es (e ∷ run) n h l (inl j) = record {
   gone = rw j.2 (from_rest e.index n es h j.0 j.1);
 }
   where
-    by_rule : (rule : LogQueue) → replayed rule es (e ∷ run) ≡ Some (take n es ++ e ∷ run)
+    by_rule : (rule : LogQueue) → entries_after_replay rule es (e ∷ run) ≡ Some (take n es ++ e ∷ run)
     by_rule Append = rw (j.2, j.0) refl
     by_rule Rewrite = rw (j.2, j.0) refl
 is_replay rule es (e ∷ run) n h l (inr (inl f)) = subst (IsReplay rule es (e ∷ run)) (sym f.0) (record {
@@ -35,12 +35,12 @@ is_replay rule es (e ∷ run) n h l (inr (inl f)) = subst (IsReplay rule es (e �
   gone = rw f.1.1 (from_rest e.index 0 es h f.1.0 (omega arith));
 })
   where
-    by_rule : (rule : LogQueue) → replayed rule es (e ∷ run) ≡ Some (e ∷ run)
+    by_rule : (rule : LogQueue) → entries_after_replay rule es (e ∷ run) ≡ Some (e ∷ run)
     by_rule Append = rw (f.1.1, f.1.0) refl
     by_rule Rewrite = rw (f.1.1, f.1.0) refl
 is_replay rule es (e ∷ run) n h l (inr (inr b)) = subst (IsReplay rule es (e ∷ run)) (sym b.0) (record {
   within = omega arith;
-  after = ap (λ q. replayed q es (e ∷ run)) b.1 ∙ (rw b.2.0 refl);
+  after = ap (λ q. entries_after_replay q es (e ∷ run)) b.1 ∙ (rw b.2.0 refl);
   gone = rw b.2.0 refl;
 })
 

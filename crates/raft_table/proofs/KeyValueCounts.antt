@@ -14,7 +14,7 @@ use Rattle.raft_base.specs.declared.pipe_log.FileId.{FileId}
 use Rattle.raft_base.specs.declared.pipe_log.LogQueue.{LogQueue}
 use Rattle.raft_base.specs.declared.pipe_log.LogQueue.TheVariants.{Append, Rewrite}
 use Rattle.raft_table.specs.Queues.{is_same}
-use Rattle.raft_table.specs.KeyValues.{Stored, Keys, file_at, with_put, with_moved, moved_to, pair_count, file_weight}
+use Rattle.raft_table.specs.KeyValues.{Stored, Keys, file_at, with_moved, moved_to, pair_count, file_weight}
 use Rattle.raft_table.proofs.Shown.{find-below, where_key-below, below_all-less, below_all-equal, first_of_both, second_of_both, equal}
 
 -- what the value found counts by the test
@@ -86,8 +86,8 @@ weight-file q None = refl
 weight-file q (Some s) = refl
 
 -- a pair that is put counts, and the one that it replaces no longer does
-pub pair_count-with_put : (q : LogQueue) (keys : Keys) (key value : List ℕ) (file : FileId) → pair_count q (with_put keys key value file) + file_weight q (file_at keys key) ≡ pair_count q keys + file_weight q (Some file)
-pair_count-with_put q keys key value file =
+pub pair_count-insert : (q : LogQueue) (keys : Keys) (key value : List ℕ) (file : FileId) → pair_count q (finite.insert keys key (record { value = value; file = file })) + file_weight q (file_at keys key) ≡ pair_count q keys + file_weight q (Some file)
+pair_count-insert q keys key value file =
     rw (finite.entries-insert nat_list_cmp_total, ← weight-file q (finite.get keys key), finite.get-entries)
     (count-put nat_list_cmp_total (λ s. is_same q s.file.queue) key (record { value = value; file = file }) (finite.entries keys) (finite.entries_sorted keys))
 
@@ -103,7 +103,7 @@ pair_count-with_moved q keys key file = go (finite.get keys key) refl
   where
     go : (found : Option Stored) → finite.get keys key ≡ found → pair_count q (moved_to file keys key found) + file_weight q (option_map (λ s. s.file) found) ≡ pair_count q keys + file_weight q (option_map (λ _. file) (option_map (λ s. s.file) found))
     go None e = refl
-    go (Some s) e = rw (ap (λ o. option_map (λ s. s.file) o) e) at (pair_count-with_put q keys key s.value file)
+    go (Some s) e = rw (ap (λ o. option_map (λ s. s.file) o) e) at (pair_count-insert q keys key s.value file)
 
 -- no more pairs are in a queue than there are
 pub pair_count-le-len : (q : LogQueue) (keys : Keys) → pair_count q keys ≤ finite.len keys

@@ -8,10 +8,10 @@ use Rattle.std.specs.FinMap.{find, is_sorted}
 use lib.Dec.{T}
 use Rattle.std.proofs.lemmas.Bool.{cases_lt}
 use Rattle.std.proofs.lemmas.List.Elements.{All-cons}
-use Rattle.raft_table.specs.KeyValues.{Keys, StoredPair, least, lesser, pairs_over, with_pairs}
+use Rattle.raft_table.specs.KeyValues.{Keys, Stored, least, lesser, pairs_over, with_pairs}
 use Rattle.raft_table.proofs.Shown.{find-below, below_all-equal, first_of_both, second_of_both, equal}
 
-get-with_pairs : (es : List StoredPair) (keys : Keys) (q : List ℕ) → T (is_sorted (slice_cmp nat_cmp) es) → finite.get (with_pairs keys es) q ≡ option_or (find (slice_cmp nat_cmp) q es) (finite.get keys q)
+get-with_pairs : (es : List (List ℕ × Stored)) (keys : Keys) (q : List ℕ) → T (is_sorted (slice_cmp nat_cmp) es) → finite.get (with_pairs keys es) q ≡ option_or (find (slice_cmp nat_cmp) q es) (finite.get keys q)
 get-with_pairs [] keys q h = refl
 get-with_pairs (e ∷ es) keys q h =
     let rest = get-with_pairs es (finite.insert keys e.0 e.1) q (second_of_both _ _ h) ∙ ap (option_or (find (slice_cmp nat_cmp) q es)) (finite.get-insert nat_list_cmp_total keys e.0 e.1 q) in

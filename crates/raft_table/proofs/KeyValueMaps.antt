@@ -11,7 +11,7 @@ use Rattle.std.specs.Map.{keys_of, lookup, remove_entry, set_value}
 use Rattle.std.specs.FinMap as finite
 use Rattle.std.specs.FinMap.{nat_cmp-IsAntisymmetric, slice_cmp-IsAntisymmetric}
 use Rattle.raft_base.specs.declared.pipe_log.LogQueue.{LogQueue}
-use Rattle.raft_table.specs.KeyValues.{Stored, Keys, file_at, with_put, with_moved, moved_to, pair_count, file_weight}
+use Rattle.raft_table.specs.KeyValues.{Stored, Keys, file_at, with_moved, moved_to, pair_count, file_weight}
 use Rattle.raft_table.proofs.Shown.{shown, by_key, is_sorted-shown, find-shown, shown-insert_entry, shown-remove_entry, shown-set_value}
 use Rattle.raft_table.proofs.KeyValueCounts.{entries-remove, pair_count-remove}
 
@@ -57,7 +57,7 @@ module _ {K X : Type 0} (key : K → List ℕ) (stored : X → Stored) where
       finite.same_entries_map _ _ (entries-map_of _ g ∙ shown-set_value (slice_cmp nat_cmp) key stored nat_list_cmp_total q x es (in_order es h) (rw found refl)
       ∙ ap (finite.put (slice_cmp nat_cmp) q (stored x)) (sym (entries-map_of es h))
       ∙ sym (finite.entries-insert nat_list_cmp_total (map_of es) q (stored x)))
-      ∙ ap (λ v. with_put (map_of es) q v (stored x).file) same
+      ∙ ap (λ v. finite.insert (map_of es) q (record { value = v; file = (stored x).file })) same
       ∙ sym (ap (moved_to (stored x).file (map_of es) q) (get-map_of es q h ∙ ap (option_map stored) found))
 
 -- the pair of a key counts among those of its queue

@@ -12,10 +12,10 @@ use Rattle.raft_base.specs.declared.pipe_log.LogQueue.{LogQueue}
 use Rattle.raft_table.specs.declared.memtable.key_values.KeyValues.TheInside.{Inside}
 use Rattle.raft_table.specs.declared.memtable.key_values.StoredValue.{StoredValue}
 use Rattle.raft_table.specs.Queues.{is_same, count_in}
-use Rattle.raft_table.specs.KeyValues.{Keys, StoredPair, Stored, pair_count, files_in, is_up_to, fetched, key_value, pairs_over, with_pairs}
+use Rattle.raft_table.specs.KeyValues.{Keys, Stored, pair_count, files_in, is_up_to, pairs_up_to, key_value, pairs_over, with_pairs}
 use Rattle.raft_table.specs.KeyValueView.{keys_shown, stored_of, IsOrderedAndCounted}
 use Rattle.raft_table.proofs.KeyValueMaps.{entries-map_of}
-use Rattle.raft_table.specs.Scan.{is_between, is_forward, IsDivided, scanned}
+use Rattle.raft_table.specs.Scan.{is_between, is_forward, IsDivided, pairs_between}
 use Rattle.raft_table.proofs.ScanLemmas.{none-between, sought-tested}
 use Rattle.raft_table.proofs.KeyValueCounts.{length-cond}
 use Rattle.raft_table.proofs.KeyValuesShown.{key_cmp}
@@ -23,7 +23,7 @@ use Rattle.raft_table.proofs.KeyValuesShown.{key_cmp}
 abbrev pub Entry : Type 0
 Entry = Vec ℕ Global × StoredValue
 
-abbrev pub pair_of : Entry → StoredPair
+abbrev pub pair_of : Entry → List ℕ × Stored
 pair_of e = (e.0.items, stored_of e.1)
 
 abbrev pub bytes_of : Entry → List ℕ × List ℕ
@@ -47,7 +47,7 @@ files-shown a keys q sound is =
     ap (λ es. map (λ e. e.1.file.seq) (filter (λ e. is_same q e.1.file.queue) es)) (sym (ap finite.entries is) ∙ entries-shown a sound.ordered) ∙ files-list q a.pairs.entries
 
 -- the chosen keys and values, over the stored pairs
-chosen-list : (t : StoredPair → Bool) (es : List Entry) → map key_value (filter t (map pair_of es)) ≡ map bytes_of (filter (λ e. t (pair_of e)) es)
+chosen-list : (t : List ℕ × Stored → Bool) (es : List Entry) → map key_value (filter t (map pair_of es)) ≡ map bytes_of (filter (λ e. t (pair_of e)) es)
 chosen-list t [] = refl
 chosen-list t (e ∷ es) =
     elim (t (pair_of e)) as (λ b. map key_value (cond b (pair_of e ∷ filter t (map pair_of es)) (filter t (map pair_of es))) ≡ map bytes_of (cond b (e ∷ filter (λ e. t (pair_of e)) es) (filter (λ e. t (pair_of e)) es))) [
@@ -55,23 +55,23 @@ chosen-list t (e ∷ es) =
       | false ↦ chosen-list t es
     ]
 
-chosen-shown : (a : Inside) (keys : Keys) (t : StoredPair → Bool) → IsOrderedAndCounted a → keys_shown a ≡ keys → map key_value (filter t (finite.entries keys)) ≡ map bytes_of (filter (λ e. t (pair_of e)) a.pairs.entries)
+chosen-shown : (a : Inside) (keys : Keys) (t : List ℕ × Stored → Bool) → IsOrderedAndCounted a → keys_shown a ≡ keys → map key_value (filter t (finite.entries keys)) ≡ map bytes_of (filter (λ e. t (pair_of e)) a.pairs.entries)
 chosen-shown a keys t sound is =
     ap (λ es. map key_value (filter t es)) (sym (ap finite.entries is) ∙ entries-shown a sound.ordered) ∙ chosen-list t a.pairs.entries
 
 -- the keys and values up to a gate, over the stored pairs
-pub fetched-shown : (a : Inside) (keys : Keys) (q : LogQueue) (gate : Option ℕ) → IsOrderedAndCounted a → keys_shown a ≡ keys → fetched q gate keys ≡ map bytes_of (filter (λ e. is_up_to q gate e.1.file) a.pairs.entries)
+pub fetched-shown : (a : Inside) (keys : Keys) (q : LogQueue) (gate : Option ℕ) → IsOrderedAndCounted a → keys_shown a ≡ keys → pairs_up_to q gate keys ≡ map bytes_of (filter (λ e. is_up_to q gate e.1.file) a.pairs.entries)
 fetched-shown a keys q gate sound is = chosen-shown a keys (λ e. is_up_to q gate e.1.file) sound is
 
 -- no keys are scanned where the bounds are not in order
-pub scanned-backwards : (keys : Keys) (s e : Option (List ℕ)) (reversed : Bool) → is_forward s e ≡ false → scanned s e reversed keys ≡ []
+pub scanned-backwards : (keys : Keys) (s e : Option (List ℕ)) (reversed : Bool) → is_forward s e ≡ false → pairs_between s e reversed keys ≡ []
 scanned-backwards keys s e reversed backwards =
-    let none : map key_value (filter (λ p. is_between s e p.0) (finite.entries keys)) ≡ [] = ap (map key_value) (none-between (λ (p : StoredPair). p.0) s e (finite.entries keys) backwards) in
+    let none : map key_value (filter (λ p. is_between s e p.0) (finite.entries keys)) ≡ [] = ap (map key_value) (none-between (λ (p : List ℕ × Stored). p.0) s e (finite.entries keys) backwards) in
     elim reversed as (λ r. (cond r (reverse (map key_value (filter (λ p. is_between s e p.0) (finite.entries keys)))) (map key_value (filter (λ p. is_between s e p.0) (finite.entries keys)))) ≡ []) [ true ↦ ap reverse none | false ↦ none ]
 
 -- what is scanned, over the stored pairs that are sought and then tested
 pub scanned-shown : (a : Inside) (keys : Keys) (s s' s'' e e' e'' : Option (List ℕ)) → IsOrderedAndCounted a → keys_shown a ≡ keys → IsDivided s s' s'' → IsDivided e e' e'' →
-    map bytes_of (filter (λ p. is_between s'' e'' p.0.items) (filter (λ p. is_between s' e' p.0.items) a.pairs.entries)) ≡ scanned s e false keys
+    map bytes_of (filter (λ p. is_between s'' e'' p.0.items) (filter (λ p. is_between s' e' p.0.items) a.pairs.entries)) ≡ pairs_between s e false keys
 scanned-shown a keys s s' s'' e e' e'' sound is p q =
     ap (map bytes_of) (sought-tested (λ (p : Entry). p.0.items) s s' s'' e e' e'' a.pairs.entries p q) ∙ sym (chosen-shown a keys (λ p. is_between s e p.0) sound is)
 
@@ -96,7 +96,7 @@ entries-empty = no_length _ (sym (finite.len-entries _) ∙ finite.len-empty (sl
 pub pairs_over-empty : (newer older : Keys) → newer ≡ finite.empty → pairs_over newer older ≡ older
 pairs_over-empty newer older e = ap (with_pairs older) (ap finite.entries e ∙ entries-empty)
 
-pub len-first : (keys rest : Keys) (e : StoredPair) → finite.entries keys ≡ e ∷ finite.entries rest → finite.len rest < finite.len keys
+pub len-first : (keys rest : Keys) (e : List ℕ × Stored) → finite.entries keys ≡ e ∷ finite.entries rest → finite.len rest < finite.len keys
 len-first keys rest e first = omega (arith, finite.len-entries keys, finite.len-entries rest, ap length first)
 
 -- where no first pair is, there is none

@@ -13,7 +13,7 @@ use Rattle.raft_base.specs.declared.pipe_log.FileId.{FileId}
 use Rattle.raft_base.specs.declared.pipe_log.LogQueue.TheVariants.{Append, Rewrite}
 use Rattle.raft_table.specs.declared.memtable.key_values.KeyValues.TheInside.{Inside}
 use Rattle.raft_table.specs.declared.memtable.key_values.StoredValue.{StoredValue}
-use Rattle.raft_table.specs.KeyValues.{Keys, Stored, file_at, with_put, with_moved, moved_to, pair_count, file_weight}
+use Rattle.raft_table.specs.KeyValues.{Keys, Stored, file_at, with_moved, moved_to, pair_count, file_weight}
 use Rattle.raft_table.specs.KeyValueView.{keys_shown, stored_of, IsOrderedAndCounted}
 use Rattle.raft_table.proofs.KeyValueMaps.{map_of, Ordered, get-map_of, len-map_of, map_of-insert_entry, map_of-remove_entry, map_of-set_value, file_weight-le}
 use Rattle.raft_table.proofs.KeyValueCounts.{pair_count-le-len, pair_count-both}
@@ -41,11 +41,11 @@ rewritten-le-len a sound = omega (arith, sound.counted, pair_count-le-len Rewrit
 pub appended-shown : (a : Inside) (keys : Keys) → IsOrderedAndCounted a → keys_shown a ≡ keys → pair_count Append keys + a.rewritten ≡ length a.pairs.entries
 appended-shown a keys sound is = rw (← is) (omega (arith, sound.counted, pair_count-both (keys_shown a), len-shown a (keys_shown a) sound refl))
 
-pub shown-insert : (a b : Inside) (keys : Keys) (k : Vec ℕ Global) (s : StoredValue) → IsOrderedAndCounted a → keys_shown a ≡ keys → IsOrdered key_cmp b.pairs → b.pairs.entries ≡ insert_entry key_cmp a.pairs.entries k s → keys_shown b ≡ with_put keys k.items s.value.items s.file
+pub shown-insert : (a b : Inside) (keys : Keys) (k : Vec ℕ Global) (s : StoredValue) → IsOrderedAndCounted a → keys_shown a ≡ keys → IsOrdered key_cmp b.pairs → b.pairs.entries ≡ insert_entry key_cmp a.pairs.entries k s → keys_shown b ≡ finite.insert keys k.items (record { value = s.value.items; file = s.file })
 shown-insert a b keys k s sound is ordered put =
     ap (map_of bytes_of stored_of) put
     ∙ map_of-insert_entry bytes_of stored_of k s a.pairs.entries sound.ordered (subst (Ordered bytes_of stored_of) put ordered)
-    ∙ ap (λ m. with_put m k.items s.value.items s.file) is
+    ∙ ap (λ (m : Keys). finite.insert m k.items (record { value = s.value.items; file = s.file })) is
 
 pub shown-remove : (a b : Inside) (keys : Keys) (q : List ℕ) → IsOrderedAndCounted a → keys_shown a ≡ keys → IsOrdered key_cmp b.pairs → b.pairs.entries ≡ remove_entry (has q) a.pairs.entries → keys_shown b ≡ finite.remove keys q
 shown-remove a b keys q sound is ordered gone =

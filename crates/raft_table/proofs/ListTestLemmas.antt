@@ -6,14 +6,14 @@ use Rattle.raft_base.specs.declared.pipe_log.LogQueue.{LogQueue}
 use Rattle.raft_base.specs.declared.entry_index.EntryIndex.{EntryIndex}
 use Rattle.raft_table.specs.TableEntries.{RisesFrom, IsRunIn, start_of, end_of, placed_in, is_placed_in}
 use Rattle.raft_table.proofs.RunLemmas.{RisesFrom-append, placed_in-append, end_of-run}
-use Rattle.raft_table.proofs.PlaceLemmas.{AllTest, AllTest-filter}
+use Rattle.raft_table.proofs.PlaceLemmas.{AllTest, AllTest-filter, placed_each, each_placed}
 use Rattle.raft_table.proofs.LookupLemmas.{index_at}
 use Rattle.raft_table.proofs.RewriteLemmas.{run_rising, run_end}
 use Rattle.raft_table.proofs.SoundLemmas.{no_first}
 
 pub no_entries_run : (q : LogQueue) (es : List EntryIndex) → None ≡ slice_get es 0 → IsRunIn q es
-unfolding placed_in end_of
-no_entries_run q es h = rw (no_first es h) (record { run = record { start = 0; rising = tt }; placed = refl; bounded = omega arith })
+unfolding end_of
+no_entries_run q es h = rw (no_first es h) (record { run = record { start = 0; rising = tt }; placed = tt; bounded = omega arith })
 
 pub rising_more : (s i : ℕ) (es : List EntryIndex) (d : EntryIndex) → i < length es → RisesFrom s (take i es) → (get_or es i d).index ≡ s + i → RisesFrom s (take (i + 1) es)
 rising_more s i es d l h e =
@@ -33,7 +33,7 @@ all_run q i next es a b l e n h k =
     let t = take_all i es a in
     let r : RisesFrom (start_of es) es = rw t at h in
     let f = end_of-run (start_of es) es r l in
-    record { run = record { start = start_of es; rising = r }; placed = rw t at k; bounded = omega arith }
+    record { run = record { start = start_of es; rising = r }; placed = placed_each q es (rw t at k); bounded = omega arith }
 
 pub at_test : {X : Type 0} (p : X → Bool) (i : ℕ) (es : List X) (d : X) → i < length es → AllTest true p es → p (get_or es i d) ≡ true
 unfolding AllTest
@@ -50,4 +50,4 @@ run_bound q i es l r = let e = run_end q es r (omega arith) in let b = r.bounded
 
 pub run_placed : (q : LogQueue) (i : ℕ) (es : List EntryIndex) (d : EntryIndex) → i < length es → IsRunIn q es → is_placed_in q (get_or es i d) ≡ true
 unfolding placed_in
-run_placed q i es d l r = at_test (is_placed_in q) i es d l (subst (AllTest true (is_placed_in q)) r.placed (AllTest-filter (is_placed_in q) es))
+run_placed q i es d l r = at_test (is_placed_in q) i es d l (subst (AllTest true (is_placed_in q)) (each_placed q es r.placed) (AllTest-filter (is_placed_in q) es))

@@ -9,11 +9,10 @@ use Rattle.raft_base.specs.declared.pipe_log.LogQueue.{LogQueue}
 use Rattle.raft_base.specs.declared.pipe_log.LogQueue.TheVariants.{Append, Rewrite}
 use Rattle.raft_base.specs.declared.entry_index.EntryIndex.{EntryIndex}
 use Rattle.raft_table.specs.KeyValues.{lesser}
-use Rattle.raft_table.specs.Start.{leaves_hole}
 use Rattle.raft_table.specs.TableEntries.{RisesFrom, IsRun, end_of}
 use Rattle.raft_table.specs.Marks.{Mark, entries_within, misses, is_missed, is_barred, entries_over}
 use Rattle.raft_table.specs.MarkFits.{IsNotAbove, LiesWithin, FitsRun, FitsCut, Fits}
-use Rattle.raft_table.specs.MarkJoins.{capped, narrowed, is_detached, joined_first, joined_later, joined_uncleaned, joined_at}
+use Rattle.raft_table.specs.MarkJoins.{at_most_bound, narrowed_bars, is_detached, joined_first, joined_later, joined_uncleaned, joined_at}
 use Rattle.raft_table.proofs.MarkWords.{within-within, within-both, within-empty, within-nil, end_of-nil, nil_of_end}
 use Rattle.raft_table.proofs.PartEnds.{top, end_of-part_run}
 use Rattle.raft_table.proofs.MarkMeets.{barred_of, Settled, settled_list, met_list, at_cut_list, none_within, refuses_later}
@@ -57,9 +56,9 @@ kept_barred (Some p) b x y o e = e
 
 later_append : (s s1 : ℕ) (m n : Mark) (t u w o : List EntryIndex) (r c : ℕ) → m.reach ≡ Some r → RisesFrom s o → RisesFrom s1 t → FitsRun r c (end_of t) m.reach_floor m.floor m.reach_cut m.barred → LiesWithin n.reach_floor n.reach_cut n.barred
     → over Append n u t ≡ Some w
-    → option_and_then (λ v. over Append n u v) (cond (leaves_hole (end_of (entries_within m.reach_floor m.reach_cut o)) r || is_barred m.barred o) None (Some (entries_within m.floor (Some c) o ++ t)))
+    → option_and_then (λ v. over Append n u v) (cond (misses (Some r) (end_of (entries_within m.reach_floor m.reach_cut o)) || is_barred m.barred o) None (Some (entries_within m.floor (Some c) o ++ t)))
     ≡ over Append (joined_later Append c (end_of (entries_within n.reach_floor n.reach_cut t)) m n) w o
-later_append s s1 m n t u w o r c reach run run1 f f' is = rw reach (go (leaves_hole (end_of (entries_within m.reach_floor m.reach_cut o)) r) (is_barred m.barred o) refl refl)
+later_append s s1 m n t u w o r c reach run run1 f f' is = rw reach (go (misses (Some r) (end_of (entries_within m.reach_floor m.reach_cut o))) (is_barred m.barred o) refl refl)
   where
     ok : ((misses n.reach (end_of (entries_within n.reach_floor n.reach_cut t)) || is_barred n.barred t) ≡ false) × (cond n.cleaned u (entries_within n.floor n.cut t ++ u) ≡ w)
     ok = accepted _ _ _ is
@@ -71,19 +70,19 @@ later_append s s1 m n t u w o r c reach run run1 f f' is = rw reach (go (leaves_
     content true e = e
     content false e = rw (within-both, ← e)
 
-    go : (x y : Bool) → leaves_hole (end_of (entries_within m.reach_floor m.reach_cut o)) r ≡ x → is_barred m.barred o ≡ y
+    go : (x y : Bool) → misses (Some r) (end_of (entries_within m.reach_floor m.reach_cut o)) ≡ x → is_barred m.barred o ≡ y
         → option_and_then (λ v. over Append n u v) (cond (x || y) None (Some (entries_within m.floor (Some c) o ++ t)))
         ≡ cond (x || is_barred (joined_later Append c (end_of (entries_within n.reach_floor n.reach_cut t)) m n).barred o) None (Some (cond n.cleaned w (entries_within (max m.floor n.floor) (lesser (Some c) n.cut) o ++ w)))
     go true y h k = refl
-    go false true h k = rw (kept_barred m.barred (is_detached n.reach (end_of (entries_within n.reach_floor n.reach_cut t)) (capped c n.reach_cut)) (Some (max m.floor n.reach_floor, capped c n.reach_cut)) (narrowed m.floor (Some c) n.barred) o k)
+    go false true h k = rw (kept_barred m.barred (is_detached n.reach (end_of (entries_within n.reach_floor n.reach_cut t)) (at_most_bound c n.reach_cut)) (Some (max m.floor n.reach_floor, at_most_bound c n.reach_cut)) (narrowed_bars m.floor (Some c) n.barred) o k)
     go false false h k = rw (refuses_later s s1 o t r c m.reach_floor m.floor m.reach_cut m.barred n.reach n.reach_floor n.reach_cut n.barred run run1 f f' ok2.0 ok2.1 h k, content n.cleaned ok.1)
 
 -- an older table without a run
-pub narrowed_bounds : (d : ℕ) (cut : Option ℕ) → lesser cut (Some d) ≡ Some (capped d cut)
+pub narrowed_bounds : (d : ℕ) (cut : Option ℕ) → lesser cut (Some d) ≡ Some (at_most_bound d cut)
 narrowed_bounds d None = refl
 narrowed_bounds d (Some c) = ap (λ x. Some x) (omega arith)
 
-barred_first : (barred : Option (ℕ × ℕ)) (lo : ℕ) (cut : Option ℕ) (o : List EntryIndex) → is_barred barred (entries_within lo cut o) ≡ is_barred (narrowed lo cut barred) o
+barred_first : (barred : Option (ℕ × ℕ)) (lo : ℕ) (cut : Option ℕ) (o : List EntryIndex) → is_barred barred (entries_within lo cut o) ≡ is_barred (narrowed_bars lo cut barred) o
 barred_first None lo cut o = refl
 barred_first (Some p) lo cut o = rw (within-within, narrowed_bounds p.1 cut)
 
@@ -164,8 +163,8 @@ at_most_both c d (Some b) h = omega arith
 
 -- the older part o1 and the own table t, met by a newer run: x of t, y of the older part
 rewrite_cases : (miss barred : Bool) (y b r : ℕ) (o1 o2 t1 u : List EntryIndex) → (y ≡ 0) ⊎ (y ≡ b)
-    → (x : ℕ) → miss ≡ leaves_hole x r → barred ≡ (eqb x 0 && ltb b r) → o2 ≡ [] → (barred ≡ true → y ≡ 0 → o1 ≡ []) → (x ≡ 0 → ltb b r ≡ true → t1 ≡ [])
-    → cond (leaves_hole (cond (eqb x 0) y x) r) u (o1 ++ (t1 ++ u)) ≡ cond (barred || miss) o2 o1 ++ cond miss u (t1 ++ u)
+    → (x : ℕ) → miss ≡ misses (Some r) x → barred ≡ (eqb x 0 && ltb b r) → o2 ≡ [] → (barred ≡ true → y ≡ 0 → o1 ≡ []) → (x ≡ 0 → ltb b r ≡ true → t1 ≡ [])
+    → cond (misses (Some r) (cond (eqb x 0) y x)) u (o1 ++ (t1 ++ u)) ≡ cond (barred || miss) o2 o1 ++ cond miss u (t1 ++ u)
 rewrite_cases miss barred y b r o1 o2 t1 u h x m k e f g = grind (arith, nat_tests)
 
 pushed_part : (b : Bool) (x y : ℕ) (d : Option ℕ) (o : List EntryIndex) → entries_within (cond b x y) d o ≡ cond b (entries_within x d o) (entries_within y d o)
@@ -174,20 +173,20 @@ pushed_part false x y d o = refl
 
 not_missed : (s s1 : ℕ) (o t u : List EntryIndex) (n : Mark) (c lo : ℕ) → RisesFrom s o → RisesFrom s1 t → Settled lo c (end_of t) o → (x y : Option ℕ) → FitsCut x y n u
     → cond (misses x (end_of (entries_within n.reach_floor n.reach_cut (entries_within lo (Some c) o ++ t)))) u (entries_within n.floor y (entries_within lo (Some c) o ++ t) ++ u)
-    ≡ entries_within (cond (is_detached x (end_of (entries_within n.reach_floor n.reach_cut t)) (capped c n.reach_cut) || misses x (end_of (entries_within n.reach_floor n.reach_cut t))) (max (max lo n.floor) c) (max lo n.floor)) (lesser (Some c) y) o
+    ≡ entries_within (cond (is_detached x (end_of (entries_within n.reach_floor n.reach_cut t)) (at_most_bound c n.reach_cut) || misses x (end_of (entries_within n.reach_floor n.reach_cut t))) (max (max lo n.floor) c) (max lo n.floor)) (lesser (Some c) y) o
     ++ cond (misses x (end_of (entries_within n.reach_floor n.reach_cut t))) u (entries_within n.floor y t ++ u)
 not_missed s s1 o t u n c lo run run1 st None y f = within-both n.floor y lo (Some c) o t u
 not_missed s s1 o t u n c lo run run1 st (Some r) None f = absurd f
 not_missed s s1 o t u n c lo run run1 st (Some r) (Some d) f =
     rw (met_list s s1 o t c lo n.reach_floor n.reach_cut run run1 st, within-both, pushed_part)
-    (rewrite_cases _ _ _ (capped c n.reach_cut) r _ _ _ u (at_cut_list s o c (end_of t) lo n.reach_floor n.reach_cut run st) (end_of (entries_within n.reach_floor n.reach_cut t)) refl refl
+    (rewrite_cases _ _ _ (at_most_bound c n.reach_cut) r _ _ _ u (at_cut_list s o c (end_of t) lo n.reach_floor n.reach_cut run st) (end_of (entries_within n.reach_floor n.reach_cut t)) refl refl
     (within-empty (max (max lo n.floor) c) (min c d) o (omega arith))
     (λ _ z. empty_within s o (max lo n.reach_floor) (max lo n.floor) (min c d) (lesser (Some c) n.reach_cut) run (omega (arith, f.floor_rises)) (at_most_both c d n.reach_cut f.cut_falls) z)
     (λ z _. empty_within s1 t n.reach_floor n.floor d n.reach_cut run1 f.floor_rises f.cut_falls z))
 
 later_rewrite : (s s1 : ℕ) (m n : Mark) (t u o : List EntryIndex) (r c : ℕ) → m.reach ≡ Some r → RisesFrom s o → RisesFrom s1 t → FitsRun r c (end_of t) m.reach_floor m.floor m.reach_cut m.barred → m.barred ≡ None → Fits Rewrite n u
     → (w : List EntryIndex) → cond n.cleaned u (cond (misses n.reach (end_of (entries_within n.reach_floor n.reach_cut t))) u (entries_within n.floor n.cut t ++ u)) ≡ w
-    → over Rewrite n u (cond (leaves_hole (end_of (entries_within m.reach_floor m.reach_cut o)) r) t (entries_within m.floor (Some c) o ++ t))
+    → over Rewrite n u (cond (misses (Some r) (end_of (entries_within m.reach_floor m.reach_cut o))) t (entries_within m.floor (Some c) o ++ t))
     ≡ over Rewrite (joined_later Rewrite c (end_of (entries_within n.reach_floor n.reach_cut t)) m n) w o
 later_rewrite s s1 m n t u o r c reach run run1 f none f' w is = rw reach (ap (λ v. Some v) (by_cleaned n.cleaned refl is))
   where
@@ -195,16 +194,16 @@ later_rewrite s s1 m n t u o r c reach run run1 f none f' w is = rw reach (ap (�
     X = end_of (entries_within n.reach_floor n.reach_cut t)
 
     by_cleaned : (b : Bool) → n.cleaned ≡ b → cond b u (cond (misses n.reach X) u (entries_within n.floor n.cut t ++ u)) ≡ w
-        → cond b u (cond (misses n.reach (end_of (entries_within n.reach_floor n.reach_cut (cond (leaves_hole (end_of (entries_within m.reach_floor m.reach_cut o)) r) t (entries_within m.floor (Some c) o ++ t))))) u (entries_within n.floor n.cut (cond (leaves_hole (end_of (entries_within m.reach_floor m.reach_cut o)) r) t (entries_within m.floor (Some c) o ++ t)) ++ u))
-        ≡ cond b w (cond (leaves_hole (end_of (entries_within m.reach_floor m.reach_cut o)) r) w (entries_within (cond (is_detached n.reach X (capped c n.reach_cut) || misses n.reach X) (max (max m.floor n.floor) c) (max m.floor n.floor)) (lesser (Some c) n.cut) o ++ w))
+        → cond b u (cond (misses n.reach (end_of (entries_within n.reach_floor n.reach_cut (cond (misses (Some r) (end_of (entries_within m.reach_floor m.reach_cut o))) t (entries_within m.floor (Some c) o ++ t))))) u (entries_within n.floor n.cut (cond (misses (Some r) (end_of (entries_within m.reach_floor m.reach_cut o))) t (entries_within m.floor (Some c) o ++ t)) ++ u))
+        ≡ cond b w (cond (misses (Some r) (end_of (entries_within m.reach_floor m.reach_cut o))) w (entries_within (cond (is_detached n.reach X (at_most_bound c n.reach_cut) || misses n.reach X) (max (max m.floor n.floor) c) (max m.floor n.floor)) (lesser (Some c) n.cut) o ++ w))
     by_cleaned true e is = is
-    by_cleaned false e is = by_missed (leaves_hole (end_of (entries_within m.reach_floor m.reach_cut o)) r) refl
+    by_cleaned false e is = by_missed (misses (Some r) (end_of (entries_within m.reach_floor m.reach_cut o))) refl
       where
-        by_missed : (b : Bool) → leaves_hole (end_of (entries_within m.reach_floor m.reach_cut o)) r ≡ b
+        by_missed : (b : Bool) → misses (Some r) (end_of (entries_within m.reach_floor m.reach_cut o)) ≡ b
             → cond (misses n.reach (end_of (entries_within n.reach_floor n.reach_cut (cond b t (entries_within m.floor (Some c) o ++ t))))) u (entries_within n.floor n.cut (cond b t (entries_within m.floor (Some c) o ++ t)) ++ u)
-            ≡ cond b w (entries_within (cond (is_detached n.reach X (capped c n.reach_cut) || misses n.reach X) (max (max m.floor n.floor) c) (max m.floor n.floor)) (lesser (Some c) n.cut) o ++ w)
+            ≡ cond b w (entries_within (cond (is_detached n.reach X (at_most_bound c n.reach_cut) || misses n.reach X) (max (max m.floor n.floor) c) (max m.floor n.floor)) (lesser (Some c) n.cut) o ++ w)
         by_missed true h = is
-        by_missed false h = not_missed s s1 o t u n c m.floor run run1 (settled_list s o r c (end_of t) m.reach_floor m.floor m.reach_cut m.barred run f h (rw none)) n.reach n.cut (f'.uncleaned e) ∙ ap (λ v. entries_within (cond (is_detached n.reach X (capped c n.reach_cut) || misses n.reach X) (max (max m.floor n.floor) c) (max m.floor n.floor)) (lesser (Some c) n.cut) o ++ v) is
+        by_missed false h = not_missed s s1 o t u n c m.floor run run1 (settled_list s o r c (end_of t) m.reach_floor m.floor m.reach_cut m.barred run f h (rw none)) n.reach n.cut (f'.uncleaned e) ∙ ap (λ v. entries_within (cond (is_detached n.reach X (at_most_bound c n.reach_cut) || misses n.reach X) (max (max m.floor n.floor) c) (max m.floor n.floor)) (lesser (Some c) n.cut) o ++ v) is
 
 join_rewrite : (m n : Mark) (t u w o : List EntryIndex) → IsRun o → IsRun t → Fits Rewrite m t → Fits Rewrite n u → over Rewrite n u t ≡ Some w
     → option_and_then (λ v. over Rewrite n u v) (over Rewrite m t o) ≡ over Rewrite (joined_at Rewrite (end_of (entries_within n.reach_floor n.reach_cut t)) m n) w o

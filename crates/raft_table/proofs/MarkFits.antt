@@ -8,17 +8,16 @@ use Rattle.raft_base.specs.declared.pipe_log.LogQueue.{LogQueue}
 use Rattle.raft_base.specs.declared.pipe_log.LogQueue.TheVariants.{Append, Rewrite}
 use Rattle.raft_base.specs.declared.entry_index.EntryIndex.{EntryIndex}
 use Rattle.raft_table.specs.KeyValues.{lesser}
-use Rattle.raft_table.specs.Start.{leaves_hole}
 use Rattle.raft_table.specs.TableEntries.{RisesFrom, IsRun, end_of}
 use Rattle.raft_table.specs.Marks.{Mark, entries_within, misses, is_barred, entries_over}
 use Rattle.raft_table.specs.MarkFits.{IsNotAbove, IsBelow, LiesWithin, BarsStaying, IsBarring, FitsRun, FitsCut, BarsIn, Fits}
-use Rattle.raft_table.specs.MarkJoins.{capped, narrowed, is_detached, joined_first, joined_uncleaned, joined_at}
+use Rattle.raft_table.specs.MarkJoins.{at_most_bound, narrowed_bars, is_detached, joined_first, joined_uncleaned, joined_at}
 use Rattle.raft_table.proofs.PartEnds.{top, end_of-part_run}
 use Rattle.raft_table.proofs.MarkMeets.{barred_of, bounds}
 use Rattle.raft_table.proofs.RunLemmas.{end_of-append}
 use Rattle.raft_table.proofs.MarkEntries.{same_some, accepted, or_false, over, over_is, over_nil, narrowed_bounds}
 
-fits_narrowed : (l0 lo : ℕ) (reach_cut cut : Option ℕ) (barred : Option (ℕ × ℕ)) → LiesWithin l0 reach_cut barred → LiesWithin (max lo l0) (lesser cut reach_cut) (narrowed lo cut barred)
+fits_narrowed : (l0 lo : ℕ) (reach_cut cut : Option ℕ) (barred : Option (ℕ × ℕ)) → LiesWithin l0 reach_cut barred → LiesWithin (max lo l0) (lesser cut reach_cut) (narrowed_bars lo cut barred)
 fits_narrowed l0 lo reach_cut cut None f = tt
 fits_narrowed l0 lo None None (Some p) f = (omega arith, tt)
 fits_narrowed l0 lo None (Some c) (Some p) f = (omega arith, omega arith)
@@ -26,16 +25,16 @@ fits_narrowed l0 lo (Some t) None (Some p) f = (omega arith, f.1)
 fits_narrowed l0 lo (Some t) (Some c) (Some p) f = (omega arith, omega arith)
 
 seated_first : (cut : Option ℕ) (r d e lo : ℕ) (reach_cut : Option ℕ) (barred : Option (ℕ × ℕ)) (l : ℕ) → (e ≡ 0) ⊎ ((d ≤ e) ⊎ ((d ≤ lo) ⊎ (IsBelow reach_cut r ⊎ IsBarring barred)))
-    → (e ≡ 0) ⊎ ((capped d cut ≤ e) ⊎ ((capped d cut ≤ max l lo) ⊎ (IsBelow (lesser cut reach_cut) r ⊎ IsBarring (narrowed l cut barred))))
+    → (e ≡ 0) ⊎ ((at_most_bound d cut ≤ e) ⊎ ((at_most_bound d cut ≤ max l lo) ⊎ (IsBelow (lesser cut reach_cut) r ⊎ IsBarring (narrowed_bars l cut barred))))
 seated_first cut r d e lo reach_cut barred l (inl h) = inl h
 seated_first cut r d e lo reach_cut barred l (inr (inl h)) = inr (inl (held cut))
   where
-    held : (cut : Option ℕ) → capped d cut ≤ e
+    held : (cut : Option ℕ) → at_most_bound d cut ≤ e
     held None = h
     held (Some c) = omega arith
 seated_first cut r d e lo reach_cut barred l (inr (inr (inl h))) = inr (inr (inl (held cut)))
   where
-    held : (cut : Option ℕ) → capped d cut ≤ max l lo
+    held : (cut : Option ℕ) → at_most_bound d cut ≤ max l lo
     held None = omega arith
     held (Some c) = omega arith
 seated_first cut r d e lo reach_cut barred l (inr (inr (inr (inl h)))) = inr (inr (inr (inl (least cut reach_cut h))))
@@ -48,7 +47,7 @@ seated_first cut r d e lo reach_cut None l (inr (inr (inr (inr h)))) = absurd h
 seated_first cut r d e lo reach_cut (Some p) l (inr (inr (inr (inr h)))) = inr (inr (inr (inr tt)))
 
 fits_run_first : (cut : Option ℕ) (r d e reach_floor lo : ℕ) (reach_cut : Option ℕ) (barred : Option (ℕ × ℕ)) (l : ℕ) → FitsRun r d e reach_floor lo reach_cut barred
-    → FitsRun r (capped d cut) e (max l reach_floor) (max l lo) (lesser cut reach_cut) (narrowed l cut barred)
+    → FitsRun r (at_most_bound d cut) e (max l reach_floor) (max l lo) (lesser cut reach_cut) (narrowed_bars l cut barred)
 fits_run_first cut r d e reach_floor lo reach_cut barred l f = record {
   cut_first = first cut;
   floor_rises = omega (arith, f.floor_rises);
@@ -57,16 +56,16 @@ fits_run_first cut r d e reach_floor lo reach_cut barred l f = record {
   seated = seated_first cut r d e lo reach_cut barred l f.seated;
 }
   where
-    first : (cut : Option ℕ) → capped d cut ≤ r
+    first : (cut : Option ℕ) → at_most_bound d cut ≤ r
     first None = f.cut_first
     first (Some c) = omega (arith, f.cut_first)
 
-    falls : (cut reach_cut : Option ℕ) → IsNotAbove d reach_cut → IsNotAbove (capped d cut) (lesser cut reach_cut)
+    falls : (cut reach_cut : Option ℕ) → IsNotAbove d reach_cut → IsNotAbove (at_most_bound d cut) (lesser cut reach_cut)
     falls None reach_cut h = h
     falls (Some c) None h = omega arith
     falls (Some c) (Some t) h = omega arith
 
-    cover : (cut : Option ℕ) (barred : Option (ℕ × ℕ)) → BarsStaying barred lo d → BarsStaying (narrowed l cut barred) (max l lo) (capped d cut)
+    cover : (cut : Option ℕ) (barred : Option (ℕ × ℕ)) → BarsStaying barred lo d → BarsStaying (narrowed_bars l cut barred) (max l lo) (at_most_bound d cut)
     cover cut None h = tt
     cover None (Some p) h = (omega arith, h.1)
     cover (Some c) (Some p) h = (omega arith, omega arith)
@@ -80,12 +79,12 @@ fits_first q m n u none f = record {
   uncleaned = λ e. uncleaned n.reach n.cut refl (f.uncleaned e);
 }
   where
-    bars : (q : LogQueue) (barred : Option (ℕ × ℕ)) → BarsIn q barred → BarsIn q (narrowed m.floor m.cut barred)
+    bars : (q : LogQueue) (barred : Option (ℕ × ℕ)) → BarsIn q barred → BarsIn q (narrowed_bars m.floor m.cut barred)
     bars Append barred h = tt
     bars Rewrite None h = refl
     bars Rewrite (Some p) h = cc
 
-    within : (x : Option ℕ) → (x ≡ None → n.barred ≡ None) → LiesWithin (cond (is_some x) (max m.floor n.reach_floor) m.reach_floor) (cond (is_some x) (lesser m.cut n.reach_cut) m.reach_cut) (narrowed m.floor m.cut n.barred)
+    within : (x : Option ℕ) → (x ≡ None → n.barred ≡ None) → LiesWithin (cond (is_some x) (max m.floor n.reach_floor) m.reach_floor) (cond (is_some x) (lesser m.cut n.reach_cut) m.reach_cut) (narrowed_bars m.floor m.cut n.barred)
     within None h = rw (h refl) tt
     within (Some r) h = fits_narrowed n.reach_floor m.floor n.reach_cut m.cut n.barred f.within
 
@@ -95,15 +94,15 @@ fits_first q m n u none f = record {
     uncleaned (Some r) (Some d) e h = rw (e, none, narrowed_bounds d m.cut) (fits_run_first m.cut r d (end_of u) n.reach_floor n.floor n.reach_cut n.barred m.floor h)
 
 -- a part of a run that was at or above the cut c stays so, or is empty
-still_above : (s e l c : ℕ) (d : Option ℕ) → c ≤ e → (top s e l d ≡ 0) ⊎ (capped c d ≤ top s e l d)
+still_above : (s e l c : ℕ) (d : Option ℕ) → c ≤ e → (top s e l d ≡ 0) ⊎ (at_most_bound c d ≤ top s e l d)
 still_above s e l c None h = grind (arith, nat_tests)
 still_above s e l c (Some d) h = grind (arith, nat_tests)
 
-held_least : (c : ℕ) (d : Option ℕ) → capped c d ≤ c
+held_least : (c : ℕ) (d : Option ℕ) → at_most_bound c d ≤ c
 held_least c None = omega arith
 held_least c (Some d) = omega arith
 
-held_below : (c : ℕ) (d b : Option ℕ) (x : ℕ) → d ≡ Some x → IsNotAbove x b → capped c d ≤ capped c b
+held_below : (c : ℕ) (d b : Option ℕ) (x : ℕ) → d ≡ Some x → IsNotAbove x b → at_most_bound c d ≤ at_most_bound c b
 held_below c d None x e h = held_least c d
 held_below c d (Some b) x e h = rw e (omega arith)
 
@@ -111,7 +110,7 @@ abbrev Seat : ℕ → ℕ → ℕ → Option ℕ → ℕ → Option (ℕ × ℕ)
 Seat c e lo reach_cut r barred = (e ≡ 0) ⊎ ((c ≤ e) ⊎ ((c ≤ lo) ⊎ (IsBelow reach_cut r ⊎ IsBarring barred)))
 
 -- the older table's part of the joined one
-seat_older : (s e r c lo lo' l : ℕ) (d reach_cut : Option ℕ) (barred barred' : Option (ℕ × ℕ)) → lo ≤ lo' → (IsBarring barred → IsBarring barred') → Seat c e lo reach_cut r barred → Seat (capped c d) (top s e l d) lo' reach_cut r barred'
+seat_older : (s e r c lo lo' l : ℕ) (d reach_cut : Option ℕ) (barred barred' : Option (ℕ × ℕ)) → lo ≤ lo' → (IsBarring barred → IsBarring barred') → Seat c e lo reach_cut r barred → Seat (at_most_bound c d) (top s e l d) lo' reach_cut r barred'
 seat_older s e r c lo lo' l d reach_cut barred barred' h k (inl z) = inl (nothing d)
   where
     nothing : (d : Option ℕ) → top s e l d ≡ 0
@@ -142,7 +141,7 @@ still_barring : (barred : Option (ℕ × ℕ)) (b : Bool) (x y : Option (ℕ × 
 still_barring None b x y h = absurd h
 still_barring (Some p) b x y h = tt
 
-newly_barring : (barred : Option (ℕ × ℕ)) (b : Bool) (p : ℕ × ℕ) (lo : ℕ) (cut : Option ℕ) (y : Option (ℕ × ℕ)) → IsBarring y → IsBarring (barred_of barred b (Some p) (narrowed lo cut y))
+newly_barring : (barred : Option (ℕ × ℕ)) (b : Bool) (p : ℕ × ℕ) (lo : ℕ) (cut : Option ℕ) (y : Option (ℕ × ℕ)) → IsBarring y → IsBarring (barred_of barred b (Some p) (narrowed_bars lo cut y))
 newly_barring (Some q) b p lo cut y h = tt
 newly_barring None true p lo cut y h = tt
 newly_barring None false p lo cut None h = absurd h
@@ -154,20 +153,20 @@ barring_now None true p y e = tt
 barring_now None false p y e = cc
 
 -- the newer run is barred out where it is not refused over a table that ends below it
-apart_there : (r x c : ℕ) (b : Option ℕ) → x ≤ capped r b → IsBelow b r → leaves_hole x r ≡ false → is_detached (Some r) x (capped c b) ≡ true
+apart_there : (r x c : ℕ) (b : Option ℕ) → x ≤ at_most_bound r b → IsBelow b r → misses (Some r) x ≡ false → is_detached (Some r) x (at_most_bound c b) ≡ true
 apart_there r x c None h below ok = absurd below
 apart_there r x c (Some b) h below ok = grind (arith, nat_tests)
 
-top_held : (s e l r : ℕ) (b : Option ℕ) → IsBelow b r → top s e l b ≤ capped r b
+top_held : (s e l r : ℕ) (b : Option ℕ) → IsBelow b r → top s e l b ≤ at_most_bound r b
 top_held s e l r None h = absurd h
 top_held s e l r (Some b) h = grind (arith, nat_tests)
 
 meets_within : (l0 lo c : ℕ) (reach_cut : Option ℕ) (barred : Option (ℕ × ℕ)) (x : Bool) (l : ℕ) (b : Option ℕ) (barred' : Option (ℕ × ℕ)) → LiesWithin l0 reach_cut barred → l0 ≤ lo → IsNotAbove c reach_cut
-    → LiesWithin l0 reach_cut (barred_of barred x (Some (max lo l, capped c b)) (narrowed lo (Some c) barred'))
+    → LiesWithin l0 reach_cut (barred_of barred x (Some (max lo l, at_most_bound c b)) (narrowed_bars lo (Some c) barred'))
 meets_within l0 lo c reach_cut (Some p) x l b barred' f h k = f
 meets_within l0 lo c reach_cut None true l b barred' f h k = (omega arith, at_most reach_cut k)
   where
-    at_most : (reach_cut : Option ℕ) → IsNotAbove c reach_cut → IsNotAbove (capped c b) reach_cut
+    at_most : (reach_cut : Option ℕ) → IsNotAbove c reach_cut → IsNotAbove (at_most_bound c b) reach_cut
     at_most None k = tt
     at_most (Some t) k = omega (arith, held_least c b)
 meets_within l0 lo c reach_cut None false l b None f h k = tt
@@ -178,24 +177,24 @@ meets_within l0 lo c reach_cut None false l b (Some p) f h k = (omega arith, at_
     at_most (Some t) k = omega arith
 
 covers_later : (lo c : ℕ) (barred : Option (ℕ × ℕ)) (x : Bool) (l0 : ℕ) (b : Option ℕ) (barred' : Option (ℕ × ℕ)) (l d : ℕ) → BarsStaying barred lo c → BarsStaying barred' l d → l0 ≤ l → IsNotAbove d b
-    → BarsStaying (barred_of barred x (Some (max lo l0, capped c b)) (narrowed lo (Some c) barred')) (max lo l) (min c d)
+    → BarsStaying (barred_of barred x (Some (max lo l0, at_most_bound c b)) (narrowed_bars lo (Some c) barred')) (max lo l) (min c d)
 covers_later lo c (Some p) x l0 b barred' l d f f' h k = (omega arith, omega arith)
 covers_later lo c None true l0 b barred' l d f f' h k = (omega arith, at_most b k)
   where
-    at_most : (b : Option ℕ) → IsNotAbove d b → min c d ≤ capped c b
+    at_most : (b : Option ℕ) → IsNotAbove d b → min c d ≤ at_most_bound c b
     at_most None k = omega arith
     at_most (Some b) k = omega arith
 covers_later lo c None false l0 b None l d f f' h k = tt
 covers_later lo c None false l0 b (Some p) l d f f' h k = (omega arith, omega arith)
 
-at_most_less : (c d : ℕ) (reach_cut : Option ℕ) → IsNotAbove c reach_cut → IsNotAbove (capped c (Some d)) reach_cut
+at_most_less : (c d : ℕ) (reach_cut : Option ℕ) → IsNotAbove c reach_cut → IsNotAbove (at_most_bound c (Some d)) reach_cut
 at_most_less c d None h = tt
 at_most_less c d (Some t) h = omega arith
 
 -- in the append queue, where the newer mark has a run
 fits_later_append : (s1 : ℕ) (n : Mark) (t u : List EntryIndex) (r c reach_floor lo : ℕ) (reach_cut : Option ℕ) (barred : Option (ℕ × ℕ)) (r' d : ℕ) → RisesFrom s1 t → FitsRun r c (end_of t) reach_floor lo reach_cut barred
-    → FitsRun r' d (end_of u) n.reach_floor n.floor n.reach_cut n.barred → leaves_hole (end_of (entries_within n.reach_floor n.reach_cut t)) r' ≡ false
-    → FitsRun r (min c d) (end_of (entries_within n.floor (Some d) t ++ u)) reach_floor (max lo n.floor) reach_cut (barred_of barred (is_detached (Some r') (end_of (entries_within n.reach_floor n.reach_cut t)) (capped c n.reach_cut)) (Some (max lo n.reach_floor, capped c n.reach_cut)) (narrowed lo (Some c) n.barred))
+    → FitsRun r' d (end_of u) n.reach_floor n.floor n.reach_cut n.barred → misses (Some r') (end_of (entries_within n.reach_floor n.reach_cut t)) ≡ false
+    → FitsRun r (min c d) (end_of (entries_within n.floor (Some d) t ++ u)) reach_floor (max lo n.floor) reach_cut (barred_of barred (is_detached (Some r') (end_of (entries_within n.reach_floor n.reach_cut t)) (at_most_bound c n.reach_cut)) (Some (max lo n.reach_floor, at_most_bound c n.reach_cut)) (narrowed_bars lo (Some c) n.barred))
 fits_later_append s1 n t u r c reach_floor lo reach_cut barred r' d run1 f f' ok = record {
   cut_first = omega (arith, f.cut_first);
   floor_rises = omega (arith, f.floor_rises);
@@ -205,7 +204,7 @@ fits_later_append s1 n t u r c reach_floor lo reach_cut barred r' d run1 f f' ok
       (seat_newer c (top s1 (end_of t) n.floor (Some d)) (end_of u) (max lo n.floor) r d n.floor r' reach_cut n.reach_cut _ n.barred (omega arith)
       (newly_barring barred _ _ lo (Some c) n.barred)
       (λ below. inr (barring_now barred _ _ _ (apart_there r' _ c n.reach_cut (rw (end_of-part_run s1 n.reach_floor n.reach_cut t run1) (top_held s1 (end_of t) n.reach_floor r' n.reach_cut below)) below ok)))
-      (λ _. seat_older s1 (end_of t) r c lo (max lo n.floor) n.floor (Some d) reach_cut barred _ (omega arith) (still_barring barred (is_detached (Some r') (end_of (entries_within n.reach_floor n.reach_cut t)) (capped c n.reach_cut)) (Some (max lo n.reach_floor, capped c n.reach_cut)) (narrowed lo (Some c) n.barred)) f.seated)
+      (λ _. seat_older s1 (end_of t) r c lo (max lo n.floor) n.floor (Some d) reach_cut barred _ (omega arith) (still_barring barred (is_detached (Some r') (end_of (entries_within n.reach_floor n.reach_cut t)) (at_most_bound c n.reach_cut)) (Some (max lo n.reach_floor, at_most_bound c n.reach_cut)) (narrowed_bars lo (Some c) n.barred)) f.seated)
       f'.seated);
 }
 
@@ -213,39 +212,39 @@ covers_less : (barred : Option (ℕ × ℕ)) (x : Option (ℕ × ℕ)) (lo c lo'
 covers_less None x lo c lo' c' h k f = tt
 covers_less (Some p) x lo c lo' c' h k f = (omega arith, omega arith)
 
-at_most_held : (c : ℕ) (d reach_cut : Option ℕ) → IsNotAbove c reach_cut → IsNotAbove (capped c d) reach_cut
+at_most_held : (c : ℕ) (d reach_cut : Option ℕ) → IsNotAbove c reach_cut → IsNotAbove (at_most_bound c d) reach_cut
 at_most_held c d None h = tt
 at_most_held c d (Some t) h = omega (arith, held_least c d)
 
 -- where the newer mark has no run
 fits_later_no_run : (s1 l : ℕ) (d : Option ℕ) (t u : List EntryIndex) (r c reach_floor lo : ℕ) (reach_cut : Option ℕ) (barred : Option (ℕ × ℕ)) (x : Option (ℕ × ℕ)) → RisesFrom s1 t → FitsRun r c (end_of t) reach_floor lo reach_cut barred → u ≡ []
-    → FitsRun r (capped c d) (end_of (entries_within l d t ++ u)) reach_floor (max lo l) reach_cut (barred_of barred false x None)
+    → FitsRun r (at_most_bound c d) (end_of (entries_within l d t ++ u)) reach_floor (max lo l) reach_cut (barred_of barred false x None)
 fits_later_no_run s1 l d t u r c reach_floor lo reach_cut barred x run1 f none = record {
   cut_first = omega (arith, f.cut_first, held_least c d);
   floor_rises = omega (arith, f.floor_rises);
   cut_falls = at_most_held c d reach_cut f.cut_falls;
-  covers = covers_less barred x lo c (max lo l) (capped c d) (omega arith) (held_least c d) f.covers;
+  covers = covers_less barred x lo c (max lo l) (at_most_bound c d) (omega arith) (held_least c d) f.covers;
   seated = rw (none, append-nil, end_of-part_run s1 l d t run1) (seat_older s1 (end_of t) r c lo (max lo l) l d reach_cut barred (barred_of barred false x None) (omega arith) (still_barring barred false x None) f.seated);
 }
 
 -- in the rewrite queue
 fits_later_rewrite : (s1 : ℕ) (n : Mark) (t u : List EntryIndex) (r c reach_floor lo : ℕ) (reach_cut : Option ℕ) (r' d : ℕ) → RisesFrom s1 t → FitsRun r c (end_of t) reach_floor lo reach_cut None
     → FitsRun r' d (end_of u) n.reach_floor n.floor n.reach_cut None
-    → FitsRun r (min c d) (end_of (cond (leaves_hole (end_of (entries_within n.reach_floor n.reach_cut t)) r') u (entries_within n.floor (Some d) t ++ u))) reach_floor
-    (cond (is_detached (Some r') (end_of (entries_within n.reach_floor n.reach_cut t)) (capped c n.reach_cut) || leaves_hole (end_of (entries_within n.reach_floor n.reach_cut t)) r') (max (max lo n.floor) c) (max lo n.floor)) reach_cut None
+    → FitsRun r (min c d) (end_of (cond (misses (Some r') (end_of (entries_within n.reach_floor n.reach_cut t))) u (entries_within n.floor (Some d) t ++ u))) reach_floor
+    (cond (is_detached (Some r') (end_of (entries_within n.reach_floor n.reach_cut t)) (at_most_bound c n.reach_cut) || misses (Some r') (end_of (entries_within n.reach_floor n.reach_cut t))) (max (max lo n.floor) c) (max lo n.floor)) reach_cut None
 fits_later_rewrite s1 n t u r c reach_floor lo reach_cut r' d run1 f f' = record {
   cut_first = omega (arith, f.cut_first);
-  floor_rises = grows (is_detached (Some r') (end_of (entries_within n.reach_floor n.reach_cut t)) (capped c n.reach_cut) || leaves_hole (end_of (entries_within n.reach_floor n.reach_cut t)) r');
+  floor_rises = grows (is_detached (Some r') (end_of (entries_within n.reach_floor n.reach_cut t)) (at_most_bound c n.reach_cut) || misses (Some r') (end_of (entries_within n.reach_floor n.reach_cut t)));
   cut_falls = at_most_less c d reach_cut f.cut_falls;
   covers = tt;
-  seated = seat (leaves_hole (end_of (entries_within n.reach_floor n.reach_cut t)) r') (is_detached (Some r') (end_of (entries_within n.reach_floor n.reach_cut t)) (capped c n.reach_cut)) refl refl;
+  seated = seat (misses (Some r') (end_of (entries_within n.reach_floor n.reach_cut t))) (is_detached (Some r') (end_of (entries_within n.reach_floor n.reach_cut t)) (at_most_bound c n.reach_cut)) refl refl;
 }
   where
     grows : (b : Bool) → reach_floor ≤ cond b (max (max lo n.floor) c) (max lo n.floor)
     grows true = omega (arith, f.floor_rises)
     grows false = omega (arith, f.floor_rises)
 
-    seat : (miss barred : Bool) → leaves_hole (end_of (entries_within n.reach_floor n.reach_cut t)) r' ≡ miss → is_detached (Some r') (end_of (entries_within n.reach_floor n.reach_cut t)) (capped c n.reach_cut) ≡ barred
+    seat : (miss barred : Bool) → misses (Some r') (end_of (entries_within n.reach_floor n.reach_cut t)) ≡ miss → is_detached (Some r') (end_of (entries_within n.reach_floor n.reach_cut t)) (at_most_bound c n.reach_cut) ≡ barred
         → Seat (min c d) (end_of (cond miss u (entries_within n.floor (Some d) t ++ u))) (cond (barred || miss) (max (max lo n.floor) c) (max lo n.floor)) reach_cut r None
     seat true true h k = inr (inr (inl (omega arith)))
     seat true false h k = inr (inr (inl (omega arith)))
@@ -281,8 +280,8 @@ fits_join_append m n t u w run f f' is = by_cleaned m.cleaned refl f.uncleaned
     ok2 = or_false _ _ ok.0
 
     later : (r c : ℕ) → FitsRun r c (end_of t) m.reach_floor m.floor m.reach_cut m.barred → (x y : Option ℕ) → misses x X ≡ false → FitsCut x y n u → (x ≡ None → n.barred ≡ None) → entries_within n.floor y t ++ u ≡ w
-        → FitsRun r (capped c y) (end_of w) m.reach_floor (max m.floor n.floor) m.reach_cut (barred_of m.barred (is_detached x X (capped c n.reach_cut)) (Some (max m.floor n.reach_floor, capped c n.reach_cut)) (narrowed m.floor (Some c) n.barred))
-    later r c h None y miss k b v = rw (← v, b refl) (fits_later_no_run run.start n.floor y t u r c m.reach_floor m.floor m.reach_cut m.barred (Some (max m.floor n.reach_floor, capped c n.reach_cut)) run.rising h k)
+        → FitsRun r (at_most_bound c y) (end_of w) m.reach_floor (max m.floor n.floor) m.reach_cut (barred_of m.barred (is_detached x X (at_most_bound c n.reach_cut)) (Some (max m.floor n.reach_floor, at_most_bound c n.reach_cut)) (narrowed_bars m.floor (Some c) n.barred))
+    later r c h None y miss k b v = rw (← v, b refl) (fits_later_no_run run.start n.floor y t u r c m.reach_floor m.floor m.reach_cut m.barred (Some (max m.floor n.reach_floor, at_most_bound c n.reach_cut)) run.rising h k)
     later r c h (Some x) None miss k b v = absurd k
     later r c h (Some x) (Some d) miss k b v = rw (← v) (fits_later_append run.start n t u r c m.reach_floor m.floor m.reach_cut m.barred x d run.rising h k miss)
 
@@ -310,7 +309,7 @@ fits_join_rewrite m n t u w run f f' is = by_cleaned m.cleaned refl f.uncleaned
     ok = same_some _ _ is
 
     later : (r c : ℕ) → FitsRun r c (end_of t) m.reach_floor m.floor m.reach_cut None → (x y : Option ℕ) → FitsCut x y n u → cond (misses x X) u (entries_within n.floor y t ++ u) ≡ w
-        → FitsRun r (capped c y) (end_of w) m.reach_floor (cond (is_detached x X (capped c n.reach_cut) || misses x X) (max (max m.floor n.floor) c) (max m.floor n.floor)) m.reach_cut None
+        → FitsRun r (at_most_bound c y) (end_of w) m.reach_floor (cond (is_detached x X (at_most_bound c n.reach_cut) || misses x X) (max (max m.floor n.floor) c) (max m.floor n.floor)) m.reach_cut None
     later r c h None y k v = rw (← v) (fits_later_no_run run.start n.floor y t u r c m.reach_floor m.floor m.reach_cut None None run.rising h k)
     later r c h (Some x) None k v = absurd k
     later r c h (Some x) (Some d) k v = rw (← v) (fits_later_rewrite run.start n t u r c m.reach_floor m.floor m.reach_cut x d run.rising h (rw f'.bars at k))

@@ -6,7 +6,7 @@ use Rattle.raft_base.specs.declared.pipe_log.LogQueue.TheVariants.{Append, Rewri
 use Rattle.raft_base.specs.declared.entry_index.EntryIndex.{EntryIndex}
 use Rattle.raft_table.specs.Steps.{Step, Run, Compact, Truncate, Put, Del, AtomicGroup, Clean, table_of, after_step, after, IsStep, AreSteps, IsTableOf}
 use Rattle.raft_table.specs.Table.{Table}
-use Rattle.raft_table.specs.Marks.{Mark, entries_over, table_over, applied}
+use Rattle.raft_table.specs.Marks.{Mark, entries_over, table_over, table_over_older}
 use Rattle.raft_table.specs.MarkFits.{BarsIn, Fits}
 use Rattle.raft_table.specs.Stands.{Stands}
 use Rattle.raft_table.specs.MarkJoins.{joined_mark, fresh, mark_of, own_of}
@@ -29,14 +29,14 @@ entries-over_table q m t o w is = go (entries_over q m t.entries o.entries) refl
 
 pub after-append : (q : LogQueue) (id : ℕ) (o : Option Table) (ss rs : List Step) → after q id o (ss ++ rs) ≡ option_and_then (λ u. after q id u rs) (after q id o ss)
 after-append q id o [] rs = refl
-after-append q id o (s ∷ ss) rs = go (λ u. after-append q id u ss rs) (after_step q id o s)
+after-append q id o (s ∷ ss) rs = go (λ u. after-append q id u ss rs) (after_step q (table_of id o) s)
   where
     go : ((u : Option Table) → after q id u (ss ++ rs) ≡ option_and_then (λ u. after q id u rs) (after q id u ss)) → (x : Option (Option Table)) → option_and_then (λ u. after q id u (ss ++ rs)) x ≡ option_and_then (λ u. after q id u rs) (option_and_then (λ u. after q id u ss) x)
     go ih None = refl
     go ih (Some u) = ih u
 
-one_after : (q : LogQueue) (id : ℕ) (o : Option Table) (s : Step) → after q id o (s ∷ []) ≡ after_step q id o s
-one_after q id o s = go (after_step q id o s)
+one_after : (q : LogQueue) (id : ℕ) (o : Option Table) (s : Step) → after q id o (s ∷ []) ≡ after_step q (table_of id o) s
+one_after q id o s = go (after_step q (table_of id o) s)
   where
     go : (x : Option (Option Table)) → option_and_then (λ u. Some u) x ≡ x
     go None = refl
@@ -90,17 +90,17 @@ pub stands_one : (q : LogQueue) (id : ℕ) (s : Step) → IsStep s → Stands q 
 stands_one q id s good = record {
   own_table = table_one id s good;
   fits = fits_one q id s;
-  every = λ o h. one_after q id o s ∙ sym (one_step q id s o h);
+  every = λ o h. one_after q id o s ∙ sym (one_step q id s o);
 }
 
-pub stands_join : (q : LogQueue) (id : ℕ) (m n : Mark) (t u w : Option Table) (ss rs : List Step) → AreSteps ss → AreSteps rs → Stands q id m t ss → Stands q id n u rs → applied q id n u t ≡ Some w → Stands q id (joined_mark q id m t n) w (ss ++ rs)
+pub stands_join : (q : LogQueue) (id : ℕ) (m n : Mark) (t u w : Option Table) (ss rs : List Step) → AreSteps ss → AreSteps rs → Stands q id m t ss → Stands q id n u rs → table_over_older q id n u t ≡ Some w → Stands q id (joined_mark q id m t n) w (ss ++ rs)
 stands_join q id m n t u w ss rs good good' h k is = record {
   own_table = table_after q id t w rs good' h.own_table (k.every t h.own_table ∙ is);
   fits = fits_join q m n (table_of id t).entries (table_of id u).entries (table_of id w).entries h.own_table.run h.fits k.fits (entries-over_table q n (table_of id u) (table_of id t) (table_of id w) (table-applied q id n u t w h.own_table is).0);
   every = λ o r. after-append q id o ss rs ∙ inner o r (after q id o ss) refl ∙ (rw (h.every o r) (join_applied q id m n t u w o h.fits k.fits h.own_table r is));
 }
   where
-    inner : (o : Option Table) → IsTableOf id (table_of id o) → (x : Option (Option Table)) → after q id o ss ≡ x → option_and_then (λ v. after q id v rs) x ≡ option_and_then (λ v. applied q id n u v) x
+    inner : (o : Option Table) → IsTableOf id (table_of id o) → (x : Option (Option Table)) → after q id o ss ≡ x → option_and_then (λ v. after q id v rs) x ≡ option_and_then (λ v. table_over_older q id n u v) x
     inner o r None e = refl
     inner o r (Some v) e = k.every v (table_after q id o v ss good r e)
 
@@ -109,9 +109,9 @@ pub stands_alone : (q : LogQueue) (id : ℕ) (m : Mark) (t : Option Table) (ss :
 stands_alone q id m t ss h = h.every None (no_table id) ∙ applied_none q id m t h.own_table.region
 
 -- a step that the own table refuses is refused in one reading
-pub refused_step : (q : LogQueue) (id : ℕ) (m : Mark) (t : Option Table) (ss : List Step) (s : Step) → Stands q id m t ss → after_step q id t s ≡ None → after q id None (ss ++ s ∷ []) ≡ None
+pub refused_step : (q : LogQueue) (id : ℕ) (m : Mark) (t : Option Table) (ss : List Step) (s : Step) → Stands q id m t ss → after_step q (table_of id t) s ≡ None → after q id None (ss ++ s ∷ []) ≡ None
 refused_step q id m t ss s h is = after-append q id None ss (s ∷ []) ∙ ap (option_and_then (λ u. after q id u (s ∷ []))) (stands_alone q id m t ss h) ∙ one_after q id t s ∙ is
 
 -- a meeting that is refused is refused in one reading
-pub refused_join : (q : LogQueue) (id : ℕ) (m n : Mark) (t u : Option Table) (ss rs : List Step) → Stands q id m t ss → Stands q id n u rs → applied q id n u t ≡ None → after q id None (ss ++ rs) ≡ None
+pub refused_join : (q : LogQueue) (id : ℕ) (m n : Mark) (t u : Option Table) (ss rs : List Step) → Stands q id m t ss → Stands q id n u rs → table_over_older q id n u t ≡ None → after q id None (ss ++ rs) ≡ None
 refused_join q id m n t u ss rs h k is = after-append q id None ss rs ∙ (rw (stands_alone q id m t ss h) (k.every t h.own_table ∙ is))

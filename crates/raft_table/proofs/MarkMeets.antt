@@ -4,11 +4,10 @@ use Rattle.std.specs.Option.{option_or}
 use Rattle.std.proofs.lemmas.Bool.Decides.{nat_tests}
 use Rattle.raft_base.specs.declared.entry_index.EntryIndex.{EntryIndex}
 use Rattle.raft_table.specs.KeyValues.{lesser}
-use Rattle.raft_table.specs.Start.{leaves_hole}
 use Rattle.raft_table.specs.TableEntries.{RisesFrom, end_of}
 use Rattle.raft_table.specs.Marks.{entries_within, misses, is_barred}
 use Rattle.raft_table.specs.MarkFits.{LiesWithin, BarsStaying, FitsRun}
-use Rattle.raft_table.specs.MarkJoins.{capped, narrowed, is_detached}
+use Rattle.raft_table.specs.MarkJoins.{at_most_bound, narrowed_bars, is_detached}
 use Rattle.raft_table.proofs.MarkWords.{end_of-part_both}
 use Rattle.raft_table.proofs.PartEnds.{top, end_of-part_run}
 
@@ -17,7 +16,7 @@ abbrev pub barred_of : Option (ℕ × ℕ) → Bool → Option (ℕ × ℕ) → 
 barred_of barred b x y = option_or barred (cond b x y)
 
 -- an older table over which nothing is refused has no entry between lo and the cut c, or reaches the cut
-settled : (s e r c et reach_floor lo : ℕ) (reach_cut : Option ℕ) (barred : Option (ℕ × ℕ)) → FitsRun r c et reach_floor lo reach_cut barred → leaves_hole (top s e reach_floor reach_cut) r ≡ false → ((p : ℕ × ℕ) → barred ≡ Some p → top s e p.0 (Some p.1) ≡ 0)
+settled : (s e r c et reach_floor lo : ℕ) (reach_cut : Option ℕ) (barred : Option (ℕ × ℕ)) → FitsRun r c et reach_floor lo reach_cut barred → misses (Some r) (top s e reach_floor reach_cut) ≡ false → ((p : ℕ × ℕ) → barred ≡ Some p → top s e p.0 (Some p.1) ≡ 0)
     → (top s e lo (Some c) ≡ 0) ⊎ ((c ≤ e) × ((et ≡ 0) ⊎ (c ≤ et)))
 settled s e r c et reach_floor lo None None f ok open' = grind (arith, nat_tests)
 settled s e r c et reach_floor lo (Some t) None f ok open' = grind (arith, nat_tests)
@@ -34,7 +33,7 @@ met s e s1 e1 c lo z (Some b) h = grind (arith, nat_tests)
 
 -- the older entries_within ends at the cut, where it has entries
 at_cut : (s e c et lo z : ℕ) (b : Option ℕ) → (top s e lo (Some c) ≡ 0) ⊎ ((c ≤ e) × ((et ≡ 0) ⊎ (c ≤ et)))
-    → (top s e (max lo z) (lesser (Some c) b) ≡ 0) ⊎ (top s e (max lo z) (lesser (Some c) b) ≡ capped c b)
+    → (top s e (max lo z) (lesser (Some c) b) ≡ 0) ⊎ (top s e (max lo z) (lesser (Some c) b) ≡ at_most_bound c b)
 at_cut s e c et lo z None h = grind (arith, nat_tests)
 at_cut s e c et lo z (Some b) h = grind (arith, nat_tests)
 
@@ -53,12 +52,12 @@ answer_none : (r : Option ℕ) (x y : ℕ) (z : Bool) → y ≡ 0 → z ≡ fals
 answer_none None x y z h k ok = k
 answer_none (Some r) x y z h k ok = grind (arith, nat_tests)
 
-pub bounds : (c : ℕ) (b : Option ℕ) → lesser (Some c) b ≡ Some (capped c b)
+pub bounds : (c : ℕ) (b : Option ℕ) → lesser (Some c) b ≡ Some (at_most_bound c b)
 bounds c None = refl
 bounds c (Some b) = refl
 
 -- the second meeting of the newer mark over what the older mark leaves
-blocks_later : (barred : Option (ℕ × ℕ)) (lo c : ℕ) (o t : List EntryIndex) → is_barred barred t ≡ false → is_barred barred (entries_within lo (Some c) o ++ t) ≡ is_barred (narrowed lo (Some c) barred) o
+blocks_later : (barred : Option (ℕ × ℕ)) (lo c : ℕ) (o t : List EntryIndex) → is_barred barred t ≡ false → is_barred barred (entries_within lo (Some c) o ++ t) ≡ is_barred (narrowed_bars lo (Some c) barred) o
 blocks_later None lo c o t h = refl
 blocks_later (Some p) lo c o t h = ap (ltb 0) (end_of-part_both p.0 (Some p.1) lo c o t ∙ none_there _ _ h ∙ ap (λ d. end_of (entries_within (max lo p.0) (Some d) o)) (omega arith))
   where
@@ -72,9 +71,9 @@ pub tests_false : (x : ℕ) → ltb 0 x ≡ false → x ≡ 0
 tests_false x h = grind (arith, nat_tests)
 
 pub settled_list : (s : ℕ) (o : List EntryIndex) (r c et reach_floor lo : ℕ) (reach_cut : Option ℕ) (barred : Option (ℕ × ℕ)) → RisesFrom s o → FitsRun r c et reach_floor lo reach_cut barred
-    → leaves_hole (end_of (entries_within reach_floor reach_cut o)) r ≡ false → is_barred barred o ≡ false → Settled lo c et o
+    → misses (Some r) (end_of (entries_within reach_floor reach_cut o)) ≡ false → is_barred barred o ≡ false → Settled lo c et o
 settled_list s o r c et reach_floor lo reach_cut barred run f ok open' =
-    let a : leaves_hole (top s (end_of o) reach_floor reach_cut) r ≡ false = (rw (end_of-part_run s reach_floor reach_cut o run) at ok) in
+    let a : misses (Some r) (top s (end_of o) reach_floor reach_cut) ≡ false = (rw (end_of-part_run s reach_floor reach_cut o run) at ok) in
     let b : (p : ℕ × ℕ) → barred ≡ Some p → top s (end_of o) p.0 (Some p.1) ≡ 0 = none_at in
     rw (end_of-part_run s lo (Some c) o run) (settled s (end_of o) r c et reach_floor lo reach_cut barred f a b)
   where
@@ -89,7 +88,7 @@ met_list s s1 o t c lo z b run run1 h =
     (met s (end_of o) s1 (end_of t) c lo z b (rw (end_of-part_run s lo (Some c) o run) at h)))
 
 pub at_cut_list : (s : ℕ) (o : List EntryIndex) (c et lo z : ℕ) (b : Option ℕ) → RisesFrom s o → Settled lo c et o
-    → (end_of (entries_within (max lo z) (lesser (Some c) b) o) ≡ 0) ⊎ (end_of (entries_within (max lo z) (lesser (Some c) b) o) ≡ capped c b)
+    → (end_of (entries_within (max lo z) (lesser (Some c) b) o) ≡ 0) ⊎ (end_of (entries_within (max lo z) (lesser (Some c) b) o) ≡ at_most_bound c b)
 at_cut_list s o c et lo z b run h =
     rw (end_of-part_run s (max lo z) (lesser (Some c) b) o run) (at_cut s (end_of o) c et lo z b (rw (end_of-part_run s lo (Some c) o run) at h))
 
@@ -98,7 +97,7 @@ none_within_list s o l d lo c run h k z = end_of-part_run s lo (Some c) o run �
 
 -- the second meeting lies within what the newer run meets
 second_within : (s : ℕ) (o : List EntryIndex) (lo c l0 : ℕ) (reach_cut : Option ℕ) (barred : Option (ℕ × ℕ)) → RisesFrom s o → LiesWithin l0 reach_cut barred
-    → end_of (entries_within (max lo l0) (lesser (Some c) reach_cut) o) ≡ 0 → is_barred (narrowed lo (Some c) barred) o ≡ false
+    → end_of (entries_within (max lo l0) (lesser (Some c) reach_cut) o) ≡ 0 → is_barred (narrowed_bars lo (Some c) barred) o ≡ false
 second_within s o lo c l0 reach_cut None run f z = refl
 second_within s o lo c l0 None (Some p) run f z =
     let w : end_of (entries_within (max lo p.0) (Some (min p.1 c)) o) ≡ 0 = none_within_list s o (max lo l0) c (max lo p.0) (min p.1 c) run (omega arith) (omega arith) z in rw w
@@ -114,22 +113,22 @@ shut_out s o p lo c z (Some b) run f h = none_within_list s o p.0 p.1 (max lo z)
 pub refuses_later : (s s1 : ℕ) (o t : List EntryIndex) (r c reach_floor lo : ℕ) (reach_cut : Option ℕ) (barred : Option (ℕ × ℕ)) (r' : Option ℕ) (l0 : ℕ) (b : Option ℕ) (barred' : Option (ℕ × ℕ))
     → RisesFrom s o → RisesFrom s1 t → FitsRun r c (end_of t) reach_floor lo reach_cut barred → LiesWithin l0 b barred'
     → misses r' (end_of (entries_within l0 b t)) ≡ false → is_barred barred' t ≡ false
-    → leaves_hole (end_of (entries_within reach_floor reach_cut o)) r ≡ false → is_barred barred o ≡ false
+    → misses (Some r) (end_of (entries_within reach_floor reach_cut o)) ≡ false → is_barred barred o ≡ false
     → (misses r' (end_of (entries_within l0 b (entries_within lo (Some c) o ++ t))) || is_barred barred' (entries_within lo (Some c) o ++ t))
-    ≡ is_barred (barred_of barred (is_detached r' (end_of (entries_within l0 b t)) (capped c b)) (Some (max lo l0, capped c b)) (narrowed lo (Some c) barred')) o
+    ≡ is_barred (barred_of barred (is_detached r' (end_of (entries_within l0 b t)) (at_most_bound c b)) (Some (max lo l0, at_most_bound c b)) (narrowed_bars lo (Some c) barred')) o
 refuses_later s s1 o t r c reach_floor lo reach_cut barred r' l0 b barred' run run1 f f' n1 n2 m1 m2 = go barred f m2
   where
     go : (barred : Option (ℕ × ℕ)) → FitsRun r c (end_of t) reach_floor lo reach_cut barred → is_barred barred o ≡ false
         → (misses r' (end_of (entries_within l0 b (entries_within lo (Some c) o ++ t))) || is_barred barred' (entries_within lo (Some c) o ++ t))
-        ≡ is_barred (barred_of barred (is_detached r' (end_of (entries_within l0 b t)) (capped c b)) (Some (max lo l0, capped c b)) (narrowed lo (Some c) barred')) o
+        ≡ is_barred (barred_of barred (is_detached r' (end_of (entries_within l0 b t)) (at_most_bound c b)) (Some (max lo l0, at_most_bound c b)) (narrowed_bars lo (Some c) barred')) o
     go None f m2 =
         let st : Settled lo c (end_of t) o = settled_list s o r c (end_of t) reach_floor lo reach_cut None run f m1 m2 in
         rw (met_list s s1 o t c lo l0 b run run1 st, blocks_later barred' lo c o t n2)
-        (answer r' _ _ (capped c b) _ (at_cut_list s o c (end_of t) lo l0 b run st) (second_within s o lo c l0 b barred' run f') n1
-        ∙ pushed (is_detached r' (end_of (entries_within l0 b t)) (capped c b)))
+        (answer r' _ _ (at_most_bound c b) _ (at_cut_list s o c (end_of t) lo l0 b run st) (second_within s o lo c l0 b barred' run f') n1
+        ∙ pushed (is_detached r' (end_of (entries_within l0 b t)) (at_most_bound c b)))
       where
-        pushed : (x : Bool) → cond x (ltb 0 (end_of (entries_within (max lo l0) (lesser (Some c) b) o))) (is_barred (narrowed lo (Some c) barred') o)
-            ≡ is_barred (barred_of None x (Some (max lo l0, capped c b)) (narrowed lo (Some c) barred')) o
+        pushed : (x : Bool) → cond x (ltb 0 (end_of (entries_within (max lo l0) (lesser (Some c) b) o))) (is_barred (narrowed_bars lo (Some c) barred') o)
+            ≡ is_barred (barred_of None x (Some (max lo l0, at_most_bound c b)) (narrowed_bars lo (Some c) barred')) o
         pushed true = rw (bounds c b)
         pushed false = refl
     go (Some p) f m2 =

@@ -16,15 +16,16 @@ use Rattle.raft_table.specs.TableEntries.{IsRun, end_of, below, from}
 use Rattle.raft_table.specs.KeySets.{KeySet, without}
 use Rattle.raft_table.specs.KeyValues.{Keys, Stored, pairs_over}
 use Rattle.raft_table.specs.Merge.{newer_atomic_group}
-use Rattle.raft_table.specs.Start.{leaves_hole, replayed}
-use Rattle.raft_table.specs.Steps.{Step, Run, Compact, Truncate, Put, Del, AtomicGroup, Clean, stepped, is_there_after, table_of, there_if, after_step, IsTableOf}
+use Rattle.raft_table.specs.Start.{leaves_hole, entries_after_replay}
+use Rattle.raft_table.specs.Steps.{Step, Run, Compact, Truncate, Put, Del, AtomicGroup, Clean, table_of, after_step, IsTableOf}
 use Rattle.raft_table.specs.Table.{Table, empty_table}
-use Rattle.raft_table.specs.Marks.{Mark, entries_within, misses, is_refused_over, entries_over, keys_over, atomic_group_over, table_over, is_there_over, applied}
+use Rattle.raft_table.specs.Marks.{Mark, entries_within, misses, is_refused_over, entries_over, keys_over, atomic_group_over, table_over, is_there_over, there_if, table_over_older}
 use Rattle.raft_table.specs.MarkFits.{FitsCut, Fits}
 use Rattle.raft_table.specs.MarkJoins.{joined_deleted, joined_uncleaned, joined_at, joined_mark, end_at_reach, fresh, mark_of, own_of}
 use Rattle.raft_table.proofs.KeyValueLaws.{get-pairs_over}
 use Rattle.raft_table.proofs.MarkWords.{within-whole, within-from, within-below}
 use Rattle.raft_table.proofs.MarkEntries.{same_some, join_entries, over_nil}
+use Rattle.raft_table.proofs.RunLemmas.{hole_end}
 
 pub get-without : (d : KeySet) (o : Keys) (q : List ℕ) → finite.get (without d o) q ≡ cond (not (finset.contains d q)) (finite.get o q) None
 unfolding without
@@ -167,10 +168,10 @@ none_over q id m t o x h none is = go m.cleaned refl t o h.region none is
     go false e (Some t) o r n is = absurd (false≢true (sym n ∙ (rw e refl)))
 
 -- what is applied, and its table
-pub applied-some : (q : LogQueue) (id : ℕ) (m : Mark) (t o : Option Table) (x : Table) → table_over q m (table_of id t) (table_of id o) ≡ Some x → applied q id m t o ≡ Some (some_there (is_there_over m t o) x)
+pub applied-some : (q : LogQueue) (id : ℕ) (m : Mark) (t o : Option Table) (x : Table) → table_over q m (table_of id t) (table_of id o) ≡ Some x → table_over_older q id m t o ≡ Some (some_there (is_there_over m t o) x)
 applied-some q id m t o x is = rw is (there_if-some (is_there_over m t o) x)
 
-pub table-applied : (q : LogQueue) (id : ℕ) (m : Mark) (t o w : Option Table) → IsTableOf id (table_of id o) → applied q id m t o ≡ Some w → (table_over q m (table_of id t) (table_of id o) ≡ Some (table_of id w)) × (is_some w ≡ is_there_over m t o)
+pub table-applied : (q : LogQueue) (id : ℕ) (m : Mark) (t o w : Option Table) → IsTableOf id (table_of id o) → table_over_older q id m t o ≡ Some w → (table_over q m (table_of id t) (table_of id o) ≡ Some (table_of id w)) × (is_some w ≡ is_there_over m t o)
 table-applied q id m t o w h is = go (table_over q m (table_of id t) (table_of id o)) refl
   where
     go : (y : Option Table) → table_over q m (table_of id t) (table_of id o) ≡ y → (table_over q m (table_of id t) (table_of id o) ≡ Some (table_of id w)) × (is_some w ≡ is_there_over m t o)
@@ -184,8 +185,8 @@ table-applied q id m t o w h is = go (table_over q m (table_of id t) (table_of i
         (e ∙ ap (λ y. Some y) (sym whole), ap is_some (sym same) ∙ is_some-there (is_there_over m t o) x)
 
 -- tables that may be absent, one over the other
-pub join_applied : (q : LogQueue) (id : ℕ) (m n : Mark) (t u w o : Option Table) → Fits q m (table_of id t).entries → Fits q n (table_of id u).entries → IsTableOf id (table_of id t) → IsTableOf id (table_of id o) → applied q id n u t ≡ Some w
-    → option_and_then (λ v. applied q id n u v) (applied q id m t o) ≡ applied q id (joined_mark q id m t n) w o
+pub join_applied : (q : LogQueue) (id : ℕ) (m n : Mark) (t u w o : Option Table) → Fits q m (table_of id t).entries → Fits q n (table_of id u).entries → IsTableOf id (table_of id t) → IsTableOf id (table_of id o) → table_over_older q id n u t ≡ Some w
+    → option_and_then (λ v. table_over_older q id n u v) (table_over_older q id m t o) ≡ table_over_older q id (joined_mark q id m t n) w o
 join_applied q id m n t u w o fits fits' own h is = go (table_over q m (table_of id t) (table_of id o)) refl
   where
     j : Mark
@@ -200,33 +201,33 @@ join_applied q id m n t u w o fits fits' own h is = go (table_over q m (table_of
     there : cond n.cleaned (is_some u) (is_some u || is_there_over m t o) ≡ is_there_over j w o
     there = rw (newer.1, (joined_parts q (end_at_reach n (table_of id t)) m n (table_of id t).entries fits).0) (join_there m.cleaned n.cleaned (is_some t) (is_some u) (is_some o))
 
-    go : (y : Option Table) → table_over q m (table_of id t) (table_of id o) ≡ y → option_and_then (λ v. applied q id n u v) (applied q id m t o) ≡ applied q id j w o
+    go : (y : Option Table) → table_over q m (table_of id t) (table_of id o) ≡ y → option_and_then (λ v. table_over_older q id n u v) (table_over_older q id m t o) ≡ table_over_older q id j w o
     go None e = rw e (ap (there_if (is_there_over j w o)) (sym (ap (option_and_then (λ v. table_over q n (table_of id u) v)) e) ∙ law))
     go (Some x) e =
         let v : Option Table = some_there (is_there_over m t o) x in
         let whole : table_of id v ≡ x = table_of-there id (is_there_over m t o) x (λ n. none_over q id m t o x h n e) in
         let content : table_over q n (table_of id u) (table_of id v) ≡ table_over q j (table_of id w) (table_of id o) = ap (table_over q n (table_of id u)) whole ∙ sym (ap (option_and_then (λ v. table_over q n (table_of id u) v)) e) ∙ law in
         let flag : is_there_over n u v ≡ is_there_over j w o = ap (λ b. cond n.cleaned (is_some u) (is_some u || b)) (is_some-there (is_there_over m t o) x) ∙ there in
-        ap (option_and_then (λ v. applied q id n u v)) (applied-some q id m t o x e) ∙ (rw (content, flag) refl)
+        ap (option_and_then (λ v. table_over_older q id n u v)) (applied-some q id m t o x e) ∙ (rw (content, flag) refl)
 
 -- one step's mark
 pub from_whole : (o : List EntryIndex) → from 0 o ≡ o
 from_whole o = sym (within-from 0 o) ∙ within-whole o
 
-meets : (f : ℕ) (o : List EntryIndex) → misses (Some f) (end_of (entries_within 0 None o)) ≡ leaves_hole (end_of o) f
-meets f o = ap (λ es. leaves_hole (end_of es) f) (within-whole o)
+meets : (f : ℕ) (o : List EntryIndex) → misses (Some f) (end_of (entries_within 0 None o)) ≡ leaves_hole o f
+meets f o = ap (λ es. misses (Some f) (end_of es)) (within-whole o) ∙ sym (hole_end o f)
 
 either_behind : (b : Bool) (a run : List EntryIndex) → cond b [] a ++ run ≡ cond b run (a ++ run)
 either_behind true a run = refl
 either_behind false a run = refl
 
-run_over : (q : LogQueue) (e : EntryIndex) (run o : List EntryIndex) → entries_over q (mark_of (Run (e ∷ run))) (e ∷ run) o ≡ replayed q o (e ∷ run)
-run_over Append e run o = rw (meets e.index o, within-below, or_false (leaves_hole (end_of o) e.index)) refl
+run_over : (q : LogQueue) (e : EntryIndex) (run o : List EntryIndex) → entries_over q (mark_of (Run (e ∷ run))) (e ∷ run) o ≡ entries_after_replay q o (e ∷ run)
+run_over Append e run o = rw (meets e.index o, within-below, or_false (leaves_hole o e.index)) refl
   where
     or_false : (b : Bool) → (b || false) ≡ b
     or_false true = refl
     or_false false = refl
-run_over Rewrite e run o = rw (meets e.index o, within-below) (ap (λ x. Some x) (either_behind (leaves_hole (end_of o) e.index) (below e.index o) (e ∷ run)))
+run_over Rewrite e run o = rw (meets e.index o, within-below) (ap (λ x. Some x) (either_behind (leaves_hole o e.index) (below e.index o) (e ∷ run)))
 
 -- a mark without a run, of a region that wasn't cleaned
 kept_over : (q : LogQueue) (floor : ℕ) (deleted : KeySet) (o : List EntryIndex) → entries_over q (record fresh { floor = floor; deleted = deleted }) [] o ≡ Some (from floor o)
@@ -258,29 +259,16 @@ key_deleted o key = same_keys _ _ (λ q. rw (get-pairs_over, get-without, finite
     go true x = refl
     go false x = refl
 
-pub one_table : (q : LogQueue) (id : ℕ) (s : Step) (o : Table) → o.region_id ≡ id → table_over q (mark_of s) (table_of id (own_of id s)) o ≡ stepped q o s
-one_table q id (Run []) o r = rw (untouched q finset.empty o.entries, keys_kept o.keys) refl
-one_table q id (Run (e ∷ run)) o r = rw (run_over q e run o.entries, keys_kept o.keys) refl
-one_table q id (Compact i) o r = rw (kept_over q i finset.empty o.entries, keys_kept o.keys) refl
-one_table q id (Truncate i) o r = rw (cut_over q i o.entries, keys_kept o.keys) refl
-one_table q id (Put key value file) o r = rw (untouched q finset.empty o.entries, key_put o.keys key (record { value = value; file = file })) refl
-one_table q id (Del key) o r = rw (untouched q (finset.insert finset.empty key) o.entries, key_deleted o.keys key) refl
-one_table q id (AtomicGroup start end) o r = rw (untouched q finset.empty o.entries, keys_kept o.keys) refl
-one_table Append id Clean o r = refl
-one_table Rewrite id Clean o r = refl
-
-one_there : (id : ℕ) (s : Step) (o : Option Table) → is_there_over (mark_of s) (own_of id s) o ≡ is_there_after s
-one_there id (Run []) o = refl
-one_there id (Run (e ∷ run)) o = refl
-one_there id (Compact i) o = refl
-one_there id (Truncate i) o = refl
-one_there id (Put key value file) o = refl
-one_there id (Del key) o = refl
-one_there id (AtomicGroup start end) o = refl
-one_there id Clean o = refl
-
-pub one_step : (q : LogQueue) (id : ℕ) (s : Step) (o : Option Table) → IsTableOf id (table_of id o) → applied q id (mark_of s) (own_of id s) o ≡ after_step q id o s
-one_step q id s o h = rw (one_there id s o, one_table q id s (table_of id o) h.region) refl
+pub one_step : (q : LogQueue) (id : ℕ) (s : Step) (o : Option Table) → table_over_older q id (mark_of s) (own_of id s) o ≡ after_step q (table_of id o) s
+one_step q id (Run []) o = rw (untouched q finset.empty (table_of id o).entries, keys_kept (table_of id o).keys) refl
+one_step q id (Run (e ∷ run)) o = rw (run_over q e run (table_of id o).entries, keys_kept (table_of id o).keys) refl
+one_step q id (Compact i) o = rw (kept_over q i finset.empty (table_of id o).entries, keys_kept (table_of id o).keys) refl
+one_step q id (Truncate i) o = rw (cut_over q i (table_of id o).entries, keys_kept (table_of id o).keys) refl
+one_step q id (Put key value file) o = rw (untouched q finset.empty (table_of id o).entries, key_put (table_of id o).keys key (record { value = value; file = file })) refl
+one_step q id (Del key) o = rw (untouched q (finset.insert finset.empty key) (table_of id o).entries, key_deleted (table_of id o).keys key) refl
+one_step q id (AtomicGroup start end) o = rw (untouched q finset.empty (table_of id o).entries, keys_kept (table_of id o).keys) refl
+one_step Append id Clean o = refl
+one_step Rewrite id Clean o = refl
 
 -- over no table stands the own one
 pub own_keys : (b : Bool) (d : KeySet) (t : Keys) → cond b t (pairs_over t (without d finite.empty)) ≡ t
@@ -300,7 +288,7 @@ own_span false (Some s) = refl
 pub own_alone : (q : LogQueue) (id : ℕ) (m : Mark) (t : Table) → t.region_id ≡ id → table_over q m t (empty_table id) ≡ Some t
 own_alone q id m t r = rw (over_nil q m t.entries, own_keys m.cleaned m.deleted t.keys, own_span m.cleaned t.atomic_group, ← r) refl
 
-pub applied_none : (q : LogQueue) (id : ℕ) (m : Mark) (t : Option Table) → (table_of id t).region_id ≡ id → applied q id m t None ≡ Some t
+pub applied_none : (q : LogQueue) (id : ℕ) (m : Mark) (t : Option Table) → (table_of id t).region_id ≡ id → table_over_older q id m t None ≡ Some t
 applied_none q id m t r = rw (own_alone q id m (table_of id t) r) (go m.cleaned t)
   where
     go : (b : Bool) (t : Option Table) → there_if (cond b (is_some t) (is_some t || false)) (Some (table_of id t)) ≡ Some t
@@ -309,7 +297,7 @@ applied_none q id m t r = rw (own_alone q id m (table_of id t) r) (go m.cleaned 
     go true (Some x) = refl
     go false (Some x) = refl
 
-pub applied_fresh : (q : LogQueue) (id : ℕ) (o : Option Table) → applied q id fresh None o ≡ Some o
+pub applied_fresh : (q : LogQueue) (id : ℕ) (o : Option Table) → table_over_older q id fresh None o ≡ Some o
 applied_fresh q id o = rw (untouched q finset.empty (table_of id o).entries, keys_kept (table_of id o).keys) (go o)
   where
     go : (o : Option Table) → there_if (is_some o) (Some (table_of id o)) ≡ Some o

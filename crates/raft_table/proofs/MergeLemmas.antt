@@ -11,10 +11,10 @@ use Rattle.raft_table.specs.TableEntries.{below, end_of, placed_in, entry_count}
 use Rattle.raft_table.specs.Queues.{is_same}
 use Rattle.raft_table.specs.Counts.{Counts}
 use Rattle.raft_table.specs.Merge.{after_join, IsTableMergeFault}
-use Rattle.raft_table.specs.Start.{replayed, leaves_hole, IsTableRunFault}
+use Rattle.raft_table.specs.Start.{entries_after_replay, leaves_hole, IsTableRunFault}
 use Rattle.raft_table.specs.Table.{Table, live_of}
-use Rattle.raft_table.specs.KeyValues.{Keys, StoredPair, pairs_over, with_pairs, pair_count}
-use Rattle.raft_table.proofs.KeyValueCounts.{length-cond, pair_count-with_put}
+use Rattle.raft_table.specs.KeyValues.{Keys, Stored, pairs_over, with_pairs, pair_count}
+use Rattle.raft_table.proofs.KeyValueCounts.{length-cond, pair_count-insert}
 use Rattle.raft_table.proofs.RunLemmas.{below-placed_in}
 use Rattle.raft_table.proofs.PlaceLemmas.{entry_count-append}
 
@@ -40,25 +40,25 @@ of_some : {X : Type 0} (x y : X) → Some x ≡ Some y → x ≡ y
 of_some x y h = cc
 
 -- a join holds at most the records of both
-pub joined_bound : (rule q : LogQueue) (es run after : List EntryIndex) → replayed rule es run ≡ Some after → entry_count q after ≤ entry_count q es + entry_count q run
+pub joined_bound : (rule q : LogQueue) (es run after : List EntryIndex) → entries_after_replay rule es run ≡ Some after → entry_count q after ≤ entry_count q es + entry_count q run
 joined_bound Append q es [] after h = subst (λ xs. entry_count q xs ≤ entry_count q es + entry_count q []) (of_some es after h) (none_bound q es)
 joined_bound Rewrite q es [] after h = subst (λ xs. entry_count q xs ≤ entry_count q es + entry_count q []) (of_some es after h) (none_bound q es)
-joined_bound Append q es (e ∷ run) after h = at (leaves_hole (end_of es) e.index) h
+joined_bound Append q es (e ∷ run) after h = at (leaves_hole es e.index) h
   where
     at : (b : Bool) → cond b None (Some (below e.index es ++ e ∷ run)) ≡ Some after → entry_count q after ≤ entry_count q es + entry_count q (e ∷ run)
     at true k = cc
     at false k = subst (λ xs. entry_count q xs ≤ entry_count q es + entry_count q (e ∷ run)) (of_some (below e.index es ++ e ∷ run) after k) (below_bound q e.index es (e ∷ run))
-joined_bound Rewrite q es (e ∷ run) after h = at (leaves_hole (end_of es) e.index) h
+joined_bound Rewrite q es (e ∷ run) after h = at (leaves_hole es e.index) h
   where
     at : (b : Bool) → Some (cond b (e ∷ run) (below e.index es ++ e ∷ run)) ≡ Some after → entry_count q after ≤ entry_count q es + entry_count q (e ∷ run)
     at true k = subst (λ xs. entry_count q xs ≤ entry_count q es + entry_count q (e ∷ run)) (of_some (e ∷ run) after k) (omega arith)
     at false k = subst (λ xs. entry_count q xs ≤ entry_count q es + entry_count q (e ∷ run)) (of_some (below e.index es ++ e ∷ run) after k) (below_bound q e.index es (e ∷ run))
 
 -- why a run is refused, told of the merge that it is a part of
-pub merge_refused : (rule queue : LogQueue) (counts : Counts) (older newer : Table) (e : Error) → IsTableRunFault queue counts older.entries (replayed rule older.entries newer.entries) e → IsTableMergeFault counts older newer (Some rule) e
-merge_refused rule queue counts older newer e h = at (replayed rule older.entries newer.entries) refl e h
+pub merge_refused : (rule queue : LogQueue) (counts : Counts) (older newer : Table) (e : Error) → IsTableRunFault queue counts older.entries (entries_after_replay rule older.entries newer.entries) e → IsTableMergeFault counts older newer (Some rule) e
+merge_refused rule queue counts older newer e h = at (entries_after_replay rule older.entries newer.entries) refl e h
   where
-    at : (o : Option (List EntryIndex)) → replayed rule older.entries newer.entries ≡ o → (x : Error) → IsTableRunFault queue counts older.entries o x → IsTableMergeFault counts older newer (Some rule) x
+    at : (o : Option (List EntryIndex)) → entries_after_replay rule older.entries newer.entries ≡ o → (x : Error) → IsTableRunFault queue counts older.entries o x → IsTableMergeFault counts older newer (Some rule) x
     at None k (errors.Corruption text) h = rw k refl
     at None k errors.Memory h = tt
     at None k _ h = absurd h
@@ -67,16 +67,16 @@ merge_refused rule queue counts older newer e h = at (replayed rule older.entrie
     at (Some after) k _ h = absurd h
 
 -- pairs put over others are at most those of both
-pairs_bound : (q : LogQueue) (keys : Keys) (es : List StoredPair) → pair_count q (with_pairs keys es) ≤ pair_count q keys + length (filter (λ e. is_same q e.1.file.queue) es)
+pairs_bound : (q : LogQueue) (keys : Keys) (es : List (List ℕ × Stored)) → pair_count q (with_pairs keys es) ≤ pair_count q keys + length (filter (λ e. is_same q e.1.file.queue) es)
 pairs_bound q keys [] = omega arith
 pairs_bound q keys (e ∷ es) =
-    omega (arith, pairs_bound q (finite.insert keys e.0 e.1) es, pair_count-with_put q keys e.0 e.1.value e.1.file, length-cond (is_same q e.1.file.queue) e (filter (λ e. is_same q e.1.file.queue) es))
+    omega (arith, pairs_bound q (finite.insert keys e.0 e.1) es, pair_count-insert q keys e.0 e.1.value e.1.file, length-cond (is_same q e.1.file.queue) e (filter (λ e. is_same q e.1.file.queue) es))
 
 -- a joined table has at most the records of both in each queue
 pub joined_uncleaned : (rule q : LogQueue) (older newer w : Table) → after_join rule older newer ≡ Some w → live_of q w ≤ live_of q older + live_of q newer
-joined_uncleaned rule q older newer w e = go (replayed rule older.entries newer.entries) refl e
+joined_uncleaned rule q older newer w e = go (entries_after_replay rule older.entries newer.entries) refl e
   where
-    go : (o : Option (List EntryIndex)) → replayed rule older.entries newer.entries ≡ o → option_map {U = Table} (λ es. record older { entries = es; keys = pairs_over newer.keys older.keys }) o ≡ Some w → live_of q w ≤ live_of q older + live_of q newer
+    go : (o : Option (List EntryIndex)) → entries_after_replay rule older.entries newer.entries ≡ o → option_map {U = Table} (λ es. record older { entries = es; keys = pairs_over newer.keys older.keys }) o ≡ Some w → live_of q w ≤ live_of q older + live_of q newer
     go None k e = absurd cc
     go (Some es) k e = subst (λ w. live_of q w ≤ live_of q older + live_of q newer) (of_some (record older { entries = es; keys = pairs_over newer.keys older.keys }) w e)
         (omega (arith, joined_bound rule q older.entries newer.entries es k, pairs_bound q older.keys (finite.entries newer.keys)))

@@ -6,7 +6,7 @@ use Rattle.std.proofs.lemmas.List.{length-take, length-drop}
 use Rattle.raft_base.specs.declared.pipe_log.LogQueue.TheVariants.{Rewrite}
 use Rattle.raft_base.specs.declared.entry_index.EntryIndex.{EntryIndex}
 use Rattle.raft_table.specs.TableEntries.{RisesFrom, IsRunIn, AreTableEntries, start_of, end_of, below, from, entry_at}
-use Rattle.raft_table.specs.Rewriting.{overlap, moved_count, with_places, rewritten_from, rewritten}
+use Rattle.raft_table.specs.Rewriting.{overlap, moved_count, with_places, rewritten_from, entries_after_rewrite}
 use Rattle.raft_table.proofs.RunLemmas.{below_take, RisesFrom-take, RisesFrom-drop}
 use Rattle.raft_table.proofs.SoundLemmas.{sound_rising}
 use Rattle.raft_table.proofs.RewriteLemmas.{from_is, run_rising, meeting_is, below_zero}
@@ -52,7 +52,7 @@ run_from_met run es met e r h l m =
     let rr = RisesFrom-drop (e.index - x) x run (run_rising Rewrite run r) (omega arith) in
     rw (from_is e.index x run (run_rising Rewrite run r)) (rw k at rr)
 
-pub moved_by_index : (gate : Option ℕ) (run es after met : List EntryIndex) (e : EntryIndex) (i : ℕ) → IsRunIn Rewrite run → AreTableEntries es → overlap run es ≡ e ∷ met → rewritten gate run es ≡ Some after → entry_at i after ≡ cond (leb e.index i && ltb i (e.index + moved_count gate run es)) (entry_at i run) (entry_at i es)
+pub moved_by_index : (gate : Option ℕ) (run es after met : List EntryIndex) (e : EntryIndex) (i : ℕ) → IsRunIn Rewrite run → AreTableEntries es → overlap run es ≡ e ∷ met → entries_after_rewrite gate run es ≡ Some after → entry_at i after ≡ cond (leb e.index i && ltb i (e.index + moved_count gate run es)) (entry_at i run) (entry_at i es)
 moved_by_index gate run es after met e i r h m f =
     let is = accepted _ (with_places run e.index (moved_count gate run es) es) after (ap (rewritten_from gate run es) (sym m) ∙ f) in
     subst (λ xs. entry_at i xs ≡ cond (leb e.index i && ltb i (e.index + moved_count gate run es)) (entry_at i run) (entry_at i es)) is.1
@@ -65,5 +65,5 @@ moved_by_index gate run es after met e i r h m f =
         none m = let k = ap length (sym (meeting_none es) ∙ m) in omega arith
     some (x ∷ run) m = omega arith
 
-pub unmoved : (gate : Option ℕ) (run es : List EntryIndex) → overlap run es ≡ [] → rewritten gate run es ≡ Some es
+pub unmoved : (gate : Option ℕ) (run es : List EntryIndex) → overlap run es ≡ [] → entries_after_rewrite gate run es ≡ Some es
 unmoved gate run es m = ap (rewritten_from gate run es) m

@@ -10,7 +10,7 @@ use Rattle.raft_base.specs.declared.entry_index.EntryIndex.{EntryIndex}
 use Rattle.raft_table.specs.TableEntries.{RisesFrom, AreTableEntries, RewrittenInFront, start_of, end_of, placed_in, is_placed_in, entry_count}
 use Rattle.raft_table.specs.Rewriting.{may_move, is_misplaced, newly_rewritten}
 use Rattle.raft_table.proofs.RunLemmas.{RisesFrom-take, RisesFrom-append, RisesFrom-drop, end_of-run, placed_in-append}
-use Rattle.raft_table.proofs.PlaceLemmas.{AllTest, AllTest-filter, AllTest-take, AllTest-drop, filter_all, entry_count-append, entries_in_one, placed_in_other}
+use Rattle.raft_table.proofs.PlaceLemmas.{AllTest, AllTest-filter, AllTest-take, AllTest-drop, filter_all, each_placed, entry_count-append, entries_in_one, placed_in_other}
 use Rattle.raft_table.proofs.SoundLemmas.{sound_rising, AreTableEntries-take, AreTableEntries-drop, cut_counts}
 use Rattle.raft_table.proofs.StartLemmas.{run_alone}
 
@@ -89,7 +89,7 @@ moves gate at m es places h l r q t e =
     let w = all_rewritten gate at k es h l t m e in
     let ca = cut_counts at es h (omega arith) in
     let cb = cut_counts (at + m) es h (omega arith) in
-    let front : placed_in Rewrite (take at es) ≡ take at es = (run_alone Rewrite (take at es) (AreTableEntries-take at es h) (omega (arith, w.0))).placed in
+    let front : placed_in Rewrite (take at es) ≡ take at es = each_placed Rewrite (take at es) (run_alone Rewrite (take at es) (AreTableEntries-take at es h) (omega (arith, w.0))).placed in
     let mid : placed_in Rewrite (take m places) ≡ take m places = placed_in-take Rewrite m places q in
     let na : length (take at es) ≡ at = length-take-le at es (omega arith) in
     let nb : length (take m places) ≡ m = length-take-le m places mk in

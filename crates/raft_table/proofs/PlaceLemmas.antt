@@ -1,11 +1,13 @@
 -- How many entries have their place in a queue, after a cut or behind one another.
-use Rattle.std.proofs.Common.{◌≡◌, ℕ, zero, suc, ◌+◌, min, Bool, true, false, List, [], ◌∷◌, ◌++◌, length, take, drop, filter, refl, sym, ap, ◌∙◌, arith, Option, Some, None}
+use Rattle.std.proofs.Common.{◌≡◌, ℕ, zero, suc, ◌+◌, min, Bool, true, false, List, [], ◌∷◌, ◌++◌, length, take, drop, filter, refl, sym, ap, subst, ◌∙◌, arith, Option, Some, None}
+use Rattle.std.specs.List.{AllByRecursion}
+use Rattle.std.specs.Option.{option_map_or}
 use Rattle.std.proofs.lemmas.List.{length-append, take-append-drop}
 use Rattle.raft_base.specs.declared.pipe_log.LogQueue.{LogQueue}
 use Rattle.raft_base.specs.declared.pipe_log.LogQueue.TheVariants.{Append, Rewrite}
 use Rattle.raft_base.specs.declared.pipe_log.FileBlockHandle.{FileBlockHandle}
 use Rattle.raft_base.specs.declared.entry_index.EntryIndex.{EntryIndex}
-use Rattle.raft_table.specs.TableEntries.{placed_in, is_placed_in, is_block_in, entry_count, RewrittenInFront}
+use Rattle.raft_table.specs.TableEntries.{placed_in, is_placed_in, entry_count, RewrittenInFront}
 use Rattle.raft_table.specs.Queues.{is_same, count_in}
 use Rattle.raft_table.proofs.RunLemmas.{placed_in-append}
 
@@ -62,6 +64,21 @@ count_front p zero a b h k = omega arith
 count_front p (suc n) [] b h k = rw (filter_none p (take (suc n) b) (AllTest-take false p (suc n) b k)) (omega arith)
 count_front p (suc n) (x ∷ a) b h k = rw h.0 (let e = count_front p n a b h.1 k in omega arith)
 
+all_tested : {X : Type 0} (p : X → Bool) (xs : List X) → AllTest true p xs → AllByRecursion (λ x. p x ≡ true) xs
+unfolding AllTest
+all_tested p [] h = tt
+all_tested p (x ∷ xs) h = (h.0, all_tested p xs h.1)
+
+-- each entry has its place in a queue, or leaving out the others leaves all
+pub placed_each : (q : LogQueue) (es : List EntryIndex) → placed_in q es ≡ es → AllByRecursion (λ (e : EntryIndex). is_placed_in q e ≡ true) es
+unfolding placed_in
+placed_each q es h = all_tested (is_placed_in q) es (subst (AllTest true (is_placed_in q)) h (AllTest-filter (is_placed_in q) es))
+
+pub each_placed : (q : LogQueue) (es : List EntryIndex) → AllByRecursion (λ (e : EntryIndex). is_placed_in q e ≡ true) es → placed_in q es ≡ es
+unfolding placed_in
+each_placed q [] h = refl
+each_placed q (e ∷ es) h = rw h.0 (ap (λ xs. e ∷ xs) (each_placed q es h.1))
+
 -- no entry has its place in both queues
 pub placed_apart : (q r : LogQueue) → is_same q r ≡ false → (e : EntryIndex) → is_placed_in q e ≡ true → is_placed_in r e ≡ false
 unfolding is_placed_in
@@ -73,7 +90,7 @@ placed_apart q r d e h = at e.entries h
     same Rewrite Append c n s = cc
     same Rewrite Rewrite c n s = n
 
-    at : (o : Option FileBlockHandle) → is_block_in q o ≡ true → is_block_in r o ≡ false
+    at : (o : Option FileBlockHandle) → option_map_or (λ (place : FileBlockHandle). is_same place.id.queue q) o false ≡ true → option_map_or (λ (place : FileBlockHandle). is_same place.id.queue r) o false ≡ false
     at None k = refl
     at (Some b) k = same b.id.queue q r d k
 

@@ -4,7 +4,7 @@ use Rattle.std.specs.Prelude.{is_some}
 use Rattle.std.specs.Option.{option_map}
 use Rattle.raft_base.specs.declared.pipe_log.LogQueue.{LogQueue}
 use Rattle.raft_table.specs.MarkMerge.{IsRunOver}
-use Rattle.raft_table.specs.Marks.{Mark, keys_over, atomic_group_over, table_over, is_there_over, applied}
+use Rattle.raft_table.specs.Marks.{Mark, keys_over, atomic_group_over, table_over, is_there_over, table_over_older}
 use Rattle.raft_table.specs.Stands.{Stands}
 use Rattle.raft_table.specs.Steps.{Step, table_of, AreSteps, IsTableOf}
 use Rattle.raft_table.specs.Table.{Table}
@@ -24,5 +24,5 @@ own_there true c = refl
 own_there false c = refl
 
 -- an own table that is there over one that may be absent
-pub applied_own : (q : LogQueue) (id : ℕ) (n : Mark) (u w : Table) (t : Option Table) → table_over q n u (table_of id t) ≡ Some w → applied q id n (Some u) t ≡ Some (Some w)
+pub applied_own : (q : LogQueue) (id : ℕ) (n : Mark) (u w : Table) (t : Option Table) → table_over q n u (table_of id t) ≡ Some w → table_over_older q id n (Some u) t ≡ Some (Some w)
 applied_own q id n u w t e = applied-some q id n (Some u) t w e ∙ ap (λ b. Some (some_there b w)) (own_there n.cleaned (is_some t))

@@ -12,10 +12,11 @@ use Rattle.raft_table.specs.declared.memtable.entries.Overlap.{Overlap}
 use Rattle.raft_table.specs.Counts.{Counts, with_added, with_deleted}
 use Rattle.raft_table.specs.TableEntries.{RisesFrom, IsRunIn, AreTableEntries, start_of, end_of, below, from, placed_in, entry_count}
 use Rattle.raft_table.specs.Overlaps.{IsOverlap, AreDisjoint}
-use Rattle.raft_table.specs.Rewriting.{may_move, overlap, moved_count, is_misplaced, with_places, rewritten_from, rewritten, with_rewritten, counts_after_rewrite}
+use Rattle.raft_table.specs.Rewriting.{may_move, overlap, moved_count, is_misplaced, with_places, rewritten_from, entries_after_rewrite, with_rewritten, counts_after_rewrite}
 use Rattle.raft_table.proofs.RunLemmas.{below_take, below_start, from_drop, from_start, end_of-run, RisesFrom-take, RisesFrom-drop, RisesFrom-start}
 use Rattle.raft_table.proofs.SoundLemmas.{sound_rising}
 use Rattle.raft_table.proofs.MovesLemmas.{placed_in-take, placed_in-drop}
+use Rattle.raft_table.proofs.PlaceLemmas.{each_placed}
 
 pub below_is : (i s : ℕ) (es : List EntryIndex) → RisesFrom s es → below i es ≡ take (i - s) es
 below_is i s es h =
@@ -37,7 +38,7 @@ below_zero [] = refl
 below_zero (e ∷ es) = let t : ltb e.index 0 ≡ false = grind (arith, nat_tests) in rw t (below_zero es)
 
 -- a run without entries meets none
-pub rewritten_none : (gate : Option ℕ) (es : List EntryIndex) → rewritten gate [] es ≡ Some es
+pub rewritten_none : (gate : Option ℕ) (es : List EntryIndex) → entries_after_rewrite gate [] es ≡ Some es
 unfolding end_of from
 rewritten_none gate es = rw (below_zero es) refl
 
@@ -63,7 +64,7 @@ meeting_apart q run es h r l a =
     nil_from_length _ (ap length (meeting_is q run es h r l) ∙ length-drop (x - s) (take (x + length run - s) es) ∙ omega arith)
 
 -- a rewriting that meets no entries
-pub rewritten_apart : (gate : Option ℕ) (q : LogQueue) (run es : List EntryIndex) → AreTableEntries es → IsRunIn q run → 0 < length run → AreDisjoint (start_of es) (length es) (start_of run) (length run) → rewritten gate run es ≡ Some es
+pub rewritten_apart : (gate : Option ℕ) (q : LogQueue) (run es : List EntryIndex) → AreTableEntries es → IsRunIn q run → 0 < length run → AreDisjoint (start_of es) (length es) (start_of run) (length run) → entries_after_rewrite gate run es ≡ Some es
 rewritten_apart gate q run es h r l a = ap (rewritten_from gate run es) (meeting_apart q run es h r l a)
 
 pub recounted_is : (gate : Option ℕ) (run es : List EntryIndex) (counts : Counts) → 0 < length run → counts_after_rewrite gate run es counts ≡ with_rewritten gate (length run) (moved_count gate run es) counts
@@ -104,8 +105,8 @@ pub record RewritesAt (gate : Option ℕ) (run es : List EntryIndex) (at skipped
   pub shorter : length (places_of run skipped count) ≤ length run
   pub rising : RisesFrom (start_of es + at) (places_of run skipped count)
   pub placed : placed_in Rewrite (places_of run skipped count) ≡ places_of run skipped count
-  pub refused : is_misplaced gate at (entry_count Rewrite es) ≡ true → rewritten gate run es ≡ None
-  pub ok : is_misplaced gate at (entry_count Rewrite es) ≡ false → rewritten gate run es ≡ Some (take at es ++ take (moves_of gate run es at skipped count) (places_of run skipped count) ++ drop (at + moves_of gate run es at skipped count) es)
+  pub refused : is_misplaced gate at (entry_count Rewrite es) ≡ true → entries_after_rewrite gate run es ≡ None
+  pub ok : is_misplaced gate at (entry_count Rewrite es) ≡ false → entries_after_rewrite gate run es ≡ Some (take at es ++ take (moves_of gate run es at skipped count) (places_of run skipped count) ++ drop (at + moves_of gate run es at skipped count) es)
   pub counts : moved_count gate run es ≡ moves_of gate run es at skipped count
 
 pub rewrites_at : (gate : Option ℕ) (run es : List EntryIndex) (m : Overlap) → AreTableEntries es → IsRunIn Rewrite run → 0 < length run → IsOverlap (start_of es) (length es) (start_of run) (length run) m → RewritesAt gate run es m.at m.skipped m.count
@@ -134,7 +135,7 @@ rewrites_at gate run es m h r l x =
     rw cut (start_of_rise (s + at) (drop at (take (at + count) es)) (omega (arith, ap length cut)) (RisesFrom-drop at s (take (at + count) es) (RisesFrom-take (at + count) s es (sound_rising es h)) (omega (arith, length-take-le (at + count) es inside)))) in
     let under : below (s + at) es ≡ take at es = below_take (s + at) at s es refl (sound_rising es h) in
     let underlen : length (below (s + at) es) ≡ at = rw under (length-take-le at es (omega arith)) in
-    let whole : rewritten gate run es ≡ cond (is_misplaced gate (length (below (s + at) es)) (entry_count Rewrite es)) None (Some (with_places run (s + at) (moved_count gate run es) es)) = rewritten_at gate run es (overlap run es) (s + at) (omega arith) head in
+    let whole : entries_after_rewrite gate run es ≡ cond (is_misplaced gate (length (below (s + at) es)) (entry_count Rewrite es)) None (Some (with_places run (s + at) (moved_count gate run es) es)) = rewritten_at gate run es (overlap run es) (s + at) (omega arith) head in
     let k = moved_count gate run es in
     let few : k ≤ count = omega (arith, prefix_len-le-length (may_move gate) (overlap run es)) in
     let mine : from (s + at) run ≡ drop skipped run = from_drop (s + at) skipped y run (omega arith) (run_rising Rewrite run r) in
@@ -145,7 +146,7 @@ rewrites_at gate run es m h r l x =
       within = omega arith;
       shorter = omega arith;
       rising = rw (← place) (RisesFrom-take (skipped + count - skipped) (y + skipped) (drop skipped run) (RisesFrom-drop skipped y run (run_rising Rewrite run r) (omega arith)));
-      placed = placed_in-take Rewrite (skipped + count - skipped) (drop skipped run) (placed_in-drop Rewrite skipped run r.placed);
+      placed = placed_in-take Rewrite (skipped + count - skipped) (drop skipped run) (placed_in-drop Rewrite skipped run (each_placed Rewrite run r.placed));
       refused = λ t. whole ∙ rw (underlen, t) refl;
       ok = λ t. whole ∙ rw (underlen, t) (ap (λ z. Some z) (rw (← same) spelled));
       counts = same;

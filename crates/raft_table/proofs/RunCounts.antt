@@ -7,7 +7,7 @@ use Rattle.raft_base.specs.declared.pipe_log.LogQueue.TheVariants.{Append, Rewri
 use Rattle.raft_base.specs.declared.entry_index.EntryIndex.{EntryIndex}
 use Rattle.raft_table.specs.Counts.{Counts, live}
 use Rattle.raft_table.specs.TableEntries.{below, placed_in, is_placed_in, entry_count, end_of}
-use Rattle.raft_table.specs.Start.{appended, replayed, leaves_hole, starts_in_front, IsTableRunFault}
+use Rattle.raft_table.specs.Start.{entries_after_append, entries_after_replay, leaves_hole, starts_in_front, IsTableRunFault}
 use Rattle.raft_table.proofs.RunLemmas.{placed_in-append}
 
 filter-le : {X : Type 0} (p : X → Bool) (xs : List X) → length (filter p xs) ≤ length xs
@@ -50,24 +50,24 @@ some_is : {X : Type 0} {x y : X} → Some x ≡ Some y → x ≡ y
 some_is e = cc
 
 -- a table with a new run has no more entries in a queue than both together
-pub appended-in : (q : LogQueue) (es run after : List EntryIndex) → appended es run ≡ Some after → entry_count q after ≤ entry_count q es + entry_count q run
+pub appended-in : (q : LogQueue) (es run after : List EntryIndex) → entries_after_append es run ≡ Some after → entry_count q after ≤ entry_count q es + entry_count q run
 appended-in q es [] after e = subst (λ x. entry_count q x ≤ entry_count q es + entry_count q []) (some_is e) (omega arith)
 appended-in q es (r ∷ run) after e =
-    elim (starts_in_front es r.index || leaves_hole (end_of es) r.index) as (λ b. cond b None (Some (below r.index es ++ r ∷ run)) ≡ Some after → entry_count q after ≤ entry_count q es + entry_count q (r ∷ run)) [
+    elim (starts_in_front es r.index || leaves_hole es r.index) as (λ b. cond b None (Some (below r.index es ++ r ∷ run)) ≡ Some after → entry_count q after ≤ entry_count q es + entry_count q (r ∷ run)) [
       | true ↦ λ e. absurd cc
       | false ↦ λ e. subst (λ x. entry_count q x ≤ entry_count q es + entry_count q (r ∷ run)) (some_is e) (behind-in q r.index es (r ∷ run))
     ] e
 
 -- nor has one with a run that is read again
-pub replayed-in : (rule q : LogQueue) (es run after : List EntryIndex) → replayed rule es run ≡ Some after → entry_count q after ≤ entry_count q es + entry_count q run
+pub replayed-in : (rule q : LogQueue) (es run after : List EntryIndex) → entries_after_replay rule es run ≡ Some after → entry_count q after ≤ entry_count q es + entry_count q run
 replayed-in rule q es [] after e = subst (λ x. entry_count q x ≤ entry_count q es + entry_count q []) (some_is e) (omega arith)
 replayed-in Append q es (r ∷ run) after e =
-    elim (leaves_hole (end_of es) r.index) as (λ b. cond b None (Some (below r.index es ++ r ∷ run)) ≡ Some after → entry_count q after ≤ entry_count q es + entry_count q (r ∷ run)) [
+    elim (leaves_hole es r.index) as (λ b. cond b None (Some (below r.index es ++ r ∷ run)) ≡ Some after → entry_count q after ≤ entry_count q es + entry_count q (r ∷ run)) [
       | true ↦ λ e. absurd cc
       | false ↦ λ e. subst (λ x. entry_count q x ≤ entry_count q es + entry_count q (r ∷ run)) (some_is e) (behind-in q r.index es (r ∷ run))
     ] e
 replayed-in Rewrite q es (r ∷ run) after e =
-    elim (leaves_hole (end_of es) r.index) as (λ b. Some (cond b (r ∷ run) (below r.index es ++ r ∷ run)) ≡ Some after → entry_count q after ≤ entry_count q es + entry_count q (r ∷ run)) [
+    elim (leaves_hole es r.index) as (λ b. Some (cond b (r ∷ run) (below r.index es ++ r ∷ run)) ≡ Some after → entry_count q after ≤ entry_count q es + entry_count q (r ∷ run)) [
       | true ↦ λ e. subst (λ x. entry_count q x ≤ entry_count q es + entry_count q (r ∷ run)) (some_is e) (omega arith)
       | false ↦ λ e. subst (λ x. entry_count q x ≤ entry_count q es + entry_count q (r ∷ run)) (some_is e) (behind-in q r.index es (r ∷ run))
     ] e
@@ -77,8 +77,8 @@ full_by : (q : LogQueue) (counts : Counts) (es run : List EntryIndex) (outcome :
 full_by q counts es run None h f = absurd f
 full_by q counts es run (Some after) h f = omega (arith, h after refl, f, entry_count-le q run)
 
-pub append_full : (q : LogQueue) (counts : Counts) (es run : List EntryIndex) → IsTableRunFault q counts es (appended es run) errors.Full → 2 ^ 64 ≤ live q counts + length run
-append_full q counts es run f = full_by q counts es run (appended es run) (λ after e. appended-in q es run after e) f
+pub append_full : (q : LogQueue) (counts : Counts) (es run : List EntryIndex) → IsTableRunFault q counts es (entries_after_append es run) errors.Full → 2 ^ 64 ≤ live q counts + length run
+append_full q counts es run f = full_by q counts es run (entries_after_append es run) (λ after e. appended-in q es run after e) f
 
-pub replay_full : (rule q : LogQueue) (counts : Counts) (es run : List EntryIndex) → IsTableRunFault q counts es (replayed rule es run) errors.Full → 2 ^ 64 ≤ live q counts + length run
-replay_full rule q counts es run f = full_by q counts es run (replayed rule es run) (λ after e. replayed-in rule q es run after e) f
+pub replay_full : (rule q : LogQueue) (counts : Counts) (es run : List EntryIndex) → IsTableRunFault q counts es (entries_after_replay rule es run) errors.Full → 2 ^ 64 ≤ live q counts + length run
+replay_full rule q counts es run f = full_by q counts es run (entries_after_replay rule es run) (λ after e. replayed-in rule q es run after e) f

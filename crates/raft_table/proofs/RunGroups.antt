@@ -1,5 +1,6 @@
 -- Stretches of a run that stand in one block.
 use Rattle.std.proofs.Common.{◌≡◌, ℕ, suc, ◌+◌, ◌-◌, ◌<◌, ◌≤◌, Bool, true, false, List, [], ◌∷◌, ◌++◌, length, get_or, take, drop, refl, sym, ap, ◌∙◌, subst, arith, Option, Some, None}
+use Rattle.std.specs.Option.{option_map_or}
 use Rattle.std.proofs.lemmas.List.{drop-take, take-append-drop, length-take-le, get_or-take, get_or-drop, take-take, length-drop, length-map}
 use Rattle.raft_base.specs.declared.pipe_log.FileBlockHandle.{FileBlockHandle}
 use Rattle.raft_base.specs.declared.pipe_log.LogQueue.{LogQueue}
@@ -9,7 +10,8 @@ use Rattle.raft_base.specs.declared.compression_type.CompressionType.TheVariants
 use Rattle.raft_base.specs.declared.entry_index.EntryIndex.{EntryIndex}
 use Rattle.raft_table.specs.Blocks.{spread}
 use Rattle.raft_table.specs.BlockWords.{spans_of}
-use Rattle.raft_table.specs.TableEntries.{RisesFrom, AreTableEntries, start_of, placed_in, is_placed_in, is_block_in}
+use Rattle.raft_table.specs.Queues.{is_same}
+use Rattle.raft_table.specs.TableEntries.{RisesFrom, AreTableEntries, start_of, placed_in, is_placed_in}
 use Rattle.raft_table.proofs.RunLemmas.{RisesFrom-take, RisesFrom-drop}
 use Rattle.raft_table.proofs.PlaceLemmas.{AllTest, AllTest-filter, AllTest-weaker}
 use Rattle.raft_table.proofs.ListTestLemmas.{at_test}
@@ -29,7 +31,7 @@ placed_has : (q : LogQueue) (e : EntryIndex) → is_placed_in q e ≡ true → h
 unfolding is_placed_in
 placed_has q e h = at e.entries h
   where
-    at : (o : Option FileBlockHandle) → is_block_in q o ≡ true → has_block o ≡ true
+    at : (o : Option FileBlockHandle) → option_map_or (λ (place : FileBlockHandle). is_same place.id.queue q) o false ≡ true → has_block o ≡ true
     at None h = cc
     at (Some b) h = refl
 

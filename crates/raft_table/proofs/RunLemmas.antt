@@ -1,10 +1,14 @@
 -- Filters of runs: cutting a run at an index is taking or dropping its front.
-use Rattle.std.proofs.Common.{◌≡◌, ℕ, zero, suc, ◌+◌, ◌<◌, ◌≤◌, max, Bool, true, false, ltb, leb, List, [], ◌∷◌, ◌++◌, length, take, drop, filter, refl, ap, arith}
+use Rattle.std.proofs.Common.{◌≡◌, ℕ, zero, suc, ◌+◌, ◌<◌, ◌≤◌, max, Bool, true, false, ltb, leb, List, [], ◌∷◌, ◌++◌, length, take, drop, filter, Some, refl, sym, ap, arith}
 use Rattle.std.proofs.lemmas.List.Elements.{filter-append}
+use Rattle.std.specs.Prelude.{◌&&◌, nat_lt}
+use Rattle.std.proofs.lemmas.Bool.{lt-ltb}
 use Rattle.std.proofs.lemmas.Bool.Decides.{nat_tests}
 use Rattle.raft_base.specs.declared.pipe_log.LogQueue.{LogQueue}
 use Rattle.raft_base.specs.declared.entry_index.EntryIndex.{EntryIndex}
 use Rattle.raft_table.specs.TableEntries.{RisesFrom, IsRun, start_of, end_of, below, from, placed_in, is_placed_in}
+use Rattle.raft_table.specs.Marks.{misses}
+use Rattle.raft_table.specs.Start.{leaves_hole}
 
 -- the order of two filters is free
 pub filter_comm : {X : Type 0} (p q : X → Bool) (xs : List X) → filter p (filter q xs) ≡ filter q (filter p xs)
@@ -16,6 +20,12 @@ filter_comm p q (x ∷ xs) = at (p x) (q x) refl refl (filter_comm p q xs)
     at true false e f h = rw (e, f) h
     at false true e f h = rw (e, f, e) h
     at false false e f h = rw (e, f) h
+
+-- the test for a hole, told by the end of the entries
+pub hole_end : (es : List EntryIndex) (start : ℕ) → leaves_hole es start ≡ misses (Some start) (end_of es)
+unfolding end_of
+hole_end [] start = refl
+hole_end (e ∷ es) start = sym (ap (λ b. b && nat_lt (max (suc e.index) (end_of es)) start) (lt-ltb 0 (max (suc e.index) (end_of es)) (omega arith)))
 
 pub below-append : (i : ℕ) (a b : List EntryIndex) → below i (a ++ b) ≡ below i a ++ below i b
 unfolding below

@@ -6,7 +6,7 @@ use Rattle.std.proofs.lemmas.Bool.Decides.{nat_tests}
 use Rattle.std.proofs.lemmas.List.{length-append, length-take-le, length-drop, take_all}
 use Rattle.raft_base.specs.declared.pipe_log.LogQueue.TheVariants.{Append, Rewrite}
 use Rattle.raft_base.specs.declared.entry_index.EntryIndex.{EntryIndex}
-use Rattle.raft_table.specs.TableEntries.{RisesFrom, AreTableEntries, start_of, end_of, below, between, placed_in, entry_count, entry_at}
+use Rattle.raft_table.specs.TableEntries.{RisesFrom, AreTableEntries, start_of, end_of, below, entries_between, placed_in, entry_count, entry_at}
 use Rattle.raft_table.specs.Fetches.{Empty, NotFound, Compacted, Found, range_answer, total_len, is_too_many, IsLimitCount, FetchesWithin}
 use Rattle.raft_table.specs.Table.{Table, live_of}
 use Rattle.raft_table.proofs.FetchLemmas.{between_is}
@@ -27,8 +27,8 @@ records_of_both t h = omega (arith, entries_of_both t.entries h, pair_count-both
 
 -- ---- ranges
 
-pub between_by_index : (begin end i : ℕ) (es : List EntryIndex) → entry_at i (between begin end es) ≡ cond (leb begin i && ltb i end) (entry_at i es) None
-unfolding between
+pub between_by_index : (begin end i : ℕ) (es : List EntryIndex) → entry_at i (entries_between begin end es) ≡ cond (leb begin i && ltb i end) (entry_at i es) None
+unfolding entries_between
 between_by_index begin end i es =
     entry_with_index-from i begin (below end es) ∙ ap (cond (ltb i begin) None) (entry_with_index-below i end es) ∙ at (ltb i begin) (leb begin i) (ltb i end) refl refl
   where
@@ -46,7 +46,7 @@ answers_found false false false true e = absurd cc
 answers_found false false false false e = (refl, refl, refl, refl)
 
 -- a range that is found: all of it stands
-pub found_is_whole : (begin end : ℕ) (es : List EntryIndex) → AreTableEntries es → range_answer begin end es ≡ Found → RisesFrom begin (between begin end es) × (begin + length (between begin end es) ≡ end)
+pub found_is_whole : (begin end : ℕ) (es : List EntryIndex) → AreTableEntries es → range_answer begin end es ≡ Found → RisesFrom begin (entries_between begin end es) × (begin + length (entries_between begin end es) ≡ end)
 found_is_whole begin end es h f =
     let s = start_of es in
     let t = answers_found _ _ _ _ f in

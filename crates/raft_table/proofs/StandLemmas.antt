@@ -6,7 +6,7 @@ use Rattle.raft_base.specs.declared.pipe_log.LogQueue.{LogQueue}
 use Rattle.raft_base.specs.declared.pipe_log.LogQueue.TheVariants.{Append, Rewrite}
 use Rattle.raft_base.specs.declared.entry_index.EntryIndex.{EntryIndex}
 use Rattle.raft_table.specs.TableEntries.{IsRun, IsRunIn, start_of, end_of, below, from, entry_at, StandsBehind}
-use Rattle.raft_table.specs.Start.{leaves_hole, appended, replayed}
+use Rattle.raft_table.specs.Start.{leaves_hole, entries_after_append, entries_after_replay}
 use Rattle.raft_table.proofs.RunLemmas.{RisesFrom-start}
 use Rattle.raft_table.proofs.LookupLemmas.{entry_at_low}
 
@@ -70,13 +70,13 @@ pub accepted : {X : Type 0} (b : Bool) (x after : X) → cond b None (Some x) �
 accepted true x after e = absurd cc
 accepted false x after e = (refl, cc)
 
-pub appended_stands : (es run after : List EntryIndex) → IsRunIn Append run → 0 < length run → appended es run ≡ Some after → StandsBehind es run after
+pub appended_stands : (es run after : List EntryIndex) → IsRunIn Append run → 0 < length run → entries_after_append es run ≡ Some after → StandsBehind es run after
 appended_stands es [] after r l e = absurd (omega arith)
 appended_stands es (x ∷ run) after r l e =
     let h = accepted _ (below x.index es ++ x ∷ run) after e in
     subst (StandsBehind es (x ∷ run)) h.1 (behind_stands Append es (x ∷ run) r)
 
-pub replayed_stands : (q : LogQueue) (es run after : List EntryIndex) → IsRunIn q run → 0 < length run → replayed Append es run ≡ Some after → StandsBehind es run after
+pub replayed_stands : (q : LogQueue) (es run after : List EntryIndex) → IsRunIn q run → 0 < length run → entries_after_replay Append es run ≡ Some after → StandsBehind es run after
 replayed_stands q es [] after r l e = absurd (omega arith)
 replayed_stands q es (x ∷ run) after r l e =
     let h = accepted _ (below x.index es ++ x ∷ run) after e in
@@ -85,7 +85,7 @@ replayed_stands q es (x ∷ run) after r l e =
 same_some : {X : Type 0} (x y : X) → Some x ≡ Some y → x ≡ y
 same_some x y e = cc
 
-pub rewritten_stands : (q : LogQueue) (es run after : List EntryIndex) → IsRunIn q run → 0 < length run → leaves_hole (end_of es) (start_of run) ≡ false → replayed Rewrite es run ≡ Some after → StandsBehind es run after
+pub rewritten_stands : (q : LogQueue) (es run after : List EntryIndex) → IsRunIn q run → 0 < length run → leaves_hole es (start_of run) ≡ false → entries_after_replay Rewrite es run ≡ Some after → StandsBehind es run after
 rewritten_stands q es [] after r l n e = absurd (omega arith)
 rewritten_stands q es (x ∷ run) after r l n e =
     subst (StandsBehind es (x ∷ run)) (same_some _ after (rw n at e)) (behind_stands q es (x ∷ run) r)

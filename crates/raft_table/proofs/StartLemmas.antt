@@ -1,5 +1,5 @@
 -- Where a run starts among the entries, and what is joined there.
-use Rattle.std.proofs.Common.{◌≡◌, ℕ, zero, suc, ◌+◌, ◌-◌, ◌<◌, ◌≤◌, false, ltb, List, [], ◌∷◌, ◌++◌, length, take, refl, sym, ap, ◌∙◌, arith}
+use Rattle.std.proofs.Common.{◌≡◌, ℕ, zero, suc, ◌+◌, ◌-◌, ◌<◌, ◌≤◌, false, ltb, List, [], ◌∷◌, ◌++◌, length, take, Some, refl, sym, ap, ◌∙◌, arith}
 use Rattle.std.proofs.lemmas.List.{append-nil, append_assoc, nil_from_length, length-take-le}
 use Rattle.std.proofs.lemmas.Bool.Decides.{nat_tests}
 use Rattle.raft_base.specs.declared.pipe_log.LogQueue.{LogQueue}
@@ -7,11 +7,12 @@ use Rattle.raft_base.specs.declared.pipe_log.LogQueue.TheVariants.{Append, Rewri
 use Rattle.raft_base.specs.declared.entry_index.EntryIndex.{EntryIndex}
 use Rattle.raft_table.specs.declared.memtable.entries.Start.TheVariants.{Joins, InFront, BehindHole}
 use Rattle.raft_table.specs.TableEntries.{RisesFrom, IsRunIn, AreTableEntries, RewrittenInFront, start_of, end_of, below, placed_in, entry_count}
-use Rattle.raft_table.specs.Start.{leaves_hole, starts_in_front}
+use Rattle.raft_table.specs.Marks.{misses}
+use Rattle.raft_table.specs.Start.{starts_in_front}
 use Rattle.raft_table.specs.StartOf.{IsStart}
 use Rattle.raft_table.specs.Queues.{other}
-use Rattle.raft_table.proofs.RunLemmas.{below_take, below_start, end_of-run, end_of-take, end_of-append, RisesFrom-take, RisesFrom-start, RisesFrom-append, placed_in-append}
-use Rattle.raft_table.proofs.PlaceLemmas.{placed_in_other, entry_count-cut}
+use Rattle.raft_table.proofs.RunLemmas.{hole_end, below_take, below_start, end_of-run, end_of-take, end_of-append, RisesFrom-take, RisesFrom-start, RisesFrom-append, placed_in-append}
+use Rattle.raft_table.proofs.PlaceLemmas.{placed_in_other, placed_each, each_placed, entry_count-cut}
 use Rattle.raft_table.proofs.SoundLemmas.{sound_rising, AreTableEntries-take}
 
 -- the end of a table's entries, where there are some
@@ -29,17 +30,17 @@ start_none i = (refl, omega arith, refl, refl)
 pub start_in_front : (i : ℕ) (es : List EntryIndex) → AreTableEntries es → 0 < length es → i < start_of es → IsStart es i InFront
 start_in_front i es h l k =
     let e = sound_end es h l in
-    (below_start i (start_of es) es (sound_rising es h) (omega arith), rw e (grind (arith, nat_tests)), front_test es i l ∙ grind (arith, nat_tests))
+    (below_start i (start_of es) es (sound_rising es h) (omega arith), hole_end es i ∙ rw e (grind (arith, nat_tests)), front_test es i l ∙ grind (arith, nat_tests))
 
 pub start_behind : (i : ℕ) (es : List EntryIndex) → AreTableEntries es → 0 < length es → start_of es + length es < i → IsStart es i BehindHole
 start_behind i es h l k =
     let e = sound_end es h l in
-    (rw e (grind (arith, nat_tests)), front_test es i l ∙ grind (arith, nat_tests))
+    (hole_end es i ∙ rw e (grind (arith, nat_tests)), front_test es i l ∙ grind (arith, nat_tests))
 
 pub start_joins : (i n : ℕ) (es : List EntryIndex) → AreTableEntries es → 0 < length es → i ≡ start_of es + n → n ≤ length es → IsStart es i (Joins n)
 start_joins i n es h l k m =
     let e = sound_end es h l in
-    (below_take i n (start_of es) es k (sound_rising es h), m, rw e (grind (arith, nat_tests)), front_test es i l ∙ grind (arith, nat_tests))
+    (below_take i n (start_of es) es k (sound_rising es h), m, hole_end es i ∙ rw e (grind (arith, nat_tests)), front_test es i l ∙ grind (arith, nat_tests))
 
 -- a run without appended entries in front, or of appended entries
 pub in_front_appended : (a run : List EntryIndex) → RewrittenInFront a → placed_in Append run ≡ run → RewrittenInFront (a ++ run)
@@ -58,12 +59,12 @@ in_front_rewritten a run h n k =
 pub sound_run : (q : LogQueue) (run : List EntryIndex) → IsRunIn q run → AreTableEntries run
 sound_run Append run r = record {
   run = r.run;
-  in_front = sym (rw (ap (placed_in Rewrite) (sym r.placed) ∙ placed_in_other Append Rewrite refl run) r.placed);
+  in_front = sym (rw (ap (placed_in Rewrite) (sym (each_placed Append run r.placed)) ∙ placed_in_other Append Rewrite refl run) (each_placed Append run r.placed));
   bounded = r.bounded;
 }
 sound_run Rewrite run r = record {
   run = r.run;
-  in_front = sym (rw (ap (placed_in Append) (sym r.placed) ∙ placed_in_other Rewrite Append refl run, r.placed) (append-nil run));
+  in_front = sym (rw (ap (placed_in Append) (sym (each_placed Rewrite run r.placed)) ∙ placed_in_other Rewrite Append refl run, each_placed Rewrite run r.placed) (append-nil run));
   bounded = r.bounded;
 }
 
@@ -84,7 +85,7 @@ start_place i n es h p s =
     let l : 0 < length es = let k = s.1 in omega arith in
     let e = sound_end es h l in
     let f : start_of es ≤ i = let t : ltb i (start_of es) ≡ false = sym (front_test es i l) ∙ s.3 in grind (arith, nat_tests) in
-    let g : i ≤ start_of es + length es = let t : leaves_hole (start_of es + length es) i ≡ false = rw e at s.2 in grind (arith, nat_tests) in
+    let g : i ≤ start_of es + length es = let t : misses (Some i) (start_of es + length es) ≡ false = rw e at (sym (hole_end es i) ∙ s.2) in grind (arith, nat_tests) in
     let t = ap length (sym s.0 ∙ below_take i (i - start_of es) (start_of es) es (omega arith) (sound_rising es h)) in
     omega (arith, t, length-take-le n es s.1, length-take-le (i - start_of es) es (omega arith))
 
@@ -105,7 +106,7 @@ sound_joined q (suc n) es run h m r l s =
         start = start_of es;
         rising = RisesFrom-append (start_of es) (take k es) run (RisesFrom-take k (start_of es) es (sound_rising es h)) (rw (t, ← p) rr);
       };
-      in_front = in_front_joined q k es run h m r.placed;
+      in_front = in_front_joined q k es run h m (each_placed q run r.placed);
       bounded = omega arith;
     }
 
@@ -113,12 +114,12 @@ sound_joined q (suc n) es run h m r l s =
 pub run_alone : (q : LogQueue) (es : List EntryIndex) → AreTableEntries es → entry_count (other q) es ≡ 0 → IsRunIn q es
 run_alone Append es h n = record {
   run = h.run;
-  placed = sym (h.in_front ∙ ap (λ xs. xs ++ placed_in Append es) (nil_from_length (placed_in Rewrite es) n));
+  placed = placed_each Append es (sym (h.in_front ∙ ap (λ xs. xs ++ placed_in Append es) (nil_from_length (placed_in Rewrite es) n)));
   bounded = h.bounded;
 }
 run_alone Rewrite es h n = record {
   run = h.run;
-  placed = sym (h.in_front ∙ ap (λ xs. placed_in Rewrite es ++ xs) (nil_from_length (placed_in Append es) n) ∙ append-nil (placed_in Rewrite es));
+  placed = placed_each Rewrite es (sym (h.in_front ∙ ap (λ xs. placed_in Rewrite es ++ xs) (nil_from_length (placed_in Append es) n) ∙ append-nil (placed_in Rewrite es)));
   bounded = h.bounded;
 }
 

@@ -1,6 +1,6 @@
 -- A table put over what a mark leaves of an older one.
 use Rattle.std.proofs.Common.{◌≡◌, ℕ, ◌+◌, ◌<◌, ◌≤◌, ◌^◌, Bool, true, false, cond, List, [], ◌∷◌, ◌++◌, length, Option, Some, None, refl, sym, ap, subst, ◌∙◌, arith}
-use Rattle.std.specs.Prelude.{IsTrue, MatchBool, ◌↔◌}
+use Rattle.std.specs.Prelude.{IsTrue, MatchBool, ◌↔◌, nat_lt}
 use Rattle.std.specs.Option.{option_or}
 use Rattle.std.specs.Ordering.{nat_cmp}
 use Rattle.std.specs.Cmp.Lexicographic.{slice_cmp}
@@ -19,12 +19,12 @@ use Rattle.raft_table.specs.KeyValues.{Keys, Stored, pairs_over}
 use Rattle.raft_table.specs.MarkMerge.{left_by}
 use Rattle.raft_table.specs.Marks.{Mark, entries_within, is_missed, is_barred, older_entries, is_refused_over, entries_over, table_over}
 use Rattle.raft_table.specs.Merge.{after_join, newer_atomic_group, with_newer_atomic_group, IsTableMergeFault}
-use Rattle.raft_table.specs.Start.{leaves_hole, replayed}
+use Rattle.raft_table.specs.Start.{leaves_hole, entries_after_replay}
 use Rattle.raft_table.specs.Table.{Table, empty_table, live_of}
 use Rattle.raft_table.proofs.KeyValueLaws.{get-pairs_over}
 use Rattle.raft_table.proofs.RunLemmas.{below_take, end_of-run}
 use Rattle.raft_table.proofs.MarkEntries.{or_false}
-use Rattle.raft_table.proofs.MarkWords.{end_of-nil, nil_of_end}
+use Rattle.raft_table.proofs.MarkWords.{nil_of_end}
 use Rattle.raft_table.proofs.MarkTables.{own_span, same_keys}
 
 -- two lists one behind the other that rise
@@ -41,23 +41,23 @@ unfolding below
 below_nil f = refl
 
 -- where both are one run, the start rule puts the second behind the first
-pub replayed_run : (q : LogQueue) (a b : List EntryIndex) → IsRun (a ++ b) → replayed q a b ≡ Some (a ++ b)
+pub replayed_run : (q : LogQueue) (a b : List EntryIndex) → IsRun (a ++ b) → entries_after_replay q a b ≡ Some (a ++ b)
 replayed_run Append a [] r = ap (λ x. Some x) (sym (append-nil a))
 replayed_run Rewrite a [] r = ap (λ x. Some x) (sym (append-nil a))
 replayed_run q a (e ∷ b) r = go q (meets a r)
   where
-    meets : (a : List EntryIndex) → IsRun (a ++ e ∷ b) → (leaves_hole (end_of a) e.index ≡ false) × (below e.index a ≡ a)
-    meets [] r = rw (end_of-nil, below_nil e.index) (refl, refl)
+    meets : (a : List EntryIndex) → IsRun (a ++ e ∷ b) → (leaves_hole a e.index ≡ false) × (below e.index a ≡ a)
+    meets [] r = (refl, below_nil e.index)
     meets (x ∷ a) r =
         let rises = first_rises r.start (x ∷ a) (e ∷ b) r.rising in
         let behind : e.index ≡ r.start + length (x ∷ a) = (second_rises r.start (x ∷ a) (e ∷ b) r.rising).0 in
         let top = end_of-run r.start (x ∷ a) rises (omega arith) in
         (no_hole (end_of (x ∷ a)) e.index (omega arith), below_take e.index (length (x ∷ a)) r.start (x ∷ a) behind rises ∙ take_all (length (x ∷ a)) (x ∷ a) (omega arith))
       where
-        no_hole : (n f : ℕ) → f ≤ n → leaves_hole n f ≡ false
+        no_hole : (n f : ℕ) → f ≤ n → nat_lt n f ≡ false
         no_hole n f h = grind (arith, nat_tests)
 
-    go : (q : LogQueue) → (leaves_hole (end_of a) e.index ≡ false) × (below e.index a ≡ a) → replayed q a (e ∷ b) ≡ Some (a ++ e ∷ b)
+    go : (q : LogQueue) → (leaves_hole a e.index ≡ false) × (below e.index a ≡ a) → entries_after_replay q a (e ∷ b) ≡ Some (a ++ e ∷ b)
     go Append h = rw (h.0, h.1) refl
     go Rewrite h = rw (h.0, h.1) refl
 

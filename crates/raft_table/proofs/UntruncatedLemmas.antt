@@ -2,6 +2,7 @@
 use Rattle.std.proofs.Common.{◌≡◌, ◌⊎◌, ℕ, ◌<◌, ◌≤◌, max, min, Bool, true, false, cond, List, [], ◌∷◌, ◌++◌, Option, Some, None, refl, sym, ap, subst, ◌∙◌, inl, inr, eq-eqb, arith}
 use Rattle.std.specs.Prelude.{nat_lt}
 use Rattle.std.specs.Option.{option_and_then, option_map}
+use Rattle.std.specs.FinMap as finite
 use Rattle.std.proofs.lemmas.Bool.{cases_lt, lt-ltb}
 use Rattle.raft_base.specs.declared.pipe_log.LogQueue.TheVariants.{Append}
 use Rattle.raft_base.specs.declared.entry_index.EntryIndex.{EntryIndex}
@@ -11,8 +12,8 @@ use Rattle.raft_table.specs.Marks.{entries_within}
 use Rattle.raft_table.specs.Overlay.{has_clean, greatest_compaction, least_cut, is_unjoined, rewritten_within}
 use Rattle.raft_table.specs.Untruncated.{AreUntruncated, reaching_within}
 use Rattle.raft_table.specs.Start.{leaves_hole}
-use Rattle.raft_table.specs.Steps.{Step, Run, Compact, Truncate, Put, Del, AtomicGroup, Clean, table_of, there_if, after, AreSteps, IsTableOf}
-use Rattle.raft_table.specs.Table.{Table, table_with_entries, with_pair, without_key, with_atomic_group}
+use Rattle.raft_table.specs.Steps.{Step, Run, Compact, Truncate, Put, Del, AtomicGroup, Clean, table_of, after, AreSteps, IsTableOf}
+use Rattle.raft_table.specs.Table.{Table, with_pair}
 use Rattle.raft_table.proofs.MarkEntries.{same_some}
 use Rattle.raft_table.proofs.MarkExact.{lesser_assoc}
 use Rattle.raft_table.proofs.MarkRuns.{first_rising, run_from, run_replayed, no_table}
@@ -64,13 +65,13 @@ begun_after id [] o t start floor good un kept h b is = begun_same start (lesser
     alone (Some n) = refl
 begun_after id (Run [] ∷ ss) o t start floor good un kept h b is = begun_after id ss (Some (table_of id o)) t start floor good.1 un kept (record { region = h.region; run = h.run }) b is
 begun_after id (Run (e ∷ run) ∷ ss) o t start floor good un kept h b is =
-    go (λ g k. begun_after id ss (Some (table_with_entries (table_of id o) (below e.index (table_of id o).entries ++ e ∷ run))) t (lesser start (Some e.index)) floor good.1 un kept g (begun_run start floor (table_of id o).entries run e h.run b) k)
-    (leaves_hole (end_of (table_of id o).entries) e.index) refl is
+    go (λ g k. begun_after id ss (Some (record (table_of id o) { entries = below e.index (table_of id o).entries ++ e ∷ run })) t (lesser start (Some e.index)) floor good.1 un kept g (begun_run start floor (table_of id o).entries run e h.run b) k)
+    (leaves_hole (table_of id o).entries e.index) refl is
   where
-    go : (IsTableOf id (table_with_entries (table_of id o) (below e.index (table_of id o).entries ++ e ∷ run)) → after Append id (Some (table_with_entries (table_of id o) (below e.index (table_of id o).entries ++ e ∷ run))) ss ≡ Some t
+    go : (IsTableOf id (record (table_of id o) { entries = below e.index (table_of id o).entries ++ e ∷ run }) → after Append id (Some (record (table_of id o) { entries = below e.index (table_of id o).entries ++ e ∷ run })) ss ≡ Some t
         → AreBegun (lesser (lesser start (Some e.index)) (least_cut ss)) (max floor (greatest_compaction ss)) (table_of id t).entries)
-        → (hole : Bool) → leaves_hole (end_of (table_of id o).entries) e.index ≡ hole
-        → option_and_then (λ u. after Append id u ss) (there_if true (option_map (table_with_entries (table_of id o)) (cond hole None (Some (below e.index (table_of id o).entries ++ e ∷ run))))) ≡ Some t
+        → (hole : Bool) → leaves_hole (table_of id o).entries e.index ≡ hole
+        → option_and_then (λ u. after Append id u ss) (option_map Some (option_map {U = Table} (λ es. record (table_of id o) { entries = es }) (cond hole None (Some (below e.index (table_of id o).entries ++ e ∷ run))))) ≡ Some t
         → AreBegun (lesser start (lesser (Some e.index) (least_cut ss))) (max floor (greatest_compaction ss)) (table_of id t).entries
     go ih true hole k = absurd cc
     go ih false hole k =
@@ -78,11 +79,11 @@ begun_after id (Run (e ∷ run) ∷ ss) o t start floor good un kept h b is =
         (ih (record { region = h.region; run = run_replayed Append (table_of id o).entries (e ∷ run) (below e.index (table_of id o).entries ++ e ∷ run) h.run good.0 (ap (λ x. cond x None (Some (below e.index (table_of id o).entries ++ e ∷ run))) hole) }) k)
 begun_after id (Compact i ∷ ss) o t start floor good un kept h b is =
     begun_same _ _ (max (max floor i) (greatest_compaction ss)) (max floor (max i (greatest_compaction ss))) _ _ refl (omega arith) refl
-    (begun_after id ss (Some (table_with_entries (table_of id o) (from i (table_of id o).entries))) t start (max floor i) good.1 un kept (record { region = h.region; run = run_from i (table_of id o).entries h.run }) (begun_compacted start floor i (table_of id o).entries h.run b) is)
+    (begun_after id ss (Some (record (table_of id o) { entries = from i (table_of id o).entries })) t start (max floor i) good.1 un kept (record { region = h.region; run = run_from i (table_of id o).entries h.run }) (begun_compacted start floor i (table_of id o).entries h.run b) is)
 begun_after id (Truncate i ∷ ss) o t start floor good un kept h b is = absurd un
 begun_after id (Put k v f ∷ ss) o t start floor good un kept h b is = begun_after id ss (Some (with_pair (table_of id o) k v f)) t start floor good.1 un kept (record { region = h.region; run = h.run }) b is
-begun_after id (Del k ∷ ss) o t start floor good un kept h b is = begun_after id ss (Some (without_key (table_of id o) k)) t start floor good.1 un kept (record { region = h.region; run = h.run }) b is
-begun_after id (AtomicGroup s e ∷ ss) o t start floor good un kept h b is = begun_after id ss (Some (with_atomic_group (table_of id o) s e)) t start floor good.1 un kept (record { region = h.region; run = h.run }) b is
+begun_after id (Del k ∷ ss) o t start floor good un kept h b is = begun_after id ss (Some (record (table_of id o) { keys = finite.remove (table_of id o).keys k })) t start floor good.1 un kept (record { region = h.region; run = h.run }) b is
+begun_after id (AtomicGroup s e ∷ ss) o t start floor good un kept h b is = begun_after id ss (Some (record (table_of id o) { atomic_group = Some (s, e) })) t start floor good.1 un kept (record { region = h.region; run = h.run }) b is
 begun_after id (Clean ∷ ss) o t start floor good un kept h b is = absurd cc
 
 pub untruncated_within : (floor : ℕ) (cut : Option ℕ) (own es : List EntryIndex) → AreBegun cut floor own → rewritten_within floor cut own es ≡ reaching_within floor cut es

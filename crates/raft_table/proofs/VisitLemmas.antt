@@ -13,8 +13,8 @@ use Rattle.std.specs.FinMap as finite
 use Rattle.std.specs.FinMap.{IsAntisymmetric, find, is_sorted, nat_cmp-IsAntisymmetric, slice_cmp-IsAntisymmetric}
 use Rattle.std.specs.FinMap.Entries.{below_all, is_sorted-where_key}
 use Rattle.std.proofs.lemmas.List.Elements.{All-nil, All-cons, All-map}
-use Rattle.raft_table.specs.KeyValues.{Keys, Stored, StoredPair, value_at, key_value}
-use Rattle.raft_table.specs.Scan.{is_between, scanned}
+use Rattle.raft_table.specs.KeyValues.{Keys, Stored, value_at, key_value}
+use Rattle.raft_table.specs.Scan.{is_between, pairs_between}
 use Rattle.raft_table.proofs.Shown.{first_of_both, second_of_both, equal, less}
 
 module _ {A V : Type 0} {R : A → A → Ordering} (o : IsTotalOrder R) where
@@ -69,32 +69,32 @@ mapped_there f (y ∷ xs) x zero l s = (0, omega arith, ap f s)
 mapped_there f (y ∷ xs) x (suc k) l s = let rest = mapped_there f xs x k (omega arith) s in (suc rest.0, omega (arith, rest.1), rest.2)
 
 -- the keys of entries in order rise
-rising_keys : (es : List StoredPair) → T (is_sorted (slice_cmp nat_cmp) es) → IsStrictlySortedBy (slice_cmp nat_cmp) (map (λ p. p.0) (map key_value es))
+rising_keys : (es : List (List ℕ × Stored)) → T (is_sorted (slice_cmp nat_cmp) es) → IsStrictlySortedBy (slice_cmp nat_cmp) (map (λ p. p.0) (map key_value es))
 unfolding IsStrictlySortedBy
 rising_keys [] h = tt
 rising_keys (e ∷ es) h = (below es (first_of_both _ _ h), rising_keys es (second_of_both _ _ h))
   where
-    below : (xs : List StoredPair) → T (below_all (slice_cmp nat_cmp) e.0 xs) → AllByRecursion (λ y. slice_cmp nat_cmp e.0 y ≡ Less) (map (λ p. p.0) (map key_value xs))
+    below : (xs : List (List ℕ × Stored)) → T (below_all (slice_cmp nat_cmp) e.0 xs) → AllByRecursion (λ y. slice_cmp nat_cmp e.0 y ≡ Less) (map (λ p. p.0) (map key_value xs))
     below [] h = tt
     below (x ∷ xs) h = (less _ (first_of_both _ _ h), below xs (second_of_both _ _ h))
 
-pub visited_are_pairs : (start end : Option (List ℕ)) (keys : Keys) → All (λ p. (value_at keys p.0 ≡ Some p.1) × (is_between start end p.0 ≡ true)) (scanned start end false keys)
+pub visited_are_pairs : (start end : Option (List ℕ)) (keys : Keys) → All (λ p. (value_at keys p.0 ≡ Some p.1) × (is_between start end p.0 ≡ true)) (pairs_between start end false keys)
 visited_are_pairs start end keys =
     All-map (λ p. (value_at keys p.0 ≡ Some p.1) × (is_between start end p.0 ≡ true)) key_value (filter (λ e. is_between start end e.0) (finite.entries keys))
     (all_kept (λ e. is_between start end e.0) (λ e. (value_at keys e.0 ≡ Some e.1.value) × (is_between start end e.0 ≡ true)) (finite.entries keys) (λ e c t. (is e c, t)))
   where
-    is : (e : StoredPair) → Contains (finite.entries keys) e → value_at keys e.0 ≡ Some e.1.value
+    is : (e : List ℕ × Stored) → Contains (finite.entries keys) e → value_at keys e.0 ≡ Some e.1.value
     is e c = ap (option_map (λ s. s.value)) (finite.get-entries keys e.0 ∙ own_found nat_list_cmp_total (finite.entries keys) e c.0 (finite.entries_sorted keys) c.1 c.2)
 
-pub pairs_are_visited : (start end : Option (List ℕ)) (keys : Keys) (key value : List ℕ) → value_at keys key ≡ Some value → is_between start end key ≡ true → Contains (scanned start end false keys) (key, value)
+pub pairs_are_visited : (start end : Option (List ℕ)) (keys : Keys) (key value : List ℕ) → value_at keys key ≡ Some value → is_between start end key ≡ true → Contains (pairs_between start end false keys) (key, value)
 pairs_are_visited start end keys key value h t = at (finite.get keys key) refl h
   where
-    at : (o : Option Stored) → finite.get keys key ≡ o → option_map (λ s. s.value) o ≡ Some value → Contains (scanned start end false keys) (key, value)
+    at : (o : Option Stored) → finite.get keys key ≡ o → option_map (λ s. s.value) o ≡ Some value → Contains (pairs_between start end false keys) (key, value)
     at None is e = absurd cc
     at (Some s) is e =
         let there = found_there (slice_cmp-IsAntisymmetric nat_cmp-IsAntisymmetric) key s (finite.entries keys) (sym (finite.get-entries keys key) ∙ is) in
         let kept = kept_there (λ e. is_between start end e.0) (finite.entries keys) (key, s) there.0 there.1 there.2 t in
-        subst (λ v. Contains (scanned start end false keys) (key, v)) (some_same s.value value e) (mapped_there key_value _ (key, s) kept.0 kept.1 kept.2)
+        subst (λ v. Contains (pairs_between start end false keys) (key, v)) (some_same s.value value e) (mapped_there key_value _ (key, s) kept.0 kept.1 kept.2)
 
-pub visits_rise : (start end : Option (List ℕ)) (keys : Keys) → IsStrictlySortedBy (slice_cmp nat_cmp) (map (λ p. p.0) (scanned start end false keys))
+pub visits_rise : (start end : Option (List ℕ)) (keys : Keys) → IsStrictlySortedBy (slice_cmp nat_cmp) (map (λ p. p.0) (pairs_between start end false keys))
 visits_rise start end keys = rising_keys _ (is_sorted-where_key (slice_cmp nat_cmp) (is_between start end) (finite.entries keys) (finite.entries_sorted keys))

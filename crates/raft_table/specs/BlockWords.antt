@@ -2,7 +2,7 @@
 use Rattle.std.specs.Prelude.{◌≡◌, ℕ, ◌+◌, ◌<◌, ◌≤◌, List, [], ◌∷◌, ◌++◌, length, take, drop, map, slice_index_or, if◌then◌else◌}
 use Rattle.raft_base.specs.declared.pipe_log.LogQueue.TheVariants.{Rewrite}
 use Rattle.raft_base.specs.declared.entry_index.EntryIndex.{EntryIndex}
-use Rattle.raft_table.specs.Blocks.{BlockSpans, expanded, AreDistinctBlocks}
+use Rattle.raft_table.specs.Blocks.{BlockSpans, entries_in_blocks, AreDistinctBlocks}
 use Rattle.raft_table.specs.TableEntries.{AreTableEntries, entry_count}
 use Rattle.raft_table.specs.Fetches.{is_same_block}
 
@@ -32,40 +32,40 @@ starts_of i (b ∷ bs) = i ∷ starts_of (i + length b.spans) bs
 
 -- what a table keeps: its entries in longest blocks, the first index of each block, how many entries there are, and how many of them are rewritten
 pub record AreKept (i n : ℕ) (bs : List BlockSpans) (ss : List ℕ) (r : ℕ) : Type 0 where
-  pub table_entries : AreTableEntries (expanded i bs)
+  pub table_entries : AreTableEntries (entries_in_blocks i bs)
   pub distinct : AreDistinctBlocks bs
   pub starts : ss ≡ starts_of i bs
   pub len : n ≡ count bs
-  pub rewritten : r ≡ entry_count Rewrite (expanded i bs)
+  pub rewritten : r ≡ entry_count Rewrite (entries_in_blocks i bs)
 
 -- the first entries of a block
-abbrev pub shortened : ℕ → BlockSpans → BlockSpans
-shortened m b = record b { spans = take m b.spans }
+abbrev pub first_spans : ℕ → BlockSpans → BlockSpans
+first_spans m b = record b { spans = take m b.spans }
 
 -- a block without its first entries
-abbrev pub advanced : ℕ → BlockSpans → BlockSpans
-advanced m b = record b { spans = drop m b.spans }
+abbrev pub without_first_spans : ℕ → BlockSpans → BlockSpans
+without_first_spans m b = record b { spans = drop m b.spans }
 
 -- a block with more entries behind
-abbrev pub lengthened : BlockSpans → List (ℕ × ℕ) → BlockSpans
-lengthened b more = record b { spans = b.spans ++ more }
+abbrev pub with_spans_behind : BlockSpans → List (ℕ × ℕ) → BlockSpans
+with_spans_behind b more = record b { spans = b.spans ++ more }
 
 -- blocks, of the last of which so many entries
 abbrev pub cut_last : ℕ → List BlockSpans → List BlockSpans
 cut_last m [] = []
-cut_last m (b ∷ []) = shortened m b ∷ []
+cut_last m (b ∷ []) = first_spans m b ∷ []
 cut_last m (b ∷ c ∷ bs) = b ∷ cut_last m (c ∷ bs)
 
 -- blocks, the first of which without so many entries
 abbrev pub cut_first : ℕ → List BlockSpans → List BlockSpans
 cut_first m [] = []
-cut_first m (b ∷ bs) = advanced m b ∷ bs
+cut_first m (b ∷ bs) = without_first_spans m b ∷ bs
 
 -- blocks behind others: the two at the seam are one where they have the same handle
 abbrev pub joined_blocks : List BlockSpans → List BlockSpans → List BlockSpans
 joined_blocks [] cs = cs
 joined_blocks (b ∷ []) [] = b ∷ []
-joined_blocks (b ∷ []) (c ∷ cs) = if is_same_block b.handle c.handle then lengthened b c.spans ∷ cs else b ∷ c ∷ cs
+joined_blocks (b ∷ []) (c ∷ cs) = if is_same_block b.handle c.handle then with_spans_behind b c.spans ∷ cs else b ∷ c ∷ cs
 joined_blocks (b ∷ d ∷ bs) cs = b ∷ joined_blocks (d ∷ bs) cs
 
 -- how many blocks fewer that are

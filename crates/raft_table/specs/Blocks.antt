@@ -24,9 +24,9 @@ spread i handle [] = []
 spread i handle (s ∷ ss) = record { index = i; entries = Some handle; compression_type = compression.None; entry_offset = s.0; entry_len = s.1 } ∷ spread (suc i) handle ss
 
 -- the entries of blocks in order, from an index on
-abbrev pub expanded : ℕ → List BlockSpans → List EntryIndex
-expanded i [] = []
-expanded i (b ∷ bs) = spread i b.handle b.spans ++ expanded (i + length b.spans) bs
+abbrev pub entries_in_blocks : ℕ → List BlockSpans → List EntryIndex
+entries_in_blocks i [] = []
+entries_in_blocks i (b ∷ bs) = spread i b.handle b.spans ++ entries_in_blocks (i + length b.spans) bs
 
 -- whether a block's handle differs from that of the next one, if there is one
 abbrev pub Differs : BlockSpans → List BlockSpans → Type 0

@@ -7,7 +7,7 @@ use Rattle.raft_base.specs.declared.pipe_log.FileBlockHandle.{FileBlockHandle}
 use Rattle.raft_base.specs.declared.pipe_log.LogQueue.{LogQueue}
 use Rattle.raft_base.specs.declared.pipe_log.LogQueue.TheVariants.{Append}
 use Rattle.raft_base.specs.declared.entry_index.EntryIndex.{EntryIndex}
-use Rattle.raft_table.specs.TableEntries.{start_of, end_of, between, placed_in}
+use Rattle.raft_table.specs.TableEntries.{start_of, end_of, entries_between, placed_in}
 use Rattle.raft_table.specs.Queues.{is_same}
 use Rattle.raft_table.specs.Rewriting.{is_placed_before}
 
@@ -47,7 +47,7 @@ range_answer begin end es =
 -- what an accepted fetch appends
 abbrev pub Fetches : Option ℕ → ℕ → ℕ → List EntryIndex → List EntryIndex → List EntryIndex → RangeAnswer → Type 0
 Fetches limit begin end es old new Empty = new ≡ old
-Fetches limit begin end es old new Found = FetchesWithin limit (between begin end es) old new
+Fetches limit begin end es old new Found = FetchesWithin limit (entries_between begin end es) old new
 Fetches limit begin end es old new _ = ⊥
 
 -- why a fetch is refused

@@ -18,10 +18,6 @@ pub record Stored : Type 0 where
 abbrev pub Keys : Type 0
 Keys = finite.FinMap (slice_cmp nat_cmp) Stored
 
--- a pair in the order of the keys
-abbrev pub StoredPair : Type 0
-StoredPair = List ℕ × Stored
-
 -- the value of a key
 abbrev pub value_at : Keys → List ℕ → Option (List ℕ)
 value_at keys key = option_map (λ s. s.value) (finite.get keys key)
@@ -30,26 +26,18 @@ value_at keys key = option_map (λ s. s.value) (finite.get keys key)
 abbrev pub file_at : Keys → List ℕ → Option FileId
 file_at keys key = option_map (λ s. s.file) (finite.get keys key)
 
--- a key with its value put in a file
-abbrev pub with_put : Keys → List ℕ → List ℕ → FileId → Keys
-with_put keys key value file = finite.insert keys key (record { value = value; file = file })
-
 -- what is stored moved to another file, under the same key
 abbrev pub moved_to : FileId → Keys → List ℕ → Option Stored → Keys
 moved_to file keys key None = keys
-moved_to file keys key (Some s) = with_put keys key s.value file
+moved_to file keys key (Some s) = finite.insert keys key (record s { file = file })
 
 -- the pair of a key, if there is one, moved to another file
 abbrev pub with_moved : Keys → List ℕ → FileId → Keys
 with_moved keys key file = moved_to file keys key (finite.get keys key)
 
--- the pairs whose file is in a queue
-abbrev pub pairs_in : LogQueue → Keys → List StoredPair
-pairs_in queue keys = filter (λ e. is_same queue e.1.file.queue) (finite.entries keys)
-
 -- how many pairs have their file in a queue
 abbrev pub pair_count : LogQueue → Keys → ℕ
-pair_count queue keys = length (pairs_in queue keys)
+pair_count queue keys = length (filter (λ e. is_same queue e.1.file.queue) (finite.entries keys))
 
 -- what the pair of a file, if there is one, counts in a queue
 abbrev pub file_weight : LogQueue → Option FileId → ℕ
@@ -58,7 +46,8 @@ file_weight queue (Some file) = count_in queue file.queue 1
 
 -- the numbers of the files of the pairs in a queue
 abbrev pub files_in : LogQueue → Keys → List ℕ
-files_in queue keys = map (λ e. e.1.file.seq) (pairs_in queue keys)
+files_in queue keys =
+    map (λ e. e.1.file.seq) (filter (λ e. is_same queue e.1.file.queue) (finite.entries keys))
 
 -- the lesser of two numbers, where both are there
 abbrev pub lesser : Option ℕ → Option ℕ → Option ℕ
@@ -72,7 +61,7 @@ least [] = None
 least (n ∷ ns) = lesser (Some n) (least ns)
 
 -- a key and its value
-abbrev pub key_value : StoredPair → List ℕ × List ℕ
+abbrev pub key_value : List ℕ × Stored → List ℕ × List ℕ
 key_value e = (e.0, e.1.value)
 
 -- whether a file is in a queue, and at or below the gate, if there is one
@@ -81,15 +70,15 @@ is_up_to queue None file = is_same queue file.queue
 is_up_to queue (Some gate) file = is_same queue file.queue && nat_le file.seq gate
 
 -- the keys and values of the pairs in a queue whose file is at or below the gate, in the order of the keys
-abbrev pub fetched : LogQueue → Option ℕ → Keys → List (List ℕ × List ℕ)
-fetched queue gate keys = map key_value (filter (λ e. is_up_to queue gate e.1.file) (finite.entries keys))
+abbrev pub pairs_up_to : LogQueue → Option ℕ → Keys → List (List ℕ × List ℕ)
+pairs_up_to queue gate keys = map key_value (filter (λ e. is_up_to queue gate e.1.file) (finite.entries keys))
 
 -- vectors of keys and values, by their bytes
 abbrev pub pairs_shown : List (Vec ℕ Global × Vec ℕ Global) → List (List ℕ × List ℕ)
 pairs_shown pairs = map (λ p. (p.0.items, p.1.items)) pairs
 
 -- pairs put in turn
-abbrev pub with_pairs : Keys → List StoredPair → Keys
+abbrev pub with_pairs : Keys → List (List ℕ × Stored) → Keys
 with_pairs keys [] = keys
 with_pairs keys (e ∷ es) = with_pairs (finite.insert keys e.0 e.1) es
 

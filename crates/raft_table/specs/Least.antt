@@ -11,12 +11,12 @@ abbrev pub least_file : LogQueue → Table → Option ℕ
 least_file queue t = lesser (first_seq queue t.entries) (least (files_in queue t.keys))
 
 -- a file at or below an atomic group's last one, lowered to at most its first
-abbrev pub lowered : Option (ℕ × ℕ) → Option ℕ → Option ℕ
-lowered None seq = seq
-lowered (Some atomic_group) None = None
-lowered (Some atomic_group) (Some seq) = Some (if nat_le seq atomic_group.1 then min atomic_group.0 seq else seq)
+abbrev pub at_most_first_file : Option (ℕ × ℕ) → Option ℕ → Option ℕ
+at_most_first_file None seq = seq
+at_most_first_file (Some atomic_group) None = None
+at_most_first_file (Some atomic_group) (Some seq) = Some (if nat_le seq atomic_group.1 then min atomic_group.0 seq else seq)
 
 -- the least file of a table in a queue, which an atomic group lowers in the rewrite queue
 abbrev pub least_of : LogQueue → Table → Option ℕ
 least_of Append t = least_file Append t
-least_of Rewrite t = lowered t.atomic_group (least_file Rewrite t)
+least_of Rewrite t = at_most_first_file t.atomic_group (least_file Rewrite t)

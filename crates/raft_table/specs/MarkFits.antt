@@ -1,4 +1,4 @@
--- What every mark that stands for steps keeps beside its meaning, by which two of them can be joined.
+-- What every region mark that stands for steps keeps beside its meaning, by which two of them can be joined.
 use Rattle.std.specs.Prelude.{◌≡◌, ◌⊎◌, ℕ, ◌<◌, ◌≤◌, false, List, [], Option, Some, None}
 use Rattle.raft_base.specs.declared.pipe_log.LogQueue.{LogQueue}
 use Rattle.raft_base.specs.declared.pipe_log.LogQueue.TheVariants.{Append, Rewrite}
@@ -35,7 +35,7 @@ IsBarring (Some p) = Unit {0}
 abbrev pub EndsAtCut : ℕ → ℕ → ℕ → Option ℕ → ℕ → Option (ℕ × ℕ) → Type 0
 EndsAtCut cut end floor reach_cut reach barred = (end ≡ 0) ⊎ ((cut ≤ end) ⊎ ((cut ≤ floor) ⊎ (IsBelow reach_cut reach ⊎ IsBarring barred)))
 
--- how the numbers of a mark with a first run and a cut stand to one another and to the own entries' end
+-- how the numbers of a region mark with a first run and a cut stand to one another and to the own entries' end
 pub record FitsRun (reach cut end reach_floor floor : ℕ) (reach_cut : Option ℕ) (barred : Option (ℕ × ℕ)) : Type 0 where
   pub cut_first : cut ≤ reach
   pub floor_rises : reach_floor ≤ floor
@@ -54,7 +54,7 @@ abbrev pub BarsIn : LogQueue → Option (ℕ × ℕ) → Type 0
 BarsIn Append barred = Unit {0}
 BarsIn Rewrite barred = barred ≡ None
 
--- how a mark and own entries that stand for steps fit: indexes are barred behind a first run alone, and among those that it comes behind
+-- how a region mark and own entries that stand for steps fit: indexes are barred behind a first run alone, and among those that it comes behind
 pub record Fits (queue : LogQueue) (m : Mark) (own : List EntryIndex) : Type 0 where
   pub bars : BarsIn queue m.barred
   pub behind : m.reach ≡ None → m.barred ≡ None

@@ -1,4 +1,4 @@
--- Merges of two tables of one region under the newer one's mark.
+-- Merges of two tables of one region under the newer one's region mark.
 use Rattle.std.specs.Prelude.{◌≡◌, ◌+◌, ◌≤◌, ◌^◌, Bool, true, List, [], Some, None, if◌then◌else◌}
 use Rattle.std.specs.FinMap as finite
 use Rattle.raft_base.specs.declared.errors.Error.{Error}
@@ -11,7 +11,7 @@ use Rattle.raft_table.specs.Marks.{Mark, entries_within, is_refused_over, entrie
 use Rattle.raft_table.specs.KeySets.{without}
 use Rattle.raft_table.specs.Table.{Table, live_of}
 
--- why a newer mark is refused: its steps are, or want of memory for the refusal's text
+-- why a newer region mark is refused: its steps are, or want of memory for the refusal's text
 abbrev pub IsMarkFault : Bool → Error → Type 0
 IsMarkFault refused (errors.Corruption text) = refused ≡ true
 IsMarkFault refused errors.Memory = refused ≡ true
@@ -24,11 +24,11 @@ IsFaultUnder queue counts m own older errors.Full = (q : LogQueue) × (2 ^ 64 �
 IsFaultUnder queue counts m own older errors.Memory = Unit {0}
 IsFaultUnder queue counts m own older _ = ⊥
 
--- what the mark makes of both tables' entries is a run, as it is where it stands for steps
+-- what the region mark makes of both tables' entries is a run, as it is where it stands for steps
 abbrev pub IsRunOver : LogQueue → Mark → Table → Table → Type 0
 IsRunOver queue m own older = (es : List EntryIndex) → entries_over queue m own.entries older.entries ≡ Some es → IsRun es
 
--- what a newer mark leaves of an older table, or of one whose entries are all gone
+-- what a newer region mark leaves of an older table, or of one whose entries are all gone
 abbrev pub left_by : Bool → Mark → Table → Table
 left_by gone m t = record t {
   entries = if m.cleaned then [] else (if gone then [] else entries_within m.floor m.cut t.entries);

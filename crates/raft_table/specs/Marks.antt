@@ -1,4 +1,4 @@
--- Marks: what steps on a region do to every older table of it, told in a few numbers and the deleted keys.
+-- Region marks: what steps on a region do to every older table of it, told in a few numbers and the deleted keys.
 use Rattle.std.specs.Prelude.{ℕ, Bool, true, false, ◌&&◌, ◌||◌, List, [], ◌++◌, filter, nat_lt, nat_le, Option, Some, None, is_some, option_map, if◌then◌else◌}
 use Rattle.raft_base.specs.declared.pipe_log.LogQueue.{LogQueue}
 use Rattle.raft_base.specs.declared.pipe_log.LogQueue.TheVariants.{Append, Rewrite}
@@ -7,8 +7,7 @@ use Rattle.raft_table.specs.TableEntries.{end_of}
 use Rattle.raft_table.specs.KeySets.{KeySet, without}
 use Rattle.raft_table.specs.KeyValues.{Keys, pairs_over}
 use Rattle.raft_table.specs.Merge.{newer_atomic_group}
-use Rattle.raft_table.specs.Start.{leaves_hole}
-use Rattle.raft_table.specs.Steps.{table_of, there_if}
+use Rattle.raft_table.specs.Steps.{table_of}
 use Rattle.raft_table.specs.Table.{Table}
 
 -- what steps on a region do to every older table of it
@@ -39,10 +38,10 @@ is_under (Some cut) i = nat_lt i cut
 unfoldable pub entries_within : ℕ → Option ℕ → List EntryIndex → List EntryIndex
 entries_within floor cut es = filter (λ e. nat_le floor e.index && is_under cut e.index) es
 
--- whether the first run, if there is one, leaves a hole behind entries with this end
+-- whether the first run, if there is one, leaves a hole behind entries with this end, which is 0 without entries
 abbrev pub misses : Option ℕ → ℕ → Bool
 misses None end = false
-misses (Some start) end = leaves_hole end start
+misses (Some start) end = nat_lt 0 end && nat_lt end start
 
 -- whether the first run leaves a hole behind the older entries that it meets
 abbrev pub is_missed : Mark → List EntryIndex → Bool
@@ -84,6 +83,12 @@ table_over queue m own older =
 abbrev pub is_there_over : Mark → Option Table → Option Table → Bool
 is_there_over m own older = if m.cleaned then is_some own else is_some own || is_some older
 
+-- a table that isn't refused, present or absent
+abbrev pub there_if : Bool → Option Table → Option (Option Table)
+there_if there None = None
+there_if true (Some t) = Some (Some t)
+there_if false (Some t) = Some None
+
 -- an own table over an older one, both of which may be absent
-abbrev pub applied : LogQueue → ℕ → Mark → Option Table → Option Table → Option (Option Table)
-applied queue id m own older = there_if (is_there_over m own older) (table_over queue m (table_of id own) (table_of id older))
+abbrev pub table_over_older : LogQueue → ℕ → Mark → Option Table → Option Table → Option (Option Table)
+table_over_older queue id m own older = there_if (is_there_over m own older) (table_over queue m (table_of id own) (table_of id older))

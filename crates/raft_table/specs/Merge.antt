@@ -6,12 +6,12 @@ use Rattle.raft_base.specs.declared.pipe_log.LogQueue.{LogQueue}
 use Rattle.raft_base.specs.declared.pipe_log.LogQueue.TheVariants.{Append, Rewrite}
 use Rattle.raft_table.specs.Counts.{Counts, live, with_added, with_deleted}
 use Rattle.raft_table.specs.KeyValues.{Keys, pairs_over, pair_count}
-use Rattle.raft_table.specs.Start.{replayed, counts_with_run}
+use Rattle.raft_table.specs.Start.{entries_after_replay, counts_with_run}
 use Rattle.raft_table.specs.Table.{Table, live_of}
 
 -- a table with the run of a newer one, by the start rule of the replays into a queue, and its pairs over the own ones; none where that rule refuses the run
 abbrev pub after_join : LogQueue → Table → Table → Option Table
-after_join rule older newer = option_map (λ es. record older { entries = es; keys = pairs_over newer.keys older.keys }) (replayed rule older.entries newer.entries)
+after_join rule older newer = option_map (λ es. record older { entries = es; keys = pairs_over newer.keys older.keys }) (entries_after_replay rule older.entries newer.entries)
 
 -- the newer of two atomic groups, if there is one
 abbrev pub newer_atomic_group : Option (ℕ × ℕ) → Option (ℕ × ℕ) → Option (ℕ × ℕ)

@@ -45,8 +45,8 @@ rewritten_from gate run es [] = Some es
 rewritten_from gate run es (e ∷ met) = if is_misplaced gate (length (below e.index es)) (entry_count Rewrite es) then None else Some (with_places run e.index (moved_count gate run es) es)
 
 -- the entries after a rewriting to the places of a run of the rewrite queue; none where it is refused
-abbrev pub rewritten : Option ℕ → List EntryIndex → List EntryIndex → Option (List EntryIndex)
-rewritten gate run es = rewritten_from gate run es (overlap run es)
+abbrev pub entries_after_rewrite : Option ℕ → List EntryIndex → List EntryIndex → Option (List EntryIndex)
+entries_after_rewrite gate run es = rewritten_from gate run es (overlap run es)
 
 -- the counts after a rewriting by n entries that moved m places: n more are written; with a gate m appended ones are gone and the others of the n deleted again, without one all n
 abbrev pub with_rewritten : Option ℕ → ℕ → ℕ → Counts → Counts

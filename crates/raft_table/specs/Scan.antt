@@ -30,8 +30,8 @@ abbrev pub IsDivided : Option (List ℕ) → Option (List ℕ) → Option (List 
 IsDivided bound sought tested = ((sought ≡ bound) × (tested ≡ None)) ⊎ ((sought ≡ None) × (tested ≡ bound))
 
 -- the keys between two bounds with their values, in the order of the keys or reversed
-abbrev pub scanned : Option (List ℕ) → Option (List ℕ) → Bool → Keys → List (List ℕ × List ℕ)
-scanned start end reversed keys =
+abbrev pub pairs_between : Option (List ℕ) → Option (List ℕ) → Bool → Keys → List (List ℕ × List ℕ)
+pairs_between start end reversed keys =
     let pairs = map key_value (filter (λ e. is_between start end e.0) (finite.entries keys)) in
     if reversed then reverse pairs else pairs
 

@@ -10,9 +10,11 @@ use Rattle.raft_table.specs.Start.{leaves_hole, starts_in_front}
 
 -- a start that joins the entries, and how many stand below it; one in front of all; one behind a hole
 abbrev pub IsStart : List EntryIndex → ℕ → Start → Type 0
-IsStart es i (starts.Joins n) = (below i es ≡ take n es) × (n ≤ length es) × (leaves_hole (end_of es) i ≡ false) × (starts_in_front es i ≡ false)
-IsStart es i starts.InFront = (below i es ≡ []) × (leaves_hole (end_of es) i ≡ false) × (starts_in_front es i ≡ true)
-IsStart es i starts.BehindHole = (leaves_hole (end_of es) i ≡ true) × (starts_in_front es i ≡ false)
+IsStart es i (starts.Joins n) =
+    (below i es ≡ take n es) × (n ≤ length es) × (leaves_hole es i ≡ false) × (starts_in_front es i ≡ false)
+IsStart es i starts.InFront =
+    (below i es ≡ []) × (leaves_hole es i ≡ false) × (starts_in_front es i ≡ true)
+IsStart es i starts.BehindHole = (leaves_hole es i ≡ true) × (starts_in_front es i ≡ false)
 
 -- how many entries stay under a run from an index on that is read again: those below it; none where it starts in front of all, or in the rewrite queue behind a hole
 abbrev pub IsKeptUnder : LogQueue → List EntryIndex → ℕ → ℕ → Type 0

@@ -1,8 +1,9 @@
 -- Entries of a region's log, in order of index: the words of tables, steps and queries.
-use Rattle.std.specs.Prelude.{◌≡◌, ℕ, ◌+◌, ◌<◌, ◌≤◌, ◌^◌, suc, max, Bool, false, List, [], ◌∷◌, ◌++◌, length, filter, find, nat_lt, nat_le, ◌==◌, Option, Some, None, if◌then◌else◌}
+use Rattle.std.specs.Prelude.{◌≡◌, ℕ, ◌+◌, ◌<◌, ◌≤◌, ◌^◌, suc, max, Bool, true, false, List, [], ◌∷◌, ◌++◌, length, filter, find, nat_lt, nat_le, ◌==◌, Option, Some, None, if◌then◌else◌}
+use Rattle.std.specs.List.{AllByRecursion}
+use Rattle.std.specs.Option.{option_map_or}
 use Rattle.raft_base.specs.declared.pipe_log.LogQueue.{LogQueue}
 use Rattle.raft_base.specs.declared.pipe_log.LogQueue.TheVariants.{Append, Rewrite}
-use Rattle.raft_base.specs.declared.pipe_log.FileBlockHandle.{FileBlockHandle}
 use Rattle.raft_base.specs.declared.entry_index.EntryIndex.{EntryIndex}
 use Rattle.raft_table.specs.Counts.{Counts, live}
 use Rattle.raft_table.specs.Queues.{is_same}
@@ -36,17 +37,12 @@ unfoldable pub from : ℕ → List EntryIndex → List EntryIndex
 from i es = filter (λ e. nat_le i e.index) es
 
 -- the entries from one index on and below another
-unfoldable pub between : ℕ → ℕ → List EntryIndex → List EntryIndex
-between begin end es = from begin (below end es)
+unfoldable pub entries_between : ℕ → ℕ → List EntryIndex → List EntryIndex
+entries_between begin end es = from begin (below end es)
 
--- whether there is a place, and it is in this queue
-abbrev pub is_block_in : LogQueue → Option FileBlockHandle → Bool
-is_block_in queue None = false
-is_block_in queue (Some block) = is_same block.id.queue queue
-
--- whether an entry's place is in this queue
+-- whether an entry has a place, and it is in this queue
 unfoldable pub is_placed_in : LogQueue → EntryIndex → Bool
-is_placed_in queue e = is_block_in queue e.entries
+is_placed_in queue e = option_map_or (λ place. is_same place.id.queue queue) e.entries false
 
 -- the entries whose place is in a queue
 unfoldable pub placed_in : LogQueue → List EntryIndex → List EntryIndex
@@ -56,10 +52,10 @@ placed_in queue es = filter (is_placed_in queue) es
 abbrev pub RewrittenInFront : List EntryIndex → Type 0
 RewrittenInFront es = es ≡ placed_in Rewrite es ++ placed_in Append es
 
--- a run without the index 2^64 - 1 whose places are all in one queue
+-- a run without the index 2^64 - 1, each of whose entries has a place in this queue
 pub record IsRunIn (queue : LogQueue) (es : List EntryIndex) : Type 0 where
   pub run : IsRun es
-  pub placed : placed_in queue es ≡ es
+  pub placed : AllByRecursion (λ (e : EntryIndex). is_placed_in queue e ≡ true) es
   pub bounded : end_of es < 2 ^ 64
 
 -- what every table's entries are: one run without gaps, rewritten places in front

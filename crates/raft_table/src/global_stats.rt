@@ -60,11 +60,13 @@ impl GlobalStats {
     /// changed.
     pub fn add(&mut self, queue: LogQueue, count: usize) -> Result<()>
         ensures ok { OnOk result (self.new ≡ with_added queue count self.old) }
-        ensures live { OnOk result ((q : LogQueue) → live q self.new ≡ live q self.old + count_in q queue count) }
+        ensures live { OnOk result ((q : LogQueue) →
+            live q self.new ≡ live q self.old + count_in q queue count) }
         ensures accepted { live queue self.old + count < 2 ^ 64 → IsOk result }
 
         // The only refusal, and that it is right.
-        ensures full { IfErr result (λ e. (e ≡ Error.Full) × (2 ^ 64 ≤ live queue self.old + count)) }
+        ensures full { IfErr result (λ e. (e ≡ Error.Full) ×
+            (2 ^ 64 ≤ live queue self.old + count)) }
         ensures err { OnErr result (self.new ≡ after_refusal queue self.old) }
         ensures err_live { OnErr result ((q : LogQueue) → live q self.new ≡ live q self.old) }
     {
@@ -84,7 +86,8 @@ impl GlobalStats {
 
     /// Whether `count` more records can be live in `queue`.
     pub fn can_add(&self, queue: LogQueue, count: usize) -> bool
-        ensures { MatchBool result (live queue self.now + count < 2 ^ 64) (2 ^ 64 ≤ live queue self.now + count) }
+        ensures { MatchBool result (live queue self.now + count < 2 ^ 64)
+            (2 ^ 64 ≤ live queue self.now + count) }
     {
         count <= usize::MAX - self.live_entries(queue)
     }
@@ -108,8 +111,10 @@ impl GlobalStats {
     /// `Full` where more than 2^64 - 1 records would be live in a queue. Nothing has then changed.
     pub fn add_table(&mut self, table: &MemTable) -> Result<()>
         ensures ok { OnOk result (self.new ≡ with_table_added table.now self.old) }
-        ensures live { OnOk result ((q : LogQueue) → live q self.new ≡ live q self.old + live_of q table.now) }
-        ensures accepted { ((q : LogQueue) → live q self.old + live_of q table.now < 2 ^ 64) → IsOk result }
+        ensures live { OnOk result ((q : LogQueue) →
+            live q self.new ≡ live q self.old + live_of q table.now) }
+        ensures accepted { ((q : LogQueue) → live q self.old + live_of q table.now < 2 ^ 64) →
+            IsOk result }
         ensures full { IfErr result (λ e. (e ≡ Error.Full) × ((q : LogQueue)
             × (2 ^ 64 ≤ live q self.old + live_of q table.now))) }
         ensures err { OnErr result (self.new ≡ self.old) }
@@ -144,7 +149,8 @@ impl GlobalStats {
     fn add_records(&mut self, table: &MemTable, queue: LogQueue)
         requires { live queue self.old + live_of queue table.now < 2 ^ 64 }
         ensures after { self.new ≡ with_added queue (live_of queue table.now) self.old }
-        ensures live { (q : LogQueue) → live q self.new ≡ live q self.old + count_in q queue (live_of queue table.now) }
+        ensures live { (q : LogQueue) → live q self.new ≡ live q self.old + count_in q queue
+            (live_of queue table.now) }
     {
         if self.add(queue, table.records(queue) as usize).is_err() {
             unreachable!()
@@ -155,7 +161,8 @@ impl GlobalStats {
     fn delete_records(&mut self, table: &MemTable, queue: LogQueue)
         requires { live_of queue table.now ≤ live queue self.old }
         ensures after { self.new ≡ with_deleted queue (live_of queue table.now) self.old }
-        ensures live { (q : LogQueue) → live q self.new + count_in q queue (live_of queue table.now) ≡ live q self.old }
+        ensures live { (q : LogQueue) → live q self.new + count_in q queue (live_of queue table.now)
+            ≡ live q self.old }
     {
         let live = self.live_entries(queue);
         let count = table.records(queue);

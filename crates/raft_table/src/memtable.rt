@@ -1,17 +1,18 @@
 //! The table of a region: where its entries stand, its key values, and its atomic group.
 
 ghost use Rattle.std.specs.Prelude.{◌≡◌, ◌≢◌, ◌+◌, ◌≤◌, ◌^◌, false, length, MatchOption, OnOk, OnErr, IfErr, IfOk, Some, [], option_map, MatchBool};
+ghost use Rattle.std.specs.FinMap as finite;
 ghost use Rattle.raft_base.specs.declared.pipe_log.LogQueue.{LogQueue};
 ghost use Rattle.raft_base.specs.declared.pipe_log.LogQueue.TheVariants.{Append, Rewrite};
 ghost use Rattle.raft_table.specs.TableEntries.{IsRunIn, AreTableEntries, start_of, end_of, entry_at, entry_count, below, from};
-ghost use Rattle.raft_table.specs.Blocks.{shown, expanded, AreDistinctBlocks};
+ghost use Rattle.raft_table.specs.Blocks.{shown, entries_in_blocks, AreDistinctBlocks};
 ghost use Rattle.raft_table.specs.Counts.{Counts, live, with_added};
 ghost use Rattle.raft_table.specs.Fetches.{block_count};
 ghost use Rattle.raft_table.specs.KeyValues.{value_at, file_at, file_weight};
-ghost use Rattle.raft_table.specs.Table.{empty_table, live_of, IsCounted, IsRecounted, after_append, after_replay, after_rewrite, after_rewrite_key, compacted, truncated, with_pair, without_key, with_atomic_group, table_with_entries, table_with_keys, with_pair_deleted, with_rewritten_key, MovesKeyAlone, leaves_append, IsTablePutFault, IsKeyRewriteFault};
-ghost use Rattle.raft_table.specs.Rewriting.{rewritten, counts_after_rewrite, IsRewriteFault, MovesPlacesAlone};
+ghost use Rattle.raft_table.specs.Table.{empty_table, live_of, IsCounted, IsRecounted, after_append, after_replay, after_rewrite, after_rewrite_key, with_pair, with_pair_deleted, with_rewritten_key, MovesKeyAlone, leaves_append, IsTablePutFault, IsKeyRewriteFault};
+ghost use Rattle.raft_table.specs.Rewriting.{entries_after_rewrite, counts_after_rewrite, IsRewriteFault, MovesPlacesAlone};
 ghost use Rattle.raft_table.specs.Queues.{count_in, other};
-ghost use Rattle.raft_table.specs.Start.{appended, replayed, counts_with_run, counts_without, IsTableRunFault};
+ghost use Rattle.raft_table.specs.Start.{entries_after_append, entries_after_replay, counts_with_run, counts_without, IsTableRunFault};
 
 mod block;
 mod bounds;
@@ -123,7 +124,8 @@ impl MemTable {
     /// The blocks in which the entries are kept, in order: each has entries, and neighbours stand in
     /// different file blocks.
     pub fn blocks(&self) -> &VecDeque<Block>
-        ensures entries { expanded (start_of self.now.entries) (shown result.now.items) ≡ self.now.entries }
+        ensures entries { entries_in_blocks (start_of self.now.entries) (shown result.now.items)
+            ≡ self.now.entries }
         ensures distinct { AreDistinctBlocks (shown result.now.items) }
         ensures count { length result.now.items ≡ block_count self.now.entries }
     {
@@ -170,9 +172,10 @@ impl MemTable {
         requires counted { IsCounted self.old stats.old }
         ensures ok { OnOk result (after_append self.old run.items ≡ Some self.new) }
         ensures fault { IfErr result (IsTableRunFault Append stats.old self.old.entries
-            (appended self.old.entries run.items)) }
+            (entries_after_append self.old.entries run.items)) }
         ensures err { OnErr result ((self.new ≡ self.old) × (stats.new ≡ stats.old)) }
-        ensures counts { OnOk result (stats.new ≡ counts_with_run Append self.old.entries run.items stats.old) }
+        ensures counts { OnOk result (stats.new ≡ counts_with_run Append self.old.entries run.items
+            stats.old) }
         ensures recounted { IsRecounted self.old self.new stats.old stats.new }
         ensures region { self.new.region_id ≡ self.old.region_id }
     {
@@ -192,9 +195,10 @@ impl MemTable {
         requires counted { IsCounted self.old stats.old }
         ensures ok { OnOk result (after_replay Append self.old run.items ≡ Some self.new) }
         ensures fault { IfErr result (IsTableRunFault Append stats.old self.old.entries
-            (replayed Append self.old.entries run.items)) }
+            (entries_after_replay Append self.old.entries run.items)) }
         ensures err { OnErr result ((self.new ≡ self.old) × (stats.new ≡ stats.old)) }
-        ensures counts { OnOk result (stats.new ≡ counts_with_run Append self.old.entries run.items stats.old) }
+        ensures counts { OnOk result (stats.new ≡ counts_with_run Append self.old.entries run.items
+            stats.old) }
         ensures recounted { IsRecounted self.old self.new stats.old stats.new }
         ensures region { self.new.region_id ≡ self.old.region_id }
     {
@@ -214,9 +218,10 @@ impl MemTable {
         requires counted { IsCounted self.old stats.old }
         ensures ok { OnOk result (after_replay Rewrite self.old run.items ≡ Some self.new) }
         ensures fault { IfErr result (IsTableRunFault Rewrite stats.old self.old.entries
-            (replayed Rewrite self.old.entries run.items)) }
+            (entries_after_replay Rewrite self.old.entries run.items)) }
         ensures err { OnErr result ((self.new ≡ self.old) × (stats.new ≡ stats.old)) }
-        ensures counts { OnOk result (stats.new ≡ counts_with_run Rewrite self.old.entries run.items stats.old) }
+        ensures counts { OnOk result (stats.new ≡ counts_with_run Rewrite self.old.entries run.items
+            stats.old) }
         ensures recounted { IsRecounted self.old self.new stats.old stats.new }
         ensures region { self.new.region_id ≡ self.old.region_id }
     {
@@ -267,11 +272,13 @@ impl MemTable {
         requires run { IsRunIn Rewrite run.items }
         requires counted { IsCounted self.old stats.old }
         ensures ok { OnOk result (after_rewrite gate self.old run.items ≡ Some self.new) }
-        ensures places_alone { OnOk result (MovesPlacesAlone run.items self.old.entries self.new.entries) }
-        ensures others { OnOk result (self.new ≡ table_with_entries self.old self.new.entries) }
-        ensures counts { OnOk result (stats.new ≡ counts_after_rewrite gate run.items self.old.entries stats.old) }
+        ensures places_alone { OnOk result (MovesPlacesAlone run.items self.old.entries
+            self.new.entries) }
+        ensures others { OnOk result (self.new ≡ record self.old { entries = self.new.entries }) }
+        ensures counts { OnOk result (stats.new ≡ counts_after_rewrite gate run.items
+            self.old.entries stats.old) }
         ensures fault { IfErr result (IsRewriteFault (length run.items) stats.old
-            (rewritten gate run.items self.old.entries)) }
+            (entries_after_rewrite gate run.items self.old.entries)) }
         ensures err { OnErr result ((self.new ≡ self.old) × (stats.new ≡ stats.old)) }
         ensures recounted { IsRecounted self.old self.new stats.old stats.new }
         ensures region { self.new.region_id ≡ self.old.region_id }
@@ -282,7 +289,7 @@ impl MemTable {
     /// Drops the entries below an index, and answers how many those were.
     pub fn compact_to(&mut self, index: u64, stats: &mut GlobalStats) -> u64
         requires { IsCounted self.old stats.old }
-        ensures compacted { self.new ≡ compacted index self.old }
+        ensures compacted { self.new ≡ record self.old { entries = from index self.old.entries } }
         ensures dropped { result + length self.new.entries ≡ length self.old.entries }
         ensures counts { stats.new ≡ counts_without (below index self.old.entries) stats.old }
         ensures recounted { IsRecounted self.old self.new stats.old stats.new }
@@ -294,7 +301,7 @@ impl MemTable {
     /// Drops the entries at or above an index, and answers how many those were.
     pub fn truncate_from(&mut self, index: u64, stats: &mut GlobalStats) -> u64
         requires { IsCounted self.old stats.old }
-        ensures truncated { self.new ≡ truncated index self.old }
+        ensures truncated { self.new ≡ record self.old { entries = below index self.old.entries } }
         ensures dropped { result + length self.new.entries ≡ length self.old.entries }
         ensures counts { stats.new ≡ counts_without (from index self.old.entries) stats.old }
         ensures recounted { IsRecounted self.old self.new stats.old stats.new }
@@ -321,7 +328,8 @@ impl MemTable {
         ensures ok { OnOk result (self.new ≡ with_pair self.old key.items value.items file) }
         ensures counts { OnOk result (stats.new
             ≡ with_added file.queue 1 (with_pair_deleted (file_at self.old.keys key.items) stats.old)) }
-        ensures fault { IfErr result (IsTablePutFault file.queue stats.old (file_at self.old.keys key.items)) }
+        ensures fault { IfErr result (IsTablePutFault file.queue stats.old
+            (file_at self.old.keys key.items)) }
         ensures err { OnErr result ((self.new ≡ self.old) × (stats.new ≡ stats.old)) }
         ensures recounted { IsRecounted self.old self.new stats.old stats.new }
         ensures region { self.new.region_id ≡ self.old.region_id }
@@ -338,7 +346,8 @@ impl MemTable {
     /// Deletes a key and its value.
     pub fn delete(&mut self, key: &[u8], stats: &mut GlobalStats)
         requires { IsCounted self.old stats.old }
-        ensures deleted { self.new ≡ without_key self.old key.now }
+        ensures deleted { self.new
+            ≡ record self.old { keys = finite.remove self.old.keys key.now } }
         ensures counts { stats.new ≡ with_pair_deleted (file_at self.old.keys key.now) stats.old }
         ensures recounted { IsRecounted self.old self.new stats.old stats.new }
         ensures region { self.new.region_id ≡ self.old.region_id }
@@ -366,10 +375,11 @@ impl MemTable {
         requires { IsCounted self.old stats.old }
         ensures ok { OnOk result (after_rewrite_key gate seq self.old key.items ≡ Some self.new) }
         ensures file_alone { OnOk result (MovesKeyAlone key.items self.old.keys self.new.keys) }
-        ensures others { OnOk result (self.new ≡ table_with_keys self.old self.new.keys) }
+        ensures others { OnOk result (self.new ≡ record self.old { keys = self.new.keys }) }
         ensures counts { OnOk result (stats.new
             ≡ with_rewritten_key (leaves_append gate (file_at self.old.keys key.items)) stats.old) }
-        ensures fault { IfErr result (IsKeyRewriteFault stats.old (after_rewrite_key gate seq self.old key.items)) }
+        ensures fault { IfErr result (IsKeyRewriteFault stats.old
+            (after_rewrite_key gate seq self.old key.items)) }
         ensures err { OnErr result ((self.new ≡ self.old) × (stats.new ≡ stats.old)) }
         ensures recounted { IsRecounted self.old self.new stats.old stats.new }
         ensures region { self.new.region_id ≡ self.old.region_id }
@@ -417,7 +427,7 @@ impl MemTable {
     /// Sets the first and the last file of the region's atomic group in the rewrite queue.
     pub fn apply_rewrite_atomic_group(&mut self, start: FileSeq, end: FileSeq)
         requires { start ≤ end }
-        ensures group { self.new ≡ with_atomic_group self.old start end }
+        ensures group { self.new ≡ record self.old { atomic_group = Some (start, end) } }
         ensures region { self.new.region_id ≡ self.old.region_id }
     {
         self.atomic_group = Some((start, end));
@@ -437,7 +447,8 @@ fn other_than(queue: LogQueue) -> LogQueue
 /// Counts a record that was written to the rewrite queue.
 fn count_written(stats: &mut GlobalStats) -> Result<()>
     ensures ok { OnOk result (stats.new ≡ with_added Rewrite 1 stats.old) }
-    ensures live { OnOk result ((q : LogQueue) → live q stats.new ≡ live q stats.old + count_in q Rewrite 1) }
+    ensures live { OnOk result ((q : LogQueue) →
+        live q stats.new ≡ live q stats.old + count_in q Rewrite 1) }
     ensures err { OnErr result (stats.new ≡ stats.old) }
     ensures full { IfErr result (λ e. (e ≡ Error.Full) × (2 ^ 64 ≤ live Rewrite stats.old + 1)) }
 {

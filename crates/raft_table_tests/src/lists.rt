@@ -53,7 +53,7 @@ enum Call {
     MergeNewer(LogQueue, Run),
     /// The table of a run is merged as the appended one.
     MergeAppended(Run),
-    /// The table of a run is merged under a mark, before whose run the entries off some bounds are dropped.
+    /// The table of a run is merged under a region mark, before whose run the entries off some bounds are dropped.
     MergeUnder(LogQueue, Bounds, Run),
 }
 
@@ -199,7 +199,7 @@ fn make(alloc: Global, store: &mut LogStore, call: Call) -> Result<()> {
     }
 }
 
-/// Merges the table of a run under its mark.
+/// Merges the table of a run under its region mark.
 fn merge_under(
     alloc: Global,
     store: &mut LogStore,

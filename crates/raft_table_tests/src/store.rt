@@ -323,7 +323,7 @@ impl LogStore {
         }
     }
 
-    /// Merges a table of a queue into this store's, under its mark.
+    /// Merges a table of a queue into this store's, under its region mark.
     pub fn merge_under(
         &mut self,
         queue: LogQueue,

@@ -12,13 +12,13 @@ abbrev pub occurrences_in : ℕ → List (List ℕ) → ℕ
 occurrences_in x ls = weigh (occurrences x) ls
 
 -- 1 for a list with a number that isn't below the total, else 0
-abbrev pub passed : ℕ → List ℕ → ℕ
-passed total [] = 0
-passed total (x ∷ xs) = if nat_le total x then 1 else passed total xs
+abbrev pub has_passed : ℕ → List ℕ → ℕ
+has_passed total [] = 0
+has_passed total (x ∷ xs) = if nat_le total x then 1 else has_passed total xs
 
 -- how many lists have a number that isn't below the total
 abbrev pub passed_in : ℕ → List (List ℕ) → ℕ
-passed_in total ls = weigh (passed total) ls
+passed_in total ls = weigh (has_passed total) ls
 
 -- The numbers of all views are those below the word, each once; no more than one of a list isn't below the total.
 pub record IsDrawn (total seats : ℕ) (words : List ℕ) (views : List (List (List ℕ))) : Type 0 where

@@ -54,7 +54,10 @@ impl Model for Tickets {
 
 impl Tickets {
     /// Tickets of the numbers below `total`, and this many seats, which have drawn nothing.
-    /// `InvalidArgument` for no seats, and for 2^62 numbers or seats and more.
+    ///
+    /// # Errors
+    ///
+    /// `InvalidArgument` for no seats, and for 2^62 numbers or seats and more; `Memory`.
     pub fn open(alloc: Global, total: usize, seats: usize) -> Result<(Tickets, Vec<TicketSeat>)>
         ensures tickets { IfOk result (λ r. (r.0.total ≡ total) × (r.0.seats ≡ seats)) }
         ensures seats { IfOk result (λ r. (vec_len r.1 ≡ seats) × All (IsNewSeatOf r.0) r.1.items) }
@@ -181,7 +184,8 @@ fn join_seat(
     requires seat { seat.old.table_id ≡ shared.now.table_id }
     requires other { other.table ≡ shared.now.table_id }
     ensures same { (seat.new.table_id ≡ seat.old.table_id) × (seat.new.me.1 ≡ seat.old.me.1) }
-    ensures lists { (f : List ℕ → ℕ) → weigh f seat.new.me.0 ≡ weigh f seat.old.me.0 + f other.drawn }
+    ensures lists { (f : List ℕ → ℕ) → weigh f seat.new.me.0 ≡ weigh f seat.old.me.0 + f
+        other.drawn }
 {
     let TicketSeat { seat: other, .. } = other;
     shared.join_seat::<Both>(seat, other);

@@ -1,4 +1,4 @@
-//! Tables of all regions joined with those of newer neighbors, each under its mark.
+//! Tables of all regions joined with those of newer neighbors, each under its region mark.
 
 ghost use Rattle.std.specs.Prelude.{◌≡◌, ◌<◌, ◌++◌, IfErr, IfSome, OnErr, OnOk};
 ghost use Rattle.raft_base.specs.declared.pipe_log.LogQueue.TheVariants.{Append, Rewrite};
@@ -11,8 +11,8 @@ use raft_base::{Error, LogQueue, Result};
 use raft_table::{Mark, MemTable};
 
 impl MemTableAccessor {
-    /// Puts a newer neighbor's table of a region, or its absence, over the older one, as the newer mark
-    /// says. The answer is where the older entries end that the mark's first run comes behind.
+    /// Puts a newer neighbor's table of a region, or its absence, over the older one, as the newer region mark
+    /// says. The answer is where the older entries end that the region mark's first run comes behind.
     ///
     /// # Errors
     ///
@@ -49,9 +49,8 @@ impl MemTableAccessor {
             LogQueue::Rewrite => LogQueue::Append,
         };
         if self.stats.live_entries(other) > 0 {
-            return Err(Error::InvalidArgument(String::from_str(
-                *self.cleaned.allocator(),
-                "the tables have records of the other queue",
+            return Err(Error::InvalidArgument(format!(in *self.cleaned.allocator();
+                "the tables have records of the other queue"
             )?));
         }
         Ok(())

@@ -1,4 +1,4 @@
-//! Tables of all regions under those of the append queue, each under its mark.
+//! Tables of all regions under those of the append queue, each under its region mark.
 
 ghost use Rattle.std.specs.Prelude.{◌≡◌, IfSome};
 ghost use Rattle.raft_base.specs.declared.pipe_log.LogQueue.TheVariants.{Rewrite};
@@ -10,7 +10,7 @@ use raft_base::Result;
 use raft_table::{Mark, MemTable};
 
 impl MemTableAccessor {
-    /// Puts an appended table of a region, or its absence, over the rewritten one, as the mark of the
+    /// Puts an appended table of a region, or its absence, over the rewritten one, as the region mark of the
     /// append queue says.
     ///
     /// # Errors
@@ -19,8 +19,8 @@ impl MemTableAccessor {
     pub fn overlay_table(&mut self, id: u64, appended: Option<MemTable>, mark: &Mark) -> Result<()>
         requires region { IfSome appended (λ t. t.region_id ≡ id) }
         requires own { live_in Rewrite appended ≡ 0 }
-        ensures overlaid { IsTableOverlaid mark.now appended self.old.tables id self.old.counts result
-            self.new.tables self.new.counts }
+        ensures overlaid { IsTableOverlaid mark.now appended self.old.tables id self.old.counts
+            result self.new.tables self.new.counts }
         ensures exact_counts { AreCountsOf self.old.tables self.old.counts }
         ensures cleaned { self.new.cleaned ≡ self.old.cleaned }
     {

@@ -1,20 +1,21 @@
 //! Steps on one region's table, which is made where there is none; runs and files were tested before.
 
 ghost use Rattle.std.specs.Prelude.{◌≡◌, ◌⊎◌, ℕ, List, OnOk, OnSome, IfOk, IfSome, Some, ok_or};
+ghost use Rattle.std.specs.FinMap as finite;
 ghost use Rattle.raft_base.specs.declared.errors.Error.TheVariants.{Memory};
 ghost use Rattle.raft_table.specs.Counts.{with_added};
 ghost use Rattle.raft_table.specs.TableEntries.{IsRunIn, below, end_of, from};
 ghost use Rattle.raft_table.specs.KeyValues.{file_at};
 ghost use Rattle.raft_table.specs.Queues.{other};
 ghost use Rattle.raft_table.specs.Start.{counts_with_run, counts_without};
-ghost use Rattle.raft_table.specs.Table.{after_replay, compacted, truncated, with_pair, with_pair_deleted, without_key, live_of, IsTablePutFault, IsCounted};
+ghost use Rattle.raft_table.specs.Table.{after_replay, with_pair, with_pair_deleted, live_of, IsTablePutFault, IsCounted};
 ghost use Rattle.raft_accessor.specs.Accessor.{table_in, AreCountsOf};
 ghost use Rattle.raft_accessor.specs.AccessorCalls.{IsTableChanged};
-ghost use Rattle.raft_accessor.specs.Updates.{IsTaken, IsReplayFault};
+ghost use Rattle.raft_accessor.specs.Updates.{BecomesOutcome, IsReplayFault};
 
 use crate::accessor::{MemTableAccessor, slot_of};
-use crate::item_writes::replay_into;
 use crate::region_tables::RegionTables;
+use crate::region_tables::steps::replay_into;
 use raft_base::{EntryIndex, FileId, LogQueue, Result};
 use raft_table::{GlobalStats, MemTable};
 
@@ -28,8 +29,8 @@ impl MemTableAccessor {
     /// as they were.
     pub fn replay_run(&mut self, queue: LogQueue, id: u64, run: Vec<EntryIndex>) -> Result<u64>
         requires { IsRunIn queue run.items }
-        ensures changed { IsTableChanged (after_replay queue (table_in self.old.tables id) run.items)
-            (IsReplayFault queue run.items (table_in self.old.tables id) self.old.counts)
+        ensures changed { IsTableChanged (after_replay queue (table_in self.old.tables id)
+            run.items) (IsReplayFault queue run.items (table_in self.old.tables id) self.old.counts)
             id result self.old self.new }
         ensures accepted { OnOk result (live_of (other queue) (table_in self.old.tables id) ≡ 0) }
         ensures counts { OnOk result (self.new.counts
@@ -45,8 +46,8 @@ impl MemTableAccessor {
     /// [`MemTableAccessor::replay_run`] refuses, as for want of memory. All tables are then as they were.
     pub fn try_replay_run(&mut self, queue: LogQueue, id: u64, run: &[EntryIndex]) -> Option<u64>
         requires run { IsRunIn queue run.now }
-        ensures changed { IsTableChanged (after_replay queue (table_in self.old.tables id) run.now) (λ e. ⊥)
-            id (ok_or result Memory) self.old self.new }
+        ensures changed { IsTableChanged (after_replay queue (table_in self.old.tables id) run.now)
+            (λ e. ⊥) id (ok_or result Memory) self.old self.new }
         ensures accepted { OnSome result (live_of (other queue) (table_in self.old.tables id) ≡ 0) }
         ensures counts { OnSome result (self.new.counts
             ≡ counts_with_run queue (table_in self.old.tables id).entries run.now self.old.counts) }
@@ -61,7 +62,8 @@ impl MemTableAccessor {
     ///
     /// `Memory`. All tables are then as they were.
     pub fn compact(&mut self, id: u64, index: u64) -> Result<()>
-        ensures changed { IsTableChanged (Some (compacted index (table_in self.old.tables id)))
+        ensures changed { IsTableChanged (Some (record (table_in self.old.tables id)
+            { entries = from index (table_in self.old.tables id).entries }))
             (λ e. ⊥) id result self.old self.new }
         ensures counts { OnOk result (self.new.counts
             ≡ counts_without (below index (table_in self.old.tables id).entries) self.old.counts) }
@@ -75,7 +77,8 @@ impl MemTableAccessor {
     ///
     /// `Memory`. All tables are then as they were.
     pub fn truncate(&mut self, id: u64, index: u64) -> Result<()>
-        ensures changed { IsTableChanged (Some (truncated index (table_in self.old.tables id)))
+        ensures changed { IsTableChanged (Some (record (table_in self.old.tables id)
+            { entries = below index (table_in self.old.tables id).entries }))
             (λ e. ⊥) id result self.old self.new }
         ensures counts { OnOk result (self.new.counts
             ≡ counts_without (from index (table_in self.old.tables id).entries) self.old.counts) }
@@ -90,7 +93,8 @@ impl MemTableAccessor {
     /// `Full` where more than 2^64 - 1 records would be live in the file's queue, `Memory`. All tables are
     /// then as they were.
     pub fn put(&mut self, id: u64, key: Vec<u8>, value: Vec<u8>, file: FileId) -> Result<()>
-        ensures changed { IsTableChanged (Some (with_pair (table_in self.old.tables id) key.items value.items file))
+        ensures changed { IsTableChanged (Some (with_pair (table_in self.old.tables id) key.items
+            value.items file))
             (IsTablePutFault file.queue self.old.counts (file_at (table_in self.old.tables id).keys key.items))
             id result self.old self.new }
         ensures counts { OnOk result (self.new.counts ≡ with_added file.queue 1
@@ -106,7 +110,8 @@ impl MemTableAccessor {
     ///
     /// `Memory`. All tables are then as they were.
     pub fn delete(&mut self, id: u64, key: &[u8]) -> Result<()>
-        ensures changed { IsTableChanged (Some (without_key (table_in self.old.tables id) key.now))
+        ensures changed { IsTableChanged (Some (record (table_in self.old.tables id)
+            { keys = finite.remove (table_in self.old.tables id).keys key.now }))
             (λ e. ⊥) id result self.old self.new }
         ensures counts { OnOk result (self.new.counts
             ≡ with_pair_deleted (file_at (table_in self.old.tables id).keys key.now) self.old.counts) }
@@ -126,7 +131,7 @@ impl RegionTables {
     ) -> Result<u64>
         requires run { IsRunIn queue run.items }
         requires counted { IsCounted (table_in self.old id) stats.old }
-        ensures taken { IsTaken (after_replay queue (table_in self.old id) run.items)
+        ensures taken { BecomesOutcome (after_replay queue (table_in self.old id) run.items)
             (IsReplayFault queue run.items (table_in self.old id) stats.old)
             self.old id stats.old result self.new stats.new }
         ensures accepted { OnOk result (live_of (other queue) (table_in self.old id) ≡ 0) }

@@ -15,7 +15,8 @@ impl MemTableAccessor {
     ///
     /// `Memory`.
     pub fn entries_count(&self) -> Result<u128>
-        ensures ok { IfOk result (λ n. n ≡ total (λ (t : Table). length t.entries) self.now.tables) }
+        ensures ok { IfOk result (λ n. n ≡ total (λ (t : Table). length t.entries)
+            self.now.tables) }
         ensures memory { IfErr result (λ e. e ≡ Error.Memory) }
     {
         let mut count = 0;
@@ -31,7 +32,8 @@ impl MemTableAccessor {
     ///
     /// `Memory`.
     pub fn key_count(&self) -> Result<u128>
-        ensures ok { IfOk result (λ n. n ≡ total (λ (t : Table). finite.len t.keys) self.now.tables) }
+        ensures ok { IfOk result (λ n. n ≡ total (λ (t : Table). finite.len t.keys)
+            self.now.tables) }
         ensures memory { IfErr result (λ e. e ≡ Error.Memory) }
     {
         let mut count = 0;

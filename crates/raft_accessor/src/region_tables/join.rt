@@ -1,4 +1,4 @@
-//! Tables of some regions joined with those of newer neighbors, each under its mark.
+//! Tables of some regions joined with those of newer neighbors, each under its region mark.
 
 ghost use Rattle.std.specs.Prelude.{◌≡◌, ◌+◌, ◌≤◌, IfOk, IfErr, IfSome, OnOk, Some};
 ghost use Rattle.std.specs.FinMap as finite;
@@ -17,8 +17,8 @@ use raft_base::{LogQueue, Result};
 use raft_table::{GlobalStats, Mark, MemTable};
 
 impl RegionTables {
-    /// Puts a newer neighbor's table of a region, or its absence, over the older one, as the newer mark
-    /// says. The answer is where the older entries end that the mark's first run comes behind.
+    /// Puts a newer neighbor's table of a region, or its absence, over the older one, as the newer region mark
+    /// says. The answer is where the older entries end that the region mark's first run comes behind.
     ///
     /// # Errors
     ///
@@ -35,16 +35,17 @@ impl RegionTables {
         requires own { live_in (other queue) newer ≡ 0 }
         requires older { queue ≡ Rewrite → live_of Append (table_in self.old id) ≡ 0 }
         requires counted { IsCounted (table_in self.old id) stats.old }
-        ensures { IsTableJoined queue mark.now newer self.old id stats.old result self.new stats.new }
+        ensures { IsTableJoined queue mark.now newer self.old id stats.old result self.new
+            stats.new }
     {
         match newer {
-            Some(newer) => self.put_over(queue, id, newer, mark, stats),
+            Some(newer) => self.put_newer(queue, id, newer, mark, stats),
             None => self.drop_under(queue, id, mark, stats),
         }
     }
 
     /// Puts a newer table over that of its region, which is made where there is none.
-    fn put_over(
+    fn put_newer(
         &mut self,
         queue: LogQueue,
         id: u64,
@@ -56,7 +57,8 @@ impl RegionTables {
         requires own { live_of (other queue) newer ≡ 0 }
         requires older { queue ≡ Rewrite → live_of Append (table_in self.old id) ≡ 0 }
         requires counted { IsCounted (table_in self.old id) stats.old }
-        ensures { IsTableJoined queue mark.now (Some newer) self.old id stats.old result self.new stats.new }
+        ensures { IsTableJoined queue mark.now (Some newer) self.old id stats.old result self.new
+            stats.new }
     {
         self.alter(
             id,
@@ -66,14 +68,15 @@ impl RegionTables {
                 requires own { live_of (other queue) newer ≡ 0 }
                 requires older { queue ≡ Rewrite → live_of Append table.old ≡ 0 }
                 requires counted { IsCounted table.old stats.old }
-                ensures put { IsPut queue mark.entry.now newer stats.old result table.old table.new }
+                ensures put { IsPut queue mark.entry.now newer stats.old result table.old
+                    table.new }
                 ensures region { table.new.region_id ≡ table.old.region_id }
                 ensures recounted { IsRecounted table.old table.new stats.old stats.new }
             { merge_under(queue, table, newer, mark, stats) },
         )
     }
 
-    /// Drops of a region's table what a newer mark drops whose region has no table.
+    /// Drops of a region's table what a newer region mark drops whose region has no table.
     fn drop_under(
         &mut self,
         queue: LogQueue,
@@ -83,13 +86,14 @@ impl RegionTables {
     ) -> Result<u64>
         requires older { queue ≡ Rewrite → live_of Append (table_in self.old id) ≡ 0 }
         requires counted { IsCounted (table_in self.old id) stats.old }
-        ensures { IsTableJoined queue mark.now None self.old id stats.old result self.new stats.new }
+        ensures { IsTableJoined queue mark.now None self.old id stats.old result self.new
+            stats.new }
     {
         let Some(table) = self.get(id) else {
             return Ok(0);
         };
         if !mark.is_cleaned() {
-            return self.put_over(queue, id, MemTable::new(self.alloc, id), mark, stats);
+            return self.put_newer(queue, id, MemTable::new(self.alloc, id), mark, stats);
         }
         table.check_newer_mark(queue, mark)?;
         let end = table.end_at_reach(mark);
@@ -98,7 +102,7 @@ impl RegionTables {
     }
 }
 
-/// Puts a newer table over an older one, and answers where the older entries ended that the mark's first
+/// Puts a newer table over an older one, and answers where the older entries ended that the region mark's first
 /// run came behind.
 fn merge_under(
     queue: LogQueue,

@@ -1,4 +1,4 @@
-//! Tables of some regions under those of the append queue, each under its mark.
+//! Tables of some regions under those of the append queue, each under its region mark.
 
 ghost use Rattle.std.specs.Prelude.{◌≡◌, IfSome, Some, None};
 ghost use Rattle.raft_base.specs.declared.pipe_log.LogQueue.TheVariants.{Rewrite};
@@ -11,7 +11,7 @@ use raft_base::Result;
 use raft_table::{GlobalStats, Mark, MemTable};
 
 impl RegionTables {
-    /// Puts an appended table of a region, or its absence, over the rewritten one, as the mark of the
+    /// Puts an appended table of a region, or its absence, over the rewritten one, as the region mark of the
     /// append queue says.
     ///
     /// # Errors
@@ -27,7 +27,8 @@ impl RegionTables {
         requires region { IfSome appended (λ t. t.region_id ≡ id) }
         requires own { live_in Rewrite appended ≡ 0 }
         requires counted { IsCounted (table_in self.old id) stats.old }
-        ensures { IsTableOverlaid mark.now appended self.old id stats.old result self.new stats.new }
+        ensures { IsTableOverlaid mark.now appended self.old id stats.old result self.new
+            stats.new }
     {
         match appended {
             Some(appended) => self.put_appended(id, appended, mark, stats),
@@ -46,7 +47,8 @@ impl RegionTables {
         requires region { appended.region_id ≡ id }
         requires own { live_of Rewrite appended ≡ 0 }
         requires counted { IsCounted (table_in self.old id) stats.old }
-        ensures { IsTableOverlaid mark.now (Some appended) self.old id stats.old result self.new stats.new }
+        ensures { IsTableOverlaid mark.now (Some appended) self.old id stats.old result self.new
+            stats.new }
     {
         self.alter(
             id,
@@ -55,14 +57,15 @@ impl RegionTables {
                 requires region { table.old.region_id ≡ appended.region_id }
                 requires own { live_of Rewrite appended ≡ 0 }
                 requires counted { IsCounted table.old stats.old }
-                ensures put { IsPutOver mark.entry.now appended stats.old result table.old table.new }
+                ensures put { IsPutOver mark.entry.now appended stats.old result table.old
+                    table.new }
                 ensures region { table.new.region_id ≡ table.old.region_id }
                 ensures recounted { IsRecounted table.old table.new stats.old stats.new }
             { overlay(table, appended, mark, stats) },
         )
     }
 
-    /// Drops of a region's table what the mark of the append queue drops, where that has no table of it.
+    /// Drops of a region's table what the region mark of the append queue drops, where that has no table of it.
     fn drop_rewritten(&mut self, id: u64, mark: &Mark, stats: &mut GlobalStats) -> Result<()>
         requires counted { IsCounted (table_in self.old id) stats.old }
         ensures { IsTableOverlaid mark.now None self.old id stats.old result self.new stats.new }

@@ -30,7 +30,8 @@ fn divided(remainder: [u64; 5], word: u64) -> [u64; 5]
 #[inline(always)]
 fn settled(remainder: [u64; 5], bytes: &[u8]) -> u32
     requires { 40 ≤ length bytes.now }
-    ensures { (register : ℕ) → StandFor remainder register → result ≡ register_after register bytes.now }
+    ensures { (register : ℕ) → StandFor remainder register →
+        result ≡ register_after register bytes.now }
 {
     let [a, b, c, d, e] = remainder;
     let (first, rest) = first_word(bytes);

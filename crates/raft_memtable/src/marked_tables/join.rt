@@ -1,4 +1,4 @@
-//! The tables and marks of all regions joined with those of a newer neighbor.
+//! The tables and region marks of all regions joined with those of a newer neighbor.
 
 ghost use Rattle.std.specs.Prelude.{◌≡◌, ◌+◌, ◌≤◌, ◌++◌, IfErr, IfSome, OnOk, Some};
 ghost use Rattle.raft_base.specs.declared.pipe_log.LogQueue.{LogQueue};
@@ -19,7 +19,7 @@ use raft_base::{LogQueue, Result};
 use raft_table::{Mark, MemTable};
 
 impl MarkedTables {
-    /// Joins the tables and marks of a newer neighbor in a queue, and lists its cleaned regions.
+    /// Joins the tables and region marks of a newer neighbor in a queue, and lists its cleaned regions.
     ///
     /// # Errors
     ///
@@ -27,11 +27,13 @@ impl MarkedTables {
     /// a newer run of a region leaves a hole behind the older entries, `Full` where
     /// more than 2^64 - 1 records would be live, `Memory`. Some regions are then joined.
     pub(crate) fn join(&mut self, queue: LogQueue, newer: MarkedTables) -> Result<()>
-        ensures ok { StandForSteps queue (regions_in self.old) → StandForSteps queue (regions_in newer)
+        ensures ok { StandForSteps queue (regions_in self.old) →
+            StandForSteps queue (regions_in newer)
             → OnOk result (AreJoined queue (regions_in self.old) (regions_in newer) (regions_in self.new)) }
         ensures cleaned { OnOk result
             (self.new.accessor.cleaned ≡ self.old.accessor.cleaned ++ newer.accessor.cleaned) }
-        ensures fault { StandForSteps queue (regions_in self.old) → StandForSteps queue (regions_in newer)
+        ensures fault { StandForSteps queue (regions_in self.old) →
+            StandForSteps queue (regions_in newer)
             → IfErr result (IsJoinFault queue (regions_in self.old) (regions_in newer)) }
         ensures other { OnOk result (live_in_all (other queue) self.new.accessor.tables ≡ 0) }
     {
@@ -45,7 +47,7 @@ impl MarkedTables {
         self.accessor.append_cleaned(&mut accessor)
     }
 
-    /// Joins the regions that newer marks name, with their tables.
+    /// Joins the regions that newer region marks name, with their tables.
     fn join_regions(
         &mut self,
         queue: LogQueue,
@@ -71,7 +73,7 @@ impl MarkedTables {
         Ok(())
     }
 
-    /// Joins a region with a newer mark and its table, or its absence.
+    /// Joins a region with a newer region mark and its table, or its absence.
     fn join_region(
         &mut self,
         queue: LogQueue,
@@ -88,7 +90,8 @@ impl MarkedTables {
             ≡ Some (region_in (regions_in self.new) id)) }
         ensures others { OnOk result
             (regions_in self.new ≡ with_region (regions_in self.old) id (region_in (regions_in self.new) id)) }
-        ensures fault { IsRunOver queue mark (table_of id newer) (table_in self.old.accessor.tables id)
+        ensures fault { IsRunOver queue mark (table_of id newer)
+            (table_in self.old.accessor.tables id)
             → IfErr result (IsFaultUnder queue self.old.accessor.counts mark (table_of id newer)
             (table_in self.old.accessor.tables id)) }
         ensures exact_counts { AreCountsOf self.old.accessor.tables self.old.accessor.counts }

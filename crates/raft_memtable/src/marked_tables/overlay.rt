@@ -14,7 +14,7 @@ use raft_accessor::MemTableAccessor;
 use raft_base::Result;
 
 impl MarkedTables {
-    /// Puts the tables of the append queue over the rewritten ones, each under its mark, and lists the
+    /// Puts the tables of the append queue over the rewritten ones, each under its region mark, and lists the
     /// regions that were cleaned there.
     ///
     /// # Errors
@@ -22,7 +22,8 @@ impl MarkedTables {
     /// `Full` where more than 2^64 - 1 records would be live, `Memory`. Some regions are then overlaid.
     pub(crate) fn overlay(&mut self, appended: MarkedTables) -> Result<()>
         requires own { live_in_all Rewrite appended.accessor.tables ≡ 0 }
-        ensures ok { StandForSteps Rewrite (regions_in self.old) → StandForSteps Append (regions_in appended)
+        ensures ok { StandForSteps Rewrite (regions_in self.old) →
+            StandForSteps Append (regions_in appended)
             → OnOk result (AreOverlaid (regions_in appended) self.old.accessor.tables self.new.accessor.tables) }
         ensures cleaned { OnOk result (self.new.accessor.cleaned ≡ appended.accessor.cleaned) }
         ensures fault { IfErr result
@@ -37,7 +38,7 @@ impl MarkedTables {
         Ok(())
     }
 
-    /// Puts the tables of the regions that marks of the append queue name over the rewritten ones.
+    /// Puts the tables of the regions that region marks of the append queue name over the rewritten ones.
     fn overlay_regions(&mut self, marks: RegionMarks, appended: &mut MemTableAccessor) -> Result<()>
         requires own { live_in_all Rewrite appended.old.tables ≡ 0 }
         ensures ok { AreRunsOverlaid marks appended.old.tables self.old.accessor.tables

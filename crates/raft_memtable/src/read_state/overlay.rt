@@ -3,7 +3,7 @@
 ghost use Rattle.std.specs.Prelude.{◌≡◌, OnOk, IfErr};
 ghost use Rattle.raft_history.specs.Joins.{AreOverlaid};
 ghost use Rattle.raft_memtable.specs.OverlaidContext.{AreOfBothQueues, overlaid_with, IsMergeAppendFault};
-ghost use Rattle.raft_memtable.specs.ReadStates.{context_in, IsRead};
+ghost use Rattle.raft_memtable.specs.ReadStates.{context_in, IsOfHistory};
 ghost use Rattle.raft_memtable.specs.RecoverContext.{reading_on};
 
 use crate::file_range::FileRange;
@@ -13,14 +13,14 @@ use crate::waiting_groups::WaitingGroups;
 use raft_base::{Error, LogQueue, Result};
 
 impl ReadState {
-    /// Takes in what was read of the append queue over what was read of the rewrite queue. The marks of
+    /// Takes in what was read of the append queue over what was read of the rewrite queue. The region marks of
     /// both and the groups that wait are then dropped.
     pub(crate) fn overlay(&mut self, append: ReadState) -> Result<()>
-        requires rewritten { IsRead (context_in self.old) }
-        requires appended { IsRead (context_in append) }
+        requires rewritten { IsOfHistory (context_in self.old) }
+        requires appended { IsOfHistory (context_in append) }
         ensures queues { OnOk result (AreOfBothQueues (context_in self.old) (context_in append)) }
-        ensures tables { OnOk result (AreOverlaid (context_in append).regions (context_in self.old).regions.tables
-            (context_in self.new).regions.tables) }
+        ensures tables { OnOk result (AreOverlaid (context_in append).regions
+            (context_in self.old).regions.tables (context_in self.new).regions.tables) }
         ensures overlaid { OnOk result (context_in self.new
             ≡ overlaid_with (context_in self.old) (context_in append) (context_in self.new).regions.tables) }
         ensures fault { IfErr result
@@ -32,7 +32,8 @@ impl ReadState {
 
     /// Whether this was read of the rewrite queue, and the other of the append queue.
     fn check_append(&self, append: &ReadState) -> Result<()>
-        ensures queues { OnOk result (AreOfBothQueues (context_in self.now) (context_in append.now)) }
+        ensures queues { OnOk result (AreOfBothQueues (context_in self.now)
+            (context_in append.now)) }
         ensures fault { IfErr result
             (IsMergeAppendFault (reading_on (context_in self.now)) (reading_on (context_in append.now))) }
     {
@@ -48,11 +49,11 @@ impl ReadState {
 
     /// Takes in what was read of the append queue.
     fn put_append(&mut self, append: ReadState) -> Result<()>
-        requires rewritten { IsRead (context_in self.old) }
-        requires appended { IsRead (context_in append) }
+        requires rewritten { IsOfHistory (context_in self.old) }
+        requires appended { IsOfHistory (context_in append) }
         requires queues { AreOfBothQueues (context_in self.old) (context_in append) }
-        ensures tables { OnOk result (AreOverlaid (context_in append).regions (context_in self.old).regions.tables
-            (context_in self.new).regions.tables) }
+        ensures tables { OnOk result (AreOverlaid (context_in append).regions
+            (context_in self.old).regions.tables (context_in self.new).regions.tables) }
         ensures overlaid { OnOk result (context_in self.new
             ≡ overlaid_with (context_in self.old) (context_in append) (context_in self.new).regions.tables) }
         ensures fault { IfErr result

@@ -28,7 +28,8 @@ impl LogBatch {
         requires { self.old.stage ≡ populating }
         ensures ok { OnOk result (self.new ≡ with_entries_added self.old region_id
             (map (λ e. entry_with_index (M.index_of e)) entries.now) (map M.Entry.bytes_of entries.now)) }
-        ensures consecutive { OnOk result (IsConsecutive (map (λ e. entry_with_index (M.index_of e)) entries.now)) }
+        ensures consecutive { OnOk result (IsConsecutive
+            (map (λ e. entry_with_index (M.index_of e)) entries.now)) }
         ensures accepted { OnOk result (entries.now ≢ [] →
             length self.old.entry_bytes + length (concat (map M.Entry.bytes_of entries.now)) < 2 ^ 31) }
         ensures err { OnErr result (self.new ≡ self.old) }
@@ -102,7 +103,8 @@ impl LogBatch {
         requires rhs_open { rhs.old.stage ≡ populating }
         ensures ok { OnOk result (self.new ≡ with_batch self.old rhs.old) }
         ensures emptied { OnOk result (rhs.new ≡ empty_batch) }
-        ensures accepted { OnOk result (length self.old.entry_bytes + length rhs.old.entry_bytes < 2 ^ 31) }
+        ensures accepted { OnOk result (length self.old.entry_bytes + length rhs.old.entry_bytes < 2
+            ^ 31) }
         ensures err { OnErr result (self.new ≡ self.old) }
         ensures rhs_err { OnErr result (rhs.new ≡ rhs.old) }
         ensures refused { OnErr result (rhs.old.items ≢ []) }
@@ -137,7 +139,8 @@ fn write_strings(
     requires some { entry_indexes.items ≢ [] }
     requires counts { length entry_indexes.items ≡ length entries.now }
     requires consecutive { IsConsecutive entry_indexes.items }
-    ensures bytes { OnOk result (buf.new.items ≡ buf.old.items ++ concat (map (λ e. e.items) entries.now)) }
+    ensures bytes { OnOk result (buf.new.items ≡ buf.old.items ++ concat
+        (map (λ e. e.items) entries.now)) }
     ensures items { OnOk result (item_batch.new ≡ item_batch.old
         ++ entries_item region_id (laid (entry_bytes_of item_batch.old)
         (with_lengths entry_indexes.items (map (λ e. e.items) entries.now))) ∷ []) }
@@ -160,7 +163,8 @@ fn append_strings(
 ) -> Result<()>
     requires room { 16 ≤ length buf.old.items }
     requires counts { length entry_indexes.old.items ≡ length entries.now }
-    ensures bytes { OnOk result (buf.new.items ≡ buf.old.items ++ concat (map (λ e. e.items) entries.now)) }
+    ensures bytes { OnOk result (buf.new.items ≡ buf.old.items ++ concat
+        (map (λ e. e.items) entries.now)) }
     ensures lengths { OnOk result (entry_indexes.new.items
         ≡ with_lengths entry_indexes.old.items (map (λ e. e.items) entries.now)) }
     ensures accepted { OnOk result (entries.now ≢ [] → length buf.new.items < 16 + 2 ^ 31) }
@@ -194,7 +198,8 @@ fn write_messages<M: MessageExt>(
         ++ entries_item region_id (laid (entry_bytes_of item_batch.old)
         (with_lengths (map (λ e. entry_with_index (M.index_of e)) entries.now)
         (map M.Entry.bytes_of entries.now))) ∷ []) }
-    ensures consecutive { OnOk result (IsConsecutive (map (λ e. entry_with_index (M.index_of e)) entries.now)) }
+    ensures consecutive { OnOk result (IsConsecutive
+        (map (λ e. entry_with_index (M.index_of e)) entries.now)) }
     ensures accepted { OnOk result (length buf.new.items < 16 + 2 ^ 31) }
     ensures err { OnErr result (item_batch.new ≡ item_batch.old) }
     ensures err_bytes { OnErr result (Keeps buf.old.items buf.new.items) }
@@ -213,7 +218,8 @@ fn write_messages<M: MessageExt>(
 
 /// Whether the indexes of messages rise by one and none is 2^64 - 1. No message is written for it.
 fn have_consecutive_indexes<M: MessageExt>(entries: &[M::Entry]) -> bool
-    ensures { IsTrue result ↔ IsConsecutive (map (λ e. entry_with_index (M.index_of e)) entries.now) }
+    ensures { IsTrue result ↔ IsConsecutive (map (λ e. entry_with_index (M.index_of e))
+        entries.now) }
 {
     let mut index = match entries.first() {
         Some(first) => M::index(first),

@@ -288,7 +288,7 @@ fn open(batches: &[Written], group: u64) -> u128 {
     count
 }
 
-/// The groups that have a marker.
+/// The groups that have a group marker.
 fn groups_of(alloc: Global, batches: &[Written]) -> Result<Vec<u64>> {
     let mut groups = Vec::new(alloc);
     for written in batches {

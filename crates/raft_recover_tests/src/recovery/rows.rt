@@ -352,7 +352,7 @@ live 0 0
 ",
         ),
     },
-    // Markers Begin, End, Middle, End: one effect.
+    // Group markers Begin, End, Middle, End: one effect.
     Row {
         queue: LogQueue::Rewrite,
         version: Version::V1,
@@ -424,7 +424,7 @@ live 0 0
 ",
         ),
     },
-    // A marker with a status over 2.
+    // A group marker with a status over 2.
     Row {
         queue: LogQueue::Rewrite,
         version: Version::V1,
@@ -434,7 +434,7 @@ live 0 0
         )],
         lines: None,
     },
-    // The append queue skips markers.
+    // The append queue skips group markers.
     Row {
         queue: LogQueue::Append,
         version: Version::V1,

@@ -1,9 +1,10 @@
 //! The entries of a region, in order of index.
 
 ghost use Rattle.std.specs.Prelude.{◌≡◌, ◌≢◌, ◌+◌, ◌<◌, ◌≤◌, [], length, take, drop, MatchOption, IfOk, IfErr};
-ghost use Rattle.raft_table.specs.Blocks.{shown, expanded, AreDistinctBlocks};
+ghost use Rattle.raft_table.specs.Blocks.{shown, entries_in_blocks, AreDistinctBlocks};
 ghost use Rattle.raft_table.specs.Fetches.{block_count};
-ghost use Rattle.raft_table.specs.Start.{counts_without, IsCorruptionError, IsInvalidArgument};
+ghost use Rattle.raft_base.specs.Errors.{IsCorruptionError, IsInvalidArgument};
+ghost use Rattle.raft_table.specs.Start.{counts_without};
 ghost use Rattle.raft_table.specs.TableEntries.{AreTableEntries, start_of, end_of, entry_at, entry_count, below, from, AreCounted, AreRecounted};
 ghost use Rattle.raft_base.specs.declared.pipe_log.LogQueue.TheVariants.{Rewrite};
 
@@ -62,12 +63,12 @@ struct Overlap {
 impl Model for Entries {
     ghost use Rattle.std.specs.Prelude.{List};
     ghost use Rattle.raft_base.specs.declared.entry_index.EntryIndex.{EntryIndex};
-    ghost use Rattle.raft_table.specs.Blocks.{shown, expanded};
+    ghost use Rattle.raft_table.specs.Blocks.{shown, entries_in_blocks};
     ghost use Rattle.raft_table.specs.BlockWords.{AreKept};
 
     ghost Value = { List EntryIndex };
 
-    ghost view = { λ a. expanded a.first (shown a.blocks.items) };
+    ghost view = { λ a. entries_in_blocks a.first (shown a.blocks.items) };
 
     ghost invariant = { λ a. AreKept a.first a.len (shown a.blocks.items) a.starts.items a.rewritten };
 }
@@ -96,7 +97,8 @@ impl Entries {
 
     /// The blocks that are kept.
     pub fn blocks(&self) -> &VecDeque<Block>
-        ensures entries { expanded (start_of self.now) (shown result.now.items) ≡ self.now }
+        ensures entries { entries_in_blocks (start_of self.now) (shown result.now.items)
+            ≡ self.now }
         ensures distinct { AreDistinctBlocks (shown result.now.items) }
         ensures count { length result.now.items ≡ block_count self.now }
     {
@@ -105,7 +107,8 @@ impl Entries {
 
     /// The least index.
     pub fn first_index(&self) -> Option<u64>
-        ensures { MatchOption result (self.now ≡ []) (λ i. (self.now ≢ []) × (i ≡ start_of self.now)) }
+        ensures { MatchOption result (self.now ≡ []) (λ i. (self.now ≢ []) ×
+            (i ≡ start_of self.now)) }
     {
         if self.len == 0 {
             return None;

@@ -5,8 +5,8 @@ ghost use Rattle.std.specs.Option.{option_copied, option_map, option_or};
 ghost use Rattle.std.specs.Fn.{CalledAtTwo};
 ghost use Rattle.std.specs.FinMap as finite;
 ghost use Rattle.raft_base.specs.declared.pipe_log.LogQueue.{LogQueue};
-ghost use Rattle.raft_table.specs.Scan.{VisitsUntilFalse, scanned};
-ghost use Rattle.raft_table.specs.KeyValues.{Keys, pair_count, file_weight, value_at, file_at, with_put, with_moved, files_in, least, lesser, is_up_to, fetched, pairs_shown, pairs_over};
+ghost use Rattle.raft_table.specs.Scan.{VisitsUntilFalse, pairs_between};
+ghost use Rattle.raft_table.specs.KeyValues.{Keys, pair_count, file_weight, value_at, file_at, with_moved, files_in, least, lesser, is_up_to, pairs_up_to, pairs_shown, pairs_over};
 
 mod scan;
 
@@ -125,7 +125,8 @@ impl KeyValues {
         value: Vec<u8>,
         file: FileId,
     ) -> Result<Option<FileId>, AllocError>
-        ensures ok { OnOk result (self.new ≡ with_put self.old key.items value.items file) }
+        ensures ok { OnOk result (self.new
+            ≡ finite.insert self.old key.items (record { value = value.items; file = file })) }
         ensures replaced { IfOk result (λ replaced. replaced ≡ file_at self.old key.items) }
         ensures counts { IfOk result (λ replaced. (queue : LogQueue)
             → pair_count queue self.new + file_weight queue replaced
@@ -192,7 +193,7 @@ impl KeyValues {
         vec: &mut Vec<(Vec<u8>, Vec<u8>)>,
     ) -> Result<(), AllocError>
         ensures ok { OnOk result (pairs_shown vec.new.items
-            ≡ pairs_shown vec.old.items ++ fetched queue gate self.now) }
+            ≡ pairs_shown vec.old.items ++ pairs_up_to queue gate self.now) }
         ensures err { OnErr result (vec.new.items ≡ vec.old.items) }
     {
         let len = vec.len();
@@ -213,7 +214,7 @@ impl KeyValues {
     )
         requires { F.IsAlwaysCallable f }
         ensures { (last : F)
-            × VisitsUntilFalse (CalledAtTwo F.FnMut) f (scanned (option_copied start.entry)
+            × VisitsUntilFalse (CalledAtTwo F.FnMut) f (pairs_between (option_copied start.entry)
             (option_copied end.entry) reverse self.now) last }
     {
         if !is_forward(start, end) {

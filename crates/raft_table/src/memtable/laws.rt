@@ -8,14 +8,14 @@ ghost use Rattle.raft_base.specs.declared.entry_index.EntryIndex.{EntryIndex};
 ghost use Rattle.raft_table.specs.TableEntries.{IsRun, IsRunIn, StandsBehind, start_of, end_of, entry_at, below, from};
 ghost use Rattle.std.specs.FinMap as finite;
 ghost use Rattle.raft_table.specs.LastWord.{last_entry, last_pair};
-ghost use Rattle.raft_table.specs.Marks.{Mark, applied};
+ghost use Rattle.raft_table.specs.Marks.{Mark, table_over_older};
 ghost use Rattle.raft_table.specs.Stands.{Stands};
 ghost use Rattle.raft_table.specs.MarkJoins.{joined_mark, mark_of, own_of};
 ghost use Rattle.raft_table.specs.Overlay.{HoldsDeleted, IsExactMark, has_clean, greatest_compaction, least_cut, deleted_of, rewritten_within, overlay, overlay_under};
 ghost use Rattle.raft_table.specs.Untruncated.{AreUntruncated, reaching_within};
 ghost use Rattle.raft_table.specs.Steps.{Step, IsStep, AreSteps, IsTableOf, table_of, after};
 ghost use Rattle.raft_table.specs.Table.{Table};
-ghost use Rattle.raft_table.specs.Start.{appended, replayed, leaves_hole};
+ghost use Rattle.raft_table.specs.Start.{entries_after_append, entries_after_replay, leaves_hole};
 
 /// What stands at an index, after each change of a table's entries but a rewriting: where a run is
 /// accepted, the old entries below its first index and its own from there on, but for a hole in the
@@ -23,14 +23,15 @@ ghost use Rattle.raft_table.specs.Start.{appended, replayed, leaves_hole};
 /// truncation those below its index.
 pub fn entries_stand_by_index()
     ensures appended { (es run after : List EntryIndex) → IsRunIn Append run → 0 < length run
-        → appended es run ≡ Some after → StandsBehind es run after }
-    ensures replayed { (queue : LogQueue) (es run after : List EntryIndex) → IsRunIn queue run → 0 < length run
-        → replayed Append es run ≡ Some after → StandsBehind es run after }
-    ensures rewritten { (queue : LogQueue) (es run after : List EntryIndex) → IsRunIn queue run → 0 < length run
-        → leaves_hole (end_of es) (start_of run) ≡ false → replayed Rewrite es run ≡ Some after
+        → entries_after_append es run ≡ Some after → StandsBehind es run after }
+    ensures replayed { (queue : LogQueue) (es run after : List EntryIndex) → IsRunIn queue run →
+        0 < length run → entries_after_replay Append es run ≡ Some after → StandsBehind es run after }
+    ensures rewritten { (queue : LogQueue) (es run after : List EntryIndex) → IsRunIn queue run →
+        0 < length run
+        → leaves_hole es (start_of run) ≡ false → entries_after_replay Rewrite es run ≡ Some after
         → StandsBehind es run after }
-    ensures hole { (es run after : List EntryIndex) → leaves_hole (end_of es) (start_of run) ≡ true
-        → replayed Rewrite es run ≡ Some after → after ≡ run }
+    ensures hole { (es run after : List EntryIndex) → leaves_hole es (start_of run) ≡ true
+        → entries_after_replay Rewrite es run ≡ Some after → after ≡ run }
     ensures compacted { (index i : ℕ) (es : List EntryIndex)
         → entry_at i (from index es) ≡ (if nat_lt i index then None else entry_at i es) }
     ensures truncated { (index i : ℕ) (es : List EntryIndex)
@@ -42,35 +43,39 @@ pub fn entries_stand_by_index()
 /// clean. In both queues the value and the file of a key are those of the last step that speaks of the key: a `Put` or a `Del` of it,
 /// or a clean.
 pub fn last_words_stand()
-    ensures entries { (id i : ℕ) (t : Option Table) (ss : List Step) → AreSteps ss → after Append id None ss ≡ Some t
-        → entry_at i (table_of id t).entries ≡ last_entry i ss }
+    ensures entries { (id i : ℕ) (t : Option Table) (ss : List Step) → AreSteps ss →
+        after Append id None ss ≡ Some t → entry_at i (table_of id t).entries ≡ last_entry i ss }
     ensures keys { (q : LogQueue) (id : ℕ) (key : List ℕ) (t : Option Table) (ss : List Step)
         → after q id None ss ≡ Some t → finite.get (table_of id t).keys key ≡ last_pair key ss }
 {}
 
-/// A mark and an own table stand for the steps on a region: those of one step for it; those of two
+/// A region mark and an own table stand for the steps on a region: those of one step for it; those of two
 /// neighbours, joined, for the steps of both, or one reading refuses where the join does; and the own
 /// table is what one reading of the steps gives.
 pub fn marks_stand_for_steps()
-    ensures one { (q : LogQueue) (id : ℕ) (s : Step) → IsStep s → Stands q id (mark_of s) (own_of id s) (s ∷ []) }
-    ensures joins { (q : LogQueue) (id : ℕ) (m n : Mark) (t u w : Option Table) (ss rs : List Step) → AreSteps ss
-        → AreSteps rs → Stands q id m t ss → Stands q id n u rs → applied q id n u t ≡ Some w
+    ensures one { (q : LogQueue) (id : ℕ) (s : Step) → IsStep s →
+        Stands q id (mark_of s) (own_of id s) (s ∷ []) }
+    ensures joins { (q : LogQueue) (id : ℕ) (m n : Mark) (t u w : Option Table) (ss rs : List Step)
+        → AreSteps ss
+        → AreSteps rs → Stands q id m t ss → Stands q id n u rs → table_over_older q id n u t ≡ Some w
         → Stands q id (joined_mark q id m t n) w (ss ++ rs) }
     ensures refused { (q : LogQueue) (id : ℕ) (m n : Mark) (t u : Option Table) (ss rs : List Step)
-        → Stands q id m t ss → Stands q id n u rs → applied q id n u t ≡ None → after q id None (ss ++ rs) ≡ None }
-    ensures alone { (q : LogQueue) (id : ℕ) (m : Mark) (t : Option Table) (ss : List Step) → Stands q id m t ss
-        → after q id None ss ≡ Some t }
-    ensures deleted { (q : LogQueue) (id : ℕ) (m n : Mark) (t : Option Table) (ss rs : List Step) → Stands q id m t ss
+        → Stands q id m t ss → Stands q id n u rs → table_over_older q id n u t ≡ None → after q id None (ss ++ rs) ≡ None }
+    ensures alone { (q : LogQueue) (id : ℕ) (m : Mark) (t : Option Table) (ss : List Step) →
+        Stands q id m t ss → after q id None ss ≡ Some t }
+    ensures deleted { (q : LogQueue) (id : ℕ) (m n : Mark) (t : Option Table) (ss rs : List Step) →
+        Stands q id m t ss
         → HoldsDeleted m ss → HoldsDeleted n rs → HoldsDeleted (joined_mark q id m t n) (ss ++ rs) }
     ensures few_deleted { (m : Mark) (ss : List Step) → HoldsDeleted m ss
         → finset.len m.deleted ≤ finset.len (deleted_of finset.empty ss) }
 {}
 
-/// In the append queue a mark that stands for steps holds what an overlay reads of them, so the
-/// overlay by the mark is that by the steps, and its entries are a run.
+/// In the append queue a region mark that stands for steps holds what an overlay reads of them, so the
+/// overlay by the region mark is that by the steps, and its entries are a run.
 pub fn overlays_by_marks()
     ensures one { (s : Step) → IsExactMark (mark_of s) (s ∷ []) }
-    ensures joins { (id : ℕ) (m n : Mark) (t : Option Table) (ss rs : List Step) → Stands Append id m t ss
+    ensures joins { (id : ℕ) (m n : Mark) (t : Option Table) (ss rs : List Step) →
+        Stands Append id m t ss
         → IsExactMark m ss → IsExactMark n rs → IsExactMark (joined_mark Append id m t n) (ss ++ rs) }
     ensures overlay { (m : Mark) (ss : List Step) (a r : Table) → IsExactMark m ss
         → overlay_under m a r ≡ overlay ss a r }
@@ -81,7 +86,8 @@ pub fn overlays_by_marks()
 /// Where nothing truncates or cleans, the rewritten entries below the least start of a run stay exactly
 /// where they reach it: the appended ones begin there, or no rewritten one stays.
 pub fn overlays_reach_without_truncations()
-    ensures { (id : ℕ) (ss : List Step) (appended : Option Table) (es : List EntryIndex) → AreSteps ss
+    ensures { (id : ℕ) (ss : List Step) (appended : Option Table) (es : List EntryIndex) →
+        AreSteps ss
         → AreUntruncated ss → has_clean ss ≡ false → after Append id None ss ≡ Some appended
         → rewritten_within (greatest_compaction ss) (least_cut ss) (table_of id appended).entries es
         ≡ reaching_within (greatest_compaction ss) (least_cut ss) es }

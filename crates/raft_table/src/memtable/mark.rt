@@ -1,10 +1,10 @@
-//! Marks of regions, and tables merged under them.
+//! Region marks of regions, and tables merged under them.
 
 ghost use Rattle.std.specs.Prelude.{◌≡◌, ℕ, ◌<◌, ◌||◌, OnOk, OnErr, IfErr, Some, None, min};
 ghost use Rattle.std.specs.FinMap as finite;
 ghost use Rattle.raft_base.specs.declared.pipe_log.LogQueue.TheVariants.{Append, Rewrite};
 ghost use Rattle.raft_table.specs.Marks.{misses};
-ghost use Rattle.raft_table.specs.MarkJoins.{fresh, is_settled, mark_of, end_at_reach, joined_at, joined_barred, joined_deleted, joined_floor, is_detached, capped, narrowed};
+ghost use Rattle.raft_table.specs.MarkJoins.{fresh, is_settled, mark_of, end_at_reach, joined_at, joined_barred, joined_deleted, joined_floor, is_detached, at_most_bound, narrowed_bars};
 ghost use Rattle.raft_table.specs.KeyValues.{lesser};
 ghost use Rattle.raft_base.specs.declared.pipe_log.LogQueue.{LogQueue};
 ghost use Rattle.raft_table.specs.Steps.{Compact, Truncate, Del, Clean};
@@ -51,7 +51,7 @@ impl Model for Mark {
 }
 
 impl Mark {
-    /// The mark of no step.
+    /// The region mark of no step.
     pub fn new(alloc: Global) -> Mark
         ensures { result ≡ fresh }
     {
@@ -124,13 +124,13 @@ impl Mark {
         misses(self.reach, end)
     }
 
-    /// Joins the mark of newer steps, whose first run comes behind own entries that end at
+    /// Joins the region mark of newer steps, whose first run comes behind own entries that end at
     /// `end_at_reach`. `newer` keeps its bounds and gives its deleted keys away.
     ///
     /// # Errors
     ///
     /// Where there is no memory for the newer deleted keys. Bounds and cleans are then as they were,
-    /// and the deleted keys are divided between both marks, but for one that is lost: neither serves on.
+    /// and the deleted keys are divided between both region marks, but for one that is lost: neither serves on.
     pub fn join(&mut self, queue: LogQueue, end_at_reach: u64, newer: &mut Mark) -> Result<()>
         ensures ok { OnOk result (self.new ≡ joined_at queue end_at_reach self.old newer.old) }
         ensures err { OnErr result (self.new ≡ record self.old { deleted = self.new.deleted }) }
@@ -169,32 +169,35 @@ impl Mark {
 }
 
 impl Mark {
-    /// Joins the mark of a run that starts at `start`, where the own entries end at `end`.
+    /// Joins the region mark of a run that starts at `start`, where the own entries end at `end`.
     pub fn add_run(&mut self, queue: LogQueue, end: u64, start: u64)
-        ensures { self.new ≡ joined_at queue end self.old (record fresh { reach = Some start; cut = Some start }) }
+        ensures { self.new ≡ joined_at queue end self.old
+            (record fresh { reach = Some start; cut = Some start }) }
     {
         self.add(queue, end, Some(start), 0, Some(start));
     }
 
-    /// Joins the mark of a compaction.
+    /// Joins the region mark of a compaction.
     pub fn add_compaction(&mut self, index: u64)
-        ensures { (queue : LogQueue) (end : ℕ) → self.new ≡ joined_at queue end self.old (mark_of (Compact index)) }
+        ensures { (queue : LogQueue) (end : ℕ) →
+            self.new ≡ joined_at queue end self.old (mark_of (Compact index)) }
     {
         self.add(LogQueue::Append, 0, None, index, None);
     }
 
-    /// Joins the mark of a truncation.
+    /// Joins the region mark of a truncation.
     pub fn add_truncation(&mut self, index: u64)
-        ensures { (queue : LogQueue) (end : ℕ) → self.new ≡ joined_at queue end self.old (mark_of (Truncate index)) }
+        ensures { (queue : LogQueue) (end : ℕ) →
+            self.new ≡ joined_at queue end self.old (mark_of (Truncate index)) }
     {
         self.add(LogQueue::Append, 0, None, 0, Some(index));
     }
 
-    /// Joins the mark of a deleted key.
+    /// Joins the region mark of a deleted key.
     ///
     /// # Errors
     ///
-    /// Where there is no memory for the key. The mark is then as it was.
+    /// Where there is no memory for the key. The region mark is then as it was.
     pub fn add_deleted(&mut self, key: Vec<u8>) -> Result<()>
         ensures ok { OnOk result ((queue : LogQueue) (end : ℕ)
             → self.new ≡ joined_at queue end self.old (mark_of (Del key.items))) }
@@ -209,9 +212,10 @@ impl Mark {
         Ok(())
     }
 
-    /// Joins the mark of a clean.
+    /// Joins the region mark of a clean.
     pub fn add_clean(&mut self)
-        ensures { (queue : LogQueue) (end : ℕ) → self.new ≡ joined_at queue end self.old (mark_of Clean) }
+        ensures { (queue : LogQueue) (end : ℕ) →
+            self.new ≡ joined_at queue end self.old (mark_of Clean) }
     {
         if self.is_settled() {
             return;
@@ -221,7 +225,7 @@ impl Mark {
         self.deleted.clear();
     }
 
-    /// Whether newer steps change nothing: the region was cleaned (or no steps give such a mark).
+    /// Whether newer steps change nothing: the region was cleaned (or no steps give such a region mark).
     fn is_settled(&self) -> bool
         ensures { result ≡ is_settled self.now }
     {
@@ -260,7 +264,8 @@ impl Mark {
     /// Takes over the keys that the newer steps deleted.
     fn join_deleted(&mut self, newer: &mut Mark) -> Result<()>
         ensures err { OnErr result (self.new ≡ record self.old { deleted = self.new.deleted }) }
-        ensures ok { OnOk result (self.new ≡ record self.old { deleted = joined_deleted self.old newer.old }) }
+        ensures ok { OnOk result (self.new ≡ record self.old
+            { deleted = joined_deleted self.old newer.old }) }
         ensures newer { newer.new ≡ record newer.old { deleted = newer.new.deleted } }
         ensures memory { IfErr result (λ e. e ≡ Error.Memory) }
     {
@@ -283,9 +288,9 @@ fn misses(reach: Option<u64>, end: u64) -> bool
     }
 }
 
-/// Barred indexes of a newer mark, among the entries that an older mark leaves.
+/// Barred indexes of a newer region mark, among the entries that an older region mark leaves.
 fn narrowed(floor: u64, cut: Option<u64>, barred: Option<(u64, u64)>) -> Option<(u64, u64)>
-    ensures { result ≡ narrowed floor cut barred }
+    ensures { result ≡ narrowed_bars floor cut barred }
 {
     match barred {
         Some((from, below)) => Some((floor.max(from), capped(below, cut))),
@@ -314,7 +319,7 @@ fn drops_below(reach: Option<u64>, end: u64, bound: u64) -> bool
     misses(reach, end)
 }
 
-/// The barred indexes of two marks: the older one's, else those that a newer first run which is detached
+/// The barred indexes of two region marks: the older one's, else those that a newer first run which is detached
 /// would come behind, else the newer one's.
 fn joined_barred(
     queue: LogQueue,

@@ -34,15 +34,18 @@ impl MemTable {
     ) -> Result<()>
         requires region { self.old.region_id ≡ rhs.old.region_id }
         requires counted { IsCounted self.old stats.old }
-        ensures ok { OnOk result (after_newer self.old rhs.old (joint_queue self.old rhs.old) ≡ Some self.new) }
+        ensures ok { OnOk result (after_newer self.old rhs.old (joint_queue self.old rhs.old)
+            ≡ Some self.new) }
         ensures emptied { OnOk result (rhs.new ≡ empty_table rhs.old.region_id) }
-        ensures fault { IfErr result (IsTableMergeFault stats.old self.old rhs.old (joint_queue self.old rhs.old)) }
+        ensures fault { IfErr result (IsTableMergeFault stats.old self.old rhs.old
+            (joint_queue self.old rhs.old)) }
         ensures err { IfErr result (λ e. e ≢ Error.Memory →
             (self.new ≡ self.old) × (rhs.new ≡ rhs.old) × (stats.new ≡ stats.old)) }
         ensures counts { OnOk result (stats.new
             ≡ counts_after_merge (joint_queue self.old rhs.old) self.old rhs.old stats.old) }
         ensures recounted { IsRecounted self.old self.new stats.old stats.new }
-        ensures regions { (self.new.region_id ≡ self.old.region_id) × (rhs.new.region_id ≡ rhs.old.region_id) }
+        ensures regions { (self.new.region_id ≡ self.old.region_id) ×
+            (rhs.new.region_id ≡ rhs.old.region_id) }
     {
         let Some(queue) = self.joint_queue(rhs) else {
             return Err(
@@ -70,14 +73,18 @@ impl MemTable {
     pub fn merge_append_table(&mut self, rhs: &mut MemTable, stats: &mut GlobalStats) -> Result<()>
         requires region { self.old.region_id ≡ rhs.old.region_id }
         requires counted { IsCounted self.old stats.old }
-        ensures ok { OnOk result (after_appended self.old rhs.old (append_rule self.old rhs.old) ≡ Some self.new) }
+        ensures ok { OnOk result (after_appended self.old rhs.old (append_rule self.old rhs.old)
+            ≡ Some self.new) }
         ensures emptied { OnOk result (rhs.new ≡ empty_table rhs.old.region_id) }
-        ensures fault { IfErr result (IsTableMergeFault stats.old self.old rhs.old (append_rule self.old rhs.old)) }
+        ensures fault { IfErr result (IsTableMergeFault stats.old self.old rhs.old
+            (append_rule self.old rhs.old)) }
         ensures err { IfErr result (λ e. e ≢ Error.Memory →
             (self.new ≡ self.old) × (rhs.new ≡ rhs.old) × (stats.new ≡ stats.old)) }
-        ensures counts { OnOk result (stats.new ≡ counts_after_merge (Some Append) self.old rhs.old stats.old) }
+        ensures counts { OnOk result (stats.new ≡ counts_after_merge (Some Append) self.old rhs.old
+            stats.old) }
         ensures recounted { IsRecounted self.old self.new stats.old stats.new }
-        ensures regions { (self.new.region_id ≡ self.old.region_id) × (rhs.new.region_id ≡ rhs.old.region_id) }
+        ensures regions { (self.new.region_id ≡ self.old.region_id) ×
+            (rhs.new.region_id ≡ rhs.old.region_id) }
     {
         let Some(rule) = self.append_rule(rhs) else {
             return Err(
@@ -127,13 +134,16 @@ impl MemTable {
         requires rewritten { queue ≡ Rewrite → live_of Append self.old ≡ 0 }
         requires counted { IsCounted self.old stats.old }
         ensures ok { OnOk result (after_join rule self.old rhs.old ≡ Some self.new) }
-        ensures emptied { OnOk result (rhs.new ≡ record rhs.old { entries = []; keys = finite.empty }) }
+        ensures emptied { OnOk result (rhs.new ≡ record rhs.old
+            { entries = []; keys = finite.empty }) }
         ensures fault { IfErr result (IsTableMergeFault stats.old self.old rhs.old (Some rule)) }
         ensures err { IfErr result (λ e. e ≢ Error.Memory →
             (self.new ≡ self.old) × (rhs.new ≡ rhs.old) × (stats.new ≡ stats.old)) }
-        ensures counts { OnOk result (stats.new ≡ counts_after_merge (Some queue) self.old rhs.old stats.old) }
+        ensures counts { OnOk result (stats.new ≡ counts_after_merge (Some queue) self.old rhs.old
+            stats.old) }
         ensures recounted { IsRecounted self.old self.new stats.old stats.new }
-        ensures regions { (self.new.region_id ≡ self.old.region_id) × (rhs.new.region_id ≡ rhs.old.region_id) }
+        ensures regions { (self.new.region_id ≡ self.old.region_id) ×
+            (rhs.new.region_id ≡ rhs.old.region_id) }
     {
         if !stats.has_room(rhs, LogQueue::Append) || !stats.has_room(rhs, LogQueue::Rewrite) {
             return Err(Error::Full);

@@ -8,9 +8,9 @@ ghost use Rattle.std.specs.Option.{option_copied};
 ghost use Rattle.raft_base.specs.declared.pipe_log.LogQueue.TheVariants.{Append, Rewrite};
 ghost use Rattle.raft_table.specs.TableEntries.{placed_in};
 ghost use Rattle.raft_table.specs.Fetches.{Fetches, IsFetchFault, range_answer, appended_before, block_count, entry_seq, is_some_before};
-ghost use Rattle.raft_table.specs.KeyValues.{pairs_shown, fetched};
-ghost use Rattle.raft_table.specs.Scan.{VisitsUntilFalse, scanned};
-ghost use Rattle.raft_table.specs.Least.{least_of, lowered};
+ghost use Rattle.raft_table.specs.KeyValues.{pairs_shown, pairs_up_to};
+ghost use Rattle.raft_table.specs.Scan.{VisitsUntilFalse, pairs_between};
+ghost use Rattle.raft_table.specs.Least.{least_of, at_most_first_file};
 
 use crate::memtable::MemTable;
 use crate::memtable::bounds::lesser;
@@ -54,8 +54,8 @@ impl MemTable {
         max_size: Option<usize>,
         vec: &mut Vec<EntryIndex>,
     ) -> Result<()>
-        ensures ok { OnOk result (Fetches max_size begin end self.now.entries vec.old.items vec.new.items
-            (range_answer begin end self.now.entries)) }
+        ensures ok { OnOk result (Fetches max_size begin end self.now.entries vec.old.items
+            vec.new.items (range_answer begin end self.now.entries)) }
         ensures fault { IfErr result (IsFetchFault (range_answer begin end self.now.entries)) }
         ensures err { OnErr result (vec.new.items ≡ vec.old.items) }
     {
@@ -65,7 +65,8 @@ impl MemTable {
     /// Appends the appended entries from the first on while their file is at or below `gate` to
     /// `vec`, which stays as it was where there is no memory.
     pub fn fetch_entry_indexes_before(&self, gate: FileSeq, vec: &mut Vec<EntryIndex>) -> Result<()>
-        ensures ok { OnOk result (vec.new.items ≡ vec.old.items ++ appended_before gate self.now.entries) }
+        ensures ok { OnOk result (vec.new.items ≡ vec.old.items ++ appended_before gate
+            self.now.entries) }
         ensures err { OnErr result (vec.new.items ≡ vec.old.items) }
         ensures memory { IfErr result (λ e. e ≡ Error.Memory) }
     {
@@ -74,7 +75,8 @@ impl MemTable {
 
     /// Appends the rewritten entries to `vec`, which stays as it was where there is no memory.
     pub fn fetch_rewritten_entry_indexes(&self, vec: &mut Vec<EntryIndex>) -> Result<()>
-        ensures ok { OnOk result (vec.new.items ≡ vec.old.items ++ placed_in Rewrite self.now.entries) }
+        ensures ok { OnOk result (vec.new.items ≡ vec.old.items ++ placed_in Rewrite
+            self.now.entries) }
         ensures err { OnErr result (vec.new.items ≡ vec.old.items) }
         ensures memory { IfErr result (λ e. e ≡ Error.Memory) }
     {
@@ -85,7 +87,7 @@ impl MemTable {
     /// in the order of the keys. The vector stays as it was where there is no memory.
     pub fn fetch_kvs_before(&self, gate: FileSeq, vec: &mut Vec<(Vec<u8>, Vec<u8>)>) -> Result<()>
         ensures ok { OnOk result (pairs_shown vec.new.items
-            ≡ pairs_shown vec.old.items ++ fetched Append (Some gate) self.now.keys) }
+            ≡ pairs_shown vec.old.items ++ pairs_up_to Append (Some gate) self.now.keys) }
         ensures err { OnErr result (vec.new.items ≡ vec.old.items) }
         ensures memory { IfErr result (λ e. e ≡ Error.Memory) }
     {
@@ -97,7 +99,7 @@ impl MemTable {
     /// vector stays as it was where there is no memory.
     pub fn fetch_rewritten_kvs(&self, vec: &mut Vec<(Vec<u8>, Vec<u8>)>) -> Result<()>
         ensures ok { OnOk result (pairs_shown vec.new.items
-            ≡ pairs_shown vec.old.items ++ fetched Rewrite None self.now.keys) }
+            ≡ pairs_shown vec.old.items ++ pairs_up_to Rewrite None self.now.keys) }
         ensures err { OnErr result (vec.new.items ≡ vec.old.items) }
         ensures memory { IfErr result (λ e. e ≡ Error.Memory) }
     {
@@ -118,7 +120,7 @@ impl MemTable {
         requires { F.IsAlwaysCallable f }
         ensures ok { IsOk result }
         ensures visits { (last : F)
-            × VisitsUntilFalse (CalledAtTwo F.FnMut) f (scanned (option_copied start.entry)
+            × VisitsUntilFalse (CalledAtTwo F.FnMut) f (pairs_between (option_copied start.entry)
             (option_copied end.entry) reverse self.now.keys) last }
     {
         self.keys.scan(start, end, reverse, f);
@@ -145,7 +147,8 @@ impl MemTable {
     /// the gate's, whatever its queue.
     pub fn has_at_least_some_entries_before(&self, gate: FileId, count: usize) -> bool
         requires { 0 < count }
-        ensures { result ≡ is_some_before gate.seq (entry_seq (slice_get self.now.entries (count - 1))) }
+        ensures { result ≡ is_some_before gate.seq
+            (entry_seq (slice_get self.now.entries (count - 1))) }
     {
         match self.entries.seq_at(count - 1) {
             Some(seq) => seq <= gate.seq,
@@ -156,7 +159,7 @@ impl MemTable {
 
 /// A file number at or below the last of an atomic group, lowered to at most the first.
 fn lowered(atomic_group: Option<(FileSeq, FileSeq)>, seq: Option<FileSeq>) -> Option<FileSeq>
-    ensures { result ≡ lowered atomic_group seq }
+    ensures { result ≡ at_most_first_file atomic_group seq }
 {
     match (atomic_group, seq) {
         (Some((start, end)), Some(seq)) => Some(if seq <= end { seq.min(start) } else { seq }),

@@ -11,13 +11,13 @@ ghost use Rattle.raft_base.specs.declared.pipe_log.LogQueue.{LogQueue};
 ghost use Rattle.raft_base.specs.declared.entry_index.EntryIndex.{EntryIndex};
 ghost use Rattle.raft_table.specs.Counts.{Counts, live};
 ghost use Rattle.raft_base.specs.declared.pipe_log.LogQueue.TheVariants.{Append, Rewrite};
-ghost use Rattle.raft_table.specs.TableEntries.{RisesFrom, IsRunIn, AreTableEntries, start_of, end_of, between, entry_count, entry_at};
+ghost use Rattle.raft_table.specs.TableEntries.{RisesFrom, IsRunIn, AreTableEntries, start_of, end_of, entries_between, entry_count, entry_at};
 ghost use Rattle.raft_table.specs.Fetches.{Found, range_answer, total_len, IsLimitCount, FetchesWithin};
 ghost use Rattle.raft_table.specs.KeyValues.{Keys, value_at, least, pairs_over};
-ghost use Rattle.raft_table.specs.Rewriting.{overlap, moved_count, rewritten};
-ghost use Rattle.raft_table.specs.Scan.{is_between, scanned};
+ghost use Rattle.raft_table.specs.Rewriting.{overlap, moved_count, entries_after_rewrite};
+ghost use Rattle.raft_table.specs.Scan.{is_between, pairs_between};
 ghost use Rattle.raft_table.specs.Table.{Table, live_of};
-ghost use Rattle.raft_table.specs.Start.{appended, replayed, IsTableRunFault};
+ghost use Rattle.raft_table.specs.Start.{entries_after_append, entries_after_replay, IsTableRunFault};
 
 use raft_base::Error;
 
@@ -26,16 +26,17 @@ use raft_base::Error;
 #[tactic(auto, using(crate::proofs::RunCounts::append_full, crate::proofs::RunCounts::replay_full))]
 pub fn full_runs_pass_the_limit()
     ensures append { (q : LogQueue) (counts : Counts) (es run : List EntryIndex)
-        → IsTableRunFault q counts es (appended es run) Error.Full → 2 ^ 64 ≤ live q counts + length run }
+        → IsTableRunFault q counts es (entries_after_append es run) Error.Full → 2 ^ 64 ≤ live q counts + length run }
     ensures replay { (rule q : LogQueue) (counts : Counts) (es run : List EntryIndex)
-        → IsTableRunFault q counts es (replayed rule es run) Error.Full → 2 ^ 64 ≤ live q counts + length run }
+        → IsTableRunFault q counts es (entries_after_replay rule es run) Error.Full → 2 ^ 64 ≤ live q counts + length run }
 {}
 
 /// A table has as many entries as its end is above its first index, and in both queues together as
 /// many records as entries and key values.
 #[tactic(auto, using(crate::proofs::SizeLemmas::length_by_ends, crate::proofs::SizeLemmas::entries_of_both, crate::proofs::SizeLemmas::records_of_both))]
 pub fn tables_add_up()
-    ensures length { (es : List EntryIndex) → AreTableEntries es → 0 < length es → start_of es + length es ≡ end_of es }
+    ensures length { (es : List EntryIndex) → AreTableEntries es → 0 < length es →
+        start_of es + length es ≡ end_of es }
     ensures entries { (es : List EntryIndex) → AreTableEntries es
         → entry_count Append es + entry_count Rewrite es ≡ length es }
     ensures records { (t : Table) → AreTableEntries t.entries
@@ -48,13 +49,15 @@ pub fn tables_add_up()
 #[tactic(auto, using(crate::proofs::SizeLemmas::between_by_index, crate::proofs::SizeLemmas::found_is_whole, crate::proofs::SizeLemmas::unlimited_is_all, crate::proofs::SizeLemmas::first_is_fetched, crate::proofs::SizeLemmas::limit_is_kept, crate::proofs::SizeLemmas::one_limit_count))]
 pub fn fetches_answer_ranges()
     ensures between { (begin end i : ℕ) (es : List EntryIndex)
-        → entry_at i (between begin end es)
+        → entry_at i (entries_between begin end es)
         ≡ (if nat_le begin i && nat_lt i end then entry_at i es else None) }
-    ensures whole { (begin end : ℕ) (es : List EntryIndex) → AreTableEntries es → range_answer begin end es ≡ Found
-        → RisesFrom begin (between begin end es) × (begin + length (between begin end es) ≡ end) }
-    ensures unlimited { (es old new : List EntryIndex) → FetchesWithin None es old new → new ≡ old ++ es }
-    ensures first { (limit : Option ℕ) (es : List EntryIndex) (n : ℕ) → IsLimitCount limit es n → 0 < length es
-        → 0 < n }
+    ensures whole { (begin end : ℕ) (es : List EntryIndex) → AreTableEntries es →
+        range_answer begin end es ≡ Found
+        → RisesFrom begin (entries_between begin end es) × (begin + length (entries_between begin end es) ≡ end) }
+    ensures unlimited { (es old new : List EntryIndex) → FetchesWithin None es old new →
+        new ≡ old ++ es }
+    ensures first { (limit : Option ℕ) (es : List EntryIndex) (n : ℕ) → IsLimitCount limit es n →
+        0 < length es → 0 < n }
     ensures limited { (limit n : ℕ) (es : List EntryIndex) → IsLimitCount (Some limit) es (suc n)
         → (total_len (suc n) es ≤ limit) ⊎ (total_len n es ≡ 0) }
     ensures one { (limit : Option ℕ) (es : List EntryIndex) (m n : ℕ) → IsLimitCount limit es m
@@ -65,15 +68,16 @@ pub fn fetches_answer_ranges()
 /// the order of the keys, or in the reversed order.
 #[tactic(auto, using(crate::proofs::VisitLemmas::visited_are_pairs, crate::proofs::VisitLemmas::pairs_are_visited, crate::proofs::VisitLemmas::visits_rise))]
 pub fn scans_visit_pairs()
-    ensures visited { (start end : Option (List ℕ)) (keys : Keys) → All (λ p. (value_at keys p.0 ≡ Some p.1)
-        × (is_between start end p.0 ≡ true)) (scanned start end false keys) }
+    ensures visited { (start end : Option (List ℕ)) (keys : Keys) →
+        All (λ p. (value_at keys p.0 ≡ Some p.1)
+        × (is_between start end p.0 ≡ true)) (pairs_between start end false keys) }
     ensures pairs { (start end : Option (List ℕ)) (keys : Keys) (key value : List ℕ)
         → value_at keys key ≡ Some value → is_between start end key ≡ true
-        → Contains (scanned start end false keys) (key, value) }
+        → Contains (pairs_between start end false keys) (key, value) }
     ensures order { (start end : Option (List ℕ)) (keys : Keys)
-        → IsStrictlySortedBy (slice_cmp nat_cmp) (map (λ p. p.0) (scanned start end false keys)) }
+        → IsStrictlySortedBy (slice_cmp nat_cmp) (map (λ p. p.0) (pairs_between start end false keys)) }
     ensures reversed { (start end : Option (List ℕ)) (keys : Keys)
-        → scanned start end true keys ≡ reverse (scanned start end false keys) }
+        → pairs_between start end true keys ≡ reverse (pairs_between start end false keys) }
 {}
 
 /// What stands at an index after a rewriting: the run's places from the first shared index on, as
@@ -81,11 +85,11 @@ pub fn scans_visit_pairs()
 #[tactic(auto, using(crate::proofs::MovedLemmas::moved_by_index, crate::proofs::MovedLemmas::unmoved))]
 pub fn rewriting_stands_by_index()
     ensures moved { (gate : Option ℕ) (run es after met : List EntryIndex) (e : EntryIndex) (i : ℕ)
-        → IsRunIn Rewrite run → AreTableEntries es → overlap run es ≡ e ∷ met → rewritten gate run es ≡ Some after
+        → IsRunIn Rewrite run → AreTableEntries es → overlap run es ≡ e ∷ met → entries_after_rewrite gate run es ≡ Some after
         → entry_at i after
         ≡ (if nat_le e.index i && nat_lt i (e.index + moved_count gate run es) then entry_at i run else entry_at i es) }
     ensures apart { (gate : Option ℕ) (run es : List EntryIndex) → overlap run es ≡ []
-        → rewritten gate run es ≡ Some es }
+        → entries_after_rewrite gate run es ≡ Some es }
 {}
 
 /// The least of some numbers is one of them, and none of them is below it.

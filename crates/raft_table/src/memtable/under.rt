@@ -1,4 +1,4 @@
-//! Merges of two tables of one region under the newer one's mark.
+//! Merges of two tables of one region under the newer one's region mark.
 
 ghost use Rattle.std.specs.Prelude.{◌≡◌, ◌≢◌, ◌+◌, ◌≤◌, false, [], if◌then◌else◌, MatchBool, OnOk, OnErr, IfErr, Some, None, ◌^◌};
 ghost use Rattle.std.specs.FinMap as finite;
@@ -14,8 +14,8 @@ ghost use Rattle.raft_table.specs.MarkJoins.{end_at_reach};
 ghost use Rattle.raft_table.specs.Merge.{newer_atomic_group};
 ghost use Rattle.raft_table.specs.Overlay.{is_unjoined, overlay_under, IsOverlayFault};
 ghost use Rattle.raft_table.specs.Queues.{other};
-ghost use Rattle.raft_table.specs.Start.{replayed, IsTableRunFault};
-ghost use Rattle.raft_table.specs.Table.{empty_table, after_replay, live_of, IsCounted, IsRecounted, table_with_entries, table_with_keys};
+ghost use Rattle.raft_table.specs.Start.{entries_after_replay, IsTableRunFault};
+ghost use Rattle.raft_table.specs.Table.{empty_table, after_replay, live_of, IsCounted, IsRecounted};
 ghost use Rattle.raft_base.specs.declared.pipe_log.LogQueue.TheVariants.{Append, Rewrite};
 
 use crate::global_stats::GlobalStats;
@@ -26,7 +26,7 @@ use raft_base::{EntryIndex, Error, LogQueue, Result};
 use std::mem;
 
 impl MemTable {
-    /// Where the entries end that the first run of a newer mark comes behind.
+    /// Where the entries end that the first run of a newer region mark comes behind.
     pub fn end_at_reach(&self, mark: &Mark) -> u64
         ensures { result ≡ end_at_reach mark.now self.now }
     {
@@ -35,12 +35,12 @@ impl MemTable {
     }
 
     /// Puts the newer table `rhs` of the same region, which the counts don't hold, over this one as
-    /// its mark says, where the entries that this makes are a run, as they are where mark and table
+    /// its region mark says, where the entries that this makes are a run, as they are where region mark and table
     /// stand for steps. `rhs` is left empty.
     ///
     /// # Errors
     ///
-    /// `Corruption` where, in the append queue, a run among the mark's steps would leave a hole behind
+    /// `Corruption` where, in the append queue, a run among the region mark's steps would leave a hole behind
     /// the older entries, `Full` where the live number of a queue and the
     /// records of `rhs` there would pass 2^64 - 1. Both tables and the counts are then as they were;
     /// after `Memory` the counts still agree with this table.
@@ -59,12 +59,15 @@ impl MemTable {
             → OnOk result (table_over queue mark.now rhs.old self.old ≡ Some self.new) }
         ensures fault { IsRunOver queue mark.now rhs.old self.old
             → IfErr result (IsFaultUnder queue stats.old mark.now rhs.old self.old) }
-        ensures err { IsRunOver queue mark.now rhs.old self.old → IfErr result (λ e. e ≢ Error.Memory →
+        ensures err { IsRunOver queue mark.now rhs.old self.old →
+            IfErr result (λ e. e ≢ Error.Memory →
             (self.new ≡ self.old) × (rhs.new ≡ rhs.old) × (stats.new ≡ stats.old)) }
         ensures emptied { OnOk result (rhs.new ≡ empty_table rhs.old.region_id) }
-        ensures few { OnOk result ((q : LogQueue) → live_of q self.new ≤ live_of q self.old + live_of q rhs.old) }
+        ensures few { OnOk result ((q : LogQueue) →
+            live_of q self.new ≤ live_of q self.old + live_of q rhs.old) }
         ensures recounted { IsRecounted self.old self.new stats.old stats.new }
-        ensures regions { (self.new.region_id ≡ self.old.region_id) × (rhs.new.region_id ≡ rhs.old.region_id) }
+        ensures regions { (self.new.region_id ≡ self.old.region_id) ×
+            (rhs.new.region_id ≡ rhs.old.region_id) }
     {
         if self.is_blank() {
             return self.take_whole(rhs, stats);
@@ -80,8 +83,8 @@ impl MemTable {
     }
 
     /// Puts an appended table `rhs` of the same region, which the counts don't hold, over this
-    /// rewritten one as its mark says, where the entries that this makes are a run, as they are where
-    /// mark and table stand for steps. `rhs` is left empty.
+    /// rewritten one as its region mark says, where the entries that this makes are a run, as they are where
+    /// region mark and table stand for steps. `rhs` is left empty.
     ///
     /// # Errors
     ///
@@ -103,9 +106,11 @@ impl MemTable {
         ensures fault { IfErr result (IsOverlayFault stats.old rhs.old) }
         ensures err { IfErr result (λ e. e ≢ Error.Memory →
             (self.new ≡ self.old) × (rhs.new ≡ rhs.old) × (stats.new ≡ stats.old)) }
-        ensures few { OnOk result ((q : LogQueue) → live_of q self.new ≤ live_of q self.old + live_of q rhs.old) }
+        ensures few { OnOk result ((q : LogQueue) →
+            live_of q self.new ≤ live_of q self.old + live_of q rhs.old) }
         ensures recounted { IsRecounted self.old self.new stats.old stats.new }
-        ensures regions { (self.new.region_id ≡ self.old.region_id) × (rhs.new.region_id ≡ rhs.old.region_id) }
+        ensures regions { (self.new.region_id ≡ self.old.region_id) ×
+            (rhs.new.region_id ≡ rhs.old.region_id) }
     {
         if !stats.has_room(rhs, LogQueue::Append) || !stats.has_room(rhs, LogQueue::Rewrite) {
             return Err(Error::Full);
@@ -137,7 +142,8 @@ impl MemTable {
         ensures emptied { OnOk result (rhs.new ≡ empty_table rhs.old.region_id) }
         ensures fault { IfErr result (λ e. (e ≡ Error.Full)
             × ((q : LogQueue) × (2 ^ 64 ≤ live q stats.old + live_of q rhs.old))) }
-        ensures err { OnErr result ((self.new ≡ self.old) × (rhs.new ≡ rhs.old) × (stats.new ≡ stats.old)) }
+        ensures err { OnErr result ((self.new ≡ self.old) × (rhs.new ≡ rhs.old) ×
+            (stats.new ≡ stats.old)) }
         ensures recounted { IsRecounted self.old self.new stats.old stats.new }
     {
         stats.add_table(rhs)?;
@@ -145,7 +151,7 @@ impl MemTable {
         Ok(())
     }
 
-    /// Whether there are entries in an appended table that don't join these at the mark's cut.
+    /// Whether there are entries in an appended table that don't join these at the region mark's cut.
     fn is_unjoined(&self, rhs: &MemTable, mark: &Mark) -> bool
         ensures { result ≡ is_unjoined mark.now.cut (end_of self.now.entries) rhs.now.entries }
     {
@@ -198,7 +204,7 @@ impl MemTable {
         requires counted { IsCounted self.old stats.old }
         ensures ok { OnOk result (after_replay queue self.old run.items ≡ Some self.new) }
         ensures fault { IfErr result
-            (IsTableRunFault queue stats.old self.old.entries (replayed queue self.old.entries run.items)) }
+            (IsTableRunFault queue stats.old self.old.entries (entries_after_replay queue self.old.entries run.items)) }
         ensures recounted { IsRecounted self.old self.new stats.old stats.new }
         ensures region { self.new.region_id ≡ self.old.region_id }
     {
@@ -208,21 +214,22 @@ impl MemTable {
         }
     }
 
-    /// Whether the first run of a newer mark leaves a hole behind the entries that it meets.
+    /// Whether the first run of a newer region mark leaves a hole behind the entries that it meets.
     fn is_missed(&self, mark: &Mark) -> bool
         ensures { result ≡ is_missed mark.now self.now.entries }
     {
         mark.misses(self.end_at_reach(mark))
     }
 
-    /// Refuses a newer mark whose steps are refused over these entries.
+    /// Refuses a newer region mark whose steps are refused over these entries.
     ///
     /// # Errors
     ///
     /// `Corruption`, or `Memory` where its text finds none.
     pub fn check_newer_mark(&self, queue: LogQueue, mark: &Mark) -> Result<()>
         ensures ok { OnOk result (is_refused_over queue mark.now self.now.entries ≡ false) }
-        ensures fault { IfErr result (IsMarkFault (is_refused_over queue mark.now self.now.entries)) }
+        ensures fault { IfErr result (IsMarkFault
+            (is_refused_over queue mark.now self.now.entries)) }
     {
         if self.refuses(queue, mark) {
             return Err(
@@ -233,7 +240,7 @@ impl MemTable {
         Ok(())
     }
 
-    /// Whether a newer mark's steps are refused over these entries.
+    /// Whether a newer region mark's steps are refused over these entries.
     fn refuses(&self, queue: LogQueue, mark: &Mark) -> bool
         ensures { result ≡ is_refused_over queue mark.now self.now.entries }
     {
@@ -243,7 +250,7 @@ impl MemTable {
         }
     }
 
-    /// Whether an entry stands where a newer mark lets none stand.
+    /// Whether an entry stands where a newer region mark lets none stand.
     fn is_barred(&self, mark: &Mark) -> bool
         ensures { result ≡ is_barred mark.now.barred self.now.entries }
     {
@@ -253,7 +260,7 @@ impl MemTable {
         }
     }
 
-    /// Drops what a newer mark drops: all where the region was cleaned, else the entries off its
+    /// Drops what a newer region mark drops: all where the region was cleaned, else the entries off its
     /// bounds, or all of them where they are `gone`, and the deleted keys.
     fn drop_older(&mut self, gone: bool, mark: &Mark, stats: &mut GlobalStats)
         requires counted { IsCounted self.old stats.old }
@@ -272,11 +279,13 @@ impl MemTable {
         self.drop_deleted(mark.deleted(), stats);
     }
 
-    /// Drops the entries off a mark's bounds, or all of them.
+    /// Drops the entries off a region mark's bounds, or all of them.
     fn drop_entries(&mut self, gone: bool, mark: &Mark, stats: &mut GlobalStats)
         requires counted { IsCounted self.old stats.old }
-        ensures left { self.new
-            ≡ table_with_entries self.old (if gone then [] else entries_within mark.now.floor mark.now.cut self.old.entries) }
+        ensures left { self.new ≡ record self.old {
+          entries = (if gone then []
+              else entries_within mark.now.floor mark.now.cut self.old.entries);
+        } }
         ensures recounted { IsRecounted self.old self.new stats.old stats.new }
     {
         if gone {
@@ -289,7 +298,7 @@ impl MemTable {
     /// Drops all key values.
     fn drop_keys(&mut self, stats: &mut GlobalStats)
         requires counted { IsCounted self.old stats.old }
-        ensures dropped { self.new ≡ table_with_keys self.old finite.empty }
+        ensures dropped { self.new ≡ record self.old { keys = finite.empty } }
         ensures recounted { IsRecounted self.old self.new stats.old stats.new }
     {
         stats.delete(LogQueue::Append, self.keys.count_in(LogQueue::Append));
@@ -300,7 +309,7 @@ impl MemTable {
     /// Deletes keys and their values.
     fn drop_deleted(&mut self, deleted: &DeletedKeys, stats: &mut GlobalStats)
         requires counted { IsCounted self.old stats.old }
-        ensures dropped { self.new ≡ table_with_keys self.old (without deleted.now self.old.keys) }
+        ensures dropped { self.new ≡ record self.old { keys = without deleted.now self.old.keys } }
         ensures fewer { (q : LogQueue) → pair_count q self.new.keys ≤ pair_count q self.old.keys }
         ensures recounted { IsRecounted self.old self.new stats.old stats.new }
     {

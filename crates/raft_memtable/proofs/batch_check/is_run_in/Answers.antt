@@ -1,5 +1,5 @@
 use Rattle.std.proofs.Common.{arith, refl, sym, subst, ◌∙◌}
-use Rattle.raft_history.specs.Histories.{AreBlocksIn}
+use Rattle.raft_history.proofs.Words.{AreBlocksIn}
 use Rattle.raft_table.specs.TableEntries.{start_of, placed_in}
 use Rattle.raft_table.proofs.SoundLemmas.{start_of_front}
 use Rattle.raft_table.proofs.ListTestLemmas.{no_entries_run, rising_more, placed_more, all_run, run_index, run_bound}

@@ -1,5 +1,5 @@
 use Rattle.std.proofs.Common.{◌≡◌, ◌+◌, take, drop}
-use Rattle.raft_history.specs.Histories.{AreBlocksIn}
+use Rattle.raft_history.proofs.Words.{AreBlocksIn}
 use Rattle.raft_table.specs.TableEntries.{RisesFrom, start_of, placed_in}
 use Rattle.raft_memtable.proofs.batch_check.is_run_in.Given as goal
 

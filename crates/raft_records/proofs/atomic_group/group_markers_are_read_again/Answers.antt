@@ -1,5 +1,8 @@
-use Rattle.raft_records.proofs.GroupLemmas.{marker_read, marker_accepted, marker_is, reserved_test}
+use Rattle.raft_records.proofs.GroupLemmas.{marker_written, marker_read, marker_accepted, marker_is, reserved_test}
 use Rattle.raft_records.proofs.atomic_group.group_markers_are_read_again.Goals as goal
+
+pub returns-clause-is_marker : goal.returns-clause-is_marker
+returns-clause-is_marker c = marker_written
 
 pub returns-clause-read : goal.returns-clause-read
 returns-clause-read c = marker_read

@@ -3,8 +3,9 @@ use Rattle.std.proofs.lemmas.List.{length-take-le}
 use Rattle.std.proofs.lemmas.Result.{err_from_is_err_and}
 use Rattle.raft_codec.specs.Reading.{HasNoFront}
 use Rattle.raft_base.specs.Signature.{signature_of}
-use Rattle.raft_records.specs.FilePart.{Part, part_signature, IsNextFault, entries_place}
-use Rattle.raft_records.specs.ItemBatch.{IsItemBatch, IsItemBatchFault, placed}
+use Rattle.raft_records.specs.FilePart.{Part, IsNextFault}
+use Rattle.raft_records.proofs.Names.{part_signature, entries_place}
+use Rattle.raft_records.specs.ItemBatch.{IsItemBatch, IsItemBatchFault, placed_item}
 use Rattle.raft_records.specs.LogBatch.{IsReadable}
 use Rattle.raft_records.proofs.PartLemmas.{no_header, cut_short, no_footer, batch_stands, batch_split}
 use Rattle.raft_records.proofs.file_part.next_batch.Goals as goal
@@ -64,5 +65,5 @@ returns-clause-ok c =
       frame = frame.0;
       stands = batch_split c.args.part.now.bytes c.args.at c.in_ok-offset.len ∙ ap (λ (xs : List ℕ). take c.in_ok-offset.len xs ++ drop (c.args.at + c.in_ok-offset.len) c.args.part.now.bytes) (sym rest);
       ends = ap (λ n. c.args.at + n) (sym (length-take-le c.in_ok-offset.len c.split_at.result.1.now c.if-len-rest.false));
-      places = read.places ∙ ap (λ (p : Part). map (placed (entries_place p c.args.at c.in_ok-offset.offset) c.in_ok-offset.compression_type) read.read) c.part.view_is ∙ ap (λ compression. map (placed (entries_place c.args.part.now c.args.at c.in_ok-offset.offset) compression) read.read) (sym frame.1);
+      places = read.places ∙ ap (λ (p : Part). map (placed_item (entries_place p c.args.at c.in_ok-offset.offset) c.in_ok-offset.compression_type) read.read) c.part.view_is ∙ ap (λ compression. map (placed_item (entries_place c.args.part.now c.args.at c.in_ok-offset.offset) compression) read.read) (sym frame.1);
     }

@@ -2,8 +2,8 @@ use Rattle.std.proofs.Common.{◌++◌, ◌∷◌, [], ◌-◌, map, ap, ◌∙�
 use Rattle.std.proofs.lemmas.List.{map-append, length_push}
 use Rattle.std.proofs.lemmas.Result.{err_from_is_err_and}
 use Rattle.raft_records.specs.Item.{item_of, IsInBytes}
-use Rattle.raft_records.specs.Grammar.{behind_item}
-use Rattle.raft_records.specs.ItemBatch.{FitsBehind, placed, entry_bytes_of}
+use Rattle.raft_records.proofs.Names.{behind_item}
+use Rattle.raft_records.specs.ItemBatch.{FitsBehind, placed_item, entry_bytes_of}
 use Rattle.raft_records.proofs.BatchLemmas.{one_more_item, no_more_items, item_fault, item_fits, fits_placed, end_of_placed}
 use Rattle.raft_records.proofs.InBytesLemmas.{item_in_bytes, content_in_bytes_placed}
 use Rattle.raft_records.proofs.PlacementLemmas.{item_placed}
@@ -41,7 +41,7 @@ add-requires-clause-end c =
 pub loop-preserved : goal.loop-preserved
 loop-preserved c =
     let before = c.loop.invariant.0 in
-    let put = placed c.args.block c.args.compression_type in
+    let put = placed_item c.args.block c.args.compression_type in
     let s = c.entries_size-start.ensures ∙ ap entry_bytes_of c.loop.invariant.2 ∙ end_of_placed c.args.block c.args.compression_type 0 before in
     let item = c.in_ok-item.ensures.ok in
     let is = item.2 ∙ item_placed c.args.block c.args.compression_type item.0 in

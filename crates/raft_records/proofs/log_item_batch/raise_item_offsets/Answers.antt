@@ -1,7 +1,7 @@
 use Rattle.std.proofs.Common.{◌≡◌, length, map, refl, ap, subst, sym, ◌∙◌, arith}
 use Rattle.std.proofs.lemmas.List.{length-map}
 use Rattle.raft_records.specs.Item.{item_of, content_of}
-use Rattle.raft_records.specs.ItemBatch.{raised, CanRaiseContent, entry_bytes_of}
+use Rattle.raft_records.specs.ItemBatch.{raised_item, CanRaiseContent, entry_bytes_of}
 use Rattle.raft_records.proofs.BatchLemmas.{map_view_more, seen_at}
 use Rattle.raft_records.proofs.LayLemmas.{raise_next}
 use Rattle.raft_records.proofs.log_item_batch.raise_item_offsets.Goals as goal
@@ -15,4 +15,4 @@ raise_offsets-requires c =
 pub loop-item-preserved : goal.loop-item-preserved
 loop-item-preserved c =
     let lens : length (map item_of c.args.items.now.items) ≡ length c.loop-item.item-items = omega (arith, length-map c.args.items.now.items item_of, c.loop-item.auto.item-items, ap length c.deref_mut-item-items.ensures.value) in
-    map_view_more item_of (raised c.args.by) (map item_of c.args.items.now.items) c.loop-item.item-items c.loop-item.item-index c.item-item.result c.raise_offsets.new.self (omega arith) lens c.loop-item.invariant c.item-item.is (c.raise_offsets.ensures ∙ ap (λ v. raised c.args.by (item_of v)) (sym c.item-item.is))
+    map_view_more item_of (raised_item c.args.by) (map item_of c.args.items.now.items) c.loop-item.item-items c.loop-item.item-index c.item-item.result c.raise_offsets.new.self (omega arith) lens c.loop-item.invariant c.item-item.is (c.raise_offsets.ensures ∙ ap (λ v. raised_item c.args.by (item_of v)) (sym c.item-item.is))

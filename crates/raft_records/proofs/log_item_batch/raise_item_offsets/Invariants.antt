@@ -1,9 +1,9 @@
 use Rattle.std.proofs.Common.{◌≡◌, ◌++◌, map, take, drop}
 use Rattle.raft_records.specs.Item.{item_of}
-use Rattle.raft_records.specs.ItemBatch.{raised}
+use Rattle.raft_records.specs.ItemBatch.{raised_item}
 use Rattle.raft_records.proofs.log_item_batch.raise_item_offsets.Given as goal
 
 -- the items so far are raised
 abbrev pub invariant-loop-item : goal.invariant-loop-item
 invariant-loop-item l =
-    map item_of l.item-items ≡ map (raised l.by) (take l.item-index (map item_of l.fn.items.items)) ++ drop l.item-index (map item_of l.fn.items.items)
+    map item_of l.item-items ≡ map (raised_item l.by) (take l.item-index (map item_of l.fn.items.items)) ++ drop l.item-index (map item_of l.fn.items.items)

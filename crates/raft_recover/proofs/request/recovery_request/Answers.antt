@@ -1,18 +1,48 @@
-use Rattle.std.proofs.Common.{◌≡◌, ◌∷◌, map, string_bytes, length, ◌-◌, take, drop, ap}
-use Rattle.raft_recover.proofs.RequestLemmas.{four_and_more, same_text, recover_first}
+use Rattle.std.proofs.Common.{◌≡◌, ◌∷◌, List, ℕ, map, string_bytes, length, ◌-◌, take, drop, subst}
+use Rattle.std.proofs.lemmas.Result.{err_from_is_err_and}
+use Rattle.raft_recover.specs.Requests.{AreNamed, AsksRecovery}
+use Rattle.raft_recover.proofs.RequestLemmas.{four_and_more, four_texts, same_text, same_rest, recover_first, files_of_words, each_names}
+use Rattle.raft_recover.proofs.request.recovery_request.Goals.{In-Some-number_named}
+use Rattle.raft_recover.proofs.request.recovery_request.Goals.at as at
 use Rattle.raft_recover.proofs.request.recovery_request.Goals as goal
 
-pub returns-clause-asked : goal.returns-clause-asked
-returns-clause-asked c =
+-- the words behind the first four
+abbrev rest : (c : In-Some-number_named) → List (List ℕ)
+rest c = map string_bytes (take (length c.args.words.now - 4) (drop 4 c.args.words.now))
+
+words : (c : In-Some-number_named) → map string_bytes c.args.words.now ≡ c.as_str.result.now ∷ c.as_str-2.result.now ∷ c.as_str-3.result.now ∷ c.as_str-4.result.now ∷ rest c
+words c =
     let items = four_and_more c.args.words.now c.command-item.result c.queue-item.result c.version-item.result c.workers-item.result c.in-len4-up.len_at_least c.command-item.is c.queue-item.is c.version-item.is c.workers-item.is in
-    let words : map string_bytes c.args.words.now ≡ c.as_str.result.now ∷ c.as_str-2.result.now ∷ c.as_str-3.result.now ∷ c.as_str-4.result.now ∷ map string_bytes (take (length c.args.words.now - 4) (drop 4 c.args.words.now)) = rw (c.as_str.ensures.value, c.as_str-2.ensures.value, c.as_str-3.ensures.value, c.as_str-4.ensures.value) (ap (map string_bytes) items) in
-    record {
-      queue = c.as_str-2.result.now;
-      version = c.as_str-3.result.now;
-      workers = c.as_str-4.result.now;
-      form = recover_first (map string_bytes c.args.words.now) (map string_bytes (take (length c.args.words.now - 4) (drop 4 c.args.words.now))) c.as_str.result.now c.as_str-2.result.now c.as_str-3.result.now c.as_str-4.result.now words (same_text _ _ c.if-ne.ensures);
-      queue_named = c.in_ok-queue_named.ensures.named;
-      version_named = c.in_ok-version_named.ensures.named;
-      workers_named = c.in_ok-number_named.ensures.named;
-      files_named = c.if-not-name_paths.ensures;
-    }
+    four_texts string_bytes c.args.words.now _ c.command-item.result c.queue-item.result c.version-item.result c.workers-item.result _ _ _ _ items c.as_str.ensures.value c.as_str-2.ensures.value c.as_str-3.ensures.value c.as_str-4.ensures.value
+
+-- what the words ask for, where those behind the first four name these files
+asked : (c : In-Some-number_named) (files : List (ℕ × List ℕ)) → AreNamed (rest c) files
+    → AsksRecovery (map string_bytes c.args.words.now) record { queue = c.in-Some.queue; version = c.in-Some-version_named.version; workers = c.in-Some-number_named.workers; files = files }
+asked c files named = record {
+  queue = c.as_str-2.result.now;
+  version = c.as_str-3.result.now;
+  workers = c.as_str-4.result.now;
+  files = rest c;
+  form = recover_first (map string_bytes c.args.words.now) (rest c) c.as_str.result.now c.as_str-2.result.now c.as_str-3.result.now c.as_str-4.result.now (words c) (same_text _ _ c.if-ne.ensures);
+  queue_named = c.in-Some.ensures.named;
+  version_named = c.in-Some-version_named.ensures.named;
+  workers_named = c.in-Some-number_named.ensures.named;
+  files_named = named;
+}
+
+pub returns-clause-asked : goal.returns-clause-asked
+returns-clause-asked c = asked (at.returns-clause-asked c).In-Some-number_named _ (rw c.in-Some-2.is at c.in_ok-files.ensures.named)
+
+pub returns-in_default-2-clause-refused : goal.returns-in_default-2-clause-refused
+returns-in_default-2-clause-refused c =
+    let before = (at.returns-in_default-2-clause-refused c).In-Some-number_named in
+    let none = rw c.in_default-2.is at c.in_ok-files.ensures.refused in
+    λ recovery asked. none (each_names (rest before) recovery.files (subst (λ ws. AreNamed ws recovery.files)
+    (same_rest (map string_bytes c.args.words.now) (rest before) asked.files _ _ _ _ _ _ _ _ (words before) asked.form) asked.files_named))
+
+pub returns-in_err-files-clause-memory : goal.returns-in_err-files-clause-memory
+returns-in_err-files-clause-memory c =
+    let p = err_from_is_err_and c.from_residual.result c.from_residual.ensures.1 in
+    let before = (at.returns-in_err-files-clause-memory c).In-Some-number_named in
+    let files = files_of_words (rest before) c.in_err-files.ensures.memory.1 in
+    rw (p.1, p.2) (c.in_err-files.ensures.memory.0, _, asked before files.0 files.1)

@@ -1,4 +1,4 @@
-use Rattle.std.proofs.Common.{◌++◌, ◌+◌, List, Vec, length, drop, refl, ap, subst, arith}
+use Rattle.std.proofs.Common.{◌++◌, ◌+◌, List, Vec, drop, refl, ap, subst, arith}
 use Rattle.std.specs.Global.{Global}
 use Rattle.std.proofs.lemmas.List.{drop_all}
 use Rattle.raft_records.specs.FilePart.{Part}

@@ -4,7 +4,7 @@ use Rattle.raft_replay.proofs.scheduled.is_schedule.Goals as goal
 pub returns : goal.returns
 returns c = (
   λ fits. record {
-    of_queue = c.if-not-are_of.ensures.0 refl;
+    of_queue = c.if-not-segments_are_of.ensures.0 refl;
     some_worker = omega arith;
     few_workers = omega arith;
     known_workers = c.if-not-are_known.ensures.0 refl;

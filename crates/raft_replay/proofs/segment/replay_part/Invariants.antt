@@ -1,5 +1,6 @@
 use Rattle.std.proofs.Common.{◌-◌, ◌≤◌, length}
-use Rattle.raft_replay.specs.Segments.{ReadsPart, ReadsFrom}
+use Rattle.raft_replay.specs.Segments.{HoldsFrom}
+use Rattle.raft_replay.proofs.Words.{PartHolds}
 use Rattle.raft_replay.proofs.MidwayLemmas.{Midway}
 use Rattle.raft_replay.proofs.segment.replay_part.Given as goal
 
@@ -7,7 +8,7 @@ abbrev pub invariant-loop-batch : goal.invariant-loop-batch
 invariant-loop-batch g l = record {
   inside : l.at ≤ length l.part.bytes;
   midway :
-      Midway (ReadsPart l.part) (ReadsFrom l.part l.at)
+      Midway (PartHolds l.part) (HoldsFrom l.part l.at)
       (g.M.ReplayMachine.stands_for l.fn.machine) (g.M.ReplayMachine.stands_for l.machine)
       (g.M.ReplayMachine.stands_exactly l.fn.machine) (g.M.ReplayMachine.stands_exactly l.machine);
 }

@@ -1,7 +1,7 @@
 use Rattle.std.proofs.Common.{◌≡◌, ℕ, ◌+◌, ◌<◌, List, ◌∷◌, length, get_or, drop, ap, subst, arith}
 use Rattle.std.proofs.lemmas.Result.{err_from_is_err_and}
 use Rattle.raft_records.specs.FilePart.{Part}
-use Rattle.raft_replay.specs.Segments.{ReadsPart}
+use Rattle.raft_replay.proofs.Words.{PartHolds}
 use Rattle.raft_replay.proofs.MidwayLemmas.{advance, refused, replayed}
 use Rattle.raft_replay.proofs.SegmentLemmas.{part_unique, cut_at, cut_refused, nothing_left, left_from}
 use Rattle.raft_replay.proofs.segment.replay_segment.Goals as goal
@@ -15,7 +15,7 @@ returns-in_err-replay_part-clause-refused g c =
     let p = err_from_is_err_and c.from_residual.result c.from_residual.ensures.1 in
     rw (p.1, p.2)
     (λ not_memory. refused c.loop-part.invariant
-    (cut_refused ReadsPart _ (drop (c.loop-part.part-index + 1) c.args.segment.now.items) c.part-item.result _
+    (cut_refused PartHolds _ (drop (c.loop-part.part-index + 1) c.args.segment.now.items) c.part-item.result _
     (item_here c.deref-part-items.ensures.value (let t = c.loop-part-test.true in omega arith) c.part-item.is)
     (c.in_err-replay_part.ensures.refused not_memory)))
 
@@ -23,10 +23,10 @@ pub loop-part-preserved : goal.loop-part-preserved
 loop-part-preserved g c =
     let done = c.in_ok-replay_part.ensures.ok in
     advance c.loop-part.invariant done.history
-    (cut_at ReadsPart _ _ c.part-item.result done.history (item_here c.deref-part-items.ensures.value (let t = c.loop-part-test.true in omega arith) c.part-item.is) (part_unique c.part-item.result 0) done.reads)
+    (cut_at PartHolds _ _ c.part-item.result done.history (item_here c.deref-part-items.ensures.value (let t = c.loop-part-test.true in omega arith) c.part-item.is) (part_unique c.part-item.result 0) done.reads)
     done.stands done.exact
 
 pub returns-clause-ok : goal.returns-clause-ok
 returns-clause-ok g c =
     replayed g.M.ReplayMachine.stands_for g.M.ReplayMachine.stands_exactly c.args.machine.now c.loop-part.machine c.loop-part.invariant
-    (nothing_left ReadsPart c.loop-part.part-index c.args.segment.now.items (let e = ap length c.deref-part-items.ensures.value in let t = c.loop-part-test.false in omega arith))
+    (nothing_left PartHolds c.loop-part.part-index c.args.segment.now.items (let e = ap length c.deref-part-items.ensures.value in let t = c.loop-part-test.false in omega arith))

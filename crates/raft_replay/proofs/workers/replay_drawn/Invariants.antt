@@ -1,5 +1,5 @@
 use Rattle.std.proofs.Common.{◌≡◌, ℕ, ◌-◌, ◌<◌, All, length}
-use Rattle.raft_replay.specs.Covers.{IsPieceOf, covering}
+use Rattle.raft_replay.specs.Covers.{IsPieceOf, cover_count}
 use Rattle.raft_tickets.specs.Draws.{AreBelow, IsSeatOf}
 use Rattle.raft_tickets.specs.Weights.{occurrences}
 use Rattle.raft_replay.proofs.CoverLemmas.{bound}
@@ -10,7 +10,7 @@ invariant-loop-number g l = record {
   of_tickets : IsSeatOf l.tickets l.seat;
   below : AreBelow (length l.segments) l.seat.drawn;
   each : All (IsPieceOf g.M.ReplayMachine.stands_exactly l.segments) l.pieces.items;
-  covered : (x : ℕ) → x < length l.segments → covering x l.pieces.items ≡ occurrences x l.seat.drawn;
+  covered : (x : ℕ) → x < length l.segments → cover_count x l.pieces.items ≡ occurrences x l.seat.drawn;
 }
 
 abbrev pub decreases-loop-number : goal.decreases-loop-number

@@ -152,7 +152,8 @@ fn cut_back(blocks: &mut VecDeque<Block>, whole: usize, part: usize)
 /// Drops whole blocks from the front, and so many entries of the next one.
 fn cut_front(blocks: &mut VecDeque<Block>, whole: usize, part: usize)
     requires whole { whole < length blocks.old.items }
-    requires part { (d : Block) → part ≤ length (slice_index_or blocks.old.items whole d).spans.items }
+    requires part { (d : Block) → part ≤ length
+        (slice_index_or blocks.old.items whole d).spans.items }
     ensures { shown blocks.new.items ≡ cut_first part (drop whole (shown blocks.old.items)) }
 {
     drop_first(blocks, whole);

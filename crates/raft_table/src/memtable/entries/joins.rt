@@ -130,8 +130,10 @@ impl Entries {
     pub(super) fn put_between(&mut self, at: usize, run: Entries) -> Result<(), AllocError>
         requires run { 0 < length run }
         requires behind { at + length run < length self.old }
-        requires table_entries { AreTableEntries (take at self.old ++ run ++ drop (at + length run) self.old) }
-        ensures ok { OnOk result (self.new ≡ take at self.old ++ run ++ drop (at + length run) self.old) }
+        requires table_entries { AreTableEntries
+            (take at self.old ++ run ++ drop (at + length run) self.old) }
+        ensures ok { OnOk result (self.new ≡ take at self.old ++ run ++ drop (at + length run)
+            self.old) }
         ensures err { OnErr result (self.new ≡ self.old) }
     {
         let kept = self.rewritten.min(at);
@@ -185,8 +187,8 @@ fn count_of(handle: &FileBlockHandle, run: &[EntryIndex], at: usize) -> usize
     ensures within { at + result ≤ length run.now }
     ensures all { (j : ℕ) (d : EntryIndex) → at ≤ j → j < at + result
         → (slice_index_or run.now j d).entries ≡ Some handle.now }
-    ensures some { (d : EntryIndex) → at < length run.now → (slice_index_or run.now at d).entries ≡ Some handle.now
-        → 0 < result }
+    ensures some { (d : EntryIndex) → at < length run.now →
+        (slice_index_or run.now at d).entries ≡ Some handle.now → 0 < result }
 {
     for i in at..run.len() {
         if !stands_in(&run[i], handle) {
@@ -198,7 +200,8 @@ fn count_of(handle: &FileBlockHandle, run: &[EntryIndex], at: usize) -> usize
 
 /// Whether an entry stands in a block.
 fn stands_in(entry: &EntryIndex, handle: &FileBlockHandle) -> bool
-    ensures { MatchBool result (entry.now.entries ≡ Some handle.now) (entry.now.entries ≢ Some handle.now) }
+    ensures { MatchBool result (entry.now.entries ≡ Some handle.now)
+        (entry.now.entries ≢ Some handle.now) }
 {
     match entry.entries {
         Some(own) => is_same(&own, handle),
@@ -223,9 +226,10 @@ fn spans_within(
     handle: &FileBlockHandle,
     run: &[EntryIndex],
 ) -> Result<Option<VecDeque<(u32, u32)>>, AllocError>
-    ensures spans { IfOk result (λ within. IfSome within (λ spans. spans.items ≡ spans_of run.now)) }
-    ensures all { IfOk result (λ within. OnSome within ((j : ℕ) (d : EntryIndex) → j < length run.now
-        → (slice_index_or run.now j d).entries ≡ Some handle.now)) }
+    ensures spans { IfOk result (λ within. IfSome within
+        (λ spans. spans.items ≡ spans_of run.now)) }
+    ensures all { IfOk result (λ within. OnSome within ((j : ℕ) (d : EntryIndex) →
+        j < length run.now → (slice_index_or run.now j d).entries ≡ Some handle.now)) }
 {
     let mut spans = Vec::with_capacity(alloc, run.len())?;
     for entry in run {

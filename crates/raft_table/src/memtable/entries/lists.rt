@@ -17,7 +17,8 @@ pub(super) fn count_at_or_below(starts: &VecDeque<u64>, index: u64) -> usize
     requires { IsNonDecreasingBy (λ (y : ℕ). y) starts.now.items }
     ensures bound { result ≤ length starts.now.items }
     ensures below { (j d : ℕ) → j < result → slice_index_or starts.now.items j d ≤ index }
-    ensures above { (j d : ℕ) → result ≤ j → j < length starts.now.items → index < slice_index_or starts.now.items j d }
+    ensures above { (j d : ℕ) → result ≤ j → j < length starts.now.items →
+        index < slice_index_or starts.now.items j d }
 {
     starts.partition_point(|start: &u64| -> bool { *start <= index })
 }
@@ -27,8 +28,8 @@ pub(super) fn count_at_or_below(starts: &VecDeque<u64>, index: u64) -> usize
 /// length; where that isn't the one, they are searched.
 pub(super) fn find(starts: &VecDeque<u64>, first: u64, len: usize, index: u64) -> (usize, usize)
     requires { IsIndexOf starts.now.items index }
-    ensures { (i : ℕ) (bs : List BlockSpans) → starts.now.items ≡ starts_of i bs → i ≤ index → index < i + count bs
-        → IsAt (index - i) bs result.0 result.1 }
+    ensures { (i : ℕ) (bs : List BlockSpans) → starts.now.items ≡ starts_of i bs → i ≤ index →
+        index < i + count bs → IsAt (index - i) bs result.0 result.1 }
 {
     let last = starts.len() - 1;
     let guess = guess(first, len, starts.len(), index).min(last);
@@ -42,8 +43,8 @@ pub(super) fn find(starts: &VecDeque<u64>, first: u64, len: usize, index: u64) -
 /// What `find` answers, without a guess: the last block is looked at, and then all are searched.
 pub(super) fn search(starts: &VecDeque<u64>, index: u64) -> (usize, usize)
     requires { IsIndexOf starts.now.items index }
-    ensures { (i : ℕ) (bs : List BlockSpans) → starts.now.items ≡ starts_of i bs → i ≤ index → index < i + count bs
-        → IsAt (index - i) bs result.0 result.1 }
+    ensures { (i : ℕ) (bs : List BlockSpans) → starts.now.items ≡ starts_of i bs → i ≤ index →
+        index < i + count bs → IsAt (index - i) bs result.0 result.1 }
 {
     let last = starts.len() - 1;
     let start = starts[last];
@@ -68,8 +69,8 @@ pub(super) fn cut_at(starts: &VecDeque<u64>, first: u64, kept: usize) -> (usize,
     requires bounded { first + kept < 2 ^ 64 }
     requires within { 0 < kept → IsIndexOf starts.now.items (first + (kept - 1)) }
     ensures none { kept ≡ 0 → (result.0 ≡ 0) × (result.1 ≡ 0) }
-    ensures some { (bs : List BlockSpans) → 0 < kept → starts.now.items ≡ starts_of first bs → kept ≤ count bs
-        → IsAt (kept - 1) bs (result.0 - 1) (result.1 - 1) × (0 < result.0) × (0 < result.1) }
+    ensures some { (bs : List BlockSpans) → 0 < kept → starts.now.items ≡ starts_of first bs →
+        kept ≤ count bs → IsAt (kept - 1) bs (result.0 - 1) (result.1 - 1) × (0 < result.0) × (0 < result.1) }
 {
     if kept == 0 {
         return (0, 0);
@@ -117,7 +118,8 @@ pub(super) fn put_blocks(
     requires part { (d : Block) → 0 < place.0
         → place.1 ≤ length (slice_index_or blocks.old.items (place.0 - 1) d).spans.items }
     requires starts { length starts.old.items ≡ length blocks.old.items }
-    requires more { (0 < length more.old.items) × (length more_starts.old.items ≡ length more.old.items) }
+    requires more { (0 < length more.old.items) ×
+        (length more_starts.old.items ≡ length more.old.items) }
     ensures blocks { OnOk result (shown blocks.new.items ≡
         joined_blocks (cut_last place.1 (take place.0 (shown blocks.old.items))) (shown more.old.items)
         ++ drop rest (shown blocks.old.items)) }
@@ -141,7 +143,8 @@ pub(super) fn put_blocks(
 /// lacks it.
 fn make_room<T>(deque: &mut VecDeque<T>, more: &mut VecDeque<T>) -> Result<(), AllocError>
     ensures items { (deque.new.items ≡ deque.old.items) × (more.new.items ≡ more.old.items) }
-    ensures len { (deque_len deque.new ≡ deque_len deque.old) × (deque_len more.new ≡ deque_len more.old) }
+    ensures len { (deque_len deque.new ≡ deque_len deque.old) ×
+        (deque_len more.new ≡ deque_len more.old) }
     ensures ok { OnOk result ((deque_len deque.new + deque_len more.new ≤ deque_capacity deque.new)
         ⊎ (deque_len deque.new + deque_len more.new ≤ deque_capacity more.new)) }
 {
@@ -163,7 +166,8 @@ fn meet(
     requires within { place.0 ≤ length blocks.old.items }
     requires part { (d : Block) → 0 < place.0
         → place.1 ≤ length (slice_index_or blocks.old.items (place.0 - 1) d).spans.items }
-    requires more { (0 < length more.old.items) × (length more_starts.old.items ≡ length more.old.items) }
+    requires more { (0 < length more.old.items) ×
+        (length more_starts.old.items ≡ length more.old.items) }
     ensures front { OnOk result (take place.0 (shown blocks.new.items) ++ shown more.new.items
         ≡ joined_blocks (cut_last place.1 (take place.0 (shown blocks.old.items))) (shown more.old.items)) }
     ensures behind { OnOk result ((n : ℕ) → place.0 ≤ n
@@ -242,8 +246,10 @@ fn lengthen(
 ) -> Result<(), AllocError>
     requires { part ≤ length block.old.spans.items }
     ensures handle { block.new.handle ≡ block.old.handle }
-    ensures ok { OnOk result (block.new.spans.items ≡ take part block.old.spans.items ++ more.old.items) }
-    ensures err { OnErr result ((block.new.spans.items ≡ block.old.spans.items) × (more.new.items ≡ more.old.items)) }
+    ensures ok { OnOk result (block.new.spans.items ≡ take part
+        block.old.spans.items ++ more.old.items) }
+    ensures err { OnErr result ((block.new.spans.items ≡ block.old.spans.items) ×
+        (more.new.items ≡ more.old.items)) }
 {
     let len = block.spans.len();
     block.spans.reserve(more.len().saturating_sub(len - part))?;
@@ -269,7 +275,8 @@ fn splice<T: Drop>(deque: &mut VecDeque<T>, kept: usize, rest: usize, more: &mut
     requires within { rest ≤ deque_len deque.old }
     requires room { (deque_len deque.old + deque_len more.old ≤ deque_capacity deque.old)
         ⊎ (deque_len deque.old + deque_len more.old ≤ deque_capacity more.old) }
-    ensures items { deque.new.items ≡ take kept deque.old.items ++ more.old.items ++ drop rest deque.old.items }
+    ensures items { deque.new.items ≡ take kept deque.old.items ++ more.old.items ++ drop rest
+        deque.old.items }
     ensures emptied { more.new.items ≡ [] }
 {
     let behind = deque.len() - rest;

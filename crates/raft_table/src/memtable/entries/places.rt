@@ -6,7 +6,7 @@ ghost use Rattle.raft_table.specs.Counts.{live, with_added, with_deleted};
 ghost use Rattle.raft_table.specs.TableEntries.{AreTableEntries, IsRunIn, RisesFrom, start_of, placed_in, entry_count, AreCounted, AreRecounted};
 ghost use Rattle.raft_table.specs.Queues.{count_in};
 ghost use Rattle.raft_table.specs.Overlaps.{IsOverlap, AreDisjoint};
-ghost use Rattle.raft_table.specs.Rewriting.{may_move, is_misplaced, newly_rewritten, with_rewritten, rewritten, counts_after_rewrite, IsRewriteFault, MovesPlacesAlone};
+ghost use Rattle.raft_table.specs.Rewriting.{may_move, is_misplaced, newly_rewritten, with_rewritten, entries_after_rewrite, counts_after_rewrite, IsRewriteFault, MovesPlacesAlone};
 ghost use Rattle.raft_base.specs.declared.pipe_log.LogQueue.{LogQueue};
 ghost use Rattle.raft_base.specs.declared.pipe_log.LogQueue.TheVariants.{Append, Rewrite};
 
@@ -25,10 +25,12 @@ impl Entries {
     ) -> Result<()>
         requires run { IsRunIn Rewrite run.now }
         requires counted { AreCounted self.old stats.old }
-        ensures ok { OnOk result (rewritten gate run.now self.old ≡ Some self.new) }
+        ensures ok { OnOk result (entries_after_rewrite gate run.now self.old ≡ Some self.new) }
         ensures places_alone { OnOk result (MovesPlacesAlone run.now self.old self.new) }
-        ensures counts { OnOk result (stats.new ≡ counts_after_rewrite gate run.now self.old stats.old) }
-        ensures fault { IfErr result (IsRewriteFault (length run.now) stats.old (rewritten gate run.now self.old)) }
+        ensures counts { OnOk result (stats.new ≡ counts_after_rewrite gate run.now self.old
+            stats.old) }
+        ensures fault { IfErr result (IsRewriteFault (length run.now) stats.old
+            (entries_after_rewrite gate run.now self.old)) }
         ensures err { OnErr result ((self.new ≡ self.old) × (stats.new ≡ stats.old)) }
         ensures recounted { AreRecounted self.old self.new stats.old stats.new }
     {
@@ -93,7 +95,8 @@ impl Entries {
         requires well_placed { is_misplaced gate at (entry_count Rewrite self.old) ≡ false }
         requires written { length places.now ≤ written }
         requires counted { AreCounted self.old stats.old }
-        ensures ok { let m = prefix_len (may_move gate) (drop at (take (at + length places.now) self.old)) in
+        ensures ok { let m = prefix_len (may_move gate)
+            (drop at (take (at + length places.now) self.old)) in
             OnOk result ((self.new ≡ take at self.old ++ take m places.now ++ drop (at + m) self.old)
             × (stats.new ≡ with_rewritten gate written m stats.old)) }
         ensures fault { IfErr result (λ e. (e ≡ Error.Memory)
@@ -120,7 +123,8 @@ impl Entries {
         requires within { at + length places.now ≤ length self.old }
         requires table_entries { AreTableEntries
             (take at self.old ++ places.now ++ drop (at + length places.now) self.old) }
-        ensures ok { OnOk result (self.new ≡ take at self.old ++ places.now ++ drop (at + length places.now) self.old) }
+        ensures ok { OnOk result (self.new ≡ take at self.old ++ places.now ++ drop
+            (at + length places.now) self.old) }
         ensures err { OnErr result (self.new ≡ self.old) }
     {
         if places.is_empty() {
@@ -141,7 +145,8 @@ fn count_moved(gate: Option<FileSeq>, written: usize, moved: usize, stats: &mut 
     requires appended { newly_rewritten gate moved ≤ live Append stats.old }
     ensures counts { stats.new ≡ with_rewritten gate written moved stats.old }
     ensures appended { live Append stats.new + newly_rewritten gate moved ≡ live Append stats.old }
-    ensures rewritten { live Rewrite stats.new ≡ live Rewrite stats.old + newly_rewritten gate moved }
+    ensures rewritten { live Rewrite stats.new ≡ live Rewrite stats.old + newly_rewritten gate
+        moved }
 {
     add_written(stats, written);
     match gate {
@@ -155,9 +160,11 @@ fn count_moved(gate: Option<FileSeq>, written: usize, moved: usize, stats: &mut 
 
 /// Counts a rewriting by `written` entries that moves no place.
 fn count_unmoved(written: usize, stats: &mut GlobalStats) -> Result<()>
-    ensures ok { OnOk result (stats.new ≡ with_deleted Rewrite written (with_added Rewrite written stats.old)) }
+    ensures ok { OnOk result (stats.new ≡ with_deleted Rewrite written
+        (with_added Rewrite written stats.old)) }
     ensures live { OnOk result ((q : LogQueue) → live q stats.new ≡ live q stats.old) }
-    ensures full { IfErr result (λ e. (e ≡ Error.Full) × (2 ^ 64 ≤ live Rewrite stats.old + written)) }
+    ensures full { IfErr result (λ e. (e ≡ Error.Full) ×
+        (2 ^ 64 ≤ live Rewrite stats.old + written)) }
     ensures err { OnErr result (stats.new ≡ stats.old) }
 {
     if !stats.can_add(LogQueue::Rewrite, written) {
@@ -172,7 +179,8 @@ fn count_unmoved(written: usize, stats: &mut GlobalStats) -> Result<()>
 fn add_written(stats: &mut GlobalStats, written: usize)
     requires { live Rewrite stats.old + written < 2 ^ 64 }
     ensures after { stats.new ≡ with_added Rewrite written stats.old }
-    ensures live { (q : LogQueue) → live q stats.new ≡ live q stats.old + count_in q Rewrite written }
+    ensures live { (q : LogQueue) → live q stats.new ≡ live q stats.old + count_in q Rewrite
+        written }
 {
     if stats.add(LogQueue::Rewrite, written).is_err() {
         unreachable!()

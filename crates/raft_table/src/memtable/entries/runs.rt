@@ -1,10 +1,11 @@
 //! Runs that are put behind a table's entries.
 
-ghost use Rattle.std.specs.Prelude.{◌≡◌, ◌+◌, ◌≤◌, ◌<◌, ◌^◌, [], ◌++◌, length, take, drop, OnOk, OnErr, IfErr, MatchBool, MatchOption, Some};
+ghost use Rattle.std.specs.Prelude.{◌≡◌, ◌+◌, ◌≤◌, ◌<◌, ◌^◌, [], ◌++◌, length, take, drop, true, OnOk, OnErr, IfErr, MatchBool, MatchOption, Some};
+ghost use Rattle.std.specs.List.{AllByRecursion};
 ghost use Rattle.raft_table.specs.Counts.{live, with_added, with_deleted};
 ghost use Rattle.raft_table.specs.Queues.{count_in, of_queue, other};
-ghost use Rattle.raft_table.specs.TableEntries.{AreTableEntries, IsRunIn, placed_in, entry_count, AreCounted, AreRecounted};
-ghost use Rattle.raft_table.specs.Start.{appended, replayed, counts_with_run, counts_without, IsTableRunFault};
+ghost use Rattle.raft_table.specs.TableEntries.{AreTableEntries, IsRunIn, is_placed_in, entry_count, AreCounted, AreRecounted};
+ghost use Rattle.raft_table.specs.Start.{entries_after_append, entries_after_replay, counts_with_run, counts_without, IsTableRunFault};
 ghost use Rattle.raft_table.specs.StartOf.{IsStart, IsKeptUnder};
 ghost use Rattle.raft_base.specs.declared.pipe_log.LogQueue.{LogQueue};
 ghost use Rattle.raft_base.specs.declared.pipe_log.LogQueue.TheVariants.{Append, Rewrite};
@@ -19,10 +20,12 @@ impl Entries {
     pub fn append(&mut self, run: Vec<EntryIndex>, stats: &mut GlobalStats) -> Result<()>
         requires run { IsRunIn Append run.items }
         requires counted { AreCounted self.old stats.old }
-        ensures ok { OnOk result (appended self.old run.items ≡ Some self.new) }
-        ensures fault { IfErr result (IsTableRunFault Append stats.old self.old (appended self.old run.items)) }
+        ensures ok { OnOk result (entries_after_append self.old run.items ≡ Some self.new) }
+        ensures fault { IfErr result (IsTableRunFault Append stats.old self.old
+            (entries_after_append self.old run.items)) }
         ensures err { OnErr result ((self.new ≡ self.old) × (stats.new ≡ stats.old)) }
-        ensures counts { OnOk result (stats.new ≡ counts_with_run Append self.old run.items stats.old) }
+        ensures counts { OnOk result (stats.new ≡ counts_with_run Append self.old run.items
+            stats.old) }
         ensures recounted { AreRecounted self.old self.new stats.old stats.new }
     {
         let Some(first) = run.first() else {
@@ -52,11 +55,14 @@ impl Entries {
         requires alone { entry_count (other queue) rhs.old ≡ 0 }
         requires rewritten { queue ≡ Rewrite → entry_count Append self.old ≡ 0 }
         requires counted { AreCounted self.old stats.old }
-        ensures ok { OnOk result (replayed rule self.old rhs.old ≡ Some self.new) }
+        ensures ok { OnOk result (entries_after_replay rule self.old rhs.old ≡ Some self.new) }
         ensures emptied { OnOk result (rhs.new ≡ []) }
-        ensures fault { IfErr result (IsTableRunFault queue stats.old self.old (replayed rule self.old rhs.old)) }
-        ensures err { OnErr result ((self.new ≡ self.old) × (rhs.new ≡ rhs.old) × (stats.new ≡ stats.old)) }
-        ensures counts { OnOk result (stats.new ≡ counts_with_run queue self.old rhs.old stats.old) }
+        ensures fault { IfErr result (IsTableRunFault queue stats.old self.old
+            (entries_after_replay rule self.old rhs.old)) }
+        ensures err { OnErr result ((self.new ≡ self.old) × (rhs.new ≡ rhs.old) ×
+            (stats.new ≡ stats.old)) }
+        ensures counts { OnOk result (stats.new ≡ counts_with_run queue self.old rhs.old
+            stats.old) }
         ensures recounted { AreRecounted self.old self.new stats.old stats.new }
     {
         rhs.holds_one_run();
@@ -73,10 +79,12 @@ impl Entries {
         requires run { IsRunIn queue run.now }
         requires rewritten { queue ≡ Rewrite → entry_count Append self.old ≡ 0 }
         requires counted { AreCounted self.old stats.old }
-        ensures ok { OnOk result (replayed queue self.old run.now ≡ Some self.new) }
-        ensures fault { IfErr result (IsTableRunFault queue stats.old self.old (replayed queue self.old run.now)) }
+        ensures ok { OnOk result (entries_after_replay queue self.old run.now ≡ Some self.new) }
+        ensures fault { IfErr result (IsTableRunFault queue stats.old self.old
+            (entries_after_replay queue self.old run.now)) }
         ensures err { OnErr result ((self.new ≡ self.old) × (stats.new ≡ stats.old)) }
-        ensures counts { OnOk result (stats.new ≡ counts_with_run queue self.old run.now stats.old) }
+        ensures counts { OnOk result (stats.new ≡ counts_with_run queue self.old run.now
+            stats.old) }
         ensures recounted { AreRecounted self.old self.new stats.old stats.new }
     {
         let Some(first) = run.first() else {
@@ -100,7 +108,7 @@ impl Entries {
         requires rewritten { queue ≡ Rewrite → entry_count Append self.old ≡ 0 }
         requires counted { AreCounted self.old stats.old }
         ensures done { MatchBool result
-            ((replayed queue self.old run.now ≡ Some self.new)
+            ((entries_after_replay queue self.old run.now ≡ Some self.new)
             × (stats.new ≡ counts_with_run queue self.old run.now stats.old))
             ((self.new ≡ self.old) × (stats.new ≡ stats.old)) }
         ensures recounted { AreRecounted self.old self.new stats.old stats.new }
@@ -132,11 +140,14 @@ impl Entries {
         requires run { IsRunIn queue run.old }
         requires rewritten { queue ≡ Rewrite → entry_count Append self.old ≡ 0 }
         requires counted { AreCounted self.old stats.old }
-        ensures ok { OnOk result (replayed rule self.old run.old ≡ Some self.new) }
+        ensures ok { OnOk result (entries_after_replay rule self.old run.old ≡ Some self.new) }
         ensures emptied { OnOk result (run.new ≡ []) }
-        ensures fault { IfErr result (IsTableRunFault queue stats.old self.old (replayed rule self.old run.old)) }
-        ensures err { OnErr result ((self.new ≡ self.old) × (run.new ≡ run.old) × (stats.new ≡ stats.old)) }
-        ensures counts { OnOk result (stats.new ≡ counts_with_run queue self.old run.old stats.old) }
+        ensures fault { IfErr result (IsTableRunFault queue stats.old self.old
+            (entries_after_replay rule self.old run.old)) }
+        ensures err { OnErr result ((self.new ≡ self.old) × (run.new ≡ run.old) ×
+            (stats.new ≡ stats.old)) }
+        ensures counts { OnOk result (stats.new ≡ counts_with_run queue self.old run.old
+            stats.old) }
         ensures recounted { AreRecounted self.old self.new stats.old stats.new }
     {
         let Some(first) = run.first_index() else {
@@ -151,8 +162,8 @@ impl Entries {
     /// How many entries, from the first on, stay under a run from `index` on that is read again, by
     /// the start rule of the replays into `rule`. Nothing is answered where that refuses the run.
     fn kept_under(&self, rule: LogQueue, index: u64) -> Option<usize>
-        ensures kept { MatchOption result (IsStart self.now index Start.BehindHole × (rule ≡ Append))
-            (IsKeptUnder rule self.now index) }
+        ensures kept { MatchOption result (IsStart self.now index Start.BehindHole ×
+            (rule ≡ Append)) (IsKeptUnder rule self.now index) }
         ensures table_entries { AreTableEntries self.now }
     {
         match self.start(index) {
@@ -176,14 +187,16 @@ impl Entries {
         requires keep { keep ≤ length self.old }
         requires filled { 0 < length run.old }
         requires table_entries { AreTableEntries (take keep self.old ++ run.old) }
-        requires queue { placed_in queue run.old ≡ run.old }
+        requires queue { AllByRecursion (λ e. is_placed_in queue e ≡ true) run.old }
         requires counted { AreCounted self.old stats.old }
         ensures ok { OnOk result ((self.new ≡ take keep self.old ++ run.old) × (run.new ≡ [])) }
-        ensures err { OnErr result ((self.new ≡ self.old) × (run.new ≡ run.old) × (stats.new ≡ stats.old)) }
+        ensures err { OnErr result ((self.new ≡ self.old) × (run.new ≡ run.old) ×
+            (stats.new ≡ stats.old)) }
         ensures counts { OnOk result (stats.new
             ≡ with_added queue (length run.old) (counts_without (drop keep self.old) stats.old)) }
         ensures recounted { AreRecounted self.old self.new stats.old stats.new }
-        ensures fault { IfErr result (IsTableRunFault queue stats.old self.old (Some (take keep self.old ++ run.old))) }
+        ensures fault { IfErr result (IsTableRunFault queue stats.old self.old
+            (Some (take keep self.old ++ run.old))) }
     {
         let (rewritten, appended) = self.count_behind(keep);
         let added = run.len();
@@ -206,14 +219,15 @@ impl Entries {
         requires keep { keep ≤ length self.old }
         requires filled { 0 < length run.now }
         requires table_entries { AreTableEntries (take keep self.old ++ run.now) }
-        requires queue { placed_in queue run.now ≡ run.now }
+        requires queue { AllByRecursion (λ e. is_placed_in queue e ≡ true) run.now }
         requires counted { AreCounted self.old stats.old }
         ensures ok { OnOk result (self.new ≡ take keep self.old ++ run.now) }
         ensures err { OnErr result ((self.new ≡ self.old) × (stats.new ≡ stats.old)) }
         ensures counts { OnOk result (stats.new
             ≡ with_added queue (length run.now) (counts_without (drop keep self.old) stats.old)) }
         ensures recounted { AreRecounted self.old self.new stats.old stats.new }
-        ensures fault { IfErr result (IsTableRunFault queue stats.old self.old (Some (take keep self.old ++ run.now))) }
+        ensures fault { IfErr result (IsTableRunFault queue stats.old self.old
+            (Some (take keep self.old ++ run.now))) }
     {
         if !self.has_room_behind(keep, run, queue, stats) {
             return Err(Error::Full);
@@ -250,9 +264,10 @@ impl Entries {
         requires keep { keep ≤ length self.old }
         requires filled { 0 < length run.now }
         requires table_entries { AreTableEntries (take keep self.old ++ run.now) }
-        requires queue { placed_in queue run.now ≡ run.now }
+        requires queue { AllByRecursion (λ e. is_placed_in queue e ≡ true) run.now }
         requires counted { AreCounted self.old stats.old }
-        requires room { live queue stats.old + length run.now < 2 ^ 64 + entry_count queue (drop keep self.old) }
+        requires room { live queue stats.old + length run.now < 2 ^ 64 + entry_count queue
+            (drop keep self.old) }
         ensures ok { OnOk result (self.new ≡ take keep self.old ++ run.now) }
         ensures err { OnErr result ((self.new ≡ self.old) × (stats.new ≡ stats.old)) }
         ensures counts { OnOk result (stats.new
@@ -305,7 +320,8 @@ fn has_room(
 ) -> bool
     requires rewritten { rewritten ≤ live Rewrite stats.now }
     requires appended { appended ≤ live Append stats.now }
-    ensures { MatchBool result (live queue stats.now + added < 2 ^ 64 + of_queue queue appended rewritten)
+    ensures { MatchBool result (live queue stats.now + added < 2 ^ 64 + of_queue queue
+        appended rewritten)
         (2 ^ 64 + of_queue queue appended rewritten ≤ live queue stats.now + added) }
 {
     let gone = match queue {
@@ -325,7 +341,8 @@ fn exchange(
 )
     requires rewritten { rewritten ≤ live Rewrite stats.old }
     requires appended { appended ≤ live Append stats.old }
-    requires room { live queue stats.old + added < 2 ^ 64 + of_queue queue appended rewritten }
+    requires room { live queue stats.old + added < 2 ^ 64 + of_queue queue appended
+        rewritten }
     ensures live { (q : LogQueue) →
         live q stats.new + of_queue q appended rewritten ≡ live q stats.old + count_in q queue added }
     ensures counts { stats.new

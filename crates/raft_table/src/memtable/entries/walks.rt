@@ -4,7 +4,7 @@ ghost use Rattle.std.specs.Prelude.{◌≡◌, ◌+◌, ◌-◌, ◌≤◌, ◌<
 ghost use Rattle.std.specs.List.{prefix_len};
 ghost use Rattle.std.specs.Vec.{vec_len, vec_capacity};
 ghost use Rattle.raft_base.specs.declared.entry_index.EntryIndex.{EntryIndex};
-ghost use Rattle.raft_table.specs.Blocks.{BlockSpans, block_spans, shown, spread, expanded, AreDistinctBlocks};
+ghost use Rattle.raft_table.specs.Blocks.{BlockSpans, block_spans, shown, spread, entries_in_blocks, AreDistinctBlocks};
 ghost use Rattle.raft_table.specs.BlockWords.{count, unset, with_spans, IsAt};
 ghost use Rattle.raft_table.specs.Fetches.{IsLimitCount};
 ghost use Rattle.raft_table.specs.Rewriting.{may_move};
@@ -32,7 +32,8 @@ pub(super) fn push_parts(
     requires within { end ≤ count (shown blocks.now.items) }
     requires bounded { first + end < 2 ^ 64 }
     requires room { vec_len vec.old + (end - start) ≤ vec_capacity vec.old }
-    ensures { vec.new.items ≡ vec.old.items ++ drop start (take end (expanded first (shown blocks.now.items))) }
+    ensures { vec.new.items ≡ vec.old.items ++ drop start
+        (take end (entries_in_blocks first (shown blocks.now.items))) }
 {
     let len = vec.len();
     push_unset(vec, first, blocks, place, start, end);
@@ -55,7 +56,7 @@ fn push_unset(
     requires bounded { first + end < 2 ^ 64 }
     requires room { vec_len vec.old + (end - start) ≤ vec_capacity vec.old }
     ensures { vec.new.items
-        ≡ vec.old.items ++ map unset (drop start (take end (expanded first (shown blocks.now.items)))) }
+        ≡ vec.old.items ++ map unset (drop start (take end (entries_in_blocks first (shown blocks.now.items)))) }
 {
     let (mut whole, mut at) = place;
     let mut done = start;
@@ -106,8 +107,8 @@ fn set_spans(
     requires within { end ≤ count (shown blocks.now.items) }
     requires there { len + (end - start) ≤ length vec.old.items }
     ensures { (i : ℕ) (front : List EntryIndex) → length front ≡ len
-        → vec.old.items ≡ front ++ map unset (drop start (take end (expanded i (shown blocks.now.items))))
-        → vec.new.items ≡ front ++ drop start (take end (expanded i (shown blocks.now.items))) }
+        → vec.old.items ≡ front ++ map unset (drop start (take end (entries_in_blocks i (shown blocks.now.items))))
+        → vec.new.items ≡ front ++ drop start (take end (entries_in_blocks i (shown blocks.now.items))) }
 {
     let (mut whole, mut at) = place;
     let mut done = start;
@@ -159,7 +160,7 @@ pub(super) fn movable_from(
     requires order { start ≤ end }
     requires within { end ≤ count (shown blocks.now.items) }
     ensures { (i : ℕ)
-        → result ≡ prefix_len (may_move gate) (drop start (take end (expanded i (shown blocks.now.items)))) }
+        → result ≡ prefix_len (may_move gate) (drop start (take end (entries_in_blocks i (shown blocks.now.items)))) }
 {
     let (mut whole, mut at) = place;
     let mut done = start;
@@ -199,7 +200,8 @@ pub(super) fn count_from(
     requires distinct { AreDistinctBlocks (shown blocks.now.items) }
     requires order { start ≤ end }
     requires within { end ≤ count (shown blocks.now.items) }
-    ensures { (i : ℕ) → IsLimitCount (Some limit) (drop start (take end (expanded i (shown blocks.now.items)))) result }
+    ensures { (i : ℕ) → IsLimitCount (Some limit)
+        (drop start (take end (entries_in_blocks i (shown blocks.now.items)))) result }
 {
     let mut place = place;
     let mut total = 0u128;

@@ -12,7 +12,8 @@ use std::collections::btree_map::Range;
 
 /// A bound as a key to seek or, where that finds no memory, as a test of each pair.
 pub(super) fn divided(alloc: Global, bound: Option<&[u8]>) -> (Option<Vec<u8>>, Option<&[u8]>)
-    ensures { IsDivided (option_copied bound.entry) (option_map (λ k. k.items) result.0) (option_copied result.1) }
+    ensures { IsDivided (option_copied bound.entry) (option_map (λ k. k.items) result.0)
+        (option_copied result.1) }
 {
     let Some(key) = bound else {
         return (None, None);
@@ -29,7 +30,8 @@ pub(super) fn sought<'a>(
     start: &Option<Vec<u8>>,
     end: &Option<Vec<u8>>,
 ) -> Range<'a, Vec<u8>, StoredValue>
-    requires { IsTrue (is_forward (option_map (λ k. k.items) start.now) (option_map (λ k. k.items) end.now)) }
+    requires { IsTrue (is_forward (option_map (λ k. k.items) start.now)
+        (option_map (λ k. k.items) end.now)) }
     ensures { result ≡ filter
         (λ e. is_between (option_map (λ k. k.items) start.now) (option_map (λ k. k.items) end.now) e.0.items)
         pairs.now.entries }

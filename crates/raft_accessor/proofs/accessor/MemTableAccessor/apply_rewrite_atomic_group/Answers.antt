@@ -1,7 +1,4 @@
-use Rattle.std.proofs.Common.{Some, refl, ap, subst, slice_set}
-use Rattle.raft_table.specs.Steps.{table_of}
-use Rattle.raft_table.specs.Table.{with_atomic_group, IsCounted}
-use Rattle.raft_accessor.specs.AccessorView.{together}
+use Rattle.std.proofs.Common.{Some, refl}
 use Rattle.std.specs.Vec.{with_item}
 use Rattle.raft_accessor.specs.declared.accessor.MemTableAccessor.TheInside.{Inside}
 use Rattle.raft_accessor.proofs.AccessorLemmas.{InSlot, kept-in, changed-in, counted-in}
@@ -21,7 +18,7 @@ pub invariant_of-self : goal.invariant_of-self
 invariant_of-self c = kept-in c.self.inside (after c) c.args.id c.slot_of.result c.index_mut.result.now c.apply_rewrite_atomic_group.new.self c.apply_rewrite_atomic_group.new.stats c.self.invariant (slotted c)
 
 pub returns-clause-changed : goal.returns-clause-changed
-returns-clause-changed c = changed-in c.self.inside (after c) c.args.id c.slot_of.result c.index_mut.result.now c.apply_rewrite_atomic_group.new.self c.apply_rewrite_atomic_group.new.stats c.self.invariant (slotted c) c.args.self.now c.self.view_is (λ t. Some (with_atomic_group t c.args.start c.args.end)) (λ t k e. ⊥) c.apply_rewrite_atomic_group.result c.apply_rewrite_atomic_group.ensures.taken refl
+returns-clause-changed c = changed-in c.self.inside (after c) c.args.id c.slot_of.result c.index_mut.result.now c.apply_rewrite_atomic_group.new.self c.apply_rewrite_atomic_group.new.stats c.self.invariant (slotted c) c.args.self.now c.self.view_is (λ t. Some (record t { atomic_group = Some (c.args.start, c.args.end) })) (λ t k e. ⊥) c.apply_rewrite_atomic_group.result c.apply_rewrite_atomic_group.ensures.taken refl
 
 pub returns-clause-counts : goal.returns-clause-counts
 returns-clause-counts c = counted-in c.self.inside (after c) c.args.id c.slot_of.result c.index_mut.result.now c.apply_rewrite_atomic_group.new.self c.apply_rewrite_atomic_group.new.stats c.self.invariant (slotted c) c.args.self.now c.self.view_is (λ t k. k) c.apply_rewrite_atomic_group.ensures.counts

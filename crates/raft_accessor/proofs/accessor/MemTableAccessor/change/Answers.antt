@@ -1,9 +1,7 @@
-use Rattle.std.proofs.Common.{refl, sym, ap, subst, slice_set}
+use Rattle.std.proofs.Common.{refl, sym, ap, subst}
 use Rattle.std.specs.Result.{OnOk}
 use Rattle.raft_table.specs.Change.{after_change, AreCountsAfter, IsAnswer, IsChangeFault}
 use Rattle.raft_table.specs.Steps.{table_of}
-use Rattle.raft_table.specs.Table.{IsCounted}
-use Rattle.raft_accessor.specs.AccessorView.{together}
 use Rattle.std.specs.Vec.{with_item}
 use Rattle.raft_accessor.specs.declared.accessor.MemTableAccessor.TheInside.{Inside}
 use Rattle.raft_accessor.proofs.AccessorLemmas.{InSlot, kept-in, changed-in, answers-in}

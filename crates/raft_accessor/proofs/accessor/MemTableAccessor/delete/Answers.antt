@@ -1,10 +1,7 @@
-use Rattle.std.proofs.Common.{Some, refl, ap, subst, slice_set}
+use Rattle.std.proofs.Common.{Some, refl}
+use Rattle.std.specs.FinMap as finite
 use Rattle.raft_table.specs.KeyValues.{file_at}
 use Rattle.raft_table.specs.Table.{with_pair_deleted}
-use Rattle.raft_table.specs.Table.{without_key}
-use Rattle.raft_table.specs.Steps.{table_of}
-use Rattle.raft_table.specs.Table.{IsCounted}
-use Rattle.raft_accessor.specs.AccessorView.{together}
 use Rattle.std.specs.Vec.{with_item}
 use Rattle.raft_accessor.specs.declared.accessor.MemTableAccessor.TheInside.{Inside}
 use Rattle.raft_accessor.proofs.AccessorLemmas.{InSlot, kept-in, changed-in, counted_ok-in}
@@ -24,7 +21,7 @@ pub invariant_of-self : goal.invariant_of-self
 invariant_of-self c = kept-in c.self.inside (after c) c.args.id c.slot_of.result c.index_mut.result.now c.delete.new.self c.delete.new.stats c.self.invariant (slotted c)
 
 pub returns-clause-changed : goal.returns-clause-changed
-returns-clause-changed c = changed-in c.self.inside (after c) c.args.id c.slot_of.result c.index_mut.result.now c.delete.new.self c.delete.new.stats c.self.invariant (slotted c) c.args.self.now c.self.view_is (λ t. Some (without_key t c.args.key.now)) (λ t k. λ e. ⊥) c.delete.result c.delete.ensures.taken refl
+returns-clause-changed c = changed-in c.self.inside (after c) c.args.id c.slot_of.result c.index_mut.result.now c.delete.new.self c.delete.new.stats c.self.invariant (slotted c) c.args.self.now c.self.view_is (λ t. Some (record t { keys = finite.remove t.keys c.args.key.now })) (λ t k. λ e. ⊥) c.delete.result c.delete.ensures.taken refl
 
 pub returns-clause-counts : goal.returns-clause-counts
 returns-clause-counts c = counted_ok-in c.self.inside (after c) c.args.id c.slot_of.result c.index_mut.result.now c.delete.new.self c.delete.new.stats c.self.invariant (slotted c) c.args.self.now c.self.view_is (λ t k. with_pair_deleted (file_at t.keys c.args.key.now) k) c.delete.result c.delete.ensures.counts

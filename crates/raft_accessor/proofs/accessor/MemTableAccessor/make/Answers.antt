@@ -1,7 +1,4 @@
-use Rattle.std.proofs.Common.{Some, refl, ap, subst, slice_set}
-use Rattle.raft_table.specs.Steps.{table_of}
-use Rattle.raft_table.specs.Table.{IsCounted}
-use Rattle.raft_accessor.specs.AccessorView.{together}
+use Rattle.std.proofs.Common.{Some, refl}
 use Rattle.std.specs.Vec.{with_item}
 use Rattle.raft_accessor.specs.declared.accessor.MemTableAccessor.TheInside.{Inside}
 use Rattle.raft_accessor.proofs.AccessorLemmas.{InSlot, kept-in, changed-in, counted-in}

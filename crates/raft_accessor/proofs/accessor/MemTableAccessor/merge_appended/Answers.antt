@@ -1,10 +1,8 @@
-use Rattle.std.proofs.Common.{refl, ap, subst, slice_set}
+use Rattle.std.proofs.Common.{refl}
 use Rattle.raft_table.specs.Counts.{Counts}
 use Rattle.raft_table.specs.Merge.{append_rule}
-use Rattle.raft_table.specs.Steps.{table_of}
-use Rattle.raft_table.specs.Table.{Table, IsCounted}
+use Rattle.raft_table.specs.Table.{Table}
 use Rattle.raft_accessor.specs.Accessor.{table_in}
-use Rattle.raft_accessor.specs.AccessorView.{together}
 use Rattle.raft_accessor.specs.Merges.{with_appended, IsAppendedFault}
 use Rattle.std.specs.Vec.{with_item}
 use Rattle.raft_accessor.specs.declared.accessor.MemTableAccessor.TheInside.{Inside}

@@ -1,11 +1,9 @@
-use Rattle.std.proofs.Common.{Some, refl, ap, subst, slice_set}
+use Rattle.std.proofs.Common.{Some, refl, subst}
 use Rattle.raft_table.specs.Counts.{with_added}
 use Rattle.raft_table.specs.Table.{with_pair_deleted}
 use Rattle.raft_table.specs.KeyValues.{file_at}
-use Rattle.raft_table.specs.Table.{with_pair, IsTablePutFault, IsCounted}
+use Rattle.raft_table.specs.Table.{with_pair, IsTablePutFault}
 use Rattle.raft_accessor.specs.Accessor.{Accessor, AreCountsOf}
-use Rattle.raft_table.specs.Steps.{table_of}
-use Rattle.raft_accessor.specs.AccessorView.{together}
 use Rattle.std.specs.Vec.{with_item}
 use Rattle.raft_accessor.specs.declared.accessor.MemTableAccessor.TheInside.{Inside}
 use Rattle.raft_accessor.proofs.AccessorLemmas.{InSlot, kept-in, changed-in, counted_ok-in}

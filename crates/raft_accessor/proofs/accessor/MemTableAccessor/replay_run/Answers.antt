@@ -1,13 +1,12 @@
-use Rattle.std.proofs.Common.{◌≡◌, refl, sym, ap, subst, slice_set}
+use Rattle.std.proofs.Common.{◌≡◌, refl, sym, ap, subst}
 use Rattle.raft_table.specs.Start.{counts_with_run}
 use Rattle.std.specs.Result.{OnOk}
 use Rattle.raft_table.specs.Queues.{other}
 use Rattle.raft_table.specs.TableEntries.{end_of}
-use Rattle.raft_table.specs.Table.{after_replay, live_of, IsCounted}
+use Rattle.raft_table.specs.Table.{after_replay, live_of}
 use Rattle.raft_accessor.specs.Accessor.{Accessor, AreCountsOf}
 use Rattle.raft_accessor.specs.Updates.{IsReplayFault}
 use Rattle.raft_table.specs.Steps.{table_of}
-use Rattle.raft_accessor.specs.AccessorView.{together}
 use Rattle.std.specs.Vec.{with_item}
 use Rattle.raft_accessor.specs.declared.accessor.MemTableAccessor.TheInside.{Inside}
 use Rattle.raft_accessor.proofs.AccessorLemmas.{InSlot, kept-in, changed-in, counted_ok-in, answers-in}

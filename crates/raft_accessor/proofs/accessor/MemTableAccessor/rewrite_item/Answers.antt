@@ -1,8 +1,5 @@
-use Rattle.std.proofs.Common.{refl, ap, subst, slice_set}
+use Rattle.std.proofs.Common.{refl}
 use Rattle.raft_records.specs.Item.{item_of}
-use Rattle.raft_table.specs.Steps.{table_of}
-use Rattle.raft_table.specs.Table.{IsCounted}
-use Rattle.raft_accessor.specs.AccessorView.{together}
 use Rattle.raft_accessor.specs.Writes.{Rewriting}
 use Rattle.std.specs.Vec.{with_item}
 use Rattle.raft_accessor.specs.declared.accessor.MemTableAccessor.TheInside.{Inside}

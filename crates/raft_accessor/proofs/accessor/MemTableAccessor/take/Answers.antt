@@ -1,8 +1,7 @@
-use Rattle.std.proofs.Common.{None, refl, sym, ap, subst, ◌∙◌, slice_set}
+use Rattle.std.proofs.Common.{None, sym, ap, ◌∙◌, slice_set}
 use Rattle.raft_table.specs.Steps.{table_of}
-use Rattle.raft_table.specs.Table.{IsCounted, with_table_deleted}
+use Rattle.raft_table.specs.Table.{with_table_deleted}
 use Rattle.raft_accessor.specs.Accessor.{Accessor, table_in}
-use Rattle.raft_accessor.specs.AccessorView.{together}
 use Rattle.std.specs.Vec.{with_item}
 use Rattle.raft_accessor.specs.declared.accessor.MemTableAccessor.TheInside.{Inside}
 use Rattle.raft_accessor.proofs.SlotLemmas.{slot-counted, get-shown, IsChanged, shown-changed, kept-changed}

@@ -1,10 +1,6 @@
-use Rattle.std.proofs.Common.{Some, refl, ap, subst, slice_set}
+use Rattle.std.proofs.Common.{Some, refl}
 use Rattle.raft_table.specs.Start.{counts_without}
-use Rattle.raft_table.specs.TableEntries.{from}
-use Rattle.raft_table.specs.Table.{truncated}
-use Rattle.raft_table.specs.Steps.{table_of}
-use Rattle.raft_table.specs.Table.{IsCounted}
-use Rattle.raft_accessor.specs.AccessorView.{together}
+use Rattle.raft_table.specs.TableEntries.{below, from}
 use Rattle.std.specs.Vec.{with_item}
 use Rattle.raft_accessor.specs.declared.accessor.MemTableAccessor.TheInside.{Inside}
 use Rattle.raft_accessor.proofs.AccessorLemmas.{InSlot, kept-in, changed-in, counted_ok-in}
@@ -24,7 +20,7 @@ pub invariant_of-self : goal.invariant_of-self
 invariant_of-self c = kept-in c.self.inside (after c) c.args.id c.slot_of.result c.index_mut.result.now c.truncate.new.self c.truncate.new.stats c.self.invariant (slotted c)
 
 pub returns-clause-changed : goal.returns-clause-changed
-returns-clause-changed c = changed-in c.self.inside (after c) c.args.id c.slot_of.result c.index_mut.result.now c.truncate.new.self c.truncate.new.stats c.self.invariant (slotted c) c.args.self.now c.self.view_is (λ t. Some (truncated c.args.index t)) (λ t k. λ e. ⊥) c.truncate.result c.truncate.ensures.taken refl
+returns-clause-changed c = changed-in c.self.inside (after c) c.args.id c.slot_of.result c.index_mut.result.now c.truncate.new.self c.truncate.new.stats c.self.invariant (slotted c) c.args.self.now c.self.view_is (λ t. Some (record t { entries = below c.args.index t.entries })) (λ t k. λ e. ⊥) c.truncate.result c.truncate.ensures.taken refl
 
 pub returns-clause-counts : goal.returns-clause-counts
 returns-clause-counts c = counted_ok-in c.self.inside (after c) c.args.id c.slot_of.result c.index_mut.result.now c.truncate.new.self c.truncate.new.stats c.self.invariant (slotted c) c.args.self.now c.self.view_is (λ t k. counts_without (from c.args.index t.entries) k) c.truncate.result c.truncate.ensures.counts

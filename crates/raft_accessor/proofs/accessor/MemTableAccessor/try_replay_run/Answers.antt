@@ -1,12 +1,11 @@
-use Rattle.std.proofs.Common.{◌≡◌, refl, sym, ap, subst, slice_set, ok_or, IfSome}
+use Rattle.std.proofs.Common.{◌≡◌, refl, sym, ap, subst, ok_or, IfSome}
 use Rattle.std.specs.Option.{OnSome}
 use Rattle.raft_base.specs.declared.errors.Error.TheVariants.{Memory}
 use Rattle.raft_table.specs.Queues.{other}
 use Rattle.raft_table.specs.Start.{counts_with_run}
 use Rattle.raft_table.specs.TableEntries.{end_of}
-use Rattle.raft_table.specs.Table.{after_replay, live_of, IsCounted}
+use Rattle.raft_table.specs.Table.{after_replay, live_of}
 use Rattle.raft_table.specs.Steps.{table_of}
-use Rattle.raft_accessor.specs.AccessorView.{together}
 use Rattle.std.specs.Vec.{with_item}
 use Rattle.raft_accessor.specs.declared.accessor.MemTableAccessor.TheInside.{Inside}
 use Rattle.raft_accessor.proofs.AccessorLemmas.{InSlot, kept-in, changed-in, counted_some-in}

@@ -11,14 +11,14 @@ use Rattle.raft_accessor.proofs.region_tables.RegionTables.drop_under.Goals as g
 pub returns-in_default : goal.returns-in_default
 returns-in_default c = nothing_joined c.args.queue c.args.mark.now c.args.self.now c.args.id c.args.stats.now (sym c.get.ensures.value ∙ ap (option_map (λ t. t.now)) c.in_default.is)
 
-pub put_over-requires-clause-own : goal.put_over-requires-clause-own
-put_over-requires-clause-own c = ap (live_of (other c.args.queue)) c.new.ensures.empty ∙ live_of_empty (other c.args.queue) c.args.id
+pub put_newer-requires-clause-own : goal.put_newer-requires-clause-own
+put_newer-requires-clause-own c = ap (live_of (other c.args.queue)) c.new.ensures.empty ∙ live_of_empty (other c.args.queue) c.args.id
 
 pub returns-then-not-is_cleaned : goal.returns-then-not-is_cleaned
 returns-then-not-is_cleaned c =
-    empty_joined c.args.queue c.args.mark.now c.args.self.now c.args.id c.args.stats.now c.in-Some.table.now c.put_over-then-not-is_cleaned.result c.put_over-then-not-is_cleaned.new.self c.put_over-then-not-is_cleaned.new.stats
+    empty_joined c.args.queue c.args.mark.now c.args.self.now c.args.id c.args.stats.now c.in-Some.table.now c.put_newer-then-not-is_cleaned.result c.put_newer-then-not-is_cleaned.new.self c.put_newer-then-not-is_cleaned.new.stats
     (sym c.get.ensures.value ∙ ap (option_map (λ t. t.now)) c.in-Some.is) (sym c.is_cleaned.ensures ∙ c.if-not-is_cleaned.true)
-    (subst (λ (t : Table). IsTableJoined c.args.queue c.args.mark.now (Some t) c.args.self.now c.args.id c.args.stats.now c.put_over-then-not-is_cleaned.result c.put_over-then-not-is_cleaned.new.self c.put_over-then-not-is_cleaned.new.stats) c.new.ensures.empty c.put_over-then-not-is_cleaned.ensures)
+    (subst (λ (t : Table). IsTableJoined c.args.queue c.args.mark.now (Some t) c.args.self.now c.args.id c.args.stats.now c.put_newer-then-not-is_cleaned.result c.put_newer-then-not-is_cleaned.new.self c.put_newer-then-not-is_cleaned.new.stats) c.new.ensures.empty c.put_newer-then-not-is_cleaned.ensures)
 
 pub returns-in_err-check_newer_mark : goal.returns-in_err-check_newer_mark
 returns-in_err-check_newer_mark c =

@@ -3,10 +3,10 @@ use Rattle.raft_base.specs.declared.errors.Error.{Error}
 use Rattle.raft_base.specs.declared.pipe_log.LogQueue.TheVariants.{Rewrite}
 use Rattle.raft_history.specs.MarkedRegions.{on_each}
 use Rattle.raft_table.specs.Steps.{AtomicGroup}
-use Rattle.raft_memtable.specs.MarkedTables.{AreTaken}
+use Rattle.raft_memtable.specs.MarkedTables.{AreStepsTaken}
 use Rattle.raft_memtable.specs.declared.marked_tables.MarkedTables.{MarkedTables}
 use Rattle.raft_memtable.proofs.marked_tables.MarkedTables.take_files.Given as goal
 
 abbrev pub invariant-loop-id : goal.invariant-loop-id
 invariant-loop-id l =
-    (r : Result Unit Error) (c : MarkedTables) → AreTaken Rewrite (on_each (drop l.id-index l.regions) (AtomicGroup l.start l.end)) r l.self c → AreTaken Rewrite (on_each l.regions (AtomicGroup l.start l.end)) r l.fn.self c
+    (r : Result Unit Error) (c : MarkedTables) → AreStepsTaken Rewrite (on_each (drop l.id-index l.regions) (AtomicGroup l.start l.end)) r l.self c → AreStepsTaken Rewrite (on_each l.regions (AtomicGroup l.start l.end)) r l.fn.self c

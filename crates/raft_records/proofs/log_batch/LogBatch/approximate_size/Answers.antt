@@ -4,7 +4,7 @@ use Rattle.raft_records.specs.ItemBatch.{batch_bytes}
 use Rattle.raft_records.specs.LogBatch.{Batch}
 use Rattle.raft_records.specs.LogBatchModel.{stage_of}
 use Rattle.raft_records.specs.Buffer.{entry_bytes_in}
-use Rattle.raft_records.specs.Sizes.{saturated, HaveSmallNumbers}
+use Rattle.raft_records.specs.Sizes.{at_most_usize, HaveSmallNumbers}
 use Rattle.raft_records.proofs.LengthLemmas.{open_covers}
 use Rattle.raft_records.proofs.StageLemmas.{encoded_length_at, length_at, not_open}
 use Rattle.raft_records.proofs.log_batch.LogBatch.approximate_size.Goals as goal
@@ -31,5 +31,5 @@ returns-in-Open-clause-covers c small lt =
     let size = c.approximate_size-items.result in
     let covers = subst (λ (xs : List Item). length (batch_bytes xs) < 2 ^ 56 → length (batch_bytes xs) + 4 ≤ size) items (c.approximate_size-items.ensures.covers (subst HaveSmallNumbers (sym items) small)) in
     let entry_bytes : c.entries_size-entry_bytes.result ≡ length c.args.self.now.entry_bytes = c.entries_size-entry_bytes.ensures ∙ sym c.self.invariant.whole ∙ ap (λ (b : Batch). length b.entry_bytes) c.self.view_is in
-    let sum : c.saturating_add.result ≡ saturated (size + (16 + length c.args.self.now.entry_bytes + 4)) = omega (arith, c.saturating_add.ensures, entry_bytes) in
+    let sum : c.saturating_add.result ≡ at_most_usize (size + (16 + length c.args.self.now.entry_bytes + 4)) = omega (arith, c.saturating_add.ensures, entry_bytes) in
     open_covers c.args.self.now.items c.args.self.now.entry_bytes size c.saturating_add.result covers sum lt

@@ -1,7 +1,7 @@
 use Rattle.std.proofs.Common.{◌≡◌, ◌+◌, ◌-◌, ◌∙◌, map, ap}
 use Rattle.raft_base.specs.declared.pipe_log.FileBlockHandle.{FileBlockHandle}
 use Rattle.raft_base.specs.declared.compression_type.CompressionType.TheVariants as compressions
-use Rattle.raft_records.specs.ItemBatch.{placed}
+use Rattle.raft_records.specs.ItemBatch.{placed_item}
 use Rattle.raft_records.specs.LogBatch.{Batch, IsSealedStage, log_batch_bytes}
 use Rattle.raft_records.specs.LogBatchModel.{stage_of}
 use Rattle.raft_records.specs.Buffer.{entry_bytes_in}
@@ -13,7 +13,7 @@ use Rattle.raft_records.proofs.log_batch.LogBatch.finish_write.Goals as goal
 place : (c : goal.After-place) → FileBlockHandle
 place c = record { id = c.args.block.id; offset = c.args.block.offset + 16; len = c.offset_behind.result - 16 }
 
-places : (c : goal.After-place) → c.place.new.self ≡ map (placed (place c) compressions.None) c.self.inside.item_batch
+places : (c : goal.After-place) → c.place.new.self ≡ map (placed_item (place c) compressions.None) c.self.inside.item_batch
 unfolding place
 places c = c.place.ensures
 
@@ -22,7 +22,7 @@ invariant_of-self c =
     let is_sealed : IsSealedStage (stage_of c.self.inside.state) = rw (← c.self.view_is) at c.requires.sealed in
     rw (places c) (placed_held (place c) compressions.None (stage_of c.self.inside.state) c.self.inside.item_batch c.self.inside.buf.items is_sealed c.self.invariant)
 
-viewed : (c : goal.After-place) → batch_with c.place.new.self (entry_bytes_in c.place.new.self c.self.inside.buf.items) (stage_of c.self.inside.state) ≡ batch_with (map (placed (place c) compressions.None) c.args.self.now.items) c.args.self.now.entry_bytes c.args.self.now.stage
+viewed : (c : goal.After-place) → batch_with c.place.new.self (entry_bytes_in c.place.new.self c.self.inside.buf.items) (stage_of c.self.inside.state) ≡ batch_with (map (placed_item (place c) compressions.None) c.args.self.now.items) c.args.self.now.entry_bytes c.args.self.now.stage
 viewed c =
     placed_view (place c) compressions.None c.args.self.now (stage_of c.self.inside.state) c.self.inside.item_batch c.place.new.self c.self.inside.buf.items c.self.view_is (places c)
 
@@ -30,7 +30,7 @@ pub returns-clause-placed : goal.returns-clause-placed
 unfolding place
 returns-clause-placed c =
     let is = place_is c.args.block c.args.self.now (stage_of c.self.inside.state) c.self.inside.item_batch (entry_bytes_in c.self.inside.item_batch c.self.inside.buf.items) c.entries_size.result c.offset_behind.result c.self.view_is c.self.invariant.whole c.entries_size.ensures c.offset_behind.ensures in
-    viewed c ∙ ap (λ (block : FileBlockHandle). batch_with (map (placed block compressions.None) c.args.self.now.items) c.args.self.now.entry_bytes c.args.self.now.stage) is
+    viewed c ∙ ap (λ (block : FileBlockHandle). batch_with (map (placed_item block compressions.None) c.args.self.now.items) c.args.self.now.entry_bytes c.args.self.now.stage) is
 
 pub returns-clause-bytes : goal.returns-clause-bytes
 returns-clause-bytes c signature =

@@ -1,7 +1,7 @@
 use Rattle.std.proofs.Common.{◌≡◌, ◌+◌, arith, ◌++◌, ◌∷◌, [], map, ap, ◌∙◌}
 use Rattle.std.proofs.lemmas.List.{map-append}
 use Rattle.raft_records.specs.Item.{item_of}
-use Rattle.raft_records.specs.Sizes.{item_size, saturated}
+use Rattle.raft_records.specs.Sizes.{item_size, at_most_usize}
 use Rattle.raft_records.proofs.BatchLemmas.{kept_push}
 use Rattle.raft_records.proofs.log_item_batch.LogItemBatch.add.Goals as goal
 
@@ -10,6 +10,6 @@ invariant_of-self-2 c =
     let items : map item_of c.push.new.self.items ≡ map item_of c.self.inside.items.items ++ item_of c.args.item ∷ [] = ap (map item_of) c.in_ok-push.ensures.items ∙ map-append item_of c.self.inside.items.items (c.args.item ∷ []) in
     let fits = rw (← c.self.view_is) at c.requires.fits in
     let ends = rw (← c.self.view_is) at c.requires.end in
-    let size : c.saturating_add-self-inside.result ≡ saturated (c.self.inside.item_size + saturated (item_size (item_of c.args.item))) = rw (← c.approximate_size-size.ensures) (omega (arith, c.saturating_add-self-inside.ensures)) in
+    let size : c.saturating_add-self-inside.result ≡ at_most_usize (c.self.inside.item_size + at_most_usize (item_size (item_of c.args.item))) = rw (← c.approximate_size-size.ensures) (omega (arith, c.saturating_add-self-inside.ensures)) in
     let kept = kept_push (map item_of c.self.inside.items.items) (item_of c.args.item) c.self.inside.item_size c.self.inside.entries_size c.saturating_add-self-inside.result c.self.inside.checksum c.self.invariant.0 fits c.numbers_fit.ensures c.requires.in_bytes size in
     rw (items, ends) (kept, tt)

@@ -1,7 +1,7 @@
 use Rattle.std.proofs.Common.{subst}
 use Rattle.std.proofs.lemmas.Result.{err_from_is_err_and}
 use Rattle.raft_replay.specs.Replays.{HasReplayed, CannotFollow}
-use Rattle.raft_replay.specs.Segments.{ReadsParts}
+use Rattle.raft_replay.proofs.Words.{PartsHold}
 use Rattle.raft_replay.proofs.CoverLemmas.{piece_more, piece_refused}
 use Rattle.raft_replay.proofs.piece.Piece.with_next.Goals as goal
 
@@ -13,7 +13,7 @@ returns-in_err-replay_segment-clause-refused g c =
     (λ not_memory.
     piece_refused g.M.ReplayMachine.stands_for g.M.ReplayMachine.stands_exactly laws.exact_stands c.args.segments.now c.args.self.from c.args.self.count
     c.args.self.machine.value c.requires.piece c.index-segments-from.result c.requires.inside c.index-segments-from.is
-    (subst (λ (m : g.row.M.Denot). CannotFollow (ReadsParts c.index-segments-from.result.items) (g.M.ReplayMachine.stands_for m)) c.deref_mut.ensures.value
+    (subst (λ (m : g.row.M.Denot). CannotFollow (PartsHold c.index-segments-from.result.items) (g.M.ReplayMachine.stands_for m)) c.deref_mut.ensures.value
     (c.in_err-replay_segment.ensures.refused not_memory)))
 
 pub returns-clause-piece : goal.returns-clause-piece
@@ -22,5 +22,5 @@ returns-clause-piece g c =
     piece_more g.M.ReplayMachine.stands_for g.M.ReplayMachine.stands_exactly laws.exact_stands c.args.segments.now c.args.self.from c.args.self.count
     c.args.self.machine.value c.requires.piece c.index-segments-from.result c.requires.inside c.index-segments-from.is c.replay_segment.new.machine
     (subst
-    (λ (m : g.row.M.Denot). HasReplayed (ReadsParts c.index-segments-from.result.items) g.M.ReplayMachine.stands_for g.M.ReplayMachine.stands_exactly m c.replay_segment.new.machine)
+    (λ (m : g.row.M.Denot). HasReplayed (PartsHold c.index-segments-from.result.items) g.M.ReplayMachine.stands_for g.M.ReplayMachine.stands_exactly m c.replay_segment.new.machine)
     c.deref_mut.ensures.value c.in_ok-replay_segment.ensures.ok)

@@ -1,6 +1,7 @@
 use Rattle.std.proofs.Common.{refl}
 use Rattle.raft_base.specs.declared.pipe_log.LogQueue.TheVariants.{Append, Rewrite}
 use Rattle.raft_table.proofs.GoneLemmas.{same_exchange}
+use Rattle.raft_table.proofs.PlaceLemmas.{each_placed}
 use Rattle.raft_table.proofs.KeptUnderLemmas.{few_behind, recounted_behind}
 use Rattle.raft_table.proofs.memtable.entries.Entries.exchange_run.Goals as goal
 
@@ -12,7 +13,7 @@ exchange-requires-clause-appended c = rw c.count_behind-rewritten.ensures.append
 
 pub returns-clause-recounted : goal.returns-clause-recounted
 returns-clause-recounted c =
-    recounted_behind c.args.queue c.args.stats.now c.exchange.new.stats c.args.keep c.args.self.now c.args.run.now c.lay.new.self _ _ _ c.exchange.ensures.live c.count_behind-rewritten.ensures.rewritten c.count_behind-rewritten.ensures.appended refl c.requires.queue c.in_ok-lay.ensures.ok
+    recounted_behind c.args.queue c.args.stats.now c.exchange.new.stats c.args.keep c.args.self.now c.args.run.now c.lay.new.self _ _ _ c.exchange.ensures.live c.count_behind-rewritten.ensures.rewritten c.count_behind-rewritten.ensures.appended refl (each_placed c.args.queue c.args.run.now c.requires.queue) c.in_ok-lay.ensures.ok
 
 pub returns-clause-counts : goal.returns-clause-counts
 returns-clause-counts c =

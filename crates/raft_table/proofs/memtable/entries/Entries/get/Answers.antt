@@ -1,5 +1,5 @@
 use Rattle.std.proofs.Common.{◌-◌, arith, sym}
-use Rattle.raft_table.specs.Blocks.{block_spans, shown, expanded}
+use Rattle.raft_table.specs.Blocks.{block_spans, shown, entries_in_blocks}
 use Rattle.raft_table.specs.BlockWords.{IsAt}
 use Rattle.raft_table.proofs.BlockLemmas.{rises_expanded}
 use Rattle.raft_table.proofs.BlockSearch.{entry_at_place}
@@ -9,12 +9,12 @@ use Rattle.raft_table.proofs.BlockQueues.{block_at, block_within}
 use Rattle.raft_table.proofs.memtable.entries.Entries.get.Goals as goal
 
 pub returns-then-index-self : goal.returns-then-index-self
-returns-then-index-self c = rw (← c.self.view_is) (sym (entry_at_low c.args.index c.self.inside.first (expanded c.self.inside.first (shown c.self.inside.blocks.items)) (omega arith) (rises_expanded c.self.inside.first (shown c.self.inside.blocks.items))))
+returns-then-index-self c = rw (← c.self.view_is) (sym (entry_at_low c.args.index c.self.inside.first (entries_in_blocks c.self.inside.first (shown c.self.inside.blocks.items)) (omega arith) (rises_expanded c.self.inside.first (shown c.self.inside.blocks.items))))
 
 pub returns-then-index-self-2 : goal.returns-then-index-self-2
 returns-then-index-self-2 c =
     let l = (kept_facts c.self.invariant).length in
-    rw (← c.self.view_is) (sym (entry_at_past c.args.index (c.args.index - c.self.inside.first) c.self.inside.first (expanded c.self.inside.first (shown c.self.inside.blocks.items)) (omega arith) (omega arith) (rises_expanded c.self.inside.first (shown c.self.inside.blocks.items))))
+    rw (← c.self.view_is) (sym (entry_at_past c.args.index (c.args.index - c.self.inside.first) c.self.inside.first (entries_in_blocks c.self.inside.first (shown c.self.inside.blocks.items)) (omega arith) (omega arith) (rises_expanded c.self.inside.first (shown c.self.inside.blocks.items))))
 
 pub find-whole-requires : goal.find-whole-requires
 find-whole-requires c = let l = c.self.invariant.len in (c.self.inside.first, (shown c.self.inside.blocks.items), c.self.invariant.starts, omega arith, omega arith)

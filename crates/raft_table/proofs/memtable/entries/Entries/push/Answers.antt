@@ -1,5 +1,5 @@
 use Rattle.std.proofs.Common.{◌≡◌, length, arith, ap, ◌∙◌}
-use Rattle.raft_table.specs.Blocks.{BlockSpans, shown, expanded}
+use Rattle.raft_table.specs.Blocks.{BlockSpans, shown, entries_in_blocks}
 use Rattle.raft_table.proofs.BlockKept.{IsPushed, pushed_fits, kept_push}
 use Rattle.raft_table.proofs.memtable.entries.Entries.push.Goals as goal
 
@@ -27,4 +27,4 @@ invariant_of-self-2 c =
     rw (c.in_ok-push_block.ensures.blocks, c.in_ok-push_block.ensures.starts, c.rewritten_in-rewritten.ensures, e) (pushed c).kept
 
 pub returns-clause-ok : goal.returns-clause-ok
-returns-clause-ok c = rw (← c.self.view_is) (ap (expanded c.first_of-self-inside.result) c.in_ok-push_block.ensures.blocks ∙ (pushed c).entries)
+returns-clause-ok c = rw (← c.self.view_is) (ap (entries_in_blocks c.first_of-self-inside.result) c.in_ok-push_block.ensures.blocks ∙ (pushed c).entries)

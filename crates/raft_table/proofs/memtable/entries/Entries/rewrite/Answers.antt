@@ -5,9 +5,9 @@ use Rattle.raft_base.specs.declared.errors.Error.TheVariants as errors
 use Rattle.raft_base.specs.declared.pipe_log.LogQueue.TheVariants.{Rewrite}
 use Rattle.raft_base.specs.declared.entry_index.EntryIndex.{EntryIndex}
 use Rattle.raft_table.specs.Counts.{Counts, live}
-use Rattle.raft_table.specs.Start.{IsCorruptionError}
+use Rattle.raft_base.specs.Errors.{IsCorruptionError}
 use Rattle.raft_table.specs.TableEntries.{start_of}
-use Rattle.raft_table.specs.Rewriting.{rewritten, with_rewritten, IsRewriteFault, MovesPlacesAlone}
+use Rattle.raft_table.specs.Rewriting.{entries_after_rewrite, with_rewritten, IsRewriteFault, MovesPlacesAlone}
 use Rattle.raft_table.proofs.SoundLemmas.{start_of_front, no_first}
 use Rattle.raft_table.proofs.RewriteLemmas.{RewritesAt, rewrites_at, rewritten_none, rewritten_apart, recounted_apart, recounted_is, run_end}
 use Rattle.raft_table.proofs.AloneLemmas.{none_moved, moved_alone}
@@ -29,13 +29,13 @@ overlap-requires c =
     omega arith
 
 -- a refusal of the counts
-full_is : (n : ℕ) (counts : Counts) (gate : Option ℕ) (run es after : List EntryIndex) → rewritten gate run es ≡ Some after → 2 ^ 64 ≤ live Rewrite counts + n → IsRewriteFault n counts (rewritten gate run es) errors.Full
+full_is : (n : ℕ) (counts : Counts) (gate : Option ℕ) (run es after : List EntryIndex) → entries_after_rewrite gate run es ≡ Some after → 2 ^ 64 ≤ live Rewrite counts + n → IsRewriteFault n counts (entries_after_rewrite gate run es) errors.Full
 full_is n counts gate run es after e h = rw e h
 
 start_apart : (c : goal.After-count_unmoved) → start_of c.args.run.now ≡ c.in-Some.head.now.index
 start_apart c = start_of_front c.args.run.now c.in-Some.head.now c.in-Some.ensures.item.3.0 c.in-Some.ensures.item.1
 
-apart : (c : goal.After-count_unmoved) → rewritten c.args.gate c.args.run.now c.args.self.now ≡ Some c.args.self.now
+apart : (c : goal.After-count_unmoved) → entries_after_rewrite c.args.gate c.args.run.now c.args.self.now ≡ Some c.args.self.now
 apart c = rewritten_apart c.args.gate Rewrite c.args.run.now c.args.self.now c.overlap.ensures.table_entries c.requires.run c.in-Some.ensures.item.3.0 (rw (start_apart c) c.in_default-overlap.ensures.meets)
 
 pub returns-in_default-overlap-clause-ok : goal.returns-in_default-overlap-clause-ok
@@ -49,7 +49,7 @@ returns-in_default-overlap-clause-counts c =
 
 pub returns-in_default-overlap-clause-fault : goal.returns-in_default-overlap-clause-fault
 returns-in_default-overlap-clause-fault c =
-    IfErr-weaker c.count_unmoved.result (λ e. (e ≡ errors.Full) × (2 ^ 64 ≤ live Rewrite c.args.stats.now + length c.args.run.now)) (IsRewriteFault (length c.args.run.now) c.args.stats.now (rewritten c.args.gate c.args.run.now c.args.self.now))
+    IfErr-weaker c.count_unmoved.result (λ e. (e ≡ errors.Full) × (2 ^ 64 ≤ live Rewrite c.args.stats.now + length c.args.run.now)) (IsRewriteFault (length c.args.run.now) c.args.stats.now (entries_after_rewrite c.args.gate c.args.run.now c.args.self.now))
     (λ e h. rw h.0 (full_is (length c.args.run.now) c.args.stats.now c.args.gate c.args.run.now c.args.self.now c.args.self.now (apart c) h.1)) c.count_unmoved.ensures.full
 
 start_memory : (c : goal.After-from_residual) → start_of c.args.run.now ≡ c.in-Some.head.now.index
@@ -108,14 +108,14 @@ returns-clause-counts c =
     on_ok_weaker c.move_places.result (λ h. h.1 ∙ ap (λ m. with_rewritten c.args.gate (length c.args.run.now) m c.args.stats.now) (sym f.counts) ∙ sym (recounted_is c.args.gate c.args.run.now c.args.self.now c.args.stats.now c.in-Some.ensures.item.3.0)) c.move_places.ensures.ok
 
 -- want of memory, or of room
-either_is : (n : ℕ) (counts : Counts) (gate : Option ℕ) (run es after : List EntryIndex) (e : Error) → rewritten gate run es ≡ Some after → (e ≡ errors.Memory) ⊎ ((e ≡ errors.Full) × (2 ^ 64 ≤ live Rewrite counts + n)) → IsRewriteFault n counts (rewritten gate run es) e
+either_is : (n : ℕ) (counts : Counts) (gate : Option ℕ) (run es after : List EntryIndex) (e : Error) → entries_after_rewrite gate run es ≡ Some after → (e ≡ errors.Memory) ⊎ ((e ≡ errors.Full) × (2 ^ 64 ≤ live Rewrite counts + n)) → IsRewriteFault n counts (entries_after_rewrite gate run es) e
 either_is n counts gate run es after e h (inl m) = rw (m, h) tt
 either_is n counts gate run es after e h (inr f) = rw f.0 (full_is n counts gate run es after h f.1)
 
 pub returns-clause-fault : goal.returns-clause-fault
 returns-clause-fault c =
     let f = at_moved c in
-    IfErr-weaker c.move_places.result (λ e. (e ≡ errors.Memory) ⊎ ((e ≡ errors.Full) × (2 ^ 64 ≤ live Rewrite c.args.stats.now + length c.args.run.now))) (IsRewriteFault (length c.args.run.now) c.args.stats.now (rewritten c.args.gate c.args.run.now c.args.self.now))
+    IfErr-weaker c.move_places.result (λ e. (e ≡ errors.Memory) ⊎ ((e ≡ errors.Full) × (2 ^ 64 ≤ live Rewrite c.args.stats.now + length c.args.run.now))) (IsRewriteFault (length c.args.run.now) c.args.stats.now (entries_after_rewrite c.args.gate c.args.run.now c.args.self.now))
     (λ e h. either_is (length c.args.run.now) c.args.stats.now c.args.gate c.args.run.now c.args.self.now _ e (f.ok (sym c.if-is_misplaced.ensures)) h) c.move_places.ensures.fault
 
 pub returns-in_default-clause-places_alone : goal.returns-in_default-clause-places_alone

@@ -1,5 +1,5 @@
 use Rattle.std.proofs.Common.{arith, refl}
-use Rattle.raft_table.specs.Blocks.{block_spans, shown, expanded}
+use Rattle.raft_table.specs.Blocks.{block_spans, shown, entries_in_blocks}
 use Rattle.raft_table.proofs.BlockCuts.{found, index_of, kept_facts}
 use Rattle.std.proofs.lemmas.Option.{slice_get_past}
 use Rattle.raft_table.proofs.BlockParts.{seq_at_place}
@@ -7,7 +7,7 @@ use Rattle.raft_table.proofs.BlockQueues.{block_at, block_within}
 use Rattle.raft_table.proofs.memtable.entries.Entries.seq_at.Goals as goal
 
 pub returns-then-place-self : goal.returns-then-place-self
-returns-then-place-self c = let l = (kept_facts c.self.invariant).length in rw (← c.self.view_is, slice_get_past (expanded c.self.inside.first (shown c.self.inside.blocks.items)) c.args.place (omega arith)) refl
+returns-then-place-self c = let l = (kept_facts c.self.invariant).length in rw (← c.self.view_is, slice_get_past (entries_in_blocks c.self.inside.first (shown c.self.inside.blocks.items)) c.args.place (omega arith)) refl
 
 pub overflow_add-self-inside : goal.overflow_add-self-inside
 overflow_add-self-inside c = let b = (kept_facts c.self.invariant).bounded (omega arith) in omega arith

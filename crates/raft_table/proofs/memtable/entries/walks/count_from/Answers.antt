@@ -1,6 +1,6 @@
 use Rattle.std.proofs.Common.{ℕ, suc, ◌≡◌, ◌+◌, ◌-◌, take, drop, arith}
 use Rattle.std.proofs.lemmas.List.{length-drop, length-take}
-use Rattle.raft_table.specs.Blocks.{block_spans, shown, expanded}
+use Rattle.raft_table.specs.Blocks.{block_spans, shown, entries_in_blocks}
 use Rattle.raft_table.proofs.BlockLemmas.{length-expanded}
 use Rattle.raft_table.proofs.BlockQueues.{block_at}
 use Rattle.raft_table.proofs.BlockSearch.{entry_of}
@@ -21,7 +21,7 @@ next-place-requires-clause-inside c =
 pub returns-then-total-gt0 : goal.returns-then-total-gt0
 returns-then-total-gt0 c j =
     let bs = shown c.args.blocks.now.items in
-    let es = expanded j bs in
+    let es = entries_in_blocks j bs in
     let xs = drop c.args.start (take c.args.end es) in
     let n = c.loop-i.i - c.args.start in
     let i = c.loop-i.auto.i in
@@ -45,15 +45,15 @@ loop-i-preserved c =
     let len = λ (j : ℕ). walk_len j c.args.start c.loop-i.i c.loop-i.place.0 c.loop-i.place.1 c.args.end c.from.result bs (block_spans c.index-block.result.now) c.index.result.now d a b.same c.index.ensures c.from.ensures i c.loop-i-test.true in
     let k : c.loop-i.i + 1 - c.args.start ≡ suc n = omega arith in
     let bound = c.loop-i.invariant.1 in
-    let more = λ (j : ℕ). limit_more c.args.limit n c.loop-i.total c.from.result (drop c.args.start (take c.args.end (expanded j bs))) d
-    (omega (arith, length-drop c.args.start (take c.args.end (expanded j bs)), length-take c.args.end (expanded j bs), length-expanded j bs))
+    let more = λ (j : ℕ). limit_more c.args.limit n c.loop-i.total c.from.result (drop c.args.start (take c.args.end (entries_in_blocks j bs))) d
+    (omega (arith, length-drop c.args.start (take c.args.end (entries_in_blocks j bs)), length-take c.args.end (entries_in_blocks j bs), length-expanded j bs))
     (c.loop-i.invariant.2 j) (len j) c.else-sum-limit.either (c.loop-i.invariant.3 j) in
     rw k (λ l. c.next-place.ensures c.loop-i.i bs a c.requires.distinct b.same (omega arith), omega arith, λ j. (more j).0, λ j. (more j).1)
 
 pub returns : goal.returns
 returns c j =
     let bs = shown c.args.blocks.now.items in
-    let es = expanded j bs in
+    let es = entries_in_blocks j bs in
     let i = c.loop-i.auto.i-end c.requires.order in
     let e : c.loop-i.i ≡ c.args.end = let f = c.loop-i-test.false in omega arith in
     let w = c.requires.within in

@@ -1,6 +1,6 @@
 use Rattle.std.proofs.Common.{◌+◌, ◌++◌, map, take, drop, arith, sym, ap, ◌∙◌}
 use Rattle.std.proofs.lemmas.List.{append_assoc, map-append}
-use Rattle.raft_table.specs.Blocks.{block_spans, shown, spread, expanded}
+use Rattle.raft_table.specs.Blocks.{block_spans, shown, spread, entries_in_blocks}
 use Rattle.raft_table.specs.BlockWords.{unset}
 use Rattle.raft_table.proofs.BlockQueues.{block_at}
 use Rattle.raft_table.proofs.WalkLemmas.{IsStep, walk_step, walk_more}
@@ -36,7 +36,7 @@ loop-done-preserved c =
     let bs = shown c.args.blocks.now.items in
     let low = c.loop-done.invariant.0 in
     let w = c.requires.within in
-    let xs = drop c.args.start (take c.loop-done.done (expanded c.args.first bs)) in
+    let xs = drop c.args.start (take c.loop-done.done (entries_in_blocks c.args.first bs)) in
     let ys = spread (c.args.first + c.loop-done.done) c.index-block.result.now.handle (take c.min-count.result (drop c.loop-done.at c.index-block.result.now.spans.items)) in (
       omega arith,
       order,

@@ -1,6 +1,6 @@
 use Rattle.std.proofs.Common.{◌≡◌, ◌+◌, ◌-◌, ◌++◌, length, map, take, drop, arith, sym, ap, ◌∙◌}
 use Rattle.std.proofs.lemmas.List.{append_assoc, length-append, length-drop, length-take-le}
-use Rattle.raft_table.specs.Blocks.{block_spans, shown, spread, expanded}
+use Rattle.raft_table.specs.Blocks.{block_spans, shown, spread, entries_in_blocks}
 use Rattle.raft_table.specs.BlockWords.{unset, with_spans}
 use Rattle.raft_table.proofs.BlockQueues.{block_at}
 use Rattle.raft_table.proofs.BlockLemmas.{length-expanded}
@@ -45,7 +45,7 @@ loop-done-preserved c =
       s.next,
       c.set_part.ensures.len ∙ c.loop-done.invariant.3,
       λ i front m e.
-          let es = expanded i bs in
+          let es = entries_in_blocks i bs in
           let xs = drop c.args.start (take done es) in
           let ss = take n (drop c.loop-done.at c.index-block.result.now.spans.items) in
           let h = c.index-block.result.now.handle in

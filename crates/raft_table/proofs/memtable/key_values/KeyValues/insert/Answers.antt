@@ -1,11 +1,12 @@
 use Rattle.std.proofs.Common.{◌≡◌, ◌+◌, ◌-◌, Some, arith, sym, ◌∙◌}
+use Rattle.std.specs.FinMap as finite
 use Rattle.raft_base.specs.declared.pipe_log.LogQueue.{LogQueue}
 use Rattle.raft_base.specs.declared.pipe_log.LogQueue.TheVariants.{Rewrite}
 use Rattle.raft_table.specs.declared.memtable.key_values.KeyValues.TheInside.{Inside}
 use Rattle.raft_table.specs.KeyValueView.{keys_shown}
-use Rattle.raft_table.specs.KeyValues.{pair_count, file_weight, file_at, with_put}
+use Rattle.raft_table.specs.KeyValues.{pair_count, file_weight, file_at}
 use Rattle.raft_table.proofs.KeyValuesShown.{shown-insert, sound-changed, rewritten-le-len, file-shown, counted-shown}
-use Rattle.raft_table.proofs.KeyValueCounts.{pair_count-with_put}
+use Rattle.raft_table.proofs.KeyValueCounts.{pair_count-insert}
 use Rattle.raft_table.proofs.memtable.key_values.KeyValues.insert.Goals as goal
 
 pub prove-unreachable-requires : goal.prove-unreachable-requires
@@ -22,11 +23,11 @@ after c = record c.self.inside { pairs = c.insert.new.self; rewritten = c.self.i
 replaced : (c : goal.After-self-1) → c.file_in-replaced.result ≡ file_at c.args.self.now c.args.key.items
 replaced c = c.file_in-replaced.ensures ∙ sym (file-shown c.self.inside c.args.self.now c.args.key.items _ c.self.invariant c.self.view_is c.in_ok-insert.ensures.old)
 
-put : (c : goal.After-self-1) → keys_shown (after c) ≡ with_put c.args.self.now c.args.key.items c.args.value.items c.args.file
+put : (c : goal.After-self-1) → keys_shown (after c) ≡ finite.insert c.args.self.now c.args.key.items (record { value = c.args.value.items; file = c.args.file })
 put c = shown-insert c.self.inside (after c) c.args.self.now c.args.key (record { value = c.args.value; file = c.args.file }) c.self.invariant c.self.view_is c.insert.ensures.ordered c.in_ok-insert.ensures.entries
 
-counts : (c : goal.After-self-1) (q : LogQueue) → pair_count q (with_put c.args.self.now c.args.key.items c.args.value.items c.args.file) + file_weight q c.file_in-replaced.result ≡ pair_count q c.args.self.now + file_weight q (Some c.args.file)
-counts c q = rw (replaced c) (pair_count-with_put q c.args.self.now c.args.key.items c.args.value.items c.args.file)
+counts : (c : goal.After-self-1) (q : LogQueue) → pair_count q (finite.insert c.args.self.now c.args.key.items (record { value = c.args.value.items; file = c.args.file })) + file_weight q c.file_in-replaced.result ≡ pair_count q c.args.self.now + file_weight q (Some c.args.file)
+counts c q = rw (replaced c) (pair_count-insert q c.args.self.now c.args.key.items c.args.value.items c.args.file)
 
 pub invariant_of-self-2 : goal.invariant_of-self-2
 invariant_of-self-2 c =

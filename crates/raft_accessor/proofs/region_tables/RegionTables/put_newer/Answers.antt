@@ -1,6 +1,6 @@
 use Rattle.std.proofs.Common.{inl, inr}
 use Rattle.raft_accessor.proofs.TableJoinLemmas.{put_by, not_joined}
-use Rattle.raft_accessor.proofs.region_tables.RegionTables.put_over.Goals as goal
+use Rattle.raft_accessor.proofs.region_tables.RegionTables.put_newer.Goals as goal
 
 pub returns : goal.returns
 returns c = elim c.alter.ensures.changed [

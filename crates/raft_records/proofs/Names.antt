@@ -1,0 +1,29 @@
+-- Names for proofs of what definitions say in place.
+use Rattle.std.specs.Prelude.{ℕ, ◌+◌, ◌-◌, Option, Some}
+use Rattle.raft_base.specs.declared.compression_type.CompressionType.{CompressionType}
+use Rattle.raft_base.specs.declared.entry_index.EntryIndex.{EntryIndex}
+use Rattle.raft_base.specs.declared.pipe_log.FileBlockHandle.{FileBlockHandle}
+use Rattle.raft_base.specs.Signature.{signature_in}
+use Rattle.raft_records.specs.FilePart.{Part}
+use Rattle.raft_records.specs.Item.{Item}
+use Rattle.raft_records.specs.Grammar.{tail_of, end_of_content}
+
+-- the index and the offset behind an entry
+abbrev pub behind_entry : ℕ × ℕ → EntryIndex → ℕ × ℕ
+behind_entry at e = (at.0 + 1, tail_of e)
+
+-- the entry bytes up to the end of an item
+abbrev pub behind_item : ℕ → Item → ℕ
+behind_item s item = end_of_content s item.content
+
+-- an entry in this block
+abbrev pub placed_entry : FileBlockHandle → CompressionType → EntryIndex → EntryIndex
+placed_entry block compression e = record e { entries = Some block; compression_type = compression }
+
+-- the signature of the part's file
+abbrev pub part_signature : Part → Option ℕ
+part_signature part = signature_in part.version part.id.seq
+
+-- where the entry bytes of a batch lie in the file
+abbrev pub entries_place : Part → ℕ → ℕ → FileBlockHandle
+entries_place part at offset = record { id = part.id; offset = part.offset + at + 16; len = offset - 16 }

@@ -23,7 +23,8 @@ use Rattle.raft_table.specs.Table.{Table, empty_table, with_table_deleted, IsRec
 use Rattle.raft_table.proofs.RunCounts.{append_full, replay_full}
 use Rattle.raft_accessor.specs.Accessor.{table_in}
 use Rattle.raft_accessor.specs.ItemWrites.{IsItemWritten, pair_change}
-use Rattle.raft_accessor.specs.Updates.{BecomesOutcome, IsReplayFault, IsRefusal}
+use Rattle.raft_base.specs.Corruption.{IsCorruption}
+use Rattle.raft_accessor.specs.Updates.{BecomesOutcome, IsReplayFault}
 use Rattle.raft_accessor.specs.Writes.{Writing, Appending, Replaying, queue_of, after_content, counts_after_content, counts_after_change, after_rewrite_put, with_change, lists, listed_by, cleaned_by_content, IsFor, MixesQueues, IsWriteFault}
 use Rattle.raft_accessor.proofs.MapLemmas.{get_gone, one_same}
 
@@ -117,10 +118,10 @@ replay_fault q id o rs counts errors.Memory h = tt
 replay_fault q id o rs counts e h = by_replay q id o rs _ counts e refl h
 
 -- what isn't as asked, or has no outcome
-pub no_outcome : (w : Writing) (id : ℕ) (o : Option Table) (live : ℕ) (content : Content) (e : Error) → IsRefusal e → (IsFor w content → ⊥) ⊎ (after_content w id o content ≡ None) → IsWriteFault w id o live content e
-no_outcome w id o live content (errors.Corruption text) h k = k
-no_outcome w id o live content errors.Memory h k = tt
-no_outcome w id o live content e h k = absurd h
+pub no_outcome : (w : Writing) (id : ℕ) (o : Option Table) (live : ℕ) (content : Content) (text : List ℕ) (e : Error) → IsCorruption text e → (IsFor w content → ⊥) ⊎ (after_content w id o content ≡ None) → IsWriteFault w id o live content e
+no_outcome w id o live content text (errors.Corruption t) h k = k
+no_outcome w id o live content text errors.Memory h k = tt
+no_outcome w id o live content text e h k = absurd h
 
 -- ---- why changes of keys are refused
 

@@ -67,9 +67,3 @@ abbrev pub IsReplayFault : LogQueue → List EntryIndex → Table → Counts →
 IsReplayFault queue run t counts (errors.InvalidArgument text) = 0 < live_of (other queue) t
 IsReplayFault queue run t counts errors.Memory = Unit {0}
 IsReplayFault queue run t counts e = IsTableRunFault queue counts t.entries (entries_after_replay queue t.entries run) e
-
--- a refusal of an item, or want of memory for its text
-abbrev pub IsRefusal : Error → Type 0
-IsRefusal (errors.Corruption text) = Unit {0}
-IsRefusal errors.Memory = Unit {0}
-IsRefusal _ = ⊥

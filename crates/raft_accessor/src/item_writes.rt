@@ -8,14 +8,12 @@ ghost use Rattle.raft_table.specs.Counts.{Counts};
 ghost use Rattle.raft_table.specs.Table.{IsCounted};
 ghost use Rattle.raft_accessor.specs.Accessor.{table_in};
 ghost use Rattle.raft_accessor.specs.ItemWrites.{IsItemWritten, pair_change};
-ghost use Rattle.raft_accessor.specs.Updates.{IsRefusal};
 ghost use Rattle.raft_accessor.specs.Writes.{Appending, Replaying, Rewriting};
 
 use crate::region_tables::RegionTables;
 use raft_base::{EntryIndex, Error, FileId, FileSeq, LogQueue, Result};
 use raft_records::{Command, KeyValue, LogItem, LogItemContent, OpType, is_reserved};
 use raft_table::{GlobalStats, MemTable, is_run};
-use std::alloc::Global;
 
 impl RegionTables {
     /// Writes a new item of the append queue to its region's table, and lists the region where the
@@ -132,7 +130,10 @@ impl RegionTables {
             self.old stats.old list result self.new stats.new list }
     {
         if !is_run(&run, LogQueue::Append) {
-            return Err(corruption(self.allocator(), "entries are no run of the append queue"));
+            return Err(Error::corruption(
+                self.allocator(),
+                "entries are no run of the append queue",
+            ));
         }
         self.append_run(id, run, stats)
     }
@@ -151,7 +152,7 @@ impl RegionTables {
             self.old stats.old list result self.new stats.new list }
     {
         if !is_run(&run, queue) {
-            return Err(corruption(self.allocator(), "entries are no run of their queue"));
+            return Err(Error::corruption(self.allocator(), "entries are no run of their queue"));
         }
         self.replay_run(queue, id, run, stats)
     }
@@ -171,7 +172,10 @@ impl RegionTables {
             self.old stats.old list result self.new stats.new list }
     {
         if !is_run(&run, LogQueue::Rewrite) {
-            return Err(corruption(self.allocator(), "entries are no run of the rewrite queue"));
+            return Err(Error::corruption(
+                self.allocator(),
+                "entries are no run of the rewrite queue",
+            ));
         }
         self.rewrite_run(id, run, gate, stats)
     }
@@ -185,10 +189,10 @@ impl RegionTables {
         match command {
             Command::Clean => Ok(()),
             Command::Compact { index: _ } => {
-                Err(corruption(self.allocator(), "a compaction is rewritten"))
+                Err(Error::corruption(self.allocator(), "a compaction is rewritten"))
             }
             Command::Truncate { index: _ } => {
-                Err(corruption(self.allocator(), "a truncation is rewritten"))
+                Err(Error::corruption(self.allocator(), "a truncation is rewritten"))
             }
         }
     }
@@ -263,13 +267,16 @@ impl RegionTables {
         match op_type {
             OpType::Put => {
                 let Some(value) = value else {
-                    return Err(corruption(self.allocator(), "a key is put without value"));
+                    return Err(Error::corruption(self.allocator(), "a key is put without value"));
                 };
                 let Some(file) = file_id else {
-                    return Err(corruption(self.allocator(), "a key is put without file"));
+                    return Err(Error::corruption(self.allocator(), "a key is put without file"));
                 };
                 if !is_in(file, queue) {
-                    return Err(corruption(self.allocator(), "a key is put in the other queue"));
+                    return Err(Error::corruption(
+                        self.allocator(),
+                        "a key is put in the other queue",
+                    ));
                 }
                 self.put(id, key, value, file, stats)
             }
@@ -297,11 +304,14 @@ impl RegionTables {
         match kv.op_type {
             OpType::Put => {
                 if kv.value.is_none() {
-                    return Err(corruption(self.allocator(), "a key is rewritten without value"));
+                    return Err(Error::corruption(
+                        self.allocator(),
+                        "a key is rewritten without value",
+                    ));
                 }
                 self.rewrite_key(id, kv.key, gate, seq, stats)
             }
-            OpType::Del => Err(corruption(self.allocator(), "a deletion is rewritten")),
+            OpType::Del => Err(Error::corruption(self.allocator(), "a deletion is rewritten")),
         }
     }
 }
@@ -311,14 +321,4 @@ fn is_in(file: FileId, queue: LogQueue) -> bool
     ensures { MatchBool result (file.queue ≡ queue) (file.queue ≡ queue → ⊥) }
 {
     file.queue == queue
-}
-
-/// A refusal of an item with this text, or want of memory for it.
-fn corruption(alloc: Global, text: &str) -> Error
-    ensures { IsRefusal result }
-{
-    match String::from_str(alloc, text) {
-        Ok(text) => Error::Corruption(text),
-        Err(_) => Error::Memory,
-    }
 }

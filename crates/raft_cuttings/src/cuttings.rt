@@ -76,7 +76,7 @@ fn of_files<R: Threads + Files + AllocGlobal + Sync>(
     let segments = file_segments(queue, asked.version, files)?;
     let batches = batches_of(rt.alloc(), segments)?;
     if batches.len() > MOST_PARTS {
-        return Err(Error::InvalidArgument(format!(in rt.alloc(); "too many batches")?));
+        return Err(Error::invalid_argument(rt.alloc(), "too many batches"));
     }
     let whole = read_cut(rt, &batches, queue, 0, Way::Left)?;
     for cutting in 0..1u64 << batches.len().saturating_sub(1) {

@@ -2,12 +2,12 @@
 
 ghost use Rattle.std.specs.Prelude.{◌≡◌, ◌≢◌, ◌↔◌, IsTrue, MatchBool, IfOk, IfErr, OnOk, None, map};
 ghost use Rattle.raft_base.specs.declared.pipe_log.LogQueue.TheVariants.{Append, Rewrite};
+ghost use Rattle.raft_records.specs.Faults.{IsAnyCorruption};
 ghost use Rattle.raft_records.specs.Group.{first_marker};
 ghost use Rattle.raft_records.specs.Item.{item_of, content_of, entries as entries_of, pair, pair_of};
 ghost use Rattle.raft_records.specs.ReadIn.{IsPlaceInFile};
 ghost use Rattle.raft_history.specs.Histories.{IsInFile, AreInFile, HaveStatus};
 ghost use Rattle.raft_memtable.specs.BatchChecks.{marker_found};
-ghost use Rattle.raft_accessor.specs.Updates.{IsRefusal};
 
 use raft_base::{EntryIndex, Error, FileId, LogQueue, Result};
 use raft_records::{
@@ -31,15 +31,13 @@ pub(crate) fn check_batch(
     ensures marker { IfOk result (λ marker. marker ≡ marker_found file.queue batch.now) }
     ensures refused { IfErr result
         (λ e. e ≢ Error.Memory → AreInFile file batch.now → HaveStatus file.queue batch.now → ⊥) }
-    ensures fault { IfErr result IsRefusal }
+    ensures fault { IfErr result IsAnyCorruption }
 {
     let items = batch.iter().as_slice();
     match file.queue {
         LogQueue::Append => {
             if !knows_file(batch, file) && !are_in_file(items, file) {
-                return Err(Error::Corruption(format!(in alloc;
-                    "an item can't stand in a batch of its file"
-                )?));
+                return Err(Error::corruption(alloc, "an item can't stand in a batch of its file"));
             }
             Ok(None)
         }
@@ -70,14 +68,12 @@ fn check_rewrite_batch(
     ensures refused { IfErr result
         (λ e. e ≢ Error.Memory
         → AreInFile file (map item_of items.now) → HaveStatus Rewrite (map item_of items.now) → ⊥) }
-    ensures fault { IfErr result IsRefusal }
+    ensures fault { IfErr result IsAnyCorruption }
 {
     let mut marker = None;
     for item in items {
         if !is_in_file(item, file) {
-            return Err(Error::Corruption(format!(in alloc;
-                "an item can't stand in a batch of its file"
-            )?));
+            return Err(Error::corruption(alloc, "an item can't stand in a batch of its file"));
         }
         let found = AtomicGroupStatus::parse(alloc, item)?;
         marker = marker.or(found);

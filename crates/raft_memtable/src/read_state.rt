@@ -80,12 +80,10 @@ impl ReadState {
             (event batch.now file)) }
     {
         if !FileRange::suits(self.files, file.queue) {
-            return Err(Error::Corruption(format!(in self.alloc; "a batch of the other queue")?));
+            return Err(Error::corruption(self.alloc, "a batch of the other queue"));
         }
         if !FileRange::follows(self.files, Some(FileRange::of(file))) {
-            return Err(Error::Corruption(format!(in self.alloc;
-                "a batch of a file below the last one"
-            )?));
+            return Err(Error::corruption(self.alloc, "a batch of a file below the last one"));
         }
         check_batch(self.alloc, batch, file)
     }
@@ -172,14 +170,10 @@ impl ReadState {
             (IsNeighbourFault queue (reading_on (context_in self.now)) (reading_on (context_in newer.now))) }
     {
         if !FileRange::suits(self.files, queue) || !FileRange::suits(newer.files, queue) {
-            return Err(Error::InvalidArgument(format!(in self.alloc;
-                "a context of the other queue"
-            )?));
+            return Err(Error::invalid_argument(self.alloc, "a context of the other queue"));
         }
         if !FileRange::follows(self.files, newer.files) {
-            return Err(Error::Corruption(format!(in self.alloc;
-                "a context of a file below the last one"
-            )?));
+            return Err(Error::corruption(self.alloc, "a context of a file below the last one"));
         }
         Ok(())
     }

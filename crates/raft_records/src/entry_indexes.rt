@@ -138,9 +138,10 @@ impl EntryIndexes {
         ensures fault { IfErr result (IsEntriesRefusal self.now.0.items) }
     {
         if !self.is_writable() {
-            return Err(Error::InvalidArgument(format!(in *buf.allocator();
-                "the entries are not consecutive or don't run on"
-            )?));
+            return Err(Error::invalid_argument(
+                *buf.allocator(),
+                "the entries are not consecutive or don't run on",
+            ));
         }
         let len = buf.len();
         let written = self.write(buf);

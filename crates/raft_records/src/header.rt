@@ -44,14 +44,13 @@ pub(crate) fn parse_header(
     let compression_type = CompressionType::from_u8(alloc, (len_and_type % 256) as u8)?;
     let len = len_and_type / 256;
     if offset > len {
-        return Err(Error::Corruption(format!(in alloc;
-            "Log item offset exceeds log batch length"
-        )?));
+        return Err(Error::corruption(alloc, "Log item offset exceeds log batch length"));
     }
     if offset < LOG_BATCH_HEADER_LEN as u64 {
-        return Err(Error::Corruption(format!(in alloc;
-            "Log item offset is smaller than log batch header length"
-        )?));
+        return Err(Error::corruption(
+            alloc,
+            "Log item offset is smaller than log batch header length",
+        ));
     }
     Ok(((offset as usize, compression_type, len as usize), rest))
 }

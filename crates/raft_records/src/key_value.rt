@@ -124,7 +124,7 @@ impl KeyValue {
         ensures fault { IfErr result (IsPairRefusal (pair_of self.now)) }
     {
         if !self.is_writable() {
-            return Err(Error::InvalidArgument(format!(in *buf.allocator(); "a put has no value")?));
+            return Err(Error::invalid_argument(*buf.allocator(), "a put has no value"));
         }
         let len = buf.len();
         let written = self.write(buf);

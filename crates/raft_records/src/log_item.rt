@@ -163,9 +163,7 @@ impl LogItem {
         ensures fault { IfErr result (IsItemRefusal (item_of self.now)) }
     {
         if !self.is_writable() {
-            return Err(Error::InvalidArgument(format!(in *buf.allocator();
-                "an item can't be written"
-            )?));
+            return Err(Error::invalid_argument(*buf.allocator(), "an item can't be written"));
         }
         let len = buf.len();
         let written = self.write(buf);

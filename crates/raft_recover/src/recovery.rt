@@ -68,7 +68,7 @@ pub fn recover<R: Threads + Sync>(
         SegmentsAreOf queue segments.entry.now → ⊥) → IfErr result (λ e. e ≢ Error.Memory → IsInvalidArgument e) }
 {
     if segments.len() >= SEGMENT_LIMIT {
-        return Err(Error::InvalidArgument(format!(in alloc; "2^62 segments or more")?));
+        return Err(Error::invalid_argument(alloc, "2^62 segments or more"));
     }
     let count = workers.clamp(1, MAX_WORKERS);
     let shares = equal_shares(alloc, segments, count, LEAST_SHARE)?;

@@ -57,9 +57,10 @@ pub fn merge_pieces<M: ReplayMachine, R: Threads + Sync>(
         IfErr result (λ e. e ≢ Error.Memory → IsInvalidArgument e) }
 {
     if !fits(&pieces, plan) {
-        return Err(Error::InvalidArgument(format!(in *pieces.allocator();
-            "the plan merges another number of pieces"
-        )?));
+        return Err(Error::invalid_argument(
+            *pieces.allocator(),
+            "the plan merges another number of pieces",
+        ));
     }
     merge_at_once(rt, pieces, plan, queue, MAX_LEVELS)
 }

@@ -400,10 +400,10 @@ impl MemTable {
             }
             LogQueue::Rewrite => {
                 if seq < file.seq {
-                    return Err(
-                        self.entries
-                            .corruption("a key is rewritten to an older file")?,
-                    );
+                    return Err(Error::corruption(
+                        self.entries.allocator(),
+                        "a key is rewritten to an older file",
+                    ));
                 }
                 count_unmoved(stats)?;
                 self.keys

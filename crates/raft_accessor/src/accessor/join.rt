@@ -49,9 +49,10 @@ impl MemTableAccessor {
             LogQueue::Rewrite => LogQueue::Append,
         };
         if self.stats.live_entries(other) > 0 {
-            return Err(Error::InvalidArgument(format!(in *self.cleaned.allocator();
-                "the tables have records of the other queue"
-            )?));
+            return Err(Error::invalid_argument(
+                *self.cleaned.allocator(),
+                "the tables have records of the other queue",
+            ));
         }
         Ok(())
     }

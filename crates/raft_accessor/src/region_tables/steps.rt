@@ -225,17 +225,13 @@ pub(crate) fn replay_into(
     match queue {
         LogQueue::Append => {
             if table.records(LogQueue::Rewrite) > 0 {
-                return Err(Error::InvalidArgument(format!(in alloc;
-                    "a table of the rewrite queue"
-                )?));
+                return Err(Error::invalid_argument(alloc, "a table of the rewrite queue"));
             }
             table.replay_append(run, stats)
         }
         LogQueue::Rewrite => {
             if table.records(LogQueue::Append) > 0 {
-                return Err(Error::InvalidArgument(format!(in alloc;
-                    "a table of the append queue"
-                )?));
+                return Err(Error::invalid_argument(alloc, "a table of the append queue"));
             }
             table.replay_rewrite(run, stats)
         }

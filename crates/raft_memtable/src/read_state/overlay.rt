@@ -40,9 +40,7 @@ impl ReadState {
         if !FileRange::suits(self.files, LogQueue::Rewrite)
             || !FileRange::suits(append.files, LogQueue::Append)
         {
-            return Err(Error::InvalidArgument(format!(in self.alloc;
-                "a context of the other queue"
-            )?));
+            return Err(Error::invalid_argument(self.alloc, "a context of the other queue"));
         }
         Ok(())
     }

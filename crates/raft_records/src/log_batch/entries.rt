@@ -208,9 +208,10 @@ fn write_messages<M: MessageExt>(
         (entry_bytes_of item_batch.old + length (concat (map M.Entry.bytes_of entries.now)))) }
 {
     if !have_consecutive_indexes::<M>(entries) {
-        return Err(Error::InvalidArgument(format!(in *buf.allocator();
-            "the indexes of the entries are not consecutive"
-        )?));
+        return Err(Error::invalid_argument(
+            *buf.allocator(),
+            "the indexes of the entries are not consecutive",
+        ));
     }
     let entry_indexes = append_messages::<M>(buf, entries)?;
     item_batch.add_entry_indexes(region_id, entry_indexes)

@@ -3,7 +3,6 @@
 ghost use Rattle.std.specs.Prelude.{◌≡◌, ◌≢◌, ◌+◌, ◌<◌, ◌≤◌, [], length, take, drop, MatchOption, IfOk, IfErr};
 ghost use Rattle.raft_table.specs.Blocks.{shown, entries_in_blocks, AreDistinctBlocks};
 ghost use Rattle.raft_table.specs.Fetches.{block_count};
-ghost use Rattle.raft_base.specs.Errors.{IsCorruptionError, IsInvalidArgument};
 ghost use Rattle.raft_table.specs.Start.{counts_without};
 ghost use Rattle.raft_table.specs.TableEntries.{AreTableEntries, start_of, end_of, entry_at, entry_count, below, from, AreCounted, AreRecounted};
 ghost use Rattle.raft_base.specs.declared.pipe_log.LogQueue.TheVariants.{Rewrite};
@@ -143,20 +142,9 @@ impl Entries {
         }
     }
 
-    /// A refusal with this text, or want of memory for it.
-    pub(crate) fn corruption(&self, text: &str) -> Result<Error>
-        ensures ok { IfOk result IsCorruptionError }
-        ensures err { IfErr result (λ e. e ≡ Error.Memory) }
-    {
-        Ok(Error::Corruption(String::from_str(*self.blocks.allocator(), text)?))
-    }
-
-    /// A refusal of an argument with this text, or want of memory for it.
-    pub(crate) fn invalid(&self, text: &str) -> Result<Error>
-        ensures ok { IfOk result IsInvalidArgument }
-        ensures err { IfErr result (λ e. e ≡ Error.Memory) }
-    {
-        Ok(Error::InvalidArgument(String::from_str(*self.blocks.allocator(), text)?))
+    /// The allocator that the entries were made with.
+    pub(crate) fn allocator(&self) -> Global {
+        *self.blocks.allocator()
     }
 
     /// How many of them are rewritten.

@@ -48,10 +48,10 @@ impl MemTable {
             (rhs.new.region_id ≡ rhs.old.region_id) }
     {
         let Some(queue) = self.joint_queue(rhs) else {
-            return Err(
-                self.entries
-                    .invalid("tables of two queues are no neighbors")?,
-            );
+            return Err(Error::invalid_argument(
+                self.entries.allocator(),
+                "tables of two queues are no neighbors",
+            ));
         };
         self.join(queue, rhs, queue, stats)?;
         if let Some(atomic_group) = rhs.atomic_group.take() {
@@ -87,10 +87,10 @@ impl MemTable {
             (rhs.new.region_id ≡ rhs.old.region_id) }
     {
         let Some(rule) = self.append_rule(rhs) else {
-            return Err(
-                self.entries
-                    .invalid("a rewritten and an appended table are asked")?,
-            );
+            return Err(Error::invalid_argument(
+                self.entries.allocator(),
+                "a rewritten and an appended table are asked",
+            ));
         };
         self.join(rule, rhs, LogQueue::Append, stats)
     }

@@ -232,10 +232,10 @@ impl MemTable {
             (is_refused_over queue mark.now self.now.entries)) }
     {
         if self.refuses(queue, mark) {
-            return Err(
-                self.entries
-                    .corruption("a run leaves a hole behind older entries")?,
-            );
+            return Err(Error::corruption(
+                self.entries.allocator(),
+                "a run leaves a hole behind older entries",
+            ));
         }
         Ok(())
     }

@@ -25,33 +25,13 @@ returns-in_err-compression_type-clause-fault c =
     let p = err_from_is_err_and c.from_residual-in_err-compression_type.result c.from_residual-in_err-compression_type.ensures.1 in
     rw (p.1, p.2) (inr (words_fault _ _ _ _ _ _ c.parse_u64-len_and_type.ensures.read c.parse_u64-offset.ensures.read (inl c.in_err-compression_type.ensures.fault)))
 
-pub returns-in_err-format-2-clause-refused : goal.returns-in_err-format-2-clause-refused
-returns-in_err-format-2-clause-refused c =
-    let p = err_from_is_err_and c.from_residual-in_err-format-2.result c.from_residual-in_err-format-2.ensures.1 in
-    rw (p.1) (offset_past_end _ _ _ _ _ c.parse_u64-len_and_type.ensures.read c.parse_u64-offset.ensures.read c.if-offset-len.true)
-
-pub returns-in_err-format-2-clause-fault : goal.returns-in_err-format-2-clause-fault
-returns-in_err-format-2-clause-fault c =
-    let p = err_from_is_err_and c.from_residual-in_err-format-2.result c.from_residual-in_err-format-2.ensures.1 in
-    rw (p.1, p.2) (inr (words_fault _ _ _ _ _ _ c.parse_u64-len_and_type.ensures.read c.parse_u64-offset.ensures.read (inr (type_ok _ _ c.in_ok-compression_type.ensures.ok, inl (c.if-offset-len.true, tt)))))
-
 pub returns-then-offset-len-clause-refused : goal.returns-then-offset-len-clause-refused
 returns-then-offset-len-clause-refused c =
     offset_past_end _ _ _ _ _ c.parse_u64-len_and_type.ensures.read c.parse_u64-offset.ensures.read c.if-offset-len.true
 
 pub returns-then-offset-len-clause-fault : goal.returns-then-offset-len-clause-fault
 returns-then-offset-len-clause-fault c =
-    inr (words_fault _ _ _ _ _ _ c.parse_u64-len_and_type.ensures.read c.parse_u64-offset.ensures.read (inr (type_ok _ _ c.in_ok-compression_type.ensures.ok, inl (c.if-offset-len.true, c.in_ok-format-2.ensures.ok))))
-
-pub returns-in_err-format-3-clause-refused : goal.returns-in_err-format-3-clause-refused
-returns-in_err-format-3-clause-refused c =
-    let p = err_from_is_err_and c.from_residual-in_err-format-3.result c.from_residual-in_err-format-3.ensures.1 in
-    rw (p.1) (offset_in_header _ _ _ _ _ c.parse_u64-len_and_type.ensures.read c.parse_u64-offset.ensures.read c.if-offset.true)
-
-pub returns-in_err-format-3-clause-fault : goal.returns-in_err-format-3-clause-fault
-returns-in_err-format-3-clause-fault c =
-    let p = err_from_is_err_and c.from_residual-in_err-format-3.result c.from_residual-in_err-format-3.ensures.1 in
-    rw (p.1, p.2) (inr (words_fault _ _ _ _ _ _ c.parse_u64-len_and_type.ensures.read c.parse_u64-offset.ensures.read (inr (type_ok _ _ c.in_ok-compression_type.ensures.ok, inr (c.if-offset-len.false, c.if-offset.true, tt)))))
+    inr (words_fault _ _ _ _ _ _ c.parse_u64-len_and_type.ensures.read c.parse_u64-offset.ensures.read (inr (type_ok _ _ c.in_ok-compression_type.ensures.ok, inl (c.if-offset-len.true, c.corruption.ensures))))
 
 pub returns-then-offset-clause-refused : goal.returns-then-offset-clause-refused
 returns-then-offset-clause-refused c =
@@ -59,7 +39,7 @@ returns-then-offset-clause-refused c =
 
 pub returns-then-offset-clause-fault : goal.returns-then-offset-clause-fault
 returns-then-offset-clause-fault c =
-    inr (words_fault _ _ _ _ _ _ c.parse_u64-len_and_type.ensures.read c.parse_u64-offset.ensures.read (inr (type_ok _ _ c.in_ok-compression_type.ensures.ok, inr (c.if-offset-len.false, c.if-offset.true, c.in_ok-format-3.ensures.ok))))
+    inr (words_fault _ _ _ _ _ _ c.parse_u64-len_and_type.ensures.read c.parse_u64-offset.ensures.read (inr (type_ok _ _ c.in_ok-compression_type.ensures.ok, inr (c.if-offset-len.false, c.if-offset.true, c.corruption-then-offset.ensures))))
 
 pub returns-clause-ok : goal.returns-clause-ok
 returns-clause-ok c =

@@ -41,7 +41,10 @@ impl Entries {
             return count_unmoved(run.len(), stats);
         };
         if self.is_misplaced(overlap.at, gate) {
-            return Err(self.corruption("a rewriting starts off the rewritten entries")?);
+            return Err(Error::corruption(
+                self.allocator(),
+                "a rewriting starts off the rewritten entries",
+            ));
         }
         let places = &run[overlap.skipped..overlap.skipped + overlap.count];
         self.move_places(overlap.at, places, gate, run.len(), stats)

@@ -33,8 +33,14 @@ impl Entries {
         };
         match self.start(first.index) {
             Start::Joins(keep) => self.put_run_behind(keep, &run, LogQueue::Append, stats),
-            Start::InFront => Err(self.corruption("a run starts below the first entry")?),
-            Start::BehindHole => Err(self.corruption("a run leaves a hole behind the last entry")?),
+            Start::InFront => Err(Error::corruption(
+                self.allocator(),
+                "a run starts below the first entry",
+            )),
+            Start::BehindHole => Err(Error::corruption(
+                self.allocator(),
+                "a run leaves a hole behind the last entry",
+            )),
         }
     }
 
@@ -91,7 +97,10 @@ impl Entries {
             return Ok(());
         };
         let Some(keep) = self.kept_under(queue, first.index) else {
-            return Err(self.corruption("a run leaves a hole behind the last entry")?);
+            return Err(Error::corruption(
+                self.allocator(),
+                "a run leaves a hole behind the last entry",
+            ));
         };
         self.put_run_behind(keep, run, queue, stats)
     }
@@ -154,7 +163,10 @@ impl Entries {
             return Ok(());
         };
         let Some(keep) = self.kept_under(rule, first) else {
-            return Err(self.corruption("a run leaves a hole behind the last entry")?);
+            return Err(Error::corruption(
+                self.allocator(),
+                "a run leaves a hole behind the last entry",
+            ));
         };
         self.put_behind(keep, run, queue, stats)
     }

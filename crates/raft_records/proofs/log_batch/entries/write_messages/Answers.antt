@@ -10,6 +10,3 @@ add_entry_indexes-requires-clause-consecutive g c =
 pub add_entry_indexes-requires-clause-room : goal.add_entry_indexes-requires-clause-room
 add_entry_indexes-requires-clause-room g c =
     found_room (map (λ e. entry_with_index (g.M.MessageExt.index_of e)) c.args.entries.now) c.in_ok-entry_indexes.entry_indexes.items (map g.M.Entry.Message.bytes_of c.args.entries.now) c.args.buf.now.items c.append_messages.new.buf.items _ (same_counts g.M.Entry.Message.bytes_of g.M.MessageExt.index_of c.args.entries.now) c.in_ok-entry_indexes.ensures.lengths c.in_ok-entry_indexes.ensures.bytes (c.in_ok-entry_indexes.ensures.accepted c.requires.some) c.requires.whole
-
-pub returns-in_err-format-clause-err_bytes : goal.returns-in_err-format-clause-err_bytes
-returns-in_err-format-clause-err_bytes g c = on_err c.from_residual.result (keeps_all c.args.buf.now.items)

@@ -1,11 +1,11 @@
 use Rattle.std.proofs.Common.{ℕ, ◌⊎◌, inl, inr, arith, sym, subst, ◌≡◌, ◌+◌, ◌≤◌, ◌^◌, length, ap, ◌∙◌, Some, None, List, [], Option}
-use Rattle.std.proofs.lemmas.Result.{err_from_is_err_and, on_ok_weaker, IfErr-weaker}
+use Rattle.std.proofs.lemmas.Result.{on_ok_weaker, IfErr-weaker}
 use Rattle.raft_base.specs.declared.errors.Error.{Error}
 use Rattle.raft_base.specs.declared.errors.Error.TheVariants as errors
 use Rattle.raft_base.specs.declared.pipe_log.LogQueue.TheVariants.{Rewrite}
 use Rattle.raft_base.specs.declared.entry_index.EntryIndex.{EntryIndex}
 use Rattle.raft_table.specs.Counts.{Counts, live}
-use Rattle.raft_base.specs.Errors.{IsCorruptionError}
+use Rattle.raft_base.specs.Corruption.{IsCorruption}
 use Rattle.raft_table.specs.TableEntries.{start_of}
 use Rattle.raft_table.specs.Rewriting.{entries_after_rewrite, with_rewritten, IsRewriteFault, MovesPlacesAlone}
 use Rattle.raft_table.proofs.SoundLemmas.{start_of_front, no_first}
@@ -52,32 +52,21 @@ returns-in_default-overlap-clause-fault c =
     IfErr-weaker c.count_unmoved.result (λ e. (e ≡ errors.Full) × (2 ^ 64 ≤ live Rewrite c.args.stats.now + length c.args.run.now)) (IsRewriteFault (length c.args.run.now) c.args.stats.now (entries_after_rewrite c.args.gate c.args.run.now c.args.self.now))
     (λ e h. rw h.0 (full_is (length c.args.run.now) c.args.stats.now c.args.gate c.args.run.now c.args.self.now c.args.self.now (apart c) h.1)) c.count_unmoved.ensures.full
 
-start_memory : (c : goal.After-from_residual) → start_of c.args.run.now ≡ c.in-Some.head.now.index
-start_memory c = start_of_front c.args.run.now c.in-Some.head.now c.in-Some.ensures.item.3.0 c.in-Some.ensures.item.1
+corruption_is : (n : ℕ) (counts : Counts) (text : List ℕ) (e : Error) → IsCorruption text e → IsRewriteFault n counts None e
+corruption_is n counts text (errors.Corruption t) h = tt
+corruption_is n counts text errors.Memory h = tt
+corruption_is n counts text _ h = absurd h
 
-at_memory : (c : goal.After-from_residual) → RewritesAt c.args.gate c.args.run.now c.args.self.now c.in-Some-overlap.overlap.at c.in-Some-overlap.overlap.skipped c.in-Some-overlap.overlap.count
-at_memory c = rewrites_at c.args.gate c.args.run.now c.args.self.now c.in-Some-overlap.overlap c.overlap.ensures.table_entries c.requires.run c.in-Some.ensures.item.3.0 (rw (start_memory c) c.in-Some-overlap.ensures.meets)
-
-pub returns-in_err-corruption-clause-fault : goal.returns-in_err-corruption-clause-fault
-returns-in_err-corruption-clause-fault c =
-    let p = err_from_is_err_and c.from_residual.result c.from_residual.ensures.1 in
-    let m = c.in_err-corruption.ensures.err in
-    rw (p.1, p.2, m, (at_memory c).refused (sym c.if-is_misplaced.ensures)) tt
-
-corruption_is : (n : ℕ) (counts : Counts) (e : Error) → IsCorruptionError e → IsRewriteFault n counts None e
-corruption_is n counts (errors.Corruption text) h = tt
-corruption_is n counts _ h = absurd h
-
-start_refused : (c : goal.In_ok-corruption) → start_of c.args.run.now ≡ c.in-Some.head.now.index
+start_refused : (c : goal.After-corruption) → start_of c.args.run.now ≡ c.in-Some.head.now.index
 start_refused c = start_of_front c.args.run.now c.in-Some.head.now c.in-Some.ensures.item.3.0 c.in-Some.ensures.item.1
 
-at_refused : (c : goal.In_ok-corruption) → RewritesAt c.args.gate c.args.run.now c.args.self.now c.in-Some-overlap.overlap.at c.in-Some-overlap.overlap.skipped c.in-Some-overlap.overlap.count
+at_refused : (c : goal.After-corruption) → RewritesAt c.args.gate c.args.run.now c.args.self.now c.in-Some-overlap.overlap.at c.in-Some-overlap.overlap.skipped c.in-Some-overlap.overlap.count
 at_refused c = rewrites_at c.args.gate c.args.run.now c.args.self.now c.in-Some-overlap.overlap c.overlap.ensures.table_entries c.requires.run c.in-Some.ensures.item.3.0 (rw (start_refused c) c.in-Some-overlap.ensures.meets)
 
 pub returns-then-is_misplaced-clause-fault : goal.returns-then-is_misplaced-clause-fault
 returns-then-is_misplaced-clause-fault c =
     rw ((at_refused c).refused (sym c.if-is_misplaced.ensures))
-    (corruption_is (length c.args.run.now) c.args.stats.now c.in_ok-corruption.field-0 c.in_ok-corruption.ensures.ok)
+    (corruption_is (length c.args.run.now) c.args.stats.now _ c.corruption.result c.corruption.ensures)
 
 start_places : (c : goal.After-move_places-arg-2-1) → start_of c.args.run.now ≡ c.in-Some.head.now.index
 start_places c = start_of_front c.args.run.now c.in-Some.head.now c.in-Some.ensures.item.3.0 c.in-Some.ensures.item.1

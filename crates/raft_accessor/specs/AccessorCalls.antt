@@ -18,7 +18,7 @@ pub record IsTableChanged {R : Type 0} (outcome : Option Table) (IsFault : Error
   pub fault : IfErr r (λ e. (e ≡ Memory) ⊎ IsFault e)
   pub cleaned : new.cleaned ≡ old.cleaned
 
--- a region has the table that it had, or an empty one in its place; where there is no memory for that all tables stay, and the counts do in any case
+-- a region has the table that it had, or an empty one in its place; where there is no memory for that, all tables stay, and the counts stay in any case
 pub record IsTableMade {R E : Type 0} (id : ℕ) (r : Result R E) (old new : Accessor) : Type 0 where
   pub ok : OnOk r (new.tables ≡ finite.insert old.tables id (table_in old.tables id))
   pub err : OnErr r (new.tables ≡ old.tables)

@@ -14,7 +14,7 @@ use Rattle.raft_table.specs.Steps.{table_of}
 use Rattle.raft_table.specs.Table.{Table, live_of, IsRecounted}
 use Rattle.raft_accessor.specs.Accessor.{table_in, live_in}
 
--- the entries of an appended table over a rewritten one are a run, as they are where region mark and table stand for steps
+-- the entries of an appended table over a rewritten one are a run, as they are where the region mark and the table stand for steps
 abbrev pub IsRunOverlaid : Mark → Table → Table → Type 0
 IsRunOverlaid m appended rewritten = IsRun (overlay_under m appended rewritten).entries
 

@@ -26,7 +26,7 @@ use Rattle.raft_table.specs.Steps.{table_of}
 use Rattle.raft_table.specs.Table.{Table, after_append, after_replay, after_rewrite, after_rewrite_key, with_pair, with_table_deleted, with_pair_deleted, with_rewritten_key, leaves_append, live_of}
 use Rattle.raft_accessor.specs.Accessor.{Accessor, live_in_all}
 
--- how items are written: as new ones of the append queue, as read again from a queue, or by a rewriting with this gate to this file
+-- how items are written: as new ones of the append queue, as read again from a queue, or by a rewriting with this gate to the file of this number
 pub data Writing : Type 0 where
   Appending : Writing
   Replaying : LogQueue → Writing
@@ -36,13 +36,13 @@ pub data Writing : Type 0 where
 abbrev pub queue_of : Writing → LogQueue
 queue_of Appending = Append
 queue_of (Replaying queue) = queue
-queue_of (Rewriting gate file) = Rewrite
+queue_of (Rewriting gate seq) = Rewrite
 
 -- a table with entries written; none where they are refused
 abbrev pub after_entries : Writing → Table → List EntryIndex → Option Table
 after_entries Appending t es = after_append t es
 after_entries (Replaying queue) t es = after_replay queue t es
-after_entries (Rewriting gate file) t es = after_rewrite gate t es
+after_entries (Rewriting gate seq) t es = after_rewrite gate t es
 
 -- a table with a key put; none where it has no value or no file
 abbrev pub after_put : Table → List ℕ → Option (List ℕ) → Option FileId → Option Table
@@ -129,7 +129,7 @@ abbrev pub lists : Writing → Bool
 lists Appending = true
 lists (Replaying Append) = true
 lists (Replaying Rewrite) = false
-lists (Rewriting gate file) = false
+lists (Rewriting gate seq) = false
 
 -- the region that a command cleans
 abbrev pub cleaned_by_command : ℕ → Command → List ℕ
@@ -181,7 +181,7 @@ IsWriteFault w id o live content _ = ⊥
 abbrev pub counts_after_entries : Writing → List EntryIndex → List EntryIndex → Counts → Counts
 counts_after_entries Appending es run counts = counts_with_run Append es run counts
 counts_after_entries (Replaying queue) es run counts = counts_with_run queue es run counts
-counts_after_entries (Rewriting gate file) es run counts = counts_after_rewrite gate run es counts
+counts_after_entries (Rewriting gate seq) es run counts = counts_after_rewrite gate run es counts
 
 -- the counts after a key is put, told by the file of the pair that it replaces; without a file nothing is put
 abbrev pub counts_after_put : Option FileId → Option FileId → Counts → Counts
@@ -205,7 +205,7 @@ counts_after_command t commands.Clean counts = with_table_deleted t counts
 counts_after_command t (commands.Compact index) counts = counts_without (below index t.entries) counts
 counts_after_command t (commands.Truncate index) counts = counts_without (from index t.entries) counts
 
--- the counts after a command is written, which none changes by a rewriting
+-- the counts after a command is written; by a rewriting none changes them
 abbrev pub counts_commanded : Writing → Table → Command → Counts → Counts
 counts_commanded Appending t c counts = counts_after_command t c counts
 counts_commanded (Replaying queue) t c counts = counts_after_command t c counts

@@ -190,16 +190,16 @@ impl MemTableAccessor {
     pub fn apply_rewrite_atomic_group(
         &mut self,
         id: u64,
-        start: FileSeq,
-        end: FileSeq,
+        first_seq: FileSeq,
+        last_seq: FileSeq,
     ) -> Result<()>
-        requires { start ≤ end }
+        requires { first_seq ≤ last_seq }
         ensures changed { IsTableChanged (Some (record (table_in self.old.tables id)
-            { atomic_group = Some (start, end) }))
+            { atomic_group = Some (first_seq, last_seq) }))
             (λ e. ⊥) id result self.old self.new }
         ensures counts { self.new.counts ≡ self.old.counts }
     {
-        self.slots[slot_of(id)].apply_rewrite_atomic_group(id, start, end, &mut self.stats)
+        self.slots[slot_of(id)].apply_rewrite_atomic_group(id, first_seq, last_seq, &mut self.stats)
     }
 
     /// Puts a table under its region's number and counts its records. The table that stood there is

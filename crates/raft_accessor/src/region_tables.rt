@@ -212,14 +212,14 @@ impl RegionTables {
     pub fn apply_rewrite_atomic_group(
         &mut self,
         id: u64,
-        start: FileSeq,
-        end: FileSeq,
+        first_seq: FileSeq,
+        last_seq: FileSeq,
         stats: &mut GlobalStats,
     ) -> Result<()>
-        requires files { start ≤ end }
+        requires files { first_seq ≤ last_seq }
         requires counted { IsCounted (table_in self.old id) stats.old }
         ensures taken { BecomesOutcome (Some (record (table_in self.old id)
-            { atomic_group = Some (start, end) })) (λ e. ⊥)
+            { atomic_group = Some (first_seq, last_seq) })) (λ e. ⊥)
             self.old id stats.old result self.new stats.new }
         ensures counts { stats.new ≡ stats.old }
     {
@@ -227,7 +227,7 @@ impl RegionTables {
             id,
             stats,
             move |table: &mut MemTable, _: &mut GlobalStats| {
-                table.apply_rewrite_atomic_group(start, end);
+                table.apply_rewrite_atomic_group(first_seq, last_seq);
                 Ok(())
             },
         )

@@ -2,8 +2,8 @@
 
 use crate::tables::{REGIONS, Region, append_all, empty_regions, found, print_each, run};
 use crate::timing::{Noise, TIMES, nanoseconds_since};
-use raft_memtable::{Block, EntryIndex, LogQueue};
-use std::alloc::{AllocError, Global};
+use raft_memtable::{AllocResult, Block, EntryIndex, LogQueue};
+use std::alloc::Global;
 use std::io;
 use std::mem::size_of;
 use std::time::Instant;
@@ -37,11 +37,7 @@ pub(crate) fn time(rt: &HostRuntime) -> io::Result<()> {
 }
 
 /// Runs of `len` entries for each of so many regions in turn, each behind the last one of its region.
-fn runs_of(
-    alloc: Global,
-    regions: u64,
-    len: u64,
-) -> std::result::Result<Vec<Vec<EntryIndex>>, AllocError> {
+fn runs_of(alloc: Global, regions: u64, len: u64) -> AllocResult<Vec<Vec<EntryIndex>>> {
     let mut runs = Vec::new(alloc);
     let mut first = 1u64;
     for _ in 0..ENTRIES / len.max(1) {
@@ -99,7 +95,7 @@ fn append(rt: &HostRuntime, len: u64) -> io::Result<(u64, usize)> {
 }
 
 /// A table of many blocks, from an index on.
-fn long(alloc: Global, first: u64) -> std::result::Result<Region, AllocError> {
+fn long(alloc: Global, first: u64) -> AllocResult<Region> {
     let mut region = Region::new(alloc, 1);
     let mut next = first;
     for _ in 0..BLOCKS {
@@ -146,7 +142,7 @@ fn rewrite_by_steps(region: &mut Region, runs: Vec<Vec<EntryIndex>>) {
 }
 
 /// Runs for the rewriting of a table of many blocks.
-fn steps(alloc: Global) -> std::result::Result<Vec<Vec<EntryIndex>>, AllocError> {
+fn steps(alloc: Global) -> AllocResult<Vec<Vec<EntryIndex>>> {
     let mut runs = Vec::new(alloc);
     let mut first = 1u64;
     for _ in 0..BLOCKS * SPANS / STEP {
@@ -180,7 +176,7 @@ fn time_rewrite(rt: &HostRuntime) -> io::Result<()> {
 }
 
 /// Tables of many blocks, from an index on.
-fn long_tables(alloc: Global, first: u64) -> std::result::Result<Vec<Region>, AllocError> {
+fn long_tables(alloc: Global, first: u64) -> AllocResult<Vec<Region>> {
     let mut regions = Vec::new(alloc);
     for _ in 0..PAIRS {
         regions.push(long(alloc, first)?)?;

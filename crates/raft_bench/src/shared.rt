@@ -2,9 +2,9 @@
 
 use crate::tables::{print_each, run};
 use crate::timing::{Noise, TIMES, nanoseconds_since};
-use raft_memtable::{LogQueue, MemTable, MemTableAccessor, Result, TableChange};
+use raft_memtable::{AllocResult, LogQueue, MemTable, MemTableAccessor, Result, TableChange};
 use raft_recover::SharedAccessor;
-use std::alloc::{AllocError, Global};
+use std::alloc::Global;
 use std::sync::Wait;
 use std::thread;
 use std::thread::Threads;
@@ -78,7 +78,7 @@ fn append_share<R: Wait>(
 }
 
 /// Regions without a pattern.
-fn picks(alloc: Global) -> std::result::Result<Vec<u64>, AllocError> {
+fn picks(alloc: Global) -> AllocResult<Vec<u64>> {
     let mut noise = Noise::new();
     let mut picks = Vec::with_capacity(alloc, LOOKUPS as usize)?;
     for _ in 0..LOOKUPS {

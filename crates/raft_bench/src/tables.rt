@@ -4,10 +4,10 @@ ghost use Rattle.raft_memtable.specs.Table.{IsCounted};
 
 use crate::timing::{Noise, TIMES, nanoseconds_since};
 use raft_memtable::{
-    Block, EntryIndex, FileBlockHandle, FileId, FileSeq, GlobalStats, LogQueue, MemTable, Result,
-    is_run,
+    AllocResult, Block, EntryIndex, FileBlockHandle, FileId, FileSeq, GlobalStats, LogQueue,
+    MemTable, Result, is_run,
 };
-use std::alloc::{AllocError, Global};
+use std::alloc::Global;
 use std::collections::VecDeque;
 use std::io;
 use std::time::Instant;
@@ -126,7 +126,7 @@ pub(crate) fn run(
     len: u64,
     queue: LogQueue,
     seq: FileSeq,
-) -> std::result::Result<Vec<EntryIndex>, AllocError> {
+) -> AllocResult<Vec<EntryIndex>> {
     let mut run = Vec::with_capacity(alloc, len as usize)?;
     for index in first..first.saturating_add(len) {
         run.push(EntryIndex {
@@ -144,7 +144,7 @@ pub(crate) fn run(
 }
 
 /// Regions without records.
-pub(crate) fn empty_regions(alloc: Global) -> std::result::Result<Vec<Region>, AllocError> {
+pub(crate) fn empty_regions(alloc: Global) -> AllocResult<Vec<Region>> {
     let mut regions = Vec::new(alloc);
     for id in 0..REGIONS {
         regions.push(Region::new(alloc, id))?;
@@ -153,7 +153,7 @@ pub(crate) fn empty_regions(alloc: Global) -> std::result::Result<Vec<Region>, A
 }
 
 /// Runs for all regions in turn, one behind the other in each.
-fn runs(alloc: Global) -> std::result::Result<Vec<Vec<EntryIndex>>, AllocError> {
+fn runs(alloc: Global) -> AllocResult<Vec<Vec<EntryIndex>>> {
     let mut runs = Vec::new(alloc);
     for round in 0..ROUNDS {
         for _ in 0..REGIONS {
@@ -182,7 +182,7 @@ pub(crate) fn append_all(regions: &mut Vec<Region>, runs: Vec<Vec<EntryIndex>>) 
 }
 
 /// Regions with all their entries.
-fn full_regions(alloc: Global) -> std::result::Result<Vec<Region>, AllocError> {
+fn full_regions(alloc: Global) -> AllocResult<Vec<Region>> {
     let mut regions = empty_regions(alloc)?;
     append_all(&mut regions, runs(alloc)?);
     Ok(regions)
@@ -248,7 +248,7 @@ fn picks(
     noise: &mut Noise,
     count: u64,
     behind: u64,
-) -> std::result::Result<Vec<(usize, u64)>, AllocError> {
+) -> AllocResult<Vec<(usize, u64)>> {
     let mut picks = Vec::new(alloc);
     for _ in 0..count {
         let region = (noise.next_u64() % REGIONS) as usize;
@@ -341,7 +341,7 @@ fn rewrite_all(regions: &mut Vec<Region>, runs: Vec<Vec<EntryIndex>>) {
 }
 
 /// All entries of each region.
-fn whole_runs(alloc: Global) -> std::result::Result<Vec<Vec<EntryIndex>>, AllocError> {
+fn whole_runs(alloc: Global) -> AllocResult<Vec<Vec<EntryIndex>>> {
     let mut runs = Vec::new(alloc);
     for _ in 0..REGIONS {
         runs.push(run(alloc, 1, ENTRIES, LogQueue::Rewrite, 50)?)?;
@@ -368,7 +368,7 @@ fn time_rewrite(rt: &HostRuntime) -> io::Result<()> {
 }
 
 /// Keys of 8 bytes with values of 32.
-fn pairs(alloc: Global) -> std::result::Result<Vec<Pair>, AllocError> {
+fn pairs(alloc: Global) -> AllocResult<Vec<Pair>> {
     let mut noise = Noise::new();
     let mut pairs = Vec::new(alloc);
     for _ in 0..KEYS {

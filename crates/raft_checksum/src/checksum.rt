@@ -55,10 +55,11 @@ fn two_words(first: u64, second: u64) -> u32
 
 /// The first eight bytes, as they join the register, and the bytes behind them.
 #[inline(always)]
-fn first_word(bytes: &[u8]) -> (u64, &[u8])
+fn first_eight_bytes(bytes: &[u8]) -> (u64, &[u8])
     requires { 8 ≤ length bytes.now }
     ensures joins { (register : ℕ) →
-        register_after (crc_steps 64 (bit_xor register result.0)) result.1.now ≡ register_after register bytes.now }
+        register_after (crc_steps 64 (bit_xor register result.0)) result.1.now
+        ≡ register_after register bytes.now }
     ensures behind { length result.1.now + 8 ≡ length bytes.now }
 {
     let (front, back) = bytes.split_at(8);
@@ -84,15 +85,15 @@ fn by_sixteens(mut register: u32, bytes: &[u8]) -> u32
 {
     let mut rest = bytes;
     while rest.len() >= 16 {
-        let (first, behind) = first_word(rest);
-        let (second, behind) = first_word(behind);
+        let (first, behind) = first_eight_bytes(rest);
+        let (second, behind) = first_eight_bytes(behind);
         register = two_words(register as u64 ^ first, second);
         rest = behind;
     }
     if rest.len() < 8 {
         return by_bytes(register, rest);
     }
-    let (word, behind) = first_word(rest);
+    let (word, behind) = first_eight_bytes(rest);
     by_bytes(word_then_zeros(register as u64 ^ word, 0), behind)
 }
 
@@ -122,8 +123,10 @@ pub fn crc32(bytes: &[u8]) -> u32
 /// x^32 + x^26 + x^23 + x^22 + x^16 + x^12 + x^11 + x^10 + x^8 + x^7 + x^5 + x^4 + x^2 + x + 1.
 pub fn crc32_is_remainder()
     ensures appended { (register : ℕ) (bytes more : List ℕ) →
-        register_after register (bytes ++ more) ≡ register_after (register_after register bytes) more }
+        register_after register (bytes ++ more)
+        ≡ register_after (register_after register bytes) more }
     ensures remainder { (register : ℕ) (bytes : List ℕ) → ((k : ℕ) → slice_index bytes k < 256) →
         (quotient : List Bool) × (bit_xor register (number_of_bytes bytes)
-        ≡ bit_xor (product_of quotient 0x1DB710641) (register_after register bytes * 2 ^ (8 * length bytes))) }
+        ≡ bit_xor (product_of quotient 0x1DB710641)
+        (register_after register bytes * 2 ^ (8 * length bytes))) }
 {}

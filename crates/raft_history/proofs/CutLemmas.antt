@@ -20,7 +20,7 @@ use Rattle.raft_table.specs.Steps.{Step}
 -- the steps of a group that may be whole
 abbrev pub steps_or : ℕ → Option WholeGroup → List Step
 steps_or r None = []
-steps_or r (Some w) = whole_steps r w.steps w.start w.end
+steps_or r (Some w) = whole_steps r w.steps w.first_seq w.last_seq
 
 -- what a group gives at the cut
 abbrev pub given : ℕ → List Numbered → List Numbered → ℕ → List Step
@@ -39,7 +39,7 @@ given_wholes r [] olds news = refl
 given_wholes r (g ∷ ids) olds news = rw (whole_is (markers_of g olds) (front_of (markers_of g news))) (go (whole_of (stretch_of (open_stretch (markers_of g olds))) (front_of (markers_of g news))) (given_wholes r ids olds news))
   where
     group_steps : WholeGroup → List Step
-    group_steps w = whole_steps r w.steps w.start w.end
+    group_steps w = whole_steps r w.steps w.first_seq w.last_seq
 
     go : (w : Option WholeGroup) → flat_map group_steps (wholes_at ids olds news) ≡ all_given r ids olds news → flat_map group_steps (cons_option w (wholes_at ids olds news)) ≡ steps_or r w ++ all_given r ids olds news
     go None ih = ih
@@ -87,7 +87,7 @@ markers_more g ps p h = markers_of-append g ps (p ∷ []) ∙ ap (λ l. markers_
 
 -- a batch with its number, by its parts
 abbrev pub placed : ℕ → List RegionStep → Option GroupMarker → ℕ → Numbered
-placed n is m f = record { number = n; batch = record { steps = is; marker = m; file = f } }
+placed n is m f = record { number = n; batch = record { steps = is; marker = m; seq = f } }
 
 front_of_one : (n : ℕ) (is : List RegionStep) (m : GroupMarker) (f : ℕ) → front_of (placed n is (Some m) f ∷ []) ≡ front_by m.status is f (Open [])
 unfolding front_of
@@ -166,7 +166,7 @@ grows_whole r ids olds news n is k f js q qs e h o = go (names r (region_steps_i
     same_steps = rw (h.1, ← append_assoc (region_steps_of (q ∷ qs)) (region_steps_of (markers_of k news)) is) (ap (λ l. l ++ is) (sym (flat_map-append (λ x. x.batch.steps) (q ∷ qs) (markers_of k news))))
 
     steps : steps_or r (whole_of (stretch_of (open_stretch (markers_of k olds))) (front_with (front_of (markers_of k news)) (Ended is f))) ≡ steps_by r (q ∷ (qs ++ markers_of k news)) (placed n is (Some record { group = k; status = End }) f)
-    steps = rw (o, e) (ap (λ l. whole_steps r l q.batch.file f) same_steps)
+    steps = rw (o, e) (ap (λ l. whole_steps r l q.batch.seq f) same_steps)
 
     none : steps_or r (whole_of (stretch_of (open_stretch (markers_of k olds))) (front_of (markers_of k news))) ≡ []
     none = rw (o, e) refl
@@ -239,7 +239,7 @@ grow : (r n : ℕ) (ids : List ℕ) (olds news : List Numbered) (p : Numbered) �
     IsDistinct eqb ids → IsListed ids p.batch.marker → EachApart (effects_behind olds news ++ completed_by p.batch.marker (olds ++ news) p) →
     all_steps r (effects_behind olds news) ≡ all_given r ids olds news ++ all_steps r (effects_behind [] news) →
     all_steps r (effects_behind olds news) ++ all_steps r (completed_by p.batch.marker (olds ++ news) p) ≡ all_given r ids olds (news ++ p ∷ []) ++ (all_steps r (effects_behind [] news) ++ all_steps r (completed_by p.batch.marker news p))
-grow r n ids olds news p below from to one listed apart ih = go (grows r ids olds news p.number p.batch.steps p.batch.marker p.batch.file)
+grow r n ids olds news p below from to one listed apart ih = go (grows r ids olds news p.number p.batch.steps p.batch.marker p.batch.seq)
   where
     go : Grows r ids olds news p → all_steps r (effects_behind olds news) ++ all_steps r (completed_by p.batch.marker (olds ++ news) p) ≡ all_given r ids olds (news ++ p ∷ []) ++ (all_steps r (effects_behind [] news) ++ all_steps r (completed_by p.batch.marker news p))
     go (inl same) = rw (same.steps, same.given, ih) (append_assoc (all_given r ids olds news) (all_steps r (effects_behind [] news)) (all_steps r (completed_by p.batch.marker news p)))

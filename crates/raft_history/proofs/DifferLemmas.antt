@@ -25,13 +25,13 @@ record IsEnded (g : ℕ) (ms : List Numbered) (is : List RegionStep) (f : ℕ) :
   goes_on : AllByRecursion (IsMarkerOf g Middle) middles
   ends : IsMarkerOf g End end
   steps : is ≡ region_steps_of middles ++ end.batch.steps
-  file : f ≡ end.batch.file
+  seq : f ≡ end.batch.seq
 
 ended_items : (a b : List RegionStep) (c d : ℕ) → Ended a c ≡ Ended b d → b ≡ a
 ended_items a b c d e = cc
 
-ended_file : (a b : List RegionStep) (c d : ℕ) → Ended a c ≡ Ended b d → d ≡ c
-ended_file a b c d e = cc
+ended_seq : (a b : List RegionStep) (c d : ℕ) → Ended a c ≡ Ended b d → d ≡ c
+ended_seq a b c d e = cc
 
 ended_is : (g : ℕ) (ms : List Numbered) (is : List RegionStep) (f : ℕ) → AllByRecursion (HasMarker g) ms → front_of ms ≡ Ended is f → IsEnded g ms is f
 unfolding front_of
@@ -49,20 +49,20 @@ ended_is g (p ∷ ps) is f h e = go p.batch.marker refl h.0 e (ended_is g ps)
       goes_on = (m, x.goes_on);
       ends = x.ends;
       steps = ended_items (js ++ ks) is l f e ∙ ap (λ z. z ++ ks) k ∙ ap (λ z. p.batch.steps ++ z) x.steps ∙ sym (append_assoc p.batch.steps (region_steps_of x.middles) x.end.batch.steps);
-      file = ended_file (js ++ ks) is l f e ∙ x.file;
+      seq = ended_seq (js ++ ks) is l f e ∙ x.seq;
     }
       where
         x : IsEnded g ps ks l
         x = ih ks l h.1 t
 
-    go : (m : Option GroupMarker) → p.batch.marker ≡ m → is_of g m ≡ true → front_behind m p.batch.steps p.batch.file (front_of ps) ≡ Ended is f → ((ks : List RegionStep) (l : ℕ) → AllByRecursion (HasMarker g) ps → front_of ps ≡ Ended ks l → IsEnded g ps ks l) → IsEnded g (p ∷ ps) is f
+    go : (m : Option GroupMarker) → p.batch.marker ≡ m → is_of g m ≡ true → front_behind m p.batch.steps p.batch.seq (front_of ps) ≡ Ended is f → ((ks : List RegionStep) (l : ℕ) → AllByRecursion (HasMarker g) ps → front_of ps ≡ Ended ks l → IsEnded g ps ks l) → IsEnded g (p ∷ ps) is f
     go None m k e ih = cc
     go (Some x) m k e ih = at x.status (m ∙ ap (λ y. Some record { group = y; status = x.status }) (sym (eqb-true g x.group k))) e
       where
-        at : (s : AtomicGroupStatus) → ◌≡◌ {A = Option GroupMarker} p.batch.marker (Some record { group = g; status = s }) → front_by s p.batch.steps p.batch.file (front_of ps) ≡ Ended is f → IsEnded g (p ∷ ps) is f
+        at : (s : AtomicGroupStatus) → ◌≡◌ {A = Option GroupMarker} p.batch.marker (Some record { group = g; status = s }) → front_by s p.batch.steps p.batch.seq (front_of ps) ≡ Ended is f → IsEnded g (p ∷ ps) is f
         at Begin m e = cc
         at Middle m e = led p.batch.steps (front_of ps) e refl m refl ih
-        at End m e = record { middles = []; end = p; behind = ps; split = refl; goes_on = tt; ends = m; steps = ended_items p.batch.steps is p.batch.file f e; file = ended_file p.batch.steps is p.batch.file f e }
+        at End m e = record { middles = []; end = p; behind = ps; split = refl; goes_on = tt; ends = m; steps = ended_items p.batch.steps is p.batch.seq f e; seq = ended_seq p.batch.steps is p.batch.seq f e }
 
 -- the effect of a group that the cut divides
 record IsAcross (h k : List BatchSteps) (g : ℕ) (w : WholeGroup) : Type 0 where
@@ -78,7 +78,7 @@ across : (h k : List BatchSteps) (g : ℕ) (w : WholeGroup) → whole_group (gro
 across h k g w e = go (open_stretch (markers_of g (numbered_from 0 h))) refl (front_of (markers_of g (numbered_from (0 + length h) k))) refl
     (ap (whole_of (stretch_of (open_stretch (markers_of g (numbered_from 0 h))))) (ap (λ x. x.front) (group_of-placed (0 + length h) g k)) ∙ sym (whole_is (markers_of g (numbered_from 0 h)) (group_in g k).front) ∙ e)
   where
-    made : (q : Numbered) (qs : List Numbered) (is : List RegionStep) (f : ℕ) → ◌≡◌ {A = Option WholeGroup} (Some record { steps = region_steps_of (q ∷ qs) ++ is; start = q.batch.file; end = f }) (Some w) →
+    made : (q : Numbered) (qs : List Numbered) (is : List RegionStep) (f : ℕ) → ◌≡◌ {A = Option WholeGroup} (Some record { steps = region_steps_of (q ∷ qs) ++ is; first_seq = q.batch.seq; last_seq = f }) (Some w) →
         IsOpen g (markers_of g (numbered_from 0 h)) q qs → IsEnded g (markers_of g (numbered_from (0 + length h) k)) is f → IsAcross h k g w
     made q qs is f e y x = record {
       effect = record { earlier = q ∷ (qs ++ x.middles); last = x.end };
@@ -87,7 +87,7 @@ across h k g w e = go (open_stretch (markers_of g (numbered_from 0 h))) refl (fr
         begin = q;
         middles = qs ++ x.middles;
         behind = x.behind;
-        neighbours = ap (markers_of g) (numbered_from-append 0 h k) ∙ markers_of-append g (numbered_from 0 h) (numbered_from (0 + length h) k)
+        neighbors = ap (markers_of g) (numbered_from-append 0 h k) ∙ markers_of-append g (numbered_from 0 h) (numbered_from (0 + length h) k)
             ∙ ap (λ l. l ++ markers_of g (numbered_from (0 + length h) k)) y.split ∙ ap (λ l. (y.before ++ q ∷ qs) ++ l) x.split
             ∙ append_assoc y.before (q ∷ qs) (x.middles ++ x.end ∷ x.behind) ∙ ap (λ l. y.before ++ q ∷ l) (sym (append_assoc qs x.middles (x.end ∷ x.behind)));
         begins = y.begin;
@@ -95,14 +95,14 @@ across h k g w e = go (open_stretch (markers_of g (numbered_from 0 h))) refl (fr
         ends = x.ends;
         earlier = refl;
       };
-      steps = ap (λ l. l ++ x.end.batch.steps) (flat_map-append (λ (p : Numbered). p.batch.steps) (q ∷ qs) x.middles) ∙ append_assoc (region_steps_of (q ∷ qs)) (region_steps_of x.middles) x.end.batch.steps ∙ ap (λ l. region_steps_of (q ∷ qs) ++ l) (sym x.steps) ∙ whole_items (region_steps_of (q ∷ qs) ++ is) q.batch.file f e;
+      steps = ap (λ l. l ++ x.end.batch.steps) (flat_map-append (λ (p : Numbered). p.batch.steps) (q ∷ qs) x.middles) ∙ append_assoc (region_steps_of (q ∷ qs)) (region_steps_of x.middles) x.end.batch.steps ∙ ap (λ l. region_steps_of (q ∷ qs) ++ l) (sym x.steps) ∙ whole_items (region_steps_of (q ∷ qs) ++ is) q.batch.seq f e;
       group = λ z. cc;
       first = (each_right (λ p. p.number < length h) y.before (q ∷ qs) (subst (AllByRecursion (λ p. p.number < length h)) y.split (each_markers (λ p. p.number < length h) g (numbered_from 0 h) (up_to 0 (length h) h (omega arith))))).0;
       last = (each_right (λ p. length h ≤ p.number) x.middles (x.end ∷ x.behind) (subst (AllByRecursion (λ p. length h ≤ p.number)) x.split (each_markers (λ p. length h ≤ p.number) g (numbered_from (0 + length h) k) later))).0;
       ends = x.ends;
     }
       where
-        whole_items : (js : List RegionStep) (a b : ℕ) → ◌≡◌ {A = Option WholeGroup} (Some record { steps = js; start = a; end = b }) (Some w) → js ≡ w.steps
+        whole_items : (js : List RegionStep) (a b : ℕ) → ◌≡◌ {A = Option WholeGroup} (Some record { steps = js; first_seq = a; last_seq = b }) (Some w) → js ≡ w.steps
         whole_items js a b e = ap (λ o. items_or o) e
           where
             items_or : Option WholeGroup → List RegionStep

@@ -34,7 +34,7 @@ file_of seq (e ∷ h) (suc i) = file_of e.file.seq h i
 
 -- a number for each batch, which never goes down
 abbrev NeverFalls : (ℕ → ℕ) → Type 0
-NeverFalls file = (i j : ℕ) → i ≤ j → file i ≤ file j
+NeverFalls seq_at = (i j : ℕ) → i ≤ j → seq_at i ≤ seq_at j
 
 files_from : (q : LogQueue) (seq : ℕ) (h : List Event) → FilesFrom q seq h → (i : ℕ) → seq ≤ file_of seq h i
 unfolding file_of
@@ -54,12 +54,12 @@ files_never_fall q seq (e ∷ h) f (suc i) (suc j) l = files_never_fall q e.file
 
 -- these steps stand in this file
 abbrev AreHere : LogQueue → ℕ → List RegionStep → Type 0
-AreHere q file steps = AllByRecursion (λ (s : RegionStep). StepRises q file file s.step) steps
+AreHere q seq steps = AllByRecursion (λ (s : RegionStep). StepRises q seq seq s.step) steps
 
 -- a batch has the file of its number, and its steps stand there
-record IsFiled (q : LogQueue) (file : ℕ → ℕ) (p : Numbered) : Type 0 where
-  number : p.batch.file ≡ file p.number
-  here : AreHere q p.batch.file p.batch.steps
+record IsFiled (q : LogQueue) (seq_at : ℕ → ℕ) (p : Numbered) : Type 0 where
+  number : p.batch.seq ≡ seq_at p.number
+  here : AreHere q p.batch.seq p.batch.steps
 
 content_here : (file : FileId) (content : Content) (s : Step) → IsInFile file content → content_step content ≡ Some s → StepRises file.queue file.seq file.seq s
 content_here file (entries es) s h e = subst (StepRises file.queue file.seq file.seq) (same_some (Run es) s e) (run_here file es h.1)
@@ -89,82 +89,82 @@ items_here file (item ∷ items) h = go (content_step item.content) (λ s e. con
     go None each rest = rest
     go (Some s) each rest = (each s refl, rest)
 
-all_filed : (q : LogQueue) (file : ℕ → ℕ) (seq n : ℕ) (h : List Event) → ((i : ℕ) → file (n + i) ≡ file_of seq h i) → FilesFrom q seq h → AreInFiles h → AllByRecursion (IsFiled q file) (numbered_from n (batches h))
+all_filed : (q : LogQueue) (seq_at : ℕ → ℕ) (seq n : ℕ) (h : List Event) → ((i : ℕ) → seq_at (n + i) ≡ file_of seq h i) → FilesFrom q seq h → AreInFiles h → AllByRecursion (IsFiled q seq_at) (numbered_from n (batches h))
 unfolding file_of
-all_filed q file seq n [] is f a = tt
-all_filed q file seq n (e ∷ h) is f a = (
-  record { number = sym (ap file (omega arith) ∙ is 0); here = subst (λ q. AreHere q e.file.seq (steps_of_items e.items)) f.0 (items_here e.file e.items a.0) },
-  all_filed q file e.file.seq (suc n) h (λ i. ap file (omega arith) ∙ is (suc i)) f.2 a.1,
+all_filed q seq_at seq n [] is f a = tt
+all_filed q seq_at seq n (e ∷ h) is f a = (
+  record { number = sym (ap seq_at (omega arith) ∙ is 0); here = subst (λ q. AreHere q e.file.seq (steps_of_items e.items)) f.0 (items_here e.file e.items a.0) },
+  all_filed q seq_at e.file.seq (suc n) h (λ i. ap seq_at (omega arith) ∙ is (suc i)) f.2 a.1,
 )
 
 -- ---- rows of batches
 
 -- batches of a history in order, their numbers from one to another
 abbrev IsRow : LogQueue → (ℕ → ℕ) → ℕ → ℕ → List Numbered → Type 0
-IsRow q file n m [] = n ≤ m
-IsRow q file n m (p ∷ ps) = (n ≤ p.number) × IsFiled q file p × IsRow q file p.number m ps
+IsRow q seq_at n m [] = n ≤ m
+IsRow q seq_at n m (p ∷ ps) = (n ≤ p.number) × IsFiled q seq_at p × IsRow q seq_at p.number m ps
 
-row_lower : (q : LogQueue) (file : ℕ → ℕ) (k n m : ℕ) (ps : List Numbered) → k ≤ n → IsRow q file n m ps → IsRow q file k m ps
-row_lower q file k n m [] l h = omega (arith, l, h)
-row_lower q file k n m (p ∷ ps) l h = (omega (arith, l, h.0), h.1, h.2)
+row_lower : (q : LogQueue) (seq_at : ℕ → ℕ) (k n m : ℕ) (ps : List Numbered) → k ≤ n → IsRow q seq_at n m ps → IsRow q seq_at k m ps
+row_lower q seq_at k n m [] l h = omega (arith, l, h)
+row_lower q seq_at k n m (p ∷ ps) l h = (omega (arith, l, h.0), h.1, h.2)
 
-row_order : (q : LogQueue) (file : ℕ → ℕ) (n m : ℕ) (ps : List Numbered) → IsRow q file n m ps → n ≤ m
-row_order q file n m [] h = h
-row_order q file n m (p ∷ ps) h = omega (arith, h.0, row_order q file p.number m ps h.2)
+row_order : (q : LogQueue) (seq_at : ℕ → ℕ) (n m : ℕ) (ps : List Numbered) → IsRow q seq_at n m ps → n ≤ m
+row_order q seq_at n m [] h = h
+row_order q seq_at n m (p ∷ ps) h = omega (arith, h.0, row_order q seq_at p.number m ps h.2)
 
 -- with one batch more behind
-row_push : (q : LogQueue) (file : ℕ → ℕ) (n m k : ℕ) (ps : List Numbered) (p : Numbered) → IsRow q file n m ps → m ≤ p.number → p.number ≤ k → IsFiled q file p → IsRow q file n k (ps ++ p ∷ [])
-row_push q file n m k [] p h l u f = (omega (arith, h, l), f, u)
-row_push q file n m k (o ∷ ps) p h l u f = (h.0, h.1, row_push q file o.number m k ps p h.2 l u f)
+row_push : (q : LogQueue) (seq_at : ℕ → ℕ) (n m k : ℕ) (ps : List Numbered) (p : Numbered) → IsRow q seq_at n m ps → m ≤ p.number → p.number ≤ k → IsFiled q seq_at p → IsRow q seq_at n k (ps ++ p ∷ [])
+row_push q seq_at n m k [] p h l u f = (omega (arith, h, l), f, u)
+row_push q seq_at n m k (o ∷ ps) p h l u f = (h.0, h.1, row_push q seq_at o.number m k ps p h.2 l u f)
 
-row_filter : (q : LogQueue) (file : ℕ → ℕ) (t : Numbered → Bool) (n m : ℕ) (ps : List Numbered) → IsRow q file n m ps → IsRow q file n m (filter t ps)
-row_filter q file t n m [] h = h
-row_filter q file t n m (p ∷ ps) h = elim (t p) as (λ b. IsRow q file n m (cond b (p ∷ filter t ps) (filter t ps))) [
-  | true ↦ (h.0, h.1, row_filter q file t p.number m ps h.2)
-  | false ↦ row_lower q file n p.number m (filter t ps) h.0 (row_filter q file t p.number m ps h.2)
+row_filter : (q : LogQueue) (seq_at : ℕ → ℕ) (t : Numbered → Bool) (n m : ℕ) (ps : List Numbered) → IsRow q seq_at n m ps → IsRow q seq_at n m (filter t ps)
+row_filter q seq_at t n m [] h = h
+row_filter q seq_at t n m (p ∷ ps) h = elim (t p) as (λ b. IsRow q seq_at n m (cond b (p ∷ filter t ps) (filter t ps))) [
+  | true ↦ (h.0, h.1, row_filter q seq_at t p.number m ps h.2)
+  | false ↦ row_lower q seq_at n p.number m (filter t ps) h.0 (row_filter q seq_at t p.number m ps h.2)
 ]
 
-row_open : (q : LogQueue) (file : ℕ → ℕ) (n m : ℕ) (ps : List Numbered) → IsRow q file n m ps → IsRow q file n m (open_stretch ps)
+row_open : (q : LogQueue) (seq_at : ℕ → ℕ) (n m : ℕ) (ps : List Numbered) → IsRow q seq_at n m ps → IsRow q seq_at n m (open_stretch ps)
 unfolding open_stretch
-row_open q file n m [] h = h
-row_open q file n m (p ∷ ps) h = elim (has_status Begin p.batch.marker && are_middles ps) as (λ b. IsRow q file n m (cond b (p ∷ ps) (open_stretch ps))) [
+row_open q seq_at n m [] h = h
+row_open q seq_at n m (p ∷ ps) h = elim (has_status Begin p.batch.marker && are_middles ps) as (λ b. IsRow q seq_at n m (cond b (p ∷ ps) (open_stretch ps))) [
   | true ↦ h
-  | false ↦ row_lower q file n p.number m (open_stretch ps) h.0 (row_open q file p.number m ps h.2)
+  | false ↦ row_lower q seq_at n p.number m (open_stretch ps) h.0 (row_open q seq_at p.number m ps h.2)
 ]
 
-here_rises : (q : LogQueue) (file r : ℕ) (steps : List RegionStep) → AreHere q file steps → StepsRise q file file (steps_on r steps)
+here_rises : (q : LogQueue) (seq r : ℕ) (steps : List RegionStep) → AreHere q seq steps → StepsRise q seq seq (steps_on r steps)
 unfolding steps_on
-here_rises q file r [] h = omega arith
-here_rises q file r (s ∷ steps) h = elim (is_on r s) as (λ b. StepsRise q file file (map (λ (s : RegionStep). s.step) (cond b (s ∷ filter (is_on r) steps) (filter (is_on r) steps)))) [
-  | true ↦ (file, h.0, here_rises q file r steps h.1)
-  | false ↦ here_rises q file r steps h.1
+here_rises q seq r [] h = omega arith
+here_rises q seq r (s ∷ steps) h = elim (is_on r s) as (λ b. StepsRise q seq seq (map (λ (s : RegionStep). s.step) (cond b (s ∷ filter (is_on r) steps) (filter (is_on r) steps)))) [
+  | true ↦ (seq, h.0, here_rises q seq r steps h.1)
+  | false ↦ here_rises q seq r steps h.1
 ]
 
-row_rises : (q : LogQueue) (file : ℕ → ℕ) (r n m : ℕ) (ps : List Numbered) → NeverFalls file → IsRow q file n m ps → StepsRise q (file n) (file m) (steps_on r (region_steps_of ps))
+row_rises : (q : LogQueue) (seq_at : ℕ → ℕ) (r n m : ℕ) (ps : List Numbered) → NeverFalls seq_at → IsRow q seq_at n m ps → StepsRise q (seq_at n) (seq_at m) (steps_on r (region_steps_of ps))
 unfolding steps_on
-row_rises q file r n m [] up h = up n m h
-row_rises q file r n m (p ∷ ps) up h = subst (StepsRise q (file n) (file m)) (sym (own-append r p.batch.steps (region_steps_of ps)))
-    (rise-append q (file n) (file p.number) (file m) (steps_on r p.batch.steps) (steps_on r (region_steps_of ps))
-    (steps_lower q (file n) (file p.number) (file p.number) (steps_on r p.batch.steps) (up n p.number h.0) (subst (λ x. StepsRise q x x (steps_on r p.batch.steps)) h.1.number (here_rises q p.batch.file r p.batch.steps h.1.here)))
-    (row_rises q file r p.number m ps up h.2))
+row_rises q seq_at r n m [] up h = up n m h
+row_rises q seq_at r n m (p ∷ ps) up h = subst (StepsRise q (seq_at n) (seq_at m)) (sym (own-append r p.batch.steps (region_steps_of ps)))
+    (rise-append q (seq_at n) (seq_at p.number) (seq_at m) (steps_on r p.batch.steps) (steps_on r (region_steps_of ps))
+    (steps_lower q (seq_at n) (seq_at p.number) (seq_at p.number) (steps_on r p.batch.steps) (up n p.number h.0) (subst (λ x. StepsRise q x x (steps_on r p.batch.steps)) h.1.number (here_rises q p.batch.seq r p.batch.steps h.1.here)))
+    (row_rises q seq_at r p.number m ps up h.2))
 
 -- ---- effects
 
 -- the batches of an effect are a row
 abbrev HasRow : LogQueue → (ℕ → ℕ) → Effect → Type 0
-HasRow q file e = IsRow q file (first_in e) e.last.number (e.earlier ++ e.last ∷ [])
+HasRow q seq_at e = IsRow q seq_at (first_in e) e.last.number (e.earlier ++ e.last ∷ [])
 
-effect_order : (q : LogQueue) (file : ℕ → ℕ) (e : Effect) → HasRow q file e → first_in e ≤ e.last.number
-effect_order q file e h = row_order q file (first_in e) e.last.number (e.earlier ++ e.last ∷ []) h
+effect_order : (q : LogQueue) (seq_at : ℕ → ℕ) (e : Effect) → HasRow q seq_at e → first_in e ≤ e.last.number
+effect_order q seq_at e h = row_order q seq_at (first_in e) e.last.number (e.earlier ++ e.last ∷ []) h
 
-effect_rises : (q : LogQueue) (file : ℕ → ℕ) (r : ℕ) (e : Effect) → NeverFalls file → HasRow q file e → StepsRise q (file (first_in e)) (file e.last.number) (steps_by r e.earlier e.last)
+effect_rises : (q : LogQueue) (seq_at : ℕ → ℕ) (r : ℕ) (e : Effect) → NeverFalls seq_at → HasRow q seq_at e → StepsRise q (seq_at (first_in e)) (seq_at e.last.number) (steps_by r e.earlier e.last)
 unfolding whole_steps
-effect_rises q file r e up h = go e.earlier h
+effect_rises q seq_at r e up h = go e.earlier h
   where
-    go : (l : List Numbered) → IsRow q file (slice_index_or l 0 e.last).number e.last.number (l ++ e.last ∷ []) → StepsRise q (file (slice_index_or l 0 e.last).number) (file e.last.number) (steps_by r l e.last)
-    go [] h = subst (λ is. StepsRise q (file e.last.number) (file e.last.number) (steps_on r is)) (append-nil e.last.batch.steps) (row_rises q file r e.last.number e.last.number (e.last ∷ []) up h)
-    go (o ∷ os) h = rise-append q (file o.number) (file e.last.number) (file e.last.number) (steps_on r all) (cond (names r all) (AtomicGroup o.batch.file e.last.batch.file ∷ []) [])
-        (subst (λ is. StepsRise q (file o.number) (file e.last.number) (steps_on r is)) same (row_rises q file r o.number e.last.number ((o ∷ os) ++ e.last ∷ []) up h))
+    go : (l : List Numbered) → IsRow q seq_at (slice_index_or l 0 e.last).number e.last.number (l ++ e.last ∷ []) → StepsRise q (seq_at (slice_index_or l 0 e.last).number) (seq_at e.last.number) (steps_by r l e.last)
+    go [] h = subst (λ is. StepsRise q (seq_at e.last.number) (seq_at e.last.number) (steps_on r is)) (append-nil e.last.batch.steps) (row_rises q seq_at r e.last.number e.last.number (e.last ∷ []) up h)
+    go (o ∷ os) h = rise-append q (seq_at o.number) (seq_at e.last.number) (seq_at e.last.number) (steps_on r all) (cond (names r all) (AtomicGroup o.batch.seq e.last.batch.seq ∷ []) [])
+        (subst (λ is. StepsRise q (seq_at o.number) (seq_at e.last.number) (steps_on r is)) same (row_rises q seq_at r o.number e.last.number ((o ∷ os) ++ e.last ∷ []) up h))
         (ends (names r all))
       where
         all : List RegionStep
@@ -173,43 +173,43 @@ effect_rises q file r e up h = go e.earlier h
         same : region_steps_of ((o ∷ os) ++ e.last ∷ []) ≡ all
         same = flat_map-append (λ (p : Numbered). p.batch.steps) (o ∷ os) (e.last ∷ []) ∙ ap (λ l. region_steps_of (o ∷ os) ++ l) (append-nil e.last.batch.steps)
 
-        ends : (b : Bool) → StepsRise q (file e.last.number) (file e.last.number) (cond b (AtomicGroup o.batch.file e.last.batch.file ∷ []) [])
-        ends true = (file e.last.number, omega arith, omega arith)
+        ends : (b : Bool) → StepsRise q (seq_at e.last.number) (seq_at e.last.number) (cond b (AtomicGroup o.batch.seq e.last.batch.seq ∷ []) [])
+        ends true = (seq_at e.last.number, omega arith, omega arith)
         ends false = omega arith
 
-completed_rows : (q : LogQueue) (file : ℕ → ℕ) (n : ℕ) (olds : List Numbered) (p : Numbered) → IsRow q file 0 n olds → n ≤ p.number → IsFiled q file p → AllByRecursion (HasRow q file) (completed_by p.batch.marker olds p)
+completed_rows : (q : LogQueue) (seq_at : ℕ → ℕ) (n : ℕ) (olds : List Numbered) (p : Numbered) → IsRow q seq_at 0 n olds → n ≤ p.number → IsFiled q seq_at p → AllByRecursion (HasRow q seq_at) (completed_by p.batch.marker olds p)
 unfolding markers_of
-completed_rows q file n olds p h l f = go p.batch.marker
+completed_rows q seq_at n olds p h l f = go p.batch.marker
   where
-    end : (l : List Numbered) → IsRow q file 0 n l → AllByRecursion (HasRow q file) (completed_as End l p)
+    end : (l : List Numbered) → IsRow q seq_at 0 n l → AllByRecursion (HasRow q seq_at) (completed_as End l p)
     end [] h = tt
-    end (o ∷ os) h = ((omega arith, h.1, row_push q file o.number n p.number os p h.2 l (omega arith) f), tt)
+    end (o ∷ os) h = ((omega arith, h.1, row_push q seq_at o.number n p.number os p h.2 l (omega arith) f), tt)
 
-    go : (m : Option GroupMarker) → AllByRecursion (HasRow q file) (completed_by m olds p)
+    go : (m : Option GroupMarker) → AllByRecursion (HasRow q seq_at) (completed_by m olds p)
     go None = ((omega arith, f, omega arith), tt)
     go (Some m) = at m.status
       where
-        at : (s : AtomicGroupStatus) → AllByRecursion (HasRow q file) (completed_as s (open_stretch (markers_of m.group olds)) p)
+        at : (s : AtomicGroupStatus) → AllByRecursion (HasRow q seq_at) (completed_as s (open_stretch (markers_of m.group olds)) p)
         at Begin = tt
         at Middle = tt
-        at End = end (open_stretch (markers_of m.group olds)) (row_open q file 0 n (markers_of m.group olds) (row_filter q file _ 0 n olds h))
+        at End = end (open_stretch (markers_of m.group olds)) (row_open q seq_at 0 n (markers_of m.group olds) (row_filter q seq_at _ 0 n olds h))
 
-all_rows : (q : LogQueue) (file : ℕ → ℕ) (n : ℕ) (olds : List Numbered) (bs : List BatchSteps) → IsRow q file 0 n olds → AllByRecursion (IsFiled q file) (numbered_from n bs) → AllByRecursion (HasRow q file) (effects_behind olds (numbered_from n bs))
+all_rows : (q : LogQueue) (seq_at : ℕ → ℕ) (n : ℕ) (olds : List Numbered) (bs : List BatchSteps) → IsRow q seq_at 0 n olds → AllByRecursion (IsFiled q seq_at) (numbered_from n bs) → AllByRecursion (HasRow q seq_at) (effects_behind olds (numbered_from n bs))
 unfolding effects_behind
-all_rows q file n olds [] h k = tt
-all_rows q file n olds (b ∷ bs) h k = each-append (HasRow q file) (completed_by b.marker olds (record { number = n; batch = b })) (effects_behind (olds ++ record { number = n; batch = b } ∷ []) (numbered_from (suc n) bs))
-    (completed_rows q file n olds (record { number = n; batch = b }) h (omega arith) k.0)
-    (all_rows q file (suc n) (olds ++ record { number = n; batch = b } ∷ []) bs (row_push q file 0 n (suc n) olds (record { number = n; batch = b }) h (omega arith) (omega arith) k.0) k.1)
+all_rows q seq_at n olds [] h k = tt
+all_rows q seq_at n olds (b ∷ bs) h k = each-append (HasRow q seq_at) (completed_by b.marker olds (record { number = n; batch = b })) (effects_behind (olds ++ record { number = n; batch = b } ∷ []) (numbered_from (suc n) bs))
+    (completed_rows q seq_at n olds (record { number = n; batch = b }) h (omega arith) k.0)
+    (all_rows q seq_at (suc n) (olds ++ record { number = n; batch = b } ∷ []) bs (row_push q seq_at 0 n (suc n) olds (record { number = n; batch = b }) h (omega arith) (omega arith) k.0) k.1)
 
 -- ---- effects that are apart
 
 -- where both name the region, the later effect begins in no file below the last of the earlier one
 abbrev Follows : (ℕ → ℕ) → ℕ → Effect → Effect → Type 0
-Follows file r e f = names r (region_steps_in e) ≡ true → names r (region_steps_in f) ≡ true → file e.last.number ≤ file (first_in f)
+Follows seq_at r e f = names r (region_steps_in e) ≡ true → names r (region_steps_in f) ≡ true → seq_at e.last.number ≤ seq_at (first_in f)
 
 abbrev EachFollows : (ℕ → ℕ) → ℕ → List Effect → Type 0
-EachFollows file r [] = Unit {0}
-EachFollows file r (e ∷ es) = AllByRecursion (Follows file r e) es × EachFollows file r es
+EachFollows seq_at r [] = Unit {0}
+EachFollows seq_at r (e ∷ es) = AllByRecursion (Follows seq_at r e) es × EachFollows seq_at r es
 
 begins_behind : (r : ℕ) (e f : Effect) → AreApart e f → first_in e ≤ e.last.number → e.last.number < f.last.number → names r (region_steps_in e) ≡ true → names r (region_steps_in f) ≡ true → e.last.number < first_in f
 begins_behind r e f apart low l a b = go f.earlier refl
@@ -225,9 +225,9 @@ rise_all : (n : ℕ) (es : List Effect) → RiseFrom n es → AllByRecursion (λ
 rise_all n [] h = tt
 rise_all n (e ∷ es) h = (h.0, each_weaker (λ f. suc e.last.number ≤ f.last.number) (λ f. n ≤ f.last.number) (λ f k. omega (arith, h.0, k)) es (rise_all (suc e.last.number) es h.1))
 
-all_follow : (file : ℕ → ℕ) (r : ℕ) (e : Effect) (es : List Effect) → NeverFalls file → first_in e ≤ e.last.number → AllByRecursion (AreApart e) es → AllByRecursion (λ f. suc e.last.number ≤ f.last.number) es → AllByRecursion (Follows file r e) es
-all_follow file r e [] up low a l = tt
-all_follow file r e (f ∷ es) up low a l = (λ x y. up e.last.number (first_in f) (below (begins_behind r e f a.0 low (above l.0) x y)), all_follow file r e es up low a.1 l.1)
+all_follow : (seq_at : ℕ → ℕ) (r : ℕ) (e : Effect) (es : List Effect) → NeverFalls seq_at → first_in e ≤ e.last.number → AllByRecursion (AreApart e) es → AllByRecursion (λ f. suc e.last.number ≤ f.last.number) es → AllByRecursion (Follows seq_at r e) es
+all_follow seq_at r e [] up low a l = tt
+all_follow seq_at r e (f ∷ es) up low a l = (λ x y. up e.last.number (first_in f) (below (begins_behind r e f a.0 low (above l.0) x y)), all_follow seq_at r e es up low a.1 l.1)
   where
     above : {i j : ℕ} → suc i ≤ j → i < j
     above h = omega (arith, h)
@@ -235,34 +235,34 @@ all_follow file r e (f ∷ es) up low a l = (λ x y. up e.last.number (first_in 
     below : {i j : ℕ} → i < j → i ≤ j
     below h = omega (arith, h)
 
-each_follows : (q : LogQueue) (file : ℕ → ℕ) (r n : ℕ) (es : List Effect) → NeverFalls file → RiseFrom n es → EachApart es → AllByRecursion (HasRow q file) es → EachFollows file r es
-each_follows q file r n [] up rise apart rows = tt
-each_follows q file r n (e ∷ es) up rise apart rows = (
-  all_follow file r e es up (effect_order q file e rows.0) apart.0 (rise_all (suc e.last.number) es rise.1),
-  each_follows q file r (suc e.last.number) es up rise.1 apart.1 rows.1,
+each_follows : (q : LogQueue) (seq_at : ℕ → ℕ) (r n : ℕ) (es : List Effect) → NeverFalls seq_at → RiseFrom n es → EachApart es → AllByRecursion (HasRow q seq_at) es → EachFollows seq_at r es
+each_follows q seq_at r n [] up rise apart rows = tt
+each_follows q seq_at r n (e ∷ es) up rise apart rows = (
+  all_follow seq_at r e es up (effect_order q seq_at e rows.0) apart.0 (rise_all (suc e.last.number) es rise.1),
+  each_follows q seq_at r (suc e.last.number) es up rise.1 apart.1 rows.1,
 )
 
-effects_rise : (q : LogQueue) (file : ℕ → ℕ) (r low : ℕ) (es : List Effect) → NeverFalls file → AllByRecursion (HasRow q file) es → AllByRecursion (λ e. names r (region_steps_in e) ≡ true → low ≤ file (first_in e)) es → EachFollows file r es → (high : ℕ) × StepsRise q low high (all_steps r es)
-effects_rise q file r low [] up rows from follows = (low, omega arith)
-effects_rise q file r low (e ∷ es) up rows from follows = go (names r (region_steps_in e)) refl (λ l k. effects_rise q file r l es up rows.1 k follows.1)
+effects_rise : (q : LogQueue) (seq_at : ℕ → ℕ) (r low : ℕ) (es : List Effect) → NeverFalls seq_at → AllByRecursion (HasRow q seq_at) es → AllByRecursion (λ e. names r (region_steps_in e) ≡ true → low ≤ seq_at (first_in e)) es → EachFollows seq_at r es → (high : ℕ) × StepsRise q low high (all_steps r es)
+effects_rise q seq_at r low [] up rows from follows = (low, omega arith)
+effects_rise q seq_at r low (e ∷ es) up rows from follows = go (names r (region_steps_in e)) refl (λ l k. effects_rise q seq_at r l es up rows.1 k follows.1)
   where
-    go : (b : Bool) → names r (region_steps_in e) ≡ b → ((l : ℕ) → AllByRecursion (λ e. names r (region_steps_in e) ≡ true → l ≤ file (first_in e)) es → (high : ℕ) × StepsRise q l high (all_steps r es)) → (high : ℕ) × StepsRise q low high (steps_by r e.earlier e.last ++ all_steps r es)
+    go : (b : Bool) → names r (region_steps_in e) ≡ b → ((l : ℕ) → AllByRecursion (λ e. names r (region_steps_in e) ≡ true → l ≤ seq_at (first_in e)) es → (high : ℕ) × StepsRise q l high (all_steps r es)) → (high : ℕ) × StepsRise q low high (steps_by r e.earlier e.last ++ all_steps r es)
     go true is rest =
-        let behind = rest (file e.last.number) (each_weaker (Follows file r e) (λ f. names r (region_steps_in f) ≡ true → file e.last.number ≤ file (first_in f)) (λ f k. k is) es follows.0) in
-        (behind.0, rise-append q low (file e.last.number) behind.0 (steps_by r e.earlier e.last) (all_steps r es) (steps_lower q low (file (first_in e)) (file e.last.number) (steps_by r e.earlier e.last) (from.0 is) (effect_rises q file r e up rows.0)) behind.1)
+        let behind = rest (seq_at e.last.number) (each_weaker (Follows seq_at r e) (λ f. names r (region_steps_in f) ≡ true → seq_at e.last.number ≤ seq_at (first_in f)) (λ f k. k is) es follows.0) in
+        (behind.0, rise-append q low (seq_at e.last.number) behind.0 (steps_by r e.earlier e.last) (all_steps r es) (steps_lower q low (seq_at (first_in e)) (seq_at e.last.number) (steps_by r e.earlier e.last) (from.0 is) (effect_rises q seq_at r e up rows.0)) behind.1)
     go false is rest =
         let behind = rest low from.1 in
         (behind.0, subst (λ l. StepsRise q low behind.0 (l ++ all_steps r es)) (sym (steps_in-none r e is)) behind.1)
 
 pub history_rises : (q : LogQueue) (h : List Event) → IsSoundIn q h → Apart h → (r : ℕ) → (high : ℕ) × StepsRise q 0 high (steps_of r (batches h))
-history_rises q h s a r = effects_rise q file r 0 (effects (batches h)) up rows (each_weaker (HasRow q file) (λ e. names r (region_steps_in e) ≡ true → 0 ≤ file (first_in e)) (λ e k n. omega arith) (effects (batches h)) rows)
-    (each_follows q file r 0 (effects (batches h)) up (effects_are (batches h)).rise a.each rows)
+history_rises q h s a r = effects_rise q seq_at r 0 (effects (batches h)) up rows (each_weaker (HasRow q seq_at) (λ e. names r (region_steps_in e) ≡ true → 0 ≤ seq_at (first_in e)) (λ e k n. omega arith) (effects (batches h)) rows)
+    (each_follows q seq_at r 0 (effects (batches h)) up (effects_are (batches h)).rise a.each rows)
   where
-    file : ℕ → ℕ
-    file = file_of 0 h
+    seq_at : ℕ → ℕ
+    seq_at = file_of 0 h
 
-    up : NeverFalls file
+    up : NeverFalls seq_at
     up = files_never_fall q 0 h s.files
 
-    rows : AllByRecursion (HasRow q file) (effects (batches h))
-    rows = all_rows q file 0 [] (batches h) (omega arith) (all_filed q file 0 0 h (λ i. ap (file_of 0 h) (omega arith)) s.files s.items)
+    rows : AllByRecursion (HasRow q seq_at) (effects (batches h))
+    rows = all_rows q seq_at 0 [] (batches h) (omega arith) (all_filed q seq_at 0 0 h (λ i. ap (file_of 0 h) (omega arith)) s.files s.items)

@@ -103,16 +103,16 @@ steps_on-none r (i ∷ is) h = go (is_on r i) h (steps_on-none r is)
     go true h ih = cc
     go false h ih = ih h
 
-pub whole_steps-none : (r : ℕ) (is : List RegionStep) (start end : ℕ) → names r is ≡ false → whole_steps r is start end ≡ []
+pub whole_steps-none : (r : ℕ) (is : List RegionStep) (first_seq last_seq : ℕ) → names r is ≡ false → whole_steps r is first_seq last_seq ≡ []
 unfolding whole_steps
-whole_steps-none r is start end h = rw (steps_on-none r is h, h) refl
+whole_steps-none r is first_seq last_seq h = rw (steps_on-none r is h, h) refl
 
 pub steps_in-none : (r : ℕ) (e : Effect) → names r (region_steps_in e) ≡ false → steps_by r e.earlier e.last ≡ []
 steps_in-none r e h = go e.earlier h
   where
     go : (l : List Numbered) → names r (region_steps_of l ++ e.last.batch.steps) ≡ false → steps_by r l e.last ≡ []
     go [] h = steps_on-none r e.last.batch.steps h
-    go (q ∷ qs) h = whole_steps-none r (region_steps_of (q ∷ qs) ++ e.last.batch.steps) q.batch.file e.last.batch.file h
+    go (q ∷ qs) h = whole_steps-none r (region_steps_of (q ∷ qs) ++ e.last.batch.steps) q.batch.seq e.last.batch.seq h
 
 pub all_steps-unnamed : (r : ℕ) (es : List Effect) → AllByRecursion (λ e. names r (region_steps_in e) ≡ false) es → all_steps r es ≡ []
 all_steps-unnamed r [] h = refl

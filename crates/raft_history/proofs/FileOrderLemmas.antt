@@ -78,7 +78,7 @@ step_lower q a low high (Compact i) l h = omega (arith, l, h)
 step_lower q a low high (Truncate i) l h = omega (arith, l, h)
 step_lower q a low high (Put key value file) l h = omega (arith, l, h)
 step_lower q a low high (Del key) l h = omega (arith, l, h)
-step_lower q a low high (AtomicGroup start end) l h = omega (arith, l, h)
+step_lower q a low high (AtomicGroup first_seq last_seq) l h = omega (arith, l, h)
 step_lower q a low high Clean l h = omega (arith, l, h)
 
 pub steps_lower : (q : LogQueue) (a low high : ℕ) (ss : List Step) → a ≤ low → StepsRise q low high ss → StepsRise q a high ss
@@ -120,7 +120,7 @@ step_order q low mid r o u (Compact i) k h e = changed_order q low mid r _ u e k
 step_order q low mid r o u (Truncate i) k h e = changed_order q low mid r _ u e k (some_of q _ 0 low (table_of r o).entries h)
 step_order q low mid r o u (Put key value id) k h e = changed_order q low mid r _ u e k h
 step_order q low mid r o u (Del key) k h e = changed_order q low mid r _ u e k h
-step_order q low mid r o u (AtomicGroup start end) k h e = changed_order q low mid r _ u e k h
+step_order q low mid r o u (AtomicGroup first_seq last_seq) k h e = changed_order q low mid r _ u e k h
 step_order q low mid r o u Clean k h e = changed_order q low mid r None u e k (omega arith)
 
 pub steps_order : (q : LogQueue) (low high r : ℕ) (o u : Option Table) (ss : List Step) → StepsRise q low high ss → InOrder q 0 low (table_of r o).entries → after q r o ss ≡ Some u → InOrder q 0 high (table_of r u).entries

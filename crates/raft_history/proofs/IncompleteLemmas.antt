@@ -137,9 +137,9 @@ same_steps r [] [] p q h e = ap (λ (b : BatchSteps). steps_on r b.steps) e
 same_steps r [] (y ∷ qs) p q h e = absurd h
 same_steps r (x ∷ ps) [] p q h e = absurd h
 same_steps r (x ∷ ps) (y ∷ qs) p q h e =
-    ap (λ (b : BatchSteps). whole_steps r (region_steps_of (x ∷ ps) ++ b.steps) x.batch.file b.file) e
-    ∙ ap (λ l. whole_steps r (l ++ q.batch.steps) x.batch.file q.batch.file) (same_region_steps (x ∷ ps) (y ∷ qs) h)
-    ∙ ap (λ (b : BatchSteps). whole_steps r (region_steps_of (y ∷ qs) ++ q.batch.steps) b.file q.batch.file) h.0
+    ap (λ (b : BatchSteps). whole_steps r (region_steps_of (x ∷ ps) ++ b.steps) x.batch.seq b.seq) e
+    ∙ ap (λ l. whole_steps r (l ++ q.batch.steps) x.batch.seq q.batch.seq) (same_region_steps (x ∷ ps) (y ∷ qs) h)
+    ∙ ap (λ (b : BatchSteps). whole_steps r (region_steps_of (y ∷ qs) ++ q.batch.steps) b.seq q.batch.seq) h.0
 
 same_completed : (r : ℕ) (olds news : List Numbered) (p q : Numbered) → SameBatches olds news → p.batch ≡ q.batch → all_steps r (completed_by p.batch.marker olds p) ≡ all_steps r (completed_by q.batch.marker news q)
 same_completed r olds news p q h e = go p.batch.marker q.batch.marker (ap (λ (b : BatchSteps). b.marker) e)

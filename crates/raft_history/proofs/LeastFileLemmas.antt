@@ -22,7 +22,7 @@ use Rattle.raft_history.specs.Batches.{Event, batches}
 use Rattle.raft_history.specs.BothQueues.{IsReadingOfBoth}
 use Rattle.raft_history.specs.Effects.{steps_of, is_named}
 use Rattle.raft_history.specs.Histories.{IsSoundIn, Apart, IsOneReading}
-use Rattle.raft_history.specs.LeastFiles.{record_files, AreLeastFiles, IsAtOrBelow, HasNoneBelow}
+use Rattle.raft_history.specs.LeastFiles.{record_seqs, AreLeastFiles, IsAtOrBelow, HasNoneBelow}
 use Rattle.raft_history.specs.RegionSteps.{Tables}
 use Rattle.raft_history.proofs.EffectFileLemmas.{history_rises}
 use Rattle.raft_history.proofs.EffectLemmas.{each_weaker}
@@ -96,7 +96,7 @@ first_is_least q low high ms (e ∷ es) h = go e.entries h.0 (λ l. files_from q
 abbrev AreInOrder : List EntryIndex → Type 0
 AreInOrder es = (q : LogQueue) → (high : ℕ) × InOrder q 0 high (placed_in q es)
 
-least_is : (q : LogQueue) (t : Table) → AreInOrder t.entries → least_file q t ≡ least (record_files q t)
+least_is : (q : LogQueue) (t : Table) → AreInOrder t.entries → least_file q t ≡ least (record_seqs q t)
 unfolding entry_files
 least_is q t h = first_is_least q 0 (h q).0 (files_in q t.keys) (placed_in q t.entries) (h q).1
 
@@ -104,9 +104,9 @@ least_files : (t : Table) → AreInOrder t.entries → AreLeastFiles t
 least_files t h = record { append = least_is Append t h; rewrite = ap (at_most_first_file t.atomic_group) (least_is Rewrite t h) }
 
 pub none_below : (q : LogQueue) (t : Table) → AreLeastFiles t → HasNoneBelow q t
-none_below Append t h = subst (λ k. AllByRecursion (IsAtOrBelow k) (record_files Append t)) (sym h.append) (least_each (record_files Append t))
-none_below Rewrite t h = subst (λ k. AllByRecursion (IsAtOrBelow k) (record_files Rewrite t)) (sym h.rewrite)
-    (each_weaker (IsAtOrBelow (least (record_files Rewrite t))) (IsAtOrBelow (at_most_first_file t.atomic_group (least (record_files Rewrite t)))) (lowered_least t.atomic_group (least (record_files Rewrite t))) (record_files Rewrite t) (least_each (record_files Rewrite t)))
+none_below Append t h = subst (λ k. AllByRecursion (IsAtOrBelow k) (record_seqs Append t)) (sym h.append) (least_each (record_seqs Append t))
+none_below Rewrite t h = subst (λ k. AllByRecursion (IsAtOrBelow k) (record_seqs Rewrite t)) (sym h.rewrite)
+    (each_weaker (IsAtOrBelow (least (record_seqs Rewrite t))) (IsAtOrBelow (at_most_first_file t.atomic_group (least (record_seqs Rewrite t)))) (lowered_least t.atomic_group (least (record_seqs Rewrite t))) (record_seqs Rewrite t) (least_each (record_seqs Rewrite t)))
 
 -- ---- entries of one queue, and of both
 

@@ -83,11 +83,11 @@ front_of-append (p ∷ ps) qs = go p.batch.marker (front_of-append ps qs)
     led_with is (Ended js f) g = refl
     led_with is Cut g = refl
 
-    go : (m : Option GroupMarker) → front_of (ps ++ qs) ≡ front_with (front_of ps) (front_of qs) → front_behind m p.batch.steps p.batch.file (front_of (ps ++ qs)) ≡ front_with (front_behind m p.batch.steps p.batch.file (front_of ps)) (front_of qs)
+    go : (m : Option GroupMarker) → front_of (ps ++ qs) ≡ front_with (front_of ps) (front_of qs) → front_behind m p.batch.steps p.batch.seq (front_of (ps ++ qs)) ≡ front_with (front_behind m p.batch.steps p.batch.seq (front_of ps)) (front_of qs)
     go None ih = refl
     go (Some m) ih = at m.status
       where
-        at : (s : AtomicGroupStatus) → front_by s p.batch.steps p.batch.file (front_of (ps ++ qs)) ≡ front_with (front_by s p.batch.steps p.batch.file (front_of ps)) (front_of qs)
+        at : (s : AtomicGroupStatus) → front_by s p.batch.steps p.batch.seq (front_of (ps ++ qs)) ≡ front_with (front_by s p.batch.steps p.batch.seq (front_of ps)) (front_of qs)
         at Begin = refl
         at Middle = ap (led_by p.batch.steps) ih ∙ led_with p.batch.steps (front_of ps) (front_of qs)
         at End = refl
@@ -103,11 +103,11 @@ unfolding front_of
 fits_front [] = (refl, refl)
 fits_front (p ∷ ps) = go p.batch.marker refl (front_of ps) (fits_front ps)
   where
-    go : (m : Option GroupMarker) → p.batch.marker ≡ m → (f : GroupFront) → FitsFront f ps → FitsFront (front_behind m p.batch.steps p.batch.file f) (p ∷ ps)
+    go : (m : Option GroupMarker) → p.batch.marker ≡ m → (f : GroupFront) → FitsFront f ps → FitsFront (front_behind m p.batch.steps p.batch.seq f) (p ∷ ps)
     go None is f h = rw is refl
     go (Some m) is f h = at m.status (ap (has_status Middle) is) f h
       where
-        at : (s : AtomicGroupStatus) → has_status Middle p.batch.marker ≡ is_same_status Middle s → (f : GroupFront) → FitsFront f ps → FitsFront (front_by s p.batch.steps p.batch.file f) (p ∷ ps)
+        at : (s : AtomicGroupStatus) → has_status Middle p.batch.marker ≡ is_same_status Middle s → (f : GroupFront) → FitsFront f ps → FitsFront (front_by s p.batch.steps p.batch.seq f) (p ∷ ps)
         at Begin is f h = rw is refl
         at Middle is (Open js) h = (rw is h.0, ap (λ l. p.batch.steps ++ l) h.1)
         at Middle is (Ended js k) h = rw is h
@@ -116,7 +116,7 @@ fits_front (p ∷ ps) = go p.batch.marker refl (front_of ps) (fits_front ps)
 
 stretch_with : (ps qs : List Numbered) → stretch_of (with_more ps qs) ≡ carried_stretch (stretch_of ps) (region_steps_of qs)
 stretch_with [] qs = refl
-stretch_with (p ∷ ps) qs = ap (λ l. Some record { file = p.batch.file; steps = l }) (flat_map-append (λ x. x.batch.steps) (p ∷ ps) qs)
+stretch_with (p ∷ ps) qs = ap (λ l. Some record { first_seq = p.batch.seq; steps = l }) (flat_map-append (λ x. x.batch.steps) (p ∷ ps) qs)
 
 -- what is known of a group from two histories
 pub group_at-append : (ps qs : List Numbered) → group_at (ps ++ qs) ≡ joined_group (group_at ps) (group_at qs)

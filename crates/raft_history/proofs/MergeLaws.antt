@@ -108,7 +108,7 @@ regions_refused q c d h k p (inr f) = let r = f.2.0 in (
 
 own-completed : (r : ℕ) (g : WaitingGroups) (b : BatchSteps) (m : Option GroupMarker) → steps_on r (completed_steps g b m) ≡ steps_by_batch r g b m
 own-completed r g b None = refl
-own-completed r g b (Some m) = go (whole_group (known g m.group) (one_marker m.status b.steps b.file))
+own-completed r g b (Some m) = go (whole_group (known g m.group) (one_marker m.status b.steps b.seq))
   where
     go : (o : Option WholeGroup) → steps_on r (region_steps_or o) ≡ steps_or r o
     go None = own_none r

@@ -70,44 +70,44 @@ groups_in-append h k = same_map nat_cmp_total nat_cmp-IsAntisymmetric (groups_in
         ∙ ap (joined_at (finite.get (groups_in h) q)) (sym (finite.get-entries (groups_in k) q) ∙ get-groups_in q k)
         ∙ ap (λ x. joined_at x (cond (has_marker q k) (Some (group_in q k)) None)) (get-groups_in q h)
 
-group_in-one : (g : ℕ) (is : List RegionStep) (s : AtomicGroupStatus) (f : ℕ) → group_in g (record { steps = is; marker = Some record { group = g; status = s }; file = f } ∷ []) ≡ one_marker s is f
+group_in-one : (g : ℕ) (is : List RegionStep) (s : AtomicGroupStatus) (f : ℕ) → group_in g (record { steps = is; marker = Some record { group = g; status = s }; seq = f } ∷ []) ≡ one_marker s is f
 unfolding markers_of open_stretch front_of
-group_in-one g is Begin f = rw (eq-eqb g g refl) (ap (λ l. record { front = Cut; stretch = Some record { file = f; steps = l } }) (append-nil is))
+group_in-one g is Begin f = rw (eq-eqb g g refl) (ap (λ l. record { front = Cut; stretch = Some record { first_seq = f; steps = l } }) (append-nil is))
 group_in-one g is Middle f = rw (eq-eqb g g refl) (ap (λ l. record { front = Open l; stretch = None }) (append-nil is))
 group_in-one g is End f = rw (eq-eqb g g refl) refl
 
 entries_none : finite.entries (finite.empty {X = WaitingGroup} {R = nat_cmp}) ≡ []
 entries_none = nil_from_length (finite.entries (finite.empty {X = WaitingGroup} {R = nat_cmp})) (sym (finite.len-entries (finite.empty {X = WaitingGroup} {R = nat_cmp})) ∙ finite.len-empty nat_cmp WaitingGroup)
 
-one_entry : (is : List RegionStep) (m : GroupMarker) (f : ℕ) → finite.entries (groups_in (record { steps = is; marker = Some m; file = f } ∷ [])) ≡ (m.group, one_marker m.status is f) ∷ []
+one_entry : (is : List RegionStep) (m : GroupMarker) (f : ℕ) → finite.entries (groups_in (record { steps = is; marker = Some m; seq = f } ∷ [])) ≡ (m.group, one_marker m.status is f) ∷ []
 unfolding groups_in
-one_entry is m f = rw (finite.entries-insert nat_cmp_total finite.empty m.group (group_in m.group (record { steps = is; marker = Some m; file = f } ∷ [])), entries_none) (ap (λ x. (m.group, x) ∷ []) (group_in-one m.group is m.status f))
+one_entry is m f = rw (finite.entries-insert nat_cmp_total finite.empty m.group (group_in m.group (record { steps = is; marker = Some m; seq = f } ∷ [])), entries_none) (ap (λ x. (m.group, x) ∷ []) (group_in-one m.group is m.status f))
 
-joined_group-one : (groups : WaitingGroups) (is : List RegionStep) (m : Option GroupMarker) (f : ℕ) → joined_groups groups (groups_in (record { steps = is; marker = m; file = f } ∷ [])) ≡ groups_after groups record { steps = is; marker = m; file = f } m
+joined_group-one : (groups : WaitingGroups) (is : List RegionStep) (m : Option GroupMarker) (f : ℕ) → joined_groups groups (groups_in (record { steps = is; marker = m; seq = f } ∷ [])) ≡ groups_after groups record { steps = is; marker = m; seq = f } m
 unfolding groups_in
 joined_group-one groups is None f = rw entries_none refl
 joined_group-one groups is (Some m) f = ap (joined_with groups) (one_entry is m f)
 
 pub groups_in-one : (h : List BatchSteps) (b : BatchSteps) → groups_in (h ++ b ∷ []) ≡ groups_after (groups_in h) b b.marker
-groups_in-one h b = groups_in-append h (b ∷ []) ∙ joined_group-one (groups_in h) b.steps b.marker b.file
+groups_in-one h b = groups_in-append h (b ∷ []) ∙ joined_group-one (groups_in h) b.steps b.marker b.seq
 
 -- one more batch's steps, in one context
-completed-steps : (r : ℕ) (olds : List Numbered) (p : Numbered) (m : GroupMarker) → all_steps r (completed_as m.status (open_stretch (markers_of m.group olds)) p) ≡ steps_or r (whole_group (group_of m.group olds) (one_marker m.status p.batch.steps p.batch.file))
+completed-steps : (r : ℕ) (olds : List Numbered) (p : Numbered) (m : GroupMarker) → all_steps r (completed_as m.status (open_stretch (markers_of m.group olds)) p) ≡ steps_or r (whole_group (group_of m.group olds) (one_marker m.status p.batch.steps p.batch.seq))
 completed-steps r olds p m = go m.status
   where
-    stretch : (l : List Numbered) → all_steps r (completed_as End l p) ≡ steps_or r (whole_of (stretch_of l) (one_marker End p.batch.steps p.batch.file).front)
+    stretch : (l : List Numbered) → all_steps r (completed_as End l p) ≡ steps_or r (whole_of (stretch_of l) (one_marker End p.batch.steps p.batch.seq).front)
     stretch [] = all_steps-none r
     stretch (q ∷ qs) = all_steps-one r record { earlier = q ∷ qs; last = p }
 
-    none : (o : Option OpenStretch) → [] ≡ steps_or r (whole_of o (one_marker Begin p.batch.steps p.batch.file).front)
+    none : (o : Option OpenStretch) → [] ≡ steps_or r (whole_of o (one_marker Begin p.batch.steps p.batch.seq).front)
     none None = refl
     none (Some s) = refl
 
-    middle : (o : Option OpenStretch) → [] ≡ steps_or r (whole_of o (one_marker Middle p.batch.steps p.batch.file).front)
+    middle : (o : Option OpenStretch) → [] ≡ steps_or r (whole_of o (one_marker Middle p.batch.steps p.batch.seq).front)
     middle None = refl
     middle (Some s) = refl
 
-    go : (s : AtomicGroupStatus) → all_steps r (completed_as s (open_stretch (markers_of m.group olds)) p) ≡ steps_or r (whole_group (group_of m.group olds) (one_marker s p.batch.steps p.batch.file))
+    go : (s : AtomicGroupStatus) → all_steps r (completed_as s (open_stretch (markers_of m.group olds)) p) ≡ steps_or r (whole_group (group_of m.group olds) (one_marker s p.batch.steps p.batch.seq))
     go Begin = rw (whole_is (markers_of m.group olds)) (all_steps-none r ∙ none (stretch_of (open_stretch (markers_of m.group olds))))
     go Middle = rw (whole_is (markers_of m.group olds)) (all_steps-none r ∙ middle (stretch_of (open_stretch (markers_of m.group olds))))
     go End = rw (whole_is (markers_of m.group olds)) (stretch (open_stretch (markers_of m.group olds)))
@@ -118,4 +118,4 @@ steps-one r h b = ap (all_steps r) (effects-append h (b ∷ [])) ∙ all_steps-a
   where
     go : (m : Option GroupMarker) → all_steps r (completed_by m (numbered_from 0 h) record { number = length h; batch = b }) ≡ steps_by_batch r (groups_in h) b m
     go None = all_steps-one r record { earlier = []; last = record { number = length h; batch = b } }
-    go (Some m) = completed-steps r (numbered_from 0 h) record { number = length h; batch = b } m ∙ ap (λ x. steps_or r (whole_group x (one_marker m.status b.steps b.file))) (sym (known-groups_in m.group h))
+    go (Some m) = completed-steps r (numbered_from 0 h) record { number = length h; batch = b } m ∙ ap (λ x. steps_or r (whole_group x (one_marker m.status b.steps b.seq))) (sym (known-groups_in m.group h))

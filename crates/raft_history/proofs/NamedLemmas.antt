@@ -38,11 +38,11 @@ has_steps-of r h = same_test (has_steps (steps_of r h)) (is_named r h) (λ e. (n
 pub has_steps-own : (r : ℕ) (is : List RegionStep) → has_steps (steps_on r is) ≡ names r is
 has_steps-own r is = same_test (has_steps (steps_on r is)) (names r is) (λ e. steps_on-some r is (no_steps (steps_on r is) e)) (λ e. ap has_steps (steps_on-none r is e))
 
-pub has_steps-whole_group : (r : ℕ) (w : WholeGroup) → has_steps (whole_steps r w.steps w.start w.end) ≡ names r w.steps
+pub has_steps-whole_group : (r : ℕ) (w : WholeGroup) → has_steps (whole_steps r w.steps w.first_seq w.last_seq) ≡ names r w.steps
 unfolding whole_steps
-has_steps-whole_group r w = has_steps-append (steps_on r w.steps) (cond (names r w.steps) (AtomicGroup w.start w.end ∷ []) []) ∙ ap (λ b. b || has_steps (cond (names r w.steps) (AtomicGroup w.start w.end ∷ []) [])) (has_steps-own r w.steps) ∙ go (names r w.steps)
+has_steps-whole_group r w = has_steps-append (steps_on r w.steps) (cond (names r w.steps) (AtomicGroup w.first_seq w.last_seq ∷ []) []) ∙ ap (λ b. b || has_steps (cond (names r w.steps) (AtomicGroup w.first_seq w.last_seq ∷ []) [])) (has_steps-own r w.steps) ∙ go (names r w.steps)
   where
-    go : (b : Bool) → (b || has_steps (cond b (AtomicGroup w.start w.end ∷ []) [])) ≡ b
+    go : (b : Bool) → (b || has_steps (cond b (AtomicGroup w.first_seq w.last_seq ∷ []) [])) ≡ b
     go true = refl
     go false = refl
 
@@ -52,7 +52,7 @@ has_steps-wholes r [] = refl
 has_steps-wholes r (w ∷ ws) = has_steps-append (group_steps w) (flat_map group_steps ws) ∙ ap (λ b. b || has_steps (flat_map group_steps ws)) (has_steps-whole_group r w) ∙ ap (λ b. names r w.steps || b) (has_steps-wholes r ws)
   where
     group_steps : WholeGroup → List Step
-    group_steps w = whole_steps r w.steps w.start w.end
+    group_steps w = whole_steps r w.steps w.first_seq w.last_seq
 
 pub named_across : (r : ℕ) (h k : List BatchSteps) → EachApart (effects (h ++ k)) → is_named r (h ++ k) ≡ (is_named r h || (list_any (λ w. names r w.steps) (whole_groups (groups_in h) (groups_in k)) || is_named r k))
 named_across r h k apart =
@@ -65,7 +65,7 @@ named_across r h k apart =
 
 pub by_batch : (r : ℕ) (groups : WaitingGroups) (b : BatchSteps) (m : Option GroupMarker) → has_steps (steps_by_batch r groups b m) ≡ names_by_batch r groups b m
 by_batch r groups b None = has_steps-own r b.steps
-by_batch r groups b (Some m) = go (whole_group (known groups m.group) (one_marker m.status b.steps b.file))
+by_batch r groups b (Some m) = go (whole_group (known groups m.group) (one_marker m.status b.steps b.seq))
   where
     go : (o : Option WholeGroup) → has_steps (steps_or r o) ≡ names_by r o
     go None = refl

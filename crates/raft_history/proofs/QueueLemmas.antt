@@ -50,12 +50,12 @@ front_are q (p ∷ ps) h = go p.batch.marker (front_are q ps h.1)
     led (Ended js n) k = are-append q p.batch.steps js h.0 k
     led Cut k = tt
 
-    by : (s : AtomicGroupStatus) → Are q (front_steps (front_of ps)) → Are q (front_steps (front_by s p.batch.steps p.batch.file (front_of ps)))
+    by : (s : AtomicGroupStatus) → Are q (front_steps (front_of ps)) → Are q (front_steps (front_by s p.batch.steps p.batch.seq (front_of ps)))
     by Begin k = tt
     by Middle k = led (front_of ps) k
     by End k = h.0
 
-    go : (m : Option GroupMarker) → Are q (front_steps (front_of ps)) → Are q (front_steps (front_behind m p.batch.steps p.batch.file (front_of ps)))
+    go : (m : Option GroupMarker) → Are q (front_steps (front_of ps)) → Are q (front_steps (front_behind m p.batch.steps p.batch.seq (front_of ps)))
     go None k = tt
     go (Some m) k = by m.status k
 
@@ -84,7 +84,7 @@ whole_are q a b h k = go a.front a.stretch b.front h.1 k.0
     go (Ended is x) s g a b = of s g a b
     go Cut s g a b = of s g a b
 
-spans_are : (q : LogQueue) (rs : List ℕ) (start end : ℕ) → Are q (on_each rs (AtomicGroup start end))
+spans_are : (q : LogQueue) (rs : List ℕ) (first_seq last_seq : ℕ) → Are q (on_each rs (AtomicGroup first_seq last_seq))
 spans_are q [] s e = tt
 spans_are q (r ∷ rs) s e = (tt, spans_are q rs s e)
 
@@ -127,7 +127,7 @@ pub known_holds : (q : LogQueue) (g : ℕ) (h : List Event) → FilesFrom q 0 h 
 known_holds q g h f a = subst (Holds q) (sym (known-groups_in g (batches h))) (group_holds q g (batches h) (placed_are q 0 0 h f a))
 
 pub whole_in_queue : (q : LogQueue) (w : WholeGroup) → Are q w.steps → Are q (region_steps_of_whole w)
-whole_in_queue q w h = are-append q w.steps (on_each (named_regions w.steps) (AtomicGroup w.start w.end)) h (spans_are q (named_regions w.steps) w.start w.end)
+whole_in_queue q w h = are-append q w.steps (on_each (named_regions w.steps) (AtomicGroup w.first_seq w.last_seq)) h (spans_are q (named_regions w.steps) w.first_seq w.last_seq)
 
 pub wholes_in_queue : (q : LogQueue) (h k : List Event) → FilesFrom q 0 h → AreInFiles h → FilesFrom q 0 k → AreInFiles k → Are q (region_steps_of_wholes (whole_groups (groups_in (batches h)) (groups_in (batches k))))
 wholes_in_queue q h k f a g b = all (finite.entries (groups_in (batches k))) (each_weaker _ (λ (e : ℕ × WaitingGroup). Holds q e.1) (λ e x. subst (Holds q) (sym x.1) (group_holds q e.0 (batches k) (placed_are q 0 0 k g b))) (finite.entries (groups_in (batches k))) (each_known (batches k)))

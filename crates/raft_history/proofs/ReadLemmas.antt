@@ -38,14 +38,14 @@ own-spans r s (i ∷ is) = go (names i.region is) refl (by_region r i.region) (o
         ∙ ap (λ l. s ∷ l) (ih ∙ ap (λ b. cond b (s ∷ []) []) (ap (λ x. names x is) p ∙ e)) ∙ sym (ap (λ b. cond b (s ∷ []) []) (names_cons r i is ∙ ap (λ b. b || names r is) (ap (λ x. eqb x i.region) p ∙ eqb_self i.region)))
     go false e (inr f) ih = own_other r record { region = i.region; step = s } (on_each (named_regions is) s) f.0 ∙ ih ∙ sym (ap (λ b. cond b (s ∷ []) []) (names_cons r i is ∙ ap (λ b. b || names r is) f.0))
 
-pub own-whole_group : (r : ℕ) (w : WholeGroup) → steps_on r (region_steps_of_whole w) ≡ whole_steps r w.steps w.start w.end
+pub own-whole_group : (r : ℕ) (w : WholeGroup) → steps_on r (region_steps_of_whole w) ≡ whole_steps r w.steps w.first_seq w.last_seq
 unfolding whole_steps
-own-whole_group r w = own-append r w.steps (on_each (named_regions w.steps) (AtomicGroup w.start w.end)) ∙ ap (λ l. steps_on r w.steps ++ l) (own-spans r (AtomicGroup w.start w.end) w.steps)
+own-whole_group r w = own-append r w.steps (on_each (named_regions w.steps) (AtomicGroup w.first_seq w.last_seq)) ∙ ap (λ l. steps_on r w.steps ++ l) (own-spans r (AtomicGroup w.first_seq w.last_seq) w.steps)
 
 pub own-wholes : (r : ℕ) (ws : List WholeGroup) → steps_on r (region_steps_of_wholes ws) ≡ steps_of_wholes r ws
 unfolding steps_of_wholes
 own-wholes r [] = own_none r
-own-wholes r (w ∷ ws) = own-append r (region_steps_of_whole w) (region_steps_of_wholes ws) ∙ ap (λ l. l ++ steps_on r (region_steps_of_wholes ws)) (own-whole_group r w) ∙ ap (λ l. whole_steps r w.steps w.start w.end ++ l) (own-wholes r ws)
+own-wholes r (w ∷ ws) = own-append r (region_steps_of_whole w) (region_steps_of_wholes ws) ∙ ap (λ l. l ++ steps_on r (region_steps_of_wholes ws)) (own-whole_group r w) ∙ ap (λ l. whole_steps r w.steps w.first_seq w.last_seq ++ l) (own-wholes r ws)
 
 -- ---- one region
 

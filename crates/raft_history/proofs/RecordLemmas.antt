@@ -148,7 +148,7 @@ step_records q r o w (Compact i) e = omega (arith, ap recs (some_is e), from_sho
 step_records q r o w (Truncate i) e = omega (arith, ap recs (some_is e), below_shorter i (table_of r o).entries, of_table r o)
 step_records q r o w (Put key value file) e = omega (arith, ap recs (some_is e), len_insert (table_of r o).keys key (record { value = value; file = file }), of_table r o)
 step_records q r o w (Del key) e = omega (arith, ap recs (some_is e), len_remove (table_of r o).keys key, of_table r o)
-step_records q r o w (AtomicGroup start end) e = omega (arith, ap recs (some_is e), of_table r o)
+step_records q r o w (AtomicGroup first_seq last_seq) e = omega (arith, ap recs (some_is e), of_table r o)
 step_records q r o w Clean e = omega (arith, ap recs (some_is e))
 
 older_shorter : (q : LogQueue) (m : Mark) (es : List EntryIndex) → length (older_entries q m es) ≤ length es
@@ -188,7 +188,7 @@ read_records q rs new (i ∷ is) e = go (after_step q (table_of i.region (finite
     go None k e ih = absurd cc
     go (Some t) k e ih = omega (arith, ih (put t) e, with_records rs.tables i.region t, step_records q i.region (finite.get rs.tables i.region) t i.step k)
 
--- two neighbours, joined region by region
+-- two neighbors, joined region by region
 joined_records : (q : LogQueue) (mid : MarkedRegions) (marks : Marks) (tables : Tables) (new : MarkedRegions) → ((r : ℕ) → joined_marked q r (finite.get marks r) (finite.get tables r) (region_in mid r) ≡ Some (region_in new r)) → all_records new.tables ≤ all_records mid.tables + all_records tables
 joined_records q mid marks tables new h = total-both table_records new.tables mid.tables tables (λ r. at r (finite.get marks r) (h r))
   where
@@ -200,12 +200,12 @@ joined_records q mid marks tables new h = total-both table_records new.tables mi
         go None k e = absurd cc
         go (Some w) k e = omega (arith, join_records q r m (finite.get tables r) (finite.get mid.tables r) w k, ap (λ (x : MarkedRegion). recs x.table) (some_is e))
 
-spans-records : (rs : List ℕ) (start end : ℕ) → records_in (on_each rs (AtomicGroup start end)) ≡ 0
+spans-records : (rs : List ℕ) (first_seq last_seq : ℕ) → records_in (on_each rs (AtomicGroup first_seq last_seq)) ≡ 0
 spans-records [] s e = refl
 spans-records (r ∷ rs) s e = omega (arith, spans-records rs s e)
 
 pub whole_group-records : (w : WholeGroup) → records_in (region_steps_of_whole w) ≡ records_in w.steps
-whole_group-records w = omega (arith, records-append w.steps (on_each (named_regions w.steps) (AtomicGroup w.start w.end)), spans-records (named_regions w.steps) w.start w.end)
+whole_group-records w = omega (arith, records-append w.steps (on_each (named_regions w.steps) (AtomicGroup w.first_seq w.last_seq)), spans-records (named_regions w.steps) w.first_seq w.last_seq)
 
 pub wholes-records : (ws : List WholeGroup) → records_in (region_steps_of_wholes ws) ≡ records_in_wholes ws
 wholes-records [] = refl

@@ -41,7 +41,7 @@ step_good q (Compact i) h = tt
 step_good q (Truncate i) h = tt
 step_good q (Put key value file) h = tt
 step_good q (Del key) h = tt
-step_good q (AtomicGroup start end) h = tt
+step_good q (AtomicGroup first_seq last_seq) h = tt
 step_good q Clean h = tt
 
 are_good : (q : LogQueue) (steps : List RegionStep) → AreOf q steps → AllByRecursion (λ (s : RegionStep). IsStep s.step) steps

@@ -50,11 +50,11 @@ region_steps_of-moved k (p ∷ ps) = ap (λ l. p.batch.steps ++ l) (region_steps
 pub front_of-moved : (k : ℕ) (ps : List Numbered) → front_of (map (moved k) ps) ≡ front_of ps
 unfolding front_of
 front_of-moved k [] = refl
-front_of-moved k (p ∷ ps) = ap (front_behind p.batch.marker p.batch.steps p.batch.file) (front_of-moved k ps)
+front_of-moved k (p ∷ ps) = ap (front_behind p.batch.marker p.batch.steps p.batch.seq) (front_of-moved k ps)
 
 stretch_of-moved : (k : ℕ) (ps : List Numbered) → stretch_of (map (moved k) ps) ≡ stretch_of ps
 stretch_of-moved k [] = refl
-stretch_of-moved k (p ∷ ps) = ap (λ l. Some record { file = p.batch.file; steps = l }) (region_steps_of-moved k (p ∷ ps))
+stretch_of-moved k (p ∷ ps) = ap (λ l. Some record { first_seq = p.batch.seq; steps = l }) (region_steps_of-moved k (p ∷ ps))
 
 pub group_of-moved : (k g : ℕ) (ps : List Numbered) → group_of g (map (moved k) ps) ≡ group_of g ps
 group_of-moved k g ps = rw (markers_of-moved k g ps, front_of-moved k (markers_of g ps), open_stretch-moved k (markers_of g ps), stretch_of-moved k (open_stretch (markers_of g ps))) refl

@@ -46,17 +46,17 @@ items_good : (ps : List Numbered) → AllByRecursion IsGood ps → AreGood (regi
 items_good [] h = tt
 items_good (p ∷ ps) h = each-append (λ (i : RegionStep). IsStep i.step) p.batch.steps (region_steps_of ps) h.0 (items_good ps h.1)
 
-whole_good : (r : ℕ) (is : List RegionStep) (start end : ℕ) → AreGood is → AreSteps (steps_on r is ++ cond (names r is) (AtomicGroup start end ∷ []) [])
-whole_good r is start end h = steps-append (steps_on r is) (cond (names r is) (AtomicGroup start end ∷ []) []) (own_good r is h) (go (names r is))
+whole_good : (r : ℕ) (is : List RegionStep) (first_seq last_seq : ℕ) → AreGood is → AreSteps (steps_on r is ++ cond (names r is) (AtomicGroup first_seq last_seq ∷ []) [])
+whole_good r is first_seq last_seq h = steps-append (steps_on r is) (cond (names r is) (AtomicGroup first_seq last_seq ∷ []) []) (own_good r is h) (go (names r is))
   where
-    go : (b : Bool) → AreSteps (cond b (AtomicGroup start end ∷ []) [])
+    go : (b : Bool) → AreSteps (cond b (AtomicGroup first_seq last_seq ∷ []) [])
     go true = (tt, tt)
     go false = tt
 
 by_good : (r : ℕ) (l : List Numbered) (p : Numbered) → AllByRecursion IsGood l → IsGood p → AreSteps (steps_by r l p)
 unfolding whole_steps
 by_good r [] p h k = own_good r p.batch.steps k
-by_good r (q ∷ qs) p h k = whole_good r (region_steps_of (q ∷ qs) ++ p.batch.steps) q.batch.file p.batch.file (each-append (λ (i : RegionStep). IsStep i.step) (region_steps_of (q ∷ qs)) p.batch.steps (items_good (q ∷ qs) h) k)
+by_good r (q ∷ qs) p h k = whole_good r (region_steps_of (q ∷ qs) ++ p.batch.steps) q.batch.seq p.batch.seq (each-append (λ (i : RegionStep). IsStep i.step) (region_steps_of (q ∷ qs)) p.batch.steps (items_good (q ∷ qs) h) k)
 
 all-append : (r : ℕ) (es fs : List Effect) → AreSteps (all_steps r es) → AreSteps (all_steps r fs) → AreSteps (all_steps r (es ++ fs))
 all-append r es fs h k = subst AreSteps (sym (all_steps-append r es fs)) (steps-append (all_steps r es) (all_steps r fs) h k)

@@ -111,7 +111,7 @@ only_completed h before p behind is = go p.batch.marker refl
           begin = q;
           middles = qs;
           behind = markers_of g behind;
-          neighbours = ap (markers_of g) is ∙ marks_at g before p behind k ∙ ap (λ l. l ++ p ∷ markers_of g behind) o.split ∙ append_assoc o.before (q ∷ qs) (p ∷ markers_of g behind);
+          neighbors = ap (markers_of g) is ∙ marks_at g before p behind k ∙ ap (λ l. l ++ p ∷ markers_of g behind) o.split ∙ append_assoc o.before (q ∷ qs) (p ∷ markers_of g behind);
           begins = o.begin;
           goes_on = o.middles;
           ends = m;
@@ -193,7 +193,7 @@ unfolding markers_of
 every_stretch h g e s = completed_in h d.before e.last d.behind e d.split (ap (λ m. completed_by m d.before e.last) s.ends ∙ ap (λ l. completed_as End l e.last) (ap open_stretch d.kept ∙ is_open g s.before s.begin s.middles s.begins s.goes_on) ∙ ap (λ x. x ∷ []) (same_effect e (s.begin ∷ s.middles) s.earlier))
   where
     d : Parts (λ p. is_of g p.batch.marker) (numbered_from 0 h) (s.before ++ s.begin ∷ s.middles) e.last
-    d = parts_of (λ p. is_of g p.batch.marker) (numbered_from 0 h) (s.before ++ s.begin ∷ s.middles) e.last s.behind (s.neighbours ∙ sym (append_assoc s.before (s.begin ∷ s.middles) (e.last ∷ s.behind)))
+    d = parts_of (λ p. is_of g p.batch.marker) (numbered_from 0 h) (s.before ++ s.begin ∷ s.middles) e.last s.behind (s.neighbors ∙ sym (append_assoc s.before (s.begin ∷ s.middles) (e.last ∷ s.behind)))
 
 -- in order
 rise_lower : (n m : ℕ) (es : List Effect) → n ≤ m → RiseFrom m es → RiseFrom n es

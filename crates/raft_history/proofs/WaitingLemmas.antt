@@ -21,7 +21,7 @@ records-append (i ∷ is) js = omega (arith, records-append is js)
 abbrev pub weight : WaitingGroup → ℕ
 weight g = records_in (held_steps g)
 
--- one group of two neighbours
+-- one group of two neighbors
 pub joined_weight : (a b : WaitingGroup) → weight (joined_group a b) + records_or (whole_group a b) ≤ weight a + weight b
 joined_weight a b = go a.front b.front a.stretch b.stretch
   where

@@ -32,15 +32,15 @@ marker_in Rewrite items = option_map (λ m. record { group = m.0; status = m.1 }
 pub record BatchSteps : Type 0 where
   pub steps : List RegionStep
   pub marker : Option GroupMarker
-  pub file : ℕ
+  pub seq : ℕ
 
 -- a batch with a group marker
 abbrev pub batch_with_marker : List RegionStep → ℕ → AtomicGroupStatus → ℕ → BatchSteps
-batch_with_marker steps group status file = record { steps = steps; marker = Some (record { group = group; status = status }); file = file }
+batch_with_marker steps group status seq = record { steps = steps; marker = Some (record { group = group; status = status }); seq = seq }
 
 -- a batch by its steps, its group marker and the number of its file
 abbrev pub batch_of : Event → BatchSteps
-batch_of e = record { steps = steps_of_items e.items; marker = marker_in e.file.queue e.items; file = e.file.seq }
+batch_of e = record { steps = steps_of_items e.items; marker = marker_in e.file.queue e.items; seq = e.file.seq }
 
 -- what is read of each batch
 abbrev pub batches : List Event → List BatchSteps

@@ -1,4 +1,4 @@
--- Contexts: what is held of a history of batches, when it stands for that history, and how two neighbours are merged.
+-- Contexts: what is held of a history of batches, when it stands for that history, and how two neighbors are merged.
 use Rattle.std.specs.Prelude.{◌≡◌, ◌⊎◌, ℕ, ◌+◌, ◌≤◌, Bool, true, ◌||◌, List, [], ◌∷◌, ◌++◌, flat_map, Option, Some, None, is_some, option_map, nat_le, if◌then◌else◌}
 use Rattle.std.specs.Option.{option_and_then}
 use Rattle.std.specs.FinMap as finite
@@ -34,13 +34,13 @@ abbrev pub Suits : LogQueue → Option FileRange → Type 0
 Suits queue None = Unit {0}
 Suits queue (Some files) = files.queue ≡ queue
 
--- the files of two neighbours
+-- the files of two neighbors
 abbrev pub joined_files : Option FileRange → Option FileRange → Option FileRange
 joined_files None newer = newer
 joined_files (Some older) None = Some older
 joined_files (Some older) (Some newer) = Some (record { queue = older.queue; first = older.first; last = newer.last })
 
--- the newer neighbour's first file isn't below the older one's last
+-- the newer neighbor's first file isn't below the older one's last
 abbrev pub follows : Option FileRange → Option FileRange → Bool
 follows None newer = true
 follows (Some older) None = true
@@ -59,18 +59,18 @@ pub record Context : Type 0 where
 abbrev pub new_context : Context
 new_context = record { regions = no_regions; groups = finite.empty; cleaned = []; files = None }
 
--- the region mark of one region and table stand for its steps; the region mark has the keys that they delete, and in the append queue their greatest compaction, and the least of run starts and truncations
+-- the region mark and the table of one region stand for its steps; the region mark has the keys that these delete, and in the append queue their greatest compaction, and the least of their run starts and truncations
 pub record Holds (queue : LogQueue) (r : ℕ) (x : MarkedRegion) (ss : List Step) : Type 0 where
   pub stands : Stands queue r x.mark x.table ss
   pub deleted : HoldsDeleted x.mark ss
   pub exact : queue ≡ Append → IsExactMark x.mark ss
 
--- the region mark of every region and table stand for its steps in the effects, and the regions that those name, and no others, have a region mark
+-- the region mark and the table of every region stand for its steps in the effects, and the regions that the effects name, and no others, have a region mark
 pub record AreExact (queue : LogQueue) (rs : MarkedRegions) (bs : List BatchSteps) : Type 0 where
   pub each : (r : ℕ) → Holds queue r (region_in rs r) (steps_of r bs)
   pub marked : (r : ℕ) → is_some (finite.get rs.marks r) ≡ is_named r bs
 
--- the context stands for a history of this queue: that is sound, its cleaned regions are the context's, and in the append queue the regions are exact
+-- the context stands for a history of this queue: the history is sound, its cleaned regions are the context's, and in the append queue the regions are exact
 pub record StandsIn (queue : LogQueue) (c : Context) (h : List Event) : Type 0 where
   pub sound : IsSoundIn queue h
   pub cleaned : c.cleaned ≡ cleaned_in queue h
@@ -80,40 +80,40 @@ pub record StandsIn (queue : LogQueue) (c : Context) (h : List Event) : Type 0 w
 abbrev pub IsBounded : Context → ℕ → Type 0
 IsBounded c count = all_records c.regions.tables + waiting_records c.groups ≤ count
 
--- the context stands for the history: its files and its waiting groups are the history's, and it holds no more records than that names. (Without a batch both queues suit.)
+-- the context stands for the history: its files and its waiting groups are the history's, and it holds no more records than the history names. (Without a batch both queues suit.)
 pub record StandsFor (c : Context) (h : List Event) : Type 0 where
   pub files : c.files ≡ files_of h
   pub groups : c.groups ≡ groups_in (batches h)
   pub few : IsBounded c (records_in (flat_map (λ e. steps_of_items e.items) h))
   pub stands : (queue : LogQueue) → Suits queue c.files → StandsIn queue c h
 
--- the context stands for the history exactly: also in the rewrite queue the region mark of every region and table stand for its steps in the effects
+-- the context stands for the history exactly: in the rewrite queue too, the region mark and the table of every region stand for its steps in the effects
 pub record IsExactFor (c : Context) (h : List Event) : Type 0 where
   pub stands : StandsFor c h
   pub regions : (queue : LogQueue) → Suits queue c.files → AreExact queue c.regions (batches h)
 
 -- ---- a merge
 
--- the regions of two neighbours: first the groups that become whole between them are taken in, then the newer regions are joined; none where one is refused
+-- the regions of two neighbors: first the groups that become whole between them are taken in, then the newer regions are joined; none where one is refused
 abbrev pub merged_regions : LogQueue → Context → Context → Option MarkedRegions
 merged_regions queue c d = option_and_then (λ middle. joined_regions queue middle d.regions) (regions_after queue c.regions (region_steps_of_wholes (whole_groups c.groups d.groups)))
 
--- two neighbours with these regions
+-- two neighbors with these regions
 abbrev pub merged_with : Context → Context → MarkedRegions → Context
 merged_with c d rs = record { regions = rs; groups = joined_groups c.groups d.groups; cleaned = c.cleaned ++ d.cleaned; files = joined_files c.files d.files }
 
--- two neighbours of one queue, merged one region after another; none where the files or a region refuse. A law says that this is the merge of the regions each by itself, in no order
+-- two neighbors of one queue, merged one region after another; none where the newer files don't follow the older ones, or a region is refused. A law says that the regions may as well be merged each by itself, in any order
 abbrev pub merged_context : LogQueue → Context → Context → Option Context
 merged_context queue c d = if follows c.files d.files then option_map (merged_with c d) (merged_regions queue c d) else None
 
--- the merged regions, each by itself, in no order: what a context that merges holds to
+-- the regions of two neighbors are merged, each by itself, in no order: what a context that merges keeps to
 pub record AreMerged (queue : LogQueue) (c d : Context) (new : MarkedRegions) : Type 0 where
   pub middle : MarkedRegions
   pub wholes : regions_after queue c.regions (region_steps_of_wholes (whole_groups c.groups d.groups)) ≡ Some middle
   pub regions : (r : ℕ) → joined_marked queue r (finite.get d.regions.marks r) (finite.get d.regions.tables r) (region_in middle r) ≡ Some (region_in new r)
   pub marked : (r : ℕ) → is_some (finite.get new.marks r) ≡ (is_some (finite.get middle.marks r) || is_some (finite.get d.regions.marks r))
 
--- a step of a group that becomes whole is refused, or a region's join
+-- a step of a group that becomes whole is refused, or a region's join is
 abbrev pub AreRegionsRefused : LogQueue → Context → Context → Type 0
 AreRegionsRefused queue c d =
     (regions_after queue c.regions (region_steps_of_wholes (whole_groups c.groups d.groups)) ≡ None)
@@ -129,7 +129,7 @@ region_steps_or (Some w) = region_steps_of_whole w
 -- the steps that take effect with a batch: its own where it has no group marker, else those of the group that it makes whole
 abbrev pub completed_steps : WaitingGroups → BatchSteps → Option GroupMarker → List RegionStep
 completed_steps groups b None = b.steps
-completed_steps groups b (Some m) = region_steps_or (whole_group (known groups m.group) (one_marker m.status b.steps b.file))
+completed_steps groups b (Some m) = region_steps_or (whole_group (known groups m.group) (one_marker m.status b.steps b.seq))
 
 -- a context with one more batch and these regions
 abbrev pub taken_with : Context → Event → MarkedRegions → Context

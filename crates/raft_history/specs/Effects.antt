@@ -80,16 +80,16 @@ effects h = effects_behind [] (numbered_from 0 h)
 abbrev pub region_steps_in : Effect → List RegionStep
 region_steps_in e = flat_map (λ p. p.batch.steps) e.earlier ++ e.last.batch.steps
 
--- the steps on a region of a whole group: of its steps those on the region, and if there are any, the files of its Begin and End
+-- the steps on a region of a whole group: of its steps those on the region, and, if there are any, the numbers of the files of its Begin and its End
 unfoldable pub whole_steps : ℕ → List RegionStep → ℕ → ℕ → List Step
-whole_steps r steps start end =
-    steps_on r steps ++ (if names r steps then AtomicGroup start end ∷ [] else [])
+whole_steps r steps first_seq last_seq =
+    steps_on r steps ++ (if names r steps then AtomicGroup first_seq last_seq ∷ [] else [])
 
 -- the steps on a region of an effect with these batches before its last: of one batch its own, of a group those of the whole group
 abbrev pub steps_by : ℕ → List Numbered → Numbered → List Step
 steps_by r [] last = steps_on r last.batch.steps
 steps_by r (q ∷ qs) last =
-    whole_steps r (flat_map (λ p. p.batch.steps) (q ∷ qs) ++ last.batch.steps) q.batch.file last.batch.file
+    whole_steps r (flat_map (λ p. p.batch.steps) (q ∷ qs) ++ last.batch.steps) q.batch.seq last.batch.seq
 
 -- the steps on a region of a history: those in its effects, in order
 abbrev pub steps_of : ℕ → List BatchSteps → List Step

@@ -61,12 +61,12 @@ HaveStatus Append items = Unit {0}
 HaveStatus Rewrite items =
     AllByRecursion (λ item. (byte : ℕ) → marker_byte item.content ≡ Some byte → byte ≤ 2) items
 
--- the files are of one queue, and their numbers never go down from this one
+-- the files are of this queue; their numbers begin at this one or above it, and never go down
 abbrev pub FilesFrom : LogQueue → ℕ → List Event → Type 0
 FilesFrom queue seq [] = Unit {0}
 FilesFrom queue seq (e ∷ h) = (e.file.queue ≡ queue) × (seq ≤ e.file.seq) × FilesFrom queue e.file.seq h
 
--- the number of the last file, or this one
+-- the number of the last file, or this one where there is no file
 abbrev pub last_from : ℕ → List Event → ℕ
 last_from seq [] = seq
 last_from seq (e ∷ h) = last_from e.file.seq h

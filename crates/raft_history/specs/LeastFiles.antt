@@ -10,13 +10,13 @@ use Rattle.raft_table.specs.Table.{Table}
 use Rattle.raft_table.specs.TableEntries.{placed_in}
 
 -- the numbers of the files of a table's entries and pairs in a queue
-abbrev pub record_files : LogQueue → Table → List ℕ
-record_files queue t = filter_map (λ e. block_seq e.entries) (placed_in queue t.entries) ++ files_in queue t.keys
+abbrev pub record_seqs : LogQueue → Table → List ℕ
+record_seqs queue t = filter_map (λ e. block_seq e.entries) (placed_in queue t.entries) ++ files_in queue t.keys
 
 -- the least file in each queue is the least of all records' files there, lowered by the atomic group alone
 pub record AreLeastFiles (t : Table) : Type 0 where
-  pub append : least_of Append t ≡ least (record_files Append t)
-  pub rewrite : least_of Rewrite t ≡ at_most_first_file t.atomic_group (least (record_files Rewrite t))
+  pub append : least_of Append t ≡ least (record_seqs Append t)
+  pub rewrite : least_of Rewrite t ≡ at_most_first_file t.atomic_group (least (record_seqs Rewrite t))
 
 -- a least number, if there is one, is at or below this one
 abbrev pub IsAtOrBelow : Option ℕ → ℕ → Type 0
@@ -25,4 +25,4 @@ IsAtOrBelow (Some low) n = low ≤ n
 
 -- none of a table's records in a queue is in a file below its least one there
 abbrev pub HasNoneBelow : LogQueue → Table → Type 0
-HasNoneBelow queue t = AllByRecursion (IsAtOrBelow (least_of queue t)) (record_files queue t)
+HasNoneBelow queue t = AllByRecursion (IsAtOrBelow (least_of queue t)) (record_seqs queue t)

@@ -1,4 +1,4 @@
--- The region marks and tables of all regions: steps taken in one after another, and two neighbours joined.
+-- The region marks and tables of all regions: steps taken in one after another, and two neighbors joined.
 use Rattle.std.specs.Prelude.{ℕ, List, [], ◌∷◌, ◌++◌, map, flat_map, Option, Some, None, option_map, if◌then◌else◌}
 use Rattle.std.specs.Option.{unwrap_or, option_and_then}
 use Rattle.std.specs.Ordering.{nat_cmp}
@@ -29,11 +29,11 @@ pub record MarkedRegion : Type 0 where
 abbrev pub no_regions : MarkedRegions
 no_regions = record { tables = finite.empty; marks = finite.empty }
 
--- the region mark of a region and table; where it isn't named, the region mark of no step and no table
+-- the region mark and the table of a region; where it isn't named, the region mark of no step and no table
 abbrev pub region_in : MarkedRegions → ℕ → MarkedRegion
 region_in rs r = record { mark = unwrap_or (finite.get rs.marks r) fresh; table = finite.get rs.tables r }
 
--- the region mark of one region and table put in the place of its old ones
+-- the region mark and the table of one region put in the place of its old ones
 abbrev pub with_region : MarkedRegions → ℕ → MarkedRegion → MarkedRegions
 with_region rs r x = record { tables = with_table rs.tables r x.table; marks = finite.insert rs.marks r x.mark }
 
@@ -58,30 +58,30 @@ named_regions (s ∷ steps) = if names s.region steps then named_regions steps e
 abbrev pub on_each : List ℕ → Step → List RegionStep
 on_each regions s = map (λ r. record { region = r; step = s }) regions
 
--- the steps of a group that is whole: its own, and its files for each region that they name
+-- the steps of a group that is whole: its own, and the numbers of its files for each region that they name
 abbrev pub region_steps_of_whole : WholeGroup → List RegionStep
-region_steps_of_whole w = w.steps ++ on_each (named_regions w.steps) (AtomicGroup w.start w.end)
+region_steps_of_whole w = w.steps ++ on_each (named_regions w.steps) (AtomicGroup w.first_seq w.last_seq)
 
 -- the steps of groups that are whole, one group after another
 abbrev pub region_steps_of_wholes : List WholeGroup → List RegionStep
 region_steps_of_wholes ws = flat_map region_steps_of_whole ws
 
--- ---- neighbours joined
+-- ---- neighbors joined
 
--- one region of an older and a newer neighbour; none where the newer one's steps are refused
+-- one region of an older and a newer neighbor; none where the newer one's steps are refused
 abbrev pub joined_region : LogQueue → ℕ → MarkedRegion → MarkedRegion → Option MarkedRegion
 joined_region queue r older newer = option_map (λ t. record { mark = joined_mark queue r older.mark older.table newer.mark; table = t }) (table_over_older queue r newer.mark newer.table older.table)
 
--- one region, which is as it was where the newer neighbour has no region mark of it
+-- one region, which is as it was where the newer neighbor has no region mark of it
 abbrev pub joined_marked : LogQueue → ℕ → Option Mark → Option Table → MarkedRegion → Option MarkedRegion
 joined_marked queue r None t older = Some older
 joined_marked queue r (Some m) t older = joined_region queue r older (record { mark = m; table = t })
 
--- the regions that the newer neighbour has a region mark of, one after another, with its tables
+-- the regions of which the newer neighbor has a region mark, one after another, with its tables
 abbrev pub joined_each : LogQueue → Tables → MarkedRegions → List (ℕ × Mark) → Option MarkedRegions
 joined_each queue newer rs [] = Some rs
 joined_each queue newer rs (e ∷ es) = option_and_then (λ x. joined_each queue newer (with_region rs e.0 x) es) (joined_region queue e.0 (region_in rs e.0) (record { mark = e.1; table = finite.get newer e.0 }))
 
--- all regions of an older and a newer neighbour; none where one is refused
+-- all regions of an older and a newer neighbor; none where one is refused
 abbrev pub joined_regions : LogQueue → MarkedRegions → MarkedRegions → Option MarkedRegions
 joined_regions queue older newer = joined_each queue newer.tables older (finite.entries newer.marks)

@@ -8,12 +8,12 @@ use Rattle.raft_history.specs.RegionSteps.{Tables}
 use Rattle.raft_history.specs.WaitingGroup.{WaitingGroup, WholeGroup}
 use Rattle.raft_history.specs.WaitingGroups.{WaitingGroups, held_steps}
 
--- a number of each value of some entries, together
+-- a number of each value of some entries, added up
 abbrev pub total_of : {X : Type 0} → (X → ℕ) → List (ℕ × X) → ℕ
 total_of f [] = 0
 total_of f (e ∷ es) = f e.1 + total_of f es
 
--- a number of each value of a map, together
+-- a number of each value of a map, added up
 unfoldable pub total : {X : Type 0} → (X → ℕ) → finite.FinMap nat_cmp X → ℕ
 total f m = total_of f (finite.entries m)
 
@@ -34,7 +34,7 @@ abbrev pub records_or : Option WholeGroup → ℕ
 records_or None = 0
 records_or (Some w) = records_in w.steps
 
--- the entries and key values that groups name which are whole
+-- the entries and key values that whole groups name, together
 abbrev pub records_in_wholes : List WholeGroup → ℕ
 records_in_wholes [] = 0
 records_in_wholes (w ∷ ws) = records_in w.steps + records_in_wholes ws

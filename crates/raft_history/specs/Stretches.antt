@@ -16,13 +16,13 @@ pub record IsIn {X : Type 0} (x : X) (xs : List X) : Type 0 where
 abbrev pub IsMarkerOf : ℕ → AtomicGroupStatus → Numbered → Type 0
 IsMarkerOf g s p = p.batch.marker ≡ Some record { group = g; status = s }
 
--- among the group markers of the group, neighbours: a Begin, Middles, and an End
+-- among the group markers of the group, neighbors: a Begin, Middles, and an End
 pub record IsStretch (h : List BatchSteps) (g : ℕ) (e : Effect) : Type 0 where
   pub before : List Numbered
   pub begin : Numbered
   pub middles : List Numbered
   pub behind : List Numbered
-  pub neighbours : markers_of g (numbered_from 0 h) ≡ before ++ begin ∷ (middles ++ e.last ∷ behind)
+  pub neighbors : markers_of g (numbered_from 0 h) ≡ before ++ begin ∷ (middles ++ e.last ∷ behind)
   pub begins : IsMarkerOf g Begin begin
   pub goes_on : AllByRecursion (IsMarkerOf g Middle) middles
   pub ends : IsMarkerOf g End e.last

@@ -6,7 +6,7 @@ use Rattle.raft_history.specs.Batches.{GroupMarker, BatchSteps}
 use Rattle.raft_history.specs.Effects.{Numbered, numbered_from, markers_of, open_stretch}
 use Rattle.raft_history.specs.RegionSteps.{RegionStep}
 
--- what stands before a group's first Begin, up to the first End: open with the steps so far where neither came yet, ended with the steps up to an End that came first and its file, or cut where a Begin came first, before which nothing stands. (Of group markers of a group, each batch has one.)
+-- what stands before a group's first Begin, up to the first End: open, with the steps so far, where neither has come yet; ended, with the steps up to an End that came first, and the number of its file; or cut, where a Begin came first, so that no effect has what stands before it. (Each batch of a group has a group marker.)
 pub data GroupFront : Type 0 where
   Open : List RegionStep → GroupFront
   Ended : List RegionStep → ℕ → GroupFront
@@ -15,34 +15,34 @@ pub data GroupFront : Type 0 where
 -- a front with steps before it
 abbrev pub led_by : List RegionStep → GroupFront → GroupFront
 led_by is (Open js) = Open (is ++ js)
-led_by is (Ended js f) = Ended (is ++ js) f
+led_by is (Ended js seq) = Ended (is ++ js) seq
 led_by is Cut = Cut
 
--- a front with one more group marker before it, which has this status, these steps and this file
+-- a front with one more group marker before it, of this status, these steps and a file of this number
 abbrev pub front_by : AtomicGroupStatus → List RegionStep → ℕ → GroupFront → GroupFront
-front_by Begin is f rest = Cut
-front_by Middle is f rest = led_by is rest
-front_by End is f rest = Ended is f
+front_by Begin is seq rest = Cut
+front_by Middle is seq rest = led_by is rest
+front_by End is seq rest = Ended is seq
 
 -- a front with one more batch before it, by the batch's group marker
 abbrev pub front_behind : Option GroupMarker → List RegionStep → ℕ → GroupFront → GroupFront
-front_behind None is f rest = Cut
-front_behind (Some m) is f rest = front_by m.status is f rest
+front_behind None is seq rest = Cut
+front_behind (Some m) is seq rest = front_by m.status is seq rest
 
 -- the front of a group, by its group markers in order
 unfoldable pub front_of : List Numbered → GroupFront
 front_of [] = Open []
-front_of (p ∷ ps) = front_behind p.batch.marker p.batch.steps p.batch.file (front_of ps)
+front_of (p ∷ ps) = front_behind p.batch.marker p.batch.steps p.batch.seq (front_of ps)
 
--- an open stretch: the file of its Begin, and its steps
+-- an open stretch: the number of the file of its Begin, and its steps
 pub record OpenStretch : Type 0 where
-  pub file : ℕ
+  pub first_seq : ℕ
   pub steps : List RegionStep
 
 -- the open stretch of these batches, if there are any
 abbrev pub stretch_of : List Numbered → Option OpenStretch
 stretch_of [] = None
-stretch_of (p ∷ ps) = Some record { file = p.batch.file; steps = flat_map (λ x. x.batch.steps) (p ∷ ps) }
+stretch_of (p ∷ ps) = Some record { first_seq = p.batch.seq; steps = flat_map (λ x. x.batch.steps) (p ∷ ps) }
 
 -- what a context holds of a group
 pub record WaitingGroup : Type 0 where
@@ -61,16 +61,16 @@ group_of g ps = group_at (markers_of g ps)
 abbrev pub group_in : ℕ → List BatchSteps → WaitingGroup
 group_in g h = group_of g (numbered_from 0 h)
 
--- a group that is whole: its steps, and the files of its Begin and End
+-- a group that is whole: its steps, and the numbers of the files of its Begin and its End
 pub record WholeGroup : Type 0 where
   pub steps : List RegionStep
-  pub start : ℕ
-  pub end : ℕ
+  pub first_seq : ℕ
+  pub last_seq : ℕ
 
 -- an older open stretch, if there is one, with the steps that go on with it in a newer history
 abbrev pub carried_stretch : Option OpenStretch → List RegionStep → Option OpenStretch
 carried_stretch None is = None
-carried_stretch (Some s) is = Some record { file = s.file; steps = s.steps ++ is }
+carried_stretch (Some s) is = Some record { first_seq = s.first_seq; steps = s.steps ++ is }
 
 -- what is known of a group from an older and a newer history, by the front that it has in each
 abbrev pub joined_group_by : GroupFront → GroupFront → WaitingGroup → WaitingGroup → WaitingGroup
@@ -86,7 +86,7 @@ joined_group older newer = joined_group_by older.front newer.front older newer
 abbrev pub whole_of : Option OpenStretch → GroupFront → Option WholeGroup
 whole_of None front = None
 whole_of (Some s) (Open is) = None
-whole_of (Some s) (Ended is f) = Some record { steps = s.steps ++ is; start = s.file; end = f }
+whole_of (Some s) (Ended is seq) = Some record { steps = s.steps ++ is; first_seq = s.first_seq; last_seq = seq }
 whole_of (Some s) Cut = None
 
 -- the same, by the older history's front too: where that is open, the group has no open stretch there
@@ -102,8 +102,8 @@ whole_group older newer = whole_group_by older.front older.stretch newer.front
 abbrev pub without_marker : WaitingGroup
 without_marker = record { front = Open []; stretch = None }
 
--- what is known of a group with one group marker of this status, in a batch of these steps in this file
+-- what is known of a group with one group marker of this status, in a batch of these steps in a file of this number
 abbrev pub one_marker : AtomicGroupStatus → List RegionStep → ℕ → WaitingGroup
-one_marker Begin is f = record { front = Cut; stretch = Some record { file = f; steps = is } }
-one_marker Middle is f = record { front = Open is; stretch = None }
-one_marker End is f = record { front = Ended is f; stretch = None }
+one_marker Begin is seq = record { front = Cut; stretch = Some record { first_seq = seq; steps = is } }
+one_marker Middle is seq = record { front = Open is; stretch = None }
+one_marker End is seq = record { front = Ended is seq; stretch = None }

@@ -48,22 +48,22 @@ whole_groups older newer = whole_with older (finite.entries newer)
 -- the groups with one more batch, by its group marker
 abbrev pub groups_after : WaitingGroups → BatchSteps → Option GroupMarker → WaitingGroups
 groups_after groups b None = groups
-groups_after groups b (Some m) = finite.insert groups m.group (joined_group (known groups m.group) (one_marker m.status b.steps b.file))
+groups_after groups b (Some m) = finite.insert groups m.group (joined_group (known groups m.group) (one_marker m.status b.steps b.seq))
 
 -- the steps on a region of a group that may be whole
 abbrev pub steps_or : ℕ → Option WholeGroup → List Step
 steps_or r None = []
-steps_or r (Some w) = whole_steps r w.steps w.start w.end
+steps_or r (Some w) = whole_steps r w.steps w.first_seq w.last_seq
 
 -- the steps on a region that take effect with a batch: its own where it has no group marker, else those of the group that it makes whole
 abbrev pub steps_by_batch : ℕ → WaitingGroups → BatchSteps → Option GroupMarker → List Step
 steps_by_batch r groups b None = steps_on r b.steps
-steps_by_batch r groups b (Some m) = steps_or r (whole_group (known groups m.group) (one_marker m.status b.steps b.file))
+steps_by_batch r groups b (Some m) = steps_or r (whole_group (known groups m.group) (one_marker m.status b.steps b.seq))
 
 -- the steps that wait in a front
 abbrev pub front_steps : GroupFront → List RegionStep
 front_steps (Open is) = is
-front_steps (Ended is f) = is
+front_steps (Ended is seq) = is
 front_steps Cut = []
 
 -- the steps of an open stretch, if there is one
@@ -87,7 +87,7 @@ names_by r (Some w) = names r w.steps
 -- whether what takes effect with a batch names the region
 abbrev pub names_by_batch : ℕ → WaitingGroups → BatchSteps → Option GroupMarker → Bool
 names_by_batch r groups b None = names r b.steps
-names_by_batch r groups b (Some m) = names_by r (whole_group (known groups m.group) (one_marker m.status b.steps b.file))
+names_by_batch r groups b (Some m) = names_by r (whole_group (known groups m.group) (one_marker m.status b.steps b.seq))
 
 -- ---- by a list of groups
 
@@ -97,7 +97,7 @@ wholes ids older newer = filter_map (λ g. whole_group (group_in g older) (group
 
 -- the steps on a region of groups that are whole, in order
 unfoldable pub steps_of_wholes : ℕ → List WholeGroup → List Step
-steps_of_wholes r ws = flat_map (λ w. whole_steps r w.steps w.start w.end) ws
+steps_of_wholes r ws = flat_map (λ w. whole_steps r w.steps w.first_seq w.last_seq) ws
 
 -- the list has the group of each group marker
 abbrev pub IsListed : List ℕ → Option GroupMarker → Type 0

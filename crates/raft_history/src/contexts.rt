@@ -23,49 +23,56 @@ pub fn new_contexts_stand_exactly()
 /// exactly if it did before. The batch is refused only where no sound history goes on with it.
 pub fn batches_are_taken_in()
     ensures stands { (c d : Context) (h : List Event) (e : Event) → Suits e.file.queue c.files
-        → follows c.files (files_of (e ∷ [])) ≡ true → AreInFile e.file e.items → HaveStatus e.file.queue e.items
-        → StandsFor c h → taken_in c e ≡ Some d → StandsFor d (h ++ e ∷ []) }
+        → follows c.files (files_of (e ∷ [])) ≡ true → AreInFile e.file e.items
+        → HaveStatus e.file.queue e.items → StandsFor c h → taken_in c e ≡ Some d
+        → StandsFor d (h ++ e ∷ []) }
     ensures exact { (c d : Context) (h : List Event) (e : Event) → Suits e.file.queue c.files
-        → follows c.files (files_of (e ∷ [])) ≡ true → AreInFile e.file e.items → HaveStatus e.file.queue e.items
-        → IsExactFor c h → taken_in c e ≡ Some d → IsExactFor d (h ++ e ∷ []) }
+        → follows c.files (files_of (e ∷ [])) ≡ true → AreInFile e.file e.items
+        → HaveStatus e.file.queue e.items → IsExactFor c h → taken_in c e ≡ Some d
+        → IsExactFor d (h ++ e ∷ []) }
     ensures refused { (c : Context) (h : List Event) (e : Event) → Suits e.file.queue c.files
-        → follows c.files (files_of (e ∷ [])) ≡ true → AreInFile e.file e.items → HaveStatus e.file.queue e.items
-        → StandsFor c h → taken_in c e ≡ None → Sound (h ++ e ∷ []) → ⊥ }
+        → follows c.files (files_of (e ∷ [])) ≡ true → AreInFile e.file e.items
+        → HaveStatus e.file.queue e.items → StandsFor c h → taken_in c e ≡ None
+        → Sound (h ++ e ∷ []) → ⊥ }
     ensures next { (c : Context) (h : List Event) (e : Event) → StandsFor c h → Sound (h ++ e ∷ [])
-        → Suits e.file.queue c.files × (follows c.files (files_of (e ∷ [])) ≡ true) × AreInFile e.file e.items
-        × HaveStatus e.file.queue e.items }
+        → Suits e.file.queue c.files × (follows c.files (files_of (e ∷ [])) ≡ true)
+        × AreInFile e.file e.items × HaveStatus e.file.queue e.items }
 {}
 
-/// Contexts of two neighbouring histories, merged, stand for both, one behind the other; exactly, if
+/// Contexts of two neighboring histories, merged, stand for both, one behind the other; exactly, if
 /// both did and the effects of that history are apart. They are refused only where it isn't sound,
 /// in the rewrite queue by its files alone.
 pub fn merges_stand_for_both()
-    ensures stands { (q : LogQueue) (c d e : Context) (h k : List Event) → Suits q c.files →
-        Suits q d.files
-        → StandsFor c h → StandsFor d k → merged_context q c d ≡ Some e → StandsFor e (h ++ k) }
-    ensures exact { (q : LogQueue) (c d e : Context) (h k : List Event) → Suits q c.files →
-        Suits q d.files
-        → IsExactFor c h → IsExactFor d k → Apart (h ++ k) → merged_context q c d ≡ Some e → IsExactFor e (h ++ k) }
-    ensures refused { (q : LogQueue) (c d : Context) (h k : List Event) → Suits q c.files →
-        Suits q d.files → StandsFor c h → StandsFor d k → merged_context q c d ≡ None → Sound (h ++ k) → ⊥ }
-    ensures rewrite { (c d : Context) → follows c.files d.files ≡ true →
-        merged_context Rewrite c d ≡ None → ⊥ }
+    ensures stands { (q : LogQueue) (c d e : Context) (h k : List Event) → Suits q c.files
+        → Suits q d.files → StandsFor c h → StandsFor d k → merged_context q c d ≡ Some e
+        → StandsFor e (h ++ k) }
+    ensures exact { (q : LogQueue) (c d e : Context) (h k : List Event) → Suits q c.files
+        → Suits q d.files → IsExactFor c h → IsExactFor d k → Apart (h ++ k)
+        → merged_context q c d ≡ Some e → IsExactFor e (h ++ k) }
+    ensures refused { (q : LogQueue) (c d : Context) (h k : List Event) → Suits q c.files
+        → Suits q d.files → StandsFor c h → StandsFor d k → merged_context q c d ≡ None
+        → Sound (h ++ k) → ⊥ }
+    ensures rewrite { (c d : Context) → follows c.files d.files ≡ true
+        → merged_context Rewrite c d ≡ None → ⊥ }
 {}
 
 /// The same, said of the merged regions one by one, in no order: they may be joined into the older
 /// context or the newer one.
 pub fn regions_merge_one_by_one()
-    ensures stands { (q : LogQueue) (c d : Context) (h k : List Event) (regions : MarkedRegions) →
-        Suits q c.files → Suits q d.files → StandsFor c h → StandsFor d k
-        → follows c.files d.files ≡ true → AreMerged q c d regions → StandsFor (merged_with c d regions) (h ++ k) }
-    ensures exact { (q : LogQueue) (c d : Context) (h k : List Event) (regions : MarkedRegions) →
-        Suits q c.files → Suits q d.files → IsExactFor c h → IsExactFor d k → Apart (h ++ k)
-        → follows c.files d.files ≡ true → AreMerged q c d regions → IsExactFor (merged_with c d regions) (h ++ k) }
-    ensures refused { (q : LogQueue) (c d : Context) (h k : List Event) → Suits q c.files →
-        Suits q d.files → StandsFor c h → StandsFor d k → AreRegionsRefused q c d → Sound (h ++ k) → ⊥ }
-    ensures files { (q : LogQueue) (c d : Context) (h k : List Event) → Suits q c.files →
-        Suits q d.files
-        → StandsFor c h → StandsFor d k → follows c.files d.files ≡ false → Sound (h ++ k) → ⊥ }
+    ensures stands { (q : LogQueue) (c d : Context) (h k : List Event) (regions : MarkedRegions)
+        → Suits q c.files → Suits q d.files → StandsFor c h → StandsFor d k
+        → follows c.files d.files ≡ true → AreMerged q c d regions
+        → StandsFor (merged_with c d regions) (h ++ k) }
+    ensures exact { (q : LogQueue) (c d : Context) (h k : List Event) (regions : MarkedRegions)
+        → Suits q c.files → Suits q d.files → IsExactFor c h → IsExactFor d k → Apart (h ++ k)
+        → follows c.files d.files ≡ true → AreMerged q c d regions
+        → IsExactFor (merged_with c d regions) (h ++ k) }
+    ensures refused { (q : LogQueue) (c d : Context) (h k : List Event) → Suits q c.files
+        → Suits q d.files → StandsFor c h → StandsFor d k → AreRegionsRefused q c d → Sound (h ++ k)
+        → ⊥ }
+    ensures files { (q : LogQueue) (c d : Context) (h k : List Event) → Suits q c.files
+        → Suits q d.files → StandsFor c h → StandsFor d k → follows c.files d.files ≡ false
+        → Sound (h ++ k) → ⊥ }
     ensures rewrite { (c d : Context) → AreRegionsRefused Rewrite c d → ⊥ }
 {}
 
@@ -73,7 +80,8 @@ pub fn regions_merge_one_by_one()
 /// that is: so what is said of either holds of both.
 pub fn merges_go_region_by_region()
     ensures same { (q : LogQueue) (c d e : Context) → (merged_context q c d ≡ Some e)
-        ↔ ((follows c.files d.files ≡ true) × AreMerged q c d e.regions × (e ≡ merged_with c d e.regions)) }
+        ↔ ((follows c.files d.files ≡ true) × AreMerged q c d e.regions
+        × (e ≡ merged_with c d e.regions)) }
     ensures refused { (q : LogQueue) (c d : Context) → (merged_context q c d ≡ None)
         ↔ ((follows c.files d.files ≡ false) ⊎ AreRegionsRefused q c d) }
 {}
@@ -86,9 +94,9 @@ pub fn exact_contexts_are_one_reading()
 
 /// An exact context holds at most what its history may hold, number by number.
 pub fn exact_contexts_keep_little()
-    ensures { (q : LogQueue) (c : Context) (h : List Event) (tables : Tables) (cleaned : List ℕ) →
-        IsExactFor c h
-        → Suits q c.files → IsOneReading q h tables cleaned → IsAtMost (kept_of c) (kept_by q h tables) }
+    ensures { (q : LogQueue) (c : Context) (h : List Event) (tables : Tables) (cleaned : List ℕ)
+        → IsExactFor c h → Suits q c.files → IsOneReading q h tables cleaned
+        → IsAtMost (kept_of c) (kept_by q h tables) }
 {}
 
 /// Contexts that are exact for one history hold the same: so merges of exact contexts are associative
@@ -99,7 +107,7 @@ pub fn exact_contexts_agree()
         × (c.files ≡ d.files) }
 {}
 
-/// What waits after two neighbours were joined, and what became whole between them, is no more than
+/// What waits after two neighbors were joined, and what became whole between them, is no more than
 /// waited in both.
 pub fn waiting_records_stay_few()
     ensures { (older newer : WaitingGroups)

@@ -16,11 +16,11 @@ pub fn effects_are_stretches()
     ensures alone { (h : List BatchSteps) (es : List Effect) → AreEffects h es → es ≡ effects h }
 {}
 
-/// What is known of the groups of two neighbouring histories tells what is known of both, one
+/// What is known of the groups of two neighboring histories tells what is known of both, one
 /// behind the other.
 pub fn groups_join()
-    ensures joined { (h k : List BatchSteps) →
-        groups_in (h ++ k) ≡ joined_groups (groups_in h) (groups_in k) }
+    ensures joined { (h k : List BatchSteps)
+        → groups_in (h ++ k) ≡ joined_groups (groups_in h) (groups_in k) }
     ensures more { (h : List BatchSteps) (b : BatchSteps)
         → groups_in (h ++ b ∷ []) ≡ groups_after (groups_in h) b b.marker }
     ensures each { (g : ℕ) (h : List BatchSteps) → known (groups_in h) g ≡ group_in g h }
@@ -29,9 +29,10 @@ pub fn groups_join()
 /// The steps on a region of two histories, one behind the other: those of the older, of the groups
 /// that become whole between them, and of the newer.
 pub fn steps_join()
-    ensures across { (r : ℕ) (h k : List BatchSteps) → EachApart (effects (h ++ k)) →
-        steps_of r (h ++ k)
-        ≡ steps_of r h ++ (steps_of_wholes r (whole_groups (groups_in h) (groups_in k)) ++ steps_of r k) }
+    ensures across { (r : ℕ) (h k : List BatchSteps) → EachApart (effects (h ++ k))
+        → steps_of r (h ++ k)
+        ≡ steps_of r h
+        ++ (steps_of_wholes r (whole_groups (groups_in h) (groups_in k)) ++ steps_of r k) }
     ensures more { (r : ℕ) (h : List BatchSteps) (b : BatchSteps)
         → steps_of r (h ++ b ∷ []) ≡ steps_of r h ++ steps_by_batch r (groups_in h) b b.marker }
 {}
@@ -39,17 +40,17 @@ pub fn steps_join()
 /// Groups that become whole between two histories name different regions, where the effects of both,
 /// one behind the other, are apart.
 pub fn wholes_name_different_regions()
-    ensures { (h k : List BatchSteps) → EachApart (effects (h ++ k)) → (g l : ℕ) → g ≢ l →
-        (w v : WholeGroup)
-        → whole_group (group_in g h) (group_in g k) ≡ Some w → whole_group (group_in l h) (group_in l k) ≡ Some v
-        → (r : ℕ) → names r w.steps ≡ true → names r v.steps ≡ true → ⊥ }
+    ensures { (h k : List BatchSteps) → EachApart (effects (h ++ k)) → (g l : ℕ) → g ≢ l
+        → (w v : WholeGroup) → whole_group (group_in g h) (group_in g k) ≡ Some w
+        → whole_group (group_in l h) (group_in l k) ≡ Some v → (r : ℕ) → names r w.steps ≡ true
+        → names r v.steps ≡ true → ⊥ }
 {}
 
 /// Where no batch has a group marker, as in the append queue, each batch is an effect, and the effects are
 /// apart.
 pub fn batches_without_markers_are_effects()
-    ensures apart { (h : List BatchSteps) → AllByRecursion (λ b. b.marker ≡ None) h →
-        EachApart (effects h) }
+    ensures apart { (h : List BatchSteps) → AllByRecursion (λ b. b.marker ≡ None) h
+        → EachApart (effects h) }
     ensures steps { (r : ℕ) (h : List BatchSteps) → AllByRecursion (λ b. b.marker ≡ None) h
         → steps_of r h ≡ flat_map (λ b. steps_on r b.steps) h }
 {}
@@ -62,7 +63,8 @@ pub fn named_regions_have_steps()
     ensures across { (r : ℕ) (h k : List BatchSteps) → EachApart (effects (h ++ k))
         → is_named r (h ++ k)
         ≡ (is_named r h
-        || (list_any (λ w. names r w.steps) (whole_groups (groups_in h) (groups_in k)) || is_named r k)) }
+        || (list_any (λ w. names r w.steps) (whole_groups (groups_in h) (groups_in k))
+        || is_named r k)) }
     ensures more { (r : ℕ) (h : List BatchSteps) (b : BatchSteps)
         → is_named r (h ++ b ∷ []) ≡ (is_named r h || names_by_batch r (groups_in h) b b.marker) }
 {}

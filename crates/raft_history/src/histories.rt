@@ -17,7 +17,7 @@ ghost use Rattle.raft_history.specs.LeastFiles.{AreLeastFiles, HasNoneBelow};
 ghost use Rattle.raft_history.specs.Histories.{IsSmall, Sound, IsSoundIn, Apart, AreInFile, IsOfQueue, IsOneReading};
 
 /// What holds of two histories, one behind the other, holds of each.
-pub fn neighbours_keep_what_histories_are()
+pub fn neighbors_keep_what_histories_are()
     ensures small { (h k : List Event) → IsSmall (h ++ k) → IsSmall h × IsSmall k }
     ensures sound { (h k : List Event) → Sound (h ++ k) → Sound h × Sound k }
     ensures apart { (h k : List Event) → Apart (h ++ k) → Apart h × Apart k }
@@ -34,10 +34,10 @@ pub fn histories_of_the_append_queue_are_apart()
 /// where they are refused, some region's own steps are.
 pub fn regions_are_read_one_by_one()
     ensures by_region { (queue : LogQueue) (before after_all : Tables) (steps : List RegionStep)
-        → tables_after queue before steps ≡ Some after_all
-        → (r : ℕ) → after queue r (finite.get before r) (steps_on r steps) ≡ Some (finite.get after_all r) }
-    ensures refused { (queue : LogQueue) (before : Tables) (steps : List RegionStep) →
-        tables_after queue before steps ≡ None
+        → tables_after queue before steps ≡ Some after_all → (r : ℕ)
+        → after queue r (finite.get before r) (steps_on r steps) ≡ Some (finite.get after_all r) }
+    ensures refused { (queue : LogQueue) (before : Tables) (steps : List RegionStep)
+        → tables_after queue before steps ≡ None
         → (r : ℕ) × (after queue r (finite.get before r) (steps_on r steps) ≡ None) }
 {}
 
@@ -62,25 +62,25 @@ pub fn last_words_stand()
 /// those of all its records, lowered in the rewrite queue by its atomic group alone: no record is in a
 /// file below the least one of its queue.
 pub fn least_files_are_least()
-    ensures equal { (queue : LogQueue) (h : List Event) (tables : Tables) (cleaned : List ℕ) →
-        IsSoundIn queue h → Apart h → IsOneReading queue h tables cleaned
-        → (r : ℕ) → AreLeastFiles (table_of r (finite.get tables r)) }
-    ensures lowest { (queue : LogQueue) (h : List Event) (tables : Tables) (cleaned : List ℕ) →
-        IsSoundIn queue h → Apart h → IsOneReading queue h tables cleaned
-        → (r : ℕ) (q : LogQueue) → HasNoneBelow q (table_of r (finite.get tables r)) }
+    ensures equal { (queue : LogQueue) (h : List Event) (tables : Tables) (cleaned : List ℕ)
+        → IsSoundIn queue h → Apart h → IsOneReading queue h tables cleaned → (r : ℕ)
+        → AreLeastFiles (table_of r (finite.get tables r)) }
+    ensures lowest { (queue : LogQueue) (h : List Event) (tables : Tables) (cleaned : List ℕ)
+        → IsSoundIn queue h → Apart h → IsOneReading queue h tables cleaned → (r : ℕ) (q : LogQueue)
+        → HasNoneBelow q (table_of r (finite.get tables r)) }
 {}
 
 /// So are those of a region's table in what both queues give together, where each history is sound and the
 /// effects of the rewrite queue's are apart.
 pub fn least_files_of_both_are_least()
-    ensures equal { (rewrite append : List Event) (tables : Tables) (cleaned : List ℕ) →
-        IsSoundIn Rewrite rewrite
-        → Apart rewrite → IsSoundIn Append append → IsReadingOfBoth rewrite append tables cleaned
-        → (r : ℕ) → AreLeastFiles (table_of r (finite.get tables r)) }
-    ensures lowest { (rewrite append : List Event) (tables : Tables) (cleaned : List ℕ) →
-        IsSoundIn Rewrite rewrite
-        → Apart rewrite → IsSoundIn Append append → IsReadingOfBoth rewrite append tables cleaned
-        → (r : ℕ) (q : LogQueue) → HasNoneBelow q (table_of r (finite.get tables r)) }
+    ensures equal { (rewrite append : List Event) (tables : Tables) (cleaned : List ℕ)
+        → IsSoundIn Rewrite rewrite → Apart rewrite → IsSoundIn Append append
+        → IsReadingOfBoth rewrite append tables cleaned → (r : ℕ)
+        → AreLeastFiles (table_of r (finite.get tables r)) }
+    ensures lowest { (rewrite append : List Event) (tables : Tables) (cleaned : List ℕ)
+        → IsSoundIn Rewrite rewrite → Apart rewrite → IsSoundIn Append append
+        → IsReadingOfBoth rewrite append tables cleaned → (r : ℕ) (q : LogQueue)
+        → HasNoneBelow q (table_of r (finite.get tables r)) }
 {}
 
 /// What `next_batch` answers is as histories ask it of a batch of that file, so a test of it refuses

@@ -1,4 +1,4 @@
-//! Histories of log batches: what they do to the tables of all regions, and the laws of reading them by neighbouring contexts, which
+//! Histories of log batches: what they do to the tables of all regions, and the laws of reading them by neighboring contexts, which
 //! machines keep.
 #![tactic(auto)]
 

@@ -11,8 +11,8 @@ ghost use Rattle.raft_table.specs.TableEntries.{IsRun, IsRunIn, end_of};
 /// The entries of an item that was read from a file are a run of the file's queue, as tables ask for:
 /// nobody tests it again.
 pub fn read_entries_are_runs()
-    ensures { (file : FileId) (es : List EntryIndex) → IsReadIn file (entries es) →
-        IsRunIn file.queue es }
+    ensures { (file : FileId) (es : List EntryIndex) → IsReadIn file (entries es)
+        → IsRunIn file.queue es }
 {}
 
 /// What a batch calls consecutive is what tables call a run, without the index 2^64 - 1.

@@ -24,23 +24,26 @@ pub fn regions_stand_for_steps()
     ensures steps { (q : LogQueue) (rs new : MarkedRegions) (steps : List RegionStep)
         → AllByRecursion (λ (s : RegionStep). IsStepOfQueue q s.step) steps
         → StandForSteps q rs → regions_after q rs steps ≡ Some new → StandForSteps q new }
-    ensures items { (file : FileId) (items : List Item) (rs new : MarkedRegions) →
-        AreInFile file items
-        → StandForSteps file.queue rs → regions_after file.queue rs (steps_of_items items) ≡ Some new
+    ensures items { (file : FileId) (items : List Item) (rs new : MarkedRegions)
+        → AreInFile file items → StandForSteps file.queue rs
+        → regions_after file.queue rs (steps_of_items items) ≡ Some new
         → StandForSteps file.queue new }
     ensures whole { (q : LogQueue) (rs new : MarkedRegions) (w : WholeGroup)
-        → AllByRecursion (λ (s : RegionStep). IsStepOfQueue q s.step) w.steps
-        → StandForSteps q rs → regions_after q rs (region_steps_of_whole w) ≡ Some new → StandForSteps q new }
-    ensures joined { (q : LogQueue) (older newer new : MarkedRegions) → StandForSteps q older →
-        StandForSteps q newer → AreJoined q older newer new → StandForSteps q new }
+        → AllByRecursion (λ (s : RegionStep). IsStepOfQueue q s.step) w.steps → StandForSteps q rs
+        → regions_after q rs (region_steps_of_whole w) ≡ Some new → StandForSteps q new }
+    ensures joined { (q : LogQueue) (older newer new : MarkedRegions) → StandForSteps q older
+        → StandForSteps q newer → AreJoined q older newer new → StandForSteps q new }
     ensures exact { (q : LogQueue) (rs : MarkedRegions) (h : List Event)
-        → AllByRecursion (λ (e : Event). AreInFile e.file e.items) h → AreExact q rs (batches h) → StandForSteps q rs }
+        → AllByRecursion (λ (e : Event). AreInFile e.file e.items) h → AreExact q rs (batches h)
+        → StandForSteps q rs }
 {}
 
 /// Over a rewritten table an exact region mark and table of the append queue give the overlay by its steps, for
 /// the regions that these name; the others keep their rewritten tables.
 pub fn overlays_are_by_steps()
-    ensures { (r : ℕ) (rs : MarkedRegions) (bs : List BatchSteps) (rewritten : Option Table) →
-        AreExact Append rs bs → overlaid_region r (finite.get rs.marks r) (finite.get rs.tables r) rewritten
-        ≡ (if is_named r bs then overlaid_table r (steps_of r bs) (finite.get rs.tables r) rewritten else rewritten) }
+    ensures { (r : ℕ) (rs : MarkedRegions) (bs : List BatchSteps) (rewritten : Option Table)
+        → AreExact Append rs bs
+        → overlaid_region r (finite.get rs.marks r) (finite.get rs.tables r) rewritten
+        ≡ (if is_named r bs then overlaid_table r (steps_of r bs) (finite.get rs.tables r) rewritten
+        else rewritten) }
 {}

@@ -24,25 +24,26 @@ pub trait ReplayMachine: Send + Drop {
 
     /// Replays one more batch, that was written to this file.
     fn replay(&mut self, batch: LogItemBatch, file_id: FileId) -> Result<()>
-        ensures stands { (h : List Event) → IsSmall (h ++ event batch file_id ∷ []) →
-            stands_for self.old h → OnOk result (stands_for self.new (h ++ event batch file_id ∷ [])) }
-        ensures exact { (h : List Event) → IsSmall (h ++ event batch file_id ∷ []) →
-            stands_exactly self.old h →
-            OnOk result (stands_exactly self.new (h ++ event batch file_id ∷ [])) }
+        ensures stands { (h : List Event) → IsSmall (h ++ event batch file_id ∷ [])
+            → stands_for self.old h
+            → OnOk result (stands_for self.new (h ++ event batch file_id ∷ [])) }
+        ensures exact { (h : List Event) → IsSmall (h ++ event batch file_id ∷ [])
+            → stands_exactly self.old h
+            → OnOk result (stands_exactly self.new (h ++ event batch file_id ∷ [])) }
         ensures refused { IfErr result (λ e. e ≢ Error.Memory → (h : List Event)
-            → IsSmall (h ++ event batch file_id ∷ []) →
-            stands_for self.old h → ¬ (Sound (h ++ event batch file_id ∷ []))) };
+            → IsSmall (h ++ event batch file_id ∷ []) → stands_for self.old h
+            → ¬ (Sound (h ++ event batch file_id ∷ []))) };
 
     /// Takes in the machine of the batches that follow, all of one queue.
     fn merge(&mut self, rhs: Self, queue: LogQueue) -> Result<()>
-        ensures stands { (h g : List Event) → IsSmall (h ++ g) → stands_for self.old h →
-            stands_for rhs g → OnOk result (stands_for self.new (h ++ g)) }
-        ensures exact { (h g : List Event) → IsSmall (h ++ g) → Apart (h ++ g) →
-            stands_exactly self.old h → stands_exactly rhs g →
-            OnOk result (stands_exactly self.new (h ++ g)) }
-        ensures refused { IfErr result (λ e. e ≢ Error.Memory → (h g : List Event) →
-            IsSmall (h ++ g) → IsOfQueue queue (h ++ g) →
-            stands_for self.old h → stands_for rhs g → ¬ (Sound (h ++ g))) };
+        ensures stands { (h g : List Event) → IsSmall (h ++ g) → stands_for self.old h
+            → stands_for rhs g → OnOk result (stands_for self.new (h ++ g)) }
+        ensures exact { (h g : List Event) → IsSmall (h ++ g) → Apart (h ++ g)
+            → stands_exactly self.old h → stands_exactly rhs g
+            → OnOk result (stands_exactly self.new (h ++ g)) }
+        ensures refused { IfErr result (λ e. e ≢ Error.Memory → (h g : List Event)
+            → IsSmall (h ++ g) → IsOfQueue queue (h ++ g) → stands_for self.old h → stands_for rhs g
+            → ¬ (Sound (h ++ g))) };
 
     /// Standing exactly is more than standing for.
     ghost exact_stands: { (m : Self) (h : List Event) → stands_exactly m h → stands_for m h };

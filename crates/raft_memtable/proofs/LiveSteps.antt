@@ -59,7 +59,7 @@ step_live queue q id o u (Compact i) e h = omega (arith, ap (live_in q) (some_is
 step_live queue q id o u (Truncate i) e h = omega (arith, ap (live_in q) (some_is e), entries-below q i (table_of id o).entries, live-table_of q id o)
 step_live queue q id o u (Put key value file) e h = omega (arith, ap (live_in q) (some_is e), pair_count-insert q (table_of id o).keys key value file, weight-put q queue file h, live-table_of q id o)
 step_live queue q id o u (Del key) e h = omega (arith, ap (live_in q) (some_is e), pair_count-remove q (table_of id o).keys key, live-table_of q id o)
-step_live queue q id o u (AtomicGroup start end) e h = omega (arith, ap (live_in q) (some_is e), live-table_of q id o)
+step_live queue q id o u (AtomicGroup first_seq last_seq) e h = omega (arith, ap (live_in q) (some_is e), live-table_of q id o)
 step_live queue q id o u Clean e h = omega (arith, ap (live_in q) (some_is e))
 
 -- ---- steps

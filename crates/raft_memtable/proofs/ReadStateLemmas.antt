@@ -1,4 +1,4 @@
--- What was read, with one more batch or with a newer neighbour.
+-- What was read, with one more batch or with a newer neighbor.
 use Rattle.std.proofs.Common.{◌≡◌, ◌≢◌, ℕ, ◌+◌, ◌≤◌, ◌^◌, false, List, [], ◌∷◌, ◌++◌, Option, Some, None, refl, sym, ap, subst, ◌∙◌, inl, inr, arith, append-nil}
 use Rattle.std.specs.Ordering.{nat_cmp}
 use Rattle.std.specs.Prelude.{is_some, option_map}
@@ -40,7 +40,7 @@ use Rattle.raft_accessor.specs.Accessor.{live_in_all}
 use Rattle.raft_memtable.specs.BatchChecks.{marker_found}
 use Rattle.raft_memtable.specs.MarkedTables.{AreStepsOfQueue, IsStepsFault}
 use Rattle.raft_memtable.specs.ReadStates.{AreAlone, AreOfSteps, IsOfHistory, TakesEffect, MayTakeEffect}
-use Rattle.raft_memtable.specs.RecoverContext.{reading_on, MayFollow, records_held, IsBatchFault, AreNeighbours, IsNeighbourFault}
+use Rattle.raft_memtable.specs.RecoverContext.{reading_on, MayFollow, records_held, IsBatchFault, AreNeighbors, IsNeighborFault}
 use Rattle.raft_memtable.specs.RegionJoins.{IsJoinFault}
 use Rattle.raft_accessor.proofs.LiveLemmas.{live-none}
 use Rattle.raft_memtable.proofs.LiveSteps.{live-le-all}
@@ -241,9 +241,9 @@ read_more c d e r n t few = record {
     steps None u g is = subst (λ g. AreOfSteps g d.regions) (sym is) (steps_more c d e r n t)
     steps (Some f) u g is = subst (λ g. AreOfSteps g d.regions) (sym is) (subst (λ q. StandForSteps q d.regions) (sym u) (steps_more c d e r n t))
 
--- ---- two neighbours
+-- ---- two neighbors
 
--- what two neighbours make whole
+-- what two neighbors make whole
 abbrev pub both_wholes : Context → Context → List WholeGroup
 both_wholes c d = whole_groups c.groups d.groups
 
@@ -253,7 +253,7 @@ sound_of q c r u = (r.stands.stands q u).sound
 wholes_none : (c d : Context) (r : IsOfHistory d) → Suits Append d.files → both_wholes c d ≡ []
 wholes_none c d r u = ap (whole_groups c.groups) r.stands.groups ∙ no_wholes c.groups r.history (sound_of Append d r u).files
 
-pub merge_takes : (q : LogQueue) (c d : Context) → IsOfHistory c → IsOfHistory d → AreNeighbours q c d → AllByRecursion TakesEffect (both_wholes c d)
+pub merge_takes : (q : LogQueue) (c d : Context) → IsOfHistory c → IsOfHistory d → AreNeighbors q c d → AllByRecursion TakesEffect (both_wholes c d)
 merge_takes Append c d r s n = subst (AllByRecursion TakesEffect) (sym (wholes_none c d s n.newer)) tt
 merge_takes Rewrite c d r s n = subst (λ g. AllByRecursion TakesEffect (whole_groups g d.groups)) (sym r.stands.groups) (subst (λ g. AllByRecursion TakesEffect (whole_groups (groups_in (batches r.history)) g)) (sym s.stands.groups)
     (wholes_take r.history s.history (sound_of Rewrite c r n.older).files (sound_of Rewrite c r n.older).items (sound_of Rewrite d s n.newer).files (sound_of Rewrite d s n.newer).items
@@ -261,11 +261,11 @@ merge_takes Rewrite c d r s n = subst (λ g. AllByRecursion TakesEffect (whole_g
     (ap (λ f. follows f (files_of s.history)) (sym r.stands.files) ∙ ap (follows c.files) (sym s.stands.files) ∙ n.files)))))
 
 -- the append queue has none, so these are steps of either queue
-pub either_queue : (q : LogQueue) (c d : Context) → IsOfHistory d → AreNeighbours q c d → regions_after Rewrite c.regions (region_steps_of_wholes (both_wholes c d)) ≡ regions_after q c.regions (region_steps_of_wholes (both_wholes c d))
+pub either_queue : (q : LogQueue) (c d : Context) → IsOfHistory d → AreNeighbors q c d → regions_after Rewrite c.regions (region_steps_of_wholes (both_wholes c d)) ≡ regions_after q c.regions (region_steps_of_wholes (both_wholes c d))
 either_queue Append c d s n = ap (λ ws. regions_after Rewrite c.regions (region_steps_of_wholes ws)) (wholes_none c d s n.newer) ∙ sym (ap (λ ws. regions_after Append c.regions (region_steps_of_wholes ws)) (wholes_none c d s n.newer))
 either_queue Rewrite c d s n = refl
 
-wholes_in_queue : (q : LogQueue) (c d : Context) → IsOfHistory c → IsOfHistory d → AreNeighbours q c d → AreStepsOfQueue q (region_steps_of_wholes (both_wholes c d))
+wholes_in_queue : (q : LogQueue) (c d : Context) → IsOfHistory c → IsOfHistory d → AreNeighbors q c d → AreStepsOfQueue q (region_steps_of_wholes (both_wholes c d))
 wholes_in_queue Append c d r s n = subst (λ ws. AreStepsOfQueue Append (region_steps_of_wholes ws)) (sym (wholes_none c d s n.newer)) tt
 wholes_in_queue Rewrite c d r s n = all (both_wholes c d) (merge_takes Rewrite c d r s n)
   where
@@ -273,26 +273,26 @@ wholes_in_queue Rewrite c d r s n = all (both_wholes c d) (merge_takes Rewrite c
     all [] t = tt
     all (w ∷ ws) t = each-append (λ (i : RegionStep). IsStepOfQueue Rewrite i.step) (region_steps_of_whole w) (region_steps_of_wholes ws) (whole_in_queue Rewrite w t.0.steps) (all ws t.1)
 
--- behind what two neighbours make whole
+-- behind what two neighbors make whole
 pub record IsMiddle (q : LogQueue) (c d : Context) (middle : MarkedRegions) : Type 0 where
   pub older : IsOfHistory c
   pub newer : IsOfHistory d
-  pub neighbours : AreNeighbours q c d
+  pub neighbors : AreNeighbors q c d
   pub taken : regions_after Rewrite c.regions (region_steps_of_wholes (both_wholes c d)) ≡ Some middle
   pub few : live_in_all Append middle.tables ≤ live_in_all Append c.regions.tables
 
 pub middle_alone : (q : LogQueue) (c d : Context) (middle : MarkedRegions) → IsMiddle q c d middle → live_in_all (other q) middle.tables ≡ 0
-middle_alone Rewrite c d middle m = omega (arith, m.few, alone_of Rewrite c m.older m.neighbours.older)
-middle_alone Append c d middle m = subst (λ (x : MarkedRegions). live_in_all Rewrite x.tables ≡ 0) (some_is (sym (ap (λ ws. regions_after Rewrite c.regions (region_steps_of_wholes ws)) (wholes_none c d m.newer m.neighbours.newer)) ∙ m.taken)) (alone_of Append c m.older m.neighbours.older)
+middle_alone Rewrite c d middle m = omega (arith, m.few, alone_of Rewrite c m.older m.neighbors.older)
+middle_alone Append c d middle m = subst (λ (x : MarkedRegions). live_in_all Rewrite x.tables ≡ 0) (some_is (sym (ap (λ ws. regions_after Rewrite c.regions (region_steps_of_wholes ws)) (wholes_none c d m.newer m.neighbors.newer)) ∙ m.taken)) (alone_of Append c m.older m.neighbors.older)
 
 pub middle_steps : (q : LogQueue) (c d : Context) (middle : MarkedRegions) → IsMiddle q c d middle → StandForSteps q middle
-middle_steps q c d middle m = stand_after q c.regions middle (region_steps_of_wholes (both_wholes c d)) (wholes_in_queue q c d m.older m.newer m.neighbours) (steps_of_read q c m.older m.neighbours.older) (sym (either_queue q c d m.newer m.neighbours) ∙ m.taken)
+middle_steps q c d middle m = stand_after q c.regions middle (region_steps_of_wholes (both_wholes c d)) (wholes_in_queue q c d m.older m.newer m.neighbors) (steps_of_read q c m.older m.neighbors.older) (sym (either_queue q c d m.newer m.neighbors) ∙ m.taken)
 
 pub middle_records : (q : LogQueue) (c d : Context) (middle : MarkedRegions) → IsMiddle q c d middle → all_records middle.tables ≤ records_held c + waiting_records d.groups
 middle_records q c d middle m = omega (arith, read_records Rewrite c.regions middle (region_steps_of_wholes (both_wholes c d)) m.taken, wholes-records (both_wholes c d), merged_waiting c.groups d.groups)
 
 -- the groups are refused
-pub wholes_fault : (q : LogQueue) (c d : Context) → IsOfHistory c → IsOfHistory d → AreNeighbours q c d → both_wholes c d ≢ [] → (x : Error) → IsStepsFault Rewrite c.regions (region_steps_of_wholes (both_wholes c d)) x → IsNeighbourFault q (reading_on c) (reading_on d) x
+pub wholes_fault : (q : LogQueue) (c d : Context) → IsOfHistory c → IsOfHistory d → AreNeighbors q c d → both_wholes c d ≢ [] → (x : Error) → IsStepsFault Rewrite c.regions (region_steps_of_wholes (both_wholes c d)) x → IsNeighborFault q (reading_on c) (reading_on d) x
 wholes_fault Append c d r s n some x f = absurd (some (wholes_none c d s n.newer))
 wholes_fault Rewrite c d r s n some (errors.Corruption text) f = ((n.older, n.newer), inr (inl f))
 wholes_fault Rewrite c d r s n some (errors.InvalidArgument text) f = absurd (omega (arith, f, alone_of Rewrite c r n.older))
@@ -301,21 +301,21 @@ wholes_fault Rewrite c d r s n some errors.Memory f = tt
 wholes_fault Rewrite c d r s n some _ f = absurd f
 
 -- a region's join is refused
-pub join_fault : (q : LogQueue) (c d : Context) (middle : MarkedRegions) → IsMiddle q c d middle → (x : Error) → (StandForSteps q middle → StandForSteps q d.regions → IsJoinFault q middle d.regions x) → IsNeighbourFault q (reading_on c) (reading_on d) x
-join_fault q c d middle m x h = go x (h (middle_steps q c d middle m) (steps_of_read q d m.newer m.neighbours.newer))
+pub join_fault : (q : LogQueue) (c d : Context) (middle : MarkedRegions) → IsMiddle q c d middle → (x : Error) → (StandForSteps q middle → StandForSteps q d.regions → IsJoinFault q middle d.regions x) → IsNeighborFault q (reading_on c) (reading_on d) x
+join_fault q c d middle m x h = go x (h (middle_steps q c d middle m) (steps_of_read q d m.newer m.neighbors.newer))
   where
-    go : (x : Error) → IsJoinFault q middle d.regions x → IsNeighbourFault q (reading_on c) (reading_on d) x
-    go (errors.Corruption text) f = ((m.neighbours.older, m.neighbours.newer), inr (inr (middle, sym (either_queue q c d m.newer m.neighbours) ∙ m.taken, f)))
+    go : (x : Error) → IsJoinFault q middle d.regions x → IsNeighborFault q (reading_on c) (reading_on d) x
+    go (errors.Corruption text) f = ((m.neighbors.older, m.neighbors.newer), inr (inr (middle, sym (either_queue q c d m.newer m.neighbors) ∙ m.taken, f)))
     go (errors.InvalidArgument text) (inl f) = absurd (omega (arith, f, middle_alone q c d middle m))
-    go (errors.InvalidArgument text) (inr f) = absurd (omega (arith, f, alone_of q d m.newer m.neighbours.newer))
-    go errors.Full f = (m.neighbours, omega (arith, f, middle_records q c d middle m))
+    go (errors.InvalidArgument text) (inr f) = absurd (omega (arith, f, alone_of q d m.newer m.neighbors.newer))
+    go errors.Full f = (m.neighbors, omega (arith, f, middle_records q c d middle m))
     go errors.Memory f = tt
     go _ f = absurd f
 
 -- the regions are joined
 pub join_merged : (q : LogQueue) (c d : Context) (middle new : MarkedRegions) → IsMiddle q c d middle → (StandForSteps q middle → StandForSteps q d.regions → AreJoined q middle d.regions new) → AreMerged q c d new
-join_merged q c d middle new m h = let j = h (middle_steps q c d middle m) (steps_of_read q d m.newer m.neighbours.newer) in
-    record { middle = middle; wholes = sym (either_queue q c d m.newer m.neighbours) ∙ m.taken; regions = j.regions; marked = j.marked }
+join_merged q c d middle new m h = let j = h (middle_steps q c d middle m) (steps_of_read q d m.newer m.neighbors.newer) in
+    record { middle = middle; wholes = sym (either_queue q c d m.newer m.neighbors) ∙ m.taken; regions = j.regions; marked = j.marked }
 
 -- both were read from both histories, one behind the other
 pub join_read : (q : LogQueue) (c d new : Context) (middle : MarkedRegions) → IsMiddle q c d middle → (StandForSteps q middle → StandForSteps q d.regions → AreJoined q middle d.regions new.regions)
@@ -323,7 +323,7 @@ pub join_read : (q : LogQueue) (c d new : Context) (middle : MarkedRegions) → 
 join_read q c d new middle m h is alone = record {
   history = m.older.history ++ m.newer.history;
   stands = subst (λ x. StandsFor x (m.older.history ++ m.newer.history)) (sym is) (regions_stand q c d m.older.history m.newer.history new.regions
-      (record { older_suits = m.neighbours.older; newer_suits = m.neighbours.newer; older = m.older.stands; newer = m.newer.stands }) m.neighbours.files (join_merged q c d middle new.regions m h));
+      (record { older_suits = m.neighbors.older; newer_suits = m.neighbors.newer; older = m.older.stands; newer = m.newer.stands }) m.neighbors.files (join_merged q c d middle new.regions m h));
   alone = of_files (λ f. AreAlone f new.regions.tables) tt (λ f u. subst (λ q. live_in_all (other q) new.regions.tables ≡ 0) (sym u) alone);
   steps = of_files (λ f. AreOfSteps f new.regions) tt (λ f u. subst (λ q. StandForSteps q new.regions) (sym u) (stand_joined q middle d.regions new.regions steps own (h steps own)));
 }
@@ -332,7 +332,7 @@ join_read q c d new middle m h is alone = record {
     steps = middle_steps q c d middle m
 
     own : StandForSteps q d.regions
-    own = steps_of_read q d m.newer m.neighbours.newer
+    own = steps_of_read q d m.newer m.neighbors.newer
 
     by : (P : Option FileRange → Type 0) → P None → ((f : FileRange) → f.queue ≡ q → P (Some f)) → (f g : Option FileRange) → Suits q f → Suits q g → P (joined_files f g)
     by P none some None None u v = none
@@ -341,7 +341,7 @@ join_read q c d new middle m h is alone = record {
     by P none some (Some f) (Some g) u v = some (record { queue = f.queue; first = f.first; last = g.last }) u
 
     of_files : (P : Option FileRange → Type 0) → P None → ((f : FileRange) → f.queue ≡ q → P (Some f)) → P new.files
-    of_files P none some = subst P (sym (ap (λ (x : Context). x.files) is)) (by P none some c.files d.files m.neighbours.older m.neighbours.newer)
+    of_files P none some = subst P (sym (ap (λ (x : Context). x.files) is)) (by P none some c.files d.files m.neighbors.older m.neighbors.newer)
 
 pub merged_by : (c d new : Context) → new.groups ≡ joined_groups c.groups d.groups → new.cleaned ≡ c.cleaned ++ d.cleaned → new.files ≡ joined_files c.files d.files → new ≡ merged_with c d new.regions
 merged_by c d new groups cleaned files = some_is (sym (by_fields new (joined_groups c.groups d.groups) (c.cleaned ++ d.cleaned) (joined_files c.files d.files) groups cleaned files))

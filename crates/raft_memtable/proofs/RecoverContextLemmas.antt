@@ -19,7 +19,7 @@ use Rattle.raft_history.proofs.KeptLaws.{kept_at_most}
 use Rattle.raft_memtable.specs.ReadStates.{IsOfHistory}
 use Rattle.raft_memtable.proofs.LiveSteps.{live-le-all}
 use Rattle.raft_memtable.proofs.ReadStateLemmas.{completed_records}
-use Rattle.raft_memtable.specs.RecoverContext.{RecoverContext, HasRead, HasReadExactly, MayFollow, IsBatchTaken, reading_on, IsBatchFault, AreNeighbours, IsMergedWith, IsNeighbourFault}
+use Rattle.raft_memtable.specs.RecoverContext.{RecoverContext, HasRead, HasReadExactly, MayFollow, IsBatchTaken, reading_on, IsBatchFault, AreNeighbors, IsMergedWith, IsNeighborFault}
 use Rattle.raft_memtable.specs.declared.context_stage.ContextStage.{ContextStage}
 use Rattle.raft_memtable.specs.declared.context_stage.ContextStage.TheVariants.{Reading}
 
@@ -75,53 +75,53 @@ batch_fault s c e errors.Failed f = absurd (f refl)
 batch_fault s c e errors.Memory f = f
 batch_fault s c e _ f = absurd f
 
--- ---- two neighbours
+-- ---- two neighbors
 
-merges : (q : LogQueue) (c d : Context) (h g : List Event) → AreNeighbours q c d → StandsFor c h → StandsFor d g → Merges q c d h g
+merges : (q : LogQueue) (c d : Context) (h g : List Event) → AreNeighbors q c d → StandsFor c h → StandsFor d g → Merges q c d h g
 merges q c d h g n a b = record { older_suits = n.older; newer_suits = n.newer; older = a; newer = b }
 
 pub merge_stands : (q : LogQueue) (c d new : RecoverContext) (h g : List Event) → IsMergedWith q d c new → HasRead c h → HasRead d g → HasRead new (h ++ g)
 merge_stands q c d new h g m a b = record {
   stage = m.after;
-  stands = subst (λ x. StandsFor x (h ++ g)) (sym m.merged) (regions_stand q c.context d.context h g new.context.regions (merges q c.context d.context h g m.neighbours a.stands b.stands) m.neighbours.files m.regions);
+  stands = subst (λ x. StandsFor x (h ++ g)) (sym m.merged) (regions_stand q c.context d.context h g new.context.regions (merges q c.context d.context h g m.neighbors a.stands b.stands) m.neighbors.files m.regions);
 }
 
 pub merge_exact : (q : LogQueue) (c d new : RecoverContext) (h g : List Event) → Apart (h ++ g) → IsMergedWith q d c new → HasReadExactly c h → HasReadExactly d g → HasReadExactly new (h ++ g)
 merge_exact q c d new h g apart m a b = record {
   stage = m.after;
-  exact = subst (λ x. IsExactFor x (h ++ g)) (sym m.merged) (regions_exact q c.context d.context h g new.context.regions (merges q c.context d.context h g m.neighbours a.exact.stands b.exact.stands) a.exact b.exact apart.each m.neighbours.files m.regions);
+  exact = subst (λ x. IsExactFor x (h ++ g)) (sym m.merged) (regions_exact q c.context d.context h g new.context.regions (merges q c.context d.context h g m.neighbors a.exact.stands b.exact.stands) a.exact b.exact apart.each m.neighbors.files m.regions);
 }
 
 pub suits_of : (q : LogQueue) (h : List Event) → IsOfQueue q h → Suits q (files_of h)
 suits_of q [] o = tt
 suits_of q (e ∷ h) o = o.each.0
 
-neighbours : (q : LogQueue) (c d : Context) (h g : List Event) → IsOfQueue q (h ++ g) → StandsFor c h → StandsFor d g → Sound (h ++ g) → AreNeighbours q c d
-neighbours q c d h g o a b sound = record {
+neighbors : (q : LogQueue) (c d : Context) (h g : List Event) → IsOfQueue q (h ++ g) → StandsFor c h → StandsFor d g → Sound (h ++ g) → AreNeighbors q c d
+neighbors q c d h g o a b sound = record {
   older = subst (Suits q) (sym a.files) (suits_of q h (of_front q h g o));
   newer = subst (Suits q) (sym b.files) (suits_of q g (of_back q h g o));
   files = ap (λ x. follows x d.files) a.files ∙ ap (follows (files_of h)) b.files ∙ follow_files sound.queue h g sound.sound.files;
 }
 
-pub merge_unsound : (q : LogQueue) (c d : RecoverContext) (h g : List Event) → IsSmall (h ++ g) → IsOfQueue q (h ++ g) → HasRead c h → HasRead d g → (x : Error) → x ≢ errors.Memory → IsNeighbourFault q c d x → Sound (h ++ g) → ⊥
-merge_unsound q c d h g small o a b (errors.InvalidArgument text) k other sound = let n = neighbours q c.context d.context h g o a.stands b.stands sound in other (n.older, n.newer)
-merge_unsound q c d h g small o a b (errors.Corruption text) k (both, inl files) sound = false≢true (sym files ∙ (neighbours q c.context d.context h g o a.stands b.stands sound).files)
-merge_unsound q c d h g small o a b (errors.Corruption text) k (both, inr refused) sound = regions_unsound q c.context d.context h g (merges q c.context d.context h g (neighbours q c.context d.context h g o a.stands b.stands sound) a.stands b.stands) refused sound
+pub merge_unsound : (q : LogQueue) (c d : RecoverContext) (h g : List Event) → IsSmall (h ++ g) → IsOfQueue q (h ++ g) → HasRead c h → HasRead d g → (x : Error) → x ≢ errors.Memory → IsNeighborFault q c d x → Sound (h ++ g) → ⊥
+merge_unsound q c d h g small o a b (errors.InvalidArgument text) k other sound = let n = neighbors q c.context d.context h g o a.stands b.stands sound in other (n.older, n.newer)
+merge_unsound q c d h g small o a b (errors.Corruption text) k (both, inl files) sound = false≢true (sym files ∙ (neighbors q c.context d.context h g o a.stands b.stands sound).files)
+merge_unsound q c d h g small o a b (errors.Corruption text) k (both, inr refused) sound = regions_unsound q c.context d.context h g (merges q c.context d.context h g (neighbors q c.context d.context h g o a.stands b.stands sound) a.stands b.stands) refused sound
 merge_unsound q c d h g small o a b errors.Full k full sound = omega (arith, full.1, small.few, a.stands.few, b.stands.few, size-append h g)
 merge_unsound q c d h g small o a b errors.Failed k (inl stage) sound = stage a.stage
 merge_unsound q c d h g small o a b errors.Failed k (inr stage) sound = stage b.stage
 merge_unsound q c d h g small o a b errors.Memory k f sound = k refl
 merge_unsound q c d h g small o a b _ k f sound = f
 
--- what a context says of the neighbour that it reads on with
-pub neighbour_fault : (q : LogQueue) (s t : ContextStage) (c d : Context) (x : Error) → IsNeighbourFault q (reading_on c) (reading_on d) x → IsNeighbourFault q (record { stage = s; context = c }) (record { stage = t; context = d }) x
-neighbour_fault q s t c d (errors.InvalidArgument text) f = f
-neighbour_fault q s t c d (errors.Corruption text) f = f
-neighbour_fault q s t c d errors.Full f = f
-neighbour_fault q s t c d errors.Failed (inl f) = absurd (f refl)
-neighbour_fault q s t c d errors.Failed (inr f) = absurd (f refl)
-neighbour_fault q s t c d errors.Memory f = f
-neighbour_fault q s t c d _ f = absurd f
+-- what a context says of the neighbor that it reads on with
+pub neighbor_fault : (q : LogQueue) (s t : ContextStage) (c d : Context) (x : Error) → IsNeighborFault q (reading_on c) (reading_on d) x → IsNeighborFault q (record { stage = s; context = c }) (record { stage = t; context = d }) x
+neighbor_fault q s t c d (errors.InvalidArgument text) f = f
+neighbor_fault q s t c d (errors.Corruption text) f = f
+neighbor_fault q s t c d errors.Full f = f
+neighbor_fault q s t c d errors.Failed (inl f) = absurd (f refl)
+neighbor_fault q s t c d errors.Failed (inr f) = absurd (f refl)
+neighbor_fault q s t c d errors.Memory f = f
+neighbor_fault q s t c d _ f = absurd f
 
 -- ---- what was read
 

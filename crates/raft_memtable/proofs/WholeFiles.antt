@@ -28,7 +28,7 @@ use Rattle.raft_memtable.specs.ReadStates.{TakesEffect, MayTakeEffect}
 
 abbrev StretchUpTo : ℕ → Option OpenStretch → Type 0
 StretchUpTo n None = Unit {0}
-StretchUpTo n (Some s) = s.file ≤ n
+StretchUpTo n (Some s) = s.first_seq ≤ n
 
 abbrev FrontFrom : ℕ → GroupFront → Type 0
 FrontFrom n (Open is) = Unit {0}
@@ -36,10 +36,10 @@ FrontFrom n (Ended is f) = n ≤ f
 FrontFrom n Cut = Unit {0}
 
 abbrev UpTo : ℕ → Numbered → Type 0
-UpTo n p = p.batch.file ≤ n
+UpTo n p = p.batch.seq ≤ n
 
 abbrev FromOn : ℕ → Numbered → Type 0
-FromOn n p = n ≤ p.batch.file
+FromOn n p = n ≤ p.batch.seq
 
 stretch_up_to : (n : ℕ) (ps : List Numbered) → AllByRecursion (UpTo n) ps → StretchUpTo n (stretch_of ps)
 stretch_up_to n [] h = tt
@@ -55,12 +55,12 @@ front_from n (p ∷ ps) h = go p.batch.marker (front_from n ps h.1)
     led (Ended js m) k = k
     led Cut k = tt
 
-    by : (s : AtomicGroupStatus) → FrontFrom n (front_of ps) → FrontFrom n (front_by s p.batch.steps p.batch.file (front_of ps))
+    by : (s : AtomicGroupStatus) → FrontFrom n (front_of ps) → FrontFrom n (front_by s p.batch.steps p.batch.seq (front_of ps))
     by Begin k = tt
     by Middle k = led (front_of ps) k
     by End k = h.0
 
-    go : (m : Option GroupMarker) → FrontFrom n (front_of ps) → FrontFrom n (front_behind m p.batch.steps p.batch.file (front_of ps))
+    go : (m : Option GroupMarker) → FrontFrom n (front_of ps) → FrontFrom n (front_behind m p.batch.steps p.batch.seq (front_of ps))
     go None k = tt
     go (Some m) k = by m.status k
 
@@ -130,7 +130,7 @@ one_more : (o : Option WholeGroup) (ws : List WholeGroup) → MayTakeEffect o �
 one_more None ws x y = y
 one_more (Some w) ws x y = (x, y)
 
--- the groups that two neighbours make whole
+-- the groups that two neighbors make whole
 pub wholes_take : (h k : List Event) → FilesFrom Rewrite 0 h → AreInFiles h → FilesFrom Rewrite 0 k → AreInFiles k → FilesFrom Rewrite (last_from 0 h) k → AllByRecursion TakesEffect (whole_groups (groups_in (batches h)) (groups_in (batches k)))
 wholes_take h k f a g b behind = all (finite.entries (groups_in (batches k))) (each_weaker _ IsGroup (λ e x. x.1) (finite.entries (groups_in (batches k))) (each_known (batches k)))
   where

@@ -17,12 +17,12 @@ use Rattle.raft_memtable.specs.declared.read_state.ReadState.{ReadState}
 abbrev pub context_in : ReadState → Context
 context_in s = record { regions = regions_in s.regions; groups = s.groups; cleaned = s.regions.accessor.cleaned; files = ranges_shown s.files }
 
--- with files of a queue, the tables have no record of the other one
+-- with files of a queue, the tables have no record of the other queue
 abbrev pub AreAlone : Option FileRange → Tables → Type 0
 AreAlone None tables = Unit {0}
 AreAlone (Some files) tables = live_in_all (other files.queue) tables ≡ 0
 
--- with files of a queue, the region mark of each region and table stand for some steps
+-- with files of a queue, the region mark and the table of each region stand for some steps
 abbrev pub AreOfSteps : Option FileRange → MarkedRegions → Type 0
 AreOfSteps None rs = Unit {0}
 AreOfSteps (Some files) rs = StandForSteps files.queue rs
@@ -34,10 +34,10 @@ pub record IsOfHistory (c : Context) : Type 0 where
   pub alone : AreAlone c.files c.regions.tables
   pub steps : AreOfSteps c.files c.regions
 
--- a group that is whole, as it is taken in: its steps are such as replays into the rewrite queue ask for, and its files are in order
+-- a group that is whole, as it is taken in: its steps are such as replays into the rewrite queue ask for, and the numbers of its files are in order
 pub record TakesEffect (w : WholeGroup) : Type 0 where
   pub steps : AreStepsOfQueue Rewrite w.steps
-  pub files : w.start ≤ w.end
+  pub files : w.first_seq ≤ w.last_seq
 
 -- a group, if there is one, may be taken in
 abbrev pub MayTakeEffect : Option WholeGroup → Type 0

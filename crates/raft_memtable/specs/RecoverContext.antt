@@ -68,32 +68,32 @@ IsBatchFault c e errors.Failed = c.stage ≢ Reading
 IsBatchFault c e errors.Memory = Unit {0}
 IsBatchFault c e _ = ⊥
 
--- ---- two neighbours
+-- ---- two neighbors
 
 -- both are of this queue
 abbrev pub AreOfQueue : LogQueue → Context → Context → Type 0
 AreOfQueue queue c d = Suits queue c.files × Suits queue d.files
 
 -- both are of this queue, and the newer one's first file isn't below the older one's last
-pub record AreNeighbours (queue : LogQueue) (c d : Context) : Type 0 where
+pub record AreNeighbors (queue : LogQueue) (c d : Context) : Type 0 where
   pub older : Suits queue c.files
   pub newer : Suits queue d.files
   pub files : follows c.files d.files ≡ true
 
--- the newer neighbour was taken in
+-- the newer neighbor was taken in
 pub record IsMergedWith (queue : LogQueue) (newer old new : RecoverContext) : Type 0 where
   pub older_before : old.stage ≡ Reading
   pub newer_before : newer.stage ≡ Reading
-  pub neighbours : AreNeighbours queue old.context newer.context
+  pub neighbors : AreNeighbors queue old.context newer.context
   pub regions : AreMerged queue old.context newer.context new.context.regions
   pub merged : new.context ≡ merged_with old.context newer.context new.context.regions
   pub after : new.stage ≡ Reading
 
--- why a newer neighbour is refused, by the error: one of the two is of another queue; both are of this one, and the newer one's first file is below the older one's last, or a region's join is refused; the records would be 2^64 or more; one of the two doesn't read on; or want of memory
-abbrev pub IsNeighbourFault : LogQueue → RecoverContext → RecoverContext → Error → Type 0
-IsNeighbourFault queue c d (errors.InvalidArgument text) = AreOfQueue queue c.context d.context → ⊥
-IsNeighbourFault queue c d (errors.Corruption text) = AreOfQueue queue c.context d.context × ((follows c.context.files d.context.files ≡ false) ⊎ AreRegionsRefused queue c.context d.context)
-IsNeighbourFault queue c d errors.Full = AreNeighbours queue c.context d.context × (2 ^ 64 ≤ records_held c.context + records_held d.context)
-IsNeighbourFault queue c d errors.Failed = (c.stage ≢ Reading) ⊎ (d.stage ≢ Reading)
-IsNeighbourFault queue c d errors.Memory = Unit {0}
-IsNeighbourFault queue c d _ = ⊥
+-- why a newer neighbor is refused, by the error: one of the two is of another queue; both are of this one, and the newer one's first file is below the older one's last, or a region's join is refused; the records would be 2^64 or more; one of the two doesn't read on; or want of memory
+abbrev pub IsNeighborFault : LogQueue → RecoverContext → RecoverContext → Error → Type 0
+IsNeighborFault queue c d (errors.InvalidArgument text) = AreOfQueue queue c.context d.context → ⊥
+IsNeighborFault queue c d (errors.Corruption text) = AreOfQueue queue c.context d.context × ((follows c.context.files d.context.files ≡ false) ⊎ AreRegionsRefused queue c.context d.context)
+IsNeighborFault queue c d errors.Full = AreNeighbors queue c.context d.context × (2 ^ 64 ≤ records_held c.context + records_held d.context)
+IsNeighborFault queue c d errors.Failed = (c.stage ≢ Reading) ⊎ (d.stage ≢ Reading)
+IsNeighborFault queue c d errors.Memory = Unit {0}
+IsNeighborFault queue c d _ = ⊥

@@ -10,7 +10,7 @@ use Rattle.raft_history.specs.MarkedRegions.{Marks}
 use Rattle.raft_table.specs.MarkJoins.{fresh}
 use Rattle.raft_table.specs.Marks.{Mark}
 
--- the region mark of a region, that of no step where it has none
+-- the region mark of a region, or that of no step where it has none
 abbrev pub mark_in : Marks → ℕ → Mark
 mark_in marks id = unwrap_or (finite.get marks id) fresh
 
@@ -30,7 +30,7 @@ pub record ChangesMark {F : Type 0} (g : MarkChange F) (f : F) (old : Mark) (r :
 pub record MayChangeMark {F : Type 0} (g : MarkChange F) (f : F) (old : Mark) : Type 0 where
   pub pre : (mark : MutBor Mark) → mark.now ≡ old → g.pre f (mark, tt)
 
--- the region mark of a region was changed by a call, that of no step where it had none, and no other region mark was; where there was no memory all region marks stay if the call leaves its region mark
+-- the region mark of a region, or that of no step where it had none, was changed by a call, and no other region mark was; where there was no memory, all region marks stay if the call leaves its own as it was
 pub record IsMarkUpdated {F : Type 0} (g : MarkChange F) (f : F) (old : Marks) (id : ℕ) (r : Result (Unit {0}) AllocError) (new : Marks) : Type 0 where
   pub changed : OnOk r (ChangesMark g f (mark_in old id) r (mark_in new id))
   pub one : OnOk r (new ≡ finite.insert old id (mark_in new id))

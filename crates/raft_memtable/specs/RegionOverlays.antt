@@ -9,7 +9,7 @@ use Rattle.raft_table.specs.Marks.{Mark}
 use Rattle.raft_accessor.specs.Accessor.{table_in}
 use Rattle.raft_accessor.specs.TableOverlays.{IsRunOverlaid}
 
--- under each of these region marks the entries of its region's appended table over the rewritten one are a run, as they are where these stand for steps
+-- under each of these region marks the entries of its region's appended table over the rewritten one are a run, as they are where the region marks and the tables stand for steps
 abbrev pub AreRunsOverlaid : Marks → Tables → Tables → Type 0
 AreRunsOverlaid marks appended rewritten = (r : ℕ) (m : Mark) → finite.get marks r ≡ Some m → IsRunOverlaid m (table_in appended r) (table_in rewritten r)
 

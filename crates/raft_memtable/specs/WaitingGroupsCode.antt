@@ -22,7 +22,7 @@ step_parts (Compact i) = Err (Ok (Ok i))
 step_parts (Truncate i) = Err (Ok (Err i))
 step_parts (Put key value file) = Err (Err (Ok (key, (value, file))))
 step_parts (Del key) = Err (Err (Err (Ok key)))
-step_parts (AtomicGroup start end) = Err (Err (Err (Err (Some (start, end)))))
+step_parts (AtomicGroup first_seq last_seq) = Err (Err (Err (Err (Some (first_seq, last_seq)))))
 step_parts Clean = Err (Err (Err (Err None)))
 
 -- the step that holds this
@@ -42,7 +42,7 @@ step_again (Compact i) = refl
 step_again (Truncate i) = refl
 step_again (Put key value file) = refl
 step_again (Del key) = refl
-step_again (AtomicGroup start end) = refl
+step_again (AtomicGroup first_seq last_seq) = refl
 step_again Clean = refl
 
 -- the code of a step
@@ -55,16 +55,16 @@ step_code =
 abbrev pub region_step_code : Coded RegionStep
 region_step_code = code_by (ℕ × Step) (coded× coded_ℕ step_code) (λ s. (s.region, s.step)) (λ p. record { region = p.0; step = p.1 }) (λ _. refl)
 
--- a front as its steps, and the file of its End
+-- a front as its steps, and the number of the file of its End
 abbrev pub front_parts : GroupFront → Option (List RegionStep × Option ℕ)
 front_parts (Open steps) = Some (steps, None)
-front_parts (Ended steps f) = Some (steps, Some f)
+front_parts (Ended steps seq) = Some (steps, Some seq)
 front_parts Cut = None
 
 -- a front of these steps, by whether it has an End
 abbrev pub front_ending : List RegionStep → Option ℕ → GroupFront
 front_ending steps None = Open steps
-front_ending steps (Some f) = Ended steps f
+front_ending steps (Some seq) = Ended steps seq
 
 -- the front of these parts
 abbrev pub front_from : Option (List RegionStep × Option ℕ) → GroupFront
@@ -74,7 +74,7 @@ front_from (Some p) = front_ending p.0 p.1
 -- which is the front again
 pub front_again : (f : GroupFront) → front_from (front_parts f) ≡ f
 front_again (Open steps) = refl
-front_again (Ended steps f) = refl
+front_again (Ended steps seq) = refl
 front_again Cut = refl
 
 -- the code of a front
@@ -83,7 +83,7 @@ front_code = code_by (Option (List RegionStep × Option ℕ)) (coded_option (cod
 
 -- the code of an open stretch
 abbrev pub stretch_code : Coded OpenStretch
-stretch_code = code_by (ℕ × List RegionStep) (coded× coded_ℕ (coded_list region_step_code)) (λ s. (s.file, s.steps)) (λ p. record { file = p.0; steps = p.1 }) (λ _. refl)
+stretch_code = code_by (ℕ × List RegionStep) (coded× coded_ℕ (coded_list region_step_code)) (λ s. (s.first_seq, s.steps)) (λ p. record { first_seq = p.0; steps = p.1 }) (λ _. refl)
 
 -- the code of a group that waits
 abbrev pub group_code : Coded WaitingGroup

@@ -14,12 +14,12 @@ use Rattle.raft_memtable.specs.declared.waiting_group.WholeGroup.{WholeGroup}
 -- a front by its cases
 abbrev pub front_shown : GroupFront → groups.GroupFront
 front_shown (fronts.Open items) = Open items
-front_shown (fronts.Ended items file) = Ended items file
+front_shown (fronts.Ended items seq) = Ended items seq
 front_shown fronts.Cut = Cut
 
 -- an open stretch
 abbrev pub open_shown : OpenStretch → groups.OpenStretch
-open_shown s = record { file = s.file; steps = s.items }
+open_shown s = record { first_seq = s.first_seq; steps = s.items }
 
 -- an open stretch, if there is one
 abbrev pub stretch_shown : Option OpenStretch → Option groups.OpenStretch
@@ -31,7 +31,7 @@ group_shown g = record { front = front_shown g.front; stretch = stretch_shown g.
 
 -- a group that is whole
 abbrev pub whole_shown : WholeGroup → groups.WholeGroup
-whole_shown w = record { steps = w.items; start = w.start; end = w.end }
+whole_shown w = record { steps = w.items; first_seq = w.first_seq; last_seq = w.last_seq }
 
 -- the entries of a map, as the map of groups
 abbrev pub seen_entries : List (ℕ × WaitingGroup) → all.WaitingGroups

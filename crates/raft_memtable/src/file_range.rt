@@ -49,7 +49,7 @@ impl FileRange {
         }
     }
 
-    /// The files of two neighbours.
+    /// The files of two neighbors.
     pub(crate) fn joined(older: Option<FileRange>, newer: Option<FileRange>) -> Option<FileRange>
         ensures { ranges_shown result ≡ joined_files (ranges_shown older) (ranges_shown newer) }
     {

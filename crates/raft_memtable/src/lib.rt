@@ -20,7 +20,7 @@ pub use raft_accessor::{
     MemTableAccessor, RegionTables, accessor, item_writes, region_tables, slot_of,
 };
 pub use raft_base::{
-    EntryIndex, Error, Factory, FileBlockHandle, FileId, FileSeq, LogQueue, Result,
+    AllocResult, EntryIndex, Error, Factory, FileBlockHandle, FileId, FileSeq, LogQueue, Result,
 };
 pub use raft_history::{
     ReplayMachine, contexts, effects, histories, read_runs, regions, replay_machine,

@@ -19,9 +19,9 @@ mod overlay;
 use crate::region_marks::RegionMarks;
 use crate::waiting_group::WholeGroup;
 use raft_accessor::MemTableAccessor;
-use raft_base::{EntryIndex, Error, FileId, FileSeq, LogQueue, Result};
+use raft_base::{AllocResult, EntryIndex, Error, FileId, FileSeq, LogQueue, Result};
 use raft_records::{Command, KeyValue, LogItem, LogItemBatch, LogItemContent, OpType, is_reserved};
-use std::alloc::{AllocError, Global};
+use std::alloc::Global;
 
 /// The tables of all regions, and the region mark of each region that a step named.
 #[derive(Drop)]
@@ -79,7 +79,7 @@ impl MarkedTables {
     /// Some items are then taken in.
     pub(crate) fn take_group(&mut self, whole: WholeGroup) -> Result<()>
         requires steps { AreStepsOfQueue Rewrite (whole_shown whole).steps }
-        requires files { (whole_shown whole).start ≤ (whole_shown whole).end }
+        requires files { (whole_shown whole).first_seq ≤ (whole_shown whole).last_seq }
         ensures ok { OnOk result
             (regions_after Rewrite (regions_in self.old) (region_steps_of_whole (whole_shown whole))
             ≡ Some (regions_in self.new)) }
@@ -89,10 +89,10 @@ impl MarkedTables {
         ensures other { OnOk result
             (live_in_all Append self.new.accessor.tables ≤ live_in_all Append self.old.accessor.tables) }
     {
-        let WholeGroup { items, start, end } = whole;
+        let WholeGroup { items, first_seq, last_seq } = whole;
         let regions = items.regions()?;
         self.take_each(LogQueue::Rewrite, items.into_items())?;
-        self.take_files(&regions, start, end)
+        self.take_files(&regions, first_seq, last_seq)
     }
 
     /// Takes in items, in order.
@@ -115,7 +115,7 @@ impl MarkedTables {
     /// # Errors
     ///
     /// `AllocError`. The run is then in its table, and not in the region mark.
-    fn try_run(&mut self, queue: LogQueue, item: &LogItem) -> std::result::Result<bool, AllocError>
+    fn try_run(&mut self, queue: LogQueue, item: &LogItem) -> AllocResult<bool>
         requires { AreStepsOfQueue queue (steps_of_items (item_of item.now ∷ [])) }
         ensures { IfOk result (λ taken. MatchBool taken
             (AreStepsTaken queue (steps_of_items (item_of item.now ∷ [])) (Ok tt) self.old self.new)
@@ -136,13 +136,13 @@ impl MarkedTables {
     }
 
     /// Takes in the files of a group for each of these regions.
-    fn take_files(&mut self, regions: &[u64], start: FileSeq, end: FileSeq) -> Result<()>
-        requires { start ≤ end }
-        ensures { AreStepsTaken Rewrite (on_each regions.now (AtomicGroup start end)) result
+    fn take_files(&mut self, regions: &[u64], first_seq: FileSeq, last_seq: FileSeq) -> Result<()>
+        requires { first_seq ≤ last_seq }
+        ensures { AreStepsTaken Rewrite (on_each regions.now (AtomicGroup first_seq last_seq)) result
             self.old self.new }
     {
         for id in regions {
-            self.accessor.apply_rewrite_atomic_group(*id, start, end)?;
+            self.accessor.apply_rewrite_atomic_group(*id, first_seq, last_seq)?;
             self.marks.mark(*id)?;
         }
         Ok(())

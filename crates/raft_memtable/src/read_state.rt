@@ -13,7 +13,7 @@ ghost use Rattle.raft_memtable.specs.BatchChecks.{marker_found};
 ghost use Rattle.raft_memtable.specs.KeptShown.{kept_shown};
 ghost use Rattle.raft_memtable.specs.MarkedTables.{regions_in, IsStepsFault};
 ghost use Rattle.raft_memtable.specs.ReadStates.{context_in, IsOfHistory, TakesEffect, MayTakeEffect};
-ghost use Rattle.raft_memtable.specs.RecoverContext.{reading_on, MayFollow, IsBatchFault, AreNeighbours, IsNeighbourFault};
+ghost use Rattle.raft_memtable.specs.RecoverContext.{reading_on, MayFollow, IsBatchFault, AreNeighbors, IsNeighborFault};
 ghost use Rattle.raft_memtable.specs.WaitingShown.{whole_shown};
 
 mod overlay;
@@ -132,7 +132,7 @@ impl ReadState {
     pub(crate) fn merge(&mut self, newer: ReadState, queue: LogQueue) -> Result<()>
         requires older { IsOfHistory (context_in self.old) }
         requires newer { IsOfHistory (context_in newer) }
-        ensures neighbours { OnOk result (AreNeighbours queue (context_in self.old)
+        ensures neighbors { OnOk result (AreNeighbors queue (context_in self.old)
             (context_in newer)) }
         ensures regions { OnOk result
             (AreMerged queue (context_in self.old) (context_in newer) (context_in self.new).regions) }
@@ -140,9 +140,9 @@ impl ReadState {
             (context_in self.new ≡ merged_with (context_in self.old) (context_in newer) (context_in self.new).regions) }
         ensures read { OnOk result (IsOfHistory (context_in self.new)) }
         ensures fault { IfErr result
-            (IsNeighbourFault queue (reading_on (context_in self.old)) (reading_on (context_in newer))) }
+            (IsNeighborFault queue (reading_on (context_in self.old)) (reading_on (context_in newer))) }
     {
-        self.check_neighbour(&newer, queue)?;
+        self.check_neighbor(&newer, queue)?;
         self.join(newer, queue)
     }
 
@@ -163,11 +163,11 @@ impl ReadState {
     }
 
     /// Whether what was read of newer batches may be taken in.
-    fn check_neighbour(&self, newer: &ReadState, queue: LogQueue) -> Result<()>
-        ensures ok { OnOk result (AreNeighbours queue (context_in self.now)
+    fn check_neighbor(&self, newer: &ReadState, queue: LogQueue) -> Result<()>
+        ensures ok { OnOk result (AreNeighbors queue (context_in self.now)
             (context_in newer.now)) }
         ensures fault { IfErr result
-            (IsNeighbourFault queue (reading_on (context_in self.now)) (reading_on (context_in newer.now))) }
+            (IsNeighborFault queue (reading_on (context_in self.now)) (reading_on (context_in newer.now))) }
     {
         if !FileRange::suits(self.files, queue) || !FileRange::suits(newer.files, queue) {
             return Err(Error::invalid_argument(self.alloc, "a context of the other queue"));
@@ -178,18 +178,18 @@ impl ReadState {
         Ok(())
     }
 
-    /// Takes in a neighbour.
+    /// Takes in a neighbor.
     fn join(&mut self, newer: ReadState, queue: LogQueue) -> Result<()>
         requires older { IsOfHistory (context_in self.old) }
         requires newer { IsOfHistory (context_in newer) }
-        requires neighbours { AreNeighbours queue (context_in self.old) (context_in newer) }
+        requires neighbors { AreNeighbors queue (context_in self.old) (context_in newer) }
         ensures regions { OnOk result
             (AreMerged queue (context_in self.old) (context_in newer) (context_in self.new).regions) }
         ensures merged { OnOk result
             (context_in self.new ≡ merged_with (context_in self.old) (context_in newer) (context_in self.new).regions) }
         ensures read { OnOk result (IsOfHistory (context_in self.new)) }
         ensures fault { IfErr result
-            (IsNeighbourFault queue (reading_on (context_in self.old)) (reading_on (context_in newer))) }
+            (IsNeighborFault queue (reading_on (context_in self.old)) (reading_on (context_in newer))) }
     {
         let ReadState {
             regions,

@@ -14,7 +14,7 @@ ghost use Rattle.raft_history.specs.ReplayMachine.{event};
 ghost use Rattle.raft_accessor.specs.Accessor.{AreCountsOf};
 ghost use Rattle.raft_memtable.specs.KeptShown.{kept_shown, IsKeptFault};
 ghost use Rattle.raft_memtable.specs.OverlaidContext.{IsOverlaidWith, IsOfBothExactly, IsMergeAppendFault};
-ghost use Rattle.raft_memtable.specs.RecoverContext.{blank_context, HasRead, HasReadExactly, IsBatchTaken, IsBatchFault, IsMergedWith, IsNeighbourFault, refused_stage};
+ghost use Rattle.raft_memtable.specs.RecoverContext.{blank_context, HasRead, HasReadExactly, IsBatchTaken, IsBatchFault, IsMergedWith, IsNeighborFault, refused_stage};
 ghost use Rattle.raft_memtable.specs.declared.context_stage.ContextStage.TheVariants.{Reading, Overlaid, Failed};
 
 use crate::context_stage::ContextStage;
@@ -109,7 +109,7 @@ impl MemTableRecoverContext {
     /// entries leave a hole; `Full` where both hold more than 2^64 - 1 records; `Memory`.
     pub fn merge(&mut self, rhs: MemTableRecoverContext, queue: LogQueue) -> Result<()>
         ensures ok { OnOk result (IsMergedWith queue rhs self.old self.new) }
-        ensures fault { IfErr result (IsNeighbourFault queue self.old rhs) }
+        ensures fault { IfErr result (IsNeighborFault queue self.old rhs) }
         ensures err { OnErr result (self.new.stage ≡ refused_stage self.old.stage) }
         ensures unchanged { self.old.stage ≢ Reading → self.new ≡ self.old }
         ensures failed { (self.old.stage ≢ Reading) ⊎ (rhs.stage ≢ Reading) →

@@ -11,7 +11,7 @@ ghost use Rattle.raft_table.specs.MarkJoins.{fresh, mark_of, joined_at};
 ghost use Rattle.raft_table.specs.Steps.{Compact, Truncate, Del, Clean};
 ghost use Rattle.raft_memtable.specs.RegionMarks.{mark_in, MayChangeMark, IsMarkUpdated};
 
-use raft_base::LogQueue;
+use raft_base::{AllocResult, LogQueue};
 use raft_table::Mark;
 use std::alloc::{AllocError, Global};
 use std::collections::HashMap;
@@ -81,7 +81,7 @@ impl RegionMarks {
     /// # Errors
     ///
     /// `AllocError`. The region marks are then as they were.
-    pub fn mark(&mut self, id: u64) -> Result<(), AllocError>
+    pub fn mark(&mut self, id: u64) -> AllocResult<()>
         ensures ok { OnOk result (self.new ≡ finite.insert self.old id (mark_in self.old id)) }
         ensures err { OnErr result (self.new ≡ self.old) }
     {
@@ -94,13 +94,7 @@ impl RegionMarks {
     /// # Errors
     ///
     /// `AllocError`. The region marks are then as they were.
-    pub fn add_run(
-        &mut self,
-        id: u64,
-        queue: LogQueue,
-        end: u64,
-        start: u64,
-    ) -> Result<(), AllocError>
+    pub fn add_run(&mut self, id: u64, queue: LogQueue, end: u64, start: u64) -> AllocResult<()>
         ensures ok { OnOk result (self.new
             ≡ finite.insert self.old id
             (joined_at queue end (mark_in self.old id) (record fresh { reach = Some start; cut = Some start }))) }
@@ -117,7 +111,7 @@ impl RegionMarks {
     /// # Errors
     ///
     /// `AllocError`. The region marks are then as they were.
-    pub fn add_compaction(&mut self, id: u64, index: u64) -> Result<(), AllocError>
+    pub fn add_compaction(&mut self, id: u64, index: u64) -> AllocResult<()>
         ensures ok { (queue : LogQueue) (end : ℕ)
             → OnOk result (self.new
             ≡ finite.insert self.old id (joined_at queue end (mark_in self.old id) (mark_of (Compact index)))) }
@@ -134,7 +128,7 @@ impl RegionMarks {
     /// # Errors
     ///
     /// `AllocError`. The region marks are then as they were.
-    pub fn add_truncation(&mut self, id: u64, index: u64) -> Result<(), AllocError>
+    pub fn add_truncation(&mut self, id: u64, index: u64) -> AllocResult<()>
         ensures ok { (queue : LogQueue) (end : ℕ)
             → OnOk result (self.new
             ≡ finite.insert self.old id (joined_at queue end (mark_in self.old id) (mark_of (Truncate index)))) }
@@ -151,7 +145,7 @@ impl RegionMarks {
     /// # Errors
     ///
     /// `AllocError`. The region marks are then as they were.
-    pub fn add_deleted(&mut self, id: u64, key: Vec<u8>) -> Result<(), AllocError>
+    pub fn add_deleted(&mut self, id: u64, key: Vec<u8>) -> AllocResult<()>
         ensures ok { (queue : LogQueue) (end : ℕ)
             → OnOk result (self.new
             ≡ finite.insert self.old id (joined_at queue end (mark_in self.old id) (mark_of (Del key.items)))) }
@@ -168,7 +162,7 @@ impl RegionMarks {
     /// # Errors
     ///
     /// `AllocError`. The region marks are then as they were.
-    pub fn add_clean(&mut self, id: u64) -> Result<(), AllocError>
+    pub fn add_clean(&mut self, id: u64) -> AllocResult<()>
         ensures ok { (queue : LogQueue) (end : ℕ)
             → OnOk result (self.new
             ≡ finite.insert self.old id (joined_at queue end (mark_in self.old id) (mark_of Clean))) }
@@ -192,7 +186,7 @@ impl RegionMarks {
         queue: LogQueue,
         end_at_reach: u64,
         newer: Mark,
-    ) -> Result<(), AllocError>
+    ) -> AllocResult<()>
         ensures ok { OnOk result (self.new
             ≡ finite.insert self.old id (joined_at queue end_at_reach (mark_in self.old id) newer)) }
     {
@@ -212,11 +206,11 @@ impl RegionMarks {
 
     /// Changes the region mark of a region, that of no step where it has none. It is looked up once where it is there.
     #[inline(always)]
-    fn update<F: FnOnce(&mut Mark) -> Result<(), AllocError>>(
+    fn update<F: FnOnce(&mut Mark) -> AllocResult<()>>(
         &mut self,
         id: u64,
         change: F,
-    ) -> Result<(), AllocError>
+    ) -> AllocResult<()>
     where
         F: Drop,
         requires { MayChangeMark F.FnOnce change (mark_in self.old id) }
@@ -236,7 +230,7 @@ impl RegionMarks {
 }
 
 /// What a call answers that is refused for want of memory alone.
-fn without_error(answer: raft_base::Result<()>) -> Result<(), AllocError>
+fn without_error(answer: raft_base::Result<()>) -> AllocResult<()>
     ensures { MatchResult answer (λ u. result ≡ Ok tt) (λ e. result ≡ Err alloc_error) }
 {
     match answer {

@@ -7,25 +7,25 @@ ghost use Rattle.raft_history.specs.WaitingGroups.{held_steps, front_steps};
 ghost use Rattle.raft_memtable.specs.WaitingShown.{front_shown, stretch_shown, group_shown, whole_shown};
 
 use crate::waiting_items::WaitingItems;
-use raft_base::FileSeq;
+use raft_base::{AllocResult, FileSeq};
 use raft_records::AtomicGroupStatus;
-use std::alloc::{AllocError, Global};
+use std::alloc::Global;
 
 /// What stands before the first `Begin` of a group: what ends a stretch that began earlier.
 #[derive(Debug, Drop)]
 pub enum GroupFront {
     /// No `Begin` and no `End` has come; the items so far.
     Open(WaitingItems),
-    /// An `End` came first; the items up to it, and its file.
+    /// An `End` came first; the items up to it, and the number of its file.
     Ended(WaitingItems, FileSeq),
     /// A `Begin` came first.
     Cut,
 }
 
-/// A stretch that has begun and not ended: the file of its `Begin`, and its items.
+/// A stretch that has begun and not ended: the number of the file of its `Begin`, and its items.
 #[derive(Debug, Drop)]
 pub struct OpenStretch {
-    pub file: FileSeq,
+    pub first_seq: FileSeq,
     pub items: WaitingItems,
 }
 
@@ -36,12 +36,12 @@ pub struct WaitingGroup {
     pub stretch: Option<OpenStretch>,
 }
 
-/// A group that is whole: its items, and the files of its `Begin` and its `End`.
+/// A group that is whole: its items, and the numbers of the files of its `Begin` and its `End`.
 #[derive(Debug, Drop)]
 pub struct WholeGroup {
     pub items: WaitingItems,
-    pub start: FileSeq,
-    pub end: FileSeq,
+    pub first_seq: FileSeq,
+    pub last_seq: FileSeq,
 }
 
 impl GroupFront {
@@ -57,7 +57,7 @@ impl GroupFront {
     }
 
     /// The front with items that stand before it.
-    fn led_by(self, items: WaitingItems) -> Result<GroupFront, AllocError>
+    fn led_by(self, items: WaitingItems) -> AllocResult<GroupFront>
         ensures { IfOk result (λ r. front_shown r ≡ led_by items (front_shown self)) }
     {
         let mut items = items;
@@ -66,9 +66,9 @@ impl GroupFront {
                 items.append(more)?;
                 Ok(GroupFront::Open(items))
             }
-            GroupFront::Ended(more, file) => {
+            GroupFront::Ended(more, seq) => {
                 items.append(more)?;
-                Ok(GroupFront::Ended(items, file))
+                Ok(GroupFront::Ended(items, seq))
             }
             GroupFront::Cut => Ok(GroupFront::Cut),
         }
@@ -87,20 +87,20 @@ impl WaitingGroup {
     }
 
     /// What is known of a group from one batch with its group marker.
-    pub fn one_marker(status: AtomicGroupStatus, items: WaitingItems, file: FileSeq) -> WaitingGroup
-        ensures { group_shown result ≡ one_marker status items file }
+    pub fn one_marker(status: AtomicGroupStatus, items: WaitingItems, seq: FileSeq) -> WaitingGroup
+        ensures { group_shown result ≡ one_marker status items seq }
     {
         match status {
             AtomicGroupStatus::Begin => WaitingGroup {
                 front: GroupFront::Cut,
-                stretch: Some(OpenStretch { file, items }),
+                stretch: Some(OpenStretch { first_seq: seq, items }),
             },
             AtomicGroupStatus::Middle => WaitingGroup {
                 front: GroupFront::Open(items),
                 stretch: None,
             },
             AtomicGroupStatus::End => WaitingGroup {
-                front: GroupFront::Ended(items, file),
+                front: GroupFront::Ended(items, seq),
                 stretch: None,
             },
         }
@@ -124,7 +124,7 @@ impl WaitingGroup {
     /// # Errors
     ///
     /// Where there is no memory to put the newer items behind the older ones.
-    pub fn join(self, newer: WaitingGroup) -> Result<(WaitingGroup, Option<WholeGroup>), AllocError>
+    pub fn join(self, newer: WaitingGroup) -> AllocResult<(WaitingGroup, Option<WholeGroup>)>
         ensures known { IfOk result (λ r. group_shown r.0 ≡ joined_group (group_shown self)
             (group_shown newer)) }
         ensures whole { IfOk result (λ r. option_map whole_shown r.1
@@ -141,8 +141,8 @@ impl WaitingGroup {
         let (front, stretch, whole) = match (older_front, newer_front) {
             (GroupFront::Open(items), front) => (front.led_by(items)?, newer_stretch, None),
             (front, GroupFront::Open(items)) => (front, going_on(older_stretch, items)?, None),
-            (front, GroupFront::Ended(items, end)) => {
-                let whole = ended(older_stretch, items, end)?;
+            (front, GroupFront::Ended(items, last_seq)) => {
+                let whole = ended(older_stretch, items, last_seq)?;
                 (front, newer_stretch, whole)
             }
             (front, GroupFront::Cut) => (front, newer_stretch, None),
@@ -152,10 +152,7 @@ impl WaitingGroup {
 }
 
 /// A stretch, if one is open, with more items.
-fn going_on(
-    stretch: Option<OpenStretch>,
-    items: WaitingItems,
-) -> Result<Option<OpenStretch>, AllocError>
+fn going_on(stretch: Option<OpenStretch>, items: WaitingItems) -> AllocResult<Option<OpenStretch>>
     ensures { IfOk result (λ r. stretch_shown r ≡ carried_stretch (stretch_shown stretch) items) }
 {
     match stretch {
@@ -172,10 +169,10 @@ fn going_on(
 fn ended(
     stretch: Option<OpenStretch>,
     items: WaitingItems,
-    end: FileSeq,
-) -> Result<Option<WholeGroup>, AllocError>
+    last_seq: FileSeq,
+) -> AllocResult<Option<WholeGroup>>
     ensures { IfOk result (λ r. option_map whole_shown r ≡ whole_of (stretch_shown stretch)
-        (Ended items end)) }
+        (Ended items last_seq)) }
 {
     match stretch {
         Some(open) => {
@@ -183,8 +180,8 @@ fn ended(
             all.append(items)?;
             let whole = WholeGroup {
                 items: all,
-                start: open.file,
-                end,
+                first_seq: open.first_seq,
+                last_seq,
             };
             Ok(Some(whole))
         }

@@ -14,9 +14,9 @@ ghost use Rattle.raft_memtable.specs.WaitingShown.{seen_entries, group_shown, wh
 
 use crate::waiting_group::{WaitingGroup, WholeGroup};
 use crate::waiting_items::WaitingItems;
-use raft_base::FileSeq;
+use raft_base::{AllocResult, FileSeq};
 use raft_records::AtomicGroupStatus;
-use std::alloc::{AllocError, Global};
+use std::alloc::Global;
 use std::collections::BTreeMap;
 use std::marker::Model;
 
@@ -71,8 +71,8 @@ impl WaitingGroups {
         count
     }
 
-    /// Takes in one more batch, with a group marker of the group `id`. Answers the group if the batch makes
-    /// it whole.
+    /// Takes in one more batch, with a group marker of the group `id`, of the file `seq`. Answers the group
+    /// if the batch makes it whole.
     ///
     /// # Errors
     ///
@@ -82,19 +82,19 @@ impl WaitingGroups {
         id: u64,
         status: AtomicGroupStatus,
         items: WaitingItems,
-        file: FileSeq,
-    ) -> Result<Option<WholeGroup>, AllocError>
+        seq: FileSeq,
+    ) -> AllocResult<Option<WholeGroup>>
         ensures known { OnOk result (self.new
-            ≡ finite.insert self.old id (joined_group (known self.old id) (one_marker status items file))) }
+            ≡ finite.insert self.old id (joined_group (known self.old id) (one_marker status items seq))) }
         ensures whole { IfOk result (λ w. option_map whole_shown w
-            ≡ whole_group (known self.old id) (one_marker status items file)) }
+            ≡ whole_group (known self.old id) (one_marker status items seq)) }
         ensures stands { (h : List BatchSteps) → self.old ≡ groups_in h
-            → OnOk result (self.new ≡ groups_in (h ++ batch_with_marker items id status file ∷ [])) }
+            → OnOk result (self.new ≡ groups_in (h ++ batch_with_marker items id status seq ∷ [])) }
         ensures steps { (h : List BatchSteps) (r : ℕ) → self.old ≡ groups_in h
-            → IfOk result (λ w. steps_of r (h ++ batch_with_marker items id status file ∷ [])
+            → IfOk result (λ w. steps_of r (h ++ batch_with_marker items id status seq ∷ [])
             ≡ steps_of r h ++ steps_or r (option_map whole_shown w)) }
     {
-        let whole = self.join_one(id, WaitingGroup::one_marker(status, items, file))?;
+        let whole = self.join_one(id, WaitingGroup::one_marker(status, items, seq))?;
         Ok(whole)
     }
 
@@ -104,7 +104,7 @@ impl WaitingGroups {
     /// # Errors
     ///
     /// Where there is no memory. Groups may then be forgotten.
-    pub fn join(&mut self, newer: WaitingGroups) -> Result<Vec<WholeGroup>, AllocError>
+    pub fn join(&mut self, newer: WaitingGroups) -> AllocResult<Vec<WholeGroup>>
         ensures known { OnOk result (self.new ≡ joined_groups self.old newer) }
         ensures wholes { IfOk result (λ w. map whole_shown w.items ≡ whole_groups self.old newer) }
         ensures stands { (h k : List BatchSteps) → self.old ≡ groups_in h → newer ≡ groups_in k
@@ -119,7 +119,7 @@ impl WaitingGroups {
     }
 
     /// Joins one group of the newer history after another.
-    fn join_each(&mut self, newer: WaitingGroups) -> Result<Vec<WholeGroup>, AllocError>
+    fn join_each(&mut self, newer: WaitingGroups) -> AllocResult<Vec<WholeGroup>>
         ensures known { OnOk result (self.new ≡ joined_groups self.old newer) }
         ensures wholes { IfOk result (λ w. map whole_shown w.items ≡ whole_groups self.old newer) }
     {
@@ -133,7 +133,7 @@ impl WaitingGroups {
     }
 
     /// Joins what is known of one group with what is known of it from a newer history.
-    fn join_one(&mut self, id: u64, newer: WaitingGroup) -> Result<Option<WholeGroup>, AllocError>
+    fn join_one(&mut self, id: u64, newer: WaitingGroup) -> AllocResult<Option<WholeGroup>>
         ensures known { OnOk result (self.new
             ≡ finite.insert self.old id (joined_group (known self.old id) (group_shown newer))) }
         ensures whole { IfOk result (λ w. option_map whole_shown w
@@ -171,7 +171,7 @@ fn take_out(groups: &mut BTreeMap<u64, WaitingGroup>, alloc: Global, id: u64) ->
 }
 
 /// Pushes a group, if there is one.
-fn push_some(wholes: &mut Vec<WholeGroup>, whole: Option<WholeGroup>) -> Result<(), AllocError>
+fn push_some(wholes: &mut Vec<WholeGroup>, whole: Option<WholeGroup>) -> AllocResult<()>
     ensures { OnOk result (map whole_shown wholes.new.items
         ≡ map whole_shown wholes.old.items ++ option_to_list (option_map whole_shown whole)) }
 {

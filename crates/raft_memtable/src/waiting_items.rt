@@ -6,8 +6,9 @@ ghost use Rattle.raft_records.specs.Item.{item_of, pair, pair_of};
 ghost use Rattle.raft_history.specs.RegionSteps.{content_step, steps_of_items, names};
 ghost use Rattle.raft_memtable.specs.WaitingItems.{has_step};
 
+use raft_base::AllocResult;
 use raft_records::{KeyValue, LogItem, LogItemContent, OpType, is_reserved};
-use std::alloc::{AllocError, Global};
+use std::alloc::Global;
 use std::marker::Model;
 
 /// Items that wait for the end of their group. Each of them changes a table: the others, as the
@@ -61,7 +62,7 @@ impl WaitingItems {
     /// # Errors
     ///
     /// Where there is no memory for them.
-    pub fn append(&mut self, more: WaitingItems) -> Result<(), AllocError>
+    pub fn append(&mut self, more: WaitingItems) -> AllocResult<()>
         ensures { OnOk result (self.new ≡ self.old ++ more) }
     {
         let mut more = more.items;
@@ -74,7 +75,7 @@ impl WaitingItems {
     /// # Errors
     ///
     /// Where there is no memory for them.
-    pub fn regions(&self) -> Result<Vec<u64>, AllocError>
+    pub fn regions(&self) -> AllocResult<Vec<u64>>
         ensures { IfOk result (λ ids. (r : ℕ) →
             list_any (λ id. eqb r id) ids.items ≡ names r self.now) }
     {

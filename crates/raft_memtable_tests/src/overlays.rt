@@ -1,12 +1,12 @@
-//! Contexts of the rewrite queue that take in the context of the append queue, and contexts that are refused.
+//! Contexts of the rewrite queue that take in the context of the append queue.
 
 ghost use Rattle.std.specs.Prelude.{◌≡◌, OnOk};
 ghost use Rattle.raft_records.specs.LogBatch.{populating};
 
+mod refused;
+
 use crate::files::{file_of, replay_file};
-use raft_memtable::{
-    Error, FileId, Kept, LogQueue, MemTableAccessor, MemTableRecoverContext, Result,
-};
+use raft_memtable::{Error, FileId, LogQueue, MemTableAccessor, MemTableRecoverContext, Result};
 use raft_records::{Command, FilePart, LogBatch, Message, MessageError, MessageExt};
 use std::alloc::Global;
 
@@ -385,123 +385,4 @@ fn the_append_queue_lies_over_the_rewrite_queue(rt: HostRuntime) {
         }
         assert!(rt; matches!(held, Ok(true)));
     }
-}
-
-/// Why a call is refused; want of memory is handed on.
-#[derive(Clone, Copy, PartialEq, Eq, Debug)]
-enum Refusal {
-    Failed,
-    InvalidArgument,
-    Other,
-}
-
-fn refusal_of(answer: Result<()>) -> Result<Option<Refusal>> {
-    match answer {
-        Ok(()) => Ok(None),
-        Err(Error::Memory) => Err(Error::Memory),
-        Err(Error::Failed) => Ok(Some(Refusal::Failed)),
-        Err(Error::InvalidArgument(_)) => Ok(Some(Refusal::InvalidArgument)),
-        Err(_) => Ok(Some(Refusal::Other)),
-    }
-}
-
-/// A context of the wrong queue is refused, and the refusal fails the other one.
-fn wrong_queues(alloc: Global) -> Result<bool> {
-    let mut appended = read(alloc, LogQueue::Append, &[Put])?;
-    let taken = take_in(&mut appended, MemTableRecoverContext::new(alloc)?)?;
-    Ok(taken == Some(Refusal::InvalidArgument) && rewrite_queues(alloc)?)
-}
-
-fn rewrite_queues(alloc: Global) -> Result<bool> {
-    let mut rewritten = read(alloc, LogQueue::Rewrite, &[Put])?;
-    let refused = take_in(&mut rewritten, read(alloc, LogQueue::Rewrite, &[Put])?)?;
-    let failed = matches!(rewritten.finish(), Err(Error::Failed));
-    Ok(refused == Some(Refusal::InvalidArgument) && failed)
-}
-
-/// How a context's taking in of another is refused.
-fn take_in(
-    context: &mut MemTableRecoverContext,
-    appended: MemTableRecoverContext,
-) -> Result<Option<Refusal>> {
-    refusal_of(context.merge_append_context(appended))
-}
-
-/// What one neighbour read of its queue.
-type Neighbour = (LogQueue, Word);
-
-/// Two neighbours, one of them or both of another queue than the rewrite queue. In the last two rows their runs leave a
-/// hole, for which neighbours of the append queue are refused too.
-const NEIGHBOURS: [(Neighbour, Neighbour); 5] = [
-    ((LogQueue::Append, Put), (LogQueue::Rewrite, Put)),
-    ((LogQueue::Rewrite, Put), (LogQueue::Append, Put)),
-    ((LogQueue::Append, Put), (LogQueue::Append, Put)),
-    (
-        (LogQueue::Append, Run(10, 20)),
-        (LogQueue::Append, Run(40, 45)),
-    ),
-    (
-        (LogQueue::Rewrite, Run(10, 20)),
-        (LogQueue::Append, Run(40, 45)),
-    ),
-];
-
-/// Neighbours are merged for no other queue than that of both, and the refusal fails the older one.
-fn wrong_neighbours(alloc: Global) -> Result<bool> {
-    for &(older, newer) in &NEIGHBOURS {
-        if !are_wrong(alloc, older, newer)? {
-            return Ok(false);
-        }
-    }
-    Ok(true)
-}
-
-fn are_wrong(alloc: Global, older: Neighbour, newer: Neighbour) -> Result<bool> {
-    let mut context = read(alloc, older.0, &[older.1])?;
-    let newer = read(alloc, newer.0, &[newer.1])?;
-    let refused = refusal_of(context.merge(newer, LogQueue::Rewrite))?;
-    let failed = matches!(context.finish(), Err(Error::Failed));
-    Ok(refused == Some(Refusal::InvalidArgument) && failed)
-}
-
-/// What has taken in an append context takes in nothing more, and is taken in by none.
-fn overlaid_twice(alloc: Global) -> Result<bool> {
-    let mut context = overlaid(alloc, &[Run(10, 20)], &[Put])?;
-    let again = take_in(&mut context, MemTableRecoverContext::new(alloc)?)?;
-    let replayed = refusal_of(replay(alloc, &mut context, LogQueue::Rewrite, 1, &[Clean]))?;
-    let kept = has_kept(&context)?;
-    let mut older = MemTableRecoverContext::new(alloc)?;
-    let merged = take_in(&mut older, context)?;
-    Ok(
-        kept && [again, replayed, merged]
-            .iter()
-            .all(|answer| *answer == Some(Refusal::Failed)),
-    )
-}
-
-/// Whether a context holds ten entries and a key.
-fn has_kept(context: &MemTableRecoverContext) -> Result<bool> {
-    let stays = Kept {
-        entries: 10,
-        keys: 1,
-        marks: 0,
-        deleted_keys: 0,
-        cleaned: 0,
-        waiting_items: 0,
-    };
-    Ok(context.kept()? == stays)
-}
-
-/// Whether contexts that don't fit are refused.
-fn are_refused(alloc: Global) -> Result<bool> {
-    Ok(wrong_queues(alloc)? && wrong_neighbours(alloc)? && overlaid_twice(alloc)?)
-}
-
-#[test]
-fn contexts_that_do_not_fit_are_refused(rt: HostRuntime) {
-    let mut held = are_refused(rt.alloc());
-    if matches!(held, Err(Error::Memory)) {
-        held = are_refused(rt.alloc());
-    }
-    assert!(rt; matches!(held, Ok(true)));
 }

@@ -74,15 +74,15 @@ fits_placed block c s (entries es) h = (consecutive_placed es h.0, tile_placed s
 fits_placed block c s (command x) h = h
 fits_placed block c s (pair p) h = h
 
-end_placed : (block : FileBlockHandle) (c : CompressionType) (s : ℕ) (es : List EntryIndex) → end_behind s (map (placed_entry block c) es) ≡ end_behind s es
-end_placed block c s [] = refl
-end_placed block c s (e ∷ es) = end_placed block c (tail_of e) es
+end_placed : (handle : FileBlockHandle) (c : CompressionType) (s : ℕ) (es : List EntryIndex) → end_behind s (map (placed_entry handle c) es) ≡ end_behind s es
+end_placed handle c s [] = refl
+end_placed handle c s (e ∷ es) = end_placed handle c (tail_of e) es
 
-pub behind_placed : (block : FileBlockHandle) (c : CompressionType) (s : ℕ) (x : Item) → behind_item s (placed_item block c x) ≡ behind_item s x
-behind_placed block c s x = go x.content
+pub behind_placed : (handle : FileBlockHandle) (c : CompressionType) (s : ℕ) (x : Item) → behind_item s (placed_item handle c x) ≡ behind_item s x
+behind_placed handle c s x = go x.content
   where
-    go : (content : Content) → behind_item s (placed_item block c (record { raft_group_id = x.raft_group_id; content = content })) ≡ behind_item s (record { raft_group_id = x.raft_group_id; content = content })
-    go (entries es) = end_placed block c s es
+    go : (content : Content) → behind_item s (placed_item handle c (record { raft_group_id = x.raft_group_id; content = content })) ≡ behind_item s (record { raft_group_id = x.raft_group_id; content = content })
+    go (entries es) = end_placed handle c s es
     go (command y) = refl
     go (pair p) = refl
 
@@ -125,9 +125,9 @@ pub end_is_state : (s : ℕ) (xs : List Item) → end_of_items s xs ≡ state_af
 end_is_state s [] = refl
 end_is_state s (x ∷ xs) = end_is_state (behind_item s x) xs
 
-pub end_of_placed : (block : FileBlockHandle) (c : CompressionType) (s : ℕ) (xs : List Item) → end_of_items s (map (placed_item block c) xs) ≡ end_of_items s xs
-end_of_placed block c s [] = refl
-end_of_placed block c s (x ∷ xs) = ap (λ (t : ℕ). end_of_items t (map (placed_item block c) xs)) (behind_placed block c s x) ∙ end_of_placed block c (behind_item s x) xs
+pub end_of_placed : (handle : FileBlockHandle) (c : CompressionType) (s : ℕ) (xs : List Item) → end_of_items s (map (placed_item handle c) xs) ≡ end_of_items s xs
+end_of_placed handle c s [] = refl
+end_of_placed handle c s (x ∷ xs) = ap (λ (t : ℕ). end_of_items t (map (placed_item handle c) xs)) (behind_placed handle c s x) ∙ end_of_placed handle c (behind_item s x) xs
 
 -- one more item behind those that were read
 pub one_more_item : (bytes mid rest : List ℕ) (xs : List Item) (x : Item) (s : ℕ) → Reads (IsSequence behind_item IsItem 0) bytes mid xs → s ≡ end_of_items 0 xs → Reads (IsItem s) mid rest x → Reads (IsSequence behind_item IsItem 0) bytes rest (xs ++ x ∷ [])
@@ -206,59 +206,59 @@ map_view_more {X} {Y} g f xs ys i old new lt len e at step =
 
 -- ---- what places leave as it is
 
-tails_placed : (block : FileBlockHandle) (c : CompressionType) (es : List EntryIndex) → tails_bytes (map (placed_entry block c) es) ≡ tails_bytes es
-tails_placed block c [] = refl
-tails_placed block c (e ∷ es) = ap (λ (t : List ℕ). varint (tail_of e) ++ t) (tails_placed block c es)
+tails_placed : (handle : FileBlockHandle) (c : CompressionType) (es : List EntryIndex) → tails_bytes (map (placed_entry handle c) es) ≡ tails_bytes es
+tails_placed handle c [] = refl
+tails_placed handle c (e ∷ es) = ap (λ (t : List ℕ). varint (tail_of e) ++ t) (tails_placed handle c es)
 
-entries_placed : (block : FileBlockHandle) (c : CompressionType) (es : List EntryIndex) → entries_bytes (map (placed_entry block c) es) ≡ entries_bytes es
-entries_placed block c [] = refl
-entries_placed block c (e ∷ es) =
-    ap (λ (n : ℕ). varint (suc n) ++ (varint e.index ++ tails_bytes (map (placed_entry block c) (e ∷ es)))) (length-map es (placed_entry block c))
-    ∙ ap (λ (t : List ℕ). varint (suc (length es)) ++ (varint e.index ++ t)) (tails_placed block c (e ∷ es))
+entries_placed : (handle : FileBlockHandle) (c : CompressionType) (es : List EntryIndex) → entries_bytes (map (placed_entry handle c) es) ≡ entries_bytes es
+entries_placed handle c [] = refl
+entries_placed handle c (e ∷ es) =
+    ap (λ (n : ℕ). varint (suc n) ++ (varint e.index ++ tails_bytes (map (placed_entry handle c) (e ∷ es)))) (length-map es (placed_entry handle c))
+    ∙ ap (λ (t : List ℕ). varint (suc (length es)) ++ (varint e.index ++ t)) (tails_placed handle c (e ∷ es))
 
-bytes_placed : (block : FileBlockHandle) (c : CompressionType) (x : Item) → item_bytes (placed_item block c x) ≡ item_bytes x
-bytes_placed block c x = go x.content
+bytes_placed : (handle : FileBlockHandle) (c : CompressionType) (x : Item) → item_bytes (placed_item handle c x) ≡ item_bytes x
+bytes_placed handle c x = go x.content
   where
-    go : (content : Content) → item_bytes (placed_item block c (record { raft_group_id = x.raft_group_id; content = content })) ≡ item_bytes (record { raft_group_id = x.raft_group_id; content = content })
-    go (entries es) = ap (λ (t : List ℕ). varint x.raft_group_id ++ 1 ∷ t) (entries_placed block c es)
+    go : (content : Content) → item_bytes (placed_item handle c (record { raft_group_id = x.raft_group_id; content = content })) ≡ item_bytes (record { raft_group_id = x.raft_group_id; content = content })
+    go (entries es) = ap (λ (t : List ℕ). varint x.raft_group_id ++ 1 ∷ t) (entries_placed handle c es)
     go (command y) = refl
     go (pair p) = refl
 
-all_placed : (block : FileBlockHandle) (c : CompressionType) (xs : List Item) → flat_map item_bytes (map (placed_item block c) xs) ≡ flat_map item_bytes xs
-all_placed block c [] = refl
-all_placed block c (x ∷ xs) = ap (λ (t : List ℕ). t ++ flat_map item_bytes (map (placed_item block c) xs)) (bytes_placed block c x) ∙ ap (λ (t : List ℕ). item_bytes x ++ t) (all_placed block c xs)
+all_placed : (handle : FileBlockHandle) (c : CompressionType) (xs : List Item) → flat_map item_bytes (map (placed_item handle c) xs) ≡ flat_map item_bytes xs
+all_placed handle c [] = refl
+all_placed handle c (x ∷ xs) = ap (λ (t : List ℕ). t ++ flat_map item_bytes (map (placed_item handle c) xs)) (bytes_placed handle c x) ∙ ap (λ (t : List ℕ). item_bytes x ++ t) (all_placed handle c xs)
 
-pub batch_placed : (block : FileBlockHandle) (c : CompressionType) (xs : List Item) → batch_bytes (map (placed_item block c) xs) ≡ batch_bytes xs
+pub batch_placed : (handle : FileBlockHandle) (c : CompressionType) (xs : List Item) → batch_bytes (map (placed_item handle c) xs) ≡ batch_bytes xs
 unfolding batch_bytes
-batch_placed block c xs = ap (λ (n : ℕ). varint n ++ flat_map item_bytes (map (placed_item block c) xs)) (length-map xs (placed_item block c)) ∙ ap (λ (t : List ℕ). varint (length xs) ++ t) (all_placed block c xs)
+batch_placed handle c xs = ap (λ (n : ℕ). varint n ++ flat_map item_bytes (map (placed_item handle c) xs)) (length-map xs (placed_item handle c)) ∙ ap (λ (t : List ℕ). varint (length xs) ++ t) (all_placed handle c xs)
 
-size_placed : (block : FileBlockHandle) (c : CompressionType) (x : Item) → item_size (placed_item block c x) ≡ item_size x
-size_placed block c x = go x.content
+size_placed : (handle : FileBlockHandle) (c : CompressionType) (x : Item) → item_size (placed_item handle c x) ≡ item_size x
+size_placed handle c x = go x.content
   where
-    go : (content : Content) → item_size (placed_item block c (record { raft_group_id = x.raft_group_id; content = content })) ≡ item_size (record { raft_group_id = x.raft_group_id; content = content })
+    go : (content : Content) → item_size (placed_item handle c (record { raft_group_id = x.raft_group_id; content = content })) ≡ item_size (record { raft_group_id = x.raft_group_id; content = content })
     go (entries []) = refl
-    go (entries (e ∷ es)) = omega (arith, length-map es (placed_entry block c))
+    go (entries (e ∷ es)) = omega (arith, length-map es (placed_entry handle c))
     go (command y) = refl
     go (pair p) = refl
 
-sizes_placed : (block : FileBlockHandle) (c : CompressionType) (xs : List Item) → items_size (map (placed_item block c) xs) ≡ items_size xs
-sizes_placed block c [] = refl
-sizes_placed block c (x ∷ xs) = omega (arith, size_placed block c x, sizes_placed block c xs)
+sizes_placed : (handle : FileBlockHandle) (c : CompressionType) (xs : List Item) → items_size (map (placed_item handle c) xs) ≡ items_size xs
+sizes_placed handle c [] = refl
+sizes_placed handle c (x ∷ xs) = omega (arith, size_placed handle c x, sizes_placed handle c xs)
 
-fit_placed : (block : FileBlockHandle) (c : CompressionType) (s : ℕ) (xs : List Item) → FitTogether s xs → FitTogether s (map (placed_item block c) xs)
-fit_placed block c s [] h = tt
-fit_placed block c s (x ∷ xs) h =
-    (fits_placed block c s x.content h.0, subst (λ (t : ℕ). FitTogether t (map (placed_item block c) xs)) (sym (behind_placed block c s x)) (fit_placed block c (behind_item s x) xs h.1))
+fit_placed : (handle : FileBlockHandle) (c : CompressionType) (s : ℕ) (xs : List Item) → FitTogether s xs → FitTogether s (map (placed_item handle c) xs)
+fit_placed handle c s [] h = tt
+fit_placed handle c s (x ∷ xs) h =
+    (fits_placed handle c s x.content h.0, subst (λ (t : ℕ). FitTogether t (map (placed_item handle c) xs)) (sym (behind_placed handle c s x)) (fit_placed handle c (behind_item s x) xs h.1))
 
-pub placed_kept : (block : FileBlockHandle) (c : CompressionType) (xs : List Item) (size bytes : ℕ) (crc : Option ℕ) → IsKeptBeside xs size bytes crc → IsKeptBeside (map (placed_item block c) xs) size bytes crc
-placed_kept block c xs size bytes crc k =
+pub placed_kept : (handle : FileBlockHandle) (c : CompressionType) (xs : List Item) (size bytes : ℕ) (crc : Option ℕ) → IsKeptBeside xs size bytes crc → IsKeptBeside (map (placed_item handle c) xs) size bytes crc
+placed_kept handle c xs size bytes crc k =
     record {
-      fit = fit_placed block c 0 xs k.fit;
-      in_range = range_placed block c xs k.in_range;
-      in_bytes = in_bytes_placed block c xs k.in_bytes;
-      size = k.size ∙ ap at_most_usize (sym (sizes_placed block c xs));
-      entry_bytes = k.entry_bytes ∙ sym (end_of_placed block c 0 xs);
-      checksum = λ n some. k.checksum n some ∙ ap crc32_of (sym (batch_placed block c xs));
+      fit = fit_placed handle c 0 xs k.fit;
+      in_range = range_placed handle c xs k.in_range;
+      in_bytes = in_bytes_placed handle c xs k.in_bytes;
+      size = k.size ∙ ap at_most_usize (sym (sizes_placed handle c xs));
+      entry_bytes = k.entry_bytes ∙ sym (end_of_placed handle c 0 xs);
+      checksum = λ n some. k.checksum n some ∙ ap crc32_of (sym (batch_placed handle c xs));
     }
 
 -- ---- the first entry

@@ -13,14 +13,14 @@ pub in_bytes_append : (xs ys : List Item) → AreInBytes xs → AreInBytes ys �
 in_bytes_append [] ys h k = k
 in_bytes_append (x ∷ xs) ys h k = (h.0, in_bytes_append xs ys h.1 k)
 
-pub content_in_bytes_placed : (block : FileBlockHandle) (c : CompressionType) (content : Content) → IsInBytes content → IsInBytes (placed_content block c content)
-content_in_bytes_placed block c (entries es) h = tt
-content_in_bytes_placed block c (command k) h = tt
-content_in_bytes_placed block c (pair p) h = h
+pub content_in_bytes_placed : (handle : FileBlockHandle) (c : CompressionType) (content : Content) → IsInBytes content → IsInBytes (placed_content handle c content)
+content_in_bytes_placed handle c (entries es) h = tt
+content_in_bytes_placed handle c (command k) h = tt
+content_in_bytes_placed handle c (pair p) h = h
 
-pub in_bytes_placed : (block : FileBlockHandle) (c : CompressionType) (xs : List Item) → AreInBytes xs → AreInBytes (map (placed_item block c) xs)
-in_bytes_placed block c [] h = tt
-in_bytes_placed block c (x ∷ xs) h = (content_in_bytes_placed block c x.content h.0, in_bytes_placed block c xs h.1)
+pub in_bytes_placed : (handle : FileBlockHandle) (c : CompressionType) (xs : List Item) → AreInBytes xs → AreInBytes (map (placed_item handle c) xs)
+in_bytes_placed handle c [] h = tt
+in_bytes_placed handle c (x ∷ xs) h = (content_in_bytes_placed handle c x.content h.0, in_bytes_placed handle c xs h.1)
 
 content_in_bytes_raised : (s : ℕ) (content : Content) → IsInBytes content → IsInBytes (raised_content s content)
 content_in_bytes_raised s (entries es) h = tt

@@ -18,7 +18,7 @@ behind_item s item = end_of_content s item.content
 
 -- an entry in this block
 abbrev pub placed_entry : FileBlockHandle → CompressionType → EntryIndex → EntryIndex
-placed_entry block compression e = record e { entries = Some block; compression_type = compression }
+placed_entry handle compression e = record e { entries = Some handle; compression_type = compression }
 
 -- the signature of the part's file
 abbrev pub part_signature : Part → Option ℕ

@@ -102,19 +102,19 @@ encoded_some (x ∷ xs) es some = omega arith
 one_type : (c : CompressionType) → c ≡ compressions.None
 one_type compressions.None = refl
 
-pub written_next : (part : Part) (at : ℕ) (block : FileBlockHandle) (items : List Item) (es rest : List ℕ) (answer : Option (List Item × ℕ)) → IsBatchOf items es → AreInRange items → AreInBytes items → items ≢ [] → encoded_length items es < 2 ^ 56 → block.id ≡ part.id → block.offset ≡ part.offset + at → drop at part.bytes ≡ log_batch_bytes (part_signature part) items es ++ rest → IsNext part at answer → answer ≡ Some (map (placed_item (entry_place block es) compressions.None) items, at + encoded_length items es)
-written_next part at block items es rest None b r held some fits id offset stands n =
+pub written_next : (part : Part) (at : ℕ) (handle : FileBlockHandle) (items : List Item) (es rest : List ℕ) (answer : Option (List Item × ℕ)) → IsBatchOf items es → AreInRange items → AreInBytes items → items ≢ [] → encoded_length items es < 2 ^ 56 → handle.id ≡ part.id → handle.offset ≡ part.offset + at → drop at part.bytes ≡ log_batch_bytes (part_signature part) items es ++ rest → IsNext part at answer → answer ≡ Some (map (placed_item (entry_place handle es) compressions.None) items, at + encoded_length items es)
+written_next part at handle items es rest None b r held some fits id offset stands n =
     absurd (omega (arith, n, ap length stands, length-drop at part.bytes, length-append (log_batch_bytes (part_signature part) items es) rest, log_batch_length (part_signature part) items es, encoded_some items es some))
-written_next part at block items es rest (Some next) b r held some fits id offset stands n =
+written_next part at handle items es rest (Some next) b r held some fits id offset stands n =
     let one = one_front (drop at part.bytes) (drop next.1 part.bytes) rest n.bytes (log_batch_bytes (part_signature part) items es) (part_signature part) n.read (map bare items) n.offset (item_offset es) n.frame (written_framed (part_signature part) items es b r some fits) n.stands stands in
     let long : length n.bytes ≡ encoded_length items es = ap length one.0 ∙ log_batch_length (part_signature part) items es in
     let ends : next.1 ≡ at + encoded_length items es = n.ends ∙ ap (λ (k : ℕ). at + k) long in
     let len : n.offset - 16 ≡ length (entry_block es) = omega (arith, one.1) in
-    let begin : part.offset + at + 16 ≡ block.offset + 16 = omega (arith, offset) in
-    let moved_to : entries_place part at n.offset ≡ entry_place block es = λ i. record { id = sym id i; offset = begin i; len = len i } in
-    let moved : map (placed_item (entries_place part at n.offset) n.frame.compression) n.read ≡ map (placed_item (entry_place block es) compressions.None) (map bare items) =
-    ap (λ p. map (placed_item p n.frame.compression) n.read) moved_to ∙ ap (λ c. map (placed_item (entry_place block es) c) n.read) (one_type n.frame.compression) ∙ ap (map (placed_item (entry_place block es) compressions.None)) one.3 in
-    let items_are : next.0 ≡ map (placed_item (entry_place block es) compressions.None) items = n.places ∙ moved ∙ items_read (entry_place block es) compressions.None items held in
+    let begin : part.offset + at + 16 ≡ handle.offset + 16 = omega (arith, offset) in
+    let moved_to : entries_place part at n.offset ≡ entry_place handle es = λ i. record { id = sym id i; offset = begin i; len = len i } in
+    let moved : map (placed_item (entries_place part at n.offset) n.frame.compression) n.read ≡ map (placed_item (entry_place handle es) compressions.None) (map bare items) =
+    ap (λ p. map (placed_item p n.frame.compression) n.read) moved_to ∙ ap (λ c. map (placed_item (entry_place handle es) c) n.read) (one_type n.frame.compression) ∙ ap (map (placed_item (entry_place handle es) compressions.None)) one.3 in
+    let items_are : next.0 ≡ map (placed_item (entry_place handle es) compressions.None) items = n.places ∙ moved ∙ items_read (entry_place handle es) compressions.None items held in
     λ i. Some (items_are i, ends i)
 
 pub written_accepted : (part : Part) (at : ℕ) (items : List Item) (es rest : List ℕ) → IsBatchOf items es → AreInRange items → items ≢ [] → encoded_length items es < 2 ^ 56 → drop at part.bytes ≡ log_batch_bytes (part_signature part) items es ++ rest → HasNoFront (λ bytes. IsReadable bytes (part_signature part)) (drop at part.bytes) → ⊥

@@ -18,14 +18,14 @@ use Rattle.raft_records.specs.Placement.{entry_between, entry_in, content_in, it
 use Rattle.raft_records.proofs.EntryLemmas.{AreReadSoFar, one_more_read, end_read}
 
 abbrev pub unplaced : Placement
-unplaced = record { block = None; compression_type = compressions.None }
+unplaced = record { handle = None; compression_type = compressions.None }
 
 -- ---- in a block
 
-pub item_placed : (block : FileBlockHandle) (c : CompressionType) (x : Item) → item_in (record { block = Some block; compression_type = c }) x ≡ placed_item block c x
-item_placed block c x = ap (λ (y : Content). record { raft_group_id = x.raft_group_id; content = y }) (go x.content)
+pub item_placed : (handle : FileBlockHandle) (c : CompressionType) (x : Item) → item_in (record { handle = Some handle; compression_type = c }) x ≡ placed_item handle c x
+item_placed handle c x = ap (λ (y : Content). record { raft_group_id = x.raft_group_id; content = y }) (go x.content)
   where
-    go : (y : Content) → content_in (record { block = Some block; compression_type = c }) y ≡ (placed_item block c (record { raft_group_id = x.raft_group_id; content = y })).content
+    go : (y : Content) → content_in (record { handle = Some handle; compression_type = c }) y ≡ (placed_item handle c (record { raft_group_id = x.raft_group_id; content = y })).content
     go (entries es) = refl
     go (command d) = refl
     go (pair p) = refl

@@ -12,26 +12,26 @@ use Rattle.raft_records.specs.ItemBatch.{IsDecoded, placed_item, placed_content}
 use Rattle.raft_records.proofs.Names.{placed_entry}
 use Rattle.raft_records.specs.Lines.{IsTextOf, line_of, counts_line, content_text}
 
-end_placed : (block : FileBlockHandle) (compression : CompressionType) (s : ℕ) (es : List EntryIndex) → end_behind s (map (placed_entry block compression) es) ≡ end_behind s es
-end_placed block compression s [] = refl
-end_placed block compression s (e ∷ es) = end_placed block compression (e.entry_offset + e.entry_len) es
+end_placed : (handle : FileBlockHandle) (compression : CompressionType) (s : ℕ) (es : List EntryIndex) → end_behind s (map (placed_entry handle compression) es) ≡ end_behind s es
+end_placed handle compression s [] = refl
+end_placed handle compression s (e ∷ es) = end_placed handle compression (e.entry_offset + e.entry_len) es
 
-content_placed : (block : FileBlockHandle) (compression : CompressionType) (content : Content) → content_text (placed_content block compression content) ≡ content_text content
-content_placed block compression (entries []) = refl
-content_placed block compression (entries (e ∷ es)) = rw (end_placed block compression 0 (e ∷ es), length-map (e ∷ es) (placed_entry block compression)) refl
-content_placed block compression (command c) = refl
-content_placed block compression (pair p) = refl
+content_placed : (handle : FileBlockHandle) (compression : CompressionType) (content : Content) → content_text (placed_content handle compression content) ≡ content_text content
+content_placed handle compression (entries []) = refl
+content_placed handle compression (entries (e ∷ es)) = rw (end_placed handle compression 0 (e ∷ es), length-map (e ∷ es) (placed_entry handle compression)) refl
+content_placed handle compression (command c) = refl
+content_placed handle compression (pair p) = refl
 
-lines_placed : (block : FileBlockHandle) (compression : CompressionType) (items : List Item) → flat_map line_of (map (placed_item block compression) items) ≡ flat_map line_of items
-lines_placed block compression [] = refl
-lines_placed block compression (item ∷ items) = rw (content_placed block compression item.content, lines_placed block compression items) refl
+lines_placed : (handle : FileBlockHandle) (compression : CompressionType) (items : List Item) → flat_map line_of (map (placed_item handle compression) items) ≡ flat_map line_of items
+lines_placed handle compression [] = refl
+lines_placed handle compression (item ∷ items) = rw (content_placed handle compression item.content, lines_placed handle compression items) refl
 
 -- lines of the decoded items and a line of counts are the batch's text
-pub decoded_text : (bytes rest lines text : List ℕ) (signature : Option ℕ) (block : FileBlockHandle) (compression : CompressionType) (decoded : List LogItem) (items : List Item) (count : ℕ) → IsDecoded bytes signature block compression items rest → map item_of decoded ≡ items → count ≡ length decoded → lines ≡ flat_map line_of (map item_of decoded) → text ≡ lines ++ counts_line count (length rest) → IsTextOf bytes signature text
-decoded_text bytes rest lines text signature block compression decoded items count d same n l t =
-    let places : map item_of decoded ≡ map (placed_item block compression) d.read = same ∙ d.places in
-    let read_lines : lines ≡ flat_map line_of d.read = l ∙ (ap (flat_map line_of) places ∙ lines_placed block compression d.read) in
-    let read_count : count ≡ length d.read = n ∙ (sym (length-map decoded item_of) ∙ (ap length places ∙ length-map d.read (placed_item block compression))) in
+pub decoded_text : (bytes rest lines text : List ℕ) (signature : Option ℕ) (handle : FileBlockHandle) (compression : CompressionType) (decoded : List LogItem) (items : List Item) (count : ℕ) → IsDecoded bytes signature handle compression items rest → map item_of decoded ≡ items → count ≡ length decoded → lines ≡ flat_map line_of (map item_of decoded) → text ≡ lines ++ counts_line count (length rest) → IsTextOf bytes signature text
+decoded_text bytes rest lines text signature handle compression decoded items count d same n l t =
+    let places : map item_of decoded ≡ map (placed_item handle compression) d.read = same ∙ d.places in
+    let read_lines : lines ≡ flat_map line_of d.read = l ∙ (ap (flat_map line_of) places ∙ lines_placed handle compression d.read) in
+    let read_count : count ≡ length d.read = n ∙ (sym (length-map decoded item_of) ∙ (ap length places ∙ length-map d.read (placed_item handle compression))) in
     record { items = d.read; rest = rest; batch = d.batch; lines = rw (← read_lines, ← read_count) t }
 
 -- what holds of all that was read into an empty vector holds of the input

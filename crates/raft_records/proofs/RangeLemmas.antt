@@ -20,14 +20,14 @@ pub range_append : (xs ys : List Item) → AreInRange xs → AreInRange ys → A
 range_append [] ys h k = k
 range_append (x ∷ xs) ys h k = (h.0, range_append xs ys h.1 k)
 
-content_placed : (block : FileBlockHandle) (c : CompressionType) (content : Content) → IsContentInRange content → IsContentInRange (placed_item block c (record { raft_group_id = 0; content = content })).content
-content_placed block c (entries es) h = subst (λ (n : ℕ). n < 2 ^ 64) (sym (length-map es (placed_entry block c))) h
-content_placed block c (command k) h = h
-content_placed block c (pair p) h = h
+content_placed : (handle : FileBlockHandle) (c : CompressionType) (content : Content) → IsContentInRange content → IsContentInRange (placed_item handle c (record { raft_group_id = 0; content = content })).content
+content_placed handle c (entries es) h = subst (λ (n : ℕ). n < 2 ^ 64) (sym (length-map es (placed_entry handle c))) h
+content_placed handle c (command k) h = h
+content_placed handle c (pair p) h = h
 
-pub range_placed : (block : FileBlockHandle) (c : CompressionType) (xs : List Item) → AreInRange xs → AreInRange (map (placed_item block c) xs)
-range_placed block c [] h = tt
-range_placed block c (x ∷ xs) h = ((h.0.0, content_placed block c x.content h.0.1), range_placed block c xs h.1)
+pub range_placed : (handle : FileBlockHandle) (c : CompressionType) (xs : List Item) → AreInRange xs → AreInRange (map (placed_item handle c) xs)
+range_placed handle c [] h = tt
+range_placed handle c (x ∷ xs) h = ((h.0.0, content_placed handle c x.content h.0.1), range_placed handle c xs h.1)
 
 content_raised : (s : ℕ) (content : Content) → IsContentInRange content → IsContentInRange (raised_item s (record { raft_group_id = 0; content = content })).content
 content_raised s (entries es) h = subst (λ (n : ℕ). n < 2 ^ 64) (sym (length-map es (raised_entry s))) h

@@ -12,22 +12,22 @@ use Rattle.raft_records.specs.Item.{Item, Content, entries, command, pair}
 use Rattle.raft_records.specs.ItemBatch.{FitsBehind, IsDecoded, IsItemBatch, placed_item, placed_content}
 use Rattle.raft_records.proofs.BatchLemmas.{item_fits, fits_placed}
 
-places_in_file : (block : FileBlockHandle) (c : CompressionType) (es : List EntryIndex) → AllByRecursion (λ (e : EntryIndex). IsPlaceInFile block.id e.entries) (map (placed_entry block c) es)
-places_in_file block c [] = tt
-places_in_file block c (e ∷ es) = (refl, places_in_file block c es)
+places_in_file : (handle : FileBlockHandle) (c : CompressionType) (es : List EntryIndex) → AllByRecursion (λ (e : EntryIndex). IsPlaceInFile handle.id e.entries) (map (placed_entry handle c) es)
+places_in_file handle c [] = tt
+places_in_file handle c (e ∷ es) = (refl, places_in_file handle c es)
 
-content_in_file : (block : FileBlockHandle) (c : CompressionType) (s : ℕ) (content : Content) → FitsBehind s (placed_content block c content) → IsReadIn block.id (placed_content block c content)
-content_in_file block c s (entries es) f = (f.0, places_in_file block c es)
-content_in_file block c s (command x) f = tt
-content_in_file block c s (pair p) f = (f, refl)
+content_in_file : (handle : FileBlockHandle) (c : CompressionType) (s : ℕ) (content : Content) → FitsBehind s (placed_content handle c content) → IsReadIn handle.id (placed_content handle c content)
+content_in_file handle c s (entries es) f = (f.0, places_in_file handle c es)
+content_in_file handle c s (command x) f = tt
+content_in_file handle c s (pair p) f = (f, refl)
 
-items_in_file : (block : FileBlockHandle) (c : CompressionType) (s : ℕ) (bytes : List ℕ) (items : List Item) → IsSequence behind_item IsItem s bytes items → AreReadIn block.id (map (placed_item block c) items)
-items_in_file block c s bytes [] q = tt
-items_in_file block c s bytes (x ∷ xs) q =
-    (content_in_file block c s x.content (fits_placed block c s x.content (item_fits s q.first x q.first_spells)), items_in_file block c (behind_item s x) q.second xs q.second_spells)
+items_in_file : (handle : FileBlockHandle) (c : CompressionType) (s : ℕ) (bytes : List ℕ) (items : List Item) → IsSequence behind_item IsItem s bytes items → AreReadIn handle.id (map (placed_item handle c) items)
+items_in_file handle c s bytes [] q = tt
+items_in_file handle c s bytes (x ∷ xs) q =
+    (content_in_file handle c s x.content (fits_placed handle c s x.content (item_fits s q.first x q.first_spells)), items_in_file handle c (behind_item s x) q.second xs q.second_spells)
 
-pub batch_in_file : (block : FileBlockHandle) (c : CompressionType) (bytes rest : List ℕ) (signature : Option ℕ) (items : List Item) → IsItemBatch bytes signature items rest → AreReadIn block.id (map (placed_item block c) items)
-batch_in_file block c bytes rest signature items b = items_in_file block c 0 b.counted.second items b.counted.second_spells.spelled
+pub batch_in_file : (handle : FileBlockHandle) (c : CompressionType) (bytes rest : List ℕ) (signature : Option ℕ) (items : List Item) → IsItemBatch bytes signature items rest → AreReadIn handle.id (map (placed_item handle c) items)
+batch_in_file handle c bytes rest signature items b = items_in_file handle c 0 b.counted.second items b.counted.second_spells.spelled
 
-pub decoded_in_file : (old new : List ℕ) (signature : Option ℕ) (block : FileBlockHandle) (c : CompressionType) (items : List Item) → IsDecoded old signature block c items new → AreReadIn block.id items
-decoded_in_file old new signature block c items d = rw d.places (batch_in_file block c old new signature d.read d.batch)
+pub decoded_in_file : (old new : List ℕ) (signature : Option ℕ) (handle : FileBlockHandle) (c : CompressionType) (items : List Item) → IsDecoded old signature handle c items new → AreReadIn handle.id items
+decoded_in_file old new signature handle c items d = rw d.places (batch_in_file handle c old new signature d.read d.batch)

@@ -18,13 +18,13 @@ file_in (Some place) = Some place.id
 
 -- an entry in this place
 abbrev pub entry_in : Placement → EntryIndex → EntryIndex
-entry_in place e = record e { entries = place.block; compression_type = place.compression_type }
+entry_in place e = record e { entries = place.handle; compression_type = place.compression_type }
 
 -- a content in this place
 abbrev pub content_in : Placement → Content → Content
 content_in place (entries es) = entries (map (entry_in place) es)
 content_in place (command c) = command c
-content_in place (pair p) = pair (record p { file_id = file_in place.block })
+content_in place (pair p) = pair (record p { file_id = file_in place.handle })
 
 -- an item in this place
 abbrev pub item_in : Placement → Item → Item

@@ -8,10 +8,10 @@ ghost use Rattle.raft_records.specs.Faults.{IsCommandFault};
 ghost use Rattle.raft_records.specs.Sizes.{command_size};
 ghost use Rattle.raft_records.specs.Spelling.{command_bytes};
 
-use raft_base::{Error, Result};
+use raft_base::{AllocResult, Error, Result};
 use raft_codec::codec;
 use raft_codec::codec::BytesSlice;
-use std::alloc::{AllocError, Global};
+use std::alloc::Global;
 
 const CMD_CLEAN: u8 = 1;
 
@@ -52,7 +52,7 @@ impl Command {
     }
 
     /// The same; only memory can fail.
-    pub(crate) fn write(&self, buf: &mut Vec<u8>) -> std::result::Result<(), AllocError>
+    pub(crate) fn write(&self, buf: &mut Vec<u8>) -> AllocResult<()>
         ensures ok { OnOk result (buf.new.items ≡ buf.old.items ++ command_bytes self.now) }
         ensures err { OnErr result (buf.new.items ≡ buf.old.items) }
     {
@@ -102,7 +102,7 @@ impl Command {
 }
 
 /// Appends a command's type byte and an index. On `Err` the vector is as it was.
-fn append_indexed(buf: &mut Vec<u8>, kind: u8, index: u64) -> std::result::Result<(), AllocError>
+fn append_indexed(buf: &mut Vec<u8>, kind: u8, index: u64) -> AllocResult<()>
     ensures ok { OnOk result (buf.new.items ≡ buf.old.items ++ kind ∷ varint index) }
     ensures err { OnErr result (buf.new.items ≡ buf.old.items) }
 {

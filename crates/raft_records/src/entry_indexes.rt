@@ -11,32 +11,32 @@ ghost use Rattle.raft_records.specs.Placement.{entry_between, file_in, entry_in}
 ghost use Rattle.raft_records.specs.Sizes.{entries_size, at_most_usize};
 ghost use Rattle.raft_records.specs.Spelling.{Keeps, tails_bytes, entries_bytes};
 
-use raft_base::{CompressionType, EntryIndex, Error, FileBlockHandle, FileId, Result};
+use raft_base::{AllocResult, CompressionType, EntryIndex, Error, FileBlockHandle, FileId, Result};
 use raft_codec::codec;
 use raft_codec::codec::BytesSlice;
-use std::alloc::{AllocError, Global};
+use std::alloc::Global;
 
 /// Where entries that are read are placed.
 #[derive(Clone, Copy)]
 pub(crate) struct Placement {
-    /// Their block, whose file is also that of key values.
-    pub(crate) block: Option<FileBlockHandle>,
+    /// The handle of their block, whose file is also that of key values.
+    pub(crate) handle: Option<FileBlockHandle>,
     pub(crate) compression_type: CompressionType,
 }
 
 /// No place.
 pub(crate) const UNPLACED: Placement = Placement {
-    block: None,
+    handle: None,
     compression_type: CompressionType::None,
 };
 
 impl Placement {
-    /// The file, if there is a block.
+    /// The file, if there is a handle.
     pub(crate) fn file_id(self) -> Option<FileId>
-        ensures { result ≡ file_in self.block }
+        ensures { result ≡ file_in self.handle }
     {
-        match self.block {
-            Some(block) => Some(block.id),
+        match self.handle {
+            Some(handle) => Some(handle.id),
             None => None,
         }
     }
@@ -100,13 +100,15 @@ impl EntryIndexes {
     }
 
     /// Gives each entry its place.
-    pub(crate) fn place(&mut self, block: FileBlockHandle, compression_type: CompressionType)
+    pub(crate) fn place(&mut self, handle: FileBlockHandle, compression_type: CompressionType)
         ensures { self.new.0.items ≡
-            map (λ (e : EntryIndex). record e { entries = Some block; compression_type = compression_type })
-            self.old.0.items }
+            map (λ (e : EntryIndex). record e {
+              entries = Some handle;
+              compression_type = compression_type;
+            }) self.old.0.items }
     {
         for entry in self.0.iter_mut() {
-            entry.entries = Some(block);
+            entry.entries = Some(handle);
             entry.compression_type = compression_type;
         }
     }
@@ -152,7 +154,7 @@ impl EntryIndexes {
     }
 
     /// Appends the entries' bytes. On `Err` some bytes may stand behind those of the vector.
-    pub(crate) fn write(&self, buf: &mut Vec<u8>) -> std::result::Result<(), AllocError>
+    pub(crate) fn write(&self, buf: &mut Vec<u8>) -> AllocResult<()>
         ensures ok { OnOk result (buf.new.items ≡ buf.old.items ++ entries_bytes self.now.0.items) }
         ensures err { OnErr result (Keeps buf.old.items buf.new.items) }
     {
@@ -172,8 +174,8 @@ impl EntryIndexes {
     ) -> Result<EntryIndexes>
         ensures ok { IfOk result (λ es. Reads (IsEntries entries_size.old) buf.old.now buf.new.now
             es.0.items) }
-        ensures size { IfOk result (λ es. entries_size.new ≡ end_behind entries_size.old
-            es.0.items) }
+        ensures size { IfOk result (λ es. entries_size.new
+            ≡ end_behind entries_size.old es.0.items) }
         ensures err { OnErr result (buf.new.now ≡ buf.old.now) }
         ensures size_err { OnErr result (entries_size.new ≡ entries_size.old) }
         ensures refused { IfErr result (λ e. e ≢ Error.Memory →
@@ -214,13 +216,9 @@ impl EntryIndexes {
 }
 
 /// Appends the first index and the tail offsets of entries.
-fn append_run(
-    buf: &mut Vec<u8>,
-    first: u64,
-    entries: &[EntryIndex],
-) -> std::result::Result<(), AllocError>
-    ensures ok { OnOk result (buf.new.items ≡ buf.old.items ++ (varint first ++ tails_bytes
-        entries.now)) }
+fn append_run(buf: &mut Vec<u8>, first: u64, entries: &[EntryIndex]) -> AllocResult<()>
+    ensures ok { OnOk result (buf.new.items
+        ≡ buf.old.items ++ (varint first ++ tails_bytes entries.now)) }
     ensures err { OnErr result (Keeps buf.old.items buf.new.items) }
 {
     codec::append_var_u64(buf, first)?;
@@ -266,7 +264,7 @@ fn parse_tails(
         };
         entries.push_reserved(EntryIndex {
             index,
-            entries: place.block,
+            entries: place.handle,
             compression_type: place.compression_type,
             entry_offset: offset,
             entry_len: tail - offset,

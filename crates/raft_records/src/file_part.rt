@@ -139,8 +139,9 @@ pub fn next_batch(part: &FilePart, at: usize) -> Result<Option<(LogItemBatch, us
     ensures ok { IfOk result (IsNext part.now at) }
     ensures in_file { IfOk result (λ next. IfSome next (λ batch. AreReadIn part.now.id batch.0)) }
     ensures some { OnErr result (at < length part.now.bytes) }
-    ensures refused { IfErr result (λ e. e ≢ Error.Memory → HasNoFront
-        (λ bytes. IsReadable bytes (signature_in part.now.version part.now.id.seq)) (drop at part.now.bytes)) }
+    ensures refused { IfErr result (λ e. e ≢ Error.Memory
+        → HasNoFront (λ bytes. IsReadable bytes (signature_in part.now.version part.now.id.seq))
+        (drop at part.now.bytes)) }
     ensures fault { IfErr result
         (IsNextFault (signature_in part.now.version part.now.id.seq) (drop at part.now.bytes)) }
 {

@@ -14,10 +14,10 @@ ghost use Rattle.raft_records.specs.Spelling.{Keeps};
 use crate::LogItemBatch;
 use crate::checksum::{LOG_BATCH_CHECKSUM_LEN, verify_checksum};
 use byteorder::{BigEndian, ByteOrder, LittleEndian};
-use raft_base::{CompressionType, Error, LogFileContext, Result};
+use raft_base::{AllocResult, CompressionType, Error, LogFileContext, Result};
 use raft_checksum::crc32;
 use raft_codec::codec;
-use std::alloc::{AllocError, Global};
+use std::alloc::Global;
 
 /// How many bytes a header takes.
 pub(crate) const LOG_BATCH_HEADER_LEN: usize = 16;
@@ -81,7 +81,7 @@ fn write_header(buf: &mut [u8], offset: usize, len: usize)
 }
 
 /// Makes the buffer hold sixteen bytes at least. What is behind them stays, also on `Err`.
-pub(crate) fn reserve_header(buf: &mut Vec<u8>) -> std::result::Result<(), AllocError>
+pub(crate) fn reserve_header(buf: &mut Vec<u8>) -> AllocResult<()>
     ensures ok { OnOk result (16 ≤ length buf.new.items) }
     ensures same { drop 16 buf.new.items ≡ drop 16 buf.old.items }
 {
@@ -93,7 +93,7 @@ pub(crate) fn reserve_header(buf: &mut Vec<u8>) -> std::result::Result<(), Alloc
 }
 
 /// Appends the checksum of the entry bytes behind the header, if there are any.
-fn close_entry_block(buf: &mut Vec<u8>) -> std::result::Result<(), AllocError>
+fn close_entry_block(buf: &mut Vec<u8>) -> AllocResult<()>
     requires { 16 ≤ length buf.old.items }
     ensures ok { OnOk result
         (buf.new.items ≡ take 16 buf.old.items ++ entry_block (drop 16 buf.old.items)) }
@@ -153,8 +153,8 @@ pub(crate) fn encode_behind(buf: &mut Vec<u8>, item_batch: &mut LogItemBatch) ->
     requires room { 16 ≤ length buf.old.items }
     requires some { item_batch.old ≢ [] }
     ensures ok { OnOk result (IsUnsealed item_batch.old (drop 16 buf.old.items) buf.new.items) }
-    ensures accepted { OnOk result (encoded_length item_batch.old (drop 16 buf.old.items) < 2
-        ^ 56) }
+    ensures accepted { OnOk result (encoded_length item_batch.old (drop 16 buf.old.items)
+        < 2 ^ 56) }
     ensures same { item_batch.new ≡ item_batch.old }
     ensures err { OnErr result (Keeps buf.old.items buf.new.items) }
     ensures fault { IfErr result (λ e. e ≢ Error.Memory →

@@ -9,10 +9,10 @@ ghost use Rattle.raft_records.specs.Range.{HasLength};
 ghost use Rattle.raft_records.specs.Sizes.{pair_size, at_most_usize};
 ghost use Rattle.raft_records.specs.Spelling.{Keeps, byte_string, pair_bytes, IsWritablePair};
 
-use raft_base::{Error, FileId, Result};
+use raft_base::{AllocResult, Error, FileId, Result};
 use raft_codec::codec;
 use raft_codec::codec::BytesSlice;
-use std::alloc::{AllocError, Global};
+use std::alloc::Global;
 
 /// What is done to a key.
 #[derive(Clone, Copy, PartialEq, Eq, Debug)]
@@ -135,7 +135,7 @@ impl KeyValue {
     }
 
     /// Appends the change's bytes. On `Err` some bytes may stand behind those of the vector.
-    pub(crate) fn write(&self, buf: &mut Vec<u8>) -> std::result::Result<(), AllocError>
+    pub(crate) fn write(&self, buf: &mut Vec<u8>) -> AllocResult<()>
         ensures ok { OnOk result (buf.new.items ≡ buf.old.items ++ pair_bytes (pair_of self.now)) }
         ensures err { OnErr result (Keeps buf.old.items buf.new.items) }
     {
@@ -204,7 +204,7 @@ impl KeyValue {
 }
 
 /// Appends `text` behind its length. On `Err` some bytes may stand behind those of the vector.
-fn append_byte_string(buf: &mut Vec<u8>, text: &[u8]) -> std::result::Result<(), AllocError>
+fn append_byte_string(buf: &mut Vec<u8>, text: &[u8]) -> AllocResult<()>
     ensures ok { OnOk result (buf.new.items ≡ buf.old.items ++ byte_string text.now) }
     ensures err { OnErr result (Keeps buf.old.items buf.new.items) }
 {

@@ -72,19 +72,22 @@ pub fn log_batches_are_read_again()
         IsReadable bytes signature items ↔ ((offset : ℕ) × IsFramed bytes signature items offset) }
     ensures one_header { HasOneFront IsHeader }
     ensures one_block { (len : ℕ) (bytes entry_bytes entry_bytes' : List ℕ) →
-        IsBlockOf len bytes entry_bytes → IsBlockOf len bytes entry_bytes' → entry_bytes ≡ entry_bytes' }
+        IsBlockOf len bytes entry_bytes → IsBlockOf len bytes entry_bytes'
+        → entry_bytes ≡ entry_bytes' }
     ensures one_batch { (bytes entry_bytes entry_bytes' : List ℕ) (signature : Option ℕ)
         (items items' : List Item) →
-        IsLogBatch bytes signature items entry_bytes → IsLogBatch bytes signature items' entry_bytes' →
-        (items ≡ items') × (entry_bytes ≡ entry_bytes') }
+        IsLogBatch bytes signature items entry_bytes
+        → IsLogBatch bytes signature items' entry_bytes'
+        → (items ≡ items') × (entry_bytes ≡ entry_bytes') }
 {}
 
 /// A batch that was signed for one file of version 2 is refused for another file of version 2 exactly
 /// if the low 32 bits of the files' numbers differ; where they agree it is the same batch.
 pub fn log_batches_belong_to_one_file()
     ensures other_file { (bytes : List ℕ) (seq seq' : ℕ) (items items' : List Item) →
-        IsReadable bytes (signature_in V2 seq) items → IsReadable bytes (signature_in V2 seq') items' →
-        seq % 2 ^ 32 ≡ seq' % 2 ^ 32 }
+        IsReadable bytes (signature_in V2 seq) items
+        → IsReadable bytes (signature_in V2 seq') items'
+        → seq % 2 ^ 32 ≡ seq' % 2 ^ 32 }
     ensures same_bits { (bytes entry_bytes : List ℕ) (seq seq' : ℕ) (items : List Item) →
         seq % 2 ^ 32 ≡ seq' % 2 ^ 32 → IsLogBatch bytes (signature_in V2 seq) items entry_bytes →
         IsLogBatch bytes (signature_in V2 seq') items entry_bytes }
@@ -95,28 +98,32 @@ pub fn log_batches_belong_to_one_file()
 /// `finish_write` leaves, and where the bytes end. What is asked of the items holds of every batch, as
 /// its `is_read_again` tells.
 pub fn written_batches_are_next()
-    ensures next { (part : Part) (at : ℕ) (block : FileBlockHandle) (items : List Item)
+    ensures next { (part : Part) (at : ℕ) (handle : FileBlockHandle) (items : List Item)
         (entry_bytes rest : List ℕ) (answer : Option (List Item × ℕ)) →
         IsBatchOf items entry_bytes → AreInRange items → AreInBytes items → items ≢ [] →
         encoded_length items entry_bytes < 2 ^ 56 →
-        block.id ≡ part.id → block.offset ≡ part.offset + at →
-        drop at part.bytes ≡ log_batch_bytes (signature_in part.version part.id.seq) items entry_bytes ++ rest →
+        handle.id ≡ part.id → handle.offset ≡ part.offset + at →
+        drop at part.bytes
+        ≡ log_batch_bytes (signature_in part.version part.id.seq) items entry_bytes ++ rest →
         IsNext part at answer →
         answer ≡ Some (
-          map (placed_item (entry_place block entry_bytes) compressions.None) items,
+          map (placed_item (entry_place handle entry_bytes) compressions.None) items,
           at + encoded_length items entry_bytes,
         ) }
     ensures accepted { (part : Part) (at : ℕ) (items : List Item) (entry_bytes rest : List ℕ) →
         IsBatchOf items entry_bytes → AreInRange items → items ≢ [] →
         encoded_length items entry_bytes < 2 ^ 56 →
-        drop at part.bytes ≡ log_batch_bytes (signature_in part.version part.id.seq) items entry_bytes ++ rest →
-        HasNoFront (λ bytes. IsReadable bytes (signature_in part.version part.id.seq)) (drop at part.bytes) → ⊥ }
+        drop at part.bytes
+        ≡ log_batch_bytes (signature_in part.version part.id.seq) items entry_bytes ++ rest →
+        HasNoFront (λ bytes. IsReadable bytes (signature_in part.version part.id.seq))
+        (drop at part.bytes) → ⊥ }
 {}
 
 /// What is read of a written batch is what the batch holds once the write has given its items their
 /// places.
 pub fn placed_items_are_read()
-    ensures { (block : FileBlockHandle) (compression : CompressionType) (items : List Item) →
+    ensures { (handle : FileBlockHandle) (compression : CompressionType) (items : List Item) →
         AreInBytes items →
-        map (placed_item block compression) (map bare items) ≡ map (placed_item block compression) items }
+        map (placed_item handle compression) (map bare items)
+        ≡ map (placed_item handle compression) items }
 {}

@@ -24,8 +24,9 @@ pub use log_item::{LogItem, LogItemContent};
 pub use log_item_batch::LogItemBatch;
 pub use print::{batch_text, print_batch, write_whole};
 pub use raft_base::{
-    B, CompressionType, EntryIndex, Error, Factory, FileBlockHandle, FileId, FileSeq, GIB, KIB,
-    LogFileContext, LogQueue, MIB, Message, MessageError, MessageExt, PIB, PipeLog, ReactiveBytes,
-    ReadableSize, Result, SizeError, TIB, Version, codec, compression_type, crc32, entry_index,
-    errors, hash_u64, message, pipe_log, round_down, round_up, size_from_value, unhash_u64, util,
+    AllocResult, B, CompressionType, EntryIndex, Error, Factory, FileBlockHandle, FileId, FileSeq,
+    GIB, KIB, LogFileContext, LogQueue, MIB, Message, MessageError, MessageExt, PIB, PipeLog,
+    ReactiveBytes, ReadableSize, Result, SizeError, TIB, Version, codec, compression_type, crc32,
+    entry_index, errors, hash_u64, message, pipe_log, round_down, round_up, size_from_value,
+    unhash_u64, util,
 };

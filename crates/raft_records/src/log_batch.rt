@@ -22,10 +22,11 @@ use crate::header::{
 use crate::laws::log_batches_are_read_again;
 use crate::{Command, LogItem, LogItemBatch, is_reserved};
 use raft_base::{
-    CompressionType, Error, FileBlockHandle, LogFileContext, Message, ReactiveBytes, Result,
+    AllocResult, CompressionType, Error, FileBlockHandle, LogFileContext, Message, ReactiveBytes,
+    Result,
 };
 use raft_codec::codec::BytesSlice;
-use std::alloc::{AllocError, Global};
+use std::alloc::Global;
 use std::marker::Model;
 use std::vec;
 
@@ -142,8 +143,8 @@ impl LogBatch {
     /// length itself once they are made. It is at least their length where all region ids and indexes
     /// are below 2^56, unless the batch is too long to be encoded.
     pub fn approximate_size(&self) -> usize
-        ensures size { result ≡ approximate_length self.now.stage self.now.items
-            self.now.entry_bytes }
+        ensures size { result
+            ≡ approximate_length self.now.stage self.now.items self.now.entry_bytes }
         ensures covers { HaveSmallNumbers self.now.items →
             encoded_length self.now.items self.now.entry_bytes < 2 ^ 56 →
             encoded_length self.now.items self.now.entry_bytes ≤ result }
@@ -188,10 +189,10 @@ impl LogBatch {
     pub fn finish_populate(&mut self) -> Result<usize>
         requires { self.old.stage ≡ populating }
         ensures ok { OnOk result (self.new ≡ record self.old { stage = encoded }) }
-        ensures len { IfOk result (λ len. len ≡ encoded_length self.old.items
-            self.old.entry_bytes) }
-        ensures accepted { OnOk result (encoded_length self.old.items self.old.entry_bytes < 2
-            ^ 56) }
+        ensures len { IfOk result (λ len. len
+            ≡ encoded_length self.old.items self.old.entry_bytes) }
+        ensures accepted { OnOk result (encoded_length self.old.items self.old.entry_bytes
+            < 2 ^ 56) }
         ensures err { OnErr result (self.new ≡ self.old) }
         ensures refused { OnErr result (self.old.items ≢ []) }
         ensures fault { IfErr result (λ e. e ≢ Error.Memory →
@@ -294,8 +295,9 @@ impl LogBatch {
     /// Adds the removal of a region's key to an open batch. On `Err` the batch is as it was.
     pub fn delete(&mut self, region_id: u64, key: Vec<u8>) -> Result<()>
         requires { self.old.stage ≡ populating }
-        ensures ok { OnOk result (self.new
-            ≡ record self.old { items = self.old.items ++ pair_item region_id Del key.items None ∷ [] }) }
+        ensures ok { OnOk result (self.new ≡ record self.old {
+          items = self.old.items ++ pair_item region_id Del key.items None ∷ [];
+        }) }
         ensures err { OnErr result (self.new ≡ self.old) }
         ensures memory { IfErr result (λ e. e ≡ Error.Memory) }
     {
@@ -328,7 +330,8 @@ impl LogBatch {
     ) -> Result<()>
         requires { self.old.stage ≡ populating }
         ensures ok { OnOk result (self.new ≡ record self.old {
-          items = self.old.items ++ pair_item region_id Put key.items (Some (S.bytes_of message.now)) ∷ [];
+          items = self.old.items
+              ++ pair_item region_id Put key.items (Some (S.bytes_of message.now)) ∷ [];
         }) }
         ensures accepted { OnOk result (key.items ≢ reserved_key) }
         ensures err { OnErr result (self.new ≡ self.old) }
@@ -375,19 +378,20 @@ impl LogBatch {
     /// block that the batch was written to, of length 0 where there are no entry bytes, and every key
     /// value its file. It asks that the block begins at 2^64 - 17 at most. The batch's bytes stay as
     /// they are, and it takes no memory.
-    pub fn finish_write(&mut self, block: FileBlockHandle)
+    pub fn finish_write(&mut self, handle: FileBlockHandle)
         requires sealed { IsSealedStage self.old.stage }
-        requires offset { block.offset ≤ 2 ^ 64 - 17 }
+        requires offset { handle.offset ≤ 2 ^ 64 - 17 }
         ensures placed { self.new ≡ record self.old {
-          items = map (placed_item (entry_place block self.old.entry_bytes) compressions.None) self.old.items;
+          items = map (placed_item (entry_place handle self.old.entry_bytes) compressions.None)
+              self.old.items;
         } }
         ensures bytes { (signature : Option ℕ) →
             log_batch_bytes signature self.new.items self.new.entry_bytes
             ≡ log_batch_bytes signature self.old.items self.old.entry_bytes }
     {
         let entry_place = FileBlockHandle {
-            id: block.id,
-            offset: block.offset + LOG_BATCH_HEADER_LEN as u64,
+            id: handle.id,
+            offset: handle.offset + LOG_BATCH_HEADER_LEN as u64,
             len: offset_behind(self.item_batch.entries_size()) - LOG_BATCH_HEADER_LEN,
         };
         self.item_batch.place(entry_place, CompressionType::None);
@@ -403,7 +407,8 @@ impl ReactiveBytes for LogBatch {
 
     ghost is_ready = { λ batch. batch.stage ≢ populating };
 
-    ghost bytes_in = { λ batch context. log_batch_bytes (signature_of context) batch.items batch.entry_bytes };
+    ghost bytes_in = { λ batch context.
+        log_batch_bytes (signature_of context) batch.items batch.entry_bytes };
 
     fn ready(&self) -> bool {
         !self.is_open()
@@ -450,7 +455,7 @@ impl Clone for LogBatch {
     ghost is_clone = { λ batch copy. copy ≡ batch };
 
     /// A batch of the same items and entry bytes at the same stage. There may be no memory for it.
-    fn clone(&self) -> std::result::Result<LogBatch, AllocError> {
+    fn clone(&self) -> AllocResult<LogBatch> {
         Ok(LogBatch {
             item_batch: <LogItemBatch as Clone>::clone(&self.item_batch)?,
             state: self.state,

@@ -14,10 +14,10 @@ ghost use Rattle.raft_records.specs.Spelling.{Keeps, item_bytes, content_bytes, 
 
 use crate::entry_indexes::{Placement, UNPLACED};
 use crate::{Command, EntryIndexes, KeyValue, OpType};
-use raft_base::{CompressionType, EntryIndex, Error, FileBlockHandle, Result};
+use raft_base::{AllocResult, CompressionType, EntryIndex, Error, FileBlockHandle, Result};
 use raft_codec::codec;
 use raft_codec::codec::BytesSlice;
-use std::alloc::{AllocError, Global};
+use std::alloc::Global;
 use std::io;
 use std::io::ErrorKind;
 
@@ -104,13 +104,13 @@ impl LogItem {
     }
 
     /// Gives the item's entries their place, its key value its file.
-    pub(crate) fn place(&mut self, block: FileBlockHandle, compression_type: CompressionType)
-        ensures { item_of self.new ≡ placed_item block compression_type (item_of self.old) }
+    pub(crate) fn place(&mut self, handle: FileBlockHandle, compression_type: CompressionType)
+        ensures { item_of self.new ≡ placed_item handle compression_type (item_of self.old) }
     {
         match &mut self.content {
-            LogItemContent::EntryIndexes(entries) => entries.place(block, compression_type),
+            LogItemContent::EntryIndexes(entries) => entries.place(handle, compression_type),
             LogItemContent::Command(_) => {}
-            LogItemContent::Kv(kv) => kv.file_id = Some(block.id),
+            LogItemContent::Kv(kv) => kv.file_id = Some(handle.id),
         }
     }
 
@@ -174,7 +174,7 @@ impl LogItem {
     }
 
     /// Appends the item's bytes. On `Err` some bytes may stand behind those of the vector.
-    pub(crate) fn write(&self, buf: &mut Vec<u8>) -> std::result::Result<(), AllocError>
+    pub(crate) fn write(&self, buf: &mut Vec<u8>) -> AllocResult<()>
         ensures ok { OnOk result (buf.new.items ≡ buf.old.items ++ item_bytes (item_of self.now)) }
         ensures err { OnErr result (Keeps buf.old.items buf.new.items) }
     {
@@ -216,9 +216,10 @@ impl LogItem {
         place: Placement,
     ) -> Result<(LogItem, u32, &[u8])>
         ensures ok { IfOk result (λ read. (item : Item) ×
-            Reads (IsItem entries_size) bytes.now read.2.now item × (item_of read.0 ≡ item_in place item)) }
-        ensures size { IfOk result (λ read. read.1 ≡ end_of_content entries_size
-            (content_of read.0.content)) }
+            Reads (IsItem entries_size) bytes.now read.2.now item
+            × (item_of read.0 ≡ item_in place item)) }
+        ensures size { IfOk result (λ read. read.1
+            ≡ end_of_content entries_size (content_of read.0.content)) }
         ensures refused { IfErr result (λ e. e ≢ Error.Memory →
             HasNoFront (IsItem entries_size) bytes.now) }
         ensures fault { IfErr result (IsItemFault entries_size bytes.now) }
@@ -245,9 +246,9 @@ impl LogItemContent {
 
     /// Appends the type byte and the content's bytes. On `Err` some bytes may stand behind those of
     /// the vector.
-    fn write(&self, buf: &mut Vec<u8>) -> std::result::Result<(), AllocError>
-        ensures ok { OnOk result (buf.new.items ≡ buf.old.items ++ content_bytes
-            (content_of self.now)) }
+    fn write(&self, buf: &mut Vec<u8>) -> AllocResult<()>
+        ensures ok { OnOk result (buf.new.items
+            ≡ buf.old.items ++ content_bytes (content_of self.now)) }
         ensures err { OnErr result (Keeps buf.old.items buf.new.items) }
     {
         match self {

@@ -18,17 +18,21 @@ ghost use Rattle.raft_records.specs.Range.{IsContentInRange, AreInRange};
 ghost use Rattle.raft_records.specs.Written.{ItemIsSpelled, BatchIsSpelled};
 ghost use Rattle.raft_records.specs.declared.key_value.OpType.TheVariants.{Put, Del};
 
+mod places;
+
 use crate::checksum::{LOG_BATCH_CHECKSUM_LEN, sign, verify_checksum};
 use crate::entry_indexes::Placement;
 use crate::{Command, LogItem, LogItemContent, OpType};
 use byteorder::{ByteOrder, LittleEndian};
+use places::{place_items, raise_item_offsets, set_offsets};
 use raft_base::{
-    CompressionType, EntryIndex, Error, FileBlockHandle, FileId, LogFileContext, Message, Result,
+    AllocResult, CompressionType, EntryIndex, Error, FileBlockHandle, FileId, LogFileContext,
+    Message, Result,
 };
 use raft_checksum::crc32;
 use raft_codec::codec;
 use raft_codec::codec::BytesSlice;
-use std::alloc::{AllocError, Global};
+use std::alloc::Global;
 use std::marker::Model;
 use std::{mem, slice, vec};
 
@@ -187,8 +191,8 @@ impl LogItemBatch {
 
     /// Adds the removal of a region's key. On `Err` the batch is as it was.
     pub fn delete(&mut self, region_id: u64, key: Vec<u8>) -> Result<()>
-        ensures ok { OnOk result (self.new ≡ self.old ++ pair_item region_id Del key.items
-            None ∷ []) }
+        ensures ok { OnOk result (self.new
+            ≡ self.old ++ pair_item region_id Del key.items None ∷ []) }
         ensures err { OnErr result (self.new ≡ self.old) }
         ensures memory { IfErr result (λ e. e ≡ Error.Memory) }
     {
@@ -236,8 +240,8 @@ impl LogItemBatch {
     /// `Err` both are as they were.
     pub fn merge(&mut self, rhs: &mut LogItemBatch) -> Result<()>
         requires { entry_bytes_of self.old + entry_bytes_of rhs.old < 2 ^ 32 }
-        ensures ok { OnOk result (self.new ≡ self.old ++ map (raised_item (entry_bytes_of self.old))
-            rhs.old) }
+        ensures ok { OnOk result (self.new
+            ≡ self.old ++ map (raised_item (entry_bytes_of self.old)) rhs.old) }
         ensures emptied { OnOk result (rhs.new ≡ []) }
         ensures err { OnErr result (self.new ≡ self.old) }
         ensures rhs_err { OnErr result (rhs.new ≡ rhs.old) }
@@ -278,11 +282,11 @@ impl LogItemBatch {
     }
 
     /// Gives every entry its place and every key value its file. It takes no memory.
-    pub(crate) fn place(&mut self, block: FileBlockHandle, compression_type: CompressionType)
-        ensures { self.new ≡ map (placed_item block compression_type) self.old }
+    pub(crate) fn place(&mut self, handle: FileBlockHandle, compression_type: CompressionType)
+        ensures { self.new ≡ map (placed_item handle compression_type) self.old }
     {
         self.read_in = None;
-        place_items(&mut self.items, block, compression_type);
+        place_items(&mut self.items, handle, compression_type);
     }
 
     /// Appends the batch's bytes to the vector, four zero bytes in the place of the checksum. On
@@ -333,7 +337,8 @@ impl LogItemBatch {
         context: &LogFileContext,
     ) -> Result<LogItemBatch>
         ensures ok { IfOk result (λ batch.
-            IsDecoded buf.old.now (signature_of context.now) entries compression_type batch buf.new.now) }
+            IsDecoded buf.old.now (signature_of context.now) entries compression_type batch
+            buf.new.now) }
         ensures in_file { IfOk result (AreReadIn entries.id) }
         ensures err { OnErr result (buf.new.now ≡ buf.old.now) }
         ensures refused { IfErr result (λ e. e ≢ Error.Memory →
@@ -364,8 +369,8 @@ impl LogItemBatch {
     fn add(&mut self, item: LogItem, entries_size: u32) -> Result<()>
         requires fits { FitsBehind (entry_bytes_of self.old) (content_of item.content) }
         requires in_bytes { IsInBytes (content_of item.content) }
-        requires end { entries_size ≡ end_of_content (entry_bytes_of self.old)
-            (content_of item.content) }
+        requires end { entries_size
+            ≡ end_of_content (entry_bytes_of self.old) (content_of item.content) }
         ensures ok { OnOk result (self.new ≡ self.old ++ item_of item ∷ []) }
         ensures err { OnErr result (self.new ≡ self.old) }
         ensures memory { IfErr result (λ e. e ≡ Error.Memory) }
@@ -412,7 +417,7 @@ impl Clone for LogItemBatch {
     ghost is_clone = { λ batch copy. copy ≡ batch };
 
     /// A batch of the same items. There may be no memory for it.
-    fn clone(&self) -> std::result::Result<LogItemBatch, AllocError> {
+    fn clone(&self) -> AllocResult<LogItemBatch> {
         let items = self.items.clone()?;
         Ok(LogItemBatch {
             items,
@@ -436,7 +441,7 @@ impl LogItemBatch {
 
 /// Appends the count, the items and four zero bytes. On `Err` some bytes may stand behind those of
 /// the vector.
-fn write_items(buf: &mut Vec<u8>, items: &[LogItem]) -> std::result::Result<(), AllocError>
+fn write_items(buf: &mut Vec<u8>, items: &[LogItem]) -> AllocResult<()>
     ensures ok { OnOk result
         (buf.new.items ≡ buf.old.items ++ (batch_bytes (map item_of items.now) ++ no_checksum)) }
     ensures err { OnErr result (Keeps buf.old.items buf.new.items) }
@@ -454,18 +459,19 @@ fn parse_items(
     alloc: Global,
     bytes: &[u8],
     count: u64,
-    block: FileBlockHandle,
+    handle: FileBlockHandle,
     compression_type: CompressionType,
 ) -> Result<(LogItemBatch, &[u8])>
     ensures ok { IfOk result (λ read. (items : List Item) ×
-        Reads (AreItems count) bytes.now read.1.now items × (read.0 ≡ map (placed_item block compression_type) items)) }
+        Reads (AreItems count) bytes.now read.1.now items
+        × (read.0 ≡ map (placed_item handle compression_type) items)) }
     ensures refused { IfErr result (λ e. e ≢ Error.Memory → HasNoFront (AreItems count) bytes.now) }
     ensures fault { IfErr result (AreItemsFault count bytes.now) }
 {
     // Each item takes three bytes at least, so no count makes more room than bytes are there.
     let room = count.min(bytes.len() as u64 / 3);
     let place = Placement {
-        block: Some(block),
+        handle: Some(handle),
         compression_type,
     };
     let mut batch = LogItemBatch::with_capacity(alloc, room as usize)?;
@@ -477,40 +483,4 @@ fn parse_items(
         rest = behind;
     }
     Ok((batch, rest))
-}
-
-/// Gives each item its place.
-fn place_items(items: &mut Vec<LogItem>, block: FileBlockHandle, compression_type: CompressionType)
-    ensures { map item_of items.new.items
-        ≡ map (placed_item block compression_type) (map item_of items.old.items) }
-{
-    for item in items.iter_mut() {
-        item.place(block, compression_type);
-    }
-}
-
-/// Sets the offsets of entries so that their bytes stand one behind the other from `start` on, and
-/// answers where they end.
-fn set_offsets(entries: &mut Vec<EntryIndex>, start: u32) -> u32
-    requires { start + entry_lengths entries.old.items < 2 ^ 32 }
-    ensures laid { entries.new.items ≡ laid start entries.old.items }
-    ensures end { result ≡ start + entry_lengths entries.old.items }
-{
-    let mut offset = start;
-    for entry in entries.iter_mut() {
-        entry.entry_offset = offset;
-        offset += entry.entry_len;
-    }
-    offset
-}
-
-/// Raises the offsets of all entries: their bytes stand `by` bytes further back.
-fn raise_item_offsets(items: &mut Vec<LogItem>, by: u32)
-    requires fit { FitTogether 0 (map item_of items.old.items) }
-    requires room { by + entry_bytes_of (map item_of items.old.items) < 2 ^ 32 }
-    ensures { map item_of items.new.items ≡ map (raised_item by) (map item_of items.old.items) }
-{
-    for item in items.iter_mut() {
-        item.raise_offsets(by);
-    }
 }

@@ -9,8 +9,10 @@ ghost use Rattle.raft_records.specs.Item.{item_of, content_of, pair_of};
 ghost use Rattle.raft_records.specs.Lines.{bytes_text, entries_text, command_text, pair_text, content_text, line_of, counts_line, IsTextOf, Prints, IsNoItemBatch, IsPrintFault, IsWriteFailure, IsIoError, AppendsFront};
 
 use crate::{Command, KeyValue, LogItem, LogItemBatch, LogItemContent, OpType};
-use raft_base::{CompressionType, EntryIndex, Error, FileBlockHandle, LogFileContext, Result};
-use std::alloc::{AllocError, Global};
+use raft_base::{
+    AllocResult, CompressionType, EntryIndex, Error, FileBlockHandle, LogFileContext, Result,
+};
+use std::alloc::Global;
 use std::io::{self, ErrorKind, Read, Write};
 
 /// Prints the item batch that the whole of `reader` is, in the file of `context`: a line for each
@@ -27,12 +29,14 @@ pub fn print_batch<R: Read, W: Write>(
         Prints input (signature_of context.now) (W.contents writer.old) (W.contents writer.new))) }
     ensures all_read { OnOk result (IsAtEnd (R.remaining reader.new)) }
     ensures silent { IfErr result (λ e. Keeps (W.contents writer.old) (W.contents writer.new)
-        ⊎ IsWriteFailure (R.remaining reader.old) (R.remaining reader.new) (signature_of context.now)
+        ⊎ IsWriteFailure (R.remaining reader.old) (R.remaining reader.new)
+        (signature_of context.now)
         (W.contents writer.old) (W.contents writer.new) e) }
     ensures refused { IfErr result (λ e. (IsIoError e → ⊥) → e ≢ Error.Memory →
         IfSome (R.remaining reader.old) (λ input. IsNoItemBatch input (signature_of context.now))) }
     ensures fault { IfErr result (λ e. (IsIoError e → ⊥) →
-        IfSome (R.remaining reader.old) (λ input. IsPrintFault input (signature_of context.now) e)) }
+        IfSome (R.remaining reader.old)
+        (λ input. IsPrintFault input (signature_of context.now) e)) }
 {
     let mut input = Vec::new(alloc);
     reader.read_to_end(&mut input)?;
@@ -112,11 +116,7 @@ pub fn batch_text(alloc: Global, bytes: &[u8], context: &LogFileContext) -> Resu
 }
 
 /// Appends a line for each item.
-fn append_lines(
-    alloc: Global,
-    items: &[LogItem],
-    text: &mut String,
-) -> std::result::Result<(), AllocError>
+fn append_lines(alloc: Global, items: &[LogItem], text: &mut String) -> AllocResult<()>
     ensures { OnOk result (string_bytes text.new
         ≡ string_bytes text.old ++ flat_map line_of (map item_of items.now)) }
 {
@@ -127,11 +127,7 @@ fn append_lines(
 }
 
 /// Appends the line of an item.
-fn append_line(
-    alloc: Global,
-    item: &LogItem,
-    text: &mut String,
-) -> std::result::Result<(), AllocError>
+fn append_line(alloc: Global, item: &LogItem, text: &mut String) -> AllocResult<()>
     ensures { OnOk result
         (string_bytes text.new ≡ string_bytes text.old ++ line_of (item_of item.now)) }
 {
@@ -141,11 +137,7 @@ fn append_line(
 }
 
 /// Appends what an item changes.
-fn append_content(
-    alloc: Global,
-    content: &LogItemContent,
-    text: &mut String,
-) -> std::result::Result<(), AllocError>
+fn append_content(alloc: Global, content: &LogItemContent, text: &mut String) -> AllocResult<()>
     ensures { OnOk result
         (string_bytes text.new ≡ string_bytes text.old ++ content_text (content_of content.now)) }
 {
@@ -159,9 +151,9 @@ fn append_content(
 }
 
 /// Appends how many entries there are, the first one's index and the last one's tail offset.
-fn append_entries(entries: &[EntryIndex], text: &mut String) -> std::result::Result<(), AllocError>
-    ensures { OnOk result (string_bytes text.new ≡ string_bytes text.old ++ entries_text
-        entries.now) }
+fn append_entries(entries: &[EntryIndex], text: &mut String) -> AllocResult<()>
+    ensures { OnOk result (string_bytes text.new
+        ≡ string_bytes text.old ++ entries_text entries.now) }
 {
     let (Some(first), Some(last)) = (entries.first(), entries.last()) else {
         return text.push_str("entries 0");
@@ -180,13 +172,10 @@ fn tail_offset(entry: &EntryIndex) -> u64
 }
 
 /// Appends the change of a key.
-fn append_key_value(
-    alloc: Global,
-    kv: &KeyValue,
-    text: &mut String,
-) -> std::result::Result<(), AllocError>
+fn append_key_value(alloc: Global, kv: &KeyValue, text: &mut String) -> AllocResult<()>
     ensures { OnOk result (string_bytes text.new
-        ≡ string_bytes text.old ++ pair_text kv.now.op_type kv.now.key.items (pair_of kv.now).value) }
+        ≡ string_bytes text.old
+        ++ pair_text kv.now.op_type kv.now.key.items (pair_of kv.now).value) }
 {
     match kv.op_type {
         OpType::Put => {
@@ -206,11 +195,7 @@ fn append_key_value(
 }
 
 /// Appends bytes in base 16, `-` where there are none.
-fn append_bytes(
-    alloc: Global,
-    bytes: &[u8],
-    text: &mut String,
-) -> std::result::Result<(), AllocError>
+fn append_bytes(alloc: Global, bytes: &[u8], text: &mut String) -> AllocResult<()>
     ensures { OnOk result (string_bytes text.new ≡ string_bytes text.old ++ bytes_text bytes.now) }
 {
     if bytes.is_empty() {
@@ -221,13 +206,9 @@ fn append_bytes(
 }
 
 /// Appends the last line: how many items there are, and how many bytes are left behind them.
-fn append_counts(
-    items: usize,
-    rest: usize,
-    text: &mut String,
-) -> std::result::Result<(), AllocError>
-    ensures { OnOk result (string_bytes text.new ≡ string_bytes text.old ++ counts_line items
-        rest) }
+fn append_counts(items: usize, rest: usize, text: &mut String) -> AllocResult<()>
+    ensures { OnOk result (string_bytes text.new
+        ≡ string_bytes text.old ++ counts_line items rest) }
 {
     writeln!(text, "items {items} rest {rest}")
 }

@@ -84,12 +84,12 @@ fn has_place(part: &FilePart) -> bool {
 
 /// Whether the first entry's bytes lie behind the first header.
 fn has_block(part: &FilePart) -> Result<bool> {
-    let block = FileBlockHandle {
+    let handle = FileBlockHandle {
         id: file(),
         offset: 116,
         len: 7,
     };
-    Ok(place(part)? == Some(block))
+    Ok(place(part)? == Some(handle))
 }
 
 /// Whether the first batch knows the file that it was read in, until an item is added.

@@ -8,6 +8,8 @@ mod fronts;
 #[cfg(test)]
 mod groups;
 #[cfg(test)]
+mod item_batches;
+#[cfg(test)]
 mod items;
 #[cfg(test)]
 mod log_batches;

@@ -397,7 +397,7 @@ fn asked_bytes_leave_the_batch(rt: HostRuntime) {
 }
 
 /// Whether this item's entries are in the block, and its key value is in the block's file.
-fn is_placed(item: &LogItem, block: FileBlockHandle) -> bool {
+fn is_placed(item: &LogItem, handle: FileBlockHandle) -> bool {
     match &item.content {
         LogItemContent::EntryIndexes(entries) => {
             let compression_type = CompressionType::None;
@@ -407,14 +407,14 @@ fn is_placed(item: &LogItem, block: FileBlockHandle) -> bool {
                 .iter()
                 .zip(&[(0, 2), (2, 0), (2, 1)])
             {
-                placed &= entry.entries == Some(block)
+                placed &= entry.entries == Some(handle)
                     && entry.compression_type == compression_type
                     && (entry.entry_offset, entry.entry_len) == (*entry_offset, *entry_len);
             }
             placed
         }
         LogItemContent::Command(_) => true,
-        LogItemContent::Kv(kv) => kv.file_id == Some(block.id),
+        LogItemContent::Kv(kv) => kv.file_id == Some(handle.id),
     }
 }
 

@@ -58,8 +58,8 @@ module _ (queue : LogQueue) (version : Version) where
   files_read (s ∷ ss) (f ∷ fs) all h r = record {
     first = r.first;
     rest = r.rest;
-    first_reads = subst (λ l. PartsHold l r.first) (sym (head_same s ss f fs all)) ((uncut (whole f) r.first).0 r.first_reads);
-    rest_reads = files_read ss fs (tail_same s ss f fs all) r.rest r.rest_reads;
+    first_held = subst (λ l. PartsHold l r.first) (sym (head_same s ss f fs all)) ((uncut (whole f) r.first).0 r.first_held);
+    rest_held = files_read ss fs (tail_same s ss f fs all) r.rest r.rest_held;
     split = r.split;
   }
 
@@ -70,8 +70,8 @@ module _ (queue : LogQueue) (version : Version) where
   segments_read (s ∷ ss) (f ∷ fs) all h r = record {
     first = r.first;
     rest = r.rest;
-    first_reads = (uncut (whole f) r.first).1 (subst (λ l. PartsHold l r.first) (head_same s ss f fs all) r.first_reads);
-    rest_reads = segments_read ss fs (tail_same s ss f fs all) r.rest r.rest_reads;
+    first_held = (uncut (whole f) r.first).1 (subst (λ l. PartsHold l r.first) (head_same s ss f fs all) r.first_held);
+    rest_held = segments_read ss fs (tail_same s ss f fs all) r.rest r.rest_held;
     split = r.split;
   }
 

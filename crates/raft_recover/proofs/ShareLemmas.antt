@@ -64,12 +64,12 @@ alike_then xs ys zs p q = record {
 read_behind : (xs ys zs : List Part) → ((h : List Event) → PartsHold xs h → PartsHold ys h) → (h : List Event) → PartsHold (xs ++ zs) h → PartsHold (ys ++ zs) h
 read_behind xs ys zs same h reads =
     let r = each_cut PartHolds xs zs h reads in
-    subst (PartsHold (ys ++ zs)) (sym r.split) (each_join PartHolds ys zs r.first r.rest (same r.first r.first_reads) r.rest_reads)
+    subst (PartsHold (ys ++ zs)) (sym r.split) (each_join PartHolds ys zs r.first r.rest (same r.first r.first_held) r.rest_held)
 
 read_before : (xs ys zs : List Part) → ((h : List Event) → PartsHold xs h → PartsHold ys h) → (h : List Event) → PartsHold (zs ++ xs) h → PartsHold (zs ++ ys) h
 read_before xs ys zs same h reads =
     let r = each_cut PartHolds zs xs h reads in
-    subst (PartsHold (zs ++ ys)) (sym r.split) (each_join PartHolds zs ys r.first r.rest r.first_reads (same r.rest r.rest_reads))
+    subst (PartsHold (zs ++ ys)) (sym r.split) (each_join PartHolds zs ys r.first r.rest r.first_held (same r.rest r.rest_held))
 
 -- with the same parts behind them
 pub alike_behind : (xs ys zs : List Part) → AreAlike xs ys → AreAlike (xs ++ zs) (ys ++ zs)
@@ -142,7 +142,7 @@ within_push (s ∷ ss) segment = ap (λ (l : List Part). s.items ++ l) (within_p
 pub read_within : (segments : List (Vec Part Global)) (h : List Event) → SegmentsHold segments h → PartsHold (parts_within segments) h
 read_within [] h r = r
 read_within (s ∷ ss) h r =
-    subst (PartsHold (s.items ++ parts_within ss)) (sym r.split) (each_join PartHolds s.items (parts_within ss) r.first r.rest r.first_reads (read_within ss r.rest r.rest_reads))
+    subst (PartsHold (s.items ++ parts_within ss)) (sym r.split) (each_join PartHolds s.items (parts_within ss) r.first r.rest r.first_held (read_within ss r.rest r.rest_held))
 
 pub within_read : (segments : List (Vec Part Global)) (h : List Event) → PartsHold (parts_within segments) h → SegmentsHold segments h
 within_read [] h r = r
@@ -151,8 +151,8 @@ within_read (s ∷ ss) h r =
     record {
       first = c.first;
       rest = c.rest;
-      first_reads = c.first_reads;
-      rest_reads = within_read ss c.rest c.rest_reads;
+      first_held = c.first_held;
+      rest_held = within_read ss c.rest c.rest_held;
       split = c.split;
     }
 

@@ -10,7 +10,9 @@ pub mod shares;
 
 pub use program::{command_words, run, run_without_words};
 pub use raft_accessor::MemTableAccessor;
-pub use raft_base::{EntryIndex, Error, Factory, FileId, FileSeq, LogQueue, Result, Version};
+pub use raft_base::{
+    AllocResult, EntryIndex, Error, Factory, FileId, FileSeq, LogQueue, Result, Version,
+};
 pub use raft_history::ReplayMachine;
 pub use raft_memtable::{MemTableRecoverContext, MemTableRecoverContextFactory};
 pub use raft_records::{FilePart, LogBatch, LogItem};

@@ -8,10 +8,10 @@ ghost use Rattle.raft_records.specs.Lines.{IsIoError};
 ghost use Rattle.raft_recover.specs.TableLines.{range_text, file_text, region_text, table_line, cleaned_text, cleaned_line, live_line, IsTextOfTables, PrintsTables, PrintsFrontOfTables};
 
 use raft_accessor::MemTableAccessor;
-use raft_base::{Error, FileSeq, LogQueue, Result};
+use raft_base::{AllocResult, Error, FileSeq, LogQueue, Result};
 use raft_records::write_whole;
 use raft_table::{GlobalStats, MemTable};
-use std::alloc::{AllocError, Global};
+use std::alloc::Global;
 use std::io::Write;
 
 /// Prints the tables of all regions, a line for each by rising region, then the cleaned regions and the numbers of live
@@ -70,7 +70,7 @@ fn sort_by_region(tables: &mut Vec<&MemTable>)
 }
 
 /// Appends the lines of tables.
-fn append_tables(tables: &[&MemTable], text: &mut String) -> std::result::Result<(), AllocError>
+fn append_tables(tables: &[&MemTable], text: &mut String) -> AllocResult<()>
     ensures { OnOk result (string_bytes text.new
         ≡ string_bytes text.old ++ flat_map table_line (map (λ t. t.now) tables.now)) }
 {
@@ -81,7 +81,7 @@ fn append_tables(tables: &[&MemTable], text: &mut String) -> std::result::Result
 }
 
 /// Appends the line of a table.
-fn append_table(table: &MemTable, text: &mut String) -> std::result::Result<(), AllocError>
+fn append_table(table: &MemTable, text: &mut String) -> AllocResult<()>
     ensures { OnOk result (string_bytes text.new ≡ string_bytes text.old ++ table_line table.now) }
 {
     write!(text, "{} entries ", table.region_id())?;
@@ -94,7 +94,7 @@ fn append_table(table: &MemTable, text: &mut String) -> std::result::Result<(), 
 }
 
 /// Appends the first index of a table and the one behind the last, `-` where it has no entries.
-fn append_range(table: &MemTable, text: &mut String) -> std::result::Result<(), AllocError>
+fn append_range(table: &MemTable, text: &mut String) -> AllocResult<()>
     ensures { OnOk result (string_bytes text.new ≡ string_bytes text.old ++ range_text
         table.now.entries) }
 {
@@ -107,7 +107,7 @@ fn append_range(table: &MemTable, text: &mut String) -> std::result::Result<(), 
 }
 
 /// Appends the number of a file, `-` where there is none.
-fn append_file(seq: Option<FileSeq>, text: &mut String) -> std::result::Result<(), AllocError>
+fn append_file(seq: Option<FileSeq>, text: &mut String) -> AllocResult<()>
     ensures { OnOk result (string_bytes text.new ≡ string_bytes text.old ++ file_text seq) }
 {
     match seq {
@@ -117,7 +117,7 @@ fn append_file(seq: Option<FileSeq>, text: &mut String) -> std::result::Result<(
 }
 
 /// Appends the line of the cleaned regions.
-fn append_cleaned(regions: &[u64], text: &mut String) -> std::result::Result<(), AllocError>
+fn append_cleaned(regions: &[u64], text: &mut String) -> AllocResult<()>
     ensures { OnOk result (string_bytes text.new ≡ string_bytes text.old ++ cleaned_line
         regions.now) }
 {
@@ -132,7 +132,7 @@ fn append_cleaned(regions: &[u64], text: &mut String) -> std::result::Result<(),
 }
 
 /// Appends the line of the numbers of live records.
-fn append_live(stats: &GlobalStats, text: &mut String) -> std::result::Result<(), AllocError>
+fn append_live(stats: &GlobalStats, text: &mut String) -> AllocResult<()>
     ensures { OnOk result (string_bytes text.new ≡ string_bytes text.old ++ live_line stats.now) }
 {
     let append = stats.live_entries(LogQueue::Append);

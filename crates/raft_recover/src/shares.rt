@@ -1,4 +1,4 @@
-//! Segments as equal shares: neighbours put together and large parts cut, by bytes.
+//! Segments as equal shares: neighbors put together and large parts cut, by bytes.
 
 ghost use Rattle.std.specs.Prelude.{◌≡◌, ◌↔◌, ◌<◌, ◌≤◌, ◌++◌, List, IfOk, IfErr, OnOk, length};
 ghost use Rattle.raft_base.specs.declared.pipe_log.LogQueue.{LogQueue};
@@ -16,7 +16,7 @@ use std::mem;
 const PIECES: usize = 4;
 
 /// The parts of segments as `count` segments at most, the shares, of about one length each, and of `least` bytes or more
-/// where there are as many: neighbouring parts are put together, and a part that is longer than a share is cut between
+/// where there are as many: neighboring parts are put together, and a part that is longer than a share is cut between
 /// batches. What is read of the shares is what is read of the segments. No byte is copied.
 ///
 /// # Errors

@@ -56,9 +56,9 @@ fn with_file(all: u64, file: FileId) -> u64 {
 
 fn with_entry(all: u64, entry: EntryIndex) -> u64 {
     let mut all = with(all, entry.index);
-    if let Some(block) = entry.entries {
-        all = with(with_file(all, block.id), block.offset);
-        all = with(all, block.len as u64);
+    if let Some(handle) = entry.entries {
+        all = with(with_file(all, handle.id), handle.offset);
+        all = with(all, handle.len as u64);
     }
     with(
         with(all, u64::from(entry.entry_offset)),
@@ -141,8 +141,8 @@ fn is_placed(entry: Option<EntryIndex>, index: u64, is_rewritten: bool) -> bool 
     let Some(entry) = entry else {
         return false;
     };
-    let Some(block) = entry.entries else {
+    let Some(handle) = entry.entries else {
         return false;
     };
-    entry.index == index && (block.id.queue == LogQueue::Rewrite) == is_rewritten
+    entry.index == index && (handle.id.queue == LogQueue::Rewrite) == is_rewritten
 }

@@ -79,14 +79,14 @@ module _ {M : Type 0} (stands_for stands_exactly : M → List Event → Type 0) 
           (subst (λ (l : List (Vec Part Global)). SegmentsHold l h) around reads) in
           let few = small_back front.first front.rest (subst IsSmall front.split small) in
           let good = sound_back front.first front.rest (subst Sound front.split sound) in
-          let mid = each_cut SegmentReads (take count (drop from segments)) (segment ∷ drop (from + count + 1) segments) front.rest front.rest_reads in
-          let same = segments_unique (take count (drop from segments)) mid.first piece.history mid.first_reads piece.reads in
-          let next = mid.rest_reads in
+          let mid = each_cut SegmentReads (take count (drop from segments)) (segment ∷ drop (from + count + 1) segments) front.rest front.rest_held in
+          let same = segments_unique (take count (drop from segments)) mid.first piece.history mid.first_held piece.reads in
+          let next = mid.rest_held in
           let whole : front.rest ≡ piece.history ++ next.first ++ next.rest =
           mid.split ∙ ap (λ (t : List Event). t ++ mid.rest) same ∙ ap (λ (t : List Event). piece.history ++ t) next.split
           ∙ sym (append_assoc piece.history next.first next.rest) in
           let less = small_front (piece.history ++ next.first) next.rest (subst IsSmall whole few) in
-          cannot.unsound piece.history next.first next.first_reads less
+          cannot.unsound piece.history next.first next.first_held less
           (exact_stands m piece.history (piece.exact (small_front piece.history next.first less)))
           (sound_front (piece.history ++ next.first) next.rest (subst Sound whole good));
     }

@@ -144,7 +144,7 @@ front_joined part at i (e ∷ h) g inside first reads =
 
 -- nothing is read in front of the first byte
 pub meet_first : (part : Part) → BatchesMeet part 0
-meet_first part h reads = record { first = []; rest = h; first_reads = sym (length-take-le 0 part.bytes (omega arith)); rest_reads = reads; split = refl }
+meet_first part h reads = record { first = []; rest = h; first_held = sym (length-take-le 0 part.bytes (omega arith)); rest_held = reads; split = refl }
 
 -- one batch more is read in front of the next place
 module _ (part : Part) (i len : ℕ) (inside : i + len ≤ length part.bytes) where
@@ -164,16 +164,16 @@ module _ (part : Part) (i len : ℕ) (inside : i + len ≤ length part.bytes) wh
       behind : (r : AreHeldInTurn (PartHolds (bytes_before part i)) (HoldsFrom part i) h) (left : List Event) → r.rest ≡ left
           → AreHeldInTurn (PartHolds (bytes_before part (i + len))) (HoldsFrom part (i + len)) h
       behind r [] none =
-          let ends : i ≡ length part.bytes = subst (HoldsFrom part i) none r.rest_reads in
+          let ends : i ≡ length part.bytes = subst (HoldsFrom part i) none r.rest_held in
           absurd (omega (arith, ends, inside, some))
       behind r (e ∷ g) is =
-          let left = subst (HoldsFrom part i) is r.rest_reads in
+          let left = subst (HoldsFrom part i) is r.rest_held in
           let next = header_ends part i left.1.0 offset len e.items header left.1.1 in
           record {
             first = r.first ++ e ∷ [];
             rest = g;
-            first_reads = grown r.first e r.first_reads left.0 (subst (λ (n : ℕ). IsBatchAt part i e.items n) next left.1.1);
-            rest_reads = subst (λ (n : ℕ). HoldsFrom part n g) next left.1.2;
+            first_held = grown r.first e r.first_held left.0 (subst (λ (n : ℕ). IsBatchAt part i e.items n) next left.1.1);
+            rest_held = subst (λ (n : ℕ). HoldsFrom part n g) next left.1.2;
             split = r.split ∙ ap (λ (t : List Event). r.first ++ t) is ∙ sym (append_assoc r.first (e ∷ []) g);
           }
 
@@ -181,7 +181,7 @@ module _ (part : Part) (i len : ℕ) (inside : i + len ≤ length part.bytes) wh
 
 -- one part alone
 one_part : (p : Part) (h : List Event) → PartsHold (p ∷ []) h → PartHolds p h
-one_part p h r = subst (PartHolds p) (sym (r.split ∙ ap (λ t. r.first ++ t) r.rest_reads ∙ append-nil r.first)) r.first_reads
+one_part p h r = subst (PartHolds p) (sym (r.split ∙ ap (λ t. r.first ++ t) r.rest_held ∙ append-nil r.first)) r.first_held
 
 pub uncut : (part : Part) → AreCutFrom part (part ∷ [])
 uncut part h = (each_single PartHolds part h, one_part part h)
@@ -197,16 +197,16 @@ cut_in_two part at inside meet h = (to, from)
         record {
           first = r.first;
           rest = r.rest;
-          first_reads = r.first_reads;
-          rest_reads = each_single PartHolds (rest_of part at) r.rest (rest_read part at 0 r.rest inside (subst (λ (n : ℕ). HoldsFrom part n r.rest) (sym first) r.rest_reads));
+          first_held = r.first_held;
+          rest_held = each_single PartHolds (rest_of part at) r.rest (rest_read part at 0 r.rest inside (subst (λ (n : ℕ). HoldsFrom part n r.rest) (sym first) r.rest_held));
           split = r.split;
         }
 
     from : PartsHold (bytes_before part at ∷ rest_of part at ∷ []) h → PartHolds part h
     from r =
         let first : at + 0 ≡ at = omega arith in
-        let rest = subst (λ (n : ℕ). HoldsFrom part n r.rest) first (read_rest part at 0 r.rest inside (one_part (rest_of part at) r.rest r.rest_reads)) in
-        subst (PartHolds part) (sym r.split) (front_joined part at 0 r.first r.rest inside r.first_reads rest)
+        let rest = subst (λ (n : ℕ). HoldsFrom part n r.rest) first (read_rest part at 0 r.rest inside (one_part (rest_of part at) r.rest r.rest_held)) in
+        subst (PartHolds part) (sym r.split) (front_joined part at 0 r.first r.rest inside r.first_held rest)
 
 -- the same is read where a part among others is cut
 pub cut_among : (old new : List Part) (part : Part) (cut : List Part) → AreCutFrom part cut
@@ -216,18 +216,18 @@ cut_among old new part cut same h = (to, from)
     to : PartsHold (old ++ part ∷ new) h → PartsHold (old ++ cut ++ new) h
     to reads =
         let r = each_cut PartHolds old (part ∷ new) h reads in
-        let s = r.rest_reads in
-        let behind = each_join PartHolds cut new s.first s.rest ((same s.first).0 s.first_reads) s.rest_reads in
+        let s = r.rest_held in
+        let behind = each_join PartHolds cut new s.first s.rest ((same s.first).0 s.first_held) s.rest_held in
         subst (PartsHold (old ++ cut ++ new)) (ap (λ (t : List Event). r.first ++ t) (sym s.split) ∙ sym r.split)
-        (subst (λ (ps : List Part). PartsHold ps (r.first ++ (s.first ++ s.rest))) (sym (append_assoc old cut new)) (each_join PartHolds old (cut ++ new) r.first (s.first ++ s.rest) r.first_reads behind))
+        (subst (λ (ps : List Part). PartsHold ps (r.first ++ (s.first ++ s.rest))) (sym (append_assoc old cut new)) (each_join PartHolds old (cut ++ new) r.first (s.first ++ s.rest) r.first_held behind))
 
     from : PartsHold (old ++ cut ++ new) h → PartsHold (old ++ part ∷ new) h
     from reads =
         let r = each_cut PartHolds old (cut ++ new) h (subst (λ (ps : List Part). PartsHold ps h) (append_assoc old cut new) reads) in
-        let s = each_cut PartHolds cut new r.rest r.rest_reads in
-        let behind : PartsHold (part ∷ new) (s.first ++ s.rest) = record { first = s.first; rest = s.rest; first_reads = (same s.first).1 s.first_reads; rest_reads = s.rest_reads; split = refl } in
+        let s = each_cut PartHolds cut new r.rest r.rest_held in
+        let behind : PartsHold (part ∷ new) (s.first ++ s.rest) = record { first = s.first; rest = s.rest; first_held = (same s.first).1 s.first_held; rest_held = s.rest_held; split = refl } in
         subst (PartsHold (old ++ part ∷ new)) (ap (λ (t : List Event). r.first ++ t) (sym s.split) ∙ sym r.split)
-        (each_join PartHolds old (part ∷ new) r.first (s.first ++ s.rest) r.first_reads behind)
+        (each_join PartHolds old (part ∷ new) r.first (s.first ++ s.rest) r.first_held behind)
 
 -- one part more is cut off the last
 pub cut_again : (part left front rest : Part) (old new : List Part) (at : ℕ) → AreCutFrom part (old ++ left ∷ []) → at ≤ length left.bytes → BatchesMeet left at

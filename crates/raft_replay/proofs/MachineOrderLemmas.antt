@@ -29,26 +29,26 @@ module _ {A : Type 0} (Reads : A → List Event → Type 0) where
   each_join (x ∷ xs) ys g h first second = record {
     first = first.first;
     rest = first.rest ++ h;
-    first_reads = first.first_reads;
-    rest_reads = each_join xs ys first.rest h first.rest_reads second;
+    first_held = first.first_held;
+    rest_held = each_join xs ys first.rest h first.rest_held second;
     split = ap (λ (t : List Event). t ++ h) first.split ∙ append_assoc first.first first.rest h;
   }
 
   pub each_cut : (xs ys : List A) (h : List Event) → EachHolds Reads (xs ++ ys) h
       → AreHeldInTurn (λ g. EachHolds Reads xs g) (λ g. EachHolds Reads ys g) h
-  each_cut [] ys h all = record { first = []; rest = h; first_reads = refl; rest_reads = all; split = refl }
+  each_cut [] ys h all = record { first = []; rest = h; first_held = refl; rest_held = all; split = refl }
   each_cut (x ∷ xs) ys h all =
-      let cut = each_cut xs ys all.rest all.rest_reads in
+      let cut = each_cut xs ys all.rest all.rest_held in
       record {
         first = all.first ++ cut.first;
         rest = cut.rest;
-        first_reads = record { first = all.first; rest = cut.first; first_reads = all.first_reads; rest_reads = cut.first_reads; split = refl };
-        rest_reads = cut.rest_reads;
+        first_held = record { first = all.first; rest = cut.first; first_held = all.first_held; rest_held = cut.first_held; split = refl };
+        rest_held = cut.rest_held;
         split = all.split ∙ ap (λ (t : List Event). all.first ++ t) cut.split ∙ sym (append_assoc all.first cut.first cut.rest);
       }
 
   pub each_single : (x : A) (h : List Event) → Reads x h → EachHolds Reads (x ∷ []) h
-  each_single x h reads = record { first = h; rest = []; first_reads = reads; rest_reads = refl; split = sym (append-nil h) }
+  each_single x h reads = record { first = h; rest = []; first_held = reads; rest_held = refl; split = sym (append-nil h) }
 
 abbrev SegmentReads : Vec Part Global → List Event → Type 0
 SegmentReads segment h = PartsHold segment.items h
@@ -64,7 +64,7 @@ each_of : {A : Type 0} (Reads : A → List Event → Type 0) (P : A → Type 0) 
 each_of Reads P queue one [] all h reads = subst (IsOfQueue queue) (sym reads) record { each = tt }
 each_of Reads P queue one (x ∷ xs) all h reads =
     subst (IsOfQueue queue) (sym reads.split)
-    (of_both queue reads.first reads.rest (one x all.0 reads.first reads.first_reads) (each_of Reads P queue one xs all.1 reads.rest reads.rest_reads))
+    (of_both queue reads.first reads.rest (one x all.0 reads.first reads.first_held) (each_of Reads P queue one xs all.1 reads.rest reads.rest_held))
 
 parts_of : (queue : LogQueue) (parts : List Part) → PartsAreOf queue parts → (h : List Event) → PartsHold parts h → IsOfQueue queue h
 parts_of queue parts all =
@@ -136,8 +136,8 @@ module _ {M : Type 0} (stands_for stands_exactly : M → List Event → Type 0) 
     stopped all rest segment is cannot = record {
       unsound = λ h reads small sound.
           let cut = each_cut SegmentReads segments (segment ∷ rest) h (subst (λ (l : List (Vec Part Global)). SegmentsHold l h) is reads) in
-          let same = segments_unique segments cut.first (histories_in_turn underway.histories ++ underway.last) cut.first_reads underway.reads in
-          let next = cut.rest_reads in
+          let same = segments_unique segments cut.first (histories_in_turn underway.histories ++ underway.last) cut.first_held underway.reads in
+          let next = cut.rest_held in
           let whole : h ≡ histories_in_turn underway.histories ++ underway.last ++ next.first ++ next.rest =
           cut.split ∙ ap (λ (t : List Event). t ++ cut.rest) same ∙ ap (λ (t : List Event). histories_in_turn underway.histories ++ underway.last ++ t) next.split
           ∙ sym (append_assoc (histories_in_turn underway.histories ++ underway.last) next.first next.rest) in
@@ -145,7 +145,7 @@ module _ {M : Type 0} (stands_for stands_exactly : M → List Event → Type 0) 
           let good = sound_front (histories_in_turn underway.histories ++ underway.last ++ next.first) next.rest (subst Sound whole sound) in
           let two = append_assoc (histories_in_turn underway.histories) underway.last next.first in
           let stands = exact_stands m underway.last (underway.exact (small_front (histories_in_turn underway.histories ++ underway.last) next.first few)) in
-          cannot.unsound underway.last next.first next.first_reads (small_back (histories_in_turn underway.histories) (underway.last ++ next.first) (subst IsSmall two few)) stands
+          cannot.unsound underway.last next.first next.first_held (small_back (histories_in_turn underway.histories) (underway.last ++ next.first) (subst IsSmall two few)) stands
           (sound_back (histories_in_turn underway.histories) (underway.last ++ next.first) (subst Sound two good));
     }
 

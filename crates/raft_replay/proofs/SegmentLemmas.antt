@@ -90,8 +90,8 @@ part_unique part at (d ∷ g) (e ∷ h) p q =
 pub each_unique : {A : Type 0} (Reads : A → List Event → Type 0) → ((x : A) → IsUnique (Reads x)) → (xs : List A) → IsUnique (EachHolds Reads xs)
 each_unique Reads one [] g h p q = p ∙ sym q
 each_unique Reads one (x ∷ xs) g h p q =
-    let first = one x p.first q.first p.first_reads q.first_reads in
-    let rest = each_unique Reads one xs p.rest q.rest p.rest_reads q.rest_reads in
+    let first = one x p.first q.first p.first_held q.first_held in
+    let rest = each_unique Reads one xs p.rest q.rest p.rest_held q.rest_held in
     p.split ∙ (λ i. first i ++ rest i) ∙ sym q.split
 
 pub parts_unique : (parts : List Part) → IsUnique (PartsHold parts)
@@ -137,13 +137,13 @@ module _ {A : Type 0} (Reads : A → List Event → Type 0) where
   pub first_of_each : (x : A) (xs : List A) (first : List Event) → IsUnique (Reads x) → Reads x first
       → IsCut (λ h. EachHolds Reads (x ∷ xs) h) (λ h. EachHolds Reads xs h) first
   first_of_each x xs first one reads = record {
-    joins = λ r left. record { first = first; rest = r; first_reads = reads; rest_reads = left; split = refl };
-    cuts = λ g all. (all.rest, all.rest_reads, all.split ∙ ap (λ (t : List Event). t ++ all.rest) (one all.first first all.first_reads reads));
+    joins = λ r left. record { first = first; rest = r; first_held = reads; rest_held = left; split = refl };
+    cuts = λ g all. (all.rest, all.rest_held, all.split ∙ ap (λ (t : List Event). t ++ all.rest) (one all.first first all.first_held reads));
   }
 
   -- what can't follow of one can't follow of it and others
   pub first_of_each_refused : (x : A) (xs : List A) (Stood : List Event → Type 0) → CannotFollow (Reads x) Stood → CannotFollow (λ h. EachHolds Reads (x ∷ xs) h) Stood
-  first_of_each_refused x xs Stood cannot = first_refused (λ g all. (all.first, all.rest, all.first_reads, all.split)) cannot
+  first_of_each_refused x xs Stood cannot = first_refused (λ g all. (all.first, all.rest, all.first_held, all.split)) cannot
 
   -- the same lists are read in the same way
   pub cut_at : (left rest : List A) (x : A) (first : List Event) → left ≡ x ∷ rest → IsUnique (Reads x) → Reads x first

@@ -1,4 +1,4 @@
--- Plans of merging neighbours.
+-- Plans of merging neighbors.
 use Rattle.std.specs.Prelude.{ℕ, ◌+◌, ◌≤◌}
 use Rattle.raft_replay.specs.declared.plan.Plan.{Plan}
 use Rattle.raft_replay.specs.declared.plan.Plan.TheVariants.{One, Join'}

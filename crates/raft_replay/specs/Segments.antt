@@ -10,8 +10,8 @@ use Rattle.raft_history.specs.Histories.{IsSmall, Sound}
 pub record AreHeldInTurn (IsFirst IsRest : List Event → Type 0) (h : List Event) : Type 0 where
   pub first : List Event
   pub rest : List Event
-  pub first_reads : IsFirst first
-  pub rest_reads : IsRest rest
+  pub first_held : IsFirst first
+  pub rest_held : IsRest rest
   pub split : h ≡ first ++ rest
 
 -- the batches from a byte of a part on, one behind the other up to its end, each written to the part's file

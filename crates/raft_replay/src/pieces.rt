@@ -35,13 +35,13 @@ use std::thread::{Threads, join};
 /// Through how many levels of joins the branches are merged at once: more than any plan by halves has.
 pub(crate) const MAX_LEVELS: usize = 64;
 
-/// Merges neighbouring pieces as the plan says: both branches of a join at once, where both have pieces to merge, through
+/// Merges neighboring pieces as the plan says: both branches of a join at once, where both have pieces to merge, through
 /// 64 levels of the plan, which is more than any plan by halves has; what lies deeper is merged one after another. A
 /// branch for which no thread can be started is walked by the caller. However deep the plan is, little stack is needed.
 ///
 /// # Errors
 ///
-/// `InvalidArgument` where the plan is of another number of pieces, then whatever a merge of two neighbours answers, and
+/// `InvalidArgument` where the plan is of another number of pieces, then whatever a merge of two neighbors answers, and
 /// `Memory`.
 pub fn merge_pieces<M: ReplayMachine, R: Threads + Sync>(
     rt: &R,
@@ -243,7 +243,7 @@ fn cut<M: ReplayMachine>(mut pieces: Vec<M>, left: &Plan, right: &Plan) -> Resul
     Ok((pieces, rest))
 }
 
-/// Two merged neighbours merged, or the first refusal of either.
+/// Two merged neighbors merged, or the first refusal of either.
 fn merge_both<M: ReplayMachine>(older: Result<M>, newer: Result<M>, queue: LogQueue) -> Result<M>
     ensures { (xs ys zs : List M) → zs ≡ xs ++ ys →
         Merges M.stands_for M.stands_exactly queue xs older →

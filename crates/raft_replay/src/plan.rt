@@ -7,7 +7,7 @@ ghost use Rattle.raft_replay.specs.PlanWalks.{heft};
 use raft_base::{Error, Result};
 use std::alloc::Global;
 
-/// How pieces that lie one behind the other are merged, two neighbours at a time.
+/// How pieces that lie one behind the other are merged, two neighbors at a time.
 #[derive(Debug)]
 pub enum Plan {
     /// One piece as it is.

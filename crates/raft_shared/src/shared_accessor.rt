@@ -215,10 +215,10 @@ impl SharedAccessor {
         &self,
         rt: &R,
         id: u64,
-        start: FileSeq,
-        end: FileSeq,
+        first_seq: FileSeq,
+        last_seq: FileSeq,
     ) -> Result<()>
-        requires { start ≤ end }
+        requires { first_seq ≤ last_seq }
         ensures { IfErr result IsLockFault }
     {
         let number = slot_of(id);
@@ -226,7 +226,7 @@ impl SharedAccessor {
         if slot.number() != number {
             return Err(Error::Failed);
         }
-        slot.apply_rewrite_atomic_group(id, start, end)
+        slot.apply_rewrite_atomic_group(id, first_seq, last_seq)
     }
 
     /// Writes new items of the append queue to the tables, in order.
@@ -255,7 +255,7 @@ impl SharedAccessor {
         Ok(())
     }
 
-    /// Writes items that were rewritten to the file `new_file` of the rewrite queue to the tables, in
+    /// Writes items that were rewritten to the file `seq` of the rewrite queue to the tables, in
     /// order: with a gate the places that move are those in append files at or below it, without
     /// one those that are rewritten already.
     ///
@@ -268,19 +268,19 @@ impl SharedAccessor {
         rt: &R,
         items: I,
         gate: Option<FileSeq>,
-        new_file: FileSeq,
+        seq: FileSeq,
     ) -> Result<()>
         requires { (it : I.IntoIter) → I.into_iter_gives items it
             → I.IntoIter.can_next it × IsFinite (I.IntoIter.remaining it) }
         ensures ok { OnOk result ((it : I.IntoIter) × (xs : List LogItem) ×
             I.into_iter_gives items it
-            × Drains I.IntoIter.next_gives it xs × AllByRecursion (MayBeWritten (Rewriting gate new_file)) (map item_of xs)) }
+            × Drains I.IntoIter.next_gives it xs × AllByRecursion (MayBeWritten (Rewriting gate seq)) (map item_of xs)) }
         ensures refused { IfErr result (λ e. (it : I.IntoIter) × (xs : List LogItem) ×
             (u : I.IntoIter) × I.into_iter_gives items it × Yields I.IntoIter.next_gives it xs u
-            × IsLastRefused (Rewriting gate new_file) (map item_of xs) e) }
+            × IsLastRefused (Rewriting gate seq) (map item_of xs) e) }
     {
         for item in items {
-            self.rewrite_item(rt, item, gate, new_file)?;
+            self.rewrite_item(rt, item, gate, seq)?;
         }
         Ok(())
     }
@@ -410,17 +410,17 @@ impl SharedAccessor {
         rt: &R,
         item: LogItem,
         gate: Option<FileSeq>,
-        new_file: FileSeq,
+        seq: FileSeq,
     ) -> Result<()>
-        ensures ok { OnOk result (MayBeWritten (Rewriting gate new_file) (item_of item)) }
-        ensures fault { IfErr result (IsSharedItemFault (Rewriting gate new_file) (item_of item)) }
+        ensures ok { OnOk result (MayBeWritten (Rewriting gate seq) (item_of item)) }
+        ensures fault { IfErr result (IsSharedItemFault (Rewriting gate seq) (item_of item)) }
     {
         let number = slot_of(item.raft_group_id);
         let mut slot = self.slots[number].write(rt);
         if slot.number() != number {
             return Err(Error::Failed);
         }
-        slot.apply_rewrite_write(item, gate, new_file)
+        slot.apply_rewrite_write(item, gate, seq)
     }
 }
 

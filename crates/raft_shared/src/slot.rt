@@ -182,20 +182,20 @@ impl Slot {
     pub fn apply_rewrite_atomic_group(
         &mut self,
         id: u64,
-        start: FileSeq,
-        end: FileSeq,
+        first_seq: FileSeq,
+        last_seq: FileSeq,
     ) -> Result<()>
         requires slot { slot_of id ≡ self.old.number }
-        requires files { start ≤ end }
+        requires files { first_seq ≤ last_seq }
         ensures changed { IsTableChanged (Some (record (table_in self.old.content.tables id)
-            { atomic_group = Some (start, end) }))
+            { atomic_group = Some (first_seq, last_seq) }))
             (λ e. ⊥)
             id result self.old.content self.new.content }
         ensures counts { self.new.content.counts ≡ self.old.content.counts }
         ensures number { self.new.number ≡ self.old.number }
     {
         self.tables
-            .apply_rewrite_atomic_group(id, start, end, &mut self.stats)
+            .apply_rewrite_atomic_group(id, first_seq, last_seq, &mut self.stats)
     }
 
     /// Puts a table under its region's id and counts its records. The table that stood there is taken
@@ -266,7 +266,7 @@ impl Slot {
             .append_item(item, &mut self.stats, &mut self.cleaned)
     }
 
-    /// Writes an item that was rewritten to the file `new_file` of the rewrite queue to its region's
+    /// Writes an item that was rewritten to the file `seq` of the rewrite queue to its region's
     /// table: with a gate the places that move are those in append files at or below it, without
     /// one those that are rewritten already.
     ///
@@ -277,15 +277,15 @@ impl Slot {
         &mut self,
         item: LogItem,
         gate: Option<FileSeq>,
-        new_file: FileSeq,
+        seq: FileSeq,
     ) -> Result<()>
         requires { slot_of item.raft_group_id ≡ self.old.number }
-        ensures written { IsWritten (Rewriting gate new_file) (item_of item) result self.old.content
+        ensures written { IsWritten (Rewriting gate seq) (item_of item) result self.old.content
             self.new.content }
         ensures number { self.new.number ≡ self.old.number }
     {
         self.tables
-            .rewrite_item(item, gate, new_file, &mut self.stats)
+            .rewrite_item(item, gate, seq, &mut self.stats)
     }
 
     /// Moves the cleaned regions into an open batch as a `Clean` for each, in order. The list is then

@@ -1,12 +1,13 @@
 //! What `raft_base` hands on beside codecs.
 
 use raft_base::{
-    B, CompressionType, EntryIndex, Error, Factory, FileBlockHandle, FileId, FileSeq, GIB, KIB,
-    LogFileContext, LogQueue, MIB, Message, MessageError, MessageExt, PIB, PipeLog, ReactiveBytes,
-    ReadableSize, Result, SizeError, TIB, Version, codec, compression_type, crc32, entry_index,
-    errors, hash_u64, message, pipe_log, round_down, round_up, size_from_value, unhash_u64, util,
+    AllocResult, B, CompressionType, EntryIndex, Error, Factory, FileBlockHandle, FileId, FileSeq,
+    GIB, KIB, LogFileContext, LogQueue, MIB, Message, MessageError, MessageExt, PIB, PipeLog,
+    ReactiveBytes, ReadableSize, Result, SizeError, TIB, Version, codec, compression_type, crc32,
+    entry_index, errors, hash_u64, message, pipe_log, round_down, round_up, size_from_value,
+    unhash_u64, util,
 };
-use std::alloc::Global;
+use std::alloc::{AllocError, Global};
 use std::io;
 use std::ops::{Div, Mul};
 use std::str::FromStr;
@@ -33,6 +34,7 @@ fn errors_of_others() {
     let _of_io: fn(io::Error) -> Error = <Error as From<io::Error>>::from;
     let _of_codec: fn(codec::Error) -> Error = <Error as From<codec::Error>>::from;
     let _of_message: fn(MessageError) -> Error = <Error as From<MessageError>>::from;
+    let _of_alloc: fn(AllocError) -> Error = <Error as From<AllocError>>::from;
     let _codec_of_io: fn(io::Error) -> codec::Error = <codec::Error as From<io::Error>>::from;
 }
 
@@ -102,6 +104,7 @@ fn types_by_module() {
     let _entry: entry_index::EntryIndex = EntryIndex::default();
     let _compression: compression_type::CompressionType = CompressionType::None;
     let _error: errors::Error = Error::Full;
+    let _no_memory: errors::AllocResult<u8> = Err(AllocError);
     let _refused: message::MessageError = MessageError::Refused(1);
     let _version: pipe_log::Version = Version::default();
 }
@@ -113,9 +116,9 @@ fn ready_of_reactive_bytes<T: ReactiveBytes>(bytes: &T) -> bool {
 fn read_bytes_of_pipes<P: PipeLog, T: ReactiveBytes>(
     pipe: &P,
     alloc: Global,
-    block: FileBlockHandle,
+    handle: FileBlockHandle,
 ) -> Result<Vec<u8>> {
-    P::read_bytes(pipe, alloc, block)
+    P::read_bytes(pipe, alloc, handle)
 }
 
 fn sync_of_pipes<P: PipeLog, T: ReactiveBytes>(pipe: &P, queue: LogQueue) -> Result<()> {

@@ -1,13 +1,12 @@
 //! Numbers as bytes, from `raft_base`.
 
-use raft_base::codec;
 use raft_base::codec::{
     BytesSlice, Error, NumberEncoder, Result, append_var_u64, decode_i32_le, decode_i64,
     decode_i64_desc, decode_i64_le, decode_u16, decode_u16_le, decode_u32, decode_u32_le,
     decode_u64, decode_u64_desc, decode_u64_le, decode_var_i64, decode_var_u64,
     parse_short_var_u64, parse_var_u64, read_u8,
 };
-use std::alloc::AllocError;
+use raft_base::{AllocResult, codec};
 use std::io;
 
 fn read_u8_of_fixed_decoders(bytes: &mut BytesSlice<'_>) -> Result<u8> {
@@ -59,8 +58,7 @@ fn decode_i64_le_of_fixed_decoders(bytes: &mut BytesSlice<'_>) -> Result<i64> {
 }
 
 fn varint_decoders() {
-    let _append_var_u64: fn(&mut Vec<u8>, u64) -> std::result::Result<(), AllocError> =
-        append_var_u64;
+    let _append_var_u64: fn(&mut Vec<u8>, u64) -> AllocResult<()> = append_var_u64;
 }
 
 fn decode_var_u64_of_varint_decoders(bytes: &mut BytesSlice<'_>) -> Result<u64> {

@@ -102,11 +102,11 @@ fn bytes_of_batches() {
 fn decode_of_bytes_of_batches(
     alloc: Global,
     bytes: &mut BytesSlice<'_>,
-    block: FileBlockHandle,
+    handle: FileBlockHandle,
     compression_type: CompressionType,
     context: &LogFileContext,
 ) -> Result<LogItemBatch> {
-    LogItemBatch::decode(alloc, bytes, block, compression_type, context)
+    LogItemBatch::decode(alloc, bytes, handle, compression_type, context)
 }
 
 fn groups() {

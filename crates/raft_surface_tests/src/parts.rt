@@ -6,12 +6,13 @@ use raft_records::laws::{
     written_batches_are_next,
 };
 use raft_records::{
-    B, EntryIndex, Error, Factory, FileId, FilePart, FileSeq, GIB, KIB, LogFileContext,
-    LogItemBatch, LogQueue, MIB, MessageError, PIB, PipeLog, ReadableSize, Result, SizeError, TIB,
-    Version, batch_text, compression_type, crc32, entry_index, errors, hash_u64, message,
-    next_batch, pipe_log, print_batch, round_down, round_up, size_from_value, unhash_u64, util,
+    AllocResult, B, EntryIndex, Error, Factory, FileId, FilePart, FileSeq, GIB, KIB,
+    LogFileContext, LogItemBatch, LogQueue, MIB, MessageError, PIB, PipeLog, ReadableSize, Result,
+    SizeError, TIB, Version, batch_text, compression_type, crc32, entry_index, errors, hash_u64,
+    message, next_batch, pipe_log, print_batch, round_down, round_up, size_from_value, unhash_u64,
+    util,
 };
-use std::alloc::Global;
+use std::alloc::{AllocError, Global};
 use std::io::{Read, Write};
 
 fn parts() {
@@ -63,6 +64,7 @@ fn names_of_the_base() {
     let _util: fn(u64) -> u64 = util::hash_u64;
     let _new: fn(LogQueue, FileSeq) -> FileId = FileId::new;
     let _file_at = |unit: SizeError| unit;
+    let _no_memory: AllocResult<u8> = Err(AllocError);
 }
 
 /// The modules of `raft_base`, as this crate hands them on.
@@ -70,6 +72,7 @@ fn modules_of_the_base() {
     let _entry: entry_index::EntryIndex = EntryIndex::default();
     let _compression = compression_type::CompressionType::None;
     let _error: errors::Error = Error::Failed;
+    let _no_memory: errors::AllocResult<u8> = Err(AllocError);
     let _refused: message::MessageError = MessageError::Memory;
     let _version: pipe_log::Version = Version::V1;
 }

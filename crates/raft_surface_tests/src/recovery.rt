@@ -3,9 +3,9 @@
 use raft_recover::files::file_segments;
 use raft_recover::recovered::recovered_text;
 use raft_recover::{
-    Error, Factory, FileId, FilePart, FileSeq, Gate, LogQueue, MAX_WORKERS, MemTableAccessor,
-    OpenGate, Plan, ReplayMachine, Result, Segment, TicketSeat, Tickets, Version, cut_part,
-    merge_pieces, piece_count, print_recovered, recover, recover_bytes, replay_scheduled,
+    AllocResult, Error, Factory, FileId, FilePart, FileSeq, Gate, LogQueue, MAX_WORKERS, MemTable,
+    MemTableAccessor, OpenGate, Plan, ReplayMachine, Result, Segment, TicketSeat, Tickets, Version,
+    cut_part, merge_pieces, piece_count, print_recovered, recover, recover_bytes, replay_scheduled,
     replay_segment, replay_segments, segments_read_as_one_history,
 };
 use std::alloc::Global;
@@ -43,6 +43,13 @@ fn merge_pieces_of_workers<M: ReplayMachine, F: Factory<M>, G: Gate, R: Threads 
     queue: LogQueue,
 ) -> Result<M> {
     merge_pieces::<M, R>(rt, pieces, plan, queue)
+}
+
+fn get_or_insert_of_recoveries<'a>(
+    accessor: &'a mut MemTableAccessor,
+    number: u64,
+) -> AllocResult<&'a MemTable> {
+    MemTableAccessor::get_or_insert(accessor, number)
 }
 
 fn recoveries<R: Threads + Sync, W: Write>() {

@@ -1,10 +1,10 @@
 //! The tables of all regions, from `raft_memtable`.
 
 use raft_memtable::{
-    FileSeq, GlobalStats, LogBatch, LogItem, MemTable, MemTableAccessor, RegionTables, Result,
-    TableChange, slot_of,
+    AllocResult, FileSeq, GlobalStats, LogBatch, LogItem, MemTable, MemTableAccessor, RegionTables,
+    Result, TableChange, slot_of,
 };
-use std::alloc::{AllocError, Global};
+use std::alloc::Global;
 
 fn tables() {
     let _new: fn(Global) -> Result<MemTableAccessor> = MemTableAccessor::new;
@@ -28,7 +28,7 @@ fn get_of_tables<'a>(accessor: &'a MemTableAccessor, number: u64) -> Option<&'a 
 fn get_or_insert_of_tables<'a>(
     accessor: &'a mut MemTableAccessor,
     number: u64,
-) -> std::result::Result<&'a MemTable, AllocError> {
+) -> AllocResult<&'a MemTable> {
     MemTableAccessor::get_or_insert(accessor, number)
 }
 

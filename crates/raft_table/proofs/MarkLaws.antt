@@ -1,4 +1,4 @@
--- A mark and a table stand for steps: none, one, and those of two neighbours.
+-- A mark and a table stand for steps: none, one, and those of two neighbors.
 use Rattle.std.proofs.Common.{◌≡◌, ℕ, List, [], ◌∷◌, ◌++◌, Option, Some, None, refl, sym, ap, ◌∙◌, inl, inr, arith}
 use Rattle.std.specs.Option.{option_and_then}
 use Rattle.raft_base.specs.declared.pipe_log.LogQueue.{LogQueue}

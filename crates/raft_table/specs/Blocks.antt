@@ -33,7 +33,7 @@ abbrev pub Differs : BlockSpans → List BlockSpans → Type 0
 Differs b [] = Unit {0}
 Differs b (c ∷ bs) = b.handle ≢ c.handle
 
--- no block is empty, and neighbours differ in their handle
+-- no block is empty, and neighbors differ in their handle
 abbrev pub AreDistinctBlocks : List BlockSpans → Type 0
 AreDistinctBlocks [] = Unit {0}
 AreDistinctBlocks (b ∷ bs) = (0 < length b.spans) × Differs b bs × AreDistinctBlocks bs

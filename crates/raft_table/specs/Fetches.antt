@@ -78,7 +78,7 @@ change_count [] = 0
 change_count (a ∷ []) = 0
 change_count (a ∷ b ∷ es) = (if is_same_place a.entries b.entries then 0 else 1) + change_count (b ∷ es)
 
--- how many blocks the entries make: as many neighbours as stand in one file block are one
+-- how many blocks the entries make: as many neighbors as stand in one file block are one
 abbrev pub block_count : List EntryIndex → ℕ
 block_count [] = 0
 block_count (e ∷ es) = suc (change_count (e ∷ es))

@@ -1,4 +1,4 @@
--- How region marks are reckoned: the region mark and the own table of one step, and the region mark of two neighbours. That they stand for the steps is a law.
+-- How region marks are reckoned: the region mark and the own table of one step, and the region mark of two neighbors. That they stand for the steps is a law.
 use Rattle.std.specs.Prelude.{ℕ, max, min, Bool, true, false, not, ◌&&◌, ◌||◌, [], ◌∷◌, Option, Some, None, is_some, nat_lt, ◌==◌, if◌then◌else◌}
 use Rattle.std.specs.Option.{option_or}
 use Rattle.std.specs.FinSet as finset
@@ -11,7 +11,7 @@ use Rattle.raft_table.specs.Marks.{Mark, entries_within, misses}
 use Rattle.raft_table.specs.Steps.{Step, Run, Compact, Truncate, Put, Del, AtomicGroup, Clean, table_of}
 use Rattle.raft_table.specs.Table.{Table, empty_table, with_pair}
 
--- the keys that two neighbours delete
+-- the keys that two neighbors delete
 abbrev pub joined_deleted : Mark → Mark → KeySet
 joined_deleted m n = if n.cleaned then n.deleted else finset.union m.deleted n.deleted
 
@@ -25,7 +25,7 @@ abbrev pub narrowed_bars : ℕ → Option ℕ → Option (ℕ × ℕ) → Option
 narrowed_bars floor cut None = None
 narrowed_bars floor cut (Some p) = Some (max floor p.0, at_most_bound p.1 cut)
 
--- the region marks of two neighbours joined, where the older one has no run
+-- the region marks of two neighbors joined, where the older one has no run
 abbrev pub joined_first : Mark → Mark → Mark
 joined_first m n = record {
   cleaned = n.cleaned;
@@ -53,7 +53,7 @@ abbrev pub joined_floor : LogQueue → Bool → ℕ → ℕ → ℕ
 joined_floor Append dropped floor cut = floor
 joined_floor Rewrite dropped floor cut = if dropped then max floor cut else floor
 
--- the region marks of two neighbours joined, where the older one has a run and the cut c, and the entries that the newer first run comes behind end at x
+-- the region marks of two neighbors joined, where the older one has a run and the cut c, and the entries that the newer first run comes behind end at x
 abbrev pub joined_later : LogQueue → ℕ → ℕ → Mark → Mark → Mark
 joined_later queue c x m n = record {
   cleaned = n.cleaned;
@@ -66,13 +66,13 @@ joined_later queue c x m n = record {
   deleted = joined_deleted m n;
 }
 
--- the region marks of two neighbours joined, told by the first run and the cut of the older one, where its region wasn't cleaned
+-- the region marks of two neighbors joined, told by the first run and the cut of the older one, where its region wasn't cleaned
 abbrev pub joined_uncleaned : Option ℕ → Option ℕ → LogQueue → ℕ → Mark → Mark → Mark
 joined_uncleaned None cut queue x m n = joined_first m n
 joined_uncleaned (Some reach) None queue x m n = m
 joined_uncleaned (Some reach) (Some cut) queue x m n = joined_later queue cut x m n
 
--- the region marks of two neighbours joined: the older m, and the newer n, whose first run comes behind entries of the older table that end at x
+-- the region marks of two neighbors joined: the older m, and the newer n, whose first run comes behind entries of the older table that end at x
 abbrev pub joined_at : LogQueue → ℕ → Mark → Mark → Mark
 joined_at queue x m n = if m.cleaned then m else joined_uncleaned m.reach m.cut queue x m n
 
@@ -80,7 +80,7 @@ joined_at queue x m n = if m.cleaned then m else joined_uncleaned m.reach m.cut 
 abbrev pub end_at_reach : Mark → Table → ℕ
 end_at_reach n older = end_of (entries_within n.reach_floor n.reach_cut older.entries)
 
--- the region marks of two neighbours joined: the older m with its own table, and the newer n
+-- the region marks of two neighbors joined: the older m with its own table, and the newer n
 abbrev pub joined_mark : LogQueue → ℕ → Mark → Option Table → Mark → Mark
 joined_mark queue id m own n = joined_at queue (end_at_reach n (table_of id own)) m n
 
@@ -106,7 +106,7 @@ mark_of _ = fresh
 abbrev pub own_of : ℕ → Step → Option Table
 own_of id (Run run) = Some (record (empty_table id) { entries = run })
 own_of id (Put key value file) = Some (with_pair (empty_table id) key value file)
-own_of id (AtomicGroup start end) =
-    Some (record (empty_table id) { atomic_group = Some (start, end) })
+own_of id (AtomicGroup first_seq last_seq) =
+    Some (record (empty_table id) { atomic_group = Some (first_seq, last_seq) })
 own_of id Clean = None
 own_of id _ = Some (empty_table id)

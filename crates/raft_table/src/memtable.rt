@@ -121,7 +121,7 @@ impl MemTable {
         self.entries.last_index()
     }
 
-    /// The blocks in which the entries are kept, in order: each has entries, and neighbours stand in
+    /// The blocks in which the entries are kept, in order: each has entries, and neighbors stand in
     /// different file blocks.
     pub fn blocks(&self) -> &VecDeque<Block>
         ensures entries { entries_in_blocks (start_of self.now.entries) (shown result.now.items)

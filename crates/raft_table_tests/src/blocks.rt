@@ -259,7 +259,7 @@ fn calls_divide_blocks(rt: HostRuntime) {
 
 /// Two entries from an index on, in one block of the first file.
 fn pair(alloc: Global, first: u64) -> Result<Vec<EntryIndex>> {
-    let block = FileBlockHandle {
+    let handle = FileBlockHandle {
         id: FileId::new(LogQueue::Append, 1),
         offset: 0,
         len: 64,
@@ -268,7 +268,7 @@ fn pair(alloc: Global, first: u64) -> Result<Vec<EntryIndex>> {
     for &index in &[first, first.saturating_add(1)] {
         pair.push(EntryIndex {
             index,
-            entries: Some(block),
+            entries: Some(handle),
             ..EntryIndex::default()
         })?;
     }

@@ -223,7 +223,7 @@ struct List {
 /// Whether an entry is in a queue.
 fn is_in(entry: &EntryIndex, queue: LogQueue) -> bool {
     match entry.entries {
-        Some(block) => block.id.queue == queue,
+        Some(handle) => handle.id.queue == queue,
         None => false,
     }
 }
@@ -231,8 +231,8 @@ fn is_in(entry: &EntryIndex, queue: LogQueue) -> bool {
 /// Whether a rewriting may move an entry.
 fn may_move(entry: &EntryIndex, gate: Option<FileSeq>) -> bool {
     match (entry.entries, gate) {
-        (Some(block), Some(gate)) => block.id.seq <= gate,
-        (Some(block), None) => block.id.queue == LogQueue::Rewrite,
+        (Some(handle), Some(gate)) => handle.id.seq <= gate,
+        (Some(handle), None) => handle.id.queue == LogQueue::Rewrite,
         (None, _) => false,
     }
 }

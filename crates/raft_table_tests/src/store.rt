@@ -165,7 +165,7 @@ impl LogStore {
     fn entries(&self, queue: LogQueue, run: Run) -> Result<Vec<EntryIndex>>
         ensures { IfOk result (λ entries. IsRunIn queue entries.items) }
     {
-        let block = FileBlockHandle {
+        let handle = FileBlockHandle {
             id: FileId::new(queue, run.seq),
             offset: run.first,
             len: 64,
@@ -174,7 +174,7 @@ impl LogStore {
         for index in run.first..run.end {
             entries.push(EntryIndex {
                 index,
-                entries: Some(block),
+                entries: Some(handle),
                 entry_len: 1,
                 ..EntryIndex::default()
             })?;

@@ -7,7 +7,7 @@ use lib.ListN.{get_elem?}
 use Rattle.atomic_table.specs.Table.{State, Me, keeps, Allows, Splits, Joins}
 use Rattle.raft_tickets.specs.Weights.{weigh, occurrences}
 use Rattle.raft_tickets.specs.Draws.{Drawer, AreBelow, AreAbove, Rises, once_below}
-use Rattle.raft_tickets.specs.Drawing.{lists_in, occurrences_in, has_passed, passed_in, IsDrawn, HasDrawn, only, Continues, IsDrawer}
+use Rattle.raft_tickets.specs.Drawing.{lists_in, occurrences_in, times_passed, times_passed_in, IsDrawn, HasDrawn, only, Continues, IsDrawer}
 use Rattle.raft_tickets.proofs.WeightLemmas.{weigh-append, weigh-set, weigh_at, weigh_cut, weigh-replicate, weigh_le, weigh_all_of_one}
 
 abbrev pub Views : Type 0
@@ -53,15 +53,15 @@ pub below_more : (total n : ℕ) (ys : List ℕ) → n < total → AreBelow tota
 below_more total n [] lt h = (lt, tt)
 below_more total n (y ∷ ys) lt h = (h.0, below_more total n ys lt h.1)
 
-passed_none : (total : ℕ) (ys : List ℕ) → AreBelow total ys → has_passed total ys ≡ 0
+passed_none : (total : ℕ) (ys : List ℕ) → AreBelow total ys → times_passed total ys ≡ 0
 passed_none total [] h = refl
 passed_none total (y ∷ ys) h = let b = h.0 in let r = passed_none total ys h.1 in grind (arith, nat_tests)
 
-passed_one : (total : ℕ) (ys : List ℕ) → has_passed total ys ≤ 1
+passed_one : (total : ℕ) (ys : List ℕ) → times_passed total ys ≤ 1
 passed_one total [] = omega arith
 passed_one total (y ∷ ys) = let r = passed_one total ys in grind (arith, nat_tests)
 
-passed_more : (total n : ℕ) (ys : List ℕ) → AreBelow total ys → has_passed total (ys ++ n ∷ []) ≡ cond (nat_le total n) 1 0
+passed_more : (total n : ℕ) (ys : List ℕ) → AreBelow total ys → times_passed total (ys ++ n ∷ []) ≡ cond (nat_le total n) 1 0
 passed_more total n [] h = refl
 passed_more total n (y ∷ ys) h = let b = h.0 in let r = passed_more total n ys h.1 in grind (arith, nat_tests)
 
@@ -69,8 +69,8 @@ passed_step : (total n w : ℕ) → n ≤ total + w → n + 1 ≤ total + (w + c
 passed_step total n w h = grind (arith, nat_tests)
 
 -- the word is no greater than all numbers and seats together
-passed_few : (total : ℕ) (views : Views) → weigh (passed_in total) views ≤ weigh lists_in views
-passed_few total views = weigh_le (passed_in total) lists_in (weigh_le (has_passed total) (λ _. 1) (passed_one total)) views
+passed_few : (total : ℕ) (views : Views) → weigh (times_passed_in total) views ≤ weigh lists_in views
+passed_few total views = weigh_le (times_passed_in total) lists_in (weigh_le (times_passed total) (λ _. 1) (passed_one total)) views
 
 module _ (total seats : ℕ) where
   abbrev Holds : St → Type 0
@@ -85,7 +85,7 @@ module _ (total seats : ℕ) where
     few_seats = r.few_seats;
     all_seats = same (λ _. 1) ∙ r.all_seats;
     once = λ x. same (occurrences x) ∙ r.once x;
-    reached = let s : weigh (passed_in total) others ≡ weigh (passed_in total) views = same (has_passed total) in let h = r.reached in omega arith;
+    reached = let s : weigh (times_passed_in total) others ≡ weigh (times_passed_in total) views = same (times_passed total) in let h = r.reached in omega arith;
   }
 
   pub opens : total < 2 ^ 62 → seats < 2 ^ 62 → IsDrawn total seats (0 ∷ []) (replicate seats [] ∷ [])
@@ -140,12 +140,12 @@ module _ (total seats : ℕ) where
         let b = weigh-append (λ (y : ℕ). cond (x == y) 1 0) drawn (found ∷ []) in
         let c = once_more x found in let d = r.once x in omega arith
 
-    reached_after : found + 1 ≤ total + weigh (passed_in total) (set s.views id after)
+    reached_after : found + 1 ≤ total + weigh (times_passed_in total) (set s.views id after)
     reached_after =
-        let a = weigh-set (passed_in total) s.views id (drawn ∷ []) after at in
+        let a = weigh-set (times_passed_in total) s.views id (drawn ∷ []) after at in
         let b = passed_more total found drawn goes_on in
         let c = passed_none total drawn goes_on in
-        let d = passed_step total found (weigh (passed_in total) s.views) r.reached in omega arith
+        let d = passed_step total found (weigh (times_passed_in total) s.views) r.reached in omega arith
 
     drawn_holds : IsDrawn total seats (set s.words 0 ((found + 1) % 2 ^ 64)) (set s.views id after)
     drawn_holds = record {

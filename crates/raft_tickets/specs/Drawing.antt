@@ -12,13 +12,13 @@ abbrev pub occurrences_in : ℕ → List (List ℕ) → ℕ
 occurrences_in x ls = weigh (occurrences x) ls
 
 -- 1 for a list with a number that isn't below the total, else 0
-abbrev pub has_passed : ℕ → List ℕ → ℕ
-has_passed total [] = 0
-has_passed total (x ∷ xs) = if nat_le total x then 1 else has_passed total xs
+abbrev pub times_passed : ℕ → List ℕ → ℕ
+times_passed total [] = 0
+times_passed total (x ∷ xs) = if nat_le total x then 1 else times_passed total xs
 
--- how many lists have a number that isn't below the total
-abbrev pub passed_in : ℕ → List (List ℕ) → ℕ
-passed_in total ls = weigh (has_passed total) ls
+-- the same of several lists: how many of them have one
+abbrev pub times_passed_in : ℕ → List (List ℕ) → ℕ
+times_passed_in total ls = weigh (times_passed total) ls
 
 -- The numbers of all views are those below the word, each once; no more than one of a list isn't below the total.
 pub record IsDrawn (total seats : ℕ) (words : List ℕ) (views : List (List (List ℕ))) : Type 0 where
@@ -27,7 +27,7 @@ pub record IsDrawn (total seats : ℕ) (words : List ℕ) (views : List (List (L
   pub few_seats : seats < 2 ^ 62
   pub all_seats : weigh lists_in views ≡ seats
   pub once : (x : ℕ) → weigh (occurrences_in x) views ≡ once_below x (slice_index words 0)
-  pub reached : slice_index words 0 ≤ total + weigh (passed_in total) views
+  pub reached : slice_index words 0 ≤ total + weigh (times_passed_in total) views
 
 -- a view of one list has drawn the number n
 abbrev pub HasDrawn : List (List ℕ) → ℕ → List (List ℕ) → Type 0

@@ -166,8 +166,8 @@ fn join_seats(
     requires seat { seat.old.table_id ≡ shared.now.table_id }
     requires seats { All (λ s. s.table ≡ shared.now.table_id) seats.items }
     ensures same { (seat.new.table_id ≡ seat.old.table_id) × (seat.new.me.1 ≡ seat.old.me.1) }
-    ensures lists { (f : List ℕ → ℕ) →
-        weigh f seat.new.me.0 ≡ weigh f seat.old.me.0 + weigh (λ s. f s.drawn) seats.items }
+    ensures lists { (f : List ℕ → ℕ)
+        → weigh f seat.new.me.0 ≡ weigh f seat.old.me.0 + weigh (λ s. f s.drawn) seats.items }
 {
     while let Some(other) = seats.pop() {
         join_seat(shared, seat, other);

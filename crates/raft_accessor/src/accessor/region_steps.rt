@@ -1,6 +1,6 @@
 //! Steps on one region's table, which is made where there is none; runs and files were tested before.
 
-ghost use Rattle.std.specs.Prelude.{◌≡◌, ◌⊎◌, ℕ, List, OnOk, OnSome, IfOk, IfSome, Some, ok_or};
+ghost use Rattle.std.specs.Prelude.{◌≡◌, OnOk, OnSome, IfOk, IfSome, Some, ok_or};
 ghost use Rattle.std.specs.FinMap as finite;
 ghost use Rattle.raft_base.specs.declared.errors.Error.TheVariants.{Memory};
 ghost use Rattle.raft_table.specs.Counts.{with_added};
@@ -8,16 +8,13 @@ ghost use Rattle.raft_table.specs.TableEntries.{IsRunIn, below, end_of, from};
 ghost use Rattle.raft_table.specs.KeyValues.{file_at};
 ghost use Rattle.raft_table.specs.Queues.{other};
 ghost use Rattle.raft_table.specs.Start.{counts_with_run, counts_without};
-ghost use Rattle.raft_table.specs.Table.{after_replay, with_pair, with_pair_deleted, live_of, IsTablePutFault, IsCounted};
+ghost use Rattle.raft_table.specs.Table.{after_replay, with_pair, with_pair_deleted, live_of, IsTablePutFault};
 ghost use Rattle.raft_accessor.specs.Accessor.{table_in, AreCountsOf};
 ghost use Rattle.raft_accessor.specs.AccessorCalls.{IsTableChanged};
-ghost use Rattle.raft_accessor.specs.Updates.{BecomesOutcome, IsReplayFault};
+ghost use Rattle.raft_accessor.specs.Updates.{IsReplayFault};
 
 use crate::accessor::{MemTableAccessor, slot_of};
-use crate::region_tables::RegionTables;
-use crate::region_tables::steps::replay_into;
 use raft_base::{EntryIndex, FileId, LogQueue, Result};
-use raft_table::{GlobalStats, MemTable};
 
 impl MemTableAccessor {
     /// Puts a run that is read again, and answers where the entries of its table ended before.
@@ -117,37 +114,5 @@ impl MemTableAccessor {
             ≡ with_pair_deleted (file_at (table_in self.old.tables id).keys key.now) self.old.counts) }
     {
         self.slots[slot_of(id)].delete(id, key, &mut self.stats)
-    }
-}
-
-impl RegionTables {
-    /// Puts a run that is read again, and answers where the entries of its table ended before.
-    fn replay_run_behind(
-        &mut self,
-        queue: LogQueue,
-        id: u64,
-        run: Vec<EntryIndex>,
-        stats: &mut GlobalStats,
-    ) -> Result<u64>
-        requires run { IsRunIn queue run.items }
-        requires counted { IsCounted (table_in self.old id) stats.old }
-        ensures taken { BecomesOutcome (after_replay queue (table_in self.old id) run.items)
-            (IsReplayFault queue run.items (table_in self.old id) stats.old)
-            self.old id stats.old result self.new stats.new }
-        ensures accepted { OnOk result (live_of (other queue) (table_in self.old id) ≡ 0) }
-        ensures counts { OnOk result
-            (stats.new ≡ counts_with_run queue (table_in self.old id).entries run.items stats.old) }
-        ensures end { IfOk result (λ end. end ≡ end_of (table_in self.old id).entries) }
-    {
-        let alloc = self.allocator();
-        self.update(
-            id,
-            stats,
-            move |table: &mut MemTable, stats: &mut GlobalStats| {
-                let end = table.end();
-                replay_into(alloc, queue, table, run, stats)?;
-                Ok(end)
-            },
-        )
     }
 }

@@ -80,7 +80,7 @@ impl MemTableAccessor {
         Ok(())
     }
 
-    /// Writes items that were rewritten to the file `new_file` of the rewrite queue to the tables, in
+    /// Writes items that were rewritten to the file `seq` of the rewrite queue to the tables, in
     /// order: with a gate the places that move are those in append files at or below it, without one
     /// those that are rewritten already.
     ///
@@ -92,19 +92,19 @@ impl MemTableAccessor {
         &mut self,
         items: I,
         gate: Option<FileSeq>,
-        new_file: FileSeq,
+        seq: FileSeq,
     ) -> Result<()>
         requires { (it : I.IntoIter) → I.into_iter_gives items it
             → I.IntoIter.can_next it × IsFinite (I.IntoIter.remaining it) }
         ensures ok { OnOk result ((it : I.IntoIter) × (xs : List LogItem) ×
             I.into_iter_gives items it × Drains I.IntoIter.next_gives it xs
-            × AreWritten (Rewriting gate new_file) (map item_of xs) self.old self.new) }
+            × AreWritten (Rewriting gate seq) (map item_of xs) self.old self.new) }
         ensures refused { IfErr result (λ e. (it : I.IntoIter) × (xs : List LogItem) ×
             (u : I.IntoIter) × I.into_iter_gives items it × Yields I.IntoIter.next_gives it xs u
-            × AreItemsRefused (Rewriting gate new_file) (map item_of xs) self.old self.new e) }
+            × AreItemsRefused (Rewriting gate seq) (map item_of xs) self.old self.new e) }
     {
         for item in items {
-            self.rewrite_item(item, gate, new_file)?;
+            self.rewrite_item(item, gate, seq)?;
         }
         Ok(())
     }

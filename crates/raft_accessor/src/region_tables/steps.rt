@@ -1,10 +1,10 @@
 //! Steps on one region's table, which is made where there is none; runs and files were tested before.
 
-ghost use Rattle.std.specs.Prelude.{◌≡◌, length, OnOk, OnErr, IfErr, Some};
+ghost use Rattle.std.specs.Prelude.{◌≡◌, length, OnOk, OnErr, IfOk, IfErr, Some};
 ghost use Rattle.std.specs.FinMap as finite;
 ghost use Rattle.raft_base.specs.declared.pipe_log.LogQueue.TheVariants.{Append, Rewrite};
 ghost use Rattle.raft_table.specs.Counts.{with_added};
-ghost use Rattle.raft_table.specs.TableEntries.{IsRunIn, below, from};
+ghost use Rattle.raft_table.specs.TableEntries.{IsRunIn, below, end_of, from};
 ghost use Rattle.raft_table.specs.KeyValues.{file_at};
 ghost use Rattle.raft_table.specs.Queues.{other};
 ghost use Rattle.raft_table.specs.Rewriting.{entries_after_rewrite, counts_after_rewrite, IsRewriteFault};
@@ -59,12 +59,36 @@ impl RegionTables {
         ensures counts { OnOk result
             (stats.new ≡ counts_with_run queue (table_in self.old id).entries run.items stats.old) }
     {
+        self.replay_run_behind(queue, id, run, stats)?;
+        Ok(())
+    }
+
+    /// Puts a run that is read again, and answers where the entries of its table ended before.
+    pub(crate) fn replay_run_behind(
+        &mut self,
+        queue: LogQueue,
+        id: u64,
+        run: Vec<EntryIndex>,
+        stats: &mut GlobalStats,
+    ) -> Result<u64>
+        requires run { IsRunIn queue run.items }
+        requires counted { IsCounted (table_in self.old id) stats.old }
+        ensures taken { BecomesOutcome (after_replay queue (table_in self.old id) run.items)
+            (IsReplayFault queue run.items (table_in self.old id) stats.old)
+            self.old id stats.old result self.new stats.new }
+        ensures accepted { OnOk result (live_of (other queue) (table_in self.old id) ≡ 0) }
+        ensures counts { OnOk result
+            (stats.new ≡ counts_with_run queue (table_in self.old id).entries run.items stats.old) }
+        ensures end { IfOk result (λ end. end ≡ end_of (table_in self.old id).entries) }
+    {
         let alloc = self.allocator();
         self.update(
             id,
             stats,
             move |table: &mut MemTable, stats: &mut GlobalStats| {
-                replay_into(alloc, queue, table, run, stats)
+                let end = table.end();
+                replay_into(alloc, queue, table, run, stats)?;
+                Ok(end)
             },
         )
     }
@@ -204,7 +228,7 @@ impl RegionTables {
 ///
 /// `InvalidArgument` where the table has records of the other queue, and those of the table's call.
 /// The table is then as it was.
-pub(crate) fn replay_into(
+fn replay_into(
     alloc: Global,
     queue: LogQueue,
     table: &mut MemTable,

@@ -25,11 +25,11 @@ pub(super) type Shape = (
 
 fn place(table: &MemTable) -> Option<Place> {
     let entry = table.get_entry(table.last_index()?)?;
-    let block = entry.entries?;
+    let handle = entry.entries?;
     Some((
-        block.id.seq,
-        block.offset,
-        block.len,
+        handle.id.seq,
+        handle.offset,
+        handle.len,
         entry.entry_offset,
         entry.entry_len,
     ))

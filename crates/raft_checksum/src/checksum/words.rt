@@ -7,7 +7,7 @@ ghost use Rattle.std.specs.Prelude.{◌≡◌, ℕ, ◌+◌, ◌≤◌, bit_xor,
 ghost use Rattle.raft_checksum.specs.Checksum.{crc_steps, register_after};
 ghost use Rattle.raft_checksum.specs.SparseMultiple.{StandFor};
 
-use super::{by_sixteens, first_word, two_words, word_then_zeros};
+use super::{by_sixteens, first_eight_bytes, two_words, word_then_zeros};
 
 /// The remainder once `word` is divided too.
 #[inline(always)]
@@ -34,11 +34,11 @@ fn settled(remainder: [u64; 5], bytes: &[u8]) -> u32
         result ≡ register_after register bytes.now }
 {
     let [a, b, c, d, e] = remainder;
-    let (first, rest) = first_word(bytes);
-    let (second, rest) = first_word(rest);
-    let (third, rest) = first_word(rest);
-    let (fourth, rest) = first_word(rest);
-    let (fifth, rest) = first_word(rest);
+    let (first, rest) = first_eight_bytes(bytes);
+    let (second, rest) = first_eight_bytes(rest);
+    let (third, rest) = first_eight_bytes(rest);
+    let (fourth, rest) = first_eight_bytes(rest);
+    let (fifth, rest) = first_eight_bytes(rest);
     let two = two_words(first ^ a, second ^ b);
     let four = two_words(third ^ c ^ two as u64, fourth ^ d);
     by_sixteens(word_then_zeros(fifth ^ e ^ four as u64, 0), rest)
@@ -52,8 +52,8 @@ pub fn by_words(register: u32, bytes: &[u8]) -> u32
     let mut remainder = [register as u64, 0, 0, 0, 0];
     let mut rest = bytes;
     while rest.len() >= 56 {
-        let (low, behind) = first_word(rest);
-        let (high, behind) = first_word(behind);
+        let (low, behind) = first_eight_bytes(rest);
+        let (high, behind) = first_eight_bytes(behind);
         remainder = divided(divided(remainder, low), high);
         rest = behind;
     }

@@ -12,8 +12,7 @@ ghost use Rattle.raft_records.specs.Spelling.{Keeps};
 use super::{MAX_LOG_BATCH_BUFFER_CAP, MAX_LOG_ENTRIES_SIZE_PER_BATCH};
 use crate::header::{LOG_BATCH_HEADER_LEN, reserve_header};
 use crate::{LogBatch, LogItemBatch};
-use raft_base::{EntryIndex, Error, Message, MessageExt, Result};
-use std::alloc::AllocError;
+use raft_base::{AllocResult, EntryIndex, Error, Message, MessageExt, Result};
 use std::mem;
 
 /// The most bytes that the buffer of an open batch has.
@@ -27,11 +26,13 @@ impl LogBatch {
     pub fn add_entries<M: MessageExt>(&mut self, region_id: u64, entries: &[M::Entry]) -> Result<()>
         requires { self.old.stage ≡ populating }
         ensures ok { OnOk result (self.new ≡ with_entries_added self.old region_id
-            (map (λ e. entry_with_index (M.index_of e)) entries.now) (map M.Entry.bytes_of entries.now)) }
+            (map (λ e. entry_with_index (M.index_of e)) entries.now)
+            (map M.Entry.bytes_of entries.now)) }
         ensures consecutive { OnOk result (IsConsecutive
             (map (λ e. entry_with_index (M.index_of e)) entries.now)) }
         ensures accepted { OnOk result (entries.now ≢ [] →
-            length self.old.entry_bytes + length (concat (map M.Entry.bytes_of entries.now)) < 2 ^ 31) }
+            length self.old.entry_bytes + length (concat (map M.Entry.bytes_of entries.now))
+            < 2 ^ 31) }
         ensures err { OnErr result (self.new ≡ self.old) }
         ensures refused { OnErr result (entries.now ≢ []) }
         ensures fault { IfErr result (IsAddFault (OneRefuses M.Entry.refuses entries.now)
@@ -71,11 +72,13 @@ impl LogBatch {
         ensures ok { OnOk result (self.new ≡ with_entries_added self.old region_id
             entry_indexes.items (map (λ e. e.items) entries.items)) }
         ensures accepted { OnOk result (entry_indexes.items ≢ [] →
-            length self.old.entry_bytes + length (concat (map (λ e. e.items) entries.items)) < 2 ^ 31) }
+            length self.old.entry_bytes + length (concat (map (λ e. e.items) entries.items))
+            < 2 ^ 31) }
         ensures err { OnErr result (self.new ≡ self.old) }
         ensures refused { OnErr result (entry_indexes.items ≢ []) }
-        ensures fault { IfErr result (λ e. e ≢ Error.Memory → (e ≡ Error.Full) ×
-            (2 ^ 31 ≤ length self.old.entry_bytes + length (concat (map (λ e. e.items) entries.items)))) }
+        ensures fault { IfErr result (λ e. e ≢ Error.Memory → (e ≡ Error.Full)
+            × (2 ^ 31
+            ≤ length self.old.entry_bytes + length (concat (map (λ e. e.items) entries.items)))) }
     {
         if entry_indexes.is_empty() {
             return Ok(());
@@ -103,13 +106,13 @@ impl LogBatch {
         requires rhs_open { rhs.old.stage ≡ populating }
         ensures ok { OnOk result (self.new ≡ with_batch self.old rhs.old) }
         ensures emptied { OnOk result (rhs.new ≡ empty_batch) }
-        ensures accepted { OnOk result (length self.old.entry_bytes + length rhs.old.entry_bytes < 2
-            ^ 31) }
+        ensures accepted { OnOk result (length self.old.entry_bytes + length rhs.old.entry_bytes
+            < 2 ^ 31) }
         ensures err { OnErr result (self.new ≡ self.old) }
         ensures rhs_err { OnErr result (rhs.new ≡ rhs.old) }
         ensures refused { OnErr result (rhs.old.items ≢ []) }
-        ensures fault { IfErr result (λ e. e ≢ Error.Memory →
-            (e ≡ Error.Full) × (2 ^ 31 ≤ length self.old.entry_bytes + length rhs.old.entry_bytes)) }
+        ensures fault { IfErr result (λ e. e ≢ Error.Memory → (e ≡ Error.Full)
+            × (2 ^ 31 ≤ length self.old.entry_bytes + length rhs.old.entry_bytes)) }
     {
         let own = u64::from(self.item_batch.entries_size());
         let others = u64::from(rhs.item_batch.entries_size());
@@ -139,16 +142,17 @@ fn write_strings(
     requires some { entry_indexes.items ≢ [] }
     requires counts { length entry_indexes.items ≡ length entries.now }
     requires consecutive { IsConsecutive entry_indexes.items }
-    ensures bytes { OnOk result (buf.new.items ≡ buf.old.items ++ concat
-        (map (λ e. e.items) entries.now)) }
+    ensures bytes { OnOk result (buf.new.items
+        ≡ buf.old.items ++ concat (map (λ e. e.items) entries.now)) }
     ensures items { OnOk result (item_batch.new ≡ item_batch.old
         ++ entries_item region_id (laid (entry_bytes_of item_batch.old)
         (with_lengths entry_indexes.items (map (λ e. e.items) entries.now))) ∷ []) }
     ensures accepted { OnOk result (length buf.new.items < 16 + 2 ^ 31) }
     ensures err { OnErr result (item_batch.new ≡ item_batch.old) }
     ensures err_bytes { OnErr result (Keeps buf.old.items buf.new.items) }
-    ensures fault { IfErr result (λ e. e ≢ Error.Memory → (e ≡ Error.Full) ×
-        (2 ^ 31 ≤ entry_bytes_of item_batch.old + length (concat (map (λ e. e.items) entries.now)))) }
+    ensures fault { IfErr result (λ e. e ≢ Error.Memory → (e ≡ Error.Full)
+        × (2 ^ 31
+        ≤ entry_bytes_of item_batch.old + length (concat (map (λ e. e.items) entries.now)))) }
 {
     append_strings(buf, &mut entry_indexes, entries)?;
     item_batch.add_entry_indexes(region_id, entry_indexes)
@@ -163,8 +167,8 @@ fn append_strings(
 ) -> Result<()>
     requires room { 16 ≤ length buf.old.items }
     requires counts { length entry_indexes.old.items ≡ length entries.now }
-    ensures bytes { OnOk result (buf.new.items ≡ buf.old.items ++ concat
-        (map (λ e. e.items) entries.now)) }
+    ensures bytes { OnOk result (buf.new.items
+        ≡ buf.old.items ++ concat (map (λ e. e.items) entries.now)) }
     ensures lengths { OnOk result (entry_indexes.new.items
         ≡ with_lengths entry_indexes.old.items (map (λ e. e.items) entries.now)) }
     ensures accepted { OnOk result (entries.now ≢ [] → length buf.new.items < 16 + 2 ^ 31) }
@@ -245,7 +249,8 @@ fn append_messages<M: MessageExt>(
     ensures bytes { OnOk result
         (buf.new.items ≡ buf.old.items ++ concat (map M.Entry.bytes_of entries.now)) }
     ensures lengths { IfOk result (λ es. es.items
-        ≡ with_lengths (map (λ e. entry_with_index (M.index_of e)) entries.now) (map M.Entry.bytes_of entries.now)) }
+        ≡ with_lengths (map (λ e. entry_with_index (M.index_of e)) entries.now)
+        (map M.Entry.bytes_of entries.now)) }
     ensures accepted { OnOk result (entries.now ≢ [] → length buf.new.items < 16 + 2 ^ 31) }
     ensures err { OnErr result (Keeps buf.old.items buf.new.items) }
     ensures fault { IfErr result (IsBytesFault (OneRefuses M.Entry.refuses entries.now)
@@ -268,7 +273,7 @@ fn append_messages<M: MessageExt>(
 }
 
 /// Makes room behind the entry bytes, if there are any, for those of a buffer of `len` bytes.
-fn reserve_behind(buf: &mut Vec<u8>, len: usize) -> std::result::Result<(), AllocError>
+fn reserve_behind(buf: &mut Vec<u8>, len: usize) -> AllocResult<()>
     ensures same { buf.new.items ≡ buf.old.items }
     ensures room { OnOk result (16 < length buf.old.items →
         length buf.old.items + (len - 16) ≤ vec_capacity buf.new) }

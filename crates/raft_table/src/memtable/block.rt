@@ -3,7 +3,7 @@
 use raft_base::FileBlockHandle;
 use std::collections::VecDeque;
 
-/// Neighbouring entries of a table that stand in one file block, as many as there are. Its words are
+/// Neighboring entries of a table that stand in one file block, as many as there are. Its words are
 /// those of `specs/Blocks.antt`.
 #[derive(Drop)]
 pub struct Block {

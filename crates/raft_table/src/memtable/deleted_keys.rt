@@ -8,7 +8,8 @@ ghost use Rattle.raft_table.specs.KeySets.{without};
 ghost use Rattle.raft_table.specs.KeyValues.{pair_count};
 
 use crate::memtable::key_values::KeyValues;
-use std::alloc::{AllocError, Global};
+use raft_base::AllocResult;
+use std::alloc::Global;
 use std::collections::BTreeMap;
 use std::marker::Model;
 use std::mem;
@@ -62,7 +63,7 @@ impl DeletedKeys {
     /// # Errors
     ///
     /// Where there is no memory for it. The keys are then as they were.
-    pub fn insert(&mut self, key: Vec<u8>) -> Result<(), AllocError>
+    pub fn insert(&mut self, key: Vec<u8>) -> AllocResult<()>
         ensures ok { OnOk result (self.new ≡ finset.insert self.old key.items) }
         ensures err { OnErr result (self.new ≡ self.old) }
     {
@@ -76,7 +77,7 @@ impl DeletedKeys {
     /// # Errors
     ///
     /// Where there is no memory for all of them. Both sets then have some of the keys, and one is lost.
-    pub fn absorb(&mut self, rhs: &mut DeletedKeys) -> Result<(), AllocError>
+    pub fn absorb(&mut self, rhs: &mut DeletedKeys) -> AllocResult<()>
         ensures ok { OnOk result (self.new ≡ finset.union self.old rhs.old) }
         ensures emptied { OnOk result (rhs.new ≡ finset.empty) }
     {
@@ -90,7 +91,7 @@ impl DeletedKeys {
     }
 
     /// Takes over one key of `rhs` after another.
-    fn take_each(&mut self, rhs: &mut DeletedKeys) -> Result<(), AllocError>
+    fn take_each(&mut self, rhs: &mut DeletedKeys) -> AllocResult<()>
         ensures ok { OnOk result (self.new ≡ finset.union self.old rhs.old) }
         ensures emptied { OnOk result (rhs.new ≡ finset.empty) }
     {

@@ -11,9 +11,9 @@ ghost use Rattle.raft_table.specs.KeyValues.{Keys, pair_count, file_weight, valu
 mod scan;
 
 use crate::memtable::bounds::lesser;
-use raft_base::{FileId, FileSeq, LogQueue};
+use raft_base::{AllocResult, FileId, FileSeq, LogQueue};
 use scan::{divided, is_forward, sought, visit, visit_back};
-use std::alloc::{AllocError, Global};
+use std::alloc::Global;
 use std::collections::BTreeMap;
 use std::marker::Model;
 use std::mem::swap;
@@ -124,7 +124,7 @@ impl KeyValues {
         key: Vec<u8>,
         value: Vec<u8>,
         file: FileId,
-    ) -> Result<Option<FileId>, AllocError>
+    ) -> AllocResult<Option<FileId>>
         ensures ok { OnOk result (self.new
             ≡ finite.insert self.old key.items (record { value = value.items; file = file })) }
         ensures replaced { IfOk result (λ replaced. replaced ≡ file_at self.old key.items) }
@@ -191,7 +191,7 @@ impl KeyValues {
         queue: LogQueue,
         gate: Option<FileSeq>,
         vec: &mut Vec<(Vec<u8>, Vec<u8>)>,
-    ) -> Result<(), AllocError>
+    ) -> AllocResult<()>
         ensures ok { OnOk result (pairs_shown vec.new.items
             ≡ pairs_shown vec.old.items ++ pairs_up_to queue gate self.now) }
         ensures err { OnErr result (vec.new.items ≡ vec.old.items) }
@@ -236,7 +236,7 @@ impl KeyValues {
     ///
     /// Where there is no memory for all of them. Some of them have then been put, and the others
     /// are left in `rhs`, but for one that may be lost.
-    pub fn absorb(&mut self, rhs: &mut KeyValues) -> Result<(), AllocError>
+    pub fn absorb(&mut self, rhs: &mut KeyValues) -> AllocResult<()>
         ensures ok { OnOk result (self.new ≡ pairs_over rhs.old self.old) }
         ensures emptied { OnOk result (rhs.new ≡ finite.empty) }
         ensures bounded { (queue : LogQueue)
@@ -272,7 +272,7 @@ fn push_fetched(
     queue: LogQueue,
     gate: Option<FileSeq>,
     vec: &mut Vec<(Vec<u8>, Vec<u8>)>,
-) -> Result<(), AllocError>
+) -> AllocResult<()>
     ensures ok { OnOk result (pairs_shown vec.new.items
         ≡ pairs_shown vec.old.items ++ map (λ e. (e.0.items, e.1.value.items)) (filter
         (λ e. is_up_to queue gate e.1.file) pairs.now.entries)) }
@@ -287,7 +287,7 @@ fn push_fetched(
 }
 
 /// The same bytes once more.
-fn copied(bytes: &Vec<u8>) -> Result<Vec<u8>, AllocError>
+fn copied(bytes: &Vec<u8>) -> AllocResult<Vec<u8>>
     ensures { IfOk result (λ copy. copy.items ≡ bytes.now.items) }
 {
     bytes.clone()

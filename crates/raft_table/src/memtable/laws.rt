@@ -50,7 +50,7 @@ pub fn last_words_stand()
 {}
 
 /// A region mark and an own table stand for the steps on a region: those of one step for it; those of two
-/// neighbours, joined, for the steps of both, or one reading refuses where the join does; and the own
+/// neighbors, joined, for the steps of both, or one reading refuses where the join does; and the own
 /// table is what one reading of the steps gives.
 pub fn marks_stand_for_steps()
     ensures one { (q : LogQueue) (id : ℕ) (s : Step) → IsStep s →

@@ -13,14 +13,14 @@ use crate::memtable::entries::Entries;
 use crate::memtable::entries::lists::{
     cut_at, find, is_same, push_block, put_blocks, search, spans_behind,
 };
-use raft_base::{EntryIndex, FileBlockHandle, LogQueue};
-use std::alloc::{AllocError, Global};
+use raft_base::{AllocResult, EntryIndex, FileBlockHandle, LogQueue};
+use std::alloc::Global;
 use std::collections::VecDeque;
 use std::mem::swap;
 
 impl Entries {
     /// The entries of a run.
-    pub(super) fn from_run(alloc: Global, run: &[EntryIndex]) -> Result<Entries, AllocError>
+    pub(super) fn from_run(alloc: Global, run: &[EntryIndex]) -> AllocResult<Entries>
         requires { AreTableEntries run.now }
         ensures ok { IfOk result (λ entries. entries ≡ run.now) }
     {
@@ -44,7 +44,7 @@ impl Entries {
         index: u64,
         handle: FileBlockHandle,
         spans: VecDeque<(u32, u32)>,
-    ) -> Result<(), AllocError>
+    ) -> AllocResult<()>
         requires filled { 0 < length spans.items }
         requires table_entries { AreTableEntries (self.old ++ spread index handle spans.items) }
         ensures ok { OnOk result (self.new ≡ self.old ++ spread index handle spans.items) }
@@ -65,7 +65,7 @@ impl Entries {
     }
 
     /// Keeps the first `keep` entries, and puts the entries of a run behind them.
-    pub(super) fn lay(&mut self, keep: usize, run: &[EntryIndex]) -> Result<(), AllocError>
+    pub(super) fn lay(&mut self, keep: usize, run: &[EntryIndex]) -> AllocResult<()>
         requires keep { keep ≤ length self.old }
         requires run { 0 < length run.now }
         requires table_entries { AreTableEntries (take keep self.old ++ run.now) }
@@ -86,7 +86,7 @@ impl Entries {
     }
 
     /// Keeps the first `keep` entries, and moves a run behind them.
-    pub(super) fn put_run(&mut self, keep: usize, run: &mut Entries) -> Result<(), AllocError>
+    pub(super) fn put_run(&mut self, keep: usize, run: &mut Entries) -> AllocResult<()>
         requires keep { keep ≤ length self.old }
         requires run { 0 < length run.old }
         requires table_entries { AreTableEntries (take keep self.old ++ run.old) }
@@ -102,7 +102,7 @@ impl Entries {
     }
 
     /// Keeps the first `keep` entries, of which there are some, and moves a run behind them.
-    fn join(&mut self, keep: usize, run: &mut Entries) -> Result<(), AllocError>
+    fn join(&mut self, keep: usize, run: &mut Entries) -> AllocResult<()>
         requires keep { (0 < keep) × (keep ≤ length self.old) }
         requires run { 0 < length run.old }
         requires table_entries { AreTableEntries (take keep self.old ++ run.old) }
@@ -127,7 +127,7 @@ impl Entries {
     }
 
     /// Puts a run in place of as many entries behind the first `at`. Others stand behind those.
-    pub(super) fn put_between(&mut self, at: usize, run: Entries) -> Result<(), AllocError>
+    pub(super) fn put_between(&mut self, at: usize, run: Entries) -> AllocResult<()>
         requires run { 0 < length run }
         requires behind { at + length run < length self.old }
         requires table_entries { AreTableEntries
@@ -210,7 +210,7 @@ fn stands_in(entry: &EntryIndex, handle: &FileBlockHandle) -> bool
 }
 
 /// Where entries stand in their block.
-fn spans_of(alloc: Global, run: &[EntryIndex]) -> Result<VecDeque<(u32, u32)>, AllocError>
+fn spans_of(alloc: Global, run: &[EntryIndex]) -> AllocResult<VecDeque<(u32, u32)>>
     ensures ok { IfOk result (λ spans. spans.items ≡ spans_of run.now) }
 {
     let mut spans = Vec::with_capacity(alloc, run.len())?;
@@ -225,7 +225,7 @@ fn spans_within(
     alloc: Global,
     handle: &FileBlockHandle,
     run: &[EntryIndex],
-) -> Result<Option<VecDeque<(u32, u32)>>, AllocError>
+) -> AllocResult<Option<VecDeque<(u32, u32)>>>
     ensures spans { IfOk result (λ within. IfSome within
         (λ spans. spans.items ≡ spans_of run.now)) }
     ensures all { IfOk result (λ within. OnSome within ((j : ℕ) (d : EntryIndex) →

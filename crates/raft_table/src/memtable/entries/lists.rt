@@ -7,8 +7,8 @@ ghost use Rattle.raft_table.specs.Blocks.{BlockSpans, block_spans, shown};
 ghost use Rattle.raft_table.specs.BlockWords.{count, starts_of, cut_last, joined_blocks, seam, IsIndexOf, IsAt};
 
 use crate::memtable::block::Block;
-use raft_base::FileBlockHandle;
-use std::alloc::{AllocError, Global};
+use raft_base::{AllocResult, FileBlockHandle};
+use std::alloc::Global;
 use std::collections::VecDeque;
 use std::mem::swap;
 
@@ -84,7 +84,7 @@ pub(super) fn spans_behind(
     alloc: Global,
     spans: &VecDeque<(u32, u32)>,
     part: usize,
-) -> Result<VecDeque<(u32, u32)>, AllocError>
+) -> AllocResult<VecDeque<(u32, u32)>>
     requires { part ≤ length spans.now.items }
     ensures ok { IfOk result (λ behind. behind.items ≡ drop part spans.now.items) }
 {
@@ -112,7 +112,7 @@ pub(super) fn put_blocks(
     rest: usize,
     more: &mut VecDeque<Block>,
     more_starts: &mut VecDeque<u64>,
-) -> Result<(), AllocError>
+) -> AllocResult<()>
     requires order { place.0 ≤ rest }
     requires within { rest ≤ length blocks.old.items }
     requires part { (d : Block) → 0 < place.0
@@ -141,7 +141,7 @@ pub(super) fn put_blocks(
 
 /// Makes room for the elements of two queues in one of them: in the longer one where the first
 /// lacks it.
-fn make_room<T>(deque: &mut VecDeque<T>, more: &mut VecDeque<T>) -> Result<(), AllocError>
+fn make_room<T>(deque: &mut VecDeque<T>, more: &mut VecDeque<T>) -> AllocResult<()>
     ensures items { (deque.new.items ≡ deque.old.items) × (more.new.items ≡ more.old.items) }
     ensures len { (deque_len deque.new ≡ deque_len deque.old) ×
         (deque_len more.new ≡ deque_len more.old) }
@@ -162,7 +162,7 @@ fn meet(
     place: (usize, usize),
     more: &mut VecDeque<Block>,
     more_starts: &mut VecDeque<u64>,
-) -> Result<(), AllocError>
+) -> AllocResult<()>
     requires within { place.0 ≤ length blocks.old.items }
     requires part { (d : Block) → 0 < place.0
         → place.1 ≤ length (slice_index_or blocks.old.items (place.0 - 1) d).spans.items }
@@ -215,7 +215,7 @@ pub(super) fn push_block(
     starts: &mut VecDeque<u64>,
     index: u64,
     block: Block,
-) -> Result<(), AllocError>
+) -> AllocResult<()>
     ensures blocks { OnOk result (shown blocks.new.items
         ≡ joined_blocks (shown blocks.old.items) (block_spans block ∷ [])) }
     ensures starts { OnOk result (starts.new.items
@@ -239,11 +239,7 @@ pub(super) fn push_block(
 }
 
 /// Keeps so many entries of a block, and moves more behind them.
-fn lengthen(
-    block: &mut Block,
-    part: usize,
-    more: &mut VecDeque<(u32, u32)>,
-) -> Result<(), AllocError>
+fn lengthen(block: &mut Block, part: usize, more: &mut VecDeque<(u32, u32)>) -> AllocResult<()>
     requires { part ≤ length block.old.spans.items }
     ensures handle { block.new.handle ≡ block.old.handle }
     ensures ok { OnOk result (block.new.spans.items ≡ take part

@@ -12,8 +12,7 @@ ghost use Rattle.raft_base.specs.declared.pipe_log.LogQueue.TheVariants.{Append,
 
 use crate::global_stats::GlobalStats;
 use crate::memtable::entries::{Entries, Overlap};
-use raft_base::{EntryIndex, Error, FileSeq, LogQueue, Result};
-use std::alloc::AllocError;
+use raft_base::{AllocResult, EntryIndex, Error, FileSeq, LogQueue, Result};
 
 impl Entries {
     /// What [`MemTable::rewrite`](crate::MemTable::rewrite) does to the entries.
@@ -118,11 +117,7 @@ impl Entries {
     }
 
     /// Gives the entries behind the first `at` these places.
-    fn set_places(
-        &mut self,
-        at: usize,
-        places: &[EntryIndex],
-    ) -> std::result::Result<(), AllocError>
+    fn set_places(&mut self, at: usize, places: &[EntryIndex]) -> AllocResult<()>
         requires within { at + length places.now ≤ length self.old }
         requires table_entries { AreTableEntries
             (take at self.old ++ places.now ++ drop (at + length places.now) self.old) }

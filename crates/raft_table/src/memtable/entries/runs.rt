@@ -12,8 +12,7 @@ ghost use Rattle.raft_base.specs.declared.pipe_log.LogQueue.TheVariants.{Append,
 
 use crate::global_stats::GlobalStats;
 use crate::memtable::entries::{Entries, Start};
-use raft_base::{EntryIndex, Error, LogQueue, Result};
-use std::alloc::AllocError;
+use raft_base::{AllocResult, EntryIndex, Error, LogQueue, Result};
 
 impl Entries {
     /// What [`MemTable::append`](crate::MemTable::append) does to the entries.
@@ -272,7 +271,7 @@ impl Entries {
         run: &[EntryIndex],
         queue: LogQueue,
         stats: &mut GlobalStats,
-    ) -> std::result::Result<(), AllocError>
+    ) -> AllocResult<()>
         requires keep { keep ≤ length self.old }
         requires filled { 0 < length run.now }
         requires table_entries { AreTableEntries (take keep self.old ++ run.now) }

@@ -12,9 +12,9 @@ loop-rest-preserved c =
     let i = c.loop-rest.invariant in
     record {
       long = omega arith;
-      now = crc_steps 64 (bit_xor (crc_steps 64 (bit_xor i.now c.first_word-low.result.0)) c.first_word-high.result.0);
-      stands = c.divided-remainder.ensures (crc_steps 64 (bit_xor i.now c.first_word-low.result.0)) (c.divided.ensures i.now i.stands);
-      same = c.first_word-high.ensures.joins (crc_steps 64 (bit_xor i.now c.first_word-low.result.0)) ∙ c.first_word-low.ensures.joins i.now ∙ i.same;
+      now = crc_steps 64 (bit_xor (crc_steps 64 (bit_xor i.now c.first_eight_bytes-low.result.0)) c.first_eight_bytes-high.result.0);
+      stands = c.divided-remainder.ensures (crc_steps 64 (bit_xor i.now c.first_eight_bytes-low.result.0)) (c.divided.ensures i.now i.stands);
+      same = c.first_eight_bytes-high.ensures.joins (crc_steps 64 (bit_xor i.now c.first_eight_bytes-low.result.0)) ∙ c.first_eight_bytes-low.ensures.joins i.now ∙ i.same;
     }
 
 pub returns : goal.returns

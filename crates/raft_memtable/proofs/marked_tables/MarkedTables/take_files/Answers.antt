@@ -14,14 +14,14 @@ use Rattle.raft_memtable.proofs.marked_tables.MarkedTables.take_files.Goals as g
 pub loop-id-preserved : goal.loop-id-preserved
 loop-id-preserved c = λ r d t.
     let id = slice_index_or c.args.regions.now c.loop-id.id-index 0 in
-    let step = AtomicGroup c.args.start c.args.end in
+    let step = AtomicGroup c.args.first_seq c.args.last_seq in
     let old = c.loop-id.self in
     let one : drop c.loop-id.id-index c.args.regions.now ≡ id ∷ drop (c.loop-id.id-index + 1) c.args.regions.now = at_drop_more (λ l. l) c.args.regions.now c.loop-id.id-index 0 c.loop-id-test.true in
     c.loop-id.invariant r d (subst (λ l. AreStepsTaken Rewrite (on_each l step) r old d) (sym one)
-    (file_more Rewrite c.args.start c.args.end id (drop (c.loop-id.id-index + 1) c.args.regions.now) old (record { accessor = c.apply_rewrite_atomic_group.new.self; marks = c.mark.new.self }) d r
-    (changed_taken Rewrite id step old c.apply_rewrite_atomic_group.new.self c.mark.new.self (Ok tt) (Some (record (table_in old.accessor.tables id) { atomic_group = Some (c.args.start, c.args.end) })) refl
+    (file_more Rewrite c.args.first_seq c.args.last_seq id (drop (c.loop-id.id-index + 1) c.args.regions.now) old (record { accessor = c.apply_rewrite_atomic_group.new.self; marks = c.mark.new.self }) d r
+    (changed_taken Rewrite id step old c.apply_rewrite_atomic_group.new.self c.mark.new.self (Ok tt) (Some (record (table_in old.accessor.tables id) { atomic_group = Some (c.args.first_seq, c.args.last_seq) })) refl
     c.in_ok-apply_rewrite_atomic_group.ensures.changed.ok c.in_ok-apply_rewrite_atomic_group.ensures.changed.others c.apply_rewrite_atomic_group.ensures.changed.cleaned refl
     (fresh_marked Rewrite id step (finite.get old.accessor.tables id) old.marks c.mark.new.self (Ok tt) refl c.in_ok-mark.ensures.ok) tt) t))
 
 pub returns : goal.returns
-returns c = c.loop-id.invariant (Ok tt) c.loop-id.self (subst (λ l. AreStepsTaken Rewrite (on_each l (AtomicGroup c.args.start c.args.end)) (Ok tt) c.loop-id.self c.loop-id.self) (sym (drop_of_length-le c.args.regions.now c.loop-id-test.false)) (taken_none Rewrite c.loop-id.self))
+returns c = c.loop-id.invariant (Ok tt) c.loop-id.self (subst (λ l. AreStepsTaken Rewrite (on_each l (AtomicGroup c.args.first_seq c.args.last_seq)) (Ok tt) c.loop-id.self c.loop-id.self) (sym (drop_of_length-le c.args.regions.now c.loop-id-test.false)) (taken_none Rewrite c.loop-id.self))

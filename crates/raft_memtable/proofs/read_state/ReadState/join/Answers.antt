@@ -9,13 +9,13 @@ use Rattle.raft_memtable.proofs.ReadStateLemmas.{merge_takes, wholes_fault, IsMi
 use Rattle.raft_memtable.proofs.read_state.ReadState.join.Goals as goal
 
 pub take_wholes-requires : goal.take_wholes-requires
-take_wholes-requires c = subst (AllByRecursion TakesEffect) (sym c.in_ok-wholes.ensures.wholes) (merge_takes c.args.queue (context_in c.args.self.now) (context_in c.args.newer) c.requires.older c.requires.newer c.requires.neighbours)
+take_wholes-requires c = subst (AllByRecursion TakesEffect) (sym c.in_ok-wholes.ensures.wholes) (merge_takes c.args.queue (context_in c.args.self.now) (context_in c.args.newer) c.requires.older c.requires.newer c.requires.neighbors)
 
 pub returns-in_err-take_wholes-clause-fault : goal.returns-in_err-take_wholes-clause-fault
 returns-in_err-take_wholes-clause-fault c =
     let whole = c.in_ok-wholes.ensures.wholes in
     let p = err_from_is_err_and c.from_residual-in_err-take_wholes.result c.from_residual-in_err-take_wholes.ensures.1 in
-    rw (p.1, p.2) (wholes_fault c.args.queue (context_in c.args.self.now) (context_in c.args.newer) c.requires.older c.requires.newer c.requires.neighbours
+    rw (p.1, p.2) (wholes_fault c.args.queue (context_in c.args.self.now) (context_in c.args.newer) c.requires.older c.requires.newer c.requires.neighbors
     (subst (λ ws. ws ≢ []) whole c.in_err-take_wholes.ensures.none) _
     (subst (λ ws. IsStepsFault Rewrite (regions_in c.args.self.now.regions) (region_steps_of_wholes ws) c.in_err-take_wholes.field-0.0) whole c.in_err-take_wholes.ensures.fault))
 
@@ -23,7 +23,7 @@ taken_at : (c : goal.After-from_residual-in_err-join) → IsMiddle c.args.queue 
 taken_at c = record {
   older = c.requires.older;
   newer = c.requires.newer;
-  neighbours = c.requires.neighbours;
+  neighbors = c.requires.neighbors;
   taken = subst (λ ws. regions_after Rewrite (regions_in c.args.self.now.regions) (region_steps_of_wholes ws) ≡ Some (regions_in c.take_wholes.new.regions)) c.in_ok-wholes.ensures.wholes c.in_ok-take_wholes.ensures.taken;
   few = c.in_ok-take_wholes.ensures.other;
 }
@@ -37,7 +37,7 @@ middle_of : (c : goal.After-self-1) → IsMiddle c.args.queue (context_in c.args
 middle_of c = record {
   older = c.requires.older;
   newer = c.requires.newer;
-  neighbours = c.requires.neighbours;
+  neighbors = c.requires.neighbors;
   taken = subst (λ ws. regions_after Rewrite (regions_in c.args.self.now.regions) (region_steps_of_wholes ws) ≡ Some (regions_in c.take_wholes.new.regions)) c.in_ok-wholes.ensures.wholes c.in_ok-take_wholes.ensures.taken;
   few = c.in_ok-take_wholes.ensures.other;
 }

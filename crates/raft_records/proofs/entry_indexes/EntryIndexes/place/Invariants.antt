@@ -5,4 +5,4 @@ use Rattle.raft_records.proofs.entry_indexes.EntryIndexes.place.Given as goal
 -- the entries so far have their place
 abbrev pub invariant-loop-entry : goal.invariant-loop-entry
 invariant-loop-entry l =
-    l.entry-items ≡ map (placed_entry l.block l.compression_type) (take l.entry-index l.fn.self.0.items) ++ drop l.entry-index l.fn.self.0.items
+    l.entry-items ≡ map (placed_entry l.handle l.compression_type) (take l.entry-index l.fn.self.0.items) ++ drop l.entry-index l.fn.self.0.items

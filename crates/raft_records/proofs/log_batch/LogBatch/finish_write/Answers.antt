@@ -11,7 +11,7 @@ use Rattle.raft_records.proofs.log_batch.LogBatch.finish_write.Goals as goal
 
 -- the place that the entries get
 place : (c : goal.After-place) → FileBlockHandle
-place c = record { id = c.args.block.id; offset = c.args.block.offset + 16; len = c.offset_behind.result - 16 }
+place c = record { id = c.args.handle.id; offset = c.args.handle.offset + 16; len = c.offset_behind.result - 16 }
 
 places : (c : goal.After-place) → c.place.new.self ≡ map (placed_item (place c) compressions.None) c.self.inside.item_batch
 unfolding place
@@ -29,8 +29,8 @@ viewed c =
 pub returns-clause-placed : goal.returns-clause-placed
 unfolding place
 returns-clause-placed c =
-    let is = place_is c.args.block c.args.self.now (stage_of c.self.inside.state) c.self.inside.item_batch (entry_bytes_in c.self.inside.item_batch c.self.inside.buf.items) c.entries_size.result c.offset_behind.result c.self.view_is c.self.invariant.whole c.entries_size.ensures c.offset_behind.ensures in
-    viewed c ∙ ap (λ (block : FileBlockHandle). batch_with (map (placed_item block compressions.None) c.args.self.now.items) c.args.self.now.entry_bytes c.args.self.now.stage) is
+    let is = place_is c.args.handle c.args.self.now (stage_of c.self.inside.state) c.self.inside.item_batch (entry_bytes_in c.self.inside.item_batch c.self.inside.buf.items) c.entries_size.result c.offset_behind.result c.self.view_is c.self.invariant.whole c.entries_size.ensures c.offset_behind.ensures in
+    viewed c ∙ ap (λ (handle : FileBlockHandle). batch_with (map (placed_item handle compressions.None) c.args.self.now.items) c.args.self.now.entry_bytes c.args.self.now.stage) is
 
 pub returns-clause-bytes : goal.returns-clause-bytes
 returns-clause-bytes c signature =

@@ -5,4 +5,4 @@ use Rattle.raft_records.proofs.log_item_batch.LogItemBatch.place.Goals as goal
 
 pub invariant_of-self : goal.invariant_of-self
 invariant_of-self c =
-    rw c.place_items.ensures (placed_kept c.args.block c.args.compression_type (map item_of c.self.inside.items.items) c.self.inside.item_size c.self.inside.entries_size c.self.inside.checksum c.self.invariant.0, tt)
+    rw c.place_items.ensures (placed_kept c.args.handle c.args.compression_type (map item_of c.self.inside.items.items) c.self.inside.item_size c.self.inside.entries_size c.self.inside.checksum c.self.invariant.0, tt)

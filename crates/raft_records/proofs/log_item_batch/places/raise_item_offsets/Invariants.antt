@@ -1,7 +1,7 @@
 use Rattle.std.proofs.Common.{◌≡◌, ◌++◌, map, take, drop}
 use Rattle.raft_records.specs.Item.{item_of}
 use Rattle.raft_records.specs.ItemBatch.{raised_item}
-use Rattle.raft_records.proofs.log_item_batch.raise_item_offsets.Given as goal
+use Rattle.raft_records.proofs.log_item_batch.places.raise_item_offsets.Given as goal
 
 -- the items so far are raised
 abbrev pub invariant-loop-item : goal.invariant-loop-item

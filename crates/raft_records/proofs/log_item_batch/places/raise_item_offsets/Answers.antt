@@ -4,7 +4,7 @@ use Rattle.raft_records.specs.Item.{item_of, content_of}
 use Rattle.raft_records.specs.ItemBatch.{raised_item, CanRaiseContent, entry_bytes_of}
 use Rattle.raft_records.proofs.BatchLemmas.{map_view_more, seen_at}
 use Rattle.raft_records.proofs.LayLemmas.{raise_next}
-use Rattle.raft_records.proofs.log_item_batch.raise_item_offsets.Goals as goal
+use Rattle.raft_records.proofs.log_item_batch.places.raise_item_offsets.Goals as goal
 
 pub raise_offsets-requires : goal.raise_offsets-requires
 raise_offsets-requires c =

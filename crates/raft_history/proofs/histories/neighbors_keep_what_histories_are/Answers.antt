@@ -1,5 +1,5 @@
 use Rattle.raft_history.proofs.StretchOfHistory.{small_front, small_back, sound_front, sound_back, apart_front, apart_back, of_front, of_back}
-use Rattle.raft_history.proofs.histories.neighbours_keep_what_histories_are.Goals as goal
+use Rattle.raft_history.proofs.histories.neighbors_keep_what_histories_are.Goals as goal
 
 pub returns : goal.returns
 returns c = record {

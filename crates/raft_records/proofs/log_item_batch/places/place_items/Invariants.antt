@@ -1,9 +1,9 @@
 use Rattle.std.proofs.Common.{◌≡◌, ◌++◌, map, take, drop}
 use Rattle.raft_records.specs.Item.{item_of}
 use Rattle.raft_records.specs.ItemBatch.{placed_item}
-use Rattle.raft_records.proofs.log_item_batch.place_items.Given as goal
+use Rattle.raft_records.proofs.log_item_batch.places.place_items.Given as goal
 
 -- the items so far have their place
 abbrev pub invariant-loop-item : goal.invariant-loop-item
 invariant-loop-item l =
-    map item_of l.item-items ≡ map (placed_item l.block l.compression_type) (take l.item-index (map item_of l.fn.items.items)) ++ drop l.item-index (map item_of l.fn.items.items)
+    map item_of l.item-items ≡ map (placed_item l.handle l.compression_type) (take l.item-index (map item_of l.fn.items.items)) ++ drop l.item-index (map item_of l.fn.items.items)

@@ -1,6 +1,6 @@
 use Rattle.std.proofs.Common.{◌≡◌, ◌+◌, ◌++◌, take, drop}
 use Rattle.raft_records.specs.ItemBatch.{laid, entry_lengths}
-use Rattle.raft_records.proofs.log_item_batch.set_offsets.Given as goal
+use Rattle.raft_records.proofs.log_item_batch.places.set_offsets.Given as goal
 
 -- the entries so far are laid, and end at the offset
 abbrev pub invariant-loop-entry : goal.invariant-loop-entry

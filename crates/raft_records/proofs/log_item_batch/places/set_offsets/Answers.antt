@@ -3,7 +3,7 @@ use Rattle.std.specs.Prelude.{slice_index_or}
 use Rattle.std.proofs.lemmas.List.{get_or_default}
 use Rattle.raft_base.specs.NoEntry.{no_entry}
 use Rattle.raft_records.proofs.LayLemmas.{lay_more}
-use Rattle.raft_records.proofs.log_item_batch.set_offsets.Goals as goal
+use Rattle.raft_records.proofs.log_item_batch.places.set_offsets.Goals as goal
 
 pub overflow_add-offset : goal.overflow_add-offset
 overflow_add-offset c =

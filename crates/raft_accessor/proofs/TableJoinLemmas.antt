@@ -5,6 +5,7 @@ use Rattle.std.specs.Result.{OnOk, IfOk, IfErr}
 use Rattle.raft_base.specs.declared.errors.Error.{Error}
 use Rattle.raft_base.specs.declared.errors.Error.TheVariants as errors
 use Rattle.raft_base.specs.declared.pipe_log.LogQueue.{LogQueue}
+use Rattle.raft_base.specs.Runs.{end_of}
 use Rattle.raft_history.specs.RegionSteps.{Tables, with_table}
 use Rattle.raft_table.specs.Counts.{Counts}
 use Rattle.raft_table.specs.MarkJoins.{end_at_reach}
@@ -12,7 +13,6 @@ use Rattle.raft_table.specs.MarkMerge.{IsFaultUnder, IsMarkFault, IsRunOver}
 use Rattle.raft_table.specs.Marks.{Mark, entries_within, is_refused_over, table_over, there_if, table_over_older}
 use Rattle.raft_table.specs.Steps.{table_of}
 use Rattle.raft_table.specs.Table.{Table, empty_table, live_of, IsRecounted}
-use Rattle.raft_table.specs.TableEntries.{end_of}
 use Rattle.raft_table.proofs.MarkTables.{applied_none}
 use Rattle.raft_table.proofs.RegionLemmas.{applied_own}
 use Rattle.raft_table.proofs.TableLemmas.{live_of_empty}

@@ -4,10 +4,10 @@ use Rattle.std.specs.FinMap as finite
 use Rattle.std.specs.Result.{OnOk}
 use Rattle.raft_base.specs.declared.errors.Error.{Error}
 use Rattle.raft_base.specs.declared.pipe_log.LogQueue.{LogQueue}
+use Rattle.raft_base.specs.Runs.{IsRun}
 use Rattle.raft_history.specs.Joins.{overlaid_region}
 use Rattle.raft_history.specs.RegionSteps.{Tables, with_table}
 use Rattle.raft_table.specs.Counts.{Counts}
-use Rattle.raft_table.specs.TableEntries.{IsRun}
 use Rattle.raft_table.specs.Marks.{Mark}
 use Rattle.raft_table.specs.Overlay.{overlay_under, IsOverlayFault}
 use Rattle.raft_table.specs.Steps.{table_of}

@@ -4,9 +4,6 @@ ghost use Rattle.std.specs.Prelude.{◌≡◌, ◌≢◌, ◌≤◌, ◌<◌, �
 ghost use Rattle.std.specs.FinMap as finite;
 ghost use Rattle.std.specs.List.{FoldsTo};
 ghost use Rattle.raft_base.specs.declared.pipe_log.LogQueue.{LogQueue};
-ghost use Rattle.raft_records.specs.Item.{command_item};
-ghost use Rattle.raft_records.specs.LogBatch.{empty_batch};
-ghost use Rattle.raft_records.specs.declared.command.Command.TheVariants.{Clean};
 ghost use Rattle.raft_history.specs.RegionSteps.{with_table};
 ghost use Rattle.raft_table.specs.Change.{after_change, AreCountsAfter, IsAllowed, IsAnswer, IsChangeFault};
 ghost use Rattle.raft_table.specs.Table.{Table, with_table_added, with_table_deleted, live_of};
@@ -15,6 +12,7 @@ ghost use Rattle.raft_accessor.specs.AccessorCalls.{IsTableChanged, IsTableMade}
 ghost use Rattle.raft_accessor.specs.Merges.{with_newer, with_appended, IsMergedAt, AreTablesMerged, AreTablesLeft, AreOthersLeft, IsNewerFault, IsAppendedFault, IsMergeRefusal};
 ghost use Rattle.raft_accessor.specs.Walks.{Collects, Makes};
 
+mod cleaned;
 mod join;
 mod overlay;
 mod region_steps;
@@ -22,8 +20,8 @@ mod totals;
 mod writes;
 
 use crate::region_tables::RegionTables;
-use raft_base::{Error, FileSeq, Result, hash_u64};
-use raft_records::{Command, LogBatch};
+pub use cleaned::clean_logs;
+use raft_base::{AllocResult, Error, FileSeq, Result, hash_u64};
 use raft_table::{GlobalStats, MemTable, TableChange};
 use std::alloc::{AllocError, Global};
 use std::marker::Model;
@@ -93,13 +91,6 @@ impl MemTableAccessor {
         &self.stats
     }
 
-    /// The regions that were cleaned, in order.
-    pub fn cleaned_regions(&self) -> &[u64]
-        ensures { result.now ≡ self.now.cleaned }
-    {
-        self.cleaned.as_slice()
-    }
-
     /// The live numbers are those of the tables. This is a law: it computes nothing.
     pub fn counts_are_exact(&self)
         ensures { AreCountsOf self.now.tables self.now.counts }
@@ -120,7 +111,7 @@ impl MemTableAccessor {
     /// # Errors
     ///
     /// `AllocError`. All tables are then as they were.
-    pub fn get_or_insert(&mut self, id: u64) -> std::result::Result<&MemTable, AllocError>
+    pub fn get_or_insert(&mut self, id: u64) -> AllocResult<&MemTable>
         ensures* ends { sem 𝓛 (follows_so the_row the_row self.entry.ghost_name none (λ _ _. ⊤)
             (λ new. IsTableMade id result self.old new)) }
         ensures table { IfOk result (λ t. t.now ≡ table_in self.old.tables id) }
@@ -130,7 +121,7 @@ impl MemTableAccessor {
     }
 
     /// Makes an empty table for a region that has none. All tables stay where there is no memory for it.
-    fn make_table(&mut self, id: u64) -> std::result::Result<(), AllocError>
+    fn make_table(&mut self, id: u64) -> AllocResult<()>
         ensures { IsTableMade id result self.old self.new }
     {
         match self.make(id) {
@@ -171,7 +162,8 @@ impl MemTableAccessor {
     /// Those of [`MemTable::change`], and `Memory`. All tables are then as they were.
     pub fn change(&mut self, id: u64, change: TableChange) -> Result<u64>
         ensures changed { IsTableChanged (after_change (table_in self.old.tables id) change)
-            (IsChangeFault (table_in self.old.tables id) self.old.counts change) id result self.old self.new }
+            (IsChangeFault (table_in self.old.tables id) self.old.counts change) id result self.old
+            self.new }
         ensures answer { IfOk result (IsAnswer change (table_in self.old.tables id)
             (table_in self.new.tables id)) }
         ensures allowed { OnOk result (IsAllowed change) }
@@ -214,11 +206,13 @@ impl MemTableAccessor {
         ensures ok { OnOk result (self.new.tables ≡ finite.insert self.old.tables id table) }
         ensures replaced { IfOk result (λ t. t ≡ finite.get self.old.tables id) }
         ensures counts { OnOk result (self.new.counts
-            ≡ with_table_deleted (table_in self.old.tables id) (with_table_added table self.old.counts)) }
+            ≡ with_table_deleted (table_in self.old.tables id)
+            (with_table_added table self.old.counts)) }
         ensures err { OnErr result (self.new.tables ≡ self.old.tables) }
         ensures counts_err { OnErr result (self.new.counts ≡ self.old.counts) }
         ensures fault { IfErr result (λ e. (e ≡ Error.Memory)
-            ⊎ ((e ≡ Error.Full) × ((q : LogQueue) × (2 ^ 64 ≤ live_in_all q self.old.tables + live_of q table)))) }
+            ⊎ ((e ≡ Error.Full)
+            × ((q : LogQueue) × (2 ^ 64 ≤ live_in_all q self.old.tables + live_of q table)))) }
         ensures cleaned { self.new.cleaned ≡ self.old.cleaned }
     {
         self.slots[slot_of(id)].insert(id, table, &mut self.stats)
@@ -258,8 +252,8 @@ impl MemTableAccessor {
             self.new.tables) }
         ensures fault { IfErr result (IsMergeRefusal (IsNewerFault self.new.counts) self.old.tables
             rhs.tables) }
-        ensures err { IfErr result
-            (λ e. e ≢ Error.Memory → AreTablesLeft with_newer self.old.tables rhs.tables self.new.tables) }
+        ensures err { IfErr result (λ e. e ≢ Error.Memory
+            → AreTablesLeft with_newer self.old.tables rhs.tables self.new.tables) }
         ensures others { OnErr result (AreOthersLeft with_newer self.old.tables rhs.tables
             self.new.tables) }
         ensures cleaned { self.new.cleaned ≡ self.old.cleaned }
@@ -282,8 +276,8 @@ impl MemTableAccessor {
             self.new.tables) }
         ensures fault { IfErr result (IsMergeRefusal (IsAppendedFault self.new.counts)
             self.old.tables rhs.tables) }
-        ensures err { IfErr result
-            (λ e. e ≢ Error.Memory → AreTablesLeft with_appended self.old.tables rhs.tables self.new.tables) }
+        ensures err { IfErr result (λ e. e ≢ Error.Memory
+            → AreTablesLeft with_appended self.old.tables rhs.tables self.new.tables) }
         ensures others { OnErr result (AreOthersLeft with_appended self.old.tables rhs.tables
             self.new.tables) }
         ensures cleaned { self.new.cleaned ≡ self.old.cleaned }
@@ -292,24 +286,6 @@ impl MemTableAccessor {
             self.merge_append_tables(slot)?;
         }
         Ok(())
-    }
-
-    /// Hands out the cleaned regions as a batch with a `Clean` for each, in order. The list is then
-    /// empty.
-    ///
-    /// # Errors
-    ///
-    /// `Memory`. The accessor is then as it was.
-    pub fn take_cleaned_region_logs(&mut self) -> Result<LogBatch>
-        ensures logs { IfOk result (λ logs. logs
-            ≡ record empty_batch { items = map (λ id. command_item id Clean) self.old.cleaned }) }
-        ensures ok { OnOk result (self.new ≡ record self.old { cleaned = [] }) }
-        ensures err { OnErr result (self.new ≡ self.old) }
-        ensures memory { IfErr result (λ e. e ≡ Error.Memory) }
-    {
-        let logs = clean_logs(*self.cleaned.allocator(), &self.cleaned)?;
-        self.cleaned.clear();
-        Ok(logs)
     }
 
     /// Whether there are no tables.
@@ -345,8 +321,8 @@ impl MemTableAccessor {
     ///
     /// `Memory`.
     pub fn tables(&self) -> Result<Vec<&MemTable>>
-        ensures tables { IfOk result
-            (λ tables. IsPermutation (map (λ t. t.now) tables.items) (finite.values self.now.tables)) }
+        ensures tables { IfOk result (λ tables. IsPermutation (map (λ t. t.now) tables.items)
+            (finite.values self.now.tables)) }
         ensures memory { IfErr result (λ e. e ≡ Error.Memory) }
     {
         let mut tables = Vec::new(*self.cleaned.allocator());
@@ -377,17 +353,6 @@ impl MemTableAccessor {
         Ok(kept)
     }
 
-    /// Lists a region as cleaned.
-    fn list(&mut self, id: u64) -> Result<()>
-        ensures ok { OnOk result (self.new ≡ record self.old
-            { cleaned = self.old.cleaned ++ id ∷ [] }) }
-        ensures err { OnErr result (self.new ≡ self.old) }
-        ensures memory { IfErr result (λ e. e ≡ Error.Memory) }
-    {
-        self.cleaned.push(id)?;
-        Ok(())
-    }
-
     /// Takes a region's table away, and its records off the counts.
     pub fn take(&mut self, id: u64) -> Option<MemTable>
         ensures tables { self.new.tables ≡ finite.remove self.old.tables id }
@@ -406,8 +371,8 @@ impl MemTableAccessor {
             self.new.tables) }
         ensures fault { IfErr result (IsMergeRefusal (IsNewerFault self.new.counts) self.old.tables
             newer) }
-        ensures err { IfErr result
-            (λ e. e ≢ Error.Memory → AreTablesLeft with_newer self.old.tables newer self.new.tables) }
+        ensures err { IfErr result (λ e. e ≢ Error.Memory
+            → AreTablesLeft with_newer self.old.tables newer self.new.tables) }
         ensures others { OnErr result (AreOthersLeft with_newer self.old.tables newer
             self.new.tables) }
         ensures cleaned { self.new.cleaned ≡ self.old.cleaned }
@@ -424,8 +389,8 @@ impl MemTableAccessor {
             self.new.tables) }
         ensures fault { IfErr result (IsMergeRefusal (IsAppendedFault self.new.counts)
             self.old.tables newer) }
-        ensures err { IfErr result
-            (λ e. e ≢ Error.Memory → AreTablesLeft with_appended self.old.tables newer self.new.tables) }
+        ensures err { IfErr result (λ e. e ≢ Error.Memory
+            → AreTablesLeft with_appended self.old.tables newer self.new.tables) }
         ensures others { OnErr result (AreOthersLeft with_appended self.old.tables newer
             self.new.tables) }
         ensures cleaned { self.new.cleaned ≡ self.old.cleaned }
@@ -439,12 +404,12 @@ impl MemTableAccessor {
     /// Merges a newer neighbor into the table of its region.
     fn merge_newer_table(&mut self, id: u64, newer: MemTable) -> Result<()>
         requires { newer.region_id ≡ id }
-        ensures ok { OnOk result
-            (IsMergedAt with_newer id (finite.get self.old.tables id) (Some newer) (finite.get self.new.tables id)) }
+        ensures ok { OnOk result (IsMergedAt with_newer id (finite.get self.old.tables id)
+            (Some newer) (finite.get self.new.tables id)) }
         ensures fault { IfErr result (IsNewerFault self.new.counts (table_in self.old.tables id)
             newer) }
-        ensures err { IfErr result (λ e. e ≢ Error.Memory →
-            table_in self.new.tables id ≡ table_in self.old.tables id) }
+        ensures err { IfErr result
+            (λ e. e ≢ Error.Memory → table_in self.new.tables id ≡ table_in self.old.tables id) }
         ensures others { self.new.tables ≡ with_table self.old.tables id
             (finite.get self.new.tables id) }
         ensures cleaned { self.new.cleaned ≡ self.old.cleaned }
@@ -455,35 +420,18 @@ impl MemTableAccessor {
     /// Merges an appended table into the table of its region.
     fn merge_appended(&mut self, id: u64, newer: MemTable) -> Result<()>
         requires { newer.region_id ≡ id }
-        ensures ok { OnOk result
-            (IsMergedAt with_appended id (finite.get self.old.tables id) (Some newer) (finite.get self.new.tables id)) }
+        ensures ok { OnOk result (IsMergedAt with_appended id (finite.get self.old.tables id)
+            (Some newer) (finite.get self.new.tables id)) }
         ensures fault { IfErr result (IsAppendedFault self.new.counts (table_in self.old.tables id)
             newer) }
-        ensures err { IfErr result (λ e. e ≢ Error.Memory →
-            table_in self.new.tables id ≡ table_in self.old.tables id) }
+        ensures err { IfErr result
+            (λ e. e ≢ Error.Memory → table_in self.new.tables id ≡ table_in self.old.tables id) }
         ensures others { self.new.tables ≡ with_table self.old.tables id
             (finite.get self.new.tables id) }
         ensures cleaned { self.new.cleaned ≡ self.old.cleaned }
     {
         self.slots[slot_of(id)].merge_append_table(id, newer, &mut self.stats)
     }
-}
-
-/// A batch with a `Clean` for each region, in order.
-///
-/// # Errors
-///
-/// `Memory`.
-pub fn clean_logs(alloc: Global, ids: &[u64]) -> Result<LogBatch>
-    ensures ok { IfOk result (λ logs. logs ≡ record empty_batch
-        { items = map (λ id. command_item id Clean) ids.now }) }
-    ensures memory { IfErr result (λ e. e ≡ Error.Memory) }
-{
-    let mut logs = LogBatch::with_capacity(alloc, ids.len())?;
-    for id in ids {
-        logs.add_command(*id, Command::Clean)?;
-    }
-    Ok(logs)
 }
 
 /// 128 slots without tables.

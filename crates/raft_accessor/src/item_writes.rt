@@ -102,7 +102,8 @@ impl RegionTables {
     ) -> Result<()>
         requires { IsCounted (table_in self.old item.raft_group_id) stats.old }
         ensures { (list : List ℕ)
-            → IsItemWritten (Rewriting gate seq) (item_of item) self.old stats.old list result self.new stats.new list }
+            → IsItemWritten (Rewriting gate seq) (item_of item) self.old stats.old list result
+            self.new stats.new list }
     {
         let LogItem {
             raft_group_id: id,

@@ -5,6 +5,7 @@ ghost use Rattle.std.specs.FinMap as finite;
 ghost use Rattle.std.specs.List.{IsDistinct, FoldsTo};
 ghost use Rattle.std.specs.Map.{keys_of, lookup};
 ghost use Rattle.raft_base.specs.declared.pipe_log.LogQueue.{LogQueue};
+ghost use Rattle.raft_base.specs.Runs.{end_of};
 ghost use Rattle.raft_history.specs.RegionSteps.{Tables, with_table};
 ghost use Rattle.raft_table.specs.Change.{after_change, AreCountsAfter, IsAllowed, IsAnswer, IsChangeFault};
 ghost use Rattle.raft_table.specs.Counts.{live};
@@ -12,7 +13,7 @@ ghost use Rattle.raft_table.specs.Queues.{other};
 ghost use Rattle.raft_table.specs.Start.{counts_with_run};
 ghost use Rattle.raft_table.specs.Steps.{table_of};
 ghost use Rattle.raft_table.specs.Table.{Table, after_replay, empty_table, live_of, with_table_added, with_table_deleted, IsCounted, IsRecounted};
-ghost use Rattle.raft_table.specs.TableEntries.{IsRunIn, end_of};
+ghost use Rattle.raft_table.specs.TableEntries.{IsRunIn};
 ghost use Rattle.raft_accessor.specs.Accessor.{table_in};
 ghost use Rattle.raft_accessor.specs.Merges.{with_newer, with_appended, IsNewerFault, IsAppendedFault, MayAlter, IsAltered, IsTableMerged};
 ghost use Rattle.raft_accessor.specs.Updates.{MayChange, IsUpdated, BecomesOutcome};
@@ -121,7 +122,8 @@ impl RegionTables {
     ) -> Result<()>
         requires { (state : F) (x : _) → F.pre state x }
         ensures ok { OnOk result ((ts : List Table) × IsPermutation ts (finite.values self.now)
-            × FoldsTo (KeepsId F.FnMut) (wanted.old, ids.old.items) ts (wanted.new, ids.new.items)) }
+            × FoldsTo (KeepsId F.FnMut) (wanted.old, ids.old.items) ts
+            (wanted.new, ids.new.items)) }
         ensures memory { IfErr result (λ e. e ≡ Error.Memory) }
     {
         for table in self.tables.values() {
@@ -162,7 +164,8 @@ impl RegionTables {
     pub fn change(&mut self, id: u64, change: TableChange, stats: &mut GlobalStats) -> Result<u64>
         requires { IsCounted (table_in self.old id) stats.old }
         ensures taken { BecomesOutcome (after_change (table_in self.old id) change)
-            (IsChangeFault (table_in self.old id) stats.old change) self.old id stats.old result self.new stats.new }
+            (IsChangeFault (table_in self.old id) stats.old change) self.old id stats.old result
+            self.new stats.new }
         ensures answer { IfOk result (IsAnswer change (table_in self.old id)
             (table_in self.new id)) }
         ensures allowed { OnOk result (IsAllowed change) }
@@ -218,9 +221,9 @@ impl RegionTables {
     ) -> Result<()>
         requires files { first_seq ≤ last_seq }
         requires counted { IsCounted (table_in self.old id) stats.old }
-        ensures taken { BecomesOutcome (Some (record (table_in self.old id)
-            { atomic_group = Some (first_seq, last_seq) })) (λ e. ⊥)
-            self.old id stats.old result self.new stats.new }
+        ensures taken { BecomesOutcome
+            (Some (record (table_in self.old id) { atomic_group = Some (first_seq, last_seq) }))
+            (λ e. ⊥) self.old id stats.old result self.new stats.new }
         ensures counts { stats.new ≡ stats.old }
     {
         self.update(
@@ -251,12 +254,13 @@ impl RegionTables {
         ensures ok { OnOk result (self.new ≡ finite.insert self.old id table) }
         ensures replaced { IfOk result (λ t. t ≡ finite.get self.old id) }
         ensures own { IfOk result (λ t. IfSome t (λ t. t.region_id ≡ id)) }
-        ensures counts { OnOk result
-            (stats.new ≡ with_table_deleted (table_in self.old id) (with_table_added table stats.old)) }
+        ensures counts { OnOk result (stats.new
+            ≡ with_table_deleted (table_in self.old id) (with_table_added table stats.old)) }
         ensures err { OnErr result (self.new ≡ self.old) }
         ensures counts_err { OnErr result (stats.new ≡ stats.old) }
         ensures fault { IfErr result (λ e. (e ≡ Error.Memory)
-            ⊎ ((e ≡ Error.Full) × ((q : LogQueue) × (2 ^ 64 ≤ live q stats.old + live_of q table)))) }
+            ⊎ ((e ≡ Error.Full)
+            × ((q : LogQueue) × (2 ^ 64 ≤ live q stats.old + live_of q table)))) }
         ensures one { self.new ≡ with_table self.old id (finite.get self.new id) }
         ensures recounted { IsRecounted (table_in self.old id) (table_in self.new id) stats.old
             stats.new }
@@ -310,7 +314,8 @@ impl RegionTables {
         requires region { newer.region_id ≡ id }
         requires counted { IsCounted (table_in self.old id) stats.old }
         ensures { IsTableMerged (with_newer (table_in self.old id) newer)
-            (IsNewerFault stats.new (table_in self.old id) newer) self.old id stats.old result self.new stats.new }
+            (IsNewerFault stats.new (table_in self.old id) newer) self.old id stats.old result
+            self.new stats.new }
     {
         self.alter(
             id,
@@ -333,7 +338,8 @@ impl RegionTables {
         requires region { newer.region_id ≡ id }
         requires counted { IsCounted (table_in self.old id) stats.old }
         ensures { IsTableMerged (with_appended (table_in self.old id) newer)
-            (IsAppendedFault stats.new (table_in self.old id) newer) self.old id stats.old result self.new stats.new }
+            (IsAppendedFault stats.new (table_in self.old id) newer) self.old id stats.old result
+            self.new stats.new }
     {
         self.alter(
             id,

@@ -1,5 +1,8 @@
 //! Where an entry of a region's log stands.
 
+ghost use Rattle.std.specs.Prelude.{◌↔◌, IsTrue};
+ghost use Rattle.raft_base.specs.Runs.{IsConsecutive};
+
 use crate::{CompressionType, FileBlockHandle};
 
 /// An entry of a region's log: its index, and the place of its bytes.
@@ -32,4 +35,21 @@ impl Default for EntryIndex {
             entry_len: 0,
         }
     }
+}
+
+/// Whether the indexes rise by one from entry to entry and none is 2^64 - 1. It takes no memory.
+pub fn is_consecutive(entries: &[EntryIndex]) -> bool
+    ensures { IsTrue result ↔ IsConsecutive entries.now }
+{
+    let mut index = match entries.first() {
+        Some(first) => first.index,
+        None => return true,
+    };
+    for entry in entries {
+        if entry.index != index || index == u64::MAX {
+            return false;
+        }
+        index += 1;
+    }
+    true
 }

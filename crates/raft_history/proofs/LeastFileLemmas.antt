@@ -9,6 +9,7 @@ use Rattle.raft_base.specs.declared.pipe_log.FileBlockHandle.{FileBlockHandle}
 use Rattle.raft_base.specs.declared.pipe_log.LogQueue.{LogQueue}
 use Rattle.raft_base.specs.declared.pipe_log.LogQueue.TheVariants.{Append, Rewrite}
 use Rattle.raft_base.specs.declared.entry_index.EntryIndex.{EntryIndex}
+use Rattle.raft_base.specs.Runs.{end_of}
 use Rattle.raft_table.specs.Fetches.{block_seq, entry_seq}
 use Rattle.raft_table.specs.KeyValues.{lesser, least, files_in}
 use Rattle.raft_table.specs.Marks.{entries_within}
@@ -17,7 +18,7 @@ use Rattle.raft_table.specs.Overlay.{has_clean, greatest_compaction, least_cut, 
 use Rattle.raft_table.specs.Queues.{is_same, other}
 use Rattle.raft_table.specs.Steps.{Step, table_of}
 use Rattle.raft_table.specs.Table.{Table}
-use Rattle.raft_table.specs.TableEntries.{end_of, is_placed_in, placed_in}
+use Rattle.raft_table.specs.TableEntries.{is_placed_in, placed_in}
 use Rattle.raft_history.specs.Batches.{Event, batches}
 use Rattle.raft_history.specs.BothQueues.{IsReadingOfBoth}
 use Rattle.raft_history.specs.Effects.{steps_of, is_named}

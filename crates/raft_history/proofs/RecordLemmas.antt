@@ -15,7 +15,8 @@ use Rattle.std.proofs.lemmas.List.{length-append}
 use Rattle.raft_base.specs.declared.pipe_log.LogQueue.{LogQueue}
 use Rattle.raft_base.specs.declared.pipe_log.LogQueue.TheVariants.{Append, Rewrite}
 use Rattle.raft_base.specs.declared.entry_index.EntryIndex.{EntryIndex}
-use Rattle.raft_table.specs.TableEntries.{below, from, end_of}
+use Rattle.raft_base.specs.Runs.{end_of}
+use Rattle.raft_table.specs.TableEntries.{below, from}
 use Rattle.raft_table.specs.KeySets.{KeySet, without}
 use Rattle.raft_table.specs.KeyValues.{Keys, Stored, with_pairs, pairs_over}
 use Rattle.raft_table.specs.Marks.{Mark, entries_within, older_entries, atomic_group_over, table_over, is_refused_over, is_missed, is_there_over, there_if, table_over_older}

@@ -36,7 +36,7 @@ abbrev AreOf : LogQueue → List RegionStep → Type 0
 AreOf q steps = AllByRecursion (λ (s : RegionStep). IsStepOfQueue q s.step) steps
 
 step_good : (q : LogQueue) (s : Step) → IsStepOfQueue q s → IsStep s
-step_good q (Run run) h = h.run
+step_good q (Run run) h = h.consecutive.run
 step_good q (Compact i) h = tt
 step_good q (Truncate i) h = tt
 step_good q (Put key value file) h = tt

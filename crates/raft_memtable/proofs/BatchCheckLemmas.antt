@@ -1,19 +1,23 @@
 -- Batches that are tested before they are taken in.
 use Rattle.std.proofs.Common.{◌≡◌, true, false, ◌<◌, ◌≤◌, ◌+◌, ℕ, suc, zero, List, [], ◌∷◌, drop, length, get_or, Option, Some, None, refl, sym, ap, ◌∙◌, arith}
-use Rattle.std.specs.List.{AllByRecursion, slice_get}
+use Rattle.std.specs.Prelude.{Bool, MatchBool}
+use Rattle.std.specs.List.{AllByRecursion, AllWithin, HoldsAt}
+use Rattle.std.proofs.lemmas.List.Elements.{All-from_recursion, recursion_from_All}
 use Rattle.std.specs.Option.{option_map_or, option_or}
 use Rattle.raft_base.specs.declared.pipe_log.FileBlockHandle.{FileBlockHandle}
 use Rattle.raft_base.specs.declared.pipe_log.FileId.{FileId}
 use Rattle.raft_base.specs.declared.pipe_log.LogQueue.{LogQueue}
 use Rattle.raft_base.specs.declared.pipe_log.LogQueue.TheVariants.{Append, Rewrite}
 use Rattle.raft_base.specs.declared.entry_index.EntryIndex.{EntryIndex}
+use Rattle.raft_base.specs.NoEntry.{no_entry}
+use Rattle.raft_base.specs.Runs.{IsConsecutive}
 use Rattle.raft_records.specs.declared.atomic_group.AtomicGroupStatus.{AtomicGroupStatus}
 use Rattle.raft_records.specs.declared.atomic_group.AtomicGroupStatus.TheVariants.{Begin, Middle, End}
 use Rattle.raft_records.specs.Group.{status_byte, first_marker, marker_byte, IsGroupMarkerRead}
 use Rattle.raft_records.specs.Item.{Item}
 use Rattle.raft_records.specs.ReadIn.{IsPlaceInFile}
 use Rattle.raft_records.proofs.GroupLemmas.{one_byte, marker_is}
-use Rattle.raft_table.specs.TableEntries.{is_placed_in}
+use Rattle.raft_table.specs.TableEntries.{IsRunIn, is_placed_in}
 use Rattle.raft_table.specs.Queues.{is_same}
 use Rattle.raft_history.specs.Histories.{IsInFile, AreInFile, HaveStatus}
 use Rattle.raft_history.proofs.Words.{AreBlocksIn}
@@ -91,7 +95,17 @@ block_placed file e h = go e.entries h
     go None h = absurd h
     go (Some block) h = ap (λ (id : FileId). is_same id.queue file.queue) h ∙ same file.queue
 
--- no entries have no place elsewhere
-pub no_blocks : (file : FileId) (es : List EntryIndex) → None ≡ slice_get es 0 → AreBlocksIn file es
-no_blocks file [] e = tt
-no_blocks file (x ∷ es) e = absurd cc
+-- entries with blocks in a file are placed in its queue
+blocks_placed : (file : FileId) (es : List EntryIndex) → AreBlocksIn file es → AllByRecursion (λ (e : EntryIndex). is_placed_in file.queue e ≡ true) es
+blocks_placed file [] h = tt
+blocks_placed file (e ∷ es) h = (block_placed file e h.0, blocks_placed file es h.1)
+
+-- what the test of each place says of consecutive entries
+pub in_file_if_placed : (file : FileId) (es : List EntryIndex) (placed : Bool)
+    → MatchBool placed (AllWithin (λ (e : EntryIndex). IsPlaceInFile file e.entries) es 0 (length es)) ((k : ℕ) × (k < length es) × HoldsAt (λ (e : EntryIndex). IsPlaceInFile file e.entries → ⊥) es k)
+    → IsConsecutive es → MatchBool placed (IsRunIn file.queue es × AreBlocksIn file es) (IsRunIn file.queue es × AreBlocksIn file es → ⊥)
+in_file_if_placed file es true h consecutive =
+    let blocks = recursion_from_All (λ (e : EntryIndex). IsPlaceInFile file e.entries) es (λ k d low. h k d (omega arith) low) in
+    (record { consecutive = consecutive; placed = blocks_placed file es blocks }, blocks)
+in_file_if_placed file es false h consecutive =
+    λ both. h.2 no_entry (All-from_recursion (λ (e : EntryIndex). IsPlaceInFile file e.entries) es both.1 h.0 no_entry h.1)

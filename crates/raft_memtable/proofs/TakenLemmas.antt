@@ -10,10 +10,11 @@ use Rattle.raft_base.specs.declared.pipe_log.FileId.{FileId}
 use Rattle.raft_base.specs.declared.pipe_log.LogQueue.{LogQueue}
 use Rattle.raft_base.specs.declared.pipe_log.LogQueue.TheVariants.{Append, Rewrite}
 use Rattle.raft_base.specs.declared.entry_index.EntryIndex.{EntryIndex}
+use Rattle.raft_base.specs.Runs.{end_of}
 use Rattle.raft_records.specs.declared.log_item.LogItem.{LogItem}
 use Rattle.raft_records.specs.Item.{item_of, entries}
 use Rattle.raft_table.specs.Counts.{live}
-use Rattle.raft_table.specs.TableEntries.{IsRunIn, end_of}
+use Rattle.raft_table.specs.TableEntries.{IsRunIn}
 use Rattle.raft_table.specs.MarkJoins.{joined_mark, joined_at, end_at_reach, fresh, mark_of}
 use Rattle.raft_table.specs.Marks.{Mark}
 use Rattle.raft_table.specs.Queues.{other, count_in, is_same}

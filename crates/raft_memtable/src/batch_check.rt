@@ -9,7 +9,7 @@ ghost use Rattle.raft_records.specs.ReadIn.{IsPlaceInFile};
 ghost use Rattle.raft_history.specs.Histories.{IsInFile, AreInFile, HaveStatus};
 ghost use Rattle.raft_memtable.specs.BatchChecks.{marker_found};
 
-use raft_base::{EntryIndex, Error, FileId, LogQueue, Result};
+use raft_base::{EntryIndex, Error, FileId, LogQueue, Result, is_consecutive};
 use raft_records::{
     AtomicGroupStatus, KeyValue, LogItem, LogItemBatch, LogItemContent, OpType, is_reserved,
 };
@@ -128,32 +128,16 @@ fn is_run_in(entries: &[EntryIndex], file: FileId) -> bool
     ensures { MatchBool result (IsInFile file (entries_of entries.now))
         (IsInFile file (entries_of entries.now) → ⊥) }
 {
-    let Some(first) = entries.first() else {
-        return true;
-    };
-    let mut next = first.index;
-    for entry in entries {
-        if entry.index != next {
-            return false;
-        }
-        if next == u64::MAX {
-            return false;
-        }
-        if !is_block_in(entry, file) {
-            return false;
-        }
-        next += 1;
-    }
-    true
+    is_consecutive(entries) && entries.iter().all(|entry| is_place_in(entry, file))
 }
 
 /// Whether an entry's place is in the file.
-fn is_block_in(entry: &EntryIndex, file: FileId) -> bool
+fn is_place_in(entry: &EntryIndex, file: FileId) -> bool
     ensures { MatchBool result (IsPlaceInFile file entry.now.entries)
         (IsPlaceInFile file entry.now.entries → ⊥) }
 {
     match entry.entries {
-        Some(block) => block.id == file,
+        Some(handle) => handle.id == file,
         None => false,
     }
 }

@@ -58,9 +58,10 @@ impl MarkedTables {
     pub(crate) fn take_items(&mut self, file: FileId, items: LogItemBatch) -> Result<()>
         requires { AreInFile file items }
         ensures ok { OnOk result
-            (regions_after file.queue (regions_in self.old) (steps_of_items items) ≡ Some (regions_in self.new)) }
-        ensures cleaned { OnOk result
-            (self.new.accessor.cleaned ≡ self.old.accessor.cleaned ++ cleaned_by_steps file.queue (steps_of_items items)) }
+            (regions_after file.queue (regions_in self.old) (steps_of_items items)
+            ≡ Some (regions_in self.new)) }
+        ensures cleaned { OnOk result (self.new.accessor.cleaned
+            ≡ self.old.accessor.cleaned ++ cleaned_by_steps file.queue (steps_of_items items)) }
         ensures fault { IfErr result (IsStepsFault file.queue (regions_in self.old)
             (steps_of_items items)) }
         ensures other { OnOk result
@@ -84,12 +85,16 @@ impl MarkedTables {
             (regions_after Rewrite (regions_in self.old) (region_steps_of_whole (whole_shown whole))
             ≡ Some (regions_in self.new)) }
         ensures cleaned { OnOk result (self.new.accessor.cleaned ≡ self.old.accessor.cleaned) }
-        ensures fault { IfErr result
-            (IsStepsFault Rewrite (regions_in self.old) (region_steps_of_whole (whole_shown whole))) }
-        ensures other { OnOk result
-            (live_in_all Append self.new.accessor.tables ≤ live_in_all Append self.old.accessor.tables) }
+        ensures fault { IfErr result (IsStepsFault Rewrite (regions_in self.old)
+            (region_steps_of_whole (whole_shown whole))) }
+        ensures other { OnOk result (live_in_all Append self.new.accessor.tables
+            ≤ live_in_all Append self.old.accessor.tables) }
     {
-        let WholeGroup { items, first_seq, last_seq } = whole;
+        let WholeGroup {
+            items,
+            first_seq,
+            last_seq,
+        } = whole;
         let regions = items.regions()?;
         self.take_each(LogQueue::Rewrite, items.into_items())?;
         self.take_files(&regions, first_seq, last_seq)
@@ -138,11 +143,12 @@ impl MarkedTables {
     /// Takes in the files of a group for each of these regions.
     fn take_files(&mut self, regions: &[u64], first_seq: FileSeq, last_seq: FileSeq) -> Result<()>
         requires { first_seq ≤ last_seq }
-        ensures { AreStepsTaken Rewrite (on_each regions.now (AtomicGroup first_seq last_seq)) result
-            self.old self.new }
+        ensures { AreStepsTaken Rewrite (on_each regions.now (AtomicGroup first_seq last_seq))
+            result self.old self.new }
     {
         for id in regions {
-            self.accessor.apply_rewrite_atomic_group(*id, first_seq, last_seq)?;
+            self.accessor
+                .apply_rewrite_atomic_group(*id, first_seq, last_seq)?;
             self.marks.mark(*id)?;
         }
         Ok(())

@@ -134,13 +134,13 @@ impl ReadState {
         requires newer { IsOfHistory (context_in newer) }
         ensures neighbors { OnOk result (AreNeighbors queue (context_in self.old)
             (context_in newer)) }
-        ensures regions { OnOk result
-            (AreMerged queue (context_in self.old) (context_in newer) (context_in self.new).regions) }
-        ensures merged { OnOk result
-            (context_in self.new ≡ merged_with (context_in self.old) (context_in newer) (context_in self.new).regions) }
+        ensures regions { OnOk result (AreMerged queue (context_in self.old) (context_in newer)
+            (context_in self.new).regions) }
+        ensures merged { OnOk result (context_in self.new
+            ≡ merged_with (context_in self.old) (context_in newer) (context_in self.new).regions) }
         ensures read { OnOk result (IsOfHistory (context_in self.new)) }
-        ensures fault { IfErr result
-            (IsNeighborFault queue (reading_on (context_in self.old)) (reading_on (context_in newer))) }
+        ensures fault { IfErr result (IsNeighborFault queue (reading_on (context_in self.old))
+            (reading_on (context_in newer))) }
     {
         self.check_neighbor(&newer, queue)?;
         self.join(newer, queue)
@@ -166,8 +166,8 @@ impl ReadState {
     fn check_neighbor(&self, newer: &ReadState, queue: LogQueue) -> Result<()>
         ensures ok { OnOk result (AreNeighbors queue (context_in self.now)
             (context_in newer.now)) }
-        ensures fault { IfErr result
-            (IsNeighborFault queue (reading_on (context_in self.now)) (reading_on (context_in newer.now))) }
+        ensures fault { IfErr result (IsNeighborFault queue (reading_on (context_in self.now))
+            (reading_on (context_in newer.now))) }
     {
         if !FileRange::suits(self.files, queue) || !FileRange::suits(newer.files, queue) {
             return Err(Error::invalid_argument(self.alloc, "a context of the other queue"));
@@ -183,13 +183,13 @@ impl ReadState {
         requires older { IsOfHistory (context_in self.old) }
         requires newer { IsOfHistory (context_in newer) }
         requires neighbors { AreNeighbors queue (context_in self.old) (context_in newer) }
-        ensures regions { OnOk result
-            (AreMerged queue (context_in self.old) (context_in newer) (context_in self.new).regions) }
-        ensures merged { OnOk result
-            (context_in self.new ≡ merged_with (context_in self.old) (context_in newer) (context_in self.new).regions) }
+        ensures regions { OnOk result (AreMerged queue (context_in self.old) (context_in newer)
+            (context_in self.new).regions) }
+        ensures merged { OnOk result (context_in self.new
+            ≡ merged_with (context_in self.old) (context_in newer) (context_in self.new).regions) }
         ensures read { OnOk result (IsOfHistory (context_in self.new)) }
-        ensures fault { IfErr result
-            (IsNeighborFault queue (reading_on (context_in self.old)) (reading_on (context_in newer))) }
+        ensures fault { IfErr result (IsNeighborFault queue (reading_on (context_in self.old))
+            (reading_on (context_in newer))) }
     {
         let ReadState {
             regions,
@@ -208,14 +208,14 @@ impl ReadState {
 /// Takes in a group that is whole, if there is one.
 fn take_whole(regions: &mut MarkedTables, whole: Option<WholeGroup>) -> Result<()>
     requires { MayTakeEffect (option_map whole_shown whole) }
-    ensures taken { OnOk result
-        (regions_after Rewrite (regions_in regions.old) (region_steps_or (option_map whole_shown whole))
+    ensures taken { OnOk result (regions_after Rewrite (regions_in regions.old)
+        (region_steps_or (option_map whole_shown whole))
         ≡ Some (regions_in regions.new)) }
     ensures cleaned { OnOk result (regions.new.accessor.cleaned ≡ regions.old.accessor.cleaned) }
-    ensures fault { IfErr result
-        (IsStepsFault Rewrite (regions_in regions.old) (region_steps_or (option_map whole_shown whole))) }
-    ensures other { OnOk result
-        (live_in_all Append regions.new.accessor.tables ≤ live_in_all Append regions.old.accessor.tables) }
+    ensures fault { IfErr result (IsStepsFault Rewrite (regions_in regions.old)
+        (region_steps_or (option_map whole_shown whole))) }
+    ensures other { OnOk result (live_in_all Append regions.new.accessor.tables
+        ≤ live_in_all Append regions.old.accessor.tables) }
 {
     match whole {
         Some(whole) => regions.take_group(whole),
@@ -226,14 +226,14 @@ fn take_whole(regions: &mut MarkedTables, whole: Option<WholeGroup>) -> Result<(
 /// Takes in groups that are whole, one after another.
 fn take_wholes(regions: &mut MarkedTables, wholes: Vec<WholeGroup>) -> Result<()>
     requires { AllByRecursion TakesEffect (map whole_shown wholes.items) }
-    ensures taken { OnOk result
-        (regions_after Rewrite (regions_in regions.old) (region_steps_of_wholes (map whole_shown wholes.items))
+    ensures taken { OnOk result (regions_after Rewrite (regions_in regions.old)
+        (region_steps_of_wholes (map whole_shown wholes.items))
         ≡ Some (regions_in regions.new)) }
     ensures cleaned { OnOk result (regions.new.accessor.cleaned ≡ regions.old.accessor.cleaned) }
-    ensures fault { IfErr result
-        (IsStepsFault Rewrite (regions_in regions.old) (region_steps_of_wholes (map whole_shown wholes.items))) }
-    ensures other { OnOk result
-        (live_in_all Append regions.new.accessor.tables ≤ live_in_all Append regions.old.accessor.tables) }
+    ensures fault { IfErr result (IsStepsFault Rewrite (regions_in regions.old)
+        (region_steps_of_wholes (map whole_shown wholes.items))) }
+    ensures other { OnOk result (live_in_all Append regions.new.accessor.tables
+        ≤ live_in_all Append regions.old.accessor.tables) }
     ensures none { OnErr result (map whole_shown wholes.items ≢ []) }
 {
     for whole in wholes {

@@ -11,8 +11,10 @@ ghost use Rattle.raft_accessor.specs.Writes.{Replaying, after_items, listed_by_i
 /// regions that these clean. This is a law: it computes nothing.
 #[tactic(auto, using(crate::proofs::ReadingLemmas::items_read, crate::proofs::ReadingLemmas::items_listed))]
 pub fn items_are_read_as_steps()
-    ensures tables { (q : LogQueue) (m n : Tables) (items : List Item) →
-        after_items (Replaying q) m items ≡ Some n → tables_after q m (steps_of_items items) ≡ Some n }
+    ensures tables { (q : LogQueue) (m n : Tables) (items : List Item)
+        → after_items (Replaying q) m items ≡ Some n
+        → tables_after q m (steps_of_items items) ≡ Some n }
     ensures cleaned { (items : List Item)
-        → listed_by_items (Replaying Append) items ≡ cleaned_by_steps Append (steps_of_items items) }
+        → listed_by_items (Replaying Append) items
+        ≡ cleaned_by_steps Append (steps_of_items items) }
 {}

@@ -112,8 +112,8 @@ impl MemTableRecoverContext {
         ensures fault { IfErr result (IsNeighborFault queue self.old rhs) }
         ensures err { OnErr result (self.new.stage ≡ refused_stage self.old.stage) }
         ensures unchanged { self.old.stage ≢ Reading → self.new ≡ self.old }
-        ensures failed { (self.old.stage ≢ Reading) ⊎ (rhs.stage ≢ Reading) →
-            IfErr result (λ e. e ≡ Error.Failed) }
+        ensures failed { (self.old.stage ≢ Reading) ⊎ (rhs.stage ≢ Reading)
+            → IfErr result (λ e. e ≡ Error.Failed) }
     {
         if self.stage != ContextStage::Reading {
             return Err(Error::Failed);
@@ -151,15 +151,16 @@ impl MemTableRecoverContext {
     pub fn merge_append_context(&mut self, append: MemTableRecoverContext) -> Result<()>
         ensures ok { OnOk result (IsOverlaidWith append self.old self.new) }
         ensures exact { (rewrite appended : List Event) → HasReadExactly self.old rewrite
-            → HasReadExactly append appended → OnOk result (IsOfBothExactly self.new rewrite appended) }
+            → HasReadExactly append appended
+            → OnOk result (IsOfBothExactly self.new rewrite appended) }
         ensures fault { IfErr result (IsMergeAppendFault self.old append) }
         ensures memory { (rewrite appended : List Event) → IsSmall rewrite → IsSmall appended
             → IsOfQueue Rewrite rewrite → IsOfQueue Append appended → HasRead self.old rewrite
             → HasRead append appended → IfErr result (λ e. e ≡ Error.Memory) }
         ensures err { OnErr result (self.new.stage ≡ refused_stage self.old.stage) }
         ensures unchanged { self.old.stage ≢ Reading → self.new ≡ self.old }
-        ensures failed { (self.old.stage ≢ Reading) ⊎ (append.stage ≢ Reading) →
-            IfErr result (λ e. e ≡ Error.Failed) }
+        ensures failed { (self.old.stage ≢ Reading) ⊎ (append.stage ≢ Reading)
+            → IfErr result (λ e. e ≡ Error.Failed) }
     {
         if self.stage != ContextStage::Reading {
             return Err(Error::Failed);
@@ -194,7 +195,8 @@ impl MemTableRecoverContext {
             → Suits queue self.now.context.files → IsOneReading queue h tables cleaned
             → IfOk result (λ kept. IsAtMost (kept_shown kept) (kept_by queue h tables)) }
         ensures overlaid { (rewrite append : List Event) → IsOfBothExactly self.now rewrite append
-            → IfOk result (λ kept. (kept.marks ≡ 0) × (kept.deleted_keys ≡ 0) × (kept.waiting_items ≡ 0)) }
+            → IfOk result
+            (λ kept. (kept.marks ≡ 0) × (kept.deleted_keys ≡ 0) × (kept.waiting_items ≡ 0)) }
         ensures accepted { OnOk result (self.now.stage ≢ Failed) }
         ensures failed { self.now.stage ≡ Failed → IfErr result (λ e. e ≡ Error.Failed) }
         ensures fault { IfErr result (IsKeptFault self.now.stage) }
@@ -215,11 +217,12 @@ impl MemTableRecoverContext {
         ensures cleaned { IfOk result (λ accessor. accessor.cleaned ≡ self.context.cleaned) }
         ensures exact_counts { IfOk result (λ accessor. AreCountsOf accessor.tables
             accessor.counts) }
-        ensures reading { (queue : LogQueue) (h : List Event) → HasReadExactly self h →
-            Suits queue self.context.files
+        ensures reading { (queue : LogQueue) (h : List Event) → HasReadExactly self h
+            → Suits queue self.context.files
             → IfOk result (λ accessor. IsOneReading queue h accessor.tables accessor.cleaned) }
         ensures overlaid { (rewrite append : List Event) → IsOfBothExactly self rewrite append
-            → IfOk result (λ accessor. IsReadingOfBoth rewrite append accessor.tables accessor.cleaned) }
+            → IfOk result
+            (λ accessor. IsReadingOfBoth rewrite append accessor.tables accessor.cleaned) }
         ensures accepted { OnOk result (self.stage ≢ Failed) }
         ensures failed { IfErr result (λ e. (e ≡ Error.Failed) × (self.stage ≡ Failed)) }
     {

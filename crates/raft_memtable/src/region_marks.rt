@@ -96,8 +96,8 @@ impl RegionMarks {
     /// `AllocError`. The region marks are then as they were.
     pub fn add_run(&mut self, id: u64, queue: LogQueue, end: u64, start: u64) -> AllocResult<()>
         ensures ok { OnOk result (self.new
-            ≡ finite.insert self.old id
-            (joined_at queue end (mark_in self.old id) (record fresh { reach = Some start; cut = Some start }))) }
+            ≡ finite.insert self.old id (joined_at queue end (mark_in self.old id)
+            (record fresh { reach = Some start; cut = Some start }))) }
         ensures err { OnErr result (self.new ≡ self.old) }
     {
         self.update(id, move |mark: &mut Mark| {
@@ -114,7 +114,8 @@ impl RegionMarks {
     pub fn add_compaction(&mut self, id: u64, index: u64) -> AllocResult<()>
         ensures ok { (queue : LogQueue) (end : ℕ)
             → OnOk result (self.new
-            ≡ finite.insert self.old id (joined_at queue end (mark_in self.old id) (mark_of (Compact index)))) }
+            ≡ finite.insert self.old id
+            (joined_at queue end (mark_in self.old id) (mark_of (Compact index)))) }
         ensures err { OnErr result (self.new ≡ self.old) }
     {
         self.update(id, move |mark: &mut Mark| {
@@ -131,7 +132,8 @@ impl RegionMarks {
     pub fn add_truncation(&mut self, id: u64, index: u64) -> AllocResult<()>
         ensures ok { (queue : LogQueue) (end : ℕ)
             → OnOk result (self.new
-            ≡ finite.insert self.old id (joined_at queue end (mark_in self.old id) (mark_of (Truncate index)))) }
+            ≡ finite.insert self.old id
+            (joined_at queue end (mark_in self.old id) (mark_of (Truncate index)))) }
         ensures err { OnErr result (self.new ≡ self.old) }
     {
         self.update(id, move |mark: &mut Mark| {
@@ -148,7 +150,8 @@ impl RegionMarks {
     pub fn add_deleted(&mut self, id: u64, key: Vec<u8>) -> AllocResult<()>
         ensures ok { (queue : LogQueue) (end : ℕ)
             → OnOk result (self.new
-            ≡ finite.insert self.old id (joined_at queue end (mark_in self.old id) (mark_of (Del key.items)))) }
+            ≡ finite.insert self.old id
+            (joined_at queue end (mark_in self.old id) (mark_of (Del key.items)))) }
         ensures err { OnErr result (self.new ≡ self.old) }
     {
         self.update(
@@ -165,7 +168,8 @@ impl RegionMarks {
     pub fn add_clean(&mut self, id: u64) -> AllocResult<()>
         ensures ok { (queue : LogQueue) (end : ℕ)
             → OnOk result (self.new
-            ≡ finite.insert self.old id (joined_at queue end (mark_in self.old id) (mark_of Clean))) }
+            ≡ finite.insert self.old id
+            (joined_at queue end (mark_in self.old id) (mark_of Clean))) }
         ensures err { OnErr result (self.new ≡ self.old) }
     {
         self.update(id, |mark: &mut Mark| {
@@ -188,7 +192,8 @@ impl RegionMarks {
         newer: Mark,
     ) -> AllocResult<()>
         ensures ok { OnOk result (self.new
-            ≡ finite.insert self.old id (joined_at queue end_at_reach (mark_in self.old id) newer)) }
+            ≡ finite.insert self.old id
+            (joined_at queue end_at_reach (mark_in self.old id) newer)) }
     {
         self.update(id, move |mark: &mut Mark| {
             let mut newer = newer;

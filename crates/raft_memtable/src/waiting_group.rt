@@ -93,7 +93,10 @@ impl WaitingGroup {
         match status {
             AtomicGroupStatus::Begin => WaitingGroup {
                 front: GroupFront::Cut,
-                stretch: Some(OpenStretch { first_seq: seq, items }),
+                stretch: Some(OpenStretch {
+                    first_seq: seq,
+                    items,
+                }),
             },
             AtomicGroupStatus::Middle => WaitingGroup {
                 front: GroupFront::Open(items),

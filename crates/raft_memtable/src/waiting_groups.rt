@@ -85,7 +85,8 @@ impl WaitingGroups {
         seq: FileSeq,
     ) -> AllocResult<Option<WholeGroup>>
         ensures known { OnOk result (self.new
-            ≡ finite.insert self.old id (joined_group (known self.old id) (one_marker status items seq))) }
+            ≡ finite.insert self.old id
+            (joined_group (known self.old id) (one_marker status items seq))) }
         ensures whole { IfOk result (λ w. option_map whole_shown w
             ≡ whole_group (known self.old id) (one_marker status items seq)) }
         ensures stands { (h : List BatchSteps) → self.old ≡ groups_in h
@@ -109,8 +110,8 @@ impl WaitingGroups {
         ensures wholes { IfOk result (λ w. map whole_shown w.items ≡ whole_groups self.old newer) }
         ensures stands { (h k : List BatchSteps) → self.old ≡ groups_in h → newer ≡ groups_in k
             → OnOk result (self.new ≡ groups_in (h ++ k)) }
-        ensures steps { (h k : List BatchSteps) (r : ℕ) → self.old ≡ groups_in h →
-            newer ≡ groups_in k → EachApart (effects (h ++ k))
+        ensures steps { (h k : List BatchSteps) (r : ℕ) → self.old ≡ groups_in h
+            → newer ≡ groups_in k → EachApart (effects (h ++ k))
             → IfOk result (λ w. steps_of r (h ++ k)
             ≡ steps_of r h ++ (steps_of_wholes r (map whole_shown w.items) ++ steps_of r k)) }
     {

@@ -76,8 +76,8 @@ impl WaitingItems {
     ///
     /// Where there is no memory for them.
     pub fn regions(&self) -> AllocResult<Vec<u64>>
-        ensures { IfOk result (λ ids. (r : ℕ) →
-            list_any (λ id. eqb r id) ids.items ≡ names r self.now) }
+        ensures { IfOk result
+            (λ ids. (r : ℕ) → list_any (λ id. eqb r id) ids.items ≡ names r self.now) }
     {
         let mut ids: Vec<u64> = Vec::new(*self.items.allocator());
         for item in &self.items {

@@ -19,10 +19,12 @@ use Rattle.raft_codec.proofs.FixedLemmas.{IsReadAgain-little_bytes}
 use Rattle.raft_codec.proofs.SequenceLemmas.{reads_more, stuck, sequence_one_front, fault_after}
 use Rattle.raft_base.specs.declared.compression_type.CompressionType.{CompressionType}
 use Rattle.raft_base.specs.declared.entry_index.EntryIndex.{EntryIndex}
+use Rattle.raft_base.specs.Runs.{IsConsecutive}
+use Rattle.raft_base.proofs.ConsecutiveLemmas.{IsConsecutiveFrom, from_start, consecutive_from}
 use Rattle.raft_records.specs.declared.key_value.OpType.{OpType}
 use Rattle.raft_records.specs.declared.key_value.OpType.TheVariants.{Put, Del}
 use Rattle.raft_records.specs.Item.{Item, Content, entries, command, pair, IsInBytes}
-use Rattle.raft_records.specs.Entries.{IsConsecutiveFrom, IsConsecutive, Tile}
+use Rattle.raft_records.specs.Entries.{Tile}
 use Rattle.raft_records.specs.Grammar.{tail_of, IsTail, AreIndexAndTails, IsPairOf, IsContent, IsItem, end_behind}
 use Rattle.raft_records.proofs.Names.{behind_entry, behind_item, placed_entry}
 use Rattle.raft_records.specs.Spelling.{IsWritableWith, tails_bytes, entries_bytes, item_bytes}
@@ -65,8 +67,7 @@ fits_placed block c s (entries es) h = (consecutive_placed es h.0, tile_placed s
     from_placed i (e ∷ es) h = (h.0, h.1, from_placed (i + 1) es h.2)
 
     consecutive_placed : (es : List EntryIndex) → IsConsecutive es → IsConsecutive (map (placed_entry block c) es)
-    consecutive_placed [] h = tt
-    consecutive_placed (e ∷ es) h = (h.0, h.1, from_placed (e.index + 1) es h.2)
+    consecutive_placed es h = consecutive_from h.run.start (map (placed_entry block c) es) (from_placed h.run.start es (from_start es h))
 
     tile_placed : (s : ℕ) (es : List EntryIndex) → Tile s es → Tile s (map (placed_entry block c) es)
     tile_placed s [] h = tt
@@ -100,8 +101,10 @@ tails_fit next bytes (e ∷ es) q =
     ((index, omega arith, rest.0), (begins, omega arith, subst (λ (o : ℕ). Tile (o + e.entry_len) es) begins rest.1))
 
 run_fits : (s n : ℕ) (bytes : List ℕ) (es : List EntryIndex) → AreIndexAndTails s n bytes es → IsConsecutive es × Tile s es
-run_fits s n bytes [] r = (tt, tt)
-run_fits s n bytes (e ∷ es) r = tails_fit (e.index, s) r.second (e ∷ es) r.second_spells.tails
+run_fits s n bytes [] r = (consecutive_from 0 [] tt, tt)
+run_fits s n bytes (e ∷ es) r =
+    let fit = tails_fit (e.index, s) r.second (e ∷ es) r.second_spells.tails in
+    (consecutive_from e.index (e ∷ es) fit.0, fit.1)
 
 writable_of : (o : OpType) (v : Option (List ℕ)) (f : Option FileId) (key bytes : List ℕ) → IsPairOf o v f key bytes → IsWritableWith o v
 writable_of Put (Some v) None key bytes p = tt

@@ -1,8 +1,12 @@
 -- On entries with their bytes.
-use Rattle.std.proofs.Common.{◌≡◌, ◌≢◌, ℕ, zero, suc, ◌+◌, ◌-◌, ◌^◌, ◌<◌, ◌≤◌, List, [], ◌∷◌, ◌++◌, map, length, take, drop, get_or, set, Result, Ok, Err, OnErr, refl, sym, ap, ◌∙◌, subst, append_assoc, add-one, arith}
+use Rattle.std.proofs.Common.{◌≡◌, ◌≢◌, true, ℕ, zero, suc, ◌+◌, ◌-◌, ◌^◌, ◌<◌, ◌≤◌, List, [], ◌∷◌, ◌++◌, map, length, take, drop, get_or, set, Result, Ok, Err, OnErr, refl, sym, ap, ◌∙◌, subst, append_assoc, add-one, arith}
+use Rattle.std.specs.Prelude.{nat_eq}
 use Rattle.std.specs.List.{concat}
+use Rattle.std.proofs.lemmas.Bool.{eqb-true}
 use Rattle.std.proofs.lemmas.List.{length-append, length-drop, length-map, length-set, drop_more, drop-append-le, append-nil}
 use Rattle.raft_base.specs.declared.entry_index.EntryIndex.{EntryIndex}
+use Rattle.raft_base.specs.Runs.{IsConsecutive}
+use Rattle.raft_base.proofs.ConsecutiveLemmas.{IsConsecutiveFrom, from_start, consecutive_from}
 use Rattle.raft_records.specs.Item.{Item, entries_item}
 use Rattle.raft_records.specs.ItemBatch.{entry_bytes_of, entry_lengths, laid}
 use Rattle.raft_records.specs.LogBatch.{Stage, Batch, populating, with_entries_added}
@@ -11,15 +15,8 @@ use Rattle.raft_records.proofs.BatchLemmas.{end_push}
 use Rattle.raft_records.proofs.LayLemmas.{end_of_laid}
 use Rattle.raft_records.proofs.BufferLemmas.{open_entries, held_open, cut_to}
 use Rattle.raft_records.proofs.StageLemmas.{batch_with, open_held, entries_are, reheld}
-use Rattle.raft_records.specs.Entries.{entry_with_index, with_lengths, IsConsecutiveFrom, IsConsecutive}
+use Rattle.raft_records.specs.Entries.{entry_with_index, with_lengths}
 use Rattle.raft_records.specs.Spelling.{Keeps}
-
--- the first i of these messages are written behind the bytes that were there
-pub record IsWriting {X : Type 0} (bytes_of : X → List ℕ) (index_of : X → ℕ) (xs : List X) (i : ℕ) (start buf : List ℕ) (done : List EntryIndex) : Type 0 where
-  pub keeps : Keeps start buf
-  pub bytes : buf ++ concat (map bytes_of (drop i xs)) ≡ start ++ concat (map bytes_of xs)
-  pub lengths : done ++ with_lengths (map (λ x. entry_with_index (index_of x)) (drop i xs)) (map bytes_of (drop i xs)) ≡ with_lengths (map (λ x. entry_with_index (index_of x)) xs) (map bytes_of xs)
-  pub small : 0 < i → length buf < 16 + 2 ^ 31
 
 pub keeps_more : (start buf more new : List ℕ) → Keeps start buf → new ≡ buf ++ more → Keeps start new
 keeps_more start buf more new k e =
@@ -30,25 +27,6 @@ keeps_all start = record { behind = []; split = sym (append-nil start) }
 
 next_is : {X : Type 0} (xs : List X) (i : ℕ) (x : X) → i < length xs → x ≡ get_or xs i x → drop i xs ≡ x ∷ drop (i + 1) xs
 next_is xs i x lt at = drop_more xs i x lt ∙ ap (λ y. y ∷ drop (i + 1) xs) (sym at)
-
-pub written_past : {X : Type 0} (bytes_of : X → List ℕ) (index_of : X → ℕ) (xs : List X) (i : ℕ) (start buf new : List ℕ) (done : List EntryIndex) (x : X) → IsWriting bytes_of index_of xs i start buf done → i < length xs → x ≡ get_or xs i x → new ≡ buf ++ bytes_of x → 16 ≤ length start → 16 + 2 ^ 31 ≤ length new → 2 ^ 31 ≤ length start - 16 + length (concat (map bytes_of xs))
-written_past bytes_of index_of xs i start buf new done x w lt at e room past =
-    let next = next_is xs i x lt at in
-    let rest = concat (map bytes_of (drop (i + 1) xs)) in
-    let whole = ap (λ ys. length (buf ++ concat (map bytes_of ys))) (sym next) ∙ ap length w.bytes in
-    omega (arith, room, past, ap length e, whole, length-append buf (bytes_of x), length-append buf (bytes_of x ++ rest), length-append (bytes_of x) rest, length-append start (concat (map bytes_of xs)))
-
-pub written_more : {X : Type 0} (bytes_of : X → List ℕ) (index_of : X → ℕ) (xs : List X) (i : ℕ) (start buf new : List ℕ) (done more : List EntryIndex) (x : X) → IsWriting bytes_of index_of xs i start buf done → i < length xs → x ≡ get_or xs i x → new ≡ buf ++ bytes_of x → length new < 16 + 2 ^ 31 → more ≡ done ++ record (entry_with_index (index_of x)) { entry_len = length (bytes_of x) } ∷ [] → IsWriting bytes_of index_of xs (i + 1) start new more
-written_more bytes_of index_of xs i start buf new done more x w lt at e fits pushed =
-    let next = sym (next_is xs i x lt at) in
-    let rest = drop (i + 1) xs in
-    let entry = record (entry_with_index (index_of x)) { entry_len = length (bytes_of x) } in
-    let behind = with_lengths (map (λ y. entry_with_index (index_of y)) rest) (map bytes_of rest) in record {
-      keeps = keeps_more start buf (bytes_of x) new w.keeps e;
-      bytes = ap (λ (t : List ℕ). t ++ concat (map bytes_of rest)) e ∙ append_assoc buf (bytes_of x) (concat (map bytes_of rest)) ∙ ap (λ ys. buf ++ concat (map bytes_of ys)) next ∙ w.bytes;
-      lengths = ap (λ (t : List EntryIndex). t ++ behind) pushed ∙ append_assoc done (entry ∷ []) behind ∙ ap (λ ys. done ++ with_lengths (map (λ y. entry_with_index (index_of y)) ys) (map bytes_of ys)) next ∙ w.lengths;
-      small = λ _. fits;
-    }
 
 -- ---- lengths
 
@@ -65,9 +43,11 @@ lengths_from index (x ∷ xs) [] h = tt
 lengths_from index (x ∷ xs) (s ∷ ss) h = (h.0, h.1, lengths_from (index + 1) xs ss h.2)
 
 pub lengths_consecutive : (es : List EntryIndex) (strings : List (List ℕ)) → IsConsecutive es → IsConsecutive (with_lengths es strings)
-lengths_consecutive [] strings h = tt
-lengths_consecutive (x ∷ xs) [] h = tt
-lengths_consecutive (x ∷ xs) (s ∷ ss) h = lengths_from x.index (x ∷ xs) (s ∷ ss) h
+lengths_consecutive es strings h = consecutive_from h.run.start (with_lengths es strings) (lengths_from h.run.start es strings (from_start es h))
+
+pub none_consecutive : {X : Type 0} (index_of : X → ℕ) (xs : List X) → nat_eq (length xs) 0 ≡ true → IsConsecutive (map (λ x. entry_with_index (index_of x)) xs)
+none_consecutive index_of [] none = consecutive_from 0 [] tt
+none_consecutive index_of (x ∷ xs) none = let len : length (x ∷ xs) ≡ 0 = eqb-true (length (x ∷ xs)) 0 none in absurd (omega arith)
 
 -- ---- the batch with these entries
 

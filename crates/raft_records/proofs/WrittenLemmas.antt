@@ -6,12 +6,14 @@ use Rattle.raft_codec.specs.Reading.{IsFollowedBy, IsSequence}
 use Rattle.raft_codec.specs.Varint.{IsVarint, varint}
 use Rattle.raft_codec.proofs.VarintLemmas.{varint_spells}
 use Rattle.raft_base.specs.declared.entry_index.EntryIndex.{EntryIndex}
+use Rattle.raft_base.specs.Runs.{IsConsecutive}
+use Rattle.raft_base.proofs.ConsecutiveLemmas.{IsConsecutiveFrom, from_first}
 use Rattle.raft_records.specs.declared.command.Command.{Command}
 use Rattle.raft_records.specs.declared.command.Command.TheVariants.{Clean, Compact, Truncate}
 use Rattle.raft_records.specs.declared.key_value.OpType.{OpType}
 use Rattle.raft_records.specs.declared.key_value.OpType.TheVariants.{Put, Del}
 use Rattle.raft_records.specs.Item.{Item, Content, entries, command, pair, bare_entry, bare_content, bare, written_value}
-use Rattle.raft_records.specs.Entries.{IsConsecutiveFrom, IsConsecutive, Tile}
+use Rattle.raft_records.specs.Entries.{Tile}
 use Rattle.raft_records.specs.Grammar.{op_type_byte, IsCommand, IsByteString, IsPairOf, tail_of, IsTail, AreIndexAndTails, IsEntries, IsContent, IsItem, end_behind}
 use Rattle.raft_records.proofs.Names.{behind_entry, behind_item}
 use Rattle.raft_records.specs.Spelling.{command_bytes, byte_string, value_bytes, pair_bytes, tails_bytes, run_bytes, entries_bytes, content_bytes, item_bytes, IsWritableWith}
@@ -52,12 +54,13 @@ tails_spelled i s (e ∷ es) h t =
 run_spelled : (s : ℕ) (es : List EntryIndex) → IsConsecutive es → Tile s es → AreIndexAndTails s (length es) (run_bytes es) (map bare_entry es)
 run_spelled s [] h t = (refl, refl)
 run_spelled s (e ∷ es) h t =
-    let index_fits : e.index < 2 ^ 64 - 1 = h.1 in
+    let rising = from_first e es h in
+    let index_fits : e.index < 2 ^ 64 - 1 = rising.1 in
     record {
       first = varint e.index;
       second = tails_bytes (e ∷ es);
       first_spells = varint_spells e.index (omega arith);
-      second_spells = record { tails = tails_spelled e.index s (e ∷ es) h t; count = length-map (e ∷ es) bare_entry };
+      second_spells = record { tails = tails_spelled e.index s (e ∷ es) rising t; count = length-map (e ∷ es) bare_entry };
       split = refl;
     }
 

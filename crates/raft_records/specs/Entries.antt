@@ -1,7 +1,8 @@
 -- Lists of entries of one region.
-use Rattle.std.specs.Prelude.{◌≡◌, ℕ, ◌+◌, ◌-◌, ◌^◌, ◌<◌, List, [], ◌∷◌, length}
+use Rattle.std.specs.Prelude.{◌≡◌, ℕ, ◌+◌, ◌^◌, ◌<◌, List, [], ◌∷◌, length}
 use Rattle.raft_base.specs.declared.entry_index.EntryIndex.{EntryIndex}
 use Rattle.raft_base.specs.NoEntry.{no_entry}
+use Rattle.raft_base.specs.Runs.{IsConsecutive}
 
 -- this index, without bytes and without a place
 abbrev pub entry_with_index : ℕ → EntryIndex
@@ -12,16 +13,6 @@ abbrev pub with_lengths : List EntryIndex → List (List ℕ) → List EntryInde
 with_lengths [] strings = []
 with_lengths (e ∷ es) [] = []
 with_lengths (e ∷ es) (bytes ∷ strings) = record e { entry_len = length bytes } ∷ with_lengths es strings
-
--- the indexes rise by one from this one on, and none is 2^64 - 1
-abbrev pub IsConsecutiveFrom : ℕ → List EntryIndex → Type 0
-IsConsecutiveFrom index [] = Unit {0}
-IsConsecutiveFrom index (e ∷ es) = (e.index ≡ index) × (index < 2 ^ 64 - 1) × IsConsecutiveFrom (index + 1) es
-
--- the indexes rise by one and none is 2^64 - 1
-abbrev pub IsConsecutive : List EntryIndex → Type 0
-IsConsecutive [] = Unit {0}
-IsConsecutive (e ∷ es) = IsConsecutiveFrom e.index (e ∷ es)
 
 -- each entry's bytes begin where those before it end, here at s, and end below 2^32
 abbrev pub Tile : ℕ → List EntryIndex → Type 0

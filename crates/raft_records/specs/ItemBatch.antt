@@ -11,8 +11,9 @@ use Rattle.raft_codec.specs.Varint.{IsVarint, varint}
 use Rattle.raft_base.specs.declared.compression_type.CompressionType.{CompressionType}
 use Rattle.raft_base.specs.declared.entry_index.EntryIndex.{EntryIndex}
 use Rattle.raft_base.specs.Corruption.{IsCorruption}
+use Rattle.raft_base.specs.Runs.{IsConsecutive}
 use Rattle.raft_records.specs.Item.{Item, Content, entries, command, pair, AreInBytes}
-use Rattle.raft_records.specs.Entries.{IsConsecutive, Tile}
+use Rattle.raft_records.specs.Entries.{Tile}
 use Rattle.raft_records.specs.Grammar.{IsItem, end_of_content}
 use Rattle.raft_records.specs.Spelling.{item_bytes, IsWritablePair}
 use Rattle.raft_records.specs.Range.{AreInRange}

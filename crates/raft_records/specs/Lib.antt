@@ -29,6 +29,7 @@ pub use Rattle.raft_base.specs.NoEntry
 pub use Rattle.raft_base.specs.NumberHash
 pub use Rattle.raft_base.specs.QueueFiles
 pub use Rattle.raft_base.specs.Rounding
+pub use Rattle.raft_base.specs.Runs
 pub use Rattle.raft_base.specs.Signature
 pub use Rattle.raft_base.specs.VersionNumber
 pub use Rattle.raft_base.specs.CodecErrors

@@ -9,7 +9,8 @@ use Rattle.raft_base.specs.declared.errors.Error.{Error}
 use Rattle.raft_base.specs.declared.errors.Error.TheVariants as errors
 use Rattle.raft_base.specs.declared.entry_index.EntryIndex.{EntryIndex}
 use Rattle.raft_base.specs.Compression.{compression_byte}
-use Rattle.raft_records.specs.Entries.{IsConsecutive, with_lengths}
+use Rattle.raft_base.specs.Runs.{IsConsecutive}
+use Rattle.raft_records.specs.Entries.{with_lengths}
 use Rattle.raft_records.specs.Faults.{IsMemoryOrMessage}
 use Rattle.raft_records.specs.Item.{Item, entries_item}
 use Rattle.raft_records.specs.Sizes.{batch_size, at_most_usize}

@@ -4,14 +4,17 @@ ghost use Rattle.std.specs.Prelude.{◌≡◌, ◌≢◌, ◌↔◌, ◌-◌, �
 ghost use Rattle.raft_codec.specs.Reading.{Reads, HasNoFront};
 ghost use Rattle.raft_records.specs.Grammar.{IsEntries, IsTail, AreTails, end_behind};
 ghost use Rattle.raft_records.specs.Faults.{IsEntriesFault, IsTailFault, IsTailsFault, IsEntriesRefusal};
-ghost use Rattle.raft_records.specs.Entries.{IsConsecutive, RunOn, AreWritable};
+ghost use Rattle.raft_records.specs.Entries.{RunOn, AreWritable};
 ghost use Rattle.raft_codec.specs.Varint.{varint};
 ghost use Rattle.raft_records.specs.ItemBatch.{raised_entry, CanRaise};
 ghost use Rattle.raft_records.specs.Placement.{entry_between, file_in, entry_in};
 ghost use Rattle.raft_records.specs.Sizes.{entries_size, at_most_usize};
 ghost use Rattle.raft_records.specs.Spelling.{Keeps, tails_bytes, entries_bytes};
 
-use raft_base::{AllocResult, CompressionType, EntryIndex, Error, FileBlockHandle, FileId, Result};
+use raft_base::{
+    AllocResult, CompressionType, EntryIndex, Error, FileBlockHandle, FileId, Result,
+    is_consecutive,
+};
 use raft_codec::codec;
 use raft_codec::codec::BytesSlice;
 use std::alloc::Global;
@@ -40,23 +43,6 @@ impl Placement {
             None => None,
         }
     }
-}
-
-/// Whether the indexes rise by one from entry to entry and none is 2^64 - 1. It takes no memory.
-pub fn is_consecutive(entries: &[EntryIndex]) -> bool
-    ensures { IsTrue result ↔ IsConsecutive entries.now }
-{
-    let mut index = match entries.first() {
-        Some(first) => first.index,
-        None => return true,
-    };
-    for entry in entries {
-        if entry.index != index || index == u64::MAX {
-            return false;
-        }
-        index += 1;
-    }
-    true
 }
 
 /// Whether each entry's bytes begin where those of the one before it end, and end below 2^32.

@@ -7,6 +7,7 @@ ghost use Rattle.raft_base.specs.Signature.{signature_in};
 ghost use Rattle.raft_base.specs.declared.pipe_log.FileBlockHandle.{FileBlockHandle};
 ghost use Rattle.raft_base.specs.declared.compression_type.CompressionType.{CompressionType};
 ghost use Rattle.raft_base.specs.declared.entry_index.EntryIndex.{EntryIndex};
+ghost use Rattle.raft_base.specs.Runs.{IsConsecutive};
 ghost use Rattle.raft_base.specs.declared.compression_type.CompressionType.TheVariants as compressions;
 ghost use Rattle.raft_records.specs.declared.command.Command.{Command};
 ghost use Rattle.raft_records.specs.FilePart.{Part, IsNext};
@@ -17,7 +18,7 @@ ghost use Rattle.raft_records.specs.Header.{IsHeader, IsBlockOf};
 ghost use Rattle.raft_records.specs.Range.{AreInRange, IsContentInRange};
 ghost use Rattle.raft_records.specs.Parts.{IsFramed, HasParts, LogBatchIsSpelled};
 ghost use Rattle.raft_records.specs.Grammar.{IsCommand, IsEntries, IsItem, IsKeyValue};
-ghost use Rattle.raft_records.specs.Entries.{IsConsecutive, Tile};
+ghost use Rattle.raft_records.specs.Entries.{Tile};
 ghost use Rattle.raft_records.specs.Spelling.{IsWritablePair, command_bytes, entries_bytes, pair_bytes};
 ghost use Rattle.raft_records.specs.Written.{ItemIsSpelled, BatchIsSpelled};
 

@@ -16,7 +16,7 @@ pub mod print;
 
 pub use atomic_group::{ATOMIC_GROUP_KEY, AtomicGroupBuilder, AtomicGroupStatus, is_reserved};
 pub use command::Command;
-pub use entry_indexes::{EntryIndexes, is_consecutive};
+pub use entry_indexes::EntryIndexes;
 pub use file_part::{FilePart, next_batch};
 pub use key_value::{KeyValue, OpType};
 pub use log_batch::LogBatch;
@@ -27,6 +27,6 @@ pub use raft_base::{
     AllocResult, B, CompressionType, EntryIndex, Error, Factory, FileBlockHandle, FileId, FileSeq,
     GIB, KIB, LogFileContext, LogQueue, MIB, Message, MessageError, MessageExt, PIB, PipeLog,
     ReactiveBytes, ReadableSize, Result, SizeError, TIB, Version, codec, compression_type, crc32,
-    entry_index, errors, hash_u64, message, pipe_log, round_down, round_up, size_from_value,
-    unhash_u64, util,
+    entry_index, errors, hash_u64, is_consecutive, message, pipe_log, round_down, round_up,
+    size_from_value, unhash_u64, util,
 };

@@ -7,11 +7,12 @@ use Rattle.std.specs.List.{flat_map}
 use Rattle.std.specs.List.Sorted.{IsPermutation, IsNonDecreasingBy}
 use Rattle.raft_base.specs.declared.pipe_log.LogQueue.TheVariants.{Append, Rewrite}
 use Rattle.raft_base.specs.declared.entry_index.EntryIndex.{EntryIndex}
+use Rattle.raft_base.specs.Runs.{end_of}
 use Rattle.raft_records.specs.Lines.{AppendsFront}
 use Rattle.raft_history.specs.RegionSteps.{Tables}
 use Rattle.raft_accessor.specs.Accessor.{Accessor}
 use Rattle.raft_table.specs.Counts.{Counts, live}
-use Rattle.raft_table.specs.TableEntries.{start_of, end_of}
+use Rattle.raft_table.specs.TableEntries.{start_of}
 use Rattle.raft_table.specs.Least.{least_of}
 use Rattle.raft_table.specs.Table.{Table}
 

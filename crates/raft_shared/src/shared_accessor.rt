@@ -82,8 +82,8 @@ impl SharedAccessor {
     where
         F: Drop,
         requires { F.IsAlwaysCallable f }
-        ensures { IfSome result (λ x. (t : Table) × IsSlotTable (slot_of id) id t ×
-            FnOnceReturnsAt F.FnOnce f t x) }
+        ensures { IfSome result
+            (λ x. (t : Table) × IsSlotTable (slot_of id) id t × FnOnceReturnsAt F.FnOnce f t x) }
     {
         let number = slot_of(id);
         let slot = self.slots[number].read(rt);
@@ -193,8 +193,8 @@ impl SharedAccessor {
         record_tombstone: bool,
     ) -> Result<Option<MemTable>>
         ensures handed_back { IfOk result (λ t. IfSome t (IsSlotTable (slot_of id) id)) }
-        ensures fault { IfErr result (λ e. ((e ≡ Error.Memory) × IsTrue record_tombstone) ⊎
-            (e ≡ Error.Failed)) }
+        ensures fault { IfErr result
+            (λ e. ((e ≡ Error.Memory) × IsTrue record_tombstone) ⊎ (e ≡ Error.Failed)) }
     {
         let number = slot_of(id);
         let mut slot = self.slots[number].write(rt);
@@ -242,11 +242,11 @@ impl SharedAccessor {
     ) -> Result<()>
         requires { (it : I.IntoIter) → I.into_iter_gives items it
             → I.IntoIter.can_next it × IsFinite (I.IntoIter.remaining it) }
-        ensures ok { OnOk result ((it : I.IntoIter) × (xs : List LogItem) ×
-            I.into_iter_gives items it
-            × Drains I.IntoIter.next_gives it xs × AllByRecursion (MayBeWritten Appending) (map item_of xs)) }
-        ensures refused { IfErr result (λ e. (it : I.IntoIter) × (xs : List LogItem) ×
-            (u : I.IntoIter) × I.into_iter_gives items it × Yields I.IntoIter.next_gives it xs u
+        ensures ok { OnOk result ((it : I.IntoIter) × (xs : List LogItem)
+            × I.into_iter_gives items it × Drains I.IntoIter.next_gives it xs
+            × AllByRecursion (MayBeWritten Appending) (map item_of xs)) }
+        ensures refused { IfErr result (λ e. (it : I.IntoIter) × (xs : List LogItem)
+            × (u : I.IntoIter) × I.into_iter_gives items it × Yields I.IntoIter.next_gives it xs u
             × IsLastRefused Appending (map item_of xs) e) }
     {
         for item in items {
@@ -272,11 +272,11 @@ impl SharedAccessor {
     ) -> Result<()>
         requires { (it : I.IntoIter) → I.into_iter_gives items it
             → I.IntoIter.can_next it × IsFinite (I.IntoIter.remaining it) }
-        ensures ok { OnOk result ((it : I.IntoIter) × (xs : List LogItem) ×
-            I.into_iter_gives items it
-            × Drains I.IntoIter.next_gives it xs × AllByRecursion (MayBeWritten (Rewriting gate seq)) (map item_of xs)) }
-        ensures refused { IfErr result (λ e. (it : I.IntoIter) × (xs : List LogItem) ×
-            (u : I.IntoIter) × I.into_iter_gives items it × Yields I.IntoIter.next_gives it xs u
+        ensures ok { OnOk result ((it : I.IntoIter) × (xs : List LogItem)
+            × I.into_iter_gives items it × Drains I.IntoIter.next_gives it xs
+            × AllByRecursion (MayBeWritten (Rewriting gate seq)) (map item_of xs)) }
+        ensures refused { IfErr result (λ e. (it : I.IntoIter) × (xs : List LogItem)
+            × (u : I.IntoIter) × I.into_iter_gives items it × Yields I.IntoIter.next_gives it xs u
             × IsLastRefused (Rewriting gate seq) (map item_of xs) e) }
     {
         for item in items {
@@ -321,8 +321,8 @@ impl SharedAccessor {
     where
         F: Drop,
         requires { (state : F) (x : _) (t : _) → F.pre state x t }
-        ensures { (ts : List Table) × (last : F) ×
-            FoldsTo (Makes F.FnMut) (f, init) ts (last, result) }
+        ensures { (ts : List Table) × (last : F)
+            × FoldsTo (Makes F.FnMut) (f, init) ts (last, result) }
     {
         let mut answer = init;
         for slot in &self.slots {
@@ -430,8 +430,8 @@ where
     F: Drop,
     requires callable { F.IsAlwaysCallable f }
     requires slot { slot_of id ≡ slot.now.number }
-    ensures { IfSome result (λ x. (t : Table) × IsSlotTable (slot_of id) id t ×
-        FnOnceReturnsAt F.FnOnce f t x) }
+    ensures { IfSome result
+        (λ x. (t : Table) × IsSlotTable (slot_of id) id t × FnOnceReturnsAt F.FnOnce f t x) }
 {
     let table = slot.table(id)?;
     Some(f(table))

@@ -107,9 +107,10 @@ impl Slot {
         ids: &mut Vec<u64>,
     ) -> Result<()>
         requires { (state : F) (x : _) → F.pre state x }
-        ensures ok { OnOk result ((ts : List Table) ×
-            IsPermutation ts (finite.values self.now.content.tables)
-            × FoldsTo (KeepsId F.FnMut) (wanted.old, ids.old.items) ts (wanted.new, ids.new.items)) }
+        ensures ok { OnOk result ((ts : List Table)
+            × IsPermutation ts (finite.values self.now.content.tables)
+            × FoldsTo (KeepsId F.FnMut) (wanted.old, ids.old.items) ts
+            (wanted.new, ids.new.items)) }
         ensures memory { IfErr result (λ e. e ≡ Error.Memory) }
     {
         self.tables.push_ids(wanted, ids)
@@ -146,13 +147,13 @@ impl Slot {
     pub fn change(&mut self, id: u64, change: TableChange) -> Result<u64>
         requires { slot_of id ≡ self.old.number }
         ensures changed { IsTableChanged (after_change (table_in self.old.content.tables id) change)
-            (IsChangeFault
-            (table_in self.old.content.tables id) self.old.content.counts change) id result self.old.content self.new.content }
-        ensures answer { IfOk result
-            (IsAnswer change (table_in self.old.content.tables id) (table_in self.new.content.tables id)) }
+            (IsChangeFault (table_in self.old.content.tables id) self.old.content.counts change) id
+            result self.old.content self.new.content }
+        ensures answer { IfOk result (IsAnswer change (table_in self.old.content.tables id)
+            (table_in self.new.content.tables id)) }
         ensures allowed { OnOk result (IsAllowed change) }
-        ensures counts { OnOk result
-            (AreCountsAfter change (table_in self.old.content.tables id) self.old.content.counts self.new.content.counts) }
+        ensures counts { OnOk result (AreCountsAfter change (table_in self.old.content.tables id)
+            self.old.content.counts self.new.content.counts) }
         ensures number { self.new.number ≡ self.old.number }
     {
         self.tables.change(id, change, &mut self.stats)
@@ -213,12 +214,14 @@ impl Slot {
         ensures replaced { IfOk result (λ t. t ≡ finite.get self.old.content.tables id) }
         ensures own { IfOk result (λ t. IfSome t (IsSlotTable self.old.number id)) }
         ensures counts { OnOk result (self.new.content.counts
-            ≡ with_table_deleted (table_in self.old.content.tables id) (with_table_added table self.old.content.counts)) }
+            ≡ with_table_deleted (table_in self.old.content.tables id)
+            (with_table_added table self.old.content.counts)) }
         ensures err { OnErr result (self.new.content.tables ≡ self.old.content.tables) }
         ensures counts_err { OnErr result (self.new.content.counts ≡ self.old.content.counts) }
-        ensures fault { IfErr result (λ e. (e ≡ Error.Memory) ⊎
-            ((e ≡ Error.Full) × ((q : LogQueue) ×
-            (2 ^ 64 ≤ live_in_all q self.old.content.tables + live_of q table)))) }
+        ensures fault { IfErr result (λ e. (e ≡ Error.Memory)
+            ⊎ ((e ≡ Error.Full)
+            × ((q : LogQueue)
+            × (2 ^ 64 ≤ live_in_all q self.old.content.tables + live_of q table)))) }
         ensures cleaned { self.new.content.cleaned ≡ self.old.content.cleaned }
         ensures number { self.new.number ≡ self.old.number }
     {
@@ -240,7 +243,8 @@ impl Slot {
         ensures counts { OnOk result (self.new.content.counts
             ≡ with_table_deleted (table_in self.old.content.tables id) self.old.content.counts) }
         ensures cleaned { OnOk result (self.new.content.cleaned
-            ≡ (if record_tombstone then self.old.content.cleaned ++ id ∷ [] else self.old.content.cleaned)) }
+            ≡ (if record_tombstone then self.old.content.cleaned ++ id ∷ []
+            else self.old.content.cleaned)) }
         ensures err { OnErr result (self.new ≡ self.old) }
         ensures fault { IfErr result (λ e. (e ≡ Error.Memory) × IsTrue record_tombstone) }
         ensures number { self.new.number ≡ self.old.number }
@@ -284,8 +288,7 @@ impl Slot {
             self.new.content }
         ensures number { self.new.number ≡ self.old.number }
     {
-        self.tables
-            .rewrite_item(item, gate, seq, &mut self.stats)
+        self.tables.rewrite_item(item, gate, seq, &mut self.stats)
     }
 
     /// Moves the cleaned regions into an open batch as a `Clean` for each, in order. The list is then
@@ -314,8 +317,9 @@ impl Slot {
     /// Lists a region as cleaned.
     fn list(&mut self, id: u64) -> Result<()>
         requires { slot_of id ≡ self.old.number }
-        ensures ok { OnOk result (self.new
-            ≡ record self.old { content = record self.old.content { cleaned = self.old.content.cleaned ++ id ∷ [] } }) }
+        ensures ok { OnOk result (self.new ≡ record self.old {
+          content = record self.old.content { cleaned = self.old.content.cleaned ++ id ∷ [] };
+        }) }
         ensures err { OnErr result (self.new ≡ self.old) }
         ensures memory { IfErr result (λ e. e ≡ Error.Memory) }
     {

@@ -8,7 +8,7 @@ ghost use Rattle.raft_base.specs.Reading.{HasNoFront, Reads};
 ghost use Rattle.raft_base.specs.Signature.{signature_of};
 ghost use Rattle.raft_base.specs.SizeText.{IsSizeText};
 ghost use Rattle.raft_base.specs.Varint.{IsVarint};
-ghost use Rattle.raft_records.specs.Entries.{IsConsecutive};
+ghost use Rattle.raft_records.specs.Runs.{IsConsecutive};
 ghost use Rattle.raft_records.specs.Item.{item_of};
 ghost use Rattle.raft_records.specs.SizeText.{IsSizeText as IsTextOfSize};
 ghost use Rattle.raft_records.specs.Varint.{IsVarint as IsNumber};

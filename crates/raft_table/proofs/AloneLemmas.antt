@@ -9,7 +9,8 @@ use Rattle.std.proofs.lemmas.List.Elements.{All-append, All-take, All-drop, All-
 use Rattle.std.proofs.lemmas.List.Sums.{prefix_len-le-length}
 use Rattle.raft_base.specs.declared.pipe_log.FileId.{FileId}
 use Rattle.raft_base.specs.declared.entry_index.EntryIndex.{EntryIndex}
-use Rattle.raft_table.specs.TableEntries.{RisesFrom, AreTableEntries, start_of}
+use Rattle.raft_base.specs.Runs.{RisesFrom}
+use Rattle.raft_table.specs.TableEntries.{AreTableEntries, start_of}
 use Rattle.raft_table.specs.KeyValues.{Keys, Stored, value_at, file_at, with_moved, moved_to}
 use Rattle.raft_table.specs.Rewriting.{may_move, indexes_of, MovesPlacesAlone}
 use Rattle.raft_table.specs.Table.{MovesKeyAlone}

@@ -3,9 +3,9 @@ use Rattle.std.proofs.Common.{◌≡◌, ℕ, zero, suc, ◌+◌, ◌<◌, ◌�
 use Rattle.std.proofs.lemmas.List.{append_assoc, length-append}
 use Rattle.std.specs.List.Sorted.{IsNonDecreasingBy}
 use Rattle.raft_base.specs.declared.pipe_log.FileBlockHandle.{FileBlockHandle}
+use Rattle.raft_base.specs.Runs.{RisesFrom}
 use Rattle.raft_table.specs.Blocks.{BlockSpans, spread, entries_in_blocks}
 use Rattle.raft_table.specs.BlockWords.{count, starts_of}
-use Rattle.raft_table.specs.TableEntries.{RisesFrom}
 use Rattle.raft_table.proofs.RunLemmas.{RisesFrom-append}
 
 pub length-spread : (i : ℕ) (h : FileBlockHandle) (ss : List (ℕ × ℕ)) → length (spread i h ss) ≡ length ss

@@ -7,9 +7,10 @@ use Rattle.std.specs.List.Sorted.{IsNonDecreasingBy}
 use Rattle.raft_base.specs.declared.pipe_log.FileBlockHandle.{FileBlockHandle}
 use Rattle.raft_base.specs.declared.compression_type.CompressionType.TheVariants as compression
 use Rattle.raft_base.specs.declared.entry_index.EntryIndex.{EntryIndex}
+use Rattle.raft_base.specs.Runs.{RisesFrom}
 use Rattle.raft_table.specs.Blocks.{BlockSpans, spread, entries_in_blocks}
 use Rattle.raft_table.specs.BlockWords.{count, starts_of, IsIndexOf, IsAt}
-use Rattle.raft_table.specs.TableEntries.{RisesFrom, entry_at}
+use Rattle.raft_table.specs.TableEntries.{entry_at}
 use Rattle.raft_table.proofs.RunLemmas.{RisesFrom-take}
 use Rattle.raft_table.proofs.BlockLemmas.{length-spread, spread_take, spread_drop, length-expanded, length-starts, start_at, starts_rise, count_take_more, rises_expanded}
 

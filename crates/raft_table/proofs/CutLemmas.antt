@@ -5,7 +5,8 @@ use Rattle.std.proofs.lemmas.Bool.{cases_lt}
 use Rattle.std.proofs.lemmas.Bool.Decides.{nat_tests}
 use Rattle.raft_base.specs.declared.pipe_log.LogQueue.{LogQueue}
 use Rattle.raft_base.specs.declared.entry_index.EntryIndex.{EntryIndex}
-use Rattle.raft_table.specs.TableEntries.{RisesFrom, AreTableEntries, start_of, end_of, below, from, is_placed_in, placed_in, entry_count}
+use Rattle.raft_base.specs.Runs.{RisesFrom, end_of}
+use Rattle.raft_table.specs.TableEntries.{AreTableEntries, start_of, below, from, is_placed_in, placed_in, entry_count}
 use Rattle.std.specs.FinMap as finite
 use Rattle.raft_table.specs.KeyValues.{Keys, pair_count}
 use Rattle.raft_table.specs.Marks.{entries_within}

@@ -2,7 +2,8 @@
 use Rattle.std.proofs.Common.{◌≡◌, ℕ, zero, suc, ◌+◌, ◌<◌, ◌≤◌, true, false, eqb, List, [], ◌∷◌, length, get_or, Some, None, refl, ◌∙◌, arith}
 use Rattle.std.proofs.lemmas.Bool.Decides.{nat_tests}
 use Rattle.raft_base.specs.declared.entry_index.EntryIndex.{EntryIndex}
-use Rattle.raft_table.specs.TableEntries.{RisesFrom, entry_at}
+use Rattle.raft_base.specs.Runs.{RisesFrom}
+use Rattle.raft_table.specs.TableEntries.{entry_at}
 
 -- nothing stands below the start
 pub entry_at_low : (i s : ℕ) (es : List EntryIndex) → i < s → RisesFrom s es → entry_at i es ≡ None

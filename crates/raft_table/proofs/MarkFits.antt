@@ -7,8 +7,8 @@ use Rattle.std.proofs.lemmas.Bool.Decides.{nat_tests}
 use Rattle.raft_base.specs.declared.pipe_log.LogQueue.{LogQueue}
 use Rattle.raft_base.specs.declared.pipe_log.LogQueue.TheVariants.{Append, Rewrite}
 use Rattle.raft_base.specs.declared.entry_index.EntryIndex.{EntryIndex}
+use Rattle.raft_base.specs.Runs.{RisesFrom, IsRun, end_of}
 use Rattle.raft_table.specs.KeyValues.{lesser}
-use Rattle.raft_table.specs.TableEntries.{RisesFrom, IsRun, end_of}
 use Rattle.raft_table.specs.Marks.{Mark, entries_within, misses, is_barred, entries_over}
 use Rattle.raft_table.specs.MarkFits.{IsNotAbove, IsBelow, LiesWithin, BarsStaying, IsBarring, FitsRun, FitsCut, BarsIn, Fits}
 use Rattle.raft_table.specs.MarkJoins.{at_most_bound, narrowed_bars, is_detached, joined_first, joined_uncleaned, joined_at}

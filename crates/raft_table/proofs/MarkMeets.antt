@@ -3,8 +3,8 @@ use Rattle.std.proofs.Common.{◌≡◌, ◌⊎◌, ℕ, ◌≤◌, max, min, Bo
 use Rattle.std.specs.Option.{option_or}
 use Rattle.std.proofs.lemmas.Bool.Decides.{nat_tests}
 use Rattle.raft_base.specs.declared.entry_index.EntryIndex.{EntryIndex}
+use Rattle.raft_base.specs.Runs.{RisesFrom, end_of}
 use Rattle.raft_table.specs.KeyValues.{lesser}
-use Rattle.raft_table.specs.TableEntries.{RisesFrom, end_of}
 use Rattle.raft_table.specs.Marks.{entries_within, misses, is_barred}
 use Rattle.raft_table.specs.MarkFits.{LiesWithin, BarsStaying, FitsRun}
 use Rattle.raft_table.specs.MarkJoins.{at_most_bound, narrowed_bars, is_detached}

@@ -12,7 +12,8 @@ use Rattle.std.proofs.lemmas.List.{append-nil}
 use Rattle.raft_base.specs.declared.pipe_log.LogQueue.{LogQueue}
 use Rattle.raft_base.specs.declared.pipe_log.LogQueue.TheVariants.{Append, Rewrite}
 use Rattle.raft_base.specs.declared.entry_index.EntryIndex.{EntryIndex}
-use Rattle.raft_table.specs.TableEntries.{IsRun, end_of, below, from}
+use Rattle.raft_base.specs.Runs.{IsRun, end_of}
+use Rattle.raft_table.specs.TableEntries.{below, from}
 use Rattle.raft_table.specs.KeySets.{KeySet, without}
 use Rattle.raft_table.specs.KeyValues.{Keys, Stored, pairs_over}
 use Rattle.raft_table.specs.Merge.{newer_atomic_group}

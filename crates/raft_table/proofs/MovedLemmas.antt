@@ -5,7 +5,8 @@ use Rattle.std.proofs.lemmas.Bool.Decides.{nat_tests}
 use Rattle.std.proofs.lemmas.List.{length-take, length-drop}
 use Rattle.raft_base.specs.declared.pipe_log.LogQueue.TheVariants.{Rewrite}
 use Rattle.raft_base.specs.declared.entry_index.EntryIndex.{EntryIndex}
-use Rattle.raft_table.specs.TableEntries.{RisesFrom, IsRunIn, AreTableEntries, start_of, end_of, below, from, entry_at}
+use Rattle.raft_base.specs.Runs.{RisesFrom, end_of}
+use Rattle.raft_table.specs.TableEntries.{IsRunIn, AreTableEntries, start_of, below, from, entry_at}
 use Rattle.raft_table.specs.Rewriting.{overlap, moved_count, with_places, rewritten_from, entries_after_rewrite}
 use Rattle.raft_table.proofs.RunLemmas.{below_take, RisesFrom-take, RisesFrom-drop}
 use Rattle.raft_table.proofs.SoundLemmas.{sound_rising}

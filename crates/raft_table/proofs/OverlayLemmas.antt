@@ -6,7 +6,8 @@ use Rattle.std.proofs.lemmas.List.{append-nil}
 use Rattle.std.proofs.lemmas.Bool.Decides.{nat_tests}
 use Rattle.raft_base.specs.declared.pipe_log.LogQueue.TheVariants.{Append, Rewrite}
 use Rattle.raft_base.specs.declared.entry_index.EntryIndex.{EntryIndex}
-use Rattle.raft_table.specs.TableEntries.{RisesFrom, IsRun, end_of, below, from}
+use Rattle.raft_base.specs.Runs.{RisesFrom, IsRun, end_of}
+use Rattle.raft_table.specs.TableEntries.{below, from}
 use Rattle.raft_table.specs.KeySets.{without}
 use Rattle.raft_table.specs.KeyValues.{pairs_over}
 use Rattle.raft_table.specs.MarkMerge.{left_by}

@@ -3,7 +3,7 @@ use Rattle.std.proofs.Common.{◌≡◌, ◌⊎◌, ℕ, suc, ◌<◌, max, min,
 use Rattle.std.specs.Prelude.{filter}
 use Rattle.std.proofs.lemmas.Bool.Decides.{nat_tests}
 use Rattle.raft_base.specs.declared.entry_index.EntryIndex.{EntryIndex}
-use Rattle.raft_table.specs.TableEntries.{RisesFrom, end_of}
+use Rattle.raft_base.specs.Runs.{RisesFrom, end_of}
 use Rattle.raft_table.specs.Marks.{entries_within, is_under}
 use Rattle.raft_table.proofs.MarkWords.{end_of-cond}
 

@@ -6,7 +6,8 @@ use Rattle.std.proofs.lemmas.Bool.{lt-ltb}
 use Rattle.std.proofs.lemmas.Bool.Decides.{nat_tests}
 use Rattle.raft_base.specs.declared.pipe_log.LogQueue.{LogQueue}
 use Rattle.raft_base.specs.declared.entry_index.EntryIndex.{EntryIndex}
-use Rattle.raft_table.specs.TableEntries.{RisesFrom, IsRun, start_of, end_of, below, from, placed_in, is_placed_in}
+use Rattle.raft_base.specs.Runs.{RisesFrom, IsRun, end_of}
+use Rattle.raft_table.specs.TableEntries.{start_of, below, from, placed_in, is_placed_in}
 use Rattle.raft_table.specs.Marks.{misses}
 use Rattle.raft_table.specs.Start.{leaves_hole}
 

@@ -6,7 +6,8 @@ use Rattle.std.proofs.lemmas.Bool.Decides.{nat_tests}
 use Rattle.std.proofs.lemmas.List.{length-append, length-take-le, length-drop, take_all}
 use Rattle.raft_base.specs.declared.pipe_log.LogQueue.TheVariants.{Append, Rewrite}
 use Rattle.raft_base.specs.declared.entry_index.EntryIndex.{EntryIndex}
-use Rattle.raft_table.specs.TableEntries.{RisesFrom, AreTableEntries, start_of, end_of, below, entries_between, placed_in, entry_count, entry_at}
+use Rattle.raft_base.specs.Runs.{RisesFrom, end_of}
+use Rattle.raft_table.specs.TableEntries.{AreTableEntries, start_of, below, entries_between, placed_in, entry_count, entry_at}
 use Rattle.raft_table.specs.Fetches.{Empty, NotFound, Compacted, Found, range_answer, total_len, is_too_many, IsLimitCount, FetchesWithin}
 use Rattle.raft_table.specs.Table.{Table, live_of}
 use Rattle.raft_table.proofs.FetchLemmas.{between_is}

@@ -5,7 +5,8 @@ use Rattle.std.proofs.lemmas.Bool.Decides.{nat_tests}
 use Rattle.raft_base.specs.declared.pipe_log.LogQueue.{LogQueue}
 use Rattle.raft_base.specs.declared.pipe_log.LogQueue.TheVariants.{Append, Rewrite}
 use Rattle.raft_base.specs.declared.entry_index.EntryIndex.{EntryIndex}
-use Rattle.raft_table.specs.TableEntries.{IsRun, IsRunIn, start_of, end_of, below, from, entry_at, StandsBehind}
+use Rattle.raft_base.specs.Runs.{IsRun, end_of}
+use Rattle.raft_table.specs.TableEntries.{IsRunIn, start_of, below, from, entry_at, StandsBehind}
 use Rattle.raft_table.specs.Start.{leaves_hole, entries_after_append, entries_after_replay}
 use Rattle.raft_table.proofs.RunLemmas.{RisesFrom-start}
 use Rattle.raft_table.proofs.LookupLemmas.{entry_at_low}
@@ -64,7 +65,7 @@ run_stands es run r = λ i. at i (ltb i (start_of run)) refl
     at i false e = entry_with_index-append i (below (start_of run) es) run ∙ rw (entry_with_index-below i (start_of run) es, e) refl
 
 pub behind_stands : (q : LogQueue) (es run : List EntryIndex) → IsRunIn q run → StandsBehind es run (below (start_of run) es ++ run)
-behind_stands q es run r = run_stands es run r.run
+behind_stands q es run r = run_stands es run r.consecutive.run
 
 pub accepted : {X : Type 0} (b : Bool) (x after : X) → cond b None (Some x) ≡ Some after → (b ≡ false) × (x ≡ after)
 accepted true x after e = absurd cc

@@ -5,8 +5,9 @@ use Rattle.std.proofs.lemmas.Bool.Decides.{nat_tests}
 use Rattle.raft_base.specs.declared.pipe_log.LogQueue.{LogQueue}
 use Rattle.raft_base.specs.declared.pipe_log.LogQueue.TheVariants.{Append, Rewrite}
 use Rattle.raft_base.specs.declared.entry_index.EntryIndex.{EntryIndex}
+use Rattle.raft_base.specs.Runs.{RisesFrom, end_of}
 use Rattle.raft_table.specs.declared.memtable.entries.Start.TheVariants.{Joins, InFront, BehindHole}
-use Rattle.raft_table.specs.TableEntries.{RisesFrom, IsRunIn, AreTableEntries, RewrittenInFront, start_of, end_of, below, placed_in, entry_count}
+use Rattle.raft_table.specs.TableEntries.{IsRunIn, AreTableEntries, RewrittenInFront, start_of, below, placed_in, entry_count}
 use Rattle.raft_table.specs.Marks.{misses}
 use Rattle.raft_table.specs.Start.{starts_in_front}
 use Rattle.raft_table.specs.StartOf.{IsStart}
@@ -58,14 +59,12 @@ in_front_rewritten a run h n k =
 -- a run in front of nothing is a table's entries by itself
 pub sound_run : (q : LogQueue) (run : List EntryIndex) → IsRunIn q run → AreTableEntries run
 sound_run Append run r = record {
-  run = r.run;
+  consecutive = r.consecutive;
   in_front = sym (rw (ap (placed_in Rewrite) (sym (each_placed Append run r.placed)) ∙ placed_in_other Append Rewrite refl run) (each_placed Append run r.placed));
-  bounded = r.bounded;
 }
 sound_run Rewrite run r = record {
-  run = r.run;
+  consecutive = r.consecutive;
   in_front = sym (rw (ap (placed_in Append) (sym (each_placed Rewrite run r.placed)) ∙ placed_in_other Rewrite Append refl run, each_placed Rewrite run r.placed) (append-nil run));
-  bounded = r.bounded;
 }
 
 -- no appended entries among those that a run of the rewrite queue joins
@@ -96,31 +95,31 @@ sound_joined q (suc n) es run h m r l s =
     let k = suc n in
     let p : start_of run ≡ start_of es + k = start_place (start_of run) k es h (omega arith) s in
     let t : length (take k es) ≡ k = length-take-le k es s.1 in
-    let rr : RisesFrom (start_of run) run = RisesFrom-start r.run.start run r.run.rising in
+    let rr : RisesFrom (start_of run) run = RisesFrom-start r.consecutive.run.start run r.consecutive.run.rising in
     let top = end_of-take k es in
     let both = end_of-append (take k es) run in
-    let a = h.bounded in
-    let b = r.bounded in
+    let a = h.consecutive.bounded in
+    let b = r.consecutive.bounded in
     record {
-      run = record {
-        start = start_of es;
-        rising = RisesFrom-append (start_of es) (take k es) run (RisesFrom-take k (start_of es) es (sound_rising es h)) (rw (t, ← p) rr);
+      consecutive = record {
+        run = record {
+          start = start_of es;
+          rising = RisesFrom-append (start_of es) (take k es) run (RisesFrom-take k (start_of es) es (sound_rising es h)) (rw (t, ← p) rr);
+        };
+        bounded = omega arith;
       };
       in_front = in_front_joined q k es run h m (each_placed q run r.placed);
-      bounded = omega arith;
     }
 
 -- a table's entries with nothing in the other queue are a run of its queue
 pub run_alone : (q : LogQueue) (es : List EntryIndex) → AreTableEntries es → entry_count (other q) es ≡ 0 → IsRunIn q es
 run_alone Append es h n = record {
-  run = h.run;
+  consecutive = h.consecutive;
   placed = placed_each Append es (sym (h.in_front ∙ ap (λ xs. xs ++ placed_in Append es) (nil_from_length (placed_in Rewrite es) n)));
-  bounded = h.bounded;
 }
 run_alone Rewrite es h n = record {
-  run = h.run;
+  consecutive = h.consecutive;
   placed = placed_each Rewrite es (sym (h.in_front ∙ ap (λ xs. placed_in Rewrite es ++ xs) (nil_from_length (placed_in Append es) n) ∙ append-nil (placed_in Rewrite es)));
-  bounded = h.bounded;
 }
 
 pub may_join : (q : LogQueue) (es : List EntryIndex) → (q ≡ Rewrite → entry_count Append es ≡ 0) → MayJoin q es

@@ -12,8 +12,9 @@ use Rattle.raft_base.specs.declared.errors.Error.TheVariants as errors
 use Rattle.raft_base.specs.declared.pipe_log.LogQueue.{LogQueue}
 use Rattle.raft_base.specs.declared.pipe_log.LogQueue.TheVariants.{Append, Rewrite}
 use Rattle.raft_base.specs.declared.entry_index.EntryIndex.{EntryIndex}
+use Rattle.raft_base.specs.Runs.{RisesFrom, IsRun, end_of}
 use Rattle.raft_table.specs.Counts.{Counts, live}
-use Rattle.raft_table.specs.TableEntries.{RisesFrom, IsRun, end_of, below}
+use Rattle.raft_table.specs.TableEntries.{below}
 use Rattle.raft_table.specs.KeySets.{without}
 use Rattle.raft_table.specs.KeyValues.{Keys, Stored, pairs_over}
 use Rattle.raft_table.specs.MarkMerge.{left_by}

@@ -6,7 +6,8 @@ use Rattle.std.specs.FinMap as finite
 use Rattle.std.proofs.lemmas.Bool.{cases_lt, lt-ltb}
 use Rattle.raft_base.specs.declared.pipe_log.LogQueue.TheVariants.{Append}
 use Rattle.raft_base.specs.declared.entry_index.EntryIndex.{EntryIndex}
-use Rattle.raft_table.specs.TableEntries.{IsRun, end_of, below, from}
+use Rattle.raft_base.specs.Runs.{IsRun, end_of}
+use Rattle.raft_table.specs.TableEntries.{below, from}
 use Rattle.raft_table.specs.KeyValues.{lesser}
 use Rattle.raft_table.specs.Marks.{entries_within}
 use Rattle.raft_table.specs.Overlay.{has_clean, greatest_compaction, least_cut, is_unjoined, rewritten_within}

@@ -7,7 +7,8 @@ use Rattle.raft_base.specs.declared.pipe_log.FileBlockHandle.{FileBlockHandle}
 use Rattle.raft_base.specs.declared.pipe_log.LogQueue.{LogQueue}
 use Rattle.raft_base.specs.declared.pipe_log.LogQueue.TheVariants.{Append}
 use Rattle.raft_base.specs.declared.entry_index.EntryIndex.{EntryIndex}
-use Rattle.raft_table.specs.TableEntries.{start_of, end_of, entries_between, placed_in}
+use Rattle.raft_base.specs.Runs.{end_of}
+use Rattle.raft_table.specs.TableEntries.{start_of, entries_between, placed_in}
 use Rattle.raft_table.specs.Queues.{is_same}
 use Rattle.raft_table.specs.Rewriting.{is_placed_before}
 

@@ -5,7 +5,7 @@ use Rattle.raft_base.specs.declared.errors.Error.{Error}
 use Rattle.raft_base.specs.declared.errors.Error.TheVariants as errors
 use Rattle.raft_base.specs.declared.pipe_log.LogQueue.{LogQueue}
 use Rattle.raft_base.specs.declared.entry_index.EntryIndex.{EntryIndex}
-use Rattle.raft_table.specs.TableEntries.{IsRun}
+use Rattle.raft_base.specs.Runs.{IsRun}
 use Rattle.raft_table.specs.Counts.{Counts, live}
 use Rattle.raft_table.specs.Marks.{Mark, entries_within, is_refused_over, entries_over}
 use Rattle.raft_table.specs.KeySets.{without}

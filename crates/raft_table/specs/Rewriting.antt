@@ -6,8 +6,9 @@ use Rattle.raft_base.specs.declared.errors.Error.TheVariants as errors
 use Rattle.raft_base.specs.declared.pipe_log.FileBlockHandle.{FileBlockHandle}
 use Rattle.raft_base.specs.declared.pipe_log.LogQueue.TheVariants.{Append, Rewrite}
 use Rattle.raft_base.specs.declared.entry_index.EntryIndex.{EntryIndex}
+use Rattle.raft_base.specs.Runs.{end_of}
 use Rattle.raft_table.specs.Counts.{Counts, live, with_added, with_deleted}
-use Rattle.raft_table.specs.TableEntries.{start_of, end_of, below, from, is_placed_in, entry_count}
+use Rattle.raft_table.specs.TableEntries.{start_of, below, from, is_placed_in, entry_count}
 
 -- whether there is a place, in a file numbered at or below a gate
 abbrev pub is_block_before : ℕ → Option FileBlockHandle → Bool

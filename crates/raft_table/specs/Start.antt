@@ -5,8 +5,9 @@ use Rattle.raft_base.specs.declared.errors.Error.TheVariants as errors
 use Rattle.raft_base.specs.declared.pipe_log.LogQueue.{LogQueue}
 use Rattle.raft_base.specs.declared.pipe_log.LogQueue.TheVariants.{Append, Rewrite}
 use Rattle.raft_base.specs.declared.entry_index.EntryIndex.{EntryIndex}
+use Rattle.raft_base.specs.Runs.{end_of}
 use Rattle.raft_table.specs.Counts.{Counts, live, with_added, with_deleted}
-use Rattle.raft_table.specs.TableEntries.{end_of, below, from, entry_count}
+use Rattle.raft_table.specs.TableEntries.{below, from, entry_count}
 
 -- whether a start lies behind the end of some entries, so that indexes between are missing
 abbrev pub leaves_hole : List EntryIndex → ℕ → Bool

@@ -1,32 +1,18 @@
 -- Entries of a region's log, in order of index: the words of tables, steps and queries.
-use Rattle.std.specs.Prelude.{◌≡◌, ℕ, ◌+◌, ◌<◌, ◌≤◌, ◌^◌, suc, max, Bool, true, false, List, [], ◌∷◌, ◌++◌, length, filter, find, nat_lt, nat_le, ◌==◌, Option, Some, None, if◌then◌else◌}
+use Rattle.std.specs.Prelude.{◌≡◌, ℕ, ◌+◌, ◌≤◌, Bool, true, false, List, [], ◌∷◌, ◌++◌, length, filter, find, nat_lt, nat_le, ◌==◌, Option, Some, None, if◌then◌else◌}
 use Rattle.std.specs.List.{AllByRecursion}
 use Rattle.std.specs.Option.{option_map_or}
 use Rattle.raft_base.specs.declared.pipe_log.LogQueue.{LogQueue}
 use Rattle.raft_base.specs.declared.pipe_log.LogQueue.TheVariants.{Append, Rewrite}
 use Rattle.raft_base.specs.declared.entry_index.EntryIndex.{EntryIndex}
+use Rattle.raft_base.specs.Runs.{IsConsecutive}
 use Rattle.raft_table.specs.Counts.{Counts, live}
 use Rattle.raft_table.specs.Queues.{is_same}
-
--- the indexes rise by one from this one
-abbrev pub RisesFrom : ℕ → List EntryIndex → Type 0
-RisesFrom start [] = Unit {0}
-RisesFrom start (e ∷ es) = (e.index ≡ start) × RisesFrom (suc start) es
-
--- indexes without gaps
-pub record IsRun (es : List EntryIndex) : Type 0 where
-  pub start : ℕ
-  pub rising : RisesFrom start es
 
 -- the first index, 0 without entries
 abbrev pub start_of : List EntryIndex → ℕ
 start_of [] = 0
 start_of (e ∷ es) = e.index
-
--- the greatest index plus one, 0 without entries
-unfoldable pub end_of : List EntryIndex → ℕ
-end_of [] = 0
-end_of (e ∷ es) = max (suc e.index) (end_of es)
 
 -- the entries below an index
 unfoldable pub below : ℕ → List EntryIndex → List EntryIndex
@@ -52,17 +38,15 @@ placed_in queue es = filter (is_placed_in queue) es
 abbrev pub RewrittenInFront : List EntryIndex → Type 0
 RewrittenInFront es = es ≡ placed_in Rewrite es ++ placed_in Append es
 
--- a run without the index 2^64 - 1, each of whose entries has a place in this queue
+-- consecutive entries, each of which has a place in this queue
 pub record IsRunIn (queue : LogQueue) (es : List EntryIndex) : Type 0 where
-  pub run : IsRun es
+  pub consecutive : IsConsecutive es
   pub placed : AllByRecursion (λ (e : EntryIndex). is_placed_in queue e ≡ true) es
-  pub bounded : end_of es < 2 ^ 64
 
--- what every table's entries are: one run without gaps, rewritten places in front
+-- what every table's entries are: consecutive, rewritten places in front
 pub record AreTableEntries (es : List EntryIndex) : Type 0 where
-  pub run : IsRun es
+  pub consecutive : IsConsecutive es
   pub in_front : RewrittenInFront es
-  pub bounded : end_of es < 2 ^ 64
 
 -- the entry with this index
 abbrev pub entry_at : ℕ → List EntryIndex → Option EntryIndex

@@ -1,7 +1,7 @@
 -- Steps that truncate nothing, over which the overlay asks for less.
 use Rattle.std.specs.Prelude.{ℕ, List, [], ◌∷◌, nat_lt, Option, Some, None, if◌then◌else◌}
 use Rattle.raft_base.specs.declared.entry_index.EntryIndex.{EntryIndex}
-use Rattle.raft_table.specs.TableEntries.{end_of}
+use Rattle.raft_base.specs.Runs.{end_of}
 use Rattle.raft_table.specs.Marks.{entries_within}
 use Rattle.raft_table.specs.Steps.{Step, Truncate}
 

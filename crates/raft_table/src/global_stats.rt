@@ -149,8 +149,8 @@ impl GlobalStats {
     fn add_records(&mut self, table: &MemTable, queue: LogQueue)
         requires { live queue self.old + live_of queue table.now < 2 ^ 64 }
         ensures after { self.new ≡ with_added queue (live_of queue table.now) self.old }
-        ensures live { (q : LogQueue) → live q self.new ≡ live q self.old + count_in q queue
-            (live_of queue table.now) }
+        ensures live { (q : LogQueue) → live q self.new
+            ≡ live q self.old + count_in q queue (live_of queue table.now) }
     {
         if self.add(queue, table.records(queue) as usize).is_err() {
             unreachable!()

@@ -4,7 +4,8 @@ ghost use Rattle.std.specs.Prelude.{◌≡◌, ◌≢◌, ◌+◌, ◌≤◌, �
 ghost use Rattle.std.specs.FinMap as finite;
 ghost use Rattle.raft_base.specs.declared.pipe_log.LogQueue.{LogQueue};
 ghost use Rattle.raft_base.specs.declared.pipe_log.LogQueue.TheVariants.{Append, Rewrite};
-ghost use Rattle.raft_table.specs.TableEntries.{IsRunIn, AreTableEntries, start_of, end_of, entry_at, entry_count, below, from};
+ghost use Rattle.raft_base.specs.Runs.{end_of};
+ghost use Rattle.raft_table.specs.TableEntries.{IsRunIn, AreTableEntries, start_of, entry_at, entry_count, below, from};
 ghost use Rattle.raft_table.specs.Blocks.{shown, entries_in_blocks, AreDistinctBlocks};
 ghost use Rattle.raft_table.specs.Counts.{Counts, live, with_added};
 ghost use Rattle.raft_table.specs.Fetches.{block_count};
@@ -174,8 +175,8 @@ impl MemTable {
         ensures fault { IfErr result (IsTableRunFault Append stats.old self.old.entries
             (entries_after_append self.old.entries run.items)) }
         ensures err { OnErr result ((self.new ≡ self.old) × (stats.new ≡ stats.old)) }
-        ensures counts { OnOk result (stats.new ≡ counts_with_run Append self.old.entries run.items
-            stats.old) }
+        ensures counts { OnOk result (stats.new
+            ≡ counts_with_run Append self.old.entries run.items stats.old) }
         ensures recounted { IsRecounted self.old self.new stats.old stats.new }
         ensures region { self.new.region_id ≡ self.old.region_id }
     {
@@ -197,8 +198,8 @@ impl MemTable {
         ensures fault { IfErr result (IsTableRunFault Append stats.old self.old.entries
             (entries_after_replay Append self.old.entries run.items)) }
         ensures err { OnErr result ((self.new ≡ self.old) × (stats.new ≡ stats.old)) }
-        ensures counts { OnOk result (stats.new ≡ counts_with_run Append self.old.entries run.items
-            stats.old) }
+        ensures counts { OnOk result (stats.new
+            ≡ counts_with_run Append self.old.entries run.items stats.old) }
         ensures recounted { IsRecounted self.old self.new stats.old stats.new }
         ensures region { self.new.region_id ≡ self.old.region_id }
     {
@@ -220,8 +221,8 @@ impl MemTable {
         ensures fault { IfErr result (IsTableRunFault Rewrite stats.old self.old.entries
             (entries_after_replay Rewrite self.old.entries run.items)) }
         ensures err { OnErr result ((self.new ≡ self.old) × (stats.new ≡ stats.old)) }
-        ensures counts { OnOk result (stats.new ≡ counts_with_run Rewrite self.old.entries run.items
-            stats.old) }
+        ensures counts { OnOk result (stats.new
+            ≡ counts_with_run Rewrite self.old.entries run.items stats.old) }
         ensures recounted { IsRecounted self.old self.new stats.old stats.new }
         ensures region { self.new.region_id ≡ self.old.region_id }
     {
@@ -240,7 +241,8 @@ impl MemTable {
         requires run { IsRunIn queue run.now }
         requires counted { IsCounted self.old stats.old }
         ensures done { MatchBool result
-            ((after_replay queue self.old run.now ≡ Some self.new) × (live_of (other queue) self.old ≡ 0)
+            ((after_replay queue self.old run.now ≡ Some self.new)
+            × (live_of (other queue) self.old ≡ 0)
             × (stats.new ≡ counts_with_run queue self.old.entries run.now stats.old))
             ((self.new ≡ self.old) × (stats.new ≡ stats.old)) }
         ensures recounted { IsRecounted self.old self.new stats.old stats.new }
@@ -275,8 +277,8 @@ impl MemTable {
         ensures places_alone { OnOk result (MovesPlacesAlone run.items self.old.entries
             self.new.entries) }
         ensures others { OnOk result (self.new ≡ record self.old { entries = self.new.entries }) }
-        ensures counts { OnOk result (stats.new ≡ counts_after_rewrite gate run.items
-            self.old.entries stats.old) }
+        ensures counts { OnOk result (stats.new
+            ≡ counts_after_rewrite gate run.items self.old.entries stats.old) }
         ensures fault { IfErr result (IsRewriteFault (length run.items) stats.old
             (entries_after_rewrite gate run.items self.old.entries)) }
         ensures err { OnErr result ((self.new ≡ self.old) × (stats.new ≡ stats.old)) }
@@ -327,7 +329,8 @@ impl MemTable {
         requires { IsCounted self.old stats.old }
         ensures ok { OnOk result (self.new ≡ with_pair self.old key.items value.items file) }
         ensures counts { OnOk result (stats.new
-            ≡ with_added file.queue 1 (with_pair_deleted (file_at self.old.keys key.items) stats.old)) }
+            ≡ with_added file.queue 1
+            (with_pair_deleted (file_at self.old.keys key.items) stats.old)) }
         ensures fault { IfErr result (IsTablePutFault file.queue stats.old
             (file_at self.old.keys key.items)) }
         ensures err { OnErr result ((self.new ≡ self.old) × (stats.new ≡ stats.old)) }

@@ -3,8 +3,9 @@
 ghost use Rattle.std.specs.Prelude.{◌≡◌, OnOk, OnSome, IfOk, IfSome, Some, ok_or};
 ghost use Rattle.std.specs.FinMap as finite;
 ghost use Rattle.raft_base.specs.declared.errors.Error.TheVariants.{Memory};
+ghost use Rattle.raft_base.specs.Runs.{end_of};
 ghost use Rattle.raft_table.specs.Counts.{with_added};
-ghost use Rattle.raft_table.specs.TableEntries.{IsRunIn, below, end_of, from};
+ghost use Rattle.raft_table.specs.TableEntries.{IsRunIn, below, from};
 ghost use Rattle.raft_table.specs.KeyValues.{file_at};
 ghost use Rattle.raft_table.specs.Queues.{other};
 ghost use Rattle.raft_table.specs.Start.{counts_with_run, counts_without};
@@ -26,12 +27,14 @@ impl MemTableAccessor {
     /// as they were.
     pub fn replay_run(&mut self, queue: LogQueue, id: u64, run: Vec<EntryIndex>) -> Result<u64>
         requires { IsRunIn queue run.items }
-        ensures changed { IsTableChanged (after_replay queue (table_in self.old.tables id)
-            run.items) (IsReplayFault queue run.items (table_in self.old.tables id) self.old.counts)
-            id result self.old self.new }
+        ensures changed { IsTableChanged
+            (after_replay queue (table_in self.old.tables id) run.items)
+            (IsReplayFault queue run.items (table_in self.old.tables id) self.old.counts) id result
+            self.old self.new }
         ensures accepted { OnOk result (live_of (other queue) (table_in self.old.tables id) ≡ 0) }
         ensures counts { OnOk result (self.new.counts
-            ≡ counts_with_run queue (table_in self.old.tables id).entries run.items self.old.counts) }
+            ≡ counts_with_run queue (table_in self.old.tables id).entries run.items
+            self.old.counts) }
         ensures end { IfOk result (λ end. end ≡ end_of (table_in self.old.tables id).entries) }
         ensures exact_counts { AreCountsOf self.old.tables self.old.counts }
     {
@@ -90,12 +93,15 @@ impl MemTableAccessor {
     /// `Full` where more than 2^64 - 1 records would be live in the file's queue, `Memory`. All tables are
     /// then as they were.
     pub fn put(&mut self, id: u64, key: Vec<u8>, value: Vec<u8>, file: FileId) -> Result<()>
-        ensures changed { IsTableChanged (Some (with_pair (table_in self.old.tables id) key.items
-            value.items file))
-            (IsTablePutFault file.queue self.old.counts (file_at (table_in self.old.tables id).keys key.items))
+        ensures changed { IsTableChanged
+            (Some (with_pair (table_in self.old.tables id) key.items value.items file))
+            (IsTablePutFault file.queue self.old.counts
+            (file_at (table_in self.old.tables id).keys key.items))
             id result self.old self.new }
-        ensures counts { OnOk result (self.new.counts ≡ with_added file.queue 1
-            (with_pair_deleted (file_at (table_in self.old.tables id).keys key.items) self.old.counts)) }
+        ensures counts { OnOk result (self.new.counts
+            ≡ with_added file.queue 1
+            (with_pair_deleted (file_at (table_in self.old.tables id).keys key.items)
+            self.old.counts)) }
         ensures exact_counts { AreCountsOf self.old.tables self.old.counts }
     {
         self.slots[slot_of(id)].put(id, key, value, file, &mut self.stats)
@@ -111,7 +117,8 @@ impl MemTableAccessor {
             { keys = finite.remove (table_in self.old.tables id).keys key.now }))
             (λ e. ⊥) id result self.old self.new }
         ensures counts { OnOk result (self.new.counts
-            ≡ with_pair_deleted (file_at (table_in self.old.tables id).keys key.now) self.old.counts) }
+            ≡ with_pair_deleted (file_at (table_in self.old.tables id).keys key.now)
+            self.old.counts) }
     {
         self.slots[slot_of(id)].delete(id, key, &mut self.stats)
     }

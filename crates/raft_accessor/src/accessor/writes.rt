@@ -23,11 +23,11 @@ impl MemTableAccessor {
     pub fn apply_append_writes<I: IntoIterator<Item = LogItem>>(&mut self, items: I) -> Result<()>
         requires { (it : I.IntoIter) → I.into_iter_gives items it
             → I.IntoIter.can_next it × IsFinite (I.IntoIter.remaining it) }
-        ensures ok { OnOk result ((it : I.IntoIter) × (xs : List LogItem) ×
-            I.into_iter_gives items it × Drains I.IntoIter.next_gives it xs
+        ensures ok { OnOk result ((it : I.IntoIter) × (xs : List LogItem)
+            × I.into_iter_gives items it × Drains I.IntoIter.next_gives it xs
             × AreWritten Appending (map item_of xs) self.old self.new) }
-        ensures refused { IfErr result (λ e. (it : I.IntoIter) × (xs : List LogItem) ×
-            (u : I.IntoIter) × I.into_iter_gives items it × Yields I.IntoIter.next_gives it xs u
+        ensures refused { IfErr result (λ e. (it : I.IntoIter) × (xs : List LogItem)
+            × (u : I.IntoIter) × I.into_iter_gives items it × Yields I.IntoIter.next_gives it xs u
             × AreItemsRefused Appending (map item_of xs) self.old self.new e) }
     {
         for item in items {
@@ -45,11 +45,11 @@ impl MemTableAccessor {
     pub fn replay_append_writes<I: IntoIterator<Item = LogItem>>(&mut self, items: I) -> Result<()>
         requires { (it : I.IntoIter) → I.into_iter_gives items it
             → I.IntoIter.can_next it × IsFinite (I.IntoIter.remaining it) }
-        ensures ok { OnOk result ((it : I.IntoIter) × (xs : List LogItem) ×
-            I.into_iter_gives items it × Drains I.IntoIter.next_gives it xs
+        ensures ok { OnOk result ((it : I.IntoIter) × (xs : List LogItem)
+            × I.into_iter_gives items it × Drains I.IntoIter.next_gives it xs
             × AreWritten (Replaying Append) (map item_of xs) self.old self.new) }
-        ensures refused { IfErr result (λ e. (it : I.IntoIter) × (xs : List LogItem) ×
-            (u : I.IntoIter) × I.into_iter_gives items it × Yields I.IntoIter.next_gives it xs u
+        ensures refused { IfErr result (λ e. (it : I.IntoIter) × (xs : List LogItem)
+            × (u : I.IntoIter) × I.into_iter_gives items it × Yields I.IntoIter.next_gives it xs u
             × AreItemsRefused (Replaying Append) (map item_of xs) self.old self.new e) }
     {
         for item in items {
@@ -67,11 +67,11 @@ impl MemTableAccessor {
     pub fn replay_rewrite_writes<I: IntoIterator<Item = LogItem>>(&mut self, items: I) -> Result<()>
         requires { (it : I.IntoIter) → I.into_iter_gives items it
             → I.IntoIter.can_next it × IsFinite (I.IntoIter.remaining it) }
-        ensures ok { OnOk result ((it : I.IntoIter) × (xs : List LogItem) ×
-            I.into_iter_gives items it × Drains I.IntoIter.next_gives it xs
+        ensures ok { OnOk result ((it : I.IntoIter) × (xs : List LogItem)
+            × I.into_iter_gives items it × Drains I.IntoIter.next_gives it xs
             × AreWritten (Replaying Rewrite) (map item_of xs) self.old self.new) }
-        ensures refused { IfErr result (λ e. (it : I.IntoIter) × (xs : List LogItem) ×
-            (u : I.IntoIter) × I.into_iter_gives items it × Yields I.IntoIter.next_gives it xs u
+        ensures refused { IfErr result (λ e. (it : I.IntoIter) × (xs : List LogItem)
+            × (u : I.IntoIter) × I.into_iter_gives items it × Yields I.IntoIter.next_gives it xs u
             × AreItemsRefused (Replaying Rewrite) (map item_of xs) self.old self.new e) }
     {
         for item in items {
@@ -96,11 +96,11 @@ impl MemTableAccessor {
     ) -> Result<()>
         requires { (it : I.IntoIter) → I.into_iter_gives items it
             → I.IntoIter.can_next it × IsFinite (I.IntoIter.remaining it) }
-        ensures ok { OnOk result ((it : I.IntoIter) × (xs : List LogItem) ×
-            I.into_iter_gives items it × Drains I.IntoIter.next_gives it xs
+        ensures ok { OnOk result ((it : I.IntoIter) × (xs : List LogItem)
+            × I.into_iter_gives items it × Drains I.IntoIter.next_gives it xs
             × AreWritten (Rewriting gate seq) (map item_of xs) self.old self.new) }
-        ensures refused { IfErr result (λ e. (it : I.IntoIter) × (xs : List LogItem) ×
-            (u : I.IntoIter) × I.into_iter_gives items it × Yields I.IntoIter.next_gives it xs u
+        ensures refused { IfErr result (λ e. (it : I.IntoIter) × (xs : List LogItem)
+            × (u : I.IntoIter) × I.into_iter_gives items it × Yields I.IntoIter.next_gives it xs u
             × AreItemsRefused (Rewriting gate seq) (map item_of xs) self.old self.new e) }
     {
         for item in items {

@@ -32,8 +32,8 @@ impl RegionTables {
             (IsTableRunFault Append stats.old (table_in self.old id).entries
             (entries_after_append (table_in self.old id).entries run.items))
             self.old id stats.old result self.new stats.new }
-        ensures counts { OnOk result
-            (stats.new ≡ counts_with_run Append (table_in self.old id).entries run.items stats.old) }
+        ensures counts { OnOk result (stats.new
+            ≡ counts_with_run Append (table_in self.old id).entries run.items stats.old) }
     {
         self.update(
             id,
@@ -97,8 +97,8 @@ impl RegionTables {
     pub(crate) fn compact(&mut self, id: u64, index: u64, stats: &mut GlobalStats) -> Result<()>
         requires { IsCounted (table_in self.old id) stats.old }
         ensures taken { BecomesOutcome (Some (record (table_in self.old id)
-            { entries = from index (table_in self.old id).entries })) (λ e. ⊥)
-            self.old id stats.old result self.new stats.new }
+            { entries = from index (table_in self.old id).entries }))
+            (λ e. ⊥) self.old id stats.old result self.new stats.new }
         ensures counts { OnOk result
             (stats.new ≡ counts_without (below index (table_in self.old id).entries) stats.old) }
     {
@@ -116,8 +116,8 @@ impl RegionTables {
     pub(crate) fn truncate(&mut self, id: u64, index: u64, stats: &mut GlobalStats) -> Result<()>
         requires { IsCounted (table_in self.old id) stats.old }
         ensures taken { BecomesOutcome (Some (record (table_in self.old id)
-            { entries = below index (table_in self.old id).entries })) (λ e. ⊥)
-            self.old id stats.old result self.new stats.new }
+            { entries = below index (table_in self.old id).entries }))
+            (λ e. ⊥) self.old id stats.old result self.new stats.new }
         ensures counts { OnOk result
             (stats.new ≡ counts_without (from index (table_in self.old id).entries) stats.old) }
     {
@@ -141,8 +141,9 @@ impl RegionTables {
         stats: &mut GlobalStats,
     ) -> Result<()>
         requires { IsCounted (table_in self.old id) stats.old }
-        ensures taken { BecomesOutcome (Some (with_pair (table_in self.old id) key.items value.items
-            file)) (IsTablePutFault file.queue stats.old (file_at (table_in self.old id).keys key.items))
+        ensures taken { BecomesOutcome
+            (Some (with_pair (table_in self.old id) key.items value.items file))
+            (IsTablePutFault file.queue stats.old (file_at (table_in self.old id).keys key.items))
             self.old id stats.old result self.new stats.new }
         ensures counts { OnOk result (stats.new ≡ with_added file.queue 1
             (with_pair_deleted (file_at (table_in self.old id).keys key.items) stats.old)) }
@@ -158,10 +159,10 @@ impl RegionTables {
     pub(crate) fn delete(&mut self, id: u64, key: &[u8], stats: &mut GlobalStats) -> Result<()>
         requires { IsCounted (table_in self.old id) stats.old }
         ensures taken { BecomesOutcome (Some (record (table_in self.old id)
-            { keys = finite.remove (table_in self.old id).keys key.now })) (λ e. ⊥)
-            self.old id stats.old result self.new stats.new }
-        ensures counts { OnOk result
-            (stats.new ≡ with_pair_deleted (file_at (table_in self.old id).keys key.now) stats.old) }
+            { keys = finite.remove (table_in self.old id).keys key.now }))
+            (λ e. ⊥) self.old id stats.old result self.new stats.new }
+        ensures counts { OnOk result (stats.new
+            ≡ with_pair_deleted (file_at (table_in self.old id).keys key.now) stats.old) }
     {
         self.update(
             id,
@@ -184,10 +185,11 @@ impl RegionTables {
         requires run { IsRunIn Rewrite run.items }
         requires counted { IsCounted (table_in self.old id) stats.old }
         ensures taken { BecomesOutcome (after_rewrite gate (table_in self.old id) run.items)
-            (IsRewriteFault (length run.items) stats.old (entries_after_rewrite gate run.items (table_in self.old id).entries))
+            (IsRewriteFault (length run.items) stats.old
+            (entries_after_rewrite gate run.items (table_in self.old id).entries))
             self.old id stats.old result self.new stats.new }
-        ensures counts { OnOk result
-            (stats.new ≡ counts_after_rewrite gate run.items (table_in self.old id).entries stats.old) }
+        ensures counts { OnOk result (stats.new
+            ≡ counts_after_rewrite gate run.items (table_in self.old id).entries stats.old) }
     {
         self.update(
             id,
@@ -207,10 +209,12 @@ impl RegionTables {
     ) -> Result<()>
         requires { IsCounted (table_in self.old id) stats.old }
         ensures taken { BecomesOutcome (after_rewrite_key gate seq (table_in self.old id) key.items)
-            (IsKeyRewriteFault stats.old (after_rewrite_key gate seq (table_in self.old id) key.items))
+            (IsKeyRewriteFault stats.old
+            (after_rewrite_key gate seq (table_in self.old id) key.items))
             self.old id stats.old result self.new stats.new }
         ensures counts { OnOk result (stats.new
-            ≡ with_rewritten_key (leaves_append gate (file_at (table_in self.old id).keys key.items)) stats.old) }
+            ≡ with_rewritten_key
+            (leaves_append gate (file_at (table_in self.old id).keys key.items)) stats.old) }
     {
         self.update(
             id,

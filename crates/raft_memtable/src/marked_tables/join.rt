@@ -27,13 +27,14 @@ impl MarkedTables {
     /// a newer run of a region leaves a hole behind the older entries, `Full` where
     /// more than 2^64 - 1 records would be live, `Memory`. Some regions are then joined.
     pub(crate) fn join(&mut self, queue: LogQueue, newer: MarkedTables) -> Result<()>
-        ensures ok { StandForSteps queue (regions_in self.old) →
-            StandForSteps queue (regions_in newer)
-            → OnOk result (AreJoined queue (regions_in self.old) (regions_in newer) (regions_in self.new)) }
+        ensures ok { StandForSteps queue (regions_in self.old)
+            → StandForSteps queue (regions_in newer)
+            → OnOk result
+            (AreJoined queue (regions_in self.old) (regions_in newer) (regions_in self.new)) }
         ensures cleaned { OnOk result
             (self.new.accessor.cleaned ≡ self.old.accessor.cleaned ++ newer.accessor.cleaned) }
-        ensures fault { StandForSteps queue (regions_in self.old) →
-            StandForSteps queue (regions_in newer)
+        ensures fault { StandForSteps queue (regions_in self.old)
+            → StandForSteps queue (regions_in newer)
             → IfErr result (IsJoinFault queue (regions_in self.old) (regions_in newer)) }
         ensures other { OnOk result (live_in_all (other queue) self.new.accessor.tables ≡ 0) }
     {
@@ -88,15 +89,16 @@ impl MarkedTables {
             → OnOk result (joined_region queue id (region_in (regions_in self.old) id)
             (record { mark = mark; table = newer })
             ≡ Some (region_in (regions_in self.new) id)) }
-        ensures others { OnOk result
-            (regions_in self.new ≡ with_region (regions_in self.old) id (region_in (regions_in self.new) id)) }
+        ensures others { OnOk result (regions_in self.new
+            ≡ with_region (regions_in self.old) id (region_in (regions_in self.new) id)) }
         ensures fault { IsRunOver queue mark (table_of id newer)
             (table_in self.old.accessor.tables id)
             → IfErr result (IsFaultUnder queue self.old.accessor.counts mark (table_of id newer)
             (table_in self.old.accessor.tables id)) }
         ensures exact_counts { AreCountsOf self.old.accessor.tables self.old.accessor.counts }
         ensures few { OnOk result ((q : LogQueue)
-            → live_in_all q self.new.accessor.tables ≤ live_in_all q self.old.accessor.tables + live_in q newer) }
+            → live_in_all q self.new.accessor.tables
+            ≤ live_in_all q self.old.accessor.tables + live_in q newer) }
         ensures cleaned { self.new.accessor.cleaned ≡ self.old.accessor.cleaned }
     {
         let end = self.accessor.join_table(queue, id, newer, &mark)?;

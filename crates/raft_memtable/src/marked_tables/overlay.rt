@@ -22,12 +22,13 @@ impl MarkedTables {
     /// `Full` where more than 2^64 - 1 records would be live, `Memory`. Some regions are then overlaid.
     pub(crate) fn overlay(&mut self, appended: MarkedTables) -> Result<()>
         requires own { live_in_all Rewrite appended.accessor.tables ≡ 0 }
-        ensures ok { StandForSteps Rewrite (regions_in self.old) →
-            StandForSteps Append (regions_in appended)
-            → OnOk result (AreOverlaid (regions_in appended) self.old.accessor.tables self.new.accessor.tables) }
+        ensures ok { StandForSteps Rewrite (regions_in self.old)
+            → StandForSteps Append (regions_in appended)
+            → OnOk result
+            (AreOverlaid (regions_in appended) self.old.accessor.tables self.new.accessor.tables) }
         ensures cleaned { OnOk result (self.new.accessor.cleaned ≡ appended.accessor.cleaned) }
-        ensures fault { IfErr result
-            (AreTooMany (all_records self.old.accessor.tables + all_records appended.accessor.tables)) }
+        ensures fault { IfErr result (AreTooMany
+            (all_records self.old.accessor.tables + all_records appended.accessor.tables)) }
     {
         let MarkedTables {
             mut accessor,

@@ -22,9 +22,10 @@ impl ReadState {
         ensures tables { OnOk result (AreOverlaid (context_in append).regions
             (context_in self.old).regions.tables (context_in self.new).regions.tables) }
         ensures overlaid { OnOk result (context_in self.new
-            ≡ overlaid_with (context_in self.old) (context_in append) (context_in self.new).regions.tables) }
-        ensures fault { IfErr result
-            (IsMergeAppendFault (reading_on (context_in self.old)) (reading_on (context_in append))) }
+            ≡ overlaid_with (context_in self.old) (context_in append)
+            (context_in self.new).regions.tables) }
+        ensures fault { IfErr result (IsMergeAppendFault (reading_on (context_in self.old))
+            (reading_on (context_in append))) }
     {
         self.check_append(&append)?;
         self.put_append(append)
@@ -34,8 +35,8 @@ impl ReadState {
     fn check_append(&self, append: &ReadState) -> Result<()>
         ensures queues { OnOk result (AreOfBothQueues (context_in self.now)
             (context_in append.now)) }
-        ensures fault { IfErr result
-            (IsMergeAppendFault (reading_on (context_in self.now)) (reading_on (context_in append.now))) }
+        ensures fault { IfErr result (IsMergeAppendFault (reading_on (context_in self.now))
+            (reading_on (context_in append.now))) }
     {
         if !FileRange::suits(self.files, LogQueue::Rewrite)
             || !FileRange::suits(append.files, LogQueue::Append)
@@ -53,9 +54,10 @@ impl ReadState {
         ensures tables { OnOk result (AreOverlaid (context_in append).regions
             (context_in self.old).regions.tables (context_in self.new).regions.tables) }
         ensures overlaid { OnOk result (context_in self.new
-            ≡ overlaid_with (context_in self.old) (context_in append) (context_in self.new).regions.tables) }
-        ensures fault { IfErr result
-            (IsMergeAppendFault (reading_on (context_in self.old)) (reading_on (context_in append))) }
+            ≡ overlaid_with (context_in self.old) (context_in append)
+            (context_in self.new).regions.tables) }
+        ensures fault { IfErr result (IsMergeAppendFault (reading_on (context_in self.old))
+            (reading_on (context_in append))) }
     {
         self.regions.overlay(append.regions)?;
         self.regions.marks = RegionMarks::new(self.alloc);

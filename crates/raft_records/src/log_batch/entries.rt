@@ -2,7 +2,8 @@
 
 ghost use Rattle.std.specs.Prelude.{◌≡◌, ◌≢◌, ◌↔◌, ◌+◌, ◌-◌, ◌^◌, ◌<◌, ◌≤◌, [], ◌∷◌, ◌++◌, map, length, IsTrue, IfOk, IfErr, OnOk, OnErr, drop, vec_len, vec_capacity};
 ghost use Rattle.std.specs.List.{concat};
-ghost use Rattle.raft_records.specs.Entries.{IsConsecutive, entry_with_index, with_lengths};
+ghost use Rattle.raft_base.specs.Runs.{IsConsecutive};
+ghost use Rattle.raft_records.specs.Entries.{entry_with_index, with_lengths};
 ghost use Rattle.raft_records.specs.Faults.{OneRefuses};
 ghost use Rattle.raft_records.specs.Item.{entries_item};
 ghost use Rattle.raft_records.specs.ItemBatch.{entry_bytes_of, laid};
@@ -12,7 +13,8 @@ ghost use Rattle.raft_records.specs.Spelling.{Keeps};
 use super::{MAX_LOG_BATCH_BUFFER_CAP, MAX_LOG_ENTRIES_SIZE_PER_BATCH};
 use crate::header::{LOG_BATCH_HEADER_LEN, reserve_header};
 use crate::{LogBatch, LogItemBatch};
-use raft_base::{AllocResult, EntryIndex, Error, Message, MessageExt, Result};
+use raft_base::{AllocResult, EntryIndex, Error, Message, MessageExt, Result, is_consecutive};
+use std::alloc::Global;
 use std::mem;
 
 /// The most bytes that the buffer of an open batch has.
@@ -211,65 +213,59 @@ fn write_messages<M: MessageExt>(
         (map (λ e. entry_with_index (M.index_of e)) entries.now)
         (entry_bytes_of item_batch.old + length (concat (map M.Entry.bytes_of entries.now)))) }
 {
-    if !have_consecutive_indexes::<M>(entries) {
+    let mut entry_indexes = indexes_of::<M>(*buf.allocator(), entries)?;
+    if !is_consecutive(entry_indexes.as_slice()) {
         return Err(Error::invalid_argument(
             *buf.allocator(),
             "the indexes of the entries are not consecutive",
         ));
     }
-    let entry_indexes = append_messages::<M>(buf, entries)?;
+    append_messages::<M>(buf, &mut entry_indexes, entries)?;
     item_batch.add_entry_indexes(region_id, entry_indexes)
 }
 
-/// Whether the indexes of messages rise by one and none is 2^64 - 1. No message is written for it.
-fn have_consecutive_indexes<M: MessageExt>(entries: &[M::Entry]) -> bool
-    ensures { IsTrue result ↔ IsConsecutive (map (λ e. entry_with_index (M.index_of e))
-        entries.now) }
+/// Entries with the indexes of messages, in their order, without lengths.
+fn indexes_of<M: MessageExt>(alloc: Global, entries: &[M::Entry]) -> Result<Vec<EntryIndex>>
+    ensures ok { IfOk result (λ es. es.items ≡ map (λ e. entry_with_index (M.index_of e)) entries.now) }
+    ensures memory { IfErr result (λ e. e ≡ Error.Memory) }
 {
-    let mut index = match entries.first() {
-        Some(first) => M::index(first),
-        None => return true,
-    };
+    let mut entry_indexes = Vec::with_capacity(alloc, entries.len())?;
     for entry in entries {
-        if M::index(entry) != index || index == u64::MAX {
-            return false;
-        }
-        index += 1;
+        entry_indexes.push(EntryIndex {
+            index: M::index(entry),
+            ..EntryIndex::default()
+        })?;
     }
-    true
+    Ok(entry_indexes)
 }
 
-/// Appends the bytes of messages, and answers their entries' indexes and lengths. `Full` where an open batch's
+/// Appends the bytes of messages, and sets the lengths of their entries. `Full` where an open batch's
 /// buffer may not have so many. On `Err` some bytes may stand behind those of the buffer.
 fn append_messages<M: MessageExt>(
     buf: &mut Vec<u8>,
+    entry_indexes: &mut Vec<EntryIndex>,
     entries: &[M::Entry],
-) -> Result<Vec<EntryIndex>>
-    requires { 16 ≤ length buf.old.items }
+) -> Result<()>
+    requires room { 16 ≤ length buf.old.items }
+    requires counts { length entry_indexes.old.items ≡ length entries.now }
     ensures bytes { OnOk result
         (buf.new.items ≡ buf.old.items ++ concat (map M.Entry.bytes_of entries.now)) }
-    ensures lengths { IfOk result (λ es. es.items
-        ≡ with_lengths (map (λ e. entry_with_index (M.index_of e)) entries.now)
-        (map M.Entry.bytes_of entries.now)) }
+    ensures lengths { OnOk result (entry_indexes.new.items
+        ≡ with_lengths entry_indexes.old.items (map M.Entry.bytes_of entries.now)) }
     ensures accepted { OnOk result (entries.now ≢ [] → length buf.new.items < 16 + 2 ^ 31) }
     ensures err { OnErr result (Keeps buf.old.items buf.new.items) }
     ensures fault { IfErr result (IsBytesFault (OneRefuses M.Entry.refuses entries.now)
         (length buf.old.items - 16 + length (concat (map M.Entry.bytes_of entries.now)))) }
 {
-    let mut entry_indexes = Vec::with_capacity(*buf.allocator(), entries.len())?;
-    for entry in entries {
+    for (i, entry) in entries.iter().enumerate() {
         let start = buf.len();
         entry.write_to_vec(buf)?;
         if buf.len() > MOST_OPEN_BYTES {
             return Err(Error::Full);
         }
-        entry_indexes.push(EntryIndex {
-            index: M::index(entry),
-            entry_len: (buf.len() - start) as u32,
-            ..EntryIndex::default()
-        })?;
+        entry_indexes[i].entry_len = (buf.len() - start) as u32;
     }
-    Ok(entry_indexes)
+    Ok(())
 }
 
 /// Makes room behind the entry bytes, if there are any, for those of a buffer of `len` bytes.

@@ -122,8 +122,8 @@ impl DeletedKeys {
 
 /// Takes the pairs of all keys of a map away.
 fn delete_all(deleted: &BTreeMap<Vec<u8>, ()>, keys: &mut KeyValues)
-    ensures after { keys.new ≡ without (finset.from_list (map (λ e. e.0.items) deleted.now.entries))
-        keys.old }
+    ensures after { keys.new
+        ≡ without (finset.from_list (map (λ e. e.0.items) deleted.now.entries)) keys.old }
     ensures fewer { (q : LogQueue) → pair_count q keys.new ≤ pair_count q keys.old }
 {
     for (key, _) in deleted {

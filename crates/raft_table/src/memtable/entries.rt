@@ -3,8 +3,9 @@
 ghost use Rattle.std.specs.Prelude.{◌≡◌, ◌≢◌, ◌+◌, ◌<◌, ◌≤◌, [], length, take, drop, MatchOption, IfOk, IfErr};
 ghost use Rattle.raft_table.specs.Blocks.{shown, entries_in_blocks, AreDistinctBlocks};
 ghost use Rattle.raft_table.specs.Fetches.{block_count};
+ghost use Rattle.raft_base.specs.Runs.{end_of};
 ghost use Rattle.raft_table.specs.Start.{counts_without};
-ghost use Rattle.raft_table.specs.TableEntries.{AreTableEntries, start_of, end_of, entry_at, entry_count, below, from, AreCounted, AreRecounted};
+ghost use Rattle.raft_table.specs.TableEntries.{AreTableEntries, start_of, entry_at, entry_count, below, from, AreCounted, AreRecounted};
 ghost use Rattle.raft_base.specs.declared.pipe_log.LogQueue.TheVariants.{Rewrite};
 
 mod cuts;
@@ -69,7 +70,8 @@ impl Model for Entries {
 
     ghost view = { λ a. entries_in_blocks a.first (shown a.blocks.items) };
 
-    ghost invariant = { λ a. AreKept a.first a.len (shown a.blocks.items) a.starts.items a.rewritten };
+    ghost invariant = { λ a.
+        AreKept a.first a.len (shown a.blocks.items) a.starts.items a.rewritten };
 }
 
 impl Entries {

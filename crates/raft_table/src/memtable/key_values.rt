@@ -255,7 +255,8 @@ impl KeyValues {
     /// Takes the first pair away.
     fn take_first(&mut self) -> Option<(Vec<u8>, StoredValue)>
         ensures first { IfSome result (λ p. finite.entries self.old
-            ≡ (p.0.items, record { value = p.1.value.items; file = p.1.file }) ∷ finite.entries self.new) }
+            ≡ (p.0.items, record { value = p.1.value.items; file = p.1.file })
+            ∷ finite.entries self.new) }
         ensures none { IfNone result (self.old ≡ finite.empty) }
         ensures unchanged { IfNone result (self.new ≡ self.old) }
     {

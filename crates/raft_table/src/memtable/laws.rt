@@ -5,7 +5,8 @@ ghost use Rattle.std.specs.FinSet as finset;
 ghost use Rattle.raft_base.specs.declared.pipe_log.LogQueue.{LogQueue};
 ghost use Rattle.raft_base.specs.declared.pipe_log.LogQueue.TheVariants.{Append, Rewrite};
 ghost use Rattle.raft_base.specs.declared.entry_index.EntryIndex.{EntryIndex};
-ghost use Rattle.raft_table.specs.TableEntries.{IsRun, IsRunIn, StandsBehind, start_of, end_of, entry_at, below, from};
+ghost use Rattle.raft_base.specs.Runs.{IsRun, end_of};
+ghost use Rattle.raft_table.specs.TableEntries.{IsRunIn, StandsBehind, start_of, entry_at, below, from};
 ghost use Rattle.std.specs.FinMap as finite;
 ghost use Rattle.raft_table.specs.LastWord.{last_entry, last_pair};
 ghost use Rattle.raft_table.specs.Marks.{Mark, table_over_older};
@@ -25,7 +26,8 @@ pub fn entries_stand_by_index()
     ensures appended { (es run after : List EntryIndex) → IsRunIn Append run → 0 < length run
         → entries_after_append es run ≡ Some after → StandsBehind es run after }
     ensures replayed { (queue : LogQueue) (es run after : List EntryIndex) → IsRunIn queue run →
-        0 < length run → entries_after_replay Append es run ≡ Some after → StandsBehind es run after }
+        0 < length run → entries_after_replay Append es run ≡ Some after
+        → StandsBehind es run after }
     ensures rewritten { (queue : LogQueue) (es run after : List EntryIndex) → IsRunIn queue run →
         0 < length run
         → leaves_hole es (start_of run) ≡ false → entries_after_replay Rewrite es run ≡ Some after
@@ -56,11 +58,12 @@ pub fn marks_stand_for_steps()
     ensures one { (q : LogQueue) (id : ℕ) (s : Step) → IsStep s →
         Stands q id (mark_of s) (own_of id s) (s ∷ []) }
     ensures joins { (q : LogQueue) (id : ℕ) (m n : Mark) (t u w : Option Table) (ss rs : List Step)
-        → AreSteps ss
-        → AreSteps rs → Stands q id m t ss → Stands q id n u rs → table_over_older q id n u t ≡ Some w
+        → AreSteps ss → AreSteps rs → Stands q id m t ss → Stands q id n u rs
+        → table_over_older q id n u t ≡ Some w
         → Stands q id (joined_mark q id m t n) w (ss ++ rs) }
     ensures refused { (q : LogQueue) (id : ℕ) (m n : Mark) (t u : Option Table) (ss rs : List Step)
-        → Stands q id m t ss → Stands q id n u rs → table_over_older q id n u t ≡ None → after q id None (ss ++ rs) ≡ None }
+        → Stands q id m t ss → Stands q id n u rs → table_over_older q id n u t ≡ None
+        → after q id None (ss ++ rs) ≡ None }
     ensures alone { (q : LogQueue) (id : ℕ) (m : Mark) (t : Option Table) (ss : List Step) →
         Stands q id m t ss → after q id None ss ≡ Some t }
     ensures deleted { (q : LogQueue) (id : ℕ) (m n : Mark) (t : Option Table) (ss rs : List Step) →
@@ -75,8 +78,8 @@ pub fn marks_stand_for_steps()
 pub fn overlays_by_marks()
     ensures one { (s : Step) → IsExactMark (mark_of s) (s ∷ []) }
     ensures joins { (id : ℕ) (m n : Mark) (t : Option Table) (ss rs : List Step) →
-        Stands Append id m t ss
-        → IsExactMark m ss → IsExactMark n rs → IsExactMark (joined_mark Append id m t n) (ss ++ rs) }
+        Stands Append id m t ss → IsExactMark m ss → IsExactMark n rs
+        → IsExactMark (joined_mark Append id m t n) (ss ++ rs) }
     ensures overlay { (m : Mark) (ss : List Step) (a r : Table) → IsExactMark m ss
         → overlay_under m a r ≡ overlay ss a r }
     ensures run { (id : ℕ) (m : Mark) (a : Option Table) (ss : List Step) (r : Table) → AreSteps ss

@@ -171,8 +171,8 @@ impl Mark {
 impl Mark {
     /// Joins the region mark of a run that starts at `start`, where the own entries end at `end`.
     pub fn add_run(&mut self, queue: LogQueue, end: u64, start: u64)
-        ensures { self.new ≡ joined_at queue end self.old
-            (record fresh { reach = Some start; cut = Some start }) }
+        ensures { self.new
+            ≡ joined_at queue end self.old (record fresh { reach = Some start; cut = Some start }) }
     {
         self.add(queue, end, Some(start), 0, Some(start));
     }
@@ -236,7 +236,8 @@ impl Mark {
     fn add(&mut self, queue: LogQueue, end: u64, reach: Option<u64>, floor: u64, cut: Option<u64>)
         ensures { self.new
             ≡ record (joined_at queue end self.old
-            (record fresh { reach = reach; floor = floor; cut = cut })) { deleted = self.old.deleted } }
+            (record fresh { reach = reach; floor = floor; cut = cut }))
+            { deleted = self.old.deleted } }
     {
         if self.is_settled() {
             return;

@@ -80,8 +80,8 @@ impl MemTable {
             (append_rule self.old rhs.old)) }
         ensures err { IfErr result (λ e. e ≢ Error.Memory →
             (self.new ≡ self.old) × (rhs.new ≡ rhs.old) × (stats.new ≡ stats.old)) }
-        ensures counts { OnOk result (stats.new ≡ counts_after_merge (Some Append) self.old rhs.old
-            stats.old) }
+        ensures counts { OnOk result (stats.new
+            ≡ counts_after_merge (Some Append) self.old rhs.old stats.old) }
         ensures recounted { IsRecounted self.old self.new stats.old stats.new }
         ensures regions { (self.new.region_id ≡ self.old.region_id) ×
             (rhs.new.region_id ≡ rhs.old.region_id) }
@@ -139,8 +139,8 @@ impl MemTable {
         ensures fault { IfErr result (IsTableMergeFault stats.old self.old rhs.old (Some rule)) }
         ensures err { IfErr result (λ e. e ≢ Error.Memory →
             (self.new ≡ self.old) × (rhs.new ≡ rhs.old) × (stats.new ≡ stats.old)) }
-        ensures counts { OnOk result (stats.new ≡ counts_after_merge (Some queue) self.old rhs.old
-            stats.old) }
+        ensures counts { OnOk result (stats.new
+            ≡ counts_after_merge (Some queue) self.old rhs.old stats.old) }
         ensures recounted { IsRecounted self.old self.new stats.old stats.new }
         ensures regions { (self.new.region_id ≡ self.old.region_id) ×
             (rhs.new.region_id ≡ rhs.old.region_id) }

@@ -65,8 +65,8 @@ impl MemTable {
     /// Appends the appended entries from the first on while their file is at or below `gate` to
     /// `vec`, which stays as it was where there is no memory.
     pub fn fetch_entry_indexes_before(&self, gate: FileSeq, vec: &mut Vec<EntryIndex>) -> Result<()>
-        ensures ok { OnOk result (vec.new.items ≡ vec.old.items ++ appended_before gate
-            self.now.entries) }
+        ensures ok { OnOk result (vec.new.items
+            ≡ vec.old.items ++ appended_before gate self.now.entries) }
         ensures err { OnErr result (vec.new.items ≡ vec.old.items) }
         ensures memory { IfErr result (λ e. e ≡ Error.Memory) }
     {
@@ -75,8 +75,8 @@ impl MemTable {
 
     /// Appends the rewritten entries to `vec`, which stays as it was where there is no memory.
     pub fn fetch_rewritten_entry_indexes(&self, vec: &mut Vec<EntryIndex>) -> Result<()>
-        ensures ok { OnOk result (vec.new.items ≡ vec.old.items ++ placed_in Rewrite
-            self.now.entries) }
+        ensures ok { OnOk result (vec.new.items
+            ≡ vec.old.items ++ placed_in Rewrite self.now.entries) }
         ensures err { OnErr result (vec.new.items ≡ vec.old.items) }
         ensures memory { IfErr result (λ e. e ≡ Error.Memory) }
     {
@@ -147,8 +147,8 @@ impl MemTable {
     /// the gate's, whatever its queue.
     pub fn has_at_least_some_entries_before(&self, gate: FileId, count: usize) -> bool
         requires { 0 < count }
-        ensures { result ≡ is_some_before gate.seq
-            (entry_seq (slice_get self.now.entries (count - 1))) }
+        ensures { result
+            ≡ is_some_before gate.seq (entry_seq (slice_get self.now.entries (count - 1))) }
     {
         match self.entries.seq_at(count - 1) {
             Some(seq) => seq <= gate.seq,

@@ -11,7 +11,8 @@ ghost use Rattle.raft_base.specs.declared.pipe_log.LogQueue.{LogQueue};
 ghost use Rattle.raft_base.specs.declared.entry_index.EntryIndex.{EntryIndex};
 ghost use Rattle.raft_table.specs.Counts.{Counts, live};
 ghost use Rattle.raft_base.specs.declared.pipe_log.LogQueue.TheVariants.{Append, Rewrite};
-ghost use Rattle.raft_table.specs.TableEntries.{RisesFrom, IsRunIn, AreTableEntries, start_of, end_of, entries_between, entry_count, entry_at};
+ghost use Rattle.raft_base.specs.Runs.{RisesFrom, end_of};
+ghost use Rattle.raft_table.specs.TableEntries.{IsRunIn, AreTableEntries, start_of, entries_between, entry_count, entry_at};
 ghost use Rattle.raft_table.specs.Fetches.{Found, range_answer, total_len, IsLimitCount, FetchesWithin};
 ghost use Rattle.raft_table.specs.KeyValues.{Keys, value_at, least, pairs_over};
 ghost use Rattle.raft_table.specs.Rewriting.{overlap, moved_count, entries_after_rewrite};
@@ -26,9 +27,11 @@ use raft_base::Error;
 #[tactic(auto, using(crate::proofs::RunCounts::append_full, crate::proofs::RunCounts::replay_full))]
 pub fn full_runs_pass_the_limit()
     ensures append { (q : LogQueue) (counts : Counts) (es run : List EntryIndex)
-        → IsTableRunFault q counts es (entries_after_append es run) Error.Full → 2 ^ 64 ≤ live q counts + length run }
+        → IsTableRunFault q counts es (entries_after_append es run) Error.Full
+        → 2 ^ 64 ≤ live q counts + length run }
     ensures replay { (rule q : LogQueue) (counts : Counts) (es run : List EntryIndex)
-        → IsTableRunFault q counts es (entries_after_replay rule es run) Error.Full → 2 ^ 64 ≤ live q counts + length run }
+        → IsTableRunFault q counts es (entries_after_replay rule es run) Error.Full
+        → 2 ^ 64 ≤ live q counts + length run }
 {}
 
 /// A table has as many entries as its end is above its first index, and in both queues together as
@@ -53,7 +56,8 @@ pub fn fetches_answer_ranges()
         ≡ (if nat_le begin i && nat_lt i end then entry_at i es else None) }
     ensures whole { (begin end : ℕ) (es : List EntryIndex) → AreTableEntries es →
         range_answer begin end es ≡ Found
-        → RisesFrom begin (entries_between begin end es) × (begin + length (entries_between begin end es) ≡ end) }
+        → RisesFrom begin (entries_between begin end es)
+        × (begin + length (entries_between begin end es) ≡ end) }
     ensures unlimited { (es old new : List EntryIndex) → FetchesWithin None es old new →
         new ≡ old ++ es }
     ensures first { (limit : Option ℕ) (es : List EntryIndex) (n : ℕ) → IsLimitCount limit es n →
@@ -75,7 +79,8 @@ pub fn scans_visit_pairs()
         → value_at keys key ≡ Some value → is_between start end key ≡ true
         → Contains (pairs_between start end false keys) (key, value) }
     ensures order { (start end : Option (List ℕ)) (keys : Keys)
-        → IsStrictlySortedBy (slice_cmp nat_cmp) (map (λ p. p.0) (pairs_between start end false keys)) }
+        → IsStrictlySortedBy (slice_cmp nat_cmp)
+        (map (λ p. p.0) (pairs_between start end false keys)) }
     ensures reversed { (start end : Option (List ℕ)) (keys : Keys)
         → pairs_between start end true keys ≡ reverse (pairs_between start end false keys) }
 {}
@@ -87,7 +92,8 @@ pub fn rewriting_stands_by_index()
     ensures moved { (gate : Option ℕ) (run es after met : List EntryIndex) (e : EntryIndex) (i : ℕ)
         → IsRunIn Rewrite run → AreTableEntries es → overlap run es ≡ e ∷ met → entries_after_rewrite gate run es ≡ Some after
         → entry_at i after
-        ≡ (if nat_le e.index i && nat_lt i (e.index + moved_count gate run es) then entry_at i run else entry_at i es) }
+        ≡ (if nat_le e.index i && nat_lt i (e.index + moved_count gate run es)
+        then entry_at i run else entry_at i es) }
     ensures apart { (gate : Option ℕ) (run es : List EntryIndex) → overlap run es ≡ []
         → entries_after_rewrite gate run es ≡ Some es }
 {}
@@ -103,5 +109,6 @@ pub fn least_is_lowest()
 /// they hold nothing, what the older ones do.
 pub fn newer_pairs_win()
     ensures { (newer older : Keys) (key : List ℕ)
-        → finite.get (pairs_over newer older) key ≡ option_or (finite.get newer key) (finite.get older key) }
+        → finite.get (pairs_over newer older) key
+        ≡ option_or (finite.get newer key) (finite.get older key) }
 {}

@@ -4,8 +4,9 @@ ghost use Rattle.std.specs.Prelude.{◌≡◌, ◌≢◌, ◌+◌, ◌≤◌, fa
 ghost use Rattle.std.specs.FinMap as finite;
 ghost use Rattle.raft_base.specs.declared.pipe_log.LogQueue.{LogQueue};
 ghost use Rattle.raft_base.specs.declared.entry_index.EntryIndex.{EntryIndex};
+ghost use Rattle.raft_base.specs.Runs.{IsRun, end_of};
 ghost use Rattle.raft_table.specs.Counts.{live};
-ghost use Rattle.raft_table.specs.TableEntries.{IsRun, IsRunIn, end_of};
+ghost use Rattle.raft_table.specs.TableEntries.{IsRunIn};
 ghost use Rattle.raft_table.specs.KeySets.{without};
 ghost use Rattle.raft_table.specs.KeyValues.{pair_count};
 ghost use Rattle.raft_table.specs.MarkMerge.{IsMarkFault, IsFaultUnder, IsRunOver, left_by};
@@ -163,8 +164,9 @@ impl MemTable {
 
     /// Takes over the atomic group of a newer table, if it has one.
     fn take_atomic_group(&mut self, rhs: &mut MemTable)
-        ensures atomic_group { self.new
-            ≡ record self.old { atomic_group = newer_atomic_group rhs.old.atomic_group self.old.atomic_group } }
+        ensures atomic_group { self.new ≡ record self.old {
+          atomic_group = newer_atomic_group rhs.old.atomic_group self.old.atomic_group;
+        } }
         ensures emptied { rhs.new ≡ record rhs.old { atomic_group = None } }
     {
         if let Some(atomic_group) = rhs.atomic_group.take() {
@@ -204,7 +206,8 @@ impl MemTable {
         requires counted { IsCounted self.old stats.old }
         ensures ok { OnOk result (after_replay queue self.old run.items ≡ Some self.new) }
         ensures fault { IfErr result
-            (IsTableRunFault queue stats.old self.old.entries (entries_after_replay queue self.old.entries run.items)) }
+            (IsTableRunFault queue stats.old self.old.entries
+            (entries_after_replay queue self.old.entries run.items)) }
         ensures recounted { IsRecounted self.old self.new stats.old stats.new }
         ensures region { self.new.region_id ≡ self.old.region_id }
     {

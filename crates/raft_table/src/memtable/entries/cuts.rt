@@ -3,7 +3,8 @@
 ghost use Rattle.std.specs.Prelude.{◌≡◌, ◌+◌, ◌≤◌, ◌<◌, [], length, take, drop, slice_index_or};
 ghost use Rattle.raft_table.specs.Blocks.{shown};
 ghost use Rattle.raft_table.specs.BlockWords.{cut_last, cut_first};
-ghost use Rattle.raft_table.specs.TableEntries.{end_of, below, from, AreCounted, AreRecounted};
+ghost use Rattle.raft_base.specs.Runs.{end_of};
+ghost use Rattle.raft_table.specs.TableEntries.{below, from, AreCounted, AreRecounted};
 ghost use Rattle.raft_table.specs.Start.{counts_without};
 ghost use Rattle.raft_table.specs.Marks.{entries_within};
 
@@ -152,8 +153,8 @@ fn cut_back(blocks: &mut VecDeque<Block>, whole: usize, part: usize)
 /// Drops whole blocks from the front, and so many entries of the next one.
 fn cut_front(blocks: &mut VecDeque<Block>, whole: usize, part: usize)
     requires whole { whole < length blocks.old.items }
-    requires part { (d : Block) → part ≤ length
-        (slice_index_or blocks.old.items whole d).spans.items }
+    requires part { (d : Block) → part
+        ≤ length (slice_index_or blocks.old.items whole d).spans.items }
     ensures { shown blocks.new.items ≡ cut_first part (drop whole (shown blocks.old.items)) }
 {
     drop_first(blocks, whole);

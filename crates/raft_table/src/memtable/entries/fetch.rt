@@ -22,7 +22,8 @@ impl Entries {
         vec: &mut Vec<EntryIndex>,
     ) -> Result<()>
         ensures ok { OnOk result
-            (Fetches limit begin end self.now vec.old.items vec.new.items (range_answer begin end self.now)) }
+            (Fetches limit begin end self.now vec.old.items vec.new.items
+            (range_answer begin end self.now)) }
         ensures fault { IfErr result (IsFetchFault (range_answer begin end self.now)) }
         ensures err { OnErr result (vec.new.items ≡ vec.old.items) }
     {

@@ -132,8 +132,8 @@ impl Entries {
         requires behind { at + length run < length self.old }
         requires table_entries { AreTableEntries
             (take at self.old ++ run ++ drop (at + length run) self.old) }
-        ensures ok { OnOk result (self.new ≡ take at self.old ++ run ++ drop (at + length run)
-            self.old) }
+        ensures ok { OnOk result (self.new
+            ≡ take at self.old ++ run ++ drop (at + length run) self.old) }
         ensures err { OnErr result (self.new ≡ self.old) }
     {
         let kept = self.rewritten.min(at);

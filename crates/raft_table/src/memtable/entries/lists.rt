@@ -70,7 +70,8 @@ pub(super) fn cut_at(starts: &VecDeque<u64>, first: u64, kept: usize) -> (usize,
     requires within { 0 < kept → IsIndexOf starts.now.items (first + (kept - 1)) }
     ensures none { kept ≡ 0 → (result.0 ≡ 0) × (result.1 ≡ 0) }
     ensures some { (bs : List BlockSpans) → 0 < kept → starts.now.items ≡ starts_of first bs →
-        kept ≤ count bs → IsAt (kept - 1) bs (result.0 - 1) (result.1 - 1) × (0 < result.0) × (0 < result.1) }
+        kept ≤ count bs
+        → IsAt (kept - 1) bs (result.0 - 1) (result.1 - 1) × (0 < result.0) × (0 < result.1) }
 {
     if kept == 0 {
         return (0, 0);
@@ -120,16 +121,19 @@ pub(super) fn put_blocks(
     requires starts { length starts.old.items ≡ length blocks.old.items }
     requires more { (0 < length more.old.items) ×
         (length more_starts.old.items ≡ length more.old.items) }
-    ensures blocks { OnOk result (shown blocks.new.items ≡
-        joined_blocks (cut_last place.1 (take place.0 (shown blocks.old.items))) (shown more.old.items)
+    ensures blocks { OnOk result (shown blocks.new.items
+        ≡ joined_blocks (cut_last place.1 (take place.0 (shown blocks.old.items)))
+        (shown more.old.items)
         ++ drop rest (shown blocks.old.items)) }
     ensures starts { OnOk result (starts.new.items ≡ take place.0 starts.old.items
-        ++ drop (seam (take place.0 (shown blocks.old.items)) (shown more.old.items)) more_starts.old.items
+        ++ drop (seam (take place.0 (shown blocks.old.items)) (shown more.old.items))
+        more_starts.old.items
         ++ drop rest starts.old.items) }
     ensures emptied { OnOk result ((more.new.items ≡ []) × (more_starts.new.items ≡ [])) }
     ensures err { OnErr result ((shown blocks.new.items ≡ shown blocks.old.items)
         × (starts.new.items ≡ starts.old.items)
-        × (shown more.new.items ≡ shown more.old.items) × (more_starts.new.items ≡ more_starts.old.items)) }
+        × (shown more.new.items ≡ shown more.old.items)
+        × (more_starts.new.items ≡ more_starts.old.items)) }
 {
     make_room(blocks, more)?;
     make_room(starts, more_starts)?;
@@ -169,11 +173,13 @@ fn meet(
     requires more { (0 < length more.old.items) ×
         (length more_starts.old.items ≡ length more.old.items) }
     ensures front { OnOk result (take place.0 (shown blocks.new.items) ++ shown more.new.items
-        ≡ joined_blocks (cut_last place.1 (take place.0 (shown blocks.old.items))) (shown more.old.items)) }
+        ≡ joined_blocks (cut_last place.1 (take place.0 (shown blocks.old.items)))
+        (shown more.old.items)) }
     ensures behind { OnOk result ((n : ℕ) → place.0 ≤ n
         → drop n (shown blocks.new.items) ≡ drop n (shown blocks.old.items)) }
     ensures starts { OnOk result (more_starts.new.items
-        ≡ drop (seam (take place.0 (shown blocks.old.items)) (shown more.old.items)) more_starts.old.items) }
+        ≡ drop (seam (take place.0 (shown blocks.old.items)) (shown more.old.items))
+        more_starts.old.items) }
     ensures room { (deque_len blocks.new ≡ deque_len blocks.old)
         × (deque_capacity blocks.new ≡ deque_capacity blocks.old) }
     ensures fewer { (deque_len more.new ≤ deque_len more.old)
@@ -219,7 +225,8 @@ pub(super) fn push_block(
     ensures blocks { OnOk result (shown blocks.new.items
         ≡ joined_blocks (shown blocks.old.items) (block_spans block ∷ [])) }
     ensures starts { OnOk result (starts.new.items
-        ≡ starts.old.items ++ drop (seam (shown blocks.old.items) (block_spans block ∷ [])) (index ∷ [])) }
+        ≡ starts.old.items
+        ++ drop (seam (shown blocks.old.items) (block_spans block ∷ [])) (index ∷ [])) }
     ensures err { OnErr result ((shown blocks.new.items ≡ shown blocks.old.items)
         × (starts.new.items ≡ starts.old.items)) }
 {
@@ -242,8 +249,8 @@ pub(super) fn push_block(
 fn lengthen(block: &mut Block, part: usize, more: &mut VecDeque<(u32, u32)>) -> AllocResult<()>
     requires { part ≤ length block.old.spans.items }
     ensures handle { block.new.handle ≡ block.old.handle }
-    ensures ok { OnOk result (block.new.spans.items ≡ take part
-        block.old.spans.items ++ more.old.items) }
+    ensures ok { OnOk result (block.new.spans.items
+        ≡ take part block.old.spans.items ++ more.old.items) }
     ensures err { OnErr result ((block.new.spans.items ≡ block.old.spans.items) ×
         (more.new.items ≡ more.old.items)) }
 {
@@ -271,8 +278,8 @@ fn splice<T: Drop>(deque: &mut VecDeque<T>, kept: usize, rest: usize, more: &mut
     requires within { rest ≤ deque_len deque.old }
     requires room { (deque_len deque.old + deque_len more.old ≤ deque_capacity deque.old)
         ⊎ (deque_len deque.old + deque_len more.old ≤ deque_capacity more.old) }
-    ensures items { deque.new.items ≡ take kept deque.old.items ++ more.old.items ++ drop rest
-        deque.old.items }
+    ensures items { deque.new.items
+        ≡ take kept deque.old.items ++ more.old.items ++ drop rest deque.old.items }
     ensures emptied { more.new.items ≡ [] }
 {
     let behind = deque.len() - rest;

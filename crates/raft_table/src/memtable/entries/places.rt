@@ -3,7 +3,8 @@
 ghost use Rattle.std.specs.Prelude.{◌≡◌, ◌≢◌, ◌⊎◌, ◌+◌, ◌<◌, ◌≤◌, ◌^◌, ◌++◌, length, take, drop, MatchOption, OnOk, OnErr, IfErr, false};
 ghost use Rattle.std.specs.List.{prefix_len};
 ghost use Rattle.raft_table.specs.Counts.{live, with_added, with_deleted};
-ghost use Rattle.raft_table.specs.TableEntries.{AreTableEntries, IsRunIn, RisesFrom, start_of, placed_in, entry_count, AreCounted, AreRecounted};
+ghost use Rattle.raft_base.specs.Runs.{RisesFrom};
+ghost use Rattle.raft_table.specs.TableEntries.{AreTableEntries, IsRunIn, start_of, placed_in, entry_count, AreCounted, AreRecounted};
 ghost use Rattle.raft_table.specs.Queues.{count_in};
 ghost use Rattle.raft_table.specs.Overlaps.{IsOverlap, AreDisjoint};
 ghost use Rattle.raft_table.specs.Rewriting.{may_move, is_misplaced, newly_rewritten, with_rewritten, entries_after_rewrite, counts_after_rewrite, IsRewriteFault, MovesPlacesAlone};
@@ -26,8 +27,8 @@ impl Entries {
         requires counted { AreCounted self.old stats.old }
         ensures ok { OnOk result (entries_after_rewrite gate run.now self.old ≡ Some self.new) }
         ensures places_alone { OnOk result (MovesPlacesAlone run.now self.old self.new) }
-        ensures counts { OnOk result (stats.new ≡ counts_after_rewrite gate run.now self.old
-            stats.old) }
+        ensures counts { OnOk result (stats.new
+            ≡ counts_after_rewrite gate run.now self.old stats.old) }
         ensures fault { IfErr result (IsRewriteFault (length run.now) stats.old
             (entries_after_rewrite gate run.now self.old)) }
         ensures err { OnErr result ((self.new ≡ self.old) × (stats.new ≡ stats.old)) }
@@ -99,7 +100,8 @@ impl Entries {
         requires counted { AreCounted self.old stats.old }
         ensures ok { let m = prefix_len (may_move gate)
             (drop at (take (at + length places.now) self.old)) in
-            OnOk result ((self.new ≡ take at self.old ++ take m places.now ++ drop (at + m) self.old)
+            OnOk result ((self.new
+            ≡ take at self.old ++ take m places.now ++ drop (at + m) self.old)
             × (stats.new ≡ with_rewritten gate written m stats.old)) }
         ensures fault { IfErr result (λ e. (e ≡ Error.Memory)
             ⊎ ((e ≡ Error.Full) × (2 ^ 64 ≤ live Rewrite stats.old + written))) }
@@ -121,8 +123,8 @@ impl Entries {
         requires within { at + length places.now ≤ length self.old }
         requires table_entries { AreTableEntries
             (take at self.old ++ places.now ++ drop (at + length places.now) self.old) }
-        ensures ok { OnOk result (self.new ≡ take at self.old ++ places.now ++ drop
-            (at + length places.now) self.old) }
+        ensures ok { OnOk result (self.new
+            ≡ take at self.old ++ places.now ++ drop (at + length places.now) self.old) }
         ensures err { OnErr result (self.new ≡ self.old) }
     {
         if places.is_empty() {
@@ -143,8 +145,8 @@ fn count_moved(gate: Option<FileSeq>, written: usize, moved: usize, stats: &mut 
     requires appended { newly_rewritten gate moved ≤ live Append stats.old }
     ensures counts { stats.new ≡ with_rewritten gate written moved stats.old }
     ensures appended { live Append stats.new + newly_rewritten gate moved ≡ live Append stats.old }
-    ensures rewritten { live Rewrite stats.new ≡ live Rewrite stats.old + newly_rewritten gate
-        moved }
+    ensures rewritten { live Rewrite stats.new
+        ≡ live Rewrite stats.old + newly_rewritten gate moved }
 {
     add_written(stats, written);
     match gate {
@@ -158,8 +160,8 @@ fn count_moved(gate: Option<FileSeq>, written: usize, moved: usize, stats: &mut 
 
 /// Counts a rewriting by `written` entries that moves no place.
 fn count_unmoved(written: usize, stats: &mut GlobalStats) -> Result<()>
-    ensures ok { OnOk result (stats.new ≡ with_deleted Rewrite written
-        (with_added Rewrite written stats.old)) }
+    ensures ok { OnOk result (stats.new
+        ≡ with_deleted Rewrite written (with_added Rewrite written stats.old)) }
     ensures live { OnOk result ((q : LogQueue) → live q stats.new ≡ live q stats.old) }
     ensures full { IfErr result (λ e. (e ≡ Error.Full) ×
         (2 ^ 64 ≤ live Rewrite stats.old + written)) }
@@ -177,8 +179,8 @@ fn count_unmoved(written: usize, stats: &mut GlobalStats) -> Result<()>
 fn add_written(stats: &mut GlobalStats, written: usize)
     requires { live Rewrite stats.old + written < 2 ^ 64 }
     ensures after { stats.new ≡ with_added Rewrite written stats.old }
-    ensures live { (q : LogQueue) → live q stats.new ≡ live q stats.old + count_in q Rewrite
-        written }
+    ensures live { (q : LogQueue) → live q stats.new
+        ≡ live q stats.old + count_in q Rewrite written }
 {
     if stats.add(LogQueue::Rewrite, written).is_err() {
         unreachable!()

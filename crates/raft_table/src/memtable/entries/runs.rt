@@ -23,8 +23,8 @@ impl Entries {
         ensures fault { IfErr result (IsTableRunFault Append stats.old self.old
             (entries_after_append self.old run.items)) }
         ensures err { OnErr result ((self.new ≡ self.old) × (stats.new ≡ stats.old)) }
-        ensures counts { OnOk result (stats.new ≡ counts_with_run Append self.old run.items
-            stats.old) }
+        ensures counts { OnOk result (stats.new
+            ≡ counts_with_run Append self.old run.items stats.old) }
         ensures recounted { AreRecounted self.old self.new stats.old stats.new }
     {
         let Some(first) = run.first() else {
@@ -66,8 +66,8 @@ impl Entries {
             (entries_after_replay rule self.old rhs.old)) }
         ensures err { OnErr result ((self.new ≡ self.old) × (rhs.new ≡ rhs.old) ×
             (stats.new ≡ stats.old)) }
-        ensures counts { OnOk result (stats.new ≡ counts_with_run queue self.old rhs.old
-            stats.old) }
+        ensures counts { OnOk result (stats.new
+            ≡ counts_with_run queue self.old rhs.old stats.old) }
         ensures recounted { AreRecounted self.old self.new stats.old stats.new }
     {
         rhs.holds_one_run();
@@ -88,8 +88,8 @@ impl Entries {
         ensures fault { IfErr result (IsTableRunFault queue stats.old self.old
             (entries_after_replay queue self.old run.now)) }
         ensures err { OnErr result ((self.new ≡ self.old) × (stats.new ≡ stats.old)) }
-        ensures counts { OnOk result (stats.new ≡ counts_with_run queue self.old run.now
-            stats.old) }
+        ensures counts { OnOk result (stats.new
+            ≡ counts_with_run queue self.old run.now stats.old) }
         ensures recounted { AreRecounted self.old self.new stats.old stats.new }
     {
         let Some(first) = run.first() else {
@@ -154,8 +154,8 @@ impl Entries {
             (entries_after_replay rule self.old run.old)) }
         ensures err { OnErr result ((self.new ≡ self.old) × (run.new ≡ run.old) ×
             (stats.new ≡ stats.old)) }
-        ensures counts { OnOk result (stats.new ≡ counts_with_run queue self.old run.old
-            stats.old) }
+        ensures counts { OnOk result (stats.new
+            ≡ counts_with_run queue self.old run.old stats.old) }
         ensures recounted { AreRecounted self.old self.new stats.old stats.new }
     {
         let Some(first) = run.first_index() else {
@@ -257,8 +257,10 @@ impl Entries {
         requires keep { keep ≤ length self.now }
         requires counted { AreCounted self.now stats.now }
         ensures { MatchBool result
-            (live queue stats.now + length run.now < 2 ^ 64 + entry_count queue (drop keep self.now))
-            (2 ^ 64 + entry_count queue (drop keep self.now) ≤ live queue stats.now + length run.now) }
+            (live queue stats.now + length run.now
+            < 2 ^ 64 + entry_count queue (drop keep self.now))
+            (2 ^ 64 + entry_count queue (drop keep self.now)
+            ≤ live queue stats.now + length run.now) }
     {
         let (rewritten, appended) = self.count_behind(keep);
         has_room(stats, rewritten, appended, queue, run.len())
@@ -277,8 +279,8 @@ impl Entries {
         requires table_entries { AreTableEntries (take keep self.old ++ run.now) }
         requires queue { AllByRecursion (λ e. is_placed_in queue e ≡ true) run.now }
         requires counted { AreCounted self.old stats.old }
-        requires room { live queue stats.old + length run.now < 2 ^ 64 + entry_count queue
-            (drop keep self.old) }
+        requires room { live queue stats.old + length run.now
+            < 2 ^ 64 + entry_count queue (drop keep self.old) }
         ensures ok { OnOk result (self.new ≡ take keep self.old ++ run.now) }
         ensures err { OnErr result ((self.new ≡ self.old) × (stats.new ≡ stats.old)) }
         ensures counts { OnOk result (stats.new
@@ -352,12 +354,14 @@ fn exchange(
 )
     requires rewritten { rewritten ≤ live Rewrite stats.old }
     requires appended { appended ≤ live Append stats.old }
-    requires room { live queue stats.old + added < 2 ^ 64 + of_queue queue appended
-        rewritten }
+    requires room { live queue stats.old + added
+        < 2 ^ 64 + of_queue queue appended rewritten }
     ensures live { (q : LogQueue) →
-        live q stats.new + of_queue q appended rewritten ≡ live q stats.old + count_in q queue added }
+        live q stats.new + of_queue q appended rewritten
+        ≡ live q stats.old + count_in q queue added }
     ensures counts { stats.new
-        ≡ with_added queue added (with_deleted Rewrite rewritten (with_deleted Append appended stats.old)) }
+        ≡ with_added queue added
+        (with_deleted Rewrite rewritten (with_deleted Append appended stats.old)) }
 {
     stats.delete(LogQueue::Append, appended);
     stats.delete(LogQueue::Rewrite, rewritten);

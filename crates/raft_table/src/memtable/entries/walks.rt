@@ -56,7 +56,8 @@ fn push_unset(
     requires bounded { first + end < 2 ^ 64 }
     requires room { vec_len vec.old + (end - start) ≤ vec_capacity vec.old }
     ensures { vec.new.items
-        ≡ vec.old.items ++ map unset (drop start (take end (entries_in_blocks first (shown blocks.now.items)))) }
+        ≡ vec.old.items
+        ++ map unset (drop start (take end (entries_in_blocks first (shown blocks.now.items)))) }
 {
     let (mut whole, mut at) = place;
     let mut done = start;
@@ -77,7 +78,8 @@ fn push_unset_part(vec: &mut Vec<EntryIndex>, first: u64, block: &Block, at: usi
     requires bounded { first + count < 2 ^ 64 }
     requires room { vec_len vec.old + count ≤ vec_capacity vec.old }
     ensures items { vec.new.items
-        ≡ vec.old.items ++ map unset (spread first block.now.handle (take count (drop at block.now.spans.items))) }
+        ≡ vec.old.items
+        ++ map unset (spread first block.now.handle (take count (drop at block.now.spans.items))) }
     ensures len { vec_len vec.new ≡ vec_len vec.old + count }
     ensures capacity { vec_capacity vec.new ≡ vec_capacity vec.old }
 {
@@ -107,8 +109,10 @@ fn set_spans(
     requires within { end ≤ count (shown blocks.now.items) }
     requires there { len + (end - start) ≤ length vec.old.items }
     ensures { (i : ℕ) (front : List EntryIndex) → length front ≡ len
-        → vec.old.items ≡ front ++ map unset (drop start (take end (entries_in_blocks i (shown blocks.now.items))))
-        → vec.new.items ≡ front ++ drop start (take end (entries_in_blocks i (shown blocks.now.items))) }
+        → vec.old.items
+        ≡ front ++ map unset (drop start (take end (entries_in_blocks i (shown blocks.now.items))))
+        → vec.new.items
+        ≡ front ++ drop start (take end (entries_in_blocks i (shown blocks.now.items))) }
 {
     let (mut whole, mut at) = place;
     let mut done = start;
@@ -160,7 +164,8 @@ pub(super) fn movable_from(
     requires order { start ≤ end }
     requires within { end ≤ count (shown blocks.now.items) }
     ensures { (i : ℕ)
-        → result ≡ prefix_len (may_move gate) (drop start (take end (entries_in_blocks i (shown blocks.now.items)))) }
+        → result ≡ prefix_len (may_move gate)
+        (drop start (take end (entries_in_blocks i (shown blocks.now.items)))) }
 {
     let (mut whole, mut at) = place;
     let mut done = start;
@@ -222,7 +227,8 @@ fn next(block: &Block, place: (usize, usize)) -> (usize, usize)
     requires within { place.0 + 1 < 2 ^ 64 }
     requires inside { place.1 < length block.now.spans.items }
     ensures { (p : ℕ) (bs : List BlockSpans) → IsAt p bs place.0 place.1 → AreDistinctBlocks bs
-        → block_spans block.now ≡ slice_index_or bs place.0 (block_spans block.now) → p + 1 < count bs
+        → block_spans block.now ≡ slice_index_or bs place.0 (block_spans block.now)
+        → p + 1 < count bs
         → IsAt (p + 1) bs result.0 result.1 }
 {
     let (whole, at) = place;

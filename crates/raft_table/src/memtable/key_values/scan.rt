@@ -33,7 +33,8 @@ pub(super) fn sought<'a>(
     requires { IsTrue (is_forward (option_map (λ k. k.items) start.now)
         (option_map (λ k. k.items) end.now)) }
     ensures { result ≡ filter
-        (λ e. is_between (option_map (λ k. k.items) start.now) (option_map (λ k. k.items) end.now) e.0.items)
+        (λ e. is_between (option_map (λ k. k.items) start.now) (option_map (λ k. k.items) end.now)
+        e.0.items)
         pairs.now.entries }
 {
     match (start, end) {
@@ -64,7 +65,8 @@ pub(super) fn visit<F: FnMut(&[u8], &[u8]) -> bool>(
     requires { F.IsAlwaysCallable f }
     ensures { (last : F)
         × VisitsUntilFalse (CalledAtTwo F.FnMut) f (map (λ e. (e.0.items, e.1.value.items))
-        (filter (λ e. is_between (option_copied start.entry) (option_copied end.entry) e.0.items) pairs.entry)) last }
+        (filter (λ e. is_between (option_copied start.entry) (option_copied end.entry) e.0.items)
+        pairs.entry)) last }
 {
     while let Some((key, pair)) = pairs.next() {
         if is_between(key.as_slice(), start, end) && !f(key.as_slice(), pair.value.as_slice()) {
@@ -83,7 +85,8 @@ pub(super) fn visit_back<F: FnMut(&[u8], &[u8]) -> bool>(
     requires { F.IsAlwaysCallable f }
     ensures { (last : F)
         × VisitsUntilFalse (CalledAtTwo F.FnMut) f (reverse (map (λ e. (e.0.items, e.1.value.items))
-        (filter (λ e. is_between (option_copied start.entry) (option_copied end.entry) e.0.items) pairs.entry))) last }
+        (filter (λ e. is_between (option_copied start.entry) (option_copied end.entry) e.0.items)
+        pairs.entry))) last }
 {
     while let Some((key, pair)) = pairs.next_back() {
         if is_between(key.as_slice(), start, end) && !f(key.as_slice(), pair.value.as_slice()) {

@@ -2,7 +2,7 @@ use Rattle.std.proofs.Common.{◌≡◌, refl, sym, ap, subst}
 use Rattle.raft_table.specs.Start.{counts_with_run}
 use Rattle.std.specs.Result.{OnOk}
 use Rattle.raft_table.specs.Queues.{other}
-use Rattle.raft_table.specs.TableEntries.{end_of}
+use Rattle.raft_base.specs.Runs.{end_of}
 use Rattle.raft_table.specs.Table.{after_replay, live_of}
 use Rattle.raft_accessor.specs.Accessor.{Accessor, AreCountsOf}
 use Rattle.raft_accessor.specs.Updates.{IsReplayFault}

@@ -1,9 +1,9 @@
 use Rattle.std.proofs.Common.{◌≡◌, refl, sym, ap, subst, ok_or, IfSome}
 use Rattle.std.specs.Option.{OnSome}
 use Rattle.raft_base.specs.declared.errors.Error.TheVariants.{Memory}
+use Rattle.raft_base.specs.Runs.{end_of}
 use Rattle.raft_table.specs.Queues.{other}
 use Rattle.raft_table.specs.Start.{counts_with_run}
-use Rattle.raft_table.specs.TableEntries.{end_of}
 use Rattle.raft_table.specs.Table.{after_replay, live_of}
 use Rattle.raft_table.specs.Steps.{table_of}
 use Rattle.std.specs.Vec.{with_item}

@@ -6,7 +6,7 @@ use Rattle.raft_table.specs.Queues.{other}
 use Rattle.raft_table.specs.Start.{counts_with_run}
 use Rattle.raft_table.specs.Steps.{table_of}
 use Rattle.raft_table.specs.Table.{IsCounted, after_replay, live_of}
-use Rattle.raft_table.specs.TableEntries.{end_of}
+use Rattle.raft_base.specs.Runs.{end_of}
 use Rattle.raft_accessor.specs.RegionTablesView.{tables_shown}
 use Rattle.raft_accessor.specs.declared.region_tables.RegionTables.TheInside.{Inside}
 use Rattle.raft_accessor.proofs.MapLemmas.{insert_same}

@@ -1,10 +1,10 @@
-use Rattle.std.proofs.Common.{◌≡◌, ◌≢◌, [], length, map, arith, rules}
+use Rattle.std.proofs.Common.{◌≡◌, ◌≢◌, ◌∙◌, [], length, map, sym, arith, rules}
 use Rattle.raft_records.specs.Entries.{entry_with_index}
 use Rattle.raft_records.specs.LogBatch.{populating}
 use Rattle.raft_records.specs.LogBatchModel.{stage_of}
 use Rattle.raft_records.specs.Buffer.{entry_bytes_in}
 use Rattle.raft_records.proofs.StageLemmas.{reheld}
-use Rattle.raft_records.proofs.StringLemmas.{added_held, cut_held, added_view, reserved_len, same_counts, map_some}
+use Rattle.raft_records.proofs.StringLemmas.{added_held, cut_held, added_view, reserved_len, same_counts, map_some, none_consecutive}
 use Rattle.raft_records.proofs.log_batch.LogBatch.add_entries.Goals as goal
 
 pub invariant_of-self : goal.invariant_of-self
@@ -41,3 +41,6 @@ returns-clause-ok g c =
     let held = added_held (stage_of c.self.inside.state) c.self.inside.item_batch c.write_messages.new.item_batch c.args.region_id es strings c.self.inside.buf.items c.reserve_header.new.buf.items c.write_messages.new.buf.items open_stage c.self.invariant c.in_ok-reserve_header.ensures.ok c.reserve_header.ensures.same counts c.in_default.ensures.items c.in_default.ensures.bytes c.in_default.ensures.accepted in
     let some : c.args.entries.now ≢ [] = search rules in
     added_view c.args.self.now (stage_of c.self.inside.state) c.self.inside.item_batch c.write_messages.new.item_batch c.args.region_id es strings (entry_bytes_in c.self.inside.item_batch c.self.inside.buf.items) (entry_bytes_in c.write_messages.new.item_batch c.write_messages.new.buf.items) c.self.view_is c.self.invariant.whole (map_some (λ e. entry_with_index (g.M.MessageExt.index_of e)) c.args.entries.now some) c.in_default.ensures.items held.1
+
+pub returns-then-is_empty-clause-consecutive : goal.returns-then-is_empty-clause-consecutive
+returns-then-is_empty-clause-consecutive g c = none_consecutive g.M.MessageExt.index_of c.args.entries.now (sym c.is_empty.ensures ∙ c.if-is_empty.true)

@@ -1,5 +1,5 @@
 use Rattle.std.proofs.Common.{ap, sym, ◌∙◌}
-use Rattle.raft_table.specs.TableEntries.{end_of}
+use Rattle.raft_base.specs.Runs.{end_of}
 use Rattle.raft_table.proofs.MarkWords.{end_of-nil}
 use Rattle.raft_table.proofs.memtable.entries.Entries.end.Goals as goal
 

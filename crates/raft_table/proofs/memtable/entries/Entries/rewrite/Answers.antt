@@ -25,7 +25,7 @@ pub overlap-requires : goal.overlap-requires
 overlap-requires c =
     let s = start_known c in
     let e = run_end Rewrite c.args.run.now c.requires.run c.in-Some.ensures.item.3.0 in
-    let b = c.requires.run.bounded in
+    let b = c.requires.run.consecutive.bounded in
     omega arith
 
 -- a refusal of the counts

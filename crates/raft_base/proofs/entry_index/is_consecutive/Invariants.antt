@@ -1,6 +1,7 @@
 use Rattle.std.proofs.Common.{◌↔◌, drop}
-use Rattle.raft_records.specs.Entries.{IsConsecutive, IsConsecutiveFrom}
-use Rattle.raft_records.proofs.entry_indexes.is_consecutive.Given as goal
+use Rattle.raft_base.specs.Runs.{IsConsecutive}
+use Rattle.raft_base.proofs.ConsecutiveLemmas.{IsConsecutiveFrom}
+use Rattle.raft_base.proofs.entry_index.is_consecutive.Given as goal
 
 -- what is left to see decides
 abbrev pub invariant-loop-entry : goal.invariant-loop-entry

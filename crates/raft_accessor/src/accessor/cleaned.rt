@@ -1,0 +1,66 @@
+//! The list of the regions that were cleaned.
+
+ghost use Rattle.std.specs.Prelude.{◌≡◌, [], ◌∷◌, ◌++◌, map, OnOk, OnErr, IfOk, IfErr};
+ghost use Rattle.raft_records.specs.Item.{command_item};
+ghost use Rattle.raft_records.specs.LogBatch.{empty_batch};
+ghost use Rattle.raft_records.specs.declared.command.Command.TheVariants.{Clean};
+
+use crate::accessor::MemTableAccessor;
+use raft_base::{Error, Result};
+use raft_records::{Command, LogBatch};
+use std::alloc::Global;
+
+impl MemTableAccessor {
+    /// The regions that were cleaned, in order.
+    pub fn cleaned_regions(&self) -> &[u64]
+        ensures { result.now ≡ self.now.cleaned }
+    {
+        self.cleaned.as_slice()
+    }
+
+    /// Hands out the cleaned regions as a batch with a `Clean` for each, in order. The list is then
+    /// empty.
+    ///
+    /// # Errors
+    ///
+    /// `Memory`. The accessor is then as it was.
+    pub fn take_cleaned_region_logs(&mut self) -> Result<LogBatch>
+        ensures logs { IfOk result (λ logs. logs
+            ≡ record empty_batch { items = map (λ id. command_item id Clean) self.old.cleaned }) }
+        ensures ok { OnOk result (self.new ≡ record self.old { cleaned = [] }) }
+        ensures err { OnErr result (self.new ≡ self.old) }
+        ensures memory { IfErr result (λ e. e ≡ Error.Memory) }
+    {
+        let logs = clean_logs(*self.cleaned.allocator(), &self.cleaned)?;
+        self.cleaned.clear();
+        Ok(logs)
+    }
+
+    /// Lists a region as cleaned.
+    pub(super) fn list(&mut self, id: u64) -> Result<()>
+        ensures ok { OnOk result (self.new ≡ record self.old
+            { cleaned = self.old.cleaned ++ id ∷ [] }) }
+        ensures err { OnErr result (self.new ≡ self.old) }
+        ensures memory { IfErr result (λ e. e ≡ Error.Memory) }
+    {
+        self.cleaned.push(id)?;
+        Ok(())
+    }
+}
+
+/// A batch with a `Clean` for each region, in order.
+///
+/// # Errors
+///
+/// `Memory`.
+pub fn clean_logs(alloc: Global, ids: &[u64]) -> Result<LogBatch>
+    ensures ok { IfOk result (λ logs. logs ≡ record empty_batch
+        { items = map (λ id. command_item id Clean) ids.now }) }
+    ensures memory { IfErr result (λ e. e ≡ Error.Memory) }
+{
+    let mut logs = LogBatch::with_capacity(alloc, ids.len())?;
+    for id in ids {
+        logs.add_command(*id, Command::Clean)?;
+    }
+    Ok(logs)
+}

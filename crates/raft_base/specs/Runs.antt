@@ -1,0 +1,23 @@
+-- Entries of a region's log whose indexes have no gaps.
+use Rattle.std.specs.Prelude.{◌≡◌, ℕ, ◌<◌, ◌^◌, suc, max, List, [], ◌∷◌}
+use Rattle.raft_base.specs.declared.entry_index.EntryIndex.{EntryIndex}
+
+-- the indexes rise by one from this one
+abbrev pub RisesFrom : ℕ → List EntryIndex → Type 0
+RisesFrom start [] = Unit {0}
+RisesFrom start (e ∷ es) = (e.index ≡ start) × RisesFrom (suc start) es
+
+-- indexes without gaps
+pub record IsRun (es : List EntryIndex) : Type 0 where
+  pub start : ℕ
+  pub rising : RisesFrom start es
+
+-- the greatest index plus one, 0 without entries
+unfoldable pub end_of : List EntryIndex → ℕ
+end_of [] = 0
+end_of (e ∷ es) = max (suc e.index) (end_of es)
+
+-- a run without the index 2^64 - 1
+pub record IsConsecutive (es : List EntryIndex) : Type 0 where
+  pub run : IsRun es
+  pub bounded : end_of es < 2 ^ 64

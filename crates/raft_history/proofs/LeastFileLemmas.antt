@@ -11,9 +11,9 @@ use Rattle.raft_base.specs.declared.pipe_log.LogQueue.TheVariants.{Append, Rewri
 use Rattle.raft_base.specs.declared.entry_index.EntryIndex.{EntryIndex}
 use Rattle.raft_base.specs.Runs.{end_of}
 use Rattle.raft_table.specs.Fetches.{block_seq, entry_seq}
-use Rattle.raft_table.specs.KeyValues.{lesser, least, files_in}
+use Rattle.raft_table.specs.KeyValues.{lesser, least, seqs_in}
 use Rattle.raft_table.specs.Marks.{entries_within}
-use Rattle.raft_table.specs.Least.{least_file, at_most_first_file}
+use Rattle.raft_table.specs.Least.{least_seq, at_most_first_seq}
 use Rattle.raft_table.specs.Overlay.{has_clean, greatest_compaction, least_cut, is_unjoined, rewritten_within, overlay, kept_if, overlaid_table}
 use Rattle.raft_table.specs.Queues.{is_same, other}
 use Rattle.raft_table.specs.Steps.{Step, table_of}
@@ -49,7 +49,7 @@ least_each (n ∷ ns) = (
   each_weaker (IsAtOrBelow (least ns)) (IsAtOrBelow (lesser (Some n) (least ns))) (λ m h. right_least (Some n) (least ns) m h) ns (least_each ns),
 )
 
-lowered_least : (group : Option (ℕ × ℕ)) (k : Option ℕ) (n : ℕ) → IsAtOrBelow k n → IsAtOrBelow (at_most_first_file group k) n
+lowered_least : (group : Option (ℕ × ℕ)) (k : Option ℕ) (n : ℕ) → IsAtOrBelow k n → IsAtOrBelow (at_most_first_seq group k) n
 lowered_least None k n h = h
 lowered_least (Some group) None n h = absurd h
 lowered_least (Some group) (Some a) n h = elim (nat_le a group.1) as (λ b. cond b (min group.0 a) a ≤ n) [
@@ -97,17 +97,17 @@ first_is_least q low high ms (e ∷ es) h = go e.entries h.0 (λ l. files_from q
 abbrev AreInOrder : List EntryIndex → Type 0
 AreInOrder es = (q : LogQueue) → (high : ℕ) × InOrder q 0 high (placed_in q es)
 
-least_is : (q : LogQueue) (t : Table) → AreInOrder t.entries → least_file q t ≡ least (record_seqs q t)
+least_is : (q : LogQueue) (t : Table) → AreInOrder t.entries → least_seq q t ≡ least (record_seqs q t)
 unfolding entry_files
-least_is q t h = first_is_least q 0 (h q).0 (files_in q t.keys) (placed_in q t.entries) (h q).1
+least_is q t h = first_is_least q 0 (h q).0 (seqs_in q t.keys) (placed_in q t.entries) (h q).1
 
 least_files : (t : Table) → AreInOrder t.entries → AreLeastFiles t
-least_files t h = record { append = least_is Append t h; rewrite = ap (at_most_first_file t.atomic_group) (least_is Rewrite t h) }
+least_files t h = record { append = least_is Append t h; rewrite = ap (at_most_first_seq t.atomic_group) (least_is Rewrite t h) }
 
 pub none_below : (q : LogQueue) (t : Table) → AreLeastFiles t → HasNoneBelow q t
 none_below Append t h = subst (λ k. AllByRecursion (IsAtOrBelow k) (record_seqs Append t)) (sym h.append) (least_each (record_seqs Append t))
 none_below Rewrite t h = subst (λ k. AllByRecursion (IsAtOrBelow k) (record_seqs Rewrite t)) (sym h.rewrite)
-    (each_weaker (IsAtOrBelow (least (record_seqs Rewrite t))) (IsAtOrBelow (at_most_first_file t.atomic_group (least (record_seqs Rewrite t)))) (lowered_least t.atomic_group (least (record_seqs Rewrite t))) (record_seqs Rewrite t) (least_each (record_seqs Rewrite t)))
+    (each_weaker (IsAtOrBelow (least (record_seqs Rewrite t))) (IsAtOrBelow (at_most_first_seq t.atomic_group (least (record_seqs Rewrite t)))) (lowered_least t.atomic_group (least (record_seqs Rewrite t))) (record_seqs Rewrite t) (least_each (record_seqs Rewrite t)))
 
 -- ---- entries of one queue, and of both
 

@@ -16,6 +16,7 @@ pub mod KeptShown
 pub mod OverlaidContext
 pub mod RegionJoins
 pub mod RegionOverlays
+pub use Rattle.raft_base.specs.Runs
 pub use Rattle.raft_table.specs.Blocks
 pub use Rattle.raft_table.specs.Change
 pub use Rattle.raft_table.specs.Counts

@@ -20,8 +20,8 @@ pub fn file_segments(
     version: Version,
     files: Vec<(FileSeq, Vec<u8>)>,
 ) -> Result<Vec<Segment>>
-    ensures read { IfOk result (λ segments. (h : List Event) →
-        FilesHold queue version (map file_shown files.items) h ↔ SegmentsHold segments.items h) }
+    ensures read { IfOk result (λ segments. (h : List Event)
+        → FilesHold queue version (map file_shown files.items) h ↔ SegmentsHold segments.items h) }
     ensures of_queue { IfOk result (λ segments. SegmentsAreOf queue segments.items) }
     ensures count { IfOk result (λ segments. length segments.items ≡ length files.items) }
     ensures memory { IfErr result (λ e. e ≡ Error.Memory) }

@@ -46,9 +46,10 @@ pub fn run<S: Files + AllocGlobal + Threads + Sync, R: Read, W: Write, E: Write>
     ensures known { result ≤ 2 }
     ensures done { result ≡ 0 → IsPrinted (map string_bytes words.now)
         (R.remaining input.old) (W.contents out.old) (W.contents out.new) }
-    ensures silent { result ≡ 1 → Keeps (W.contents out.old) (W.contents out.new)
-        ⊎ IsFrontPrinted (map string_bytes words.now) (R.remaining input.old) (R.remaining input.new)
-        (W.contents out.old) (W.contents out.new) }
+    ensures silent { result ≡ 1
+        → Keeps (W.contents out.old) (W.contents out.new)
+        ⊎ IsFrontPrinted (map string_bytes words.now) (R.remaining input.old)
+        (R.remaining input.new) (W.contents out.old) (W.contents out.new) }
     ensures misused { (result ≡ 2) ↔ AsksNothing (map string_bytes words.now) }
     ensures untouched { result ≡ 2 → Keeps (W.contents out.old) (W.contents out.new) }
     ensures quiet { result ≡ 0 → Keeps (E.contents err.old) (E.contents err.new) }
@@ -112,12 +113,13 @@ fn answer<S: Files + AllocGlobal + Threads + Sync, R: Read, W: Write>(
     input: &mut R,
     out: &mut W,
 ) -> Result<()>
-    ensures done { (words : List (List ℕ)) → IsAsked words request.entry →
-        OnOk result (IsPrinted words (R.remaining input.old) (W.contents out.old) (W.contents out.new)) }
-    ensures silent { (words : List (List ℕ)) → IsAsked words request.entry →
-        IfErr result (λ _. Keeps (W.contents out.old) (W.contents out.new)
-        ⊎ IsFrontPrinted words (R.remaining input.old) (R.remaining input.new)
-        (W.contents out.old) (W.contents out.new)) }
+    ensures done { (words : List (List ℕ)) → IsAsked words request.entry
+        → OnOk result
+        (IsPrinted words (R.remaining input.old) (W.contents out.old) (W.contents out.new)) }
+    ensures silent { (words : List (List ℕ)) → IsAsked words request.entry
+        → IfErr result (λ _. Keeps (W.contents out.old) (W.contents out.new)
+        ⊎ IsFrontPrinted words (R.remaining input.old) (R.remaining input.new) (W.contents out.old)
+        (W.contents out.new)) }
 {
     match request {
         Request::Batch(context) => print_batch(rt.alloc(), input, out, &context),
@@ -131,10 +133,10 @@ fn print_files<S: Files + AllocGlobal + Threads + Sync, W: Write>(
     recovery: RecoverWords<'_>,
     out: &mut W,
 ) -> Result<()>
-    ensures done { (words : List (List ℕ)) → AsksRecovery words (asks_for recovery.entry) →
-        OnOk result (IsRecoveryPrinted words (W.contents out.old) (W.contents out.new)) }
-    ensures silent { (words : List (List ℕ)) → AsksRecovery words (asks_for recovery.entry) →
-        IfErr result (λ _. Keeps (W.contents out.old) (W.contents out.new)
+    ensures done { (words : List (List ℕ)) → AsksRecovery words (asks_for recovery.entry)
+        → OnOk result (IsRecoveryPrinted words (W.contents out.old) (W.contents out.new)) }
+    ensures silent { (words : List (List ℕ)) → AsksRecovery words (asks_for recovery.entry)
+        → IfErr result (λ _. Keeps (W.contents out.old) (W.contents out.new)
         ⊎ IsRecoveryFrontPrinted words (W.contents out.old) (W.contents out.new)) }
 {
     let files = read_files(rt, recovery.files.as_slice())?;

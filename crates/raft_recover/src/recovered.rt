@@ -28,10 +28,10 @@ pub fn print_recovered<W: Write>(
 ) -> Result<()>
     ensures ok { OnOk result (PrintsTables accessor.now (W.contents writer.old)
         (W.contents writer.new)) }
-    ensures silent { IfErr result (λ e. (IsIoError e → ⊥) →
-        Keeps (W.contents writer.old) (W.contents writer.new)) }
-    ensures cut_short { IfErr result (λ e. IsIoError e →
-        PrintsFrontOfTables accessor.now (W.contents writer.old) (W.contents writer.new)) }
+    ensures silent { IfErr result
+        (λ e. (IsIoError e → ⊥) → Keeps (W.contents writer.old) (W.contents writer.new)) }
+    ensures cut_short { IfErr result (λ e. IsIoError e
+        → PrintsFrontOfTables accessor.now (W.contents writer.old) (W.contents writer.new)) }
     ensures fault { IfErr result (λ e. (IsIoError e → ⊥) → e ≡ Error.Memory) }
 {
     let text = recovered_text(alloc, accessor)?;

@@ -59,13 +59,14 @@ pub fn recover<R: Threads + Sync>(
     workers: usize,
 ) -> Result<MemTableAccessor>
     ensures ok { IfOk result (IsRecovered queue (SegmentsHold segments.entry.now)) }
-    ensures accepted { OnOk result ((0 < workers) × (workers ≤ 256) ×
-        SegmentsAreOf queue segments.entry.now) }
+    ensures accepted { OnOk result
+        ((0 < workers) × (workers ≤ 256) × SegmentsAreOf queue segments.entry.now) }
     ensures refused { (0 < workers) × (workers ≤ 256) × (length segments.entry.now < 2 ^ 62)
         × SegmentsAreOf queue segments.entry.now
         → IfErr result (λ e. e ≢ Error.Memory → CannotBeRead segments.entry.now) }
-    ensures fault { ((0 < workers) × (workers ≤ 256) × (length segments.entry.now < 2 ^ 62) ×
-        SegmentsAreOf queue segments.entry.now → ⊥) → IfErr result (λ e. e ≢ Error.Memory → IsInvalidArgument e) }
+    ensures fault { ((0 < workers) × (workers ≤ 256) × (length segments.entry.now < 2 ^ 62)
+        × SegmentsAreOf queue segments.entry.now → ⊥)
+        → IfErr result (λ e. e ≢ Error.Memory → IsInvalidArgument e) }
 {
     if segments.len() >= SEGMENT_LIMIT {
         return Err(Error::invalid_argument(alloc, "2^62 segments or more"));
@@ -89,13 +90,14 @@ pub fn recover_segments<R: Threads + Sync>(
     workers: usize,
 ) -> Result<MemTableAccessor>
     ensures ok { IfOk result (IsRecovered queue (SegmentsHold segments.entry.now)) }
-    ensures accepted { OnOk result ((0 < workers) × (workers ≤ 256) ×
-        SegmentsAreOf queue segments.entry.now) }
+    ensures accepted { OnOk result
+        ((0 < workers) × (workers ≤ 256) × SegmentsAreOf queue segments.entry.now) }
     ensures refused { (0 < workers) × (workers ≤ 256) × (length segments.entry.now < 2 ^ 62)
         × SegmentsAreOf queue segments.entry.now
         → IfErr result (λ e. e ≢ Error.Memory → CannotBeRead segments.entry.now) }
-    ensures fault { ((0 < workers) × (workers ≤ 256) × (length segments.entry.now < 2 ^ 62) ×
-        SegmentsAreOf queue segments.entry.now → ⊥) → IfErr result (λ e. e ≢ Error.Memory → IsInvalidArgument e) }
+    ensures fault { ((0 < workers) × (workers ≤ 256) × (length segments.entry.now < 2 ^ 62)
+        × SegmentsAreOf queue segments.entry.now → ⊥)
+        → IfErr result (λ e. e ≢ Error.Memory → IsInvalidArgument e) }
 {
     let factory = MemTableRecoverContextFactory::new();
     let context = replay_segments(rt, alloc, &factory, segments, queue, workers, &OpenGate)?;
@@ -117,17 +119,19 @@ pub fn recover_bytes<R: Threads + Sync, W: Write>(
     files: Vec<(FileSeq, Vec<u8>)>,
     writer: &mut W,
 ) -> Result<()>
-    ensures ok { OnOk result
-        (PrintsRecovered queue version (map file_shown files.items) (W.contents writer.old) (W.contents writer.new)) }
+    ensures ok { OnOk result (PrintsRecovered queue version (map file_shown files.items)
+        (W.contents writer.old) (W.contents writer.new)) }
     ensures accepted { OnOk result ((0 < workers) × (workers ≤ 256)) }
     ensures silent { IfErr result (λ e. Keeps (W.contents writer.old) (W.contents writer.new)
-        ⊎ IsPrintFailure queue version (map file_shown files.items) (W.contents writer.old) (W.contents writer.new) e) }
+        ⊎ IsPrintFailure queue version (map file_shown files.items) (W.contents writer.old)
+        (W.contents writer.new) e) }
     ensures refused { (0 < workers) × (workers ≤ 256) × (length files.items < 2 ^ 62)
         → IfErr result (λ e. e ≢ Error.Memory
         → FilesCannotBeRead queue version (map file_shown files.items)
-        ⊎ IsPrintFailure queue version (map file_shown files.items) (W.contents writer.old) (W.contents writer.new) e) }
-    ensures fault { ((0 < workers) × (workers ≤ 256) × (length files.items < 2 ^ 62) → ⊥) →
-        IfErr result (λ e. e ≢ Error.Memory → IsInvalidArgument e) }
+        ⊎ IsPrintFailure queue version (map file_shown files.items) (W.contents writer.old)
+        (W.contents writer.new) e) }
+    ensures fault { ((0 < workers) × (workers ≤ 256) × (length files.items < 2 ^ 62) → ⊥)
+        → IfErr result (λ e. e ≢ Error.Memory → IsInvalidArgument e) }
 {
     let segments = file_segments(queue, version, files)?;
     let accessor = recover(rt, alloc, segments.as_slice(), queue, workers)?;

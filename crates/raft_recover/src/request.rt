@@ -41,8 +41,8 @@ impl<'a> Request<'a> {
     pub fn parse(alloc: Global, words: &'a [String]) -> Result<Option<Request<'a>>>
         ensures asked { IfOk result (λ r. IfSome r (IsAsked (map string_bytes words.now))) }
         ensures refused { IfOk result (λ r. IfNone r (AsksNothing (map string_bytes words.now))) }
-        ensures memory { IfErr result (λ e. (e ≡ Error.Memory) ×
-            (AsksNothing (map string_bytes words.now) → ⊥)) }
+        ensures memory { IfErr result
+            (λ e. (e ≡ Error.Memory) × (AsksNothing (map string_bytes words.now) → ⊥)) }
     {
         if let Some(context) = batch_request(words) {
             return Ok(Some(Request::Batch(context)));
@@ -57,8 +57,8 @@ impl<'a> Request<'a> {
 /// The file whose item batch the words ask for.
 pub(crate) fn batch_request(words: &[String]) -> Option<LogFileContext>
     ensures asked { IfSome result (AsksBatch (map string_bytes words.now)) }
-    ensures refused { IfNone result ((context : LogFileContext) →
-        AsksBatch (map string_bytes words.now) context → ⊥) }
+    ensures refused { IfNone result
+        ((context : LogFileContext) → AsksBatch (map string_bytes words.now) context → ⊥) }
 {
     let [command, queue, seq, version] = words else {
         return None;
@@ -72,8 +72,8 @@ pub(crate) fn batch_request(words: &[String]) -> Option<LogFileContext>
 /// The file that its queue, its number and its version name.
 fn file_named(queue: &str, seq: &str, version: &str) -> Option<LogFileContext>
     ensures named { IfSome result (NamesFile queue.now seq.now version.now) }
-    ensures refused { IfNone result ((context : LogFileContext) →
-        NamesFile queue.now seq.now version.now context → ⊥) }
+    ensures refused { IfNone result
+        ((context : LogFileContext) → NamesFile queue.now seq.now version.now context → ⊥) }
 {
     let queue = queue_named(queue)?;
     let seq = number_named(seq)?;
@@ -89,8 +89,8 @@ fn file_named(queue: &str, seq: &str, version: &str) -> Option<LogFileContext>
 fn recovery_request<'a>(alloc: Global, words: &'a [String]) -> Result<Option<RecoverWords<'a>>>
     ensures asked { IfOk result (λ r. IfSome r (λ recovery.
         AsksRecovery (map string_bytes words.now) (asks_for recovery))) }
-    ensures refused { IfOk result (λ r. IfNone r ((recovery : AskedRecovery) →
-        AsksRecovery (map string_bytes words.now) recovery → ⊥)) }
+    ensures refused { IfOk result (λ r. IfNone r
+        ((recovery : AskedRecovery) → AsksRecovery (map string_bytes words.now) recovery → ⊥)) }
     ensures memory { IfErr result (λ e. (e ≡ Error.Memory)
         × (recovery : AskedRecovery) × AsksRecovery (map string_bytes words.now) recovery) }
 {
@@ -152,8 +152,8 @@ fn with_file<'a>(
         → IfOk files.entry (λ files. AreNamed words (map path_shown files.items))
         → NamesPath word file.entry.0 file.entry.1.now
         → IfOk result (λ files. AreNamed (words ++ word ∷ []) (map path_shown files.items)) }
-    ensures memory { IfErr files.entry (λ e. e ≡ Error.Memory) →
-        IfErr result (λ e. e ≡ Error.Memory) }
+    ensures memory { IfErr files.entry (λ e. e ≡ Error.Memory)
+        → IfErr result (λ e. e ≡ Error.Memory) }
 {
     let mut files = files?;
     files.push(file)?;

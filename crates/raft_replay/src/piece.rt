@@ -48,12 +48,13 @@ impl<M: ReplayMachine> Piece<M> {
     ) -> Result<Piece<M>>
         requires { (m : M) → F.gives factory.now m → M.stands_exactly m [] }
         ensures next { IfOk result (λ p. p.from + p.count ≡ number) }
-        ensures piece { (segments : List (Vec Part Global)) → number ≤ length segments →
-            All (IsPieceOf M.stands_exactly segments) pieces.old.items →
-            IfOk result (λ p. IsPieceOf M.stands_exactly segments p
+        ensures piece { (segments : List (Vec Part Global)) → number ≤ length segments
+            → All (IsPieceOf M.stands_exactly segments) pieces.old.items
+            → IfOk result (λ p. IsPieceOf M.stands_exactly segments p
             × All (IsPieceOf M.stands_exactly segments) pieces.new.items) }
-        ensures covered { IfOk result (λ p. (x : ℕ) →
-            cover_count x pieces.new.items + covers p.from p.count x ≡ cover_count x pieces.old.items) }
+        ensures covered { IfOk result (λ p. (x : ℕ)
+            → cover_count x pieces.new.items + covers p.from p.count x
+            ≡ cover_count x pieces.old.items) }
         ensures err { IfErr result (λ e. e ≢ Error.Memory → F.may_refuse factory.entry.now e) }
     {
         let Some(last) = pieces.pop() else {
@@ -106,9 +107,10 @@ impl<M: ReplayMachine> Piece<M> {
 
     /// The machines of pieces, in the order of what they have replayed.
     pub(crate) fn line_up(alloc: Global, mut pieces: Vec<Piece<M>>) -> Result<Vec<M>>
-        ensures ok { (segments : List (Vec Part Global)) →
-            All (IsPieceOf M.stands_exactly segments) pieces.items →
-            CoverOnce segments pieces.items → IfOk result (λ v. AreInOrder M.stands_exactly segments v.items) }
+        ensures ok { (segments : List (Vec Part Global))
+            → All (IsPieceOf M.stands_exactly segments) pieces.items
+            → CoverOnce segments pieces.items
+            → IfOk result (λ v. AreInOrder M.stands_exactly segments v.items) }
         ensures fault { IfErr result (λ e. e ≡ Error.Memory) }
     {
         pieces.sort_by_key(|piece| piece.from)?;

@@ -51,10 +51,10 @@ pub fn merge_pieces<M: ReplayMachine, R: Threads + Sync>(
 ) -> Result<M>
     ensures ok { IfOk result (IsMerged M.stands_for M.stands_exactly pieces.items) }
     ensures accepted { OnOk result (leaves plan.entry.now ≡ length pieces.items) }
-    ensures refused { leaves plan.entry.now ≡ length pieces.items →
-        IfErr result (λ e. e ≢ Error.Memory → CannotMerge M.stands_for queue pieces.items) }
-    ensures fault { leaves plan.entry.now ≢ length pieces.items →
-        IfErr result (λ e. e ≢ Error.Memory → IsInvalidArgument e) }
+    ensures refused { leaves plan.entry.now ≡ length pieces.items
+        → IfErr result (λ e. e ≢ Error.Memory → CannotMerge M.stands_for queue pieces.items) }
+    ensures fault { leaves plan.entry.now ≢ length pieces.items
+        → IfErr result (λ e. e ≢ Error.Memory → IsInvalidArgument e) }
 {
     if !fits(&pieces, plan) {
         return Err(Error::invalid_argument(
@@ -157,9 +157,10 @@ fn merge_next<'a, M: ReplayMachine>(
         (reverse waiting.new.items) (reverse pieces.new.items)) }
     ensures cost { OnOk result (weigh cost waiting.new.items < weigh cost waiting.old.items + cost
         next.entry) }
-    ensures refused { IfErr result (λ e. e ≢ Error.Memory → (all : List M) →
-        IsReached M.stands_for M.stands_exactly all
-        (next.entry ∷ reverse waiting.old.items) (reverse pieces.old.items) merged → CannotMerge M.stands_for queue all) }
+    ensures refused { IfErr result (λ e. e ≢ Error.Memory → (all : List M)
+        → IsReached M.stands_for M.stands_exactly all (next.entry ∷ reverse waiting.old.items)
+        (reverse pieces.old.items) merged
+        → CannotMerge M.stands_for queue all) }
 {
     match next {
         Waiting::Merged(mut older) => {
@@ -245,9 +246,10 @@ fn cut<M: ReplayMachine>(mut pieces: Vec<M>, left: &Plan, right: &Plan) -> Resul
 
 /// Two merged neighbors merged, or the first refusal of either.
 fn merge_both<M: ReplayMachine>(older: Result<M>, newer: Result<M>, queue: LogQueue) -> Result<M>
-    ensures { (xs ys zs : List M) → zs ≡ xs ++ ys →
-        Merges M.stands_for M.stands_exactly queue xs older →
-        Merges M.stands_for M.stands_exactly queue ys newer → Merges M.stands_for M.stands_exactly queue zs result }
+    ensures { (xs ys zs : List M) → zs ≡ xs ++ ys
+        → Merges M.stands_for M.stands_exactly queue xs older
+        → Merges M.stands_for M.stands_exactly queue ys newer
+        → Merges M.stands_for M.stands_exactly queue zs result }
 {
     let mut older = older?;
     let newer = newer?;

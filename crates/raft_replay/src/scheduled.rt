@@ -62,10 +62,11 @@ pub fn replay_scheduled<M: ReplayMachine, F: Factory<M>>(
     ensures ok { IfOk result (IsReplayed M.stands_for M.stands_exactly segments.entry.now) }
     ensures accepted { OnOk result (IsSchedule segments.entry.now queue workers draws.entry.now
         plan.entry.now) }
-    ensures refused { IsSchedule segments.entry.now queue workers draws.entry.now plan.entry.now →
-        IfErr result (λ e. e ≢ Error.Memory → ¬ (F.may_refuse factory.entry.now e) → CannotBeRead segments.entry.now) }
-    ensures fault { (IsSchedule segments.entry.now queue workers draws.entry.now plan.entry.now →
-        ⊥) → IfErr result (λ e. e ≢ Error.Memory → IsInvalidArgument e) }
+    ensures refused { IsSchedule segments.entry.now queue workers draws.entry.now plan.entry.now
+        → IfErr result (λ e. e ≢ Error.Memory → ¬ (F.may_refuse factory.entry.now e)
+        → CannotBeRead segments.entry.now) }
+    ensures fault { (IsSchedule segments.entry.now queue workers draws.entry.now plan.entry.now → ⊥)
+        → IfErr result (λ e. e ≢ Error.Memory → IsInvalidArgument e) }
 {
     if !is_schedule(segments, queue, workers, draws, plan) {
         return Err(Error::InvalidArgument(format!(in alloc;
@@ -180,8 +181,8 @@ fn replay_in_order<M: ReplayMachine, F: Factory<M>>(
     ensures ok { IfOk result (IsUnderway M.stands_exactly segments.entry.now machines.new.items) }
     ensures count { OnOk result (vec_len machines.new
         ≡ count_below (switches draws.entry.now) (length segments.entry.now)) }
-    ensures refused { IfErr result (λ e. e ≢ Error.Memory → ¬ (F.may_refuse factory.entry.now e) →
-        CannotBeRead segments.entry.now) }
+    ensures refused { IfErr result (λ e. e ≢ Error.Memory → ¬ (F.may_refuse factory.entry.now e)
+        → CannotBeRead segments.entry.now) }
 {
     let mut current = factory.new_target(alloc)?;
     for (n, segment) in segments.iter().enumerate() {
@@ -201,9 +202,9 @@ fn piece_behind<M: ReplayMachine, F: Factory<M>>(
     changes: bool,
 ) -> Result<M>
     requires { (m : M) → F.gives factory.now m → M.stands_exactly m [] }
-    ensures ok { IfOk result (λ m. (segments : List (Vec Part Global)) →
-        IsUnderway M.stands_exactly segments machines.old.items current →
-        IsUnderway M.stands_exactly segments machines.new.items m) }
+    ensures ok { IfOk result (λ m. (segments : List (Vec Part Global))
+        → IsUnderway M.stands_exactly segments machines.old.items current
+        → IsUnderway M.stands_exactly segments machines.new.items m) }
     ensures count { OnOk result (vec_len machines.new ≡ vec_len
         machines.old + (if changes then 1 else 0)) }
     ensures err { IfErr result (λ e. e ≢ Error.Memory → F.may_refuse factory.entry.now e) }

@@ -21,10 +21,12 @@ pub type Segment = Vec<FilePart>;
 /// `Memory`. Any other comes only where a part isn't a row of readable batches, or where the batches behind those that the
 /// machine stands for can't be read. How many batches the machine has then replayed is not known.
 pub fn replay_segment<M: ReplayMachine>(machine: &mut M, segment: &Segment) -> Result<()>
-    ensures ok { OnOk result (HasReplayed (EachHolds (λ part. HoldsFrom part 0)
-        segment.entry.now.items) M.stands_for M.stands_exactly machine.old machine.new) }
-    ensures refused { IfErr result (λ e. e ≢ Error.Memory →
-        CannotFollow (EachHolds (λ part. HoldsFrom part 0) segment.entry.now.items) (M.stands_for machine.old)) }
+    ensures ok { OnOk result
+        (HasReplayed (EachHolds (λ part. HoldsFrom part 0) segment.entry.now.items) M.stands_for
+        M.stands_exactly machine.old machine.new) }
+    ensures refused { IfErr result (λ e. e ≢ Error.Memory
+        → CannotFollow (EachHolds (λ part. HoldsFrom part 0) segment.entry.now.items)
+        (M.stands_for machine.old)) }
 {
     for part in segment {
         replay_part(machine, part)?;
@@ -36,8 +38,8 @@ pub fn replay_segment<M: ReplayMachine>(machine: &mut M, segment: &Segment) -> R
 fn replay_part<M: ReplayMachine>(machine: &mut M, part: &FilePart) -> Result<()>
     ensures ok { OnOk result (HasReplayed (HoldsFrom part.now 0) M.stands_for M.stands_exactly
         machine.old machine.new) }
-    ensures refused { IfErr result (λ e. e ≢ Error.Memory →
-        CannotFollow (HoldsFrom part.now 0) (M.stands_for machine.old)) }
+    ensures refused { IfErr result
+        (λ e. e ≢ Error.Memory → CannotFollow (HoldsFrom part.now 0) (M.stands_for machine.old)) }
 {
     let mut at = 0;
     while let Some((batch, next)) = next_batch(part, at)? {

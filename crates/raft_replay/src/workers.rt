@@ -68,13 +68,15 @@ pub fn replay_segments<M: ReplayMachine, F: Factory<M>, G: Gate, R: Threads + Sy
 ) -> Result<M>
     requires { (m : M) → F.gives factory.now m → M.stands_exactly m [] }
     ensures ok { IfOk result (IsReplayed M.stands_for M.stands_exactly segments.entry.now) }
-    ensures accepted { OnOk result ((0 < workers) × (workers ≤ 256) ×
-        SegmentsAreOf queue segments.entry.now) }
-    ensures refused { (0 < workers) × (workers ≤ 256) × (length segments.entry.now < 2 ^ 62) ×
-        SegmentsAreOf queue segments.entry.now → IfErr result (λ e. e ≢ Error.Memory →
-        ¬ (F.may_refuse factory.entry.now e) → CannotBeRead segments.entry.now) }
-    ensures fault { ((0 < workers) × (workers ≤ 256) × (length segments.entry.now < 2 ^ 62) ×
-        SegmentsAreOf queue segments.entry.now → ⊥) → IfErr result (λ e. e ≢ Error.Memory → IsInvalidArgument e) }
+    ensures accepted { OnOk result
+        ((0 < workers) × (workers ≤ 256) × SegmentsAreOf queue segments.entry.now) }
+    ensures refused { (0 < workers) × (workers ≤ 256) × (length segments.entry.now < 2 ^ 62)
+        × SegmentsAreOf queue segments.entry.now
+        → IfErr result (λ e. e ≢ Error.Memory → ¬ (F.may_refuse factory.entry.now e)
+        → CannotBeRead segments.entry.now) }
+    ensures fault { ((0 < workers) × (workers ≤ 256) × (length segments.entry.now < 2 ^ 62)
+        × SegmentsAreOf queue segments.entry.now → ⊥)
+        → IfErr result (λ e. e ≢ Error.Memory → IsInvalidArgument e) }
 {
     if !are_accepted(segments, queue, workers) {
         return Err(Error::InvalidArgument(format!(in alloc;
@@ -93,8 +95,9 @@ pub fn replay_segments<M: ReplayMachine, F: Factory<M>, G: Gate, R: Threads + Sy
 /// Whether so many workers may replay these segments: 1 to 256 workers, fewer than 2^62 segments, and every part of the
 /// queue.
 fn are_accepted(segments: &[Segment], queue: LogQueue, workers: usize) -> bool
-    ensures { IsTrue result ↔ ((0 < workers) × (workers ≤ 256) × (length segments.now < 2 ^ 62) ×
-        SegmentsAreOf queue segments.now) }
+    ensures { IsTrue result
+        ↔ ((0 < workers) × (workers ≤ 256) × (length segments.now < 2 ^ 62)
+        × SegmentsAreOf queue segments.now) }
 {
     if workers == 0 || workers > MAX_WORKERS || segments.len() >= SEGMENT_LIMIT {
         return false;
@@ -116,8 +119,8 @@ fn drawn_pieces<M: ReplayMachine, F: Factory<M>, G: Gate, R: Threads + Sync>(
     ensures pieces { IfOk result (λ v. All (IsPieceOf M.stands_exactly segments.entry.now)
         v.items) }
     ensures tile { IfOk result (λ v. CoverOnce segments.entry.now v.items) }
-    ensures refused { IfErr result (λ e. e ≢ Error.Memory → ¬ (F.may_refuse factory.entry.now e) →
-        CannotBeRead segments.entry.now) }
+    ensures refused { IfErr result (λ e. e ≢ Error.Memory → ¬ (F.may_refuse factory.entry.now e)
+        → CannotBeRead segments.entry.now) }
 {
     let count = workers.min(segments.len());
     if count == 0 {
@@ -135,9 +138,9 @@ fn gather<M: ReplayMachine>(
     alloc: Global,
     mut worked: Vec<Worked<M>>,
 ) -> Result<(Vec<TicketSeat>, Vec<Piece<M>>)>
-    ensures ok { (segments : List (Vec Part Global)) (tickets : TicketBook) →
-        All (IsBack M.stands_exactly segments tickets) worked.items →
-        IfOk result (λ r. AreDone M.stands_exactly segments tickets r.0.items r.1.items) }
+    ensures ok { (segments : List (Vec Part Global)) (tickets : TicketBook)
+        → All (IsBack M.stands_exactly segments tickets) worked.items
+        → IfOk result (λ r. AreDone M.stands_exactly segments tickets r.0.items r.1.items) }
     ensures count { IfOk result (λ r. vec_len r.0 ≡ vec_len worked) }
     ensures refused { IfErr result (λ e. e ≢ Error.Memory → HasRefusal worked.items e) }
 {
@@ -172,16 +175,21 @@ fn run_workers<M: ReplayMachine, F: Factory<M>, G: Gate, R: Threads + Sync>(
     requires factory { (m : M) → F.gives factory.now m → M.stands_exactly m [] }
     requires seats { All (IsNewSeatOf tickets.now) seats.items }
     requires total { tickets.now.total ≡ length segments.now }
-    ensures given { IfOk result (λ v. All (λ w. IsSeatOf tickets.entry.now w.seat ×
-        Gives M.stands_exactly (F.may_refuse factory.entry.now) segments.entry.now w.seat.drawn w.pieces) v.items) }
+    ensures given { IfOk result
+        (λ v. All
+        (λ w. IsSeatOf tickets.entry.now w.seat
+        × Gives M.stands_exactly (F.may_refuse factory.entry.now) segments.entry.now w.seat.drawn
+        w.pieces)
+        v.items) }
     ensures count { IfOk result (λ v. vec_len v ≡ vec_len seats) }
     ensures fault { IfErr result (λ e. e ≡ Error.Memory) }
 {
     let one = |seat: TicketSeat| -> Worked<M>
-        requires { IsNewSeatOf tickets.now seat × (tickets.now.total ≡ length segments.now) ×
-            ((m : M) → F.gives factory.now m → M.stands_exactly m []) }
-        ensures { IsSeatOf tickets.entry.now result.seat ×
-            Gives M.stands_exactly (F.may_refuse factory.entry.now) segments.entry.now result.seat.drawn result.pieces }
+        requires { IsNewSeatOf tickets.now seat × (tickets.now.total ≡ length segments.now)
+            × ((m : M) → F.gives factory.now m → M.stands_exactly m []) }
+        ensures { IsSeatOf tickets.entry.now result.seat
+            × Gives M.stands_exactly (F.may_refuse factory.entry.now) segments.entry.now
+            result.seat.drawn result.pieces }
     {
         let mut seat = seat;
         let pieces = replay_drawn(alloc, factory, segments, tickets, gate, &mut seat);

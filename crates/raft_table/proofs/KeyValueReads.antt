@@ -12,7 +12,7 @@ use Rattle.raft_base.specs.declared.pipe_log.LogQueue.{LogQueue}
 use Rattle.raft_table.specs.declared.memtable.key_values.KeyValues.TheInside.{Inside}
 use Rattle.raft_table.specs.declared.memtable.key_values.StoredValue.{StoredValue}
 use Rattle.raft_table.specs.Queues.{is_same, count_in}
-use Rattle.raft_table.specs.KeyValues.{Keys, Stored, pair_count, files_in, is_up_to, pairs_up_to, key_value, pairs_over, with_pairs}
+use Rattle.raft_table.specs.KeyValues.{Keys, Stored, pair_count, seqs_in, is_up_to, pairs_up_to, key_value, pairs_over, with_pairs}
 use Rattle.raft_table.specs.KeyValueView.{keys_shown, stored_of, IsOrderedAndCounted}
 use Rattle.raft_table.proofs.KeyValueMaps.{entries-map_of}
 use Rattle.raft_table.specs.Scan.{is_between, is_forward, IsDivided, pairs_between}
@@ -42,7 +42,7 @@ files-list q (e ∷ es) =
     ]
 
 -- the files of a queue's pairs, over the stored values
-pub files-shown : (a : Inside) (keys : Keys) (q : LogQueue) → IsOrderedAndCounted a → keys_shown a ≡ keys → files_in q keys ≡ map (λ s. s.file.seq) (filter (λ s. is_same q s.file.queue) (values a.pairs))
+pub files-shown : (a : Inside) (keys : Keys) (q : LogQueue) → IsOrderedAndCounted a → keys_shown a ≡ keys → seqs_in q keys ≡ map (λ s. s.file.seq) (filter (λ s. is_same q s.file.queue) (values a.pairs))
 files-shown a keys q sound is =
     ap (λ es. map (λ e. e.1.file.seq) (filter (λ e. is_same q e.1.file.queue) es)) (sym (ap finite.entries is) ∙ entries-shown a sound.ordered) ∙ files-list q a.pairs.entries
 

@@ -45,8 +45,8 @@ file_weight queue None = 0
 file_weight queue (Some file) = count_in queue file.queue 1
 
 -- the numbers of the files of the pairs in a queue
-abbrev pub files_in : LogQueue → Keys → List ℕ
-files_in queue keys =
+abbrev pub seqs_in : LogQueue → Keys → List ℕ
+seqs_in queue keys =
     map (λ e. e.1.file.seq) (filter (λ e. is_same queue e.1.file.queue) (finite.entries keys))
 
 -- the lesser of two numbers, where both are there

@@ -428,12 +428,12 @@ impl MemTable {
     }
 
     /// Sets the first and the last file of the region's atomic group in the rewrite queue.
-    pub fn apply_rewrite_atomic_group(&mut self, start: FileSeq, end: FileSeq)
-        requires { start ≤ end }
-        ensures group { self.new ≡ record self.old { atomic_group = Some (start, end) } }
+    pub fn apply_rewrite_atomic_group(&mut self, first_seq: FileSeq, last_seq: FileSeq)
+        requires { first_seq ≤ last_seq }
+        ensures group { self.new ≡ record self.old { atomic_group = Some (first_seq, last_seq) } }
         ensures region { self.new.region_id ≡ self.old.region_id }
     {
-        self.atomic_group = Some((start, end));
+        self.atomic_group = Some((first_seq, last_seq));
     }
 }
 

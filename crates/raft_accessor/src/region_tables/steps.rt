@@ -2,9 +2,10 @@
 
 ghost use Rattle.std.specs.Prelude.{◌≡◌, length, OnOk, OnErr, IfOk, IfErr, Some};
 ghost use Rattle.std.specs.FinMap as finite;
+ghost use Rattle.raft_base.specs.Runs.{end_of};
 ghost use Rattle.raft_base.specs.declared.pipe_log.LogQueue.TheVariants.{Append, Rewrite};
 ghost use Rattle.raft_table.specs.Counts.{with_added};
-ghost use Rattle.raft_table.specs.TableEntries.{IsRunIn, below, end_of, from};
+ghost use Rattle.raft_table.specs.TableEntries.{IsRunIn, below, from};
 ghost use Rattle.raft_table.specs.KeyValues.{file_at};
 ghost use Rattle.raft_table.specs.Queues.{other};
 ghost use Rattle.raft_table.specs.Rewriting.{entries_after_rewrite, counts_after_rewrite, IsRewriteFault};

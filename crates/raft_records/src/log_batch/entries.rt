@@ -213,7 +213,7 @@ fn write_messages<M: MessageExt>(
         (map (λ e. entry_with_index (M.index_of e)) entries.now)
         (entry_bytes_of item_batch.old + length (concat (map M.Entry.bytes_of entries.now)))) }
 {
-    let mut entry_indexes = indexes_of::<M>(*buf.allocator(), entries)?;
+    let mut entry_indexes = indexed_entries::<M>(*buf.allocator(), entries)?;
     if !is_consecutive(entry_indexes.as_slice()) {
         return Err(Error::invalid_argument(
             *buf.allocator(),
@@ -225,9 +225,11 @@ fn write_messages<M: MessageExt>(
 }
 
 /// Entries with the indexes of messages, in their order, without lengths.
-fn indexes_of<M: MessageExt>(alloc: Global, entries: &[M::Entry]) -> Result<Vec<EntryIndex>>
-    ensures ok { IfOk result (λ es. es.items ≡ map (λ e. entry_with_index (M.index_of e)) entries.now) }
-    ensures memory { IfErr result (λ e. e ≡ Error.Memory) }
+fn indexed_entries<M: MessageExt>(
+    alloc: Global,
+    entries: &[M::Entry],
+) -> AllocResult<Vec<EntryIndex>>
+    ensures { IfOk result (λ es. es.items ≡ map (λ e. entry_with_index (M.index_of e)) entries.now) }
 {
     let mut entry_indexes = Vec::with_capacity(alloc, entries.len())?;
     for entry in entries {

@@ -6,7 +6,7 @@ ghost use Rattle.std.specs.Fn.{CalledAtTwo};
 ghost use Rattle.std.specs.FinMap as finite;
 ghost use Rattle.raft_base.specs.declared.pipe_log.LogQueue.{LogQueue};
 ghost use Rattle.raft_table.specs.Scan.{VisitsUntilFalse, pairs_between};
-ghost use Rattle.raft_table.specs.KeyValues.{Keys, pair_count, file_weight, value_at, file_at, with_moved, files_in, least, lesser, is_up_to, pairs_up_to, pairs_shown, pairs_over};
+ghost use Rattle.raft_table.specs.KeyValues.{Keys, pair_count, file_weight, value_at, file_at, with_moved, seqs_in, least, lesser, is_up_to, pairs_up_to, pairs_shown, pairs_over};
 
 mod scan;
 
@@ -168,8 +168,8 @@ impl KeyValues {
     }
 
     /// The least number among the files of the pairs in `queue`.
-    pub fn least_file_in(&self, queue: LogQueue) -> Option<FileSeq>
-        ensures { result ≡ least (files_in queue self.now) }
+    pub fn least_seq_in(&self, queue: LogQueue) -> Option<FileSeq>
+        ensures { result ≡ least (seqs_in queue self.now) }
     {
         let mut least: Option<FileSeq> = None;
         for pair in self.pairs.values() {

@@ -1,6 +1,6 @@
 use Rattle.std.proofs.Common.{◌∙◌, ap, map, refl, subst, length}
 use Rattle.raft_base.specs.Runs.{IsConsecutive}
-use Rattle.raft_records.proofs.StringLemmas.{found_room, found_consecutive, keeps_all, same_counts, on_err}
+use Rattle.raft_records.proofs.StringLemmas.{found_room, found_consecutive, same_counts}
 use Rattle.raft_records.proofs.log_batch.entries.write_messages.Goals as goal
 
 pub add_entry_indexes-requires-clause-consecutive : goal.add_entry_indexes-requires-clause-consecutive
@@ -9,5 +9,5 @@ add_entry_indexes-requires-clause-consecutive g c =
 
 pub add_entry_indexes-requires-clause-room : goal.add_entry_indexes-requires-clause-room
 add_entry_indexes-requires-clause-room g c =
-    let counts = ap length c.in_ok-entry_indexes.ensures.ok ∙ same_counts g.M.Entry.Message.bytes_of g.M.MessageExt.index_of c.args.entries.now in
+    let counts = ap length c.in_ok-entry_indexes.ensures ∙ same_counts g.M.Entry.Message.bytes_of g.M.MessageExt.index_of c.args.entries.now in
     found_room c.in_ok-entry_indexes.entry_indexes.items c.append_messages.new.entry_indexes.items (map g.M.Entry.Message.bytes_of c.args.entries.now) c.args.buf.now.items c.append_messages.new.buf.items _ counts c.in_ok-append_messages.ensures.lengths c.in_ok-append_messages.ensures.bytes (c.in_ok-append_messages.ensures.accepted c.requires.some) c.requires.whole

@@ -1,6 +1,6 @@
 use Rattle.std.proofs.Common.{◌≡◌, ◌++◌, drop, map}
 use Rattle.raft_records.specs.Entries.{entry_with_index}
-use Rattle.raft_records.proofs.log_batch.entries.indexes_of.Given as goal
+use Rattle.raft_records.proofs.log_batch.entries.indexed_entries.Given as goal
 
 abbrev pub invariant-loop-entry : goal.invariant-loop-entry
 invariant-loop-entry g l =

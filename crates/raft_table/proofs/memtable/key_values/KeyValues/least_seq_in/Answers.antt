@@ -2,7 +2,7 @@ use Rattle.std.proofs.Common.{filter, map, sym, ap, ◌∙◌}
 use Rattle.raft_table.specs.Queues.{is_same}
 use Rattle.raft_table.specs.KeyValues.{least}
 use Rattle.raft_table.proofs.KeyValueReads.{files-shown}
-use Rattle.raft_table.proofs.memtable.key_values.KeyValues.least_file_in.Goals as goal
+use Rattle.raft_table.proofs.memtable.key_values.KeyValues.least_seq_in.Goals as goal
 
 pub loop-pair-init : goal.loop-pair-init
 loop-pair-init c =

@@ -155,7 +155,8 @@ impl RegionTables {
         if !is_run(&run, queue) {
             return Err(Error::corruption(self.allocator(), "entries are no run of their queue"));
         }
-        self.replay_run(queue, id, run, stats)
+        self.replay_run(queue, id, run, stats)?;
+        Ok(())
     }
 
     /// Gives entries their rewritten places.

@@ -1,5 +1,6 @@
 -- Entries of a region's log whose indexes have no gaps.
-use Rattle.std.specs.Prelude.{◌≡◌, ℕ, ◌<◌, ◌^◌, suc, max, List, [], ◌∷◌}
+use Rattle.std.specs.Prelude.{◌≡◌, ℕ, ◌<◌, ◌-◌, ◌^◌, suc, max, List, [], ◌∷◌}
+use Rattle.std.specs.List.{AllByRecursion}
 use Rattle.raft_base.specs.declared.entry_index.EntryIndex.{EntryIndex}
 
 -- the indexes rise by one from this one
@@ -8,9 +9,9 @@ RisesFrom start [] = Unit {0}
 RisesFrom start (e ∷ es) = (e.index ≡ start) × RisesFrom (suc start) es
 
 -- indexes without gaps
-pub record IsRun (es : List EntryIndex) : Type 0 where
-  pub start : ℕ
-  pub rising : RisesFrom start es
+abbrev pub IsRun : List EntryIndex → Type 0
+IsRun [] = Unit {0}
+IsRun (e ∷ es) = RisesFrom (suc e.index) es
 
 -- the greatest index plus one, 0 without entries
 unfoldable pub end_of : List EntryIndex → ℕ
@@ -20,4 +21,4 @@ end_of (e ∷ es) = max (suc e.index) (end_of es)
 -- a run without the index 2^64 - 1
 pub record IsConsecutive (es : List EntryIndex) : Type 0 where
   pub run : IsRun es
-  pub bounded : end_of es < 2 ^ 64
+  pub bounded : AllByRecursion (λ (e : EntryIndex). e.index < 2 ^ 64 - 1) es

@@ -20,7 +20,7 @@ use Rattle.raft_codec.proofs.SequenceLemmas.{reads_more, stuck, sequence_one_fro
 use Rattle.raft_base.specs.declared.compression_type.CompressionType.{CompressionType}
 use Rattle.raft_base.specs.declared.entry_index.EntryIndex.{EntryIndex}
 use Rattle.raft_base.specs.Runs.{IsConsecutive}
-use Rattle.raft_base.proofs.ConsecutiveLemmas.{IsConsecutiveFrom, from_start, consecutive_from}
+use Rattle.raft_base.proofs.ConsecutiveLemmas.{IsConsecutiveFrom, from_start, consecutive_from, started}
 use Rattle.raft_records.specs.declared.key_value.OpType.{OpType}
 use Rattle.raft_records.specs.declared.key_value.OpType.TheVariants.{Put, Del}
 use Rattle.raft_records.specs.Item.{Item, Content, entries, command, pair, IsInBytes}
@@ -67,7 +67,7 @@ fits_placed block c s (entries es) h = (consecutive_placed es h.0, tile_placed s
     from_placed i (e ∷ es) h = (h.0, h.1, from_placed (i + 1) es h.2)
 
     consecutive_placed : (es : List EntryIndex) → IsConsecutive es → IsConsecutive (map (placed_entry block c) es)
-    consecutive_placed es h = consecutive_from h.run.start (map (placed_entry block c) es) (from_placed h.run.start es (from_start es h))
+    consecutive_placed es h = consecutive_from (started es h.run).start (map (placed_entry block c) es) (from_placed (started es h.run).start es (from_start es h))
 
     tile_placed : (s : ℕ) (es : List EntryIndex) → Tile s es → Tile s (map (placed_entry block c) es)
     tile_placed s [] h = tt

@@ -3,7 +3,7 @@ use Rattle.std.proofs.Common.{◌≡◌, ℕ, zero, suc, ◌+◌, ◌^◌, ◌<�
 use Rattle.std.proofs.lemmas.List.{length-map, length-take-le, take_more, drop_more, get_or_at, set_at}
 use Rattle.raft_base.specs.declared.entry_index.EntryIndex.{EntryIndex}
 use Rattle.raft_base.specs.Runs.{IsConsecutive}
-use Rattle.raft_base.proofs.ConsecutiveLemmas.{IsConsecutiveFrom, from_start, consecutive_from}
+use Rattle.raft_base.proofs.ConsecutiveLemmas.{IsConsecutiveFrom, from_start, consecutive_from, started}
 use Rattle.raft_records.specs.Item.{Item, Content, entries, command, pair}
 use Rattle.raft_records.specs.Entries.{Tile}
 use Rattle.raft_records.specs.Grammar.{tail_of, end_behind}
@@ -63,7 +63,7 @@ laid_tile s [] lt = tt
 laid_tile s (e ∷ es) lt = (refl, omega arith, laid_tile (s + e.entry_len) es (omega arith))
 
 pub laid_fits : (s : ℕ) (es : List EntryIndex) → IsConsecutive es → s + entry_lengths es < 2 ^ 32 → FitsBehind s (entries (laid s es))
-laid_fits s es h lt = (consecutive_from h.run.start (laid s es) (laid_from h.run.start s es (from_start es h)), laid_tile s es lt)
+laid_fits s es h lt = (consecutive_from (started es h.run).start (laid s es) (laid_from (started es h.run).start s es (from_start es h)), laid_tile s es lt)
 
 pub end_of_laid : (s : ℕ) (es : List EntryIndex) → end_behind s (laid s es) ≡ s + entry_lengths es
 end_of_laid s [] = omega arith
@@ -113,7 +113,7 @@ raised_from i by [] h = tt
 raised_from i by (e ∷ es) h = (h.0, h.1, raised_from (i + 1) by es h.2)
 
 raised_consecutive : (by : ℕ) (es : List EntryIndex) → IsConsecutive es → IsConsecutive (map (raised_entry by) es)
-raised_consecutive by es h = consecutive_from h.run.start (map (raised_entry by) es) (raised_from h.run.start by es (from_start es h))
+raised_consecutive by es h = consecutive_from (started es h.run).start (map (raised_entry by) es) (raised_from (started es h.run).start by es (from_start es h))
 
 raised_tile : (s by : ℕ) (es : List EntryIndex) → Tile s es → end_behind s es + by < 2 ^ 32 → Tile (s + by) (map (raised_entry by) es)
 raised_tile s by [] h lt = tt

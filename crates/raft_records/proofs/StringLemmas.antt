@@ -6,7 +6,7 @@ use Rattle.std.proofs.lemmas.Bool.{eqb-true}
 use Rattle.std.proofs.lemmas.List.{length-append, length-drop, length-map, length-set, drop_more, drop-append-le, append-nil}
 use Rattle.raft_base.specs.declared.entry_index.EntryIndex.{EntryIndex}
 use Rattle.raft_base.specs.Runs.{IsConsecutive}
-use Rattle.raft_base.proofs.ConsecutiveLemmas.{IsConsecutiveFrom, from_start, consecutive_from}
+use Rattle.raft_base.proofs.ConsecutiveLemmas.{IsConsecutiveFrom, from_start, consecutive_from, started}
 use Rattle.raft_records.specs.Item.{Item, entries_item}
 use Rattle.raft_records.specs.ItemBatch.{entry_bytes_of, entry_lengths, laid}
 use Rattle.raft_records.specs.LogBatch.{Stage, Batch, populating, with_entries_added}
@@ -43,7 +43,7 @@ lengths_from index (x ∷ xs) [] h = tt
 lengths_from index (x ∷ xs) (s ∷ ss) h = (h.0, h.1, lengths_from (index + 1) xs ss h.2)
 
 pub lengths_consecutive : (es : List EntryIndex) (strings : List (List ℕ)) → IsConsecutive es → IsConsecutive (with_lengths es strings)
-lengths_consecutive es strings h = consecutive_from h.run.start (with_lengths es strings) (lengths_from h.run.start es strings (from_start es h))
+lengths_consecutive es strings h = consecutive_from (started es h.run).start (with_lengths es strings) (lengths_from (started es h.run).start es strings (from_start es h))
 
 pub none_consecutive : {X : Type 0} (index_of : X → ℕ) (xs : List X) → nat_eq (length xs) 0 ≡ true → IsConsecutive (map (λ x. entry_with_index (index_of x)) xs)
 none_consecutive index_of [] none = consecutive_from 0 [] tt

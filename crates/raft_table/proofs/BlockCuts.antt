@@ -3,6 +3,7 @@ use Rattle.std.proofs.Common.{◌≡◌, ◌^◌, ℕ, zero, suc, ◌+◌, ◌-�
 use Rattle.std.proofs.lemmas.List.{nil_from_length, append-nil, length-drop, length-take-le, take-append-drop}
 use Rattle.raft_base.specs.declared.pipe_log.LogQueue.TheVariants.{Append, Rewrite}
 use Rattle.raft_base.specs.Runs.{end_of}
+use Rattle.raft_base.proofs.ConsecutiveLemmas.{end_bounded}
 use Rattle.raft_table.specs.Blocks.{BlockSpans, spread, entries_in_blocks, Differs, AreDistinctBlocks}
 use Rattle.raft_table.specs.BlockWords.{count, starts_of, AreKept, first_spans, without_first_spans, cut_last, cut_first, IsAt, IsIndexOf}
 use Rattle.raft_table.specs.TableEntries.{AreTableEntries, start_of, placed_in, entry_count}
@@ -33,7 +34,7 @@ kept_facts {i} {n} {bs} {ss} {r} k =
       empty = λ e. nil_from_length (entries_in_blocks i bs) (l ∙ e);
       start = λ p. start-of_rising i (entries_in_blocks i bs) (rises_expanded i bs) (omega arith);
       end = e;
-      bounded = λ p. let q = e p in let s = k.table_entries.consecutive.bounded in omega arith;
+      bounded = λ p. let q = e p in let s = end_bounded _ k.table_entries.consecutive.bounded in omega arith;
     }
 
 -- what a search finds

@@ -7,6 +7,7 @@ use Rattle.raft_base.specs.declared.pipe_log.LogQueue.TheVariants.{Append, Rewri
 use Rattle.raft_base.specs.declared.compression_type.CompressionType.TheVariants as compression
 use Rattle.raft_base.specs.declared.entry_index.EntryIndex.{EntryIndex}
 use Rattle.raft_base.specs.Runs.{RisesFrom}
+use Rattle.raft_base.proofs.ConsecutiveLemmas.{end_bounded}
 use Rattle.raft_table.specs.Blocks.{BlockSpans, spread, entries_in_blocks, AreDistinctBlocks}
 use Rattle.raft_table.specs.BlockWords.{count, starts_of, AreKept, cut_last, joined_blocks, seam}
 use Rattle.raft_table.specs.TableEntries.{AreTableEntries, start_of, placed_in, is_placed_in, entry_count}
@@ -50,7 +51,7 @@ count_in_le Rewrite Rewrite n = omega arith
 
 -- a table's entries that begin at an index end below 2^64
 pub sound_fits : (i : ℕ) (es : List EntryIndex) → AreTableEntries es → RisesFrom i es → 0 < length es → i + length es < 2 ^ 64
-sound_fits i es h r l = let e = end_of-run i es r l in let b = h.consecutive.bounded in omega arith
+sound_fits i es h r l = let e = end_of-run i es r l in let b = end_bounded es h.consecutive.bounded in omega arith
 
 all_front : (i n : ℕ) (bs : List BlockSpans) → AreDistinctBlocks bs → n ≡ count bs → IsFront i n (length bs) bs bs
 all_front i n bs h e = record {

@@ -13,6 +13,8 @@ use Rattle.raft_table.specs.KeyValues.{lesser}
 use Rattle.raft_table.specs.Marks.{Mark, entries_within, misses, is_missed, is_barred, entries_over}
 use Rattle.raft_table.specs.MarkFits.{IsNotAbove, LiesWithin, FitsRun, FitsCut, Fits}
 use Rattle.raft_table.specs.MarkJoins.{at_most_bound, narrowed_bars, is_detached, joined_first, joined_later, joined_uncleaned, joined_at}
+use Rattle.raft_table.specs.TableEntries.{start_of}
+use Rattle.raft_table.proofs.RunLemmas.{rises}
 use Rattle.raft_table.proofs.MarkWords.{within-within, within-both, within-empty, within-nil, end_of-nil, nil_of_end}
 use Rattle.raft_table.proofs.PartEnds.{top, end_of-part_run}
 use Rattle.raft_table.proofs.MarkMeets.{barred_of, Settled, settled_list, met_list, at_cut_list, none_within, refuses_later}
@@ -141,7 +143,7 @@ join_append m n t u w o run run1 f f' is = by_cleaned m.cleaned refl f.uncleaned
         ≡ over Append (joined_uncleaned x y Append X m n) w o
     by_run None y r e h = let none : m.barred ≡ None = f.behind r in rw (ap (λ b. is_barred b o) none, ← e) (first_whole Append m n t u w o h (over_first Append m n u o none) is)
     by_run (Some r) None k e h = absurd h
-    by_run (Some r) (Some c) k e h = later_append run.start run1.start m n t u w o r c k run.rising run1.rising h f'.within is
+    by_run (Some r) (Some c) k e h = later_append (start_of o) (start_of t) m n t u w o r c k (rises o run) (rises t run1) h f'.within is
 
     by_cleaned : (b : Bool) → m.cleaned ≡ b → (b ≡ false → FitsCut m.reach m.cut m t)
         → option_and_then (λ v. over Append n u v) (cond (misses m.reach (end_of (entries_within m.reach_floor m.reach_cut o)) || is_barred m.barred o) None (Some (cond b t (entries_within m.floor m.cut o ++ t))))
@@ -216,7 +218,7 @@ join_rewrite m n t u w o run run1 f f' is = by_cleaned m.cleaned refl f.uncleane
         → over Rewrite n u (cond (misses x (end_of (entries_within m.reach_floor m.reach_cut o))) t (entries_within m.floor y o ++ t)) ≡ over Rewrite (joined_uncleaned x y Rewrite X m n) w o
     by_run None y r e h = rw (← e) (first_whole Rewrite m n t u w o h (over_first Rewrite m n u o (f.behind r)) is)
     by_run (Some r) None k e h = absurd h
-    by_run (Some r) (Some c) k e h = later_rewrite run.start run1.start m n t u o r c k run.rising run1.rising h f.bars f' w (same_some _ _ is)
+    by_run (Some r) (Some c) k e h = later_rewrite (start_of o) (start_of t) m n t u o r c k (rises o run) (rises t run1) h f.bars f' w (same_some _ _ is)
 
     by_cleaned : (b : Bool) → m.cleaned ≡ b → (b ≡ false → FitsCut m.reach m.cut m t)
         → over Rewrite n u (cond b t (cond (misses m.reach (end_of (entries_within m.reach_floor m.reach_cut o))) t (entries_within m.floor m.cut o ++ t))) ≡ over Rewrite (cond b m (joined_uncleaned m.reach m.cut Rewrite X m n)) w o

@@ -8,13 +8,14 @@ use Rattle.raft_base.specs.declared.pipe_log.LogQueue.{LogQueue}
 use Rattle.raft_base.specs.declared.pipe_log.LogQueue.TheVariants.{Append, Rewrite}
 use Rattle.raft_base.specs.declared.entry_index.EntryIndex.{EntryIndex}
 use Rattle.raft_base.specs.Runs.{RisesFrom, IsRun, end_of}
+use Rattle.raft_table.specs.TableEntries.{start_of}
 use Rattle.raft_table.specs.KeyValues.{lesser}
 use Rattle.raft_table.specs.Marks.{Mark, entries_within, misses, is_barred, entries_over}
 use Rattle.raft_table.specs.MarkFits.{IsNotAbove, IsBelow, LiesWithin, BarsStaying, IsBarring, FitsRun, FitsCut, BarsIn, Fits}
 use Rattle.raft_table.specs.MarkJoins.{at_most_bound, narrowed_bars, is_detached, joined_first, joined_uncleaned, joined_at}
 use Rattle.raft_table.proofs.PartEnds.{top, end_of-part_run}
 use Rattle.raft_table.proofs.MarkMeets.{barred_of, bounds}
-use Rattle.raft_table.proofs.RunLemmas.{end_of-append}
+use Rattle.raft_table.proofs.RunLemmas.{end_of-append, rises}
 use Rattle.raft_table.proofs.MarkEntries.{same_some, accepted, or_false, over, over_is, over_nil, narrowed_bounds}
 
 fits_narrowed : (l0 lo : ℕ) (reach_cut cut : Option ℕ) (barred : Option (ℕ × ℕ)) → LiesWithin l0 reach_cut barred → LiesWithin (max lo l0) (lesser cut reach_cut) (narrowed_bars lo cut barred)
@@ -281,9 +282,9 @@ fits_join_append m n t u w run f f' is = by_cleaned m.cleaned refl f.uncleaned
 
     later : (r c : ℕ) → FitsRun r c (end_of t) m.reach_floor m.floor m.reach_cut m.barred → (x y : Option ℕ) → misses x X ≡ false → FitsCut x y n u → (x ≡ None → n.barred ≡ None) → entries_within n.floor y t ++ u ≡ w
         → FitsRun r (at_most_bound c y) (end_of w) m.reach_floor (max m.floor n.floor) m.reach_cut (barred_of m.barred (is_detached x X (at_most_bound c n.reach_cut)) (Some (max m.floor n.reach_floor, at_most_bound c n.reach_cut)) (narrowed_bars m.floor (Some c) n.barred))
-    later r c h None y miss k b v = rw (← v, b refl) (fits_later_no_run run.start n.floor y t u r c m.reach_floor m.floor m.reach_cut m.barred (Some (max m.floor n.reach_floor, at_most_bound c n.reach_cut)) run.rising h k)
+    later r c h None y miss k b v = rw (← v, b refl) (fits_later_no_run (start_of t) n.floor y t u r c m.reach_floor m.floor m.reach_cut m.barred (Some (max m.floor n.reach_floor, at_most_bound c n.reach_cut)) (rises t run) h k)
     later r c h (Some x) None miss k b v = absurd k
-    later r c h (Some x) (Some d) miss k b v = rw (← v) (fits_later_append run.start n t u r c m.reach_floor m.floor m.reach_cut m.barred x d run.rising h k miss)
+    later r c h (Some x) (Some d) miss k b v = rw (← v) (fits_later_append (start_of t) n t u r c m.reach_floor m.floor m.reach_cut m.barred x d (rises t run) h k miss)
 
     by_run : (x y : Option ℕ) → m.reach ≡ x → m.cut ≡ y → FitsCut x y m t → Fits Append (joined_uncleaned x y Append X m n) w
     by_run None y r e h = subst (λ v. Fits Append (joined_first m n) v) (first_table Append n t u w h is) (fits_first Append m n u (f.behind r) f')
@@ -310,9 +311,9 @@ fits_join_rewrite m n t u w run f f' is = by_cleaned m.cleaned refl f.uncleaned
 
     later : (r c : ℕ) → FitsRun r c (end_of t) m.reach_floor m.floor m.reach_cut None → (x y : Option ℕ) → FitsCut x y n u → cond (misses x X) u (entries_within n.floor y t ++ u) ≡ w
         → FitsRun r (at_most_bound c y) (end_of w) m.reach_floor (cond (is_detached x X (at_most_bound c n.reach_cut) || misses x X) (max (max m.floor n.floor) c) (max m.floor n.floor)) m.reach_cut None
-    later r c h None y k v = rw (← v) (fits_later_no_run run.start n.floor y t u r c m.reach_floor m.floor m.reach_cut None None run.rising h k)
+    later r c h None y k v = rw (← v) (fits_later_no_run (start_of t) n.floor y t u r c m.reach_floor m.floor m.reach_cut None None (rises t run) h k)
     later r c h (Some x) None k v = absurd k
-    later r c h (Some x) (Some d) k v = rw (← v) (fits_later_rewrite run.start n t u r c m.reach_floor m.floor m.reach_cut x d run.rising h (rw f'.bars at k))
+    later r c h (Some x) (Some d) k v = rw (← v) (fits_later_rewrite (start_of t) n t u r c m.reach_floor m.floor m.reach_cut x d (rises t run) h (rw f'.bars at k))
 
     by_run : (x y : Option ℕ) → m.reach ≡ x → m.cut ≡ y → FitsCut x y m t → Fits Rewrite (joined_uncleaned x y Rewrite X m n) w
     by_run None y r e h = subst (λ v. Fits Rewrite (joined_first m n) v) (first_table Rewrite n t u w h is) (fits_first Rewrite m n u (f.behind r) f')

@@ -8,6 +8,7 @@ use Rattle.raft_base.specs.declared.pipe_log.LogQueue.{LogQueue}
 use Rattle.raft_base.specs.declared.pipe_log.LogQueue.TheVariants.{Append, Rewrite}
 use Rattle.raft_base.specs.declared.entry_index.EntryIndex.{EntryIndex}
 use Rattle.raft_base.specs.Runs.{RisesFrom, end_of}
+use Rattle.raft_base.proofs.ConsecutiveLemmas.{run_of, end_bounded, bounded_of}
 use Rattle.raft_table.specs.TableEntries.{AreTableEntries, RewrittenInFront, start_of, placed_in, is_placed_in, entry_count}
 use Rattle.raft_table.specs.Rewriting.{may_move, is_misplaced, newly_rewritten}
 use Rattle.raft_table.proofs.RunLemmas.{RisesFrom-take, RisesFrom-append, RisesFrom-drop, end_of-run, placed_in-append}
@@ -101,7 +102,7 @@ moves gate at m es places h l r q t e =
     let rise : RisesFrom s (ab ++ drop (at + m) es) = RisesFrom-append s ab (drop (at + m) es) rise_ab (rw nab (RisesFrom-drop (at + m) s es (sound_rising es h) (omega arith))) in
     let n : length (ab ++ drop (at + m) es) ≡ length es = length-append ab (drop (at + m) es) ∙ omega (arith, length-drop (at + m) es) in
     let top = end_of-same s (ab ++ drop (at + m) es) es rise (sound_rising es h) n in
-    let bound = h.consecutive.bounded in
+    let bound = end_bounded es h.consecutive.bounded in
     let ra = entry_count-append Rewrite ab (drop (at + m) es) in
     let rb = entry_count-append Append ab (drop (at + m) es) in
     let ia = entries_in_one Rewrite Rewrite ab both in
@@ -111,7 +112,7 @@ moves gate at m es places h l r q t e =
     record {
       within = mk;
       table_entries = record {
-        consecutive = record { run = record { start = s; rising = rise }; bounded = omega arith };
+        consecutive = record { run = run_of s (ab ++ drop (at + m) es) rise; bounded = bounded_of (ab ++ drop (at + m) es) (omega arith) };
         in_front = in_front_of ab (drop (at + m) es) both (AreTableEntries-drop (at + m) es h).in_front;
       };
       rewritten = omega arith;

@@ -7,7 +7,7 @@ use Rattle.std.proofs.lemmas.Bool.Decides.{nat_tests}
 use Rattle.raft_base.specs.declared.pipe_log.LogQueue.TheVariants.{Append, Rewrite}
 use Rattle.raft_base.specs.declared.entry_index.EntryIndex.{EntryIndex}
 use Rattle.raft_base.specs.Runs.{RisesFrom, IsRun, end_of}
-use Rattle.raft_table.specs.TableEntries.{below, from}
+use Rattle.raft_table.specs.TableEntries.{below, from, start_of}
 use Rattle.raft_table.specs.KeySets.{without}
 use Rattle.raft_table.specs.KeyValues.{pairs_over}
 use Rattle.raft_table.specs.MarkMerge.{left_by}
@@ -18,7 +18,7 @@ use Rattle.raft_table.specs.Merge.{after_join}
 use Rattle.raft_table.specs.Overlay.{has_clean, deleted_of, is_unjoined, rewritten_within, overlay, overlay_under, IsExactMark}
 use Rattle.raft_table.specs.Steps.{Step, table_of, AreSteps, IsTableOf}
 use Rattle.raft_table.specs.Table.{Table}
-use Rattle.raft_table.proofs.RunLemmas.{end_of-run, RisesFrom-append}
+use Rattle.raft_table.proofs.RunLemmas.{end_of-run, RisesFrom-append, rises}
 use Rattle.raft_table.proofs.MarkWords.{within-within, within-below, within-from, end_of-first}
 use Rattle.raft_table.proofs.PartEnds.{top, end_of-part_run}
 use Rattle.raft_table.proofs.MarkExact.{empty_union}
@@ -78,8 +78,8 @@ part_run floor (Some c) es r = subst IsRun (within-cut floor c es) (run_below c 
 one_behind : (p : List EntryIndex) (e : EntryIndex) (own : List EntryIndex) → IsRun p → IsRun (e ∷ own) → (0 < end_of p → end_of p ≡ e.index) → IsRun (p ++ e ∷ own)
 one_behind [] e own r h k = h
 one_behind (x ∷ p) e own r h k =
-    let at : e.index ≡ r.start + length (x ∷ p) = sym (k (omega (arith, end_of-first x p))) ∙ end_of-run r.start (x ∷ p) r.rising (omega arith) in
-    record { start = r.start; rising = RisesFrom-append r.start (x ∷ p) (e ∷ own) r.rising (subst (λ n. RisesFrom n (e ∷ own)) at (first_rising e own h)) }
+    let at : e.index ≡ x.index + length (x ∷ p) = sym (k (omega (arith, end_of-first x p))) ∙ end_of-run x.index (x ∷ p) (refl, r) (omega arith) in
+    (RisesFrom-append x.index (x ∷ p) (e ∷ own) (refl, r) (subst (λ n. RisesFrom n (e ∷ own)) at (first_rising e own h))).1
 
 reaches : (s e floor c : ℕ) → c ≤ e → 0 < top s e floor (Some c) → top s e floor (Some c) ≡ c
 reaches s e floor c l h = grind (arith, nat_tests)
@@ -99,9 +99,9 @@ overlay_run id m a ss r good h k = by_cleaned m.cleaned refl
         go true is = run
         go false is =
             let at : (e.index ≡ c) × (c ≤ end_of r.entries) = joined_at_cut e.index c (end_of r.entries) is in
-            let ends : end_of (entries_within m.floor (Some c) r.entries) ≡ top k.run.start (end_of r.entries) m.floor (Some c) = end_of-part_run k.run.start m.floor (Some c) r.entries k.run.rising in
+            let ends : end_of (entries_within m.floor (Some c) r.entries) ≡ top (start_of r.entries) (end_of r.entries) m.floor (Some c) = end_of-part_run (start_of r.entries) m.floor (Some c) r.entries (rises r.entries k.run) in
             one_behind (entries_within m.floor (Some c) r.entries) e own (part_run m.floor (Some c) r.entries k.run) run
-            (λ p. ends ∙ reaches k.run.start (end_of r.entries) m.floor c at.1 (subst (λ n. 0 < n) ends p) ∙ sym at.0)
+            (λ p. ends ∙ reaches (start_of r.entries) (end_of r.entries) m.floor c at.1 (subst (λ n. 0 < n) ends p) ∙ sym at.0)
 
     by_cut : (y z : Option ℕ) → m.cut ≡ z → FitsCut y z m (table_of id a).entries → IsRun (rewritten_within m.floor z (table_of id a).entries r.entries ++ (table_of id a).entries)
     by_cut y (Some c) is f = by_own c (table_of id a).entries h.own_table.run

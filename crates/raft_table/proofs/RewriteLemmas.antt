@@ -14,7 +14,7 @@ use Rattle.raft_table.specs.Counts.{Counts, with_added, with_deleted}
 use Rattle.raft_table.specs.TableEntries.{IsRunIn, AreTableEntries, start_of, below, from, placed_in, entry_count}
 use Rattle.raft_table.specs.Overlaps.{IsOverlap, AreDisjoint}
 use Rattle.raft_table.specs.Rewriting.{may_move, overlap, moved_count, is_misplaced, with_places, rewritten_from, entries_after_rewrite, with_rewritten, counts_after_rewrite}
-use Rattle.raft_table.proofs.RunLemmas.{below_take, below_start, from_drop, from_start, end_of-run, RisesFrom-take, RisesFrom-drop, RisesFrom-start}
+use Rattle.raft_table.proofs.RunLemmas.{below_take, below_start, from_drop, from_start, end_of-run, RisesFrom-take, RisesFrom-drop, rises}
 use Rattle.raft_table.proofs.SoundLemmas.{sound_rising}
 use Rattle.raft_table.proofs.MovesLemmas.{placed_in-take, placed_in-drop}
 use Rattle.raft_table.proofs.PlaceLemmas.{each_placed}
@@ -44,7 +44,7 @@ unfolding end_of from
 rewritten_none gate es = rw (below_zero es) refl
 
 pub run_rising : (q : LogQueue) (run : List EntryIndex) → IsRunIn q run → RisesFrom (start_of run) run
-run_rising q run r = RisesFrom-start r.consecutive.run.start run r.consecutive.run.rising
+run_rising q run r = rises run r.consecutive.run
 
 pub run_end : (q : LogQueue) (run : List EntryIndex) → IsRunIn q run → 0 < length run → end_of run ≡ start_of run + length run
 run_end q run r l = end_of-run (start_of run) run (run_rising q run r) l

@@ -7,6 +7,7 @@ use Rattle.std.proofs.lemmas.Bool.Decides.{nat_tests}
 use Rattle.raft_base.specs.declared.pipe_log.LogQueue.{LogQueue}
 use Rattle.raft_base.specs.declared.entry_index.EntryIndex.{EntryIndex}
 use Rattle.raft_base.specs.Runs.{RisesFrom, IsRun, end_of}
+use Rattle.raft_base.proofs.ConsecutiveLemmas.{run_of}
 use Rattle.raft_table.specs.TableEntries.{start_of, below, from, placed_in, is_placed_in}
 use Rattle.raft_table.specs.Marks.{misses}
 use Rattle.raft_table.specs.Start.{leaves_hole}
@@ -108,14 +109,14 @@ RisesFrom-drop (suc n) s (e ∷ es) h l =
     rw k (RisesFrom-drop n (suc s) es h.1 (omega arith))
 
 pub IsRun-drop : (n s : ℕ) (es : List EntryIndex) → RisesFrom s es → IsRun (drop n es)
-IsRun-drop zero s es h = record { start = s; rising = h }
-IsRun-drop (suc n) s [] h = record { start = 0; rising = tt }
+IsRun-drop zero s es h = run_of s es h
+IsRun-drop (suc n) s [] h = tt
 IsRun-drop (suc n) s (e ∷ es) h = IsRun-drop n (suc s) es h.1
 
 -- a run without entries begins anywhere, another where its first entry stands
-pub RisesFrom-start : (s : ℕ) (es : List EntryIndex) → RisesFrom s es → RisesFrom (start_of es) es
-RisesFrom-start s [] h = tt
-RisesFrom-start s (e ∷ es) h = (refl, rw h.0 h.1)
+pub rises : (es : List EntryIndex) → IsRun es → RisesFrom (start_of es) es
+rises [] run = tt
+rises (e ∷ es) run = (refl, run)
 
 pub start-of_rising : (s : ℕ) (es : List EntryIndex) → RisesFrom s es → 0 < length es → start_of es ≡ s
 start-of_rising s [] h l = absurd (omega arith)

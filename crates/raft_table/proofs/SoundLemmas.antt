@@ -5,12 +5,13 @@ use Rattle.std.proofs.lemmas.List.{take_min, drop_min, length-take-le}
 use Rattle.raft_base.specs.declared.pipe_log.LogQueue.TheVariants.{Append, Rewrite}
 use Rattle.raft_base.specs.declared.entry_index.EntryIndex.{EntryIndex}
 use Rattle.raft_base.specs.Runs.{RisesFrom, end_of}
+use Rattle.raft_base.proofs.ConsecutiveLemmas.{run_of, end_bounded, bounded_of}
 use Rattle.raft_table.specs.TableEntries.{AreTableEntries, RewrittenInFront, start_of, below, from, placed_in, entry_count}
-use Rattle.raft_table.proofs.RunLemmas.{below-append, from-append, below-placed_in, from-placed_in, below_take, from_drop, RisesFrom-take, RisesFrom-start, IsRun-drop, end_of-take, end_of-drop}
+use Rattle.raft_table.proofs.RunLemmas.{below-append, from-append, below-placed_in, from-placed_in, below_take, from_drop, RisesFrom-take, rises, IsRun-drop, end_of-take, end_of-drop}
 use Rattle.raft_table.proofs.PlaceLemmas.{entries_in_front, entries_in_both, entry_count-cut}
 
 pub sound_rising : (es : List EntryIndex) → AreTableEntries es → RisesFrom (start_of es) es
-sound_rising es h = RisesFrom-start h.consecutive.run.start es h.consecutive.run.rising
+sound_rising es h = rises es h.consecutive.run
 
 pub RewrittenInFront-below : (i : ℕ) (es : List EntryIndex) → RewrittenInFront es → RewrittenInFront (below i es)
 RewrittenInFront-below i es h =
@@ -26,23 +27,23 @@ RewrittenInFront-from i es h =
 
 pub AreTableEntries-take : (n : ℕ) (es : List EntryIndex) → AreTableEntries es → AreTableEntries (take n es)
 AreTableEntries-take n es h =
-    let s = h.consecutive.run.start in
-    let e : below (s + n) es ≡ take n es = below_take (s + n) n s es refl h.consecutive.run.rising in
+    let s = start_of es in
+    let e : below (s + n) es ≡ take n es = below_take (s + n) n s es refl (sound_rising es h) in
     let top = end_of-take n es in
-    let bound = h.consecutive.bounded in
+    let bound = end_bounded es h.consecutive.bounded in
     record {
-      consecutive = record { run = record { start = s; rising = RisesFrom-take n s es h.consecutive.run.rising }; bounded = omega arith };
+      consecutive = record { run = run_of s (take n es) (RisesFrom-take n s es (sound_rising es h)); bounded = bounded_of (take n es) (omega arith) };
       in_front = subst RewrittenInFront e (RewrittenInFront-below (s + n) es h.in_front);
     }
 
 pub AreTableEntries-drop : (n : ℕ) (es : List EntryIndex) → AreTableEntries es → AreTableEntries (drop n es)
 AreTableEntries-drop n es h =
-    let s = h.consecutive.run.start in
-    let e : from (s + n) es ≡ drop n es = from_drop (s + n) n s es refl h.consecutive.run.rising in
+    let s = start_of es in
+    let e : from (s + n) es ≡ drop n es = from_drop (s + n) n s es refl (sound_rising es h) in
     let top = end_of-drop n es in
-    let bound = h.consecutive.bounded in
+    let bound = end_bounded es h.consecutive.bounded in
     record {
-      consecutive = record { run = IsRun-drop n s es h.consecutive.run.rising; bounded = omega arith };
+      consecutive = record { run = IsRun-drop n s es (sound_rising es h); bounded = bounded_of (drop n es) (omega arith) };
       in_front = subst RewrittenInFront e (RewrittenInFront-from (s + n) es h.in_front);
     }
 
@@ -81,7 +82,7 @@ cut_counts n es h le = record {
 
 pub AreTableEntries-nil : AreTableEntries []
 unfolding placed_in end_of
-AreTableEntries-nil = record { consecutive = record { run = record { start = 0; rising = tt }; bounded = lit< tt }; in_front = refl }
+AreTableEntries-nil = record { consecutive = record { run = tt; bounded = tt }; in_front = refl }
 
 pub no_first : (es : List EntryIndex) → None ≡ slice_get es 0 → es ≡ []
 no_first [] h = refl

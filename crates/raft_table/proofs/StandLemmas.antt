@@ -8,7 +8,7 @@ use Rattle.raft_base.specs.declared.entry_index.EntryIndex.{EntryIndex}
 use Rattle.raft_base.specs.Runs.{IsRun, end_of}
 use Rattle.raft_table.specs.TableEntries.{IsRunIn, start_of, below, from, entry_at, StandsBehind}
 use Rattle.raft_table.specs.Start.{leaves_hole, entries_after_append, entries_after_replay}
-use Rattle.raft_table.proofs.RunLemmas.{RisesFrom-start}
+use Rattle.raft_table.proofs.RunLemmas.{rises}
 use Rattle.raft_table.proofs.LookupLemmas.{entry_at_low}
 
 pub entry_with_index-append : (i : ℕ) (a b : List EntryIndex) → entry_at i (a ++ b) ≡ option_or (entry_at i a) (entry_at i b)
@@ -56,7 +56,7 @@ run_stands es run r = λ i. at i (ltb i (start_of run)) refl
   where
     at : (i : ℕ) (t : Bool) → ltb i (start_of run) ≡ t → entry_at i (below (start_of run) es ++ run) ≡ cond (ltb i (start_of run)) (entry_at i es) (entry_at i run)
     at i true e =
-        let low : entry_at i run ≡ None = entry_at_low i (start_of run) run (grind (arith, nat_tests)) (RisesFrom-start r.start run r.rising) in
+        let low : entry_at i run ≡ None = entry_at_low i (start_of run) run (grind (arith, nat_tests)) (rises run r) in
         entry_with_index-append i (below (start_of run) es) run ∙ rw (entry_with_index-below i (start_of run) es, low, e) (none_behind (entry_at i es))
       where
         none_behind : {X : Type 0} (o : Option X) → option_or o None ≡ o

@@ -6,13 +6,14 @@ use Rattle.raft_base.specs.declared.pipe_log.LogQueue.{LogQueue}
 use Rattle.raft_base.specs.declared.pipe_log.LogQueue.TheVariants.{Append, Rewrite}
 use Rattle.raft_base.specs.declared.entry_index.EntryIndex.{EntryIndex}
 use Rattle.raft_base.specs.Runs.{RisesFrom, end_of}
+use Rattle.raft_base.proofs.ConsecutiveLemmas.{run_of, end_bounded, bounded_of}
 use Rattle.raft_table.specs.declared.memtable.entries.Start.TheVariants.{Joins, InFront, BehindHole}
 use Rattle.raft_table.specs.TableEntries.{IsRunIn, AreTableEntries, RewrittenInFront, start_of, below, placed_in, entry_count}
 use Rattle.raft_table.specs.Marks.{misses}
 use Rattle.raft_table.specs.Start.{starts_in_front}
 use Rattle.raft_table.specs.StartOf.{IsStart}
 use Rattle.raft_table.specs.Queues.{other}
-use Rattle.raft_table.proofs.RunLemmas.{hole_end, below_take, below_start, end_of-run, end_of-take, end_of-append, RisesFrom-take, RisesFrom-start, RisesFrom-append, placed_in-append}
+use Rattle.raft_table.proofs.RunLemmas.{hole_end, below_take, below_start, end_of-run, end_of-take, end_of-append, RisesFrom-take, rises, RisesFrom-append, placed_in-append}
 use Rattle.raft_table.proofs.PlaceLemmas.{placed_in_other, placed_each, each_placed, entry_count-cut}
 use Rattle.raft_table.proofs.SoundLemmas.{sound_rising, AreTableEntries-take}
 
@@ -95,18 +96,15 @@ sound_joined q (suc n) es run h m r l s =
     let k = suc n in
     let p : start_of run ≡ start_of es + k = start_place (start_of run) k es h (omega arith) s in
     let t : length (take k es) ≡ k = length-take-le k es s.1 in
-    let rr : RisesFrom (start_of run) run = RisesFrom-start r.consecutive.run.start run r.consecutive.run.rising in
+    let rr : RisesFrom (start_of run) run = rises run r.consecutive.run in
     let top = end_of-take k es in
     let both = end_of-append (take k es) run in
-    let a = h.consecutive.bounded in
-    let b = r.consecutive.bounded in
+    let a = end_bounded es h.consecutive.bounded in
+    let b = end_bounded run r.consecutive.bounded in
     record {
       consecutive = record {
-        run = record {
-          start = start_of es;
-          rising = RisesFrom-append (start_of es) (take k es) run (RisesFrom-take k (start_of es) es (sound_rising es h)) (rw (t, ← p) rr);
-        };
-        bounded = omega arith;
+        run = run_of (start_of es) (take k es ++ run) (RisesFrom-append (start_of es) (take k es) run (RisesFrom-take k (start_of es) es (sound_rising es h)) (rw (t, ← p) rr));
+        bounded = bounded_of (take k es ++ run) (omega arith);
       };
       in_front = in_front_joined q k es run h m (each_placed q run r.placed);
     }

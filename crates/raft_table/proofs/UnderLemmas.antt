@@ -50,10 +50,10 @@ replayed_run q a (e ∷ b) r = go q (meets a r)
     meets : (a : List EntryIndex) → IsRun (a ++ e ∷ b) → (leaves_hole a e.index ≡ false) × (below e.index a ≡ a)
     meets [] r = (refl, below_nil e.index)
     meets (x ∷ a) r =
-        let rises = first_rises r.start (x ∷ a) (e ∷ b) r.rising in
-        let behind : e.index ≡ r.start + length (x ∷ a) = (second_rises r.start (x ∷ a) (e ∷ b) r.rising).0 in
-        let top = end_of-run r.start (x ∷ a) rises (omega arith) in
-        (no_hole (end_of (x ∷ a)) e.index (omega arith), below_take e.index (length (x ∷ a)) r.start (x ∷ a) behind rises ∙ take_all (length (x ∷ a)) (x ∷ a) (omega arith))
+        let rises = first_rises x.index (x ∷ a) (e ∷ b) (refl, r) in
+        let behind : e.index ≡ x.index + length (x ∷ a) = (second_rises x.index (x ∷ a) (e ∷ b) (refl, r)).0 in
+        let top = end_of-run x.index (x ∷ a) rises (omega arith) in
+        (no_hole (end_of (x ∷ a)) e.index (omega arith), below_take e.index (length (x ∷ a)) x.index (x ∷ a) behind rises ∙ take_all (length (x ∷ a)) (x ∷ a) (omega arith))
       where
         no_hole : (n f : ℕ) → f ≤ n → nat_lt n f ≡ false
         no_hole n f h = grind (arith, nat_tests)

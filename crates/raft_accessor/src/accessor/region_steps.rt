@@ -38,7 +38,7 @@ impl MemTableAccessor {
         ensures end { IfOk result (λ end. end ≡ end_of (table_in self.old.tables id).entries) }
         ensures exact_counts { AreCountsOf self.old.tables self.old.counts }
     {
-        self.slots[slot_of(id)].replay_run_behind(queue, id, run, &mut self.stats)
+        self.slots[slot_of(id)].replay_run(queue, id, run, &mut self.stats)
     }
 
     /// Puts a run that is read again where its region has a table that takes it, and answers where the

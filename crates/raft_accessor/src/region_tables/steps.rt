@@ -43,29 +43,8 @@ impl RegionTables {
         )
     }
 
-    /// Puts a run that is read again.
-    pub(crate) fn replay_run(
-        &mut self,
-        queue: LogQueue,
-        id: u64,
-        run: Vec<EntryIndex>,
-        stats: &mut GlobalStats,
-    ) -> Result<()>
-        requires run { IsRunIn queue run.items }
-        requires counted { IsCounted (table_in self.old id) stats.old }
-        ensures taken { BecomesOutcome (after_replay queue (table_in self.old id) run.items)
-            (IsReplayFault queue run.items (table_in self.old id) stats.old)
-            self.old id stats.old result self.new stats.new }
-        ensures accepted { OnOk result (live_of (other queue) (table_in self.old id) ≡ 0) }
-        ensures counts { OnOk result
-            (stats.new ≡ counts_with_run queue (table_in self.old id).entries run.items stats.old) }
-    {
-        self.replay_run_behind(queue, id, run, stats)?;
-        Ok(())
-    }
-
     /// Puts a run that is read again, and answers where the entries of its table ended before.
-    pub(crate) fn replay_run_behind(
+    pub(crate) fn replay_run(
         &mut self,
         queue: LogQueue,
         id: u64,

@@ -87,7 +87,7 @@ pub fn scans_visit_pairs()
 
 /// What stands at an index after a rewriting: the run's places from the first shared index on, as
 /// many as move, and the old ones elsewhere.
-#[tactic(auto, using(crate::proofs::MovedLemmas::moved_by_index, crate::proofs::MovedLemmas::unmoved))]
+#[tactic(auto, using(crate::proofs::MovedLemmas::unmoved))]
 pub fn rewriting_stands_by_index()
     ensures moved { (gate : Option ℕ) (run es after met : List EntryIndex) (e : EntryIndex) (i : ℕ)
         → IsRunIn Rewrite run → AreTableEntries es → overlap run es ≡ e ∷ met → entries_after_rewrite gate run es ≡ Some after

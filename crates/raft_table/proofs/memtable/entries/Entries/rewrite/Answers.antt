@@ -6,6 +6,7 @@ use Rattle.raft_base.specs.declared.pipe_log.LogQueue.TheVariants.{Rewrite}
 use Rattle.raft_base.specs.declared.entry_index.EntryIndex.{EntryIndex}
 use Rattle.raft_table.specs.Counts.{Counts, live}
 use Rattle.raft_base.specs.Corruption.{IsCorruption}
+use Rattle.raft_base.proofs.ConsecutiveLemmas.{end_bounded}
 use Rattle.raft_table.specs.TableEntries.{start_of}
 use Rattle.raft_table.specs.Rewriting.{entries_after_rewrite, with_rewritten, IsRewriteFault, MovesPlacesAlone}
 use Rattle.raft_table.proofs.SoundLemmas.{start_of_front, no_first}
@@ -25,7 +26,7 @@ pub overlap-requires : goal.overlap-requires
 overlap-requires c =
     let s = start_known c in
     let e = run_end Rewrite c.args.run.now c.requires.run c.in-Some.ensures.item.3.0 in
-    let b = c.requires.run.consecutive.bounded in
+    let b = end_bounded c.args.run.now c.requires.run.consecutive.bounded in
     omega arith
 
 -- a refusal of the counts

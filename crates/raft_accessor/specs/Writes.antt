@@ -205,7 +205,7 @@ counts_after_command t commands.Clean counts = with_table_deleted t counts
 counts_after_command t (commands.Compact index) counts = counts_without (below index t.entries) counts
 counts_after_command t (commands.Truncate index) counts = counts_without (from index t.entries) counts
 
--- the counts after a command is written; by a rewriting none changes them
+-- the counts after a command is written; a command that is rewritten changes none of them
 abbrev pub counts_commanded : Writing → Table → Command → Counts → Counts
 counts_commanded Appending t c counts = counts_after_command t c counts
 counts_commanded (Replaying queue) t c counts = counts_after_command t c counts

@@ -6,7 +6,7 @@ use Rattle.raft_history.specs.Batches.{GroupMarker, BatchSteps}
 use Rattle.raft_history.specs.Effects.{Numbered, numbered_from, markers_of, open_stretch}
 use Rattle.raft_history.specs.RegionSteps.{RegionStep}
 
--- what stands before a group's first Begin, up to the first End: open, with the steps so far, where neither has come yet; ended, with the steps up to an End that came first, and the number of its file; or cut, where a Begin came first, so that no effect has what stands before it. (Each batch of a group has a group marker.)
+-- what stands before a group's first Begin, up to the first End: open, with the steps so far, where neither has come yet; ended, with the steps up to an End that came first, and the number of its file; or cut, where a Begin came first, so that what stands before it never takes effect. (Each batch of a group has a group marker.)
 pub data GroupFront : Type 0 where
   Open : List RegionStep → GroupFront
   Ended : List RegionStep → ℕ → GroupFront

@@ -5,6 +5,7 @@ pub mod Requests
 pub mod Programs
 pub mod TableLines
 pub mod Shares
+pub use Rattle.raft_base.specs.Runs
 pub use Rattle.raft_shared.specs.SharedCalls
 pub use Rattle.raft_shared.specs.Slot
 pub use Rattle.raft_tickets.specs.Draws

@@ -11,12 +11,12 @@ lists_in ls = weigh (λ _. 1) ls
 abbrev pub occurrences_in : ℕ → List (List ℕ) → ℕ
 occurrences_in x ls = weigh (occurrences x) ls
 
--- 1 for a list with a number that isn't below the total, else 0
+-- how often a list passed the total, at most once: 1 where some number isn't below the total, else 0
 abbrev pub times_passed : ℕ → List ℕ → ℕ
 times_passed total [] = 0
 times_passed total (x ∷ xs) = if nat_le total x then 1 else times_passed total xs
 
--- the same of several lists: how many of them have one
+-- in how many of the lists some number isn't below the total
 abbrev pub times_passed_in : ℕ → List (List ℕ) → ℕ
 times_passed_in total ls = weigh (times_passed total) ls
 

@@ -18,7 +18,7 @@ use raft_table::{GlobalStats, Mark, MemTable};
 
 impl RegionTables {
     /// Puts a newer neighbor's table of a region, or its absence, over the older one, as the newer region mark
-    /// says. The answer is where the older entries end that the region mark's first run comes behind.
+    /// says. The answer is the end of the older entries that the region mark's first run came behind.
     ///
     /// # Errors
     ///
@@ -102,8 +102,8 @@ impl RegionTables {
     }
 }
 
-/// Puts a newer table over an older one, and answers where the older entries ended that the region mark's first
-/// run came behind.
+/// Puts a newer table over an older one. The answer is the end of the older entries that the region
+/// mark's first run came behind.
 fn merge_under(
     queue: LogQueue,
     table: &mut MemTable,

@@ -23,8 +23,9 @@ const MOST_OPEN_BYTES: usize = LOG_BATCH_HEADER_LEN + MAX_LOG_ENTRIES_SIZE_PER_B
 impl LogBatch {
     /// Adds entries of a region to an open batch, each as the bytes of its message. No entries add
     /// nothing. `InvalidArgument` where their indexes are not consecutive, `Full` where the batch's
-    /// entry bytes would pass 2^31 - 1, `Message` where a message refuses to write itself. On `Err`
-    /// the batch is as it was.
+    /// entry bytes would pass 2^31 - 1, `Message` where a message refuses to write itself. Memory is
+    /// asked for before the indexes are tested, so `Memory` may also come for indexes with gaps. On
+    /// `Err` the batch is as it was.
     pub fn add_entries<M: MessageExt>(&mut self, region_id: u64, entries: &[M::Entry]) -> Result<()>
         requires { self.old.stage ≡ populating }
         ensures ok { OnOk result (self.new ≡ with_entries_added self.old region_id
@@ -229,7 +230,8 @@ fn indexed_entries<M: MessageExt>(
     alloc: Global,
     entries: &[M::Entry],
 ) -> AllocResult<Vec<EntryIndex>>
-    ensures { IfOk result (λ es. es.items ≡ map (λ e. entry_with_index (M.index_of e)) entries.now) }
+    ensures { IfOk result (λ es. es.items
+        ≡ map (λ e. entry_with_index (M.index_of e)) entries.now) }
 {
     let mut entry_indexes = Vec::with_capacity(alloc, entries.len())?;
     for entry in entries {

@@ -83,7 +83,8 @@ pub fn overlays_by_marks()
     ensures overlay { (m : Mark) (ss : List Step) (a r : Table) → IsExactMark m ss
         → overlay_under m a r ≡ overlay ss a r }
     ensures run { (id : ℕ) (m : Mark) (a : Option Table) (ss : List Step) (r : Table) → AreSteps ss
-        → Stands Append id m a ss → IsTableOf id r → IsRun (overlay_under m (table_of id a) r).entries }
+        → Stands Append id m a ss → IsTableOf id r
+        → IsRun (overlay_under m (table_of id a) r).entries }
 {}
 
 /// Where nothing truncates or cleans, the rewritten entries below the least start of a run stay exactly

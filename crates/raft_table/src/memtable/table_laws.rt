@@ -90,7 +90,8 @@ pub fn scans_visit_pairs()
 #[tactic(auto, using(crate::proofs::MovedLemmas::unmoved))]
 pub fn rewriting_stands_by_index()
     ensures moved { (gate : Option ℕ) (run es after met : List EntryIndex) (e : EntryIndex) (i : ℕ)
-        → IsRunIn Rewrite run → AreTableEntries es → overlap run es ≡ e ∷ met → entries_after_rewrite gate run es ≡ Some after
+        → IsRunIn Rewrite run → AreTableEntries es → overlap run es ≡ e ∷ met
+        → entries_after_rewrite gate run es ≡ Some after
         → entry_at i after
         ≡ (if nat_le e.index i && nat_lt i (e.index + moved_count gate run es)
         then entry_at i run else entry_at i es) }

@@ -27,7 +27,7 @@ use raft_base::{EntryIndex, Error, LogQueue, Result};
 use std::mem;
 
 impl MemTable {
-    /// Where the entries end that the first run of a newer region mark comes behind.
+    /// The end of the entries that the first run of a newer region mark came behind.
     pub fn end_at_reach(&self, mark: &Mark) -> u64
         ensures { result ≡ end_at_reach mark.now self.now }
     {

@@ -85,8 +85,8 @@ impl RegionTables {
         }
     }
 
-    /// Writes an item that was rewritten to the file `seq` of the rewrite queue to its region's
-    /// table: the places of its entries, or the file of its key. A `Clean` changes nothing.
+    /// Writes an item that was rewritten to the file of number `seq` of the rewrite queue to its
+    /// region's table: the places of its entries, or the file of its key. A `Clean` changes nothing.
     ///
     /// # Errors
     ///

@@ -219,7 +219,7 @@ impl RegionTables {
         last_seq: FileSeq,
         stats: &mut GlobalStats,
     ) -> Result<()>
-        requires files { first_seq ≤ last_seq }
+        requires seqs { first_seq ≤ last_seq }
         requires counted { IsCounted (table_in self.old id) stats.old }
         ensures taken { BecomesOutcome
             (Some (record (table_in self.old id) { atomic_group = Some (first_seq, last_seq) }))

@@ -174,9 +174,9 @@ fn make(alloc: Global, accessor: &mut MemTableAccessor, call: Call) -> Result<()
         Call::GetOrInsert(region) => {
             accessor.get_or_insert(region)?;
         }
-        Call::Group(region, start, end) => {
-            if start <= end {
-                accessor.apply_rewrite_atomic_group(region, start, end)?;
+        Call::Group(region, first_seq, last_seq) => {
+            if first_seq <= last_seq {
+                accessor.apply_rewrite_atomic_group(region, first_seq, last_seq)?;
             }
         }
         Call::PutBack(region) => put_back(accessor, region)?,

@@ -102,7 +102,7 @@ fn print_table(rt: &HostRuntime, table: &MemTable, segments: &[Segment]) -> Resu
     Ok(())
 }
 
-/// Reads the bytes of an entry, which lie in the block of the file that its index names.
+/// Reads the bytes of an entry, which lie at the place that its index names.
 fn read(alloc: Global, segments: &[Segment], entry: &EntryIndex) -> Result<String> {
     let place = entry.entries.ok_or(Error::EntryNotFound)?;
     let part = part_of(segments, place.id).ok_or(Error::EntryNotFound)?;

@@ -27,23 +27,23 @@ use Rattle.raft_history.proofs.StretchLemmas.{effects_are}
 
 -- ---- the files of a history, by the numbers of its batches
 
-file_of : ℕ → List Event → ℕ → ℕ
-file_of seq [] i = seq
-file_of seq (e ∷ h) zero = e.file.seq
-file_of seq (e ∷ h) (suc i) = file_of e.file.seq h i
+seq_of_batch : ℕ → List Event → ℕ → ℕ
+seq_of_batch seq [] i = seq
+seq_of_batch seq (e ∷ h) zero = e.file.seq
+seq_of_batch seq (e ∷ h) (suc i) = seq_of_batch e.file.seq h i
 
 -- a number for each batch, which never goes down
 abbrev NeverFalls : (ℕ → ℕ) → Type 0
 NeverFalls seq_at = (i j : ℕ) → i ≤ j → seq_at i ≤ seq_at j
 
-files_from : (q : LogQueue) (seq : ℕ) (h : List Event) → FilesFrom q seq h → (i : ℕ) → seq ≤ file_of seq h i
-unfolding file_of
+files_from : (q : LogQueue) (seq : ℕ) (h : List Event) → FilesFrom q seq h → (i : ℕ) → seq ≤ seq_of_batch seq h i
+unfolding seq_of_batch
 files_from q seq [] f i = omega arith
 files_from q seq (e ∷ h) f zero = f.1
 files_from q seq (e ∷ h) f (suc i) = omega (arith, f.1, files_from q e.file.seq h f.2 i)
 
-files_never_fall : (q : LogQueue) (seq : ℕ) (h : List Event) → FilesFrom q seq h → NeverFalls (file_of seq h)
-unfolding file_of
+files_never_fall : (q : LogQueue) (seq : ℕ) (h : List Event) → FilesFrom q seq h → NeverFalls (seq_of_batch seq h)
+unfolding seq_of_batch
 files_never_fall q seq [] f i j l = omega arith
 files_never_fall q seq (e ∷ h) f zero zero l = omega arith
 files_never_fall q seq (e ∷ h) f zero (suc j) l = files_from q e.file.seq h f.2 j
@@ -89,8 +89,8 @@ items_here file (item ∷ items) h = go (content_step item.content) (λ s e. con
     go None each rest = rest
     go (Some s) each rest = (each s refl, rest)
 
-all_filed : (q : LogQueue) (seq_at : ℕ → ℕ) (seq n : ℕ) (h : List Event) → ((i : ℕ) → seq_at (n + i) ≡ file_of seq h i) → FilesFrom q seq h → AreInFiles h → AllByRecursion (IsFiled q seq_at) (numbered_from n (batches h))
-unfolding file_of
+all_filed : (q : LogQueue) (seq_at : ℕ → ℕ) (seq n : ℕ) (h : List Event) → ((i : ℕ) → seq_at (n + i) ≡ seq_of_batch seq h i) → FilesFrom q seq h → AreInFiles h → AllByRecursion (IsFiled q seq_at) (numbered_from n (batches h))
+unfolding seq_of_batch
 all_filed q seq_at seq n [] is f a = tt
 all_filed q seq_at seq n (e ∷ h) is f a = (
   record { number = sym (ap seq_at (omega arith) ∙ is 0); here = subst (λ q. AreHere q e.file.seq (steps_of_items e.items)) f.0 (items_here e.file e.items a.0) },
@@ -259,10 +259,10 @@ history_rises q h s a r = effects_rise q seq_at r 0 (effects (batches h)) up row
     (each_follows q seq_at r 0 (effects (batches h)) up (effects_are (batches h)).rise a.each rows)
   where
     seq_at : ℕ → ℕ
-    seq_at = file_of 0 h
+    seq_at = seq_of_batch 0 h
 
     up : NeverFalls seq_at
     up = files_never_fall q 0 h s.files
 
     rows : AllByRecursion (HasRow q seq_at) (effects (batches h))
-    rows = all_rows q seq_at 0 [] (batches h) (omega arith) (all_filed q seq_at 0 0 h (λ i. ap (file_of 0 h) (omega arith)) s.files s.items)
+    rows = all_rows q seq_at 0 [] (batches h) (omega arith) (all_filed q seq_at 0 0 h (λ i. ap (seq_of_batch 0 h) (omega arith)) s.files s.items)

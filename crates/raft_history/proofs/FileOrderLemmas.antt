@@ -14,13 +14,13 @@ use Rattle.raft_table.specs.Steps.{Step, Run, Compact, Truncate, Put, Del, Atomi
 use Rattle.raft_table.specs.Table.{Table}
 use Rattle.raft_table.specs.TableEntries.{below, from, is_placed_in}
 use Rattle.raft_table.proofs.MarkEntries.{same_some}
-use Rattle.raft_history.proofs.Words.{AreBlocksIn}
+use Rattle.raft_history.proofs.Words.{ArePlacesInFile}
 
 -- ---- entries in the order of their files
 
 abbrev pub seq_of : Option FileBlockHandle → ℕ
 seq_of None = 0
-seq_of (Some block) = block.id.seq
+seq_of (Some handle) = handle.id.seq
 
 -- all places are in this queue, and the files never go down, from one number to another
 abbrev pub InOrder : LogQueue → ℕ → ℕ → List EntryIndex → Type 0
@@ -46,19 +46,19 @@ behind : (q : LogQueue) (low mid high : ℕ) (xs ys : List EntryIndex) → InOrd
 behind q low mid high [] ys h k = lower q low mid high ys h k
 behind q low mid high (x ∷ xs) ys h k = (h.0, h.1, behind q (seq_of x.entries) mid high xs ys h.2 k)
 
-block_here : (file : FileId) (o : Option FileBlockHandle) → IsPlaceInFile file o → (option_map_or (λ (place : FileBlockHandle). is_same place.id.queue file.queue) o false ≡ true) × (seq_of o ≡ file.seq)
-block_here file None h = absurd h
-block_here file (Some block) h = (ap (λ (f : FileId). is_same f.queue file.queue) h ∙ same_self file.queue, ap (λ (f : FileId). f.seq) h)
+place_here : (file : FileId) (o : Option FileBlockHandle) → IsPlaceInFile file o → (option_map_or (λ (place : FileBlockHandle). is_same place.id.queue file.queue) o false ≡ true) × (seq_of o ≡ file.seq)
+place_here file None h = absurd h
+place_here file (Some handle) h = (ap (λ (f : FileId). is_same f.queue file.queue) h ∙ same_self file.queue, ap (λ (f : FileId). f.seq) h)
   where
     same_self : (q : LogQueue) → is_same q q ≡ true
     same_self Append = refl
     same_self Rewrite = refl
 
-pub run_here : (file : FileId) (es : List EntryIndex) → AreBlocksIn file es → InOrder file.queue file.seq file.seq es
+pub run_here : (file : FileId) (es : List EntryIndex) → ArePlacesInFile file es → InOrder file.queue file.seq file.seq es
 unfolding is_placed_in
 run_here file [] h = omega arith
 run_here file (e ∷ es) h =
-    let is = block_here file e.entries h.0 in
+    let is = place_here file e.entries h.0 in
     (is.0, omega (arith, is.1), subst (λ s. InOrder file.queue s file.seq es) (sym is.1) (run_here file es h.1))
 
 -- ---- steps

@@ -10,10 +10,10 @@ use Rattle.raft_base.specs.declared.pipe_log.LogQueue.{LogQueue}
 use Rattle.raft_base.specs.declared.pipe_log.LogQueue.TheVariants.{Append, Rewrite}
 use Rattle.raft_base.specs.declared.entry_index.EntryIndex.{EntryIndex}
 use Rattle.raft_base.specs.Runs.{end_of}
-use Rattle.raft_table.specs.Fetches.{block_seq, entry_seq}
+use Rattle.raft_table.specs.Fetches.{place_seq, entry_seq}
 use Rattle.raft_table.specs.KeyValues.{lesser, least, seqs_in}
 use Rattle.raft_table.specs.Marks.{entries_within}
-use Rattle.raft_table.specs.Least.{least_seq, at_most_first_seq}
+use Rattle.raft_table.specs.Least.{least_seq, at_most_group_seq}
 use Rattle.raft_table.specs.Overlay.{has_clean, greatest_compaction, least_cut, is_unjoined, rewritten_within, overlay, kept_if, overlaid_table}
 use Rattle.raft_table.specs.Queues.{is_same, other}
 use Rattle.raft_table.specs.Steps.{Step, table_of}
@@ -49,7 +49,7 @@ least_each (n ∷ ns) = (
   each_weaker (IsAtOrBelow (least ns)) (IsAtOrBelow (lesser (Some n) (least ns))) (λ m h. right_least (Some n) (least ns) m h) ns (least_each ns),
 )
 
-lowered_least : (group : Option (ℕ × ℕ)) (k : Option ℕ) (n : ℕ) → IsAtOrBelow k n → IsAtOrBelow (at_most_first_seq group k) n
+lowered_least : (group : Option (ℕ × ℕ)) (k : Option ℕ) (n : ℕ) → IsAtOrBelow k n → IsAtOrBelow (at_most_group_seq group k) n
 lowered_least None k n h = h
 lowered_least (Some group) None n h = absurd h
 lowered_least (Some group) (Some a) n h = elim (nat_le a group.1) as (λ b. cond b (min group.0 a) a ≤ n) [
@@ -71,43 +71,43 @@ least_behind low (n ∷ ns) ms h = absorbed low n (least (ns ++ ms)) h.0 ∙ lea
 
 -- ---- the least file
 
-entry_files : List EntryIndex → List ℕ
-entry_files es = filter_map (λ e. block_seq e.entries) es
+entry_seqs : List EntryIndex → List ℕ
+entry_seqs es = filter_map (λ e. place_seq e.entries) es
 
-files_from : (q : LogQueue) (low high : ℕ) (es : List EntryIndex) → InOrder q low high es → From low (entry_files es)
-unfolding entry_files
-files_from q low high [] h = tt
-files_from q low high (e ∷ es) h = go e.entries h.1 (files_from q low high es (lower q low (seq_of e.entries) high es h.1 h.2))
+seqs_from : (q : LogQueue) (low high : ℕ) (es : List EntryIndex) → InOrder q low high es → From low (entry_seqs es)
+unfolding entry_seqs
+seqs_from q low high [] h = tt
+seqs_from q low high (e ∷ es) h = go e.entries h.1 (seqs_from q low high es (lower q low (seq_of e.entries) high es h.1 h.2))
   where
-    go : (o : Option FileBlockHandle) → low ≤ seq_of o → From low (filter_map (λ (e : EntryIndex). block_seq e.entries) es) → From low (cons_option (block_seq o) (filter_map (λ (e : EntryIndex). block_seq e.entries) es))
+    go : (o : Option FileBlockHandle) → low ≤ seq_of o → From low (filter_map (λ (e : EntryIndex). place_seq e.entries) es) → From low (cons_option (place_seq o) (filter_map (λ (e : EntryIndex). place_seq e.entries) es))
     go None l rest = rest
-    go (Some block) l rest = (l, rest)
+    go (Some handle) l rest = (l, rest)
 
-first_is_least : (q : LogQueue) (low high : ℕ) (ms : List ℕ) (es : List EntryIndex) → InOrder q low high es → lesser (entry_seq (slice_get es 0)) (least ms) ≡ least (entry_files es ++ ms)
-unfolding is_placed_in entry_files
+first_is_least : (q : LogQueue) (low high : ℕ) (ms : List ℕ) (es : List EntryIndex) → InOrder q low high es → lesser (entry_seq (slice_get es 0)) (least ms) ≡ least (entry_seqs es ++ ms)
+unfolding is_placed_in entry_seqs
 first_is_least q low high ms [] h = refl
-first_is_least q low high ms (e ∷ es) h = go e.entries h.0 (λ l. files_from q l high es) h.2
+first_is_least q low high ms (e ∷ es) h = go e.entries h.0 (λ l. seqs_from q l high es) h.2
   where
-    go : (o : Option FileBlockHandle) → option_map_or (λ (place : FileBlockHandle). is_same place.id.queue q) o false ≡ true → ((l : ℕ) → InOrder q l high es → From l (filter_map (λ (e : EntryIndex). block_seq e.entries) es)) → InOrder q (seq_of o) high es
-        → lesser (block_seq o) (least ms) ≡ least (cons_option (block_seq o) (filter_map (λ (e : EntryIndex). block_seq e.entries) es) ++ ms)
+    go : (o : Option FileBlockHandle) → option_map_or (λ (place : FileBlockHandle). is_same place.id.queue q) o false ≡ true → ((l : ℕ) → InOrder q l high es → From l (filter_map (λ (e : EntryIndex). place_seq e.entries) es)) → InOrder q (seq_of o) high es
+        → lesser (place_seq o) (least ms) ≡ least (cons_option (place_seq o) (filter_map (λ (e : EntryIndex). place_seq e.entries) es) ++ ms)
     go None is from h = absurd cc
-    go (Some block) is from h = sym (least_behind block.id.seq (filter_map (λ (e : EntryIndex). block_seq e.entries) es) ms (from block.id.seq h))
+    go (Some handle) is from h = sym (least_behind handle.id.seq (filter_map (λ (e : EntryIndex). place_seq e.entries) es) ms (from handle.id.seq h))
 
 -- in each queue the entries stand in the order of their files
 abbrev AreInOrder : List EntryIndex → Type 0
 AreInOrder es = (q : LogQueue) → (high : ℕ) × InOrder q 0 high (placed_in q es)
 
 least_is : (q : LogQueue) (t : Table) → AreInOrder t.entries → least_seq q t ≡ least (record_seqs q t)
-unfolding entry_files
+unfolding entry_seqs
 least_is q t h = first_is_least q 0 (h q).0 (seqs_in q t.keys) (placed_in q t.entries) (h q).1
 
 least_files : (t : Table) → AreInOrder t.entries → AreLeastFiles t
-least_files t h = record { append = least_is Append t h; rewrite = ap (at_most_first_seq t.atomic_group) (least_is Rewrite t h) }
+least_files t h = record { append = least_is Append t h; rewrite = ap (at_most_group_seq t.atomic_group) (least_is Rewrite t h) }
 
 pub none_below : (q : LogQueue) (t : Table) → AreLeastFiles t → HasNoneBelow q t
 none_below Append t h = subst (λ k. AllByRecursion (IsAtOrBelow k) (record_seqs Append t)) (sym h.append) (least_each (record_seqs Append t))
 none_below Rewrite t h = subst (λ k. AllByRecursion (IsAtOrBelow k) (record_seqs Rewrite t)) (sym h.rewrite)
-    (each_weaker (IsAtOrBelow (least (record_seqs Rewrite t))) (IsAtOrBelow (at_most_first_seq t.atomic_group (least (record_seqs Rewrite t)))) (lowered_least t.atomic_group (least (record_seqs Rewrite t))) (record_seqs Rewrite t) (least_each (record_seqs Rewrite t)))
+    (each_weaker (IsAtOrBelow (least (record_seqs Rewrite t))) (IsAtOrBelow (at_most_group_seq t.atomic_group (least (record_seqs Rewrite t)))) (lowered_least t.atomic_group (least (record_seqs Rewrite t))) (record_seqs Rewrite t) (least_each (record_seqs Rewrite t)))
 
 -- ---- entries of one queue, and of both
 
@@ -129,7 +129,7 @@ none_placed q low high (e ∷ es) h = rw (elsewhere q e.entries h.0) (none_place
 
     elsewhere : (q : LogQueue) (o : Option FileBlockHandle) → option_map_or (λ (place : FileBlockHandle). is_same place.id.queue q) o false ≡ true → option_map_or (λ (place : FileBlockHandle). is_same place.id.queue (other q)) o false ≡ false
     elsewhere q None is = refl
-    elsewhere q (Some block) is = apart q block.id.queue is
+    elsewhere q (Some handle) is = apart q handle.id.queue is
 
 of_one : (q : LogQueue) (high : ℕ) (es : List EntryIndex) → InOrder q 0 high es → AreInOrder es
 of_one Append high es h Append = (high, subst (InOrder Append 0 high) (sym (own_placed Append 0 high es h)) h)

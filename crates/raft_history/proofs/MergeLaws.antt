@@ -147,7 +147,7 @@ rewrite_step r o (Compact i) = (_, refl)
 rewrite_step r o (Truncate i) = (_, refl)
 rewrite_step r o (Put key value file) = (_, refl)
 rewrite_step r o (Del key) = (_, refl)
-rewrite_step r o (AtomicGroup s e) = (_, refl)
+rewrite_step r o (AtomicGroup first_seq last_seq) = (_, refl)
 rewrite_step r o Clean = (_, refl)
 
 pub rewrite_after : (r : ℕ) (o : Option Table) (ss : List Step) → (u : Option Table) × (after Rewrite r o ss ≡ Some u)

@@ -10,11 +10,11 @@ use Rattle.raft_records.specs.ReadIn.{IsPlaceInFile, IsReadIn, AreReadIn}
 use Rattle.raft_records.specs.Spelling.{IsWritableWith}
 use Rattle.raft_history.proofs.ReadRunLemmas.{read_run}
 use Rattle.raft_history.specs.Histories.{IsPairIn, IsInFile, AreInFile}
-use Rattle.raft_history.proofs.Words.{AreBlocksIn}
+use Rattle.raft_history.proofs.Words.{ArePlacesInFile}
 
-blocks_in : (file : FileId) (es : List EntryIndex) → AllByRecursion (λ (e : EntryIndex). IsPlaceInFile file e.entries) es → AreBlocksIn file es
-blocks_in file [] h = tt
-blocks_in file (e ∷ es) h = (h.0, blocks_in file es h.1)
+each_in_file : (file : FileId) (es : List EntryIndex) → AllByRecursion (λ (e : EntryIndex). IsPlaceInFile file e.entries) es → ArePlacesInFile file es
+each_in_file file [] h = tt
+each_in_file file (e ∷ es) h = (h.0, each_in_file file es h.1)
 
 pair_in : (file : FileId) (op : OpType) (value : Option (List ℕ)) → IsWritableWith op value → IsPairIn file op value (Some file)
 pair_in file Put None w = absurd w
@@ -22,7 +22,7 @@ pair_in file Put (Some v) w = refl
 pair_in file Del value w = tt
 
 content_in_file : (file : FileId) (content : Content) → IsReadIn file content → IsInFile file content
-content_in_file file (entries es) h = (read_run file es h, blocks_in file es h.1)
+content_in_file file (entries es) h = (read_run file es h, each_in_file file es h.1)
 content_in_file file (command c) h = tt
 content_in_file file (pair p) h = λ plain. subst (λ (id : Option FileId). IsPairIn file p.op_type p.value id) (sym h.1) (pair_in file p.op_type p.value h.0)
 

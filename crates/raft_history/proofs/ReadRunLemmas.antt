@@ -18,7 +18,7 @@ same_queue Rewrite = refl
 
 is_in_queue : (file : FileId) (place : Option FileBlockHandle) → IsPlaceInFile file place → option_map_or (λ (place : FileBlockHandle). is_same place.id.queue file.queue) place false ≡ true
 is_in_queue file None h = absurd h
-is_in_queue file (Some block) h = ap (λ (f : FileId). is_same f.queue file.queue) h ∙ same_queue file.queue
+is_in_queue file (Some handle) h = ap (λ (f : FileId). is_same f.queue file.queue) h ∙ same_queue file.queue
 
 in_queue : (file : FileId) (es : List EntryIndex) → AllByRecursion (λ (e : EntryIndex). IsPlaceInFile file e.entries) es → AllByRecursion (λ (e : EntryIndex). is_placed_in file.queue e ≡ true) es
 unfolding is_placed_in

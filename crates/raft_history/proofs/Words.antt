@@ -41,8 +41,8 @@ abbrev pub all_steps : ℕ → List Effect → List Step
 all_steps r es = flat_map (steps_in r) es
 
 -- every entry's place is in this file
-abbrev pub AreBlocksIn : FileId → List EntryIndex → Type 0
-AreBlocksIn file es = AllByRecursion (λ (e : EntryIndex). IsPlaceInFile file e.entries) es
+abbrev pub ArePlacesInFile : FileId → List EntryIndex → Type 0
+ArePlacesInFile file es = AllByRecursion (λ (e : EntryIndex). IsPlaceInFile file e.entries) es
 
 -- each batch's items are as they may stand in a batch of its file
 abbrev pub AreInFiles : List Event → Type 0

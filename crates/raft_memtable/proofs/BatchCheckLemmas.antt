@@ -20,7 +20,7 @@ use Rattle.raft_records.proofs.GroupLemmas.{one_byte, marker_is}
 use Rattle.raft_table.specs.TableEntries.{IsRunIn, is_placed_in}
 use Rattle.raft_table.specs.Queues.{is_same}
 use Rattle.raft_history.specs.Histories.{IsInFile, AreInFile, HaveStatus}
-use Rattle.raft_history.proofs.Words.{AreBlocksIn}
+use Rattle.raft_history.proofs.Words.{ArePlacesInFile}
 
 or_or : (m n o : Option (ℕ × AtomicGroupStatus)) → option_or (option_or m n) o ≡ option_or m (option_or n o)
 or_or None n o = refl
@@ -83,9 +83,9 @@ one_more file all rest item marker found h is read = (
 )
 
 -- a place in the file is one of its queue
-pub block_placed : (file : FileId) (e : EntryIndex) → IsPlaceInFile file e.entries → is_placed_in file.queue e ≡ true
+pub entry_in_queue : (file : FileId) (e : EntryIndex) → IsPlaceInFile file e.entries → is_placed_in file.queue e ≡ true
 unfolding is_placed_in
-block_placed file e h = go e.entries h
+entry_in_queue file e h = go e.entries h
   where
     same : (q : LogQueue) → is_same q q ≡ true
     same Append = refl
@@ -93,19 +93,19 @@ block_placed file e h = go e.entries h
 
     go : (o : Option FileBlockHandle) → IsPlaceInFile file o → option_map_or (λ (place : FileBlockHandle). is_same place.id.queue file.queue) o false ≡ true
     go None h = absurd h
-    go (Some block) h = ap (λ (id : FileId). is_same id.queue file.queue) h ∙ same file.queue
+    go (Some handle) h = ap (λ (id : FileId). is_same id.queue file.queue) h ∙ same file.queue
 
--- entries with blocks in a file are placed in its queue
-blocks_placed : (file : FileId) (es : List EntryIndex) → AreBlocksIn file es → AllByRecursion (λ (e : EntryIndex). is_placed_in file.queue e ≡ true) es
-blocks_placed file [] h = tt
-blocks_placed file (e ∷ es) h = (block_placed file e h.0, blocks_placed file es h.1)
+-- entries with places in a file are placed in its queue
+entries_in_queue : (file : FileId) (es : List EntryIndex) → ArePlacesInFile file es → AllByRecursion (λ (e : EntryIndex). is_placed_in file.queue e ≡ true) es
+entries_in_queue file [] h = tt
+entries_in_queue file (e ∷ es) h = (entry_in_queue file e h.0, entries_in_queue file es h.1)
 
 -- what the test of each place says of consecutive entries
 pub in_file_if_placed : (file : FileId) (es : List EntryIndex) (placed : Bool)
     → MatchBool placed (AllWithin (λ (e : EntryIndex). IsPlaceInFile file e.entries) es 0 (length es)) ((k : ℕ) × (k < length es) × HoldsAt (λ (e : EntryIndex). IsPlaceInFile file e.entries → ⊥) es k)
-    → IsConsecutive es → MatchBool placed (IsRunIn file.queue es × AreBlocksIn file es) (IsRunIn file.queue es × AreBlocksIn file es → ⊥)
+    → IsConsecutive es → MatchBool placed (IsRunIn file.queue es × ArePlacesInFile file es) (IsRunIn file.queue es × ArePlacesInFile file es → ⊥)
 in_file_if_placed file es true h consecutive =
-    let blocks = recursion_from_All (λ (e : EntryIndex). IsPlaceInFile file e.entries) es (λ k d low. h k d (omega arith) low) in
-    (record { consecutive = consecutive; placed = blocks_placed file es blocks }, blocks)
+    let places = recursion_from_All (λ (e : EntryIndex). IsPlaceInFile file e.entries) es (λ k d low. h k d (omega arith) low) in
+    (record { consecutive = consecutive; placed = entries_in_queue file es places }, places)
 in_file_if_placed file es false h consecutive =
     λ both. h.2 no_entry (All-from_recursion (λ (e : EntryIndex). IsPlaceInFile file e.entries) es both.1 h.0 no_entry h.1)

@@ -91,7 +91,7 @@ whole_takes n a b h k x y = go a.front a.stretch b.front h.1 k.0 x y
     of : (s : Option OpenStretch) (g : GroupFront) → AreStepsOfQueue Rewrite (stretch_steps s) → AreStepsOfQueue Rewrite (front_steps g) → StretchUpTo n s → FrontFrom n g → MayTakeEffect (whole_of s g)
     of None g a b x y = tt
     of (Some s) (Open is) a b x y = tt
-    of (Some s) (Ended is f) a b x y = record { steps = each-append (λ (i : RegionStep). IsStepOfQueue Rewrite i.step) s.steps is a b; files = omega (arith, x, y) }
+    of (Some s) (Ended is f) a b x y = record { steps = each-append (λ (i : RegionStep). IsStepOfQueue Rewrite i.step) s.steps is a b; seqs = omega (arith, x, y) }
     of (Some s) Cut a b x y = tt
 
     go : (f : GroupFront) (s : Option OpenStretch) (g : GroupFront) → AreStepsOfQueue Rewrite (stretch_steps s) → AreStepsOfQueue Rewrite (front_steps g) → StretchUpTo n s → FrontFrom n g → MayTakeEffect (whole_group_by f s g)

@@ -80,7 +80,7 @@ impl MarkedTables {
     /// Some items are then taken in.
     pub(crate) fn take_group(&mut self, whole: WholeGroup) -> Result<()>
         requires steps { AreStepsOfQueue Rewrite (whole_shown whole).steps }
-        requires files { (whole_shown whole).first_seq ≤ (whole_shown whole).last_seq }
+        requires seqs { (whole_shown whole).first_seq ≤ (whole_shown whole).last_seq }
         ensures ok { OnOk result
             (regions_after Rewrite (regions_in self.old) (region_steps_of_whole (whole_shown whole))
             ≡ Some (regions_in self.new)) }

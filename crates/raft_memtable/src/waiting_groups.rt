@@ -71,8 +71,8 @@ impl WaitingGroups {
         count
     }
 
-    /// Takes in one more batch, with a group marker of the group `id`, of the file `seq`. Answers the group
-    /// if the batch makes it whole.
+    /// Takes in one more batch, in the file of number `seq`, with a group marker of the group `id`.
+    /// Answers the group if the batch makes it whole.
     ///
     /// # Errors
     ///

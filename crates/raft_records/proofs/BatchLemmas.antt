@@ -59,7 +59,7 @@ kept_push xs x size entry_bytes size' checksum k f r b e =
 
 -- ---- places
 
-pub fits_placed : (block : FileBlockHandle) (c : CompressionType) (s : ℕ) (content : Content) → FitsBehind s content → FitsBehind s (placed_item block c (record { raft_group_id = 0; content = content })).content
+pub fits_placed : (handle : FileBlockHandle) (c : CompressionType) (s : ℕ) (content : Content) → FitsBehind s content → FitsBehind s (placed_item handle c (record { raft_group_id = 0; content = content })).content
 fits_placed block c s (entries es) h = (consecutive_placed es h.0, tile_placed s es h.1)
   where
     from_placed : (i : ℕ) (es : List EntryIndex) → IsConsecutiveFrom i es → IsConsecutiveFrom i (map (placed_entry block c) es)
@@ -72,8 +72,8 @@ fits_placed block c s (entries es) h = (consecutive_placed es h.0, tile_placed s
     tile_placed : (s : ℕ) (es : List EntryIndex) → Tile s es → Tile s (map (placed_entry block c) es)
     tile_placed s [] h = tt
     tile_placed s (e ∷ es) h = (h.0, h.1, tile_placed (s + e.entry_len) es h.2)
-fits_placed block c s (command x) h = h
-fits_placed block c s (pair p) h = h
+fits_placed handle c s (command x) h = h
+fits_placed handle c s (pair p) h = h
 
 end_placed : (handle : FileBlockHandle) (c : CompressionType) (s : ℕ) (es : List EntryIndex) → end_behind s (map (placed_entry handle c) es) ≡ end_behind s es
 end_placed handle c s [] = refl

@@ -16,7 +16,7 @@ behind_entry at e = (at.0 + 1, tail_of e)
 abbrev pub behind_item : ℕ → Item → ℕ
 behind_item s item = end_of_content s item.content
 
--- an entry in this block
+-- an entry at this place
 abbrev pub placed_entry : FileBlockHandle → CompressionType → EntryIndex → EntryIndex
 placed_entry handle compression e = record e { entries = Some handle; compression_type = compression }
 

@@ -20,7 +20,7 @@ use Rattle.raft_records.proofs.EntryLemmas.{AreReadSoFar, one_more_read, end_rea
 abbrev pub unplaced : Placement
 unplaced = record { handle = None; compression_type = compressions.None }
 
--- ---- in a block
+-- ---- at a place
 
 pub item_placed : (handle : FileBlockHandle) (c : CompressionType) (x : Item) → item_in (record { handle = Some handle; compression_type = c }) x ≡ placed_item handle c x
 item_placed handle c x = ap (λ (y : Content). record { raft_group_id = x.raft_group_id; content = y }) (go x.content)

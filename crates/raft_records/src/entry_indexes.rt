@@ -22,7 +22,7 @@ use std::alloc::Global;
 /// Where entries that are read are placed.
 #[derive(Clone, Copy)]
 pub(crate) struct Placement {
-    /// The handle of their block, whose file is also that of key values.
+    /// Their place, whose file is also that of key values.
     pub(crate) handle: Option<FileBlockHandle>,
     pub(crate) compression_type: CompressionType,
 }

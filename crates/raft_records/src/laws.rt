@@ -94,7 +94,7 @@ pub fn log_batches_belong_to_one_file()
         IsLogBatch bytes (signature_in V2 seq') items entry_bytes }
 {}
 
-/// A written batch that stands in a part of the file that it is signed for, at the offset of the block
+/// A written batch that stands in a part of the file that it is signed for, at the offset of the place
 /// that it was written to, is never refused there: `next_batch` answers exactly the items that
 /// `finish_write` leaves, and where the bytes end. What is asked of the items holds of every batch, as
 /// its `is_read_again` tells.

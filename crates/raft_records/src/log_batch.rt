@@ -374,10 +374,10 @@ fn refuse_reserved(key: &Vec<u8>) -> Result<()>
 }
 
 impl LogBatch {
-    /// Gives every entry of a sealed batch the place of the entry bytes with their checksum in the
-    /// block that the batch was written to, of length 0 where there are no entry bytes, and every key
-    /// value its file. It asks that the block begins at 2^64 - 17 at most. The batch's bytes stay as
-    /// they are, and it takes no memory.
+    /// Gives every entry of a sealed batch the place of the entry bytes with their checksum, within the
+    /// place that the batch was written to and of length 0 where there are no entry bytes, and every key
+    /// value its file. It asks that the place of the batch begins at 2^64 - 17 at most. The batch's
+    /// bytes stay as they are, and it takes no memory.
     pub fn finish_write(&mut self, handle: FileBlockHandle)
         requires sealed { IsSealedStage self.old.stage }
         requires offset { handle.offset ≤ 2 ^ 64 - 17 }

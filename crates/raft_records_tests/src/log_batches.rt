@@ -135,8 +135,8 @@ fn context(seq: u64, version: Version) -> LogFileContext {
     LogFileContext::new(FileId::new(LogQueue::Append, seq), version)
 }
 
-/// The place of the block between a header at the file's start and an item batch.
-fn block_of(id: FileId, item_offset: usize) -> FileBlockHandle {
+/// The place of the entries part between a header at the file's start and an item batch.
+fn entries_place(id: FileId, item_offset: usize) -> FileBlockHandle {
     FileBlockHandle {
         id,
         offset: 16,
@@ -178,7 +178,7 @@ fn is_read_so(
     if offset != row.offset || offset > len || len != bytes.len() {
         return Ok(false);
     }
-    let place = block_of(context.id, offset);
+    let place = entries_place(context.id, offset);
     let entries = LogBatch::decode_entries_block(alloc, behind, place, compression_type)?;
     let mut footer = &bytes[offset..];
     let items = LogItemBatch::decode(alloc, &mut footer, place, compression_type, context)?;
@@ -331,7 +331,7 @@ fn is_read(alloc: Global, bytes: &[u8], seq: u64, entry_bytes: &[u8]) -> Result<
         return Ok(false);
     }
     let context = context(seq, Version::V2);
-    let place = block_of(context.id, offset);
+    let place = entries_place(context.id, offset);
     let entries = LogBatch::decode_entries_block(alloc, behind, place, compression_type)?;
     let mut footer = &bytes[offset..];
     match LogItemBatch::decode(alloc, &mut footer, place, compression_type, &context) {
@@ -396,7 +396,7 @@ fn asked_bytes_leave_the_batch(rt: HostRuntime) {
     assert!(rt; matches!(answer, Ok(true)));
 }
 
-/// Whether this item's entries are in the block, and its key value is in the block's file.
+/// Whether this item's entries have the place, and its key value is in the place's file.
 fn is_placed(item: &LogItem, handle: FileBlockHandle) -> bool {
     match &item.content {
         LogItemContent::EntryIndexes(entries) => {

@@ -22,14 +22,14 @@ range_text [] = codes "-"
 range_text (e ∷ es) = decimal (start_of (e ∷ es)) ++ codes ".." ++ decimal (end_of (e ∷ es))
 
 -- the number of a file, `-` where there is none
-abbrev pub file_text : Option ℕ → List ℕ
-file_text None = codes "-"
-file_text (Some seq) = decimal seq
+abbrev pub seq_text : Option ℕ → List ℕ
+seq_text None = codes "-"
+seq_text (Some seq) = decimal seq
 
 -- the line of a table: its region, its entries, how many keys it has, and its least file in each queue
 abbrev pub table_line : Table → List ℕ
 table_line t =
-    decimal t.region_id ++ codes " entries " ++ range_text t.entries ++ codes " keys " ++ decimal (finite.len t.keys) ++ codes " append " ++ file_text (least_of Append t) ++ codes " rewrite " ++ file_text (least_of Rewrite t) ++ codes "\n"
+    decimal t.region_id ++ codes " entries " ++ range_text t.entries ++ codes " keys " ++ decimal (finite.len t.keys) ++ codes " append " ++ seq_text (least_of Append t) ++ codes " rewrite " ++ seq_text (least_of Rewrite t) ++ codes "\n"
 
 -- a region's number behind a space
 abbrev pub region_text : ℕ → List ℕ

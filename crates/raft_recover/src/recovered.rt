@@ -5,7 +5,7 @@ ghost use Rattle.std.specs.List.Sorted.{IsPermutation, IsNonDecreasingBy};
 ghost use Rattle.std.specs.Io.KnownBytes.{Keeps};
 ghost use Rattle.std.specs.List.{flat_map};
 ghost use Rattle.raft_records.specs.Lines.{IsIoError};
-ghost use Rattle.raft_recover.specs.TableLines.{range_text, file_text, region_text, table_line, cleaned_text, cleaned_line, live_line, IsTextOfTables, PrintsTables, PrintsFrontOfTables};
+ghost use Rattle.raft_recover.specs.TableLines.{range_text, seq_text, region_text, table_line, cleaned_text, cleaned_line, live_line, IsTextOfTables, PrintsTables, PrintsFrontOfTables};
 
 use raft_accessor::MemTableAccessor;
 use raft_base::{AllocResult, Error, FileSeq, LogQueue, Result};
@@ -87,9 +87,9 @@ fn append_table(table: &MemTable, text: &mut String) -> AllocResult<()>
     write!(text, "{} entries ", table.region_id())?;
     append_range(table, text)?;
     write!(text, " keys {} append ", table.key_count())?;
-    append_file(table.min_file_seq(LogQueue::Append), text)?;
+    append_seq(table.min_file_seq(LogQueue::Append), text)?;
     text.push_str(" rewrite ")?;
-    append_file(table.min_file_seq(LogQueue::Rewrite), text)?;
+    append_seq(table.min_file_seq(LogQueue::Rewrite), text)?;
     text.push('\n')
 }
 
@@ -107,8 +107,8 @@ fn append_range(table: &MemTable, text: &mut String) -> AllocResult<()>
 }
 
 /// Appends the number of a file, `-` where there is none.
-fn append_file(seq: Option<FileSeq>, text: &mut String) -> AllocResult<()>
-    ensures { OnOk result (string_bytes text.new ≡ string_bytes text.old ++ file_text seq) }
+fn append_seq(seq: Option<FileSeq>, text: &mut String) -> AllocResult<()>
+    ensures { OnOk result (string_bytes text.new ≡ string_bytes text.old ++ seq_text seq) }
 {
     match seq {
         Some(seq) => write!(text, "{seq}"),

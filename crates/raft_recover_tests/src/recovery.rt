@@ -200,7 +200,7 @@ fn no_cut_of_truncations_shows(rt: HostRuntime) {
 }
 
 /// The number of the file of an entry of region 1.
-fn file_of_entry(tables: &MemTableAccessor, index: u64) -> Option<FileSeq> {
+fn seq_of_entry(tables: &MemTableAccessor, index: u64) -> Option<FileSeq> {
     let entry = tables.get(1)?.get_entry(index)?;
     Some(entry.entries?.id.seq)
 }
@@ -214,7 +214,7 @@ fn are_placed<R: Threads + Sync>(rt: &R, alloc: Global) -> Result<bool> {
     for cuts in 0..cuttings(row.files.len()) {
         let segments = cut(alloc, row.queue, row.files, cuts)?;
         let tables = recover(rt, alloc, segments.as_slice(), row.queue, 2)?;
-        if (file_of_entry(&tables, 14), file_of_entry(&tables, 15)) != (Some(1), Some(3)) {
+        if (seq_of_entry(&tables, 14), seq_of_entry(&tables, 15)) != (Some(1), Some(3)) {
             return Ok(false);
         }
     }

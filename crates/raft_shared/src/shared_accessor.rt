@@ -255,9 +255,9 @@ impl SharedAccessor {
         Ok(())
     }
 
-    /// Writes items that were rewritten to the file `seq` of the rewrite queue to the tables, in
-    /// order: with a gate the places that move are those in append files at or below it, without
-    /// one those that are rewritten already.
+    /// Writes items that were rewritten to the file of number `seq` of the rewrite queue to the
+    /// tables, in order: with a gate the places that move are those in append files at or below it,
+    /// without one those that are rewritten already.
     ///
     /// # Errors
     ///

@@ -187,7 +187,7 @@ impl Slot {
         last_seq: FileSeq,
     ) -> Result<()>
         requires slot { slot_of id ≡ self.old.number }
-        requires files { first_seq ≤ last_seq }
+        requires seqs { first_seq ≤ last_seq }
         ensures changed { IsTableChanged (Some (record (table_in self.old.content.tables id)
             { atomic_group = Some (first_seq, last_seq) }))
             (λ e. ⊥)
@@ -270,9 +270,9 @@ impl Slot {
             .append_item(item, &mut self.stats, &mut self.cleaned)
     }
 
-    /// Writes an item that was rewritten to the file `seq` of the rewrite queue to its region's
-    /// table: with a gate the places that move are those in append files at or below it, without
-    /// one those that are rewritten already.
+    /// Writes an item that was rewritten to the file of number `seq` of the rewrite queue to its
+    /// region's table: with a gate the places that move are those in append files at or below it,
+    /// without one those that are rewritten already.
     ///
     /// # Errors
     ///

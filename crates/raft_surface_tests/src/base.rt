@@ -159,7 +159,7 @@ fn index_of_messages<S: Message, M: MessageExt>(entry: &M::Entry) -> u64 {
     M::index(entry)
 }
 
-/// The places of the fields of an entry and of its block, by name and type.
+/// The fields of an entry and of its place, by name and type.
 fn fields(entry: EntryIndex) -> u64 {
     let EntryIndex {
         index,

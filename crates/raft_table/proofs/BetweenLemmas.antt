@@ -6,7 +6,7 @@ use Rattle.raft_base.specs.declared.pipe_log.LogQueue.TheVariants.{Append, Rewri
 use Rattle.raft_table.specs.Blocks.{BlockSpans, entries_in_blocks, AreDistinctBlocks}
 use Rattle.raft_table.specs.BlockWords.{count, starts_of, AreKept, without_first_spans, cut_last, cut_first, joined_blocks, seam, IsAt}
 use Rattle.raft_table.specs.TableEntries.{AreTableEntries, entry_count}
-use Rattle.raft_table.specs.Fetches.{is_same_block}
+use Rattle.raft_table.specs.Fetches.{is_same_handle}
 use Rattle.raft_table.proofs.RunLemmas.{RisesFrom-drop, start-of_rising}
 use Rattle.raft_table.proofs.PlaceLemmas.{entries_in_front, entry_count-append, entry_count-cut}
 use Rattle.raft_table.proofs.MovesLemmas.{behind_sound}
@@ -24,9 +24,9 @@ part_more a i xs x l m e =
 
 pub joined_some : (ys : List BlockSpans) (t : BlockSpans) → 0 < length (joined_blocks ys (t ∷ []))
 joined_some [] t = omega arith
-joined_some (b ∷ []) t = at (is_same_block b.handle t.handle) refl
+joined_some (b ∷ []) t = at (is_same_handle b.handle t.handle) refl
   where
-    at : (z : Bool) → is_same_block b.handle t.handle ≡ z → 0 < length (joined_blocks (b ∷ []) (t ∷ []))
+    at : (z : Bool) → is_same_handle b.handle t.handle ≡ z → 0 < length (joined_blocks (b ∷ []) (t ∷ []))
     at true h = rw h (omega arith)
     at false h = rw h (omega arith)
 joined_some (b ∷ d ∷ ys) t = omega arith

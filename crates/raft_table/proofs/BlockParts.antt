@@ -12,7 +12,7 @@ use Rattle.raft_table.proofs.RunLemmas.{start-of_rising}
 use Rattle.raft_table.proofs.FetchLemmas.{slice_get_drop}
 use Rattle.raft_table.proofs.BlockLemmas.{length-spread, spread_take, rises_expanded}
 use Rattle.raft_table.proofs.BlockSearch.{at_place, entry_of}
-use Rattle.raft_table.proofs.BlockJoins.{same_block_self, other_block_is}
+use Rattle.raft_table.proofs.BlockJoins.{same_handle_self, other_handle_is}
 
 -- the entries of blocks start where they do
 pub expanded_start : (i : ℕ) (bs : List BlockSpans) → AreDistinctBlocks bs → entries_in_blocks (start_of (entries_in_blocks i bs)) bs ≡ entries_in_blocks i bs
@@ -31,11 +31,11 @@ other_step a b es h = rw h (omega arith)
 
 changes : (i : ℕ) (h : FileBlockHandle) (s : ℕ × ℕ) (ss : List (ℕ × ℕ)) → change_count (spread i h (s ∷ ss)) ≡ 0
 changes i h s [] = refl
-changes i h s (t ∷ ss) = same_step (entry_of i h s) (entry_of (suc i) h t) (spread (suc (suc i)) h ss) (same_block_self h) ∙ changes (suc i) h t ss
+changes i h s (t ∷ ss) = same_step (entry_of i h s) (entry_of (suc i) h t) (spread (suc (suc i)) h ss) (same_handle_self h) ∙ changes (suc i) h t ss
 
 changes_more : (i : ℕ) (h : FileBlockHandle) (s : ℕ × ℕ) (ss : List (ℕ × ℕ)) (e : EntryIndex) (es : List EntryIndex) → is_same_place (Some h) e.entries ≡ false → change_count (spread i h (s ∷ ss) ++ e ∷ es) ≡ suc (change_count (e ∷ es))
 changes_more i h s [] e es d = other_step (entry_of i h s) e es d
-changes_more i h s (t ∷ ss) e es d = same_step (entry_of i h s) (entry_of (suc i) h t) (spread (suc (suc i)) h ss ++ e ∷ es) (same_block_self h) ∙ changes_more (suc i) h t ss e es d
+changes_more i h s (t ∷ ss) e es d = same_step (entry_of i h s) (entry_of (suc i) h t) (spread (suc (suc i)) h ss ++ e ∷ es) (same_handle_self h) ∙ changes_more (suc i) h t ss e es d
 
 -- a block in front of others
 changes_last : (i : ℕ) (h : FileBlockHandle) (ss : List (ℕ × ℕ)) → 0 < length ss → change_count (spread i h ss) ≡ 0
@@ -45,7 +45,7 @@ changes_last i h (s ∷ ss) l = changes i h s ss
 changes_front : (i : ℕ) (h : FileBlockHandle) (ss : List (ℕ × ℕ)) (j : ℕ) (g : FileBlockHandle) (ts : List (ℕ × ℕ)) (es : List EntryIndex) → 0 < length ss → 0 < length ts → h ≢ g → change_count (spread i h ss ++ (spread j g ts ++ es)) ≡ suc (change_count (spread j g ts ++ es))
 changes_front i h [] j g ts es l m d = absurd (omega arith)
 changes_front i h (s ∷ ss) j g [] es l m d = absurd (omega arith)
-changes_front i h (s ∷ ss) j g (t ∷ ts) es l m d = changes_more i h s ss (entry_of j g t) (spread (suc j) g ts ++ es) (other_block_is h g d)
+changes_front i h (s ∷ ss) j g (t ∷ ts) es l m d = changes_more i h s ss (entry_of j g t) (spread (suc j) g ts ++ es) (other_handle_is h g d)
 
 change_count_is : (i : ℕ) (b : BlockSpans) (bs : List BlockSpans) → AreDistinctBlocks (b ∷ bs) → change_count (entries_in_blocks i (b ∷ bs)) ≡ length bs
 change_count_is i b [] h = rw (append-nil (spread i b.handle b.spans)) (changes_last i b.handle b.spans h.0)

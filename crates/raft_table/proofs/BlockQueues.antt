@@ -5,9 +5,9 @@ use Rattle.raft_base.specs.declared.pipe_log.FileBlockHandle.{FileBlockHandle}
 use Rattle.raft_table.specs.declared.memtable.block.Block.{Block}
 use Rattle.raft_table.specs.Blocks.{BlockSpans, block_spans, shown}
 use Rattle.raft_table.specs.BlockWords.{first_spans, without_first_spans, with_spans_behind, cut_last, cut_first, joined_blocks, seam, IsAt}
-use Rattle.raft_table.specs.Fetches.{is_same_block}
+use Rattle.raft_table.specs.Fetches.{is_same_handle}
 use Rattle.raft_table.proofs.BlockSearch.{take_past}
-use Rattle.raft_table.proofs.BlockJoins.{same_block_self, other_block_is}
+use Rattle.raft_table.proofs.BlockJoins.{same_handle_self, other_handle_is}
 
 -- what a queue holds that was turned, cut, joined, and turned back
 pub spliced : {X : Type 0} (kept rest n : ℕ) (xs more a b c d : List X) → kept ≤ rest → rest ≤ length xs → n ≡ length xs - rest → a ≡ drop rest xs ++ take rest xs → b ≡ take (n + kept) a → c ≡ b ++ more → d ≡ drop n c ++ take n c → d ≡ take kept xs ++ more ++ drop rest xs
@@ -116,26 +116,26 @@ cut_last_last m (x ∷ y ∷ a) b = ap (λ ys. x ∷ ys) (cut_last_last m (y ∷
 -- two that meet, by whether they have the same handle
 pub meets_same : (k m : ℕ) (xs : List BlockSpans) (b c : BlockSpans) (cs : List BlockSpans) → k < length xs → b ≡ get_or xs k b → b.handle ≡ c.handle → joined_blocks (cut_last m (take (k + 1) xs)) (c ∷ cs) ≡ take (k + 1) (set xs k (with_spans_behind (first_spans m b) c.spans)) ++ cs
 meets_same k m xs b c cs l e h =
-    let t : is_same_block b.handle c.handle ≡ true = rw h (same_block_self c.handle) in
+    let t : is_same_handle b.handle c.handle ≡ true = rw h (same_handle_self c.handle) in
     let w : take (k + 1) xs ≡ take k xs ++ b ∷ [] = take_more xs k b l ∙ ap (λ y. take k xs ++ y ∷ []) (sym e) in
     ap (λ ys. joined_blocks (cut_last m ys) (c ∷ cs)) w ∙ ap (λ ys. joined_blocks ys (c ∷ cs)) (cut_last_last m (take k xs) b) ∙ joined_last (take k xs) (first_spans m b) c cs
     ∙ rw (t, take_more_set xs k (with_spans_behind (first_spans m b) c.spans) l) (sym (append_assoc (take k xs) (with_spans_behind (first_spans m b) c.spans ∷ []) cs))
 
 pub meets_other : (k m : ℕ) (xs : List BlockSpans) (b c : BlockSpans) (cs : List BlockSpans) → k < length xs → b ≡ get_or xs k b → b.handle ≢ c.handle → joined_blocks (cut_last m (take (k + 1) xs)) (c ∷ cs) ≡ take (k + 1) (set xs k (first_spans m b)) ++ c ∷ cs
 meets_other k m xs b c cs l e h =
-    let t : is_same_block b.handle c.handle ≡ false = other_block_is b.handle c.handle h in
+    let t : is_same_handle b.handle c.handle ≡ false = other_handle_is b.handle c.handle h in
     let w : take (k + 1) xs ≡ take k xs ++ b ∷ [] = take_more xs k b l ∙ ap (λ y. take k xs ++ y ∷ []) (sym e) in
     ap (λ ys. joined_blocks (cut_last m ys) (c ∷ cs)) w ∙ ap (λ ys. joined_blocks ys (c ∷ cs)) (cut_last_last m (take k xs) b) ∙ joined_last (take k xs) (first_spans m b) c cs
     ∙ rw (t, take_more_set xs k (first_spans m b) l) (sym (append_assoc (take k xs) (first_spans m b ∷ []) (c ∷ cs)))
 
 pub seam_same : (k : ℕ) (xs : List BlockSpans) (b c : BlockSpans) (cs : List BlockSpans) → k < length xs → b ≡ get_or xs k b → b.handle ≡ c.handle → seam (take (k + 1) xs) (c ∷ cs) ≡ 1
 seam_same k xs b c cs l e h =
-    let t : is_same_block b.handle c.handle ≡ true = rw h (same_block_self c.handle) in
+    let t : is_same_handle b.handle c.handle ≡ true = rw h (same_handle_self c.handle) in
     ap (λ ys. seam ys (c ∷ cs)) (take_more xs k b l ∙ ap (λ y. take k xs ++ y ∷ []) (sym e)) ∙ seam_last (take k xs) b c cs ∙ rw t refl
 
 pub seam_other : (k : ℕ) (xs : List BlockSpans) (b c : BlockSpans) (cs : List BlockSpans) → k < length xs → b ≡ get_or xs k b → b.handle ≢ c.handle → seam (take (k + 1) xs) (c ∷ cs) ≡ 0
 seam_other k xs b c cs l e h =
-    let t : is_same_block b.handle c.handle ≡ false = other_block_is b.handle c.handle h in
+    let t : is_same_handle b.handle c.handle ≡ false = other_handle_is b.handle c.handle h in
     ap (λ ys. seam ys (c ∷ cs)) (take_more xs k b l ∙ ap (λ y. take k xs ++ y ∷ []) (sym e)) ∙ seam_last (take k xs) b c cs ∙ rw t refl
 
 pub set_same : (bs : List Block) (k : ℕ) (b c : Block) → k < length bs → b ≡ get_or bs k b → c.handle ≡ b.handle → c.spans.items ≡ b.spans.items → shown (set bs k c) ≡ shown bs
@@ -162,7 +162,7 @@ pushed_same k bs b c y l e h g s =
     let xs = shown bs in
     let n : k + 1 ≡ length xs = l ∙ sym (length-map bs block_spans) in
     let at = shown_at bs k b (omega arith) e in
-    let t : is_same_block b.handle y.handle ≡ true = rw h (same_block_self y.handle) in
+    let t : is_same_handle b.handle y.handle ≡ true = rw h (same_handle_self y.handle) in
     let w : xs ≡ take k xs ++ block_spans b ∷ [] = sym (take_all (k + 1) xs (omega arith)) ∙ take_more xs k (block_spans b) (omega arith) ∙ ap (λ z. take k xs ++ z ∷ []) (sym at) in
     let new = with_spans_behind (block_spans b) y.spans.items in
     let left : shown (set bs k c) ≡ take k xs ++ new ∷ [] =
@@ -176,7 +176,7 @@ pushed_other k bs b y l e h =
     let xs = shown bs in
     let n : k + 1 ≡ length xs = l ∙ sym (length-map bs block_spans) in
     let at = shown_at bs k b (omega arith) e in
-    let t : is_same_block b.handle y.handle ≡ false = other_block_is b.handle y.handle h in
+    let t : is_same_handle b.handle y.handle ≡ false = other_handle_is b.handle y.handle h in
     let w : xs ≡ take k xs ++ block_spans b ∷ [] = sym (take_all (k + 1) xs (omega arith)) ∙ take_more xs k (block_spans b) (omega arith) ∙ ap (λ z. take k xs ++ z ∷ []) (sym at) in
     let right : joined_blocks xs (block_spans y ∷ []) ≡ xs ++ block_spans y ∷ [] =
     ap (λ ys. joined_blocks ys (block_spans y ∷ [])) w ∙ joined_last (take k xs) (block_spans b) (block_spans y) [] ∙ rw t (sym (append_assoc (take k xs) (block_spans b ∷ []) (block_spans y ∷ []))) ∙ ap (λ ys. ys ++ block_spans y ∷ []) (sym w) in

@@ -67,7 +67,7 @@ clean-append (Compact i ∷ ss) rs = clean-append ss rs
 clean-append (Truncate i ∷ ss) rs = clean-append ss rs
 clean-append (Put k v f ∷ ss) rs = clean-append ss rs
 clean-append (Del k ∷ ss) rs = clean-append ss rs
-clean-append (AtomicGroup s e ∷ ss) rs = clean-append ss rs
+clean-append (AtomicGroup first_seq last_seq ∷ ss) rs = clean-append ss rs
 clean-append (Clean ∷ ss) rs = refl
 
 greatest-append : (ss rs : List Step) → greatest_compaction (ss ++ rs) ≡ max (greatest_compaction ss) (greatest_compaction rs)
@@ -77,7 +77,7 @@ greatest-append (Compact i ∷ ss) rs = omega (arith, greatest-append ss rs)
 greatest-append (Truncate i ∷ ss) rs = greatest-append ss rs
 greatest-append (Put k v f ∷ ss) rs = greatest-append ss rs
 greatest-append (Del k ∷ ss) rs = greatest-append ss rs
-greatest-append (AtomicGroup s e ∷ ss) rs = greatest-append ss rs
+greatest-append (AtomicGroup first_seq last_seq ∷ ss) rs = greatest-append ss rs
 greatest-append (Clean ∷ ss) rs = greatest-append ss rs
 
 least-append : (ss rs : List Step) → least_cut (ss ++ rs) ≡ lesser (least_cut ss) (least_cut rs)
@@ -88,7 +88,7 @@ least-append (Compact i ∷ ss) rs = least-append ss rs
 least-append (Truncate i ∷ ss) rs = ap (lesser (Some i)) (least-append ss rs) ∙ sym (lesser_assoc (Some i) (least_cut ss) (least_cut rs))
 least-append (Put k v f ∷ ss) rs = least-append ss rs
 least-append (Del k ∷ ss) rs = least-append ss rs
-least-append (AtomicGroup s e ∷ ss) rs = least-append ss rs
+least-append (AtomicGroup first_seq last_seq ∷ ss) rs = least-append ss rs
 least-append (Clean ∷ ss) rs = least-append ss rs
 
 deleted-append : (d : KeySet) (ss rs : List Step) → deleted_of d (ss ++ rs) ≡ deleted_of (deleted_of d ss) rs
@@ -98,7 +98,7 @@ deleted-append d (Compact i ∷ ss) rs = deleted-append d ss rs
 deleted-append d (Truncate i ∷ ss) rs = deleted-append d ss rs
 deleted-append d (Put k v f ∷ ss) rs = deleted-append d ss rs
 deleted-append d (Del k ∷ ss) rs = deleted-append (finset.insert d k) ss rs
-deleted-append d (AtomicGroup s e ∷ ss) rs = deleted-append d ss rs
+deleted-append d (AtomicGroup first_seq last_seq ∷ ss) rs = deleted-append d ss rs
 deleted-append d (Clean ∷ ss) rs = deleted-append finset.empty ss rs
 
 same_deleted : (m : Mark) (ss : List Step) → m.cleaned ≡ has_clean ss → m.deleted ≡ finset.empty → ((d : KeySet) → deleted_of d ss ≡ d) → HoldsDeleted m ss
@@ -111,7 +111,7 @@ holds_one (Compact i) = same_deleted _ _ refl refl (λ d. refl)
 holds_one (Truncate i) = same_deleted _ _ refl refl (λ d. refl)
 holds_one (Put k v f) = same_deleted _ _ refl refl (λ d. refl)
 holds_one (Del k) = record { cleaned = refl; deleted = λ e d. union_one d k; none_deleted = λ e. absurd (false≢true e) }
-holds_one (AtomicGroup s e) = same_deleted _ _ refl refl (λ d. refl)
+holds_one (AtomicGroup first_seq last_seq) = same_deleted _ _ refl refl (λ d. refl)
 holds_one Clean = record { cleaned = refl; deleted = λ e d. absurd (false≢true (sym e)); none_deleted = λ e. refl }
 
 pub exact_one : (s : Step) → IsExactMark (mark_of s) (s ∷ [])
@@ -121,7 +121,7 @@ exact_one (Compact i) = record { holds = holds_one (Compact i); greatest = λ e.
 exact_one (Truncate i) = record { holds = holds_one (Truncate i); greatest = λ e. refl; least = λ e. refl }
 exact_one (Put k v f) = record { holds = holds_one (Put k v f); greatest = λ e. refl; least = λ e. refl }
 exact_one (Del k) = record { holds = holds_one (Del k); greatest = λ e. refl; least = λ e. refl }
-exact_one (AtomicGroup s e) = record { holds = holds_one (AtomicGroup s e); greatest = λ e. refl; least = λ e. refl }
+exact_one (AtomicGroup first_seq last_seq) = record { holds = holds_one (AtomicGroup first_seq last_seq); greatest = λ e. refl; least = λ e. refl }
 exact_one Clean = record { holds = holds_one Clean; greatest = λ e. absurd (false≢true (sym e)); least = λ e. absurd (false≢true (sym e)) }
 
 clash : {X : Type 0} {b : Bool} → b ≡ true → b ≡ false → X

@@ -67,7 +67,7 @@ fits_one q id (Compact i) = fits_no_run q _ _ refl refl refl
 fits_one q id (Truncate i) = fits_no_run q _ _ refl refl refl
 fits_one q id (Put key value file) = fits_no_run q _ _ refl refl refl
 fits_one q id (Del key) = fits_no_run q _ _ refl refl refl
-fits_one q id (AtomicGroup start end) = fits_no_run q _ _ refl refl refl
+fits_one q id (AtomicGroup first_seq last_seq) = fits_no_run q _ _ refl refl refl
 fits_one q id Clean = fits_no_run q _ _ refl refl refl
 
 table_one : (id : ℕ) (s : Step) → IsStep s → IsTableOf id (table_of id (own_of id s))
@@ -76,7 +76,7 @@ table_one id (Compact i) good = no_table id
 table_one id (Truncate i) good = no_table id
 table_one id (Put key value file) good = record { region = refl; run = (no_table id).run }
 table_one id (Del key) good = no_table id
-table_one id (AtomicGroup start end) good = record { region = refl; run = (no_table id).run }
+table_one id (AtomicGroup first_seq last_seq) good = record { region = refl; run = (no_table id).run }
 table_one id Clean good = no_table id
 
 pub stands_fresh : (q : LogQueue) (id : ℕ) → Stands q id fresh None []

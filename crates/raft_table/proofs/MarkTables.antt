@@ -267,7 +267,7 @@ one_step q id (Compact i) o = rw (kept_over q i finset.empty (table_of id o).ent
 one_step q id (Truncate i) o = rw (cut_over q i (table_of id o).entries, keys_kept (table_of id o).keys) refl
 one_step q id (Put key value file) o = rw (untouched q finset.empty (table_of id o).entries, key_put (table_of id o).keys key (record { value = value; file = file })) refl
 one_step q id (Del key) o = rw (untouched q (finset.insert finset.empty key) (table_of id o).entries, key_deleted (table_of id o).keys key) refl
-one_step q id (AtomicGroup start end) o = rw (untouched q finset.empty (table_of id o).entries, keys_kept (table_of id o).keys) refl
+one_step q id (AtomicGroup first_seq last_seq) o = rw (untouched q finset.empty (table_of id o).entries, keys_kept (table_of id o).keys) refl
 one_step Append id Clean o = refl
 one_step Rewrite id Clean o = refl
 

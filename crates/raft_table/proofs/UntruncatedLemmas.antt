@@ -84,7 +84,7 @@ begun_after id (Compact i ∷ ss) o t start floor good un kept h b is =
 begun_after id (Truncate i ∷ ss) o t start floor good un kept h b is = absurd un
 begun_after id (Put k v f ∷ ss) o t start floor good un kept h b is = begun_after id ss (Some (with_pair (table_of id o) k v f)) t start floor good.1 un kept (record { region = h.region; run = h.run }) b is
 begun_after id (Del k ∷ ss) o t start floor good un kept h b is = begun_after id ss (Some (record (table_of id o) { keys = finite.remove (table_of id o).keys k })) t start floor good.1 un kept (record { region = h.region; run = h.run }) b is
-begun_after id (AtomicGroup s e ∷ ss) o t start floor good un kept h b is = begun_after id ss (Some (record (table_of id o) { atomic_group = Some (s, e) })) t start floor good.1 un kept (record { region = h.region; run = h.run }) b is
+begun_after id (AtomicGroup first_seq last_seq ∷ ss) o t start floor good un kept h b is = begun_after id ss (Some (record (table_of id o) { atomic_group = Some (first_seq, last_seq) })) t start floor good.1 un kept (record { region = h.region; run = h.run }) b is
 begun_after id (Clean ∷ ss) o t start floor good un kept h b is = absurd cc
 
 pub untruncated_within : (floor : ℕ) (cut : Option ℕ) (own es : List EntryIndex) → AreBegun cut floor own → rewritten_within floor cut own es ≡ reaching_within floor cut es

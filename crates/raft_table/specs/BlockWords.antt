@@ -4,14 +4,14 @@ use Rattle.raft_base.specs.declared.pipe_log.LogQueue.TheVariants.{Rewrite}
 use Rattle.raft_base.specs.declared.entry_index.EntryIndex.{EntryIndex}
 use Rattle.raft_table.specs.Blocks.{BlockSpans, entries_in_blocks, AreDistinctBlocks}
 use Rattle.raft_table.specs.TableEntries.{AreTableEntries, entry_count}
-use Rattle.raft_table.specs.Fetches.{is_same_block}
+use Rattle.raft_table.specs.Fetches.{is_same_handle}
 
 -- how many entries blocks have
 abbrev pub count : List BlockSpans → ℕ
 count [] = 0
 count (b ∷ bs) = length b.spans + count bs
 
--- where entries stand in their block
+-- the spans of entries
 abbrev pub spans_of : List EntryIndex → List (ℕ × ℕ)
 spans_of es = map (λ e. (e.entry_offset, e.entry_len)) es
 
@@ -65,14 +65,14 @@ cut_first m (b ∷ bs) = without_first_spans m b ∷ bs
 abbrev pub joined_blocks : List BlockSpans → List BlockSpans → List BlockSpans
 joined_blocks [] cs = cs
 joined_blocks (b ∷ []) [] = b ∷ []
-joined_blocks (b ∷ []) (c ∷ cs) = if is_same_block b.handle c.handle then with_spans_behind b c.spans ∷ cs else b ∷ c ∷ cs
+joined_blocks (b ∷ []) (c ∷ cs) = if is_same_handle b.handle c.handle then with_spans_behind b c.spans ∷ cs else b ∷ c ∷ cs
 joined_blocks (b ∷ d ∷ bs) cs = b ∷ joined_blocks (d ∷ bs) cs
 
 -- how many blocks fewer that are
 abbrev pub seam : List BlockSpans → List BlockSpans → ℕ
 seam [] cs = 0
 seam (b ∷ []) [] = 0
-seam (b ∷ []) (c ∷ cs) = if is_same_block b.handle c.handle then 1 else 0
+seam (b ∷ []) (c ∷ cs) = if is_same_handle b.handle c.handle then 1 else 0
 seam (b ∷ d ∷ bs) cs = seam (d ∷ bs) cs
 
 -- an index at which the blocks with these first indexes have an entry

@@ -62,41 +62,41 @@ IsFetchFault _ _ = ⊥
 abbrev pub appended_before : ℕ → List EntryIndex → List EntryIndex
 appended_before gate es = take_while (is_placed_before gate) (placed_in Append es)
 
--- whether two blocks are the same
-abbrev pub is_same_block : FileBlockHandle → FileBlockHandle → Bool
-is_same_block a b = is_same a.id.queue b.id.queue && a.id.seq == b.id.seq && a.offset == b.offset && a.len == b.len
+-- whether two handles are the same
+abbrev pub is_same_handle : FileBlockHandle → FileBlockHandle → Bool
+is_same_handle a b = is_same a.id.queue b.id.queue && a.id.seq == b.id.seq && a.offset == b.offset && a.len == b.len
 
--- whether two entries stand in the same block
+-- whether two entries have the same place, or both none
 abbrev pub is_same_place : Option FileBlockHandle → Option FileBlockHandle → Bool
 is_same_place None None = true
 is_same_place None (Some b) = false
 is_same_place (Some a) None = false
-is_same_place (Some a) (Some b) = is_same_block a b
+is_same_place (Some a) (Some b) = is_same_handle a b
 
--- how many entries have another block than the entry before
+-- how many entries have another place than the entry before
 abbrev pub change_count : List EntryIndex → ℕ
 change_count [] = 0
 change_count (a ∷ []) = 0
 change_count (a ∷ b ∷ es) = (if is_same_place a.entries b.entries then 0 else 1) + change_count (b ∷ es)
 
--- how many blocks the entries make: as many neighbors as stand in one file block are one
+-- how many blocks the entries make: as many neighbors as have one place are one
 abbrev pub block_count : List EntryIndex → ℕ
 block_count [] = 0
 block_count (e ∷ es) = suc (change_count (e ∷ es))
 
--- the file number of an entry's block
-abbrev pub block_seq : Option FileBlockHandle → Option ℕ
-block_seq None = None
-block_seq (Some block) = Some block.id.seq
+-- the file number of a place, if there is one
+abbrev pub place_seq : Option FileBlockHandle → Option ℕ
+place_seq None = None
+place_seq (Some handle) = Some handle.id.seq
 
 -- the file number of an entry, if there is one
 abbrev pub entry_seq : Option EntryIndex → Option ℕ
 entry_seq None = None
-entry_seq (Some e) = block_seq e.entries
+entry_seq (Some e) = place_seq e.entries
 
 -- the file number of a queue's first entry
-abbrev pub first_seq : LogQueue → List EntryIndex → Option ℕ
-first_seq queue es = entry_seq (slice_get (placed_in queue es) 0)
+abbrev pub first_entry_seq : LogQueue → List EntryIndex → Option ℕ
+first_entry_seq queue es = entry_seq (slice_get (placed_in queue es) 0)
 
 -- whether a number is there, and at or below a gate
 abbrev pub is_some_before : ℕ → Option ℕ → Bool

@@ -11,13 +11,13 @@ use Rattle.raft_table.specs.Counts.{Counts, live, with_added, with_deleted}
 use Rattle.raft_table.specs.TableEntries.{start_of, below, from, is_placed_in, entry_count}
 
 -- whether there is a place, in a file numbered at or below a gate
-abbrev pub is_block_before : ℕ → Option FileBlockHandle → Bool
-is_block_before gate None = false
-is_block_before gate (Some block) = nat_le block.id.seq gate
+abbrev pub is_place_before : ℕ → Option FileBlockHandle → Bool
+is_place_before gate None = false
+is_place_before gate (Some handle) = nat_le handle.id.seq gate
 
 -- whether an entry's place is in a file numbered at or below a gate
 unfoldable pub is_placed_before : ℕ → EntryIndex → Bool
-is_placed_before gate e = is_block_before gate e.entries
+is_placed_before gate e = is_place_before gate e.entries
 
 -- which places move: with a gate those in files at or below it, without one those that are rewritten already
 abbrev pub may_move : Option ℕ → EntryIndex → Bool

@@ -7,7 +7,7 @@ use Rattle.raft_table.specs.KeyValueCode.{keys_code}
 use Rattle.raft_table.specs.KeyValues.{Keys}
 use Rattle.raft_table.specs.Table.{Table}
 
--- a table as its number and entries, and its key values and the files of its atomic group
+-- a table as its number and entries, and its key values and the file numbers of its atomic group
 abbrev pub table_code : Coded Table
 table_code =
     code_by ((ℕ × List EntryIndex) × (Keys × Option (ℕ × ℕ))) (coded× (coded× coded_ℕ (coded_list entry.the_row.coded)) (coded× keys_code (coded_option (coded× coded_ℕ coded_ℕ))))

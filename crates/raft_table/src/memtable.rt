@@ -122,8 +122,8 @@ impl MemTable {
         self.entries.last_index()
     }
 
-    /// The blocks in which the entries are kept, in order: each has entries, and neighbors stand in
-    /// different file blocks.
+    /// The blocks in which the entries are kept, in order: each has entries, and neighbors have
+    /// different places.
     pub fn blocks(&self) -> &VecDeque<Block>
         ensures entries { entries_in_blocks (start_of self.now.entries) (shown result.now.items)
             ≡ self.now.entries }
@@ -360,14 +360,14 @@ impl MemTable {
         }
     }
 
-    /// Moves the pair of `key` to the file `seq` of the rewrite queue: one in the append queue
-    /// where there is a gate and its file is at or below it, one in the rewrite queue always.
+    /// Moves the pair of `key` to the file of number `seq` of the rewrite queue: one in the append
+    /// queue where there is a gate and its file is at or below it, one in the rewrite queue always.
     ///
     /// # Errors
     ///
-    /// `Corruption` where the pair is in the rewrite queue in a file above `seq`, `Full` where the
-    /// live number of the rewrite queue and one more would pass 2^64 - 1, `Memory` for the text of
-    /// `Corruption` alone. The table and the counts are then as they were.
+    /// `Corruption` where the pair is in the rewrite queue in a file of a number above `seq`, `Full`
+    /// where the live number of the rewrite queue and one more would pass 2^64 - 1, `Memory` for the
+    /// text of `Corruption` alone. The table and the counts are then as they were.
     pub fn rewrite_key(
         &mut self,
         key: Vec<u8>,

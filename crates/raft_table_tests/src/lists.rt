@@ -278,7 +278,7 @@ impl List {
         self.entries.iter().filter(|e| is_in(e, queue)).count()
     }
 
-    /// How many stretches of neighbors in one block there are.
+    /// How many stretches of neighbors of one place there are.
     fn count_blocks(&self) -> usize {
         let mut count = 0usize;
         let mut last = None;

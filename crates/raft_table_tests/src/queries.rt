@@ -13,7 +13,7 @@ use std::process::Abort;
 /// An entry's index, its length, and the queue that it lies in, if it lies somewhere.
 type Row = (u64, u32, Option<LogQueue>);
 
-/// The entries of these rows, each in a block of its own.
+/// The entries of these rows, each at a place of its own.
 fn entries(alloc: Global, rows: &[Row]) -> Result<Vec<EntryIndex>> {
     let mut entries = Vec::new(alloc);
     for (index, entry_len, queue) in rows {
@@ -184,8 +184,8 @@ fn group(table: &MemTable) -> Option<(FileSeq, FileSeq)> {
     table.atomic_group()
 }
 
-/// The file that an entry lies in.
-fn file_at(table: &MemTable, index: u64) -> Option<FileSeq> {
+/// The number of the file that an entry lies in.
+fn seq_at(table: &MemTable, index: u64) -> Option<FileSeq> {
     table
         .get_entry(index)
         .and_then(|e| e.entries)
@@ -215,8 +215,8 @@ fn ask_queues(rt: &impl Abort, alloc: Global) -> Result<()> {
     let table = &store.table;
     assert!(rt; counts(table) == (2, 10, 10));
     assert!(rt; group(table) == Some((3, 7)));
-    for &(index, file) in &[(9, Some(50)), (10, Some(2)), (20, None)] {
-        assert!(rt; file_at(table, index) == file, "{index}");
+    for &(index, seq) in &[(9, Some(50)), (10, Some(2)), (20, None)] {
+        assert!(rt; seq_at(table, index) == seq, "{index}");
     }
     for &(seq, count, want) in &[
         (50, 10, true),

@@ -245,7 +245,7 @@ impl LogStore {
                 let key = self.bytes(b"k")?;
                 self.table.rewrite_key(key, gate, seq, &mut self.stats)?;
             }
-            Call::Group(start, end) => self.set_group(start, end)?,
+            Call::Group(first_seq, last_seq) => self.set_group(first_seq, last_seq)?,
             Call::Count(queue, count) => self.stats.add(queue, count as usize)?,
         }
         Ok(0)
@@ -270,12 +270,12 @@ impl LogStore {
         )
     }
 
-    /// Sets the files of the atomic group; `Failed` where the first is above the last.
-    fn set_group(&mut self, start: FileSeq, end: FileSeq) -> Result<()> {
-        if start > end {
+    /// Sets the atomic group's files by number; `Failed` where the first is above the last.
+    fn set_group(&mut self, first_seq: FileSeq, last_seq: FileSeq) -> Result<()> {
+        if first_seq > last_seq {
             return Err(Error::Failed);
         }
-        self.table.apply_rewrite_atomic_group(start, end);
+        self.table.apply_rewrite_atomic_group(first_seq, last_seq);
         Ok(())
     }
 

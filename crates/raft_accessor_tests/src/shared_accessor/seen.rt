@@ -9,7 +9,7 @@ use std::sync::Wait;
 /// The region that is called at, and whose table is looked up.
 pub(super) const REGION: u64 = 1;
 
-/// The number of an entry's file, the offset and the length of its block, and its own in that.
+/// The number of an entry's file, the offset and the length of its place, and its span.
 type Place = (FileSeq, u64, usize, u32, u32);
 
 /// A table's region, its first and last index, its records and its least file in both queues, its atomic

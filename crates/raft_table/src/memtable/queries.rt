@@ -10,7 +10,7 @@ ghost use Rattle.raft_table.specs.TableEntries.{placed_in};
 ghost use Rattle.raft_table.specs.Fetches.{Fetches, IsFetchFault, range_answer, appended_before, block_count, entry_seq, is_some_before};
 ghost use Rattle.raft_table.specs.KeyValues.{pairs_shown, pairs_up_to};
 ghost use Rattle.raft_table.specs.Scan.{VisitsUntilFalse, pairs_between};
-ghost use Rattle.raft_table.specs.Least.{least_of, at_most_first_seq};
+ghost use Rattle.raft_table.specs.Least.{least_of, at_most_group_seq};
 
 use crate::memtable::MemTable;
 use crate::memtable::bounds::lesser;
@@ -134,7 +134,7 @@ impl MemTable {
         ensures { result ≡ least_of queue self.now }
     {
         let least = lesser(
-            self.entries.first_seq_in(queue),
+            self.entries.first_entry_seq_in(queue),
             self.keys.least_seq_in(queue),
         );
         match queue {
@@ -159,7 +159,7 @@ impl MemTable {
 
 /// A file number at or below the last of an atomic group, lowered to at most the first.
 fn lowered(atomic_group: Option<(FileSeq, FileSeq)>, seq: Option<FileSeq>) -> Option<FileSeq>
-    ensures { result ≡ at_most_first_seq atomic_group seq }
+    ensures { result ≡ at_most_group_seq atomic_group seq }
 {
     match (atomic_group, seq) {
         (Some((start, end)), Some(seq)) => Some(if seq <= end { seq.min(start) } else { seq }),

@@ -4,7 +4,7 @@ ghost use Rattle.std.specs.Prelude.{◌≡◌, ◌+◌, ◌-◌, ◌≤◌, ◌<
 ghost use Rattle.std.specs.List.{prefix_len, slice_get};
 ghost use Rattle.raft_base.specs.declared.pipe_log.LogQueue.TheVariants.{Append, Rewrite};
 ghost use Rattle.raft_table.specs.TableEntries.{placed_in};
-ghost use Rattle.raft_table.specs.Fetches.{Fetches, IsFetchFault, IsLimitCount, range_answer, appended_before, block_count, entry_seq, first_seq};
+ghost use Rattle.raft_table.specs.Fetches.{Fetches, IsFetchFault, IsLimitCount, range_answer, appended_before, block_count, entry_seq, first_entry_seq};
 ghost use Rattle.raft_table.specs.Rewriting.{may_move};
 
 use crate::memtable::entries::Entries;
@@ -82,8 +82,8 @@ impl Entries {
     }
 
     /// The file number of the first entry in `queue`.
-    pub fn first_seq_in(&self, queue: LogQueue) -> Option<FileSeq>
-        ensures { result ≡ first_seq queue self.now }
+    pub fn first_entry_seq_in(&self, queue: LogQueue) -> Option<FileSeq>
+        ensures { result ≡ first_entry_seq queue self.now }
     {
         match queue {
             LogQueue::Append => self.seq_at(self.rewritten),

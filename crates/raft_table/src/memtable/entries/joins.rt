@@ -180,8 +180,8 @@ fn rewritten_in(queue: LogQueue, count: usize) -> usize
     }
 }
 
-/// How many entries of a run, behind the first `at` ones, stand in a block, up to the first that
-/// does not.
+/// How many entries of a run, behind the first `at` ones, have this place, up to the first that has
+/// another or none.
 fn count_of(handle: &FileBlockHandle, run: &[EntryIndex], at: usize) -> usize
     requires { at ≤ length run.now }
     ensures within { at + result ≤ length run.now }
@@ -198,7 +198,7 @@ fn count_of(handle: &FileBlockHandle, run: &[EntryIndex], at: usize) -> usize
     run.len() - at
 }
 
-/// Whether an entry stands in a block.
+/// Whether an entry has this place.
 fn stands_in(entry: &EntryIndex, handle: &FileBlockHandle) -> bool
     ensures { MatchBool result (entry.now.entries ≡ Some handle.now)
         (entry.now.entries ≢ Some handle.now) }
@@ -209,7 +209,7 @@ fn stands_in(entry: &EntryIndex, handle: &FileBlockHandle) -> bool
     }
 }
 
-/// Where entries stand in their block.
+/// The spans of entries.
 fn spans_of(alloc: Global, run: &[EntryIndex]) -> AllocResult<VecDeque<(u32, u32)>>
     ensures ok { IfOk result (λ spans. spans.items ≡ spans_of run.now) }
 {
@@ -220,7 +220,7 @@ fn spans_of(alloc: Global, run: &[EntryIndex]) -> AllocResult<VecDeque<(u32, u32
     Ok(VecDeque::from_vec(spans))
 }
 
-/// Where the entries of a run stand in a block, if they all stand in it.
+/// The spans of the entries of a run, if they all have this place.
 fn spans_within(
     alloc: Global,
     handle: &FileBlockHandle,

@@ -142,7 +142,7 @@ fn set_part(vec: &mut Vec<EntryIndex>, len: usize, block: &Block, at: usize, cou
     }
 }
 
-/// Sets where an entry stands in its block.
+/// Sets the span of an entry.
 fn set_span(entry: &mut EntryIndex, span: (u32, u32))
     ensures { entry.new ≡ record entry.old { entry_offset = span.0; entry_len = span.1 } }
 {
@@ -181,7 +181,7 @@ pub(super) fn movable_from(
     end - start
 }
 
-/// Whether the entries of a block of a file may move.
+/// Whether the entries of a place may move.
 #[tactic(auto, unfolding(crate::specs::TableEntries::is_placed_in, crate::specs::Rewriting::is_placed_before))]
 fn is_movable(handle: &FileBlockHandle, gate: Option<FileSeq>) -> bool
     ensures { (e : EntryIndex) → e.entries ≡ Some handle.now → result ≡ may_move gate e }

@@ -7,7 +7,6 @@ use Rattle.raft_base.specs.declared.errors.Error.TheVariants as errors
 use Rattle.raft_base.specs.declared.pipe_log.LogQueue.{LogQueue}
 use Rattle.raft_base.specs.declared.pipe_log.LogQueue.TheVariants.{Append, Rewrite}
 use Rattle.raft_base.specs.declared.entry_index.EntryIndex.{EntryIndex}
-use Rattle.raft_base.specs.Runs.{end_of}
 use Rattle.raft_table.specs.TableEntries.{below, placed_in, entry_count}
 use Rattle.raft_table.specs.Queues.{is_same}
 use Rattle.raft_table.specs.Counts.{Counts}

@@ -5,7 +5,7 @@ use Rattle.std.proofs.lemmas.Bool.Decides.{nat_tests}
 use Rattle.raft_base.specs.declared.pipe_log.LogQueue.{LogQueue}
 use Rattle.raft_base.specs.declared.pipe_log.LogQueue.TheVariants.{Append, Rewrite}
 use Rattle.raft_base.specs.declared.entry_index.EntryIndex.{EntryIndex}
-use Rattle.raft_base.specs.Runs.{IsRun, end_of}
+use Rattle.raft_base.specs.Runs.{IsRun}
 use Rattle.raft_table.specs.TableEntries.{IsRunIn, start_of, below, from, entry_at, StandsBehind}
 use Rattle.raft_table.specs.Start.{leaves_hole, entries_after_append, entries_after_replay}
 use Rattle.raft_table.proofs.RunLemmas.{rises}

@@ -3,7 +3,6 @@ use Rattle.std.specs.Prelude.{◌≡◌, ◌⊎◌, ℕ, ◌≤◌, true, false,
 use Rattle.raft_base.specs.declared.pipe_log.LogQueue.{LogQueue}
 use Rattle.raft_base.specs.declared.pipe_log.LogQueue.TheVariants.{Rewrite}
 use Rattle.raft_base.specs.declared.entry_index.EntryIndex.{EntryIndex}
-use Rattle.raft_base.specs.Runs.{end_of}
 use Rattle.raft_table.specs.declared.memtable.entries.Start.{Start}
 use Rattle.raft_table.specs.declared.memtable.entries.Start.TheVariants as starts
 use Rattle.raft_table.specs.TableEntries.{below}

@@ -1,4 +1,4 @@
-use Rattle.std.proofs.Common.{ℕ, List, inr, string_bytes, subst}
+use Rattle.std.proofs.Common.{inr, string_bytes, subst}
 use Rattle.std.proofs.lemmas.Result.{err_from_is_err_and}
 use Rattle.raft_base.specs.Signature.{signature_of}
 use Rattle.raft_records.specs.Lines.{IsNoItemBatch, IsPrintFault, IsTextOf, AppendsFront}

@@ -65,10 +65,11 @@ abbrev pub IsBytesFault : (ℕ → Type 0) → ℕ → Error → Type 0
 IsBytesFault refuses size errors.Full = 2 ^ 31 ≤ size
 IsBytesFault refuses size e = IsMemoryOrMessage refuses e
 
--- why entries are not added: their indexes are not consecutive, or their bytes are not taken
+-- why entries are not added: their indexes are not consecutive, or they are and their bytes are not taken, or there is no memory
 abbrev pub IsAddFault : (ℕ → Type 0) → List EntryIndex → ℕ → Error → Type 0
+IsAddFault refuses es size errors.Memory = Unit {0}
 IsAddFault refuses es size (errors.InvalidArgument text) = IsConsecutive es → ⊥
-IsAddFault refuses es size e = IsBytesFault refuses size e
+IsAddFault refuses es size e = IsConsecutive es × IsBytesFault refuses size e
 
 -- the entries of the items tile the entry bytes, in order, and these are within the limit
 pub record IsBatchOf (items : List Item) (entry_bytes : List ℕ) : Type 0 where

@@ -31,10 +31,10 @@ use Rattle.raft_memtable.specs.RegionOverlays.{AreTooMany}
 
 -- ---- why it is refused
 
-pub too_many : (c d : Context) (e : Error) → AreTooMany (all_records c.regions.tables + all_records d.regions.tables) e → IsMergeAppendFault (reading_on c) (reading_on d) e
-too_many c d errors.Full h = h
-too_many c d errors.Memory h = tt
-too_many c d _ h = absurd h
+pub too_many : (c d : Context) (e : Error) → AreOfBothQueues c d → AreTooMany (all_records c.regions.tables + all_records d.regions.tables) e → IsMergeAppendFault (reading_on c) (reading_on d) e
+too_many c d errors.Full queues h = (queues, h)
+too_many c d errors.Memory queues h = tt
+too_many c d _ queues h = absurd h
 
 -- what was refused of states that read on is why the contexts are refused
 pub append_fault : (s t : ContextStage) (c d : Context) (e : Error) → IsMergeAppendFault (reading_on c) (reading_on d) e → IsMergeAppendFault (record { stage = s; context = c }) (record { stage = t; context = d }) e

@@ -38,10 +38,10 @@ pub record IsOfBothExactly (c : RecoverContext) (rewrite append : List Event) : 
   pub no_marks : c.context.regions.marks ≡ finite.empty
   pub no_groups : c.context.groups ≡ finite.empty
 
--- why the context of the append queue isn't taken in, by the error: one of the two is of the other queue; the records would be 2^64 or more; one of the two doesn't read on; or want of memory
+-- why the context of the append queue isn't taken in, by the error: one of the two is of the other queue; both are of theirs, and the records would be 2^64 or more; one of the two doesn't read on; or want of memory
 abbrev pub IsMergeAppendFault : RecoverContext → RecoverContext → Error → Type 0
 IsMergeAppendFault rewrite append (errors.InvalidArgument text) = AreOfBothQueues rewrite.context append.context → ⊥
-IsMergeAppendFault rewrite append errors.Full = 2 ^ 64 ≤ all_records rewrite.context.regions.tables + all_records append.context.regions.tables
+IsMergeAppendFault rewrite append errors.Full = AreOfBothQueues rewrite.context append.context × (2 ^ 64 ≤ all_records rewrite.context.regions.tables + all_records append.context.regions.tables)
 IsMergeAppendFault rewrite append errors.Failed = (rewrite.stage ≢ Reading) ⊎ (append.stage ≢ Reading)
 IsMergeAppendFault rewrite append errors.Memory = Unit {0}
 IsMergeAppendFault rewrite append _ = ⊥

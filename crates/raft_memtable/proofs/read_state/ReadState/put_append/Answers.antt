@@ -11,7 +11,7 @@ overlay-requires c = record { own = alone_of Append (context_in c.args.append) c
 pub returns-in_err-overlay-clause-fault : goal.returns-in_err-overlay-clause-fault
 returns-in_err-overlay-clause-fault c =
     let p = err_from_is_err_and c.from_residual.result c.from_residual.ensures.1 in
-    rw (p.1, p.2) (too_many (context_in c.args.self.now) (context_in c.args.append) _ c.in_err-overlay.ensures.fault)
+    rw (p.1, p.2) (too_many (context_in c.args.self.now) (context_in c.args.append) _ c.requires.queues c.in_err-overlay.ensures.fault)
 
 pub returns-clause-tables : goal.returns-clause-tables
 returns-clause-tables c =

@@ -16,7 +16,7 @@ use Rattle.raft_memtable.specs.RecoverContext.{RecoverContext, HasRead, HasReadE
 use Rattle.raft_memtable.specs.declared.context_stage.ContextStage.{ContextStage}
 use Rattle.raft_memtable.specs.declared.context_stage.ContextStage.TheVariants as stages
 use Rattle.raft_replay.specs.Replays.{IsReplayed}
-use Rattle.raft_replay.specs.Segments.{SegmentsHold, CannotBeRead, SegmentsAreOf}
+use Rattle.raft_replay.specs.Segments.{SegmentsHold, CannotBeRead, SegmentsAreOf, MayReplay}
 use Rattle.raft_replay.proofs.MachineOrderLemmas.{segments_read_of_queue}
 use Rattle.raft_replay.proofs.SegmentLemmas.{segments_unique}
 use Rattle.raft_recover.specs.Files.{FilesHold, FilesCannotBeRead, IsPrintFailure, PrintsRecovered}
@@ -76,24 +76,20 @@ module _ (queue : LogQueue) (segments shares : List (Vec Part Global)) (same : (
   }
   shares_recovered (Err e) r = tt
 
-  pub shares_accepted : (workers : ℕ) (r : Result Accessor Error) → OnOk r ((0 < workers) × (workers ≤ 256) × SegmentsAreOf queue shares)
-      → OnOk r ((0 < workers) × (workers ≤ 256) × SegmentsAreOf queue segments)
-  shares_accepted workers (Ok a) p = (p.0, p.1, (of_queue queue).1 p.2)
-  shares_accepted workers (Err e) p = tt
-
   module _ (workers : ℕ) (few : length segments < 2 ^ 62) (few_shares : length shares < 2 ^ 62) where
-    abbrev CanStart : List (Vec Part Global) → Type 0
-    CanStart ss = (0 < workers) × (workers ≤ 256) × (length ss < 2 ^ 62) × SegmentsAreOf queue ss
+    pub shares_accepted : (r : Result Accessor Error) → OnOk r (MayReplay queue workers shares) → OnOk r (MayReplay queue workers segments)
+    shares_accepted (Ok a) p = (p.0, p.1, few, (of_queue queue).1 p.3)
+    shares_accepted (Err e) p = tt
 
-    pub shares_refused : (r : Result Accessor Error) → (CanStart shares → IfErr r (λ e. e ≢ errors.Memory → CannotBeRead shares))
-        → CanStart segments → IfErr r (λ e. e ≢ errors.Memory → CannotBeRead segments)
+    pub shares_refused : (r : Result Accessor Error) → (MayReplay queue workers shares → IfErr r (λ e. e ≢ errors.Memory → CannotBeRead shares))
+        → MayReplay queue workers segments → IfErr r (λ e. e ≢ errors.Memory → CannotBeRead segments)
     shares_refused (Ok a) refused good = tt
     shares_refused (Err e) refused good = λ not_memory. record {
       unsound = λ h reads. (refused (good.0, good.1, few_shares, (of_queue queue).0 good.3) not_memory).unsound h ((same h).0 reads);
     }
 
-    pub shares_at_fault : (r : Result Accessor Error) → ((CanStart shares → ⊥) → IfErr r (λ e. e ≢ errors.Memory → IsInvalidArgument e))
-        → (CanStart segments → ⊥) → IfErr r (λ e. e ≢ errors.Memory → IsInvalidArgument e)
+    pub shares_at_fault : (r : Result Accessor Error) → ((MayReplay queue workers shares → ⊥) → IfErr r (λ e. e ≢ errors.Memory → IsInvalidArgument e))
+        → (MayReplay queue workers segments → ⊥) → IfErr r (λ e. e ≢ errors.Memory → IsInvalidArgument e)
     shares_at_fault r fault bad = fault (λ good. bad (good.0, good.1, few, (of_queue queue).1 good.3))
 
 -- ---- files as segments

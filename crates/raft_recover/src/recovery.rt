@@ -15,7 +15,7 @@ ghost use Rattle.std.specs.Prelude.{
 };
 ghost use Rattle.std.specs.Io.KnownBytes.{Keeps};
 ghost use Rattle.raft_base.specs.Errors.{IsInvalidArgument};
-ghost use Rattle.raft_replay.specs.Segments.{SegmentsHold, CannotBeRead, SegmentsAreOf};
+ghost use Rattle.raft_replay.specs.Segments.{SegmentsHold, CannotBeRead, MayReplay, SegmentsAreOf};
 ghost use Rattle.raft_recover.specs.Files.{FilesCannotBeRead, IsPrintFailure, PrintsRecovered};
 ghost use Rattle.raft_recover.specs.Recovery.{IsRecovered};
 ghost use Rattle.raft_recover.specs.AskedRequests.{file_shown};
@@ -59,13 +59,10 @@ pub fn recover<R: Threads + Sync>(
     workers: usize,
 ) -> Result<MemTableAccessor>
     ensures ok { IfOk result (IsRecovered queue (SegmentsHold segments.entry.now)) }
-    ensures accepted { OnOk result
-        ((0 < workers) × (workers ≤ 256) × SegmentsAreOf queue segments.entry.now) }
-    ensures refused { (0 < workers) × (workers ≤ 256) × (length segments.entry.now < 2 ^ 62)
-        × SegmentsAreOf queue segments.entry.now
+    ensures accepted { OnOk result (MayReplay queue workers segments.entry.now) }
+    ensures refused { MayReplay queue workers segments.entry.now
         → IfErr result (λ e. e ≢ Error.Memory → CannotBeRead segments.entry.now) }
-    ensures fault { ((0 < workers) × (workers ≤ 256) × (length segments.entry.now < 2 ^ 62)
-        × SegmentsAreOf queue segments.entry.now → ⊥)
+    ensures fault { ¬ (MayReplay queue workers segments.entry.now)
         → IfErr result (λ e. e ≢ Error.Memory → IsInvalidArgument e) }
 {
     if segments.len() >= SEGMENT_LIMIT {
@@ -90,13 +87,10 @@ pub fn recover_segments<R: Threads + Sync>(
     workers: usize,
 ) -> Result<MemTableAccessor>
     ensures ok { IfOk result (IsRecovered queue (SegmentsHold segments.entry.now)) }
-    ensures accepted { OnOk result
-        ((0 < workers) × (workers ≤ 256) × SegmentsAreOf queue segments.entry.now) }
-    ensures refused { (0 < workers) × (workers ≤ 256) × (length segments.entry.now < 2 ^ 62)
-        × SegmentsAreOf queue segments.entry.now
+    ensures accepted { OnOk result (MayReplay queue workers segments.entry.now) }
+    ensures refused { MayReplay queue workers segments.entry.now
         → IfErr result (λ e. e ≢ Error.Memory → CannotBeRead segments.entry.now) }
-    ensures fault { ((0 < workers) × (workers ≤ 256) × (length segments.entry.now < 2 ^ 62)
-        × SegmentsAreOf queue segments.entry.now → ⊥)
+    ensures fault { ¬ (MayReplay queue workers segments.entry.now)
         → IfErr result (λ e. e ≢ Error.Memory → IsInvalidArgument e) }
 {
     let factory = MemTableRecoverContextFactory::new();
@@ -121,7 +115,8 @@ pub fn recover_bytes<R: Threads + Sync, W: Write>(
 ) -> Result<()>
     ensures ok { OnOk result (PrintsRecovered queue version (map file_shown files.items)
         (W.contents writer.old) (W.contents writer.new)) }
-    ensures accepted { OnOk result ((0 < workers) × (workers ≤ 256)) }
+    ensures accepted { OnOk result
+        ((0 < workers) × (workers ≤ 256) × (length files.items < 2 ^ 62)) }
     ensures silent { IfErr result (λ e. Keeps (W.contents writer.old) (W.contents writer.new)
         ⊎ IsPrintFailure queue version (map file_shown files.items) (W.contents writer.old)
         (W.contents writer.new) e) }

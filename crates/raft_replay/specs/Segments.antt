@@ -1,5 +1,5 @@
 -- Segments, and what is read of them: the batches of their parts, in order.
-use Rattle.std.specs.Prelude.{◌≡◌, ◌↔◌, ℕ, List, [], ◌∷◌, ◌++◌, length, All, Vec}
+use Rattle.std.specs.Prelude.{◌≡◌, ◌↔◌, ℕ, ◌<◌, ◌≤◌, ◌^◌, List, [], ◌∷◌, ◌++◌, length, All, Vec}
 use Rattle.std.specs.Global.{Global}
 use Rattle.raft_base.specs.declared.pipe_log.LogQueue.{LogQueue}
 use Rattle.raft_records.specs.FilePart.{Part, IsBatchAt}
@@ -42,3 +42,8 @@ pub record CannotBeRead (segments : List (Vec Part Global)) : Type 0 where
 abbrev pub SegmentsAreOf : LogQueue → List (Vec Part Global) → Type 0
 SegmentsAreOf queue segments =
     All (λ segment. All (λ part. part.id.queue ≡ queue) segment.items) segments
+
+-- so many workers may replay these segments of a queue: 1 to 256 workers, fewer than 2^62 segments, and every part of this queue
+abbrev pub MayReplay : LogQueue → ℕ → List (Vec Part Global) → Type 0
+MayReplay queue workers segments =
+    (0 < workers) × (workers ≤ 256) × (length segments < 2 ^ 62) × SegmentsAreOf queue segments

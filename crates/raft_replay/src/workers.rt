@@ -26,7 +26,7 @@ ghost use Rattle.raft_base.specs.Errors.{IsInvalidArgument};
 ghost use Rattle.raft_replay.specs.Covers.{IsPieceOf, CoverOnce, AreDone, Gives};
 ghost use Rattle.raft_tickets.specs.Draws.{TicketBook, IsSeatOf, IsNewSeatOf};
 ghost use Rattle.raft_replay.specs.WorkedWords.{IsBack, HasRefusal};
-ghost use Rattle.raft_replay.specs.Segments.{CannotBeRead, SegmentsAreOf};
+ghost use Rattle.raft_replay.specs.Segments.{CannotBeRead, MayReplay, SegmentsAreOf};
 ghost use Rattle.raft_replay.specs.Replays.{IsReplayed};
 
 use crate::piece::Piece;
@@ -68,14 +68,11 @@ pub fn replay_segments<M: ReplayMachine, F: Factory<M>, G: Gate, R: Threads + Sy
 ) -> Result<M>
     requires { (m : M) → F.gives factory.now m → M.stands_exactly m [] }
     ensures ok { IfOk result (IsReplayed M.stands_for M.stands_exactly segments.entry.now) }
-    ensures accepted { OnOk result
-        ((0 < workers) × (workers ≤ 256) × SegmentsAreOf queue segments.entry.now) }
-    ensures refused { (0 < workers) × (workers ≤ 256) × (length segments.entry.now < 2 ^ 62)
-        × SegmentsAreOf queue segments.entry.now
+    ensures accepted { OnOk result (MayReplay queue workers segments.entry.now) }
+    ensures refused { MayReplay queue workers segments.entry.now
         → IfErr result (λ e. e ≢ Error.Memory → ¬ (F.may_refuse factory.entry.now e)
         → CannotBeRead segments.entry.now) }
-    ensures fault { ((0 < workers) × (workers ≤ 256) × (length segments.entry.now < 2 ^ 62)
-        × SegmentsAreOf queue segments.entry.now → ⊥)
+    ensures fault { ¬ (MayReplay queue workers segments.entry.now)
         → IfErr result (λ e. e ≢ Error.Memory → IsInvalidArgument e) }
 {
     if !are_accepted(segments, queue, workers) {
@@ -95,9 +92,7 @@ pub fn replay_segments<M: ReplayMachine, F: Factory<M>, G: Gate, R: Threads + Sy
 /// Whether so many workers may replay these segments: 1 to 256 workers, fewer than 2^62 segments, and every part of the
 /// queue.
 fn are_accepted(segments: &[Segment], queue: LogQueue, workers: usize) -> bool
-    ensures { IsTrue result
-        ↔ ((0 < workers) × (workers ≤ 256) × (length segments.now < 2 ^ 62)
-        × SegmentsAreOf queue segments.now) }
+    ensures { IsTrue result ↔ MayReplay queue workers segments.now }
 {
     if workers == 0 || workers > MAX_WORKERS || segments.len() >= SEGMENT_LIMIT {
         return false;

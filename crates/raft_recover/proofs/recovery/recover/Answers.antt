@@ -13,8 +13,10 @@ pub returns-clause-accepted : goal.returns-clause-accepted
 returns-clause-accepted g c =
     let shares = c.in_ok-shares.shares.items in
     let made = c.in_ok-shares.ensures in
+    let few : length shares < 2 ^ 62 = omega (arith, made.few, c.clamp-count.ensures) in
+    let few_segments : length c.args.segments.now < 2 ^ 62 = let t = c.if-segments-ge-SEGMENT_LIMIT.false in omega arith in
     let accepted = rw (c.as_slice.ensures.value) at c.recover_segments.ensures.accepted in
-    shares_accepted c.args.queue c.args.segments.now shares made.read made.of_queue c.args.workers c.recover_segments.result accepted
+    shares_accepted c.args.queue c.args.segments.now shares made.read made.of_queue c.args.workers few_segments few c.recover_segments.result accepted
 
 pub returns-clause-refused : goal.returns-clause-refused
 returns-clause-refused g c =

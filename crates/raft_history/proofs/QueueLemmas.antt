@@ -17,6 +17,7 @@ use Rattle.raft_history.specs.WaitingGroup.{GroupFront, Open, Ended, Cut, led_by
 use Rattle.raft_history.specs.WaitingGroups.{groups_in, known, whole_with, whole_groups, front_steps, stretch_steps}
 use Rattle.raft_history.proofs.EffectLemmas.{each-append, each_markers, each_open, each_weaker}
 use Rattle.raft_history.proofs.KnownLemmas.{known-groups_in, each_known}
+use Rattle.raft_history.proofs.ReadRunLemmas.{read_run}
 use Rattle.raft_records.specs.declared.command.Command.TheVariants as commands
 use Rattle.raft_records.specs.declared.key_value.OpType.{OpType}
 use Rattle.raft_records.specs.declared.key_value.OpType.TheVariants as operations
@@ -89,7 +90,7 @@ spans_are q [] s e = tt
 spans_are q (r ∷ rs) s e = (tt, spans_are q rs s e)
 
 step_in_queue : (file : FileId) (content : Content) (s : Step) → IsInFile file content → content_step content ≡ Some s → IsStepOfQueue file.queue s
-step_in_queue file (entries es) s h e = subst (IsStepOfQueue file.queue) (same_some (Run es) s e) h.0
+step_in_queue file (entries es) s h e = subst (IsStepOfQueue file.queue) (same_some (Run es) s e) (read_run file es h)
 step_in_queue file (command commands.Clean) s h e = subst (IsStepOfQueue file.queue) (same_some Clean s e) tt
 step_in_queue file (command (commands.Compact index)) s h e = subst (IsStepOfQueue file.queue) (same_some (Compact index) s e) tt
 step_in_queue file (command (commands.Truncate index)) s h e = subst (IsStepOfQueue file.queue) (same_some (Truncate index) s e) tt

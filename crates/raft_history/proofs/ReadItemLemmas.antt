@@ -1,20 +1,12 @@
 -- Items that were read from a file are as histories ask it of a batch of that file.
 use Rattle.std.proofs.Common.{ℕ, List, [], ◌∷◌, Option, Some, None, refl, sym, subst}
-use Rattle.std.specs.List.{AllByRecursion}
 use Rattle.raft_base.specs.declared.pipe_log.FileId.{FileId}
-use Rattle.raft_base.specs.declared.entry_index.EntryIndex.{EntryIndex}
 use Rattle.raft_records.specs.declared.key_value.OpType.{OpType}
 use Rattle.raft_records.specs.declared.key_value.OpType.TheVariants.{Put, Del}
 use Rattle.raft_records.specs.Item.{Item, Content, entries, command, pair}
 use Rattle.raft_records.specs.ReadIn.{IsPlaceInFile, IsReadIn, AreReadIn}
 use Rattle.raft_records.specs.Spelling.{IsWritableWith}
-use Rattle.raft_history.proofs.ReadRunLemmas.{read_run}
 use Rattle.raft_history.specs.Histories.{IsPairIn, IsInFile, AreInFile}
-use Rattle.raft_history.proofs.Words.{ArePlacesInFile}
-
-each_in_file : (file : FileId) (es : List EntryIndex) → AllByRecursion (λ (e : EntryIndex). IsPlaceInFile file e.entries) es → ArePlacesInFile file es
-each_in_file file [] h = tt
-each_in_file file (e ∷ es) h = (h.0, each_in_file file es h.1)
 
 pair_in : (file : FileId) (op : OpType) (value : Option (List ℕ)) → IsWritableWith op value → IsPairIn file op value (Some file)
 pair_in file Put None w = absurd w
@@ -22,7 +14,7 @@ pair_in file Put (Some v) w = refl
 pair_in file Del value w = tt
 
 content_in_file : (file : FileId) (content : Content) → IsReadIn file content → IsInFile file content
-content_in_file file (entries es) h = (read_run file es h, each_in_file file es h.1)
+content_in_file file (entries es) h = h
 content_in_file file (command c) h = tt
 content_in_file file (pair p) h = λ plain. subst (λ (id : Option FileId). IsPairIn file p.op_type p.value id) (sym h.1) (pair_in file p.op_type p.value h.0)
 

@@ -10,15 +10,6 @@ use Rattle.raft_history.specs.RegionSteps.{RegionStep, Tables, with_table, steps
 use Rattle.raft_history.proofs.MapLemmas.{IsOther, by_region, with_own, with_other}
 use Rattle.raft_history.proofs.StepListLemmas.{own_none, own_head, own_other}
 
-pub reading-append : (q : LogQueue) (m : Tables) (xs ys : List RegionStep) → tables_after q m (xs ++ ys) ≡ option_and_then (λ n. tables_after q n ys) (tables_after q m xs)
-reading-append q m [] ys = refl
-reading-append q m (s ∷ xs) ys = go (after_step q (table_of s.region (finite.get m s.region)) s.step) (λ t. reading-append q (with_table m s.region t) xs ys)
-  where
-    go : (o : Option (Option Table)) → ((t : Option Table) → tables_after q (with_table m s.region t) (xs ++ ys) ≡ option_and_then (λ n. tables_after q n ys) (tables_after q (with_table m s.region t) xs))
-        → option_and_then (λ t. tables_after q (with_table m s.region t) (xs ++ ys)) o ≡ option_and_then (λ n. tables_after q n ys) (option_and_then (λ t. tables_after q (with_table m s.region t) xs) o)
-    go None ih = refl
-    go (Some t) ih = ih t
-
 -- the steps of a region behind one step: where that is its own, from the table that it leaves
 after_own : (q : LogQueue) (m : Tables) (s : RegionStep) (steps : List RegionStep) → after q s.region (finite.get m s.region) (steps_on s.region (s ∷ steps)) ≡ option_and_then (λ u. after q s.region u (steps_on s.region steps)) (after_step q (table_of s.region (finite.get m s.region)) s.step)
 after_own q m s steps = ap (after q s.region (finite.get m s.region)) (own_head s steps)

@@ -83,7 +83,7 @@ effects_good r olds [] h k = tt
 effects_good r olds (p ∷ ps) h k = all-append r (completed_by p.batch.marker olds p) (effects_behind (olds ++ p ∷ []) ps) (completed_good r olds p h k.0) (effects_good r (olds ++ p ∷ []) ps (each-append IsGood olds (p ∷ []) h (k.0, tt)) k.1)
 
 run_step : (file : FileId) (content : Content) (s : Step) → IsInFile file content → content_step content ≡ Some s → IsStep s
-run_step file (entries es) s h e = subst IsStep (same_some (Run es) s e) h.0.consecutive.run
+run_step file (entries es) s h e = subst IsStep (same_some (Run es) s e) h.0.run
 run_step file (command commands.Clean) s h e = subst IsStep (same_some Clean s e) tt
 run_step file (command (commands.Compact index)) s h e = subst IsStep (same_some (Compact index) s e) tt
 run_step file (command (commands.Truncate index)) s h e = subst IsStep (same_some (Truncate index) s e) tt

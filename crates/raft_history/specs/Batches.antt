@@ -21,7 +21,7 @@ pub record GroupMarker : Type 0 where
   pub group : ℕ
   pub status : AtomicGroupStatus
 
--- the group marker of a batch: its first one decides; the append queue ignores group markers
+-- the group marker of a batch: its first one with a status decides; the append queue ignores group markers
 abbrev pub marker_in : LogQueue → List Item → Option GroupMarker
 marker_in Append items = None
 marker_in Rewrite items = option_map (λ m. record { group = m.0; status = m.1 }) (first_marker items)

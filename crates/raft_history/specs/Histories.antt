@@ -5,6 +5,7 @@ use Rattle.std.specs.FinMap as finite
 use Rattle.raft_base.specs.declared.pipe_log.FileId.{FileId}
 use Rattle.raft_base.specs.declared.pipe_log.LogQueue.{LogQueue}
 use Rattle.raft_base.specs.declared.pipe_log.LogQueue.TheVariants.{Append, Rewrite}
+use Rattle.raft_base.specs.Runs.{IsConsecutive}
 use Rattle.raft_records.specs.declared.key_value.OpType.{OpType}
 use Rattle.raft_records.specs.declared.key_value.OpType.TheVariants as operations
 use Rattle.raft_records.specs.Group.{is_reserved, marker_byte}
@@ -43,11 +44,11 @@ IsPairIn file operations.Put (Some value) (Some id) = id ≡ file
 IsPairIn file operations.Put _ _ = ⊥
 IsPairIn file operations.Del _ _ = Unit {0}
 
--- a content as it may stand in a batch of this file: entries are a run of its queue, each with a place in the file;
+-- a content as it may stand in a batch of this file: entries are consecutive, each with a place in the file;
 -- a change of a key that is not reserved may stand in it
 abbrev pub IsInFile : FileId → Content → Type 0
 IsInFile file (entries es) =
-    IsRunIn file.queue es × AllByRecursion (λ e. IsPlaceInFile file e.entries) es
+    IsConsecutive es × AllByRecursion (λ e. IsPlaceInFile file e.entries) es
 IsInFile file (command c) = Unit {0}
 IsInFile file (pair p) = is_reserved p.key ≡ false → IsPairIn file p.op_type p.value p.file_id
 

@@ -13,7 +13,7 @@ use Rattle.raft_table.specs.TableEntries.{placed_in}
 abbrev pub record_seqs : LogQueue → Table → List ℕ
 record_seqs queue t = filter_map (λ e. place_seq e.entries) (placed_in queue t.entries) ++ seqs_in queue t.keys
 
--- the least file in each queue is the least of all records' files there, lowered by the atomic group alone
+-- the number of the least file in each queue is the least of those of all records' files there, lowered by the atomic group alone
 pub record AreLeastFiles (t : Table) : Type 0 where
   pub append : least_of Append t ≡ least (record_seqs Append t)
   pub rewrite : least_of Rewrite t ≡ at_most_group_seq t.atomic_group (least (record_seqs Rewrite t))

@@ -82,30 +82,11 @@ one_more file all rest item marker found h is read = (
   or_or marker found (first_marker rest) ∙ ap (λ f. option_or marker (option_or f (first_marker rest))) (sym (marker_is item found read)) ∙ h.4,
 )
 
--- a place in the file is one of its queue
-pub entry_in_queue : (file : FileId) (e : EntryIndex) → IsPlaceInFile file e.entries → is_placed_in file.queue e ≡ true
-unfolding is_placed_in
-entry_in_queue file e h = go e.entries h
-  where
-    same : (q : LogQueue) → is_same q q ≡ true
-    same Append = refl
-    same Rewrite = refl
-
-    go : (o : Option FileBlockHandle) → IsPlaceInFile file o → option_map_or (λ (place : FileBlockHandle). is_same place.id.queue file.queue) o false ≡ true
-    go None h = absurd h
-    go (Some handle) h = ap (λ (id : FileId). is_same id.queue file.queue) h ∙ same file.queue
-
--- entries with places in a file are placed in its queue
-entries_in_queue : (file : FileId) (es : List EntryIndex) → ArePlacesInFile file es → AllByRecursion (λ (e : EntryIndex). is_placed_in file.queue e ≡ true) es
-entries_in_queue file [] h = tt
-entries_in_queue file (e ∷ es) h = (entry_in_queue file e h.0, entries_in_queue file es h.1)
-
 -- what the test of each place says of consecutive entries
 pub in_file_if_placed : (file : FileId) (es : List EntryIndex) (placed : Bool)
     → MatchBool placed (AllWithin (λ (e : EntryIndex). IsPlaceInFile file e.entries) es 0 (length es)) ((k : ℕ) × (k < length es) × HoldsAt (λ (e : EntryIndex). IsPlaceInFile file e.entries → ⊥) es k)
-    → IsConsecutive es → MatchBool placed (IsRunIn file.queue es × ArePlacesInFile file es) (IsRunIn file.queue es × ArePlacesInFile file es → ⊥)
+    → IsConsecutive es → MatchBool placed (IsConsecutive es × ArePlacesInFile file es) (IsConsecutive es × ArePlacesInFile file es → ⊥)
 in_file_if_placed file es true h consecutive =
-    let places = recursion_from_All (λ (e : EntryIndex). IsPlaceInFile file e.entries) es (λ k d low. h k d (omega arith) low) in
-    (record { consecutive = consecutive; placed = entries_in_queue file es places }, places)
+    (consecutive, recursion_from_All (λ (e : EntryIndex). IsPlaceInFile file e.entries) es (λ k d low. h k d (omega arith) low))
 in_file_if_placed file es false h consecutive =
     λ both. h.2 no_entry (All-from_recursion (λ (e : EntryIndex). IsPlaceInFile file e.entries) es both.1 h.0 no_entry h.1)

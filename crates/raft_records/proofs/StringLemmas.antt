@@ -22,9 +22,6 @@ pub keeps_more : (start buf more new : List ℕ) → Keeps start buf → new ≡
 keeps_more start buf more new k e =
     record { behind = k.behind ++ more; split = e ∙ ap (λ (t : List ℕ). t ++ more) k.split ∙ append_assoc start k.behind more }
 
-pub keeps_all : (start : List ℕ) → Keeps start start
-keeps_all start = record { behind = []; split = sym (append-nil start) }
-
 next_is : {X : Type 0} (xs : List X) (i : ℕ) (x : X) → i < length xs → x ≡ get_or xs i x → drop i xs ≡ x ∷ drop (i + 1) xs
 next_is xs i x lt at = drop_more xs i x lt ∙ ap (λ y. y ∷ drop (i + 1) xs) (sym at)
 

@@ -58,7 +58,7 @@ abbrev pub marker_of : Item → Option (ℕ × AtomicGroupStatus)
 marker_of item =
     option_map (λ status. (item.raft_group_id, status)) (option_and_then status_of (marker_byte item.content))
 
--- the first group marker among items, which says to which group their batch belongs
+-- the first group marker among items whose byte is a status; it says to which group their batch belongs
 unfoldable pub first_marker : List Item → Option (ℕ × AtomicGroupStatus)
 first_marker [] = None
 first_marker (item ∷ items) = option_or (marker_of item) (first_marker items)

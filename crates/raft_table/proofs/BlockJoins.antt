@@ -60,11 +60,6 @@ other_handle_is a b n = at (is_same_handle a b) refl
     at true h = absurd (n (same_handle a b h))
     at false h = h
 
-pub joined_nil : (f : List BlockSpans) → joined_blocks f [] ≡ f
-joined_nil [] = refl
-joined_nil (b ∷ []) = refl
-joined_nil (b ∷ d ∷ f) = ap (λ ys. b ∷ ys) (joined_nil (d ∷ f))
-
 pub joined_append : (f y r : List BlockSpans) → 0 < length y → joined_blocks f y ++ r ≡ joined_blocks f (y ++ r)
 joined_append f [] r l = absurd (omega arith)
 joined_append [] (c ∷ y) r l = refl

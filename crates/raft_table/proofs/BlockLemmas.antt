@@ -93,11 +93,6 @@ starts_drop (suc j) i (b ∷ bs) =
     let e : i + (n + count (take j bs)) ≡ i + n + count (take j bs) = omega arith in
     rw e (starts_drop j (i + n) bs)
 
-pub starts_take : (j i : ℕ) (bs : List BlockSpans) → take j (starts_of i bs) ≡ starts_of i (take j bs)
-starts_take zero i bs = refl
-starts_take (suc j) i [] = refl
-starts_take (suc j) i (b ∷ bs) = ap (λ xs. i ∷ xs) (starts_take j (i + length b.spans) bs)
-
 pub count_cut : (j : ℕ) (bs : List BlockSpans) → count (take j bs) + count (drop j bs) ≡ count bs
 count_cut zero bs = omega arith
 count_cut (suc j) [] = refl

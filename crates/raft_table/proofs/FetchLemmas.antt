@@ -15,24 +15,6 @@ use Rattle.raft_table.proofs.SoundLemmas.{sound_rising}
 use Rattle.raft_table.proofs.StartLemmas.{sound_end}
 use Rattle.raft_table.proofs.RewriteLemmas.{below_is, from_is}
 
-take_append : {X : Type 0} (n : ℕ) (xs ys : List X) → take n (xs ++ ys) ≡ take n xs ++ take (n - length xs) ys
-take_append n [] ys = none n
-  where
-    none : (n : ℕ) → take n ys ≡ take n [] ++ take (n - 0) ys
-    none zero = refl
-    none (suc n) = let e : suc n - 0 ≡ suc n = omega arith in rw e refl
-take_append zero (x ∷ xs) ys = let e : 0 - suc (length xs) ≡ 0 = omega arith in rw e refl
-take_append (suc n) (x ∷ xs) ys = let e : suc n - suc (length xs) ≡ n - length xs = omega arith in rw e (ap (λ zs. x ∷ zs) (take_append n xs ys))
-
-drop_append : {X : Type 0} (n : ℕ) (xs ys : List X) → drop n (xs ++ ys) ≡ drop n xs ++ drop (n - length xs) ys
-drop_append n [] ys = none n
-  where
-    none : (n : ℕ) → drop n ys ≡ drop n [] ++ drop (n - 0) ys
-    none zero = refl
-    none (suc n) = let e : suc n - 0 ≡ suc n = omega arith in rw e refl
-drop_append zero (x ∷ xs) ys = let e : 0 - suc (length xs) ≡ 0 = omega arith in rw e refl
-drop_append (suc n) (x ∷ xs) ys = let e : suc n - suc (length xs) ≡ n - length xs = omega arith in rw e (drop_append n xs ys)
-
 -- a part of a list, by where it begins and how long it is
 pub part_is : {X : Type 0} (a b : ℕ) (xs : List X) → a ≤ b → drop a (take b xs) ≡ take (b - a) (drop a xs)
 part_is a b xs h = ap (λ k. drop a (take k xs)) (let e : b ≡ a + (b - a) = omega arith in e) ∙ drop-take a (b - a) xs
@@ -115,10 +97,3 @@ fetched_part limit begin end n es old new h a b w e =
       within = rw p w;
       appended = e ∙ ap (λ xs. old ++ xs) (part_front (begin - start_of es) (end - start_of es) n es (omega arith) w.there ∙ ap (take n) (sym p));
     }
-
--- stretches of blocks
-pub change_count_last : (es : List EntryIndex) (n : ℕ) → n + 1 ≡ length es → change_count (drop n es) ≡ 0
-change_count_last [] n e = absurd (omega arith)
-change_count_last (x ∷ []) zero e = refl
-change_count_last (x ∷ y ∷ es) zero e = absurd (omega arith)
-change_count_last (x ∷ es) (suc n) e = change_count_last es n (omega arith)

@@ -22,14 +22,6 @@ use Rattle.raft_table.proofs.MarkMeets.{barred_of, Settled, settled_list, met_li
 pub same_some : {X : Type 0} (x y : X) → Some x ≡ Some y → x ≡ y
 same_some x y e = cc
 
-pub pick_true : {X : Type 0} (b : Bool) (x y : X) → b ≡ true → cond b x y ≡ x
-pick_true true x y e = refl
-pick_true false x y e = absurd (false≢true e)
-
-pub pick_false : {X : Type 0} (b : Bool) (x y : X) → b ≡ false → cond b x y ≡ y
-pick_false true x y e = absurd (false≢true (sym e))
-pick_false false x y e = refl
-
 -- what an answer that is not refused says
 pub accepted : {X : Type 0} (b : Bool) (v w : X) → cond b None (Some v) ≡ Some w → (b ≡ false) × (v ≡ w)
 accepted true v w e = absurd cc

@@ -103,10 +103,6 @@ held_least : (c : ℕ) (d : Option ℕ) → at_most_bound c d ≤ c
 held_least c None = omega arith
 held_least c (Some d) = omega arith
 
-held_below : (c : ℕ) (d b : Option ℕ) (x : ℕ) → d ≡ Some x → IsNotAbove x b → at_most_bound c d ≤ at_most_bound c b
-held_below c d None x e h = held_least c d
-held_below c d (Some b) x e h = rw e (omega arith)
-
 abbrev Seat : ℕ → ℕ → ℕ → Option ℕ → ℕ → Option (ℕ × ℕ) → Type 0
 Seat c e lo reach_cut r barred = (e ≡ 0) ⊎ ((c ≤ e) ⊎ ((c ≤ lo) ⊎ (IsBelow reach_cut r ⊎ IsBarring barred)))
 

@@ -89,15 +89,6 @@ unfolding end_of
 end_of-cond true e es = refl
 end_of-cond false e es = refl
 
-pub end_of-part : (floor c : ℕ) (es : List EntryIndex) → end_of (entries_within floor (Some c) es) ≤ c
-unfolding end_of entries_within
-end_of-part floor c [] = omega arith
-end_of-part floor c (e ∷ es) = go (leb floor e.index && ltb e.index c) refl (end_of-part floor c es)
-  where
-    go : (b : Bool) → (leb floor e.index && ltb e.index c) ≡ b → end_of (filter (λ e. leb floor e.index && ltb e.index c) es) ≤ c → end_of (cond b (e ∷ filter (λ e. leb floor e.index && ltb e.index c) es) (filter (λ e. leb floor e.index && ltb e.index c) es)) ≤ c
-    go true is h = let k : e.index < c = ltb-true e.index c (and_parts (leb floor e.index) (ltb e.index c) is).1 in omega arith
-    go false is h = h
-
 pub end_of-from : (i : ℕ) (es : List EntryIndex) → end_of (from i es) ≡ cond (ltb i (end_of es)) (end_of es) 0
 unfolding end_of from
 end_of-from i [] = grind (arith, nat_tests)

@@ -66,7 +66,7 @@ appended_before gate es = take_while (is_placed_before gate) (placed_in Append e
 abbrev pub is_same_handle : FileBlockHandle → FileBlockHandle → Bool
 is_same_handle a b = is_same a.id.queue b.id.queue && a.id.seq == b.id.seq && a.offset == b.offset && a.len == b.len
 
--- whether two entries have the same place, or both none
+-- whether two places are the same, or both are missing
 abbrev pub is_same_place : Option FileBlockHandle → Option FileBlockHandle → Bool
 is_same_place None None = true
 is_same_place None (Some b) = false

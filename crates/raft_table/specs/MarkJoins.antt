@@ -76,7 +76,7 @@ joined_uncleaned (Some reach) (Some cut) queue x m n = joined_later queue cut x 
 abbrev pub joined_at : LogQueue → ℕ → Mark → Mark → Mark
 joined_at queue x m n = if m.cleaned then m else joined_uncleaned m.reach m.cut queue x m n
 
--- the end of the older entries that the region mark's first run came behind
+-- the end of the older entries from the newer region mark's reach floor on and below its reach cut: those that its first run came behind, if it has one
 abbrev pub end_at_reach : Mark → Table → ℕ
 end_at_reach n older = end_of (entries_within n.reach_floor n.reach_cut older.entries)
 

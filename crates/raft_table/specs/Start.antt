@@ -9,7 +9,7 @@ use Rattle.raft_base.specs.Runs.{end_of}
 use Rattle.raft_table.specs.Counts.{Counts, live, with_added, with_deleted}
 use Rattle.raft_table.specs.TableEntries.{below, from, entry_count}
 
--- whether a start lies behind the end of some entries, so that indexes between are missing
+-- whether a start is above the end of some entries, so that indexes between are missing; never where there are none
 abbrev pub leaves_hole : List EntryIndex → ℕ → Bool
 leaves_hole [] start = false
 leaves_hole (e ∷ es) start = nat_lt (end_of (e ∷ es)) start

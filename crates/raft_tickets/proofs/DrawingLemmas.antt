@@ -37,10 +37,6 @@ pub below_all : (n : ℕ) (ys : List ℕ) → ((x : ℕ) → 0 < occurrences x y
 below_all n [] h = tt
 below_all n (y ∷ ys) h = (h y (times_itself y ys), below_all n ys (λ x there. h x (omega arith)))
 
-pub below_further : (m n : ℕ) (ys : List ℕ) → m ≤ n → AreBelow m ys → AreBelow n ys
-below_further m n [] le h = tt
-below_further m n (y ∷ ys) le h = (let b = h.0 in omega arith, below_further m n ys le h.1)
-
 above_more : (n : ℕ) (x : ℕ) (ys : List ℕ) → n < x → AreAbove n ys → AreAbove n (ys ++ x ∷ [])
 above_more n x [] lt h = (lt, tt)
 above_more n x (y ∷ ys) lt h = (h.0, above_more n x ys lt h.1)

@@ -157,12 +157,14 @@ impl MemTable {
     }
 }
 
-/// A file number at or below the last of an atomic group, lowered to at most the first.
+/// A file number, lowered to at most the first one of an atomic group where it is at or below the group's last one.
 fn lowered(atomic_group: Option<(FileSeq, FileSeq)>, seq: Option<FileSeq>) -> Option<FileSeq>
     ensures { result ≡ at_most_group_seq atomic_group seq }
 {
     match (atomic_group, seq) {
-        (Some((start, end)), Some(seq)) => Some(if seq <= end { seq.min(start) } else { seq }),
+        (Some((first_seq, last_seq)), Some(seq)) => {
+            Some(if seq <= last_seq { seq.min(first_seq) } else { seq })
+        }
         (_, seq) => seq,
     }
 }

@@ -11,7 +11,7 @@ use Rattle.raft_table.proofs.RunLemmas.{RisesFrom-drop, start-of_rising}
 use Rattle.raft_table.proofs.PlaceLemmas.{entries_in_front, entry_count-append, entry_count-cut}
 use Rattle.raft_table.proofs.MovesLemmas.{behind_sound}
 use Rattle.raft_table.proofs.BlockLemmas.{length-starts, expanded-append, starts_drop, count_cut, count_take_more, count_take-le, rises_expanded}
-use Rattle.raft_table.proofs.BlockSearch.{place_within}
+use Rattle.raft_table.proofs.BlockSearch.{spot_within}
 use Rattle.raft_table.proofs.BlockCuts.{IsFront, kept_facts, kept_drop, front_of}
 use Rattle.raft_table.proofs.BlockKept.{IsKeptAs, behind_index}
 use Rattle.raft_table.proofs.BlockJoins.{seam_cut, joined_append, joined_expanded, joined_starts, joined_count, joined_stretches, kept_put}
@@ -35,7 +35,7 @@ joined_some (b ∷ d ∷ ys) t = omega arith
 pub later_block : (p q k w o v : ℕ) (bs : List BlockSpans) → IsAt p bs k o → IsAt q bs w v → p ≤ q → k ≤ w
 later_block p q k w o v bs a b l =
     elim (cases_lt w k) [
-      | inl x ↦ let c = count_take-le (suc w) k bs (omega arith) in let m = count_take_more w bs (record { handle = record { id = record { queue = Append; seq = 0 }; offset = 0; len = 0 }; spans = [] }) b.block in let i = b.inside (record { handle = record { id = record { queue = Append; seq = 0 }; offset = 0; len = 0 }; spans = [] }) in let g = a.place in let h = b.place in absurd (omega arith)
+      | inl x ↦ let c = count_take-le (suc w) k bs (omega arith) in let m = count_take_more w bs (record { handle = record { id = record { queue = Append; seq = 0 }; offset = 0; len = 0 }; spans = [] }) b.block in let i = b.inside (record { handle = record { id = record { queue = Append; seq = 0 }; offset = 0; len = 0 }; spans = [] }) in let g = a.spot in let h = b.spot in absurd (omega arith)
       | inr x ↦ x
     ]
 
@@ -64,7 +64,7 @@ between_start {i} {n} {j} {m} {bs} {ys} h g p l f s =
     let start = start-of_rising (i + d) (drop d es) (RisesFrom-drop d i es (rises_expanded i bs) (omega arith)) (omega arith) in
     omega arith
 
--- what is kept where a run stands between the first entries and those from a place on, the first block of which is cut
+-- what is kept where a run stands between the first entries and those from a spot on, the first block of which is cut
 pub kept_between : {i n j m : ℕ} {bs ys : List BlockSpans} {ss us : List ℕ} {r q : ℕ} → AreKept i n bs ss r → AreKept j m ys us q → (p k w o x : ℕ) (front : List BlockSpans) (b t : BlockSpans) → IsFront i p k bs front → IsAt (p + m) bs w o → 0 < m → x ≡ i + (p + m) → b ≡ get_or bs w b → t ≡ without_first_spans o b → AreTableEntries (take p (entries_in_blocks i bs) ++ entries_in_blocks j ys ++ drop (p + m) (entries_in_blocks i bs)) → IsKeptAs i n (joined_blocks front (joined_blocks ys (t ∷ [])) ++ drop (w + 1) bs) (take k ss ++ drop (seam front (joined_blocks ys (t ∷ []))) (us ++ drop (seam ys (t ∷ [])) (x ∷ [])) ++ drop (w + 1) ss) (min r p + q + (r - min r (p + m))) (take p (entries_in_blocks i bs) ++ entries_in_blocks j ys ++ drop (p + m) (entries_in_blocks i bs))
 kept_between {i} {n} {j} {m} {bs} {ys} {ss} {us} {r} {q} h g p k w o x front b t f a l ex eb et s =
     let es = entries_in_blocks i bs in
@@ -76,13 +76,13 @@ kept_between {i} {n} {j} {m} {bs} {ys} {ss} {us} {r} {q} h g p k w o x front b t
     let behind : entries_in_blocks (i + d) (t ∷ rest) ≡ drop d es = subst (λ zs. entries_in_blocks (i + d) zs ≡ drop d es) is kd.1 in
     let back : AreDistinctBlocks (t ∷ rest) = subst AreDistinctBlocks is kd.0.distinct in
     let n0 = h.len in
-    let pw = place_within d w o bs a in
+    let pw = spot_within d w o bs a in
     let y : j ≡ i + p = between_start h g p l (omega arith) s in
     let m0 = g.len in
     let inside : o < length b.spans = subst (λ (z : BlockSpans). o < length z.spans) (sym eb) (a.inside b) in
     let lt : length t.spans ≡ length b.spans - o = ap (λ (z : BlockSpans). length z.spans) et ∙ length-drop o b.spans in
     let cy = joined_count ys (t ∷ []) in
-    let place = a.place in
+    let spot = a.spot in
     let w1 : w + 1 ≡ suc w = omega arith in
     let upto : count (take (w + 1) bs) ≡ count (take w bs) + length b.spans =
     ap (λ z. count (take z bs)) w1 ∙ count_take_more w bs b a.block ∙ ap (λ (z : BlockSpans). count (take w bs) + length z.spans) (sym eb) in

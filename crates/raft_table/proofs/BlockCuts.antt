@@ -11,7 +11,7 @@ use Rattle.raft_table.proofs.PlaceLemmas.{entries_in_both}
 use Rattle.raft_table.proofs.RunLemmas.{start-of_rising, end_of-run}
 use Rattle.raft_table.proofs.SoundLemmas.{AreTableEntries-nil, AreTableEntries-drop, AreTableEntries-take, cut_counts}
 use Rattle.raft_table.proofs.BlockLemmas.{length-starts, length-expanded, count-append, expanded-append, starts_drop, count_cut, rises_expanded}
-use Rattle.raft_table.proofs.BlockSearch.{at_place, below_place, place_within}
+use Rattle.raft_table.proofs.BlockSearch.{at_spot, below_spot, spot_within}
 
 -- what the numbers that are kept say
 pub record KeptFacts (i n : ℕ) (bs : List BlockSpans) (r : ℕ) : Type 0 where
@@ -66,7 +66,7 @@ pub Differs-same : (b c : BlockSpans) (bs : List BlockSpans) → c.handle ≡ b.
 Differs-same b c [] e h = tt
 Differs-same b c (x ∷ bs) e h = λ f. h (sym e ∙ f)
 
--- the blocks from a place on
+-- the blocks from a spot on
 pub kept_drop : (i n p k o : ℕ) (bs : List BlockSpans) (ss : List ℕ) (r : ℕ) → AreKept i n bs ss r → IsAt p bs k o → AreKept (i + p) (n - p) (cut_first o (drop k bs)) (set (drop k ss) 0 (i + p)) (r - min r p) × (entries_in_blocks (i + p) (cut_first o (drop k bs)) ≡ drop p (entries_in_blocks i bs))
 kept_drop i n p k o bs ss r h a = at (drop k bs) refl
   where
@@ -79,12 +79,12 @@ kept_drop i n p k o bs ss r h a = at (drop k bs) refl
         let cc = count_cut k bs in
         let total : count (take k bs) + (length b.spans + count rest) ≡ count bs = ap (λ ys. count (take k bs) + count ys) (sym q) ∙ cc in
         let more : count (take (suc k) bs) ≡ count (take k bs) + length b.spans = let c2 = count_cut (suc k) bs in let c3 = ap count s.1 in omega arith in
-        let w = a.place in
+        let w = a.spot in
         let ln : length (drop o b.spans) ≡ length b.spans - o = length-drop o b.spans in
         let pos : i + p + length (drop o b.spans) ≡ i + count (take (suc k) bs) = omega arith in
         let whole : drop p es ≡ spread (i + p) b.handle (drop o b.spans) ++ entries_in_blocks (i + count (take (suc k) bs)) rest =
         subst (λ (ys : List BlockSpans). drop p es ≡ spread (i + p) b.handle (drop o b.spans) ++ entries_in_blocks (i + count (take (suc k) bs)) ys) s.1
-        (subst (λ (y : BlockSpans). drop p es ≡ spread (i + p) y.handle (drop o y.spans) ++ entries_in_blocks (i + count (take (suc k) bs)) (drop (suc k) bs)) s.0 (at_place i p k o bs b a)) in
+        (subst (λ (y : BlockSpans). drop p es ≡ spread (i + p) y.handle (drop o y.spans) ++ entries_in_blocks (i + count (take (suc k) bs)) (drop (suc k) bs)) s.0 (at_spot i p k o bs b a)) in
         let cut : drop p es ≡ entries_in_blocks (i + p) (without_first_spans o b ∷ rest) = rw pos whole in
         let kl = h.len in
         let le : p ≤ length es = rw (length-expanded i bs) (omega arith) in
@@ -104,7 +104,7 @@ kept_drop i n p k o bs ss r h a = at (drop k bs) refl
           sym cut,
         )
 
--- blocks that stay up to a place among them, so many of them and of their entries
+-- blocks that stay up to a spot among them, so many of them and of their entries
 pub record IsFront (i p k : ℕ) (bs front : List BlockSpans) : Type 0 where
   pub entries : entries_in_blocks i front ≡ take p (entries_in_blocks i bs)
   pub distinct : AreDistinctBlocks front
@@ -145,14 +145,14 @@ front_at i p k o bs str a = at (drop k bs) refl
         let inside : o < length b.spans = subst (λ (y : BlockSpans). o < length y.spans) s.0 (a.inside b) in
         let lc : length (take (suc o) b.spans) ≡ suc o = length-take-le (suc o) b.spans (omega arith) in
         let front = take k bs in
-        let w = a.place in
+        let w = a.spot in
         let whole : front ++ b ∷ rest ≡ bs = ap (λ xs. front ++ xs) (sym q) ∙ take-append-drop k bs in
         let l = a.block in
         let lf : length front ≡ k = length-take-le k bs (omega arith) in
         let is = cut_is k (suc o) bs b rest q in
         let below : take (suc p) (entries_in_blocks i bs) ≡ entries_in_blocks i front ++ spread (i + count front) b.handle (take (suc o) b.spans) =
         subst (λ (y : BlockSpans). take (suc p) (entries_in_blocks i bs) ≡ entries_in_blocks i front ++ spread (i + count front) y.handle (take (suc o) y.spans)) s.0
-        (below_place i (suc p) k (suc o) bs b l (omega arith) (a.inside b)) in
+        (below_spot i (suc p) k (suc o) bs b l (omega arith) (a.inside b)) in
         let ends : entries_in_blocks i (front ++ c ∷ []) ≡ entries_in_blocks i front ++ spread (i + count front) b.handle (take (suc o) b.spans) =
         expanded-append i front (c ∷ []) ∙ ap (λ xs. entries_in_blocks i front ++ xs) (append-nil (spread (i + count front) b.handle (take (suc o) b.spans))) in
         rw is (record {
@@ -162,13 +162,13 @@ front_at i p k o bs str a = at (drop k bs) refl
           count = count-append front (c ∷ []) ∙ omega arith;
         })
 
--- the blocks up to a place
+-- the blocks up to a spot
 pub kept_take : (i n p k o : ℕ) (bs : List BlockSpans) (ss : List ℕ) (r : ℕ) → AreKept i n bs ss r → IsAt p bs k o → AreKept i (suc p) (cut_last (suc o) (take (suc k) bs)) (take (suc k) ss) (min r (suc p)) × (entries_in_blocks i (cut_last (suc o) (take (suc k) bs)) ≡ take (suc p) (entries_in_blocks i bs))
 kept_take i n p k o bs ss r h a =
     let f = front_at i p k o bs h.distinct a in
     let es = entries_in_blocks i bs in
     let c = f.count in
-    let le : suc p ≤ length es = rw (length-expanded i bs) (place_within p k o bs a) in
+    let le : suc p ≤ length es = rw (length-expanded i bs) (spot_within p k o bs a) in
     let counts = cut_counts (suc p) es h.table_entries le in
     let kr = h.rewritten in (
       record {

@@ -11,7 +11,7 @@ use Rattle.raft_table.specs.Fetches.{change_count, block_count, entry_seq, is_sa
 use Rattle.raft_table.proofs.RunLemmas.{start-of_rising}
 use Rattle.raft_table.proofs.FetchLemmas.{slice_get_drop}
 use Rattle.raft_table.proofs.BlockLemmas.{length-spread, spread_take, rises_expanded}
-use Rattle.raft_table.proofs.BlockSearch.{at_place, entry_of}
+use Rattle.raft_table.proofs.BlockSearch.{at_spot, entry_of}
 use Rattle.raft_table.proofs.BlockJoins.{same_handle_self, other_handle_is}
 
 -- the entries of blocks start where they do
@@ -67,12 +67,12 @@ head_seq x o h [] rest l = absurd (omega arith)
 head_seq x zero h (s ∷ ss) rest l = refl
 head_seq x (suc o) h (s ∷ ss) rest l = head_seq x o h ss rest (omega arith)
 
--- the file number of the entry at a place
-pub seq_at_place : (i p k o : ℕ) (bs : List BlockSpans) (b : BlockSpans) → IsAt p bs k o → b ≡ get_or bs k b → Some b.handle.id.seq ≡ entry_seq (slice_get (entries_in_blocks i bs) p)
-seq_at_place i p k o bs b a e =
+-- the file number of the entry at a spot
+pub seq_at_spot : (i p k o : ℕ) (bs : List BlockSpans) (b : BlockSpans) → IsAt p bs k o → b ≡ get_or bs k b → Some b.handle.id.seq ≡ entry_seq (slice_get (entries_in_blocks i bs) p)
+seq_at_spot i p k o bs b a e =
     let rest = entries_in_blocks (i + count (take (suc k) bs)) (drop (suc k) bs) in
     let tail : drop p (entries_in_blocks i bs) ≡ spread (i + p) b.handle (drop o b.spans) ++ rest =
-    subst (λ (y : BlockSpans). drop p (entries_in_blocks i bs) ≡ spread (i + p) y.handle (drop o y.spans) ++ rest) (sym e) (at_place i p k o bs b a) in
+    subst (λ (y : BlockSpans). drop p (entries_in_blocks i bs) ≡ spread (i + p) y.handle (drop o y.spans) ++ rest) (sym e) (at_spot i p k o bs b a) in
     let inside : o < length b.spans = subst (λ (y : BlockSpans). o < length y.spans) (sym e) (a.inside b) in
     sym (ap entry_seq (sym (slice_get_drop p (entries_in_blocks i bs)) ∙ ap (λ xs. slice_get xs 0) tail) ∙ head_seq (i + p) o b.handle b.spans rest inside)
 
@@ -81,7 +81,7 @@ pub block_part : (i p k o n : ℕ) (bs : List BlockSpans) (b : BlockSpans) → I
 block_part i p k o n bs b a e l =
     let rest = entries_in_blocks (i + count (take (suc k) bs)) (drop (suc k) bs) in
     let tail : drop p (entries_in_blocks i bs) ≡ spread (i + p) b.handle (drop o b.spans) ++ rest =
-    subst (λ (y : BlockSpans). drop p (entries_in_blocks i bs) ≡ spread (i + p) y.handle (drop o y.spans) ++ rest) (sym e) (at_place i p k o bs b a) in
+    subst (λ (y : BlockSpans). drop p (entries_in_blocks i bs) ≡ spread (i + p) y.handle (drop o y.spans) ++ rest) (sym e) (at_spot i p k o bs b a) in
     drop-take p n (entries_in_blocks i bs) ∙ ap (take n) tail
     ∙ take-append-le n (spread (i + p) b.handle (drop o b.spans)) rest (rw (length-spread (i + p) b.handle (drop o b.spans)) (omega (arith, length-drop o b.spans)))
     ∙ spread_take n (i + p) b.handle (drop o b.spans)

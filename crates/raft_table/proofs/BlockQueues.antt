@@ -94,8 +94,8 @@ block_at {p} {k} {o} bs b a e =
     let s = shown_at bs k b l e in
     record { within = l; same = s; inside = subst (λ (y : BlockSpans). o < length y.spans) (sym s) (a.inside (block_spans b)) }
 
-pub place_inside : {p k o : ℕ} (bs : List Block) → IsAt p (shown bs) k o → (d : Block) → o < length (get_or bs k d).spans.items
-place_inside {p} {k} {o} bs a d = subst (λ (y : BlockSpans). o < length y.spans) (get_or-map block_spans bs k d (block_spans d) (block_within bs a)) (a.inside (block_spans d))
+pub spot_inside : {p k o : ℕ} (bs : List Block) → IsAt p (shown bs) k o → (d : Block) → o < length (get_or bs k d).spans.items
+spot_inside {p} {k} {o} bs a d = subst (λ (y : BlockSpans). o < length y.spans) (get_or-map block_spans bs k d (block_spans d) (block_within bs a)) (a.inside (block_spans d))
 
 -- a list up to its last block
 joined_last : (a : List BlockSpans) (b c : BlockSpans) (cs : List BlockSpans) → joined_blocks (a ++ b ∷ []) (c ∷ cs) ≡ a ++ joined_blocks (b ∷ []) (c ∷ cs)
@@ -152,7 +152,7 @@ pub rest_set : (more : List Block) (y : Block) → drop 1 (set more 0 y) ≡ dro
 rest_set [] y = refl
 rest_set (x ∷ more) y = refl
 
--- two readings of one place
+-- two readings of one spot
 pub one_block : (bs : List Block) (k : ℕ) (b c : Block) → k < length bs → b ≡ get_or bs k b → c ≡ get_or bs k c → b ≡ c
 one_block bs k b c l e f = e ∙ get_or_default bs k b c l ∙ sym f
 

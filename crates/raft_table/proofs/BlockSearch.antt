@@ -32,7 +32,7 @@ at_start x i k s bs ss e lo hi l g le up =
     ] in
     record {
       block = omega arith;
-      place = omega arith;
+      spot = omega arith;
       inside = λ d. let m = count_take_more k bs d (omega arith) in omega arith;
     }
 
@@ -45,12 +45,12 @@ count_front k [] = none k
 count_front zero (c ∷ cs) = omega arith
 count_front (suc k) (c ∷ cs) = let h = count_front k cs in omega arith
 
-pub place_within : (p k o : ℕ) (bs : List BlockSpans) → IsAt p bs k o → p < count bs
-place_within p k o [] a = absurd (let l = a.block in omega arith)
-place_within p k o (b ∷ bs) a =
+pub spot_within : (p k o : ℕ) (bs : List BlockSpans) → IsAt p bs k o → p < count bs
+spot_within p k o [] a = absurd (let l = a.block in omega arith)
+spot_within p k o (b ∷ bs) a =
     let l = a.block in
     let m = count_take_more k (b ∷ bs) b l in
-    let w = a.place in
+    let w = a.spot in
     let u = a.inside b in
     let f = count_front (suc k) (b ∷ bs) in
     omega arith
@@ -77,44 +77,44 @@ pub found_some : (ss : List ℕ) (x k : ℕ) → IsIndexOf ss x → ((j d : ℕ)
 found_some ss x zero h up = let a = up 0 0 (omega arith) (index_some ss x h) in let b = index_first ss x h 0 in absurd (omega arith)
 found_some ss x (suc k) h up = omega arith
 
--- what stands from a place on
-pub at_place : (i p k o : ℕ) (bs : List BlockSpans) (d : BlockSpans) → IsAt p bs k o → drop p (entries_in_blocks i bs) ≡ spread (i + p) (get_or bs k d).handle (drop o (get_or bs k d).spans) ++ entries_in_blocks (i + count (take (suc k) bs)) (drop (suc k) bs)
-at_place i p k o [] d a = absurd (let l = a.block in omega arith)
-at_place i p zero o (b ∷ bs) d a =
+-- what stands from a spot on
+pub at_spot : (i p k o : ℕ) (bs : List BlockSpans) (d : BlockSpans) → IsAt p bs k o → drop p (entries_in_blocks i bs) ≡ spread (i + p) (get_or bs k d).handle (drop o (get_or bs k d).spans) ++ entries_in_blocks (i + count (take (suc k) bs)) (drop (suc k) bs)
+at_spot i p k o [] d a = absurd (let l = a.block in omega arith)
+at_spot i p zero o (b ∷ bs) d a =
     let l = a.inside d in
-    let q : p ≡ o = sym a.place ∙ omega arith in
+    let q : p ≡ o = sym a.spot ∙ omega arith in
     let n : i + (length b.spans + 0) ≡ i + length b.spans = omega arith in
     rw (q, n) (drop-append-le o (spread i b.handle b.spans) (entries_in_blocks (i + length b.spans) bs) (rw (length-spread i b.handle b.spans) (omega arith))
     ∙ ap (λ es. es ++ entries_in_blocks (i + length b.spans) bs) (spread_drop o i b.handle b.spans (omega arith)))
-at_place i p (suc k) o (b ∷ bs) d a =
+at_spot i p (suc k) o (b ∷ bs) d a =
     let n = length b.spans in
     let l = a.block in
-    let q : p ≡ n + (count (take k bs) + o) = sym a.place ∙ omega arith in
+    let q : p ≡ n + (count (take k bs) + o) = sym a.spot ∙ omega arith in
     let z : n + (count (take k bs) + o) ≡ length (spread i b.handle b.spans) + (count (take k bs) + o) = rw (length-spread i b.handle b.spans) refl in
     let u : i + n + (count (take k bs) + o) ≡ i + p = omega arith in
     let v : i + n + count (take (suc k) bs) ≡ i + (n + count (take (suc k) bs)) = omega arith in
-    let rest : IsAt (count (take k bs) + o) bs k o = record { block = omega arith; place = refl; inside = a.inside } in
+    let rest : IsAt (count (take k bs) + o) bs k o = record { block = omega arith; spot = refl; inside = a.inside } in
     ap (λ m. drop m (entries_in_blocks i (b ∷ bs))) (q ∙ z)
     ∙ drop_past (spread i b.handle b.spans) (entries_in_blocks (i + n) bs) (count (take k bs) + o)
-    ∙ at_place (i + n) (count (take k bs) + o) k o bs d rest
+    ∙ at_spot (i + n) (count (take k bs) + o) k o bs d rest
     ∙ rw (u, v) refl
 
 -- what stands below it
-pub below_place : (i p k o : ℕ) (bs : List BlockSpans) (d : BlockSpans) → k < length bs → count (take k bs) + o ≡ p → o ≤ length (get_or bs k d).spans → take p (entries_in_blocks i bs) ≡ entries_in_blocks i (take k bs) ++ spread (i + count (take k bs)) (get_or bs k d).handle (take o (get_or bs k d).spans)
-below_place i p k o [] d l e m = absurd (omega arith)
-below_place i p zero o (b ∷ bs) d l e m =
+pub below_spot : (i p k o : ℕ) (bs : List BlockSpans) (d : BlockSpans) → k < length bs → count (take k bs) + o ≡ p → o ≤ length (get_or bs k d).spans → take p (entries_in_blocks i bs) ≡ entries_in_blocks i (take k bs) ++ spread (i + count (take k bs)) (get_or bs k d).handle (take o (get_or bs k d).spans)
+below_spot i p k o [] d l e m = absurd (omega arith)
+below_spot i p zero o (b ∷ bs) d l e m =
     let q : p ≡ o = sym e ∙ omega arith in
     let z : i + 0 ≡ i = omega arith in
     rw (q, z) (take-append-le o (spread i b.handle b.spans) (entries_in_blocks (i + length b.spans) bs) (rw (length-spread i b.handle b.spans) m)
     ∙ spread_take o i b.handle b.spans)
-below_place i p (suc k) o (b ∷ bs) d l e m =
+below_spot i p (suc k) o (b ∷ bs) d l e m =
     let n = length b.spans in
     let q : p ≡ n + (count (take k bs) + o) = sym e ∙ omega arith in
     let z : n + (count (take k bs) + o) ≡ length (spread i b.handle b.spans) + (count (take k bs) + o) = rw (length-spread i b.handle b.spans) refl in
     let v : i + (n + count (take k bs)) ≡ i + n + count (take k bs) = omega arith in
     ap (λ w. take w (entries_in_blocks i (b ∷ bs))) (q ∙ z)
     ∙ take_past (spread i b.handle b.spans) (entries_in_blocks (i + n) bs) (count (take k bs) + o)
-    ∙ ap (λ es. spread i b.handle b.spans ++ es) (below_place (i + n) (count (take k bs) + o) k o bs d (omega arith) refl m)
+    ∙ ap (λ es. spread i b.handle b.spans ++ es) (below_spot (i + n) (count (take k bs) + o) k o bs d (omega arith) refl m)
     ∙ rw v (sym (append_assoc (spread i b.handle b.spans) (entries_in_blocks (i + n) (take k bs)) (spread (i + n + count (take k bs)) (get_or bs k d).handle (take o (get_or bs k d).spans))))
 
 -- look-ups go past what stands below
@@ -134,29 +134,29 @@ head_of x o h ss s rest l e =
     rw (drop_more ss o s l, ← e, t) refl
 
 -- the entry at an index, by where it stands
-pub entry_at_place : (x i k o : ℕ) (bs : List BlockSpans) (b : BlockSpans) (s : ℕ × ℕ) → i ≤ x → IsAt (x - i) bs k o → b ≡ get_or bs k b → s ≡ get_or b.spans o s → Some (entry_of x b.handle s) ≡ entry_at x (entries_in_blocks i bs)
-entry_at_place x i k o bs b s lo a e f =
+pub entry_at_spot : (x i k o : ℕ) (bs : List BlockSpans) (b : BlockSpans) (s : ℕ × ℕ) → i ≤ x → IsAt (x - i) bs k o → b ≡ get_or bs k b → s ≡ get_or b.spans o s → Some (entry_of x b.handle s) ≡ entry_at x (entries_in_blocks i bs)
+entry_at_spot x i k o bs b s lo a e f =
     let es = entries_in_blocks i bs in
     let p = x - i in
     let l = a.block in
     let inside : o < length b.spans = subst (λ (y : BlockSpans). o < length y.spans) (sym e) (a.inside b) in
     let tail : drop p es ≡ spread (i + p) b.handle (drop o b.spans) ++ entries_in_blocks (i + count (take (suc k) bs)) (drop (suc k) bs) =
-    subst (λ (y : BlockSpans). drop p es ≡ spread (i + p) y.handle (drop o y.spans) ++ entries_in_blocks (i + count (take (suc k) bs)) (drop (suc k) bs)) (sym e) (at_place i p k o bs b a) in
+    subst (λ (y : BlockSpans). drop p es ≡ spread (i + p) y.handle (drop o y.spans) ++ entries_in_blocks (i + count (take (suc k) bs)) (drop (suc k) bs)) (sym e) (at_spot i p k o bs b a) in
     let q : i + p ≡ x = omega arith in
-    let fit : p ≤ length es = rw (length-expanded i bs) (omega (arith, place_within p k o bs a)) in
+    let fit : p ≤ length es = rw (length-expanded i bs) (omega (arith, spot_within p k o bs a)) in
     let g : length (take p es) ≡ p = length-take-le p es fit in
     sym (ap (entry_at x) (sym (take-append-drop p es))
     ∙ skip x i (take p es) (drop p es) (RisesFrom-take p i es (rises_expanded i bs)) (omega arith)
     ∙ rw (tail, q) (head_of x o b.handle b.spans s (entries_in_blocks (i + count (take (suc k) bs)) (drop (suc k) bs)) inside f))
 
--- the entry at a place
+-- the entry at a spot
 pub entry_is : (i p k o : ℕ) (bs : List BlockSpans) (b : BlockSpans) (s : ℕ × ℕ) (d : EntryIndex) → IsAt p bs k o → b ≡ get_or bs k b → s ≡ get_or b.spans o s → entry_of (i + p) b.handle s ≡ get_or (entries_in_blocks i bs) p d
 entry_is i p k o bs b s d a e f =
     let es = entries_in_blocks i bs in
     let rest = entries_in_blocks (i + count (take (suc k) bs)) (drop (suc k) bs) in
     let inside : o < length b.spans = subst (λ (y : BlockSpans). o < length y.spans) (sym e) (a.inside b) in
     let tail : drop p es ≡ spread (i + p) b.handle (drop o b.spans) ++ rest =
-    subst (λ (y : BlockSpans). drop p es ≡ spread (i + p) y.handle (drop o y.spans) ++ rest) (sym e) (at_place i p k o bs b a) in
+    subst (λ (y : BlockSpans). drop p es ≡ spread (i + p) y.handle (drop o y.spans) ++ rest) (sym e) (at_spot i p k o bs b a) in
     let head : get_or (drop p es) 0 d ≡ entry_of (i + p) b.handle s = rw (tail, drop_more b.spans o s inside, ← f) refl in
     let z : p + 0 ≡ p = omega arith in
     sym (sym (get_or-drop p es 0 d ∙ ap (λ m. get_or es m d) z) ∙ head)

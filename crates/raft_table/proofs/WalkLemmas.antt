@@ -1,4 +1,4 @@
--- Walks over blocks, from the place of an entry on.
+-- Walks over blocks, from the spot of an entry on.
 use Rattle.std.proofs.Common.{◌≡◌, ℕ, zero, suc, ◌+◌, ◌-◌, ◌<◌, ◌≤◌, true, false, List, [], ◌∷◌, ◌++◌, length, get_or, take, drop, min, refl, sym, ap, ◌∙◌, subst, arith, inl, inr, Option, Some}
 use Rattle.std.specs.List.{prefix_len}
 use Rattle.std.proofs.lemmas.List.{length-drop, length-take-le, take_all, take-take, drop-append-le, take-append-drop, get_or_default}
@@ -31,18 +31,18 @@ block_filled (suc k) (b ∷ bs) d h l = block_filled k bs d h.2 (omega arith)
 pub next_block : (p k o n : ℕ) (bs : List BlockSpans) (d : BlockSpans) → IsAt p bs k o → AreDistinctBlocks bs → o + n ≡ length (get_or bs k d).spans → p + n < count bs → IsAt (p + n) bs (suc k) 0
 next_block p k o n bs d a h e l =
     let m = count_take_more k bs d a.block in
-    let w = a.place in
+    let w = a.spot in
     let more : suc k < length bs = elim (cases_lt (suc k) (length bs)) [
       | inl x ↦ x
       | inr x ↦ let t = ap count (take_all (suc k) bs (omega arith)) in absurd (omega arith)
     ] in
-    record { block = more; place = omega arith; inside = λ c. block_filled (suc k) bs c h more }
+    record { block = more; spot = omega arith; inside = λ c. block_filled (suc k) bs c h more }
 
 -- behind another entry of a block stands the next one
 pub next_span : (p k o : ℕ) (bs : List BlockSpans) (d : BlockSpans) → IsAt p bs k o → suc o < length (get_or bs k d).spans → IsAt (suc p) bs k (suc o)
 next_span p k o bs d a l = record {
   block = a.block;
-  place = let w = a.place in omega arith;
+  spot = let w = a.spot in omega arith;
   inside = λ c. subst (λ (y : BlockSpans). suc o < length y.spans) (get_or_default bs k d c a.block) l;
 }
 
@@ -125,7 +125,7 @@ walk_goes gate i s p k o n e bs b a q t c m h =
     ∙ moves_all gate (i + p) b.handle some (drop (p + n) (take e (entries_in_blocks i bs))) m in
     omega arith
 
--- the length of the entry at a place
+-- the length of the entry at a spot
 pub walk_len : (i s p k o e len : ℕ) (bs : List BlockSpans) (b : BlockSpans) (x : ℕ × ℕ) (d : EntryIndex) → IsAt p bs k o → b ≡ get_or bs k b → x ≡ get_or b.spans o x → len ≡ x.1 → s ≤ p → p < e → len ≡ (get_or (drop s (take e (entries_in_blocks i bs))) (p - s) d).entry_len
 walk_len i s p k o e len bs b x d a q f h l m =
     h ∙ ap (λ (y : EntryIndex). y.entry_len) (entry_is i p k o bs b x d a q f ∙ sym (part_at s e p (entries_in_blocks i bs) d l m))

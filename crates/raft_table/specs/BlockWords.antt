@@ -82,5 +82,5 @@ IsIndexOf ss x = (i : ℕ) × (bs : List BlockSpans) × (ss ≡ starts_of i bs) 
 -- the entry behind the first p ones stands in the block behind the first k ones, behind so many of its entries
 pub record IsAt (p : ℕ) (bs : List BlockSpans) (k o : ℕ) : Type 0 where
   pub block : k < length bs
-  pub place : count (take k bs) + o ≡ p
+  pub spot : count (take k bs) + o ≡ p
   pub inside : (d : BlockSpans) → o < length (slice_index_or bs k d).spans

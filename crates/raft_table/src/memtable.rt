@@ -92,7 +92,7 @@ impl MemTable {
         self.entries.holds_one_run();
     }
 
-    /// The region's number.
+    /// The region's id.
     pub fn region_id(&self) -> u64
         ensures { result ≡ self.now.region_id }
     {
@@ -147,7 +147,7 @@ impl MemTable {
         self.entries.count_in(queue) as u128 + self.keys.count_in(queue) as u128
     }
 
-    /// The place of the entry with this index.
+    /// The entry with this index.
     pub fn get_entry(&self, index: u64) -> Option<EntryIndex>
         ensures { result ≡ entry_at index self.now.entries }
     {

@@ -105,8 +105,8 @@ impl Entries {
             return;
         }
         let index = self.first + count as u64;
-        let (whole, part) = find(&self.starts, self.first, self.len, index);
-        cut_front(&mut self.blocks, whole, part);
+        let (whole, dropped) = find(&self.starts, self.first, self.len, index);
+        cut_front(&mut self.blocks, whole, dropped);
         drop_first(&mut self.starts, whole);
         self.starts[0] = index;
         self.first = index;
@@ -142,32 +142,32 @@ impl Entries {
 }
 
 /// Keeps so many whole blocks, and so many entries of the next one.
-fn cut_back(blocks: &mut VecDeque<Block>, whole: usize, part: usize)
+fn cut_back(blocks: &mut VecDeque<Block>, whole: usize, kept: usize)
     requires whole { whole < length blocks.old.items }
-    ensures { shown blocks.new.items ≡ cut_last part (take (whole + 1) (shown blocks.old.items)) }
+    ensures { shown blocks.new.items ≡ cut_last kept (take (whole + 1) (shown blocks.old.items)) }
 {
     blocks.truncate(whole + 1);
-    blocks[whole].spans.truncate(part);
+    blocks[whole].spans.truncate(kept);
 }
 
 /// Drops whole blocks from the front, and so many entries of the next one.
-fn cut_front(blocks: &mut VecDeque<Block>, whole: usize, part: usize)
+fn cut_front(blocks: &mut VecDeque<Block>, whole: usize, dropped: usize)
     requires whole { whole < length blocks.old.items }
-    requires part { (d : Block) → part
+    requires dropped { (d : Block) → dropped
         ≤ length (slice_index_or blocks.old.items whole d).spans.items }
-    ensures { shown blocks.new.items ≡ cut_first part (drop whole (shown blocks.old.items)) }
+    ensures { shown blocks.new.items ≡ cut_first dropped (drop whole (shown blocks.old.items)) }
 {
     drop_first(blocks, whole);
-    drop_spans(&mut blocks[0], part);
+    drop_spans(&mut blocks[0], dropped);
 }
 
 /// Drops so many entries of a block.
-fn drop_spans(block: &mut Block, part: usize)
-    requires { part ≤ length block.old.spans.items }
+fn drop_spans(block: &mut Block, dropped: usize)
+    requires { dropped ≤ length block.old.spans.items }
     ensures handle { block.new.handle ≡ block.old.handle }
-    ensures spans { block.new.spans.items ≡ drop part block.old.spans.items }
+    ensures spans { block.new.spans.items ≡ drop dropped block.old.spans.items }
 {
-    drop_first(&mut block.spans, part);
+    drop_first(&mut block.spans, dropped);
 }
 
 /// Drops so many elements from the front.

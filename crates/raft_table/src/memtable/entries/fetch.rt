@@ -9,7 +9,7 @@ ghost use Rattle.raft_table.specs.Rewriting.{may_move};
 
 use crate::memtable::entries::Entries;
 use crate::memtable::entries::lists::find;
-use crate::memtable::entries::walks::{count_from, movable_from, push_parts};
+use crate::memtable::entries::walks::{count_from, movable_from, push_entries};
 use raft_base::{EntryIndex, Error, FileSeq, LogQueue, Result};
 
 impl Entries {
@@ -65,19 +65,14 @@ impl Entries {
         self.extend(vec, start, start + count)
     }
 
-    /// The file number of the entry behind the first `place` ones.
-    pub fn seq_at(&self, place: usize) -> Option<FileSeq>
-        ensures { result ≡ entry_seq (slice_get self.now place) }
+    /// The file number of the entry behind the first `at` ones.
+    pub fn seq_at(&self, at: usize) -> Option<FileSeq>
+        ensures { result ≡ entry_seq (slice_get self.now at) }
     {
-        if place >= self.len {
+        if at >= self.len {
             return None;
         }
-        let (whole, _) = find(
-            &self.starts,
-            self.first,
-            self.len,
-            self.first + place as u64,
-        );
+        let (whole, _) = find(&self.starts, self.first, self.len, self.first + at as u64);
         Some(self.blocks[whole].handle.id.seq)
     }
 
@@ -109,8 +104,8 @@ impl Entries {
         if at == end {
             return 0;
         }
-        let place = find(&self.starts, self.first, self.len, self.first + at as u64);
-        movable_from(&self.blocks, place, at, end, gate)
+        let spot = find(&self.starts, self.first, self.len, self.first + at as u64);
+        movable_from(&self.blocks, spot, at, end, gate)
     }
 
     /// How many entries behind the first `start`, among the first `end`, a limit on the total of
@@ -126,13 +121,13 @@ impl Entries {
         if start == end {
             return 0;
         }
-        let place = find(
+        let spot = find(
             &self.starts,
             self.first,
             self.len,
             self.first + start as u64,
         );
-        count_from(&self.blocks, place, start, end, limit)
+        count_from(&self.blocks, spot, start, end, limit)
     }
 
     /// Appends the entries behind the first `start`, among the first `end`, to a vector, which
@@ -146,13 +141,13 @@ impl Entries {
     {
         vec.reserve(end - start)?;
         if start < end {
-            let place = find(
+            let spot = find(
                 &self.starts,
                 self.first,
                 self.len,
                 self.first + start as u64,
             );
-            push_parts(vec, self.first, &self.blocks, place, start, end);
+            push_entries(vec, self.first, &self.blocks, spot, start, end);
         }
         Ok(())
     }

@@ -142,18 +142,18 @@ impl Entries {
         let moved = kept + run.rewritten;
         let rewritten = moved + (self.rewritten - passed);
         let index = self.first + end as u64;
-        let (whole, part) = find(&self.starts, self.first, self.len, index);
+        let (whole, dropped) = find(&self.starts, self.first, self.len, index);
         let block = &self.blocks[whole];
         let handle = block.handle;
-        let spans = spans_behind(*self.blocks.allocator(), &block.spans, part)?;
-        let place = cut_at(&self.starts, self.first, at);
+        let spans = spans_behind(*self.blocks.allocator(), &block.spans, dropped)?;
+        let spot = cut_at(&self.starts, self.first, at);
         let mut blocks = run.blocks;
         let mut starts = run.starts;
         push_block(&mut blocks, &mut starts, index, Block { handle, spans })?;
         put_blocks(
             &mut self.blocks,
             &mut self.starts,
-            place,
+            spot,
             whole + 1,
             &mut blocks,
             &mut starts,

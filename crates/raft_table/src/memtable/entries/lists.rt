@@ -80,17 +80,17 @@ pub(super) fn cut_at(starts: &VecDeque<u64>, first: u64, kept: usize) -> (usize,
     (whole + 1, last + 1)
 }
 
-/// The spans behind the first `part`.
+/// The spans behind the first `dropped`.
 pub(super) fn spans_behind(
     alloc: Global,
     spans: &VecDeque<(u32, u32)>,
-    part: usize,
+    dropped: usize,
 ) -> AllocResult<VecDeque<(u32, u32)>>
-    requires { part ≤ length spans.now.items }
-    ensures ok { IfOk result (λ behind. behind.items ≡ drop part spans.now.items) }
+    requires { dropped ≤ length spans.now.items }
+    ensures ok { IfOk result (λ behind. behind.items ≡ drop dropped spans.now.items) }
 {
-    let mut behind = VecDeque::with_capacity(alloc, spans.len() - part)?;
-    for i in part..spans.len() {
+    let mut behind = VecDeque::with_capacity(alloc, spans.len() - dropped)?;
+    for i in dropped..spans.len() {
         behind.push_back_reserved(spans[i]);
     }
     Ok(behind)
@@ -109,24 +109,24 @@ pub(super) fn is_same(a: &FileBlockHandle, b: &FileBlockHandle) -> bool
 pub(super) fn put_blocks(
     blocks: &mut VecDeque<Block>,
     starts: &mut VecDeque<u64>,
-    place: (usize, usize),
+    spot: (usize, usize),
     rest: usize,
     more: &mut VecDeque<Block>,
     more_starts: &mut VecDeque<u64>,
 ) -> AllocResult<()>
-    requires order { place.0 ≤ rest }
+    requires order { spot.0 ≤ rest }
     requires within { rest ≤ length blocks.old.items }
-    requires part { (d : Block) → 0 < place.0
-        → place.1 ≤ length (slice_index_or blocks.old.items (place.0 - 1) d).spans.items }
+    requires kept { (d : Block) → 0 < spot.0
+        → spot.1 ≤ length (slice_index_or blocks.old.items (spot.0 - 1) d).spans.items }
     requires starts { length starts.old.items ≡ length blocks.old.items }
     requires more { (0 < length more.old.items) ×
         (length more_starts.old.items ≡ length more.old.items) }
     ensures blocks { OnOk result (shown blocks.new.items
-        ≡ joined_blocks (cut_last place.1 (take place.0 (shown blocks.old.items)))
+        ≡ joined_blocks (cut_last spot.1 (take spot.0 (shown blocks.old.items)))
         (shown more.old.items)
         ++ drop rest (shown blocks.old.items)) }
-    ensures starts { OnOk result (starts.new.items ≡ take place.0 starts.old.items
-        ++ drop (seam (take place.0 (shown blocks.old.items)) (shown more.old.items))
+    ensures starts { OnOk result (starts.new.items ≡ take spot.0 starts.old.items
+        ++ drop (seam (take spot.0 (shown blocks.old.items)) (shown more.old.items))
         more_starts.old.items
         ++ drop rest starts.old.items) }
     ensures emptied { OnOk result ((more.new.items ≡ []) × (more_starts.new.items ≡ [])) }
@@ -137,9 +137,9 @@ pub(super) fn put_blocks(
 {
     make_room(blocks, more)?;
     make_room(starts, more_starts)?;
-    meet(blocks, place, more, more_starts)?;
-    splice(blocks, place.0, rest, more);
-    splice(starts, place.0, rest, more_starts);
+    meet(blocks, spot, more, more_starts)?;
+    splice(blocks, spot.0, rest, more);
+    splice(starts, spot.0, rest, more_starts);
     Ok(())
 }
 
@@ -163,22 +163,22 @@ fn make_room<T>(deque: &mut VecDeque<T>, more: &mut VecDeque<T>) -> AllocResult<
 /// the first of more blocks behind them where the two have the same handle.
 fn meet(
     blocks: &mut VecDeque<Block>,
-    place: (usize, usize),
+    spot: (usize, usize),
     more: &mut VecDeque<Block>,
     more_starts: &mut VecDeque<u64>,
 ) -> AllocResult<()>
-    requires within { place.0 ≤ length blocks.old.items }
-    requires part { (d : Block) → 0 < place.0
-        → place.1 ≤ length (slice_index_or blocks.old.items (place.0 - 1) d).spans.items }
+    requires within { spot.0 ≤ length blocks.old.items }
+    requires kept { (d : Block) → 0 < spot.0
+        → spot.1 ≤ length (slice_index_or blocks.old.items (spot.0 - 1) d).spans.items }
     requires more { (0 < length more.old.items) ×
         (length more_starts.old.items ≡ length more.old.items) }
-    ensures front { OnOk result (take place.0 (shown blocks.new.items) ++ shown more.new.items
-        ≡ joined_blocks (cut_last place.1 (take place.0 (shown blocks.old.items)))
+    ensures front { OnOk result (take spot.0 (shown blocks.new.items) ++ shown more.new.items
+        ≡ joined_blocks (cut_last spot.1 (take spot.0 (shown blocks.old.items)))
         (shown more.old.items)) }
-    ensures behind { OnOk result ((n : ℕ) → place.0 ≤ n
+    ensures behind { OnOk result ((n : ℕ) → spot.0 ≤ n
         → drop n (shown blocks.new.items) ≡ drop n (shown blocks.old.items)) }
     ensures starts { OnOk result (more_starts.new.items
-        ≡ drop (seam (take place.0 (shown blocks.old.items)) (shown more.old.items))
+        ≡ drop (seam (take spot.0 (shown blocks.old.items)) (shown more.old.items))
         more_starts.old.items) }
     ensures room { (deque_len blocks.new ≡ deque_len blocks.old)
         × (deque_capacity blocks.new ≡ deque_capacity blocks.old) }
@@ -190,16 +190,16 @@ fn meet(
         × (shown more.new.items ≡ shown more.old.items)
         × (more_starts.new.items ≡ more_starts.old.items)) }
 {
-    let (kept, part) = place;
-    if kept == 0 {
+    let (whole, kept) = spot;
+    if whole == 0 {
         return Ok(());
     }
-    let last = kept - 1;
+    let last = whole - 1;
     if !is_same(&blocks[last].handle, &more[0].handle) {
-        shorten(&mut blocks[last], part);
+        shorten(&mut blocks[last], kept);
         return Ok(());
     }
-    lengthen(&mut blocks[last], part, &mut more[0].spans)?;
+    lengthen(&mut blocks[last], kept, &mut more[0].spans)?;
     drop_front(more);
     drop_front(more_starts);
     Ok(())
@@ -215,7 +215,7 @@ fn drop_front<T: Drop>(deque: &mut VecDeque<T>)
 }
 
 /// Puts a block, whose first entry has this index, behind others. Where it has the handle of the
-/// last of them it becomes a part of that one.
+/// last of them its entries go behind those of that one.
 pub(super) fn push_block(
     blocks: &mut VecDeque<Block>,
     starts: &mut VecDeque<u64>,
@@ -235,8 +235,8 @@ pub(super) fn push_block(
     if len > 0 {
         let last = len - 1;
         if is_same(&blocks[last].handle, &block.handle) {
-            let part = blocks[last].spans.len();
-            return lengthen(&mut blocks[last], part, &mut block.spans);
+            let kept = blocks[last].spans.len();
+            return lengthen(&mut blocks[last], kept, &mut block.spans);
         }
     }
     starts.reserve(1)?;
@@ -246,17 +246,17 @@ pub(super) fn push_block(
 }
 
 /// Keeps so many entries of a block, and moves more behind them.
-fn lengthen(block: &mut Block, part: usize, more: &mut VecDeque<(u32, u32)>) -> AllocResult<()>
-    requires { part ≤ length block.old.spans.items }
+fn lengthen(block: &mut Block, kept: usize, more: &mut VecDeque<(u32, u32)>) -> AllocResult<()>
+    requires { kept ≤ length block.old.spans.items }
     ensures handle { block.new.handle ≡ block.old.handle }
     ensures ok { OnOk result (block.new.spans.items
-        ≡ take part block.old.spans.items ++ more.old.items) }
+        ≡ take kept block.old.spans.items ++ more.old.items) }
     ensures err { OnErr result ((block.new.spans.items ≡ block.old.spans.items) ×
         (more.new.items ≡ more.old.items)) }
 {
     let len = block.spans.len();
-    block.spans.reserve(more.len().saturating_sub(len - part))?;
-    block.spans.truncate(part);
+    block.spans.reserve(more.len().saturating_sub(len - kept))?;
+    block.spans.truncate(kept);
     if block.spans.append(more).is_err() {
         unreachable!()
     }
@@ -264,15 +264,15 @@ fn lengthen(block: &mut Block, part: usize, more: &mut VecDeque<(u32, u32)>) -> 
 }
 
 /// Keeps so many entries of a block.
-fn shorten(block: &mut Block, part: usize)
+fn shorten(block: &mut Block, kept: usize)
     ensures handle { block.new.handle ≡ block.old.handle }
-    ensures spans { block.new.spans.items ≡ take part block.old.spans.items }
+    ensures spans { block.new.spans.items ≡ take kept block.old.spans.items }
 {
-    block.spans.truncate(part);
+    block.spans.truncate(kept);
 }
 
 /// Keeps the first `kept` elements and those from `rest` on, and puts more between them. The shorter
-/// part is moved where either queue has room.
+/// end is moved where either queue has room.
 fn splice<T: Drop>(deque: &mut VecDeque<T>, kept: usize, rest: usize, more: &mut VecDeque<T>)
     requires order { kept ≤ rest }
     requires within { rest ≤ deque_len deque.old }

@@ -14,19 +14,19 @@ use raft_base::{CompressionType, EntryIndex, FileBlockHandle, FileSeq, LogQueue}
 use std::collections::VecDeque;
 
 /// Appends the entries behind the first `start`, among the first `end`, to a vector with room for
-/// them. The first of them stands at `place`, the first of all blocks has the index `first`.
+/// them. The first of them stands at `spot`, the first of all blocks has the index `first`.
 ///
-/// The entries come first, and a second walk sets their spans: those lie in a place of their own for
-/// each block, and a walk that does little else can have those of several brought from memory at once.
-pub(super) fn push_parts(
+/// The entries come first, and a second walk sets their spans: the spans of each block lie apart,
+/// and a walk that does little else can have those of several brought from memory at once.
+pub(super) fn push_entries(
     vec: &mut Vec<EntryIndex>,
     first: u64,
     blocks: &VecDeque<Block>,
-    place: (usize, usize),
+    spot: (usize, usize),
     start: usize,
     end: usize,
 )
-    requires place { IsAt start (shown blocks.now.items) place.0 place.1 }
+    requires spot { IsAt start (shown blocks.now.items) spot.0 spot.1 }
     requires distinct { AreDistinctBlocks (shown blocks.now.items) }
     requires order { start ≤ end }
     requires within { end ≤ count (shown blocks.now.items) }
@@ -36,8 +36,8 @@ pub(super) fn push_parts(
         (take end (entries_in_blocks first (shown blocks.now.items))) }
 {
     let len = vec.len();
-    push_unset(vec, first, blocks, place, start, end);
-    set_spans(vec, len, blocks, place, start, end);
+    push_unset(vec, first, blocks, spot, start, end);
+    set_spans(vec, len, blocks, spot, start, end);
 }
 
 /// Appends those entries without their spans.
@@ -45,11 +45,11 @@ fn push_unset(
     vec: &mut Vec<EntryIndex>,
     first: u64,
     blocks: &VecDeque<Block>,
-    place: (usize, usize),
+    spot: (usize, usize),
     start: usize,
     end: usize,
 )
-    requires place { IsAt start (shown blocks.now.items) place.0 place.1 }
+    requires spot { IsAt start (shown blocks.now.items) spot.0 spot.1 }
     requires distinct { AreDistinctBlocks (shown blocks.now.items) }
     requires order { start ≤ end }
     requires within { end ≤ count (shown blocks.now.items) }
@@ -59,12 +59,12 @@ fn push_unset(
         ≡ vec.old.items
         ++ map unset (drop start (take end (entries_in_blocks first (shown blocks.now.items)))) }
 {
-    let (mut whole, mut at) = place;
+    let (mut whole, mut at) = spot;
     let mut done = start;
     while done < end {
         let block = &blocks[whole];
         let count = (block.spans.len() - at).min(end - done);
-        push_unset_part(vec, first + done as u64, block, at, count);
+        push_unset_of(vec, first + done as u64, block, at, count);
         done += count;
         whole += 1;
         at = 0;
@@ -73,7 +73,7 @@ fn push_unset(
 
 /// Appends so many entries of a block, behind the first `at`, without their spans to a vector with room
 /// for them. The first of them has the index `first`.
-fn push_unset_part(vec: &mut Vec<EntryIndex>, first: u64, block: &Block, at: usize, count: usize)
+fn push_unset_of(vec: &mut Vec<EntryIndex>, first: u64, block: &Block, at: usize, count: usize)
     requires within { at + count ≤ length block.now.spans.items }
     requires bounded { first + count < 2 ^ 64 }
     requires room { vec_len vec.old + count ≤ vec_capacity vec.old }
@@ -99,11 +99,11 @@ fn set_spans(
     vec: &mut Vec<EntryIndex>,
     len: usize,
     blocks: &VecDeque<Block>,
-    place: (usize, usize),
+    spot: (usize, usize),
     start: usize,
     end: usize,
 )
-    requires place { IsAt start (shown blocks.now.items) place.0 place.1 }
+    requires spot { IsAt start (shown blocks.now.items) spot.0 spot.1 }
     requires distinct { AreDistinctBlocks (shown blocks.now.items) }
     requires order { start ≤ end }
     requires within { end ≤ count (shown blocks.now.items) }
@@ -114,12 +114,12 @@ fn set_spans(
         → vec.new.items
         ≡ front ++ drop start (take end (entries_in_blocks i (shown blocks.now.items))) }
 {
-    let (mut whole, mut at) = place;
+    let (mut whole, mut at) = spot;
     let mut done = start;
     while done < end {
         let block = &blocks[whole];
         let count = (block.spans.len() - at).min(end - done);
-        set_part(vec, len + (done - start), block, at, count);
+        set_spans_of(vec, len + (done - start), block, at, count);
         done += count;
         whole += 1;
         at = 0;
@@ -128,17 +128,17 @@ fn set_spans(
 
 /// Gives entries behind the first `len` of a vector the spans of so many of a block behind the first
 /// `at`.
-fn set_part(vec: &mut Vec<EntryIndex>, len: usize, block: &Block, at: usize, count: usize)
+fn set_spans_of(vec: &mut Vec<EntryIndex>, len: usize, block: &Block, at: usize, count: usize)
     requires within { at + count ≤ length block.now.spans.items }
     requires there { len + count ≤ length vec.old.items }
     ensures items { vec.new.items ≡ take len vec.old.items
         ++ with_spans (take count (drop at block.now.spans.items)) (drop len vec.old.items) }
     ensures len { length vec.new.items ≡ length vec.old.items }
 {
-    let mut place = len;
+    let mut i = len;
     for span in block.spans.range(at..at + count) {
-        set_span(&mut vec[place], *span);
-        place += 1;
+        set_span(&mut vec[i], *span);
+        i += 1;
     }
 }
 
@@ -151,15 +151,15 @@ fn set_span(entry: &mut EntryIndex, span: (u32, u32))
 }
 
 /// How many entries behind the first `start`, among the first `end`, may move, up to the first that
-/// may not. The first of them stands at `place`.
+/// may not. The first of them stands at `spot`.
 pub(super) fn movable_from(
     blocks: &VecDeque<Block>,
-    place: (usize, usize),
+    spot: (usize, usize),
     start: usize,
     end: usize,
     gate: Option<FileSeq>,
 ) -> usize
-    requires place { IsAt start (shown blocks.now.items) place.0 place.1 }
+    requires spot { IsAt start (shown blocks.now.items) spot.0 spot.1 }
     requires distinct { AreDistinctBlocks (shown blocks.now.items) }
     requires order { start ≤ end }
     requires within { end ≤ count (shown blocks.now.items) }
@@ -167,7 +167,7 @@ pub(super) fn movable_from(
         → result ≡ prefix_len (may_move gate)
         (drop start (take end (entries_in_blocks i (shown blocks.now.items)))) }
 {
-    let (mut whole, mut at) = place;
+    let (mut whole, mut at) = spot;
     let mut done = start;
     while done < end {
         let block = &blocks[whole];
@@ -193,45 +193,45 @@ fn is_movable(handle: &FileBlockHandle, gate: Option<FileSeq>) -> bool
 }
 
 /// How many entries behind the first `start`, among the first `end`, a limit on the total of their
-/// lengths lets through. The first of them stands at `place`.
+/// lengths lets through. The first of them stands at `spot`.
 pub(super) fn count_from(
     blocks: &VecDeque<Block>,
-    place: (usize, usize),
+    spot: (usize, usize),
     start: usize,
     end: usize,
     limit: usize,
 ) -> usize
-    requires place { IsAt start (shown blocks.now.items) place.0 place.1 }
+    requires spot { IsAt start (shown blocks.now.items) spot.0 spot.1 }
     requires distinct { AreDistinctBlocks (shown blocks.now.items) }
     requires order { start ≤ end }
     requires within { end ≤ count (shown blocks.now.items) }
     ensures { (i : ℕ) → IsLimitCount (Some limit)
         (drop start (take end (entries_in_blocks i (shown blocks.now.items)))) result }
 {
-    let mut place = place;
+    let mut spot = spot;
     let mut total = 0u128;
     for i in start..end {
-        let block = &blocks[place.0];
-        let sum = total + u128::from(block.spans[place.1].1);
+        let block = &blocks[spot.0];
+        let sum = total + u128::from(block.spans[spot.1].1);
         if sum > limit as u128 && total > 0 {
             return i - start;
         }
         total = sum;
-        place = next(block, place);
+        spot = next(block, spot);
     }
     end - start
 }
 
-/// The place of the next entry: behind the last one in its block, or first in the next block.
-fn next(block: &Block, place: (usize, usize)) -> (usize, usize)
-    requires within { place.0 + 1 < 2 ^ 64 }
-    requires inside { place.1 < length block.now.spans.items }
-    ensures { (p : ℕ) (bs : List BlockSpans) → IsAt p bs place.0 place.1 → AreDistinctBlocks bs
-        → block_spans block.now ≡ slice_index_or bs place.0 (block_spans block.now)
+/// The spot of the next entry: behind the last one in its block, or first in the next block.
+fn next(block: &Block, spot: (usize, usize)) -> (usize, usize)
+    requires within { spot.0 + 1 < 2 ^ 64 }
+    requires inside { spot.1 < length block.now.spans.items }
+    ensures { (p : ℕ) (bs : List BlockSpans) → IsAt p bs spot.0 spot.1 → AreDistinctBlocks bs
+        → block_spans block.now ≡ slice_index_or bs spot.0 (block_spans block.now)
         → p + 1 < count bs
         → IsAt (p + 1) bs result.0 result.1 }
 {
-    let (whole, at) = place;
+    let (whole, at) = spot;
     if at + 1 < block.spans.len() {
         return (whole, at + 1);
     }

@@ -2,7 +2,7 @@ use Rattle.std.proofs.Common.{◌+◌, length, arith, refl, ap, ◌∙◌}
 use Rattle.std.proofs.lemmas.List.{length-drop, drop_all}
 use Rattle.raft_table.specs.Blocks.{shown, entries_in_blocks}
 use Rattle.raft_table.proofs.BlockCuts.{found, index_of, kept_length, kept_facts, kept_drop}
-use Rattle.raft_table.proofs.BlockQueues.{block_within, place_inside}
+use Rattle.raft_table.proofs.BlockQueues.{block_within, spot_inside}
 use Rattle.raft_table.proofs.memtable.entries.Entries.drop_front.Goals as goal
 
 pub returns-then-count-self : goal.returns-then-count-self
@@ -17,8 +17,8 @@ find-whole-requires c = index_of c.self.invariant c.args.count refl (let l = (ke
 pub cut_front-requires-clause-whole : goal.cut_front-requires-clause-whole
 cut_front-requires-clause-whole c = block_within c.self.inside.blocks.items (found c.self.invariant c.find-whole.ensures (c.args.count) refl (let l = (kept_facts c.self.invariant).length in let h = rw (← c.self.view_is) at c.requires in omega arith))
 
-pub cut_front-requires-clause-part : goal.cut_front-requires-clause-part
-cut_front-requires-clause-part c d = let w = place_inside c.self.inside.blocks.items (found c.self.invariant c.find-whole.ensures (c.args.count) refl (let l = (kept_facts c.self.invariant).length in let h = rw (← c.self.view_is) at c.requires in omega arith)) d in omega arith
+pub cut_front-requires-clause-dropped : goal.cut_front-requires-clause-dropped
+cut_front-requires-clause-dropped c d = let w = spot_inside c.self.inside.blocks.items (found c.self.invariant c.find-whole.ensures (c.args.count) refl (let l = (kept_facts c.self.invariant).length in let h = rw (← c.self.view_is) at c.requires in omega arith)) d in omega arith
 
 pub drop_first-requires : goal.drop_first-requires
 drop_first-requires c = let a = (found c.self.invariant c.find-whole.ensures (c.args.count) refl (let l = (kept_facts c.self.invariant).length in let h = rw (← c.self.view_is) at c.requires in omega arith)) in let w = a.block in let n = kept_length c.self.invariant in omega arith

@@ -5,17 +5,17 @@ use Rattle.raft_table.proofs.memtable.entries.Entries.extend.Goals as goal
 pub overflow_add-self-inside : goal.overflow_add-self-inside
 overflow_add-self-inside c = let f = kept_facts c.self.invariant in let l = f.length in let h = rw (← c.self.view_is) at c.requires.within in let b = f.bounded (omega arith) in omega arith
 
-pub find-place-requires : goal.find-place-requires
-find-place-requires c = index_of c.self.invariant c.args.start refl (let l = (kept_facts c.self.invariant).length in let h = rw (← c.self.view_is) at c.requires.within in let o = c.requires.order in omega arith)
+pub find-spot-requires : goal.find-spot-requires
+find-spot-requires c = index_of c.self.invariant c.args.start refl (let l = (kept_facts c.self.invariant).length in let h = rw (← c.self.view_is) at c.requires.within in let o = c.requires.order in omega arith)
 
-pub push_parts-requires-clause-place : goal.push_parts-requires-clause-place
-push_parts-requires-clause-place c = found c.self.invariant c.find-place.ensures c.args.start refl (let l = (kept_facts c.self.invariant).length in let h = rw (← c.self.view_is) at c.requires.within in let o = c.requires.order in omega arith)
+pub push_entries-requires-clause-spot : goal.push_entries-requires-clause-spot
+push_entries-requires-clause-spot c = found c.self.invariant c.find-spot.ensures c.args.start refl (let l = (kept_facts c.self.invariant).length in let h = rw (← c.self.view_is) at c.requires.within in let o = c.requires.order in omega arith)
 
-pub push_parts-requires-clause-distinct : goal.push_parts-requires-clause-distinct
-push_parts-requires-clause-distinct c = c.self.invariant.distinct
+pub push_entries-requires-clause-distinct : goal.push_entries-requires-clause-distinct
+push_entries-requires-clause-distinct c = c.self.invariant.distinct
 
-pub push_parts-requires-clause-within : goal.push_parts-requires-clause-within
-push_parts-requires-clause-within c = let l = (kept_facts c.self.invariant).length in let n = c.self.invariant.len in let h = rw (← c.self.view_is) at c.requires.within in omega arith
+pub push_entries-requires-clause-within : goal.push_entries-requires-clause-within
+push_entries-requires-clause-within c = let l = (kept_facts c.self.invariant).length in let n = c.self.invariant.len in let h = rw (← c.self.view_is) at c.requires.within in omega arith
 
-pub push_parts-requires-clause-bounded : goal.push_parts-requires-clause-bounded
-push_parts-requires-clause-bounded c = let f = kept_facts c.self.invariant in let l = f.length in let h = rw (← c.self.view_is) at c.requires.within in let b = f.bounded (omega arith) in omega arith
+pub push_entries-requires-clause-bounded : goal.push_entries-requires-clause-bounded
+push_entries-requires-clause-bounded c = let f = kept_facts c.self.invariant in let l = f.length in let h = rw (← c.self.view_is) at c.requires.within in let b = f.bounded (omega arith) in omega arith

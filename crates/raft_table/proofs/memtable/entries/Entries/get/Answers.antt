@@ -2,7 +2,7 @@ use Rattle.std.proofs.Common.{◌-◌, arith, sym}
 use Rattle.raft_table.specs.Blocks.{block_spans, shown, entries_in_blocks}
 use Rattle.raft_table.specs.BlockWords.{IsAt}
 use Rattle.raft_table.proofs.BlockLemmas.{rises_expanded}
-use Rattle.raft_table.proofs.BlockSearch.{entry_at_place}
+use Rattle.raft_table.proofs.BlockSearch.{entry_at_spot}
 use Rattle.raft_table.proofs.BlockCuts.{kept_facts}
 use Rattle.raft_table.proofs.LookupLemmas.{entry_at_low, entry_at_past}
 use Rattle.raft_table.proofs.BlockQueues.{block_at, block_within}
@@ -41,4 +41,4 @@ returns c =
     let a = c.find-whole.ensures c.self.inside.first (shown c.self.inside.blocks.items) c.self.invariant.starts (omega arith) (omega arith) in
     let b = block_at c.self.inside.blocks.items c.index-block.result.now a c.index-block.ensures in
     rw (← c.self.view_is)
-    (entry_at_place c.args.index c.self.inside.first c.find-whole.result.0 c.find-whole.result.1 (shown c.self.inside.blocks.items) (block_spans c.index-block.result.now) c.index-span.result.now (omega arith) a b.same c.index-span.ensures)
+    (entry_at_spot c.args.index c.self.inside.first c.find-whole.result.0 c.find-whole.result.1 (shown c.self.inside.blocks.items) (block_spans c.index-block.result.now) c.index-span.result.now (omega arith) a b.same c.index-span.ensures)

@@ -6,7 +6,7 @@ use Rattle.raft_table.specs.TableEntries.{AreTableEntries, start_of}
 use Rattle.raft_table.proofs.SoundLemmas.{sound_rising}
 use Rattle.raft_table.proofs.BlockKept.{IsKeptAs, kept_join, sound_fits, blocks_filled}
 use Rattle.raft_table.proofs.BlockCuts.{found, index_of, kept_length, front_of, kept_facts, kept_nil}
-use Rattle.raft_table.proofs.BlockQueues.{block_within, place_inside}
+use Rattle.raft_table.proofs.BlockQueues.{block_within, spot_inside}
 use Rattle.raft_table.proofs.memtable.entries.Entries.join.Goals as goal
 
 pub overflow_add-self-inside : goal.overflow_add-self-inside
@@ -16,7 +16,7 @@ pub search-whole-requires : goal.search-whole-requires
 search-whole-requires c = index_of c.self.invariant (c.args.keep - 1) refl (let l = (kept_facts c.self.invariant).length in let h = (rw (← c.self.view_is) at c.requires.keep.1) in let p = c.requires.keep.0 in omega arith)
 
 pub overflow_add-last : goal.overflow_add-last
-overflow_add-last c = let a = (found c.self.invariant c.search-whole.ensures (c.args.keep - 1) refl (let l = (kept_facts c.self.invariant).length in let h = (rw (← c.self.view_is) at c.requires.keep.1) in let p = c.requires.keep.0 in omega arith)) in let p = a.place in omega arith
+overflow_add-last c = let a = (found c.self.invariant c.search-whole.ensures (c.args.keep - 1) refl (let l = (kept_facts c.self.invariant).length in let h = (rw (← c.self.view_is) at c.requires.keep.1) in let p = c.requires.keep.0 in omega arith)) in let p = a.spot in omega arith
 
 pub overflow_add-whole : goal.overflow_add-whole
 overflow_add-whole c = let w = block_within c.self.inside.blocks.items (found c.self.invariant c.search-whole.ensures (c.args.keep - 1) refl (let l = (kept_facts c.self.invariant).length in let h = (rw (← c.self.view_is) at c.requires.keep.1) in let p = c.requires.keep.0 in omega arith)) in omega (arith, c.self.inside.blocks.ok)
@@ -24,10 +24,10 @@ overflow_add-whole c = let w = block_within c.self.inside.blocks.items (found c.
 pub put_blocks-requires-clause-order : goal.put_blocks-requires-clause-order
 put_blocks-requires-clause-order c = let w = block_within c.self.inside.blocks.items (found c.self.invariant c.search-whole.ensures (c.args.keep - 1) refl (let l = (kept_facts c.self.invariant).length in let h = (rw (← c.self.view_is) at c.requires.keep.1) in let p = c.requires.keep.0 in omega arith)) in omega (arith, c.self.inside.blocks.ok)
 
-pub put_blocks-requires-clause-part : goal.put_blocks-requires-clause-part
-put_blocks-requires-clause-part c d p =
+pub put_blocks-requires-clause-kept : goal.put_blocks-requires-clause-kept
+put_blocks-requires-clause-kept c d p =
     let e : c.search-whole.result.0 ≡ c.search-whole.result.0 + 1 - 1 = omega arith in
-    subst (λ k. c.search-whole.result.1 + 1 ≤ length (get_or c.self.inside.blocks.items k d).spans.items) e (let w = place_inside c.self.inside.blocks.items (found c.self.invariant c.search-whole.ensures (c.args.keep - 1) refl (let l = (kept_facts c.self.invariant).length in let h = (rw (← c.self.view_is) at c.requires.keep.1) in let p = c.requires.keep.0 in omega arith)) d in omega arith)
+    subst (λ k. c.search-whole.result.1 + 1 ≤ length (get_or c.self.inside.blocks.items k d).spans.items) e (let w = spot_inside c.self.inside.blocks.items (found c.self.invariant c.search-whole.ensures (c.args.keep - 1) refl (let l = (kept_facts c.self.invariant).length in let h = (rw (← c.self.view_is) at c.requires.keep.1) in let p = c.requires.keep.0 in omega arith)) d in omega arith)
 
 pub put_blocks-requires-clause-starts : goal.put_blocks-requires-clause-starts
 put_blocks-requires-clause-starts c = kept_length c.self.invariant ∙ length-map c.self.inside.blocks.items block_spans

@@ -11,7 +11,7 @@ pub search-whole-requires : goal.search-whole-requires
 search-whole-requires c = index_of c.self.invariant (c.args.count - 1) refl (let l = (kept_facts c.self.invariant).length in let h = rw (← c.self.view_is) at c.requires in omega arith)
 
 pub overflow_add-last : goal.overflow_add-last
-overflow_add-last c = let a = (found c.self.invariant c.search-whole.ensures (c.args.count - 1) refl (let l = (kept_facts c.self.invariant).length in let h = rw (← c.self.view_is) at c.requires in omega arith)) in let p = a.place in omega arith
+overflow_add-last c = let a = (found c.self.invariant c.search-whole.ensures (c.args.count - 1) refl (let l = (kept_facts c.self.invariant).length in let h = rw (← c.self.view_is) at c.requires in omega arith)) in let p = a.spot in omega arith
 
 pub cut_back-requires : goal.cut_back-requires
 cut_back-requires c = record { whole = block_within c.self.inside.blocks.items (found c.self.invariant c.search-whole.ensures (c.args.count - 1) refl (let l = (kept_facts c.self.invariant).length in let h = rw (← c.self.view_is) at c.requires in omega arith)) }

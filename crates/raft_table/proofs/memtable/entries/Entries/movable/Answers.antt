@@ -5,11 +5,11 @@ use Rattle.raft_table.proofs.memtable.entries.Entries.movable.Goals as goal
 pub overflow_add-self-inside : goal.overflow_add-self-inside
 overflow_add-self-inside c = let f = kept_facts c.self.invariant in let l = f.length in let h = rw (← c.self.view_is) at c.requires.within in let b = f.bounded (omega arith) in omega arith
 
-pub find-place-requires : goal.find-place-requires
-find-place-requires c = index_of c.self.invariant c.args.at refl (let l = (kept_facts c.self.invariant).length in let h = rw (← c.self.view_is) at c.requires.within in let o = c.requires.order in omega arith)
+pub find-spot-requires : goal.find-spot-requires
+find-spot-requires c = index_of c.self.invariant c.args.at refl (let l = (kept_facts c.self.invariant).length in let h = rw (← c.self.view_is) at c.requires.within in let o = c.requires.order in omega arith)
 
-pub movable_from-requires-clause-place : goal.movable_from-requires-clause-place
-movable_from-requires-clause-place c = found c.self.invariant c.find-place.ensures c.args.at refl (let l = (kept_facts c.self.invariant).length in let h = rw (← c.self.view_is) at c.requires.within in let o = c.requires.order in omega arith)
+pub movable_from-requires-clause-spot : goal.movable_from-requires-clause-spot
+movable_from-requires-clause-spot c = found c.self.invariant c.find-spot.ensures c.args.at refl (let l = (kept_facts c.self.invariant).length in let h = rw (← c.self.view_is) at c.requires.within in let o = c.requires.order in omega arith)
 
 pub movable_from-requires-clause-distinct : goal.movable_from-requires-clause-distinct
 movable_from-requires-clause-distinct c = c.self.invariant.distinct

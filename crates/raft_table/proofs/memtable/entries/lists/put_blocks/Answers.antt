@@ -16,8 +16,8 @@ pub returns-clause-blocks : goal.returns-clause-blocks
 returns-clause-blocks c =
     let b = c.meet.new.blocks.items in
     let m = c.meet.new.more.items in
-    ap shown c.splice.ensures.items ∙ shown_three c.args.place.0 c.args.rest b m
+    ap shown c.splice.ensures.items ∙ shown_three c.args.spot.0 c.args.rest b m
     ∙ ap (λ ys. ys ++ drop c.args.rest (shown b)) c.in_ok-meet.ensures.front
-    ∙ ap (λ ys. joined_blocks (cut_last c.args.place.1 (take c.args.place.0 (shown c.make_room.new.deque.items))) (shown c.make_room.new.more.items) ++ ys) (c.in_ok-meet.ensures.behind c.args.rest c.requires.order)
-    ∙ ap (λ xs. joined_blocks (cut_last c.args.place.1 (take c.args.place.0 (shown xs))) (shown c.make_room.new.more.items) ++ drop c.args.rest (shown xs)) c.make_room.ensures.items.0
-    ∙ ap (λ ms. joined_blocks (cut_last c.args.place.1 (take c.args.place.0 (shown c.args.blocks.now.items))) (shown ms) ++ drop c.args.rest (shown c.args.blocks.now.items)) c.make_room.ensures.items.1
+    ∙ ap (λ ys. joined_blocks (cut_last c.args.spot.1 (take c.args.spot.0 (shown c.make_room.new.deque.items))) (shown c.make_room.new.more.items) ++ ys) (c.in_ok-meet.ensures.behind c.args.rest c.requires.order)
+    ∙ ap (λ xs. joined_blocks (cut_last c.args.spot.1 (take c.args.spot.0 (shown xs))) (shown c.make_room.new.more.items) ++ drop c.args.rest (shown xs)) c.make_room.ensures.items.0
+    ∙ ap (λ ms. joined_blocks (cut_last c.args.spot.1 (take c.args.spot.0 (shown c.args.blocks.now.items))) (shown ms) ++ drop c.args.rest (shown c.args.blocks.now.items)) c.make_room.ensures.items.1

@@ -4,4 +4,4 @@ use Rattle.raft_table.proofs.memtable.entries.lists.spans_behind.Given as goal
 
 abbrev pub invariant-loop-i : goal.invariant-loop-i
 invariant-loop-i l =
-    (l.behind.items ≡ drop l.part (take l.i l.spans.items)) × (deque_len l.behind ≡ l.i - l.part) × (length l.spans.items - l.part ≤ deque_capacity l.behind)
+    (l.behind.items ≡ drop l.dropped (take l.i l.spans.items)) × (deque_len l.behind ≡ l.i - l.dropped) × (length l.spans.items - l.dropped ≤ deque_capacity l.behind)

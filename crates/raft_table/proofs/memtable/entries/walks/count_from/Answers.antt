@@ -13,8 +13,8 @@ index-requires c =
     let b = block_at c.args.blocks.now.items c.index-block.result.now (c.loop-i.invariant.0 c.loop-i-test.true) c.index-block.ensures in
     let w = b.inside in omega (arith, c.index-block.result.now.spans.ok)
 
-pub next-place-requires-clause-inside : goal.next-place-requires-clause-inside
-next-place-requires-clause-inside c =
+pub next-spot-requires-clause-inside : goal.next-spot-requires-clause-inside
+next-spot-requires-clause-inside c =
     let b = block_at c.args.blocks.now.items c.index-block.result.now (c.loop-i.invariant.0 c.loop-i-test.true) c.index-block.ensures in
     b.inside
 
@@ -29,7 +29,7 @@ returns-then-total-gt0 c j =
     let a = c.loop-i.invariant.0 c.loop-i-test.true in
     let b = block_at c.args.blocks.now.items c.index-block.result.now a c.index-block.ensures in
     let d = entry_of 0 c.index-block.result.now.handle c.index.result.now in
-    let len = walk_len j c.args.start c.loop-i.i c.loop-i.place.0 c.loop-i.place.1 c.args.end c.from.result bs (block_spans c.index-block.result.now) c.index.result.now d a b.same c.index.ensures c.from.ensures i c.loop-i-test.true in
+    let len = walk_len j c.args.start c.loop-i.i c.loop-i.spot.0 c.loop-i.spot.1 c.args.end c.from.result bs (block_spans c.index-block.result.now) c.index.result.now d a b.same c.index.ensures c.from.ensures i c.loop-i-test.true in
     limit_stops c.args.limit n c.loop-i.total c.from.result xs d (omega (arith, length-drop c.args.start (take c.args.end es), length-take c.args.end es, length-expanded j bs))
     (c.loop-i.invariant.2 j) len c.if-sum-limit.true c.if-total-gt0.true (c.loop-i.invariant.3 j)
 
@@ -42,13 +42,13 @@ loop-i-preserved c =
     let a = c.loop-i.invariant.0 c.loop-i-test.true in
     let b = block_at c.args.blocks.now.items c.index-block.result.now a c.index-block.ensures in
     let d = entry_of 0 c.index-block.result.now.handle c.index.result.now in
-    let len = λ (j : ℕ). walk_len j c.args.start c.loop-i.i c.loop-i.place.0 c.loop-i.place.1 c.args.end c.from.result bs (block_spans c.index-block.result.now) c.index.result.now d a b.same c.index.ensures c.from.ensures i c.loop-i-test.true in
+    let len = λ (j : ℕ). walk_len j c.args.start c.loop-i.i c.loop-i.spot.0 c.loop-i.spot.1 c.args.end c.from.result bs (block_spans c.index-block.result.now) c.index.result.now d a b.same c.index.ensures c.from.ensures i c.loop-i-test.true in
     let k : c.loop-i.i + 1 - c.args.start ≡ suc n = omega arith in
     let bound = c.loop-i.invariant.1 in
     let more = λ (j : ℕ). limit_more c.args.limit n c.loop-i.total c.from.result (drop c.args.start (take c.args.end (entries_in_blocks j bs))) d
     (omega (arith, length-drop c.args.start (take c.args.end (entries_in_blocks j bs)), length-take c.args.end (entries_in_blocks j bs), length-expanded j bs))
     (c.loop-i.invariant.2 j) (len j) c.else-sum-limit.either (c.loop-i.invariant.3 j) in
-    rw k (λ l. c.next-place.ensures c.loop-i.i bs a c.requires.distinct b.same (omega arith), omega arith, λ j. (more j).0, λ j. (more j).1)
+    rw k (λ l. c.next-spot.ensures c.loop-i.i bs a c.requires.distinct b.same (omega arith), omega arith, λ j. (more j).0, λ j. (more j).1)
 
 pub returns : goal.returns
 returns c j =

@@ -6,7 +6,7 @@ use Rattle.raft_table.proofs.memtable.entries.walks.count_from.Given as goal
 
 abbrev pub invariant-loop-i : goal.invariant-loop-i
 invariant-loop-i l =
-    (l.i < l.end → IsAt l.i (shown l.blocks.items) l.place.0 l.place.1)
+    (l.i < l.end → IsAt l.i (shown l.blocks.items) l.spot.0 l.spot.1)
     × (l.total ≤ (l.i - l.start) * 2 ^ 32)
     × ((j : ℕ) → l.total ≡ total_len (l.i - l.start) (drop l.start (take l.end (entries_in_blocks j (shown l.blocks.items)))))
     × ((j n : ℕ) → n < l.i - l.start → is_too_many (Some l.limit) n (drop l.start (take l.end (entries_in_blocks j (shown l.blocks.items)))) ≡ false)

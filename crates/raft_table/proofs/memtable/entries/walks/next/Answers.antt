@@ -5,8 +5,8 @@ use Rattle.raft_table.proofs.memtable.entries.walks.next.Goals as goal
 
 pub returns-then-at-len : goal.returns-then-at-len
 returns-then-at-len c p bs a h q l =
-    walk_next_span p c.args.place.0 c.args.place.1 bs (block_spans c.args.block.now) a q (let t = c.if-at-len.true in omega (arith, c.args.block.now.spans.ok))
+    walk_next_span p c.args.spot.0 c.args.spot.1 bs (block_spans c.args.block.now) a q (let t = c.if-at-len.true in omega (arith, c.args.block.now.spans.ok))
 
 pub returns : goal.returns
 returns c p bs a h q l =
-    walk_next_block p c.args.place.0 c.args.place.1 bs (block_spans c.args.block.now) a h q (let t = c.if-at-len.false in omega (arith, c.args.block.now.spans.ok)) l
+    walk_next_block p c.args.spot.0 c.args.spot.1 bs (block_spans c.args.block.now) a h q (let t = c.if-at-len.false in omega (arith, c.args.block.now.spans.ok)) l

@@ -11,12 +11,12 @@ overflow_sub-len c =
     let b = block_at c.args.blocks.now.items c.index-block.result.now (c.loop-done.invariant.2 c.loop-done-test.true) c.index-block.ensures in
     let w = b.inside in omega (arith, c.index-block.result.now.spans.ok)
 
-pub push_unset_part-requires-clause-within : goal.push_unset_part-requires-clause-within
-push_unset_part-requires-clause-within c =
+pub push_unset_of-requires-clause-within : goal.push_unset_of-requires-clause-within
+push_unset_of-requires-clause-within c =
     let b = block_at c.args.blocks.now.items c.index-block.result.now (c.loop-done.invariant.2 c.loop-done-test.true) c.index-block.ensures in
     let w = b.inside in omega (arith, c.index-block.result.now.spans.ok)
 
-step : (c : goal.After-push_unset_part) → IsStep c.loop-done.done c.loop-done.whole c.loop-done.at c.min-count.result c.args.end (shown c.args.blocks.now.items) (block_spans c.index-block.result.now)
+step : (c : goal.After-push_unset_of) → IsStep c.loop-done.done c.loop-done.whole c.loop-done.at c.min-count.result c.args.end (shown c.args.blocks.now.items) (block_spans c.index-block.result.now)
 step c =
     let a = c.loop-done.invariant.2 c.loop-done-test.true in
     let b = block_at c.args.blocks.now.items c.index-block.result.now a c.index-block.ensures in
@@ -41,9 +41,9 @@ loop-done-preserved c =
       omega arith,
       order,
       s.next,
-      (let l = c.loop-done.invariant.3 in omega (arith, c.push_unset_part.ensures.len)),
-      c.push_unset_part.ensures.capacity ∙ c.loop-done.invariant.4,
-      c.push_unset_part.ensures.items ∙ ap (λ zs. zs ++ map unset ys) c.loop-done.invariant.5 ∙ append_assoc c.args.vec.now.items (map unset xs) (map unset ys)
+      (let l = c.loop-done.invariant.3 in omega (arith, c.push_unset_of.ensures.len)),
+      c.push_unset_of.ensures.capacity ∙ c.loop-done.invariant.4,
+      c.push_unset_of.ensures.items ∙ ap (λ zs. zs ++ map unset ys) c.loop-done.invariant.5 ∙ append_assoc c.args.vec.now.items (map unset xs) (map unset ys)
           ∙ ap (λ zs. c.args.vec.now.items ++ zs) (sym (map-append unset xs ys)
           ∙ ap (map unset) (sym (walk_more c.args.first c.args.start c.loop-done.done c.loop-done.whole c.loop-done.at c.min-count.result bs (block_spans c.index-block.result.now) low a b.same s.within (omega arith)))),
     )

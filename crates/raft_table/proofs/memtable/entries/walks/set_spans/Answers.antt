@@ -13,12 +13,12 @@ overflow_sub-len c =
     let b = block_at c.args.blocks.now.items c.index-block.result.now (c.loop-done.invariant.2 c.loop-done-test.true) c.index-block.ensures in
     let w = b.inside in omega (arith, c.index-block.result.now.spans.ok)
 
-pub set_part-requires-clause-within : goal.set_part-requires-clause-within
-set_part-requires-clause-within c =
+pub set_spans_of-requires-clause-within : goal.set_spans_of-requires-clause-within
+set_spans_of-requires-clause-within c =
     let b = block_at c.args.blocks.now.items c.index-block.result.now (c.loop-done.invariant.2 c.loop-done-test.true) c.index-block.ensures in
     let w = b.inside in omega (arith, c.index-block.result.now.spans.ok)
 
-step : (c : goal.After-set_part) → IsStep c.loop-done.done c.loop-done.whole c.loop-done.at c.min-count.result c.args.end (shown c.args.blocks.now.items) (block_spans c.index-block.result.now)
+step : (c : goal.After-set_spans_of) → IsStep c.loop-done.done c.loop-done.whole c.loop-done.at c.min-count.result c.args.end (shown c.args.blocks.now.items) (block_spans c.index-block.result.now)
 step c =
     let a = c.loop-done.invariant.2 c.loop-done-test.true in
     let b = block_at c.args.blocks.now.items c.index-block.result.now a c.index-block.ensures in
@@ -43,7 +43,7 @@ loop-done-preserved c =
       omega arith,
       order,
       s.next,
-      c.set_part.ensures.len ∙ c.loop-done.invariant.3,
+      c.set_spans_of.ensures.len ∙ c.loop-done.invariant.3,
       λ i front m e.
           let es = entries_in_blocks i bs in
           let xs = drop c.args.start (take done es) in
@@ -58,7 +58,7 @@ loop-done-preserved c =
           c.loop-done.invariant.4 i front m e ∙ ap (λ zs. (front ++ xs) ++ map unset zs) split in
           let t : length (take done es) ≡ done = length-take-le done es (rw (length-expanded i bs) (omega arith)) in
           let long : length (front ++ xs) ≡ c.args.len + (done - c.args.start) = length-append front xs ∙ omega (arith, length-drop c.args.start (take done es)) in
-          c.set_part.ensures.items
+          c.set_spans_of.ensures.items
           ∙ ap (λ zs. take (c.args.len + (done - c.args.start)) zs ++ with_spans ss (drop (c.args.len + (done - c.args.start)) zs)) was
           ∙ part_set (front ++ xs) (c.args.len + (done - c.args.start)) (i + done) h ss rest long
           ∙ ap (λ zs. zs ++ map unset rest) (append_assoc front xs (spread (i + done) h ss) ∙ ap (λ zs. front ++ zs) (sym more)),

@@ -2,7 +2,7 @@ use Rattle.std.proofs.Common.{◌≡◌, ◌+◌, ◌-◌, ◌++◌, map, take, 
 use Rattle.std.specs.Vec.{vec_len, vec_capacity}
 use Rattle.raft_table.specs.Blocks.{spread}
 use Rattle.raft_table.specs.BlockWords.{unset}
-use Rattle.raft_table.proofs.memtable.entries.walks.push_unset_part.Given as goal
+use Rattle.raft_table.proofs.memtable.entries.walks.push_unset_of.Given as goal
 
 abbrev pub invariant-loop-index : goal.invariant-loop-index
 invariant-loop-index l =

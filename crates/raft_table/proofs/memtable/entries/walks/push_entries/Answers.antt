@@ -3,7 +3,7 @@ use Rattle.std.proofs.lemmas.List.{length-append, length-drop, length-map, lengt
 use Rattle.raft_table.specs.Blocks.{shown, entries_in_blocks}
 use Rattle.raft_table.specs.BlockWords.{unset}
 use Rattle.raft_table.proofs.BlockLemmas.{length-expanded}
-use Rattle.raft_table.proofs.memtable.entries.walks.push_parts.Goals as goal
+use Rattle.raft_table.proofs.memtable.entries.walks.push_entries.Goals as goal
 
 pub set_spans-requires-clause-there : goal.set_spans-requires-clause-there
 set_spans-requires-clause-there c =

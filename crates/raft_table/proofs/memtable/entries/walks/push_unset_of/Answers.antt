@@ -4,7 +4,7 @@ use Rattle.raft_base.specs.declared.entry_index.EntryIndex.{EntryIndex}
 use Rattle.raft_table.specs.Blocks.{spread}
 use Rattle.raft_table.specs.BlockWords.{unset}
 use Rattle.raft_table.proofs.SpanLemmas.{unset_more}
-use Rattle.raft_table.proofs.memtable.entries.walks.push_unset_part.Goals as goal
+use Rattle.raft_table.proofs.memtable.entries.walks.push_unset_of.Goals as goal
 
 pub loop-index-preserved : goal.loop-index-preserved
 loop-index-preserved c =

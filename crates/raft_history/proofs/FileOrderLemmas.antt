@@ -7,7 +7,7 @@ use Rattle.raft_base.specs.declared.pipe_log.LogQueue.{LogQueue}
 use Rattle.raft_base.specs.declared.pipe_log.LogQueue.TheVariants.{Append, Rewrite}
 use Rattle.raft_base.specs.declared.entry_index.EntryIndex.{EntryIndex}
 use Rattle.raft_base.specs.Runs.{end_of}
-use Rattle.raft_records.specs.ReadIn.{IsPlaceInFile}
+use Rattle.raft_records.specs.DecodedIn.{IsPlaceInFile}
 use Rattle.raft_table.specs.Queues.{is_same}
 use Rattle.raft_table.specs.Start.{entries_after_replay, leaves_hole}
 use Rattle.raft_table.specs.Steps.{Step, Run, Compact, Truncate, Put, Del, AtomicGroup, Clean, table_of, after_step, after}

@@ -4,7 +4,7 @@ use Rattle.raft_base.specs.declared.pipe_log.FileId.{FileId}
 use Rattle.raft_records.specs.declared.key_value.OpType.{OpType}
 use Rattle.raft_records.specs.declared.key_value.OpType.TheVariants.{Put, Del}
 use Rattle.raft_records.specs.Item.{Item, Content, entries, command, pair}
-use Rattle.raft_records.specs.ReadIn.{IsPlaceInFile, IsReadIn, AreReadIn}
+use Rattle.raft_records.specs.DecodedIn.{IsPlaceInFile, IsDecodedIn, AreDecodedIn}
 use Rattle.raft_records.specs.Spelling.{IsWritableWith}
 use Rattle.raft_history.specs.Histories.{IsPairIn, IsInFile, AreInFile}
 
@@ -13,11 +13,11 @@ pair_in file Put None w = absurd w
 pair_in file Put (Some v) w = refl
 pair_in file Del value w = tt
 
-content_in_file : (file : FileId) (content : Content) → IsReadIn file content → IsInFile file content
+content_in_file : (file : FileId) (content : Content) → IsDecodedIn file content → IsInFile file content
 content_in_file file (entries es) h = h
 content_in_file file (command c) h = tt
 content_in_file file (pair p) h = λ plain. subst (λ (id : Option FileId). IsPairIn file p.op_type p.value id) (sym h.1) (pair_in file p.op_type p.value h.0)
 
-pub items_in_file : (file : FileId) (items : List Item) → AreReadIn file items → AreInFile file items
+pub items_in_file : (file : FileId) (items : List Item) → AreDecodedIn file items → AreInFile file items
 items_in_file file [] h = tt
 items_in_file file (item ∷ items) h = (content_in_file file item.content h.0, items_in_file file items h.1)

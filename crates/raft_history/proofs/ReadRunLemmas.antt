@@ -7,7 +7,7 @@ use Rattle.raft_base.specs.declared.pipe_log.FileId.{FileId}
 use Rattle.raft_base.specs.declared.pipe_log.LogQueue.{LogQueue}
 use Rattle.raft_base.specs.declared.pipe_log.LogQueue.TheVariants.{Append, Rewrite}
 use Rattle.raft_base.specs.declared.entry_index.EntryIndex.{EntryIndex}
-use Rattle.raft_records.specs.ReadIn.{IsPlaceInFile, IsReadIn}
+use Rattle.raft_records.specs.DecodedIn.{IsPlaceInFile, IsDecodedIn}
 use Rattle.raft_records.specs.Item.{entries}
 use Rattle.raft_table.specs.Queues.{is_same}
 use Rattle.raft_table.specs.TableEntries.{IsRunIn, is_placed_in}
@@ -25,5 +25,5 @@ unfolding is_placed_in
 in_queue file [] h = tt
 in_queue file (e ∷ es) h = (is_in_queue file e.entries h.0, in_queue file es h.1)
 
-pub read_run : (file : FileId) (es : List EntryIndex) → IsReadIn file (entries es) → IsRunIn file.queue es
+pub read_run : (file : FileId) (es : List EntryIndex) → IsDecodedIn file (entries es) → IsRunIn file.queue es
 read_run file es h = record { consecutive = h.0; placed = in_queue file es h.1 }

@@ -4,7 +4,7 @@ use Rattle.std.specs.List.{AllByRecursion, cons_option, list_all}
 use Rattle.raft_base.specs.declared.pipe_log.FileId.{FileId}
 use Rattle.raft_base.specs.declared.entry_index.EntryIndex.{EntryIndex}
 use Rattle.raft_records.specs.declared.atomic_group.AtomicGroupStatus.TheVariants.{Middle}
-use Rattle.raft_records.specs.ReadIn.{IsPlaceInFile}
+use Rattle.raft_records.specs.DecodedIn.{IsPlaceInFile}
 use Rattle.raft_history.specs.Batches.{Event}
 use Rattle.raft_history.specs.Effects.{Numbered, has_status, Effect, steps_by}
 use Rattle.raft_history.specs.Histories.{records_in, AreInFile, HaveStatus}

@@ -6,7 +6,7 @@ ghost use Rattle.raft_base.specs.declared.pipe_log.FileId.{FileId};
 ghost use Rattle.raft_base.specs.declared.pipe_log.LogQueue.{LogQueue};
 ghost use Rattle.raft_base.specs.declared.pipe_log.LogQueue.TheVariants.{Append, Rewrite};
 ghost use Rattle.raft_records.specs.Item.{Item};
-ghost use Rattle.raft_records.specs.ReadIn.{AreReadIn};
+ghost use Rattle.raft_records.specs.DecodedIn.{AreDecodedIn};
 ghost use Rattle.raft_table.specs.TableEntries.{entry_at};
 ghost use Rattle.raft_table.specs.LastWord.{last_entry, last_pair};
 ghost use Rattle.raft_table.specs.Steps.{after, table_of};
@@ -86,5 +86,5 @@ pub fn least_files_of_both_are_least()
 /// What `next_batch` answers is as histories ask it of a batch of that file, so a test of it refuses
 /// nothing that was read.
 pub fn read_items_are_in_their_file()
-    ensures { (file : FileId) (items : List Item) → AreReadIn file items → AreInFile file items }
+    ensures { (file : FileId) (items : List Item) → AreDecodedIn file items → AreInFile file items }
 {}

@@ -3,13 +3,13 @@
 ghost use Rattle.std.specs.Prelude.{List};
 ghost use Rattle.raft_base.specs.declared.pipe_log.FileId.{FileId};
 ghost use Rattle.raft_base.specs.declared.entry_index.EntryIndex.{EntryIndex};
-ghost use Rattle.raft_records.specs.ReadIn.{IsReadIn};
+ghost use Rattle.raft_records.specs.DecodedIn.{IsDecodedIn};
 ghost use Rattle.raft_records.specs.Item.{entries};
 ghost use Rattle.raft_table.specs.TableEntries.{IsRunIn};
 
 /// The entries of an item that was read from a file are a run of the file's queue, as tables ask for:
 /// nobody tests it again.
 pub fn read_entries_are_runs()
-    ensures { (file : FileId) (es : List EntryIndex) → IsReadIn file (entries es)
+    ensures { (file : FileId) (es : List EntryIndex) → IsDecodedIn file (entries es)
         → IsRunIn file.queue es }
 {}

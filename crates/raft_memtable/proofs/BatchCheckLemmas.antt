@@ -15,7 +15,7 @@ use Rattle.raft_records.specs.declared.atomic_group.AtomicGroupStatus.{AtomicGro
 use Rattle.raft_records.specs.declared.atomic_group.AtomicGroupStatus.TheVariants.{Begin, Middle, End}
 use Rattle.raft_records.specs.Group.{status_byte, first_marker, marker_byte, IsGroupMarkerRead}
 use Rattle.raft_records.specs.Item.{Item}
-use Rattle.raft_records.specs.ReadIn.{IsPlaceInFile}
+use Rattle.raft_records.specs.DecodedIn.{IsPlaceInFile}
 use Rattle.raft_records.proofs.GroupLemmas.{one_byte, marker_is}
 use Rattle.raft_table.specs.TableEntries.{IsRunIn, is_placed_in}
 use Rattle.raft_table.specs.Queues.{is_same}

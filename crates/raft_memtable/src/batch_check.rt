@@ -5,7 +5,7 @@ ghost use Rattle.raft_base.specs.declared.pipe_log.LogQueue.TheVariants.{Append,
 ghost use Rattle.raft_records.specs.Faults.{IsAnyCorruption};
 ghost use Rattle.raft_records.specs.Group.{first_marker};
 ghost use Rattle.raft_records.specs.Item.{item_of, content_of, entries as entries_of, pair, pair_of};
-ghost use Rattle.raft_records.specs.ReadIn.{IsPlaceInFile};
+ghost use Rattle.raft_records.specs.DecodedIn.{IsPlaceInFile};
 ghost use Rattle.raft_history.specs.Histories.{IsInFile, AreInFile, HaveStatus};
 ghost use Rattle.raft_memtable.specs.BatchChecks.{marker_found};
 
@@ -50,8 +50,8 @@ pub(crate) fn check_batch(
 fn knows_file(batch: &LogItemBatch, file: FileId) -> bool
     ensures { IsTrue result → AreInFile file batch.now }
 {
-    match batch.read_in() {
-        Some(read_in) => read_in == file,
+    match batch.decoded_in() {
+        Some(decoded_in) => decoded_in == file,
         None => false,
     }
 }

@@ -2,13 +2,13 @@ pub mod BatchLemmas
 pub mod BufferLemmas
 pub mod CloneLemmas
 pub mod ContentLemmas
+pub mod DecodedInLemmas
 pub mod EntryLemmas
 pub mod EqualLemmas
 pub mod FrameLemmas
 pub mod GroupLemmas
 pub mod HeaderLemmas
 pub mod InBytesLemmas
-pub mod ReadInLemmas
 pub mod ItemLemmas
 pub mod JoinLemmas
 pub mod LayLemmas

@@ -1,5 +1,6 @@
 pub mod BatchModel
 pub mod Buffer
+pub mod DecodedIn
 pub mod Entries
 pub mod Faults
 pub mod FilePart
@@ -8,7 +9,6 @@ pub mod Grammar
 pub mod Group
 pub mod Header
 pub mod Item
-pub mod ReadIn
 pub mod ItemBatch
 pub mod Lines
 pub mod LogBatch

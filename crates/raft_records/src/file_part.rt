@@ -4,7 +4,7 @@ ghost use Rattle.std.specs.Prelude.{◌≡◌, ◌≢◌, ℕ, ◌+◌, ◌^◌,
 ghost use Rattle.raft_codec.specs.Reading.{HasNoFront};
 ghost use Rattle.raft_base.specs.Signature.{signature_in};
 ghost use Rattle.raft_records.specs.FilePart.{IsPartRefusal, IsNext, IsNextFault};
-ghost use Rattle.raft_records.specs.ReadIn.{AreReadIn};
+ghost use Rattle.raft_records.specs.DecodedIn.{AreDecodedIn};
 ghost use Rattle.raft_records.specs.LogBatch.{IsReadable};
 
 use crate::LogItemBatch;
@@ -137,7 +137,7 @@ impl FilePart {
 pub fn next_batch(part: &FilePart, at: usize) -> Result<Option<(LogItemBatch, usize)>>
     requires { at ≤ length part.now.bytes }
     ensures ok { IfOk result (IsNext part.now at) }
-    ensures in_file { IfOk result (λ next. IfSome next (λ batch. AreReadIn part.now.id batch.0)) }
+    ensures in_file { IfOk result (λ next. IfSome next (λ batch. AreDecodedIn part.now.id batch.0)) }
     ensures some { OnErr result (at < length part.now.bytes) }
     ensures refused { IfErr result (λ e. e ≢ Error.Memory
         → HasNoFront (λ bytes. IsReadable bytes (signature_in part.now.version part.now.id.seq))

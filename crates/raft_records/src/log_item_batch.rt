@@ -8,7 +8,7 @@ ghost use Rattle.raft_codec.specs.Reading.{Reads, HasNoFront, HasOneFront};
 ghost use Rattle.raft_base.specs.Signature.{signature_of, signature_in};
 ghost use Rattle.raft_base.specs.Runs.{IsConsecutive};
 ghost use Rattle.raft_records.specs.Grammar.{IsCommand, IsEntries, IsItem, IsKeyValue, end_of_content};
-ghost use Rattle.raft_records.specs.ReadIn.{AreReadIn};
+ghost use Rattle.raft_records.specs.DecodedIn.{AreDecodedIn};
 ghost use Rattle.raft_records.specs.Item.{Item, Pair, bare, bare_entry, bare_pair, entries, command, pair, content_of, item_of, entries_item, command_item, pair_item, AreInBytes, IsInBytes};
 ghost use Rattle.raft_records.specs.Entries.{Tile};
 ghost use Rattle.raft_records.specs.ItemBatch.{AreItems, IsItemBatch, IsDecoded, AreItemsFault, IsItemBatchFault, checksum_bytes, batch_bytes, placed_item, raised_item, laid, entry_lengths, entry_bytes_of, end_of_items, FitsBehind, IsEncoded, no_checksum, FitTogether, first_entry};
@@ -48,8 +48,8 @@ pub struct LogItemBatch {
     entries_size: u32,
     /// The CRC of the encoded items, where it is known.
     checksum: Option<u32>,
-    /// The file of the places that `decode` gave the items, where nothing has changed since.
-    read_in: Option<FileId>,
+    /// The file in which `decode` gave the items their places, where nothing has changed since.
+    decoded_in: Option<FileId>,
 }
 
 impl Model for LogItemBatch {
@@ -75,7 +75,7 @@ impl LogItemBatch {
             item_size: 0,
             entries_size: 0,
             checksum: None,
-            read_in: None,
+            decoded_in: None,
         }
     }
 
@@ -90,7 +90,7 @@ impl LogItemBatch {
             item_size: 0,
             entries_size: 0,
             checksum: None,
-            read_in: None,
+            decoded_in: None,
         })
     }
 
@@ -125,10 +125,10 @@ impl LogItemBatch {
 
     /// The file in which `decode` gave the items their places, as long as none was added, moved or placed
     /// since: they may stand there, so nobody needs to test it. A clone has the same, any other batch none.
-    pub fn read_in(&self) -> Option<FileId>
-        ensures { IfSome result (λ file. AreReadIn file self.now) }
+    pub fn decoded_in(&self) -> Option<FileId>
+        ensures { IfSome result (λ file. AreDecodedIn file self.now) }
     {
-        self.read_in
+        self.decoded_in
     }
 
     /// How many bytes the entries of all items have together.
@@ -260,11 +260,11 @@ impl LogItemBatch {
         self.item_size = self.item_size.saturating_add(rhs.item_size);
         self.entries_size += rhs.entries_size;
         self.checksum = None;
-        self.read_in = None;
+        self.decoded_in = None;
         rhs.item_size = 0;
         rhs.entries_size = 0;
         rhs.checksum = None;
-        rhs.read_in = None;
+        rhs.decoded_in = None;
         Ok(())
     }
 
@@ -278,7 +278,7 @@ impl LogItemBatch {
         self.item_size = 0;
         self.entries_size = 0;
         self.checksum = None;
-        self.read_in = None;
+        self.decoded_in = None;
         items.into_iter()
     }
 
@@ -286,7 +286,7 @@ impl LogItemBatch {
     pub(crate) fn place(&mut self, handle: FileBlockHandle, compression_type: CompressionType)
         ensures { self.new ≡ map (placed_item handle compression_type) self.old }
     {
-        self.read_in = None;
+        self.decoded_in = None;
         place_items(&mut self.items, handle, compression_type);
     }
 
@@ -329,7 +329,7 @@ impl LogItemBatch {
     /// place `entries` and the compression type, every key value the file of `entries`. The slice then
     /// holds the bytes between the last item and the checksum, which are free. On `Err` it is as it
     /// was. Entries are consecutive, and a `Put` has a value: nobody needs to test it again. The batch
-    /// keeps the file of `entries` ([`LogItemBatch::read_in`]).
+    /// keeps the file of `entries` ([`LogItemBatch::decoded_in`]).
     pub fn decode(
         alloc: Global,
         buf: &mut BytesSlice<'_>,
@@ -340,7 +340,7 @@ impl LogItemBatch {
         ensures ok { IfOk result (λ batch.
             IsDecoded buf.old.now (signature_of context.now) entries compression_type batch
             buf.new.now) }
-        ensures in_file { IfOk result (AreReadIn entries.id) }
+        ensures in_file { IfOk result (AreDecodedIn entries.id) }
         ensures err { OnErr result (buf.new.now ≡ buf.old.now) }
         ensures refused { IfErr result (λ e. e ≢ Error.Memory →
             (items : List Item) (rest : List ℕ) →
@@ -357,10 +357,10 @@ impl LogItemBatch {
     /// The same items, with the file of their places beside them.
     #[inline(always)]
     fn with_file(mut self, file: FileId) -> LogItemBatch
-        requires { AreReadIn file self }
+        requires { AreDecodedIn file self }
         ensures { result ≡ self }
     {
-        self.read_in = Some(file);
+        self.decoded_in = Some(file);
         self
     }
 
@@ -382,7 +382,7 @@ impl LogItemBatch {
         self.item_size = self.item_size.saturating_add(size);
         self.entries_size = entries_size;
         self.checksum = None;
-        self.read_in = None;
+        self.decoded_in = None;
         Ok(())
     }
 }
@@ -425,7 +425,7 @@ impl Clone for LogItemBatch {
             item_size: self.item_size,
             entries_size: self.entries_size,
             checksum: self.checksum,
-            read_in: self.read_in,
+            decoded_in: self.decoded_in,
         })
     }
 }

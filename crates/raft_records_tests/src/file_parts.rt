@@ -92,14 +92,14 @@ fn has_block(part: &FilePart) -> Result<bool> {
     Ok(place(part)? == Some(handle))
 }
 
-/// Whether the first batch knows the file that it was read in, until an item is added.
+/// Whether the first batch knows the file that it was decoded in, until an item is added.
 fn knows_its_file(part: &FilePart) -> Result<bool> {
     let Some((mut batch, _)) = next_batch(part, 0)? else {
         return Ok(false);
     };
-    let read_in = batch.read_in();
+    let decoded_in = batch.decoded_in();
     batch.add_command(1, Command::Clean)?;
-    Ok(read_in == Some(file()) && batch.read_in().is_none())
+    Ok(decoded_in == Some(file()) && batch.decoded_in().is_none())
 }
 
 #[test]

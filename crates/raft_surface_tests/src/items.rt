@@ -96,7 +96,7 @@ fn put_message_of_changes_of_batches<S: Message>(
 fn bytes_of_batches() {
     let _encode: fn(&mut LogItemBatch, &mut Vec<u8>) -> Result<()> = LogItemBatch::encode;
     let _prepare_write: fn(&LogItemBatch, &mut [u8], &LogFileContext) = LogItemBatch::prepare_write;
-    let _read_in: fn(&LogItemBatch) -> Option<FileId> = LogItemBatch::read_in;
+    let _decoded_in: fn(&LogItemBatch) -> Option<FileId> = LogItemBatch::decoded_in;
 }
 
 fn decode_of_bytes_of_batches(

@@ -3,7 +3,7 @@ use Rattle.std.proofs.lemmas.Result.{err_from_is_err_and}
 use Rattle.raft_base.specs.Signature.{signature_of}
 use Rattle.raft_records.specs.ItemBatch.{HasSeal}
 use Rattle.raft_records.proofs.BatchLemmas.{no_items_count, no_items, counted_read, batch_read}
-use Rattle.raft_records.proofs.ReadInLemmas.{batch_in_file, decoded_in_file}
+use Rattle.raft_records.proofs.DecodedInLemmas.{batch_in_file, decoded_in_file}
 use Rattle.raft_records.proofs.log_item_batch.LogItemBatch.decode.Goals as goal
 
 pub returns-in_err-count-clause-refused : goal.returns-in_err-count-clause-refused

@@ -1,4 +1,4 @@
--- Items as they are read from a file.
+-- Items as they are decoded in a file.
 use Rattle.std.specs.Prelude.{◌≡◌, List, Option, Some, None}
 use Rattle.std.specs.List.{AllByRecursion}
 use Rattle.raft_base.specs.declared.pipe_log.FileBlockHandle.{FileBlockHandle}
@@ -14,12 +14,12 @@ IsPlaceInFile file None = ⊥
 IsPlaceInFile file (Some place) = place.id ≡ file
 
 -- entries are consecutive and have their places in the file; a change of a key is of this file, and a Put has a value
-abbrev pub IsReadIn : FileId → Content → Type 0
-IsReadIn file (entries es) =
+abbrev pub IsDecodedIn : FileId → Content → Type 0
+IsDecodedIn file (entries es) =
     IsConsecutive es × AllByRecursion (λ (e : EntryIndex). IsPlaceInFile file e.entries) es
-IsReadIn file (command c) = Unit {0}
-IsReadIn file (pair p) = IsWritablePair p × (p.file_id ≡ Some file)
+IsDecodedIn file (command c) = Unit {0}
+IsDecodedIn file (pair p) = IsWritablePair p × (p.file_id ≡ Some file)
 
 -- all items are so
-abbrev pub AreReadIn : FileId → List Item → Type 0
-AreReadIn file items = AllByRecursion (λ (item : Item). IsReadIn file item.content) items
+abbrev pub AreDecodedIn : FileId → List Item → Type 0
+AreDecodedIn file items = AllByRecursion (λ (item : Item). IsDecodedIn file item.content) items

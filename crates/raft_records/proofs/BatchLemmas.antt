@@ -60,16 +60,16 @@ kept_push xs x size entry_bytes size' checksum k f r b e =
 -- ---- places
 
 pub fits_placed : (handle : FileBlockHandle) (c : CompressionType) (s : ℕ) (content : Content) → FitsBehind s content → FitsBehind s (placed_item handle c (record { raft_group_id = 0; content = content })).content
-fits_placed block c s (entries es) h = (consecutive_placed es h.0, tile_placed s es h.1)
+fits_placed handle c s (entries es) h = (consecutive_placed es h.0, tile_placed s es h.1)
   where
-    from_placed : (i : ℕ) (es : List EntryIndex) → IsConsecutiveFrom i es → IsConsecutiveFrom i (map (placed_entry block c) es)
+    from_placed : (i : ℕ) (es : List EntryIndex) → IsConsecutiveFrom i es → IsConsecutiveFrom i (map (placed_entry handle c) es)
     from_placed i [] h = tt
     from_placed i (e ∷ es) h = (h.0, h.1, from_placed (i + 1) es h.2)
 
-    consecutive_placed : (es : List EntryIndex) → IsConsecutive es → IsConsecutive (map (placed_entry block c) es)
-    consecutive_placed es h = consecutive_from (started es h.run).start (map (placed_entry block c) es) (from_placed (started es h.run).start es (from_start es h))
+    consecutive_placed : (es : List EntryIndex) → IsConsecutive es → IsConsecutive (map (placed_entry handle c) es)
+    consecutive_placed es h = consecutive_from (started es h.run).start (map (placed_entry handle c) es) (from_placed (started es h.run).start es (from_start es h))
 
-    tile_placed : (s : ℕ) (es : List EntryIndex) → Tile s es → Tile s (map (placed_entry block c) es)
+    tile_placed : (s : ℕ) (es : List EntryIndex) → Tile s es → Tile s (map (placed_entry handle c) es)
     tile_placed s [] h = tt
     tile_placed s (e ∷ es) h = (h.0, h.1, tile_placed (s + e.entry_len) es h.2)
 fits_placed handle c s (command x) h = h

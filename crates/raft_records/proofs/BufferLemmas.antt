@@ -24,7 +24,7 @@ header_len offset c len =
 pub checksum_len : (signature : Option ℕ) (bytes : List ℕ) → length (checksum_bytes signature bytes) ≡ 4
 checksum_len signature bytes = four (signed_crc signature (crc32_of bytes))
 
--- a block begins with its entry bytes
+-- an entry block begins with its entry bytes
 block_begins : (es : List ℕ) → (more : List ℕ) × (entry_block es ≡ es ++ more)
 block_begins [] = ([], refl)
 block_begins (e ∷ es) = (checksum_bytes None (e ∷ es), refl)

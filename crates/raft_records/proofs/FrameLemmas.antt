@@ -15,7 +15,7 @@ use Rattle.raft_records.specs.Range.{AreInRange}
 use Rattle.raft_records.specs.Spelling.{content_bytes, item_bytes}
 use Rattle.raft_records.specs.ItemBatch.{signed_crc, checksum_bytes, batch_bytes, IsItemBatch}
 use Rattle.raft_records.specs.LogBatch.{IsBatchOf, header_bytes, entry_block, item_offset, unsealed_bytes, encoded_length, log_batch_bytes, IsLaidOut, IsLogBatch, IsReadable}
-use Rattle.raft_records.specs.Header.{IsHeader, IsBlockOf}
+use Rattle.raft_records.specs.Header.{IsHeader, IsEntryBlockOf}
 use Rattle.raft_records.specs.Parts.{IsFramed, HasParts}
 use Rattle.raft_records.proofs.BufferLemmas.{header_len}
 use Rattle.raft_records.proofs.HeaderLemmas.{byte_of_type}
@@ -108,15 +108,15 @@ readable bytes signature items =
 
 -- ---- entry blocks
 
--- a block is what stands in front, as long as it is
-block_is : (len : ℕ) (bytes es : List ℕ) → IsBlockOf len bytes es → take len bytes ≡ entry_block es
-block_is len bytes es (inl h) = ap (λ (n : ℕ). take n bytes) h.0 ∙ ap entry_block (sym h.1)
-block_is len bytes [] (inr h) = absurd (omega (arith, h.2.some))
-block_is len bytes (e ∷ es) (inr h) = h.2.split
+-- an entry block is what stands in front, as long as it is
+entry_block_is : (len : ℕ) (bytes es : List ℕ) → IsEntryBlockOf len bytes es → take len bytes ≡ entry_block es
+entry_block_is len bytes es (inl h) = ap (λ (n : ℕ). take n bytes) h.0 ∙ ap entry_block (sym h.1)
+entry_block_is len bytes [] (inr h) = absurd (omega (arith, h.2.some))
+entry_block_is len bytes (e ∷ es) (inr h) = h.2.split
 
-is_block : (len : ℕ) (bytes es : List ℕ) → len ≤ length bytes → take len bytes ≡ entry_block es → IsBlockOf len bytes es
-is_block len bytes [] le h = inl (omega (arith, ap length h, length-take-le len bytes le), refl)
-is_block len bytes (e ∷ es) le h =
+is_entry_block : (len : ℕ) (bytes es : List ℕ) → len ≤ length bytes → take len bytes ≡ entry_block es → IsEntryBlockOf len bytes es
+is_entry_block len bytes [] le h = inl (omega (arith, ap length h, length-take-le len bytes le), refl)
+is_entry_block len bytes (e ∷ es) le h =
     inr (omega (arith, ap length h, length-take-le len bytes le), le, record { some = omega arith; split = h })
 
 block_one : (es es' : List ℕ) → entry_block es ≡ entry_block es' → es ≡ es'
@@ -126,8 +126,8 @@ block_one (x ∷ es) [] h = absurd (omega (arith, ap length h))
 block_one (x ∷ es) (y ∷ es') h =
     same_length (x ∷ es) (y ∷ es') (checksum_bytes None (x ∷ es)) (checksum_bytes None (y ∷ es')) (omega (arith, ap length h, length-append (x ∷ es) (checksum_bytes None (x ∷ es)), length-append (y ∷ es') (checksum_bytes None (y ∷ es')), four (crc32_of (x ∷ es)), four (crc32_of (y ∷ es')))) h
 
-pub one_block : (len : ℕ) (bytes es es' : List ℕ) → IsBlockOf len bytes es → IsBlockOf len bytes es' → es ≡ es'
-one_block len bytes es es' h k = block_one es es' (sym (block_is len bytes es h) ∙ block_is len bytes es' k)
+pub one_entry_block : (len : ℕ) (bytes es es' : List ℕ) → IsEntryBlockOf len bytes es → IsEntryBlockOf len bytes es' → es ≡ es'
+one_entry_block len bytes es es' h k = block_one es es' (sym (entry_block_is len bytes es h) ∙ entry_block_is len bytes es' k)
 
 -- ---- log batches
 
@@ -139,10 +139,10 @@ parts bytes signature items es = (
       record {
         offset = 16 + length (entry_block es);
         frame = framed bytes signature items (entry_block es) h;
-        block = is_block (16 + length (entry_block es) - 16) (drop 16 bytes) es (omega (arith, at.2, length-drop 16 bytes)) (ap (λ (k : ℕ). take k (drop 16 bytes)) n ∙ ap (take (length (entry_block es))) at.0 ∙ take_at (entry_block es) h.footer (length (entry_block es)) refl);
+        entry_block = is_entry_block (16 + length (entry_block es) - 16) (drop 16 bytes) es (omega (arith, at.2, length-drop 16 bytes)) (ap (λ (k : ℕ). take k (drop 16 bytes)) n ∙ ap (take (length (entry_block es))) at.0 ∙ take_at (entry_block es) h.footer (length (entry_block es)) refl);
       },
   λ p.
-      subst (λ (t : List ℕ). IsLaidOut bytes signature items t) (block_is (p.offset - 16) (drop 16 bytes) es p.block) (laid_out bytes signature items p.offset p.frame).1,
+      subst (λ (t : List ℕ). IsLaidOut bytes signature items t) (entry_block_is (p.offset - 16) (drop 16 bytes) es p.entry_block) (laid_out bytes signature items p.offset p.frame).1,
 )
 
 -- what lies between a header and an item batch, and the item batch, are those of the bytes

@@ -38,12 +38,12 @@ abbrev pub IsHeaderFault : List ℕ → Error → Type 0
 IsHeaderFault bytes e =
     ((length bytes < 16) × IsCorruption (codes "Log batch header too short: " ++ decimal (length bytes)) e) ⊎ IsWordsFault bytes e
 
--- the entry bytes that a block of this length, in front of the bytes, holds; a block of length 0 holds none
-abbrev pub IsBlockOf : ℕ → List ℕ → List ℕ → Type 0
-IsBlockOf len bytes entry_bytes =
+-- the entry bytes that an entry block of this length, in front of the bytes, holds; one of length 0 holds none
+abbrev pub IsEntryBlockOf : ℕ → List ℕ → List ℕ → Type 0
+IsEntryBlockOf len bytes entry_bytes =
     ((len ≡ 0) × (entry_bytes ≡ [])) ⊎ ((0 < len) × (len ≤ length bytes) × HasSeal None (take len bytes) entry_bytes)
 
--- the bytes are shorter than the block, or the block doesn't end in its checksum, or there is no memory for its bytes
-abbrev pub IsBlockFault : ℕ → List ℕ → Error → Type 0
-IsBlockFault len bytes e =
+-- the bytes are shorter than the entry block, or it doesn't end in its checksum, or there is no memory for its entry bytes
+abbrev pub IsEntryBlockFault : ℕ → List ℕ → Error → Type 0
+IsEntryBlockFault len bytes e =
     IsMemory e ⊎ ((length bytes < len) × IsAnyCorruption e) ⊎ ((0 < len) × (len ≤ length bytes) × IsSealFault None (take len bytes) e)

@@ -129,7 +129,7 @@ pub record IsLaidOut (bytes : List ℕ) (signature : Option ℕ) (items : List I
   pub fits : length bytes < 2 ^ 56
   pub split : bytes ≡ header_bytes (16 + length between) compression (length bytes) ++ (between ++ footer)
 
--- a log batch: between header and item batch stands the block of its entry bytes
+-- a log batch: between header and item batch stands its entry block
 abbrev pub IsLogBatch : List ℕ → Option ℕ → List Item → List ℕ → Type 0
 IsLogBatch bytes signature items entry_bytes = IsLaidOut bytes signature items (entry_block entry_bytes)
 

@@ -6,7 +6,7 @@ use Rattle.raft_records.specs.Item.{Item, bare}
 use Rattle.raft_records.specs.Range.{AreInRange}
 use Rattle.raft_records.specs.ItemBatch.{IsItemBatch}
 use Rattle.raft_records.specs.LogBatch.{IsBatchOf, encoded_length, log_batch_bytes, IsLogBatch}
-use Rattle.raft_records.specs.Header.{IsHeader, IsBlockOf}
+use Rattle.raft_records.specs.Header.{IsHeader, IsEntryBlockOf}
 
 -- the bytes begin with a header, which gives their number and an offset; from that offset to the end is an item batch
 pub record IsFramed (bytes : List ℕ) (signature : Option ℕ) (items : List Item) (offset : ℕ) : Type 0 where
@@ -15,11 +15,11 @@ pub record IsFramed (bytes : List ℕ) (signature : Option ℕ) (items : List It
   pub header : Reads IsHeader bytes (drop 16 bytes) (offset, compression, length bytes)
   pub item_batch : IsItemBatch (drop offset bytes) signature items rest
 
--- bytes that are framed so, with the block of these entry bytes from the header to that offset
+-- bytes that are framed so, with the entry block of these entry bytes from the header to that offset
 pub record HasParts (bytes : List ℕ) (signature : Option ℕ) (items : List Item) (entry_bytes : List ℕ) : Type 0 where
   pub offset : ℕ
   pub frame : IsFramed bytes signature items offset
-  pub block : IsBlockOf (offset - 16) (drop 16 bytes) entry_bytes
+  pub entry_block : IsEntryBlockOf (offset - 16) (drop 16 bytes) entry_bytes
 
 -- what is written and signed of a batch that has items is a log batch of its items, without what bytes don't hold, and its entry bytes
 abbrev pub LogBatchIsSpelled : Type 0

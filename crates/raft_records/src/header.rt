@@ -1,10 +1,10 @@
-//! What stands around the items of a log batch: its header, and the block of its entry bytes.
+//! What stands around the items of a log batch: its header, and its entry block.
 
 ghost use Rattle.std.specs.Prelude.{◌≡◌, ◌≢◌, ℕ, ◌+◌, ◌≤◌, ◌<◌, ◌^◌, List, ◌++◌, [], length, take, drop, IfOk, IfErr, OnOk, OnErr};
 ghost use Rattle.raft_codec.specs.Reading.{Reads, HasNoFront};
 ghost use Rattle.raft_codec.specs.Fixed.{IsBig};
 ghost use Rattle.raft_base.specs.declared.compression_type.CompressionType.TheVariants as compressions;
-ghost use Rattle.raft_records.specs.Header.{IsHeader, IsHeaderFault, IsBlockOf, IsBlockFault};
+ghost use Rattle.raft_records.specs.Header.{IsHeader, IsHeaderFault, IsEntryBlockOf, IsEntryBlockFault};
 ghost use Rattle.raft_records.specs.LogBatch.{header_bytes, entry_block, item_offset, encoded, encoded_length, log_batch_bytes};
 ghost use Rattle.raft_records.specs.Buffer.{IsUnsealed, IsHeld, entry_bytes_in};
 ghost use Rattle.raft_records.specs.ItemBatch.{IsEncoded, batch_bytes, checksum_bytes};
@@ -119,18 +119,18 @@ pub(crate) fn offset_behind(entries_size: u32) -> usize
     }
 }
 
-/// The entry bytes in the block of `len` bytes in front of `bytes`; a block of length 0 holds none.
-pub(crate) fn parse_block(
+/// The entry bytes in the entry block of `len` bytes in front of `bytes`; one of length 0 holds none.
+pub(crate) fn parse_entry_block(
     alloc: Global,
     bytes: &[u8],
     len: usize,
     compression_type: CompressionType,
 ) -> Result<Vec<u8>>
-    ensures ok { IfOk result (λ entries. IsBlockOf len bytes.now entries.items) }
+    ensures ok { IfOk result (λ entries. IsEntryBlockOf len bytes.now entries.items) }
     ensures some { OnErr result (0 < len) }
     ensures refused { IfErr result (λ e. e ≢ Error.Memory →
-        (entries : List ℕ) → IsBlockOf len bytes.now entries → ⊥) }
-    ensures fault { IfErr result (IsBlockFault len bytes.now) }
+        (entries : List ℕ) → IsEntryBlockOf len bytes.now entries → ⊥) }
+    ensures fault { IfErr result (IsEntryBlockFault len bytes.now) }
 {
     if len == 0 {
         return Ok(Vec::new(alloc));

@@ -14,7 +14,7 @@ ghost use Rattle.raft_records.specs.FilePart.{Part, IsNext};
 ghost use Rattle.raft_records.specs.Item.{Item, bare, Pair, bare_entry, bare_pair, entries, command, pair, AreInBytes};
 ghost use Rattle.raft_records.specs.ItemBatch.{placed_item, IsItemBatch};
 ghost use Rattle.raft_records.specs.LogBatch.{IsBatchOf, IsLogBatch, IsReadable, encoded_length, entry_place, log_batch_bytes};
-ghost use Rattle.raft_records.specs.Header.{IsHeader, IsBlockOf};
+ghost use Rattle.raft_records.specs.Header.{IsHeader, IsEntryBlockOf};
 ghost use Rattle.raft_records.specs.Range.{AreInRange, IsContentInRange};
 ghost use Rattle.raft_records.specs.Parts.{IsFramed, HasParts, LogBatchIsSpelled};
 ghost use Rattle.raft_records.specs.Grammar.{IsCommand, IsEntries, IsItem, IsKeyValue};
@@ -72,8 +72,8 @@ pub fn log_batches_are_read_again()
     ensures readable { (bytes : List ℕ) (signature : Option ℕ) (items : List Item) →
         IsReadable bytes signature items ↔ ((offset : ℕ) × IsFramed bytes signature items offset) }
     ensures one_header { HasOneFront IsHeader }
-    ensures one_block { (len : ℕ) (bytes entry_bytes entry_bytes' : List ℕ) →
-        IsBlockOf len bytes entry_bytes → IsBlockOf len bytes entry_bytes'
+    ensures one_entry_block { (len : ℕ) (bytes entry_bytes entry_bytes' : List ℕ) →
+        IsEntryBlockOf len bytes entry_bytes → IsEntryBlockOf len bytes entry_bytes'
         → entry_bytes ≡ entry_bytes' }
     ensures one_batch { (bytes entry_bytes entry_bytes' : List ℕ) (signature : Option ℕ)
         (items items' : List Item) →

@@ -9,15 +9,15 @@ ghost use Rattle.raft_records.specs.Item.{Item, bare, command_item, item_of, pai
 ghost use Rattle.raft_records.specs.LogBatch.{Stage, populating, encoded, sealed, IsSealedStage, empty_batch, IsBatchOf, encoded_length, log_batch_bytes, IsLogBatch, approximate_length, entry_place};
 ghost use Rattle.raft_records.specs.Sizes.{HaveSmallNumbers};
 ghost use Rattle.raft_records.specs.Range.{AreInRange};
-ghost use Rattle.raft_records.specs.Header.{IsHeader, IsHeaderFault, IsBlockOf, IsBlockFault};
+ghost use Rattle.raft_records.specs.Header.{IsHeader, IsHeaderFault, IsEntryBlockOf, IsEntryBlockFault};
 ghost use Rattle.raft_records.specs.declared.key_value.OpType.TheVariants.{Put, Del};
 ghost use Rattle.raft_records.specs.Group.{reserved_key, IsKeyRefusal, IsMessageRefusal};
 ghost use Rattle.raft_records.specs.ItemBatch.{placed_item};
 
 use crate::checksum::LOG_BATCH_CHECKSUM_LEN;
 use crate::header::{
-    LOG_BATCH_HEADER_LEN, encode_behind, offset_behind, parse_block, parse_header, reserve_header,
-    seal,
+    LOG_BATCH_HEADER_LEN, encode_behind, offset_behind, parse_entry_block, parse_header,
+    reserve_header, seal,
 };
 use crate::laws::log_batches_are_read_again;
 use crate::{Command, LogItem, LogItemBatch, is_reserved};
@@ -273,21 +273,21 @@ impl LogBatch {
         Ok(header)
     }
 
-    /// The entry bytes in a block that stands in front of `buf`, of the length that its place says;
-    /// none where that is 0. A buffer that is too short and a wrong checksum are `Corruption`.
+    /// The entry bytes in the entry block that stands in front of `buf`, of the length that its place
+    /// says; none where that is 0. A buffer that is too short and a wrong checksum are `Corruption`.
     pub fn decode_entries_block(
         alloc: Global,
         buf: &[u8],
         place: FileBlockHandle,
         compression_type: CompressionType,
     ) -> Result<Vec<u8>>
-        ensures ok { IfOk result (λ entries. IsBlockOf place.len buf.now entries.items) }
+        ensures ok { IfOk result (λ entries. IsEntryBlockOf place.len buf.now entries.items) }
         ensures some { OnErr result (0 < place.len) }
         ensures refused { IfErr result (λ e. e ≢ Error.Memory →
-            (entries : List ℕ) → IsBlockOf place.len buf.now entries → ⊥) }
-        ensures fault { IfErr result (IsBlockFault place.len buf.now) }
+            (entries : List ℕ) → IsEntryBlockOf place.len buf.now entries → ⊥) }
+        ensures fault { IfErr result (IsEntryBlockFault place.len buf.now) }
     {
-        parse_block(alloc, buf, place.len, compression_type)
+        parse_entry_block(alloc, buf, place.len, compression_type)
     }
 }
 

@@ -58,7 +58,7 @@ static NO_HEADERS: [HeaderRow; 13] = [
 /// A header of a batch of 24 bytes without entry bytes.
 const HEADER: [u8; 16] = *b"\x00\x00\x00\x00\x00\x00\x18\x00\x00\x00\x00\x00\x00\x00\x00\x10";
 
-/// Bytes, how many of them a block has, and its entry bytes or why it is refused.
+/// Bytes, how many of them an entry block has, and its entry bytes or why it is refused.
 type BlockRow = (
     &'static [u8],
     usize,
@@ -219,7 +219,7 @@ fn is_no_header(alloc: Global, bytes: &[u8], text: &str) -> Result<bool> {
     Ok(is_corrupt(read, text)? && buf == bytes)
 }
 
-/// The entry bytes in the block of this length in front of bytes.
+/// The entry bytes in the entry block of this length in front of bytes.
 fn block(alloc: Global, bytes: &[u8], len: usize) -> Result<Vec<u8>> {
     let place = FileBlockHandle {
         id: FileId::new(LogQueue::Append, 12),
@@ -238,7 +238,7 @@ fn entry_blocks(rt: HostRuntime) {
     assert!(rt; answer.is_ok());
 }
 
-/// Blocks are read or refused as in the rows, and corrupt where they are cut short.
+/// Entry blocks are read or refused as in the rows, and corrupt where they are cut short.
 fn entry_blocks_end_in_their_checksum(rt: &impl Abort, alloc: Global) -> Result<()> {
     for row in block_rows() {
         assert!(rt; is_block_row(alloc, row)?, "{} bytes of {:?}", row.1, row.0);

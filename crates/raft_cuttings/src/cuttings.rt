@@ -188,7 +188,7 @@ fn cut(alloc: Global, batches: &[FilePart], cutting: u64) -> Result<Vec<Segment>
     let mut segment = Vec::new(alloc);
     let mut rest = cutting;
     for batch in batches {
-        segment.push(batch.share()?)?;
+        segment.push(batch.clone()?)?;
         if rest % 2 == 1 {
             segments.push(mem::replace(&mut segment, Vec::new(alloc)))?;
         }

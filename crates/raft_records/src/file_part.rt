@@ -87,8 +87,8 @@ impl FilePart {
         })
     }
 
-    /// The same part again, which shares its bytes. `Memory`.
-    pub fn share(&self) -> Result<FilePart>
+    /// The same part again, which shares its bytes. There may be no memory for it.
+    pub fn clone(&self) -> Result<FilePart>
         ensures ok { IfOk result (λ part. part ≡ self.now) }
         ensures memory { IfErr result (λ e. e ≡ Error.Memory) }
     {

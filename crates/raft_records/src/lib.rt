@@ -1,4 +1,4 @@
-//! Log records: items, batches of items, and their bytes.
+//! Items, batches of items, and their bytes.
 #![tactic(auto)]
 
 pub mod atomic_group;

@@ -1,4 +1,4 @@
-//! One change of one region's records.
+//! Items: what is said of one region.
 
 ghost use Rattle.std.specs.Prelude.{◌≡◌, ◌≢◌, ◌↔◌, ◌++◌, IsTrue, IfOk, IfErr, OnOk, OnErr};
 ghost use Rattle.std.specs.Option.{option_map};
@@ -27,14 +27,14 @@ const TYPE_COMMAND: u8 = 2;
 
 const TYPE_KV: u8 = 3;
 
-/// A change of the records of the region `raft_group_id`.
+/// What is said of the region `raft_group_id`.
 #[derive(Clone, PartialEq, Eq, Debug, Drop)]
 pub struct LogItem {
     pub raft_group_id: u64,
     pub content: LogItemContent,
 }
 
-/// What a log item changes.
+/// What an item says of its region.
 #[derive(Clone, PartialEq, Eq, Debug, Drop)]
 pub enum LogItemContent {
     /// New entries.
@@ -82,7 +82,7 @@ impl LogItem {
         }
     }
 
-    /// A change of the same records. There may be no memory for it.
+    /// The same change of the same region. There may be no memory for it.
     #[tactic(auto, using(crate::proofs::CloneLemmas::item_clone))]
     pub fn clone(&self) -> Result<LogItem>
         ensures ok { IfOk result (λ copy. item_of copy ≡ item_of self.now) }

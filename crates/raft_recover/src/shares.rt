@@ -77,7 +77,7 @@ fn append_short(
 {
     for part in segment {
         let pieces = (part.bytes().len() / share).saturating_mul(PIECES).max(1);
-        parts.append(&mut cut_part(alloc, part.share()?, pieces)?)?;
+        parts.append(&mut cut_part(alloc, part.clone()?, pieces)?)?;
     }
     Ok(())
 }

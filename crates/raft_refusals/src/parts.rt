@@ -118,14 +118,14 @@ fn block(alloc: Global, bytes: &[u8], len: usize) -> Result<Vec<u8>> {
     LogBatch::decode_entries_block(alloc, bytes, place, CompressionType::None)
 }
 
-/// A part is cut at its second batch, shared, and cut in as many parts as it has batches.
+/// A part is cut at its second batch, cloned, and cut in as many parts as it has batches.
 pub(crate) fn cuts(found: &mut Found) -> Result<()> {
     let mut front = part(found.alloc, 58)?;
     let rest = split_again(found, &mut front)?;
-    let shared = rest.share()?;
+    let clone = rest.clone()?;
     let parts = cut_part(found.alloc, part(found.alloc, 58)?, 8)?;
     let alloc = found.alloc;
-    let (offset, len) = (shared.offset(), shared.bytes().len());
+    let (offset, len) = (clone.offset(), clone.bytes().len());
     found.line(format!(in alloc; "rest at {offset} of {len}, parts {}", parts.len())?.as_str())
 }
 

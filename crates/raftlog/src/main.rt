@@ -1,4 +1,4 @@
-//! Prints the records of log files.
+//! Prints an item batch, or the tables that log files give.
 #![tactic(auto)]
 
 use raft_recover::{command_words, run, run_without_words};

@@ -1,5 +1,5 @@
 -- The text of a batch that was decoded: no line shows a place.
-use Rattle.std.proofs.Common.{◌≡◌, ℕ, List, [], ◌∷◌, ◌++◌, length, map, Option, None, Some, IfSome, refl, ap, sym, subst, ◌∙◌, ◌+◌}
+use Rattle.std.proofs.Common.{◌≡◌, ℕ, List, [], ◌∷◌, ◌++◌, length, map, Option, None, Some, IfSome, Result, Ok, Err, IfErr, OnErr, refl, ap, sym, subst, ◌∙◌, ◌+◌}
 use Rattle.std.proofs.lemmas.List.{length-map}
 use Rattle.std.specs.List.{flat_map}
 use Rattle.raft_base.specs.declared.pipe_log.FileBlockHandle.{FileBlockHandle}
@@ -40,3 +40,8 @@ of_input P None empty read bytes known none same h = tt
 of_input P (Some xs) empty read bytes known none same h =
     let whole : bytes ≡ xs = same ∙ rw none at known in
     subst P whole h
+
+-- what is so of an error, and what is so where there is one, give together what follows from both
+pub on_both : {T E : Type 0} {P S : E → Type 0} {Q : Type 0} (r : Result T E) → IfErr r P → OnErr r Q → ((e : E) → P e → Q → S e) → IfErr r S
+on_both (Ok t) p q follows = tt
+on_both (Err e) p q follows = follows e p q

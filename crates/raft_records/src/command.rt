@@ -108,9 +108,9 @@ fn append_indexed(buf: &mut Vec<u8>, kind: u8, index: u64) -> AllocResult<()>
 {
     let len = buf.len();
     buf.push(kind)?;
-    let written = codec::append_var_u64(buf, index);
-    if written.is_err() {
+    if let Err(e) = codec::append_var_u64(buf, index) {
         buf.truncate(len);
+        return Err(e);
     }
-    written
+    Ok(())
 }

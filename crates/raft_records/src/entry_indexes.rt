@@ -38,10 +38,7 @@ impl Placement {
     pub(crate) fn file_id(self) -> Option<FileId>
         ensures { result ≡ file_in self.handle }
     {
-        match self.handle {
-            Some(handle) => Some(handle.id),
-            None => None,
-        }
+        self.handle.map(|handle| handle.id)
     }
 }
 
@@ -132,11 +129,11 @@ impl EntryIndexes {
             ));
         }
         let len = buf.len();
-        let written = self.write(buf);
-        if written.is_err() {
+        if let Err(e) = self.write(buf) {
             buf.truncate(len);
+            return Err(e.into());
         }
-        Ok(written?)
+        Ok(())
     }
 
     /// Appends the entries' bytes. On `Err` some bytes may stand behind those of the vector.

@@ -127,11 +127,11 @@ impl KeyValue {
             return Err(Error::invalid_argument(*buf.allocator(), "a put has no value"));
         }
         let len = buf.len();
-        let written = self.write(buf);
-        if written.is_err() {
+        if let Err(e) = self.write(buf) {
             buf.truncate(len);
+            return Err(e.into());
         }
-        Ok(written?)
+        Ok(())
     }
 
     /// Appends the change's bytes. On `Err` some bytes may stand behind those of the vector.

@@ -166,11 +166,11 @@ impl LogItem {
             return Err(Error::invalid_argument(*buf.allocator(), "an item can't be written"));
         }
         let len = buf.len();
-        let written = self.write(buf);
-        if written.is_err() {
+        if let Err(e) = self.write(buf) {
             buf.truncate(len);
+            return Err(e.into());
         }
-        Ok(written?)
+        Ok(())
     }
 
     /// Appends the item's bytes. On `Err` some bytes may stand behind those of the vector.

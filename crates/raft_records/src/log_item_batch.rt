@@ -300,10 +300,9 @@ impl LogItemBatch {
         ensures memory { IfErr result (λ e. e ≡ Error.Memory) }
     {
         let start = buf.len();
-        let written = write_items(buf, self.items.as_slice());
-        if written.is_err() {
+        if let Err(e) = write_items(buf, self.items.as_slice()) {
             buf.truncate(start);
-            return Ok(written?);
+            return Err(e.into());
         }
         let end = buf.len() - LOG_BATCH_CHECKSUM_LEN;
         self.checksum = Some(crc32(&buf[start..end]));

@@ -41,8 +41,7 @@ pub fn print_batch<R: Read, W: Write>(
     let mut input = Vec::new(alloc);
     reader.read_to_end(&mut input)?;
     let text = batch_text(alloc, input.as_slice(), context)?;
-    write_whole(writer, text.as_bytes())?;
-    Ok(())
+    write_whole(writer, text.as_bytes())
 }
 
 /// Writes all of these bytes, and goes on behind a write that took a part or was interrupted. `Io` where the writer
@@ -54,6 +53,7 @@ pub fn write_whole<W: Write>(writer: &mut W, bytes: &[u8]) -> Result<()>
     ensures fault { IfErr result IsIoError }
 {
     let mut rest = bytes;
+    // Counted: an interrupted write leaves `rest` as it was, so a `loop` might never end.
     for _ in 0..u64::MAX {
         if rest.is_empty() {
             break;

@@ -18,7 +18,7 @@ use Rattle.raft_replay.proofs.SegmentLemmas.{batch_inside}
 
 -- ---- one batch
 
--- a batch that ends in front of a place stands in the bytes in front of it
+-- a batch that ends before a byte stands in the bytes before it
 in_front : (part : Part) (at i next : ℕ) (items : List Item) → next ≤ at → IsBatchAt part i items next → IsBatchAt (bytes_before part at) i items next
 in_front part at i next items before b = record {
   bytes = b.bytes;
@@ -50,7 +50,7 @@ in_front part at i next items before b = record {
         ∙ take-append-add b.bytes (drop next xs) more
         ∙ ap (λ (t : List ℕ). b.bytes ++ t) (sym (drop-take next more xs) ∙ ap (λ n. drop next (take n xs)) rest)
 
--- a batch in the bytes in front of a place stands in the part
+-- a batch in the bytes before one stands in the part
 of_front : (part : Part) (at i next : ℕ) (items : List Item) → IsBatchAt (bytes_before part at) i items next → IsBatchAt part i items next
 of_front part at i next items b = record {
   bytes = b.bytes;
@@ -85,7 +85,7 @@ place_from part at j offset =
     let same : part.offset + at + j + 16 ≡ part.offset + (at + j) + 16 = omega arith in
     ap (λ (n : ℕ). record { id = part.id; offset = n; len = offset - 16 }) same
 
--- a batch behind a place stands in the bytes from there on
+-- a batch from a byte on stands in the bytes from there on
 in_rest : (part : Part) (at j k : ℕ) (items : List Item) → IsBatchAt part (at + j) items (at + k) → IsBatchAt (rest_of part at) j items k
 in_rest part at j k items b = record {
   bytes = b.bytes;
@@ -108,7 +108,7 @@ of_rest part at j k items b = record {
   places = b.places ∙ ap (λ (p : FileBlockHandle). map (placed_item p b.frame.compression) b.read) (place_from part at j b.offset);
 }
 
--- the batch that stands at a place is as long as the header there says
+-- the batch that begins at a byte is as long as the header there says
 header_ends : (part : Part) (i next offset len : ℕ) (items : List Item) → HasHeader (drop i part.bytes) offset len → IsBatchAt part i items next → next ≡ i + len
 header_ends part i next offset len items h b =
     let f = b.frame.header in
@@ -119,7 +119,7 @@ header_ends part i next offset len items h b =
     let ends = b.ends in
     omega (arith, long)
 
--- ---- what is read in front of a place and from there on
+-- ---- what is read before a byte and from there on
 
 rest_read : (part : Part) (at j : ℕ) (h : List Event) → at ≤ length part.bytes → HoldsFrom part (at + j) h → HoldsFrom (rest_of part at) j h
 rest_read part at j [] inside ends = let n = length-drop at part.bytes in omega (arith, n, inside)
@@ -134,7 +134,7 @@ read_rest part at j [] inside ends = let n = length-drop at part.bytes in omega 
 read_rest part at j (e ∷ h) inside reads =
     (reads.0, (at + reads.1.0, of_rest part at j reads.1.0 e.items reads.1.1, read_rest part at reads.1.0 h inside reads.1.2))
 
--- what is read in front of a place, and then from there on
+-- what is read before a byte, and then from there on
 front_joined : (part : Part) (at i : ℕ) (h g : List Event) → at ≤ length part.bytes → HoldsFrom (bytes_before part at) i h → HoldsFrom part at g → HoldsFrom part i (h ++ g)
 front_joined part at i [] g inside ends reads = subst (λ (n : ℕ). HoldsFrom part n g) (sym (ends ∙ length-take-le at part.bytes inside)) reads
 front_joined part at i (e ∷ h) g inside first reads =
@@ -146,7 +146,7 @@ front_joined part at i (e ∷ h) g inside first reads =
 pub meet_first : (part : Part) → BatchesMeet part 0
 meet_first part h reads = record { first = []; rest = h; first_held = sym (length-take-le 0 part.bytes (omega arith)); rest_held = reads; split = refl }
 
--- one batch more is read in front of the next place
+-- one batch more is read before the byte that the next begins at
 module _ (part : Part) (i len : ℕ) (inside : i + len ≤ length part.bytes) where
   grown : (first : List Event) (e : Event) → PartHolds (bytes_before part i) first → e.file ≡ part.id → IsBatchAt part i e.items (i + len)
       → PartHolds (bytes_before part (i + len)) (first ++ e ∷ [])
@@ -177,7 +177,7 @@ module _ (part : Part) (i len : ℕ) (inside : i + len ≤ length part.bytes) wh
             split = r.split ∙ ap (λ (t : List Event). r.first ++ t) is ∙ sym (append_assoc r.first (e ∷ []) g);
           }
 
--- ---- parts in place of one
+-- ---- parts instead of one
 
 -- one part alone
 one_part : (p : Part) (h : List Event) → PartsHold (p ∷ []) h → PartHolds p h

@@ -40,7 +40,7 @@ one_frame front other more rest signature items items' offset offset' f g e =
     let batch = subst (λ (t : List ℕ). IsItemBatch t signature items f.rest) footer f.item_batch in
     (same, at, ap (λ (t : ℕ × CompressionType × ℕ). t.1) header, (one_batch (drop offset' other) f.rest g.rest signature items items' batch g.item_batch).0)
 
--- one batch stands at a place
+-- one batch begins at a byte
 pub batch_unique : (part : Part) (at : ℕ) (items items' : List Item) (next next' : ℕ)
     → IsBatchAt part at items next → IsBatchAt part at items' next' → (items ≡ items') × (next ≡ next')
 batch_unique part at items items' next next' b d =
@@ -102,7 +102,7 @@ segments_unique segments = each_unique (λ segment. PartsHold segment.items) (λ
 
 -- ---- where a reading is cut
 
--- a batch that stands at a place is the first of what is read from there on
+-- a batch that begins at a byte is the first of what is read from there on
 pub first_batch : (part : Part) (at : ℕ) (items : List Item) (file : FileId) (next : ℕ) → IsBatchAt part at items next → file ≡ part.id
     → IsCut (HoldsFrom part at) (HoldsFrom part next) (event items file ∷ [])
 first_batch part at items file next b is = record { joins = λ r left. (is, (next, b, left)); cuts = cuts }
@@ -159,6 +159,6 @@ module _ {A : Type 0} (Reads : A → List Event → Type 0) where
   pub nothing_left : (i : ℕ) (xs : List A) → length xs ≤ i → EachHolds Reads (drop i xs) []
   nothing_left i xs past = subst (λ (l : List A). EachHolds Reads l []) (sym (drop_all i xs past)) refl
 
--- the element at a place is the first of what is left from there on
+-- the element at an index is the first of what is left from there on
 pub left_from : {A : Type 0} (xs : List A) (i : ℕ) (x : A) → i < length xs → x ≡ get_or xs i x → drop i xs ≡ x ∷ drop (i + 1) xs
 left_from xs i x inside is = drop_more xs i x inside ∙ ap (λ (y : _). y ∷ drop (i + 1) xs) (sym is)

@@ -31,8 +31,8 @@ SegmentsHold segments h =
 
 -- the same is read of a part and, one behind the other, of the parts that it is cut into
 abbrev pub AreCutFrom : Part → List Part → Type 0
-AreCutFrom part parts =
-    (h : List Event) → HoldsFrom part 0 h ↔ EachHolds (λ piece. HoldsFrom piece 0) parts h
+AreCutFrom whole parts =
+    (h : List Event) → HoldsFrom whole 0 h ↔ EachHolds (λ part. HoldsFrom part 0) parts h
 
 -- a part isn't a row of readable batches, or the batches of all segments, in order, name 2^63 records or more or are a history that can't be read
 pub record CannotBeRead (segments : List (Vec Part Global)) : Type 0 where

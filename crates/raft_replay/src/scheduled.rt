@@ -186,7 +186,7 @@ fn replay_in_order<M: ReplayMachine, F: Factory<M>>(
 {
     let mut current = factory.new_target(alloc)?;
     for (n, segment) in segments.iter().enumerate() {
-        current = piece_behind(alloc, factory, machines, current, changes(draws, n))?;
+        current = next_machine(alloc, factory, machines, current, changes(draws, n))?;
         replay_segment(&mut current, segment)?;
     }
     Ok(current)
@@ -194,7 +194,7 @@ fn replay_in_order<M: ReplayMachine, F: Factory<M>>(
 
 /// The machine that goes on: the current one, or a new one where another worker draws, behind which the current one is
 /// in line.
-fn piece_behind<M: ReplayMachine, F: Factory<M>>(
+fn next_machine<M: ReplayMachine, F: Factory<M>>(
     alloc: Global,
     factory: &F,
     machines: &mut Vec<M>,

@@ -43,8 +43,8 @@ use std::thread::Threads;
 /// The greatest number of workers.
 pub const MAX_WORKERS: usize = 256;
 
-/// More segments than any machine has files.
-const SEGMENT_LIMIT: usize = 1 << 62;
+/// Segments must be fewer: workers draw their numbers from tickets, which are as many.
+pub const SEGMENT_LIMIT: usize = 1 << 62;
 
 /// Replays all segments by 1 to 256 workers, each of whom draws the next segment that is left, and merges the pieces by
 /// halves. No more workers are started than there are segments, and one for which no thread can be started is replaced by
@@ -77,7 +77,7 @@ pub fn replay_segments<M: ReplayMachine, F: Factory<M>, G: Gate, R: Threads + Sy
 {
     if !are_accepted(segments, queue, workers) {
         return Err(Error::InvalidArgument(format!(in alloc;
-            "{workers} workers, or parts of another queue"
+            "{workers} workers, 2^62 segments or more, or parts of another queue"
         )?));
     }
     let pieces = drawn_pieces(rt, alloc, factory, segments, workers, gate)?;

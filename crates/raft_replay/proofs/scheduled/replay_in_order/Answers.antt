@@ -17,7 +17,7 @@ returns-in_err-replay_segment-clause-refused g c =
     let n = c.loop-n.n in
     rw (p.1, p.2)
     (λ not_memory not_own.
-    stopped g.M.ReplayMachine.stands_for g.M.ReplayMachine.stands_exactly laws.exact_stands (take n all) c.piece_behind.new.machines.items c.in_ok-current-2.current
+    stopped g.M.ReplayMachine.stands_for g.M.ReplayMachine.stands_exactly laws.exact_stands (take n all) c.next_machine.new.machines.items c.in_ok-current-2.current
     (c.in_ok-current-2.ensures.ok (take n all) c.loop-n.invariant.line) all (drop (n + 1) all) c.index-segments-n.result
     (sym (take-append-drop n all) ∙ ap (λ (l : List (Vec Part Global)). take n all ++ l) (left_from all n c.index-segments-n.result c.loop-n-test.true c.index-segments-n.is))
     (c.in_err-replay_segment.ensures.refused not_memory))
@@ -31,11 +31,11 @@ loop-n-preserved g c =
     take_more all n c.index-segments-n.result c.loop-n-test.true ∙ ap (λ (s : Vec Part Global). take n all ++ s ∷ []) (sym c.index-segments-n.is) in
     record {
       line =
-          subst (λ (l : List (Vec Part Global)). IsUnderway g.M.ReplayMachine.stands_exactly l c.piece_behind.new.machines.items c.replay_segment.new.machine) (sym longer)
-          (gone_on g.M.ReplayMachine.stands_for g.M.ReplayMachine.stands_exactly laws.exact_stands (take n all) c.piece_behind.new.machines.items c.in_ok-current-2.current
+          subst (λ (l : List (Vec Part Global)). IsUnderway g.M.ReplayMachine.stands_exactly l c.next_machine.new.machines.items c.replay_segment.new.machine) (sym longer)
+          (gone_on g.M.ReplayMachine.stands_for g.M.ReplayMachine.stands_exactly laws.exact_stands (take n all) c.next_machine.new.machines.items c.in_ok-current-2.current
           (c.in_ok-current-2.ensures.ok (take n all) c.loop-n.invariant.line) c.index-segments-n.result c.replay_segment.new.machine c.in_ok-replay_segment.ensures.ok);
       count =
-          let added : vec_len c.piece_behind.new.machines ≡ vec_len c.loop-n.machines + cond c.changes.result 1 0 = c.in_ok-current-2.ensures.count in
+          let added : vec_len c.next_machine.new.machines ≡ vec_len c.loop-n.machines + cond c.changes.result 1 0 = c.in_ok-current-2.ensures.count in
           let same : cond c.changes.result 1 0 ≡ cond (switches c.args.draws.now n) 1 0 = one_same c.changes.ensures in
           let more = count_more (switches c.args.draws.now) n in
           let before = c.loop-n.invariant.count in omega arith;

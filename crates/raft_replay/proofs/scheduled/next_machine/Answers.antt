@@ -1,7 +1,7 @@
 use Rattle.std.proofs.Common.{List, sym, subst}
 use Rattle.raft_replay.specs.MachineOrder.{IsUnderway}
 use Rattle.raft_replay.proofs.MachineOrderLemmas.{next_begun, if_ok}
-use Rattle.raft_replay.proofs.scheduled.piece_behind.Goals as goal
+use Rattle.raft_replay.proofs.scheduled.next_machine.Goals as goal
 
 pub returns-clause-ok : goal.returns-clause-ok
 returns-clause-ok g c =

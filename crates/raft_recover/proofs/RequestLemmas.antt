@@ -8,7 +8,7 @@ use Rattle.std.specs.Str.{bytes_eq}
 use Rattle.std.proofs.lemmas.Slice.Eq.{bytes_eq-Decides}
 use Rattle.std.specs.List.{AllByRecursion}
 use Rattle.raft_base.specs.declared.pipe_log.LogFileContext.{LogFileContext}
-use Rattle.raft_recover.specs.Requests.{NamesFile, NamesPath, IsPathWord, AsksBatch, NamedFile, AreNamed}
+use Rattle.raft_recover.specs.Requests.{NamesContext, NamesPath, IsPathWord, AsksBatch, NumberedPath, ArePathsNamed}
 
 -- a list of four is its items
 pub four_items : {X : Type 0} (xs : List X) (a b c d : X) → 4 ≤ length xs → length xs < 5 → a ≡ get_or xs 0 a → b ≡ get_or xs 1 b → c ≡ get_or xs 2 c → d ≡ get_or xs 3 d → xs ≡ a ∷ b ∷ c ∷ d ∷ []
@@ -20,12 +20,12 @@ four_items (w ∷ x ∷ y ∷ z ∷ []) a b c d low high p q r s = cc
 four_items (w ∷ x ∷ y ∷ z ∷ v ∷ xs) a b c d low high p q r s = absurd (omega arith)
 
 -- `batch` and words that name a file ask for its batch
-pub asks_batch : (words : List (List ℕ)) (command queue seq version : List ℕ) (context : LogFileContext) → words ≡ command ∷ queue ∷ seq ∷ version ∷ [] → command ≡ codes "batch" → NamesFile queue seq version context → AsksBatch words context
+pub asks_batch : (words : List (List ℕ)) (command queue seq version : List ℕ) (context : LogFileContext) → words ≡ command ∷ queue ∷ seq ∷ version ∷ [] → command ≡ codes "batch" → NamesContext queue seq version context → AsksBatch words context
 asks_batch words command queue seq version context split batch file =
     record { queue = queue; seq = seq; version = version; form = rw (← batch) split; file = file }
 
 -- where the words name no file no batch is asked for
-pub asks_no_batch : (words : List (List ℕ)) (command queue seq version : List ℕ) → words ≡ command ∷ queue ∷ seq ∷ version ∷ [] → ((context : LogFileContext) → NamesFile queue seq version context → ⊥) → (context : LogFileContext) → AsksBatch words context → ⊥
+pub asks_no_batch : (words : List (List ℕ)) (command queue seq version : List ℕ) → words ≡ command ∷ queue ∷ seq ∷ version ∷ [] → ((context : LogFileContext) → NamesContext queue seq version context → ⊥) → (context : LogFileContext) → AsksBatch words context → ⊥
 asks_no_batch words command queue seq version split none context asked =
     let same_queue : asked.queue ≡ queue = cc in
     let same_seq : asked.seq ≡ seq = cc in
@@ -85,19 +85,19 @@ pub recover_first : (words rest : List (List ℕ)) (command a b c : List ℕ) �
 recover_first words rest command a b c split recover = rw (← recover) split
 
 -- one more word names one more file
-pub named_more : (words : List (List ℕ)) (files : List NamedFile) (word : List ℕ) (file : NamedFile) → AreNamed words files → NamesPath word file.0 file.1 → AreNamed (words ++ word ∷ []) (files ++ file ∷ [])
+pub named_more : (words : List (List ℕ)) (files : List NumberedPath) (word : List ℕ) (file : NumberedPath) → ArePathsNamed words files → NamesPath word file.0 file.1 → ArePathsNamed (words ++ word ∷ []) (files ++ file ∷ [])
 named_more [] [] word file all one = (one, tt)
 named_more [] (f ∷ fs) word file all one = absurd all
 named_more (w ∷ ws) [] word file all one = absurd all
 named_more (w ∷ ws) (f ∷ fs) word file all one = (all.0, named_more ws fs word file all.1 one)
 
 -- words that each name a file name some files
-pub files_of_words : (words : List (List ℕ)) → AllByRecursion IsPathWord words → (files : List NamedFile) × AreNamed words files
+pub files_of_words : (words : List (List ℕ)) → AllByRecursion IsPathWord words → (files : List NumberedPath) × ArePathsNamed words files
 files_of_words [] all = ([], tt)
 files_of_words (w ∷ ws) all = let rest = files_of_words ws all.1 in ((all.0.seq, all.0.path) ∷ rest.0, (all.0.named, rest.1))
 
 -- of words that name files each names one
-pub each_names : (words : List (List ℕ)) (files : List NamedFile) → AreNamed words files → AllByRecursion IsPathWord words
+pub each_names : (words : List (List ℕ)) (files : List NumberedPath) → ArePathsNamed words files → AllByRecursion IsPathWord words
 each_names [] files all = tt
 each_names (w ∷ ws) [] all = absurd all
 each_names (w ∷ ws) (f ∷ fs) all = (record { seq = f.0; path = f.1; named = all.0 }, each_names ws fs all.1)

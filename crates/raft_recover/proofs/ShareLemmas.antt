@@ -20,7 +20,7 @@ IsOf queue part = part.id.queue ≡ queue
 abbrev AreOf : LogQueue → List Part → Type 0
 AreOf queue parts = AllByRecursion (IsOf queue) parts
 
--- the element at a place is the first of those from there on
+-- the element at an index is the first of those from there on
 pub item_here : {A : Type 0} {xs ys : List A} {i : ℕ} {x : A} → xs ≡ ys → i < length xs → x ≡ get_or xs i x → drop i ys ≡ x ∷ drop (i + 1) ys
 item_here {A} {xs} {ys} {i} {x} same inside is = subst (λ (l : List A). drop i l ≡ x ∷ drop (i + 1) l) same (left_from xs i x inside is)
 

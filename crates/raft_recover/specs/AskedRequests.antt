@@ -8,7 +8,7 @@ use Rattle.raft_recover.specs.declared.request.Request.TheVariants.{Batch, Recov
 use Rattle.raft_recover.specs.Requests as requests
 
 -- a file by its number and its path
-abbrev pub path_shown : ℕ × Bor (List ℕ) → requests.NamedFile
+abbrev pub path_shown : ℕ × Bor (List ℕ) → requests.NumberedPath
 path_shown file = (file.0, file.1.now)
 
 -- the recovery that words ask for

@@ -26,7 +26,7 @@ pub record IsNumberWord (word : List ℕ) (n : ℕ) : Type 0 where
   pub fits : n < 2 ^ 64
 
 -- a file by its queue, its number and its version
-pub record NamesFile (queue seq version : List ℕ) (context : LogFileContext) : Type 0 where
+pub record NamesContext (queue seq version : List ℕ) (context : LogFileContext) : Type 0 where
   pub queue_named : queue ≡ queue_word context.id.queue
   pub number : IsNumberWord seq context.id.seq
   pub version_named : version ≡ version_word context.version
@@ -37,7 +37,7 @@ pub record AsksBatch (words : List (List ℕ)) (context : LogFileContext) : Type
   pub seq : List ℕ
   pub version : List ℕ
   pub form : words ≡ codes "batch" ∷ queue ∷ seq ∷ version ∷ []
-  pub file : NamesFile queue seq version context
+  pub file : NamesContext queue seq version context
 
 -- a file by its number and its path, with `=` between them; digits are no `=`, so it is the word's first
 pub record NamesPath (word : List ℕ) (seq : ℕ) (path : List ℕ) : Type 0 where
@@ -52,23 +52,23 @@ pub record IsPathWord (word : List ℕ) : Type 0 where
   pub named : NamesPath word seq path
 
 -- a file as a word names it: its number and its path
-abbrev pub NamedFile : Type 0
-NamedFile = ℕ × List ℕ
+abbrev pub NumberedPath : Type 0
+NumberedPath = ℕ × List ℕ
 
 -- each word names its file, in order
-abbrev pub AreNamed : List (List ℕ) → List NamedFile → Type 0
-AreNamed [] [] = Unit {0}
-AreNamed [] (file ∷ files) = ⊥
-AreNamed (word ∷ words) [] = ⊥
-AreNamed (word ∷ words) (file ∷ files) = NamesPath word file.0 file.1 × AreNamed words files
+abbrev pub ArePathsNamed : List (List ℕ) → List NumberedPath → Type 0
+ArePathsNamed [] [] = Unit {0}
+ArePathsNamed [] (file ∷ files) = ⊥
+ArePathsNamed (word ∷ words) [] = ⊥
+ArePathsNamed (word ∷ words) (file ∷ files) = NamesPath word file.0 file.1 × ArePathsNamed words files
 
 -- a file as it is handed on: its number and its bytes
 abbrev pub File : Type 0
 File = ℕ × List ℕ
 
 -- a file for each that is named, under its number, in order, whatever its bytes
-abbrev pub AreFilesOf : List NamedFile → List File → Type 0
-AreFilesOf named files = map (λ (file : File). file.0) files ≡ map (λ (file : NamedFile). file.0) named
+abbrev pub AreFilesOf : List NumberedPath → List File → Type 0
+AreFilesOf named files = map (λ (file : File). file.0) files ≡ map (λ (file : NumberedPath). file.0) named
 
 -- why files are not read: a reading failed, or want of memory
 abbrev pub IsFilesFault : Error → Type 0
@@ -81,7 +81,7 @@ pub record AskedRecovery : Type 0 where
   pub queue : LogQueue
   pub version : Version
   pub workers : ℕ
-  pub files : List NamedFile
+  pub files : List NumberedPath
 
 -- `recover` and a recovery, with a word for each file
 pub record AsksRecovery (words : List (List ℕ)) (recovery : AskedRecovery) : Type 0 where
@@ -93,7 +93,7 @@ pub record AsksRecovery (words : List (List ℕ)) (recovery : AskedRecovery) : T
   pub queue_named : queue ≡ queue_word recovery.queue
   pub version_named : version ≡ version_word recovery.version
   pub workers_named : IsNumberWord workers recovery.workers
-  pub files_named : AreNamed files recovery.files
+  pub paths_named : ArePathsNamed files recovery.files
 
 -- neither a batch nor a recovery is asked for
 pub record AsksNothing (words : List (List ℕ)) : Type 0 where

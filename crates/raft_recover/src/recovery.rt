@@ -26,20 +26,17 @@ use crate::shares::equal_shares;
 use raft_accessor::MemTableAccessor;
 use raft_base::{Error, FileSeq, LogQueue, Result, Version};
 use raft_memtable::MemTableRecoverContextFactory;
-use raft_replay::{MAX_WORKERS, OpenGate, Segment, replay_segments};
+use raft_replay::{MAX_WORKERS, OpenGate, SEGMENT_LIMIT, Segment, replay_segments};
 use std::alloc::Global;
 use std::io::Write;
 use std::thread::Threads;
-
-/// Segments must be fewer: workers draw their numbers from tickets, which are as many.
-const SEGMENT_LIMIT: usize = 1 << 62;
 
 /// About how many bytes a share has at least: for fewer a further piece costs more than its worker saves.
 const LEAST_SHARE: usize = 1 << 20;
 
 /// The tables of all regions, their cleaned regions and live counts: those of reading the batches of all segments, of
-/// one queue, in order. They are read by 1 to 256 workers, each of which reads a share of about as many bytes as the others,
-/// however the segments were cut (see [`equal_shares`]).
+/// one queue, in order. They are read by 1 to 256 workers. However the segments were cut, it makes at most one share for
+/// each worker, all of about the same number of bytes; each worker takes the next share that is left (see [`equal_shares`]).
 ///
 /// What is proved of it: for every list of segments of the queue, for every number of workers and whatever their turns,
 /// an `Ok` has what one reading of all batches in order gives, and an `Err` other than `Memory` comes only where that
@@ -48,7 +45,7 @@ const LEAST_SHARE: usize = 1 << 20;
 ///
 /// # Errors
 ///
-/// `InvalidArgument` for another number of workers, for a part of another queue and for 2^62 segments, then whatever a
+/// `InvalidArgument` for another number of workers, for a part of another queue and for 2^62 segments and more, then whatever a
 /// reading answers: `Corruption`, `Codec`, or `Io` for an item that ends before its type, where a part isn't a row of
 /// readable batches or the batches in order can't be read. `Memory`.
 pub fn recover<R: Threads + Sync>(

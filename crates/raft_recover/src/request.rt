@@ -5,7 +5,7 @@ ghost use Rattle.std.specs.List.{AllByRecursion};
 ghost use Rattle.raft_base.specs.declared.pipe_log.LogFileContext.{LogFileContext};
 ghost use Rattle.raft_base.specs.declared.pipe_log.LogQueue.{LogQueue};
 ghost use Rattle.raft_base.specs.declared.pipe_log.Version.{Version};
-ghost use Rattle.raft_recover.specs.Requests.{queue_word, version_word, IsNumberWord, NamesFile, NamesPath, IsPathWord, AreNamed, AreFilesOf, IsFilesFault, AskedRecovery, AsksBatch, AsksRecovery, AsksNothing};
+ghost use Rattle.raft_recover.specs.Requests.{queue_word, version_word, IsNumberWord, NamesContext, NamesPath, IsPathWord, ArePathsNamed, AreFilesOf, IsFilesFault, AskedRecovery, AsksBatch, AsksRecovery, AsksNothing};
 ghost use Rattle.raft_recover.specs.AskedRequests.{IsAsked, asks_for, path_shown, file_shown};
 
 use raft_base::{Error, FileId, FileSeq, LogFileContext, LogQueue, Result, Version};
@@ -66,14 +66,14 @@ pub(crate) fn batch_request(words: &[String]) -> Option<LogFileContext>
     if command.as_str() != "batch" {
         return None;
     }
-    file_named(queue.as_str(), seq.as_str(), version.as_str())
+    context_named(queue.as_str(), seq.as_str(), version.as_str())
 }
 
-/// The file that its queue, its number and its version name.
-fn file_named(queue: &str, seq: &str, version: &str) -> Option<LogFileContext>
-    ensures named { IfSome result (NamesFile queue.now seq.now version.now) }
+/// The file, with its version, that a queue, a number and a version name.
+fn context_named(queue: &str, seq: &str, version: &str) -> Option<LogFileContext>
+    ensures named { IfSome result (NamesContext queue.now seq.now version.now) }
     ensures refused { IfNone result
-        ((context : LogFileContext) → NamesFile queue.now seq.now version.now context → ⊥) }
+        ((context : LogFileContext) → NamesContext queue.now seq.now version.now context → ⊥) }
 {
     let queue = queue_named(queue)?;
     let seq = number_named(seq)?;
@@ -109,7 +109,7 @@ fn recovery_request<'a>(alloc: Global, words: &'a [String]) -> Result<Option<Rec
     let Some(workers) = number_named(workers.as_str()) else {
         return Ok(None);
     };
-    let Some(files) = files_named(alloc, files)? else {
+    let Some(files) = paths_named(alloc, files)? else {
         return Ok(None);
     };
     Ok(Some(RecoverWords {
@@ -125,9 +125,9 @@ fn recovery_request<'a>(alloc: Global, words: &'a [String]) -> Result<Option<Rec
 /// # Errors
 ///
 /// `Memory`, and only where each names one.
-fn files_named<'a>(alloc: Global, words: &'a [String]) -> Result<Option<Vec<(FileSeq, &'a str)>>>
+fn paths_named<'a>(alloc: Global, words: &'a [String]) -> Result<Option<Vec<(FileSeq, &'a str)>>>
     ensures named { IfOk result (λ r. IfSome r (λ files.
-        AreNamed (map string_bytes words.now) (map path_shown files.items))) }
+        ArePathsNamed (map string_bytes words.now) (map path_shown files.items))) }
     ensures refused { IfOk result (λ r. IfNone r
         (AllByRecursion IsPathWord (map string_bytes words.now) → ⊥)) }
     ensures memory { IfErr result (λ e. (e ≡ Error.Memory)
@@ -149,9 +149,9 @@ fn with_file<'a>(
     file: (FileSeq, &'a str),
 ) -> Result<Vec<(FileSeq, &'a str)>>
     ensures named { (words : List (List ℕ)) (word : List ℕ)
-        → IfOk files.entry (λ files. AreNamed words (map path_shown files.items))
+        → IfOk files.entry (λ files. ArePathsNamed words (map path_shown files.items))
         → NamesPath word file.entry.0 file.entry.1.now
-        → IfOk result (λ files. AreNamed (words ++ word ∷ []) (map path_shown files.items)) }
+        → IfOk result (λ files. ArePathsNamed (words ++ word ∷ []) (map path_shown files.items)) }
     ensures memory { IfErr files.entry (λ e. e ≡ Error.Memory)
         → IfErr result (λ e. e ≡ Error.Memory) }
 {

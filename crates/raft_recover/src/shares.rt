@@ -12,8 +12,8 @@ use raft_replay::{Segment, cut_part};
 use std::alloc::Global;
 use std::mem;
 
-/// How many pieces a part is cut into for each share that it fills, so that shares end near where they should.
-const PIECES: usize = 4;
+/// How many parts a part is cut into for each share that it fills, so that shares end near where they should.
+const PARTS_PER_SHARE: usize = 4;
 
 /// The parts of segments as `count` segments at most, the shares, of about one length each, and of `least` bytes or more
 /// where there are as many: neighboring parts are put together, and a part that is longer than a share is cut between
@@ -76,8 +76,10 @@ fn append_short(
     ensures memory { IfErr result (λ e. e ≡ Error.Memory) }
 {
     for part in segment {
-        let pieces = (part.bytes().len() / share).saturating_mul(PIECES).max(1);
-        parts.append(&mut cut_part(alloc, part.clone()?, pieces)?)?;
+        let count = (part.bytes().len() / share)
+            .saturating_mul(PARTS_PER_SHARE)
+            .max(1);
+        parts.append(&mut cut_part(alloc, part.clone()?, count)?)?;
     }
     Ok(())
 }
@@ -92,13 +94,13 @@ fn shares_of(parts: Vec<FilePart>, share: usize, count: usize) -> Result<Vec<Seg
     let alloc = *parts.allocator();
     let mut shares: Vec<Segment> = Vec::new(alloc);
     let mut last: Segment = Vec::new(alloc);
-    let mut at = 0usize;
+    let mut current = 0usize;
     let mut before = 0usize;
     for part in parts {
         let bytes = part.bytes().len();
-        let place = before.saturating_add(bytes / 2) / share;
-        end_share(alloc, &mut shares, &mut last, place > at, count)?;
-        at = place;
+        let number = before.saturating_add(bytes / 2) / share;
+        end_share(alloc, &mut shares, &mut last, number > current, count)?;
+        current = number;
         before = before.saturating_add(bytes);
         last.push(part)?;
     }

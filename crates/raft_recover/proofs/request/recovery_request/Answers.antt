@@ -1,6 +1,6 @@
 use Rattle.std.proofs.Common.{◌≡◌, ◌∷◌, List, ℕ, map, string_bytes, length, ◌-◌, take, drop, subst}
 use Rattle.std.proofs.lemmas.Result.{err_from_is_err_and}
-use Rattle.raft_recover.specs.Requests.{AreNamed, AsksRecovery}
+use Rattle.raft_recover.specs.Requests.{ArePathsNamed, AsksRecovery}
 use Rattle.raft_recover.proofs.RequestLemmas.{four_and_more, four_texts, same_text, same_rest, recover_first, files_of_words, each_names}
 use Rattle.raft_recover.proofs.request.recovery_request.Goals.{In-Some-number_named}
 use Rattle.raft_recover.proofs.request.recovery_request.Goals.at as at
@@ -16,7 +16,7 @@ words c =
     four_texts string_bytes c.args.words.now _ c.command-item.result c.queue-item.result c.version-item.result c.workers-item.result _ _ _ _ items c.as_str.ensures.value c.as_str-2.ensures.value c.as_str-3.ensures.value c.as_str-4.ensures.value
 
 -- what the words ask for, where those behind the first four name these files
-asked : (c : In-Some-number_named) (files : List (ℕ × List ℕ)) → AreNamed (rest c) files
+asked : (c : In-Some-number_named) (files : List (ℕ × List ℕ)) → ArePathsNamed (rest c) files
     → AsksRecovery (map string_bytes c.args.words.now) record { queue = c.in-Some.queue; version = c.in-Some-version_named.version; workers = c.in-Some-number_named.workers; files = files }
 asked c files named = record {
   queue = c.as_str-2.result.now;
@@ -27,7 +27,7 @@ asked c files named = record {
   queue_named = c.in-Some.ensures.named;
   version_named = c.in-Some-version_named.ensures.named;
   workers_named = c.in-Some-number_named.ensures.named;
-  files_named = named;
+  paths_named = named;
 }
 
 pub returns-clause-asked : goal.returns-clause-asked
@@ -37,8 +37,8 @@ pub returns-in_default-2-clause-refused : goal.returns-in_default-2-clause-refus
 returns-in_default-2-clause-refused c =
     let before = (at.returns-in_default-2-clause-refused c).In-Some-number_named in
     let none = rw c.in_default-2.is at c.in_ok-files.ensures.refused in
-    λ recovery asked. none (each_names (rest before) recovery.files (subst (λ ws. AreNamed ws recovery.files)
-    (same_rest (map string_bytes c.args.words.now) (rest before) asked.files _ _ _ _ _ _ _ _ (words before) asked.form) asked.files_named))
+    λ recovery asked. none (each_names (rest before) recovery.files (subst (λ ws. ArePathsNamed ws recovery.files)
+    (same_rest (map string_bytes c.args.words.now) (rest before) asked.files _ _ _ _ _ _ _ _ (words before) asked.form) asked.paths_named))
 
 pub returns-in_err-files-clause-memory : goal.returns-in_err-files-clause-memory
 returns-in_err-files-clause-memory c =

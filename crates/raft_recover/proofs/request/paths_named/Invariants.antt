@@ -1,14 +1,14 @@
 use Rattle.std.proofs.Common.{◌≡◌, IfOk, IfErr, map, string_bytes, take, drop}
 use Rattle.std.specs.List.{AllByRecursion}
 use Rattle.raft_base.specs.declared.errors.Error.TheVariants.{Memory}
-use Rattle.raft_recover.specs.Requests.{IsPathWord, AreNamed}
+use Rattle.raft_recover.specs.Requests.{IsPathWord, ArePathsNamed}
 use Rattle.raft_recover.specs.AskedRequests.{path_shown}
-use Rattle.raft_recover.proofs.request.files_named.Given as goal
+use Rattle.raft_recover.proofs.request.paths_named.Given as goal
 
 -- the files so far are those of the words in front, if there was memory for them; all words name files exactly if those that are left do
 abbrev pub invariant-loop-word : goal.invariant-loop-word
 invariant-loop-word l =
-    IfOk l.files (λ files. AreNamed (map string_bytes (take l.word-index l.words)) (map path_shown files.items))
+    IfOk l.files (λ files. ArePathsNamed (map string_bytes (take l.word-index l.words)) (map path_shown files.items))
     × IfErr l.files (λ e. e ≡ Memory)
     × (AllByRecursion IsPathWord (map string_bytes (drop l.word-index l.words)) → AllByRecursion IsPathWord (map string_bytes l.words))
     × (AllByRecursion IsPathWord (map string_bytes l.words) → AllByRecursion IsPathWord (map string_bytes (drop l.word-index l.words)))

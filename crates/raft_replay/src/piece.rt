@@ -118,14 +118,12 @@ impl<M: ReplayMachine> Piece<M> {
     }
 
     /// The machines of the pieces.
-    fn machines(alloc: Global, mut pieces: Vec<Piece<M>>) -> Result<Vec<M>>
+    fn machines(alloc: Global, pieces: Vec<Piece<M>>) -> Result<Vec<M>>
         ensures ok { IfOk result (λ v. v.items ≡ map (λ p. p.machine.value) pieces.items) }
         ensures fault { IfErr result (λ e. e ≡ Error.Memory) }
     {
         let mut machines = Vec::with_capacity(alloc, pieces.len())?;
-        pieces.reverse();
-        while let Some(piece) = pieces.pop() {
-            let Piece { machine, .. } = piece;
+        for Piece { machine, .. } in pieces {
             machines.push(Box::into_inner(machine))?;
         }
         Ok(machines)

@@ -148,24 +148,14 @@ fn fits_pieces(plan: &Plan, segments: usize, draws: &[usize]) -> bool
 pub(crate) fn segments_are_of(segments: &[Segment], queue: LogQueue) -> bool
     ensures { IsTrue result ↔ SegmentsAreOf queue segments.now }
 {
-    for segment in segments {
-        if !parts_are_of(segment, queue) {
-            return false;
-        }
-    }
-    true
+    segments.iter().all(|segment| parts_are_of(segment, queue))
 }
 
 /// Whether every part is of the queue.
 fn parts_are_of(parts: &Vec<FilePart>, queue: LogQueue) -> bool
     ensures { IsTrue result ↔ All (λ part. part.id.queue ≡ queue) parts.now.items }
 {
-    for part in parts {
-        if part.id().queue != queue {
-            return false;
-        }
-    }
-    true
+    parts.iter().all(|part| part.id().queue == queue)
 }
 
 /// Replays all segments; the machines in front of the last one are put into the list.

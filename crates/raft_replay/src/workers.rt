@@ -131,7 +131,7 @@ fn drawn_pieces<M: ReplayMachine, F: Factory<M>, G: Gate, R: Threads + Sync>(
 /// The seats and the pieces of all workers, or the refusal of one.
 fn gather<M: ReplayMachine>(
     alloc: Global,
-    mut worked: Vec<Worked<M>>,
+    worked: Vec<Worked<M>>,
 ) -> Result<(Vec<TicketSeat>, Vec<Piece<M>>)>
     ensures ok { (segments : List (Vec Part Global)) (tickets : TicketBook)
         → All (IsBack M.stands_exactly segments tickets) worked.items
@@ -141,8 +141,7 @@ fn gather<M: ReplayMachine>(
 {
     let mut seats = Vec::with_capacity(alloc, worked.len())?;
     let mut pieces = Vec::new(alloc);
-    while let Some(last) = worked.pop() {
-        let Worked { seat, pieces: made } = last;
+    for Worked { seat, pieces: made } in worked {
         let mut made = made?;
         pieces.append(&mut made)?;
         seats.push(seat)?;
@@ -179,14 +178,13 @@ fn run_workers<M: ReplayMachine, F: Factory<M>, G: Gate, R: Threads + Sync>(
     ensures count { IfOk result (λ v. vec_len v ≡ vec_len seats) }
     ensures fault { IfErr result (λ e. e ≡ Error.Memory) }
 {
-    let one = |seat: TicketSeat| -> Worked<M>
+    let one = |mut seat: TicketSeat| -> Worked<M>
         requires { IsNewSeatOf tickets.now seat × (tickets.now.total ≡ length segments.now)
             × ((m : M) → F.gives factory.now m → M.stands_exactly m []) }
         ensures { IsSeatOf tickets.entry.now result.seat
             × Gives M.stands_exactly (F.may_refuse factory.entry.now) segments.entry.now
             result.seat.drawn result.pieces }
     {
-        let mut seat = seat;
         let pieces = replay_drawn(alloc, factory, segments, tickets, gate, &mut seat);
         Worked { seat, pieces }
     };

@@ -1,11 +1,8 @@
-use Rattle.std.proofs.Common.{◌≡◌, ◌++◌, map, reverse, vec_len}
+use Rattle.std.proofs.Common.{◌≡◌, ◌++◌, map}
 use Rattle.raft_replay.specs.declared.piece.Piece.{Piece}
 use Rattle.raft_replay.proofs.piece.Piece.machines.Given as goal
 
-abbrev pub invariant-loop-piece : goal.invariant-loop-piece
-invariant-loop-piece g l =
-    l.machines.items ++ map (λ (p : Piece g.row.M.Denot). p.machine.value) (reverse l.pieces.items)
+abbrev pub invariant-loop-machine : goal.invariant-loop-machine
+invariant-loop-machine g l =
+    l.machines.items ++ map (λ (p : Piece g.row.M.Denot). p.machine.value) l.machine-iterator.rest.items
     ≡ map (λ (p : Piece g.row.M.Denot). p.machine.value) l.fn.pieces.items
-
-abbrev pub decreases-loop-piece : goal.decreases-loop-piece
-decreases-loop-piece g l = vec_len l.pieces

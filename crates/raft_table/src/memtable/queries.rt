@@ -163,7 +163,11 @@ fn lowered(atomic_group: Option<(FileSeq, FileSeq)>, seq: Option<FileSeq>) -> Op
 {
     match (atomic_group, seq) {
         (Some((first_seq, last_seq)), Some(seq)) => {
-            Some(if seq <= last_seq { seq.min(first_seq) } else { seq })
+            Some(if seq <= last_seq {
+                seq.min(first_seq)
+            } else {
+                seq
+            })
         }
         (_, seq) => seq,
     }

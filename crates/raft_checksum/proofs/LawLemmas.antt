@@ -11,7 +11,7 @@ polynomial_bit zero h = refl
 polynomial_bit (suc zero) h = refl
 polynomial_bit (suc (suc x)) h = absurd (omega arith)
 
--- a step taken back
+-- a step undone
 step_back : (c : ℕ) → c ≡ bit_xor (c % 2 * 0x1DB710641) (crc_step c * 2)
 step_back c =
     let x = c % 2 in

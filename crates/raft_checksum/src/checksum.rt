@@ -8,14 +8,14 @@ mod tables;
 mod words;
 
 use byteorder::{ByteOrder, LittleEndian};
-use sparse::by_blocks;
+use sparse::by_chunks;
 use tables::TABLES;
 use words::by_words;
 
 /// From this length on a text is divided by words, before its last bytes are looked up.
 const MIDDLING: usize = 128;
 
-/// From this length on a text is divided by blocks, before its last bytes are divided by words.
+/// From this length on a text is divided by chunks, before its last bytes are divided by words.
 const LONG: usize = 640;
 
 /// What `byte` and then `zeros` zeros make of a register of zeros.
@@ -108,7 +108,7 @@ fn advanced(register: u32, bytes: &[u8]) -> u32
     if bytes.len() < LONG {
         return by_words(register, bytes);
     }
-    by_blocks(register, bytes)
+    by_chunks(register, bytes)
 }
 
 /// The CRC-32 of `bytes`, as zip files and Ethernet frames have it.

@@ -14,7 +14,7 @@ use byteorder::{ByteOrder, LittleEndian};
 pub const REACH: usize = 300;
 
 /// The bytes that are divided at once.
-const BLOCK: usize = 2048;
+const CHUNK: usize = 2048;
 
 /// Writes the quotient of `bytes` behind the 300 bytes of it that came before.
 fn divide(quotient: &mut [u8], bytes: &[u8])
@@ -54,18 +54,18 @@ fn forget(quotient: &mut [u8])
     }
 }
 
-/// The register after `bytes`, by blocks of the quotient.
-pub fn by_blocks(register: u32, bytes: &[u8]) -> u32
+/// The register after `bytes`, by chunks of the quotient.
+pub fn by_chunks(register: u32, bytes: &[u8]) -> u32
     requires { 300 ≤ length bytes.now }
     ensures { result ≡ register_after register bytes.now }
 {
-    let mut quotient = [0u8; BLOCK + REACH];
+    let mut quotient = [0u8; CHUNK + REACH];
     LittleEndian::write_u32(&mut quotient, register);
     let mut rest = bytes;
     while rest.len() > REACH {
-        let len = (rest.len() - REACH).min(BLOCK);
-        let (block, behind) = rest.split_at(len);
-        divide(&mut quotient, block);
+        let len = (rest.len() - REACH).min(CHUNK);
+        let (chunk, behind) = rest.split_at(len);
+        divide(&mut quotient, chunk);
         quotient.copy_within(len..len + REACH, 0);
         rest = behind;
     }

@@ -4,7 +4,7 @@ use Rattle.raft_checksum.specs.Checksum.{crc_steps}
 use Rattle.raft_checksum.proofs.BlockLemmas.{stands_first, stands_next, remainder_settled}
 use Rattle.raft_checksum.proofs.RemainderLemmas.{remainder_same}
 use Rattle.raft_checksum.proofs.WordLemmas.{bytes_front, bytes_left}
-use Rattle.raft_checksum.proofs.checksum.sparse.by_blocks.Goals as goal
+use Rattle.raft_checksum.proofs.checksum.sparse.by_chunks.Goals as goal
 
 pub loop-rest-init : goal.loop-rest-init
 loop-rest-init c = record {

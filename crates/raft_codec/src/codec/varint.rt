@@ -132,7 +132,7 @@ pub(crate) fn put_var_u64(bytes: &mut [u8; 10], number: u64) -> usize
 
 /// Writes a byte, and answers whether the writer took it at once. It may be asked again where it did not.
 pub(crate) fn takes_byte<W: Write>(writer: &mut W, byte: u8) -> Result<bool>
-    ensures taken { IfOk result (λ taken. MatchBool taken
+    ensures written { IfOk result (λ written. MatchBool written
         (Appends (W.contents writer.old) (W.contents writer.new) (byte ∷ []))
         (Keeps (W.contents writer.old) (W.contents writer.new))) }
     ensures io { IfErr result IsIo }

@@ -14,7 +14,11 @@ pub enum CompressionType {
 }
 
 impl CompressionType {
-    /// The compression type that a byte stands for. Any other byte is `Corruption`.
+    /// The compression type that a byte stands for.
+    ///
+    /// # Errors
+    ///
+    /// `Corruption` for any other byte, and `Memory` for its text.
     pub fn from_u8(alloc: Global, byte: u8) -> Result<CompressionType>
         ensures ok { IfOk result (λ compression_type. byte ≡ compression_byte compression_type) }
         ensures fault { IfErr result (IsCompressionFault byte) }

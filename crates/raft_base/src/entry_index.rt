@@ -9,11 +9,11 @@ use crate::{CompressionType, FileBlockHandle};
 #[derive(Clone, Copy, PartialEq, Eq, Debug)]
 pub struct EntryIndex {
     pub index: u64,
-    /// The block of entry bytes that holds this entry's, once it has been written to a file.
+    /// The place of the entry block that holds this entry's bytes, once it has been written to a file.
     pub entries: Option<FileBlockHandle>,
-    /// How that block is compressed.
+    /// How that entry block is compressed.
     pub compression_type: CompressionType,
-    /// Where this entry's bytes begin in the block.
+    /// Where this entry's bytes begin in it.
     pub entry_offset: u32,
     /// How many bytes it has.
     pub entry_len: u32,

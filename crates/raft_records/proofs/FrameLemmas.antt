@@ -16,7 +16,7 @@ use Rattle.raft_records.specs.Spelling.{content_bytes, item_bytes}
 use Rattle.raft_records.specs.ItemBatch.{signed_crc, checksum_bytes, batch_bytes, IsItemBatch}
 use Rattle.raft_records.specs.LogBatch.{IsBatchOf, header_bytes, entry_block, item_offset, unsealed_bytes, encoded_length, log_batch_bytes, IsLaidOut, IsLogBatch, IsReadable}
 use Rattle.raft_records.specs.Header.{IsHeader, IsEntryBlockOf}
-use Rattle.raft_records.specs.Parts.{IsFramed, HasParts}
+use Rattle.raft_records.specs.Framing.{IsFramed, IsFramedWith}
 use Rattle.raft_records.proofs.BufferLemmas.{header_len}
 use Rattle.raft_records.proofs.HeaderLemmas.{byte_of_type}
 use Rattle.raft_records.proofs.ItemLemmas.{same_length}
@@ -57,14 +57,14 @@ header_one a b more rest x y h k e =
 -- ---- frames
 
 -- where the parts of a batch stand
-places : (bytes : List ℕ) (signature : Option ℕ) (items : List Item) (between : List ℕ) → (h : IsLaidOut bytes signature items between) → (drop 16 bytes ≡ between ++ h.footer) × (drop (16 + length between) bytes ≡ h.footer) × (16 + length between ≤ length bytes)
+places : (bytes : List ℕ) (signature : Option ℕ) (items : List Item) (between : List ℕ) → (h : IsLaidOut bytes signature items between) → (drop 16 bytes ≡ between ++ h.behind) × (drop (16 + length between) bytes ≡ h.behind) × (16 + length between ≤ length bytes)
 places bytes signature items between h =
     let head = header_bytes (16 + length between) h.compression (length bytes) in
     let sixteen : length head ≡ 16 = header_len (16 + length between) h.compression (length bytes) in
-    let behind : drop 16 bytes ≡ between ++ h.footer = ap (drop 16) h.split ∙ drop_at head (between ++ h.footer) 16 sixteen in (
+    let behind : drop 16 bytes ≡ between ++ h.behind = ap (drop 16) h.split ∙ drop_at head (between ++ h.behind) 16 sixteen in (
       behind,
-      sym (drop-drop (length between) 16 bytes) ∙ ap (drop (length between)) behind ∙ drop_at between h.footer (length between) refl,
-      omega (arith, ap length h.split, length-append head (between ++ h.footer), length-append between h.footer, sixteen),
+      sym (drop-drop (length between) 16 bytes) ∙ ap (drop (length between)) behind ∙ drop_at between h.behind (length between) refl,
+      omega (arith, ap length h.split, length-append head (between ++ h.behind), length-append between h.behind, sixteen),
     )
 
 pub framed : (bytes : List ℕ) (signature : Option ℕ) (items : List Item) (between : List ℕ) → IsLaidOut bytes signature items between → IsFramed bytes signature items (16 + length between)
@@ -93,7 +93,7 @@ laid_out bytes signature items offset f =
     let head : f.header.front ≡ header_bytes (16 + length (take (offset - 16) (drop 16 bytes))) f.compression (length bytes) = f.header.spells.written ∙ ap (λ (n : ℕ). header_bytes n f.compression (length bytes)) (sym at) in (
       at,
       record {
-        footer = drop offset bytes;
+        behind = drop offset bytes;
         rest = f.rest;
         compression = f.compression;
         item_batch = f.item_batch;
@@ -131,7 +131,7 @@ one_entry_block len bytes es es' h k = block_one es es' (sym (entry_block_is len
 
 -- ---- log batches
 
-pub parts : (bytes : List ℕ) (signature : Option ℕ) (items : List Item) (es : List ℕ) → IsLogBatch bytes signature items es ↔ HasParts bytes signature items es
+pub parts : (bytes : List ℕ) (signature : Option ℕ) (items : List Item) (es : List ℕ) → IsLogBatch bytes signature items es ↔ IsFramedWith bytes signature items es
 parts bytes signature items es = (
   λ h.
       let at = places bytes signature items (entry_block es) h in
@@ -139,34 +139,34 @@ parts bytes signature items es = (
       record {
         offset = 16 + length (entry_block es);
         frame = framed bytes signature items (entry_block es) h;
-        entry_block = is_entry_block (16 + length (entry_block es) - 16) (drop 16 bytes) es (omega (arith, at.2, length-drop 16 bytes)) (ap (λ (k : ℕ). take k (drop 16 bytes)) n ∙ ap (take (length (entry_block es))) at.0 ∙ take_at (entry_block es) h.footer (length (entry_block es)) refl);
+        entry_block = is_entry_block (16 + length (entry_block es) - 16) (drop 16 bytes) es (omega (arith, at.2, length-drop 16 bytes)) (ap (λ (k : ℕ). take k (drop 16 bytes)) n ∙ ap (take (length (entry_block es))) at.0 ∙ take_at (entry_block es) h.behind (length (entry_block es)) refl);
       },
   λ p.
       subst (λ (t : List ℕ). IsLaidOut bytes signature items t) (entry_block_is (p.offset - 16) (drop 16 bytes) es p.entry_block) (laid_out bytes signature items p.offset p.frame).1,
 )
 
 -- what lies between a header and an item batch, and the item batch, are those of the bytes
-laid_one : (bytes : List ℕ) (signature signature' : Option ℕ) (items items' : List Item) (between between' : List ℕ) → (h : IsLaidOut bytes signature items between) (k : IsLaidOut bytes signature' items' between') → (between ≡ between') × (h.footer ≡ k.footer)
+laid_one : (bytes : List ℕ) (signature signature' : Option ℕ) (items items' : List Item) (between between' : List ℕ) → (h : IsLaidOut bytes signature items between) (k : IsLaidOut bytes signature' items' between') → (between ≡ between') × (h.behind ≡ k.behind)
 laid_one bytes signature signature' items items' between between' h k =
     let f = framed bytes signature items between h in
     let g = framed bytes signature' items' between' k in
     let one = header_one f.header.front g.header.front (drop 16 bytes) (drop 16 bytes) (16 + length between, f.compression, length bytes) (16 + length between', g.compression, length bytes) f.header.spells g.header.spells (sym f.header.split ∙ g.header.split) in
     let offset : 16 + length between ≡ 16 + length between' = ap (λ (x : ℕ × CompressionType × ℕ). x.0) one.1 in
-    let behind : between ++ h.footer ≡ between' ++ k.footer = sym (places bytes signature items between h).0 ∙ (places bytes signature' items' between' k).0 in
-    let same : between ≡ between' = same_length between between' h.footer k.footer (omega arith) behind in
-    (same, append_cancel_left between h.footer k.footer (behind ∙ ap (λ (t : List ℕ). t ++ k.footer) (sym same)))
+    let behind : between ++ h.behind ≡ between' ++ k.behind = sym (places bytes signature items between h).0 ∙ (places bytes signature' items' between' k).0 in
+    let same : between ≡ between' = same_length between between' h.behind k.behind (omega arith) behind in
+    (same, append_cancel_left between h.behind k.behind (behind ∙ ap (λ (t : List ℕ). t ++ k.behind) (sym same)))
 
 pub one_log_batch : (bytes es es' : List ℕ) (signature : Option ℕ) (items items' : List Item) → IsLogBatch bytes signature items es → IsLogBatch bytes signature items' es' → (items ≡ items') × (es ≡ es')
 one_log_batch bytes es es' signature items items' h k =
     let one = laid_one bytes signature signature items items' (entry_block es) (entry_block es') h k in
-    let batch : IsItemBatch k.footer signature items h.rest = subst (λ (t : List ℕ). IsItemBatch t signature items h.rest) one.1 h.item_batch in
-    ((one_batch k.footer h.rest k.rest signature items items' batch k.item_batch).0, block_one es es' one.0)
+    let batch : IsItemBatch k.behind signature items h.rest = subst (λ (t : List ℕ). IsItemBatch t signature items h.rest) one.1 h.item_batch in
+    ((one_batch k.behind h.rest k.rest signature items items' batch k.item_batch).0, block_one es es' one.0)
 
 pub one_file_readable : (bytes : List ℕ) (s t : ℕ) (items items' : List Item) → s < 2 ^ 32 → t < 2 ^ 32 → IsReadable bytes (Some s) items → IsReadable bytes (Some t) items' → s ≡ t
 one_file_readable bytes s t items items' s_fits t_fits (between, h) (between', k) =
     let one = laid_one bytes (Some s) (Some t) items items' between between' h k in
-    let batch : IsItemBatch k.footer (Some s) items h.rest = subst (λ (b : List ℕ). IsItemBatch b (Some s) items h.rest) one.1 h.item_batch in
-    one_file k.footer h.rest k.rest s t items items' s_fits t_fits batch k.item_batch
+    let batch : IsItemBatch k.behind (Some s) items h.rest = subst (λ (b : List ℕ). IsItemBatch b (Some s) items h.rest) one.1 h.item_batch in
+    one_file k.behind h.rest k.rest s t items items' s_fits t_fits batch k.item_batch
 
 -- ---- what is written
 
@@ -212,7 +212,7 @@ log_batch_spelled signature (x ∷ xs) es b r some fits =
     let counted : length bytes ≡ len = omega (arith, ap length parted, length-append head (block ++ (batch ++ seal)), length-append block (batch ++ seal), length-append batch seal, header_len (item_offset es) compressions.None len, four (signed_crc signature (crc32_of batch))) in
     let count : length items < 2 ^ 64 = omega (arith, batch_count_le items, fits) in
     record {
-      footer = batch ++ seal;
+      behind = batch ++ seal;
       rest = [];
       compression = compressions.None;
       item_batch = batch_spelled signature items b.tiled r count;

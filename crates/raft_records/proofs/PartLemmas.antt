@@ -16,7 +16,7 @@ use Rattle.raft_records.specs.Item.{Item, bare, AreInBytes}
 use Rattle.raft_records.specs.ItemBatch.{IsItemBatch, placed_item}
 use Rattle.raft_records.specs.LogBatch.{IsBatchOf, IsReadable, entry_block, entry_place, item_offset, encoded_length, log_batch_bytes}
 use Rattle.raft_records.specs.Header.{IsHeader}
-use Rattle.raft_records.specs.Parts.{IsFramed}
+use Rattle.raft_records.specs.Framing.{IsFramed}
 use Rattle.raft_records.proofs.BufferLemmas.{header_len}
 use Rattle.raft_records.proofs.FrameLemmas.{header_one, readable, framed, log_batch_spelled, log_batch_length}
 

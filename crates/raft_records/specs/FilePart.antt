@@ -11,7 +11,7 @@ use Rattle.raft_records.specs.Faults.{IsMemory, IsAnyCorruption}
 use Rattle.raft_records.specs.Header.{IsHeader, IsHeaderFault}
 use Rattle.raft_records.specs.Item.{Item}
 use Rattle.raft_records.specs.ItemBatch.{placed_item, IsItemBatchFault}
-use Rattle.raft_records.specs.Parts.{IsFramed}
+use Rattle.raft_records.specs.Framing.{IsFramed}
 
 -- bytes of a file, from this offset on
 pub record Part : Type 0 where
@@ -57,7 +57,7 @@ pub record IsCutShort (bytes : List ℕ) (e : Error) : Type 0 where
   pub error : IsAnyCorruption e
 
 -- a fault of the item batch of a batch that stands there whole
-pub record IsFooterFault (signature : Option ℕ) (bytes : List ℕ) (e : Error) : Type 0 where
+pub record IsItemsFault (signature : Option ℕ) (bytes : List ℕ) (e : Error) : Type 0 where
   pub offset : ℕ
   pub len : ℕ
   pub header : HasHeader bytes offset len
@@ -66,4 +66,4 @@ pub record IsFooterFault (signature : Option ℕ) (bytes : List ℕ) (e : Error)
 
 -- why no batch is read there
 abbrev pub IsNextFault : Option ℕ → List ℕ → Error → Type 0
-IsNextFault signature bytes e = IsHeaderFault bytes e ⊎ IsCutShort bytes e ⊎ IsFooterFault signature bytes e
+IsNextFault signature bytes e = IsHeaderFault bytes e ⊎ IsCutShort bytes e ⊎ IsItemsFault signature bytes e

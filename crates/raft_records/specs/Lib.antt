@@ -5,6 +5,7 @@ pub mod Entries
 pub mod Faults
 pub mod FilePart
 pub mod FilePartModel
+pub mod Framing
 pub mod Grammar
 pub mod Group
 pub mod Header
@@ -13,7 +14,6 @@ pub mod ItemBatch
 pub mod Lines
 pub mod LogBatch
 pub mod LogBatchModel
-pub mod Parts
 pub mod Placement
 pub mod Range
 pub mod Same

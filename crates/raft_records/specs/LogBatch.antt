@@ -16,7 +16,7 @@ use Rattle.raft_records.specs.Item.{Item, entries_item}
 use Rattle.raft_records.specs.Sizes.{batch_size, at_most_usize}
 use Rattle.raft_records.specs.ItemBatch.{checksum_bytes, batch_bytes, entry_bytes_of, FitTogether, IsItemBatch, laid, raised_item}
 
--- how far a batch has come: items may still be added; its bytes stand; they are signed, or have no signature
+-- how far a batch has come: it is open (items may be added); its bytes are made; they are signed for a file, or without a signature
 pub data Stage : Type 0 where
   populating : Stage
   encoded : Stage
@@ -60,12 +60,12 @@ with_entries_added b region [] strings = b
 with_entries_added b region (e ∷ es) strings =
     record b { items = b.items ++ entries_item region (laid (length b.entry_bytes) (with_lengths (e ∷ es) strings)) ∷ []; entry_bytes = b.entry_bytes ++ concat strings }
 
--- why the bytes of entries are not taken: they would pass the limit, a message refused to write itself with one of these codes, or there is no memory
+-- why the bytes of entries are not added: they would pass the limit, a message refused to write itself with one of these codes, or there is no memory
 abbrev pub IsBytesFault : (ℕ → Type 0) → ℕ → Error → Type 0
 IsBytesFault refuses size errors.Full = 2 ^ 31 ≤ size
 IsBytesFault refuses size e = IsMemoryOrMessage refuses e
 
--- why entries are not added: their indexes are not consecutive, or they are and their bytes are not taken, or there is no memory
+-- why entries are not added: their indexes are not consecutive, or they are and their bytes are not added, or there is no memory
 abbrev pub IsAddFault : (ℕ → Type 0) → List EntryIndex → ℕ → Error → Type 0
 IsAddFault refuses es size errors.Memory = Unit {0}
 IsAddFault refuses es size (errors.InvalidArgument text) = IsConsecutive es → ⊥
@@ -122,12 +122,12 @@ log_batch_bytes signature (item ∷ items) entry_bytes =
 
 -- a header, these bytes and an item batch, one behind the other; the header says how many bytes there are and where the item batch begins
 pub record IsLaidOut (bytes : List ℕ) (signature : Option ℕ) (items : List Item) (between : List ℕ) : Type 0 where
-  pub footer : List ℕ
+  pub behind : List ℕ
   pub rest : List ℕ
   pub compression : CompressionType
-  pub item_batch : IsItemBatch footer signature items rest
+  pub item_batch : IsItemBatch behind signature items rest
   pub fits : length bytes < 2 ^ 56
-  pub split : bytes ≡ header_bytes (16 + length between) compression (length bytes) ++ (between ++ footer)
+  pub split : bytes ≡ header_bytes (16 + length between) compression (length bytes) ++ (between ++ behind)
 
 -- a log batch: between header and item batch stands its entry block
 abbrev pub IsLogBatch : List ℕ → Option ℕ → List Item → List ℕ → Type 0

@@ -30,8 +30,12 @@ pub enum AtomicGroupStatus {
 impl AtomicGroupStatus {
     ghost use Rattle.raft_records.specs.Group.{status_byte, IsStatusFault};
 
-    /// The group whose group marker an item is, and its status; nothing of an item that is no group marker.
-    /// A group marker whose byte stands for no status is `Corruption`.
+    /// The group whose group marker an item is, and its status; nothing of an item that is no group
+    /// marker.
+    ///
+    /// # Errors
+    ///
+    /// `Corruption` where the byte of a group marker stands for no status, and `Memory` for its text.
     pub fn parse(alloc: Global, item: &LogItem) -> Result<Option<(u64, AtomicGroupStatus)>>
         ensures ok { IfOk result (IsGroupMarkerRead (item_of item.now)) }
         ensures fault { IfErr result (IsGroupMarkerFault (item_of item.now)) }
@@ -124,7 +128,11 @@ impl AtomicGroupBuilder {
         self.status
     }
 
-    /// Begins the group with this batch. On `Err` builder and batch are as they were.
+    /// Begins the group with this batch.
+    ///
+    /// # Errors
+    ///
+    /// `Memory`. Builder and batch are then as they were.
     pub fn begin(&mut self, log_batch: &mut LogBatch) -> Result<()>
         requires open { log_batch.old.stage ≡ populating }
         requires fresh { self.old.state ≡ None }
@@ -139,7 +147,11 @@ impl AtomicGroupBuilder {
         self.add_marker(AtomicGroupStatus::Begin, log_batch)
     }
 
-    /// Goes on with the group in this batch. On `Err` builder and batch are as they were.
+    /// Goes on with the group in this batch.
+    ///
+    /// # Errors
+    ///
+    /// `Memory`. Builder and batch are then as they were.
     pub fn add(&mut self, log_batch: &mut LogBatch) -> Result<()>
         requires open { log_batch.old.stage ≡ populating }
         requires running { IsRunning self.old.state }
@@ -154,8 +166,11 @@ impl AtomicGroupBuilder {
         self.add_marker(AtomicGroupStatus::Middle, log_batch)
     }
 
-    /// Ends the group with this batch; the builder is then of no more use. On `Err` builder and batch
-    /// are as they were.
+    /// Ends the group with this batch; the builder is then of no more use.
+    ///
+    /// # Errors
+    ///
+    /// `Memory`. Builder and batch are then as they were.
     pub fn end(&mut self, log_batch: &mut LogBatch) -> Result<()>
         requires open { log_batch.old.stage ≡ populating }
         requires running { IsRunning self.old.state }

@@ -42,7 +42,11 @@ impl Command {
         }
     }
 
-    /// Appends the command's bytes. On `Err` the vector is as it was.
+    /// Appends the command's bytes.
+    ///
+    /// # Errors
+    ///
+    /// `Memory`. The vector is then as it was.
     pub fn encode(&self, buf: &mut Vec<u8>) -> Result<()>
         ensures ok { OnOk result (buf.new.items ≡ buf.old.items ++ command_bytes self.now) }
         ensures err { OnErr result (buf.new.items ≡ buf.old.items) }
@@ -63,8 +67,12 @@ impl Command {
         }
     }
 
-    /// Reads a command from the front. Where it succeeds it takes no memory; on `Err` the slice is
-    /// as it was.
+    /// Reads a command from the front, for which it takes no memory.
+    ///
+    /// # Errors
+    ///
+    /// `Codec` where the bytes end early or a number is malformed; `Corruption` for an unknown command,
+    /// and `Memory` for its text. The slice is then as it was.
     pub fn decode(alloc: Global, buf: &mut BytesSlice<'_>) -> Result<Command>
         ensures ok { IfOk result (Reads IsCommand buf.old.now buf.new.now) }
         ensures err { OnErr result (buf.new.now ≡ buf.old.now) }

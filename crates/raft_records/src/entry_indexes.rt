@@ -64,7 +64,11 @@ fn runs_on(entries: &[EntryIndex]) -> bool
 pub struct EntryIndexes(pub Vec<EntryIndex>);
 
 impl EntryIndexes {
-    /// A list of the same entries. There may be no memory for it.
+    /// A list of the same entries.
+    ///
+    /// # Errors
+    ///
+    /// `Memory`.
     #[tactic(auto, using(crate::proofs::CloneLemmas::entries_clone))]
     pub fn clone(&self) -> Result<EntryIndexes>
         ensures ok { IfOk result (λ copy. copy.0.items ≡ self.now.0.items) }
@@ -113,9 +117,12 @@ impl EntryIndexes {
         is_consecutive(self.0.as_slice()) && runs_on(self.0.as_slice())
     }
 
-    /// Appends the entries' bytes. A list that is not consecutive, an entry that doesn't begin where
-    /// the one before it ended, and a tail offset above 2^32 - 1 are `InvalidArgument`. On `Err` the
-    /// vector is as it was.
+    /// Appends the entries' bytes.
+    ///
+    /// # Errors
+    ///
+    /// `InvalidArgument` where the entries are not consecutive, an entry doesn't begin where the one
+    /// before it ended, or a tail offset is above 2^32 - 1; `Memory`. The vector is then as it was.
     pub fn encode(&self, buf: &mut Vec<u8>) -> Result<()>
         ensures ok { OnOk result (buf.new.items ≡ buf.old.items ++ entries_bytes self.now.0.items) }
         ensures accepted { OnOk result (AreWritable self.now.0.items) }
@@ -149,7 +156,13 @@ impl EntryIndexes {
     }
 
     /// Reads the entries of an item that stands behind `entries_size` entry bytes, without a place.
-    /// `entries_size` becomes the end of their bytes. On `Err` it and the slice are as they were.
+    /// `entries_size` becomes the end of their bytes.
+    ///
+    /// # Errors
+    ///
+    /// `Codec` where the bytes end early or a number is malformed; `Corruption` where an index would be
+    /// 2^64 - 1, or a tail offset falls or is above 2^32 - 1; `Memory`. `entries_size` and the slice
+    /// are then as they were.
     pub fn decode(
         alloc: Global,
         buf: &mut BytesSlice<'_>,

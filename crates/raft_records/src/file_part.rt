@@ -37,8 +37,11 @@ impl Model for FilePart {
 }
 
 impl FilePart {
-    /// The bytes of the file `id` from `offset` on, which aren't copied. `InvalidArgument` where they end past 2^64 - 1.
-    /// `Memory`.
+    /// The bytes of the file `id` from `offset` on, which aren't copied.
+    ///
+    /// # Errors
+    ///
+    /// `InvalidArgument` where they end past 2^64 - 1, `Memory`.
     pub fn new(id: FileId, version: Version, offset: u64, bytes: Vec<u8>) -> Result<FilePart>
         ensures ok { IfOk result (λ part. part
             ≡ record { id = id; version = version; offset = offset; bytes = bytes.items }) }
@@ -87,7 +90,11 @@ impl FilePart {
         })
     }
 
-    /// The same part again, which shares its bytes. There may be no memory for it.
+    /// The same part again, which shares its bytes.
+    ///
+    /// # Errors
+    ///
+    /// `Memory`.
     pub fn clone(&self) -> Result<FilePart>
         ensures ok { IfOk result (λ part. part ≡ self.now) }
         ensures memory { IfErr result (λ e. e ≡ Error.Memory) }
@@ -132,12 +139,17 @@ impl FilePart {
 
 /// The items of the log batch that stands at `at` in the part, each with its place in the file, and
 /// where the next batch begins; nothing at the part's end. The entries of an item are consecutive and
-/// lie in the part's file, as each key value does. It doesn't read the entry bytes. A batch that is
-/// longer than what is left is `Corruption`, as is whatever is no header.
+/// lie in the part's file, as each key value does. It doesn't read the entry bytes.
+///
+/// # Errors
+///
+/// `Corruption` where what stands there is no header of a log batch, or the batch is longer than what
+/// is left; what [`LogItemBatch::decode`] answers of its items; `Memory`.
 pub fn next_batch(part: &FilePart, at: usize) -> Result<Option<(LogItemBatch, usize)>>
     requires { at ≤ length part.now.bytes }
     ensures ok { IfOk result (IsNext part.now at) }
-    ensures in_file { IfOk result (λ next. IfSome next (λ batch. AreDecodedIn part.now.id batch.0)) }
+    ensures in_file { IfOk result
+        (λ next. IfSome next (λ batch. AreDecodedIn part.now.id batch.0)) }
     ensures some { OnErr result (at < length part.now.bytes) }
     ensures refused { IfErr result (λ e. e ≢ Error.Memory
         → HasNoFront (λ bytes. IsReadable bytes (signature_in part.now.version part.now.id.seq))
@@ -163,7 +175,7 @@ pub fn next_batch(part: &FilePart, at: usize) -> Result<Option<(LogItemBatch, us
     };
     let context = LogFileContext::new(part.id, part.version);
     let (bytes, _) = rest.split_at(len);
-    let (_, mut footer) = bytes.split_at(offset);
-    let batch = LogItemBatch::decode(alloc, &mut footer, place, compression_type, &context)?;
+    let (_, mut item_bytes) = bytes.split_at(offset);
+    let batch = LogItemBatch::decode(alloc, &mut item_bytes, place, compression_type, &context)?;
     Ok(Some((batch, at + len)))
 }

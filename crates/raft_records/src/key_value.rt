@@ -26,7 +26,11 @@ pub enum OpType {
 impl OpType {
     ghost use Rattle.raft_records.specs.Grammar.{op_type_byte};
 
-    /// The op type that a byte stands for. Any other byte is `Corruption`.
+    /// The op type that a byte stands for.
+    ///
+    /// # Errors
+    ///
+    /// `Corruption` for any other byte, and `Memory` for its text.
     pub fn from_u8(alloc: Global, byte: u8) -> Result<OpType>
         ensures ok { IfOk result (λ op_type. byte ≡ op_type_byte op_type) }
         ensures fault { IfErr result (IsOpTypeFault byte) }
@@ -71,7 +75,11 @@ impl KeyValue {
         }
     }
 
-    /// The same change. There may be no memory for it.
+    /// The same change.
+    ///
+    /// # Errors
+    ///
+    /// `Memory`.
     #[tactic(auto, using(crate::proofs::CloneLemmas::pair_clone))]
     pub fn clone(&self) -> Result<KeyValue>
         ensures ok { IfOk result (λ copy. pair_of copy ≡ pair_of self.now) }
@@ -115,8 +123,11 @@ impl KeyValue {
         }
     }
 
-    /// Appends the change's bytes; the value of a `Del` is not written. A `Put` without a value is
-    /// `InvalidArgument`. On `Err` the vector is as it was.
+    /// Appends the change's bytes; the value of a `Del` is not written.
+    ///
+    /// # Errors
+    ///
+    /// `InvalidArgument` for a `Put` without a value, `Memory`. The vector is then as it was.
     pub fn encode(&self, buf: &mut Vec<u8>) -> Result<()>
         ensures ok { OnOk result (buf.new.items ≡ buf.old.items ++ pair_bytes (pair_of self.now)) }
         ensures accepted { OnOk result (IsWritablePair (pair_of self.now)) }
@@ -147,7 +158,13 @@ impl KeyValue {
         }
     }
 
-    /// Reads a change from the front, without a file. On `Err` the slice is as it was.
+    /// Reads a change from the front, without a file.
+    ///
+    /// # Errors
+    ///
+    /// `Codec` where the bytes end early or a number is malformed; `Corruption` for an unknown type of
+    /// change, and where a key or a value is longer than what is left; `Memory`. The slice is then as
+    /// it was.
     pub fn decode(alloc: Global, buf: &mut BytesSlice<'_>) -> Result<KeyValue>
         ensures ok { IfOk result (λ kv. Reads IsKeyValue buf.old.now buf.new.now (pair_of kv)) }
         ensures err { OnErr result (buf.new.now ≡ buf.old.now) }

@@ -16,7 +16,7 @@ ghost use Rattle.raft_records.specs.ItemBatch.{placed_item, IsItemBatch};
 ghost use Rattle.raft_records.specs.LogBatch.{IsBatchOf, IsLogBatch, IsReadable, encoded_length, entry_place, log_batch_bytes};
 ghost use Rattle.raft_records.specs.Header.{IsHeader, IsEntryBlockOf};
 ghost use Rattle.raft_records.specs.Range.{AreInRange, IsContentInRange};
-ghost use Rattle.raft_records.specs.Parts.{IsFramed, HasParts, LogBatchIsSpelled};
+ghost use Rattle.raft_records.specs.Framing.{IsFramed, IsFramedWith, LogBatchIsSpelled};
 ghost use Rattle.raft_records.specs.Grammar.{IsCommand, IsEntries, IsItem, IsKeyValue};
 ghost use Rattle.raft_records.specs.Entries.{Tile};
 ghost use Rattle.raft_records.specs.Spelling.{IsWritablePair, command_bytes, entries_bytes, pair_bytes};
@@ -68,7 +68,7 @@ pub fn log_batches_are_read_again()
     ensures written { LogBatchIsSpelled }
     ensures parts { (bytes : List ℕ) (signature : Option ℕ) (items : List Item)
         (entry_bytes : List ℕ) →
-        IsLogBatch bytes signature items entry_bytes ↔ HasParts bytes signature items entry_bytes }
+        IsLogBatch bytes signature items entry_bytes ↔ IsFramedWith bytes signature items entry_bytes }
     ensures readable { (bytes : List ℕ) (signature : Option ℕ) (items : List Item) →
         IsReadable bytes signature items ↔ ((offset : ℕ) × IsFramed bytes signature items offset) }
     ensures one_header { HasOneFront IsHeader }

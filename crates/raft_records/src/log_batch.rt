@@ -101,6 +101,10 @@ impl LogBatch {
     }
 
     /// An open batch without items, with room for `cap` of them.
+    ///
+    /// # Errors
+    ///
+    /// `Memory`, and only where `cap` is above 0.
     pub fn with_capacity(alloc: Global, cap: usize) -> Result<LogBatch>
         ensures ok { IfOk result (λ batch. batch ≡ empty_batch) }
         ensures refused { OnErr result (0 < cap) }
@@ -173,7 +177,11 @@ impl LogBatch {
         self.item_batch.drain()
     }
 
-    /// Adds a command on a region's log to an open batch. On `Err` the batch is as it was.
+    /// Adds a command on a region's log to an open batch.
+    ///
+    /// # Errors
+    ///
+    /// `Memory`. The batch is then as it was.
     pub fn add_command(&mut self, region_id: u64, command: Command) -> Result<()>
         requires { self.old.stage ≡ populating }
         ensures ok { OnOk result (self.new
@@ -184,8 +192,12 @@ impl LogBatch {
         self.item_batch.add_command(region_id, command)
     }
 
-    /// Makes the bytes of an open batch, to which nothing is added from then on, and answers how
-    /// many they are: none without items. 2^56 or more are `Full`. On `Err` the batch is as it was.
+    /// Makes the bytes of an open batch, to which nothing is added from then on, and answers how many
+    /// they are: none without items.
+    ///
+    /// # Errors
+    ///
+    /// `Full` where they would be 2^56 or more, `Memory`. The batch is then as it was.
     pub fn finish_populate(&mut self) -> Result<usize>
         requires { self.old.stage ≡ populating }
         ensures ok { OnOk result (self.new ≡ record self.old { stage = encoded }) }
@@ -256,9 +268,13 @@ impl LogBatch {
         log_batches_are_read_again();
     }
 
-    /// Reads the header of a log batch from the front: where its item batch begins, how its entry
-    /// bytes are compressed, and how many bytes the batch has. Success takes no memory. Whatever is no
-    /// header is `Corruption`, and the slice is then as it was.
+    /// Reads the header of a log batch from the front: where its item batch begins, how its entry bytes
+    /// are compressed, and how many bytes the batch has. For this it takes no memory.
+    ///
+    /// # Errors
+    ///
+    /// `Corruption` where no header stands there, and `Memory` for its text. The slice is then as it
+    /// was.
     pub fn decode_header(
         alloc: Global,
         buf: &mut BytesSlice<'_>,
@@ -274,7 +290,11 @@ impl LogBatch {
     }
 
     /// The entry bytes in the entry block that stands in front of `buf`, of the length that its place
-    /// says; none where that is 0. A buffer that is too short and a wrong checksum are `Corruption`.
+    /// says; none where that is 0.
+    ///
+    /// # Errors
+    ///
+    /// `Corruption` where the buffer is too short or the checksum is another, `Memory`.
     pub fn decode_entries_block(
         alloc: Global,
         buf: &[u8],
@@ -292,7 +312,11 @@ impl LogBatch {
 }
 
 impl LogBatch {
-    /// Adds the removal of a region's key to an open batch. On `Err` the batch is as it was.
+    /// Adds the removal of a region's key to an open batch.
+    ///
+    /// # Errors
+    ///
+    /// `Memory`. The batch is then as it was.
     pub fn delete(&mut self, region_id: u64, key: Vec<u8>) -> Result<()>
         requires { self.old.stage ≡ populating }
         ensures ok { OnOk result (self.new ≡ record self.old {
@@ -304,8 +328,11 @@ impl LogBatch {
         self.item_batch.delete(region_id, key)
     }
 
-    /// Adds a value of a region's key to an open batch. The key of the group markers is
-    /// `InvalidArgument`. On `Err` the batch is as it was.
+    /// Adds a value of a region's key to an open batch.
+    ///
+    /// # Errors
+    ///
+    /// `InvalidArgument` for the key of the group markers, `Memory`. The batch is then as it was.
     pub fn put(&mut self, region_id: u64, key: Vec<u8>, value: Vec<u8>) -> Result<()>
         requires { self.old.stage ≡ populating }
         ensures ok { OnOk result (self.new ≡ record self.old {
@@ -319,9 +346,12 @@ impl LogBatch {
         self.put_unchecked(region_id, key, value)
     }
 
-    /// Adds a message as the value of a region's key to an open batch. `Message` where the message
-    /// refuses to write itself; the key of the group markers is `InvalidArgument`. On `Err`
-    /// the batch is as it was.
+    /// Adds a message as the value of a region's key to an open batch.
+    ///
+    /// # Errors
+    ///
+    /// `InvalidArgument` for the key of the group markers, `Message` where the message refuses to write
+    /// itself, `Memory`. The batch is then as it was.
     pub fn put_message<S: Message>(
         &mut self,
         region_id: u64,
@@ -465,7 +495,11 @@ impl Clone for LogBatch {
 }
 
 impl LogBatch {
-    /// A batch of the same items and entry bytes at the same stage. There may be no memory for it.
+    /// A batch of the same items and entry bytes at the same stage.
+    ///
+    /// # Errors
+    ///
+    /// `Memory`.
     pub fn clone(&self) -> Result<LogBatch>
         ensures ok { IfOk result (λ copy. copy ≡ self.now) }
         ensures memory { IfErr result (λ e. e ≡ Error.Memory) }

@@ -82,7 +82,11 @@ impl LogItem {
         }
     }
 
-    /// The same change of the same region. There may be no memory for it.
+    /// The same change of the same region.
+    ///
+    /// # Errors
+    ///
+    /// `Memory`.
     #[tactic(auto, using(crate::proofs::CloneLemmas::item_clone))]
     pub fn clone(&self) -> Result<LogItem>
         ensures ok { IfOk result (λ copy. item_of copy ≡ item_of self.now) }
@@ -154,8 +158,12 @@ impl LogItem {
         }
     }
 
-    /// Appends the item's bytes. What its content can't write is `InvalidArgument`. On `Err` the
-    /// vector is as it was.
+    /// Appends the item's bytes.
+    ///
+    /// # Errors
+    ///
+    /// `InvalidArgument` where its content can't be written (as [`EntryIndexes::encode`] and
+    /// [`KeyValue::encode`] say), `Memory`. The vector is then as it was.
     pub fn encode(&self, buf: &mut Vec<u8>) -> Result<()>
         ensures ok { OnOk result (buf.new.items ≡ buf.old.items ++ item_bytes (item_of self.now)) }
         ensures accepted { OnOk result (IsWritable (item_of self.now)) }
@@ -182,9 +190,14 @@ impl LogItem {
         self.content.write(buf)
     }
 
-    /// Reads an item that stands behind `entries_size` entry bytes from the front, without places
-    /// and file. `entries_size` becomes the end of its entries' bytes. On `Err` it and the slice are
-    /// as they were.
+    /// Reads an item that stands behind `entries_size` entry bytes from the front, without places and
+    /// file. `entries_size` becomes the end of its entries' bytes.
+    ///
+    /// # Errors
+    ///
+    /// `Codec` where the bytes end early or a number is malformed; `Io` where they end before the
+    /// item's type; `Corruption` for an unknown type, and what its content's `decode` refuses so;
+    /// `Memory`. `entries_size` and the slice are then as they were.
     pub fn decode(
         alloc: Global,
         buf: &mut BytesSlice<'_>,
@@ -235,7 +248,11 @@ impl LogItem {
 }
 
 impl LogItemContent {
-    /// The same change. There may be no memory for it.
+    /// The same change.
+    ///
+    /// # Errors
+    ///
+    /// `Memory`.
     #[tactic(auto, using(crate::proofs::CloneLemmas::content_clone))]
     pub fn clone(&self) -> Result<LogItemContent>
         ensures ok { IfOk result (λ copy. content_of copy ≡ content_of self.now) }

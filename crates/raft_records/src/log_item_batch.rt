@@ -80,6 +80,10 @@ impl LogItemBatch {
     }
 
     /// A batch without items, with room for `cap` of them.
+    ///
+    /// # Errors
+    ///
+    /// `Memory`, and only where `cap` is above 0.
     pub fn with_capacity(alloc: Global, cap: usize) -> Result<LogItemBatch>
         ensures ok { IfOk result (λ batch. batch ≡ []) }
         ensures refused { OnErr result (0 < cap) }
@@ -123,8 +127,9 @@ impl LogItemBatch {
         let _count = self.items.len();
     }
 
-    /// The file in which `decode` gave the items their places, as long as none was added, moved or placed
-    /// since: they may stand there, so nobody needs to test it. A clone has the same, any other batch none.
+    /// The file in which `decode` gave the items their places, as long as none was added, moved or
+    /// placed since: the items may stand in it, so nobody needs to test them again. A clone answers the
+    /// same, a batch that was made otherwise `None`. `None` says nothing of the items.
     pub fn decoded_in(&self) -> Option<FileId>
         ensures { IfSome result (λ file. AreDecodedIn file self.now) }
     {
@@ -160,9 +165,13 @@ impl LogItemBatch {
         None
     }
 
-    /// Adds entries of a region, whose bytes stand behind those of the batch: their offsets are set
-    /// so. It asks consecutive entries, and that the bytes of all entries stay below 2^32
-    /// (`entries_size` tells those of the batch). On `Err` the batch is as it was.
+    /// Adds entries of a region, whose bytes stand behind those of the batch: their offsets are set so.
+    /// It asks consecutive entries, and that the bytes of all entries stay below 2^32 (`entries_size`
+    /// tells those of the batch).
+    ///
+    /// # Errors
+    ///
+    /// `Memory`. The batch is then as it was.
     pub fn add_entry_indexes(
         &mut self,
         region_id: u64,
@@ -180,7 +189,11 @@ impl LogItemBatch {
         self.add(LogItem::new_entry_indexes(region_id, entry_indexes), end)
     }
 
-    /// Adds a command on a region's log. On `Err` the batch is as it was.
+    /// Adds a command on a region's log.
+    ///
+    /// # Errors
+    ///
+    /// `Memory`. The batch is then as it was.
     pub fn add_command(&mut self, region_id: u64, command: Command) -> Result<()>
         ensures ok { OnOk result (self.new ≡ self.old ++ command_item region_id command ∷ []) }
         ensures err { OnErr result (self.new ≡ self.old) }
@@ -190,7 +203,11 @@ impl LogItemBatch {
         self.add(LogItem::new_command(region_id, command), entries_size)
     }
 
-    /// Adds the removal of a region's key. On `Err` the batch is as it was.
+    /// Adds the removal of a region's key.
+    ///
+    /// # Errors
+    ///
+    /// `Memory`. The batch is then as it was.
     pub fn delete(&mut self, region_id: u64, key: Vec<u8>) -> Result<()>
         ensures ok { OnOk result (self.new
             ≡ self.old ++ pair_item region_id Del key.items None ∷ []) }
@@ -204,7 +221,11 @@ impl LogItemBatch {
         )
     }
 
-    /// Adds a value of a region's key. On `Err` the batch is as it was.
+    /// Adds a value of a region's key.
+    ///
+    /// # Errors
+    ///
+    /// `Memory`. The batch is then as it was.
     pub fn put(&mut self, region_id: u64, key: Vec<u8>, value: Vec<u8>) -> Result<()>
         ensures ok { OnOk result (self.new ≡ self.old
             ++ pair_item region_id Put key.items (Some value.items) ∷ []) }
@@ -218,8 +239,11 @@ impl LogItemBatch {
         )
     }
 
-    /// Adds a message as the value of a region's key. `Message` where the message refuses to write
-    /// itself. On `Err` the batch is as it was.
+    /// Adds a message as the value of a region's key.
+    ///
+    /// # Errors
+    ///
+    /// `Message` where the message refuses to write itself, `Memory`. The batch is then as it was.
     pub fn put_message<S: Message>(
         &mut self,
         region_id: u64,
@@ -237,8 +261,11 @@ impl LogItemBatch {
     }
 
     /// Moves the items of `rhs` behind those of the batch; their entries' bytes stand behind the
-    /// batch's, so that their offsets rise. It asks that the bytes of all entries stay below 2^32. On
-    /// `Err` both are as they were.
+    /// batch's, so that their offsets rise. It asks that the bytes of all entries stay below 2^32.
+    ///
+    /// # Errors
+    ///
+    /// `Memory`, and only where `rhs` has items. Both are then as they were.
     pub fn merge(&mut self, rhs: &mut LogItemBatch) -> Result<()>
         requires { entry_bytes_of self.old + entry_bytes_of rhs.old < 2 ^ 32 }
         ensures ok { OnOk result (self.new
@@ -290,8 +317,11 @@ impl LogItemBatch {
         place_items(&mut self.items, handle, compression_type);
     }
 
-    /// Appends the batch's bytes to the vector, four zero bytes in the place of the checksum. On
-    /// `Err` the vector is as it was.
+    /// Appends the batch's bytes to the vector, four zero bytes in the place of the checksum.
+    ///
+    /// # Errors
+    ///
+    /// `Memory`. The vector is then as it was.
     pub fn encode(&mut self, buf: &mut Vec<u8>) -> Result<()>
         ensures ok { OnOk result (buf.new.items
             ≡ buf.old.items ++ (batch_bytes self.old ++ no_checksum)) }
@@ -326,9 +356,15 @@ impl LogItemBatch {
 
     /// Reads the item batch that the whole slice is, in the file of `context`. Every entry gets the
     /// place `entries` and the compression type, every key value the file of `entries`. The slice then
-    /// holds the bytes between the last item and the checksum, which are free. On `Err` it is as it
-    /// was. Entries are consecutive, and a `Put` has a value: nobody needs to test it again. The batch
-    /// keeps the file of `entries` ([`LogItemBatch::decoded_in`]).
+    /// holds the bytes between the last item and the checksum, which are free. Entries are consecutive,
+    /// and a `Put` has a value: nobody needs to test it again. The batch keeps the file of `entries`
+    /// ([`LogItemBatch::decoded_in`]).
+    ///
+    /// # Errors
+    ///
+    /// `Corruption` where the bytes are four or fewer or their checksum is another, and what
+    /// [`LogItem::decode`] answers of an item; `Codec` where the count of items is malformed; `Memory`.
+    /// The slice is then as it was.
     pub fn decode(
         alloc: Global,
         buf: &mut BytesSlice<'_>,
@@ -430,7 +466,11 @@ impl Clone for LogItemBatch {
 }
 
 impl LogItemBatch {
-    /// A batch of the same items. There may be no memory for it.
+    /// A batch of the same items.
+    ///
+    /// # Errors
+    ///
+    /// `Memory`.
     pub fn clone(&self) -> Result<LogItemBatch>
         ensures ok { IfOk result (λ copy. copy ≡ self.now) }
         ensures memory { IfErr result (λ e. e ≡ Error.Memory) }

@@ -15,10 +15,13 @@ use raft_base::{
 use std::alloc::Global;
 use std::io::{self, ErrorKind, Read, Write};
 
-/// Prints the item batch that the whole of `reader` is, in the file of `context`: a line for each
-/// item, and a last one with the number of items and of the bytes that are left unread behind them.
-/// Where the bytes are no item batch, or memory is short, nothing is written. A failure of the
-/// reader or the writer is `Io`; behind that of the writer a front of the lines may stand.
+/// Prints the item batch that the whole of `reader` is, in the file of `context`: a line for each item,
+/// and a last one with the number of items and of the bytes that are left unread behind them.
+///
+/// # Errors
+///
+/// What [`LogItemBatch::decode`] answers, or `Memory`, and then nothing is written. `Io` where the
+/// reader or the writer fails; behind a failure of the writer a front of the lines may stand.
 pub fn print_batch<R: Read, W: Write>(
     alloc: Global,
     reader: &mut R,
@@ -44,8 +47,11 @@ pub fn print_batch<R: Read, W: Write>(
     write_whole(writer, text.as_bytes())
 }
 
-/// Writes all of these bytes, and goes on behind a write that took a part or was interrupted. `Io` where the writer
-/// fails; a front of the bytes, and not all of them, was written then.
+/// Writes all of these bytes, and goes on behind a write that took a part or was interrupted.
+///
+/// # Errors
+///
+/// `Io` where the writer fails: a front of the bytes, and not all of them, was written then.
 pub fn write_whole<W: Write>(writer: &mut W, bytes: &[u8]) -> Result<()>
     ensures ok { OnOk result (Appends (W.contents writer.old) (W.contents writer.new) bytes.now) }
     ensures err { OnErr result (AppendsFront (W.contents writer.old) (W.contents writer.new)
@@ -93,6 +99,10 @@ fn unwritten() -> Error
 
 /// The text of the item batch that the whole slice is, in the file of `context`: a line for each item,
 /// and a last one with the number of items and of the bytes that are left unread behind them.
+///
+/// # Errors
+///
+/// What [`LogItemBatch::decode`] answers, or `Memory`.
 pub fn batch_text(alloc: Global, bytes: &[u8], context: &LogFileContext) -> Result<String>
     ensures ok { IfOk result (λ text.
         IsTextOf bytes.now (signature_of context.now) (string_bytes text)) }

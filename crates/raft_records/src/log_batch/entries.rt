@@ -22,10 +22,14 @@ const MOST_OPEN_BYTES: usize = LOG_BATCH_HEADER_LEN + MAX_LOG_ENTRIES_SIZE_PER_B
 
 impl LogBatch {
     /// Adds entries of a region to an open batch, each as the bytes of its message. No entries add
-    /// nothing. `InvalidArgument` where their indexes are not consecutive, `Full` where the batch's
-    /// entry bytes would pass 2^31 - 1, `Message` where a message refuses to write itself. Memory is
-    /// asked for before the indexes are tested, so `Memory` may also come for indexes with gaps. On
-    /// `Err` the batch is as it was.
+    /// nothing.
+    ///
+    /// # Errors
+    ///
+    /// `InvalidArgument` where their indexes are not consecutive, `Full` where the batch's entry bytes
+    /// would pass 2^31 - 1, `Message` where a message refuses to write itself, `Memory`. Memory is
+    /// asked for before the indexes are tested, so `Memory` may also come for indexes with gaps. The
+    /// batch is then as it was.
     pub fn add_entries<M: MessageExt>(&mut self, region_id: u64, entries: &[M::Entry]) -> Result<()>
         requires { self.old.stage ≡ populating }
         ensures ok { OnOk result (self.new ≡ with_entries_added self.old region_id
@@ -62,7 +66,10 @@ impl LogBatch {
     /// Adds entries of a region to an open batch, with the bytes of each. It asks as many byte strings
     /// as indexes, and consecutive indexes. Each index gets the length of its bytes, and the offset at
     /// which they stand among those of the batch; its other fields stay. Empty lists add nothing.
-    /// `Full` where the batch's entry bytes would pass 2^31 - 1. On `Err` the batch is as it was.
+    ///
+    /// # Errors
+    ///
+    /// `Full` where the batch's entry bytes would pass 2^31 - 1, `Memory`. The batch is then as it was.
     pub fn add_raw_entries(
         &mut self,
         region_id: u64,
@@ -102,8 +109,11 @@ impl LogBatch {
     }
 
     /// Moves all items of `rhs` behind those of the batch, and their entry bytes behind its own; both
-    /// are open, and `rhs` is left empty. `Full` where the entry bytes would pass 2^31 - 1. On `Err`
-    /// both are as they were.
+    /// are open, and `rhs` is left empty.
+    ///
+    /// # Errors
+    ///
+    /// `Full` where the entry bytes would pass 2^31 - 1, `Memory`. Both are then as they were.
     pub fn merge(&mut self, rhs: &mut LogBatch) -> Result<()>
         requires open { self.old.stage ≡ populating }
         requires rhs_open { rhs.old.stage ≡ populating }

@@ -16,7 +16,7 @@ pub record IsFramed (bytes : List ℕ) (signature : Option ℕ) (items : List It
   pub item_batch : IsItemBatch (drop offset bytes) signature items rest
 
 -- bytes that are framed so, with the entry block of these entry bytes from the header to that offset
-pub record HasParts (bytes : List ℕ) (signature : Option ℕ) (items : List Item) (entry_bytes : List ℕ) : Type 0 where
+pub record IsFramedWith (bytes : List ℕ) (signature : Option ℕ) (items : List Item) (entry_bytes : List ℕ) : Type 0 where
   pub offset : ℕ
   pub frame : IsFramed bytes signature items offset
   pub entry_block : IsEntryBlockOf (offset - 16) (drop 16 bytes) entry_bytes

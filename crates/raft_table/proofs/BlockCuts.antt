@@ -4,7 +4,7 @@ use Rattle.std.proofs.lemmas.List.{nil_from_length, append-nil, length-drop, len
 use Rattle.raft_base.specs.declared.pipe_log.LogQueue.TheVariants.{Append, Rewrite}
 use Rattle.raft_base.specs.Runs.{end_of}
 use Rattle.raft_base.proofs.ConsecutiveLemmas.{end_bounded}
-use Rattle.raft_table.specs.Blocks.{BlockSpans, spread, entries_in_blocks, Differs, AreDistinctBlocks}
+use Rattle.raft_table.specs.Blocks.{BlockSpans, entries_of_block, entries_in_blocks, Differs, AreDistinctBlocks}
 use Rattle.raft_table.specs.BlockWords.{count, starts_of, AreKept, first_spans, without_first_spans, cut_last, cut_first, IsAt, IsIndexOf}
 use Rattle.raft_table.specs.TableEntries.{AreTableEntries, start_of, placed_in, entry_count}
 use Rattle.raft_table.proofs.PlaceLemmas.{entries_in_both}
@@ -82,9 +82,9 @@ kept_drop i n p k o bs ss r h a = at (drop k bs) refl
         let w = a.spot in
         let ln : length (drop o b.spans) ≡ length b.spans - o = length-drop o b.spans in
         let pos : i + p + length (drop o b.spans) ≡ i + count (take (suc k) bs) = omega arith in
-        let whole : drop p es ≡ spread (i + p) b.handle (drop o b.spans) ++ entries_in_blocks (i + count (take (suc k) bs)) rest =
-        subst (λ (ys : List BlockSpans). drop p es ≡ spread (i + p) b.handle (drop o b.spans) ++ entries_in_blocks (i + count (take (suc k) bs)) ys) s.1
-        (subst (λ (y : BlockSpans). drop p es ≡ spread (i + p) y.handle (drop o y.spans) ++ entries_in_blocks (i + count (take (suc k) bs)) (drop (suc k) bs)) s.0 (at_spot i p k o bs b a)) in
+        let whole : drop p es ≡ entries_of_block (i + p) b.handle (drop o b.spans) ++ entries_in_blocks (i + count (take (suc k) bs)) rest =
+        subst (λ (ys : List BlockSpans). drop p es ≡ entries_of_block (i + p) b.handle (drop o b.spans) ++ entries_in_blocks (i + count (take (suc k) bs)) ys) s.1
+        (subst (λ (y : BlockSpans). drop p es ≡ entries_of_block (i + p) y.handle (drop o y.spans) ++ entries_in_blocks (i + count (take (suc k) bs)) (drop (suc k) bs)) s.0 (at_spot i p k o bs b a)) in
         let cut : drop p es ≡ entries_in_blocks (i + p) (without_first_spans o b ∷ rest) = rw pos whole in
         let kl = h.len in
         let le : p ≤ length es = rw (length-expanded i bs) (omega arith) in
@@ -150,11 +150,11 @@ front_at i p k o bs str a = at (drop k bs) refl
         let l = a.block in
         let lf : length front ≡ k = length-take-le k bs (omega arith) in
         let is = cut_is k (suc o) bs b rest q in
-        let below : take (suc p) (entries_in_blocks i bs) ≡ entries_in_blocks i front ++ spread (i + count front) b.handle (take (suc o) b.spans) =
-        subst (λ (y : BlockSpans). take (suc p) (entries_in_blocks i bs) ≡ entries_in_blocks i front ++ spread (i + count front) y.handle (take (suc o) y.spans)) s.0
+        let below : take (suc p) (entries_in_blocks i bs) ≡ entries_in_blocks i front ++ entries_of_block (i + count front) b.handle (take (suc o) b.spans) =
+        subst (λ (y : BlockSpans). take (suc p) (entries_in_blocks i bs) ≡ entries_in_blocks i front ++ entries_of_block (i + count front) y.handle (take (suc o) y.spans)) s.0
         (below_spot i (suc p) k (suc o) bs b l (omega arith) (a.inside b)) in
-        let ends : entries_in_blocks i (front ++ c ∷ []) ≡ entries_in_blocks i front ++ spread (i + count front) b.handle (take (suc o) b.spans) =
-        expanded-append i front (c ∷ []) ∙ ap (λ xs. entries_in_blocks i front ++ xs) (append-nil (spread (i + count front) b.handle (take (suc o) b.spans))) in
+        let ends : entries_in_blocks i (front ++ c ∷ []) ≡ entries_in_blocks i front ++ entries_of_block (i + count front) b.handle (take (suc o) b.spans) =
+        expanded-append i front (c ∷ []) ∙ ap (λ xs. entries_in_blocks i front ++ xs) (append-nil (entries_of_block (i + count front) b.handle (take (suc o) b.spans))) in
         rw is (record {
           entries = ends ∙ sym below;
           distinct = stretches_back front b c rest refl (omega arith) (subst AreDistinctBlocks (sym whole) str);

@@ -5,7 +5,7 @@ use Rattle.std.proofs.lemmas.Bool.Decides.{nat_tests}
 use Rattle.raft_base.specs.declared.pipe_log.FileBlockHandle.{FileBlockHandle}
 use Rattle.raft_base.specs.declared.pipe_log.LogQueue.{LogQueue}
 use Rattle.raft_base.specs.declared.pipe_log.LogQueue.TheVariants.{Append, Rewrite}
-use Rattle.raft_table.specs.Blocks.{BlockSpans, spread, entries_in_blocks, Differs, AreDistinctBlocks}
+use Rattle.raft_table.specs.Blocks.{BlockSpans, entries_of_block, entries_in_blocks, Differs, AreDistinctBlocks}
 use Rattle.raft_table.specs.BlockWords.{count, starts_of, AreKept, with_spans_behind, cut_last, joined_blocks, seam}
 use Rattle.raft_table.specs.TableEntries.{AreTableEntries, entry_count}
 use Rattle.raft_table.specs.Fetches.{is_same_handle}
@@ -79,17 +79,17 @@ joined_expanded i (b ∷ []) (c ∷ y) = at (is_same_handle b.handle c.handle) r
     n = omega arith
 
     at : (t : Bool) → is_same_handle b.handle c.handle ≡ t → entries_in_blocks i (joined_blocks (b ∷ []) (c ∷ y)) ≡ entries_in_blocks i (b ∷ []) ++ entries_in_blocks (i + (length b.spans + 0)) (c ∷ y)
-    at false h = rw (h, n) (ap (λ xs. xs ++ entries_in_blocks (i + length b.spans) (c ∷ y)) (sym (append-nil (spread i b.handle b.spans))))
+    at false h = rw (h, n) (ap (λ xs. xs ++ entries_in_blocks (i + length b.spans) (c ∷ y)) (sym (append-nil (entries_of_block i b.handle b.spans))))
     at true h =
         let e = same_handle b.handle c.handle h in
         let m : i + length (b.spans ++ c.spans) ≡ i + length b.spans + length c.spans = omega (arith, length-append b.spans c.spans) in
-        rw (h, n, m, spread-append i b.handle b.spans c.spans, append-nil (spread i b.handle b.spans), ← e)
-        (append_assoc (spread i b.handle b.spans) (spread (i + length b.spans) b.handle c.spans) (entries_in_blocks (i + length b.spans + length c.spans) y))
+        rw (h, n, m, spread-append i b.handle b.spans c.spans, append-nil (entries_of_block i b.handle b.spans), ← e)
+        (append_assoc (entries_of_block i b.handle b.spans) (entries_of_block (i + length b.spans) b.handle c.spans) (entries_in_blocks (i + length b.spans + length c.spans) y))
 joined_expanded i (b ∷ d ∷ f) y =
     let k = i + length b.spans in
     let m : i + (length b.spans + count (d ∷ f)) ≡ k + count (d ∷ f) = omega arith in
-    rw m (ap (λ xs. spread i b.handle b.spans ++ xs) (joined_expanded k (d ∷ f) y)
-    ∙ sym (append_assoc (spread i b.handle b.spans) (entries_in_blocks k (d ∷ f)) (entries_in_blocks (k + count (d ∷ f)) y)))
+    rw m (ap (λ xs. entries_of_block i b.handle b.spans ++ xs) (joined_expanded k (d ∷ f) y)
+    ∙ sym (append_assoc (entries_of_block i b.handle b.spans) (entries_in_blocks k (d ∷ f)) (entries_in_blocks (k + count (d ∷ f)) y)))
 
 pub joined_starts : (i : ℕ) (f y : List BlockSpans) → starts_of i (joined_blocks f y) ≡ starts_of i f ++ drop (seam f y) (starts_of (i + count f) y)
 joined_starts i [] y = ap (λ n. starts_of n y) (omega arith)

@@ -8,7 +8,7 @@ use Rattle.raft_base.specs.declared.compression_type.CompressionType.TheVariants
 use Rattle.raft_base.specs.declared.entry_index.EntryIndex.{EntryIndex}
 use Rattle.raft_base.specs.Runs.{RisesFrom}
 use Rattle.raft_base.proofs.ConsecutiveLemmas.{end_bounded}
-use Rattle.raft_table.specs.Blocks.{BlockSpans, spread, entries_in_blocks, AreDistinctBlocks}
+use Rattle.raft_table.specs.Blocks.{BlockSpans, entries_of_block, entries_in_blocks, AreDistinctBlocks}
 use Rattle.raft_table.specs.BlockWords.{count, starts_of, AreKept, cut_last, joined_blocks, seam}
 use Rattle.raft_table.specs.TableEntries.{AreTableEntries, start_of, placed_in, is_placed_in, entry_count}
 use Rattle.raft_table.specs.Queues.{is_same, count_in}
@@ -35,13 +35,13 @@ is_same_self : (q : LogQueue) → is_same q q ≡ true
 is_same_self Append = refl
 is_same_self Rewrite = refl
 
-placed_spread : (i : ℕ) (h : FileBlockHandle) (ss : List (ℕ × ℕ)) → placed_in h.id.queue (spread i h ss) ≡ spread i h ss
+placed_spread : (i : ℕ) (h : FileBlockHandle) (ss : List (ℕ × ℕ)) → placed_in h.id.queue (entries_of_block i h ss) ≡ entries_of_block i h ss
 unfolding placed_in is_placed_in
 placed_spread i h [] = refl
 placed_spread i h (s ∷ ss) = rw (is_same_self h.id.queue) (ap (λ es. record { index = i; entries = Some h; compression_type = compression.None; entry_offset = s.0; entry_len = s.1 } ∷ es) (placed_spread (suc i) h ss))
 
-pub entries_in_spread : (q : LogQueue) (i : ℕ) (h : FileBlockHandle) (ss : List (ℕ × ℕ)) → entry_count q (spread i h ss) ≡ count_in q h.id.queue (length ss)
-entries_in_spread q i h ss = entries_in_one q h.id.queue (spread i h ss) (placed_spread i h ss) ∙ ap (count_in q h.id.queue) (length-spread i h ss)
+pub entries_in_spread : (q : LogQueue) (i : ℕ) (h : FileBlockHandle) (ss : List (ℕ × ℕ)) → entry_count q (entries_of_block i h ss) ≡ count_in q h.id.queue (length ss)
+entries_in_spread q i h ss = entries_in_one q h.id.queue (entries_of_block i h ss) (placed_spread i h ss) ∙ ap (count_in q h.id.queue) (length-spread i h ss)
 
 pub count_in_le : (q r : LogQueue) (n : ℕ) → count_in q r n ≤ n
 count_in_le Append Append n = omega arith
@@ -68,26 +68,26 @@ none_in = refl
 -- the entries of one block behind others
 pub record IsPushed (i j n x : ℕ) (bs : List BlockSpans) (ss : List ℕ) (r : ℕ) (t : BlockSpans) : Type 0 where
   pub kept : AreKept j (n + length t.spans) (joined_blocks bs (t ∷ [])) (ss ++ drop (seam bs (t ∷ [])) (x ∷ [])) (r + count_in Rewrite t.handle.id.queue (length t.spans))
-  pub entries : entries_in_blocks j (joined_blocks bs (t ∷ [])) ≡ entries_in_blocks i bs ++ spread x t.handle t.spans
+  pub entries : entries_in_blocks j (joined_blocks bs (t ∷ [])) ≡ entries_in_blocks i bs ++ entries_of_block x t.handle t.spans
 
-pub pushed_fits : {i n : ℕ} {bs : List BlockSpans} {ss : List ℕ} {r : ℕ} → AreKept i n bs ss r → (x : ℕ) (t : BlockSpans) → 0 < length t.spans → AreTableEntries (entries_in_blocks i bs ++ spread x t.handle t.spans) → (n + length t.spans < 2 ^ 64) × (r + count_in Rewrite t.handle.id.queue (length t.spans) ≤ n + length t.spans)
+pub pushed_fits : {i n : ℕ} {bs : List BlockSpans} {ss : List ℕ} {r : ℕ} → AreKept i n bs ss r → (x : ℕ) (t : BlockSpans) → 0 < length t.spans → AreTableEntries (entries_in_blocks i bs ++ entries_of_block x t.handle t.spans) → (n + length t.spans < 2 ^ 64) × (r + count_in Rewrite t.handle.id.queue (length t.spans) ≤ n + length t.spans)
 pushed_fits {i} {n} {bs} {ss} {r} h x t l s =
-    let es = entries_in_blocks i bs ++ spread x t.handle t.spans in
+    let es = entries_in_blocks i bs ++ entries_of_block x t.handle t.spans in
     let f = (kept_facts h).length in
     let b = (kept_facts h).both in
     let g = length-spread x t.handle t.spans in
-    let m = length-append (entries_in_blocks i bs) (spread x t.handle t.spans) in
+    let m = length-append (entries_in_blocks i bs) (entries_of_block x t.handle t.spans) in
     let u = sound_fits (start_of es) es s (sound_rising es s) (omega arith) in
     let c = count_in_le Rewrite t.handle.id.queue (length t.spans) in
     (omega arith, omega arith)
 
-pub kept_push : {i n : ℕ} {bs : List BlockSpans} {ss : List ℕ} {r : ℕ} → AreKept i n bs ss r → (j x : ℕ) (t : BlockSpans) → 0 < length t.spans → AreTableEntries (entries_in_blocks i bs ++ spread x t.handle t.spans) → (n ≡ 0 → j ≡ x) → (0 < n → j ≡ i) → IsPushed i j n x bs ss r t
+pub kept_push : {i n : ℕ} {bs : List BlockSpans} {ss : List ℕ} {r : ℕ} → AreKept i n bs ss r → (j x : ℕ) (t : BlockSpans) → 0 < length t.spans → AreTableEntries (entries_in_blocks i bs ++ entries_of_block x t.handle t.spans) → (n ≡ 0 → j ≡ x) → (0 < n → j ≡ i) → IsPushed i j n x bs ss r t
 kept_push {i} {n} {bs = []} {ss} {r} h j x t l s e f =
     let z : n ≡ 0 = h.len in
     let q : r ≡ 0 = h.rewritten ∙ none_in in
     let g : ss ≡ [] = h.starts in
     let u = entries_in_spread Rewrite x t.handle t.spans in
-    let v = append-nil (spread x t.handle t.spans) in
+    let v = append-nil (entries_of_block x t.handle t.spans) in
     rw (z, q, g, e z) (record {
       kept = record {
         table_entries = rw v s;
@@ -105,11 +105,11 @@ kept_push {i} {n} {bs = b ∷ bs} {ss} {r} h j x t l s e f =
     let a = entries_in_blocks i xs in
     let la = (kept_facts h).length in
     let g = length-spread x t.handle t.spans in
-    let y : x ≡ i + n = sym (start-of_rising x (spread x t.handle t.spans) (rises_spread x t.handle t.spans) (omega arith)) ∙ behind_index i a (spread x t.handle t.spans) s (rises_expanded i xs) (omega arith) (omega arith) ∙ omega arith in
+    let y : x ≡ i + n = sym (start-of_rising x (entries_of_block x t.handle t.spans) (rises_spread x t.handle t.spans) (omega arith)) ∙ behind_index i a (entries_of_block x t.handle t.spans) s (rises_expanded i xs) (omega arith) (omega arith) ∙ omega arith in
     let fr = all_front i n xs h.distinct k in
-    let v : entries_in_blocks (i + n) (t ∷ []) ≡ spread x t.handle t.spans = append-nil (spread (i + n) t.handle t.spans) ∙ ap (λ m. spread m t.handle t.spans) (sym y) in
-    let whole : take n a ++ entries_in_blocks (i + n) (t ∷ []) ++ [] ≡ a ++ spread x t.handle t.spans = append-nil (take n a ++ entries_in_blocks (i + n) (t ∷ [])) ∙ rw (v, take_all n a (omega arith)) refl in
-    let c1 = entry_count-append Rewrite a (spread x t.handle t.spans) in
+    let v : entries_in_blocks (i + n) (t ∷ []) ≡ entries_of_block x t.handle t.spans = append-nil (entries_of_block (i + n) t.handle t.spans) ∙ ap (λ m. entries_of_block m t.handle t.spans) (sym y) in
+    let whole : take n a ++ entries_in_blocks (i + n) (t ∷ []) ++ [] ≡ a ++ entries_of_block x t.handle t.spans = append-nil (take n a ++ entries_in_blocks (i + n) (t ∷ [])) ∙ rw (v, take_all n a (omega arith)) refl in
+    let c1 = entry_count-append Rewrite a (entries_of_block x t.handle t.spans) in
     let c2 = entries_in_spread Rewrite x t.handle t.spans in
     let c3 = h.rewritten in
     let put = kept_put i n (length xs) (n + length t.spans) xs xs (t ∷ []) [] ss (x ∷ []) [] (r + count_in Rewrite t.handle.id.queue (length t.spans)) fr h.starts (ap (λ m. m ∷ []) y) refl (omega arith) (l, tt, tt) (omega arith)

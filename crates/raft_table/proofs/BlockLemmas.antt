@@ -4,26 +4,26 @@ use Rattle.std.proofs.lemmas.List.{append_assoc, length-append}
 use Rattle.std.specs.List.Sorted.{IsNonDecreasingBy}
 use Rattle.raft_base.specs.declared.pipe_log.FileBlockHandle.{FileBlockHandle}
 use Rattle.raft_base.specs.Runs.{RisesFrom}
-use Rattle.raft_table.specs.Blocks.{BlockSpans, spread, entries_in_blocks}
+use Rattle.raft_table.specs.Blocks.{BlockSpans, entries_of_block, entries_in_blocks}
 use Rattle.raft_table.specs.BlockWords.{count, starts_of}
 use Rattle.raft_table.proofs.RunLemmas.{RisesFrom-append}
 
-pub length-spread : (i : ℕ) (h : FileBlockHandle) (ss : List (ℕ × ℕ)) → length (spread i h ss) ≡ length ss
+pub length-spread : (i : ℕ) (h : FileBlockHandle) (ss : List (ℕ × ℕ)) → length (entries_of_block i h ss) ≡ length ss
 length-spread i h [] = refl
 length-spread i h (s ∷ ss) = ap suc (length-spread (suc i) h ss)
 
-pub spread-append : (i : ℕ) (h : FileBlockHandle) (a b : List (ℕ × ℕ)) → spread i h (a ++ b) ≡ spread i h a ++ spread (i + length a) h b
+pub spread-append : (i : ℕ) (h : FileBlockHandle) (a b : List (ℕ × ℕ)) → entries_of_block i h (a ++ b) ≡ entries_of_block i h a ++ entries_of_block (i + length a) h b
 spread-append i h [] b = let e : i + 0 ≡ i = omega arith in rw e refl
 spread-append i h (s ∷ a) b =
     let e : i + suc (length a) ≡ suc i + length a = omega arith in
     rw (spread-append (suc i) h a b, e) refl
 
-pub spread_take : (n i : ℕ) (h : FileBlockHandle) (ss : List (ℕ × ℕ)) → take n (spread i h ss) ≡ spread i h (take n ss)
+pub spread_take : (n i : ℕ) (h : FileBlockHandle) (ss : List (ℕ × ℕ)) → take n (entries_of_block i h ss) ≡ entries_of_block i h (take n ss)
 spread_take zero i h ss = refl
 spread_take (suc n) i h [] = refl
 spread_take (suc n) i h (s ∷ ss) = rw (spread_take n (suc i) h ss) refl
 
-pub spread_drop : (n i : ℕ) (h : FileBlockHandle) (ss : List (ℕ × ℕ)) → n ≤ length ss → drop n (spread i h ss) ≡ spread (i + n) h (drop n ss)
+pub spread_drop : (n i : ℕ) (h : FileBlockHandle) (ss : List (ℕ × ℕ)) → n ≤ length ss → drop n (entries_of_block i h ss) ≡ entries_of_block (i + n) h (drop n ss)
 spread_drop zero i h ss l = let e : i + 0 ≡ i = omega arith in rw e refl
 spread_drop (suc n) i h [] l = absurd (omega arith)
 spread_drop (suc n) i h (s ∷ ss) l =
@@ -33,7 +33,7 @@ spread_drop (suc n) i h (s ∷ ss) l =
 pub length-expanded : (i : ℕ) (bs : List BlockSpans) → length (entries_in_blocks i bs) ≡ count bs
 length-expanded i [] = refl
 length-expanded i (b ∷ bs) =
-    length-append (spread i b.handle b.spans) (entries_in_blocks (i + length b.spans) bs)
+    length-append (entries_of_block i b.handle b.spans) (entries_in_blocks (i + length b.spans) bs)
     ∙ rw (length-spread i b.handle b.spans, length-expanded (i + length b.spans) bs) refl
 
 pub count-append : (a b : List BlockSpans) → count (a ++ b) ≡ count a + count b
@@ -45,7 +45,7 @@ expanded-append i [] b = let e : i + 0 ≡ i = omega arith in rw e refl
 expanded-append i (x ∷ a) b =
     let n = length x.spans in
     let e : i + (n + count a) ≡ i + n + count a = omega arith in
-    rw (expanded-append (i + n) a b, e) (sym (append_assoc (spread i x.handle x.spans) (entries_in_blocks (i + n) a) (entries_in_blocks (i + n + count a) b)))
+    rw (expanded-append (i + n) a b, e) (sym (append_assoc (entries_of_block i x.handle x.spans) (entries_in_blocks (i + n) a) (entries_in_blocks (i + n + count a) b)))
 
 pub starts-append : (i : ℕ) (a b : List BlockSpans) → starts_of i (a ++ b) ≡ starts_of i a ++ starts_of (i + count a) b
 starts-append i [] b = let e : i + 0 ≡ i = omega arith in rw e refl
@@ -75,14 +75,14 @@ starts_rise i bs j k d le lt =
     let h = count_take-le j k bs le in
     rw (start_at j i bs d (omega arith), start_at k i bs d l) (omega arith)
 
-pub rises_spread : (i : ℕ) (h : FileBlockHandle) (ss : List (ℕ × ℕ)) → RisesFrom i (spread i h ss)
+pub rises_spread : (i : ℕ) (h : FileBlockHandle) (ss : List (ℕ × ℕ)) → RisesFrom i (entries_of_block i h ss)
 rises_spread i h [] = tt
 rises_spread i h (s ∷ ss) = (refl, rises_spread (suc i) h ss)
 
 pub rises_expanded : (i : ℕ) (bs : List BlockSpans) → RisesFrom i (entries_in_blocks i bs)
 rises_expanded i [] = tt
 rises_expanded i (b ∷ bs) =
-    RisesFrom-append i (spread i b.handle b.spans) (entries_in_blocks (i + length b.spans) bs) (rises_spread i b.handle b.spans)
+    RisesFrom-append i (entries_of_block i b.handle b.spans) (entries_in_blocks (i + length b.spans) bs) (rises_spread i b.handle b.spans)
     (rw (length-spread i b.handle b.spans) (rises_expanded (i + length b.spans) bs))
 
 pub starts_drop : (j i : ℕ) (bs : List BlockSpans) → drop j (starts_of i bs) ≡ starts_of (i + count (take j bs)) (drop j bs)

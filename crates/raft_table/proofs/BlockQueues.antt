@@ -3,7 +3,7 @@ use Rattle.std.proofs.Common.{◌≡◌, ◌≢◌, ◌⊎◌, inl, inr, true, f
 use Rattle.std.proofs.lemmas.List.{append_assoc, length-append, length-drop, length-map, length-take-le, take-take, take_at, drop_at, take-map, drop-map, map-set, get_or-map, get_or_default, take_more, take_more_set, take_all, length-set, map-append, drop-set-lt}
 use Rattle.raft_base.specs.declared.pipe_log.FileBlockHandle.{FileBlockHandle}
 use Rattle.raft_table.specs.declared.memtable.block.Block.{Block}
-use Rattle.raft_table.specs.Blocks.{BlockSpans, block_spans, shown}
+use Rattle.raft_table.specs.Blocks.{BlockSpans, block_spans, blocks_shown}
 use Rattle.raft_table.specs.BlockWords.{first_spans, without_first_spans, with_spans_behind, cut_last, cut_first, joined_blocks, seam, IsAt}
 use Rattle.raft_table.specs.Fetches.{is_same_handle}
 use Rattle.raft_table.proofs.BlockSearch.{take_past}
@@ -42,7 +42,7 @@ pub room_left : (a b d e c f g h : ℕ) → (a + b ≤ c) ⊎ (a + b ≤ f) → 
 room_left a b d e c f g h (inl r) p q s t = inl (omega arith)
 room_left a b d e c f g h (inr r) p q s t = inr (omega arith)
 
-pub shown_at : (bs : List Block) (k : ℕ) (b : Block) → k < length bs → b ≡ get_or bs k b → block_spans b ≡ get_or (shown bs) k (block_spans b)
+pub shown_at : (bs : List Block) (k : ℕ) (b : Block) → k < length bs → b ≡ get_or bs k b → block_spans b ≡ get_or (blocks_shown bs) k (block_spans b)
 shown_at bs k b l e = ap block_spans e ∙ sym (get_or-map block_spans bs k b (block_spans b) l)
 
 -- a block with these spans
@@ -59,42 +59,42 @@ cut_last_set zero m (x ∷ y ∷ xs) b l e = absurd (omega arith)
 cut_last_set (suc k) m (x ∷ []) b l e = absurd (omega arith)
 cut_last_set (suc k) m (x ∷ y ∷ xs) b l e = ap (λ ys. x ∷ ys) (cut_last_set k m (y ∷ xs) b (omega arith) e)
 
-pub cut_last_shown : (k m : ℕ) (bs : List Block) (b c : Block) → length bs ≡ suc k → b ≡ get_or bs k b → c.handle ≡ b.handle → c.spans.items ≡ take m b.spans.items → shown (set bs k c) ≡ cut_last m (shown bs)
+pub cut_last_shown : (k m : ℕ) (bs : List Block) (b c : Block) → length bs ≡ suc k → b ≡ get_or bs k b → c.handle ≡ b.handle → c.spans.items ≡ take m b.spans.items → blocks_shown (set bs k c) ≡ cut_last m (blocks_shown bs)
 cut_last_shown k m bs b c l e h s =
     map-set block_spans bs k c
-    ∙ ap (set (shown bs) k) (stretch_is c (first_spans m (block_spans b)) h s)
-    ∙ cut_last_set k m (shown bs) (block_spans b) (length-map bs block_spans ∙ l) (shown_at bs k b (omega arith) e)
+    ∙ ap (set (blocks_shown bs) k) (stretch_is c (first_spans m (block_spans b)) h s)
+    ∙ cut_last_set k m (blocks_shown bs) (block_spans b) (length-map bs block_spans ∙ l) (shown_at bs k b (omega arith) e)
 
-pub cut_back_shown : (k m : ℕ) (old bs : List Block) (b c : Block) → k < length old → bs ≡ take (k + 1) old → b ≡ get_or bs k b → c.handle ≡ b.handle → c.spans.items ≡ take m b.spans.items → shown (set bs k c) ≡ cut_last m (take (k + 1) (shown old))
+pub cut_back_shown : (k m : ℕ) (old bs : List Block) (b c : Block) → k < length old → bs ≡ take (k + 1) old → b ≡ get_or bs k b → c.handle ≡ b.handle → c.spans.items ≡ take m b.spans.items → blocks_shown (set bs k c) ≡ cut_last m (take (k + 1) (blocks_shown old))
 cut_back_shown k m old bs b c l t e h s =
     let n : length bs ≡ suc k = ap length t ∙ length-take-le (k + 1) old (omega arith) ∙ omega arith in
-    cut_last_shown k m bs b c n e h s ∙ ap (cut_last m) (ap shown t ∙ sym (take-map block_spans (k + 1) old))
+    cut_last_shown k m bs b c n e h s ∙ ap (cut_last m) (ap blocks_shown t ∙ sym (take-map block_spans (k + 1) old))
 
-pub cut_front_shown : (k m : ℕ) (old bs : List Block) (b c : Block) → k < length old → bs ≡ drop k old → b ≡ get_or bs 0 b → c.handle ≡ b.handle → c.spans.items ≡ drop m b.spans.items → shown (set bs 0 c) ≡ cut_first m (drop k (shown old))
+pub cut_front_shown : (k m : ℕ) (old bs : List Block) (b c : Block) → k < length old → bs ≡ drop k old → b ≡ get_or bs 0 b → c.handle ≡ b.handle → c.spans.items ≡ drop m b.spans.items → blocks_shown (set bs 0 c) ≡ cut_first m (drop k (blocks_shown old))
 cut_front_shown k m old bs b c l t e h s =
     let n : 0 < length bs = rw t (omega (arith, length-drop k old)) in
-    first bs n e ∙ ap (cut_first m) (ap shown t ∙ sym (drop-map block_spans k old))
+    first bs n e ∙ ap (cut_first m) (ap blocks_shown t ∙ sym (drop-map block_spans k old))
   where
-    first : (bs : List Block) → 0 < length bs → b ≡ get_or bs 0 b → shown (set bs 0 c) ≡ cut_first m (shown bs)
+    first : (bs : List Block) → 0 < length bs → b ≡ get_or bs 0 b → blocks_shown (set bs 0 c) ≡ cut_first m (blocks_shown bs)
     first [] l e = absurd (omega arith)
-    first (x ∷ bs) l e = ap (λ y. y ∷ shown bs) (stretch_is c (without_first_spans m (block_spans b)) h s ∙ ap (λ (y : Block). without_first_spans m (block_spans y)) e)
+    first (x ∷ bs) l e = ap (λ y. y ∷ blocks_shown bs) (stretch_is c (without_first_spans m (block_spans b)) h s ∙ ap (λ (y : Block). without_first_spans m (block_spans y)) e)
 
 -- the block of a queue where an entry stands
 pub record IsBlockAt (bs : List Block) (k o : ℕ) (b : Block) : Type 0 where
   pub within : k < length bs
-  pub same : block_spans b ≡ get_or (shown bs) k (block_spans b)
+  pub same : block_spans b ≡ get_or (blocks_shown bs) k (block_spans b)
   pub inside : o < length b.spans.items
 
-pub block_within : {p k o : ℕ} (bs : List Block) → IsAt p (shown bs) k o → k < length bs
+pub block_within : {p k o : ℕ} (bs : List Block) → IsAt p (blocks_shown bs) k o → k < length bs
 block_within bs a = let n = length-map bs block_spans in let l = a.block in omega arith
 
-pub block_at : {p k o : ℕ} (bs : List Block) (b : Block) → IsAt p (shown bs) k o → b ≡ get_or bs k b → IsBlockAt bs k o b
+pub block_at : {p k o : ℕ} (bs : List Block) (b : Block) → IsAt p (blocks_shown bs) k o → b ≡ get_or bs k b → IsBlockAt bs k o b
 block_at {p} {k} {o} bs b a e =
     let l = block_within bs a in
     let s = shown_at bs k b l e in
     record { within = l; same = s; inside = subst (λ (y : BlockSpans). o < length y.spans) (sym s) (a.inside (block_spans b)) }
 
-pub spot_inside : {p k o : ℕ} (bs : List Block) → IsAt p (shown bs) k o → (d : Block) → o < length (get_or bs k d).spans.items
+pub spot_inside : {p k o : ℕ} (bs : List Block) → IsAt p (blocks_shown bs) k o → (d : Block) → o < length (get_or bs k d).spans.items
 spot_inside {p} {k} {o} bs a d = subst (λ (y : BlockSpans). o < length y.spans) (get_or-map block_spans bs k d (block_spans d) (block_within bs a)) (a.inside (block_spans d))
 
 -- a list up to its last block
@@ -138,15 +138,15 @@ seam_other k xs b c cs l e h =
     let t : is_same_handle b.handle c.handle ≡ false = other_handle_is b.handle c.handle h in
     ap (λ ys. seam ys (c ∷ cs)) (take_more xs k b l ∙ ap (λ y. take k xs ++ y ∷ []) (sym e)) ∙ seam_last (take k xs) b c cs ∙ rw t refl
 
-pub set_same : (bs : List Block) (k : ℕ) (b c : Block) → k < length bs → b ≡ get_or bs k b → c.handle ≡ b.handle → c.spans.items ≡ b.spans.items → shown (set bs k c) ≡ shown bs
+pub set_same : (bs : List Block) (k : ℕ) (b c : Block) → k < length bs → b ≡ get_or bs k b → c.handle ≡ b.handle → c.spans.items ≡ b.spans.items → blocks_shown (set bs k c) ≡ blocks_shown bs
 set_same [] k b c l e h s = absurd (omega arith)
-set_same (x ∷ bs) zero b c l e h s = ap (λ y. y ∷ shown bs) (stretch_is c (block_spans b) h s ∙ ap block_spans e)
+set_same (x ∷ bs) zero b c l e h s = ap (λ y. y ∷ blocks_shown bs) (stretch_is c (block_spans b) h s ∙ ap block_spans e)
 set_same (x ∷ bs) (suc k) b c l e h s = ap (λ ys. block_spans x ∷ ys) (set_same bs k b c (omega arith) e h s)
 
 -- a queue up to its first block
-pub first_of : (more : List Block) (y : Block) → 0 < length more → y ≡ get_or more 0 y → shown more ≡ block_spans y ∷ shown (drop 1 more)
+pub first_of : (more : List Block) (y : Block) → 0 < length more → y ≡ get_or more 0 y → blocks_shown more ≡ block_spans y ∷ blocks_shown (drop 1 more)
 first_of [] y l e = absurd (omega arith)
-first_of (x ∷ more) y l e = ap (λ z. block_spans z ∷ shown more) (sym e)
+first_of (x ∷ more) y l e = ap (λ z. block_spans z ∷ blocks_shown more) (sym e)
 
 pub rest_set : (more : List Block) (y : Block) → drop 1 (set more 0 y) ≡ drop 1 more
 rest_set [] y = refl
@@ -157,23 +157,23 @@ pub one_block : (bs : List Block) (k : ℕ) (b c : Block) → k < length bs → 
 one_block bs k b c l e f = e ∙ get_or_default bs k b c l ∙ sym f
 
 -- a block behind the last of others
-pub pushed_same : (k : ℕ) (bs : List Block) (b c y : Block) → k + 1 ≡ length bs → b ≡ get_or bs k b → b.handle ≡ y.handle → c.handle ≡ b.handle → c.spans.items ≡ b.spans.items ++ y.spans.items → (shown (set bs k c) ≡ joined_blocks (shown bs) (block_spans y ∷ [])) × (seam (shown bs) (block_spans y ∷ []) ≡ 1)
+pub pushed_same : (k : ℕ) (bs : List Block) (b c y : Block) → k + 1 ≡ length bs → b ≡ get_or bs k b → b.handle ≡ y.handle → c.handle ≡ b.handle → c.spans.items ≡ b.spans.items ++ y.spans.items → (blocks_shown (set bs k c) ≡ joined_blocks (blocks_shown bs) (block_spans y ∷ [])) × (seam (blocks_shown bs) (block_spans y ∷ []) ≡ 1)
 pushed_same k bs b c y l e h g s =
-    let xs = shown bs in
+    let xs = blocks_shown bs in
     let n : k + 1 ≡ length xs = l ∙ sym (length-map bs block_spans) in
     let at = shown_at bs k b (omega arith) e in
     let t : is_same_handle b.handle y.handle ≡ true = rw h (same_handle_self y.handle) in
     let w : xs ≡ take k xs ++ block_spans b ∷ [] = sym (take_all (k + 1) xs (omega arith)) ∙ take_more xs k (block_spans b) (omega arith) ∙ ap (λ z. take k xs ++ z ∷ []) (sym at) in
     let new = with_spans_behind (block_spans b) y.spans.items in
-    let left : shown (set bs k c) ≡ take k xs ++ new ∷ [] =
+    let left : blocks_shown (set bs k c) ≡ take k xs ++ new ∷ [] =
     map-set block_spans bs k c ∙ ap (set xs k) (stretch_is c new g s)
     ∙ sym (take_all (k + 1) (set xs k new) (omega (arith, length-set xs k new))) ∙ take_more_set xs k new (omega arith) in
     let right : joined_blocks xs (block_spans y ∷ []) ≡ take k xs ++ new ∷ [] = ap (λ ys. joined_blocks ys (block_spans y ∷ [])) w ∙ joined_last (take k xs) (block_spans b) (block_spans y) [] ∙ rw t refl in
     (left ∙ sym right, ap (λ ys. seam ys (block_spans y ∷ [])) w ∙ seam_last (take k xs) (block_spans b) (block_spans y) [] ∙ rw t refl)
 
-pub pushed_other : (k : ℕ) (bs : List Block) (b y : Block) → k + 1 ≡ length bs → b ≡ get_or bs k b → b.handle ≢ y.handle → (shown (bs ++ y ∷ []) ≡ joined_blocks (shown bs) (block_spans y ∷ [])) × (seam (shown bs) (block_spans y ∷ []) ≡ 0)
+pub pushed_other : (k : ℕ) (bs : List Block) (b y : Block) → k + 1 ≡ length bs → b ≡ get_or bs k b → b.handle ≢ y.handle → (blocks_shown (bs ++ y ∷ []) ≡ joined_blocks (blocks_shown bs) (block_spans y ∷ [])) × (seam (blocks_shown bs) (block_spans y ∷ []) ≡ 0)
 pushed_other k bs b y l e h =
-    let xs = shown bs in
+    let xs = blocks_shown bs in
     let n : k + 1 ≡ length xs = l ∙ sym (length-map bs block_spans) in
     let at = shown_at bs k b (omega arith) e in
     let t : is_same_handle b.handle y.handle ≡ false = other_handle_is b.handle y.handle h in
@@ -188,7 +188,7 @@ pub record AreMet (kept m : ℕ) (old new more left : List BlockSpans) (gone : �
   pub behind : (n : ℕ) → kept ≤ n → drop n new ≡ drop n old
   pub seam : seam (take kept old) more ≡ gone
 
-pub met_other : (kept m : ℕ) (bs more : List Block) (a b c y : Block) → 0 < kept → kept ≤ length bs → 0 < length more → a ≡ get_or bs (kept - 1) a → y ≡ get_or more 0 y → a.handle ≢ y.handle → b ≡ get_or bs (kept - 1) b → c.handle ≡ b.handle → c.spans.items ≡ take m b.spans.items → AreMet kept m (shown bs) (shown (set bs (kept - 1) c)) (shown more) (shown more) 0
+pub met_other : (kept m : ℕ) (bs more : List Block) (a b c y : Block) → 0 < kept → kept ≤ length bs → 0 < length more → a ≡ get_or bs (kept - 1) a → y ≡ get_or more 0 y → a.handle ≢ y.handle → b ≡ get_or bs (kept - 1) b → c.handle ≡ b.handle → c.spans.items ≡ take m b.spans.items → AreMet kept m (blocks_shown bs) (blocks_shown (set bs (kept - 1) c)) (blocks_shown more) (blocks_shown more) 0
 met_other kept m bs more a b c y p l q e f d g h s =
     let k = kept - 1 in
     let one = one_block bs k b a (omega arith) g e in
@@ -196,15 +196,15 @@ met_other kept m bs more a b c y p l q e f d g h s =
     let first = first_of more y q f in
     let at = shown_at bs k b (omega arith) g in
     let n = length-map bs block_spans in
-    let new : shown (set bs k c) ≡ set (shown bs) k (first_spans m (block_spans b)) = map-set block_spans bs k c ∙ ap (set (shown bs) k) (stretch_is c (first_spans m (block_spans b)) h s) in
+    let new : blocks_shown (set bs k c) ≡ set (blocks_shown bs) k (first_spans m (block_spans b)) = map-set block_spans bs k c ∙ ap (set (blocks_shown bs) k) (stretch_is c (first_spans m (block_spans b)) h s) in
     let dif : b.handle ≢ y.handle = λ z. d (ap (λ (x : Block). x.handle) (sym one) ∙ z) in
-    rw (new, first) (subst (λ z. AreMet z m (shown bs) (set (shown bs) k (first_spans m (block_spans b))) (block_spans y ∷ shown (drop 1 more)) (block_spans y ∷ shown (drop 1 more)) 0) w (record {
-      front = sym (meets_other k m (shown bs) (block_spans b) (block_spans y) (shown (drop 1 more)) (omega arith) at dif);
-      behind = λ z o. drop-set-lt z (shown bs) k (first_spans m (block_spans b)) (omega arith);
-      seam = seam_other k (shown bs) (block_spans b) (block_spans y) (shown (drop 1 more)) (omega arith) at dif;
+    rw (new, first) (subst (λ z. AreMet z m (blocks_shown bs) (set (blocks_shown bs) k (first_spans m (block_spans b))) (block_spans y ∷ blocks_shown (drop 1 more)) (block_spans y ∷ blocks_shown (drop 1 more)) 0) w (record {
+      front = sym (meets_other k m (blocks_shown bs) (block_spans b) (block_spans y) (blocks_shown (drop 1 more)) (omega arith) at dif);
+      behind = λ z o. drop-set-lt z (blocks_shown bs) k (first_spans m (block_spans b)) (omega arith);
+      seam = seam_other k (blocks_shown bs) (block_spans b) (block_spans y) (blocks_shown (drop 1 more)) (omega arith) at dif;
     }))
 
-pub met_same : (kept m : ℕ) (bs more : List Block) (a b c y : Block) → 0 < kept → kept ≤ length bs → 0 < length more → a ≡ get_or bs (kept - 1) a → y ≡ get_or more 0 y → a.handle ≡ y.handle → b ≡ get_or bs (kept - 1) b → c.handle ≡ b.handle → c.spans.items ≡ take m b.spans.items ++ y.spans.items → AreMet kept m (shown bs) (shown (set bs (kept - 1) c)) (shown more) (shown (drop 1 more)) 1
+pub met_same : (kept m : ℕ) (bs more : List Block) (a b c y : Block) → 0 < kept → kept ≤ length bs → 0 < length more → a ≡ get_or bs (kept - 1) a → y ≡ get_or more 0 y → a.handle ≡ y.handle → b ≡ get_or bs (kept - 1) b → c.handle ≡ b.handle → c.spans.items ≡ take m b.spans.items ++ y.spans.items → AreMet kept m (blocks_shown bs) (blocks_shown (set bs (kept - 1) c)) (blocks_shown more) (blocks_shown (drop 1 more)) 1
 met_same kept m bs more a b c y p l q e f d g h s =
     let k = kept - 1 in
     let one = one_block bs k b a (omega arith) g e in
@@ -213,15 +213,15 @@ met_same kept m bs more a b c y p l q e f d g h s =
     let at = shown_at bs k b (omega arith) g in
     let n = length-map bs block_spans in
     let longer = with_spans_behind (first_spans m (block_spans b)) y.spans.items in
-    let new : shown (set bs k c) ≡ set (shown bs) k longer = map-set block_spans bs k c ∙ ap (set (shown bs) k) (stretch_is c longer h s) in
+    let new : blocks_shown (set bs k c) ≡ set (blocks_shown bs) k longer = map-set block_spans bs k c ∙ ap (set (blocks_shown bs) k) (stretch_is c longer h s) in
     let same : b.handle ≡ y.handle = ap (λ (x : Block). x.handle) one ∙ d in
-    rw (new, first) (subst (λ z. AreMet z m (shown bs) (set (shown bs) k longer) (block_spans y ∷ shown (drop 1 more)) (shown (drop 1 more)) 1) w (record {
-      front = sym (meets_same k m (shown bs) (block_spans b) (block_spans y) (shown (drop 1 more)) (omega arith) at same);
-      behind = λ z o. drop-set-lt z (shown bs) k longer (omega arith);
-      seam = seam_same k (shown bs) (block_spans b) (block_spans y) (shown (drop 1 more)) (omega arith) at same;
+    rw (new, first) (subst (λ z. AreMet z m (blocks_shown bs) (set (blocks_shown bs) k longer) (block_spans y ∷ blocks_shown (drop 1 more)) (blocks_shown (drop 1 more)) 1) w (record {
+      front = sym (meets_same k m (blocks_shown bs) (block_spans b) (block_spans y) (blocks_shown (drop 1 more)) (omega arith) at same);
+      behind = λ z o. drop-set-lt z (blocks_shown bs) k longer (omega arith);
+      seam = seam_same k (blocks_shown bs) (block_spans b) (block_spans y) (blocks_shown (drop 1 more)) (omega arith) at same;
     }))
 
-pub shown_three : (kept rest : ℕ) (bs more : List Block) → shown (take kept bs ++ more ++ drop rest bs) ≡ take kept (shown bs) ++ shown more ++ drop rest (shown bs)
+pub shown_three : (kept rest : ℕ) (bs more : List Block) → blocks_shown (take kept bs ++ more ++ drop rest bs) ≡ take kept (blocks_shown bs) ++ blocks_shown more ++ drop rest (blocks_shown bs)
 shown_three kept rest bs more =
     map-append block_spans (take kept bs ++ more) (drop rest bs)
     ∙ rw (map-append block_spans (take kept bs) more, sym (take-map block_spans kept bs), sym (drop-map block_spans rest bs)) refl

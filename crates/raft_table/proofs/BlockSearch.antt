@@ -8,7 +8,7 @@ use Rattle.raft_base.specs.declared.pipe_log.FileBlockHandle.{FileBlockHandle}
 use Rattle.raft_base.specs.declared.compression_type.CompressionType.TheVariants as compression
 use Rattle.raft_base.specs.declared.entry_index.EntryIndex.{EntryIndex}
 use Rattle.raft_base.specs.Runs.{RisesFrom}
-use Rattle.raft_table.specs.Blocks.{BlockSpans, spread, entries_in_blocks}
+use Rattle.raft_table.specs.Blocks.{BlockSpans, entries_of_block, entries_in_blocks}
 use Rattle.raft_table.specs.BlockWords.{count, starts_of, IsIndexOf, IsAt}
 use Rattle.raft_table.specs.TableEntries.{entry_at}
 use Rattle.raft_table.proofs.RunLemmas.{RisesFrom-take}
@@ -78,44 +78,44 @@ found_some ss x zero h up = let a = up 0 0 (omega arith) (index_some ss x h) in 
 found_some ss x (suc k) h up = omega arith
 
 -- what stands from a spot on
-pub at_spot : (i p k o : ℕ) (bs : List BlockSpans) (d : BlockSpans) → IsAt p bs k o → drop p (entries_in_blocks i bs) ≡ spread (i + p) (get_or bs k d).handle (drop o (get_or bs k d).spans) ++ entries_in_blocks (i + count (take (suc k) bs)) (drop (suc k) bs)
+pub at_spot : (i p k o : ℕ) (bs : List BlockSpans) (d : BlockSpans) → IsAt p bs k o → drop p (entries_in_blocks i bs) ≡ entries_of_block (i + p) (get_or bs k d).handle (drop o (get_or bs k d).spans) ++ entries_in_blocks (i + count (take (suc k) bs)) (drop (suc k) bs)
 at_spot i p k o [] d a = absurd (let l = a.block in omega arith)
 at_spot i p zero o (b ∷ bs) d a =
     let l = a.inside d in
     let q : p ≡ o = sym a.spot ∙ omega arith in
     let n : i + (length b.spans + 0) ≡ i + length b.spans = omega arith in
-    rw (q, n) (drop-append-le o (spread i b.handle b.spans) (entries_in_blocks (i + length b.spans) bs) (rw (length-spread i b.handle b.spans) (omega arith))
+    rw (q, n) (drop-append-le o (entries_of_block i b.handle b.spans) (entries_in_blocks (i + length b.spans) bs) (rw (length-spread i b.handle b.spans) (omega arith))
     ∙ ap (λ es. es ++ entries_in_blocks (i + length b.spans) bs) (spread_drop o i b.handle b.spans (omega arith)))
 at_spot i p (suc k) o (b ∷ bs) d a =
     let n = length b.spans in
     let l = a.block in
     let q : p ≡ n + (count (take k bs) + o) = sym a.spot ∙ omega arith in
-    let z : n + (count (take k bs) + o) ≡ length (spread i b.handle b.spans) + (count (take k bs) + o) = rw (length-spread i b.handle b.spans) refl in
+    let z : n + (count (take k bs) + o) ≡ length (entries_of_block i b.handle b.spans) + (count (take k bs) + o) = rw (length-spread i b.handle b.spans) refl in
     let u : i + n + (count (take k bs) + o) ≡ i + p = omega arith in
     let v : i + n + count (take (suc k) bs) ≡ i + (n + count (take (suc k) bs)) = omega arith in
     let rest : IsAt (count (take k bs) + o) bs k o = record { block = omega arith; spot = refl; inside = a.inside } in
     ap (λ m. drop m (entries_in_blocks i (b ∷ bs))) (q ∙ z)
-    ∙ drop_past (spread i b.handle b.spans) (entries_in_blocks (i + n) bs) (count (take k bs) + o)
+    ∙ drop_past (entries_of_block i b.handle b.spans) (entries_in_blocks (i + n) bs) (count (take k bs) + o)
     ∙ at_spot (i + n) (count (take k bs) + o) k o bs d rest
     ∙ rw (u, v) refl
 
 -- what stands below it
-pub below_spot : (i p k o : ℕ) (bs : List BlockSpans) (d : BlockSpans) → k < length bs → count (take k bs) + o ≡ p → o ≤ length (get_or bs k d).spans → take p (entries_in_blocks i bs) ≡ entries_in_blocks i (take k bs) ++ spread (i + count (take k bs)) (get_or bs k d).handle (take o (get_or bs k d).spans)
+pub below_spot : (i p k o : ℕ) (bs : List BlockSpans) (d : BlockSpans) → k < length bs → count (take k bs) + o ≡ p → o ≤ length (get_or bs k d).spans → take p (entries_in_blocks i bs) ≡ entries_in_blocks i (take k bs) ++ entries_of_block (i + count (take k bs)) (get_or bs k d).handle (take o (get_or bs k d).spans)
 below_spot i p k o [] d l e m = absurd (omega arith)
 below_spot i p zero o (b ∷ bs) d l e m =
     let q : p ≡ o = sym e ∙ omega arith in
     let z : i + 0 ≡ i = omega arith in
-    rw (q, z) (take-append-le o (spread i b.handle b.spans) (entries_in_blocks (i + length b.spans) bs) (rw (length-spread i b.handle b.spans) m)
+    rw (q, z) (take-append-le o (entries_of_block i b.handle b.spans) (entries_in_blocks (i + length b.spans) bs) (rw (length-spread i b.handle b.spans) m)
     ∙ spread_take o i b.handle b.spans)
 below_spot i p (suc k) o (b ∷ bs) d l e m =
     let n = length b.spans in
     let q : p ≡ n + (count (take k bs) + o) = sym e ∙ omega arith in
-    let z : n + (count (take k bs) + o) ≡ length (spread i b.handle b.spans) + (count (take k bs) + o) = rw (length-spread i b.handle b.spans) refl in
+    let z : n + (count (take k bs) + o) ≡ length (entries_of_block i b.handle b.spans) + (count (take k bs) + o) = rw (length-spread i b.handle b.spans) refl in
     let v : i + (n + count (take k bs)) ≡ i + n + count (take k bs) = omega arith in
     ap (λ w. take w (entries_in_blocks i (b ∷ bs))) (q ∙ z)
-    ∙ take_past (spread i b.handle b.spans) (entries_in_blocks (i + n) bs) (count (take k bs) + o)
-    ∙ ap (λ es. spread i b.handle b.spans ++ es) (below_spot (i + n) (count (take k bs) + o) k o bs d (omega arith) refl m)
-    ∙ rw v (sym (append_assoc (spread i b.handle b.spans) (entries_in_blocks (i + n) (take k bs)) (spread (i + n + count (take k bs)) (get_or bs k d).handle (take o (get_or bs k d).spans))))
+    ∙ take_past (entries_of_block i b.handle b.spans) (entries_in_blocks (i + n) bs) (count (take k bs) + o)
+    ∙ ap (λ es. entries_of_block i b.handle b.spans ++ es) (below_spot (i + n) (count (take k bs) + o) k o bs d (omega arith) refl m)
+    ∙ rw v (sym (append_assoc (entries_of_block i b.handle b.spans) (entries_in_blocks (i + n) (take k bs)) (entries_of_block (i + n + count (take k bs)) (get_or bs k d).handle (take o (get_or bs k d).spans))))
 
 -- look-ups go past what stands below
 skip : (x s : ℕ) (a b : List EntryIndex) → RisesFrom s a → s + length a ≤ x → entry_at x (a ++ b) ≡ entry_at x b
@@ -128,7 +128,7 @@ skip x s (e ∷ a) b h l =
 abbrev pub entry_of : ℕ → FileBlockHandle → ℕ × ℕ → EntryIndex
 entry_of x handle s = record { index = x; entries = Some handle; compression_type = compression.None; entry_offset = s.0; entry_len = s.1 }
 
-head_of : (x o : ℕ) (h : FileBlockHandle) (ss : List (ℕ × ℕ)) (s : ℕ × ℕ) (rest : List EntryIndex) → o < length ss → s ≡ get_or ss o s → entry_at x (spread x h (drop o ss) ++ rest) ≡ Some (entry_of x h s)
+head_of : (x o : ℕ) (h : FileBlockHandle) (ss : List (ℕ × ℕ)) (s : ℕ × ℕ) (rest : List EntryIndex) → o < length ss → s ≡ get_or ss o s → entry_at x (entries_of_block x h (drop o ss) ++ rest) ≡ Some (entry_of x h s)
 head_of x o h ss s rest l e =
     let t : eqb x x ≡ true = grind (arith, nat_tests) in
     rw (drop_more ss o s l, ← e, t) refl
@@ -140,8 +140,8 @@ entry_at_spot x i k o bs b s lo a e f =
     let p = x - i in
     let l = a.block in
     let inside : o < length b.spans = subst (λ (y : BlockSpans). o < length y.spans) (sym e) (a.inside b) in
-    let tail : drop p es ≡ spread (i + p) b.handle (drop o b.spans) ++ entries_in_blocks (i + count (take (suc k) bs)) (drop (suc k) bs) =
-    subst (λ (y : BlockSpans). drop p es ≡ spread (i + p) y.handle (drop o y.spans) ++ entries_in_blocks (i + count (take (suc k) bs)) (drop (suc k) bs)) (sym e) (at_spot i p k o bs b a) in
+    let tail : drop p es ≡ entries_of_block (i + p) b.handle (drop o b.spans) ++ entries_in_blocks (i + count (take (suc k) bs)) (drop (suc k) bs) =
+    subst (λ (y : BlockSpans). drop p es ≡ entries_of_block (i + p) y.handle (drop o y.spans) ++ entries_in_blocks (i + count (take (suc k) bs)) (drop (suc k) bs)) (sym e) (at_spot i p k o bs b a) in
     let q : i + p ≡ x = omega arith in
     let fit : p ≤ length es = rw (length-expanded i bs) (omega (arith, spot_within p k o bs a)) in
     let g : length (take p es) ≡ p = length-take-le p es fit in
@@ -155,8 +155,8 @@ entry_is i p k o bs b s d a e f =
     let es = entries_in_blocks i bs in
     let rest = entries_in_blocks (i + count (take (suc k) bs)) (drop (suc k) bs) in
     let inside : o < length b.spans = subst (λ (y : BlockSpans). o < length y.spans) (sym e) (a.inside b) in
-    let tail : drop p es ≡ spread (i + p) b.handle (drop o b.spans) ++ rest =
-    subst (λ (y : BlockSpans). drop p es ≡ spread (i + p) y.handle (drop o y.spans) ++ rest) (sym e) (at_spot i p k o bs b a) in
+    let tail : drop p es ≡ entries_of_block (i + p) b.handle (drop o b.spans) ++ rest =
+    subst (λ (y : BlockSpans). drop p es ≡ entries_of_block (i + p) y.handle (drop o y.spans) ++ rest) (sym e) (at_spot i p k o bs b a) in
     let head : get_or (drop p es) 0 d ≡ entry_of (i + p) b.handle s = rw (tail, drop_more b.spans o s inside, ← f) refl in
     let z : p + 0 ≡ p = omega arith in
     sym (sym (get_or-drop p es 0 d ∙ ap (λ m. get_or es m d) z) ∙ head)

@@ -9,7 +9,7 @@ use Rattle.raft_base.specs.declared.compression_type.CompressionType.{Compressio
 use Rattle.raft_base.specs.declared.compression_type.CompressionType.TheVariants as compression
 use Rattle.raft_base.specs.declared.entry_index.EntryIndex.{EntryIndex}
 use Rattle.raft_base.specs.Runs.{RisesFrom}
-use Rattle.raft_table.specs.Blocks.{spread}
+use Rattle.raft_table.specs.Blocks.{entries_of_block}
 use Rattle.raft_table.specs.BlockWords.{spans_of}
 use Rattle.raft_table.specs.Queues.{is_same}
 use Rattle.raft_table.specs.TableEntries.{AreTableEntries, start_of, placed_in, is_placed_in}
@@ -60,7 +60,7 @@ head_is x h e i b = ap (λ y. make y (Some h) compression.None) (sym i) ∙ ap (
     make i b c = record { index = i; entries = b; compression_type = c; entry_offset = e.entry_offset; entry_len = e.entry_len }
 
 -- entries of one block, told by their spans
-pub group_is : (x : ℕ) (h : FileBlockHandle) (g : List EntryIndex) → RisesFrom x g → ((j : ℕ) (d : EntryIndex) → j < length g → (get_or g j d).entries ≡ Some h) → spread x h (spans_of g) ≡ g
+pub group_is : (x : ℕ) (h : FileBlockHandle) (g : List EntryIndex) → RisesFrom x g → ((j : ℕ) (d : EntryIndex) → j < length g → (get_or g j d).entries ≡ Some h) → entries_of_block x h (spans_of g) ≡ g
 group_is x h [] r a = refl
 group_is x h (e ∷ g) r a =
     let first = head_is x h e r.0 (a 0 e (omega arith)) in
@@ -73,7 +73,7 @@ spans_length run at n l =
     rw e (length-map (take n (drop at run)) (λ x. (x.entry_offset, x.entry_len)) ∙ length-take-le n (drop at run) (omega (arith, length-drop at run)))
 
 -- a group of a run's entries behind the first ones
-pub group_of : (run : List EntryIndex) (at n : ℕ) (h : FileBlockHandle) (d : EntryIndex) → AreTableEntries run → at + n ≤ length run → at < length run → ((j : ℕ) (e : EntryIndex) → at ≤ j → j < at + n → (get_or run j e).entries ≡ Some h) → take at run ++ spread (get_or run at d).index h (spans_of (take (at + n - at) (drop at run))) ≡ take (at + n) run
+pub group_of : (run : List EntryIndex) (at n : ℕ) (h : FileBlockHandle) (d : EntryIndex) → AreTableEntries run → at + n ≤ length run → at < length run → ((j : ℕ) (e : EntryIndex) → at ≤ j → j < at + n → (get_or run j e).entries ≡ Some h) → take at run ++ entries_of_block (get_or run at d).index h (spans_of (take (at + n - at) (drop at run))) ≡ take (at + n) run
 group_of run at n h d s l m a =
     let up = sound_rising run s in
     let i = index_at at (start_of run) run d m up in

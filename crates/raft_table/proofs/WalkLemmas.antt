@@ -5,7 +5,7 @@ use Rattle.std.proofs.lemmas.List.{length-drop, length-take-le, take_all, take-t
 use Rattle.std.proofs.lemmas.Bool.{cases_lt}
 use Rattle.raft_base.specs.declared.pipe_log.FileBlockHandle.{FileBlockHandle}
 use Rattle.raft_base.specs.declared.entry_index.EntryIndex.{EntryIndex}
-use Rattle.raft_table.specs.Blocks.{BlockSpans, spread, entries_in_blocks, AreDistinctBlocks}
+use Rattle.raft_table.specs.Blocks.{BlockSpans, entries_of_block, entries_in_blocks, AreDistinctBlocks}
 use Rattle.raft_table.specs.BlockWords.{count, IsAt}
 use Rattle.raft_table.specs.Rewriting.{may_move}
 use Rattle.raft_table.proofs.BlockLemmas.{length-expanded, count_take_more}
@@ -47,26 +47,26 @@ next_span p k o bs d a l = record {
 }
 
 -- a part of the entries up to the end of a block, and what stands behind
-pub walk_part : (i p k o n e : ℕ) (bs : List BlockSpans) (b : BlockSpans) → IsAt p bs k o → b ≡ get_or bs k b → o + n ≤ length b.spans → p + n ≤ e → e ≤ count bs → drop p (take e (entries_in_blocks i bs)) ≡ spread (i + p) b.handle (take n (drop o b.spans)) ++ drop (p + n) (take e (entries_in_blocks i bs))
+pub walk_part : (i p k o n e : ℕ) (bs : List BlockSpans) (b : BlockSpans) → IsAt p bs k o → b ≡ get_or bs k b → o + n ≤ length b.spans → p + n ≤ e → e ≤ count bs → drop p (take e (entries_in_blocks i bs)) ≡ entries_of_block (i + p) b.handle (take n (drop o b.spans)) ++ drop (p + n) (take e (entries_in_blocks i bs))
 walk_part i p k o n e bs b a q l m c =
     part_split p (p + n) e (entries_in_blocks i bs) (omega arith) m (rw (length-expanded i bs) c)
     ∙ ap (λ xs. xs ++ drop (p + n) (take e (entries_in_blocks i bs))) (block_part i p k o n bs b a q l)
 
 -- one part more
-pub walk_more : (i s p k o n : ℕ) (bs : List BlockSpans) (b : BlockSpans) → s ≤ p → IsAt p bs k o → b ≡ get_or bs k b → o + n ≤ length b.spans → p + n ≤ count bs → drop s (take (p + n) (entries_in_blocks i bs)) ≡ drop s (take p (entries_in_blocks i bs)) ++ spread (i + p) b.handle (take n (drop o b.spans))
+pub walk_more : (i s p k o n : ℕ) (bs : List BlockSpans) (b : BlockSpans) → s ≤ p → IsAt p bs k o → b ≡ get_or bs k b → o + n ≤ length b.spans → p + n ≤ count bs → drop s (take (p + n) (entries_in_blocks i bs)) ≡ drop s (take p (entries_in_blocks i bs)) ++ entries_of_block (i + p) b.handle (take n (drop o b.spans))
 walk_more i s p k o n bs b g a q l c =
     part_split s p (p + n) (entries_in_blocks i bs) g (omega arith) (rw (length-expanded i bs) c)
     ∙ ap (λ xs. drop s (take p (entries_in_blocks i bs)) ++ xs) (block_part i p k o n bs b a q l)
 
 -- the entries of one block move together
-pub moves_all : (gate : Option ℕ) (i : ℕ) (h : FileBlockHandle) (ss : List (ℕ × ℕ)) (rest : List EntryIndex) → ((e : EntryIndex) → e.entries ≡ Some h → true ≡ may_move gate e) → prefix_len (may_move gate) (spread i h ss ++ rest) ≡ length ss + prefix_len (may_move gate) rest
+pub moves_all : (gate : Option ℕ) (i : ℕ) (h : FileBlockHandle) (ss : List (ℕ × ℕ)) (rest : List EntryIndex) → ((e : EntryIndex) → e.entries ≡ Some h → true ≡ may_move gate e) → prefix_len (may_move gate) (entries_of_block i h ss ++ rest) ≡ length ss + prefix_len (may_move gate) rest
 moves_all gate i h [] rest m = omega arith
 moves_all gate i h (s ∷ ss) rest m =
     let t = sym (m (entry_of i h s) refl) in
     let r = moves_all gate (suc i) h ss rest m in
     rw t (omega arith)
 
-pub moves_none : (gate : Option ℕ) (i : ℕ) (h : FileBlockHandle) (ss : List (ℕ × ℕ)) (rest : List EntryIndex) → ((e : EntryIndex) → e.entries ≡ Some h → false ≡ may_move gate e) → 0 < length ss → prefix_len (may_move gate) (spread i h ss ++ rest) ≡ 0
+pub moves_none : (gate : Option ℕ) (i : ℕ) (h : FileBlockHandle) (ss : List (ℕ × ℕ)) (rest : List EntryIndex) → ((e : EntryIndex) → e.entries ≡ Some h → false ≡ may_move gate e) → 0 < length ss → prefix_len (may_move gate) (entries_of_block i h ss ++ rest) ≡ 0
 moves_none gate i h [] rest m l = absurd (omega arith)
 moves_none gate i h (s ∷ ss) rest m l = rw (sym (m (entry_of i h s) refl)) refl
 

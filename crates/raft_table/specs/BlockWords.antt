@@ -61,7 +61,7 @@ abbrev pub cut_first : ℕ → List BlockSpans → List BlockSpans
 cut_first m [] = []
 cut_first m (b ∷ bs) = without_first_spans m b ∷ bs
 
--- blocks behind others: the two at the seam are one where they have the same handle
+-- blocks behind others: the two at the seam are one where they have the same place
 abbrev pub joined_blocks : List BlockSpans → List BlockSpans → List BlockSpans
 joined_blocks [] cs = cs
 joined_blocks (b ∷ []) [] = b ∷ []

@@ -62,7 +62,7 @@ IsFetchFault _ _ = ⊥
 abbrev pub appended_before : ℕ → List EntryIndex → List EntryIndex
 appended_before gate es = take_while (is_placed_before gate) (placed_in Append es)
 
--- whether two handles are the same
+-- whether two places are the same
 abbrev pub is_same_handle : FileBlockHandle → FileBlockHandle → Bool
 is_same_handle a b = is_same a.id.queue b.id.queue && a.id.seq == b.id.seq && a.offset == b.offset && a.len == b.len
 

@@ -5,4 +5,4 @@ pub mod global_stats;
 pub mod memtable;
 
 pub use global_stats::GlobalStats;
-pub use memtable::{Block, DeletedKeys, Mark, MemTable, TableChange, is_run};
+pub use memtable::{Block, DeletedKeys, Mark, MemTable, TableChange, is_run, other_queue};

@@ -6,7 +6,7 @@ ghost use Rattle.raft_base.specs.declared.pipe_log.LogQueue.{LogQueue};
 ghost use Rattle.raft_base.specs.declared.pipe_log.LogQueue.TheVariants.{Append, Rewrite};
 ghost use Rattle.raft_base.specs.Runs.{end_of};
 ghost use Rattle.raft_table.specs.TableEntries.{IsRunIn, AreTableEntries, start_of, entry_at, entry_count, below, from};
-ghost use Rattle.raft_table.specs.Blocks.{shown, entries_in_blocks, AreDistinctBlocks};
+ghost use Rattle.raft_table.specs.Blocks.{blocks_shown, entries_in_blocks, AreDistinctBlocks};
 ghost use Rattle.raft_table.specs.Counts.{Counts, live, with_added};
 ghost use Rattle.raft_table.specs.Fetches.{block_count};
 ghost use Rattle.raft_table.specs.KeyValues.{value_at, file_at, file_weight};
@@ -125,9 +125,9 @@ impl MemTable {
     /// The blocks in which the entries are kept, in order: each has entries, and neighbors have
     /// different places.
     pub fn blocks(&self) -> &VecDeque<Block>
-        ensures entries { entries_in_blocks (start_of self.now.entries) (shown result.now.items)
+        ensures entries { entries_in_blocks (start_of self.now.entries) (blocks_shown result.now.items)
             ≡ self.now.entries }
-        ensures distinct { AreDistinctBlocks (shown result.now.items) }
+        ensures distinct { AreDistinctBlocks (blocks_shown result.now.items) }
         ensures count { length result.now.items ≡ block_count self.now.entries }
     {
         self.entries.blocks()
@@ -248,7 +248,7 @@ impl MemTable {
         ensures recounted { IsRecounted self.old self.new stats.old stats.new }
         ensures region { self.new.region_id ≡ self.old.region_id }
     {
-        if self.records(other_than(queue)) > 0 {
+        if self.records(other_queue(queue)) > 0 {
             return false;
         }
         self.entries.try_replay_run(run, queue, stats)
@@ -438,7 +438,7 @@ impl MemTable {
 }
 
 /// The other queue.
-fn other_than(queue: LogQueue) -> LogQueue
+pub fn other_queue(queue: LogQueue) -> LogQueue
     ensures { result ≡ other queue }
 {
     match queue {

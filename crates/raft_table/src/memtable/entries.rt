@@ -1,7 +1,7 @@
 //! The entries of a region, in order of index.
 
 ghost use Rattle.std.specs.Prelude.{◌≡◌, ◌≢◌, ◌+◌, ◌<◌, ◌≤◌, [], length, take, drop, MatchOption, IfOk, IfErr};
-ghost use Rattle.raft_table.specs.Blocks.{shown, entries_in_blocks, AreDistinctBlocks};
+ghost use Rattle.raft_table.specs.Blocks.{blocks_shown, entries_in_blocks, AreDistinctBlocks};
 ghost use Rattle.raft_table.specs.Fetches.{block_count};
 ghost use Rattle.raft_base.specs.Runs.{end_of};
 ghost use Rattle.raft_table.specs.Start.{counts_without};
@@ -63,15 +63,15 @@ struct Overlap {
 impl Model for Entries {
     ghost use Rattle.std.specs.Prelude.{List};
     ghost use Rattle.raft_base.specs.declared.entry_index.EntryIndex.{EntryIndex};
-    ghost use Rattle.raft_table.specs.Blocks.{shown, entries_in_blocks};
+    ghost use Rattle.raft_table.specs.Blocks.{blocks_shown, entries_in_blocks};
     ghost use Rattle.raft_table.specs.BlockWords.{AreKept};
 
     ghost Value = { List EntryIndex };
 
-    ghost view = { λ a. entries_in_blocks a.first (shown a.blocks.items) };
+    ghost view = { λ a. entries_in_blocks a.first (blocks_shown a.blocks.items) };
 
     ghost invariant = { λ a.
-        AreKept a.first a.len (shown a.blocks.items) a.starts.items a.rewritten };
+        AreKept a.first a.len (blocks_shown a.blocks.items) a.starts.items a.rewritten };
 }
 
 impl Entries {
@@ -98,9 +98,9 @@ impl Entries {
 
     /// The blocks that are kept.
     pub fn blocks(&self) -> &VecDeque<Block>
-        ensures entries { entries_in_blocks (start_of self.now) (shown result.now.items)
+        ensures entries { entries_in_blocks (start_of self.now) (blocks_shown result.now.items)
             ≡ self.now }
-        ensures distinct { AreDistinctBlocks (shown result.now.items) }
+        ensures distinct { AreDistinctBlocks (blocks_shown result.now.items) }
         ensures count { length result.now.items ≡ block_count self.now }
     {
         &self.blocks

@@ -62,8 +62,11 @@ impl MemTable {
         self.entries.fetch_to(begin, end, max_size, vec)
     }
 
-    /// Appends the appended entries from the first on while their file is at or below `gate` to
-    /// `vec`, which stays as it was where there is no memory.
+    /// Appends the appended entries from the first on while their file is at or below `gate` to `vec`.
+    ///
+    /// # Errors
+    ///
+    /// `Memory`. The vector is then as it was.
     pub fn fetch_entry_indexes_before(&self, gate: FileSeq, vec: &mut Vec<EntryIndex>) -> Result<()>
         ensures ok { OnOk result (vec.new.items
             ≡ vec.old.items ++ appended_before gate self.now.entries) }
@@ -73,7 +76,11 @@ impl MemTable {
         self.entries.fetch_before(gate, vec)
     }
 
-    /// Appends the rewritten entries to `vec`, which stays as it was where there is no memory.
+    /// Appends the rewritten entries to `vec`.
+    ///
+    /// # Errors
+    ///
+    /// `Memory`. The vector is then as it was.
     pub fn fetch_rewritten_entry_indexes(&self, vec: &mut Vec<EntryIndex>) -> Result<()>
         ensures ok { OnOk result (vec.new.items
             ≡ vec.old.items ++ placed_in Rewrite self.now.entries) }
@@ -83,8 +90,12 @@ impl MemTable {
         self.entries.fetch_rewritten(vec)
     }
 
-    /// Appends the keys and values of the appended pairs whose file is at or below `gate` to `vec`,
-    /// in the order of the keys. The vector stays as it was where there is no memory.
+    /// Appends the keys and values of the appended pairs whose file is at or below `gate` to `vec`, in
+    /// the order of the keys.
+    ///
+    /// # Errors
+    ///
+    /// `Memory`. The vector is then as it was.
     pub fn fetch_kvs_before(&self, gate: FileSeq, vec: &mut Vec<(Vec<u8>, Vec<u8>)>) -> Result<()>
         ensures ok { OnOk result (pairs_shown vec.new.items
             ≡ pairs_shown vec.old.items ++ pairs_up_to Append (Some gate) self.now.keys) }
@@ -95,8 +106,11 @@ impl MemTable {
         Ok(())
     }
 
-    /// Appends the keys and values of the rewritten pairs to `vec`, in the order of the keys. The
-    /// vector stays as it was where there is no memory.
+    /// Appends the keys and values of the rewritten pairs to `vec`, in the order of the keys.
+    ///
+    /// # Errors
+    ///
+    /// `Memory`. The vector is then as it was.
     pub fn fetch_rewritten_kvs(&self, vec: &mut Vec<(Vec<u8>, Vec<u8>)>) -> Result<()>
         ensures ok { OnOk result (pairs_shown vec.new.items
             ≡ pairs_shown vec.old.items ++ pairs_up_to Rewrite None self.now.keys) }

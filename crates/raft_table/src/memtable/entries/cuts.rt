@@ -1,7 +1,7 @@
 //! Entries that go, from the front or from the back.
 
 ghost use Rattle.std.specs.Prelude.{◌≡◌, ◌+◌, ◌≤◌, ◌<◌, [], length, take, drop, slice_index_or};
-ghost use Rattle.raft_table.specs.Blocks.{shown};
+ghost use Rattle.raft_table.specs.Blocks.{blocks_shown};
 ghost use Rattle.raft_table.specs.BlockWords.{cut_last, cut_first};
 ghost use Rattle.raft_base.specs.Runs.{end_of};
 ghost use Rattle.raft_table.specs.TableEntries.{below, from, AreCounted, AreRecounted};
@@ -144,7 +144,7 @@ impl Entries {
 /// Keeps so many whole blocks, and so many entries of the next one.
 fn cut_back(blocks: &mut VecDeque<Block>, whole: usize, kept: usize)
     requires whole { whole < length blocks.old.items }
-    ensures { shown blocks.new.items ≡ cut_last kept (take (whole + 1) (shown blocks.old.items)) }
+    ensures { blocks_shown blocks.new.items ≡ cut_last kept (take (whole + 1) (blocks_shown blocks.old.items)) }
 {
     blocks.truncate(whole + 1);
     blocks[whole].spans.truncate(kept);
@@ -155,7 +155,7 @@ fn cut_front(blocks: &mut VecDeque<Block>, whole: usize, dropped: usize)
     requires whole { whole < length blocks.old.items }
     requires dropped { (d : Block) → dropped
         ≤ length (slice_index_or blocks.old.items whole d).spans.items }
-    ensures { shown blocks.new.items ≡ cut_first dropped (drop whole (shown blocks.old.items)) }
+    ensures { blocks_shown blocks.new.items ≡ cut_first dropped (drop whole (blocks_shown blocks.old.items)) }
 {
     drop_first(blocks, whole);
     drop_spans(&mut blocks[0], dropped);

@@ -3,7 +3,7 @@
 ghost use Rattle.std.specs.Prelude.{◌≡◌, ◌≢◌, ◌+◌, ◌≤◌, ◌<◌, ℕ, [], ◌++◌, length, take, drop, slice_index_or, Some, MatchBool, OnOk, OnErr, OnSome, IfOk, IfSome};
 ghost use Rattle.raft_base.specs.declared.pipe_log.LogQueue.TheVariants.{Rewrite};
 ghost use Rattle.raft_base.specs.declared.entry_index.EntryIndex.{EntryIndex};
-ghost use Rattle.raft_table.specs.Blocks.{spread};
+ghost use Rattle.raft_table.specs.Blocks.{entries_of_block};
 ghost use Rattle.raft_table.specs.BlockWords.{spans_of};
 ghost use Rattle.raft_table.specs.TableEntries.{AreTableEntries};
 ghost use Rattle.raft_table.specs.Queues.{count_in};
@@ -46,8 +46,8 @@ impl Entries {
         spans: VecDeque<(u32, u32)>,
     ) -> AllocResult<()>
         requires filled { 0 < length spans.items }
-        requires table_entries { AreTableEntries (self.old ++ spread index handle spans.items) }
-        ensures ok { OnOk result (self.new ≡ self.old ++ spread index handle spans.items) }
+        requires table_entries { AreTableEntries (self.old ++ entries_of_block index handle spans.items) }
+        ensures ok { OnOk result (self.new ≡ self.old ++ entries_of_block index handle spans.items) }
         ensures err { OnErr result (self.new ≡ self.old) }
     {
         let count = spans.len();
@@ -191,7 +191,7 @@ fn count_of(handle: &FileBlockHandle, run: &[EntryIndex], at: usize) -> usize
         (slice_index_or run.now at d).entries ≡ Some handle.now → 0 < result }
 {
     for i in at..run.len() {
-        if !stands_in(&run[i], handle) {
+        if !has_place(&run[i], handle) {
             return i - at;
         }
     }
@@ -199,7 +199,7 @@ fn count_of(handle: &FileBlockHandle, run: &[EntryIndex], at: usize) -> usize
 }
 
 /// Whether an entry has this place.
-fn stands_in(entry: &EntryIndex, handle: &FileBlockHandle) -> bool
+fn has_place(entry: &EntryIndex, handle: &FileBlockHandle) -> bool
     ensures { MatchBool result (entry.now.entries ≡ Some handle.now)
         (entry.now.entries ≢ Some handle.now) }
 {
@@ -233,7 +233,7 @@ fn spans_within(
 {
     let mut spans = Vec::with_capacity(alloc, run.len())?;
     for entry in run {
-        if !stands_in(entry, handle) {
+        if !has_place(entry, handle) {
             return Ok(None);
         }
         spans.push_reserved((entry.entry_offset, entry.entry_len));

@@ -3,7 +3,7 @@
 ghost use Rattle.std.specs.Prelude.{◌≡◌, ◌≢◌, ◌+◌, ◌⊎◌, ◌-◌, ◌≤◌, ◌<◌, ℕ, List, [], ◌∷◌, ◌++◌, length, take, drop, slice_index_or, ◌^◌, MatchBool, OnOk, OnErr, IfOk};
 ghost use Rattle.std.specs.List.Sorted.{IsNonDecreasingBy};
 ghost use Rattle.std.specs.VecDeque.{deque_len, deque_capacity};
-ghost use Rattle.raft_table.specs.Blocks.{BlockSpans, block_spans, shown};
+ghost use Rattle.raft_table.specs.Blocks.{BlockSpans, block_spans, blocks_shown};
 ghost use Rattle.raft_table.specs.BlockWords.{count, starts_of, cut_last, joined_blocks, seam, IsIndexOf, IsAt};
 
 use crate::memtable::block::Block;
@@ -96,7 +96,7 @@ pub(super) fn spans_behind(
     Ok(behind)
 }
 
-/// Whether two handles are one.
+/// Whether two places are one.
 pub(super) fn is_same(a: &FileBlockHandle, b: &FileBlockHandle) -> bool
     ensures { MatchBool result (a.now ≡ b.now) (a.now ≢ b.now) }
 {
@@ -104,7 +104,7 @@ pub(super) fn is_same(a: &FileBlockHandle, b: &FileBlockHandle) -> bool
 }
 
 /// Puts more blocks behind so many first ones, of the last of which so many entries stay, and in
-/// front of those from `rest` on. Where the two at the first seam have the same handle they are one
+/// front of those from `rest` on. Where the two at the first seam have the same place they are one
 /// block.
 pub(super) fn put_blocks(
     blocks: &mut VecDeque<Block>,
@@ -121,18 +121,18 @@ pub(super) fn put_blocks(
     requires starts { length starts.old.items ≡ length blocks.old.items }
     requires more { (0 < length more.old.items) ×
         (length more_starts.old.items ≡ length more.old.items) }
-    ensures blocks { OnOk result (shown blocks.new.items
-        ≡ joined_blocks (cut_last spot.1 (take spot.0 (shown blocks.old.items)))
-        (shown more.old.items)
-        ++ drop rest (shown blocks.old.items)) }
+    ensures blocks { OnOk result (blocks_shown blocks.new.items
+        ≡ joined_blocks (cut_last spot.1 (take spot.0 (blocks_shown blocks.old.items)))
+        (blocks_shown more.old.items)
+        ++ drop rest (blocks_shown blocks.old.items)) }
     ensures starts { OnOk result (starts.new.items ≡ take spot.0 starts.old.items
-        ++ drop (seam (take spot.0 (shown blocks.old.items)) (shown more.old.items))
+        ++ drop (seam (take spot.0 (blocks_shown blocks.old.items)) (blocks_shown more.old.items))
         more_starts.old.items
         ++ drop rest starts.old.items) }
     ensures emptied { OnOk result ((more.new.items ≡ []) × (more_starts.new.items ≡ [])) }
-    ensures err { OnErr result ((shown blocks.new.items ≡ shown blocks.old.items)
+    ensures err { OnErr result ((blocks_shown blocks.new.items ≡ blocks_shown blocks.old.items)
         × (starts.new.items ≡ starts.old.items)
-        × (shown more.new.items ≡ shown more.old.items)
+        × (blocks_shown more.new.items ≡ blocks_shown more.old.items)
         × (more_starts.new.items ≡ more_starts.old.items)) }
 {
     make_room(blocks, more)?;
@@ -160,7 +160,7 @@ fn make_room<T>(deque: &mut VecDeque<T>, more: &mut VecDeque<T>) -> AllocResult<
 }
 
 /// Keeps so many entries of the last of so many blocks, if there are any, and moves the entries of
-/// the first of more blocks behind them where the two have the same handle.
+/// the first of more blocks behind them where the two have the same place.
 fn meet(
     blocks: &mut VecDeque<Block>,
     spot: (usize, usize),
@@ -172,13 +172,13 @@ fn meet(
         → spot.1 ≤ length (slice_index_or blocks.old.items (spot.0 - 1) d).spans.items }
     requires more { (0 < length more.old.items) ×
         (length more_starts.old.items ≡ length more.old.items) }
-    ensures front { OnOk result (take spot.0 (shown blocks.new.items) ++ shown more.new.items
-        ≡ joined_blocks (cut_last spot.1 (take spot.0 (shown blocks.old.items)))
-        (shown more.old.items)) }
+    ensures front { OnOk result (take spot.0 (blocks_shown blocks.new.items) ++ blocks_shown more.new.items
+        ≡ joined_blocks (cut_last spot.1 (take spot.0 (blocks_shown blocks.old.items)))
+        (blocks_shown more.old.items)) }
     ensures behind { OnOk result ((n : ℕ) → spot.0 ≤ n
-        → drop n (shown blocks.new.items) ≡ drop n (shown blocks.old.items)) }
+        → drop n (blocks_shown blocks.new.items) ≡ drop n (blocks_shown blocks.old.items)) }
     ensures starts { OnOk result (more_starts.new.items
-        ≡ drop (seam (take spot.0 (shown blocks.old.items)) (shown more.old.items))
+        ≡ drop (seam (take spot.0 (blocks_shown blocks.old.items)) (blocks_shown more.old.items))
         more_starts.old.items) }
     ensures room { (deque_len blocks.new ≡ deque_len blocks.old)
         × (deque_capacity blocks.new ≡ deque_capacity blocks.old) }
@@ -186,8 +186,8 @@ fn meet(
         × (deque_len more_starts.new ≤ deque_len more_starts.old) }
     ensures kept_room { (deque_capacity more.new ≡ deque_capacity more.old)
         × (deque_capacity more_starts.new ≡ deque_capacity more_starts.old) }
-    ensures err { OnErr result ((shown blocks.new.items ≡ shown blocks.old.items)
-        × (shown more.new.items ≡ shown more.old.items)
+    ensures err { OnErr result ((blocks_shown blocks.new.items ≡ blocks_shown blocks.old.items)
+        × (blocks_shown more.new.items ≡ blocks_shown more.old.items)
         × (more_starts.new.items ≡ more_starts.old.items)) }
 {
     let (whole, kept) = spot;
@@ -214,23 +214,22 @@ fn drop_front<T: Drop>(deque: &mut VecDeque<T>)
     drop(deque.pop_front());
 }
 
-/// Puts a block, whose first entry has this index, behind others. Where it has the handle of the
+/// Puts a block, whose first entry has this index, behind others. Where it has the place of the
 /// last of them its entries go behind those of that one.
 pub(super) fn push_block(
     blocks: &mut VecDeque<Block>,
     starts: &mut VecDeque<u64>,
     index: u64,
-    block: Block,
+    mut block: Block,
 ) -> AllocResult<()>
-    ensures blocks { OnOk result (shown blocks.new.items
-        ≡ joined_blocks (shown blocks.old.items) (block_spans block ∷ [])) }
+    ensures blocks { OnOk result (blocks_shown blocks.new.items
+        ≡ joined_blocks (blocks_shown blocks.old.items) (block_spans block ∷ [])) }
     ensures starts { OnOk result (starts.new.items
         ≡ starts.old.items
-        ++ drop (seam (shown blocks.old.items) (block_spans block ∷ [])) (index ∷ [])) }
-    ensures err { OnErr result ((shown blocks.new.items ≡ shown blocks.old.items)
+        ++ drop (seam (blocks_shown blocks.old.items) (block_spans block ∷ [])) (index ∷ [])) }
+    ensures err { OnErr result ((blocks_shown blocks.new.items ≡ blocks_shown blocks.old.items)
         × (starts.new.items ≡ starts.old.items)) }
 {
-    let mut block = block;
     let len = blocks.len();
     if len > 0 {
         let last = len - 1;

@@ -1,6 +1,7 @@
 //! Runs that are put behind a table's entries.
 
-ghost use Rattle.std.specs.Prelude.{◌≡◌, ◌+◌, ◌≤◌, ◌<◌, ◌^◌, [], ◌++◌, length, take, drop, true, OnOk, OnErr, IfErr, MatchBool, MatchOption, Some};
+ghost use Rattle.std.specs.Prelude.{◌≡◌, ◌+◌, ◌≤◌, ◌<◌, ◌^◌, [], ◌++◌, length, take, drop, codes, true, OnOk, OnErr, IfErr, MatchBool, MatchOption, Some};
+ghost use Rattle.raft_base.specs.Corruption.{IsCorruption};
 ghost use Rattle.std.specs.List.{AllByRecursion};
 ghost use Rattle.raft_table.specs.Counts.{live, with_added, with_deleted};
 ghost use Rattle.raft_table.specs.Queues.{count_in, of_queue, other};
@@ -36,10 +37,7 @@ impl Entries {
                 self.allocator(),
                 "a run starts below the first entry",
             )),
-            Start::BehindHole => Err(Error::corruption(
-                self.allocator(),
-                "a run leaves a hole behind the last entry",
-            )),
+            Start::BehindHole => Err(self.hole_error()),
         }
     }
 
@@ -71,7 +69,13 @@ impl Entries {
         ensures recounted { AreRecounted self.old self.new stats.old stats.new }
     {
         rhs.holds_one_run();
-        self.replay(rule, rhs, queue, stats)
+        let Some(first) = rhs.first_index() else {
+            return Ok(());
+        };
+        let Some(keep) = self.kept_under(rule, first) else {
+            return Err(self.hole_error());
+        };
+        self.put_behind(keep, rhs, queue, stats)
     }
 
     /// What the replays of [`MemTable`](crate::MemTable) do to the entries with a run of `queue`.
@@ -96,10 +100,7 @@ impl Entries {
             return Ok(());
         };
         let Some(keep) = self.kept_under(queue, first.index) else {
-            return Err(Error::corruption(
-                self.allocator(),
-                "a run leaves a hole behind the last entry",
-            ));
+            return Err(self.hole_error());
         };
         self.put_run_behind(keep, run, queue, stats)
     }
@@ -136,38 +137,14 @@ impl Entries {
         }
     }
 
-    /// Moves a run of `queue` behind the entries below its start, by the start rule of the replays
-    /// into `rule`.
-    fn replay(
-        &mut self,
-        rule: LogQueue,
-        run: &mut Entries,
-        queue: LogQueue,
-        stats: &mut GlobalStats,
-    ) -> Result<()>
-        requires run { IsRunIn queue run.old }
-        requires rewritten { queue ≡ Rewrite → entry_count Append self.old ≡ 0 }
-        requires counted { AreCounted self.old stats.old }
-        ensures ok { OnOk result (entries_after_replay rule self.old run.old ≡ Some self.new) }
-        ensures emptied { OnOk result (run.new ≡ []) }
-        ensures fault { IfErr result (IsTableRunFault queue stats.old self.old
-            (entries_after_replay rule self.old run.old)) }
-        ensures err { OnErr result ((self.new ≡ self.old) × (run.new ≡ run.old) ×
-            (stats.new ≡ stats.old)) }
-        ensures counts { OnOk result (stats.new
-            ≡ counts_with_run queue self.old run.old stats.old) }
-        ensures recounted { AreRecounted self.old self.new stats.old stats.new }
+    /// Why a run is refused that leaves a hole behind the last entry.
+    fn hole_error(&self) -> Error
+        ensures { IsCorruption (codes "a run leaves a hole behind the last entry") result }
     {
-        let Some(first) = run.first_index() else {
-            return Ok(());
-        };
-        let Some(keep) = self.kept_under(rule, first) else {
-            return Err(Error::corruption(
-                self.allocator(),
-                "a run leaves a hole behind the last entry",
-            ));
-        };
-        self.put_behind(keep, run, queue, stats)
+        Error::corruption(
+            self.allocator(),
+            "a run leaves a hole behind the last entry",
+        )
     }
 
     /// How many entries, from the first on, stay under a run from `index` on that is read again, by

@@ -4,7 +4,7 @@ ghost use Rattle.std.specs.Prelude.{◌≡◌, ◌+◌, ◌-◌, ◌≤◌, ◌<
 ghost use Rattle.std.specs.List.{prefix_len};
 ghost use Rattle.std.specs.Vec.{vec_len, vec_capacity};
 ghost use Rattle.raft_base.specs.declared.entry_index.EntryIndex.{EntryIndex};
-ghost use Rattle.raft_table.specs.Blocks.{BlockSpans, block_spans, shown, spread, entries_in_blocks, AreDistinctBlocks};
+ghost use Rattle.raft_table.specs.Blocks.{BlockSpans, block_spans, blocks_shown, entries_of_block, entries_in_blocks, AreDistinctBlocks};
 ghost use Rattle.raft_table.specs.BlockWords.{count, unset, with_spans, IsAt};
 ghost use Rattle.raft_table.specs.Fetches.{IsLimitCount};
 ghost use Rattle.raft_table.specs.Rewriting.{may_move};
@@ -26,14 +26,14 @@ pub(super) fn push_entries(
     start: usize,
     end: usize,
 )
-    requires spot { IsAt start (shown blocks.now.items) spot.0 spot.1 }
-    requires distinct { AreDistinctBlocks (shown blocks.now.items) }
+    requires spot { IsAt start (blocks_shown blocks.now.items) spot.0 spot.1 }
+    requires distinct { AreDistinctBlocks (blocks_shown blocks.now.items) }
     requires order { start ≤ end }
-    requires within { end ≤ count (shown blocks.now.items) }
+    requires within { end ≤ count (blocks_shown blocks.now.items) }
     requires bounded { first + end < 2 ^ 64 }
     requires room { vec_len vec.old + (end - start) ≤ vec_capacity vec.old }
     ensures { vec.new.items ≡ vec.old.items ++ drop start
-        (take end (entries_in_blocks first (shown blocks.now.items))) }
+        (take end (entries_in_blocks first (blocks_shown blocks.now.items))) }
 {
     let len = vec.len();
     push_unset(vec, first, blocks, spot, start, end);
@@ -49,15 +49,15 @@ fn push_unset(
     start: usize,
     end: usize,
 )
-    requires spot { IsAt start (shown blocks.now.items) spot.0 spot.1 }
-    requires distinct { AreDistinctBlocks (shown blocks.now.items) }
+    requires spot { IsAt start (blocks_shown blocks.now.items) spot.0 spot.1 }
+    requires distinct { AreDistinctBlocks (blocks_shown blocks.now.items) }
     requires order { start ≤ end }
-    requires within { end ≤ count (shown blocks.now.items) }
+    requires within { end ≤ count (blocks_shown blocks.now.items) }
     requires bounded { first + end < 2 ^ 64 }
     requires room { vec_len vec.old + (end - start) ≤ vec_capacity vec.old }
     ensures { vec.new.items
         ≡ vec.old.items
-        ++ map unset (drop start (take end (entries_in_blocks first (shown blocks.now.items)))) }
+        ++ map unset (drop start (take end (entries_in_blocks first (blocks_shown blocks.now.items)))) }
 {
     let (mut whole, mut at) = spot;
     let mut done = start;
@@ -79,7 +79,7 @@ fn push_unset_of(vec: &mut Vec<EntryIndex>, first: u64, block: &Block, at: usize
     requires room { vec_len vec.old + count ≤ vec_capacity vec.old }
     ensures items { vec.new.items
         ≡ vec.old.items
-        ++ map unset (spread first block.now.handle (take count (drop at block.now.spans.items))) }
+        ++ map unset (entries_of_block first block.now.handle (take count (drop at block.now.spans.items))) }
     ensures len { vec_len vec.new ≡ vec_len vec.old + count }
     ensures capacity { vec_capacity vec.new ≡ vec_capacity vec.old }
 {
@@ -103,16 +103,16 @@ fn set_spans(
     start: usize,
     end: usize,
 )
-    requires spot { IsAt start (shown blocks.now.items) spot.0 spot.1 }
-    requires distinct { AreDistinctBlocks (shown blocks.now.items) }
+    requires spot { IsAt start (blocks_shown blocks.now.items) spot.0 spot.1 }
+    requires distinct { AreDistinctBlocks (blocks_shown blocks.now.items) }
     requires order { start ≤ end }
-    requires within { end ≤ count (shown blocks.now.items) }
+    requires within { end ≤ count (blocks_shown blocks.now.items) }
     requires there { len + (end - start) ≤ length vec.old.items }
     ensures { (i : ℕ) (front : List EntryIndex) → length front ≡ len
         → vec.old.items
-        ≡ front ++ map unset (drop start (take end (entries_in_blocks i (shown blocks.now.items))))
+        ≡ front ++ map unset (drop start (take end (entries_in_blocks i (blocks_shown blocks.now.items))))
         → vec.new.items
-        ≡ front ++ drop start (take end (entries_in_blocks i (shown blocks.now.items))) }
+        ≡ front ++ drop start (take end (entries_in_blocks i (blocks_shown blocks.now.items))) }
 {
     let (mut whole, mut at) = spot;
     let mut done = start;
@@ -159,13 +159,13 @@ pub(super) fn movable_from(
     end: usize,
     gate: Option<FileSeq>,
 ) -> usize
-    requires spot { IsAt start (shown blocks.now.items) spot.0 spot.1 }
-    requires distinct { AreDistinctBlocks (shown blocks.now.items) }
+    requires spot { IsAt start (blocks_shown blocks.now.items) spot.0 spot.1 }
+    requires distinct { AreDistinctBlocks (blocks_shown blocks.now.items) }
     requires order { start ≤ end }
-    requires within { end ≤ count (shown blocks.now.items) }
+    requires within { end ≤ count (blocks_shown blocks.now.items) }
     ensures { (i : ℕ)
         → result ≡ prefix_len (may_move gate)
-        (drop start (take end (entries_in_blocks i (shown blocks.now.items)))) }
+        (drop start (take end (entries_in_blocks i (blocks_shown blocks.now.items)))) }
 {
     let (mut whole, mut at) = spot;
     let mut done = start;
@@ -196,19 +196,18 @@ fn is_movable(handle: &FileBlockHandle, gate: Option<FileSeq>) -> bool
 /// lengths lets through. The first of them stands at `spot`.
 pub(super) fn count_from(
     blocks: &VecDeque<Block>,
-    spot: (usize, usize),
+    mut spot: (usize, usize),
     start: usize,
     end: usize,
     limit: usize,
 ) -> usize
-    requires spot { IsAt start (shown blocks.now.items) spot.0 spot.1 }
-    requires distinct { AreDistinctBlocks (shown blocks.now.items) }
+    requires spot { IsAt start (blocks_shown blocks.now.items) spot.0 spot.1 }
+    requires distinct { AreDistinctBlocks (blocks_shown blocks.now.items) }
     requires order { start ≤ end }
-    requires within { end ≤ count (shown blocks.now.items) }
+    requires within { end ≤ count (blocks_shown blocks.now.items) }
     ensures { (i : ℕ) → IsLimitCount (Some limit)
-        (drop start (take end (entries_in_blocks i (shown blocks.now.items)))) result }
+        (drop start (take end (entries_in_blocks i (blocks_shown blocks.now.items)))) result }
 {
-    let mut spot = spot;
     let mut total = 0u128;
     for i in start..end {
         let block = &blocks[spot.0];

@@ -1,5 +1,42 @@
-use Rattle.raft_table.proofs.StartLemmas.{run_alone}
+use Rattle.std.proofs.Common.{◌≡◌, ◌<◌, length, Some, sym, ap, ◌∙◌}
+use Rattle.raft_table.specs.TableEntries.{start_of}
+use Rattle.raft_table.proofs.RunGroups.{not_nil}
+use Rattle.raft_table.proofs.GoneLemmas.{on_ok}
+use Rattle.raft_table.proofs.KeptUnderLemmas.{IsReplay, is_replay, sound_under, counts_under}
+use Rattle.raft_table.proofs.StartLemmas.{may_join, run_alone}
 use Rattle.raft_table.proofs.memtable.entries.Entries.absorb.Goals as goal
 
-pub replay-requires-clause-run : goal.replay-requires-clause-run
-replay-requires-clause-run c = run_alone c.args.queue c.args.rhs.now c.holds_one_run.ensures c.requires.alone
+pub put_behind-requires-clause-keep : goal.put_behind-requires-clause-keep
+put_behind-requires-clause-keep c =
+    let run = c.args.rhs.now in
+    let l : 0 < length run = not_nil run c.in-Some.ensures.0 in
+    let s : start_of run ≡ c.in-Some.first = sym c.in-Some.ensures.1 in
+    (is_replay c.args.rule c.args.self.now run c.in-Some-kept_under.keep c.kept_under.ensures.table_entries l (rw s c.in-Some-kept_under.ensures.kept)).within
+
+pub put_behind-requires-clause-table_entries : goal.put_behind-requires-clause-table_entries
+put_behind-requires-clause-table_entries c =
+    let run = c.args.rhs.now in
+    let l : 0 < length run = not_nil run c.in-Some.ensures.0 in
+    let s : start_of run ≡ c.in-Some.first = sym c.in-Some.ensures.1 in
+    sound_under c.args.rule c.args.queue c.args.self.now run c.in-Some-kept_under.keep c.kept_under.ensures.table_entries (may_join c.args.queue c.args.self.now c.requires.rewritten) (run_alone c.args.queue c.args.rhs.now c.holds_one_run.ensures c.requires.alone) l (rw s c.in-Some-kept_under.ensures.kept)
+
+pub put_behind-requires-clause-queue : goal.put_behind-requires-clause-queue
+put_behind-requires-clause-queue c = (run_alone c.args.queue c.args.rhs.now c.holds_one_run.ensures c.requires.alone).placed
+
+replay : (c : goal.After-put_behind) → IsReplay c.args.rule c.args.self.now c.args.rhs.now c.in-Some-kept_under.keep
+replay c =
+    let run = c.args.rhs.now in
+    let l : 0 < length run = not_nil run c.in-Some.ensures.0 in
+    let s : start_of run ≡ c.in-Some.first = sym c.in-Some.ensures.1 in
+    is_replay c.args.rule c.args.self.now run c.in-Some-kept_under.keep c.kept_under.ensures.table_entries l (rw s c.in-Some-kept_under.ensures.kept)
+
+pub returns-clause-ok : goal.returns-clause-ok
+returns-clause-ok c = on_ok c.put_behind.result (λ w. (replay c).after ∙ ap (λ es. Some es) (sym w.0)) c.put_behind.ensures.ok
+
+pub returns-clause-fault : goal.returns-clause-fault
+returns-clause-fault c = rw (replay c).after c.put_behind.ensures.fault
+
+pub returns-clause-counts : goal.returns-clause-counts
+returns-clause-counts c =
+    let l : 0 < length c.args.rhs.now = not_nil c.args.rhs.now c.in-Some.ensures.0 in
+    on_ok c.put_behind.result (λ w. counts_under c.args.rule c.args.queue c.args.self.now c.args.rhs.now c.in-Some-kept_under.keep c.args.stats.now c.put_behind.new.stats l (replay c) w) c.put_behind.ensures.counts

@@ -1,10 +1,10 @@
 use Rattle.std.proofs.Common.{arith}
 use Rattle.std.proofs.lemmas.List.{length-map}
-use Rattle.raft_table.specs.Blocks.{block_spans, shown}
+use Rattle.raft_table.specs.Blocks.{block_spans, blocks_shown}
 use Rattle.raft_table.proofs.BlockParts.{block_count_is}
 use Rattle.raft_table.proofs.memtable.entries.Entries.block_count.Goals as goal
 
 pub returns : goal.returns
 returns c =
     let n = length-map c.self.inside.blocks.items block_spans in
-    rw (← c.self.view_is, block_count_is c.self.inside.first (shown c.self.inside.blocks.items) c.self.invariant.distinct) (omega (arith, c.self.inside.blocks.ok))
+    rw (← c.self.view_is, block_count_is c.self.inside.first (blocks_shown c.self.inside.blocks.items) c.self.invariant.distinct) (omega (arith, c.self.inside.blocks.ok))

@@ -1,13 +1,13 @@
 use Rattle.std.proofs.Common.{arith}
 use Rattle.std.proofs.lemmas.List.{length-map}
-use Rattle.raft_table.specs.Blocks.{block_spans, shown}
+use Rattle.raft_table.specs.Blocks.{block_spans, blocks_shown}
 use Rattle.raft_table.proofs.BlockParts.{block_count_is, expanded_start}
 use Rattle.raft_table.proofs.memtable.entries.Entries.blocks.Goals as goal
 
 pub returns-clause-entries : goal.returns-clause-entries
-returns-clause-entries c = rw (← c.self.view_is) (expanded_start c.self.inside.first (shown c.self.inside.blocks.items) c.self.invariant.distinct)
+returns-clause-entries c = rw (← c.self.view_is) (expanded_start c.self.inside.first (blocks_shown c.self.inside.blocks.items) c.self.invariant.distinct)
 
 pub returns-clause-count : goal.returns-clause-count
 returns-clause-count c =
     let n = length-map c.self.inside.blocks.items block_spans in
-    rw (← c.self.view_is, block_count_is c.self.inside.first (shown c.self.inside.blocks.items) c.self.invariant.distinct) (omega arith)
+    rw (← c.self.view_is, block_count_is c.self.inside.first (blocks_shown c.self.inside.blocks.items) c.self.invariant.distinct) (omega arith)

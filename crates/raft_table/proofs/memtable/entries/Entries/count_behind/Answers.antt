@@ -1,5 +1,5 @@
 use Rattle.std.proofs.Common.{arith}
-use Rattle.raft_table.specs.Blocks.{shown, entries_in_blocks}
+use Rattle.raft_table.specs.Blocks.{blocks_shown, entries_in_blocks}
 use Rattle.raft_table.proofs.BlockCuts.{kept_facts}
 use Rattle.raft_table.proofs.SoundLemmas.{cut_counts}
 use Rattle.raft_table.proofs.memtable.entries.Entries.count_behind.Goals as goal
@@ -18,7 +18,7 @@ pub returns-clause-rewritten : goal.returns-clause-rewritten
 returns-clause-rewritten c =
     let l = (kept_facts c.self.invariant).length in
     let h = rw (← c.self.view_is) at c.requires in
-    let k = cut_counts c.args.keep (entries_in_blocks c.self.inside.first (shown c.self.inside.blocks.items)) c.self.invariant.table_entries h in
+    let k = cut_counts c.args.keep (entries_in_blocks c.self.inside.first (blocks_shown c.self.inside.blocks.items)) c.self.invariant.table_entries h in
     let r = c.self.invariant.rewritten in
     rw (← c.self.view_is) (omega (arith, k.rewritten, k.rewritten_behind))
 
@@ -26,6 +26,6 @@ pub returns-clause-appended : goal.returns-clause-appended
 returns-clause-appended c =
     let l = (kept_facts c.self.invariant).length in
     let h = rw (← c.self.view_is) at c.requires in
-    let k = cut_counts c.args.keep (entries_in_blocks c.self.inside.first (shown c.self.inside.blocks.items)) c.self.invariant.table_entries h in
+    let k = cut_counts c.args.keep (entries_in_blocks c.self.inside.first (blocks_shown c.self.inside.blocks.items)) c.self.invariant.table_entries h in
     let r = c.self.invariant.rewritten in
     rw (← c.self.view_is) (omega (arith, k.rewritten, k.both, k.rewritten_behind, k.appended_behind, k.all))

@@ -1,12 +1,12 @@
 use Rattle.std.proofs.Common.{◌+◌, length, arith, refl, ap, ◌∙◌}
 use Rattle.std.proofs.lemmas.List.{length-drop, drop_all}
-use Rattle.raft_table.specs.Blocks.{shown, entries_in_blocks}
+use Rattle.raft_table.specs.Blocks.{blocks_shown, entries_in_blocks}
 use Rattle.raft_table.proofs.BlockCuts.{found, index_of, kept_length, kept_facts, kept_drop}
 use Rattle.raft_table.proofs.BlockQueues.{block_within, spot_inside}
 use Rattle.raft_table.proofs.memtable.entries.Entries.drop_front.Goals as goal
 
 pub returns-then-count-self : goal.returns-then-count-self
-returns-then-count-self c = let l = (kept_facts c.self.invariant).length in rw (← c.self.view_is, drop_all c.args.count (entries_in_blocks c.self.inside.first (shown c.self.inside.blocks.items)) (omega arith)) c.clear.ensures
+returns-then-count-self c = let l = (kept_facts c.self.invariant).length in rw (← c.self.view_is, drop_all c.args.count (entries_in_blocks c.self.inside.first (blocks_shown c.self.inside.blocks.items)) (omega arith)) c.clear.ensures
 
 pub overflow_add-index : goal.overflow_add-index
 overflow_add-index c = let f = (kept_facts c.self.invariant) in let l = f.length in let h = rw (← c.self.view_is) at c.requires in let b = f.bounded (omega arith) in omega arith
@@ -37,10 +37,10 @@ overflow_sub-self c = let l = (kept_facts c.self.invariant).length in let h = rw
 pub invariant_of-self : goal.invariant_of-self
 invariant_of-self c =
     rw (c.cut_front.ensures, c.drop_first.ensures, c.min.ensures)
-    (kept_drop c.self.inside.first c.self.inside.len c.args.count c.find-whole.result.0 c.find-whole.result.1 (shown c.self.inside.blocks.items) c.self.inside.starts.items c.self.inside.rewritten c.self.invariant (found c.self.invariant c.find-whole.ensures (c.args.count) refl (let l = (kept_facts c.self.invariant).length in let h = rw (← c.self.view_is) at c.requires in omega arith))).0
+    (kept_drop c.self.inside.first c.self.inside.len c.args.count c.find-whole.result.0 c.find-whole.result.1 (blocks_shown c.self.inside.blocks.items) c.self.inside.starts.items c.self.inside.rewritten c.self.invariant (found c.self.invariant c.find-whole.ensures (c.args.count) refl (let l = (kept_facts c.self.invariant).length in let h = rw (← c.self.view_is) at c.requires in omega arith))).0
 
 pub returns : goal.returns
 returns c =
     rw (← c.self.view_is)
     (ap (entries_in_blocks (c.self.inside.first + c.args.count)) c.cut_front.ensures
-    ∙ (kept_drop c.self.inside.first c.self.inside.len c.args.count c.find-whole.result.0 c.find-whole.result.1 (shown c.self.inside.blocks.items) c.self.inside.starts.items c.self.inside.rewritten c.self.invariant (found c.self.invariant c.find-whole.ensures (c.args.count) refl (let l = (kept_facts c.self.invariant).length in let h = rw (← c.self.view_is) at c.requires in omega arith))).1)
+    ∙ (kept_drop c.self.inside.first c.self.inside.len c.args.count c.find-whole.result.0 c.find-whole.result.1 (blocks_shown c.self.inside.blocks.items) c.self.inside.starts.items c.self.inside.rewritten c.self.invariant (found c.self.invariant c.find-whole.ensures (c.args.count) refl (let l = (kept_facts c.self.invariant).length in let h = rw (← c.self.view_is) at c.requires in omega arith))).1)

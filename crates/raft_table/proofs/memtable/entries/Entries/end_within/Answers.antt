@@ -1,5 +1,5 @@
 use Rattle.std.proofs.Common.{subst}
-use Rattle.raft_table.specs.Blocks.{shown}
+use Rattle.raft_table.specs.Blocks.{blocks_shown}
 use Rattle.raft_base.specs.Runs.{RisesFrom}
 use Rattle.raft_table.proofs.BlockLemmas.{rises_expanded}
 use Rattle.raft_table.proofs.CutLemmas.{end_met, end_unmet}
@@ -8,11 +8,11 @@ use Rattle.raft_table.proofs.memtable.entries.Entries.end_within.Goals as goal
 pub returns-then-max-end : goal.returns-then-max-end
 returns-then-max-end c =
     end_met c.self.inside.first c.args.self.now c.args.index c.args.cut c.end.result c.max.result c.capped-end.result
-    (subst (RisesFrom c.self.inside.first) c.self.view_is (rises_expanded c.self.inside.first (shown c.self.inside.blocks.items)))
+    (subst (RisesFrom c.self.inside.first) c.self.view_is (rises_expanded c.self.inside.first (blocks_shown c.self.inside.blocks.items)))
     c.end.ensures c.capped-end.ensures c.max.ensures c.if-max-end.true
 
 pub returns : goal.returns
 returns c =
     end_unmet c.self.inside.first c.args.self.now c.args.index c.args.cut c.end.result c.max.result c.capped-end.result
-    (subst (RisesFrom c.self.inside.first) c.self.view_is (rises_expanded c.self.inside.first (shown c.self.inside.blocks.items)))
+    (subst (RisesFrom c.self.inside.first) c.self.view_is (rises_expanded c.self.inside.first (blocks_shown c.self.inside.blocks.items)))
     c.end.ensures c.capped-end.ensures c.max.ensures c.if-max-end.false

@@ -1,7 +1,7 @@
 use Rattle.std.proofs.Common.{◌≡◌, ◌+◌, ◌≤◌, ◌++◌, drop, arith, sym, ap, ◌∙◌}
 use Rattle.std.proofs.lemmas.List.{length-drop, take_all}
 use Rattle.std.proofs.lemmas.Result.{on_ok_weaker}
-use Rattle.raft_table.specs.Blocks.{shown, entries_in_blocks}
+use Rattle.raft_table.specs.Blocks.{blocks_shown, entries_in_blocks}
 use Rattle.raft_table.proofs.BlockCuts.{kept_facts}
 use Rattle.std.specs.List.{prefix_len}
 use Rattle.std.proofs.lemmas.List.Sums.{prefix_len-le-length}
@@ -15,18 +15,18 @@ movable-count-requires-clause-order c = let b = (kept_facts c.self.invariant).bo
 pub movable-count-requires-clause-within : goal.movable-count-requires-clause-within
 movable-count-requires-clause-within c = let l = (kept_facts c.self.invariant).length in rw (← c.self.view_is) (omega arith)
 
-count_is : (c : goal.After-extend-arg-1) → c.movable-count.result ≡ prefix_len (is_placed_before c.args.gate) (drop c.self.inside.rewritten (entries_in_blocks c.self.inside.first (shown c.self.inside.blocks.items)))
+count_is : (c : goal.After-extend-arg-1) → c.movable-count.result ≡ prefix_len (is_placed_before c.args.gate) (drop c.self.inside.rewritten (entries_in_blocks c.self.inside.first (blocks_shown c.self.inside.blocks.items)))
 count_is c =
     let l = (kept_facts c.self.invariant).length in
-    (rw (← c.self.view_is) at c.movable-count.ensures) ∙ (ap (λ xs. prefix_len (is_placed_before c.args.gate) (drop c.self.inside.rewritten xs)) (take_all c.self.inside.len (entries_in_blocks c.self.inside.first (shown c.self.inside.blocks.items)) (omega arith)))
+    (rw (← c.self.view_is) at c.movable-count.ensures) ∙ (ap (λ xs. prefix_len (is_placed_before c.args.gate) (drop c.self.inside.rewritten xs)) (take_all c.self.inside.len (entries_in_blocks c.self.inside.first (blocks_shown c.self.inside.blocks.items)) (omega arith)))
 
 room : (c : goal.After-extend-arg-1) → c.self.inside.rewritten + c.movable-count.result ≤ c.self.inside.len
 room c =
     let l = (kept_facts c.self.invariant).length in
     let b = (kept_facts c.self.invariant).both in
     let n = count_is c in
-    let p = prefix_len-le-length (is_placed_before c.args.gate) (drop c.self.inside.rewritten (entries_in_blocks c.self.inside.first (shown c.self.inside.blocks.items))) in
-    omega (arith, length-drop c.self.inside.rewritten (entries_in_blocks c.self.inside.first (shown c.self.inside.blocks.items)))
+    let p = prefix_len-le-length (is_placed_before c.args.gate) (drop c.self.inside.rewritten (entries_in_blocks c.self.inside.first (blocks_shown c.self.inside.blocks.items))) in
+    omega (arith, length-drop c.self.inside.rewritten (entries_in_blocks c.self.inside.first (blocks_shown c.self.inside.blocks.items)))
 
 pub overflow_add-start : goal.overflow_add-start
 overflow_add-start c = let r = room c in omega arith
@@ -37,7 +37,7 @@ extend-requires-clause-within c = let r = room c in let l = (kept_facts c.self.i
 pub returns-clause-ok : goal.returns-clause-ok
 returns-clause-ok c =
     let l = (kept_facts c.self.invariant).length in
-    let n : c.movable-count.result ≡ prefix_len (is_placed_before c.args.gate) (drop c.self.inside.rewritten (entries_in_blocks c.self.inside.first (shown c.self.inside.blocks.items))) =
-    (rw (← c.self.view_is) at c.movable-count.ensures) ∙ ap (λ xs. prefix_len (is_placed_before c.args.gate) (drop c.self.inside.rewritten xs)) (take_all c.self.inside.len (entries_in_blocks c.self.inside.first (shown c.self.inside.blocks.items)) (omega arith)) in
+    let n : c.movable-count.result ≡ prefix_len (is_placed_before c.args.gate) (drop c.self.inside.rewritten (entries_in_blocks c.self.inside.first (blocks_shown c.self.inside.blocks.items))) =
+    (rw (← c.self.view_is) at c.movable-count.ensures) ∙ ap (λ xs. prefix_len (is_placed_before c.args.gate) (drop c.self.inside.rewritten xs)) (take_all c.self.inside.len (entries_in_blocks c.self.inside.first (blocks_shown c.self.inside.blocks.items)) (omega arith)) in
     rw (← c.self.view_is)
-    (on_ok_weaker c.extend.result (λ h. (rw (← c.self.view_is) at h) ∙ ap (λ xs. c.args.vec.now.items ++ xs) (sym (appended_before_is c.args.gate c.movable-count.result c.self.inside.rewritten (entries_in_blocks c.self.inside.first (shown c.self.inside.blocks.items)) c.self.invariant.table_entries c.self.invariant.rewritten n))) c.extend.ensures.ok)
+    (on_ok_weaker c.extend.result (λ h. (rw (← c.self.view_is) at h) ∙ ap (λ xs. c.args.vec.now.items ++ xs) (sym (appended_before_is c.args.gate c.movable-count.result c.self.inside.rewritten (entries_in_blocks c.self.inside.first (blocks_shown c.self.inside.blocks.items)) c.self.invariant.table_entries c.self.invariant.rewritten n))) c.extend.ensures.ok)

@@ -1,7 +1,7 @@
 use Rattle.std.proofs.Common.{◌≡◌, ◌-◌, length, take, arith}
 use Rattle.std.proofs.lemmas.List.{length-take, length-drop}
 use Rattle.std.proofs.lemmas.Result.{on_ok_weaker, IfErr-weaker}
-use Rattle.raft_table.specs.Blocks.{shown, entries_in_blocks}
+use Rattle.raft_table.specs.Blocks.{blocks_shown, entries_in_blocks}
 use Rattle.raft_table.specs.TableEntries.{start_of}
 use Rattle.raft_table.proofs.BlockCuts.{kept_facts}
 use Rattle.raft_base.specs.declared.errors.Error.TheVariants as errors
@@ -16,13 +16,13 @@ pub returns-then-begin-self-clause-fault : goal.returns-then-begin-self-clause-f
 returns-then-begin-self-clause-fault c =
     let l = (kept_facts c.self.invariant).length in
     let s = (kept_facts c.self.invariant).start (omega arith) in
-    rw (← c.self.view_is, range_below c.args.begin c.args.end (entries_in_blocks c.self.inside.first (shown c.self.inside.blocks.items)) (omega arith) (omega arith) (omega arith)) tt
+    rw (← c.self.view_is, range_below c.args.begin c.args.end (entries_in_blocks c.self.inside.first (blocks_shown c.self.inside.blocks.items)) (omega arith) (omega arith) (omega arith)) tt
 
 pub returns-then-end-self-clause-fault : goal.returns-then-end-self-clause-fault
 returns-then-end-self-clause-fault c =
     let l = (kept_facts c.self.invariant).length in
     let s = (kept_facts c.self.invariant).start (omega arith) in
-    rw (← c.self.view_is, range_behind c.args.begin c.args.end (entries_in_blocks c.self.inside.first (shown c.self.inside.blocks.items)) c.self.invariant.table_entries (omega arith) (omega arith) (omega arith) (omega arith)) tt
+    rw (← c.self.view_is, range_behind c.args.begin c.args.end (entries_in_blocks c.self.inside.first (blocks_shown c.self.inside.blocks.items)) c.self.invariant.table_entries (omega arith) (omega arith) (omega arith) (omega arith)) tt
 
 pub count_within-count-requires-clause-within : goal.count_within-count-requires-clause-within
 count_within-count-requires-clause-within c = let l = (kept_facts c.self.invariant).length in rw (← c.self.view_is) (omega arith)
@@ -40,15 +40,15 @@ is_found : (c : goal.After-extend) → range_answer c.args.begin c.args.end c.ar
 is_found c =
     let l = (kept_facts c.self.invariant).length in
     let s = (kept_facts c.self.invariant).start (omega arith) in
-    rw (← c.self.view_is) (range_found c.args.begin c.args.end (entries_in_blocks c.self.inside.first (shown c.self.inside.blocks.items)) c.self.invariant.table_entries (omega arith) (omega arith) (omega arith) (omega arith))
+    rw (← c.self.view_is) (range_found c.args.begin c.args.end (entries_in_blocks c.self.inside.first (blocks_shown c.self.inside.blocks.items)) c.self.invariant.table_entries (omega arith) (omega arith) (omega arith) (omega arith))
 
 pub returns-clause-ok : goal.returns-clause-ok
 returns-clause-ok c =
     let l = (kept_facts c.self.invariant).length in
-    let s : start_of (entries_in_blocks c.self.inside.first (shown c.self.inside.blocks.items)) ≡ c.self.inside.first = (kept_facts c.self.invariant).start (omega arith) in
+    let s : start_of (entries_in_blocks c.self.inside.first (blocks_shown c.self.inside.blocks.items)) ≡ c.self.inside.first = (kept_facts c.self.invariant).start (omega arith) in
     let w = rw (← c.self.view_is) at c.count_within-count.ensures in
     rw (is_found c, ← c.self.view_is)
-    (on_ok_weaker c.extend.result (λ h. fetched_part c.args.limit c.args.begin c.args.end c.count_within-count.result (entries_in_blocks c.self.inside.first (shown c.self.inside.blocks.items)) c.args.vec.now.items c.extend.new.vec.items c.self.invariant.table_entries (omega arith) (omega arith) (rw s w) (rw (s, c.self.view_is) h)) c.extend.ensures.ok)
+    (on_ok_weaker c.extend.result (λ h. fetched_part c.args.limit c.args.begin c.args.end c.count_within-count.result (entries_in_blocks c.self.inside.first (blocks_shown c.self.inside.blocks.items)) c.args.vec.now.items c.extend.new.vec.items c.self.invariant.table_entries (omega arith) (omega arith) (rw s w) (rw (s, c.self.view_is) h)) c.extend.ensures.ok)
 
 pub returns-clause-fault : goal.returns-clause-fault
 returns-clause-fault c =

@@ -1,5 +1,5 @@
 use Rattle.std.proofs.Common.{◌≡◌, [], length, arith, sym, ap}
-use Rattle.raft_table.specs.Blocks.{shown, entries_in_blocks}
+use Rattle.raft_table.specs.Blocks.{blocks_shown, entries_in_blocks}
 use Rattle.raft_table.proofs.BlockCuts.{kept_facts}
 use Rattle.raft_table.proofs.memtable.entries.Entries.first_index.Goals as goal
 
@@ -9,5 +9,5 @@ returns-then-self-eq0 c = rw (← c.self.view_is) ((kept_facts c.self.invariant)
 pub returns : goal.returns
 returns c =
     let f = (kept_facts c.self.invariant) in
-    let es = entries_in_blocks c.self.inside.first (shown c.self.inside.blocks.items) in
+    let es = entries_in_blocks c.self.inside.first (blocks_shown c.self.inside.blocks.items) in
     rw (← c.self.view_is) ((λ (e : es ≡ []). let l = f.length in let z = ap length e in absurd (omega arith)), sym (f.start (omega arith)))

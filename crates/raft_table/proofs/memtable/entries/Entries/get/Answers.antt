@@ -1,5 +1,5 @@
 use Rattle.std.proofs.Common.{◌-◌, arith, sym}
-use Rattle.raft_table.specs.Blocks.{block_spans, shown, entries_in_blocks}
+use Rattle.raft_table.specs.Blocks.{block_spans, blocks_shown, entries_in_blocks}
 use Rattle.raft_table.specs.BlockWords.{IsAt}
 use Rattle.raft_table.proofs.BlockLemmas.{rises_expanded}
 use Rattle.raft_table.proofs.BlockSearch.{entry_at_spot}
@@ -9,36 +9,36 @@ use Rattle.raft_table.proofs.BlockQueues.{block_at, block_within}
 use Rattle.raft_table.proofs.memtable.entries.Entries.get.Goals as goal
 
 pub returns-then-index-self : goal.returns-then-index-self
-returns-then-index-self c = rw (← c.self.view_is) (sym (entry_at_low c.args.index c.self.inside.first (entries_in_blocks c.self.inside.first (shown c.self.inside.blocks.items)) (omega arith) (rises_expanded c.self.inside.first (shown c.self.inside.blocks.items))))
+returns-then-index-self c = rw (← c.self.view_is) (sym (entry_at_low c.args.index c.self.inside.first (entries_in_blocks c.self.inside.first (blocks_shown c.self.inside.blocks.items)) (omega arith) (rises_expanded c.self.inside.first (blocks_shown c.self.inside.blocks.items))))
 
 pub returns-then-index-self-2 : goal.returns-then-index-self-2
 returns-then-index-self-2 c =
     let l = (kept_facts c.self.invariant).length in
-    rw (← c.self.view_is) (sym (entry_at_past c.args.index (c.args.index - c.self.inside.first) c.self.inside.first (entries_in_blocks c.self.inside.first (shown c.self.inside.blocks.items)) (omega arith) (omega arith) (rises_expanded c.self.inside.first (shown c.self.inside.blocks.items))))
+    rw (← c.self.view_is) (sym (entry_at_past c.args.index (c.args.index - c.self.inside.first) c.self.inside.first (entries_in_blocks c.self.inside.first (blocks_shown c.self.inside.blocks.items)) (omega arith) (omega arith) (rises_expanded c.self.inside.first (blocks_shown c.self.inside.blocks.items))))
 
 pub find-whole-requires : goal.find-whole-requires
-find-whole-requires c = let l = c.self.invariant.len in (c.self.inside.first, (shown c.self.inside.blocks.items), c.self.invariant.starts, omega arith, omega arith)
+find-whole-requires c = let l = c.self.invariant.len in (c.self.inside.first, (blocks_shown c.self.inside.blocks.items), c.self.invariant.starts, omega arith, omega arith)
 
-at : (c : goal.After-find-whole) → IsAt (c.args.index - c.self.inside.first) (shown c.self.inside.blocks.items) c.find-whole.result.0 c.find-whole.result.1
-at c = let l = c.self.invariant.len in c.find-whole.ensures c.self.inside.first (shown c.self.inside.blocks.items) c.self.invariant.starts (omega arith) (omega arith)
+at : (c : goal.After-find-whole) → IsAt (c.args.index - c.self.inside.first) (blocks_shown c.self.inside.blocks.items) c.find-whole.result.0 c.find-whole.result.1
+at c = let l = c.self.invariant.len in c.find-whole.ensures c.self.inside.first (blocks_shown c.self.inside.blocks.items) c.self.invariant.starts (omega arith) (omega arith)
 
 pub index-block-requires : goal.index-block-requires
 index-block-requires c =
     let l = c.self.invariant.len in
-    let a = c.find-whole.ensures c.self.inside.first (shown c.self.inside.blocks.items) c.self.invariant.starts (omega arith) (omega arith) in
+    let a = c.find-whole.ensures c.self.inside.first (blocks_shown c.self.inside.blocks.items) c.self.invariant.starts (omega arith) (omega arith) in
     let w = block_within c.self.inside.blocks.items a in omega (arith, c.self.inside.blocks.ok)
 
 pub index-span-requires : goal.index-span-requires
 index-span-requires c =
     let l = c.self.invariant.len in
-    let a = c.find-whole.ensures c.self.inside.first (shown c.self.inside.blocks.items) c.self.invariant.starts (omega arith) (omega arith) in
+    let a = c.find-whole.ensures c.self.inside.first (blocks_shown c.self.inside.blocks.items) c.self.invariant.starts (omega arith) (omega arith) in
     let b = block_at c.self.inside.blocks.items c.index-block.result.now a c.index-block.ensures in
     let w = b.inside in omega (arith, c.index-block.result.now.spans.ok)
 
 pub returns : goal.returns
 returns c =
     let l = c.self.invariant.len in
-    let a = c.find-whole.ensures c.self.inside.first (shown c.self.inside.blocks.items) c.self.invariant.starts (omega arith) (omega arith) in
+    let a = c.find-whole.ensures c.self.inside.first (blocks_shown c.self.inside.blocks.items) c.self.invariant.starts (omega arith) (omega arith) in
     let b = block_at c.self.inside.blocks.items c.index-block.result.now a c.index-block.ensures in
     rw (← c.self.view_is)
-    (entry_at_spot c.args.index c.self.inside.first c.find-whole.result.0 c.find-whole.result.1 (shown c.self.inside.blocks.items) (block_spans c.index-block.result.now) c.index-span.result.now (omega arith) a b.same c.index-span.ensures)
+    (entry_at_spot c.args.index c.self.inside.first c.find-whole.result.0 c.find-whole.result.1 (blocks_shown c.self.inside.blocks.items) (block_spans c.index-block.result.now) c.index-span.result.now (omega arith) a b.same c.index-span.ensures)

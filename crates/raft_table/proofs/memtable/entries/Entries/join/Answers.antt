@@ -1,6 +1,6 @@
 use Rattle.std.proofs.Common.{◌≡◌, ◌+◌, ◌-◌, ◌<◌, ◌≤◌, min, ◌++◌, length, take, drop, get_or, arith, refl, ap, subst, ◌∙◌}
 use Rattle.std.proofs.lemmas.List.{length-append, length-map, length-take-le}
-use Rattle.raft_table.specs.Blocks.{block_spans, shown, entries_in_blocks}
+use Rattle.raft_table.specs.Blocks.{block_spans, blocks_shown, entries_in_blocks}
 use Rattle.raft_table.specs.BlockWords.{cut_last, joined_blocks, seam}
 use Rattle.raft_table.specs.TableEntries.{AreTableEntries, start_of}
 use Rattle.raft_table.proofs.SoundLemmas.{sound_rising}
@@ -36,45 +36,45 @@ pub put_blocks-requires-clause-more : goal.put_blocks-requires-clause-more
 put_blocks-requires-clause-more c =
     let n = length-map c.run.inside.blocks.items block_spans in
     let k = kept_length c.run.invariant in
-    let h : 0 < length (entries_in_blocks c.run.inside.first (shown c.run.inside.blocks.items)) = rw c.run.view_is c.requires.run in
-    let f = blocks_filled c.run.inside.first (shown c.run.inside.blocks.items) h in
+    let h : 0 < length (entries_in_blocks c.run.inside.first (blocks_shown c.run.inside.blocks.items)) = rw c.run.view_is c.requires.run in
+    let f = blocks_filled c.run.inside.first (blocks_shown c.run.inside.blocks.items) h in
     (omega arith, omega arith)
 
 pub overflow_add-self : goal.overflow_add-self
 overflow_add-self c =
-    let es = take c.args.keep (entries_in_blocks c.self.inside.first (shown c.self.inside.blocks.items)) ++ entries_in_blocks c.run.inside.first (shown c.run.inside.blocks.items) in
+    let es = take c.args.keep (entries_in_blocks c.self.inside.first (blocks_shown c.self.inside.blocks.items)) ++ entries_in_blocks c.run.inside.first (blocks_shown c.run.inside.blocks.items) in
     let s : AreTableEntries es = rw (c.self.view_is, c.run.view_is) c.requires.table_entries in
     let l = (kept_facts c.self.invariant).length in
     let m = (kept_facts c.run.invariant).length in
     let h = rw (← c.self.view_is) at c.requires.keep.1 in
     let p = c.requires.keep.0 in
-    let a = length-append (take c.args.keep (entries_in_blocks c.self.inside.first (shown c.self.inside.blocks.items))) (entries_in_blocks c.run.inside.first (shown c.run.inside.blocks.items)) in
-    let b = length-take-le c.args.keep (entries_in_blocks c.self.inside.first (shown c.self.inside.blocks.items)) (omega arith) in
+    let a = length-append (take c.args.keep (entries_in_blocks c.self.inside.first (blocks_shown c.self.inside.blocks.items))) (entries_in_blocks c.run.inside.first (blocks_shown c.run.inside.blocks.items)) in
+    let b = length-take-le c.args.keep (entries_in_blocks c.self.inside.first (blocks_shown c.self.inside.blocks.items)) (omega arith) in
     let f = sound_fits (start_of es) es s (sound_rising es s) (omega arith) in
     omega arith
 
 pub overflow_add-self-2 : goal.overflow_add-self-2
 overflow_add-self-2 c =
-    let es = take c.args.keep (entries_in_blocks c.self.inside.first (shown c.self.inside.blocks.items)) ++ entries_in_blocks c.run.inside.first (shown c.run.inside.blocks.items) in
+    let es = take c.args.keep (entries_in_blocks c.self.inside.first (blocks_shown c.self.inside.blocks.items)) ++ entries_in_blocks c.run.inside.first (blocks_shown c.run.inside.blocks.items) in
     let s : AreTableEntries es = rw (c.self.view_is, c.run.view_is) c.requires.table_entries in
     let l = (kept_facts c.self.invariant).length in
     let m = (kept_facts c.run.invariant).length in
     let m2 = (kept_facts c.run.invariant).both in
     let h = rw (← c.self.view_is) at c.requires.keep.1 in
     let p = c.requires.keep.0 in
-    let a = length-append (take c.args.keep (entries_in_blocks c.self.inside.first (shown c.self.inside.blocks.items))) (entries_in_blocks c.run.inside.first (shown c.run.inside.blocks.items)) in
-    let b = length-take-le c.args.keep (entries_in_blocks c.self.inside.first (shown c.self.inside.blocks.items)) (omega arith) in
+    let a = length-append (take c.args.keep (entries_in_blocks c.self.inside.first (blocks_shown c.self.inside.blocks.items))) (entries_in_blocks c.run.inside.first (blocks_shown c.run.inside.blocks.items)) in
+    let b = length-take-le c.args.keep (entries_in_blocks c.self.inside.first (blocks_shown c.self.inside.blocks.items)) (omega arith) in
     let f = sound_fits (start_of es) es s (sound_rising es s) (omega arith) in
     omega arith
 
-put : (c : goal.After-run-2-1) → IsKeptAs c.self.inside.first (c.args.keep + c.run.inside.len) (joined_blocks (cut_last (c.search-whole.result.1 + 1) (take (c.search-whole.result.0 + 1) (shown c.self.inside.blocks.items))) (shown c.run.inside.blocks.items) ++ drop c.len-rest.result (shown c.self.inside.blocks.items))
-    (take (c.search-whole.result.0 + 1) c.self.inside.starts.items ++ drop (seam (take (c.search-whole.result.0 + 1) (shown c.self.inside.blocks.items)) (shown c.run.inside.blocks.items)) c.run.inside.starts.items ++ drop c.len-rest.result c.self.inside.starts.items)
-    (min c.self.inside.rewritten c.args.keep + c.run.inside.rewritten) (take c.args.keep (entries_in_blocks c.self.inside.first (shown c.self.inside.blocks.items)) ++ entries_in_blocks c.run.inside.first (shown c.run.inside.blocks.items))
+put : (c : goal.After-run-2-1) → IsKeptAs c.self.inside.first (c.args.keep + c.run.inside.len) (joined_blocks (cut_last (c.search-whole.result.1 + 1) (take (c.search-whole.result.0 + 1) (blocks_shown c.self.inside.blocks.items))) (blocks_shown c.run.inside.blocks.items) ++ drop c.len-rest.result (blocks_shown c.self.inside.blocks.items))
+    (take (c.search-whole.result.0 + 1) c.self.inside.starts.items ++ drop (seam (take (c.search-whole.result.0 + 1) (blocks_shown c.self.inside.blocks.items)) (blocks_shown c.run.inside.blocks.items)) c.run.inside.starts.items ++ drop c.len-rest.result c.self.inside.starts.items)
+    (min c.self.inside.rewritten c.args.keep + c.run.inside.rewritten) (take c.args.keep (entries_in_blocks c.self.inside.first (blocks_shown c.self.inside.blocks.items)) ++ entries_in_blocks c.run.inside.first (blocks_shown c.run.inside.blocks.items))
 put c =
-    let s : AreTableEntries (take c.args.keep (entries_in_blocks c.self.inside.first (shown c.self.inside.blocks.items)) ++ entries_in_blocks c.run.inside.first (shown c.run.inside.blocks.items)) = rw (c.self.view_is, c.run.view_is) c.requires.table_entries in
+    let s : AreTableEntries (take c.args.keep (entries_in_blocks c.self.inside.first (blocks_shown c.self.inside.blocks.items)) ++ entries_in_blocks c.run.inside.first (blocks_shown c.run.inside.blocks.items)) = rw (c.self.view_is, c.run.view_is) c.requires.table_entries in
     kept_join c.self.invariant c.run.invariant c.args.keep (c.search-whole.result.0 + 1) (c.search-whole.result.1 + 1) c.len-rest.result c.requires.keep.0
     (let l = (kept_facts c.self.invariant).length in let h = rw (← c.self.view_is) at c.requires.keep.1 in omega arith)
-    (front_of c.self.inside.first c.args.keep c.search-whole.result.0 c.search-whole.result.1 (shown c.self.inside.blocks.items) c.self.invariant.distinct c.requires.keep.0 (found c.self.invariant c.search-whole.ensures (c.args.keep - 1) refl (let l = (kept_facts c.self.invariant).length in let h = (rw (← c.self.view_is) at c.requires.keep.1) in let p = c.requires.keep.0 in omega arith)))
+    (front_of c.self.inside.first c.args.keep c.search-whole.result.0 c.search-whole.result.1 (blocks_shown c.self.inside.blocks.items) c.self.invariant.distinct c.requires.keep.0 (found c.self.invariant c.search-whole.ensures (c.args.keep - 1) refl (let l = (kept_facts c.self.invariant).length in let h = (rw (← c.self.view_is) at c.requires.keep.1) in let p = c.requires.keep.0 in omega arith)))
     (let m = (kept_facts c.run.invariant).length in let h = rw (← c.run.view_is) at c.requires.run in omega arith)
     s (let n = length-map c.self.inside.blocks.items block_spans in omega (arith, c.self.inside.blocks.ok))
 
@@ -82,7 +82,7 @@ pub invariant_of-self-2 : goal.invariant_of-self-2
 invariant_of-self-2 c = rw (c.in_ok-put_blocks.ensures.blocks, c.in_ok-put_blocks.ensures.starts, c.min.ensures) (put c).kept
 
 pub invariant_of-run-2 : goal.invariant_of-run-2
-invariant_of-run-2 c = kept_nil _ _ _ _ _ (ap shown c.in_ok-put_blocks.ensures.emptied.0) c.in_ok-put_blocks.ensures.emptied.1 refl refl
+invariant_of-run-2 c = kept_nil _ _ _ _ _ (ap blocks_shown c.in_ok-put_blocks.ensures.emptied.0) c.in_ok-put_blocks.ensures.emptied.1 refl refl
 
 pub returns-clause-ok : goal.returns-clause-ok
-returns-clause-ok c = rw (← c.self.view_is, ← c.run.view_is) (ap (entries_in_blocks c.self.inside.first) c.in_ok-put_blocks.ensures.blocks ∙ (put c).entries, ap (λ xs. entries_in_blocks c.run.inside.first (shown xs)) c.in_ok-put_blocks.ensures.emptied.0)
+returns-clause-ok c = rw (← c.self.view_is, ← c.run.view_is) (ap (entries_in_blocks c.self.inside.first) c.in_ok-put_blocks.ensures.blocks ∙ (put c).entries, ap (λ xs. entries_in_blocks c.run.inside.first (blocks_shown xs)) c.in_ok-put_blocks.ensures.emptied.0)

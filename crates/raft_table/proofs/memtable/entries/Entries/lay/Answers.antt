@@ -1,7 +1,7 @@
 use Rattle.std.proofs.Common.{ℕ, ◌≡◌, ◌+◌, ◌-◌, ◌<◌, ◌≤◌, List, ◌++◌, length, take, get_or, arith, sym, ap, subst, ◌∙◌, Some}
 use Rattle.std.proofs.lemmas.List.{take_all}
 use Rattle.std.proofs.lemmas.Result.{on_ok_weaker}
-use Rattle.raft_table.specs.Blocks.{spread}
+use Rattle.raft_table.specs.Blocks.{entries_of_block}
 use Rattle.raft_table.specs.TableEntries.{AreTableEntries}
 use Rattle.raft_table.proofs.SoundLemmas.{AreTableEntries-drop}
 use Rattle.raft_table.proofs.BlockCuts.{kept_facts}
@@ -20,7 +20,7 @@ pub from_run-requires : goal.from_run-requires
 from_run-requires c = sound_behind c.args.keep c.args.self.now c.args.run.now c.requires.keep c.requires.table_entries
 
 -- the entries of the only block of a run
-only_block : (run : List EntryIndex) (h : FileBlockHandle) (d : EntryIndex) → AreTableEntries run → 0 < length run → ((j : ℕ) (e : EntryIndex) → 0 ≤ j → j < 0 + length run → (get_or run j e).entries ≡ Some h) → spread (get_or run 0 d).index h (spans_of run) ≡ run
+only_block : (run : List EntryIndex) (h : FileBlockHandle) (d : EntryIndex) → AreTableEntries run → 0 < length run → ((j : ℕ) (e : EntryIndex) → 0 ≤ j → j < 0 + length run → (get_or run j e).entries ≡ Some h) → entries_of_block (get_or run 0 d).index h (spans_of run) ≡ run
 only_block run h d s l a =
     let e : 0 + length run - 0 ≡ length run = omega arith in
     let z : 0 + length run ≡ length run = omega arith in
@@ -29,11 +29,11 @@ only_block run h d s l a =
     rw (e, z, t) at g
 
 -- a run of one block behind all entries
-laid : (keep : ℕ) (es run : List EntryIndex) (h : FileBlockHandle) (ss : List (ℕ × ℕ)) (d : EntryIndex) → keep ≡ length es → AreTableEntries (take keep es ++ run) → 0 < length run → ss ≡ spans_of run → ((j : ℕ) (e : EntryIndex) → 0 ≤ j → j < 0 + length run → (get_or run j e).entries ≡ Some h) → take keep es ++ run ≡ es ++ spread (get_or run 0 d).index h ss
+laid : (keep : ℕ) (es run : List EntryIndex) (h : FileBlockHandle) (ss : List (ℕ × ℕ)) (d : EntryIndex) → keep ≡ length es → AreTableEntries (take keep es ++ run) → 0 < length run → ss ≡ spans_of run → ((j : ℕ) (e : EntryIndex) → 0 ≤ j → j < 0 + length run → (get_or run j e).entries ≡ Some h) → take keep es ++ run ≡ es ++ entries_of_block (get_or run 0 d).index h ss
 laid keep es run h ss d k s l q a =
     let t : take keep es ≡ es = take_all keep es (omega arith) in
     let o = only_block run h d (sound_behind keep es run (omega arith) s) l a in
-    ap (λ xs. xs ++ run) t ∙ ap (λ xs. es ++ xs) (sym o) ∙ ap (λ xs. es ++ spread (get_or run 0 d).index h xs) (sym q)
+    ap (λ xs. xs ++ run) t ∙ ap (λ xs. es ++ xs) (sym o) ∙ ap (λ xs. es ++ entries_of_block (get_or run 0 d).index h xs) (sym q)
 
 pub push-requires-clause-table_entries : goal.push-requires-clause-table_entries
 push-requires-clause-table_entries c =

@@ -1,5 +1,5 @@
 use Rattle.std.proofs.Common.{◌≡◌, length, arith, ap, ◌∙◌}
-use Rattle.raft_table.specs.Blocks.{BlockSpans, shown, entries_in_blocks}
+use Rattle.raft_table.specs.Blocks.{BlockSpans, blocks_shown, entries_in_blocks}
 use Rattle.raft_table.proofs.BlockKept.{IsPushed, pushed_fits, kept_push}
 use Rattle.raft_table.proofs.memtable.entries.Entries.push.Goals as goal
 
@@ -18,7 +18,7 @@ overflow_add-self-2 c =
 abbrev stretch : (c : goal.After-self-3-1) → BlockSpans
 stretch c = record { handle = c.args.handle; spans = c.args.spans.items }
 
-pushed : (c : goal.After-self-3-1) → IsPushed c.self.inside.first c.first_of-self-inside.result c.self.inside.len c.args.index (shown c.self.inside.blocks.items) c.self.inside.starts.items c.self.inside.rewritten (stretch c)
+pushed : (c : goal.After-self-3-1) → IsPushed c.self.inside.first c.first_of-self-inside.result c.self.inside.len c.args.index (blocks_shown c.self.inside.blocks.items) c.self.inside.starts.items c.self.inside.rewritten (stretch c)
 pushed c = kept_push c.self.invariant c.first_of-self-inside.result c.args.index (stretch c) c.requires.filled (rw c.self.view_is c.requires.table_entries) c.first_of-self-inside.ensures.0 c.first_of-self-inside.ensures.1
 
 pub invariant_of-self-2 : goal.invariant_of-self-2

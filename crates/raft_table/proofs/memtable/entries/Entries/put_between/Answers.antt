@@ -1,7 +1,7 @@
 use Rattle.std.proofs.Common.{ℕ, ◌≡◌, ◌+◌, ◌-◌, inl, inr, min, List, [], ◌∷◌, ◌++◌, length, take, drop, arith, refl, sym, ap, subst, ◌∙◌}
 use Rattle.std.proofs.lemmas.List.{length-map}
 use Rattle.std.proofs.lemmas.Bool.{cases_lt}
-use Rattle.raft_table.specs.Blocks.{BlockSpans, block_spans, shown, entries_in_blocks}
+use Rattle.raft_table.specs.Blocks.{BlockSpans, block_spans, blocks_shown, entries_in_blocks}
 use Rattle.raft_table.specs.BlockWords.{without_first_spans, cut_last, joined_blocks, seam}
 use Rattle.raft_table.specs.TableEntries.{AreTableEntries}
 use Rattle.raft_table.proofs.BlockCuts.{found, index_of, kept_length, kept_facts}
@@ -42,7 +42,7 @@ overflow_add-whole c = let w = block_within c.self.inside.blocks.items (found c.
 
 pub put_blocks-requires-clause-order : goal.put_blocks-requires-clause-order
 put_blocks-requires-clause-order c =
-    cut_order c.args.at (c.args.at + c.run.inside.len) c.cut_at-spot.result.0 c.cut_at-spot.result.1 c.find-whole.result.0 c.find-whole.result.1 (shown c.self.inside.blocks.items) c.cut_at-spot.ensures.none (λ l. c.cut_at-spot.ensures.some (shown c.self.inside.blocks.items) l c.self.invariant.starts (let f = (between_fits c.self.invariant c.run.invariant c.args.at (rw (← c.run.view_is) at c.requires.run) (rw (← c.self.view_is, ← c.run.view_is) at c.requires.behind)) in let g = f.1 in let n = c.self.invariant.len in omega arith)) (found c.self.invariant c.find-whole.ensures (c.args.at + c.run.inside.len) refl (between_fits c.self.invariant c.run.invariant c.args.at (rw (← c.run.view_is) at c.requires.run) (rw (← c.self.view_is, ← c.run.view_is) at c.requires.behind)).1) (omega arith)
+    cut_order c.args.at (c.args.at + c.run.inside.len) c.cut_at-spot.result.0 c.cut_at-spot.result.1 c.find-whole.result.0 c.find-whole.result.1 (blocks_shown c.self.inside.blocks.items) c.cut_at-spot.ensures.none (λ l. c.cut_at-spot.ensures.some (blocks_shown c.self.inside.blocks.items) l c.self.invariant.starts (let f = (between_fits c.self.invariant c.run.invariant c.args.at (rw (← c.run.view_is) at c.requires.run) (rw (← c.self.view_is, ← c.run.view_is) at c.requires.behind)) in let g = f.1 in let n = c.self.invariant.len in omega arith)) (found c.self.invariant c.find-whole.ensures (c.args.at + c.run.inside.len) refl (between_fits c.self.invariant c.run.invariant c.args.at (rw (← c.run.view_is) at c.requires.run) (rw (← c.self.view_is, ← c.run.view_is) at c.requires.behind)).1) (omega arith)
 
 pub put_blocks-requires-clause-within : goal.put_blocks-requires-clause-within
 put_blocks-requires-clause-within c = let w = block_within c.self.inside.blocks.items (found c.self.invariant c.find-whole.ensures (c.args.at + c.run.inside.len) refl (between_fits c.self.invariant c.run.invariant c.args.at (rw (← c.run.view_is) at c.requires.run) (rw (← c.self.view_is, ← c.run.view_is) at c.requires.behind)).1) in omega arith
@@ -50,7 +50,7 @@ put_blocks-requires-clause-within c = let w = block_within c.self.inside.blocks.
 pub put_blocks-requires-clause-kept : goal.put_blocks-requires-clause-kept
 put_blocks-requires-clause-kept c d p =
     elim (cases_lt 0 c.args.at) [
-      | inl l ↦ let u = c.cut_at-spot.ensures.some (shown c.self.inside.blocks.items) l c.self.invariant.starts (let f = (between_fits c.self.invariant c.run.invariant c.args.at (rw (← c.run.view_is) at c.requires.run) (rw (← c.self.view_is, ← c.run.view_is) at c.requires.behind)) in let g = f.1 in let n = c.self.invariant.len in omega arith) in let w = spot_inside c.self.inside.blocks.items u.0 d in let v = u.2 in omega arith
+      | inl l ↦ let u = c.cut_at-spot.ensures.some (blocks_shown c.self.inside.blocks.items) l c.self.invariant.starts (let f = (between_fits c.self.invariant c.run.invariant c.args.at (rw (← c.run.view_is) at c.requires.run) (rw (← c.self.view_is, ← c.run.view_is) at c.requires.behind)) in let g = f.1 in let n = c.self.invariant.len in omega arith) in let w = spot_inside c.self.inside.blocks.items u.0 d in let v = u.2 in omega arith
       | inr l ↦ let z = (c.cut_at-spot.ensures.none (omega arith)).0 in absurd (omega arith)
     ]
 
@@ -59,24 +59,24 @@ put_blocks-requires-clause-starts c = kept_length c.self.invariant ∙ length-ma
 
 pub put_blocks-requires-clause-more : goal.put_blocks-requires-clause-more
 put_blocks-requires-clause-more c =
-    let ys = shown c.run.inside.blocks.items in
+    let ys = blocks_shown c.run.inside.blocks.items in
     let t : BlockSpans = (record { handle = c.index-block.result.now.handle; spans = c.in_ok-spans.spans.items }) in
     let n : length c.push_block.new.blocks.items ≡ length (joined_blocks ys (t ∷ [])) = sym (length-map c.push_block.new.blocks.items block_spans) ∙ ap length c.in_ok-push_block.ensures.blocks in
     let m : length c.push_block.new.starts.items ≡ length (joined_blocks ys (t ∷ [])) = ap length c.in_ok-push_block.ensures.starts ∙ pushed_length c.run.inside.first (c.self.inside.first + (c.args.at + c.run.inside.len)) ys t c.run.inside.starts.items c.run.invariant.starts in
     (rw n (joined_some ys t), m ∙ sym n)
 
-put : (c : goal.After-drop-blocks-2) → let es = entries_in_blocks c.self.inside.first (shown c.self.inside.blocks.items) in let ys = shown c.run.inside.blocks.items in
-    IsKeptAs c.self.inside.first c.self.inside.len (joined_blocks (cut_last c.cut_at-spot.result.1 (take c.cut_at-spot.result.0 (shown c.self.inside.blocks.items))) (joined_blocks ys ((record { handle = c.index-block.result.now.handle; spans = c.in_ok-spans.spans.items }) ∷ [])) ++ drop (c.find-whole.result.0 + 1) (shown c.self.inside.blocks.items))
-    (take c.cut_at-spot.result.0 c.self.inside.starts.items ++ drop (seam (take c.cut_at-spot.result.0 (shown c.self.inside.blocks.items)) (joined_blocks ys ((record { handle = c.index-block.result.now.handle; spans = c.in_ok-spans.spans.items }) ∷ []))) (c.run.inside.starts.items ++ drop (seam ys ((record { handle = c.index-block.result.now.handle; spans = c.in_ok-spans.spans.items }) ∷ [])) ((c.self.inside.first + (c.args.at + c.run.inside.len)) ∷ [])) ++ drop (c.find-whole.result.0 + 1) c.self.inside.starts.items)
+put : (c : goal.After-drop-blocks-2) → let es = entries_in_blocks c.self.inside.first (blocks_shown c.self.inside.blocks.items) in let ys = blocks_shown c.run.inside.blocks.items in
+    IsKeptAs c.self.inside.first c.self.inside.len (joined_blocks (cut_last c.cut_at-spot.result.1 (take c.cut_at-spot.result.0 (blocks_shown c.self.inside.blocks.items))) (joined_blocks ys ((record { handle = c.index-block.result.now.handle; spans = c.in_ok-spans.spans.items }) ∷ [])) ++ drop (c.find-whole.result.0 + 1) (blocks_shown c.self.inside.blocks.items))
+    (take c.cut_at-spot.result.0 c.self.inside.starts.items ++ drop (seam (take c.cut_at-spot.result.0 (blocks_shown c.self.inside.blocks.items)) (joined_blocks ys ((record { handle = c.index-block.result.now.handle; spans = c.in_ok-spans.spans.items }) ∷ []))) (c.run.inside.starts.items ++ drop (seam ys ((record { handle = c.index-block.result.now.handle; spans = c.in_ok-spans.spans.items }) ∷ [])) ((c.self.inside.first + (c.args.at + c.run.inside.len)) ∷ [])) ++ drop (c.find-whole.result.0 + 1) c.self.inside.starts.items)
     (min c.self.inside.rewritten c.args.at + c.run.inside.rewritten + (c.self.inside.rewritten - min c.self.inside.rewritten (c.args.at + c.run.inside.len)))
     (take c.args.at es ++ entries_in_blocks c.run.inside.first ys ++ drop (c.args.at + c.run.inside.len) es)
 put c =
-    let es = entries_in_blocks c.self.inside.first (shown c.self.inside.blocks.items) in
-    let fs = entries_in_blocks c.run.inside.first (shown c.run.inside.blocks.items) in
+    let es = entries_in_blocks c.self.inside.first (blocks_shown c.self.inside.blocks.items) in
+    let fs = entries_in_blocks c.run.inside.first (blocks_shown c.run.inside.blocks.items) in
     let b = block_at c.self.inside.blocks.items c.index-block.result.now (found c.self.invariant c.find-whole.ensures (c.args.at + c.run.inside.len) refl (between_fits c.self.invariant c.run.invariant c.args.at (rw (← c.run.view_is) at c.requires.run) (rw (← c.self.view_is, ← c.run.view_is) at c.requires.behind)).1) c.index-block.ensures in
     let s : AreTableEntries (take c.args.at es ++ fs ++ drop (c.args.at + length fs) es) = rw (c.self.view_is, c.run.view_is) c.requires.table_entries in
     put_between c.self.invariant c.run.invariant c.args.at c.cut_at-spot.result.0 c.cut_at-spot.result.1 c.find-whole.result.0 c.find-whole.result.1 (c.self.inside.first + (c.args.at + c.run.inside.len)) (block_spans c.index-block.result.now) (record { handle = c.index-block.result.now.handle; spans = c.in_ok-spans.spans.items })
-    c.cut_at-spot.ensures.none (λ l. c.cut_at-spot.ensures.some (shown c.self.inside.blocks.items) l c.self.invariant.starts (let f = (between_fits c.self.invariant c.run.invariant c.args.at (rw (← c.run.view_is) at c.requires.run) (rw (← c.self.view_is, ← c.run.view_is) at c.requires.behind)) in let g = f.1 in let n = c.self.invariant.len in omega arith)) (found c.self.invariant c.find-whole.ensures (c.args.at + c.run.inside.len) refl (between_fits c.self.invariant c.run.invariant c.args.at (rw (← c.run.view_is) at c.requires.run) (rw (← c.self.view_is, ← c.run.view_is) at c.requires.behind)).1) (between_fits c.self.invariant c.run.invariant c.args.at (rw (← c.run.view_is) at c.requires.run) (rw (← c.self.view_is, ← c.run.view_is) at c.requires.behind)).0 refl b.same
+    c.cut_at-spot.ensures.none (λ l. c.cut_at-spot.ensures.some (blocks_shown c.self.inside.blocks.items) l c.self.invariant.starts (let f = (between_fits c.self.invariant c.run.invariant c.args.at (rw (← c.run.view_is) at c.requires.run) (rw (← c.self.view_is, ← c.run.view_is) at c.requires.behind)) in let g = f.1 in let n = c.self.invariant.len in omega arith)) (found c.self.invariant c.find-whole.ensures (c.args.at + c.run.inside.len) refl (between_fits c.self.invariant c.run.invariant c.args.at (rw (← c.run.view_is) at c.requires.run) (rw (← c.self.view_is, ← c.run.view_is) at c.requires.behind)).1) (between_fits c.self.invariant c.run.invariant c.args.at (rw (← c.run.view_is) at c.requires.run) (rw (← c.self.view_is, ← c.run.view_is) at c.requires.behind)).0 refl b.same
     (ap (λ (ss : List (ℕ × ℕ)). without_first_spans 0 (record { handle = c.index-block.result.now.handle; spans = ss })) c.in_ok-spans.ensures.ok)
     (subst (λ k. AreTableEntries (take c.args.at es ++ fs ++ drop (c.args.at + k) es)) (kept_facts c.run.invariant).length s)
 
@@ -85,8 +85,8 @@ invariant_of-self-2 c = rw (c.in_ok-put_blocks.ensures.blocks, c.in_ok-put_block
 
 pub returns-clause-ok : goal.returns-clause-ok
 returns-clause-ok c =
-    let es = entries_in_blocks c.self.inside.first (shown c.self.inside.blocks.items) in
-    let fs = entries_in_blocks c.run.inside.first (shown c.run.inside.blocks.items) in
+    let es = entries_in_blocks c.self.inside.first (blocks_shown c.self.inside.blocks.items) in
+    let fs = entries_in_blocks c.run.inside.first (blocks_shown c.run.inside.blocks.items) in
     rw (← c.self.view_is, ← c.run.view_is)
-    (ap (entries_in_blocks c.self.inside.first) (c.in_ok-put_blocks.ensures.blocks ∙ ap (λ ys. joined_blocks (cut_last c.cut_at-spot.result.1 (take c.cut_at-spot.result.0 (shown c.self.inside.blocks.items))) ys ++ drop (c.find-whole.result.0 + 1) (shown c.self.inside.blocks.items)) c.in_ok-push_block.ensures.blocks)
+    (ap (entries_in_blocks c.self.inside.first) (c.in_ok-put_blocks.ensures.blocks ∙ ap (λ ys. joined_blocks (cut_last c.cut_at-spot.result.1 (take c.cut_at-spot.result.0 (blocks_shown c.self.inside.blocks.items))) ys ++ drop (c.find-whole.result.0 + 1) (blocks_shown c.self.inside.blocks.items)) c.in_ok-push_block.ensures.blocks)
     ∙ (put c).entries ∙ ap (λ k. take c.args.at es ++ fs ++ drop (c.args.at + k) es) (sym (kept_facts c.run.invariant).length))

@@ -1,5 +1,5 @@
 use Rattle.std.proofs.Common.{arith, refl}
-use Rattle.raft_table.specs.Blocks.{block_spans, shown, entries_in_blocks}
+use Rattle.raft_table.specs.Blocks.{block_spans, blocks_shown, entries_in_blocks}
 use Rattle.raft_table.proofs.BlockCuts.{found, index_of, kept_facts}
 use Rattle.std.proofs.lemmas.Option.{slice_get_past}
 use Rattle.raft_table.proofs.BlockParts.{seq_at_spot}
@@ -7,7 +7,7 @@ use Rattle.raft_table.proofs.BlockQueues.{block_at, block_within}
 use Rattle.raft_table.proofs.memtable.entries.Entries.seq_at.Goals as goal
 
 pub returns-then-at-self : goal.returns-then-at-self
-returns-then-at-self c = let l = (kept_facts c.self.invariant).length in rw (← c.self.view_is, slice_get_past (entries_in_blocks c.self.inside.first (shown c.self.inside.blocks.items)) c.args.at (omega arith)) refl
+returns-then-at-self c = let l = (kept_facts c.self.invariant).length in rw (← c.self.view_is, slice_get_past (entries_in_blocks c.self.inside.first (blocks_shown c.self.inside.blocks.items)) c.args.at (omega arith)) refl
 
 pub overflow_add-self-inside : goal.overflow_add-self-inside
 overflow_add-self-inside c = let b = (kept_facts c.self.invariant).bounded (omega arith) in omega arith
@@ -24,4 +24,4 @@ returns c =
     let a = found c.self.invariant c.find-whole.ensures c.args.at refl (omega arith) in
     let b = block_at c.self.inside.blocks.items c.index.result.now a c.index.ensures in
     rw (← c.self.view_is)
-    (seq_at_spot c.self.inside.first c.args.at c.find-whole.result.0 c.find-whole.result.1 (shown c.self.inside.blocks.items) (block_spans c.index.result.now) a b.same)
+    (seq_at_spot c.self.inside.first c.args.at c.find-whole.result.0 c.find-whole.result.1 (blocks_shown c.self.inside.blocks.items) (block_spans c.index.result.now) a b.same)

@@ -1,7 +1,7 @@
 use Rattle.std.proofs.Common.{ℕ, ◌≡◌, ◌+◌, ◌≤◌, List, [], ◌++◌, length, take, drop, arith, sym, ap, subst, ◌∙◌}
 use Rattle.std.proofs.lemmas.List.{append-nil, drop_all}
 use Rattle.std.proofs.lemmas.Result.{on_ok_weaker}
-use Rattle.raft_table.specs.Blocks.{shown, entries_in_blocks}
+use Rattle.raft_table.specs.Blocks.{blocks_shown, entries_in_blocks}
 use Rattle.raft_table.specs.TableEntries.{AreTableEntries}
 use Rattle.raft_table.proofs.BlockCuts.{kept_facts}
 use Rattle.raft_table.proofs.MovesLemmas.{middle_sound}
@@ -25,12 +25,12 @@ behind at m n xs e l = drop_all (at + m) xs (omega arith)
 pub put_run-requires-clause-table_entries : goal.put_run-requires-clause-table_entries
 put_run-requires-clause-table_entries c =
     let l = (kept_facts c.self.invariant).length in
-    let e = rw c.self.view_is at (behind c.args.at (length c.args.places.now) c.self.inside.len (entries_in_blocks c.self.inside.first (shown c.self.inside.blocks.items)) l c.if-at-places.false) in
+    let e = rw c.self.view_is at (behind c.args.at (length c.args.places.now) c.self.inside.len (entries_in_blocks c.self.inside.first (blocks_shown c.self.inside.blocks.items)) l c.if-at-places.false) in
     subst (λ xs. AreTableEntries (take c.args.at c.args.self.now ++ xs)) (sym c.in_ok-run.ensures.ok)
     (subst AreTableEntries (ap (λ zs. take c.args.at c.args.self.now ++ c.args.places.now ++ zs) e ∙ append-nil (take c.args.at c.args.self.now ++ c.args.places.now)) c.requires.table_entries)
 
 pub returns-clause-ok : goal.returns-clause-ok
 returns-clause-ok c =
     let l = (kept_facts c.self.invariant).length in
-    let e = rw c.self.view_is at (behind c.args.at (length c.args.places.now) c.self.inside.len (entries_in_blocks c.self.inside.first (shown c.self.inside.blocks.items)) l c.if-at-places.false) in
+    let e = rw c.self.view_is at (behind c.args.at (length c.args.places.now) c.self.inside.len (entries_in_blocks c.self.inside.first (blocks_shown c.self.inside.blocks.items)) l c.if-at-places.false) in
     on_ok_weaker c.put_run.result (λ h. h.0 ∙ ap (λ xs. take c.args.at c.args.self.now ++ xs) c.in_ok-run.ensures.ok ∙ sym (append-nil (take c.args.at c.args.self.now ++ c.args.places.now)) ∙ ap (λ zs. take c.args.at c.args.self.now ++ c.args.places.now ++ zs) (sym e)) c.put_run.ensures.ok

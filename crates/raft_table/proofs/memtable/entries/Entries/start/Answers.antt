@@ -1,5 +1,5 @@
 use Rattle.std.proofs.Common.{◌-◌, arith}
-use Rattle.raft_table.specs.Blocks.{shown, entries_in_blocks}
+use Rattle.raft_table.specs.Blocks.{blocks_shown, entries_in_blocks}
 use Rattle.raft_table.proofs.BlockCuts.{kept_facts}
 use Rattle.raft_table.proofs.StartLemmas.{start_none, start_in_front, start_behind, start_joins}
 use Rattle.raft_table.proofs.memtable.entries.Entries.start.Goals as goal
@@ -11,16 +11,16 @@ pub returns-then-index-self-clause-meets : goal.returns-then-index-self-clause-m
 returns-then-index-self-clause-meets c =
     let l = (kept_facts c.self.invariant).length in
     let s = (kept_facts c.self.invariant).start (omega arith) in
-    rw (← c.self.view_is) (start_in_front c.args.index (entries_in_blocks c.self.inside.first (shown c.self.inside.blocks.items)) c.self.invariant.table_entries (omega arith) (omega arith))
+    rw (← c.self.view_is) (start_in_front c.args.index (entries_in_blocks c.self.inside.first (blocks_shown c.self.inside.blocks.items)) c.self.invariant.table_entries (omega arith) (omega arith))
 
 pub returns-then-below-self-clause-meets : goal.returns-then-below-self-clause-meets
 returns-then-below-self-clause-meets c =
     let l = (kept_facts c.self.invariant).length in
     let s = (kept_facts c.self.invariant).start (omega arith) in
-    rw (← c.self.view_is) (start_behind c.args.index (entries_in_blocks c.self.inside.first (shown c.self.inside.blocks.items)) c.self.invariant.table_entries (omega arith) (omega arith))
+    rw (← c.self.view_is) (start_behind c.args.index (entries_in_blocks c.self.inside.first (blocks_shown c.self.inside.blocks.items)) c.self.invariant.table_entries (omega arith) (omega arith))
 
 pub returns-clause-meets : goal.returns-clause-meets
 returns-clause-meets c =
     let l = (kept_facts c.self.invariant).length in
     let s = (kept_facts c.self.invariant).start (omega arith) in
-    rw (← c.self.view_is) (start_joins c.args.index (c.args.index - c.self.inside.first) (entries_in_blocks c.self.inside.first (shown c.self.inside.blocks.items)) c.self.invariant.table_entries (omega arith) (omega arith) (omega arith))
+    rw (← c.self.view_is) (start_joins c.args.index (c.args.index - c.self.inside.first) (entries_in_blocks c.self.inside.first (blocks_shown c.self.inside.blocks.items)) c.self.invariant.table_entries (omega arith) (omega arith) (omega arith))

@@ -1,7 +1,7 @@
 use Rattle.std.proofs.Common.{◌≡◌, take, drop, arith, refl}
 use Rattle.std.proofs.lemmas.List.{length-take-le}
 use Rattle.raft_base.specs.declared.pipe_log.LogQueue.TheVariants.{Append, Rewrite}
-use Rattle.raft_table.specs.Blocks.{shown, entries_in_blocks}
+use Rattle.raft_table.specs.Blocks.{blocks_shown, entries_in_blocks}
 use Rattle.raft_table.specs.TableEntries.{below, from}
 use Rattle.raft_table.proofs.PlaceLemmas.{each_queue, entry_count-cut}
 use Rattle.raft_table.proofs.KeptUnderLemmas.{few_behind}
@@ -26,14 +26,14 @@ delete-requires c = rw c.count_behind-rewritten.ensures.rewritten (few_behind Re
 pub delete-requires-2 : goal.delete-requires-2
 delete-requires-2 c = omega (arith, c.count_behind-rewritten.ensures.appended, few_behind Append c.min-keep.result c.args.self.now c.args.stats.now c.requires, c.delete.ensures.live Append)
 
-cut : (c : goal.After-delete-2) → c.keep_front.new.self ≡ take c.min-keep.result (entries_in_blocks c.self.inside.first (shown c.self.inside.blocks.items))
+cut : (c : goal.After-delete-2) → c.keep_front.new.self ≡ take c.min-keep.result (entries_in_blocks c.self.inside.first (blocks_shown c.self.inside.blocks.items))
 cut c = rw (c.self.view_is) c.keep_front.ensures
 
 pub returns-clause-entries : goal.returns-clause-entries
 returns-clause-entries c =
     let l = (kept_facts c.self.invariant).length in
     let s = (kept_facts c.self.invariant).start (omega arith) in
-    rw (← c.self.view_is, cut c) (front_below c.args.index c.self.inside.first c.min-keep.result (entries_in_blocks c.self.inside.first (shown c.self.inside.blocks.items)) c.self.invariant.table_entries s (omega arith))
+    rw (← c.self.view_is, cut c) (front_below c.args.index c.self.inside.first c.min-keep.result (entries_in_blocks c.self.inside.first (blocks_shown c.self.inside.blocks.items)) c.self.invariant.table_entries s (omega arith))
 
 pub returns-clause-recounted : goal.returns-clause-recounted
 returns-clause-recounted c =
@@ -49,11 +49,11 @@ returns-then-self-eq0-clause-counts c = none_above c.args.stats.now c.args.index
 pub returns-clause-dropped : goal.returns-clause-dropped
 returns-clause-dropped c =
     let l = (kept_facts c.self.invariant).length in
-    rw (← c.self.view_is, cut c, length-take-le c.min-keep.result (entries_in_blocks c.self.inside.first (shown c.self.inside.blocks.items)) (omega arith)) (omega arith)
+    rw (← c.self.view_is, cut c, length-take-le c.min-keep.result (entries_in_blocks c.self.inside.first (blocks_shown c.self.inside.blocks.items)) (omega arith)) (omega arith)
 
 pub returns-clause-counts : goal.returns-clause-counts
 returns-clause-counts c =
-    let es = entries_in_blocks c.self.inside.first (shown c.self.inside.blocks.items) in
+    let es = entries_in_blocks c.self.inside.first (blocks_shown c.self.inside.blocks.items) in
     let l = (kept_facts c.self.invariant).length in
     let s = (kept_facts c.self.invariant).start (omega arith) in
     let d : drop c.min-keep.result es ≡ from c.args.index es = behind_from c.args.index c.self.inside.first c.min-keep.result es c.self.invariant.table_entries s (omega arith) in

@@ -1,6 +1,6 @@
 use Rattle.std.proofs.Common.{ℕ, suc, ◌≡◌, ◌+◌, ◌-◌, take, drop, arith}
 use Rattle.std.proofs.lemmas.List.{length-drop, length-take}
-use Rattle.raft_table.specs.Blocks.{block_spans, shown, entries_in_blocks}
+use Rattle.raft_table.specs.Blocks.{block_spans, blocks_shown, entries_in_blocks}
 use Rattle.raft_table.proofs.BlockLemmas.{length-expanded}
 use Rattle.raft_table.proofs.BlockQueues.{block_at}
 use Rattle.raft_table.proofs.BlockSearch.{entry_of}
@@ -20,7 +20,7 @@ next-spot-requires-clause-inside c =
 
 pub returns-then-total-gt0 : goal.returns-then-total-gt0
 returns-then-total-gt0 c j =
-    let bs = shown c.args.blocks.now.items in
+    let bs = blocks_shown c.args.blocks.now.items in
     let es = entries_in_blocks j bs in
     let xs = drop c.args.start (take c.args.end es) in
     let n = c.loop-i.i - c.args.start in
@@ -35,7 +35,7 @@ returns-then-total-gt0 c j =
 
 pub loop-i-preserved : goal.loop-i-preserved
 loop-i-preserved c =
-    let bs = shown c.args.blocks.now.items in
+    let bs = blocks_shown c.args.blocks.now.items in
     let n = c.loop-i.i - c.args.start in
     let i = c.loop-i.auto.i in
     let w = c.requires.within in
@@ -52,7 +52,7 @@ loop-i-preserved c =
 
 pub returns : goal.returns
 returns c j =
-    let bs = shown c.args.blocks.now.items in
+    let bs = blocks_shown c.args.blocks.now.items in
     let es = entries_in_blocks j bs in
     let i = c.loop-i.auto.i-end c.requires.order in
     let e : c.loop-i.i ≡ c.args.end = let f = c.loop-i-test.false in omega arith in

@@ -1,6 +1,6 @@
 use Rattle.std.proofs.Common.{◌+◌, ◌++◌, map, take, drop, arith, sym, ap, ◌∙◌}
 use Rattle.std.proofs.lemmas.List.{append_assoc, map-append}
-use Rattle.raft_table.specs.Blocks.{block_spans, shown, spread, entries_in_blocks}
+use Rattle.raft_table.specs.Blocks.{block_spans, blocks_shown, entries_of_block, entries_in_blocks}
 use Rattle.raft_table.specs.BlockWords.{unset}
 use Rattle.raft_table.proofs.BlockQueues.{block_at}
 use Rattle.raft_table.proofs.WalkLemmas.{IsStep, walk_step, walk_more}
@@ -16,11 +16,11 @@ push_unset_of-requires-clause-within c =
     let b = block_at c.args.blocks.now.items c.index-block.result.now (c.loop-done.invariant.2 c.loop-done-test.true) c.index-block.ensures in
     let w = b.inside in omega (arith, c.index-block.result.now.spans.ok)
 
-step : (c : goal.After-push_unset_of) → IsStep c.loop-done.done c.loop-done.whole c.loop-done.at c.min-count.result c.args.end (shown c.args.blocks.now.items) (block_spans c.index-block.result.now)
+step : (c : goal.After-push_unset_of) → IsStep c.loop-done.done c.loop-done.whole c.loop-done.at c.min-count.result c.args.end (blocks_shown c.args.blocks.now.items) (block_spans c.index-block.result.now)
 step c =
     let a = c.loop-done.invariant.2 c.loop-done-test.true in
     let b = block_at c.args.blocks.now.items c.index-block.result.now a c.index-block.ensures in
-    walk_step c.loop-done.done c.loop-done.whole c.loop-done.at c.min-count.result c.args.end c.len.result (shown c.args.blocks.now.items) (block_spans c.index-block.result.now) a c.requires.distinct b.same
+    walk_step c.loop-done.done c.loop-done.whole c.loop-done.at c.min-count.result c.args.end c.len.result (blocks_shown c.args.blocks.now.items) (block_spans c.index-block.result.now) a c.requires.distinct b.same
     (omega (arith, c.index-block.result.now.spans.ok)) c.min-count.ensures c.loop-done-test.true c.requires.within
 
 pub loop-done-smaller : goal.loop-done-smaller
@@ -33,11 +33,11 @@ loop-done-preserved c =
     let order = s.order in
     let a = c.loop-done.invariant.2 c.loop-done-test.true in
     let b = block_at c.args.blocks.now.items c.index-block.result.now a c.index-block.ensures in
-    let bs = shown c.args.blocks.now.items in
+    let bs = blocks_shown c.args.blocks.now.items in
     let low = c.loop-done.invariant.0 in
     let w = c.requires.within in
     let xs = drop c.args.start (take c.loop-done.done (entries_in_blocks c.args.first bs)) in
-    let ys = spread (c.args.first + c.loop-done.done) c.index-block.result.now.handle (take c.min-count.result (drop c.loop-done.at c.index-block.result.now.spans.items)) in (
+    let ys = entries_of_block (c.args.first + c.loop-done.done) c.index-block.result.now.handle (take c.min-count.result (drop c.loop-done.at c.index-block.result.now.spans.items)) in (
       omega arith,
       order,
       s.next,

@@ -63,7 +63,7 @@ there a m k o t is v e = get-shown a m k is ∙ sym v ∙ ap option_copied_mut e
 pub absent : (a : Inside) (m : Tables) (k : ℕ) (o : Option (MutBor Table)) → tables_shown a ≡ m → option_copied_mut o ≡ lookup (nat_eq k) a.tables.entries → o ≡ None → finite.get m k ≡ None
 absent a m k o is v e = get-shown a m k is ∙ sym v ∙ ap option_copied_mut e
 
--- the table of a region, or an empty one in its place, has the region's number
+-- the table of a region, or an empty one in its place, has the region's id
 pub region-in : (a : Inside) (m : Tables) (k : ℕ) → AreTablesKept a → tables_shown a ≡ m → (table_in m k).region_id ≡ k
 region-in a m k kept is = elim (finite.get m k) as (λ o. finite.get m k ≡ o → (table_of k o).region_id ≡ k) [ None ↦ λ e. refl | Some t ↦ λ e. kept k t (sym (get-shown a m k is) ∙ e) ] refl
 

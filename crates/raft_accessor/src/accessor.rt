@@ -194,7 +194,7 @@ impl MemTableAccessor {
         self.slots[slot_of(id)].apply_rewrite_atomic_group(id, first_seq, last_seq, &mut self.stats)
     }
 
-    /// Puts a table under its region's number and counts its records. The table that stood there is
+    /// Puts a table under its region's id and counts its records. The table that stood there is
     /// taken off the counts and handed back.
     ///
     /// # Errors
@@ -226,7 +226,7 @@ impl MemTableAccessor {
     /// `Memory`, where the region is to be listed. The accessor is then as it was.
     pub fn remove(&mut self, id: u64, record_tombstone: bool) -> Result<Option<MemTable>>
         ensures tables { OnOk result (self.new.tables ≡ finite.remove self.old.tables id) }
-        ensures taken { IfOk result (λ t. t ≡ finite.get self.old.tables id) }
+        ensures removed { IfOk result (λ t. t ≡ finite.get self.old.tables id) }
         ensures counts { OnOk result
             (self.new.counts ≡ with_table_deleted (table_in self.old.tables id) self.old.counts) }
         ensures cleaned { OnOk result (self.new.cleaned
@@ -356,7 +356,7 @@ impl MemTableAccessor {
     /// Takes a region's table away, and its records off the counts.
     pub fn take(&mut self, id: u64) -> Option<MemTable>
         ensures tables { self.new.tables ≡ finite.remove self.old.tables id }
-        ensures taken { result ≡ finite.get self.old.tables id }
+        ensures removed { result ≡ finite.get self.old.tables id }
         ensures own { IfSome result (λ t. t.region_id ≡ id) }
         ensures counts { self.new.counts ≡ with_table_deleted (table_in self.old.tables id)
             self.old.counts }

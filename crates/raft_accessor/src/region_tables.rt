@@ -148,8 +148,8 @@ impl RegionTables {
     /// `Memory`. The tables are then as they were.
     pub fn make(&mut self, id: u64, stats: &mut GlobalStats) -> Result<()>
         requires { IsCounted (table_in self.old id) stats.old }
-        ensures taken { BecomesOutcome (Some (table_in self.old id)) (λ e. ⊥) self.old id stats.old
-            result self.new stats.new }
+        ensures outcome { BecomesOutcome (Some (table_in self.old id)) (λ e. ⊥) self.old id
+            stats.old result self.new stats.new }
         ensures counts { stats.new ≡ stats.old }
     {
         self.update(id, stats, |_: &mut MemTable, _: &mut GlobalStats| Ok(()))
@@ -163,7 +163,7 @@ impl RegionTables {
     /// Those of [`MemTable::change`], and `Memory`. The tables are then as they were.
     pub fn change(&mut self, id: u64, change: TableChange, stats: &mut GlobalStats) -> Result<u64>
         requires { IsCounted (table_in self.old id) stats.old }
-        ensures taken { BecomesOutcome (after_change (table_in self.old id) change)
+        ensures outcome { BecomesOutcome (after_change (table_in self.old id) change)
             (IsChangeFault (table_in self.old id) stats.old change) self.old id stats.old result
             self.new stats.new }
         ensures answer { IfOk result (IsAnswer change (table_in self.old id)
@@ -190,8 +190,8 @@ impl RegionTables {
     ) -> Option<u64>
         requires run { IsRunIn queue run.now }
         requires counted { IsCounted (table_in self.old id) stats.old }
-        ensures taken { BecomesOutcome (after_replay queue (table_in self.old id) run.now) (λ e. ⊥)
-            self.old id stats.old (ok_or result Error.Memory) self.new stats.new }
+        ensures outcome { BecomesOutcome (after_replay queue (table_in self.old id) run.now)
+            (λ e. ⊥) self.old id stats.old (ok_or result Error.Memory) self.new stats.new }
         ensures accepted { OnSome result (live_of (other queue) (table_in self.old id) ≡ 0) }
         ensures counts { OnSome result
             (stats.new ≡ counts_with_run queue (table_in self.old id).entries run.now stats.old) }
@@ -221,7 +221,7 @@ impl RegionTables {
     ) -> Result<()>
         requires seqs { first_seq ≤ last_seq }
         requires counted { IsCounted (table_in self.old id) stats.old }
-        ensures taken { BecomesOutcome
+        ensures outcome { BecomesOutcome
             (Some (record (table_in self.old id) { atomic_group = Some (first_seq, last_seq) }))
             (λ e. ⊥) self.old id stats.old result self.new stats.new }
         ensures counts { stats.new ≡ stats.old }
@@ -236,7 +236,7 @@ impl RegionTables {
         )
     }
 
-    /// Puts a table under its region's number and counts its records. The table that stood there is
+    /// Puts a table under its region's id and counts its records. The table that stood there is
     /// taken off the counts and handed back.
     ///
     /// # Errors
@@ -279,7 +279,7 @@ impl RegionTables {
     /// Takes a region's table away, and its records off the counts.
     pub fn remove(&mut self, id: u64, stats: &mut GlobalStats) -> Option<MemTable>
         requires { IsCounted (table_in self.old id) stats.old }
-        ensures taken { result ≡ finite.get self.old id }
+        ensures removed { result ≡ finite.get self.old id }
         ensures own { IfSome result (λ t. t.region_id ≡ id) }
         ensures after { self.new ≡ finite.remove self.old id }
         ensures counts { stats.new ≡ with_table_deleted (table_in self.old id) stats.old }

@@ -47,7 +47,7 @@ fn time_files<R: Files + AllocGlobal + Clock>(
     rt: &R,
     asked: RecoverWords<'_>,
 ) -> Result<Option<Timed>> {
-    let files = read_files(rt, asked.files.as_slice())?;
+    let files = read_files(rt, asked.paths.as_slice())?;
     let segments = file_segments(asked.queue, asked.version, files)?;
     let segments = equal_shares(rt.alloc(), segments.as_slice(), CONTEXTS, 1)?;
     let mut least = Timed {

@@ -43,7 +43,7 @@ fn time_files<R: Threads + Files + AllocGlobal + Clock + Sync>(
     asked: RecoverWords<'_>,
 ) -> Result<Timed> {
     let (queue, workers) = (asked.queue, asked.workers);
-    let files = read_files(rt, asked.files.as_slice())?;
+    let files = read_files(rt, asked.paths.as_slice())?;
     let segments = file_segments(queue, asked.version, files)?;
     let mut runs = [0; RUNS];
     let mut regions = 0;

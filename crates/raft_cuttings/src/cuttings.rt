@@ -72,7 +72,7 @@ fn of_files<R: Threads + Files + AllocGlobal + Sync>(
     asked: RecoverWords<'_>,
 ) -> Result<Found> {
     let queue = asked.queue;
-    let files = read_files(rt, asked.files.as_slice())?;
+    let files = read_files(rt, asked.paths.as_slice())?;
     let segments = file_segments(queue, asked.version, files)?;
     let batches = batches_of(rt.alloc(), segments)?;
     if batches.len() > MOST_PARTS {

@@ -11,7 +11,7 @@ use Rattle.raft_table.specs.Steps.{after}
 use Rattle.raft_table.specs.Table.{Table}
 use Rattle.raft_table.proofs.MarkLaws.{stands_alone}
 use Rattle.raft_history.specs.Batches.{BatchSteps, Event, batches}
-use Rattle.raft_history.specs.Contexts.{IsBounded, FileRange, files_of, Suits, joined_files, follows, Context, Holds, AreExact, StandsIn, StandsFor, IsExactFor, AreMerged, AreRegionsRefused, merged_regions, merged_with, merged_context}
+use Rattle.raft_history.specs.Contexts.{IsBounded, FileRange, files_of, Suits, joined_files, follows, Context, RegionStandsFor, AreExact, StandsIn, StandsFor, IsExactFor, AreMerged, AreRegionsRefused, merged_regions, merged_with, merged_context}
 use Rattle.raft_history.specs.Effects.{EachApart, effects, steps_of}
 use Rattle.raft_history.specs.Histories.{FilesFrom, Sound, cleaned_in}
 use Rattle.raft_history.proofs.Words.{records_in_history, all_steps}
@@ -66,7 +66,7 @@ exact_reading q rs bs ex r = stands_alone q r (region_in rs r).mark (region_in r
 -- without a batch the queue doesn't matter
 blank_exact : (q p : LogQueue) (rs : MarkedRegions) → AreExact q rs [] → AreExact p rs []
 blank_exact q p rs ex = record {
-  each = λ r. subst (Holds p r (region_in rs r)) (sym (no_steps r)) (holds_none p r (region_in rs r) (ap (λ m. unwrap_or m fresh) (unmarked r)) (untabled r));
+  each = λ r. subst (RegionStandsFor p r (region_in rs r)) (sym (no_steps r)) (holds_none p r (region_in rs r) (ap (λ m. unwrap_or m fresh) (unmarked r)) (untabled r));
   marked = ex.marked;
 }
   where

@@ -12,7 +12,7 @@ use Rattle.raft_history.specs.Effects.{Effect, completed_by, effects_behind, who
 use Rattle.raft_history.proofs.Words.{region_steps_of, all_steps, are_middles}
 use Rattle.raft_history.specs.WaitingGroups.{steps_of_wholes, IsListed, ListsGroups}
 use Rattle.raft_history.specs.RegionSteps.{RegionStep, names}
-use Rattle.raft_history.specs.WaitingGroup.{GroupFront, Open, Ended, Cut, led_by, front_by, front_of, OpenStretch, stretch_of, group_of, WholeGroup, whole_of, whole_group}
+use Rattle.raft_history.specs.WaitingGroup.{GroupFront, Open, Ended, Begun, led_by, front_by, front_of, OpenStretch, stretch_of, group_of, WholeGroup, whole_of, whole_group}
 use Rattle.raft_history.proofs.EffectLemmas.{each_weaker, each-append, each_left, each_right, numbered_from-append, from_on, up_to, effects_behind-append, effects_behind-one, effects_behind-none, all_steps-append, all_steps-one, all_steps-none, steps_in-none, all_steps-unnamed, within, apart_left, apart_last, unnamed_between, by_push, each_markers, each_open}
 use Rattle.raft_history.proofs.MarkerLemmas.{markers_of-append, open_stretch-append, middles_open_none, front_with, front_of-append, FitsFront, fits_front, with_more, whole_is}
 use Rattle.raft_table.specs.Steps.{Step}
@@ -130,7 +130,7 @@ whole_not_end : (s : Option OpenStretch) (f h : GroupFront) → ((x : OpenStretc
 whole_not_end None f h none led = refl
 whole_not_end (Some x) (Open js) h none led = led x js
 whole_not_end (Some x) (Ended js k) h none led = refl
-whole_not_end (Some x) Cut h none led = refl
+whole_not_end (Some x) Begun h none led = refl
 
 -- one group alone could change, and doesn't
 kept : (r : ℕ) (olds news : List Numbered) (n : ℕ) (is : List RegionStep) (m : GroupMarker) (f : ℕ) →
@@ -211,7 +211,7 @@ grows_end r ids olds news n is k f = go (front_of (markers_of k news)) refl (fit
       steps = rw (open_across k olds news false (open_stretch (markers_of k olds)) h refl) refl;
       given = all_same r ids olds news (news ++ placed n is (Some record { group = k; status = End }) f ∷ []) (kept r olds news n is record { group = k; status = End } f (rw e refl));
     }
-    go Cut e h = inl record {
+    go Begun e h = inl record {
       steps = rw (open_across k olds news false (open_stretch (markers_of k olds)) h refl) refl;
       given = all_same r ids olds news (news ++ placed n is (Some record { group = k; status = End }) f ∷ []) (kept r olds news n is record { group = k; status = End } f (rw e refl));
     }
@@ -225,7 +225,7 @@ grows r ids olds news n is (Some m) f = go m.group m.status
     go k Begin = inl record {
       steps = refl;
       given = all_same r ids olds news (news ++ placed n is (Some record { group = k; status = Begin }) f ∷ []) (kept r olds news n is record { group = k; status = Begin } f
-          (ap (steps_or r) (whole_not_end (stretch_of (open_stretch (markers_of k olds))) (front_of (markers_of k news)) Cut (λ x. refl) (λ x js. refl))));
+          (ap (steps_or r) (whole_not_end (stretch_of (open_stretch (markers_of k olds))) (front_of (markers_of k news)) Begun (λ x. refl) (λ x js. refl))));
     }
     go k Middle = inl record {
       steps = refl;

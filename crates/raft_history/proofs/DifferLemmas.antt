@@ -10,7 +10,7 @@ use Rattle.raft_history.specs.Effects.{Effect, effects, region_steps_in, first_i
 use Rattle.raft_history.proofs.Words.{region_steps_of}
 use Rattle.raft_history.specs.RegionSteps.{RegionStep, names}
 use Rattle.raft_history.specs.Stretches.{IsIn, IsMarkerOf}
-use Rattle.raft_history.specs.WaitingGroup.{GroupFront, Open, Ended, Cut, front_of, front_by, front_behind, led_by, stretch_of, WholeGroup, whole_group, whole_of, group_in}
+use Rattle.raft_history.specs.WaitingGroup.{GroupFront, Open, Ended, Begun, front_of, front_by, front_behind, led_by, stretch_of, WholeGroup, whole_group, whole_of, group_in}
 use Rattle.raft_history.proofs.EffectLemmas.{each-append, each_weaker, each_right, each_markers, numbered_from-append, from_on, up_to}
 use Rattle.raft_history.proofs.MarkerLemmas.{markers_of-append, whole_is}
 use Rattle.raft_history.proofs.ShiftLemmas.{group_of-placed}
@@ -40,7 +40,7 @@ ended_is g (p ∷ ps) is f h e = go p.batch.marker refl h.0 e (ended_is g ps)
   where
     led : (js : List RegionStep) (t : GroupFront) → led_by js t ≡ Ended is f → front_of ps ≡ t → IsMarkerOf g Middle p → js ≡ p.batch.steps → ((ks : List RegionStep) (l : ℕ) → AllByRecursion (HasMarker g) ps → front_of ps ≡ Ended ks l → IsEnded g ps ks l) → IsEnded g (p ∷ ps) is f
     led js (Open ks) e t m k ih = cc
-    led js Cut e t m k ih = cc
+    led js Begun e t m k ih = cc
     led js (Ended ks l) e t m k ih = record {
       middles = p ∷ x.middles;
       end = x.end;
@@ -115,7 +115,7 @@ across h k g w e = go (open_stretch (markers_of g (numbered_from 0 h))) refl (fr
     go : (o : List Numbered) → open_stretch (markers_of g (numbered_from 0 h)) ≡ o → (t : GroupFront) → front_of (markers_of g (numbered_from (0 + length h) k)) ≡ t → whole_of (stretch_of o) t ≡ Some w → IsAcross h k g w
     go [] o t f e = cc
     go (q ∷ qs) o (Open is) f e = cc
-    go (q ∷ qs) o Cut f e = cc
+    go (q ∷ qs) o Begun f e = cc
     go (q ∷ qs) o (Ended is l) f e = made q qs is l e (open_is g (markers_of g (numbered_from 0 h)) q qs (each_marked g (numbered_from 0 h)) o) (ended_is g (markers_of g (numbered_from (0 + length h) k)) is l (each_marked g (numbered_from (0 + length h) k)) f)
 
 -- any two of a list

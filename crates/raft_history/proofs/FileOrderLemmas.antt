@@ -6,7 +6,6 @@ use Rattle.raft_base.specs.declared.pipe_log.FileId.{FileId}
 use Rattle.raft_base.specs.declared.pipe_log.LogQueue.{LogQueue}
 use Rattle.raft_base.specs.declared.pipe_log.LogQueue.TheVariants.{Append, Rewrite}
 use Rattle.raft_base.specs.declared.entry_index.EntryIndex.{EntryIndex}
-use Rattle.raft_base.specs.Runs.{end_of}
 use Rattle.raft_records.specs.DecodedIn.{IsPlaceInFile}
 use Rattle.raft_table.specs.Queues.{is_same}
 use Rattle.raft_table.specs.Start.{entries_after_replay, leaves_hole}

@@ -14,7 +14,7 @@ use Rattle.std.specs.FinMap.Entries.{find, below_all, is_sorted}
 use Rattle.raft_history.specs.Batches.{GroupMarker, BatchSteps}
 use Rattle.raft_history.specs.Effects.{steps_of, EachApart, effects, numbered_from, is_of, markers_of, open_stretch}
 use Rattle.raft_history.specs.WaitingGroup.{without_marker, front_of, WaitingGroup, whole_group, group_in}
-use Rattle.raft_history.specs.WaitingGroups.{entry_by, groups_in, known, whole_with, whole_groups, wholes, steps_of_wholes, ListsGroups, IsListed}
+use Rattle.raft_history.specs.WaitingGroups.{entry_by, groups_in, known_of, whole_with, whole_groups, wholes, steps_of_wholes, ListsGroups, IsListed}
 use Rattle.raft_history.proofs.EffectLemmas.{each_weaker}
 use Rattle.raft_history.proofs.JoinedLemmas.{joined_steps}
 use Rattle.raft_table.proofs.Shown.{first_of_both, second_of_both}
@@ -55,7 +55,7 @@ pub group_in-without_marker : (g : ℕ) (h : List BatchSteps) → has_marker g h
 unfolding open_stretch front_of
 group_in-without_marker g h e = rw (no_markers g 0 h e) refl
 
-pub known-groups_in : (g : ℕ) (h : List BatchSteps) → known (groups_in h) g ≡ group_in g h
+pub known-groups_in : (g : ℕ) (h : List BatchSteps) → known_of (groups_in h) g ≡ group_in g h
 known-groups_in g h = ap (λ o. unwrap_or o without_marker) (get-groups_in g h) ∙ go (has_marker g h) refl
   where
     go : (t : Bool) → has_marker g h ≡ t → unwrap_or (cond t (Some (group_in g h)) None) without_marker ≡ group_in g h

@@ -8,7 +8,7 @@ use Rattle.raft_history.specs.Batches.{GroupMarker}
 use Rattle.raft_history.specs.RegionSteps.{RegionStep}
 use Rattle.raft_history.proofs.Words.{region_steps_of, are_middles}
 use Rattle.raft_history.specs.Effects.{has_status, Numbered, is_of, markers_of, is_same_status, open_stretch}
-use Rattle.raft_history.specs.WaitingGroup.{GroupFront, Open, Ended, Cut, led_by, front_by, front_behind, front_of, stretch_of, WaitingGroup, group_at, group_of, carried_stretch, joined_group_by, joined_group, whole_of, whole_group_by}
+use Rattle.raft_history.specs.WaitingGroup.{GroupFront, Open, Ended, Begun, led_by, front_by, front_behind, front_of, stretch_of, WaitingGroup, group_at, group_of, carried_stretch, joined_group_by, joined_group, whole_of, whole_group_by}
 
 pub markers_of-append : (g : ℕ) (ps qs : List Numbered) → markers_of g (ps ++ qs) ≡ markers_of g ps ++ markers_of g qs
 unfolding markers_of
@@ -60,13 +60,13 @@ open_stretch-append (p ∷ ps) qs = rw (are_middles-append ps qs) (go (has_statu
 pub led_by-led_by : (is js : List RegionStep) (f : GroupFront) → led_by is (led_by js f) ≡ led_by (is ++ js) f
 led_by-led_by is js (Open ks) = ap Open (sym (append_assoc is js ks))
 led_by-led_by is js (Ended ks f) = ap (λ l. Ended l f) (sym (append_assoc is js ks))
-led_by-led_by is js Cut = refl
+led_by-led_by is js Begun = refl
 
 -- a front with what is behind it
 abbrev pub front_with : GroupFront → GroupFront → GroupFront
 front_with (Open is) g = led_by is g
 front_with (Ended is f) g = Ended is f
-front_with Cut g = Cut
+front_with Begun g = Begun
 
 pub front_of-append : (ps qs : List Numbered) → front_of (ps ++ qs) ≡ front_with (front_of ps) (front_of qs)
 unfolding front_of
@@ -75,13 +75,13 @@ front_of-append [] qs = sym (led_none (front_of qs))
     led_none : (f : GroupFront) → led_by [] f ≡ f
     led_none (Open is) = refl
     led_none (Ended is f) = refl
-    led_none Cut = refl
+    led_none Begun = refl
 front_of-append (p ∷ ps) qs = go p.batch.marker (front_of-append ps qs)
   where
     led_with : (is : List RegionStep) (f g : GroupFront) → led_by is (front_with f g) ≡ front_with (led_by is f) g
     led_with is (Open js) g = led_by-led_by is js g
     led_with is (Ended js f) g = refl
-    led_with is Cut g = refl
+    led_with is Begun g = refl
 
     go : (m : Option GroupMarker) → front_of (ps ++ qs) ≡ front_with (front_of ps) (front_of qs) → front_behind m p.batch.steps p.batch.seq (front_of (ps ++ qs)) ≡ front_with (front_behind m p.batch.steps p.batch.seq (front_of ps)) (front_of qs)
     go None ih = refl
@@ -96,7 +96,7 @@ front_of-append (p ∷ ps) qs = go p.batch.marker (front_of-append ps qs)
 abbrev pub FitsFront : GroupFront → List Numbered → Type 0
 FitsFront (Open is) ps = (are_middles ps ≡ true) × (is ≡ region_steps_of ps)
 FitsFront (Ended is f) ps = are_middles ps ≡ false
-FitsFront Cut ps = are_middles ps ≡ false
+FitsFront Begun ps = are_middles ps ≡ false
 
 pub fits_front : (ps : List Numbered) → FitsFront (front_of ps) ps
 unfolding front_of
@@ -111,7 +111,7 @@ fits_front (p ∷ ps) = go p.batch.marker refl (front_of ps) (fits_front ps)
         at Begin is f h = rw is refl
         at Middle is (Open js) h = (rw is h.0, ap (λ l. p.batch.steps ++ l) h.1)
         at Middle is (Ended js k) h = rw is h
-        at Middle is Cut h = rw is h
+        at Middle is Begun h = rw is h
         at End is f h = rw is refl
 
 stretch_with : (ps qs : List Numbered) → stretch_of (with_more ps qs) ≡ carried_stretch (stretch_of ps) (region_steps_of qs)
@@ -131,16 +131,16 @@ group_at-append ps qs = rw (front_of-append, open_stretch-append) (go (front_of 
     go (Open is) g false e h k = refl
     go (Ended is f) (Open js) true e h k = ap (λ s. record { front = Ended is f; stretch = s }) (stretch_with (open_stretch ps) qs ∙ ap (carried_stretch (stretch_of (open_stretch ps))) (sym k.1))
     go (Ended is f) (Open js) false e h k = cc
-    go Cut (Open js) true e h k = ap (λ s. record { front = Cut; stretch = s }) (stretch_with (open_stretch ps) qs ∙ ap (carried_stretch (stretch_of (open_stretch ps))) (sym k.1))
-    go Cut (Open js) false e h k = cc
+    go Begun (Open js) true e h k = ap (λ s. record { front = Begun; stretch = s }) (stretch_with (open_stretch ps) qs ∙ ap (carried_stretch (stretch_of (open_stretch ps))) (sym k.1))
+    go Begun (Open js) false e h k = cc
     go (Ended is f) (Ended js l) true e h k = cc
     go (Ended is f) (Ended js l) false e h k = refl
-    go (Ended is f) Cut true e h k = cc
-    go (Ended is f) Cut false e h k = refl
-    go Cut (Ended js l) true e h k = cc
-    go Cut (Ended js l) false e h k = refl
-    go Cut Cut true e h k = cc
-    go Cut Cut false e h k = refl
+    go (Ended is f) Begun true e h k = cc
+    go (Ended is f) Begun false e h k = refl
+    go Begun (Ended js l) true e h k = cc
+    go Begun (Ended js l) false e h k = refl
+    go Begun Begun true e h k = cc
+    go Begun Begun false e h k = refl
 
 pub group_of-append : (g : ℕ) (ps qs : List Numbered) → group_of g (ps ++ qs) ≡ joined_group (group_of g ps) (group_of g qs)
 group_of-append g ps qs = rw markers_of-append (group_at-append (markers_of g ps) (markers_of g qs))
@@ -152,4 +152,4 @@ whole_is ps f = go (front_of ps) (fits_front ps)
     go : (t : GroupFront) → FitsFront t ps → whole_group_by t (stretch_of (open_stretch ps)) f ≡ whole_of (stretch_of (open_stretch ps)) f
     go (Open is) h = rw (middles_open_none ps h.0) refl
     go (Ended is k) h = refl
-    go Cut h = refl
+    go Begun h = refl

@@ -12,13 +12,13 @@ use Rattle.raft_table.specs.Steps.{Step, Run, Compact, Truncate, Put, Del, Atomi
 use Rattle.raft_table.specs.Table.{Table}
 use Rattle.raft_table.proofs.MarkLaws.{refused_join}
 use Rattle.raft_history.specs.Batches.{GroupMarker, BatchSteps, Event, batch_of, batches}
-use Rattle.raft_history.specs.Contexts.{Context, Holds, AreExact, AreMerged, AreRegionsRefused, region_steps_or, completed_steps}
+use Rattle.raft_history.specs.Contexts.{Context, RegionStandsFor, AreExact, AreMerged, AreRegionsRefused, region_steps_or, completed_steps}
 use Rattle.raft_history.specs.Effects.{EachApart, effects, steps_of, is_named}
 use Rattle.raft_history.proofs.Words.{AreInFiles}
 use Rattle.raft_history.specs.MarkedRegions.{MarkedRegions, MarkedRegion, region_in, with_region, regions_after, region_steps_of_wholes, joined_marked}
 use Rattle.raft_history.specs.RegionSteps.{RegionStep, names, steps_on}
 use Rattle.raft_history.specs.WaitingGroup.{WholeGroup, whole_group, one_marker}
-use Rattle.raft_history.specs.WaitingGroups.{WaitingGroups, groups_in, known, whole_groups, steps_by_batch, steps_or, names_by_batch, steps_of_wholes}
+use Rattle.raft_history.specs.WaitingGroups.{WaitingGroups, groups_in, known_of, whole_groups, steps_by_batch, steps_or, names_by_batch, steps_of_wholes}
 use Rattle.raft_history.proofs.KnownLemmas.{steps_across}
 use Rattle.raft_history.proofs.MoreLemmas.{steps-one}
 use Rattle.raft_history.proofs.NamedLemmas.{has_steps, has_steps-own, has_steps-wholes, named_across, named-one, by_batch}
@@ -30,11 +30,11 @@ use Rattle.raft_history.proofs.WithoutMarkers.{named-steps}
 some_is : {X : Type 0} {x y : X} → Some x ≡ Some y → x ≡ y
 some_is e = cc
 
-holds_marked : (q : LogQueue) (r : ℕ) (x y : MarkedRegion) (o : Option Mark) (t : Option Table) (ss rs : List Step) → AreSteps ss → AreSteps rs → Holds q r x ss → Holds q r record { mark = unwrap_or o fresh; table = t } rs → (o ≡ None → rs ≡ []) → joined_marked q r o t x ≡ Some y → Holds q r y (ss ++ rs)
-holds_marked q r x y None t ss rs good good' h k none e = subst (λ l. Holds q r y (ss ++ l)) (sym (none refl)) (subst (λ l. Holds q r y l) (sym (append-nil ss)) (subst (λ x. Holds q r x ss) (some_is e) h))
+holds_marked : (q : LogQueue) (r : ℕ) (x y : MarkedRegion) (o : Option Mark) (t : Option Table) (ss rs : List Step) → AreSteps ss → AreSteps rs → RegionStandsFor q r x ss → RegionStandsFor q r record { mark = unwrap_or o fresh; table = t } rs → (o ≡ None → rs ≡ []) → joined_marked q r o t x ≡ Some y → RegionStandsFor q r y (ss ++ rs)
+holds_marked q r x y None t ss rs good good' h k none e = subst (λ l. RegionStandsFor q r y (ss ++ l)) (sym (none refl)) (subst (λ l. RegionStandsFor q r y l) (sym (append-nil ss)) (subst (λ x. RegionStandsFor q r x ss) (some_is e) h))
 holds_marked q r x y (Some m) t ss rs good good' h k none e = holds_joined q r x record { mark = m; table = t } y ss rs good good' h k e
 
-refused_marked : (q : LogQueue) (r : ℕ) (x : MarkedRegion) (o : Option Mark) (t : Option Table) (ss rs : List Step) → Holds q r x ss → Holds q r record { mark = unwrap_or o fresh; table = t } rs → joined_marked q r o t x ≡ None → after q r None (ss ++ rs) ≡ None
+refused_marked : (q : LogQueue) (r : ℕ) (x : MarkedRegion) (o : Option Mark) (t : Option Table) (ss rs : List Step) → RegionStandsFor q r x ss → RegionStandsFor q r record { mark = unwrap_or o fresh; table = t } rs → joined_marked q r o t x ≡ None → after q r None (ss ++ rs) ≡ None
 refused_marked q r x None t ss rs h k e = absurd cc
 refused_marked q r x (Some m) t ss rs h k e = go (table_over_older q r m t x.table) refl e
   where
@@ -71,7 +71,7 @@ across q c d h k p r = ap (steps_of r) (batches-append h k) ∙ steps_across r (
 wholes_good : (q : LogQueue) (c d : Context) (h k : List Event) → Parts q c d h k → (r : ℕ) → AreSteps (steps_on r (region_steps_of_wholes (whole_groups c.groups d.groups)))
 wholes_good q c d h k p r = steps_left _ _ (steps_right (steps_of r (batches h)) _ (subst AreSteps (across q c d h k p r) (steps_good r (h ++ k) p.both_files)))
 
-middle_holds : (q : LogQueue) (c d : Context) (h k : List Event) (mid : MarkedRegions) → Parts q c d h k → regions_after q c.regions (region_steps_of_wholes (whole_groups c.groups d.groups)) ≡ Some mid → (r : ℕ) → Holds q r (region_in mid r) (steps_of r (batches h) ++ steps_on r (region_steps_of_wholes (whole_groups c.groups d.groups)))
+middle_holds : (q : LogQueue) (c d : Context) (h k : List Event) (mid : MarkedRegions) → Parts q c d h k → regions_after q c.regions (region_steps_of_wholes (whole_groups c.groups d.groups)) ≡ Some mid → (r : ℕ) → RegionStandsFor q r (region_in mid r) (steps_of r (batches h) ++ steps_on r (region_steps_of_wholes (whole_groups c.groups d.groups)))
 middle_holds q c d h k mid p e r = read_holds q c.regions mid (region_steps_of_wholes (whole_groups c.groups d.groups)) (λ r. steps_of r (batches h)) (λ r. steps_good r h p.older_files) (wholes_good q c d h k p) p.older.each e r
 
 pub regions_merged : (q : LogQueue) (c d : Context) (h k : List Event) (new : MarkedRegions) → Parts q c d h k → AreMerged q c d new → AreExact q new (batches (h ++ k))
@@ -80,8 +80,8 @@ regions_merged q c d h k new p m = record { each = each; marked = marked }
     W : ℕ → List Step
     W r = steps_on r (region_steps_of_wholes (whole_groups c.groups d.groups))
 
-    each : (r : ℕ) → Holds q r (region_in new r) (steps_of r (batches (h ++ k)))
-    each r = subst (Holds q r (region_in new r)) (append_assoc (steps_of r (batches h)) (W r) (steps_of r (batches k)) ∙ sym (across q c d h k p r))
+    each : (r : ℕ) → RegionStandsFor q r (region_in new r) (steps_of r (batches (h ++ k)))
+    each r = subst (RegionStandsFor q r (region_in new r)) (append_assoc (steps_of r (batches h)) (W r) (steps_of r (batches k)) ∙ sym (across q c d h k p r))
         (holds_marked q r (region_in m.middle r) (region_in new r) (finite.get d.regions.marks r) (finite.get d.regions.tables r) (steps_of r (batches h) ++ W r) (steps_of r (batches k))
         (steps-append (steps_of r (batches h)) (W r) (steps_good r h p.older_files) (wholes_good q c d h k p r)) (steps_good r k p.newer_files)
         (middle_holds q c d h k m.middle p m.wholes r) (p.newer.each r) (unnamed q d.regions (batches k) p.newer r) (m.regions r))
@@ -108,7 +108,7 @@ regions_refused q c d h k p (inr f) = let r = f.2.0 in (
 
 own-completed : (r : ℕ) (g : WaitingGroups) (b : BatchSteps) (m : Option GroupMarker) → steps_on r (completed_steps g b m) ≡ steps_by_batch r g b m
 own-completed r g b None = refl
-own-completed r g b (Some m) = go (whole_group (known g m.group) (one_marker m.status b.steps b.seq))
+own-completed r g b (Some m) = go (whole_group (known_of g m.group) (one_marker m.status b.steps b.seq))
   where
     go : (o : Option WholeGroup) → steps_on r (region_steps_or o) ≡ steps_or r o
     go None = own_none r
@@ -128,7 +128,7 @@ taken_good g h e r is files = steps_right (steps_of r (batches h)) _ (subst AreS
 
 pub regions_taken : (q : LogQueue) (c : Context) (h : List Event) (e : Event) (new : MarkedRegions) → c.groups ≡ groups_in (batches h) → AreInFiles h → AreInFiles (h ++ e ∷ []) → AreExact q c.regions (batches h) → regions_after q c.regions (steps_taken c.groups e) ≡ Some new → AreExact q new (batches (h ++ e ∷ []))
 regions_taken q c h e new is files files' ex m = record {
-  each = λ r. subst (Holds q r (region_in new r)) (sym (one_more c.groups h e r is)) (read_holds q c.regions new (steps_taken c.groups e) (λ r. steps_of r (batches h)) (λ r. steps_good r h files) (λ r. taken_good c.groups h e r is files') ex.each m r);
+  each = λ r. subst (RegionStandsFor q r (region_in new r)) (sym (one_more c.groups h e r is)) (read_holds q c.regions new (steps_taken c.groups e) (λ r. steps_of r (batches h)) (λ r. steps_good r h files) (λ r. taken_good c.groups h e r is files') ex.each m r);
   marked = λ r. read_marked q c.regions new (steps_taken c.groups e) m r ∙ ap (λ b. b || names r (steps_taken c.groups e)) (ex.marked r)
       ∙ ap (λ b. is_named r (batches h) || b) (sym (has_steps-own r (steps_taken c.groups e)) ∙ ap has_steps (own-completed r c.groups (batch_of e) (batch_of e).marker) ∙ by_batch r c.groups (batch_of e) (batch_of e).marker ∙ ap (λ g. names_by_batch r g (batch_of e) (batch_of e).marker) is)
       ∙ sym (named-one r (batches h) (batch_of e)) ∙ ap (is_named r) (sym (batches-one h e));

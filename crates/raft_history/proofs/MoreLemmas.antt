@@ -16,8 +16,8 @@ use Rattle.raft_history.specs.Batches.{GroupMarker, BatchSteps}
 use Rattle.raft_history.specs.Effects.{completed_as, completed_by, effects_behind, effects, steps_of, Numbered, numbered_from, is_of, markers_of, open_stretch}
 use Rattle.raft_history.proofs.Words.{all_steps}
 use Rattle.raft_history.specs.RegionSteps.{RegionStep}
-use Rattle.raft_history.specs.WaitingGroup.{without_marker, front_of, Open, Cut, WaitingGroup, joined_group, whole_group, whole_of, OpenStretch, stretch_of, one_marker, group_of, group_in}
-use Rattle.raft_history.specs.WaitingGroups.{WaitingGroups, groups_in, known, joined_with, joined_groups, groups_after, steps_or, steps_by_batch}
+use Rattle.raft_history.specs.WaitingGroup.{without_marker, front_of, Open, Begun, WaitingGroup, joined_group, whole_group, whole_of, OpenStretch, stretch_of, one_marker, group_of, group_in}
+use Rattle.raft_history.specs.WaitingGroups.{WaitingGroups, groups_in, known_of, joined_with, joined_groups, groups_after, steps_or, steps_by_batch}
 use Rattle.raft_history.proofs.EffectLemmas.{effects_behind-one, all_steps-append, all_steps-one, all_steps-none}
 use Rattle.raft_history.proofs.JoinedLemmas.{group_in-append, effects-append}
 use Rattle.raft_history.proofs.KnownLemmas.{has_marker, get-groups_in, group_in-without_marker, known-groups_in, keys_distinct, tied}
@@ -35,10 +35,10 @@ find_none q k (x ∷ es) e a = rw (tied q x.0, subst (λ z. eqb z x.0 ≡ false)
 pub get-joined_with : (older : WaitingGroups) (es : List (ℕ × WaitingGroup)) (q : ℕ) → IsDistinct eqb (map (λ e. e.0) es) → finite.get (joined_with older es) q ≡ joined_at (finite.get older q) (find nat_cmp q es)
 unfolding IsDistinct
 get-joined_with older [] q one = refl
-get-joined_with older (e ∷ es) q one = get-joined_with (finite.insert older e.0 (joined_group (known older e.0) e.1)) es q one.1 ∙ rw (finite.get-insert nat_cmp_total older e.0 (joined_group (known older e.0) e.1) q, tied q e.0) (go (eqb q e.0) refl)
+get-joined_with older (e ∷ es) q one = get-joined_with (finite.insert older e.0 (joined_group (known_of older e.0) e.1)) es q one.1 ∙ rw (finite.get-insert nat_cmp_total older e.0 (joined_group (known_of older e.0) e.1) q, tied q e.0) (go (eqb q e.0) refl)
   where
-    go : (t : Bool) → eqb q e.0 ≡ t → joined_at (cond t (Some (joined_group (known older e.0) e.1)) (finite.get older q)) (find nat_cmp q es) ≡ joined_at (finite.get older q) (cond t (Some e.1) (find nat_cmp q es))
-    go true t = rw (find_none q e.0 es t one.0) (ap (λ x. Some (joined_group (known older x) e.1)) (sym (eqb-true q e.0 t)))
+    go : (t : Bool) → eqb q e.0 ≡ t → joined_at (cond t (Some (joined_group (known_of older e.0) e.1)) (finite.get older q)) (find nat_cmp q es) ≡ joined_at (finite.get older q) (cond t (Some e.1) (find nat_cmp q es))
+    go true t = rw (find_none q e.0 es t one.0) (ap (λ x. Some (joined_group (known_of older x) e.1)) (sym (eqb-true q e.0 t)))
     go false t = refl
 
 has_marker-append : (g : ℕ) (h k : List BatchSteps) → has_marker g (h ++ k) ≡ (has_marker g h || has_marker g k)
@@ -72,7 +72,7 @@ groups_in-append h k = same_map nat_cmp_total nat_cmp-IsAntisymmetric (groups_in
 
 group_in-one : (g : ℕ) (is : List RegionStep) (s : AtomicGroupStatus) (f : ℕ) → group_in g (record { steps = is; marker = Some record { group = g; status = s }; seq = f } ∷ []) ≡ one_marker s is f
 unfolding markers_of open_stretch front_of
-group_in-one g is Begin f = rw (eq-eqb g g refl) (ap (λ l. record { front = Cut; stretch = Some record { first_seq = f; steps = l } }) (append-nil is))
+group_in-one g is Begin f = rw (eq-eqb g g refl) (ap (λ l. record { front = Begun; stretch = Some record { first_seq = f; steps = l } }) (append-nil is))
 group_in-one g is Middle f = rw (eq-eqb g g refl) (ap (λ l. record { front = Open l; stretch = None }) (append-nil is))
 group_in-one g is End f = rw (eq-eqb g g refl) refl
 

@@ -6,7 +6,7 @@ use Rattle.raft_history.specs.Batches.{BatchSteps, GroupMarker}
 use Rattle.raft_history.specs.Effects.{whole_steps, steps_of, EachApart, effects, is_named}
 use Rattle.raft_history.specs.RegionSteps.{RegionStep, names, steps_on}
 use Rattle.raft_history.specs.WaitingGroup.{WholeGroup, whole_group, one_marker}
-use Rattle.raft_history.specs.WaitingGroups.{WaitingGroups, groups_in, known, whole_groups, steps_or, steps_by_batch, names_by, names_by_batch, steps_of_wholes}
+use Rattle.raft_history.specs.WaitingGroups.{WaitingGroups, groups_in, known_of, whole_groups, steps_or, steps_by_batch, names_by, names_by_batch, steps_of_wholes}
 use Rattle.raft_history.proofs.EffectLemmas.{steps_on-none}
 use Rattle.raft_history.proofs.KnownLemmas.{steps_across}
 use Rattle.raft_history.proofs.MoreLemmas.{steps-one}
@@ -65,7 +65,7 @@ named_across r h k apart =
 
 pub by_batch : (r : ℕ) (groups : WaitingGroups) (b : BatchSteps) (m : Option GroupMarker) → has_steps (steps_by_batch r groups b m) ≡ names_by_batch r groups b m
 by_batch r groups b None = has_steps-own r b.steps
-by_batch r groups b (Some m) = go (whole_group (known groups m.group) (one_marker m.status b.steps b.seq))
+by_batch r groups b (Some m) = go (whole_group (known_of groups m.group) (one_marker m.status b.steps b.seq))
   where
     go : (o : Option WholeGroup) → has_steps (steps_or r o) ≡ names_by r o
     go None = refl

@@ -6,7 +6,7 @@ use Rattle.std.specs.Ordering.{nat_cmp}
 use Rattle.std.specs.FinMap as finite
 use Rattle.raft_base.specs.declared.pipe_log.LogQueue.{LogQueue}
 use Rattle.raft_table.specs.MarkJoins.{fresh}
-use Rattle.raft_history.specs.Contexts.{new_context, Holds, AreExact, IsExactFor}
+use Rattle.raft_history.specs.Contexts.{new_context, RegionStandsFor, AreExact, IsExactFor}
 use Rattle.raft_history.specs.Histories.{records_in}
 use Rattle.raft_history.specs.MarkedRegions.{no_regions, region_in}
 use Rattle.raft_history.specs.Records.{total_of, total, table_records, all_records, waiting_records}
@@ -33,7 +33,7 @@ none_held = omega (arith, total-empty table_records, total-empty (λ (g : Waitin
 
 blank : (q : LogQueue) → AreExact q no_regions []
 blank q = record {
-  each = λ r. subst (Holds q r (region_in no_regions r)) (sym (no_steps r)) (holds_none q r (region_in no_regions r) (ap (λ m. unwrap_or m fresh) (finite.get-empty nat_cmp r)) (finite.get-empty nat_cmp r));
+  each = λ r. subst (RegionStandsFor q r (region_in no_regions r)) (sym (no_steps r)) (holds_none q r (region_in no_regions r) (ap (λ m. unwrap_or m fresh) (finite.get-empty nat_cmp r)) (finite.get-empty nat_cmp r));
   marked = λ r. ap is_some (finite.get-empty nat_cmp r) ∙ sym ((named-steps r []).1 (no_steps r));
 }
 

@@ -13,8 +13,8 @@ use Rattle.raft_history.specs.Histories.{IsInFile, AreInFile, FilesFrom, IsPairI
 use Rattle.raft_history.specs.Effects.{Numbered, numbered_from, markers_of, open_stretch}
 use Rattle.raft_history.specs.MarkedRegions.{named_regions, on_each, region_steps_of_whole, region_steps_of_wholes}
 use Rattle.raft_history.specs.RegionSteps.{RegionStep, pair_step, content_step, steps_of_items}
-use Rattle.raft_history.specs.WaitingGroup.{GroupFront, Open, Ended, Cut, led_by, front_by, front_behind, front_of, OpenStretch, stretch_of, WaitingGroup, WholeGroup, whole_of, whole_group_by, whole_group, group_in}
-use Rattle.raft_history.specs.WaitingGroups.{groups_in, known, whole_with, whole_groups, front_steps, stretch_steps}
+use Rattle.raft_history.specs.WaitingGroup.{GroupFront, Open, Ended, Begun, led_by, front_by, front_behind, front_of, OpenStretch, stretch_of, WaitingGroup, WholeGroup, whole_of, whole_group_by, whole_group, group_in}
+use Rattle.raft_history.specs.WaitingGroups.{groups_in, known_of, whole_with, whole_groups, front_steps, stretch_steps}
 use Rattle.raft_history.proofs.EffectLemmas.{each-append, each_markers, each_open, each_weaker}
 use Rattle.raft_history.proofs.KnownLemmas.{known-groups_in, each_known}
 use Rattle.raft_history.proofs.ReadRunLemmas.{read_run}
@@ -49,7 +49,7 @@ front_are q (p ∷ ps) h = go p.batch.marker (front_are q ps h.1)
     led : (f : GroupFront) → Are q (front_steps f) → Are q (front_steps (led_by p.batch.steps f))
     led (Open js) k = are-append q p.batch.steps js h.0 k
     led (Ended js n) k = are-append q p.batch.steps js h.0 k
-    led Cut k = tt
+    led Begun k = tt
 
     by : (s : AtomicGroupStatus) → Are q (front_steps (front_of ps)) → Are q (front_steps (front_by s p.batch.steps p.batch.seq (front_of ps)))
     by Begin k = tt
@@ -78,12 +78,12 @@ whole_are q a b h k = go a.front a.stretch b.front h.1 k.0
     of None g a b = tt
     of (Some s) (Open is) a b = tt
     of (Some s) (Ended is f) a b = are-append q s.steps is a b
-    of (Some s) Cut a b = tt
+    of (Some s) Begun a b = tt
 
     go : (f : GroupFront) (s : Option OpenStretch) (g : GroupFront) → Are q (stretch_steps s) → Are q (front_steps g) → OrAre q (whole_group_by f s g)
     go (Open is) s g a b = tt
     go (Ended is x) s g a b = of s g a b
-    go Cut s g a b = of s g a b
+    go Begun s g a b = of s g a b
 
 spans_are : (q : LogQueue) (rs : List ℕ) (first_seq last_seq : ℕ) → Are q (on_each rs (AtomicGroup first_seq last_seq))
 spans_are q [] s e = tt
@@ -124,7 +124,7 @@ placed_are : (q : LogQueue) (n m : ℕ) (h : List Event) → FilesFrom q n h →
 placed_are q n m [] f a = tt
 placed_are q n m (e ∷ h) f a = (items_in_queue q e.file e.items f.0 a.0, placed_are q e.file.seq (suc m) h f.2 a.1)
 
-pub known_holds : (q : LogQueue) (g : ℕ) (h : List Event) → FilesFrom q 0 h → AreInFiles h → Holds q (known (groups_in (batches h)) g)
+pub known_holds : (q : LogQueue) (g : ℕ) (h : List Event) → FilesFrom q 0 h → AreInFiles h → Holds q (known_of (groups_in (batches h)) g)
 known_holds q g h f a = subst (Holds q) (sym (known-groups_in g (batches h))) (group_holds q g (batches h) (placed_are q 0 0 h f a))
 
 pub whole_in_queue : (q : LogQueue) (w : WholeGroup) → Are q w.steps → Are q (region_steps_of_whole w)
@@ -139,4 +139,4 @@ wholes_in_queue q h k f a g b = all (finite.entries (groups_in (batches k))) (ea
 
     all : (es : List (ℕ × WaitingGroup)) → AllByRecursion (λ (e : ℕ × WaitingGroup). Holds q e.1) es → Are q (region_steps_of_wholes (whole_with (groups_in (batches h)) es))
     all [] x = tt
-    all (e ∷ es) x = one (whole_group (known (groups_in (batches h)) e.0) e.1) (whole_with (groups_in (batches h)) es) (whole_are q (known (groups_in (batches h)) e.0) e.1 (known_holds q e.0 h f a) x.0) (all es x.1)
+    all (e ∷ es) x = one (whole_group (known_of (groups_in (batches h)) e.0) e.1) (whole_with (groups_in (batches h)) es) (whole_are q (known_of (groups_in (batches h)) e.0) e.1 (known_holds q e.0 h f a) x.0) (all es x.1)

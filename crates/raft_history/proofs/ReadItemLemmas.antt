@@ -4,7 +4,7 @@ use Rattle.raft_base.specs.declared.pipe_log.FileId.{FileId}
 use Rattle.raft_records.specs.declared.key_value.OpType.{OpType}
 use Rattle.raft_records.specs.declared.key_value.OpType.TheVariants.{Put, Del}
 use Rattle.raft_records.specs.Item.{Item, Content, entries, command, pair}
-use Rattle.raft_records.specs.DecodedIn.{IsPlaceInFile, IsDecodedIn, AreDecodedIn}
+use Rattle.raft_records.specs.DecodedIn.{IsDecodedIn, AreDecodedIn}
 use Rattle.raft_records.specs.Spelling.{IsWritableWith}
 use Rattle.raft_history.specs.Histories.{IsPairIn, IsInFile, AreInFile}
 

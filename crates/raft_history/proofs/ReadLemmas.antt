@@ -12,7 +12,7 @@ use Rattle.raft_table.specs.Table.{Table}
 use Rattle.raft_table.proofs.MarkLaws.{after-append, stands_fresh, stands_one, stands_join, refused_step}
 use Rattle.raft_table.proofs.MarkTables.{one_step, joined_parts}
 use Rattle.raft_table.proofs.MarkExact.{union_empty, holds_one, exact_one, holds_join, exact_join}
-use Rattle.raft_history.specs.Contexts.{Holds}
+use Rattle.raft_history.specs.Contexts.{RegionStandsFor}
 use Rattle.raft_history.specs.Effects.{whole_steps}
 use Rattle.raft_history.specs.WaitingGroups.{steps_of_wholes}
 use Rattle.raft_history.specs.MarkedRegions.{MarkedRegions, MarkedRegion, region_in, with_region, stepped_region, regions_after, named_regions, on_each, region_steps_of_whole, region_steps_of_wholes, joined_region}
@@ -49,11 +49,11 @@ own-wholes r (w ∷ ws) = own-append r (region_steps_of_whole w) (region_steps_o
 
 -- ---- one region
 
-holds_one_step : (q : LogQueue) (r : ℕ) (s : Step) → IsStep s → Holds q r record { mark = mark_of s; table = own_of r s } (s ∷ [])
+holds_one_step : (q : LogQueue) (r : ℕ) (s : Step) → IsStep s → RegionStandsFor q r record { mark = mark_of s; table = own_of r s } (s ∷ [])
 holds_one_step q r s good = record { stands = stands_one q r s good; deleted = holds_one s; exact = λ e. exact_one s }
 
-pub holds_none : (q : LogQueue) (r : ℕ) (x : MarkedRegion) → x.mark ≡ fresh → x.table ≡ None → Holds q r x []
-holds_none q r x m t = subst (λ x. Holds q r x []) (sym (ap (λ m. record { mark = m; table = x.table }) m ∙ ap (λ t. record { mark = fresh; table = t }) t)) record {
+pub holds_none : (q : LogQueue) (r : ℕ) (x : MarkedRegion) → x.mark ≡ fresh → x.table ≡ None → RegionStandsFor q r x []
+holds_none q r x m t = subst (λ x. RegionStandsFor q r x []) (sym (ap (λ m. record { mark = m; table = x.table }) m ∙ ap (λ t. record { mark = fresh; table = t }) t)) record {
   stands = stands_fresh q r;
   deleted = none;
   exact = λ e. record { holds = none; greatest = λ e. refl; least = λ e. refl };
@@ -62,35 +62,35 @@ holds_none q r x m t = subst (λ x. Holds q r x []) (sym (ap (λ m. record { mar
     none : HoldsDeleted fresh []
     none = record { cleaned = refl; deleted = λ e d. sym (union_empty d); none_deleted = λ e. refl }
 
-pub holds_joined : (q : LogQueue) (r : ℕ) (x n y : MarkedRegion) (ss rs : List Step) → AreSteps ss → AreSteps rs → Holds q r x ss → Holds q r n rs → joined_region q r x n ≡ Some y → Holds q r y (ss ++ rs)
+pub holds_joined : (q : LogQueue) (r : ℕ) (x n y : MarkedRegion) (ss rs : List Step) → AreSteps ss → AreSteps rs → RegionStandsFor q r x ss → RegionStandsFor q r n rs → joined_region q r x n ≡ Some y → RegionStandsFor q r y (ss ++ rs)
 holds_joined q r x n y ss rs good good' h k e = go (table_over_older q r n.mark n.table x.table) refl e
   where
-    go : (o : Option (Option Table)) → table_over_older q r n.mark n.table x.table ≡ o → option_map (λ t. record { mark = joined_mark q r x.mark x.table n.mark; table = t }) o ≡ Some y → Holds q r y (ss ++ rs)
+    go : (o : Option (Option Table)) → table_over_older q r n.mark n.table x.table ≡ o → option_map (λ t. record { mark = joined_mark q r x.mark x.table n.mark; table = t }) o ≡ Some y → RegionStandsFor q r y (ss ++ rs)
     go None is e = absurd cc
-    go (Some w) is e = subst (λ y. Holds q r y (ss ++ rs)) (some_is e) record {
+    go (Some w) is e = subst (λ y. RegionStandsFor q r y (ss ++ rs)) (some_is e) record {
       stands = stands_join q r x.mark n.mark x.table n.table w ss rs good good' h.stands k.stands is;
       deleted = (let p = joined_parts q (end_at_reach n.mark (table_of r x.table)) x.mark n.mark (table_of r x.table).entries h.stands.fits in holds_join x.mark n.mark (joined_mark q r x.mark x.table n.mark) ss rs h.deleted k.deleted p.0 p.1);
       exact = λ a. subst (λ q. IsExactMark (joined_mark q r x.mark x.table n.mark) (ss ++ rs)) (sym a) (exact_join (end_at_reach n.mark (table_of r x.table)) x.mark n.mark (table_of r x.table).entries ss rs h.stands.fits (h.exact a) (k.exact a));
     }
 
-pub holds_stepped : (q : LogQueue) (r : ℕ) (x y : MarkedRegion) (ss : List Step) (s : Step) → AreSteps ss → IsStep s → Holds q r x ss → stepped_region q r x s ≡ Some y → Holds q r y (ss ++ s ∷ [])
+pub holds_stepped : (q : LogQueue) (r : ℕ) (x y : MarkedRegion) (ss : List Step) (s : Step) → AreSteps ss → IsStep s → RegionStandsFor q r x ss → stepped_region q r x s ≡ Some y → RegionStandsFor q r y (ss ++ s ∷ [])
 holds_stepped q r x y ss s good good' h e =
     holds_joined q r x record { mark = mark_of s; table = own_of r s } y ss (s ∷ []) good (good', tt) h (holds_one_step q r s good')
     (ap (option_map (λ t. record { mark = joined_mark q r x.mark x.table (mark_of s); table = t })) (one_step q r s x.table) ∙ e)
 
 -- ---- all regions
 
-held_step : (q : LogQueue) (rs : MarkedRegions) (i : RegionStep) (x : MarkedRegion) (ss : ℕ → List Step) → ((r : ℕ) → AreSteps (ss r)) → IsStep i.step → ((r : ℕ) → Holds q r (region_in rs r) (ss r)) → stepped_region q i.region (region_in rs i.region) i.step ≡ Some x
-    → (r : ℕ) → Holds q r (region_in (with_region rs i.region x) r) (ss r ++ steps_on r (i ∷ []))
+held_step : (q : LogQueue) (rs : MarkedRegions) (i : RegionStep) (x : MarkedRegion) (ss : ℕ → List Step) → ((r : ℕ) → AreSteps (ss r)) → IsStep i.step → ((r : ℕ) → RegionStandsFor q r (region_in rs r) (ss r)) → stepped_region q i.region (region_in rs i.region) i.step ≡ Some x
+    → (r : ℕ) → RegionStandsFor q r (region_in (with_region rs i.region x) r) (ss r ++ steps_on r (i ∷ []))
 held_step q rs i x ss good good' h e r = go (by_region r i.region)
   where
-    own : Holds q i.region (region_in (with_region rs i.region x) i.region) (ss i.region ++ steps_on i.region (i ∷ []))
-    own = subst (λ l. Holds q i.region (region_in (with_region rs i.region x) i.region) (ss i.region ++ l)) (sym (own_first i))
-        (subst (λ y. Holds q i.region y (ss i.region ++ i.step ∷ [])) (sym (held_own rs i.region x)) (holds_stepped q i.region (region_in rs i.region) x (ss i.region) i.step (good i.region) good' (h i.region) e))
+    own : RegionStandsFor q i.region (region_in (with_region rs i.region x) i.region) (ss i.region ++ steps_on i.region (i ∷ []))
+    own = subst (λ l. RegionStandsFor q i.region (region_in (with_region rs i.region x) i.region) (ss i.region ++ l)) (sym (own_first i))
+        (subst (λ y. RegionStandsFor q i.region y (ss i.region ++ i.step ∷ [])) (sym (held_own rs i.region x)) (holds_stepped q i.region (region_in rs i.region) x (ss i.region) i.step (good i.region) good' (h i.region) e))
 
-    go : (r ≡ i.region) ⊎ IsOther r i.region → Holds q r (region_in (with_region rs i.region x) r) (ss r ++ steps_on r (i ∷ []))
-    go (inl p) = subst (λ r. Holds q r (region_in (with_region rs i.region x) r) (ss r ++ steps_on r (i ∷ []))) (sym p) own
-    go (inr f) = subst (λ l. Holds q r (region_in (with_region rs i.region x) r) l) (sym (ap (λ l. ss r ++ l) (own_nothing r i f.0) ∙ append-nil (ss r))) (subst (λ y. Holds q r y (ss r)) (sym (held_other rs i.region r x f.1)) (h r))
+    go : (r ≡ i.region) ⊎ IsOther r i.region → RegionStandsFor q r (region_in (with_region rs i.region x) r) (ss r ++ steps_on r (i ∷ []))
+    go (inl p) = subst (λ r. RegionStandsFor q r (region_in (with_region rs i.region x) r) (ss r ++ steps_on r (i ∷ []))) (sym p) own
+    go (inr f) = subst (λ l. RegionStandsFor q r (region_in (with_region rs i.region x) r) l) (sym (ap (λ l. ss r ++ l) (own_nothing r i f.0) ∙ append-nil (ss r))) (subst (λ y. RegionStandsFor q r y (ss r)) (sym (held_other rs i.region r x f.1)) (h r))
 
 own_split : (r : ℕ) (ss : List Step) (i : RegionStep) (is : List RegionStep) → (ss ++ steps_on r (i ∷ [])) ++ steps_on r is ≡ ss ++ steps_on r (i ∷ is)
 own_split r ss i is = append_assoc ss (steps_on r (i ∷ [])) (steps_on r is) ∙ ap (λ l. ss ++ l) (sym (own-append r (i ∷ []) is))
@@ -101,20 +101,20 @@ first_good i is good = (subst AreSteps (own_head i is) (good i.region)).0
 rest_good : (r : ℕ) (i : RegionStep) (is : List RegionStep) → AreSteps (steps_on r (i ∷ is)) → AreSteps (steps_on r (i ∷ [])) × AreSteps (steps_on r is)
 rest_good r i is good = let g = subst AreSteps (own-append r (i ∷ []) is) good in (steps_left _ _ g, steps_right _ _ g)
 
-pub read_holds : (q : LogQueue) (rs new : MarkedRegions) (is : List RegionStep) (ss : ℕ → List Step) → ((r : ℕ) → AreSteps (ss r)) → ((r : ℕ) → AreSteps (steps_on r is)) → ((r : ℕ) → Holds q r (region_in rs r) (ss r)) → regions_after q rs is ≡ Some new → (r : ℕ) → Holds q r (region_in new r) (ss r ++ steps_on r is)
-read_holds q rs new [] ss good good' h e r = subst (λ l. Holds q r (region_in new r) l) (sym (ap (λ l. ss r ++ l) (own_none r) ∙ append-nil (ss r))) (subst (λ (n : MarkedRegions). Holds q r (region_in n r) (ss r)) (some_is e) (h r))
+pub read_holds : (q : LogQueue) (rs new : MarkedRegions) (is : List RegionStep) (ss : ℕ → List Step) → ((r : ℕ) → AreSteps (ss r)) → ((r : ℕ) → AreSteps (steps_on r is)) → ((r : ℕ) → RegionStandsFor q r (region_in rs r) (ss r)) → regions_after q rs is ≡ Some new → (r : ℕ) → RegionStandsFor q r (region_in new r) (ss r ++ steps_on r is)
+read_holds q rs new [] ss good good' h e r = subst (λ l. RegionStandsFor q r (region_in new r) l) (sym (ap (λ l. ss r ++ l) (own_none r) ∙ append-nil (ss r))) (subst (λ (n : MarkedRegions). RegionStandsFor q r (region_in n r) (ss r)) (some_is e) (h r))
 read_holds q rs new (i ∷ is) ss good good' h e r = go (stepped_region q i.region (region_in rs i.region) i.step) refl e (λ x k e. read_holds q (with_region rs i.region x) new is (λ r. ss r ++ steps_on r (i ∷ [])) (λ r. steps-append (ss r) _ (good r) (rest_good r i is (good' r)).0) (λ r. (rest_good r i is (good' r)).1) k e r)
   where
     go : (o : Option MarkedRegion) → stepped_region q i.region (region_in rs i.region) i.step ≡ o → option_and_then (λ x. regions_after q (with_region rs i.region x) is) o ≡ Some new
-        → ((x : MarkedRegion) → ((r : ℕ) → Holds q r (region_in (with_region rs i.region x) r) (ss r ++ steps_on r (i ∷ []))) → regions_after q (with_region rs i.region x) is ≡ Some new → Holds q r (region_in new r) ((ss r ++ steps_on r (i ∷ [])) ++ steps_on r is))
-        → Holds q r (region_in new r) (ss r ++ steps_on r (i ∷ is))
+        → ((x : MarkedRegion) → ((r : ℕ) → RegionStandsFor q r (region_in (with_region rs i.region x) r) (ss r ++ steps_on r (i ∷ []))) → regions_after q (with_region rs i.region x) is ≡ Some new → RegionStandsFor q r (region_in new r) ((ss r ++ steps_on r (i ∷ [])) ++ steps_on r is))
+        → RegionStandsFor q r (region_in new r) (ss r ++ steps_on r (i ∷ is))
     go None k e ih = absurd cc
-    go (Some x) k e ih = subst (Holds q r (region_in new r)) (own_split r (ss r) i is) (ih x (held_step q rs i x ss good (first_good i is good') h k) e)
+    go (Some x) k e ih = subst (RegionStandsFor q r (region_in new r)) (own_split r (ss r) i is) (ih x (held_step q rs i x ss good (first_good i is good') h k) e)
 
 pub refused_more : (q : LogQueue) (r : ℕ) (ss rs : List Step) → after q r None ss ≡ None → after q r None (ss ++ rs) ≡ None
 refused_more q r ss rs e = after-append q r None ss rs ∙ ap (option_and_then (λ u. after q r u rs)) e
 
-pub read_refused : (q : LogQueue) (rs : MarkedRegions) (is : List RegionStep) (ss : ℕ → List Step) → ((r : ℕ) → AreSteps (ss r)) → ((r : ℕ) → AreSteps (steps_on r is)) → ((r : ℕ) → Holds q r (region_in rs r) (ss r)) → regions_after q rs is ≡ None → (r : ℕ) × (after q r None (ss r ++ steps_on r is) ≡ None)
+pub read_refused : (q : LogQueue) (rs : MarkedRegions) (is : List RegionStep) (ss : ℕ → List Step) → ((r : ℕ) → AreSteps (ss r)) → ((r : ℕ) → AreSteps (steps_on r is)) → ((r : ℕ) → RegionStandsFor q r (region_in rs r) (ss r)) → regions_after q rs is ≡ None → (r : ℕ) × (after q r None (ss r ++ steps_on r is) ≡ None)
 read_refused q rs [] ss good good' h e = absurd cc
 read_refused q rs (i ∷ is) ss good good' h e = go (after_step q (table_of i.region (region_in rs i.region).table) i.step) refl e (λ x k e. read_refused q (with_region rs i.region x) is (λ r. ss r ++ steps_on r (i ∷ [])) (λ r. steps-append (ss r) _ (good r) (rest_good r i is (good' r)).0) (λ r. (rest_good r i is (good' r)).1) k e)
   where
@@ -122,7 +122,7 @@ read_refused q rs (i ∷ is) ss good good' h e = go (after_step q (table_of i.re
     put t = record { mark = joined_mark q i.region (region_in rs i.region).mark (region_in rs i.region).table (mark_of i.step); table = t }
 
     go : (o : Option (Option Table)) → after_step q (table_of i.region (region_in rs i.region).table) i.step ≡ o → option_and_then (λ x. regions_after q (with_region rs i.region x) is) (option_map put o) ≡ None
-        → ((x : MarkedRegion) → ((r : ℕ) → Holds q r (region_in (with_region rs i.region x) r) (ss r ++ steps_on r (i ∷ []))) → regions_after q (with_region rs i.region x) is ≡ None → (r : ℕ) × (after q r None ((ss r ++ steps_on r (i ∷ [])) ++ steps_on r is) ≡ None))
+        → ((x : MarkedRegion) → ((r : ℕ) → RegionStandsFor q r (region_in (with_region rs i.region x) r) (ss r ++ steps_on r (i ∷ []))) → regions_after q (with_region rs i.region x) is ≡ None → (r : ℕ) × (after q r None ((ss r ++ steps_on r (i ∷ [])) ++ steps_on r is) ≡ None))
         → (r : ℕ) × (after q r None (ss r ++ steps_on r (i ∷ is)) ≡ None)
     go None k e ih = (
       i.region,

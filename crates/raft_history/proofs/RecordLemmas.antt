@@ -15,7 +15,6 @@ use Rattle.std.proofs.lemmas.List.{length-append}
 use Rattle.raft_base.specs.declared.pipe_log.LogQueue.{LogQueue}
 use Rattle.raft_base.specs.declared.pipe_log.LogQueue.TheVariants.{Append, Rewrite}
 use Rattle.raft_base.specs.declared.entry_index.EntryIndex.{EntryIndex}
-use Rattle.raft_base.specs.Runs.{end_of}
 use Rattle.raft_table.specs.TableEntries.{below, from}
 use Rattle.raft_table.specs.KeySets.{KeySet, without}
 use Rattle.raft_table.specs.KeyValues.{Keys, Stored, with_pairs, pairs_over}
@@ -33,7 +32,7 @@ use Rattle.raft_history.specs.MarkedRegions.{MarkedRegions, MarkedRegion, region
 use Rattle.raft_history.specs.Records.{records_or, records_in_wholes, waiting_records, table_records, all_records}
 use Rattle.raft_history.specs.RegionSteps.{RegionStep, Tables, with_table, steps_of_items}
 use Rattle.raft_history.specs.WaitingGroup.{joined_group, WaitingGroup, WholeGroup, whole_group, one_marker}
-use Rattle.raft_history.specs.WaitingGroups.{known, groups_after, whole_groups, held_steps}
+use Rattle.raft_history.specs.WaitingGroups.{known_of, groups_after, whole_groups, held_steps}
 use Rattle.raft_history.proofs.TotalLemmas.{found, total-insert, total-remove, total-both}
 use Rattle.raft_history.proofs.WaitingLemmas.{records-append, joined_weight, waiting_known, merged_waiting}
 
@@ -240,4 +239,4 @@ taken_bounded q c e rs n a k = go (batch_of e).marker (read_records q c.regions 
     go : (m : Option GroupMarker) → all_records rs.tables ≤ all_records c.regions.tables + records_in (completed_steps c.groups (batch_of e) m) → all_records rs.tables + waiting_records (groups_after c.groups (batch_of e) m) ≤ n + records_in (steps_of_items e.items)
     go None h = omega (arith, h, a)
     go (Some m) h = let g : WaitingGroup = one_marker m.status (steps_of_items e.items) e.file.seq in
-        omega (arith, h, a, or_whole (whole_group (known c.groups m.group) g), total-insert (λ (g : WaitingGroup). records_in (held_steps g)) c.groups m.group (joined_group (known c.groups m.group) g), waiting_known c.groups m.group, joined_weight (known c.groups m.group) g, one_weight m.status (steps_of_items e.items) e.file.seq)
+        omega (arith, h, a, or_whole (whole_group (known_of c.groups m.group) g), total-insert (λ (g : WaitingGroup). records_in (held_steps g)) c.groups m.group (joined_group (known_of c.groups m.group) g), waiting_known c.groups m.group, joined_weight (known_of c.groups m.group) g, one_weight m.status (steps_of_items e.items) e.file.seq)

@@ -16,7 +16,7 @@ use Rattle.raft_table.specs.Steps.{Step, Run, Compact, Truncate, Put, Del, Atomi
 use Rattle.raft_table.specs.Table.{Table}
 use Rattle.raft_table.proofs.OverlayLemmas.{overlay_exact}
 use Rattle.raft_history.specs.Batches.{Event, BatchSteps, batches}
-use Rattle.raft_history.specs.Contexts.{Holds, AreExact}
+use Rattle.raft_history.specs.Contexts.{RegionStandsFor, AreExact}
 use Rattle.raft_history.specs.Effects.{steps_of, is_named}
 use Rattle.raft_history.proofs.Words.{AreInFiles}
 use Rattle.raft_history.specs.Histories.{AreInFile, IsStepOfQueue}
@@ -67,13 +67,13 @@ stand_whole q rs new w good h e = stand_after q rs new (region_steps_of_whole w)
 pub stand_joined : (q : LogQueue) (older newer new : MarkedRegions) → StandForSteps q older → StandForSteps q newer → AreJoined q older newer new → StandForSteps q new
 stand_joined q older newer new h k j r = go (finite.get newer.marks r) refl (j.regions r)
   where
-    go : (o : Option Mark) → finite.get newer.marks r ≡ o → joined_marked q r o (finite.get newer.tables r) (region_in older r) ≡ Some (region_in new r) → (ss : List Step) × AreSteps ss × Holds q r (region_in new r) ss
-    go None is e = ((h r).0, (h r).1, subst (λ (x : MarkedRegion). Holds q r x (h r).0) (some_is e) (h r).2)
+    go : (o : Option Mark) → finite.get newer.marks r ≡ o → joined_marked q r o (finite.get newer.tables r) (region_in older r) ≡ Some (region_in new r) → (ss : List Step) × AreSteps ss × RegionStandsFor q r (region_in new r) ss
+    go None is e = ((h r).0, (h r).1, subst (λ (x : MarkedRegion). RegionStandsFor q r x (h r).0) (some_is e) (h r).2)
     go (Some m) is e = (
       (h r).0 ++ (k r).0,
       steps-append (h r).0 (k r).0 (h r).1 (k r).1,
       holds_joined q r (region_in older r) (record { mark = m; table = finite.get newer.tables r }) (region_in new r) (h r).0 (k r).0 (h r).1 (k r).1 (h r).2
-          (subst (λ (o : Option Mark). Holds q r (record { mark = unwrap_or o fresh; table = finite.get newer.tables r }) (k r).0) is (k r).2) e,
+          (subst (λ (o : Option Mark). RegionStandsFor q r (record { mark = unwrap_or o fresh; table = finite.get newer.tables r }) (k r).0) is (k r).2) e,
     )
 
 pub stand_exact : (q : LogQueue) (rs : MarkedRegions) (h : List Event) → AreInFiles h → AreExact q rs (batches h) → StandForSteps q rs

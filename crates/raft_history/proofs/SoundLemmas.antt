@@ -145,8 +145,8 @@ last-append n (e ∷ h) k = last-append e.file.seq h k
 
 pub files_of-append : (h k : List Event) → files_of (h ++ k) ≡ joined_files (files_of h) (files_of k)
 files_of-append [] k = refl
-files_of-append (e ∷ h) [] = ap (λ l. Some record { queue = e.file.queue; first = e.file.seq; last = l }) (last-append e.file.seq h [])
-files_of-append (e ∷ h) (f ∷ k) = ap (λ l. Some record { queue = e.file.queue; first = e.file.seq; last = l }) (last-append e.file.seq h (f ∷ k))
+files_of-append (e ∷ h) [] = ap (λ l. Some record { queue = e.file.queue; first_seq = e.file.seq; last_seq = l }) (last-append e.file.seq h [])
+files_of-append (e ∷ h) (f ∷ k) = ap (λ l. Some record { queue = e.file.queue; first_seq = e.file.seq; last_seq = l }) (last-append e.file.seq h (f ∷ k))
 
 le_test : (a b : ℕ) → nat_le a b ≡ true → a ≤ b
 le_test a b e = grind (arith, nat_tests)

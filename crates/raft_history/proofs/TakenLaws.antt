@@ -65,7 +65,7 @@ taken_stands c d h e n st is = subst (λ d. StandsFor d (h ++ e ∷ [])) s.2 rec
   files = ap (λ p. joined_files p (files_of (e ∷ []))) st.files ∙ sym (files_of-append h (e ∷ []));
   groups = groups_more h e c.groups st.groups;
   few = subst (IsBounded (taken_with c e s.0)) (omega (arith, size-append h (e ∷ []), size-one e)) (taken_bounded e.file.queue c e s.0 (records_in_history h) st.few s.1);
-  stands = λ p u. subst (λ p. StandsIn p (taken_with c e s.0) (h ++ e ∷ [])) (one_queue e.file.queue p c.files record { queue = e.file.queue; first = e.file.seq; last = e.file.seq } n.suits refl u) own;
+  stands = λ p u. subst (λ p. StandsIn p (taken_with c e s.0) (h ++ e ∷ [])) (one_queue e.file.queue p c.files record { queue = e.file.queue; first_seq = e.file.seq; last_seq = e.file.seq } n.suits refl u) own;
 }
   where
     s : (rs : MarkedRegions) × (regions_after e.file.queue c.regions (completed_steps c.groups (batch_of e) (batch_of e).marker) ≡ Some rs) × (taken_with c e rs ≡ d)
@@ -91,7 +91,7 @@ taken_stands c d h e n st is = subst (λ d. StandsFor d (h ++ e ∷ [])) s.2 rec
 pub taken_exact : (c d : Context) (h : List Event) (e : Event) → IsNext c e → IsExactFor c h → taken_in c e ≡ Some d → IsExactFor d (h ++ e ∷ [])
 taken_exact c d h e n ex is = record {
   stands = taken_stands c d h e n ex.stands is;
-  regions = λ p u. subst (λ d. Suits p d.files → AreExact p d.regions (batches (h ++ e ∷ []))) s.2 (λ u. subst (λ p. AreExact p s.0 (batches (h ++ e ∷ []))) (one_queue e.file.queue p c.files record { queue = e.file.queue; first = e.file.seq; last = e.file.seq } n.suits refl u)
+  regions = λ p u. subst (λ d. Suits p d.files → AreExact p d.regions (batches (h ++ e ∷ []))) s.2 (λ u. subst (λ p. AreExact p s.0 (batches (h ++ e ∷ []))) (one_queue e.file.queue p c.files record { queue = e.file.queue; first_seq = e.file.seq; last_seq = e.file.seq } n.suits refl u)
       (regions_taken e.file.queue c h e s.0 ex.stands.groups (ex.stands.stands e.file.queue n.suits).sound.items (in_files c h e ex.stands n) (ex.regions e.file.queue n.suits) s.1)) u;
 }
   where

@@ -14,20 +14,20 @@ use Rattle.raft_history.specs.MarkedRegions.{MarkedRegions, no_regions, MarkedRe
 use Rattle.raft_history.specs.Records.{all_records, waiting_records}
 use Rattle.raft_history.specs.RegionSteps.{RegionStep, steps_of_items, cleaned_by_steps}
 use Rattle.raft_history.specs.WaitingGroup.{WholeGroup, whole_group, one_marker}
-use Rattle.raft_history.specs.WaitingGroups.{WaitingGroups, groups_in, known, joined_groups, whole_groups, groups_after}
+use Rattle.raft_history.specs.WaitingGroups.{WaitingGroups, groups_in, known_of, joined_groups, whole_groups, groups_after}
 
 -- ---- the files of a history
 
--- the queue of a history's files, the first and the last of them
+-- the queue of a history's files, and the numbers of the first and the last of them
 pub record FileRange : Type 0 where
   pub queue : LogQueue
-  pub first : ℕ
-  pub last : ℕ
+  pub first_seq : ℕ
+  pub last_seq : ℕ
 
 -- the files of a history that has a batch
 abbrev pub files_of : List Event → Option FileRange
 files_of [] = None
-files_of (e ∷ h) = Some (record { queue = e.file.queue; first = e.file.seq; last = last_from e.file.seq h })
+files_of (e ∷ h) = Some (record { queue = e.file.queue; first_seq = e.file.seq; last_seq = last_from e.file.seq h })
 
 -- files that are of this queue, if there are any
 abbrev pub Suits : LogQueue → Option FileRange → Type 0
@@ -38,13 +38,13 @@ Suits queue (Some files) = files.queue ≡ queue
 abbrev pub joined_files : Option FileRange → Option FileRange → Option FileRange
 joined_files None newer = newer
 joined_files (Some older) None = Some older
-joined_files (Some older) (Some newer) = Some (record { queue = older.queue; first = older.first; last = newer.last })
+joined_files (Some older) (Some newer) = Some (record { queue = older.queue; first_seq = older.first_seq; last_seq = newer.last_seq })
 
 -- the newer neighbor's first file isn't below the older one's last
 abbrev pub follows : Option FileRange → Option FileRange → Bool
 follows None newer = true
 follows (Some older) None = true
-follows (Some older) (Some newer) = nat_le older.last newer.first
+follows (Some older) (Some newer) = nat_le older.last_seq newer.first_seq
 
 -- ---- a context
 
@@ -60,14 +60,14 @@ abbrev pub new_context : Context
 new_context = record { regions = no_regions; groups = finite.empty; cleaned = []; files = None }
 
 -- the region mark and the table of one region stand for its steps; the region mark has the keys that these delete, and in the append queue their greatest compaction, and the least of their run starts and truncations
-pub record Holds (queue : LogQueue) (r : ℕ) (x : MarkedRegion) (ss : List Step) : Type 0 where
+pub record RegionStandsFor (queue : LogQueue) (r : ℕ) (x : MarkedRegion) (ss : List Step) : Type 0 where
   pub stands : Stands queue r x.mark x.table ss
   pub deleted : HoldsDeleted x.mark ss
   pub exact : queue ≡ Append → IsExactMark x.mark ss
 
 -- the region mark and the table of every region stand for its steps in the effects, and the regions that the effects name, and no others, have a region mark
 pub record AreExact (queue : LogQueue) (rs : MarkedRegions) (bs : List BatchSteps) : Type 0 where
-  pub each : (r : ℕ) → Holds queue r (region_in rs r) (steps_of r bs)
+  pub each : (r : ℕ) → RegionStandsFor queue r (region_in rs r) (steps_of r bs)
   pub marked : (r : ℕ) → is_some (finite.get rs.marks r) ≡ is_named r bs
 
 -- the context stands for a history of this queue: the history is sound, its cleaned regions are the context's, and in the append queue the regions are exact
@@ -129,7 +129,7 @@ region_steps_or (Some w) = region_steps_of_whole w
 -- the steps that take effect with a batch: its own where it has no group marker, else those of the group that it makes whole
 abbrev pub completed_steps : WaitingGroups → BatchSteps → Option GroupMarker → List RegionStep
 completed_steps groups b None = b.steps
-completed_steps groups b (Some m) = region_steps_or (whole_group (known groups m.group) (one_marker m.status b.steps b.seq))
+completed_steps groups b (Some m) = region_steps_or (whole_group (known_of groups m.group) (one_marker m.status b.steps b.seq))
 
 -- a context with one more batch and these regions
 abbrev pub taken_with : Context → Event → MarkedRegions → Context

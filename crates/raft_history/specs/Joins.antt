@@ -6,13 +6,13 @@ use Rattle.raft_table.specs.Marks.{Mark}
 use Rattle.raft_table.specs.Overlay.{kept_if, overlay_under}
 use Rattle.raft_table.specs.Steps.{Step, AreSteps, table_of}
 use Rattle.raft_table.specs.Table.{Table}
-use Rattle.raft_history.specs.Contexts.{Holds}
+use Rattle.raft_history.specs.Contexts.{RegionStandsFor}
 use Rattle.raft_history.specs.MarkedRegions.{MarkedRegions, region_in, joined_marked}
 use Rattle.raft_history.specs.RegionSteps.{Tables}
 
 -- the region mark and the table of each region stand for some steps
 abbrev pub StandForSteps : LogQueue → MarkedRegions → Type 0
-StandForSteps queue rs = (r : ℕ) → (ss : List Step) × AreSteps ss × Holds queue r (region_in rs r) ss
+StandForSteps queue rs = (r : ℕ) → (ss : List Step) × AreSteps ss × RegionStandsFor queue r (region_in rs r) ss
 
 -- each region is the older neighbor's joined with the newer one's, and the regions of which one of the two has a region mark, and no others, have one
 pub record AreJoined (queue : LogQueue) (older newer new : MarkedRegions) : Type 0 where

@@ -6,27 +6,27 @@ use Rattle.raft_history.specs.Batches.{GroupMarker, BatchSteps}
 use Rattle.raft_history.specs.Effects.{Numbered, numbered_from, markers_of, open_stretch}
 use Rattle.raft_history.specs.RegionSteps.{RegionStep}
 
--- what stands before a group's first Begin, up to the first End: open, with the steps so far, where neither has come yet; ended, with the steps up to an End that came first, and the number of its file; or cut, where a Begin came first, so that what stands before it never takes effect. (Each batch of a group has a group marker.)
+-- what stands before a group's first Begin, up to the first End: open, with the steps so far, where neither has come yet; ended, with the steps up to an End that came first, and the number of its file; or begun, where a Begin came first, so that what stands before it never takes effect. (Each batch of a group has a group marker.)
 pub data GroupFront : Type 0 where
   Open : List RegionStep → GroupFront
   Ended : List RegionStep → ℕ → GroupFront
-  Cut : GroupFront
+  Begun : GroupFront
 
 -- a front with steps before it
 abbrev pub led_by : List RegionStep → GroupFront → GroupFront
 led_by is (Open js) = Open (is ++ js)
 led_by is (Ended js seq) = Ended (is ++ js) seq
-led_by is Cut = Cut
+led_by is Begun = Begun
 
 -- a front with one more group marker before it, of this status, these steps and a file of this number
 abbrev pub front_by : AtomicGroupStatus → List RegionStep → ℕ → GroupFront → GroupFront
-front_by Begin is seq rest = Cut
+front_by Begin is seq rest = Begun
 front_by Middle is seq rest = led_by is rest
 front_by End is seq rest = Ended is seq
 
 -- a front with one more batch before it, by the batch's group marker
 abbrev pub front_behind : Option GroupMarker → List RegionStep → ℕ → GroupFront → GroupFront
-front_behind None is seq rest = Cut
+front_behind None is seq rest = Begun
 front_behind (Some m) is seq rest = front_by m.status is seq rest
 
 -- the front of a group, by its group markers in order
@@ -87,7 +87,7 @@ abbrev pub whole_of : Option OpenStretch → GroupFront → Option WholeGroup
 whole_of None front = None
 whole_of (Some s) (Open is) = None
 whole_of (Some s) (Ended is seq) = Some record { steps = s.steps ++ is; first_seq = s.first_seq; last_seq = seq }
-whole_of (Some s) Cut = None
+whole_of (Some s) Begun = None
 
 -- the same, by the older history's front too: where that is open, the group has no open stretch there
 abbrev pub whole_group_by : GroupFront → Option OpenStretch → GroupFront → Option WholeGroup
@@ -104,6 +104,6 @@ without_marker = record { front = Open []; stretch = None }
 
 -- what is known of a group with one group marker of this status, in a batch of these steps in a file of this number
 abbrev pub one_marker : AtomicGroupStatus → List RegionStep → ℕ → WaitingGroup
-one_marker Begin is seq = record { front = Cut; stretch = Some record { first_seq = seq; steps = is } }
+one_marker Begin is seq = record { front = Begun; stretch = Some record { first_seq = seq; steps = is } }
 one_marker Middle is seq = record { front = Open is; stretch = None }
 one_marker End is seq = record { front = Ended is seq; stretch = None }

@@ -9,7 +9,7 @@ use Rattle.raft_table.specs.Steps.{Step}
 use Rattle.raft_history.specs.Batches.{GroupMarker, BatchSteps}
 use Rattle.raft_history.specs.Effects.{whole_steps}
 use Rattle.raft_history.specs.RegionSteps.{RegionStep, steps_on, names}
-use Rattle.raft_history.specs.WaitingGroup.{group_in, without_marker, GroupFront, Open, Ended, Cut, OpenStretch, WaitingGroup, joined_group, WholeGroup, whole_group, one_marker}
+use Rattle.raft_history.specs.WaitingGroup.{group_in, without_marker, GroupFront, Open, Ended, Begun, OpenStretch, WaitingGroup, joined_group, WholeGroup, whole_group, one_marker}
 
 -- each group that has a group marker, with what is known of it
 abbrev pub WaitingGroups : Type 0
@@ -25,13 +25,13 @@ unfoldable pub groups_in : List BatchSteps → WaitingGroups
 groups_in h = finite.from_entries (flat_map (λ b. entry_by h b.marker) h)
 
 -- what is known of a group
-abbrev pub known : WaitingGroups → ℕ → WaitingGroup
-known groups g = unwrap_or (finite.get groups g) without_marker
+abbrev pub known_of : WaitingGroups → ℕ → WaitingGroup
+known_of groups g = unwrap_or (finite.get groups g) without_marker
 
 -- an older history's groups with some of a newer one's, one after another
 abbrev pub joined_with : WaitingGroups → List (ℕ × WaitingGroup) → WaitingGroups
 joined_with older [] = older
-joined_with older (e ∷ es) = joined_with (finite.insert older e.0 (joined_group (known older e.0) e.1)) es
+joined_with older (e ∷ es) = joined_with (finite.insert older e.0 (joined_group (known_of older e.0) e.1)) es
 
 -- the groups of an older and a newer history, one behind the other
 abbrev pub joined_groups : WaitingGroups → WaitingGroups → WaitingGroups
@@ -39,7 +39,7 @@ joined_groups older newer = joined_with older (finite.entries newer)
 
 -- of some of a newer history's groups, those that become whole with what an older one knows
 abbrev pub whole_with : WaitingGroups → List (ℕ × WaitingGroup) → List WholeGroup
-whole_with older es = filter_map (λ e. whole_group (known older e.0) e.1) es
+whole_with older es = filter_map (λ e. whole_group (known_of older e.0) e.1) es
 
 -- the groups that become whole between an older and a newer history
 abbrev pub whole_groups : WaitingGroups → WaitingGroups → List WholeGroup
@@ -48,7 +48,7 @@ whole_groups older newer = whole_with older (finite.entries newer)
 -- the groups with one more batch, by its group marker
 abbrev pub groups_after : WaitingGroups → BatchSteps → Option GroupMarker → WaitingGroups
 groups_after groups b None = groups
-groups_after groups b (Some m) = finite.insert groups m.group (joined_group (known groups m.group) (one_marker m.status b.steps b.seq))
+groups_after groups b (Some m) = finite.insert groups m.group (joined_group (known_of groups m.group) (one_marker m.status b.steps b.seq))
 
 -- the steps on a region of a group that may be whole
 abbrev pub steps_or : ℕ → Option WholeGroup → List Step
@@ -58,13 +58,13 @@ steps_or r (Some w) = whole_steps r w.steps w.first_seq w.last_seq
 -- the steps on a region that take effect with a batch: its own where it has no group marker, else those of the group that it makes whole
 abbrev pub steps_by_batch : ℕ → WaitingGroups → BatchSteps → Option GroupMarker → List Step
 steps_by_batch r groups b None = steps_on r b.steps
-steps_by_batch r groups b (Some m) = steps_or r (whole_group (known groups m.group) (one_marker m.status b.steps b.seq))
+steps_by_batch r groups b (Some m) = steps_or r (whole_group (known_of groups m.group) (one_marker m.status b.steps b.seq))
 
 -- the steps that wait in a front
 abbrev pub front_steps : GroupFront → List RegionStep
 front_steps (Open is) = is
 front_steps (Ended is seq) = is
-front_steps Cut = []
+front_steps Begun = []
 
 -- the steps of an open stretch, if there is one
 abbrev pub stretch_steps : Option OpenStretch → List RegionStep
@@ -87,7 +87,7 @@ names_by r (Some w) = names r w.steps
 -- whether what takes effect with a batch names the region
 abbrev pub names_by_batch : ℕ → WaitingGroups → BatchSteps → Option GroupMarker → Bool
 names_by_batch r groups b None = names r b.steps
-names_by_batch r groups b (Some m) = names_by r (whole_group (known groups m.group) (one_marker m.status b.steps b.seq))
+names_by_batch r groups b (Some m) = names_by r (whole_group (known_of groups m.group) (one_marker m.status b.steps b.seq))
 
 -- ---- by a list of groups
 

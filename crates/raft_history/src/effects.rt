@@ -7,7 +7,7 @@ ghost use Rattle.raft_history.specs.WaitingGroup.{WholeGroup, whole_group, group
 ghost use Rattle.raft_history.specs.Batches.{BatchSteps};
 ghost use Rattle.raft_history.specs.Effects.{Effect, EachApart, effects, steps_of, is_named, EndsNoEffect, without_group};
 ghost use Rattle.raft_history.specs.Stretches.{AreEffects};
-ghost use Rattle.raft_history.specs.WaitingGroups.{groups_in, joined_groups, whole_groups, groups_after, steps_by_batch, names_by_batch, known, steps_of_wholes};
+ghost use Rattle.raft_history.specs.WaitingGroups.{groups_in, joined_groups, whole_groups, groups_after, steps_by_batch, names_by_batch, known_of, steps_of_wholes};
 
 /// The effects of a history are the batches without a group marker and the stretches of each group's
 /// group markers, in the order of their last batches.
@@ -23,7 +23,7 @@ pub fn groups_join()
         → groups_in (h ++ k) ≡ joined_groups (groups_in h) (groups_in k) }
     ensures more { (h : List BatchSteps) (b : BatchSteps)
         → groups_in (h ++ b ∷ []) ≡ groups_after (groups_in h) b b.marker }
-    ensures each { (g : ℕ) (h : List BatchSteps) → known (groups_in h) g ≡ group_in g h }
+    ensures each { (g : ℕ) (h : List BatchSteps) → known_of (groups_in h) g ≡ group_in g h }
 {}
 
 /// The steps on a region of two histories, one behind the other: those of the older, of the groups

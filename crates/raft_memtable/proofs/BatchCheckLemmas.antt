@@ -1,24 +1,21 @@
 -- Batches that are tested before they are taken in.
-use Rattle.std.proofs.Common.{◌≡◌, true, false, ◌<◌, ◌≤◌, ◌+◌, ℕ, suc, zero, List, [], ◌∷◌, drop, length, get_or, Option, Some, None, refl, sym, ap, ◌∙◌, arith}
+use Rattle.std.proofs.Common.{◌≡◌, true, false, ◌<◌, ◌≤◌, ◌+◌, ℕ, suc, zero, List, [], ◌∷◌, drop, length, map, get_or, Option, Some, None, refl, sym, ap, ◌∙◌, arith}
 use Rattle.std.specs.Prelude.{Bool, MatchBool}
 use Rattle.std.specs.List.{AllByRecursion, AllWithin, HoldsAt}
 use Rattle.std.proofs.lemmas.List.Elements.{All-from_recursion, recursion_from_All}
-use Rattle.std.specs.Option.{option_map_or, option_or}
-use Rattle.raft_base.specs.declared.pipe_log.FileBlockHandle.{FileBlockHandle}
+use Rattle.std.specs.Option.{option_or}
 use Rattle.raft_base.specs.declared.pipe_log.FileId.{FileId}
-use Rattle.raft_base.specs.declared.pipe_log.LogQueue.{LogQueue}
-use Rattle.raft_base.specs.declared.pipe_log.LogQueue.TheVariants.{Append, Rewrite}
+use Rattle.raft_base.specs.declared.pipe_log.LogQueue.TheVariants.{Rewrite}
 use Rattle.raft_base.specs.declared.entry_index.EntryIndex.{EntryIndex}
 use Rattle.raft_base.specs.NoEntry.{no_entry}
 use Rattle.raft_base.specs.Runs.{IsConsecutive}
 use Rattle.raft_records.specs.declared.atomic_group.AtomicGroupStatus.{AtomicGroupStatus}
 use Rattle.raft_records.specs.declared.atomic_group.AtomicGroupStatus.TheVariants.{Begin, Middle, End}
 use Rattle.raft_records.specs.Group.{status_byte, first_marker, marker_byte, IsGroupMarkerRead}
-use Rattle.raft_records.specs.Item.{Item}
+use Rattle.raft_records.specs.Item.{Item, item_of, content_of}
+use Rattle.raft_records.specs.declared.log_item.LogItem.{LogItem}
 use Rattle.raft_records.specs.DecodedIn.{IsPlaceInFile}
 use Rattle.raft_records.proofs.GroupLemmas.{one_byte, marker_is}
-use Rattle.raft_table.specs.TableEntries.{IsRunIn, is_placed_in}
-use Rattle.raft_table.specs.Queues.{is_same}
 use Rattle.raft_history.specs.Histories.{IsInFile, AreInFile, HaveStatus}
 use Rattle.raft_history.proofs.Words.{ArePlacesInFile}
 
@@ -81,6 +78,20 @@ one_more file all rest item marker found h is read = (
   λ r. (h.3 r).1,
   or_or marker found (first_marker rest) ∙ ap (λ f. option_or marker (option_or f (first_marker rest))) (sym (marker_is item found read)) ∙ h.4,
 )
+
+-- what holds of each element holds of each of their images, and the other way round
+each_image : {X Y : Type 0} (P : Y → Type 0) (f : X → Y) (xs : List X) → (AllByRecursion (λ x. P (f x)) xs → AllByRecursion P (map f xs)) × (AllByRecursion P (map f xs) → AllByRecursion (λ x. P (f x)) xs)
+each_image P f [] = (λ h. tt, λ h. tt)
+each_image P f (x ∷ xs) = let rest = each_image P f xs in (λ h. (h.0, rest.0 h.1), λ h. (h.0, rest.1 h.1))
+
+-- what the test of each item says of all
+pub all_in_file : (file : FileId) (items : List LogItem) (all : Bool)
+    → MatchBool all (AllWithin (λ (i : LogItem). IsInFile file (content_of i.content)) items 0 (length items)) ((k : ℕ) × (k < length items) × HoldsAt (λ (i : LogItem). IsInFile file (content_of i.content) → ⊥) items k)
+    → MatchBool all (AreInFile file (map item_of items)) (AreInFile file (map item_of items) → ⊥)
+all_in_file file items true h = (each_image (λ (i : Item). IsInFile file i.content) item_of items).0 (recursion_from_All (λ (i : LogItem). IsInFile file (content_of i.content)) items (λ k d low. h k d (omega arith) low))
+all_in_file file [] false h = absurd (omega (arith, h.1))
+all_in_file file (x ∷ xs) false h =
+    λ each. h.2 x (All-from_recursion (λ (i : LogItem). IsInFile file (content_of i.content)) (x ∷ xs) ((each_image (λ (i : Item). IsInFile file i.content) item_of (x ∷ xs)).1 each) h.0 x h.1)
 
 -- what the test of each place says of consecutive entries
 pub in_file_if_placed : (file : FileId) (es : List EntryIndex) (placed : Bool)

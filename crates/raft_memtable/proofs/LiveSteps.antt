@@ -11,7 +11,7 @@ use Rattle.raft_table.specs.MarkJoins.{joined_mark, mark_of}
 use Rattle.raft_table.specs.Queues.{count_in, is_same}
 use Rattle.raft_table.specs.Start.{entries_after_replay}
 use Rattle.raft_table.specs.Steps.{Step, Run, Compact, Truncate, Put, Del, AtomicGroup, Clean, table_of, after_step}
-use Rattle.raft_table.specs.Table.{Table, live_of}
+use Rattle.raft_table.specs.Table.{Table}
 use Rattle.raft_table.proofs.KeyValueCounts.{pair_count-insert, pair_count-remove, pair_count-le-len}
 use Rattle.raft_table.proofs.PlaceLemmas.{entries_in_one, each_placed}
 use Rattle.raft_table.proofs.RunCounts.{entry_count-le, replayed-in}

@@ -77,9 +77,9 @@ nothing_in {X} = no_length (finite.entries (finite.empty {K = ℕ} {X = X} {R = 
     no_length [] e = refl
     no_length (x ∷ es) e = absurd (omega (arith, e))
 
-pub nothing_kept : (c : RecoverContext) (h g : List Event) (k : Kept) → kept_shown k ≡ kept_of c.context → IsOfBothExactly c h g → (k.marks ≡ 0) × (k.deleted_keys ≡ 0) × (k.waiting_items ≡ 0)
+pub nothing_kept : (c : RecoverContext) (h g : List Event) (k : Kept) → kept_shown k ≡ kept_of c.context → IsOfBothExactly c h g → (k.regions_and_groups ≡ 0) × (k.deleted_keys ≡ 0) × (k.waiting_items ≡ 0)
 nothing_kept c h g k e b = (
-  omega (arith, ap (λ (n : numbers.Kept). n.marks) e, ap finite.len b.no_marks, ap finite.len b.no_groups, finite.len-empty nat_cmp Mark, finite.len-empty nat_cmp WaitingGroup),
+  omega (arith, ap (λ (n : numbers.Kept). n.regions_and_groups) e, ap finite.len b.no_marks, ap finite.len b.no_groups, finite.len-empty nat_cmp Mark, finite.len-empty nat_cmp WaitingGroup),
   ap (λ (n : numbers.Kept). n.deleted_keys) e ∙ ap (total (λ (m : Mark). finset.len m.deleted)) b.no_marks ∙ total-none (λ (m : Mark). finset.len m.deleted),
   ap (λ (n : numbers.Kept). n.waiting_items) e ∙ ap waiting_steps b.no_groups ∙ ap (λ (es : List (ℕ × WaitingGroup)). length (flat_map (λ e. held_steps e.1) es)) nothing_in,
 )

@@ -24,7 +24,7 @@ use Rattle.raft_history.specs.MarkedRegions.{MarkedRegions, region_in, regions_a
 use Rattle.raft_history.specs.Records.{all_records, waiting_records, records_or}
 use Rattle.raft_history.specs.RegionSteps.{RegionStep, steps_of_items, cleaned_by_steps}
 use Rattle.raft_history.specs.WaitingGroup.{WholeGroup, without_marker, joined_group, whole_group, one_marker}
-use Rattle.raft_history.specs.WaitingGroups.{WaitingGroups, known, groups_in, groups_after, whole_groups, joined_groups}
+use Rattle.raft_history.specs.WaitingGroups.{WaitingGroups, known_of, groups_in, groups_after, whole_groups, joined_groups}
 use Rattle.raft_history.proofs.ContextLaws.{exact_reading, no_steps, regions_stand}
 use Rattle.raft_history.proofs.EffectLemmas.{each-append}
 use Rattle.raft_history.proofs.QueueLemmas.{items_in_queue, whole_in_queue}
@@ -39,7 +39,7 @@ use Rattle.raft_history.proofs.WaitingLemmas.{joined_weight, waiting_known, merg
 use Rattle.raft_accessor.specs.Accessor.{live_in_all}
 use Rattle.raft_memtable.specs.BatchChecks.{marker_found}
 use Rattle.raft_memtable.specs.MarkedTables.{AreStepsOfQueue, IsStepsFault}
-use Rattle.raft_memtable.specs.ReadStates.{AreAlone, AreOfSteps, IsOfHistory, TakesEffect, MayTakeEffect}
+use Rattle.raft_memtable.specs.ReadStates.{AreAlone, AreOfSteps, IsOfHistory, CanTakeEffect, CanTakeEffectIfAny}
 use Rattle.raft_memtable.specs.RecoverContext.{reading_on, MayFollow, records_held, IsBatchFault, AreNeighbors, IsNeighborFault}
 use Rattle.raft_memtable.specs.RegionJoins.{IsJoinFault}
 use Rattle.raft_accessor.proofs.LiveLemmas.{live-none}
@@ -95,12 +95,12 @@ steps_of_read q c r u = go c.files refl u r.steps
 
 -- ---- records
 
-known_weight : (groups : WaitingGroups) (g : ℕ) → weight (known groups g) ≤ waiting_records groups
+known_weight : (groups : WaitingGroups) (g : ℕ) → weight (known_of groups g) ≤ waiting_records groups
 known_weight groups g = omega (arith, total-insert weight groups g without_marker, waiting_known groups g)
 
 -- what a batch makes whole waited before, or is its own
-pub whole_records : (groups : WaitingGroups) (g : ℕ) (s : AtomicGroupStatus) (is : List RegionStep) (f : ℕ) → records_or (whole_group (known groups g) (one_marker s is f)) ≤ waiting_records groups + records_in is
-whole_records groups g s is f = omega (arith, joined_weight (known groups g) (one_marker s is f), known_weight groups g, one_weight s is f)
+pub whole_records : (groups : WaitingGroups) (g : ℕ) (s : AtomicGroupStatus) (is : List RegionStep) (f : ℕ) → records_or (whole_group (known_of groups g) (one_marker s is f)) ≤ waiting_records groups + records_in is
+whole_records groups g s is f = omega (arith, joined_weight (known_of groups g) (one_marker s is f), known_weight groups g, one_weight s is f)
 
 -- ---- one more batch
 
@@ -148,20 +148,20 @@ lone_refused c e m none = ap (taken_by c e) (found_none e.file.queue e.items m) 
 
 -- a batch with a marker
 pub group_taken : (c d : Context) (e : Event) (id : ℕ) (s : AtomicGroupStatus) → marker_found e.file.queue e.items ≡ Some (id, s)
-    → regions_after Rewrite c.regions (region_steps_or (whole_group (known c.groups id) (one_marker s (steps_of_items e.items) e.file.seq))) ≡ Some d.regions
-    → d.groups ≡ finite.insert c.groups id (joined_group (known c.groups id) (one_marker s (steps_of_items e.items) e.file.seq))
+    → regions_after Rewrite c.regions (region_steps_or (whole_group (known_of c.groups id) (one_marker s (steps_of_items e.items) e.file.seq))) ≡ Some d.regions
+    → d.groups ≡ finite.insert c.groups id (joined_group (known_of c.groups id) (one_marker s (steps_of_items e.items) e.file.seq))
     → d.cleaned ≡ c.cleaned → d.files ≡ joined_files c.files (files_of (e ∷ [])) → taken_in c e ≡ Some d
 group_taken c d e id s m regions groups cleaned files =
     let f = found_some e.file.queue e.items id s m in
     ap (taken_by c e) f.1
-    ∙ some_by c d e (Some (record { group = id; status = s })) (ap (λ q. regions_after q c.regions (region_steps_or (whole_group (known c.groups id) (one_marker s (steps_of_items e.items) e.file.seq)))) f.0 ∙ regions)
+    ∙ some_by c d e (Some (record { group = id; status = s })) (ap (λ q. regions_after q c.regions (region_steps_or (whole_group (known_of c.groups id) (one_marker s (steps_of_items e.items) e.file.seq)))) f.0 ∙ regions)
     ∙ by_fields d _ _ _ groups (cleaned ∙ sym (append-nil c.cleaned) ∙ ap (λ q. c.cleaned ++ cleaned_by_steps q (batch_of e).steps) (sym f.0)) files
 
 pub group_refused : (c : Context) (e : Event) (id : ℕ) (s : AtomicGroupStatus) → marker_found e.file.queue e.items ≡ Some (id, s)
-    → regions_after Rewrite c.regions (region_steps_or (whole_group (known c.groups id) (one_marker s (steps_of_items e.items) e.file.seq))) ≡ None → taken_in c e ≡ None
+    → regions_after Rewrite c.regions (region_steps_or (whole_group (known_of c.groups id) (one_marker s (steps_of_items e.items) e.file.seq))) ≡ None → taken_in c e ≡ None
 group_refused c e id s m none =
     let f = found_some e.file.queue e.items id s m in
-    ap (taken_by c e) f.1 ∙ none_by c e (Some (record { group = id; status = s })) (ap (λ q. regions_after q c.regions (region_steps_or (whole_group (known c.groups id) (one_marker s (steps_of_items e.items) e.file.seq)))) f.0 ∙ none)
+    ap (taken_by c e) f.1 ∙ none_by c e (Some (record { group = id; status = s })) (ap (λ q. regions_after q c.regions (region_steps_or (whole_group (known_of c.groups id) (one_marker s (steps_of_items e.items) e.file.seq)))) f.0 ∙ none)
 
 or_records : (w : Option WholeGroup) → records_in (region_steps_or w) ≤ records_or w
 or_records None = omega arith
@@ -173,7 +173,7 @@ completed_records c e = go (batch_of e).marker
   where
     go : (m : Option GroupMarker) → records_in (completed_steps c.groups (batch_of e) m) ≤ waiting_records c.groups + records_in (steps_of_items e.items)
     go None = omega arith
-    go (Some m) = omega (arith, or_records (whole_group (known c.groups m.group) (one_marker m.status (steps_of_items e.items) e.file.seq)), whole_records c.groups m.group m.status (steps_of_items e.items) e.file.seq)
+    go (Some m) = omega (arith, or_records (whole_group (known_of c.groups m.group) (one_marker m.status (steps_of_items e.items) e.file.seq)), whole_records c.groups m.group m.status (steps_of_items e.items) e.file.seq)
 
 -- why a batch is refused that may come next
 pub lone_fault : (c : Context) (e : Event) → IsOfHistory c → MayFollow c e → marker_found e.file.queue e.items ≡ None → (x : Error) → IsStepsFault e.file.queue c.regions (steps_of_items e.items) x → IsBatchFault (reading_on c) e x
@@ -184,7 +184,7 @@ lone_fault c e r n m errors.Memory f = tt
 lone_fault c e r n m _ f = absurd f
 
 pub group_fault : (c : Context) (e : Event) (id : ℕ) (s : AtomicGroupStatus) → IsOfHistory c → MayFollow c e → marker_found e.file.queue e.items ≡ Some (id, s) → (x : Error)
-    → IsStepsFault Rewrite c.regions (region_steps_or (whole_group (known c.groups id) (one_marker s (steps_of_items e.items) e.file.seq))) x → IsBatchFault (reading_on c) e x
+    → IsStepsFault Rewrite c.regions (region_steps_or (whole_group (known_of c.groups id) (one_marker s (steps_of_items e.items) e.file.seq))) x → IsBatchFault (reading_on c) e x
 group_fault c e id s r n m (errors.Corruption text) f = inr (group_refused c e id s m f)
 group_fault c e id s r n m (errors.InvalidArgument text) f = absurd (omega (arith, f, alone_of Rewrite c r (subst (λ q. Suits q c.files) (found_some e.file.queue e.items id s m).0 n.queue)))
 group_fault c e id s r n m errors.Full f =
@@ -195,14 +195,14 @@ group_fault c e id s r n m _ f = absurd f
 
 -- what a batch with a marker makes whole may be taken in
 pub group_takes : (c : Context) (e : Event) (id : ℕ) (s : AtomicGroupStatus) → IsOfHistory c → MayFollow c e → marker_found e.file.queue e.items ≡ Some (id, s)
-    → MayTakeEffect (whole_group (known c.groups id) (one_marker s (steps_of_items e.items) e.file.seq))
+    → CanTakeEffectIfAny (whole_group (known_of c.groups id) (one_marker s (steps_of_items e.items) e.file.seq))
 group_takes c e id s r n m = batch_takes c r.history e (record { group = id; status = s }) r.stands (next_of c e n) (found_some e.file.queue e.items id s m).0
 
 -- the steps that take effect with a batch are of its queue
 completed_in_queue : (c : Context) (e : Event) → IsOfHistory c → MayFollow c e → AreStepsOfQueue e.file.queue (completed_steps c.groups (batch_of e) (batch_of e).marker)
 completed_in_queue c e r n = go (batch_of e).marker refl
   where
-    of : (w : Option WholeGroup) → MayTakeEffect w → AreStepsOfQueue Rewrite (region_steps_or w)
+    of : (w : Option WholeGroup) → CanTakeEffectIfAny w → AreStepsOfQueue Rewrite (region_steps_or w)
     of None t = tt
     of (Some w) t = whole_in_queue Rewrite w t.steps
 
@@ -213,8 +213,8 @@ completed_in_queue c e r n = go (batch_of e).marker refl
     go : (m : Option GroupMarker) → (batch_of e).marker ≡ m → AreStepsOfQueue e.file.queue (completed_steps c.groups (batch_of e) m)
     go None is = items_in_queue e.file.queue e.file e.items refl n.items
     go (Some m) is = let queue = in_rewrite e.file.queue m is in
-        subst (λ q. AreStepsOfQueue q (region_steps_or (whole_group (known c.groups m.group) (one_marker m.status (steps_of_items e.items) e.file.seq)))) (sym queue)
-        (of (whole_group (known c.groups m.group) (one_marker m.status (steps_of_items e.items) e.file.seq)) (batch_takes c r.history e m r.stands (next_of c e n) queue))
+        subst (λ q. AreStepsOfQueue q (region_steps_or (whole_group (known_of c.groups m.group) (one_marker m.status (steps_of_items e.items) e.file.seq)))) (sym queue)
+        (of (whole_group (known_of c.groups m.group) (one_marker m.status (steps_of_items e.items) e.file.seq)) (batch_takes c r.history e m r.stands (next_of c e n) queue))
 
 steps_more : (c d : Context) (e : Event) → IsOfHistory c → MayFollow c e → taken_in c e ≡ Some d → StandForSteps e.file.queue d.regions
 steps_more c d e r n t = let s = taken_some c d e t in
@@ -253,9 +253,9 @@ sound_of q c r u = (r.stands.stands q u).sound
 wholes_none : (c d : Context) (r : IsOfHistory d) → Suits Append d.files → both_wholes c d ≡ []
 wholes_none c d r u = ap (whole_groups c.groups) r.stands.groups ∙ no_wholes c.groups r.history (sound_of Append d r u).files
 
-pub merge_takes : (q : LogQueue) (c d : Context) → IsOfHistory c → IsOfHistory d → AreNeighbors q c d → AllByRecursion TakesEffect (both_wholes c d)
-merge_takes Append c d r s n = subst (AllByRecursion TakesEffect) (sym (wholes_none c d s n.newer)) tt
-merge_takes Rewrite c d r s n = subst (λ g. AllByRecursion TakesEffect (whole_groups g d.groups)) (sym r.stands.groups) (subst (λ g. AllByRecursion TakesEffect (whole_groups (groups_in (batches r.history)) g)) (sym s.stands.groups)
+pub merge_takes : (q : LogQueue) (c d : Context) → IsOfHistory c → IsOfHistory d → AreNeighbors q c d → AllByRecursion CanTakeEffect (both_wholes c d)
+merge_takes Append c d r s n = subst (AllByRecursion CanTakeEffect) (sym (wholes_none c d s n.newer)) tt
+merge_takes Rewrite c d r s n = subst (λ g. AllByRecursion CanTakeEffect (whole_groups g d.groups)) (sym r.stands.groups) (subst (λ g. AllByRecursion CanTakeEffect (whole_groups (groups_in (batches r.history)) g)) (sym s.stands.groups)
     (wholes_take r.history s.history (sound_of Rewrite c r n.older).files (sound_of Rewrite c r n.older).items (sound_of Rewrite d s n.newer).files (sound_of Rewrite d s n.newer).items
     (files-back Rewrite 0 r.history s.history (files_follow Rewrite r.history s.history (sound_of Rewrite c r n.older).files (sound_of Rewrite d s n.newer).files
     (ap (λ f. follows f (files_of s.history)) (sym r.stands.files) ∙ ap (follows c.files) (sym s.stands.files) ∙ n.files)))))
@@ -269,7 +269,7 @@ wholes_in_queue : (q : LogQueue) (c d : Context) → IsOfHistory c → IsOfHisto
 wholes_in_queue Append c d r s n = subst (λ ws. AreStepsOfQueue Append (region_steps_of_wholes ws)) (sym (wholes_none c d s n.newer)) tt
 wholes_in_queue Rewrite c d r s n = all (both_wholes c d) (merge_takes Rewrite c d r s n)
   where
-    all : (ws : List WholeGroup) → AllByRecursion TakesEffect ws → AreStepsOfQueue Rewrite (region_steps_of_wholes ws)
+    all : (ws : List WholeGroup) → AllByRecursion CanTakeEffect ws → AreStepsOfQueue Rewrite (region_steps_of_wholes ws)
     all [] t = tt
     all (w ∷ ws) t = each-append (λ (i : RegionStep). IsStepOfQueue Rewrite i.step) (region_steps_of_whole w) (region_steps_of_wholes ws) (whole_in_queue Rewrite w t.0.steps) (all ws t.1)
 
@@ -338,7 +338,7 @@ join_read q c d new middle m h is alone = record {
     by P none some None None u v = none
     by P none some None (Some g) u v = some g v
     by P none some (Some f) None u v = some f u
-    by P none some (Some f) (Some g) u v = some (record { queue = f.queue; first = f.first; last = g.last }) u
+    by P none some (Some f) (Some g) u v = some (record { queue = f.queue; first_seq = f.first_seq; last_seq = g.last_seq }) u
 
     of_files : (P : Option FileRange → Type 0) → P None → ((f : FileRange) → f.queue ≡ q → P (Some f)) → P new.files
     of_files P none some = subst P (sym (ap (λ (x : Context). x.files) is)) (by P none some c.files d.files m.neighbors.older m.neighbors.newer)

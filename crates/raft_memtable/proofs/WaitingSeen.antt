@@ -15,7 +15,7 @@ use Rattle.std.specs.FinMap.{nat_cmp-IsAntisymmetric, same_map}
 use Rattle.std.specs.FinMap.Entries.{find, find-where_key}
 use Rattle.raft_history.specs.WaitingGroup as groups
 use Rattle.raft_history.specs.WaitingGroup.{without_marker, joined_group}
-use Rattle.raft_history.specs.WaitingGroups.{WaitingGroups, known, held_steps, waiting_steps}
+use Rattle.raft_history.specs.WaitingGroups.{WaitingGroups, known_of, held_steps, waiting_steps}
 use Rattle.raft_table.proofs.Shown.{shown, is_sorted-shown, find-shown, shown-insert_entry, shown-remove_entry}
 use Rattle.raft_memtable.specs.declared.waiting_group.WaitingGroup.{WaitingGroup}
 use Rattle.raft_memtable.specs.WaitingShown.{group_shown}
@@ -61,7 +61,7 @@ seen-replace es k v h g = same_map nat_cmp_total nat_cmp-IsAntisymmetric _ _ (λ
     go q true e = refl
     go q false e = rw (unsigned_tied k q, flip k q (sym (unsigned_tied q k) ∙ e)) refl
 
-pub known-seen : (es : List (ℕ × WaitingGroup)) (q : ℕ) (o : Option WaitingGroup) → Ordered es → o ≡ lookup (is_at (nat_cmp q)) es → known (seen es) q ≡ unwrap_or (option_map group_shown o) without_marker
+pub known-seen : (es : List (ℕ × WaitingGroup)) (q : ℕ) (o : Option WaitingGroup) → Ordered es → o ≡ lookup (is_at (nat_cmp q)) es → known_of (seen es) q ≡ unwrap_or (option_map group_shown o) without_marker
 known-seen es q o h e = ap (λ x. unwrap_or x without_marker) (get-seen es q h ∙ ap (option_map group_shown) (sym e))
 
 pub seen-none : (es : List (ℕ × WaitingGroup)) → Ordered es → es ≡ [] → seen es ≡ finite.empty
@@ -69,12 +69,12 @@ seen-none es h e = finite.empty_of_len (seen es) (finite.len-entries (seen es) �
 
 -- a group is taken out, joined, and put back
 pub seen-joined : (es fs gs : List (ℕ × WaitingGroup)) (id : ℕ) (older newer state : WaitingGroup) (now : WaitingGroups) → Ordered es → Ordered fs → Ordered gs → seen es ≡ now →
-    group_shown older ≡ known (seen es) id → fs ≡ remove_entry (is_at (nat_cmp id)) es → group_shown state ≡ joined_group (group_shown older) (group_shown newer) → gs ≡ insert_entry nat_cmp fs id state →
-    seen gs ≡ finite.insert now id (joined_group (known now id) (group_shown newer))
+    group_shown older ≡ known_of (seen es) id → fs ≡ remove_entry (is_at (nat_cmp id)) es → group_shown state ≡ joined_group (group_shown older) (group_shown newer) → gs ≡ insert_entry nat_cmp fs id state →
+    seen gs ≡ finite.insert now id (joined_group (known_of now id) (group_shown newer))
 seen-joined es fs gs id older newer state now h k l is taken rest join put =
     ap seen put ∙ seen-insert id state fs k (subst Ordered put l) ∙ ap (λ x. finite.insert (seen x) id (group_shown state)) rest
     ∙ seen-replace es id (group_shown state) h (subst Ordered rest k) ∙ ap (finite.insert (seen es) id) (join ∙ ap (λ x. joined_group x (group_shown newer)) taken)
-    ∙ ap (λ x. finite.insert x id (joined_group (known x id) (group_shown newer))) is
+    ∙ ap (λ x. finite.insert x id (joined_group (known_of x id) (group_shown newer))) is
 
 -- the first group is taken out
 pub first-seen : (es fs : List (ℕ × WaitingGroup)) (p : ℕ × WaitingGroup) (now : WaitingGroups) → Ordered es → Ordered fs → seen es ≡ now → es ≡ p ∷ fs → finite.entries now ≡ (p.0, group_shown p.1) ∷ finite.entries (seen fs)

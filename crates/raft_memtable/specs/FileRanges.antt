@@ -6,7 +6,7 @@ use Rattle.raft_memtable.specs.declared.file_range.FileRange.{FileRange}
 
 -- the queue, the first and the last file
 abbrev pub range_shown : FileRange → contexts.FileRange
-range_shown f = record { queue = f.queue; first = f.first; last = f.last }
+range_shown f = record { queue = f.queue; first_seq = f.first_seq; last_seq = f.last_seq }
 
 -- the files that were read, if any, as a plain value
 abbrev pub ranges_shown : Option FileRange → Option contexts.FileRange

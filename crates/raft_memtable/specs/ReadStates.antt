@@ -35,11 +35,11 @@ pub record IsOfHistory (c : Context) : Type 0 where
   pub steps : AreOfSteps c.files c.regions
 
 -- a group that is whole, as it is taken in: its steps are such as replays into the rewrite queue ask for, and the numbers of its files are in order
-pub record TakesEffect (w : WholeGroup) : Type 0 where
+pub record CanTakeEffect (w : WholeGroup) : Type 0 where
   pub steps : AreStepsOfQueue Rewrite w.steps
   pub seqs : w.first_seq ≤ w.last_seq
 
 -- a group, if there is one, may be taken in
-abbrev pub MayTakeEffect : Option WholeGroup → Type 0
-MayTakeEffect None = Unit {0}
-MayTakeEffect (Some w) = TakesEffect w
+abbrev pub CanTakeEffectIfAny : Option WholeGroup → Type 0
+CanTakeEffectIfAny None = Unit {0}
+CanTakeEffectIfAny (Some w) = CanTakeEffect w

@@ -71,8 +71,8 @@ IsBatchFault c e _ = ⊥
 -- ---- two neighbors
 
 -- both are of this queue
-abbrev pub AreOfQueue : LogQueue → Context → Context → Type 0
-AreOfQueue queue c d = Suits queue c.files × Suits queue d.files
+abbrev pub AreBothOfQueue : LogQueue → Context → Context → Type 0
+AreBothOfQueue queue c d = Suits queue c.files × Suits queue d.files
 
 -- both are of this queue, and the newer one's first file isn't below the older one's last
 pub record AreNeighbors (queue : LogQueue) (c d : Context) : Type 0 where
@@ -91,8 +91,8 @@ pub record IsMergedWith (queue : LogQueue) (newer old new : RecoverContext) : Ty
 
 -- why a newer neighbor is refused, by the error: one of the two is of another queue; both are of this one, and the newer one's first file is below the older one's last, or a region's join is refused; the records would be 2^64 or more; one of the two doesn't read on; or want of memory
 abbrev pub IsNeighborFault : LogQueue → RecoverContext → RecoverContext → Error → Type 0
-IsNeighborFault queue c d (errors.InvalidArgument text) = AreOfQueue queue c.context d.context → ⊥
-IsNeighborFault queue c d (errors.Corruption text) = AreOfQueue queue c.context d.context × ((follows c.context.files d.context.files ≡ false) ⊎ AreRegionsRefused queue c.context d.context)
+IsNeighborFault queue c d (errors.InvalidArgument text) = AreBothOfQueue queue c.context d.context → ⊥
+IsNeighborFault queue c d (errors.Corruption text) = AreBothOfQueue queue c.context d.context × ((follows c.context.files d.context.files ≡ false) ⊎ AreRegionsRefused queue c.context d.context)
 IsNeighborFault queue c d errors.Full = AreNeighbors queue c.context d.context × (2 ^ 64 ≤ records_held c.context + records_held d.context)
 IsNeighborFault queue c d errors.Failed = (c.stage ≢ Reading) ⊎ (d.stage ≢ Reading)
 IsNeighborFault queue c d errors.Memory = Unit {0}

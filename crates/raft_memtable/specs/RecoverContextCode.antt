@@ -21,7 +21,7 @@ regions_code = code_by (Tables × Marks) (coded× tables_code (finite.code coded
 
 -- files as their queue, the first and the last
 abbrev pub range_code : Coded FileRange
-range_code = code_by (LogQueue × (ℕ × ℕ)) (coded× queue.the_row.coded (coded× coded_ℕ coded_ℕ)) (λ f. (f.queue, (f.first, f.last))) (λ p. record { queue = p.0; first = p.1.0; last = p.1.1 }) (λ _. refl)
+range_code = code_by (LogQueue × (ℕ × ℕ)) (coded× queue.the_row.coded (coded× coded_ℕ coded_ℕ)) (λ f. (f.queue, (f.first_seq, f.last_seq))) (λ p. record { queue = p.0; first_seq = p.1.0; last_seq = p.1.1 }) (λ _. refl)
 
 -- what is held, field by field
 abbrev pub context_code : Coded Context

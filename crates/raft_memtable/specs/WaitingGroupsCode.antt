@@ -8,7 +8,7 @@ use Rattle.raft_base.specs.contracts.entry_index.EntryIndex as entry
 use Rattle.raft_base.specs.declared.entry_index.EntryIndex.{EntryIndex}
 use Rattle.raft_table.specs.Steps.{Step, Run, Compact, Truncate, Put, Del, AtomicGroup, Clean}
 use Rattle.raft_history.specs.RegionSteps.{RegionStep}
-use Rattle.raft_history.specs.WaitingGroup.{GroupFront, Open, Ended, Cut, OpenStretch, WaitingGroup}
+use Rattle.raft_history.specs.WaitingGroup.{GroupFront, Open, Ended, Begun, OpenStretch, WaitingGroup}
 use Rattle.raft_history.specs.WaitingGroups.{WaitingGroups}
 
 -- a step as what it holds, told apart by where that stands
@@ -59,7 +59,7 @@ region_step_code = code_by (ℕ × Step) (coded× coded_ℕ step_code) (λ s. (s
 abbrev pub front_parts : GroupFront → Option (List RegionStep × Option ℕ)
 front_parts (Open steps) = Some (steps, None)
 front_parts (Ended steps seq) = Some (steps, Some seq)
-front_parts Cut = None
+front_parts Begun = None
 
 -- a front of these steps, by whether it has an End
 abbrev pub front_ending : List RegionStep → Option ℕ → GroupFront
@@ -68,14 +68,14 @@ front_ending steps (Some seq) = Ended steps seq
 
 -- the front of these parts
 abbrev pub front_from : Option (List RegionStep × Option ℕ) → GroupFront
-front_from None = Cut
+front_from None = Begun
 front_from (Some p) = front_ending p.0 p.1
 
 -- which is the front again
 pub front_again : (f : GroupFront) → front_from (front_parts f) ≡ f
 front_again (Open steps) = refl
 front_again (Ended steps seq) = refl
-front_again Cut = refl
+front_again Begun = refl
 
 -- the code of a front
 abbrev pub front_code : Coded GroupFront

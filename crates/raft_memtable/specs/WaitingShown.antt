@@ -3,7 +3,7 @@ use Rattle.std.specs.Prelude.{ℕ, List, map, Option}
 use Rattle.std.specs.Option.{option_map}
 use Rattle.std.specs.FinMap as finite
 use Rattle.raft_history.specs.WaitingGroup as groups
-use Rattle.raft_history.specs.WaitingGroup.{Open, Ended, Cut}
+use Rattle.raft_history.specs.WaitingGroup.{Open, Ended, Begun}
 use Rattle.raft_history.specs.WaitingGroups as all
 use Rattle.raft_memtable.specs.declared.waiting_group.GroupFront.{GroupFront}
 use Rattle.raft_memtable.specs.declared.waiting_group.GroupFront.TheVariants as fronts
@@ -15,7 +15,7 @@ use Rattle.raft_memtable.specs.declared.waiting_group.WholeGroup.{WholeGroup}
 abbrev pub front_shown : GroupFront → groups.GroupFront
 front_shown (fronts.Open items) = Open items
 front_shown (fronts.Ended items seq) = Ended items seq
-front_shown fronts.Cut = Cut
+front_shown fronts.Begun = Begun
 
 -- an open stretch
 abbrev pub open_shown : OpenStretch → groups.OpenStretch

@@ -86,12 +86,7 @@ fn are_in_file(items: &[LogItem], file: FileId) -> bool
     ensures { MatchBool result (AreInFile file (map item_of items.now))
         (AreInFile file (map item_of items.now) → ⊥) }
 {
-    for item in items {
-        if !is_in_file(item, file) {
-            return false;
-        }
-    }
-    true
+    items.iter().all(|item| is_in_file(item, file))
 }
 
 /// Whether an item may stand in a batch of the file.
@@ -137,7 +132,7 @@ fn is_place_in(entry: &EntryIndex, file: FileId) -> bool
         (IsPlaceInFile file entry.now.entries → ⊥) }
 {
     match entry.entries {
-        Some(handle) => handle.id == file,
+        Some(place) => place.id == file,
         None => false,
     }
 }

@@ -12,20 +12,20 @@ use raft_base::{FileId, FileSeq, LogQueue};
 #[derive(Clone, Copy, Debug)]
 pub(crate) struct FileRange {
     queue: LogQueue,
-    first: FileSeq,
-    last: FileSeq,
+    first_seq: FileSeq,
+    last_seq: FileSeq,
 }
 
 impl FileRange {
     /// The files of one batch.
     pub(crate) fn of(file: FileId) -> FileRange
         ensures { range_shown result
-            ≡ record { queue = file.queue; first = file.seq; last = file.seq } }
+            ≡ record { queue = file.queue; first_seq = file.seq; last_seq = file.seq } }
     {
         FileRange {
             queue: file.queue,
-            first: file.seq,
-            last: file.seq,
+            first_seq: file.seq,
+            last_seq: file.seq,
         }
     }
 
@@ -44,7 +44,7 @@ impl FileRange {
         ensures { result ≡ follows (ranges_shown older) (ranges_shown newer) }
     {
         match (older, newer) {
-            (Some(older), Some(newer)) => older.last <= newer.first,
+            (Some(older), Some(newer)) => older.last_seq <= newer.first_seq,
             _ => true,
         }
     }
@@ -56,8 +56,8 @@ impl FileRange {
         match (older, newer) {
             (Some(older), Some(newer)) => Some(FileRange {
                 queue: older.queue,
-                first: older.first,
-                last: newer.last,
+                first_seq: older.first_seq,
+                last_seq: newer.last_seq,
             }),
             (Some(older), None) => Some(older),
             (None, newer) => newer,

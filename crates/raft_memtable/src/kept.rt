@@ -9,7 +9,7 @@ pub struct Kept {
     /// Key values in all tables.
     pub keys: u128,
     /// Regions that have a region mark, and groups that have a group marker.
-    pub marks: u128,
+    pub regions_and_groups: u128,
     /// Keys in the region marks that were deleted.
     pub deleted_keys: u128,
     /// Regions in the list of those that were cleaned.

@@ -71,8 +71,8 @@ impl MarkedTables {
         self.take_each(file.queue, items.into_items())
     }
 
-    /// Takes in the items of a group of the rewrite queue that is whole, in order, and then its files
-    /// for each region that they name.
+    /// Takes in the items of a group of the rewrite queue that is whole, in order, and then the numbers
+    /// of its files for each region that they name.
     ///
     /// # Errors
     ///
@@ -97,7 +97,7 @@ impl MarkedTables {
         } = whole;
         let regions = items.regions()?;
         self.take_each(LogQueue::Rewrite, items.into_items())?;
-        self.take_files(&regions, first_seq, last_seq)
+        self.take_seqs(&regions, first_seq, last_seq)
     }
 
     /// Takes in items, in order.
@@ -141,7 +141,7 @@ impl MarkedTables {
     }
 
     /// Takes in the files of a group for each of these regions.
-    fn take_files(&mut self, regions: &[u64], first_seq: FileSeq, last_seq: FileSeq) -> Result<()>
+    fn take_seqs(&mut self, regions: &[u64], first_seq: FileSeq, last_seq: FileSeq) -> Result<()>
         requires { first_seq ≤ last_seq }
         ensures { AreStepsTaken Rewrite (on_each regions.now (AtomicGroup first_seq last_seq))
             result self.old self.new }
@@ -183,7 +183,7 @@ impl MarkedTables {
         requires { AreStepsOfQueue queue (one_step id (Run run.items)) }
         ensures { AreStepsTaken queue (one_step id (Run run.items)) result self.old self.new }
     {
-        let start = start_of(&run);
+        let start = first_index_of(&run);
         let end = self.accessor.replay_run(queue, id, run)?;
         match start {
             Some(start) => Ok(self.marks.add_run(id, queue, end, start)?),
@@ -264,7 +264,7 @@ impl MarkedTables {
 }
 
 /// The first index of a run, if it has one.
-fn start_of(run: &[EntryIndex]) -> Option<u64>
+fn first_index_of(run: &[EntryIndex]) -> Option<u64>
     ensures { result ≡ first_index run.now }
 {
     match run.first() {

@@ -12,7 +12,7 @@ ghost use Rattle.raft_accessor.specs.Accessor.{live_in_all};
 ghost use Rattle.raft_memtable.specs.BatchChecks.{marker_found};
 ghost use Rattle.raft_memtable.specs.KeptShown.{kept_shown};
 ghost use Rattle.raft_memtable.specs.MarkedTables.{regions_in, IsStepsFault};
-ghost use Rattle.raft_memtable.specs.ReadStates.{context_in, IsOfHistory, TakesEffect, MayTakeEffect};
+ghost use Rattle.raft_memtable.specs.ReadStates.{context_in, IsOfHistory, CanTakeEffect, CanTakeEffectIfAny};
 ghost use Rattle.raft_memtable.specs.RecoverContext.{reading_on, MayFollow, IsBatchFault, AreNeighbors, IsNeighborFault};
 ghost use Rattle.raft_memtable.specs.WaitingShown.{whole_shown};
 
@@ -62,7 +62,7 @@ impl ReadState {
         ensures next { OnOk result (MayFollow (context_in self.old) (event batch file)) }
         ensures taken { OnOk result (taken_in (context_in self.old) (event batch file)
             ≡ Some (context_in self.new)) }
-        ensures read { OnOk result (IsOfHistory (context_in self.new)) }
+        ensures history { OnOk result (IsOfHistory (context_in self.new)) }
         ensures fault { IfErr result (IsBatchFault (reading_on (context_in self.old))
             (event batch file)) }
     {
@@ -90,12 +90,12 @@ impl ReadState {
 
     /// Takes in a batch without a group marker, which takes effect at once.
     fn take_lone_batch(&mut self, batch: LogItemBatch, file: FileId) -> Result<()>
-        requires read { IsOfHistory (context_in self.old) }
+        requires history { IsOfHistory (context_in self.old) }
         requires next { MayFollow (context_in self.old) (event batch file) }
         requires without_marker { marker_found file.queue batch ≡ None }
         ensures taken { OnOk result (taken_in (context_in self.old) (event batch file)
             ≡ Some (context_in self.new)) }
-        ensures read { OnOk result (IsOfHistory (context_in self.new)) }
+        ensures history { OnOk result (IsOfHistory (context_in self.new)) }
         ensures fault { IfErr result (IsBatchFault (reading_on (context_in self.old))
             (event batch file)) }
     {
@@ -112,12 +112,12 @@ impl ReadState {
         batch: LogItemBatch,
         file: FileId,
     ) -> Result<()>
-        requires read { IsOfHistory (context_in self.old) }
+        requires history { IsOfHistory (context_in self.old) }
         requires next { MayFollow (context_in self.old) (event batch file) }
         requires with_marker { marker_found file.queue batch ≡ Some (id, status) }
         ensures taken { OnOk result (taken_in (context_in self.old) (event batch file)
             ≡ Some (context_in self.new)) }
-        ensures read { OnOk result (IsOfHistory (context_in self.new)) }
+        ensures history { OnOk result (IsOfHistory (context_in self.new)) }
         ensures fault { IfErr result (IsBatchFault (reading_on (context_in self.old))
             (event batch file)) }
     {
@@ -138,7 +138,7 @@ impl ReadState {
             (context_in self.new).regions) }
         ensures merged { OnOk result (context_in self.new
             ≡ merged_with (context_in self.old) (context_in newer) (context_in self.new).regions) }
-        ensures read { OnOk result (IsOfHistory (context_in self.new)) }
+        ensures history { OnOk result (IsOfHistory (context_in self.new)) }
         ensures fault { IfErr result (IsNeighborFault queue (reading_on (context_in self.old))
             (reading_on (context_in newer))) }
     {
@@ -146,7 +146,7 @@ impl ReadState {
         self.join(newer, queue)
     }
 
-    /// How much it is.
+    /// What it holds, in numbers.
     pub(crate) fn kept(&self) -> Result<Kept>
         ensures ok { IfOk result (λ kept. kept_shown kept ≡ kept_of (context_in self.now)) }
         ensures memory { IfErr result (λ e. e ≡ Error.Memory) }
@@ -155,7 +155,7 @@ impl ReadState {
         Ok(Kept {
             entries: accessor.entries_count()?,
             keys: accessor.key_count()?,
-            marks: marks.len() as u128 + self.groups.len() as u128,
+            regions_and_groups: marks.len() as u128 + self.groups.len() as u128,
             deleted_keys: marks.deleted_keys(),
             cleaned: accessor.cleaned_regions().len() as u128,
             waiting_items: self.groups.waiting_items(),
@@ -187,7 +187,7 @@ impl ReadState {
             (context_in self.new).regions) }
         ensures merged { OnOk result (context_in self.new
             ≡ merged_with (context_in self.old) (context_in newer) (context_in self.new).regions) }
-        ensures read { OnOk result (IsOfHistory (context_in self.new)) }
+        ensures history { OnOk result (IsOfHistory (context_in self.new)) }
         ensures fault { IfErr result (IsNeighborFault queue (reading_on (context_in self.old))
             (reading_on (context_in newer))) }
     {
@@ -207,7 +207,7 @@ impl ReadState {
 
 /// Takes in a group that is whole, if there is one.
 fn take_whole(regions: &mut MarkedTables, whole: Option<WholeGroup>) -> Result<()>
-    requires { MayTakeEffect (option_map whole_shown whole) }
+    requires { CanTakeEffectIfAny (option_map whole_shown whole) }
     ensures taken { OnOk result (regions_after Rewrite (regions_in regions.old)
         (region_steps_or (option_map whole_shown whole))
         ≡ Some (regions_in regions.new)) }
@@ -225,7 +225,7 @@ fn take_whole(regions: &mut MarkedTables, whole: Option<WholeGroup>) -> Result<(
 
 /// Takes in groups that are whole, one after another.
 fn take_wholes(regions: &mut MarkedTables, wholes: Vec<WholeGroup>) -> Result<()>
-    requires { AllByRecursion TakesEffect (map whole_shown wholes.items) }
+    requires { AllByRecursion CanTakeEffect (map whole_shown wholes.items) }
     ensures taken { OnOk result (regions_after Rewrite (regions_in regions.old)
         (region_steps_of_wholes (map whole_shown wholes.items))
         ≡ Some (regions_in regions.new)) }

@@ -196,7 +196,8 @@ impl MemTableRecoverContext {
             → IfOk result (λ kept. IsAtMost (kept_shown kept) (kept_by queue h tables)) }
         ensures overlaid { (rewrite append : List Event) → IsOfBothExactly self.now rewrite append
             → IfOk result
-            (λ kept. (kept.marks ≡ 0) × (kept.deleted_keys ≡ 0) × (kept.waiting_items ≡ 0)) }
+            (λ kept. (kept.regions_and_groups ≡ 0) × (kept.deleted_keys ≡ 0)
+            × (kept.waiting_items ≡ 0)) }
         ensures accepted { OnOk result (self.now.stage ≢ Failed) }
         ensures failed { self.now.stage ≡ Failed → IfErr result (λ e. e ≡ Error.Failed) }
         ensures fault { IfErr result (IsKeptFault self.now.stage) }

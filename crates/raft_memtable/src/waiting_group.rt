@@ -19,7 +19,7 @@ pub enum GroupFront {
     /// An `End` came first; the items up to it, and the number of its file.
     Ended(WaitingItems, FileSeq),
     /// A `Begin` came first.
-    Cut,
+    Begun,
 }
 
 /// A stretch that has begun and not ended: the number of the file of its `Begin`, and its items.
@@ -52,15 +52,14 @@ impl GroupFront {
         match self {
             GroupFront::Open(items) => items.len(),
             GroupFront::Ended(items, _) => items.len(),
-            GroupFront::Cut => 0,
+            GroupFront::Begun => 0,
         }
     }
 
     /// The front with items that stand before it.
-    fn led_by(self, items: WaitingItems) -> AllocResult<GroupFront>
+    fn led_by(self, mut items: WaitingItems) -> AllocResult<GroupFront>
         ensures { IfOk result (λ r. front_shown r ≡ led_by items (front_shown self)) }
     {
-        let mut items = items;
         match self {
             GroupFront::Open(more) => {
                 items.append(more)?;
@@ -70,7 +69,7 @@ impl GroupFront {
                 items.append(more)?;
                 Ok(GroupFront::Ended(items, seq))
             }
-            GroupFront::Cut => Ok(GroupFront::Cut),
+            GroupFront::Begun => Ok(GroupFront::Begun),
         }
     }
 }
@@ -92,7 +91,7 @@ impl WaitingGroup {
     {
         match status {
             AtomicGroupStatus::Begin => WaitingGroup {
-                front: GroupFront::Cut,
+                front: GroupFront::Begun,
                 stretch: Some(OpenStretch {
                     first_seq: seq,
                     items,
@@ -148,7 +147,7 @@ impl WaitingGroup {
                 let whole = ended(older_stretch, items, last_seq)?;
                 (front, newer_stretch, whole)
             }
-            (front, GroupFront::Cut) => (front, newer_stretch, None),
+            (front, GroupFront::Begun) => (front, newer_stretch, None),
         };
         Ok((WaitingGroup { front, stretch }, whole))
     }
@@ -159,8 +158,7 @@ fn going_on(stretch: Option<OpenStretch>, items: WaitingItems) -> AllocResult<Op
     ensures { IfOk result (λ r. stretch_shown r ≡ carried_stretch (stretch_shown stretch) items) }
 {
     match stretch {
-        Some(open) => {
-            let mut open = open;
+        Some(mut open) => {
             open.items.append(items)?;
             Ok(Some(open))
         }

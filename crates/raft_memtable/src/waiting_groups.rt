@@ -9,7 +9,7 @@ ghost use Rattle.std.specs.Map.{remove_entry};
 ghost use Rattle.raft_history.specs.Batches.{BatchSteps, batch_with_marker};
 ghost use Rattle.raft_history.specs.Effects.{EachApart, effects, steps_of};
 ghost use Rattle.raft_history.specs.WaitingGroup.{joined_group, whole_group, one_marker};
-ghost use Rattle.raft_history.specs.WaitingGroups.{groups_in, waiting_steps, steps_or, known, joined_groups, whole_groups, steps_of_wholes};
+ghost use Rattle.raft_history.specs.WaitingGroups.{groups_in, waiting_steps, steps_or, known_of, joined_groups, whole_groups, steps_of_wholes};
 ghost use Rattle.raft_memtable.specs.WaitingShown.{seen_entries, group_shown, whole_shown};
 
 use crate::waiting_group::{WaitingGroup, WholeGroup};
@@ -86,17 +86,16 @@ impl WaitingGroups {
     ) -> AllocResult<Option<WholeGroup>>
         ensures known { OnOk result (self.new
             ≡ finite.insert self.old id
-            (joined_group (known self.old id) (one_marker status items seq))) }
+            (joined_group (known_of self.old id) (one_marker status items seq))) }
         ensures whole { IfOk result (λ w. option_map whole_shown w
-            ≡ whole_group (known self.old id) (one_marker status items seq)) }
+            ≡ whole_group (known_of self.old id) (one_marker status items seq)) }
         ensures stands { (h : List BatchSteps) → self.old ≡ groups_in h
             → OnOk result (self.new ≡ groups_in (h ++ batch_with_marker items id status seq ∷ [])) }
         ensures steps { (h : List BatchSteps) (r : ℕ) → self.old ≡ groups_in h
             → IfOk result (λ w. steps_of r (h ++ batch_with_marker items id status seq ∷ [])
             ≡ steps_of r h ++ steps_or r (option_map whole_shown w)) }
     {
-        let whole = self.join_one(id, WaitingGroup::one_marker(status, items, seq))?;
-        Ok(whole)
+        self.join_one(id, WaitingGroup::one_marker(status, items, seq))
     }
 
     /// Joins what is known of the groups of a newer history. Answers the groups that the
@@ -115,8 +114,7 @@ impl WaitingGroups {
             → IfOk result (λ w. steps_of r (h ++ k)
             ≡ steps_of r h ++ (steps_of_wholes r (map whole_shown w.items) ++ steps_of r k)) }
     {
-        let wholes = self.join_each(newer)?;
-        Ok(wholes)
+        self.join_each(newer)
     }
 
     /// Joins one group of the newer history after another.
@@ -136,9 +134,9 @@ impl WaitingGroups {
     /// Joins what is known of one group with what is known of it from a newer history.
     fn join_one(&mut self, id: u64, newer: WaitingGroup) -> AllocResult<Option<WholeGroup>>
         ensures known { OnOk result (self.new
-            ≡ finite.insert self.old id (joined_group (known self.old id) (group_shown newer))) }
+            ≡ finite.insert self.old id (joined_group (known_of self.old id) (group_shown newer))) }
         ensures whole { IfOk result (λ w. option_map whole_shown w
-            ≡ whole_group (known self.old id) (group_shown newer)) }
+            ≡ whole_group (known_of self.old id) (group_shown newer)) }
     {
         let older = take_out(&mut self.groups, self.alloc, id);
         let (group, whole) = older.join(newer)?;
@@ -161,7 +159,7 @@ impl WaitingGroups {
 /// Takes out what is known of a group.
 fn take_out(groups: &mut BTreeMap<u64, WaitingGroup>, alloc: Global, id: u64) -> WaitingGroup
     requires { IsOrdered nat_cmp groups.old }
-    ensures known { group_shown result ≡ known (seen_entries groups.old.entries) id }
+    ensures known { group_shown result ≡ known_of (seen_entries groups.old.entries) id }
     ensures rest { groups.new.entries ≡ remove_entry (is_at (nat_cmp id)) groups.old.entries }
     ensures ordered { IsOrdered nat_cmp groups.new }
 {

@@ -1,6 +1,6 @@
 //! Items of groups that are not whole yet.
 
-ghost use Rattle.std.specs.Prelude.{◌≡◌, ◌++◌, ℕ, eqb, [], ◌∷◌, length, map, is_some, IsTrue, OnOk, IfOk};
+ghost use Rattle.std.specs.Prelude.{◌≡◌, ◌++◌, ℕ, ◌==◌, [], ◌∷◌, length, map, is_some, IsTrue, OnOk, IfOk};
 ghost use Rattle.std.specs.List.{list_any};
 ghost use Rattle.raft_records.specs.Item.{item_of, pair, pair_of};
 ghost use Rattle.raft_history.specs.RegionSteps.{content_step, steps_of_items, names};
@@ -42,10 +42,9 @@ impl WaitingItems {
     }
 
     /// The items that change a table, in order.
-    pub fn of_items(items: Vec<LogItem>) -> WaitingItems
+    pub fn of_items(mut items: Vec<LogItem>) -> WaitingItems
         ensures { result ≡ steps_of_items (map item_of items.items) }
     {
-        let mut items = items;
         items.retain(|item| has_step(item));
         WaitingItems { items }
     }
@@ -77,7 +76,7 @@ impl WaitingItems {
     /// Where there is no memory for them.
     pub fn regions(&self) -> AllocResult<Vec<u64>>
         ensures { IfOk result
-            (λ ids. (r : ℕ) → list_any (λ id. eqb r id) ids.items ≡ names r self.now) }
+            (λ ids. (r : ℕ) → list_any (λ id. r == id) ids.items ≡ names r self.now) }
     {
         let mut ids: Vec<u64> = Vec::new(*self.items.allocator());
         for item in &self.items {
@@ -99,8 +98,8 @@ impl WaitingItems {
 
 /// Whether a region is the last of these.
 fn is_last(ids: &[u64], id: u64) -> bool
-    ensures { (r : ℕ) → IsTrue result → list_any (λ i. eqb r i) (ids.now ++ id ∷ []) ≡ list_any
-        (λ i. eqb r i) ids.now }
+    ensures { (r : ℕ) → IsTrue result → list_any (λ i. r == i) (ids.now ++ id ∷ []) ≡ list_any
+        (λ i. r == i) ids.now }
 {
     match ids.last() {
         Some(last) => *last == id,

@@ -1,5 +1,5 @@
 -- What a context that has replayed all segments gives, and files as segments.
-use Rattle.std.proofs.Common.{◌≡◌, ◌≢◌, ◌⊎◌, ◌↔◌, ◌<◌, ◌≤◌, ◌^◌, inl, inr, ℕ, length, List, [], ◌∷◌, Option, Result, Ok, Err, IfOk, IfErr, OnOk, Vec, sym, subst}
+use Rattle.std.proofs.Common.{◌≡◌, ◌≢◌, ◌⊎◌, ◌↔◌, ◌<◌, ◌^◌, inl, inr, ℕ, length, List, [], ◌∷◌, Option, Result, Ok, Err, IfOk, IfErr, OnOk, Vec, sym, subst}
 use Rattle.std.specs.Global.{Global}
 use Rattle.raft_base.specs.declared.errors.Error.{Error}
 use Rattle.raft_base.specs.declared.errors.Error.TheVariants as errors
@@ -21,7 +21,7 @@ use Rattle.raft_replay.proofs.MachineOrderLemmas.{segments_read_of_queue}
 use Rattle.raft_replay.proofs.SegmentLemmas.{segments_unique}
 use Rattle.raft_recover.specs.Files.{FilesHold, FilesCannotBeRead, IsPrintFailure, PrintsRecovered}
 use Rattle.raft_recover.specs.Recovery.{IsRecovered}
-use Rattle.raft_recover.specs.Requests.{File}
+use Rattle.raft_recover.specs.Requests.{NumberedBytes}
 use Rattle.raft_recover.specs.TableLines.{PrintsTables, PrintsFrontOfTables}
 
 -- ---- the context of all segments
@@ -39,14 +39,14 @@ module _ (queue : LogQueue) (segments : List (Vec Part Global)) (of_queue : Segm
   suited : IsSmall replayed.history → Suits queue m.context.files
   suited small =
       subst (Suits queue) (sym (replayed.stands small).stands.files)
-      (suits queue replayed.history (segments_read_of_queue queue segments of_queue replayed.history replayed.reads))
+      (suits queue replayed.history (segments_read_of_queue queue segments of_queue replayed.history replayed.held))
 
   pub recovered : (r : Result Accessor Error)
       → ((q : LogQueue) (h : List Event) → HasReadExactly m h → Suits q m.context.files → IfOk r (λ a. IsOneReading q h a.tables a.cleaned))
       → IfOk r (λ a. AreCountsOf a.tables a.counts) → IfOk r (IsRecovered queue (SegmentsHold segments))
   recovered (Ok a) one counted = record {
     history = replayed.history;
-    reads = replayed.reads;
+    held = replayed.held;
     sound = λ small. ((replayed.stands small).stands.stands queue (suited small)).sound;
     one_reading = λ small apart. one queue replayed.history (replayed.exact small apart) (suited small);
     exact_counts = counted;
@@ -56,8 +56,8 @@ module _ (queue : LogQueue) (segments : List (Vec Part Global)) (of_queue : Segm
   pub unfinished : (r : Result Accessor Error) → IfErr r (λ e. (e ≡ errors.Failed) × (m.stage ≡ stages.Failed)) → IfErr r (λ e. e ≢ errors.Memory → CannotBeRead segments)
   unfinished (Ok a) failed = tt
   unfinished (Err e) failed = λ not_memory. record {
-    unsound = λ h reads small sound.
-        let one = segments_unique segments h replayed.history reads replayed.reads in
+    unsound = λ h held small sound.
+        let one = segments_unique segments h replayed.history held replayed.held in
         let reading = (replayed.stands (subst IsSmall one small)).stage in
         subst (λ s. is_failed s → ⊥) (sym reading) (λ none. none) (subst is_failed (sym failed.1) tt);
   }
@@ -69,7 +69,7 @@ module _ (queue : LogQueue) (segments shares : List (Vec Part Global)) (same : (
   pub shares_recovered : (r : Result Accessor Error) → IfOk r (IsRecovered queue (SegmentsHold shares)) → IfOk r (IsRecovered queue (SegmentsHold segments))
   shares_recovered (Ok a) r = record {
     history = r.history;
-    reads = (same r.history).1 r.reads;
+    held = (same r.history).1 r.held;
     sound = r.sound;
     one_reading = r.one_reading;
     exact_counts = r.exact_counts;
@@ -85,7 +85,7 @@ module _ (queue : LogQueue) (segments shares : List (Vec Part Global)) (same : (
         → MayReplay queue workers segments → IfErr r (λ e. e ≢ errors.Memory → CannotBeRead segments)
     shares_refused (Ok a) refused good = tt
     shares_refused (Err e) refused good = λ not_memory. record {
-      unsound = λ h reads. (refused (good.0, good.1, few_shares, (of_queue queue).0 good.3) not_memory).unsound h ((same h).0 reads);
+      unsound = λ h held. (refused (good.0, good.1, few_shares, (of_queue queue).0 good.3) not_memory).unsound h ((same h).0 held);
     }
 
     pub shares_at_fault : (r : Result Accessor Error) → ((MayReplay queue workers shares → ⊥) → IfErr r (λ e. e ≢ errors.Memory → IsInvalidArgument e))
@@ -94,19 +94,19 @@ module _ (queue : LogQueue) (segments shares : List (Vec Part Global)) (same : (
 
 -- ---- files as segments
 
-module _ (queue : LogQueue) (version : Version) (ss : List (Vec Part Global)) (files : List File)
+module _ (queue : LogQueue) (version : Version) (ss : List (Vec Part Global)) (files : List NumberedBytes)
     (same : (h : List Event) → FilesHold queue version files h ↔ SegmentsHold ss h) where
   files_recovered : (a : Accessor) → IsRecovered queue (SegmentsHold ss) a → IsRecovered queue (FilesHold queue version files) a
   files_recovered a r = record {
     history = r.history;
-    reads = (same r.history).1 r.reads;
+    held = (same r.history).1 r.held;
     sound = r.sound;
     one_reading = r.one_reading;
     exact_counts = r.exact_counts;
   }
 
   pub files_refused : CannotBeRead ss → FilesCannotBeRead queue version files
-  files_refused cannot = record { unsound = λ h reads. cannot.unsound h ((same h).0 reads) }
+  files_refused cannot = record { unsound = λ h held. cannot.unsound h ((same h).0 held) }
 
   module _ (a : Accessor) (r : IsRecovered queue (SegmentsHold ss) a) where
     pub tables_printed : {X : Type 0} (printed : Result X Error) (old new : Option (List ℕ)) → OnOk printed (PrintsTables a old new) → OnOk printed (PrintsRecovered queue version files old new)

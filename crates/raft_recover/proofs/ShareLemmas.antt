@@ -51,30 +51,30 @@ rests queue xs ys p = All-from_recursion (IsOf queue) ys (rest_of queue xs ys (r
 
 pub alike_same : (xs ys : List Part) → xs ≡ ys → AreAlike xs ys
 alike_same xs ys same = record {
-  read = λ h. (subst (λ (l : List Part). PartsHold l h) same, subst (λ (l : List Part). PartsHold l h) (sym same));
+  same = λ h. (subst (λ (l : List Part). PartsHold l h) same, subst (λ (l : List Part). PartsHold l h) (sym same));
   of_queue = λ queue. (subst (PartsAreOf queue) same, subst (PartsAreOf queue) (sym same));
 }
 
 pub alike_then : (xs ys zs : List Part) → AreAlike xs ys → AreAlike ys zs → AreAlike xs zs
 alike_then xs ys zs p q = record {
-  read = λ h. (λ r. (q.read h).0 ((p.read h).0 r), λ r. (p.read h).1 ((q.read h).1 r));
+  same = λ h. (λ r. (q.same h).0 ((p.same h).0 r), λ r. (p.same h).1 ((q.same h).1 r));
   of_queue = λ queue. (λ r. (q.of_queue queue).0 ((p.of_queue queue).0 r), λ r. (p.of_queue queue).1 ((q.of_queue queue).1 r));
 }
 
 read_behind : (xs ys zs : List Part) → ((h : List Event) → PartsHold xs h → PartsHold ys h) → (h : List Event) → PartsHold (xs ++ zs) h → PartsHold (ys ++ zs) h
-read_behind xs ys zs same h reads =
-    let r = each_cut PartHolds xs zs h reads in
+read_behind xs ys zs same h held =
+    let r = each_cut PartHolds xs zs h held in
     subst (PartsHold (ys ++ zs)) (sym r.split) (each_join PartHolds ys zs r.first r.rest (same r.first r.first_held) r.rest_held)
 
 read_before : (xs ys zs : List Part) → ((h : List Event) → PartsHold xs h → PartsHold ys h) → (h : List Event) → PartsHold (zs ++ xs) h → PartsHold (zs ++ ys) h
-read_before xs ys zs same h reads =
-    let r = each_cut PartHolds zs xs h reads in
+read_before xs ys zs same h held =
+    let r = each_cut PartHolds zs xs h held in
     subst (PartsHold (zs ++ ys)) (sym r.split) (each_join PartHolds zs ys r.first r.rest r.first_held (same r.rest r.rest_held))
 
 -- with the same parts behind them
 pub alike_behind : (xs ys zs : List Part) → AreAlike xs ys → AreAlike (xs ++ zs) (ys ++ zs)
 alike_behind xs ys zs p = record {
-  read = λ h. (read_behind xs ys zs (λ g. (p.read g).0) h, read_behind ys xs zs (λ g. (p.read g).1) h);
+  same = λ h. (read_behind xs ys zs (λ g. (p.same g).0) h, read_behind ys xs zs (λ g. (p.same g).1) h);
   of_queue = λ queue. (
     λ r. joined queue ys zs ((p.of_queue queue).0 (fronts queue xs zs r)) (rests queue xs zs r),
     λ r. joined queue xs zs ((p.of_queue queue).1 (fronts queue ys zs r)) (rests queue ys zs r),
@@ -84,7 +84,7 @@ alike_behind xs ys zs p = record {
 -- with the same parts in front of them
 pub alike_before : (xs ys zs : List Part) → AreAlike xs ys → AreAlike (zs ++ xs) (zs ++ ys)
 alike_before xs ys zs p = record {
-  read = λ h. (read_before xs ys zs (λ g. (p.read g).0) h, read_before ys xs zs (λ g. (p.read g).1) h);
+  same = λ h. (read_before xs ys zs (λ g. (p.same g).0) h, read_before ys xs zs (λ g. (p.same g).1) h);
   of_queue = λ queue. (
     λ r. joined queue zs ys (fronts queue zs xs r) ((p.of_queue queue).0 (rests queue zs xs r)),
     λ r. joined queue zs xs (fronts queue zs ys r) ((p.of_queue queue).1 (rests queue zs ys r)),
@@ -104,7 +104,7 @@ pub alike_cut : (part : Part) (cut : List Part) → AreCutFrom part cut → All 
 alike_cut part cut same ids some =
     let all = recursion_from_All (λ (p : Part). p.id ≡ part.id) cut ids in
     record {
-      read = λ h. (λ r. (same h).0 ((uncut part h).1 r), λ r. (uncut part h).0 ((same h).1 r));
+      same = λ h. (λ r. (same h).0 ((uncut part h).1 r), λ r. (uncut part h).0 ((same h).1 r));
       of_queue = λ queue. (
         λ r. All-from_recursion (IsOf queue) cut (cut_of queue part cut all (recursion_from_All (IsOf queue) (part ∷ []) r).0),
         λ r. All-from_recursion (IsOf queue) (part ∷ []) (whole_of queue part cut all some (recursion_from_All (IsOf queue) cut r), tt),
@@ -177,8 +177,8 @@ within_of queue segments p = All-from_recursion (λ s. PartsAreOf queue s.items)
 module _ (segments shares : List (Vec Part Global)) (parts : List Part) (alike : AreAlike (parts_within segments) parts) (same : parts_within shares ≡ parts) where
   pub shares_read : (h : List Event) → SegmentsHold segments h ↔ SegmentsHold shares h
   shares_read h = (
-    λ r. within_read shares h (subst (λ (l : List Part). PartsHold l h) (sym same) ((alike.read h).0 (read_within segments h r))),
-    λ r. within_read segments h ((alike.read h).1 (subst (λ (l : List Part). PartsHold l h) same (read_within shares h r))),
+    λ r. within_read shares h (subst (λ (l : List Part). PartsHold l h) (sym same) ((alike.same h).0 (read_within segments h r))),
+    λ r. within_read segments h ((alike.same h).1 (subst (λ (l : List Part). PartsHold l h) same (read_within shares h r))),
   )
 
   pub shares_of_queue : (queue : LogQueue) → SegmentsAreOf queue segments ↔ SegmentsAreOf queue shares

@@ -13,7 +13,7 @@ path_shown file = (file.0, file.1.now)
 
 -- the recovery that words ask for
 abbrev pub asks_for : RecoverWords → requests.AskedRecovery
-asks_for r = record { queue = r.queue; version = r.version; workers = r.workers; files = map path_shown r.files.items }
+asks_for r = record { queue = r.queue; version = r.version; workers = r.workers; paths = map path_shown r.paths.items }
 
 -- the words ask for it
 abbrev pub IsAsked : List (List ℕ) → Request → Type 0
@@ -21,5 +21,5 @@ IsAsked words (Batch context) = requests.AsksBatch words context
 IsAsked words (Recover recovery) = requests.AsksRecovery words (asks_for recovery)
 
 -- a file by its bytes
-abbrev pub file_shown : ℕ × Vec ℕ Global → requests.File
+abbrev pub file_shown : ℕ × Vec ℕ Global → requests.NumberedBytes
 file_shown file = (file.0, file.1.items)

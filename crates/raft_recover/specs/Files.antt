@@ -11,36 +11,36 @@ use Rattle.raft_history.specs.Histories.{IsSmall, Sound}
 use Rattle.raft_accessor.specs.Accessor.{Accessor}
 use Rattle.raft_replay.specs.Segments.{HoldsFrom, EachHolds}
 use Rattle.raft_recover.specs.Recovery.{IsRecovered}
-use Rattle.raft_recover.specs.Requests.{File}
+use Rattle.raft_recover.specs.Requests.{NumberedBytes}
 use Rattle.raft_recover.specs.TableLines.{PrintsTables, PrintsFrontOfTables}
 
 -- all of a file's bytes
-abbrev pub whole_file : LogQueue → Version → File → Part
+abbrev pub whole_file : LogQueue → Version → NumberedBytes → Part
 whole_file queue version file = record { id = record { queue = queue; seq = file.0 }; version = version; offset = 0; bytes = file.1 }
 
 -- the batches of files, in order
-abbrev pub FilesHold : LogQueue → Version → List File → List Event → Type 0
+abbrev pub FilesHold : LogQueue → Version → List NumberedBytes → List Event → Type 0
 FilesHold queue version files h =
     EachHolds (λ file. HoldsFrom (whole_file queue version file) 0) files h
 
 -- a file isn't a row of readable batches, or the batches of all files, in order, name 2^63 records or more or are a history that can't be read
-pub record FilesCannotBeRead (queue : LogQueue) (version : Version) (files : List File) : Type 0 where
+pub record FilesCannotBeRead (queue : LogQueue) (version : Version) (files : List NumberedBytes) : Type 0 where
   pub unsound : (h : List Event) → FilesHold queue version files h → IsSmall h → ¬ (Sound h)
 
 -- the lines of the files' tables were written behind the old bytes, where those are known
-pub record PrintsRecovered (queue : LogQueue) (version : Version) (files : List File) (old new : Option (List ℕ)) : Type 0 where
+pub record PrintsRecovered (queue : LogQueue) (version : Version) (files : List NumberedBytes) (old new : Option (List ℕ)) : Type 0 where
   pub accessor : Accessor
   pub recovered : IsRecovered queue (FilesHold queue version files) accessor
   pub printed : PrintsTables accessor old new
 
 -- a front of the lines of the files' tables, and not all of them, was written behind the old bytes, where those are known
-pub record PrintsFrontOfRecovered (queue : LogQueue) (version : Version) (files : List File) (old new : Option (List ℕ)) : Type 0 where
+pub record PrintsFrontOfRecovered (queue : LogQueue) (version : Version) (files : List NumberedBytes) (old new : Option (List ℕ)) : Type 0 where
   pub accessor : Accessor
   pub recovered : IsRecovered queue (FilesHold queue version files) accessor
   pub printed : PrintsFrontOfTables accessor old new
 
 -- the writer failed, once the tables were found: of their lines a front was written, and not all
-pub record IsPrintFailure (queue : LogQueue) (version : Version) (files : List File) (old new : Option (List ℕ)) (e : Error) : Type 0 where
+pub record IsPrintFailure (queue : LogQueue) (version : Version) (files : List NumberedBytes) (old new : Option (List ℕ)) (e : Error) : Type 0 where
   pub io : IsIoError e
   pub printed : PrintsFrontOfRecovered queue version files old new
 

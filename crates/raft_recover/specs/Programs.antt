@@ -5,7 +5,7 @@ use Rattle.raft_base.specs.Signature.{signature_of}
 use Rattle.raft_base.specs.declared.pipe_log.LogFileContext.{LogFileContext}
 use Rattle.raft_records.specs.Lines.{IsTextOf, Prints, AppendsFront}
 use Rattle.raft_recover.specs.Files.{PrintsRecovered, PrintsFrontOfRecovered}
-use Rattle.raft_recover.specs.Requests.{File, AreFilesOf, AskedRecovery, AsksBatch, AsksRecovery}
+use Rattle.raft_recover.specs.Requests.{NumberedBytes, AreFilesOf, AskedRecovery, AsksBatch, AsksRecovery}
 
 -- the batch that was asked for was in the input, where that is known, and is printed
 pub record IsBatchPrinted (words : List (List ℕ)) (input old new : Option (List ℕ)) : Type 0 where
@@ -26,17 +26,17 @@ pub record IsBatchFrontPrinted (words : List (List ℕ)) (input left old new : O
 pub record IsRecoveryPrinted (words : List (List ℕ)) (old new : Option (List ℕ)) : Type 0 where
   pub recovery : AskedRecovery
   pub asked : AsksRecovery words recovery
-  pub files : List File
+  pub files : List NumberedBytes
   pub workers : (0 < recovery.workers) × (recovery.workers ≤ 256)
-  pub read : AreFilesOf recovery.files files
+  pub read : AreFilesOf recovery.paths files
   pub printed : PrintsRecovered recovery.queue recovery.version files old new
 
 -- for files under the numbers that were asked for, whatever bytes stood at their paths, a front of the lines of the files' tables is printed, and not all of them
 pub record IsRecoveryFrontPrinted (words : List (List ℕ)) (old new : Option (List ℕ)) : Type 0 where
   pub recovery : AskedRecovery
   pub asked : AsksRecovery words recovery
-  pub files : List File
-  pub read : AreFilesOf recovery.files files
+  pub files : List NumberedBytes
+  pub read : AreFilesOf recovery.paths files
   pub printed : PrintsFrontOfRecovered recovery.queue recovery.version files old new
 
 -- what was asked for is printed

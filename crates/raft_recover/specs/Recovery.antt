@@ -10,7 +10,7 @@ use Rattle.raft_accessor.specs.Accessor.{Accessor, AreCountsOf}
 -- what recovery gives of the batches that are read: the live counts are those of the tables; where the batches name fewer than 2^63 records, they are a history of the queue that can be read, and, where effects are apart, tables and cleaned regions are those of one reading of it
 pub record IsRecovered (queue : LogQueue) (IsHistory : List Event → Type 0) (accessor : Accessor) : Type 0 where
   pub history : List Event
-  pub reads : IsHistory history
+  pub held : IsHistory history
   pub sound : IsSmall history → IsSoundIn queue history
   pub one_reading : IsSmall history → Apart history → IsOneReading queue history accessor.tables accessor.cleaned
   pub exact_counts : AreCountsOf accessor.tables accessor.counts

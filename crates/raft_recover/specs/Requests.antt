@@ -58,17 +58,17 @@ NumberedPath = ℕ × List ℕ
 -- each word names its file, in order
 abbrev pub ArePathsNamed : List (List ℕ) → List NumberedPath → Type 0
 ArePathsNamed [] [] = Unit {0}
-ArePathsNamed [] (file ∷ files) = ⊥
+ArePathsNamed [] (path ∷ paths) = ⊥
 ArePathsNamed (word ∷ words) [] = ⊥
-ArePathsNamed (word ∷ words) (file ∷ files) = NamesPath word file.0 file.1 × ArePathsNamed words files
+ArePathsNamed (word ∷ words) (path ∷ paths) = NamesPath word path.0 path.1 × ArePathsNamed words paths
 
 -- a file as it is handed on: its number and its bytes
-abbrev pub File : Type 0
-File = ℕ × List ℕ
+abbrev pub NumberedBytes : Type 0
+NumberedBytes = ℕ × List ℕ
 
 -- a file for each that is named, under its number, in order, whatever its bytes
-abbrev pub AreFilesOf : List NumberedPath → List File → Type 0
-AreFilesOf named files = map (λ (file : File). file.0) files ≡ map (λ (file : NumberedPath). file.0) named
+abbrev pub AreFilesOf : List NumberedPath → List NumberedBytes → Type 0
+AreFilesOf named files = map (λ (file : NumberedBytes). file.0) files ≡ map (λ (path : NumberedPath). path.0) named
 
 -- why files are not read: a reading failed, or want of memory
 abbrev pub IsFilesFault : Error → Type 0
@@ -76,12 +76,12 @@ IsFilesFault (errors.Io e) = Unit {0}
 IsFilesFault errors.Memory = Unit {0}
 IsFilesFault _ = ⊥
 
--- a queue, the version of its files, a number of workers, and the files
+-- a queue, the version of its files, a number of workers, and the paths of the files
 pub record AskedRecovery : Type 0 where
   pub queue : LogQueue
   pub version : Version
   pub workers : ℕ
-  pub files : List NumberedPath
+  pub paths : List NumberedPath
 
 -- `recover` and a recovery, with a word for each file
 pub record AsksRecovery (words : List (List ℕ)) (recovery : AskedRecovery) : Type 0 where
@@ -93,7 +93,7 @@ pub record AsksRecovery (words : List (List ℕ)) (recovery : AskedRecovery) : T
   pub queue_named : queue ≡ queue_word recovery.queue
   pub version_named : version ≡ version_word recovery.version
   pub workers_named : IsNumberWord workers recovery.workers
-  pub paths_named : ArePathsNamed files recovery.files
+  pub paths_named : ArePathsNamed files recovery.paths
 
 -- neither a batch nor a recovery is asked for
 pub record AsksNothing (words : List (List ℕ)) : Type 0 where

@@ -13,7 +13,7 @@ parts_within (segment ∷ segments) = segment.items ++ parts_within segments
 
 -- the same is read of these parts and of those, and they are of the same queues
 pub record AreAlike (these those : List Part) : Type 0 where
-  pub read : (h : List Event)
+  pub same : (h : List Event)
       → EachHolds (λ part. HoldsFrom part 0) these h ↔ EachHolds (λ part. HoldsFrom part 0) those h
   pub of_queue : (queue : LogQueue)
       → All (λ part. part.id.queue ≡ queue) these ↔ All (λ part. part.id.queue ≡ queue) those

@@ -31,7 +31,7 @@ abbrev pub table_line : Table → List ℕ
 table_line t =
     decimal t.region_id ++ codes " entries " ++ range_text t.entries ++ codes " keys " ++ decimal (finite.len t.keys) ++ codes " append " ++ seq_text (least_of Append t) ++ codes " rewrite " ++ seq_text (least_of Rewrite t) ++ codes "\n"
 
--- a region's number behind a space
+-- a region's id behind a space
 abbrev pub region_text : ℕ → List ℕ
 region_text id = codes " " ++ decimal id
 

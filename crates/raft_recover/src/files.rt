@@ -20,7 +20,7 @@ pub fn file_segments(
     version: Version,
     files: Vec<(FileSeq, Vec<u8>)>,
 ) -> Result<Vec<Segment>>
-    ensures read { IfOk result (λ segments. (h : List Event)
+    ensures same { IfOk result (λ segments. (h : List Event)
         → FilesHold queue version (map file_shown files.items) h ↔ SegmentsHold segments.items h) }
     ensures of_queue { IfOk result (λ segments. SegmentsAreOf queue segments.items) }
     ensures count { IfOk result (λ segments. length segments.items ≡ length files.items) }

@@ -139,7 +139,7 @@ fn print_files<S: Files + AllocGlobal + Threads + Sync, W: Write>(
         → IfErr result (λ _. Keeps (W.contents out.old) (W.contents out.new)
         ⊎ IsRecoveryFrontPrinted words (W.contents out.old) (W.contents out.new)) }
 {
-    let files = read_files(rt, recovery.files.as_slice())?;
+    let files = read_files(rt, recovery.paths.as_slice())?;
     recover_bytes(
         rt,
         rt.alloc(),

@@ -35,8 +35,7 @@ pub fn print_recovered<W: Write>(
     ensures fault { IfErr result (λ e. (IsIoError e → ⊥) → e ≡ Error.Memory) }
 {
     let text = recovered_text(alloc, accessor)?;
-    write_whole(writer, text.as_bytes())?;
-    Ok(())
+    write_whole(writer, text.as_bytes())
 }
 
 /// The text of the tables of all regions: the lines of [`print_recovered`].

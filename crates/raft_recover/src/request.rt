@@ -29,7 +29,7 @@ pub struct RecoverWords<'a> {
     pub version: Version,
     pub workers: usize,
     /// The number and the path of each file.
-    pub files: Vec<(FileSeq, &'a str)>,
+    pub paths: Vec<(FileSeq, &'a str)>,
 }
 
 impl<'a> Request<'a> {
@@ -109,14 +109,14 @@ fn recovery_request<'a>(alloc: Global, words: &'a [String]) -> Result<Option<Rec
     let Some(workers) = number_named(workers.as_str()) else {
         return Ok(None);
     };
-    let Some(files) = paths_named(alloc, files)? else {
+    let Some(paths) = paths_named(alloc, files)? else {
         return Ok(None);
     };
     Ok(Some(RecoverWords {
         queue,
         version,
         workers: workers as usize,
-        files,
+        paths,
     }))
 }
 
@@ -126,38 +126,38 @@ fn recovery_request<'a>(alloc: Global, words: &'a [String]) -> Result<Option<Rec
 ///
 /// `Memory`, and only where each names one.
 fn paths_named<'a>(alloc: Global, words: &'a [String]) -> Result<Option<Vec<(FileSeq, &'a str)>>>
-    ensures named { IfOk result (λ r. IfSome r (λ files.
-        ArePathsNamed (map string_bytes words.now) (map path_shown files.items))) }
+    ensures named { IfOk result (λ r. IfSome r (λ paths.
+        ArePathsNamed (map string_bytes words.now) (map path_shown paths.items))) }
     ensures refused { IfOk result (λ r. IfNone r
         (AllByRecursion IsPathWord (map string_bytes words.now) → ⊥)) }
     ensures memory { IfErr result (λ e. (e ≡ Error.Memory)
         × AllByRecursion IsPathWord (map string_bytes words.now)) }
 {
-    let mut files = Ok(Vec::new(alloc));
+    let mut paths = Ok(Vec::new(alloc));
     for word in words {
-        let Some(file) = path_named(word.as_str()) else {
+        let Some(path) = path_named(word.as_str()) else {
             return Ok(None);
         };
-        files = with_file(files, file);
+        paths = with_path(paths, path);
     }
-    Ok(Some(files?))
+    Ok(Some(paths?))
 }
 
-/// The files so far and one more, if there was memory for those and is for this one.
-fn with_file<'a>(
-    files: Result<Vec<(FileSeq, &'a str)>>,
-    file: (FileSeq, &'a str),
+/// The paths so far and one more, if there was memory for those and is for this one.
+fn with_path<'a>(
+    paths: Result<Vec<(FileSeq, &'a str)>>,
+    path: (FileSeq, &'a str),
 ) -> Result<Vec<(FileSeq, &'a str)>>
     ensures named { (words : List (List ℕ)) (word : List ℕ)
-        → IfOk files.entry (λ files. ArePathsNamed words (map path_shown files.items))
-        → NamesPath word file.entry.0 file.entry.1.now
-        → IfOk result (λ files. ArePathsNamed (words ++ word ∷ []) (map path_shown files.items)) }
-    ensures memory { IfErr files.entry (λ e. e ≡ Error.Memory)
+        → IfOk paths.entry (λ paths. ArePathsNamed words (map path_shown paths.items))
+        → NamesPath word path.entry.0 path.entry.1.now
+        → IfOk result (λ paths. ArePathsNamed (words ++ word ∷ []) (map path_shown paths.items)) }
+    ensures memory { IfErr paths.entry (λ e. e ≡ Error.Memory)
         → IfErr result (λ e. e ≡ Error.Memory) }
 {
-    let mut files = files?;
-    files.push(file)?;
-    Ok(files)
+    let mut paths = paths?;
+    paths.push(path)?;
+    Ok(paths)
 }
 
 /// The number and the path of a file, on both sides of a word's first `=`.

@@ -29,7 +29,7 @@ pub fn equal_shares(
     least: usize,
 ) -> Result<Vec<Segment>>
     requires { (0 < count) × (0 < least) }
-    ensures read { IfOk result (λ shares. (h : List Event) → SegmentsHold segments.entry.now h
+    ensures same { IfOk result (λ shares. (h : List Event) → SegmentsHold segments.entry.now h
         ↔ SegmentsHold shares.items h) }
     ensures of_queue { IfOk result (λ shares. (queue : LogQueue)
         → SegmentsAreOf queue segments.entry.now ↔ SegmentsAreOf queue shares.items) }

@@ -139,7 +139,7 @@ fn kept_again(found: &mut Found, context: &MemTableRecoverContext) -> Result<()>
     }
     let kept = answer?;
     let alloc = found.alloc;
-    let (entries, keys, marks) = (kept.entries, kept.keys, kept.marks);
+    let (entries, keys, marks) = (kept.entries, kept.keys, kept.regions_and_groups);
     let (deleted, cleaned, waiting) = (kept.deleted_keys, kept.cleaned, kept.waiting_items);
     found.line(format!(in alloc;
         "entries {entries} keys {keys} marks {marks} deleted {deleted} cleaned {cleaned} waiting {waiting}"

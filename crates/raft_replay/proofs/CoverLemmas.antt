@@ -43,7 +43,7 @@ SegmentReads segment h = PartsHold segment.items h
 
 module _ {M : Type 0} (stands_for stands_exactly : M → List Event → Type 0) (exact_stands : (m : M) (h : List Event) → stands_exactly m h → stands_for m h) where
   pub piece_begun : (segments : List (Vec Part Global)) (from : ℕ) (m : M) → from ≤ length segments → stands_exactly m [] → IsPiece stands_exactly segments from 0 m
-  piece_begun segments from m inside new = record { inside = omega arith; history = []; reads = refl; exact = λ small. new }
+  piece_begun segments from m inside new = record { inside = omega arith; history = []; held = refl; exact = λ small. new }
 
   module _ (segments : List (Vec Part Global)) (from count : ℕ) (m : M) (piece : IsPiece stands_exactly segments from count m) (segment : Vec Part Global)
       (inside : from + count < length segments) (is : segment ≡ get_or segments (from + count) segment) where
@@ -57,10 +57,10 @@ module _ {M : Type 0} (stands_for stands_exactly : M → List Event → Type 0) 
     piece_more n more = record {
       inside = omega arith;
       history = piece.history ++ more.history;
-      reads =
+      held =
           subst (λ (l : List (Vec Part Global)). SegmentsHold l (piece.history ++ more.history)) (sym one_longer)
-          (each_join SegmentReads (take count (drop from segments)) (segment ∷ []) piece.history more.history piece.reads
-          (each_single SegmentReads segment more.history more.reads));
+          (each_join SegmentReads (take count (drop from segments)) (segment ∷ []) piece.history more.history piece.held
+          (each_single SegmentReads segment more.history more.held));
       exact = λ small. more.exact piece.history small (piece.exact (small_front piece.history more.history small));
     }
 
@@ -74,13 +74,13 @@ module _ {M : Type 0} (stands_for stands_exactly : M → List Event → Type 0) 
 
     pub piece_refused : CannotFollow (PartsHold segment.items) (stands_for m) → CannotBeRead segments
     piece_refused cannot = record {
-      unsound = λ h reads small sound.
+      unsound = λ h held small sound.
           let front = each_cut SegmentReads (take from segments) (take count (drop from segments) ++ segment ∷ drop (from + count + 1) segments) h
-          (subst (λ (l : List (Vec Part Global)). SegmentsHold l h) around reads) in
+          (subst (λ (l : List (Vec Part Global)). SegmentsHold l h) around held) in
           let few = small_back front.first front.rest (subst IsSmall front.split small) in
           let good = sound_back front.first front.rest (subst Sound front.split sound) in
           let mid = each_cut SegmentReads (take count (drop from segments)) (segment ∷ drop (from + count + 1) segments) front.rest front.rest_held in
-          let same = segments_unique (take count (drop from segments)) mid.first piece.history mid.first_held piece.reads in
+          let same = segments_unique (take count (drop from segments)) mid.first piece.history mid.first_held piece.held in
           let next = mid.rest_held in
           let whole : front.rest ≡ piece.history ++ next.first ++ next.rest =
           mid.split ∙ ap (λ (t : List Event). t ++ mid.rest) same ∙ ap (λ (t : List Event). piece.history ++ t) next.split

@@ -123,43 +123,43 @@ header_ends part i next offset len items h b =
 
 rest_read : (part : Part) (at j : ℕ) (h : List Event) → at ≤ length part.bytes → HoldsFrom part (at + j) h → HoldsFrom (rest_of part at) j h
 rest_read part at j [] inside ends = let n = length-drop at part.bytes in omega (arith, n, inside)
-rest_read part at j (e ∷ h) inside reads =
-    let b = reads.1.1 in
+rest_read part at j (e ∷ h) inside held =
+    let b = held.1.1 in
     let k : ℕ = j + length b.bytes in
-    let next : reads.1.0 ≡ at + k = let ends = b.ends in omega arith in
-    (reads.0, (k, in_rest part at j k e.items (subst (λ (n : ℕ). IsBatchAt part (at + j) e.items n) next b), rest_read part at k h inside (subst (λ (n : ℕ). HoldsFrom part n h) next reads.1.2)))
+    let next : held.1.0 ≡ at + k = let ends = b.ends in omega arith in
+    (held.0, (k, in_rest part at j k e.items (subst (λ (n : ℕ). IsBatchAt part (at + j) e.items n) next b), rest_read part at k h inside (subst (λ (n : ℕ). HoldsFrom part n h) next held.1.2)))
 
 read_rest : (part : Part) (at j : ℕ) (h : List Event) → at ≤ length part.bytes → HoldsFrom (rest_of part at) j h → HoldsFrom part (at + j) h
 read_rest part at j [] inside ends = let n = length-drop at part.bytes in omega (arith, n, inside)
-read_rest part at j (e ∷ h) inside reads =
-    (reads.0, (at + reads.1.0, of_rest part at j reads.1.0 e.items reads.1.1, read_rest part at reads.1.0 h inside reads.1.2))
+read_rest part at j (e ∷ h) inside held =
+    (held.0, (at + held.1.0, of_rest part at j held.1.0 e.items held.1.1, read_rest part at held.1.0 h inside held.1.2))
 
 -- what is read before a byte, and then from there on
 front_joined : (part : Part) (at i : ℕ) (h g : List Event) → at ≤ length part.bytes → HoldsFrom (bytes_before part at) i h → HoldsFrom part at g → HoldsFrom part i (h ++ g)
-front_joined part at i [] g inside ends reads = subst (λ (n : ℕ). HoldsFrom part n g) (sym (ends ∙ length-take-le at part.bytes inside)) reads
-front_joined part at i (e ∷ h) g inside first reads =
-    (first.0, (first.1.0, of_front part at i first.1.0 e.items first.1.1, front_joined part at first.1.0 h g inside first.1.2 reads))
+front_joined part at i [] g inside ends held = subst (λ (n : ℕ). HoldsFrom part n g) (sym (ends ∙ length-take-le at part.bytes inside)) held
+front_joined part at i (e ∷ h) g inside first held =
+    (first.0, (first.1.0, of_front part at i first.1.0 e.items first.1.1, front_joined part at first.1.0 h g inside first.1.2 held))
 
 -- ---- where the headers lead
 
 -- nothing is read in front of the first byte
 pub meet_first : (part : Part) → BatchesMeet part 0
-meet_first part h reads = record { first = []; rest = h; first_held = sym (length-take-le 0 part.bytes (omega arith)); rest_held = reads; split = refl }
+meet_first part h held = record { first = []; rest = h; first_held = sym (length-take-le 0 part.bytes (omega arith)); rest_held = held; split = refl }
 
 -- one batch more is read before the byte that the next begins at
 module _ (part : Part) (i len : ℕ) (inside : i + len ≤ length part.bytes) where
   grown : (first : List Event) (e : Event) → PartHolds (bytes_before part i) first → e.file ≡ part.id → IsBatchAt part i e.items (i + len)
       → PartHolds (bytes_before part (i + len)) (first ++ e ∷ [])
-  grown first e reads file b =
+  grown first e held file b =
       let at = i + len in
       let few : i ≤ length (take at part.bytes) = let n = length-take-le at part.bytes inside in omega (arith, n) in
       let same = sym (take-take i at part.bytes (omega arith)) in
-      let old = subst (λ (xs : List ℕ). HoldsFrom (record part { bytes = xs }) 0 first) same reads in
+      let old = subst (λ (xs : List ℕ). HoldsFrom (record part { bytes = xs }) 0 first) same held in
       front_joined (bytes_before part at) i 0 first (e ∷ []) few old
       (file, (at, in_front part at i at e.items (omega arith) b, sym (length-take-le at part.bytes inside)))
 
   pub meet_next : (offset : ℕ) → 0 < len → HasHeader (drop i part.bytes) offset len → BatchesMeet part i → BatchesMeet part (i + len)
-  meet_next offset some header meet h reads = let r = meet h reads in behind r r.rest refl
+  meet_next offset some header meet h held = let r = meet h held in behind r r.rest refl
     where
       behind : (r : AreHeldInTurn (PartHolds (bytes_before part i)) (HoldsFrom part i) h) (left : List Event) → r.rest ≡ left
           → AreHeldInTurn (PartHolds (bytes_before part (i + len))) (HoldsFrom part (i + len)) h
@@ -191,8 +191,8 @@ pub cut_in_two : (part : Part) (at : ℕ) → at ≤ length part.bytes → Batch
 cut_in_two part at inside meet h = (to, from)
   where
     to : PartHolds part h → PartsHold (bytes_before part at ∷ rest_of part at ∷ []) h
-    to reads =
-        let r = meet h reads in
+    to held =
+        let r = meet h held in
         let first : at + 0 ≡ at = omega arith in
         record {
           first = r.first;
@@ -214,16 +214,16 @@ pub cut_among : (old new : List Part) (part : Part) (cut : List Part) → AreCut
 cut_among old new part cut same h = (to, from)
   where
     to : PartsHold (old ++ part ∷ new) h → PartsHold (old ++ cut ++ new) h
-    to reads =
-        let r = each_cut PartHolds old (part ∷ new) h reads in
+    to held =
+        let r = each_cut PartHolds old (part ∷ new) h held in
         let s = r.rest_held in
         let behind = each_join PartHolds cut new s.first s.rest ((same s.first).0 s.first_held) s.rest_held in
         subst (PartsHold (old ++ cut ++ new)) (ap (λ (t : List Event). r.first ++ t) (sym s.split) ∙ sym r.split)
         (subst (λ (ps : List Part). PartsHold ps (r.first ++ (s.first ++ s.rest))) (sym (append_assoc old cut new)) (each_join PartHolds old (cut ++ new) r.first (s.first ++ s.rest) r.first_held behind))
 
     from : PartsHold (old ++ cut ++ new) h → PartsHold (old ++ part ∷ new) h
-    from reads =
-        let r = each_cut PartHolds old (cut ++ new) h (subst (λ (ps : List Part). PartsHold ps h) (append_assoc old cut new) reads) in
+    from held =
+        let r = each_cut PartHolds old (cut ++ new) h (subst (λ (ps : List Part). PartsHold ps h) (append_assoc old cut new) held) in
         let s = each_cut PartHolds cut new r.rest r.rest_held in
         let behind : PartsHold (part ∷ new) (s.first ++ s.rest) = record { first = s.first; rest = s.rest; first_held = (same s.first).1 s.first_held; rest_held = s.rest_held; split = refl } in
         subst (PartsHold (old ++ part ∷ new)) (ap (λ (t : List Event). r.first ++ t) (sym s.split) ∙ sym r.split)
@@ -242,6 +242,6 @@ cut_again part left front rest old new at before inside meet front_is rest_is ne
     ∙ ap (λ (p : Part). old ++ p ∷ [] ++ rest_of left at ∷ []) (sym front_is)
     ∙ ap (λ (l : List Part). l ++ rest_of left at ∷ []) (sym new_is)
     ∙ ap (λ (p : Part). new ++ p ∷ []) (sym rest_is) in (
-      λ reads. subst (λ (ps : List Part). PartsHold ps h) same (two.0 (one.0 reads)),
-      λ reads. one.1 (two.1 (subst (λ (ps : List Part). PartsHold ps h) (sym same) reads)),
+      λ held. subst (λ (ps : List Part). PartsHold ps h) same (two.0 (one.0 held)),
+      λ held. one.1 (two.1 (subst (λ (ps : List Part). PartsHold ps h) (sym same) held)),
     )

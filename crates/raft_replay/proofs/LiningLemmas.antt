@@ -71,9 +71,9 @@ module _ {M : Type 0} where
         ∙ take-append-drop p.count (drop low segments) in
         record {
           histories = piece.history ∷ line.histories;
-          reads =
+          held =
               subst (λ (l : List (Vec Part Global)). SegmentsHold l (piece.history ++ histories_in_turn line.histories)) whole
-              (each_join SegmentReads (take p.count (drop p.from segments)) (drop (low + p.count) segments) piece.history (histories_in_turn line.histories) piece.reads line.reads);
+              (each_join SegmentReads (take p.count (drop p.from segments)) (drop (low + p.count) segments) piece.history (histories_in_turn line.histories) piece.held line.held);
           stand = λ small.
               (piece.exact (small_front piece.history (histories_in_turn line.histories) small), line.stand (small_back piece.history (histories_in_turn line.histories) small));
         }
@@ -82,11 +82,11 @@ module _ {M : Type 0} where
     idle_in_front : (p : Piece M) (low : ℕ) (ps : List (Piece M)) → IsPieceOf stands_exactly segments p → p.count ≡ 0
         → AreInOrder stands_exactly (drop low segments) (machines ps) → AreInOrder stands_exactly (drop low segments) (machines (p ∷ ps))
     idle_in_front p low ps piece idle line =
-        let nothing : piece.history ≡ [] = subst (λ (n : ℕ). SegmentsHold (take n (drop p.from segments)) piece.history) idle piece.reads in
+        let nothing : piece.history ≡ [] = subst (λ (n : ℕ). SegmentsHold (take n (drop p.from segments)) piece.history) idle piece.held in
         let whole : piece.history ++ histories_in_turn line.histories ≡ histories_in_turn line.histories = ap (λ (t : List Event). t ++ histories_in_turn line.histories) nothing in
         record {
           histories = piece.history ∷ line.histories;
-          reads = subst (SegmentsHold (drop low segments)) (sym whole) line.reads;
+          held = subst (SegmentsHold (drop low segments)) (sym whole) line.held;
           stand = λ small.
               (piece.exact (small_front piece.history (histories_in_turn line.histories) small), line.stand (small_back piece.history (histories_in_turn line.histories) small));
         }
@@ -110,7 +110,7 @@ module _ {M : Type 0} where
         none_left (inl some_left) = let once = cover.once low (omega arith) some_left in absurd (omega arith)
         none_left (inr past) = record {
           histories = [];
-          reads = subst (λ (l : List (Vec Part Global)). SegmentsHold l []) (sym (drop_all low segments past)) refl;
+          held = subst (λ (l : List (Vec Part Global)). SegmentsHold l []) (sym (drop_all low segments past)) refl;
           stand = λ small. tt;
         }
     lined low (p ∷ ps) up are cover = by (cases_lt 0 p.count) (λ n c. lined n ps up.1 are.1 c)

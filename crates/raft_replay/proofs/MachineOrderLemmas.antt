@@ -23,9 +23,9 @@ use Rattle.raft_replay.proofs.SegmentLemmas.{segments_unique}
 
 -- ---- what is read of two lists, one behind the other
 
-module _ {A : Type 0} (Reads : A → List Event → Type 0) where
-  pub each_join : (xs ys : List A) (g h : List Event) → EachHolds Reads xs g → EachHolds Reads ys h → EachHolds Reads (xs ++ ys) (g ++ h)
-  each_join [] ys g h first second = subst (λ (t : List Event). EachHolds Reads ys (t ++ h)) (sym first) second
+module _ {A : Type 0} (Holds : A → List Event → Type 0) where
+  pub each_join : (xs ys : List A) (g h : List Event) → EachHolds Holds xs g → EachHolds Holds ys h → EachHolds Holds (xs ++ ys) (g ++ h)
+  each_join [] ys g h first second = subst (λ (t : List Event). EachHolds Holds ys (t ++ h)) (sym first) second
   each_join (x ∷ xs) ys g h first second = record {
     first = first.first;
     rest = first.rest ++ h;
@@ -34,8 +34,8 @@ module _ {A : Type 0} (Reads : A → List Event → Type 0) where
     split = ap (λ (t : List Event). t ++ h) first.split ∙ append_assoc first.first first.rest h;
   }
 
-  pub each_cut : (xs ys : List A) (h : List Event) → EachHolds Reads (xs ++ ys) h
-      → AreHeldInTurn (λ g. EachHolds Reads xs g) (λ g. EachHolds Reads ys g) h
+  pub each_cut : (xs ys : List A) (h : List Event) → EachHolds Holds (xs ++ ys) h
+      → AreHeldInTurn (λ g. EachHolds Holds xs g) (λ g. EachHolds Holds ys g) h
   each_cut [] ys h all = record { first = []; rest = h; first_held = refl; rest_held = all; split = refl }
   each_cut (x ∷ xs) ys h all =
       let cut = each_cut xs ys all.rest all.rest_held in
@@ -47,8 +47,8 @@ module _ {A : Type 0} (Reads : A → List Event → Type 0) where
         split = all.split ∙ ap (λ (t : List Event). all.first ++ t) cut.split ∙ sym (append_assoc all.first cut.first cut.rest);
       }
 
-  pub each_single : (x : A) (h : List Event) → Reads x h → EachHolds Reads (x ∷ []) h
-  each_single x h reads = record { first = h; rest = []; first_held = reads; rest_held = refl; split = sym (append-nil h) }
+  pub each_single : (x : A) (h : List Event) → Holds x h → EachHolds Holds (x ∷ []) h
+  each_single x h held = record { first = h; rest = []; first_held = held; rest_held = refl; split = sym (append-nil h) }
 
 abbrev SegmentReads : Vec Part Global → List Event → Type 0
 SegmentReads segment h = PartsHold segment.items h
@@ -56,23 +56,23 @@ SegmentReads segment h = PartsHold segment.items h
 -- ---- what is read of parts of a queue is of the queue
 
 part_of : (queue : LogQueue) (part : Part) (at : ℕ) → part.id.queue ≡ queue → (h : List Event) → HoldsFrom part at h → AreOfQueue queue h
-part_of queue part at is [] reads = tt
-part_of queue part at is (e ∷ h) reads = (ap (λ (file : _). file.queue) reads.0 ∙ is, part_of queue part reads.1.0 is h reads.1.2)
+part_of queue part at is [] held = tt
+part_of queue part at is (e ∷ h) held = (ap (λ (file : _). file.queue) held.0 ∙ is, part_of queue part held.1.0 is h held.1.2)
 
-each_of : {A : Type 0} (Reads : A → List Event → Type 0) (P : A → Type 0) (queue : LogQueue) → ((x : A) → P x → (h : List Event) → Reads x h → IsOfQueue queue h)
-    → (xs : List A) → AllByRecursion P xs → (h : List Event) → EachHolds Reads xs h → IsOfQueue queue h
-each_of Reads P queue one [] all h reads = subst (IsOfQueue queue) (sym reads) record { each = tt }
-each_of Reads P queue one (x ∷ xs) all h reads =
-    subst (IsOfQueue queue) (sym reads.split)
-    (of_both queue reads.first reads.rest (one x all.0 reads.first reads.first_held) (each_of Reads P queue one xs all.1 reads.rest reads.rest_held))
+each_of : {A : Type 0} (Holds : A → List Event → Type 0) (P : A → Type 0) (queue : LogQueue) → ((x : A) → P x → (h : List Event) → Holds x h → IsOfQueue queue h)
+    → (xs : List A) → AllByRecursion P xs → (h : List Event) → EachHolds Holds xs h → IsOfQueue queue h
+each_of Holds P queue one [] all h held = subst (IsOfQueue queue) (sym held) record { each = tt }
+each_of Holds P queue one (x ∷ xs) all h held =
+    subst (IsOfQueue queue) (sym held.split)
+    (of_both queue held.first held.rest (one x all.0 held.first held.first_held) (each_of Holds P queue one xs all.1 held.rest held.rest_held))
 
 parts_of : (queue : LogQueue) (parts : List Part) → PartsAreOf queue parts → (h : List Event) → PartsHold parts h → IsOfQueue queue h
 parts_of queue parts all =
-    each_of PartHolds (λ part. part.id.queue ≡ queue) queue (λ part is h reads. record { each = part_of queue part 0 is h reads }) parts (recursion_from_All _ parts all)
+    each_of PartHolds (λ part. part.id.queue ≡ queue) queue (λ part is h held. record { each = part_of queue part 0 is h held }) parts (recursion_from_All _ parts all)
 
 pub segments_read_of_queue : (queue : LogQueue) (segments : List (Vec Part Global)) → SegmentsAreOf queue segments → (h : List Event) → SegmentsHold segments h → IsOfQueue queue h
 segments_read_of_queue queue segments all =
-    each_of SegmentReads (λ segment. PartsAreOf queue segment.items) queue (λ segment is h reads. parts_of queue segment.items is h reads) segments
+    each_of SegmentReads (λ segment. PartsAreOf queue segment.items) queue (λ segment is h held. parts_of queue segment.items is h held) segments
     (recursion_from_All _ segments all)
 
 -- ---- machines in line
@@ -86,7 +86,7 @@ module _ {M : Type 0} (stands_for stands_exactly : M → List Event → Type 0) 
 
   -- a machine that has replayed nothing
   pub begun : (m : M) → stands_exactly m [] → IsUnderway stands_exactly [] [] m
-  begun m new = record { histories = []; last = []; reads = refl; stand = λ small. tt; exact = λ small. new }
+  begun m new = record { histories = []; last = []; held = refl; stand = λ small. tt; exact = λ small. new }
 
   module _ (segments : List (Vec Part Global)) (ms : List M) (m : M) (underway : IsUnderway stands_exactly segments ms m) where
     -- it goes on by one segment
@@ -97,10 +97,10 @@ module _ {M : Type 0} (stands_for stands_exactly : M → List Event → Type 0) 
         record {
           histories = underway.histories;
           last = underway.last ++ more.history;
-          reads =
+          held =
               subst (SegmentsHold (segments ++ segment ∷ [])) two
-              (each_join SegmentReads segments (segment ∷ []) (histories_in_turn underway.histories ++ underway.last) more.history underway.reads
-              (each_single SegmentReads segment more.history more.reads));
+              (each_join SegmentReads segments (segment ∷ []) (histories_in_turn underway.histories ++ underway.last) more.history underway.held
+              (each_single SegmentReads segment more.history more.held));
           stand = λ small. underway.stand (small_front (histories_in_turn underway.histories ++ underway.last) more.history (subst IsSmall (sym two) small));
           exact = λ small.
               let before = small_front (histories_in_turn underway.histories ++ underway.last) more.history (subst IsSmall (sym two) small) in
@@ -114,7 +114,7 @@ module _ {M : Type 0} (stands_for stands_exactly : M → List Event → Type 0) 
     pub finished : AreInOrder stands_exactly segments (ms ++ m ∷ [])
     finished = record {
       histories = underway.histories ++ underway.last ∷ [];
-      reads = subst (SegmentsHold segments) (sym one_more) underway.reads;
+      held = subst (SegmentsHold segments) (sym one_more) underway.held;
       stand = λ small.
           let few = subst IsSmall one_more small in
           each-append stands_exactly ms (m ∷ []) underway.histories (underway.last ∷ []) (underway.stand few) (underway.exact few, tt);
@@ -125,7 +125,7 @@ module _ {M : Type 0} (stands_for stands_exactly : M → List Event → Type 0) 
     next_begun n new = record {
       histories = finished.histories;
       last = [];
-      reads = subst (SegmentsHold segments) (sym (append-nil (histories_in_turn finished.histories))) finished.reads;
+      held = subst (SegmentsHold segments) (sym (append-nil (histories_in_turn finished.histories))) finished.held;
       stand = λ small. finished.stand (subst IsSmall (append-nil (histories_in_turn finished.histories)) small);
       exact = λ small. new;
     }
@@ -134,9 +134,9 @@ module _ {M : Type 0} (stands_for stands_exactly : M → List Event → Type 0) 
     pub stopped : (all rest : List (Vec Part Global)) (segment : Vec Part Global) → all ≡ segments ++ segment ∷ rest
         → CannotFollow (PartsHold segment.items) (stands_for m) → CannotBeRead all
     stopped all rest segment is cannot = record {
-      unsound = λ h reads small sound.
-          let cut = each_cut SegmentReads segments (segment ∷ rest) h (subst (λ (l : List (Vec Part Global)). SegmentsHold l h) is reads) in
-          let same = segments_unique segments cut.first (histories_in_turn underway.histories ++ underway.last) cut.first_held underway.reads in
+      unsound = λ h held small sound.
+          let cut = each_cut SegmentReads segments (segment ∷ rest) h (subst (λ (l : List (Vec Part Global)). SegmentsHold l h) is held) in
+          let same = segments_unique segments cut.first (histories_in_turn underway.histories ++ underway.last) cut.first_held underway.held in
           let next = cut.rest_held in
           let whole : h ≡ histories_in_turn underway.histories ++ underway.last ++ next.first ++ next.rest =
           cut.split ∙ ap (λ (t : List Event). t ++ cut.rest) same ∙ ap (λ (t : List Event). histories_in_turn underway.histories ++ underway.last ++ t) next.split
@@ -151,20 +151,20 @@ module _ {M : Type 0} (stands_for stands_exactly : M → List Event → Type 0) 
 
   -- one machine alone
   pub replayed_alone : (segments : List (Vec Part Global)) (m : M) → IsUnderway stands_exactly segments [] m → IsReplayed stands_for stands_exactly segments m
-  replayed_alone segments m underway = alone underway.histories underway.last underway.reads underway.stand underway.exact
+  replayed_alone segments m underway = alone underway.histories underway.last underway.held underway.stand underway.exact
     where
       alone : (hs : List (List Event)) (last : List Event) → SegmentsHold segments (histories_in_turn hs ++ last)
           → (IsSmall (histories_in_turn hs ++ last) → StandForEach stands_exactly [] hs) → (IsSmall (histories_in_turn hs ++ last) → stands_exactly m last)
           → IsReplayed stands_for stands_exactly segments m
-      alone [] last reads none exact = record {
+      alone [] last held none exact = record {
         history = last;
-        reads = reads;
+        held = held;
         stands = λ small. exact_stands m last (exact small);
         exact = λ small apart. exact small;
       }
-      alone (h ∷ hs) last reads none exact = record {
+      alone (h ∷ hs) last held none exact = record {
         history = h ++ histories_in_turn hs ++ last;
-        reads = reads;
+        held = held;
         stands = λ small. absurd (none small);
         exact = λ small apart. absurd (none small);
       }
@@ -174,7 +174,7 @@ module _ {M : Type 0} (stands_for stands_exactly : M → List Event → Type 0) 
     pub replayed_merged : (m : M) → IsMerged stands_for stands_exactly ms m → IsReplayed stands_for stands_exactly segments m
     replayed_merged m merged = record {
       history = histories_in_turn line.histories;
-      reads = line.reads;
+      held = line.held;
       stands = λ small. merged.stands line.histories small (each_stands ms line.histories (line.stand small));
       exact = λ small apart. merged.exact line.histories small apart (line.stand small);
     }
@@ -182,10 +182,10 @@ module _ {M : Type 0} (stands_for stands_exactly : M → List Event → Type 0) 
     -- machines that can't be merged
     pub unmerged : CannotMerge stands_for queue ms → CannotBeRead segments
     unmerged cannot = record {
-      unsound = λ h reads small sound.
-          let same = segments_unique segments h (histories_in_turn line.histories) reads line.reads in
+      unsound = λ h held small sound.
+          let same = segments_unique segments h (histories_in_turn line.histories) held line.held in
           let few = subst IsSmall same small in
-          cannot.unsound line.histories few (segments_read_of_queue queue segments of (histories_in_turn line.histories) line.reads)
+          cannot.unsound line.histories few (segments_read_of_queue queue segments of (histories_in_turn line.histories) line.held)
           (each_stands ms line.histories (line.stand few)) (subst Sound same sound);
     }
 
@@ -206,14 +206,14 @@ if_ok (Err e) step p = tt
 module _ {M : Type 0} (stands_for stands_exactly : M → List Event → Type 0) (exact_stands : (m : M) (h : List Event) → stands_exactly m h → stands_for m h) where
   -- no machine in line, and one that has replayed nothing
   pub replayed_none : (segments : List (Vec Part Global)) (m : M) → AreInOrder stands_exactly segments [] → stands_exactly m [] → IsReplayed stands_for stands_exactly segments m
-  replayed_none segments m line new = none_of line.histories line.reads line.stand
+  replayed_none segments m line new = none_of line.histories line.held line.stand
     where
       none_of : (hs : List (List Event)) → SegmentsHold segments (histories_in_turn hs) → (IsSmall (histories_in_turn hs) → StandForEach stands_exactly [] hs)
           → IsReplayed stands_for stands_exactly segments m
-      none_of [] reads none = record { history = []; reads = reads; stands = λ small. exact_stands m [] new; exact = λ small apart. new }
-      none_of (h ∷ hs) reads none = record {
+      none_of [] held none = record { history = []; held = held; stands = λ small. exact_stands m [] new; exact = λ small apart. new }
+      none_of (h ∷ hs) held none = record {
         history = h ++ histories_in_turn hs;
-        reads = reads;
+        held = held;
         stands = λ small. absurd (none small);
         exact = λ small apart. absurd (none small);
       }

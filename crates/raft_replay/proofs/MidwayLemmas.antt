@@ -67,7 +67,7 @@ pub replayed : {M : Type 0} {All Rest : List Event → Type 0} (stands_for stand
     → Midway All Rest (stands_for old) (stands_for new) (stands_exactly old) (stands_exactly new) → Rest [] → HasReplayed All stands_for stands_exactly old new
 replayed {M} {All} stands_for stands_exactly old new m none = record {
   history = m.front;
-  reads = subst All (append-nil m.front) (m.joins [] none);
+  held = subst All (append-nil m.front) (m.joins [] none);
   stands = m.stands;
   exact = m.exact;
 }

@@ -10,7 +10,7 @@ use Rattle.raft_records.proofs.Names.{part_signature, entries_place}
 use Rattle.raft_records.specs.Item.{Item}
 use Rattle.raft_records.specs.ItemBatch.{IsItemBatch, placed_item}
 use Rattle.raft_records.specs.LogBatch.{IsReadable}
-use Rattle.raft_records.specs.Parts.{IsFramed}
+use Rattle.raft_records.specs.Framing.{IsFramed}
 use Rattle.raft_records.proofs.BatchLemmas.{one_batch}
 use Rattle.raft_records.proofs.FrameLemmas.{header_one, readable}
 use Rattle.raft_records.proofs.ItemLemmas.{same_length}
@@ -72,7 +72,7 @@ batch_inside part at items next b =
 -- ---- what is read is read in one way
 
 abbrev pub IsUnique : (List Event → Type 0) → Type 0
-IsUnique Reads = (g h : List Event) → Reads g → Reads h → g ≡ h
+IsUnique Holds = (g h : List Event) → Holds g → Holds h → g ≡ h
 
 same_event : (d e : Event) → d.items ≡ e.items → d.file ≡ e.file → d ≡ e
 same_event d e items file = λ i. record { items = items i; file = file i }
@@ -87,11 +87,11 @@ part_unique part at (d ∷ g) (e ∷ h) p q =
     let rest = part_unique part q.1.0 g h (subst (λ (n : ℕ). HoldsFrom part n g) one.1 p.1.2) q.1.2 in
     λ i. first i ∷ rest i
 
-pub each_unique : {A : Type 0} (Reads : A → List Event → Type 0) → ((x : A) → IsUnique (Reads x)) → (xs : List A) → IsUnique (EachHolds Reads xs)
-each_unique Reads one [] g h p q = p ∙ sym q
-each_unique Reads one (x ∷ xs) g h p q =
+pub each_unique : {A : Type 0} (Holds : A → List Event → Type 0) → ((x : A) → IsUnique (Holds x)) → (xs : List A) → IsUnique (EachHolds Holds xs)
+each_unique Holds one [] g h p q = p ∙ sym q
+each_unique Holds one (x ∷ xs) g h p q =
     let first = one x p.first q.first p.first_held q.first_held in
-    let rest = each_unique Reads one xs p.rest q.rest p.rest_held q.rest_held in
+    let rest = each_unique Holds one xs p.rest q.rest p.rest_held q.rest_held in
     p.split ∙ (λ i. first i ++ rest i) ∙ sym q.split
 
 pub parts_unique : (parts : List Part) → IsUnique (PartsHold parts)
@@ -109,19 +109,19 @@ first_batch part at items file next b is = record { joins = λ r left. (is, (nex
   where
     cuts : (g : List Event) → HoldsFrom part at g → (r : List Event) × HoldsFrom part next r × (g ≡ (event items file ∷ []) ++ r)
     cuts [] ends = let inside = batch_inside part at items next b in absurd (omega arith)
-    cuts (e ∷ g) reads =
-        let one = batch_unique part at e.items items reads.1.0 next reads.1.1 b in
-        let first = same_event e (event items file) one.0 (reads.0 ∙ sym is) in
-        (g, subst (λ (n : ℕ). HoldsFrom part n g) one.1 reads.1.2, λ i. first i ∷ g)
+    cuts (e ∷ g) held =
+        let one = batch_unique part at e.items items held.1.0 next held.1.1 b in
+        let first = same_event e (event items file) one.0 (held.0 ∙ sym is) in
+        (g, subst (λ (n : ℕ). HoldsFrom part n g) one.1 held.1.2, λ i. first i ∷ g)
 
 -- where no batch is readable before the end, nothing is read
 pub unreadable : (part : Part) (at : ℕ) (Stood : List Event → Type 0) → at < length part.bytes
     → HasNoFront (λ bytes. IsReadable bytes (part_signature part)) (drop at part.bytes) → CannotFollow (HoldsFrom part at) Stood
-unreadable part at Stood left none = record { unsound = λ h g reads small stood sound. unread g reads }
+unreadable part at Stood left none = record { unsound = λ h g held small stood sound. unread g held }
   where
     unread : (g : List Event) → HoldsFrom part at g → ⊥
     unread [] ends = omega arith
-    unread (e ∷ g) reads = batch_none part at e.items reads.1.0 none reads.1.1
+    unread (e ∷ g) held = batch_none part at e.items held.1.0 none held.1.1
 
 -- a batch that was refused can't follow
 pub event_refused : (e : Event) (Stood : List Event → Type 0)
@@ -132,32 +132,32 @@ event_refused e Stood refused = record {
       refused h (subst IsSmall same small) stood (subst Sound same sound);
 }
 
-module _ {A : Type 0} (Reads : A → List Event → Type 0) where
+module _ {A : Type 0} (Holds : A → List Event → Type 0) where
   -- what is read of one is the first of what is read of it and others
-  pub first_of_each : (x : A) (xs : List A) (first : List Event) → IsUnique (Reads x) → Reads x first
-      → IsCut (λ h. EachHolds Reads (x ∷ xs) h) (λ h. EachHolds Reads xs h) first
-  first_of_each x xs first one reads = record {
-    joins = λ r left. record { first = first; rest = r; first_held = reads; rest_held = left; split = refl };
-    cuts = λ g all. (all.rest, all.rest_held, all.split ∙ ap (λ (t : List Event). t ++ all.rest) (one all.first first all.first_held reads));
+  pub first_of_each : (x : A) (xs : List A) (first : List Event) → IsUnique (Holds x) → Holds x first
+      → IsCut (λ h. EachHolds Holds (x ∷ xs) h) (λ h. EachHolds Holds xs h) first
+  first_of_each x xs first one held = record {
+    joins = λ r left. record { first = first; rest = r; first_held = held; rest_held = left; split = refl };
+    cuts = λ g all. (all.rest, all.rest_held, all.split ∙ ap (λ (t : List Event). t ++ all.rest) (one all.first first all.first_held held));
   }
 
   -- what can't follow of one can't follow of it and others
-  pub first_of_each_refused : (x : A) (xs : List A) (Stood : List Event → Type 0) → CannotFollow (Reads x) Stood → CannotFollow (λ h. EachHolds Reads (x ∷ xs) h) Stood
+  pub first_of_each_refused : (x : A) (xs : List A) (Stood : List Event → Type 0) → CannotFollow (Holds x) Stood → CannotFollow (λ h. EachHolds Holds (x ∷ xs) h) Stood
   first_of_each_refused x xs Stood cannot = first_refused (λ g all. (all.first, all.rest, all.first_held, all.split)) cannot
 
   -- the same lists are read in the same way
-  pub cut_at : (left rest : List A) (x : A) (first : List Event) → left ≡ x ∷ rest → IsUnique (Reads x) → Reads x first
-      → IsCut (λ h. EachHolds Reads left h) (λ h. EachHolds Reads rest h) first
-  cut_at left rest x first is one reads =
-      subst (λ (l : List A). IsCut (λ h. EachHolds Reads l h) (λ h. EachHolds Reads rest h) first) (sym is) (first_of_each x rest first one reads)
+  pub cut_at : (left rest : List A) (x : A) (first : List Event) → left ≡ x ∷ rest → IsUnique (Holds x) → Holds x first
+      → IsCut (λ h. EachHolds Holds left h) (λ h. EachHolds Holds rest h) first
+  cut_at left rest x first is one held =
+      subst (λ (l : List A). IsCut (λ h. EachHolds Holds l h) (λ h. EachHolds Holds rest h) first) (sym is) (first_of_each x rest first one held)
 
-  pub cut_refused : (left rest : List A) (x : A) (Stood : List Event → Type 0) → left ≡ x ∷ rest → CannotFollow (Reads x) Stood
-      → CannotFollow (λ h. EachHolds Reads left h) Stood
+  pub cut_refused : (left rest : List A) (x : A) (Stood : List Event → Type 0) → left ≡ x ∷ rest → CannotFollow (Holds x) Stood
+      → CannotFollow (λ h. EachHolds Holds left h) Stood
   cut_refused left rest x Stood is cannot =
-      subst (λ (l : List A). CannotFollow (λ h. EachHolds Reads l h) Stood) (sym is) (first_of_each_refused x rest Stood cannot)
+      subst (λ (l : List A). CannotFollow (λ h. EachHolds Holds l h) Stood) (sym is) (first_of_each_refused x rest Stood cannot)
 
-  pub nothing_left : (i : ℕ) (xs : List A) → length xs ≤ i → EachHolds Reads (drop i xs) []
-  nothing_left i xs past = subst (λ (l : List A). EachHolds Reads l []) (sym (drop_all i xs past)) refl
+  pub nothing_left : (i : ℕ) (xs : List A) → length xs ≤ i → EachHolds Holds (drop i xs) []
+  nothing_left i xs past = subst (λ (l : List A). EachHolds Holds l []) (sym (drop_all i xs past)) refl
 
 -- the element at an index is the first of what is left from there on
 pub left_from : {A : Type 0} (xs : List A) (i : ℕ) (x : A) → i < length xs → x ≡ get_or xs i x → drop i xs ≡ x ∷ drop (i + 1) xs

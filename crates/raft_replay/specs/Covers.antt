@@ -15,7 +15,7 @@ use Rattle.raft_tickets.specs.Weights.{weigh, occurrences}
 pub record IsPiece {M : Type 0} (stands_exactly : M → List Event → Type 0) (segments : List (Vec Part Global)) (from count : ℕ) (machine : M) : Type 0 where
   pub inside : from + count ≤ length segments
   pub history : List Event
-  pub reads : SegmentsHold (take count (drop from segments)) history
+  pub held : SegmentsHold (take count (drop from segments)) history
   pub exact : IsSmall history → stands_exactly machine history
 
 -- a piece whose machine stands exactly for its segments

@@ -18,7 +18,7 @@ StandForEach Stands [] (h ∷ hs) = ⊥
 StandForEach Stands (m ∷ ms) [] = ⊥
 StandForEach Stands (m ∷ ms) (h ∷ hs) = Stands m h × StandForEach Stands ms hs
 
--- the machine stands for whatever histories the pieces stand for, one behind the other, and exactly if they do and groups keep apart
+-- the machine stands for whatever histories the pieces stand for, one behind the other, and exactly if they do and effects are apart
 pub record IsMerged {M : Type 0} (stands_for stands_exactly : M → List Event → Type 0) (pieces : List M) (merged : M) : Type 0 where
   pub stands : (hs : List (List Event)) → IsSmall (histories_in_turn hs) → StandForEach stands_for pieces hs → stands_for merged (histories_in_turn hs)
   pub exact : (hs : List (List Event)) → IsSmall (histories_in_turn hs) → Apart (histories_in_turn hs) → StandForEach stands_exactly pieces hs → stands_exactly merged (histories_in_turn hs)

@@ -7,19 +7,19 @@ use Rattle.raft_history.specs.Histories.{IsSmall, Sound, Apart}
 use Rattle.raft_replay.specs.Segments.{SegmentsHold}
 
 -- the machine has replayed all that is read: it stands for that behind whatever it stood for, and exactly if it did exactly
-pub record HasReplayed {M : Type 0} (Reads : List Event → Type 0) (stands_for stands_exactly : M → List Event → Type 0) (old new : M) : Type 0 where
+pub record HasReplayed {M : Type 0} (IsHistory : List Event → Type 0) (stands_for stands_exactly : M → List Event → Type 0) (old new : M) : Type 0 where
   pub history : List Event
-  pub reads : Reads history
+  pub held : IsHistory history
   pub stands : (h : List Event) → IsSmall (h ++ history) → stands_for old h → stands_for new (h ++ history)
   pub exact : (h : List Event) → IsSmall (h ++ history) → stands_exactly old h → stands_exactly new (h ++ history)
 
 -- whatever is read, behind a history that the machine stood for it makes none that can be read
-pub record CannotFollow (Reads Stood : List Event → Type 0) : Type 0 where
-  pub unsound : (h g : List Event) → Reads g → IsSmall (h ++ g) → Stood h → ¬ (Sound (h ++ g))
+pub record CannotFollow (IsHistory Stood : List Event → Type 0) : Type 0 where
+  pub unsound : (h g : List Event) → IsHistory g → IsSmall (h ++ g) → Stood h → ¬ (Sound (h ++ g))
 
--- the machine stands for the batches of all segments, in order, and exactly where groups keep apart
+-- the machine stands for the batches of all segments, in order, and exactly where effects are apart
 pub record IsReplayed {M : Type 0} (stands_for stands_exactly : M → List Event → Type 0) (segments : List (Vec Part Global)) (machine : M) : Type 0 where
   pub history : List Event
-  pub reads : SegmentsHold segments history
+  pub held : SegmentsHold segments history
   pub stands : IsSmall history → stands_for machine history
   pub exact : IsSmall history → Apart history → stands_exactly machine history

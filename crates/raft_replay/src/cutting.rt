@@ -18,7 +18,7 @@ use std::mem;
 ///
 /// `Memory`.
 pub fn cut_part(alloc: Global, part: FilePart, count: usize) -> Result<Vec<FilePart>>
-    ensures read { IfOk result (λ parts. AreCutFrom part parts.items) }
+    ensures same { IfOk result (λ parts. AreCutFrom part parts.items) }
     ensures file { IfOk result (λ parts. All (λ p. p.id ≡ part.id) parts.items) }
     ensures some { IfOk result (λ parts. 0 < length parts.items) }
     ensures few { 0 < count → IfOk result (λ parts. length parts.items ≤ count) }

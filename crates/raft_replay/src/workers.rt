@@ -50,7 +50,7 @@ pub const SEGMENT_LIMIT: usize = 1 << 62;
 /// halves. No more workers are started than there are segments, and one for which no thread can be started is replaced by
 /// the caller. Each change of drawer makes a piece, and all pieces are held until the last segment is replayed: so hand in
 /// few segments, one to four for each worker, of about one size. The answer is the same for any cut into segments, and
-/// whatever the workers' turns: the machine stands for all batches in order, exactly where groups keep apart.
+/// whatever the workers' turns: the machine stands for all batches in order, exactly where effects are apart.
 ///
 /// # Errors
 ///

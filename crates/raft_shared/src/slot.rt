@@ -238,7 +238,7 @@ impl Slot {
         requires { slot_of id ≡ self.old.number }
         ensures tables { OnOk result (self.new.content.tables ≡ finite.remove
             self.old.content.tables id) }
-        ensures taken { IfOk result (λ t. t ≡ finite.get self.old.content.tables id) }
+        ensures removed { IfOk result (λ t. t ≡ finite.get self.old.content.tables id) }
         ensures own { IfOk result (λ t. IfSome t (IsSlotTable self.old.number id)) }
         ensures counts { OnOk result (self.new.content.counts
             ≡ with_table_deleted (table_in self.old.content.tables id) self.old.content.counts) }
@@ -331,7 +331,7 @@ impl Slot {
     fn take(&mut self, id: u64) -> Option<MemTable>
         requires { slot_of id ≡ self.old.number }
         ensures tables { self.new.content.tables ≡ finite.remove self.old.content.tables id }
-        ensures taken { result ≡ finite.get self.old.content.tables id }
+        ensures removed { result ≡ finite.get self.old.content.tables id }
         ensures own { IfSome result (IsSlotTable self.old.number id) }
         ensures counts { self.new.content.counts
             ≡ with_table_deleted (table_in self.old.content.tables id) self.old.content.counts }

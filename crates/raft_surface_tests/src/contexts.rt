@@ -59,12 +59,19 @@ fn sum_of(kept: Kept) -> [u128; 6] {
     let Kept {
         entries,
         keys,
-        marks,
+        regions_and_groups,
         deleted_keys,
         cleaned,
         waiting_items,
     } = kept;
-    [entries, keys, marks, deleted_keys, cleaned, waiting_items]
+    [
+        entries,
+        keys,
+        regions_and_groups,
+        deleted_keys,
+        cleaned,
+        waiting_items,
+    ]
 }
 
 #[test]
@@ -76,7 +83,7 @@ fn contexts_are_handed_on(rt: HostRuntime) {
     let kept = Kept {
         entries: 1,
         keys: 2,
-        marks: 3,
+        regions_and_groups: 3,
         deleted_keys: 4,
         cleaned: 5,
         waiting_items: 6,

@@ -8,7 +8,7 @@ ghost use Rattle.raft_accessor.specs.TableJoins.{IsMixFault, IsTableJoined};
 
 use crate::accessor::{MemTableAccessor, slot_of};
 use raft_base::{Error, LogQueue, Result};
-use raft_table::{Mark, MemTable};
+use raft_table::{Mark, MemTable, other_queue};
 
 impl MemTableAccessor {
     /// Puts a newer neighbor's table of a region, or its absence, over the older one, as the newer region mark
@@ -44,11 +44,7 @@ impl MemTableAccessor {
         ensures ok { OnOk result (live_in_all (other queue) self.now.tables ≡ 0) }
         ensures fault { IfErr result (IsMixFault queue self.now.tables) }
     {
-        let other = match queue {
-            LogQueue::Append => LogQueue::Rewrite,
-            LogQueue::Rewrite => LogQueue::Append,
-        };
-        if self.stats.live_entries(other) > 0 {
+        if self.stats.live_entries(other_queue(queue)) > 0 {
             return Err(Error::invalid_argument(
                 *self.cleaned.allocator(),
                 "the tables have records of the other queue",

@@ -29,7 +29,7 @@ impl RegionTables {
     ) -> Result<()>
         requires run { IsRunIn Append run.items }
         requires counted { IsCounted (table_in self.old id) stats.old }
-        ensures taken { BecomesOutcome (after_append (table_in self.old id) run.items)
+        ensures outcome { BecomesOutcome (after_append (table_in self.old id) run.items)
             (IsTableRunFault Append stats.old (table_in self.old id).entries
             (entries_after_append (table_in self.old id).entries run.items))
             self.old id stats.old result self.new stats.new }
@@ -53,7 +53,7 @@ impl RegionTables {
     ) -> Result<u64>
         requires run { IsRunIn queue run.items }
         requires counted { IsCounted (table_in self.old id) stats.old }
-        ensures taken { BecomesOutcome (after_replay queue (table_in self.old id) run.items)
+        ensures outcome { BecomesOutcome (after_replay queue (table_in self.old id) run.items)
             (IsReplayFault queue run.items (table_in self.old id) stats.old)
             self.old id stats.old result self.new stats.new }
         ensures accepted { OnOk result (live_of (other queue) (table_in self.old id) ≡ 0) }
@@ -76,7 +76,7 @@ impl RegionTables {
     /// Drops the entries below an index.
     pub(crate) fn compact(&mut self, id: u64, index: u64, stats: &mut GlobalStats) -> Result<()>
         requires { IsCounted (table_in self.old id) stats.old }
-        ensures taken { BecomesOutcome (Some (record (table_in self.old id)
+        ensures outcome { BecomesOutcome (Some (record (table_in self.old id)
             { entries = from index (table_in self.old id).entries }))
             (λ e. ⊥) self.old id stats.old result self.new stats.new }
         ensures counts { OnOk result
@@ -95,7 +95,7 @@ impl RegionTables {
     /// Drops the entries at or above an index.
     pub(crate) fn truncate(&mut self, id: u64, index: u64, stats: &mut GlobalStats) -> Result<()>
         requires { IsCounted (table_in self.old id) stats.old }
-        ensures taken { BecomesOutcome (Some (record (table_in self.old id)
+        ensures outcome { BecomesOutcome (Some (record (table_in self.old id)
             { entries = below index (table_in self.old id).entries }))
             (λ e. ⊥) self.old id stats.old result self.new stats.new }
         ensures counts { OnOk result
@@ -121,7 +121,7 @@ impl RegionTables {
         stats: &mut GlobalStats,
     ) -> Result<()>
         requires { IsCounted (table_in self.old id) stats.old }
-        ensures taken { BecomesOutcome
+        ensures outcome { BecomesOutcome
             (Some (with_pair (table_in self.old id) key.items value.items file))
             (IsTablePutFault file.queue stats.old (file_at (table_in self.old id).keys key.items))
             self.old id stats.old result self.new stats.new }
@@ -138,7 +138,7 @@ impl RegionTables {
     /// Deletes a key.
     pub(crate) fn delete(&mut self, id: u64, key: &[u8], stats: &mut GlobalStats) -> Result<()>
         requires { IsCounted (table_in self.old id) stats.old }
-        ensures taken { BecomesOutcome (Some (record (table_in self.old id)
+        ensures outcome { BecomesOutcome (Some (record (table_in self.old id)
             { keys = finite.remove (table_in self.old id).keys key.now }))
             (λ e. ⊥) self.old id stats.old result self.new stats.new }
         ensures counts { OnOk result (stats.new
@@ -164,7 +164,7 @@ impl RegionTables {
     ) -> Result<()>
         requires run { IsRunIn Rewrite run.items }
         requires counted { IsCounted (table_in self.old id) stats.old }
-        ensures taken { BecomesOutcome (after_rewrite gate (table_in self.old id) run.items)
+        ensures outcome { BecomesOutcome (after_rewrite gate (table_in self.old id) run.items)
             (IsRewriteFault (length run.items) stats.old
             (entries_after_rewrite gate run.items (table_in self.old id).entries))
             self.old id stats.old result self.new stats.new }
@@ -188,7 +188,8 @@ impl RegionTables {
         stats: &mut GlobalStats,
     ) -> Result<()>
         requires { IsCounted (table_in self.old id) stats.old }
-        ensures taken { BecomesOutcome (after_rewrite_key gate seq (table_in self.old id) key.items)
+        ensures outcome { BecomesOutcome
+            (after_rewrite_key gate seq (table_in self.old id) key.items)
             (IsKeyRewriteFault stats.old
             (after_rewrite_key gate seq (table_in self.old id) key.items))
             self.old id stats.old result self.new stats.new }

@@ -4,7 +4,7 @@ use Rattle.std.specs.List.{AllByRecursion}
 use Rattle.raft_base.specs.declared.pipe_log.LogQueue.TheVariants.{Rewrite}
 use Rattle.raft_history.specs.MarkedRegions.{regions_after, region_steps_of_wholes}
 use Rattle.raft_memtable.specs.MarkedTables.{regions_in, IsStepsFault}
-use Rattle.raft_memtable.specs.ReadStates.{TakesEffect}
+use Rattle.raft_memtable.specs.ReadStates.{CanTakeEffect}
 use Rattle.raft_memtable.specs.WaitingShown.{whole_shown}
 use Rattle.raft_memtable.proofs.TakenWholes.{no_cons, more_taken, more_fault, first_fault}
 use Rattle.raft_memtable.proofs.read_state.take_wholes.Goals as goal
@@ -14,12 +14,12 @@ loop-whole-preserved c =
     let at = c.loop-whole.invariant in
     let next = ap (map whole_shown) c.in-Some.ensures.steps.0 in
     let rest = map whole_shown c.next.new.self.rest.items in (
-      (subst (AllByRecursion TakesEffect) next at.0).1,
+      (subst (AllByRecursion CanTakeEffect) next at.0).1,
       sym (ap (λ ws. regions_after Rewrite (regions_in c.loop-whole.regions) (region_steps_of_wholes ws)) next ∙ more_taken (regions_in c.loop-whole.regions) (regions_in c.take_group.new.self) (whole_shown c.in-Some.whole) rest c.in_ok-take_group.ensures.ok) ∙ at.1,
       c.in_ok-take_group.ensures.cleaned ∙ at.2,
       omega (arith, c.in_ok-take_group.ensures.other, at.3),
       λ e f. at.4 e (subst (λ ws. IsStepsFault Rewrite (regions_in c.loop-whole.regions) (region_steps_of_wholes ws) e) (sym next)
-          (more_fault (regions_in c.loop-whole.regions) (regions_in c.take_group.new.self) (whole_shown c.in-Some.whole) rest e (subst (AllByRecursion TakesEffect) next at.0).0.steps c.in_ok-take_group.ensures.ok f)),
+          (more_fault (regions_in c.loop-whole.regions) (regions_in c.take_group.new.self) (whole_shown c.in-Some.whole) rest e (subst (AllByRecursion CanTakeEffect) next at.0).0.steps c.in_ok-take_group.ensures.ok f)),
       λ none. absurd (no_cons (sym next ∙ at.5 none)),
     )
 

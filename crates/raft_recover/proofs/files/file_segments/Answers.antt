@@ -22,8 +22,8 @@ all c =
     all_begun c.args.queue c.args.version c.args.files.items c.loop-seq.seq-iterator.rest.items c.loop-seq.segments.items
     (omega (arith, c.in-None.ensures.steps.0, c.loop-seq.seq-iterator.rest.ok.0)) c.loop-seq.invariant
 
-pub returns-clause-read : goal.returns-clause-read
-returns-clause-read c h = (
+pub returns-clause-same : goal.returns-clause-same
+returns-clause-same c h = (
   files_read c.args.queue c.args.version c.loop-seq.segments.items c.args.files.items (all c) h,
   segments_read c.args.queue c.args.version c.loop-seq.segments.items c.args.files.items (all c) h,
 )

@@ -11,10 +11,10 @@ loop-word-preserved c =
     let i = c.loop-word.word-index in
     let word = c.word-item.result in
     let next = next_at words i word c.loop-word-test.true ∙ ap (λ w. w ∷ drop (i + 1) words) (sym c.word-item.is) in
-    let named = subst (λ w. NamesPath w c.in-Some.file.0 c.in-Some.file.1.now) c.as_str.ensures.value c.in-Some.ensures.named in
-    let more = c.with_file-files.ensures.named (map string_bytes (take i words)) (string_bytes word) c.loop-word.invariant.0 named in (
-      subst (λ ws. IfOk c.with_file-files.result (λ files. ArePathsNamed ws (map path_shown files.items))) (sym (front_more string_bytes words i word c.loop-word-test.true c.word-item.is)) more,
-      c.with_file-files.ensures.memory c.loop-word.invariant.1,
-      λ left. c.loop-word.invariant.2 (subst (λ ws. AllByRecursion IsPathWord (map string_bytes ws)) (sym next) (record { seq = c.in-Some.file.0; path = c.in-Some.file.1.now; named = named }, left)),
+    let named = subst (λ w. NamesPath w c.in-Some.path.0 c.in-Some.path.1.now) c.as_str.ensures.value c.in-Some.ensures.named in
+    let more = c.with_path-paths.ensures.named (map string_bytes (take i words)) (string_bytes word) c.loop-word.invariant.0 named in (
+      subst (λ ws. IfOk c.with_path-paths.result (λ paths. ArePathsNamed ws (map path_shown paths.items))) (sym (front_more string_bytes words i word c.loop-word-test.true c.word-item.is)) more,
+      c.with_path-paths.ensures.memory c.loop-word.invariant.1,
+      λ left. c.loop-word.invariant.2 (subst (λ ws. AllByRecursion IsPathWord (map string_bytes ws)) (sym next) (record { seq = c.in-Some.path.0; path = c.in-Some.path.1.now; named = named }, left)),
       λ all. (subst (λ ws. AllByRecursion IsPathWord (map string_bytes ws)) next (c.loop-word.invariant.3 all)).1,
     )

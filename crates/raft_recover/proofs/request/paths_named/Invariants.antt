@@ -5,10 +5,10 @@ use Rattle.raft_recover.specs.Requests.{IsPathWord, ArePathsNamed}
 use Rattle.raft_recover.specs.AskedRequests.{path_shown}
 use Rattle.raft_recover.proofs.request.paths_named.Given as goal
 
--- the files so far are those of the words in front, if there was memory for them; all words name files exactly if those that are left do
+-- the paths so far are those of the words in front, if there was memory for them; all words name files exactly if those that are left do
 abbrev pub invariant-loop-word : goal.invariant-loop-word
 invariant-loop-word l =
-    IfOk l.files (λ files. ArePathsNamed (map string_bytes (take l.word-index l.words)) (map path_shown files.items))
-    × IfErr l.files (λ e. e ≡ Memory)
+    IfOk l.paths (λ paths. ArePathsNamed (map string_bytes (take l.word-index l.words)) (map path_shown paths.items))
+    × IfErr l.paths (λ e. e ≡ Memory)
     × (AllByRecursion IsPathWord (map string_bytes (drop l.word-index l.words)) → AllByRecursion IsPathWord (map string_bytes l.words))
     × (AllByRecursion IsPathWord (map string_bytes l.words) → AllByRecursion IsPathWord (map string_bytes (drop l.word-index l.words)))

@@ -15,10 +15,10 @@ words c =
     let items = four_and_more c.args.words.now c.command-item.result c.queue-item.result c.version-item.result c.workers-item.result c.in-len4-up.len_at_least c.command-item.is c.queue-item.is c.version-item.is c.workers-item.is in
     four_texts string_bytes c.args.words.now _ c.command-item.result c.queue-item.result c.version-item.result c.workers-item.result _ _ _ _ items c.as_str.ensures.value c.as_str-2.ensures.value c.as_str-3.ensures.value c.as_str-4.ensures.value
 
--- what the words ask for, where those behind the first four name these files
-asked : (c : In-Some-number_named) (files : List (ℕ × List ℕ)) → ArePathsNamed (rest c) files
-    → AsksRecovery (map string_bytes c.args.words.now) record { queue = c.in-Some.queue; version = c.in-Some-version_named.version; workers = c.in-Some-number_named.workers; files = files }
-asked c files named = record {
+-- what the words ask for, where those behind the first four name these paths
+asked : (c : In-Some-number_named) (paths : List (ℕ × List ℕ)) → ArePathsNamed (rest c) paths
+    → AsksRecovery (map string_bytes c.args.words.now) record { queue = c.in-Some.queue; version = c.in-Some-version_named.version; workers = c.in-Some-number_named.workers; paths = paths }
+asked c paths named = record {
   queue = c.as_str-2.result.now;
   version = c.as_str-3.result.now;
   workers = c.as_str-4.result.now;
@@ -31,18 +31,18 @@ asked c files named = record {
 }
 
 pub returns-clause-asked : goal.returns-clause-asked
-returns-clause-asked c = asked (at.returns-clause-asked c).In-Some-number_named _ (rw c.in-Some-2.is at c.in_ok-files.ensures.named)
+returns-clause-asked c = asked (at.returns-clause-asked c).In-Some-number_named _ (rw c.in-Some-2.is at c.in_ok-paths.ensures.named)
 
 pub returns-in_default-2-clause-refused : goal.returns-in_default-2-clause-refused
 returns-in_default-2-clause-refused c =
     let before = (at.returns-in_default-2-clause-refused c).In-Some-number_named in
-    let none = rw c.in_default-2.is at c.in_ok-files.ensures.refused in
-    λ recovery asked. none (each_names (rest before) recovery.files (subst (λ ws. ArePathsNamed ws recovery.files)
+    let none = rw c.in_default-2.is at c.in_ok-paths.ensures.refused in
+    λ recovery asked. none (each_names (rest before) recovery.paths (subst (λ ws. ArePathsNamed ws recovery.paths)
     (same_rest (map string_bytes c.args.words.now) (rest before) asked.files _ _ _ _ _ _ _ _ (words before) asked.form) asked.paths_named))
 
-pub returns-in_err-files-clause-memory : goal.returns-in_err-files-clause-memory
-returns-in_err-files-clause-memory c =
+pub returns-in_err-paths-clause-memory : goal.returns-in_err-paths-clause-memory
+returns-in_err-paths-clause-memory c =
     let p = err_from_is_err_and c.from_residual.result c.from_residual.ensures.1 in
-    let before = (at.returns-in_err-files-clause-memory c).In-Some-number_named in
-    let files = files_of_words (rest before) c.in_err-files.ensures.memory.1 in
-    rw (p.1, p.2) (c.in_err-files.ensures.memory.0, _, asked before files.0 files.1)
+    let before = (at.returns-in_err-paths-clause-memory c).In-Some-number_named in
+    let files = files_of_words (rest before) c.in_err-paths.ensures.memory.1 in
+    rw (p.1, p.2) (c.in_err-paths.ensures.memory.0, _, asked before files.0 files.1)

@@ -15,7 +15,7 @@ loop-part-preserved c =
     let before = subst (λ (l : List Part). AreAlike whole (parts ++ l)) here c.loop-part.invariant in
     let cut = c.in_ok-cut_part.ensures in
     cut_one_more whole parts left c.in_ok-cut_part.field-0.items c.append.new.self.items part c.in_ok-clone.field-0 before c.in_ok-clone.ensures.ok
-    cut.read cut.file cut.some c.in_ok-append.ensures.items
+    cut.same cut.file cut.some c.in_ok-append.ensures.items
 
 pub returns-clause-alike : goal.returns-clause-alike
 returns-clause-alike c =

@@ -2,8 +2,8 @@ use Rattle.raft_replay.proofs.MachineOrderLemmas.{if_ok}
 use Rattle.raft_recover.proofs.ShareLemmas.{shares_read, shares_of_queue}
 use Rattle.raft_recover.proofs.shares.equal_shares.Goals as goal
 
-pub returns-clause-read : goal.returns-clause-read
-returns-clause-read c =
+pub returns-clause-same : goal.returns-clause-same
+returns-clause-same c =
     let parts = c.in_ok-short_parts.field-0.items in
     if_ok c.shares_of.result
     (λ shares same. shares_read c.args.segments.now shares.items parts c.in_ok-short_parts.ensures.alike same)

@@ -23,7 +23,7 @@ pub loop-part-preserved : goal.loop-part-preserved
 loop-part-preserved g c =
     let done = c.in_ok-replay_part.ensures.ok in
     advance c.loop-part.invariant done.history
-    (cut_at PartHolds _ _ c.part-item.result done.history (item_here c.deref-part-items.ensures.value (let t = c.loop-part-test.true in omega arith) c.part-item.is) (part_unique c.part-item.result 0) done.reads)
+    (cut_at PartHolds _ _ c.part-item.result done.history (item_here c.deref-part-items.ensures.value (let t = c.loop-part-test.true in omega arith) c.part-item.is) (part_unique c.part-item.result 0) done.held)
     done.stands done.exact
 
 pub returns-clause-ok : goal.returns-clause-ok

@@ -15,13 +15,13 @@ abbrev after : goal.After-self-1 → Inside
 after c = record c.self.inside { slots = with_item c.self.inside.slots c.slot_of.result c.change.new.self; stats = c.change.new.stats }
 
 slotted : (c : goal.After-self-1) → InSlot c.self.inside (after c) c.args.id c.slot_of.result c.index_mut.result.now c.change.new.self c.change.new.stats
-slotted c = record { at = c.slot_of.ensures.value; bound = c.slot_of.ensures.bound; lent = c.index_mut.ensures.value; slots = refl; stats = refl; one = c.change.ensures.taken.one; recounted = c.change.ensures.taken.recounted }
+slotted c = record { at = c.slot_of.ensures.value; bound = c.slot_of.ensures.bound; lent = c.index_mut.ensures.value; slots = refl; stats = refl; one = c.change.ensures.outcome.one; recounted = c.change.ensures.outcome.recounted }
 
 pub invariant_of-self : goal.invariant_of-self
 invariant_of-self c = kept-in c.self.inside (after c) c.args.id c.slot_of.result c.index_mut.result.now c.change.new.self c.change.new.stats c.self.invariant (slotted c)
 
 pub returns-clause-changed : goal.returns-clause-changed
-returns-clause-changed c = changed-in c.self.inside (after c) c.args.id c.slot_of.result c.index_mut.result.now c.change.new.self c.change.new.stats c.self.invariant (slotted c) c.args.self.now c.self.view_is (λ t. after_change t c.args.change) (λ t k. IsChangeFault t k c.args.change) c.change.result c.change.ensures.taken refl
+returns-clause-changed c = changed-in c.self.inside (after c) c.args.id c.slot_of.result c.index_mut.result.now c.change.new.self c.change.new.stats c.self.invariant (slotted c) c.args.self.now c.self.view_is (λ t. after_change t c.args.change) (λ t k. IsChangeFault t k c.args.change) c.change.result c.change.ensures.outcome refl
 
 pub returns-clause-answer : goal.returns-clause-answer
 returns-clause-answer c = answers-in c.self.inside (after c) c.args.id c.slot_of.result c.index_mut.result.now c.change.new.self c.change.new.stats c.self.invariant (slotted c) c.args.self.now c.self.view_is (IsAnswer c.args.change) c.change.result c.change.ensures.answer

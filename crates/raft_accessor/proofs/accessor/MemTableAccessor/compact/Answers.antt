@@ -14,13 +14,13 @@ abbrev after : goal.After-self-1 → Inside
 after c = record c.self.inside { slots = with_item c.self.inside.slots c.slot_of.result c.compact.new.self; stats = c.compact.new.stats }
 
 slotted : (c : goal.After-self-1) → InSlot c.self.inside (after c) c.args.id c.slot_of.result c.index_mut.result.now c.compact.new.self c.compact.new.stats
-slotted c = record { at = c.slot_of.ensures.value; bound = c.slot_of.ensures.bound; lent = c.index_mut.ensures.value; slots = refl; stats = refl; one = c.compact.ensures.taken.one; recounted = c.compact.ensures.taken.recounted }
+slotted c = record { at = c.slot_of.ensures.value; bound = c.slot_of.ensures.bound; lent = c.index_mut.ensures.value; slots = refl; stats = refl; one = c.compact.ensures.outcome.one; recounted = c.compact.ensures.outcome.recounted }
 
 pub invariant_of-self : goal.invariant_of-self
 invariant_of-self c = kept-in c.self.inside (after c) c.args.id c.slot_of.result c.index_mut.result.now c.compact.new.self c.compact.new.stats c.self.invariant (slotted c)
 
 pub returns-clause-changed : goal.returns-clause-changed
-returns-clause-changed c = changed-in c.self.inside (after c) c.args.id c.slot_of.result c.index_mut.result.now c.compact.new.self c.compact.new.stats c.self.invariant (slotted c) c.args.self.now c.self.view_is (λ t. Some (record t { entries = from c.args.index t.entries })) (λ t k. λ e. ⊥) c.compact.result c.compact.ensures.taken refl
+returns-clause-changed c = changed-in c.self.inside (after c) c.args.id c.slot_of.result c.index_mut.result.now c.compact.new.self c.compact.new.stats c.self.invariant (slotted c) c.args.self.now c.self.view_is (λ t. Some (record t { entries = from c.args.index t.entries })) (λ t k. λ e. ⊥) c.compact.result c.compact.ensures.outcome refl
 
 pub returns-clause-counts : goal.returns-clause-counts
 returns-clause-counts c = counted_ok-in c.self.inside (after c) c.args.id c.slot_of.result c.index_mut.result.now c.compact.new.self c.compact.new.stats c.self.invariant (slotted c) c.args.self.now c.self.view_is (λ t k. counts_without (below c.args.index t.entries) k) c.compact.result c.compact.ensures.counts

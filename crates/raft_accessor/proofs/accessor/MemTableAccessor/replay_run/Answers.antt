@@ -20,13 +20,13 @@ abbrev after : goal.After-self-1 → Inside
 after c = record c.self.inside { slots = with_item c.self.inside.slots c.slot_of.result c.replay_run.new.self; stats = c.replay_run.new.stats }
 
 slotted : (c : goal.After-self-1) → InSlot c.self.inside (after c) c.args.id c.slot_of.result c.index_mut.result.now c.replay_run.new.self c.replay_run.new.stats
-slotted c = record { at = c.slot_of.ensures.value; bound = c.slot_of.ensures.bound; lent = c.index_mut.ensures.value; slots = refl; stats = refl; one = c.replay_run.ensures.taken.one; recounted = c.replay_run.ensures.taken.recounted }
+slotted c = record { at = c.slot_of.ensures.value; bound = c.slot_of.ensures.bound; lent = c.index_mut.ensures.value; slots = refl; stats = refl; one = c.replay_run.ensures.outcome.one; recounted = c.replay_run.ensures.outcome.recounted }
 
 pub invariant_of-self : goal.invariant_of-self
 invariant_of-self c = kept-in c.self.inside (after c) c.args.id c.slot_of.result c.index_mut.result.now c.replay_run.new.self c.replay_run.new.stats c.self.invariant (slotted c)
 
 pub returns-clause-changed : goal.returns-clause-changed
-returns-clause-changed c = changed-in c.self.inside (after c) c.args.id c.slot_of.result c.index_mut.result.now c.replay_run.new.self c.replay_run.new.stats c.self.invariant (slotted c) c.args.self.now c.self.view_is (λ t. after_replay c.args.queue t c.args.run.items) (λ t k. IsReplayFault c.args.queue c.args.run.items t k) c.replay_run.result c.replay_run.ensures.taken refl
+returns-clause-changed c = changed-in c.self.inside (after c) c.args.id c.slot_of.result c.index_mut.result.now c.replay_run.new.self c.replay_run.new.stats c.self.invariant (slotted c) c.args.self.now c.self.view_is (λ t. after_replay c.args.queue t c.args.run.items) (λ t k. IsReplayFault c.args.queue c.args.run.items t k) c.replay_run.result c.replay_run.ensures.outcome refl
 
 pub returns-clause-accepted : goal.returns-clause-accepted
 returns-clause-accepted c =

@@ -22,8 +22,8 @@ invariant_of-self c = kept-changed c.self.inside (after c) c.args.id c.slot_of.r
 pub returns-clause-tables : goal.returns-clause-tables
 returns-clause-tables c = shown-changed c.self.inside (after c) c.args.self.now c.args.id c.slot_of.result c.index_mut.result.now None c.self.invariant c.self.view_is (gone c)
 
-pub returns-clause-taken : goal.returns-clause-taken
-returns-clause-taken c = c.remove.ensures.taken ∙ sym (get-shown c.self.inside c.args.self.now c.args.id c.slot_of.result c.index_mut.result.now c.self.invariant c.self.view_is c.slot_of.ensures.value c.slot_of.ensures.bound c.index_mut.ensures.value)
+pub returns-clause-removed : goal.returns-clause-removed
+returns-clause-removed c = c.remove.ensures.removed ∙ sym (get-shown c.self.inside c.args.self.now c.args.id c.slot_of.result c.index_mut.result.now c.self.invariant c.self.view_is c.slot_of.ensures.value c.slot_of.ensures.bound c.index_mut.ensures.value)
 
 pub returns-clause-counts : goal.returns-clause-counts
 returns-clause-counts c =

@@ -14,13 +14,13 @@ abbrev after : goal.After-self-1 → Inside
 after c = record c.self.inside { slots = with_item c.self.inside.slots c.slot_of.result c.truncate.new.self; stats = c.truncate.new.stats }
 
 slotted : (c : goal.After-self-1) → InSlot c.self.inside (after c) c.args.id c.slot_of.result c.index_mut.result.now c.truncate.new.self c.truncate.new.stats
-slotted c = record { at = c.slot_of.ensures.value; bound = c.slot_of.ensures.bound; lent = c.index_mut.ensures.value; slots = refl; stats = refl; one = c.truncate.ensures.taken.one; recounted = c.truncate.ensures.taken.recounted }
+slotted c = record { at = c.slot_of.ensures.value; bound = c.slot_of.ensures.bound; lent = c.index_mut.ensures.value; slots = refl; stats = refl; one = c.truncate.ensures.outcome.one; recounted = c.truncate.ensures.outcome.recounted }
 
 pub invariant_of-self : goal.invariant_of-self
 invariant_of-self c = kept-in c.self.inside (after c) c.args.id c.slot_of.result c.index_mut.result.now c.truncate.new.self c.truncate.new.stats c.self.invariant (slotted c)
 
 pub returns-clause-changed : goal.returns-clause-changed
-returns-clause-changed c = changed-in c.self.inside (after c) c.args.id c.slot_of.result c.index_mut.result.now c.truncate.new.self c.truncate.new.stats c.self.invariant (slotted c) c.args.self.now c.self.view_is (λ t. Some (record t { entries = below c.args.index t.entries })) (λ t k. λ e. ⊥) c.truncate.result c.truncate.ensures.taken refl
+returns-clause-changed c = changed-in c.self.inside (after c) c.args.id c.slot_of.result c.index_mut.result.now c.truncate.new.self c.truncate.new.stats c.self.invariant (slotted c) c.args.self.now c.self.view_is (λ t. Some (record t { entries = below c.args.index t.entries })) (λ t k. λ e. ⊥) c.truncate.result c.truncate.ensures.outcome refl
 
 pub returns-clause-counts : goal.returns-clause-counts
 returns-clause-counts c = counted_ok-in c.self.inside (after c) c.args.id c.slot_of.result c.index_mut.result.now c.truncate.new.self c.truncate.new.stats c.self.invariant (slotted c) c.args.self.now c.self.view_is (λ t k. counts_without (from c.args.index t.entries) k) c.truncate.result c.truncate.ensures.counts

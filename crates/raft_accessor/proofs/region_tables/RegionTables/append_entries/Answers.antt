@@ -15,5 +15,5 @@ returns-then-not-is_run c = λ list.
 
 pub returns : goal.returns
 returns c = λ list.
-    written_by Appending (entries_item c.args.id c.args.run.items) (after_append (table_in c.args.self.now c.args.id) c.args.run.items) _ c.args.self.now c.args.stats.now list c.append_run.result c.append_run.new.self c.append_run.new.stats c.append_run.ensures.taken (subst (IsRunIn Append) c.deref.ensures.value c.if-not-is_run.ensures) (none_met c.append_run.result) c.append_run.ensures.counts
+    written_by Appending (entries_item c.args.id c.args.run.items) (after_append (table_in c.args.self.now c.args.id) c.args.run.items) _ c.args.self.now c.args.stats.now list c.append_run.result c.append_run.new.self c.append_run.new.stats c.append_run.ensures.outcome (subst (IsRunIn Append) c.deref.ensures.value c.if-not-is_run.ensures) (none_met c.append_run.result) c.append_run.ensures.counts
     (none_listed Appending (entries_item c.args.id c.args.run.items) refl) refl (λ e f. append_fault c.args.id (finite.get c.args.self.now c.args.id) c.args.run.items c.args.stats.now e f)

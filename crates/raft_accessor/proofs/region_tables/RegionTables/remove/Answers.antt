@@ -8,8 +8,8 @@ use Rattle.raft_accessor.proofs.region_tables.RegionTables.remove.Goals as goal
 pub delete_replaced-requires : goal.delete_replaced-requires
 delete_replaced-requires c = λ q. rw (c.remove-removed.ensures.value ∙ sym (get-shown c.self.inside c.args.self.now c.args.id c.self.view_is)) (c.requires q)
 
-pub returns-clause-taken : goal.returns-clause-taken
-returns-clause-taken c = c.remove-removed.ensures.value ∙ sym (get-shown c.self.inside c.args.self.now c.args.id c.self.view_is)
+pub returns-clause-removed : goal.returns-clause-removed
+returns-clause-removed c = c.remove-removed.ensures.value ∙ sym (get-shown c.self.inside c.args.self.now c.args.id c.self.view_is)
 
 pub returns-clause-after : goal.returns-clause-after
 returns-clause-after c = shown-with c.self.inside (record c.self.inside { tables = c.remove-removed.new.self }) c.args.self.now c.args.id None c.self.view_is c.remove-removed.ensures.updates.0

@@ -14,22 +14,22 @@ use Rattle.raft_accessor.proofs.RegionTablesLemmas.{shown-with, shown-same, ther
 use Rattle.raft_accessor.proofs.UpdateLemmas.{taken_there, not_taken}
 use Rattle.raft_accessor.proofs.region_tables.RegionTables.try_replay_run.Goals as goal
 
-pub returns-in_default-clause-taken : goal.returns-in_default-clause-taken
-returns-in_default-clause-taken c =
+pub returns-in_default-clause-outcome : goal.returns-in_default-clause-outcome
+returns-in_default-clause-outcome c =
     not_taken c.args.self.now _ c.args.id _ (λ e. ⊥) c.args.stats.now c.args.stats.now (shown-same c.self.inside (record c.self.inside { tables = c.get_mut.follows.lender-at-none }) c.args.self.now c.self.view_is (λ q. ap (λ m. lookup (nat_eq q) m.entries) c.get_mut.follows.holds-at-none)) refl
 
 pub try_replay-requires-clause-counted : goal.try_replay-requires-clause-counted
 try_replay-requires-clause-counted c = subst (λ t. IsCounted t c.args.stats.now) (ap (table_of c.args.id) (there c.self.inside c.args.self.now c.args.id _ _ c.self.view_is c.get_mut.ensures.value c.in-Some.is)) c.requires.counted
 
-pub returns-clause-taken : goal.returns-clause-taken
-returns-clause-taken c =
+pub returns-clause-outcome : goal.returns-clause-outcome
+returns-clause-outcome c =
     let after : Inside = record c.self.inside { tables = c.get_mut.follows.lender c.try_replay.new.self } in
     let was : finite.get c.args.self.now c.args.id ≡ Some c.in-Some.table.now = there c.self.inside c.args.self.now c.args.id _ _ c.self.view_is c.get_mut.ensures.value c.in-Some.is in
     let shown : tables_shown after ≡ finite.insert c.args.self.now c.args.id c.try_replay.new.self = shown-with c.self.inside after c.args.self.now c.args.id (Some c.try_replay.new.self) c.self.view_is ((c.get_mut.follows.holds c.try_replay.new.self).3 (ap is_some (sym c.get_mut.ensures.value ∙ ap option_copied_mut c.in-Some.is))).0 in
     taken_there c.args.self.now _ c.args.id c.in-Some.table.now c.try_replay.new.self (λ t. after_replay c.args.queue t c.args.run.now) (λ e. ⊥) c.args.stats.now c.try_replay.new.stats _ was c.if-not-try_replay.ensures.done.0 c.try_replay.ensures.recounted shown
 
-pub returns-then-not-try_replay-clause-taken : goal.returns-then-not-try_replay-clause-taken
-returns-then-not-try_replay-clause-taken c =
+pub returns-then-not-try_replay-clause-outcome : goal.returns-then-not-try_replay-clause-outcome
+returns-then-not-try_replay-clause-outcome c =
     let after : Inside = record c.self.inside { tables = c.get_mut.follows.lender c.try_replay.new.self } in
     let was : finite.get c.args.self.now c.args.id ≡ Some c.in-Some.table.now = there c.self.inside c.args.self.now c.args.id _ _ c.self.view_is c.get_mut.ensures.value c.in-Some.is in
     let shown : tables_shown after ≡ finite.insert c.args.self.now c.args.id c.try_replay.new.self = shown-with c.self.inside after c.args.self.now c.args.id (Some c.try_replay.new.self) c.self.view_is ((c.get_mut.follows.holds c.try_replay.new.self).3 (ap is_some (sym c.get_mut.ensures.value ∙ ap option_copied_mut c.in-Some.is))).0 in

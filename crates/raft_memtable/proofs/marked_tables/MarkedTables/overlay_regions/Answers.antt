@@ -11,11 +11,11 @@ loop-id-init c = (overlaying_none c.args.appended.now.tables c.args.self.now.acc
 
 pub overlay_table-requires-clause-own : goal.overlay_table-requires-clause-own
 overlay_table-requires-clause-own c =
-    own_taken c.args.appended.now.tables c.args.self.now.accessor.tables _ c.loop-id.self.accessor.tables c.loop-id.appended.tables _ _ c.in-Some.id c.in-Some.mark c.in-Some.ensures.steps c.loop-id.invariant.0 c.take-table.result c.take-table.ensures.taken
+    own_taken c.args.appended.now.tables c.args.self.now.accessor.tables _ c.loop-id.self.accessor.tables c.loop-id.appended.tables _ _ c.in-Some.id c.in-Some.mark c.in-Some.ensures.steps c.loop-id.invariant.0 c.take-table.result c.take-table.ensures.removed
 
 pub loop-id-preserved : goal.loop-id-preserved
 loop-id-preserved c = (
-  overlaying_step c.args.appended.now.tables c.args.self.now.accessor.tables _ c.loop-id.self.accessor.tables c.loop-id.appended.tables _ _ c.in-Some.id c.in-Some.mark c.in-Some.ensures.steps c.loop-id.invariant.0 c.take-table.result c.take-table.ensures.taken
+  overlaying_step c.args.appended.now.tables c.args.self.now.accessor.tables _ c.loop-id.self.accessor.tables c.loop-id.appended.tables _ _ c.in-Some.id c.in-Some.mark c.in-Some.ensures.steps c.loop-id.invariant.0 c.take-table.result c.take-table.ensures.removed
       c.overlay_table.new.self.tables c.take-table.new.self.tables c.in_ok-overlay_table.ensures.overlaid.ok c.in_ok-overlay_table.ensures.overlaid.one c.in_ok-overlay_table.ensures.overlaid.few c.take-table.ensures.tables,
   c.take-table.ensures.cleaned ∙ c.loop-id.invariant.1,
 )
@@ -23,7 +23,7 @@ loop-id-preserved c = (
 pub returns-in_err-overlay_table-clause-fault : goal.returns-in_err-overlay_table-clause-fault
 returns-in_err-overlay_table-clause-fault c =
     let p = err_from_is_err_and c.from_residual.result c.from_residual.ensures.1 in
-    rw (p.1, p.2) (overlaying_refused c.args.appended.now.tables c.args.self.now.accessor.tables _ c.loop-id.self.accessor.tables c.loop-id.appended.tables _ _ c.in-Some.id c.in-Some.mark c.in-Some.ensures.steps c.loop-id.invariant.0 c.take-table.result c.take-table.ensures.taken
+    rw (p.1, p.2) (overlaying_refused c.args.appended.now.tables c.args.self.now.accessor.tables _ c.loop-id.self.accessor.tables c.loop-id.appended.tables _ _ c.in-Some.id c.in-Some.mark c.in-Some.ensures.steps c.loop-id.invariant.0 c.take-table.result c.take-table.ensures.removed
     c.loop-id.self.accessor.counts _ c.overlay_table.ensures.exact_counts c.in_err-overlay_table.ensures.overlaid.fault)
 
 pub returns-clause-ok : goal.returns-clause-ok

@@ -17,17 +17,17 @@ returns-in_err-take_each-clause-fault c =
     let items = subst (λ (l : List RegionStep). AreStepsTaken Rewrite l (Err c.in_err-take_each.field-0.0) c.args.self.now c.take_each.new.self) c.into_items.ensures c.in_err-take_each.ensures in
     rw (p.1, p.2) (whole_fault (whole_shown c.args.whole) c.in_ok-regions.regions.items c.args.self.now c.take_each.new.self (Err c.in_err-take_each.field-0.0) c.in_ok-regions.ensures (taken_refused Rewrite c.args.whole.items files c.args.self.now c.take_each.new.self _ items))
 
-taken : (c : goal.After-drop-regions-2) → AreStepsTaken Rewrite (c.args.whole.items ++ on_each c.in_ok-regions.regions.items (AtomicGroup c.args.whole.first_seq c.args.whole.last_seq)) c.take_files.result c.args.self.now c.take_files.new.self
+taken : (c : goal.After-drop-regions-2) → AreStepsTaken Rewrite (c.args.whole.items ++ on_each c.in_ok-regions.regions.items (AtomicGroup c.args.whole.first_seq c.args.whole.last_seq)) c.take_seqs.result c.args.self.now c.take_seqs.new.self
 taken c =
-    taken_more Rewrite c.args.whole.items (on_each c.in_ok-regions.regions.items (AtomicGroup c.args.whole.first_seq c.args.whole.last_seq)) c.args.self.now c.take_each.new.self c.take_files.new.self c.take_files.result c.requires.steps
+    taken_more Rewrite c.args.whole.items (on_each c.in_ok-regions.regions.items (AtomicGroup c.args.whole.first_seq c.args.whole.last_seq)) c.args.self.now c.take_each.new.self c.take_seqs.new.self c.take_seqs.result c.requires.steps
     (subst (λ (l : List RegionStep). AreStepsTaken Rewrite l (Ok tt) c.args.self.now c.take_each.new.self) c.into_items.ensures c.in_ok-take_each.ensures)
-    (subst (λ (l : List ℕ). AreStepsTaken Rewrite (on_each l (AtomicGroup c.args.whole.first_seq c.args.whole.last_seq)) c.take_files.result c.take_each.new.self c.take_files.new.self) c.deref.ensures.value c.take_files.ensures)
+    (subst (λ (l : List ℕ). AreStepsTaken Rewrite (on_each l (AtomicGroup c.args.whole.first_seq c.args.whole.last_seq)) c.take_seqs.result c.take_each.new.self c.take_seqs.new.self) c.deref.ensures.value c.take_seqs.ensures)
 
 pub returns-clause-ok : goal.returns-clause-ok
-returns-clause-ok c = whole_ok (whole_shown c.args.whole) c.in_ok-regions.regions.items c.args.self.now c.take_files.new.self c.take_files.result c.in_ok-regions.ensures (taken c)
+returns-clause-ok c = whole_ok (whole_shown c.args.whole) c.in_ok-regions.regions.items c.args.self.now c.take_seqs.new.self c.take_seqs.result c.in_ok-regions.ensures (taken c)
 
 pub returns-clause-fault : goal.returns-clause-fault
-returns-clause-fault c = whole_fault (whole_shown c.args.whole) c.in_ok-regions.regions.items c.args.self.now c.take_files.new.self c.take_files.result c.in_ok-regions.ensures (taken c)
+returns-clause-fault c = whole_fault (whole_shown c.args.whole) c.in_ok-regions.regions.items c.args.self.now c.take_seqs.new.self c.take_seqs.result c.in_ok-regions.ensures (taken c)
 
 pub returns-clause-other : goal.returns-clause-other
-returns-clause-other c = whole_other (whole_shown c.args.whole) c.in_ok-regions.regions.items c.args.self.now c.take_files.new.self c.take_files.result c.in_ok-regions.ensures (taken c) c.requires.steps
+returns-clause-other c = whole_other (whole_shown c.args.whole) c.in_ok-regions.regions.items c.args.self.now c.take_seqs.new.self c.take_seqs.result c.in_ok-regions.ensures (taken c) c.requires.steps

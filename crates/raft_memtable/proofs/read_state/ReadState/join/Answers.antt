@@ -4,12 +4,12 @@ use Rattle.std.specs.List.{AllByRecursion}
 use Rattle.raft_base.specs.declared.pipe_log.LogQueue.TheVariants.{Rewrite}
 use Rattle.raft_history.specs.MarkedRegions.{regions_after, region_steps_of_wholes}
 use Rattle.raft_memtable.specs.MarkedTables.{regions_in, IsStepsFault}
-use Rattle.raft_memtable.specs.ReadStates.{context_in, TakesEffect}
+use Rattle.raft_memtable.specs.ReadStates.{context_in, CanTakeEffect}
 use Rattle.raft_memtable.proofs.ReadStateLemmas.{merge_takes, wholes_fault, IsMiddle, join_fault, join_merged, join_read, merged_by}
 use Rattle.raft_memtable.proofs.read_state.ReadState.join.Goals as goal
 
 pub take_wholes-requires : goal.take_wholes-requires
-take_wholes-requires c = subst (AllByRecursion TakesEffect) (sym c.in_ok-wholes.ensures.wholes) (merge_takes c.args.queue (context_in c.args.self.now) (context_in c.args.newer) c.requires.older c.requires.newer c.requires.neighbors)
+take_wholes-requires c = subst (AllByRecursion CanTakeEffect) (sym c.in_ok-wholes.ensures.wholes) (merge_takes c.args.queue (context_in c.args.self.now) (context_in c.args.newer) c.requires.older c.requires.newer c.requires.neighbors)
 
 pub returns-in_err-take_wholes-clause-fault : goal.returns-in_err-take_wholes-clause-fault
 returns-in_err-take_wholes-clause-fault c =
@@ -45,7 +45,7 @@ middle_of c = record {
 pub returns-clause-regions : goal.returns-clause-regions
 returns-clause-regions c = join_merged c.args.queue (context_in c.args.self.now) (context_in c.args.newer) (regions_in c.take_wholes.new.regions) (regions_in c.join-2.new.self) (middle_of c) c.in_ok-join.ensures.ok
 
-pub returns-clause-read : goal.returns-clause-read
-returns-clause-read c = join_read c.args.queue (context_in c.args.self.now) (context_in c.args.newer) _ (regions_in c.take_wholes.new.regions) (middle_of c) c.in_ok-join.ensures.ok
+pub returns-clause-history : goal.returns-clause-history
+returns-clause-history c = join_read c.args.queue (context_in c.args.self.now) (context_in c.args.newer) _ (regions_in c.take_wholes.new.regions) (middle_of c) c.in_ok-join.ensures.ok
     (merged_by (context_in c.args.self.now) (context_in c.args.newer) _ c.in_ok-wholes.ensures.known (c.in_ok-join.ensures.cleaned ∙ ap (λ l. l ++ c.args.newer.regions.accessor.cleaned) c.in_ok-take_wholes.ensures.cleaned) c.joined-self.ensures)
     c.in_ok-join.ensures.other

@@ -10,11 +10,11 @@ use Rattle.raft_memtable.proofs.read_state.ReadState.take_lone_batch.Goals as go
 pub returns-in_err-take_items-clause-fault : goal.returns-in_err-take_items-clause-fault
 returns-in_err-take_items-clause-fault c =
     let p = err_from_is_err_and c.from_residual.result c.from_residual.ensures.1 in
-    rw (p.1, p.2) (lone_fault (context_in c.args.self.now) (event c.args.batch c.args.file) c.requires.read c.requires.next c.requires.without_marker _ c.in_err-take_items.ensures.fault)
+    rw (p.1, p.2) (lone_fault (context_in c.args.self.now) (event c.args.batch c.args.file) c.requires.history c.requires.next c.requires.without_marker _ c.in_err-take_items.ensures.fault)
 
-pub returns-clause-read : goal.returns-clause-read
-returns-clause-read c =
-    read_more (context_in c.args.self.now) _ (event c.args.batch c.args.file) c.requires.read c.requires.next
+pub returns-clause-history : goal.returns-clause-history
+returns-clause-history c =
+    read_more (context_in c.args.self.now) _ (event c.args.batch c.args.file) c.requires.history c.requires.next
     (lone_taken (context_in c.args.self.now) _ (event c.args.batch c.args.file) c.requires.without_marker c.in_ok-take_items.ensures.ok refl c.in_ok-take_items.ensures.cleaned
     (c.joined-self.ensures ∙ ap (λ f. joined_files (ranges_shown c.args.self.now.files) (some_range f)) c.of.ensures))
     c.in_ok-take_items.ensures.other

@@ -1,7 +1,7 @@
-use Rattle.std.proofs.Common.{◌≡◌, ℕ, eqb, ◌||◌, drop}
+use Rattle.std.proofs.Common.{◌≡◌, ℕ, ◌==◌, ◌||◌, drop}
 use Rattle.std.specs.List.{list_any}
 use Rattle.raft_memtable.proofs.WaitingItemLemmas.{are_on}
 use Rattle.raft_memtable.proofs.waiting_items.WaitingItems.regions.Given as goal
 
 abbrev pub invariant-loop-item : goal.invariant-loop-item
-invariant-loop-item l = (r : ℕ) → (list_any (λ i. eqb r i) l.ids.items || are_on r (drop l.item-index l.item-items)) ≡ are_on r l.item-items
+invariant-loop-item l = (r : ℕ) → (list_any (λ i. r == i) l.ids.items || are_on r (drop l.item-index l.item-items)) ≡ are_on r l.item-items

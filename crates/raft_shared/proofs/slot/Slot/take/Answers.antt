@@ -16,4 +16,4 @@ returns-clause-own c =
     rw (← c.self.view_is) (elim c.remove.result as (λ r. r ≡ finite.get c.self.inside.tables c.args.id → IfSome r (λ t. t.region_id ≡ c.args.id) → IfSome r (IsSlotTable c.self.inside.number c.args.id)) [
       | None ↦ λ e o. tt
       | Some t ↦ λ e o. record { own = o; slot = c.self.invariant.regions c.args.id t (sym e) }
-    ] c.remove.ensures.taken c.remove.ensures.own)
+    ] c.remove.ensures.removed c.remove.ensures.own)

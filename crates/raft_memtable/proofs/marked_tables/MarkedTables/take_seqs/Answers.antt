@@ -9,7 +9,7 @@ use Rattle.raft_accessor.specs.Accessor.{table_in}
 use Rattle.raft_memtable.specs.MarkedTables.{AreStepsTaken}
 use Rattle.raft_memtable.proofs.GroupFiles.{file_more}
 use Rattle.raft_memtable.proofs.TakenLemmas.{changed_taken, fresh_marked, taken_none}
-use Rattle.raft_memtable.proofs.marked_tables.MarkedTables.take_files.Goals as goal
+use Rattle.raft_memtable.proofs.marked_tables.MarkedTables.take_seqs.Goals as goal
 
 pub loop-id-preserved : goal.loop-id-preserved
 loop-id-preserved c = λ r d t.

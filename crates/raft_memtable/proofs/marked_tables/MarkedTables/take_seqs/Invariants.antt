@@ -5,7 +5,7 @@ use Rattle.raft_history.specs.MarkedRegions.{on_each}
 use Rattle.raft_table.specs.Steps.{AtomicGroup}
 use Rattle.raft_memtable.specs.MarkedTables.{AreStepsTaken}
 use Rattle.raft_memtable.specs.declared.marked_tables.MarkedTables.{MarkedTables}
-use Rattle.raft_memtable.proofs.marked_tables.MarkedTables.take_files.Given as goal
+use Rattle.raft_memtable.proofs.marked_tables.MarkedTables.take_seqs.Given as goal
 
 abbrev pub invariant-loop-id : goal.invariant-loop-id
 invariant-loop-id l =

@@ -3,10 +3,10 @@ use Rattle.std.proofs.lemmas.List.{map_push}
 use Rattle.raft_recover.specs.Requests.{ArePathsNamed}
 use Rattle.raft_recover.specs.AskedRequests.{path_shown}
 use Rattle.raft_recover.proofs.RequestLemmas.{named_more}
-use Rattle.raft_recover.proofs.request.with_file.Goals as goal
+use Rattle.raft_recover.proofs.request.with_path.Goals as goal
 
 pub returns-clause-named : goal.returns-clause-named
 returns-clause-named c words word before one =
-    let old = c.in_ok-files.files.items in
-    subst (ArePathsNamed (words ++ word ∷ [])) (sym (ap (map path_shown) c.in_ok-push.ensures.items ∙ map_push path_shown old c.args.file))
-    (named_more words (map path_shown old) word (path_shown c.args.file) (rw c.in_ok-files.was at before) one)
+    let old = c.in_ok-paths.paths.items in
+    subst (ArePathsNamed (words ++ word ∷ [])) (sym (ap (map path_shown) c.in_ok-push.ensures.items ∙ map_push path_shown old c.args.path))
+    (named_more words (map path_shown old) word (path_shown c.args.path) (rw c.in_ok-paths.was at before) one)

@@ -6,7 +6,7 @@
 A case is a folder with its log files, `args` (a queue, a version, then `<seq>=<path>` for each file) and what is
 owed: `expect`, the lines to print, or `refused`, where nothing is to be printed and the status is to be 1. PROGRAM is
 crates/raftlog/out/raftlog where it isn't given. WORKERS are numbers of workers, as `1,2,4,8`; each case is run with each
-of them, or with 1 where none is given. More than one is for cases whose groups keep apart.
+of them, or with 1 where none is given. More than one is for cases whose effects are apart.
 """
 import os
 import subprocess

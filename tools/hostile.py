@@ -68,11 +68,11 @@ def signed(content, seq, version):
     return content + checksum.to_bytes(4, "little")
 
 
-def framed(footer, block, kind=0):
+def framed(item_batch, block, kind=0):
     """A log batch of an item batch and entry bytes."""
     entries = block + zlib.crc32(block).to_bytes(4, "little") if block else b""
-    length = 16 + len(entries) + len(footer)
-    return ((length << 8) + kind).to_bytes(8, "big") + (16 + len(entries)).to_bytes(8, "big") + entries + footer
+    length = 16 + len(entries) + len(item_batch)
+    return ((length << 8) + kind).to_bytes(8, "big") + (16 + len(entries)).to_bytes(8, "big") + entries + item_batch
 
 
 class Items:

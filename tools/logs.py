@@ -77,11 +77,11 @@ def items_of(dice, regions, seq):
 def batch_of(dice, regions, seq):
     """The bytes of a batch of this file."""
     items, entries = items_of(dice, regions, seq)
-    footer = number(len(items)) + b"".join(items)
-    footer += checksum(footer, seq % 2**32)
+    item_batch = number(len(items)) + b"".join(items)
+    item_batch += checksum(item_batch, seq % 2**32)
     entries += checksum(entries)
-    length = 16 + len(entries) + len(footer)
-    return (length << 8).to_bytes(8, "big") + (16 + len(entries)).to_bytes(8, "big") + entries + footer
+    length = 16 + len(entries) + len(item_batch)
+    return (length << 8).to_bytes(8, "big") + (16 + len(entries)).to_bytes(8, "big") + entries + item_batch
 
 
 def write(folder, files, size, regions):

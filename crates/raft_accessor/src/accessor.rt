@@ -26,7 +26,7 @@ use raft_table::{GlobalStats, MemTable, TableChange};
 use std::alloc::{AllocError, Global};
 use std::marker::Model;
 
-/// The number of the slot that holds a region's table: the low 7 bits of the number's hash.
+/// The number of the slot that holds a region's table: the low 7 bits of the hash of the region's id.
 #[tactic(auto, unfolding(crate::specs::Accessor::slot_of))]
 pub fn slot_of(id: u64) -> usize
     ensures value { result ≡ slot_of id }
@@ -91,7 +91,7 @@ impl MemTableAccessor {
         &self.stats
     }
 
-    /// The live numbers are those of the tables. This is a law: it computes nothing.
+    /// The live counts are those of the tables. This is a law: it computes nothing.
     pub fn counts_are_exact(&self)
         ensures { AreCountsOf self.now.tables self.now.counts }
     {

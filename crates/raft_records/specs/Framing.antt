@@ -1,4 +1,4 @@
--- Log batches as they are read, part by part, and what is promised of that.
+-- Log batches as they are read, section by section, and what is promised of that.
 use Rattle.std.specs.Prelude.{◌≢◌, ℕ, ◌-◌, ◌^◌, ◌<◌, List, [], length, map, drop, Option}
 use Rattle.raft_codec.specs.Reading.{Reads}
 use Rattle.raft_base.specs.declared.compression_type.CompressionType.{CompressionType}

@@ -1,4 +1,4 @@
--- The tests by which `==` compares batches, part by part.
+-- The tests by which `==` compares batches, one field after another.
 use Rattle.std.specs.Prelude.{Bool, nat_eq, List, Option, Some, None}
 use Rattle.std.specs.Option.{option_eq}
 use Rattle.std.specs.Ordering.{on, eq_of_both}

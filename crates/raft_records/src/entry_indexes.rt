@@ -34,7 +34,7 @@ pub(crate) const UNPLACED: Placement = Placement {
 };
 
 impl Placement {
-    /// The file, if there is a handle.
+    /// The file of the place, if there is one.
     pub(crate) fn file_id(self) -> Option<FileId>
         ensures { result ≡ file_in self.handle }
     {

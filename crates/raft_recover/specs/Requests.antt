@@ -83,17 +83,17 @@ pub record AskedRecovery : Type 0 where
   pub workers : ℕ
   pub paths : List NumberedPath
 
--- `recover` and a recovery, with a word for each file
+-- `recover` and a recovery, with a word for each path
 pub record AsksRecovery (words : List (List ℕ)) (recovery : AskedRecovery) : Type 0 where
   pub queue : List ℕ
   pub version : List ℕ
   pub workers : List ℕ
-  pub files : List (List ℕ)
-  pub form : words ≡ codes "recover" ∷ queue ∷ version ∷ workers ∷ files
+  pub path_words : List (List ℕ)
+  pub form : words ≡ codes "recover" ∷ queue ∷ version ∷ workers ∷ path_words
   pub queue_named : queue ≡ queue_word recovery.queue
   pub version_named : version ≡ version_word recovery.version
   pub workers_named : IsNumberWord workers recovery.workers
-  pub paths_named : ArePathsNamed files recovery.paths
+  pub paths_named : ArePathsNamed path_words recovery.paths
 
 -- neither a batch nor a recovery is asked for
 pub record AsksNothing (words : List (List ℕ)) : Type 0 where

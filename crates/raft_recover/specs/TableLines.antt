@@ -1,4 +1,4 @@
--- The tables of all regions as text: a line for each table, one of the cleaned regions, and one of the live numbers.
+-- The tables of all regions as text: a line for each table, one of the cleaned regions, and one of the live counts.
 use Rattle.std.specs.Prelude.{◌≡◌, ℕ, List, [], ◌∷◌, ◌++◌, codes, Option, Some, None}
 use Rattle.std.specs.FinMap as finite
 use Rattle.std.specs.Fmt.{decimal}
@@ -44,7 +44,7 @@ cleaned_text (id ∷ ids) = flat_map region_text (id ∷ ids)
 abbrev pub cleaned_line : List ℕ → List ℕ
 cleaned_line ids = codes "cleaned" ++ cleaned_text ids ++ codes "\n"
 
--- the line of the numbers of live records, first of the append queue, then of the rewrite queue
+-- the line of the live counts, first of the append queue, then of the rewrite queue
 abbrev pub live_line : Counts → List ℕ
 live_line counts = codes "live " ++ decimal (live Append counts) ++ codes " " ++ decimal (live Rewrite counts) ++ codes "\n"
 
@@ -53,7 +53,7 @@ pub record AreByRegion (tables : Tables) (ts : List Table) : Type 0 where
   pub all : IsPermutation ts (finite.values tables)
   pub rising : IsNonDecreasingBy (λ t. t.region_id) ts
 
--- the lines of all tables by rising region, of the cleaned regions, and of the live numbers
+-- the lines of all tables by rising region, of the cleaned regions, and of the live counts
 pub record IsTextOfTables (accessor : Accessor) (text : List ℕ) : Type 0 where
   pub tables : List Table
   pub by_region : AreByRegion accessor.tables tables

@@ -14,8 +14,7 @@ use raft_table::{GlobalStats, MemTable};
 use std::alloc::Global;
 use std::io::Write;
 
-/// Prints the tables of all regions, a line for each by rising region, then the cleaned regions and the numbers of live
-/// records.
+/// Prints the tables of all regions, a line for each by rising region, then the cleaned regions and the live counts.
 ///
 /// # Errors
 ///
@@ -130,7 +129,7 @@ fn append_cleaned(regions: &[u64], text: &mut String) -> AllocResult<()>
     text.push('\n')
 }
 
-/// Appends the line of the numbers of live records.
+/// Appends the line of the live counts.
 fn append_live(stats: &GlobalStats, text: &mut String) -> AllocResult<()>
     ensures { OnOk result (string_bytes text.new ≡ string_bytes text.old ++ live_line stats.now) }
 {

@@ -81,7 +81,7 @@ fn context_named(queue: &str, seq: &str, version: &str) -> Option<LogFileContext
     Some(LogFileContext::new(FileId::new(queue, seq), version))
 }
 
-/// The files whose tables the words ask for.
+/// The recovery that the words ask for.
 ///
 /// # Errors
 ///
@@ -94,7 +94,7 @@ fn recovery_request<'a>(alloc: Global, words: &'a [String]) -> Result<Option<Rec
     ensures memory { IfErr result (λ e. (e ≡ Error.Memory)
         × (recovery : AskedRecovery) × AsksRecovery (map string_bytes words.now) recovery) }
 {
-    let [command, queue, version, workers, files @ ..] = words else {
+    let [command, queue, version, workers, path_words @ ..] = words else {
         return Ok(None);
     };
     if command.as_str() != "recover" {
@@ -109,7 +109,7 @@ fn recovery_request<'a>(alloc: Global, words: &'a [String]) -> Result<Option<Rec
     let Some(workers) = number_named(workers.as_str()) else {
         return Ok(None);
     };
-    let Some(paths) = paths_named(alloc, files)? else {
+    let Some(paths) = paths_named(alloc, path_words)? else {
         return Ok(None);
     };
     Ok(Some(RecoverWords {

@@ -48,7 +48,7 @@ pub record MayBeWritten (w : Writing) (item : Item) : Type 0 where
   pub after : Option Table
   pub outcome : after_content w item.raft_group_id before item.content ≡ Some after
 
--- an item is refused of some table of its region, or its absence, at some live number, or the lock refuses
+-- an item is refused of some table of its region, or its absence, at some live count, or the lock refuses
 abbrev pub IsSharedItemFault : Writing → Item → Error → Type 0
 IsSharedItemFault w item e = (e ≡ errors.Failed) ⊎ ((before : Option Table) × (live : ℕ) × IsWriteFault w item.raft_group_id before live item.content e)
 

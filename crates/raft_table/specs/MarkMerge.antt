@@ -17,7 +17,7 @@ IsMarkFault refused (errors.Corruption text) = refused ≡ true
 IsMarkFault refused errors.Memory = refused ≡ true
 IsMarkFault refused _ = ⊥
 
--- why a table is refused over an older one: its steps are, the live number of a queue and its records there would pass 2^64 - 1, or want of memory
+-- why a table is refused over an older one: its steps are, the live count of a queue and its records there would pass 2^64 - 1, or want of memory
 abbrev pub IsFaultUnder : LogQueue → Counts → Mark → Table → Table → Error → Type 0
 IsFaultUnder queue counts m own older (errors.Corruption text) = is_refused_over queue m older.entries ≡ true
 IsFaultUnder queue counts m own older errors.Full = (q : LogQueue) × (2 ^ 64 ≤ live q counts + live_of q own)

@@ -59,7 +59,7 @@ counts_after_merge None older newer counts = counts
 counts_after_merge (Some queue) older newer counts =
     counts_with_keys older.keys (pairs_over newer.keys older.keys) (counts_with_run queue older.entries newer.entries counts)
 
--- why a merge by this start rule is refused: there is none, it refuses the run, the live number of a queue and the newer records there would pass 2^64 - 1, or want of memory
+-- why a merge by this start rule is refused: there is none, it refuses the run, the live count of a queue and the newer records there would pass 2^64 - 1, or want of memory
 abbrev pub IsTableMergeFault : Counts → Table → Table → Option LogQueue → Error → Type 0
 IsTableMergeFault counts older newer None (errors.InvalidArgument text) = Unit {0}
 IsTableMergeFault counts older newer None errors.Memory = Unit {0}

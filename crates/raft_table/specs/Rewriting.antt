@@ -64,7 +64,7 @@ abbrev pub counts_after_rewrite : Option ℕ → List EntryIndex → List EntryI
 counts_after_rewrite gate [] es counts = counts
 counts_after_rewrite gate (e ∷ run) es counts = with_rewritten gate (length (e ∷ run)) (moved_count gate (e ∷ run) es) counts
 
--- why a rewriting by n entries with this outcome is refused: as misplaced, since the live number with all of them would pass 2^64 - 1, or for want of memory
+-- why a rewriting by n entries with this outcome is refused: as misplaced, since the live count with all of them would pass 2^64 - 1, or for want of memory
 abbrev pub IsRewriteFault : ℕ → Counts → Option (List EntryIndex) → Error → Type 0
 IsRewriteFault n counts None (errors.Corruption text) = Unit {0}
 IsRewriteFault n counts None errors.Memory = Unit {0}

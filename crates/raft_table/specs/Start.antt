@@ -48,7 +48,7 @@ abbrev pub counts_with_run : LogQueue → List EntryIndex → List EntryIndex �
 counts_with_run queue es [] counts = counts
 counts_with_run queue es (e ∷ run) counts = with_added queue (length (e ∷ run)) (counts_without (replaced_by es (e ∷ run)) counts)
 
--- why a run with this outcome is refused: by the start rule, since the live number of its queue would pass 2^64 - 1, or for want of memory
+-- why a run with this outcome is refused: by the start rule, since the live count of its queue would pass 2^64 - 1, or for want of memory
 abbrev pub IsTableRunFault : LogQueue → Counts → List EntryIndex → Option (List EntryIndex) → Error → Type 0
 IsTableRunFault queue counts es None (errors.Corruption text) = Unit {0}
 IsTableRunFault queue counts es None errors.Memory = Unit {0}

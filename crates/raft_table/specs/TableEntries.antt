@@ -60,10 +60,10 @@ StandsBehind old run new = (i : ℕ) → entry_at i new ≡ (if nat_lt i (start_
 abbrev pub entry_count : LogQueue → List EntryIndex → ℕ
 entry_count queue es = length (placed_in queue es)
 
--- the live numbers count at least these entries
+-- the live counts count at least these entries
 abbrev pub AreCounted : List EntryIndex → Counts → Type 0
 AreCounted es counts = (q : LogQueue) → entry_count q es ≤ live q counts
 
--- the live numbers changed by as much as the entries
+-- the live counts changed by as much as the entries
 abbrev pub AreRecounted : List EntryIndex → List EntryIndex → Counts → Counts → Type 0
 AreRecounted before after old new = (q : LogQueue) → live q new + entry_count q before ≡ live q old + entry_count q after

@@ -56,7 +56,7 @@ impl GlobalStats {
     ///
     /// # Errors
     ///
-    /// `Full` where more than 2^64 - 1 records would be live in `queue`. No live number has then
+    /// `Full` where more than 2^64 - 1 records would be live in `queue`. No live count has then
     /// changed.
     pub fn add(&mut self, queue: LogQueue, count: usize) -> Result<()>
         ensures ok { OnOk result (self.new ≡ with_added queue count self.old) }

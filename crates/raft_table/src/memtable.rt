@@ -262,7 +262,7 @@ impl MemTable {
     /// # Errors
     ///
     /// `Corruption` where more entries stand below the first shared index than are rewritten, and
-    /// with a gate also where fewer do; `Full` where the live number of the rewrite queue and the
+    /// with a gate also where fewer do; `Full` where the live count of the rewrite queue and the
     /// run together would pass 2^64 - 1; `Memory` where blocks have to be divided or added. The
     /// table and the counts are then as they were.
     pub fn rewrite(
@@ -366,7 +366,7 @@ impl MemTable {
     /// # Errors
     ///
     /// `Corruption` where the pair is in the rewrite queue in a file of a number above `seq`, `Full`
-    /// where the live number of the rewrite queue and one more would pass 2^64 - 1, `Memory` for the
+    /// where the live count of the rewrite queue and one more would pass 2^64 - 1, `Memory` for the
     /// text of `Corruption` alone. The table and the counts are then as they were.
     pub fn rewrite_key(
         &mut self,

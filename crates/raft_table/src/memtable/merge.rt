@@ -24,7 +24,7 @@ impl MemTable {
     /// # Errors
     ///
     /// `InvalidArgument` where the two tables have records in both queues, `Corruption` where the
-    /// run leaves a hole in the append queue, `Full` where the live number of a queue and the
+    /// run leaves a hole in the append queue, `Full` where the live count of a queue and the
     /// records of `rhs` there would pass 2^64 - 1. Both tables and the counts are then as they
     /// were; after `Memory` the counts still agree with this table.
     pub fn merge_newer_neighbor(
@@ -67,7 +67,7 @@ impl MemTable {
     /// # Errors
     ///
     /// `InvalidArgument` where this table isn't rewritten alone, or `rhs` isn't appended alone or
-    /// has an atomic group; `Full` where the live number of a queue and the records of `rhs` there
+    /// has an atomic group; `Full` where the live count of a queue and the records of `rhs` there
     /// would pass 2^64 - 1. Both tables and the counts are then as they were; after `Memory` the
     /// counts still agree with this table.
     pub fn merge_append_table(&mut self, rhs: &mut MemTable, stats: &mut GlobalStats) -> Result<()>

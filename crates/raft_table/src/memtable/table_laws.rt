@@ -22,7 +22,7 @@ ghost use Rattle.raft_table.specs.Start.{entries_after_append, entries_after_rep
 
 use raft_base::Error;
 
-/// A run is refused as `Full` only where the live number of its queue and the run's length together
+/// A run is refused as `Full` only where the live count of its queue and the run's length together
 /// pass 2^64 - 1.
 #[tactic(auto, using(crate::proofs::RunCounts::append_full, crate::proofs::RunCounts::replay_full))]
 pub fn full_runs_pass_the_limit()

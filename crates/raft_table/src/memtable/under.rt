@@ -42,7 +42,7 @@ impl MemTable {
     /// # Errors
     ///
     /// `Corruption` where, in the append queue, a run among the region mark's steps would leave a hole behind
-    /// the older entries, `Full` where the live number of a queue and the
+    /// the older entries, `Full` where the live count of a queue and the
     /// records of `rhs` there would pass 2^64 - 1. Both tables and the counts are then as they were;
     /// after `Memory` the counts still agree with this table.
     pub fn merge_under(
@@ -89,7 +89,7 @@ impl MemTable {
     ///
     /// # Errors
     ///
-    /// `Full` where the live number of a queue and the records of `rhs` there would pass 2^64 - 1.
+    /// `Full` where the live count of a queue and the records of `rhs` there would pass 2^64 - 1.
     /// Both tables and the counts are then as they were; after `Memory` the counts still agree with
     /// this table.
     pub fn overlay(

@@ -22,7 +22,7 @@ asked c paths named = record {
   queue = c.as_str-2.result.now;
   version = c.as_str-3.result.now;
   workers = c.as_str-4.result.now;
-  files = rest c;
+  path_words = rest c;
   form = recover_first (map string_bytes c.args.words.now) (rest c) c.as_str.result.now c.as_str-2.result.now c.as_str-3.result.now c.as_str-4.result.now (words c) (same_text _ _ c.if-ne.ensures);
   queue_named = c.in-Some.ensures.named;
   version_named = c.in-Some-version_named.ensures.named;
@@ -38,7 +38,7 @@ returns-in_default-2-clause-refused c =
     let before = (at.returns-in_default-2-clause-refused c).In-Some-number_named in
     let none = rw c.in_default-2.is at c.in_ok-paths.ensures.refused in
     λ recovery asked. none (each_names (rest before) recovery.paths (subst (λ ws. ArePathsNamed ws recovery.paths)
-    (same_rest (map string_bytes c.args.words.now) (rest before) asked.files _ _ _ _ _ _ _ _ (words before) asked.form) asked.paths_named))
+    (same_rest (map string_bytes c.args.words.now) (rest before) asked.path_words _ _ _ _ _ _ _ _ (words before) asked.form) asked.paths_named))
 
 pub returns-in_err-paths-clause-memory : goal.returns-in_err-paths-clause-memory
 returns-in_err-paths-clause-memory c =

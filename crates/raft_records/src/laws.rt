@@ -68,7 +68,8 @@ pub fn log_batches_are_read_again()
     ensures written { LogBatchIsSpelled }
     ensures parts { (bytes : List ℕ) (signature : Option ℕ) (items : List Item)
         (entry_bytes : List ℕ) →
-        IsLogBatch bytes signature items entry_bytes ↔ IsFramedWith bytes signature items entry_bytes }
+        IsLogBatch bytes signature items entry_bytes
+        ↔ IsFramedWith bytes signature items entry_bytes }
     ensures readable { (bytes : List ℕ) (signature : Option ℕ) (items : List Item) →
         IsReadable bytes signature items ↔ ((offset : ℕ) × IsFramed bytes signature items offset) }
     ensures one_header { HasOneFront IsHeader }

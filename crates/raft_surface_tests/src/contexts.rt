@@ -55,22 +55,14 @@ fn laws() {
 }
 
 /// The numbers of what is kept, by name.
-fn sum_of(kept: Kept) -> [u128; 6] {
-    let Kept {
-        entries,
-        keys,
-        regions_and_groups,
-        deleted_keys,
-        cleaned,
-        waiting_items,
-    } = kept;
+fn numbers_of(kept: Kept) -> [u128; 6] {
     [
-        entries,
-        keys,
-        regions_and_groups,
-        deleted_keys,
-        cleaned,
-        waiting_items,
+        kept.entries,
+        kept.keys,
+        kept.regions_and_groups,
+        kept.deleted_keys,
+        kept.cleaned,
+        kept.waiting_items,
     ]
 }
 
@@ -88,5 +80,5 @@ fn contexts_are_handed_on(rt: HostRuntime) {
         cleaned: 5,
         waiting_items: 6,
     };
-    assert!(rt; sum_of(kept) == [1, 2, 3, 4, 5, 6]);
+    assert!(rt; numbers_of(kept) == [1, 2, 3, 4, 5, 6]);
 }

@@ -125,8 +125,8 @@ impl MemTable {
     /// The blocks in which the entries are kept, in order: each has entries, and neighbors have
     /// different places.
     pub fn blocks(&self) -> &VecDeque<Block>
-        ensures entries { entries_in_blocks (start_of self.now.entries) (blocks_shown result.now.items)
-            ≡ self.now.entries }
+        ensures entries { entries_in_blocks (start_of self.now.entries)
+            (blocks_shown result.now.items) ≡ self.now.entries }
         ensures distinct { AreDistinctBlocks (blocks_shown result.now.items) }
         ensures count { length result.now.items ≡ block_count self.now.entries }
     {

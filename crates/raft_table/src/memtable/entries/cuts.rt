@@ -144,7 +144,8 @@ impl Entries {
 /// Keeps so many whole blocks, and so many entries of the next one.
 fn cut_back(blocks: &mut VecDeque<Block>, whole: usize, kept: usize)
     requires whole { whole < length blocks.old.items }
-    ensures { blocks_shown blocks.new.items ≡ cut_last kept (take (whole + 1) (blocks_shown blocks.old.items)) }
+    ensures { blocks_shown blocks.new.items
+        ≡ cut_last kept (take (whole + 1) (blocks_shown blocks.old.items)) }
 {
     blocks.truncate(whole + 1);
     blocks[whole].spans.truncate(kept);
@@ -155,7 +156,8 @@ fn cut_front(blocks: &mut VecDeque<Block>, whole: usize, dropped: usize)
     requires whole { whole < length blocks.old.items }
     requires dropped { (d : Block) → dropped
         ≤ length (slice_index_or blocks.old.items whole d).spans.items }
-    ensures { blocks_shown blocks.new.items ≡ cut_first dropped (drop whole (blocks_shown blocks.old.items)) }
+    ensures { blocks_shown blocks.new.items
+        ≡ cut_first dropped (drop whole (blocks_shown blocks.old.items)) }
 {
     drop_first(blocks, whole);
     drop_spans(&mut blocks[0], dropped);

@@ -46,8 +46,10 @@ impl Entries {
         spans: VecDeque<(u32, u32)>,
     ) -> AllocResult<()>
         requires filled { 0 < length spans.items }
-        requires table_entries { AreTableEntries (self.old ++ entries_of_block index handle spans.items) }
-        ensures ok { OnOk result (self.new ≡ self.old ++ entries_of_block index handle spans.items) }
+        requires table_entries { AreTableEntries
+            (self.old ++ entries_of_block index handle spans.items) }
+        ensures ok { OnOk result
+            (self.new ≡ self.old ++ entries_of_block index handle spans.items) }
         ensures err { OnErr result (self.new ≡ self.old) }
     {
         let count = spans.len();

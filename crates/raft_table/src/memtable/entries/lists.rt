@@ -172,7 +172,8 @@ fn meet(
         → spot.1 ≤ length (slice_index_or blocks.old.items (spot.0 - 1) d).spans.items }
     requires more { (0 < length more.old.items) ×
         (length more_starts.old.items ≡ length more.old.items) }
-    ensures front { OnOk result (take spot.0 (blocks_shown blocks.new.items) ++ blocks_shown more.new.items
+    ensures front { OnOk result (take spot.0 (blocks_shown blocks.new.items)
+        ++ blocks_shown more.new.items
         ≡ joined_blocks (cut_last spot.1 (take spot.0 (blocks_shown blocks.old.items)))
         (blocks_shown more.old.items)) }
     ensures behind { OnOk result ((n : ℕ) → spot.0 ≤ n

@@ -57,7 +57,8 @@ fn push_unset(
     requires room { vec_len vec.old + (end - start) ≤ vec_capacity vec.old }
     ensures { vec.new.items
         ≡ vec.old.items
-        ++ map unset (drop start (take end (entries_in_blocks first (blocks_shown blocks.now.items)))) }
+        ++ map unset
+        (drop start (take end (entries_in_blocks first (blocks_shown blocks.now.items)))) }
 {
     let (mut whole, mut at) = spot;
     let mut done = start;
@@ -79,7 +80,8 @@ fn push_unset_of(vec: &mut Vec<EntryIndex>, first: u64, block: &Block, at: usize
     requires room { vec_len vec.old + count ≤ vec_capacity vec.old }
     ensures items { vec.new.items
         ≡ vec.old.items
-        ++ map unset (entries_of_block first block.now.handle (take count (drop at block.now.spans.items))) }
+        ++ map unset
+        (entries_of_block first block.now.handle (take count (drop at block.now.spans.items))) }
     ensures len { vec_len vec.new ≡ vec_len vec.old + count }
     ensures capacity { vec_capacity vec.new ≡ vec_capacity vec.old }
 {
@@ -110,7 +112,8 @@ fn set_spans(
     requires there { len + (end - start) ≤ length vec.old.items }
     ensures { (i : ℕ) (front : List EntryIndex) → length front ≡ len
         → vec.old.items
-        ≡ front ++ map unset (drop start (take end (entries_in_blocks i (blocks_shown blocks.now.items))))
+        ≡ front
+        ++ map unset (drop start (take end (entries_in_blocks i (blocks_shown blocks.now.items))))
         → vec.new.items
         ≡ front ++ drop start (take end (entries_in_blocks i (blocks_shown blocks.now.items))) }
 {

@@ -1,4 +1,4 @@
--- The live numbers of all tables, when one is written or taken away.
+-- The live counts of all tables, when one is written or taken away.
 use Rattle.std.proofs.Common.{◌≡◌, ℕ, ◌+◌, ◌-◌, ◌≤◌, true, false, cond, not, List, [], ◌∷◌, length, map, sum_by, Option, Some, None, refl, sym, ap, ◌∙◌, arith}
 use lib.Dec.{T}
 use Rattle.std.proofs.lemmas.List.Sums.{sum_by-cons}
@@ -19,7 +19,7 @@ use Rattle.raft_table.proofs.Shown.{find-below, where_key-below, below_all-less,
 use Rattle.raft_history.specs.RegionSteps.{Tables, with_table}
 use Rattle.raft_accessor.specs.Accessor.{table_in, live_in, live_in_all, AreCountsOf}
 
--- the live numbers of some regions' tables together
+-- the live counts of some regions' tables together
 abbrev pub live_of_all : LogQueue → List (ℕ × Table) → ℕ
 live_of_all queue [] = 0
 live_of_all queue (e ∷ es) = live_of queue e.1 + live_of_all queue es

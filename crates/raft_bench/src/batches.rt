@@ -232,14 +232,14 @@ fn decode(alloc: Global, encoded: &[Vec<u8>]) -> Result<(usize, usize)> {
     for batch in encoded {
         let mut front: BytesSlice<'_> = batch.as_slice();
         let (offset, compression_type, len) = LogBatch::decode_header(alloc, &mut front)?;
-        let mut footer = batch.get(offset..len).unwrap_or(&[]);
-        bytes = bytes.saturating_add(footer.len());
+        let mut item_batch = batch.get(offset..len).unwrap_or(&[]);
+        bytes = bytes.saturating_add(item_batch.len());
         let place = FileBlockHandle {
             id: context.id,
             offset: 16,
             len: offset - 16,
         };
-        let read = LogItemBatch::decode(alloc, &mut footer, place, compression_type, &context)?;
+        let read = LogItemBatch::decode(alloc, &mut item_batch, place, compression_type, &context)?;
         items = items.saturating_add(read.iter().count());
     }
     Ok((items, bytes))

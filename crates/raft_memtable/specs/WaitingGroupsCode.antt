@@ -11,22 +11,22 @@ use Rattle.raft_history.specs.RegionSteps.{RegionStep}
 use Rattle.raft_history.specs.WaitingGroup.{GroupFront, Open, Ended, Begun, OpenStretch, WaitingGroup}
 use Rattle.raft_history.specs.WaitingGroups.{WaitingGroups}
 
--- a step as what it holds, told apart by where that stands
-abbrev pub StepParts : Type 0
-StepParts = Result (List EntryIndex) (Result (Result ℕ ℕ) (Result (List ℕ × (List ℕ × FileId)) (Result (List ℕ) (Option (ℕ × ℕ)))))
+-- a step as one of a sum: what it holds, and which kind it is by where that stands
+abbrev pub StepSum : Type 0
+StepSum = Result (List EntryIndex) (Result (Result ℕ ℕ) (Result (List ℕ × (List ℕ × FileId)) (Result (List ℕ) (Option (ℕ × ℕ)))))
 
--- what a step holds
-abbrev pub step_parts : Step → StepParts
-step_parts (Run run) = Ok run
-step_parts (Compact i) = Err (Ok (Ok i))
-step_parts (Truncate i) = Err (Ok (Err i))
-step_parts (Put key value file) = Err (Err (Ok (key, (value, file))))
-step_parts (Del key) = Err (Err (Err (Ok key)))
-step_parts (AtomicGroup first_seq last_seq) = Err (Err (Err (Err (Some (first_seq, last_seq)))))
-step_parts Clean = Err (Err (Err (Err None)))
+-- a step in that sum
+abbrev pub step_sum : Step → StepSum
+step_sum (Run run) = Ok run
+step_sum (Compact i) = Err (Ok (Ok i))
+step_sum (Truncate i) = Err (Ok (Err i))
+step_sum (Put key value file) = Err (Err (Ok (key, (value, file))))
+step_sum (Del key) = Err (Err (Err (Ok key)))
+step_sum (AtomicGroup first_seq last_seq) = Err (Err (Err (Err (Some (first_seq, last_seq)))))
+step_sum Clean = Err (Err (Err (Err None)))
 
--- the step that holds this
-abbrev pub step_from : StepParts → Step
+-- the step that this stands for
+abbrev pub step_from : StepSum → Step
 step_from (Ok run) = Run run
 step_from (Err (Ok (Ok i))) = Compact i
 step_from (Err (Ok (Err i))) = Truncate i
@@ -36,7 +36,7 @@ step_from (Err (Err (Err (Err (Some p))))) = AtomicGroup p.0 p.1
 step_from (Err (Err (Err (Err None)))) = Clean
 
 -- which is the step again
-pub step_again : (s : Step) → step_from (step_parts s) ≡ s
+pub step_again : (s : Step) → step_from (step_sum s) ≡ s
 step_again (Run run) = refl
 step_again (Compact i) = refl
 step_again (Truncate i) = refl
@@ -48,38 +48,38 @@ step_again Clean = refl
 -- the code of a step
 abbrev pub step_code : Coded Step
 step_code =
-    code_by StepParts (coded_result (coded_list entry.the_row.coded) (coded_result (coded_result coded_ℕ coded_ℕ) (coded_result (coded× (coded_list coded_ℕ) (coded× (coded_list coded_ℕ) file.the_row.coded)) (coded_result (coded_list coded_ℕ) (coded_option (coded× coded_ℕ coded_ℕ))))))
-    step_parts step_from step_again
+    code_by StepSum (coded_result (coded_list entry.the_row.coded) (coded_result (coded_result coded_ℕ coded_ℕ) (coded_result (coded× (coded_list coded_ℕ) (coded× (coded_list coded_ℕ) file.the_row.coded)) (coded_result (coded_list coded_ℕ) (coded_option (coded× coded_ℕ coded_ℕ))))))
+    step_sum step_from step_again
 
 -- the code of a step and its region
 abbrev pub region_step_code : Coded RegionStep
 region_step_code = code_by (ℕ × Step) (coded× coded_ℕ step_code) (λ s. (s.region, s.step)) (λ p. record { region = p.0; step = p.1 }) (λ _. refl)
 
 -- a front as its steps, and the number of the file of its End
-abbrev pub front_parts : GroupFront → Option (List RegionStep × Option ℕ)
-front_parts (Open steps) = Some (steps, None)
-front_parts (Ended steps seq) = Some (steps, Some seq)
-front_parts Begun = None
+abbrev pub front_sum : GroupFront → Option (List RegionStep × Option ℕ)
+front_sum (Open steps) = Some (steps, None)
+front_sum (Ended steps seq) = Some (steps, Some seq)
+front_sum Begun = None
 
 -- a front of these steps, by whether it has an End
 abbrev pub front_ending : List RegionStep → Option ℕ → GroupFront
 front_ending steps None = Open steps
 front_ending steps (Some seq) = Ended steps seq
 
--- the front of these parts
+-- the front that this stands for
 abbrev pub front_from : Option (List RegionStep × Option ℕ) → GroupFront
 front_from None = Begun
 front_from (Some p) = front_ending p.0 p.1
 
 -- which is the front again
-pub front_again : (f : GroupFront) → front_from (front_parts f) ≡ f
+pub front_again : (f : GroupFront) → front_from (front_sum f) ≡ f
 front_again (Open steps) = refl
 front_again (Ended steps seq) = refl
 front_again Begun = refl
 
 -- the code of a front
 abbrev pub front_code : Coded GroupFront
-front_code = code_by (Option (List RegionStep × Option ℕ)) (coded_option (coded× (coded_list region_step_code) (coded_option coded_ℕ))) front_parts front_from front_again
+front_code = code_by (Option (List RegionStep × Option ℕ)) (coded_option (coded× (coded_list region_step_code) (coded_option coded_ℕ))) front_sum front_from front_again
 
 -- the code of an open stretch
 abbrev pub stretch_code : Coded OpenStretch

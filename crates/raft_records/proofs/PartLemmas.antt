@@ -41,16 +41,16 @@ cut_short xs ys signature offset len compression h short front rest items r spli
     absurd (omega (arith, same, ap length split, length-append front rest))
 
 -- where the item batch is none, no batch stands
-pub no_footer : (xs ys : List ℕ) (signature : Option ℕ) (offset len : ℕ) (compression : CompressionType) → Reads IsHeader xs ys (offset, compression, len) → ((items : List Item) (rest : List ℕ) → IsItemBatch (drop offset (take len xs)) signature items rest → ⊥) → HasNoFront (λ bytes. IsReadable bytes signature) xs
-no_footer xs ys signature offset len compression h none front rest items r split =
+pub no_item_batch : (xs ys : List ℕ) (signature : Option ℕ) (offset len : ℕ) (compression : CompressionType) → Reads IsHeader xs ys (offset, compression, len) → ((items : List Item) (rest : List ℕ) → IsItemBatch (drop offset (take len xs)) signature items rest → ⊥) → HasNoFront (λ bytes. IsReadable bytes signature) xs
+no_item_batch xs ys signature offset len compression h none front rest items r split =
     let framed = (readable front signature items).0 r in
     let f = framed.1 in
     let same = same_header xs ys signature (offset, compression, len) front rest items h r split in
     let at : offset ≡ framed.0 = ap (λ (t : ℕ × CompressionType × ℕ). t.0) same in
     let long : len ≡ length front = ap (λ (t : ℕ × CompressionType × ℕ). t.2) same in
     let whole : take len xs ≡ front = ap (take len) split ∙ take_at front rest len (sym long) in
-    let footer : drop framed.0 front ≡ drop offset (take len xs) = ap (λ (n : ℕ). drop n front) (sym at) ∙ ap (drop offset) (sym whole) in
-    none items f.rest (subst (λ (t : List ℕ). IsItemBatch t signature items f.rest) footer f.item_batch)
+    let item_batch : drop framed.0 front ≡ drop offset (take len xs) = ap (λ (n : ℕ). drop n front) (sym at) ∙ ap (drop offset) (sym whole) in
+    none items f.rest (subst (λ (t : List ℕ). IsItemBatch t signature items f.rest) item_batch f.item_batch)
 
 -- a header and the item batch behind it are a batch
 pub batch_stands : (xs ys : List ℕ) (signature : Option ℕ) (offset len : ℕ) (compression : CompressionType) (items : List Item) (rest : List ℕ) → Reads IsHeader xs ys (offset, compression, len) → len ≤ length xs → IsItemBatch (drop offset (take len xs)) signature items rest → (f : IsFramed (take len xs) signature items offset) × (f.compression ≡ compression)
@@ -88,8 +88,8 @@ one_front xs more rest front other signature items items' offset offset' f g e k
     let at : offset ≡ offset' = ap (λ (t : ℕ × CompressionType × ℕ). t.0) header in
     let long : length front ≡ length other = ap (λ (t : ℕ × CompressionType × ℕ). t.2) header in
     let same : front ≡ other = same_length front other more rest long (sym e ∙ k) in
-    let footer : drop offset front ≡ drop offset' other = ap (λ (n : ℕ). drop n front) at ∙ ap (drop offset') same in
-    (same, at, ap (λ (t : ℕ × CompressionType × ℕ). t.1) header, (one_batch (drop offset' other) f.rest g.rest signature items items' (subst (λ (t : List ℕ). IsItemBatch t signature items f.rest) footer f.item_batch) g.item_batch).0)
+    let item_batch : drop offset front ≡ drop offset' other = ap (λ (n : ℕ). drop n front) at ∙ ap (drop offset') same in
+    (same, at, ap (λ (t : ℕ × CompressionType × ℕ). t.1) header, (one_batch (drop offset' other) f.rest g.rest signature items items' (subst (λ (t : List ℕ). IsItemBatch t signature items f.rest) item_batch f.item_batch) g.item_batch).0)
 
 -- a written batch, part by part
 written_framed : (signature : Option ℕ) (items : List Item) (es : List ℕ) → IsBatchOf items es → AreInRange items → items ≢ [] → encoded_length items es < 2 ^ 56 → IsFramed (log_batch_bytes signature items es) signature (map bare items) (item_offset es)

@@ -135,7 +135,7 @@ fn context(seq: u64, version: Version) -> LogFileContext {
     LogFileContext::new(FileId::new(LogQueue::Append, seq), version)
 }
 
-/// The place of the entries part between a header at the file's start and an item batch.
+/// The place of the entry block between a header at the file's start and an item batch.
 fn entries_place(id: FileId, item_offset: usize) -> FileBlockHandle {
     FileBlockHandle {
         id,
@@ -180,8 +180,8 @@ fn is_read_so(
     }
     let place = entries_place(context.id, offset);
     let entries = LogBatch::decode_entries_block(alloc, behind, place, compression_type)?;
-    let mut footer = &bytes[offset..];
-    let items = LogItemBatch::decode(alloc, &mut footer, place, compression_type, context)?;
+    let mut item_batch = &bytes[offset..];
+    let items = LogItemBatch::decode(alloc, &mut item_batch, place, compression_type, context)?;
     Ok(entries.as_slice() == row.entry_bytes && items.approximate_size() == row.item_batch_size)
 }
 
@@ -333,8 +333,8 @@ fn is_read(alloc: Global, bytes: &[u8], seq: u64, entry_bytes: &[u8]) -> Result<
     let context = context(seq, Version::V2);
     let place = entries_place(context.id, offset);
     let entries = LogBatch::decode_entries_block(alloc, behind, place, compression_type)?;
-    let mut footer = &bytes[offset..];
-    match LogItemBatch::decode(alloc, &mut footer, place, compression_type, &context) {
+    let mut item_batch = &bytes[offset..];
+    match LogItemBatch::decode(alloc, &mut item_batch, place, compression_type, &context) {
         Ok(items) => Ok(entries.as_slice() == entry_bytes && !items.into_items().is_empty()),
         Err(Error::Corruption(_text)) => Ok(false),
         Err(e) => Err(e),

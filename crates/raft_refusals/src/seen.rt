@@ -109,7 +109,7 @@ fn with_pairs(before: u64, table: &MemTable) -> u64 {
     all
 }
 
-/// Whether the live numbers are those of the tables, and each table is one run with the rewritten entries in front.
+/// Whether the live counts are those of the tables, and each table is one run with the rewritten entries in front.
 pub(crate) fn are_sound(tables: &MemTableAccessor) -> bool {
     let append = tables.fold(0u128, |sum, table: &MemTable| {
         sum.wrapping_add(table.records(LogQueue::Append))

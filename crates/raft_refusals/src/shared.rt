@@ -28,7 +28,7 @@ static ITEMS: [(Option<u64>, u64, Step); 6] = [
     (None, 2, Step::Clean(7)),
 ];
 
-/// All tables in one number, and the live numbers.
+/// All tables in one number, and the live counts.
 type SharedSeen = (u64, u128, u128);
 
 fn see<R: Wait>(rt: &R, shared: &SharedAccessor) -> SharedSeen {

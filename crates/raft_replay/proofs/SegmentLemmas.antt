@@ -36,8 +36,8 @@ one_frame front other more rest signature items items' offset offset' f g e =
     let at : offset ≡ offset' = ap (λ (t : ℕ × CompressionType × ℕ). t.0) header in
     let long : length front ≡ length other = ap (λ (t : ℕ × CompressionType × ℕ). t.2) header in
     let same : front ≡ other = same_length front other more rest long e in
-    let footer : drop offset front ≡ drop offset' other = ap (λ (n : ℕ). drop n front) at ∙ ap (drop offset') same in
-    let batch = subst (λ (t : List ℕ). IsItemBatch t signature items f.rest) footer f.item_batch in
+    let item_batch : drop offset front ≡ drop offset' other = ap (λ (n : ℕ). drop n front) at ∙ ap (drop offset') same in
+    let batch = subst (λ (t : List ℕ). IsItemBatch t signature items f.rest) item_batch f.item_batch in
     (same, at, ap (λ (t : ℕ × CompressionType × ℕ). t.1) header, (one_batch (drop offset' other) f.rest g.rest signature items items' batch g.item_batch).0)
 
 -- one batch begins at a byte

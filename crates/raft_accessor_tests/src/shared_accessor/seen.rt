@@ -65,7 +65,7 @@ pub(super) fn shape(table: &MemTable) -> Shape {
 }
 
 /// What can be seen: the table of the region that is called at, all tables by region, how many a walk
-/// meets, the live numbers, whether there are none, and the cleaned regions by number.
+/// meets, the live counts, whether there are none, and the cleaned regions by number.
 #[derive(PartialEq, Debug, Drop)]
 pub(super) struct Seen {
     found: Option<Shape>,

@@ -9,7 +9,7 @@ use Rattle.raft_base.specs.Runs.{end_of}
 use Rattle.raft_history.specs.RegionSteps.{Tables, with_table}
 use Rattle.raft_table.specs.Counts.{Counts}
 use Rattle.raft_table.specs.MarkJoins.{end_at_reach}
-use Rattle.raft_table.specs.MarkMerge.{IsFaultUnder, IsMarkFault, IsRunOver}
+use Rattle.raft_table.specs.MarkedJoins.{IsFaultUnder, IsMarkFault, IsRunOver}
 use Rattle.raft_table.specs.Marks.{Mark, entries_within, is_refused_over, table_over, there_if, table_over_older}
 use Rattle.raft_table.specs.Steps.{table_of}
 use Rattle.raft_table.specs.Table.{Table, empty_table, live_of, IsRecounted}

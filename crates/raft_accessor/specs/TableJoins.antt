@@ -8,7 +8,7 @@ use Rattle.raft_base.specs.declared.pipe_log.LogQueue.{LogQueue}
 use Rattle.raft_history.specs.RegionSteps.{Tables, with_table}
 use Rattle.raft_table.specs.Counts.{Counts}
 use Rattle.raft_table.specs.MarkJoins.{end_at_reach}
-use Rattle.raft_table.specs.MarkMerge.{IsFaultUnder, IsRunOver}
+use Rattle.raft_table.specs.MarkedJoins.{IsFaultUnder, IsRunOver}
 use Rattle.raft_table.specs.Marks.{Mark, table_over, table_over_older}
 use Rattle.raft_table.specs.Queues.{other}
 use Rattle.raft_table.specs.Steps.{table_of}

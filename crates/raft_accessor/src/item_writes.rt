@@ -133,7 +133,7 @@ impl RegionTables {
         if !is_run(&run, LogQueue::Append) {
             return Err(Error::corruption(
                 self.allocator(),
-                "entries are no run of the append queue",
+                "indexes don't rise by one, or a place is not in the append queue",
             ));
         }
         self.append_run(id, run, stats)
@@ -153,7 +153,10 @@ impl RegionTables {
             self.old stats.old list result self.new stats.new list }
     {
         if !is_run(&run, queue) {
-            return Err(Error::corruption(self.allocator(), "entries are no run of their queue"));
+            return Err(Error::corruption(
+                self.allocator(),
+                "indexes don't rise by one, or a place is in the other queue",
+            ));
         }
         self.replay_run(queue, id, run, stats)?;
         Ok(())
@@ -176,7 +179,7 @@ impl RegionTables {
         if !is_run(&run, LogQueue::Rewrite) {
             return Err(Error::corruption(
                 self.allocator(),
-                "entries are no run of the rewrite queue",
+                "indexes don't rise by one, or a place is not in the rewrite queue",
             ));
         }
         self.rewrite_run(id, run, gate, stats)

@@ -27,8 +27,9 @@ pub(crate) struct Timed {
     merging: u64,
 }
 
-/// Times how long four contexts take to read a quarter of the files each, and to be merged by halves. The words are those
-/// of `raftlog recover`; nothing is timed where they are others, or where the files have fewer than four batches.
+/// Times how long four contexts take to read a quarter of the files each, and to be merged by halves. The words
+/// are those of `raftlog recover`; nothing is timed where they are others, or where the files have fewer than
+/// four batches.
 pub(crate) fn time<R: Files + AllocGlobal + Clock>(
     rt: &R,
     words: &[String],
@@ -102,8 +103,8 @@ fn time_merging<R: Clock>(
 fn read_quarters(alloc: Global, segments: &[Segment]) -> Result<Vec<MemTableRecoverContext>> {
     let quarter = segments.len().div_ceil(CONTEXTS).max(1);
     let mut contexts = Vec::new(alloc);
-    for share in segments.chunks(quarter) {
-        contexts.push(read(alloc, share)?)?;
+    for few in segments.chunks(quarter) {
+        contexts.push(read(alloc, few)?)?;
     }
     Ok(contexts)
 }

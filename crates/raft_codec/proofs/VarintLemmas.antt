@@ -6,23 +6,23 @@ use Rattle.std.proofs.lemmas.List.{append_assoc, drop_more, get_or-take, get_or_
 use Rattle.std.proofs.Math.Nat.{pow-suc, pow-le-pow_right, mul-le-mul_left}
 use Rattle.std.proofs.lemmas.Nat.{pow-add, shl_whole}
 use Rattle.raft_codec.specs.Reading.{Reads}
-use Rattle.raft_codec.specs.Varint.{IsContinued, base_128, IsVarint, IsShortVarint, AllContinue, EndsEarly, IsTooLong, groups_of, varint}
+use Rattle.raft_codec.specs.Varint.{IsContinued, base_128, IsVarint, IsShortVarint, AllContinue, EndsEarly, IsTooLong, septets_of, varint}
 
--- ---- a group at its place
+-- ---- a septet at its place
 
--- seven places of bits are one group
-pub pow-groups : (k : ℕ) → 2 ^ (7 * k) ≡ 128 ^ k
-pow-groups zero = refl
-pow-groups (suc k) =
+-- seven places of bits are one septet
+pub pow-septets : (k : ℕ) → 2 ^ (7 * k) ≡ 128 ^ k
+pow-septets zero = refl
+pow-septets (suc k) =
     let e : 7 * suc k ≡ 7 * k + 7 = omega arith in
-    rw (e, pow-add, pow-groups k, pow-suc 128 k) refl
+    rw (e, pow-add, pow-septets k, pow-suc 128 k) refl
 
--- a group that fits is shifted whole
-pub shift-group : (bits place : ℕ) → bits < 128 → place < 10 → (place ≡ 9 → bits ≤ 1) → bits * 2 ^ (7 * place) % 2 ^ 64 ≡ bits * 128 ^ place
-shift-group bits place group lt tenth =
+-- a septet that fits is shifted whole
+pub shift-septet : (bits place : ℕ) → bits < 128 → place < 10 → (place ≡ 9 → bits ≤ 1) → bits * 2 ^ (7 * place) % 2 ^ 64 ≡ bits * 128 ^ place
+shift-septet bits place septet lt tenth =
     elim (cases_lt place 9) [
-      | inl below ↦ rw (shl_whole bits 7 (7 * place) 64 group (omega arith), pow-groups) refl
-      | inr above ↦ rw (shl_whole bits 1 (7 * place) 64 (let one : bits ≤ 1 = tenth (omega arith) in omega arith) (omega arith), pow-groups) refl
+      | inl below ↦ rw (shl_whole bits 7 (7 * place) 64 septet (omega arith), pow-septets) refl
+      | inr above ↦ rw (shl_whole bits 1 (7 * place) 64 (let one : bits ≤ 1 = tenth (omega arith) in omega arith) (omega arith), pow-septets) refl
     ]
 
 -- ---- the bytes read so far
@@ -49,9 +49,9 @@ base_128-lt (x ∷ xs) =
     let h = base_128-lt xs in
     rw (pow-suc 128 (length xs)) (omega arith)
 
--- the numbers below the tenth group and with it
+-- the numbers below the tenth septet and with it
 pub fits : (number bits place : ℕ) → number < 128 ^ place → bits < 128 → place < 10 → (place ≡ 9 → bits ≤ 1) → number + bits * 128 ^ place < 2 ^ 64
-fits number bits place lt group below tenth =
+fits number bits place lt septet below tenth =
     elim (cases_lt place 9) [
       | inl low ↦
           let most : 128 ^ place ≤ 128 ^ 8 = pow-le-pow_right {n = 128} (omega arith) {i = place} {j = 8} (omega arith) in
@@ -99,15 +99,15 @@ too_long bytes long front rest n spelled split =
 
 -- ---- the shortest spelling
 
-pub groups_last : (k n : ℕ) → n < 128 → groups_of k n ≡ n ∷ []
-unfolding groups_of
-groups_last zero n lt = refl
-groups_last (suc k) n lt = grind (arith, nat_tests)
+pub septets_last : (k n : ℕ) → n < 128 → septets_of k n ≡ n ∷ []
+unfolding septets_of
+septets_last zero n lt = refl
+septets_last (suc k) n lt = grind (arith, nat_tests)
 
-pub groups_more : (k j n : ℕ) → k ≡ suc j → 128 ≤ n → groups_of k n ≡ (n % 128 + 128) ∷ groups_of j (n / 128)
-unfolding groups_of
-groups_more zero j n e le = absurd (omega arith)
-groups_more (suc k) j n e le =
+pub septets_more : (k j n : ℕ) → k ≡ suc j → 128 ≤ n → septets_of k n ≡ (n % 128 + 128) ∷ septets_of j (n / 128)
+unfolding septets_of
+septets_more zero j n e le = absurd (omega arith)
+septets_more (suc k) j n e le =
     let same : k ≡ j = omega arith in
     rw same (grind (arith, nat_tests))
 
@@ -115,41 +115,41 @@ IsContinued-cons : (b : ℕ) (xs : List ℕ) → 128 ≤ b → b < 256 → IsCon
 IsContinued-cons b [] low high c = absurd c
 IsContinued-cons b (x ∷ xs) low high c = (low, high, c)
 
-pub two_groups : (n : ℕ) → 128 ≤ n → n / 128 < 128 → varint n ≡ (n % 128 + 128) ∷ n / 128 ∷ []
+pub two_septets : (n : ℕ) → 128 ≤ n → n / 128 < 128 → varint n ≡ (n % 128 + 128) ∷ n / 128 ∷ []
 unfolding varint
-two_groups n many few = groups_more 9 8 n refl many ∙ ap (λ (t : List ℕ). (n % 128 + 128) ∷ t) (groups_last 8 (n / 128) few)
+two_septets n many few = septets_more 9 8 n refl many ∙ ap (λ (t : List ℕ). (n % 128 + 128) ∷ t) (septets_last 8 (n / 128) few)
 
-pub three_groups : (n : ℕ) → 128 ≤ n / 128 → n / 128 / 128 < 128 → varint n ≡ (n % 128 + 128) ∷ (n / 128 % 128 + 128) ∷ n / 128 / 128 ∷ []
+pub three_septets : (n : ℕ) → 128 ≤ n / 128 → n / 128 / 128 < 128 → varint n ≡ (n % 128 + 128) ∷ (n / 128 % 128 + 128) ∷ n / 128 / 128 ∷ []
 unfolding varint
-three_groups n many few =
-    groups_more 9 8 n refl (omega arith) ∙ ap (λ (t : List ℕ). (n % 128 + 128) ∷ t) (groups_more 8 7 (n / 128) refl many) ∙ ap (λ (t : List ℕ). (n % 128 + 128) ∷ (n / 128 % 128 + 128) ∷ t) (groups_last 7 (n / 128 / 128) few)
+three_septets n many few =
+    septets_more 9 8 n refl (omega arith) ∙ ap (λ (t : List ℕ). (n % 128 + 128) ∷ t) (septets_more 8 7 (n / 128) refl many) ∙ ap (λ (t : List ℕ). (n % 128 + 128) ∷ (n / 128 % 128 + 128) ∷ t) (septets_last 7 (n / 128 / 128) few)
 
-pub four_groups : (n : ℕ) → 128 ≤ n / 128 / 128 → n / 128 / 128 / 128 < 128 → varint n ≡ (n % 128 + 128) ∷ (n / 128 % 128 + 128) ∷ (n / 128 / 128 % 128 + 128) ∷ n / 128 / 128 / 128 ∷ []
+pub four_septets : (n : ℕ) → 128 ≤ n / 128 / 128 → n / 128 / 128 / 128 < 128 → varint n ≡ (n % 128 + 128) ∷ (n / 128 % 128 + 128) ∷ (n / 128 / 128 % 128 + 128) ∷ n / 128 / 128 / 128 ∷ []
 unfolding varint
-four_groups n many few =
-    groups_more 9 8 n refl (omega arith) ∙ ap (λ (t : List ℕ). (n % 128 + 128) ∷ t) (groups_more 8 7 (n / 128) refl (omega arith)) ∙ ap (λ (t : List ℕ). (n % 128 + 128) ∷ (n / 128 % 128 + 128) ∷ t) (groups_more 7 6 (n / 128 / 128) refl many) ∙ ap (λ (t : List ℕ). (n % 128 + 128) ∷ (n / 128 % 128 + 128) ∷ (n / 128 / 128 % 128 + 128) ∷ t) (groups_last 6 (n / 128 / 128 / 128) few)
+four_septets n many few =
+    septets_more 9 8 n refl (omega arith) ∙ ap (λ (t : List ℕ). (n % 128 + 128) ∷ t) (septets_more 8 7 (n / 128) refl (omega arith)) ∙ ap (λ (t : List ℕ). (n % 128 + 128) ∷ (n / 128 % 128 + 128) ∷ t) (septets_more 7 6 (n / 128 / 128) refl many) ∙ ap (λ (t : List ℕ). (n % 128 + 128) ∷ (n / 128 % 128 + 128) ∷ (n / 128 / 128 % 128 + 128) ∷ t) (septets_last 6 (n / 128 / 128 / 128) few)
 
--- what k + 1 groups spell
+-- what k + 1 septets spell
 record Spells (k n : ℕ) (bytes : List ℕ) : Type 0 where
   pub continued : IsContinued bytes
   pub value : n ≡ base_128 bytes
   pub bound : length bytes ≤ suc k
   pub last : get_or bytes k 0 * 128 ^ k ≤ n
 
-spells : (k n : ℕ) → n < 128 ^ suc k → Spells k n (groups_of k n)
+spells : (k n : ℕ) → n < 128 ^ suc k → Spells k n (septets_of k n)
 spells zero n lt =
     let few : n < 128 = lt in
-    rw (groups_last zero n few) (record { continued = few; value = omega arith; bound = omega arith; last = omega arith })
+    rw (septets_last zero n few) (record { continued = few; value = omega arith; bound = omega arith; last = omega arith })
 spells (suc k) n lt =
     elim (cases_lt n 128) [
-      | inl few ↦ rw (groups_last (suc k) n few) (record { continued = few; value = omega arith; bound = omega arith; last = omega arith })
+      | inl few ↦ rw (septets_last (suc k) n few) (record { continued = few; value = omega arith; bound = omega arith; last = omega arith })
       | inr many ↦
           let power : 128 ^ suc (suc k) ≡ 128 ^ suc k * 128 = pow-suc 128 (suc k) in
           let less : n / 128 < 128 ^ suc k = omega arith in
           let rest = spells k (n / 128) less in
           let e : 128 ^ suc k ≡ 128 ^ k * 128 = pow-suc 128 k in
-          rw (groups_more (suc k) k n refl many) (record {
-            continued = IsContinued-cons (n % 128 + 128) (groups_of k (n / 128)) (omega arith) (omega arith) rest.continued;
+          rw (septets_more (suc k) k n refl many) (record {
+            continued = IsContinued-cons (n % 128 + 128) (septets_of k (n / 128)) (omega arith) (omega arith) rest.continued;
             value = omega (arith, rest.value);
             bound = omega (arith, rest.bound);
             last = rw e (omega (arith, rest.last));
@@ -166,17 +166,17 @@ more : (m n : ℕ) → n < 128 ^ suc m → 128 ≤ n → 0 < m
 more zero n lt many = absurd (omega arith)
 more (suc m) n lt many = omega arith
 
-groups_bound : (k m n : ℕ) → n < 128 ^ m → 0 < m → length (groups_of k n) ≤ m
-unfolding groups_of
-groups_bound zero m n lt some = some
-groups_bound (suc k) zero n lt some = absurd (omega arith)
-groups_bound (suc k) (suc m) n lt some =
+septets_bound : (k m n : ℕ) → n < 128 ^ m → 0 < m → length (septets_of k n) ≤ m
+unfolding septets_of
+septets_bound zero m n lt some = some
+septets_bound (suc k) zero n lt some = absurd (omega arith)
+septets_bound (suc k) (suc m) n lt some =
     elim (cases_lt n 128) [
-      | inl few ↦ rw (groups_last (suc k) n few) (omega arith)
+      | inl few ↦ rw (septets_last (suc k) n few) (omega arith)
       | inr many ↦
           let power : 128 ^ suc m ≡ 128 ^ m * 128 = pow-suc 128 m in
           let less : n / 128 < 128 ^ m = omega arith in
-          rw (groups_more (suc k) k n refl many) (omega (arith, groups_bound k m (n / 128) less (more m n lt many)))
+          rw (septets_more (suc k) k n refl many) (omega (arith, septets_bound k m (n / 128) less (more m n lt many)))
     ]
 
 not_empty : (bytes : List ℕ) → IsContinued bytes → 0 < length bytes
@@ -186,12 +186,12 @@ not_empty (b ∷ bs) c = omega arith
 pub varint_shortest : (n : ℕ) (bytes : List ℕ) → IsVarint bytes n → length (varint n) ≤ length bytes
 unfolding varint
 varint_shortest n bytes s =
-    groups_bound 9 (length bytes) n (rw s.value (base_128-lt bytes)) (not_empty bytes s.continued)
+    septets_bound 9 (length bytes) n (rw s.value (base_128-lt bytes)) (not_empty bytes s.continued)
 
 -- m bytes are enough for a number below 128 ^ m
 pub varint_within : (m n : ℕ) → n < 128 ^ m → 0 < m → length (varint n) ≤ m
 unfolding varint
-varint_within m n lt some = groups_bound 9 m n lt some
+varint_within m n lt some = septets_bound 9 m n lt some
 
 -- a number takes a byte at least
 pub varint_some : (bytes : List ℕ) (n : ℕ) → IsVarint bytes n → 0 < length bytes
@@ -247,9 +247,9 @@ one_byte b rest lt = record {
 }
 
 -- numbers of two to four bytes, as they stand in front
-pub one_group : (bytes : List ℕ) → 1 ≤ length bytes → get_or bytes 0 0 < 128 → Reads IsVarint bytes (drop 1 bytes) (get_or bytes 0 0)
-one_group [] len a = absurd (omega arith)
-one_group (a ∷ rest) len lt = one_byte a rest lt
+pub one_septet : (bytes : List ℕ) → 1 ≤ length bytes → get_or bytes 0 0 < 128 → Reads IsVarint bytes (drop 1 bytes) (get_or bytes 0 0)
+one_septet [] len a = absurd (omega arith)
+one_septet (a ∷ rest) len lt = one_byte a rest lt
 
 -- a number behind which all but four bytes at most are left is a short one
 pub short_read : (bytes : List ℕ) (n k : ℕ) → k ≤ 4 → Reads IsVarint bytes (drop k bytes) n → Reads IsShortVarint bytes (drop k bytes) n
@@ -267,30 +267,30 @@ short_below bytes n s =
     let most : 128 ^ length bytes ≤ 128 ^ 4 = pow-le-pow_right {n = 128} (omega arith) {i = length bytes} {j = 4} s.at_most_four in
     omega (arith, s.number.value, base_128-lt bytes, most)
 
-pub three_groups_read : (bytes : List ℕ) → 3 ≤ length bytes → 128 ≤ get_or bytes 0 0 → get_or bytes 0 0 < 256 → 128 ≤ get_or bytes 1 0 → get_or bytes 1 0 < 256 → get_or bytes 2 0 < 128 → Reads IsVarint bytes (drop 3 bytes) (get_or bytes 0 0 % 128 + 128 * (get_or bytes 1 0 % 128) + get_or bytes 2 0 * 16384)
-three_groups_read [] len h i j k l = absurd (omega arith)
-three_groups_read (a ∷ []) len h i j k l = absurd (omega arith)
-three_groups_read (a ∷ b ∷ []) len h i j k l = absurd (omega arith)
-three_groups_read (a ∷ b ∷ c ∷ rest) len h i j k l = record {
+pub three_septets_read : (bytes : List ℕ) → 3 ≤ length bytes → 128 ≤ get_or bytes 0 0 → get_or bytes 0 0 < 256 → 128 ≤ get_or bytes 1 0 → get_or bytes 1 0 < 256 → get_or bytes 2 0 < 128 → Reads IsVarint bytes (drop 3 bytes) (get_or bytes 0 0 % 128 + 128 * (get_or bytes 1 0 % 128) + get_or bytes 2 0 * 16384)
+three_septets_read [] len h i j k l = absurd (omega arith)
+three_septets_read (a ∷ []) len h i j k l = absurd (omega arith)
+three_septets_read (a ∷ b ∷ []) len h i j k l = absurd (omega arith)
+three_septets_read (a ∷ b ∷ c ∷ rest) len h i j k l = record {
   front = a ∷ b ∷ c ∷ [];
   spells = record { continued = (h, i, (j, k, l)); value = omega arith; at_most_ten = omega arith; tenth = omega arith };
   split = refl;
 }
 
-pub four_groups_read : (bytes : List ℕ) → 4 ≤ length bytes → 128 ≤ get_or bytes 0 0 → get_or bytes 0 0 < 256 → 128 ≤ get_or bytes 1 0 → get_or bytes 1 0 < 256 → 128 ≤ get_or bytes 2 0 → get_or bytes 2 0 < 256 → get_or bytes 3 0 < 128 → Reads IsVarint bytes (drop 4 bytes) (get_or bytes 0 0 % 128 + 128 * (get_or bytes 1 0 % 128) + (get_or bytes 2 0 % 128 + 128 * (get_or bytes 3 0 % 128)) * 16384)
-four_groups_read [] len h i j k m n l = absurd (omega arith)
-four_groups_read (a ∷ []) len h i j k m n l = absurd (omega arith)
-four_groups_read (a ∷ b ∷ []) len h i j k m n l = absurd (omega arith)
-four_groups_read (a ∷ b ∷ c ∷ []) len h i j k m n l = absurd (omega arith)
-four_groups_read (a ∷ b ∷ c ∷ d ∷ rest) len h i j k m n l = record {
+pub four_septets_read : (bytes : List ℕ) → 4 ≤ length bytes → 128 ≤ get_or bytes 0 0 → get_or bytes 0 0 < 256 → 128 ≤ get_or bytes 1 0 → get_or bytes 1 0 < 256 → 128 ≤ get_or bytes 2 0 → get_or bytes 2 0 < 256 → get_or bytes 3 0 < 128 → Reads IsVarint bytes (drop 4 bytes) (get_or bytes 0 0 % 128 + 128 * (get_or bytes 1 0 % 128) + (get_or bytes 2 0 % 128 + 128 * (get_or bytes 3 0 % 128)) * 16384)
+four_septets_read [] len h i j k m n l = absurd (omega arith)
+four_septets_read (a ∷ []) len h i j k m n l = absurd (omega arith)
+four_septets_read (a ∷ b ∷ []) len h i j k m n l = absurd (omega arith)
+four_septets_read (a ∷ b ∷ c ∷ []) len h i j k m n l = absurd (omega arith)
+four_septets_read (a ∷ b ∷ c ∷ d ∷ rest) len h i j k m n l = record {
   front = a ∷ b ∷ c ∷ d ∷ [];
   spells = record { continued = (h, i, (j, k, (m, n, l))); value = omega arith; at_most_ten = omega arith; tenth = omega arith };
   split = refl;
 }
 
--- a group that ends the number: i groups were read before it
-pub last_group : (bytes : List ℕ) (i number : ℕ) → i < length bytes → i ≤ 9 → (i ≡ 9 → get_or bytes i 0 ≤ 1) → AllContinue (take i bytes) → number ≡ base_128 (take i bytes) → get_or bytes i 0 < 128 → Reads IsVarint bytes (drop (i + 1) bytes) (number + get_or bytes i 0 % 128 * 128 ^ i)
-last_group bytes i number lt bound tenth continue value last =
+-- a septet that ends the number: i septets were read before it
+pub last_septet : (bytes : List ℕ) (i number : ℕ) → i < length bytes → i ≤ 9 → (i ≡ 9 → get_or bytes i 0 ≤ 1) → AllContinue (take i bytes) → number ≡ base_128 (take i bytes) → get_or bytes i 0 < 128 → Reads IsVarint bytes (drop (i + 1) bytes) (number + get_or bytes i 0 % 128 * 128 ^ i)
+last_septet bytes i number lt bound tenth continue value last =
     let byte = get_or bytes i 0 in
     let len : length (take i bytes) ≡ i = length-take-le i bytes (omega arith) in
     let whole : take (i + 1) bytes ≡ take i bytes ++ byte ∷ [] = take_more bytes i 0 lt in
@@ -312,16 +312,16 @@ last_group bytes i number lt bound tenth continue value last =
       split = sym (take-append-drop (i + 1) bytes);
     }
 
--- the number so far and one more group fit
+-- the number so far and one more septet fit
 pub sum_fits : (bytes : List ℕ) (i number : ℕ) → i < length bytes → i ≤ 9 → (i ≡ 9 → get_or bytes i 0 ≤ 1) → number ≡ base_128 (take i bytes) → number + get_or bytes i 0 % 128 * 128 ^ i < 2 ^ 64
 sum_fits bytes i number lt bound tenth value =
     let len : length (take i bytes) ≡ i = length-take-le i bytes (omega arith) in
     let below : number < 128 ^ i = rw value (subst (λ (k : ℕ). base_128 (take i bytes) < 128 ^ k) len (base_128-lt (take i bytes))) in
     fits number (get_or bytes i 0 % 128) i below (omega arith) (omega arith) (λ nine. let one : get_or bytes i 0 ≤ 1 = tenth nine in omega arith)
 
--- a group behind which the number goes on
-pub next_group : (bytes : List ℕ) (i number : ℕ) → i < length bytes → AllContinue (take i bytes) → number ≡ base_128 (take i bytes) → 128 ≤ get_or bytes i 0 → get_or bytes i 0 < 256 → AllContinue (take (i + 1) bytes) × (number + get_or bytes i 0 % 128 * 128 ^ i ≡ base_128 (take (i + 1) bytes))
-next_group bytes i number lt continue value low high =
+-- a septet behind which the number goes on
+pub next_septet : (bytes : List ℕ) (i number : ℕ) → i < length bytes → AllContinue (take i bytes) → number ≡ base_128 (take i bytes) → 128 ≤ get_or bytes i 0 → get_or bytes i 0 < 256 → AllContinue (take (i + 1) bytes) × (number + get_or bytes i 0 % 128 * 128 ^ i ≡ base_128 (take (i + 1) bytes))
+next_septet bytes i number lt continue value low high =
     let byte = get_or bytes i 0 in
     let len : length (take i bytes) ≡ i = length-take-le i bytes (omega arith) in
     let whole : take (i + 1) bytes ≡ take i bytes ++ byte ∷ [] = take_more bytes i 0 lt in
@@ -347,12 +347,12 @@ is_early bytes i end bound continue = record { continued = subst AllContinue (ta
 
 -- ---- what a writer leaves
 
-pub written_last : (bytes front : List ℕ) (i k rest : ℕ) → i < length bytes → rest < 128 → take i bytes ++ groups_of k rest ≡ front → take (i + 1) (set bytes i rest) ≡ front
-written_last bytes front i k rest lt few e = rw take_more_set (rw (groups_last k rest few) at e)
+pub written_last : (bytes front : List ℕ) (i k rest : ℕ) → i < length bytes → rest < 128 → take i bytes ++ septets_of k rest ≡ front → take (i + 1) (set bytes i rest) ≡ front
+written_last bytes front i k rest lt few e = rw take_more_set (rw (septets_last k rest few) at e)
 
-pub written_more : (bytes front : List ℕ) (i k j rest : ℕ) → i < length bytes → 128 ≤ rest → k ≡ suc j → take i bytes ++ groups_of k rest ≡ front → front ≡ take (i + 1) (set bytes i (rest % 128 + 128)) ++ groups_of j (rest / 128)
+pub written_more : (bytes front : List ℕ) (i k j rest : ℕ) → i < length bytes → 128 ≤ rest → k ≡ suc j → take i bytes ++ septets_of k rest ≡ front → front ≡ take (i + 1) (set bytes i (rest % 128 + 128)) ++ septets_of j (rest / 128)
 written_more bytes front i k j rest lt many e h =
-    rw take_more_set (sym h ∙ rw (groups_more k j rest e many) (simp append_assoc))
+    rw take_more_set (sym h ∙ rw (septets_more k j rest e many) (simp append_assoc))
 
 pub rest_falls : (rest i number : ℕ) → rest * 128 ^ i ≤ number → rest / 128 * 128 ^ (i + 1) ≤ number
 rest_falls rest i number h =

@@ -28,13 +28,13 @@ pub record IsShortVarint (bytes : List ℕ) (n : ℕ) : Type 0 where
   pub at_most_four : length bytes ≤ 4
 
 -- n in at most this many bytes more than one
-unfoldable pub groups_of : ℕ → ℕ → List ℕ
-groups_of zero n = n ∷ []
-groups_of (suc more) n = if nat_lt n 128 then n ∷ [] else (n % 128 + 128) ∷ groups_of more (n / 128)
+unfoldable pub septets_of : ℕ → ℕ → List ℕ
+septets_of zero n = n ∷ []
+septets_of (suc more) n = if nat_lt n 128 then n ∷ [] else (n % 128 + 128) ∷ septets_of more (n / 128)
 
--- the spelling that encoders write: groups of seven bits, lowest first, as long as bits are left
+-- the spelling that encoders write: septets of seven bits, lowest first, as long as bits are left
 unfoldable pub varint : ℕ → List ℕ
-varint n = groups_of 9 n
+varint n = septets_of 9 n
 
 -- every byte has its top bit set
 abbrev pub AllContinue : List ℕ → Type 0

@@ -1,7 +1,7 @@
-//! Recovers log files at every cutting. The words are those of `raftlog recover`, and so are status and lines where all
-//! cuttings give the same: the files' batches, 16 at most, are cut into segments in every way, and the segments are read
-//! and merged from the left, from the right and by halves, and by 1 to 4 workers. Status 3, and a line on standard error,
-//! where one of these gives something else than the batches uncut.
+//! Recovers log files at every cutting. The words are those of `raftlog recover`, and so are status and lines
+//! where all cuttings give the same: the files' batches, 16 at most, are cut into segments in every way, and
+//! the segments are read and merged from the left, from the right and by halves, and by 1 to 4 workers. Status
+//! 3, and a line on standard error, where one of these gives something else than the batches uncut.
 #![tactic(auto)]
 
 mod cuttings;

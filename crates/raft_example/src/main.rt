@@ -51,8 +51,7 @@ fn print_and_compact(
 fn read_group(rt: &HostRuntime) -> Result<()> {
     println!(rt; "a group of the rewrite queue, read batch by batch:")?;
     let tables = read_parts(rt.alloc(), &files::group(rt.alloc())?)?.finish()?;
-    print_recovered(rt.alloc(), &tables, &mut rt.stdout())?;
-    Ok(())
+    print_recovered(rt.alloc(), &tables, &mut rt.stdout())
 }
 
 /// Reads both queues, puts the tables of the append queue over those of the rewrite queue, and prints them.
@@ -61,8 +60,7 @@ fn read_both_queues(rt: &HostRuntime) -> Result<()> {
     let alloc = rt.alloc();
     let mut context = read_parts(alloc, &files::group(alloc)?)?;
     context.merge_append_context(read_parts(alloc, &files::appended(alloc)?)?)?;
-    print_recovered(alloc, &context.finish()?, &mut rt.stdout())?;
-    Ok(())
+    print_recovered(alloc, &context.finish()?, &mut rt.stdout())
 }
 
 /// A context of all batches of these parts.

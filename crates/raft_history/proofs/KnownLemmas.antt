@@ -14,7 +14,7 @@ use Rattle.std.specs.FinMap.Entries.{find, below_all, is_sorted}
 use Rattle.raft_history.specs.Batches.{GroupMarker, BatchSteps}
 use Rattle.raft_history.specs.Effects.{steps_of, EachApart, effects, numbered_from, is_of, markers_of, open_stretch}
 use Rattle.raft_history.specs.WaitingGroup.{without_marker, front_of, WaitingGroup, whole_group, group_in}
-use Rattle.raft_history.specs.WaitingGroups.{entry_by, groups_in, known_of, whole_with, whole_groups, wholes, steps_of_wholes, ListsGroups, IsListed}
+use Rattle.raft_history.specs.WaitingGroups.{group_by, groups_in, known_of, whole_with, whole_groups, wholes, steps_of_wholes, ListsGroups, IsListed}
 use Rattle.raft_history.proofs.EffectLemmas.{each_weaker}
 use Rattle.raft_history.proofs.JoinedLemmas.{joined_steps}
 use Rattle.raft_table.proofs.Shown.{first_of_both, second_of_both}
@@ -25,21 +25,21 @@ tied a b = unsigned_tied a b
 abbrev pub has_marker : ℕ → List BatchSteps → Bool
 has_marker g h = list_any (λ b. is_of g b.marker) h
 
-find-entries : (g : ℕ) (all h : List BatchSteps) → find nat_cmp g (flat_map (λ b. entry_by all b.marker) h) ≡ cond (has_marker g h) (Some (group_in g all)) None
+find-entries : (g : ℕ) (all h : List BatchSteps) → find nat_cmp g (flat_map (λ b. group_by all b.marker) h) ≡ cond (has_marker g h) (Some (group_in g all)) None
 find-entries g all [] = refl
 find-entries g all (b ∷ bs) = go b.marker (find-entries g all bs)
   where
-    go : (m : Option GroupMarker) → find nat_cmp g (flat_map (λ b. entry_by all b.marker) bs) ≡ cond (has_marker g bs) (Some (group_in g all)) None → find nat_cmp g (entry_by all m ++ flat_map (λ b. entry_by all b.marker) bs) ≡ cond (is_of g m || has_marker g bs) (Some (group_in g all)) None
+    go : (m : Option GroupMarker) → find nat_cmp g (flat_map (λ b. group_by all b.marker) bs) ≡ cond (has_marker g bs) (Some (group_in g all)) None → find nat_cmp g (group_by all m ++ flat_map (λ b. group_by all b.marker) bs) ≡ cond (is_of g m || has_marker g bs) (Some (group_in g all)) None
     go None ih = ih
     go (Some m) ih = rw (tied g m.group) (at (eqb g m.group) refl)
       where
-        at : (t : Bool) → eqb g m.group ≡ t → cond t (Some (group_in m.group all)) (find nat_cmp g (flat_map (λ b. entry_by all b.marker) bs)) ≡ cond (t || has_marker g bs) (Some (group_in g all)) None
+        at : (t : Bool) → eqb g m.group ≡ t → cond t (Some (group_in m.group all)) (find nat_cmp g (flat_map (λ b. group_by all b.marker) bs)) ≡ cond (t || has_marker g bs) (Some (group_in g all)) None
         at true e = ap (λ x. Some (group_in x all)) (sym (eqb-true g m.group e))
         at false e = ih
 
 pub get-groups_in : (g : ℕ) (h : List BatchSteps) → finite.get (groups_in h) g ≡ cond (has_marker g h) (Some (group_in g h)) None
 unfolding groups_in
-get-groups_in g h = finite.get-from_entries nat_cmp_total (flat_map (λ b. entry_by h b.marker) h) g ∙ find-entries g h h
+get-groups_in g h = finite.get-from_entries nat_cmp_total (flat_map (λ b. group_by h b.marker) h) g ∙ find-entries g h h
 
 -- a group without a marker
 no_markers : (g n : ℕ) (h : List BatchSteps) → has_marker g h ≡ false → markers_of g (numbered_from n h) ≡ []

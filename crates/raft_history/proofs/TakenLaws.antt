@@ -24,19 +24,19 @@ some_is : {X : Type 0} {x y : X} → Some x ≡ Some y → x ≡ y
 some_is e = cc
 
 -- the batch may come next: its queue, its file, its items
-pub record IsNext (c : Context) (e : Event) : Type 0 where
+pub record IsNextEvent (c : Context) (e : Event) : Type 0 where
   pub suits : Suits e.file.queue c.files
   pub follows : follows c.files (files_of (e ∷ [])) ≡ true
   pub in_file : AreInFile e.file e.items
   pub status : HaveStatus e.file.queue e.items
 
-have_status : (c : Context) (h : List Event) (e : Event) → StandsFor c h → IsNext c e → AllHaveStatus (h ++ e ∷ [])
+have_status : (c : Context) (h : List Event) (e : Event) → StandsFor c h → IsNextEvent c e → AllHaveStatus (h ++ e ∷ [])
 have_status c h e st n = status-append h (e ∷ []) (st.stands e.file.queue n.suits).sound.markers (n.status, tt)
 
-in_files : (c : Context) (h : List Event) (e : Event) → StandsFor c h → IsNext c e → AreInFiles (h ++ e ∷ [])
+in_files : (c : Context) (h : List Event) (e : Event) → StandsFor c h → IsNextEvent c e → AreInFiles (h ++ e ∷ [])
 in_files c h e st n = in_files-append h (e ∷ []) (st.stands e.file.queue n.suits).sound.items (n.in_file, tt)
 
-files : (c : Context) (h : List Event) (e : Event) → StandsFor c h → IsNext c e → FilesFrom e.file.queue 0 (h ++ e ∷ [])
+files : (c : Context) (h : List Event) (e : Event) → StandsFor c h → IsNextEvent c e → FilesFrom e.file.queue 0 (h ++ e ∷ [])
 files c h e st n = files_follow e.file.queue h (e ∷ []) (st.stands e.file.queue n.suits).sound.files (refl, zero_le _, tt) (ap (λ p. follows p (files_of (e ∷ []))) (sym st.files) ∙ n.follows)
   where
     zero_le : (n : ℕ) → 0 ≤ n
@@ -60,7 +60,7 @@ groups_more h e g is = ap (λ g. groups_after g (batch_of e) (batch_of e).marker
 cleaned_one : (q : LogQueue) (e : Event) → cleaned_in q (e ∷ []) ≡ cleaned_by_steps q (steps_of_items e.items)
 cleaned_one q e = append-nil (cleaned_by_steps q (steps_of_items e.items))
 
-pub taken_stands : (c d : Context) (h : List Event) (e : Event) → IsNext c e → StandsFor c h → taken_in c e ≡ Some d → StandsFor d (h ++ e ∷ [])
+pub taken_stands : (c d : Context) (h : List Event) (e : Event) → IsNextEvent c e → StandsFor c h → taken_in c e ≡ Some d → StandsFor d (h ++ e ∷ [])
 taken_stands c d h e n st is = subst (λ d. StandsFor d (h ++ e ∷ [])) s.2 record {
   files = ap (λ p. joined_files p (files_of (e ∷ []))) st.files ∙ sym (files_of-append h (e ∷ []));
   groups = groups_more h e c.groups st.groups;
@@ -88,7 +88,7 @@ taken_stands c d h e n st is = subst (λ d. StandsFor d (h ++ e ∷ [])) s.2 rec
       append = λ q. exact Append (a.append q) (subst (λ q. regions_after q c.regions (completed_steps c.groups (batch_of e) (batch_of e).marker) ≡ Some s.0) q s.1);
     }
 
-pub taken_exact : (c d : Context) (h : List Event) (e : Event) → IsNext c e → IsExactFor c h → taken_in c e ≡ Some d → IsExactFor d (h ++ e ∷ [])
+pub taken_exact : (c d : Context) (h : List Event) (e : Event) → IsNextEvent c e → IsExactFor c h → taken_in c e ≡ Some d → IsExactFor d (h ++ e ∷ [])
 taken_exact c d h e n ex is = record {
   stands = taken_stands c d h e n ex.stands is;
   regions = λ p u. subst (λ d. Suits p d.files → AreExact p d.regions (batches (h ++ e ∷ []))) s.2 (λ u. subst (λ p. AreExact p s.0 (batches (h ++ e ∷ []))) (one_queue e.file.queue p c.files record { queue = e.file.queue; first_seq = e.file.seq; last_seq = e.file.seq } n.suits refl u)
@@ -105,7 +105,7 @@ sound_is : (s : LogQueue) (h : List Event) (e : Event) (n : ℕ) → FilesFrom s
 sound_is s [] e n f = f.0
 sound_is s (x ∷ h) e n f = sound_is s h e x.file.seq f.2
 
-pub taken_none : (c : Context) (h : List Event) (e : Event) → IsNext c e → StandsFor c h → taken_in c e ≡ None → Sound (h ++ e ∷ []) → ⊥
+pub taken_none : (c : Context) (h : List Event) (e : Event) → IsNextEvent c e → StandsFor c h → taken_in c e ≡ None → Sound (h ++ e ∷ []) → ⊥
 taken_none c h e n st is sound = by e.file.queue (read_none (regions_after e.file.queue c.regions (completed_steps c.groups (batch_of e) (batch_of e).marker)) refl is) n.suits (sound_is sound.queue h e 0 sound.sound.files)
   where
     read_none : (o : Option MarkedRegions) → regions_after e.file.queue c.regions (completed_steps c.groups (batch_of e) (batch_of e).marker) ≡ o → option_map (taken_with c e) o ≡ None → regions_after e.file.queue c.regions (completed_steps c.groups (batch_of e) (batch_of e).marker) ≡ None
@@ -118,7 +118,7 @@ taken_none c h e n st is sound = by e.file.queue (read_none (regions_after e.fil
         no_both (ap (λ q. after q f.0 None (steps_of f.0 (batches (h ++ e ∷ [])))) (sym p) ∙ f.1) (sound.sound.accepted f.0).1
 
 -- a batch that may not come next makes no sound history
-pub next_sound : (c : Context) (h : List Event) (e : Event) → StandsFor c h → Sound (h ++ e ∷ []) → IsNext c e
+pub next_sound : (c : Context) (h : List Event) (e : Event) → StandsFor c h → Sound (h ++ e ∷ []) → IsNextEvent c e
 next_sound c h e st sound = record {
   suits = subst (Suits e.file.queue) (sym st.files) (first h sound.sound.files);
   follows = ap (λ p. follows p (files_of (e ∷ []))) st.files ∙ follow_files sound.queue h (e ∷ []) sound.sound.files;

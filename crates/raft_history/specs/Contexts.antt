@@ -94,7 +94,7 @@ pub record IsExactFor (c : Context) (h : List Event) : Type 0 where
 
 -- ---- a merge
 
--- the regions of two neighbors: first the groups that become whole between them are taken in, then the newer regions are joined; none where one is refused
+-- the regions of two neighbors: first the groups that become whole between them take effect, then the newer regions are joined; none where one is refused
 abbrev pub merged_regions : LogQueue → Context → Context → Option MarkedRegions
 merged_regions queue c d = option_and_then (λ middle. joined_regions queue middle d.regions) (regions_after queue c.regions (region_steps_of_wholes (whole_groups c.groups d.groups)))
 

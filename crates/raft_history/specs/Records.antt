@@ -8,7 +8,7 @@ use Rattle.raft_history.specs.RegionSteps.{Tables}
 use Rattle.raft_history.specs.WaitingGroup.{WaitingGroup, WholeGroup}
 use Rattle.raft_history.specs.WaitingGroups.{WaitingGroups, held_steps}
 
--- a number of each value of some entries, added up
+-- a number of each value of some pairs, added up
 abbrev pub total_of : {X : Type 0} → (X → ℕ) → List (ℕ × X) → ℕ
 total_of f [] = 0
 total_of f (e ∷ es) = f e.1 + total_of f es

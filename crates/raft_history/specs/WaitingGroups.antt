@@ -16,13 +16,13 @@ abbrev pub WaitingGroups : Type 0
 WaitingGroups = FinMap nat_cmp WaitingGroup
 
 -- the group of a group marker, if there is one, with what the history says of it
-abbrev pub entry_by : List BatchSteps → Option GroupMarker → List (ℕ × WaitingGroup)
-entry_by h None = []
-entry_by h (Some m) = (m.group, group_in m.group h) ∷ []
+abbrev pub group_by : List BatchSteps → Option GroupMarker → List (ℕ × WaitingGroup)
+group_by h None = []
+group_by h (Some m) = (m.group, group_in m.group h) ∷ []
 
 -- each group that has a group marker in the history, with what is known of it
 unfoldable pub groups_in : List BatchSteps → WaitingGroups
-groups_in h = finite.from_entries (flat_map (λ b. entry_by h b.marker) h)
+groups_in h = finite.from_entries (flat_map (λ b. group_by h b.marker) h)
 
 -- what is known of a group
 abbrev pub known_of : WaitingGroups → ℕ → WaitingGroup

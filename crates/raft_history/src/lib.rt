@@ -1,5 +1,5 @@
-//! Histories of log batches: what they do to the tables of all regions, and the laws of reading them by neighboring contexts, which
-//! machines keep.
+//! Histories of log batches: what they do to the tables of all regions, and the laws of reading them by
+//! neighboring contexts, which machines keep.
 #![tactic(auto)]
 
 pub mod contexts;

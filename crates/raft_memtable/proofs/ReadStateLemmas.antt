@@ -32,7 +32,7 @@ use Rattle.raft_history.proofs.ReadLemmas.{holds_none}
 use Rattle.raft_history.proofs.RecordLemmas.{read_records, whole_group-records, wholes-records, one_weight}
 use Rattle.raft_history.proofs.RegionLaws.{stand_after, stand_joined}
 use Rattle.raft_history.proofs.SoundLemmas.{files-back, files_follow}
-use Rattle.raft_history.proofs.TakenLaws.{IsNext, taken_some, taken_stands}
+use Rattle.raft_history.proofs.TakenLaws.{IsNextEvent, taken_some, taken_stands}
 use Rattle.raft_history.proofs.TotalLemmas.{total-insert}
 use Rattle.raft_history.proofs.WithoutMarkers.{named-steps}
 use Rattle.raft_history.proofs.WaitingLemmas.{joined_weight, waiting_known, merged_waiting, weight}
@@ -49,7 +49,7 @@ use Rattle.raft_memtable.proofs.WholeFiles.{batch_takes, wholes_take, no_wholes}
 some_is : {X : Type 0} {x y : X} → Some x ≡ Some y → x ≡ y
 some_is e = cc
 
-pub next_of : (c : Context) (e : Event) → MayFollow c e → IsNext c e
+pub next_of : (c : Context) (e : Event) → MayFollow c e → IsNextEvent c e
 next_of c e m = record { suits = m.queue; follows = m.files; in_file = m.items; status = m.markers }
 
 -- ---- no record of the other queue

@@ -12,7 +12,7 @@ use Rattle.raft_history.proofs.ContextLaws.{Merges, exact_reading, regions_stand
 use Rattle.raft_history.proofs.NewLaws.{new_exact}
 use Rattle.raft_history.proofs.SoundLemmas.{follow_files}
 use Rattle.raft_history.proofs.StretchOfHistory.{size-append, size-one, of_front, of_back}
-use Rattle.raft_history.proofs.TakenLaws.{IsNext, taken_stands, taken_exact, taken_none, next_sound}
+use Rattle.raft_history.proofs.TakenLaws.{IsNextEvent, taken_stands, taken_exact, taken_none, next_sound}
 use Rattle.raft_history.specs.Kept.{kept_of, kept_by, IsAtMost}
 use Rattle.raft_history.specs.RegionSteps.{Tables}
 use Rattle.raft_history.proofs.KeptLaws.{kept_at_most}
@@ -47,10 +47,10 @@ new_reads_as c e = record { stage = refl; exact = subst (λ c. IsExactFor c []) 
 
 -- ---- one more batch
 
-next_of : (c : Context) (e : Event) → MayFollow c e → IsNext c e
+next_of : (c : Context) (e : Event) → MayFollow c e → IsNextEvent c e
 next_of c e m = record { suits = m.queue; follows = m.files; in_file = m.items; status = m.markers }
 
-may_of : (c : Context) (e : Event) → IsNext c e → MayFollow c e
+may_of : (c : Context) (e : Event) → IsNextEvent c e → MayFollow c e
 may_of c e n = record { queue = n.suits; files = n.follows; items = n.in_file; markers = n.status }
 
 pub replay_stands : (c d : RecoverContext) (h : List Event) (e : Event) → IsBatchTaken e c d → HasRead c h → HasRead d (h ++ e ∷ [])

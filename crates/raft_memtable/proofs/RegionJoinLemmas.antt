@@ -12,7 +12,7 @@ use Rattle.raft_base.specs.declared.errors.Error.{Error}
 use Rattle.raft_base.specs.declared.errors.Error.TheVariants as errors
 use Rattle.raft_base.specs.declared.pipe_log.LogQueue.{LogQueue}
 use Rattle.raft_table.specs.Counts.{Counts}
-use Rattle.raft_table.specs.MarkMerge.{IsFaultUnder, IsRunOver}
+use Rattle.raft_table.specs.MarkedJoins.{IsFaultUnder, IsRunOver}
 use Rattle.raft_table.specs.Marks.{Mark, table_over_older}
 use Rattle.raft_table.specs.MarkJoins.{fresh, joined_mark, joined_at, end_at_reach}
 use Rattle.raft_table.specs.Queues.{other}

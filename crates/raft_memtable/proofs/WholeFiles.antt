@@ -15,12 +15,12 @@ use Rattle.raft_history.specs.Histories.{FilesFrom, last_from, IsStepOfQueue}
 use Rattle.raft_history.specs.Effects.{Numbered, numbered_from, markers_of, open_stretch}
 use Rattle.raft_history.specs.RegionSteps.{RegionStep, steps_of_items}
 use Rattle.raft_history.specs.WaitingGroup.{GroupFront, Open, Ended, Begun, led_by, front_by, front_behind, front_of, OpenStretch, stretch_of, WaitingGroup, WholeGroup, whole_of, whole_group_by, whole_group, one_marker, group_in}
-use Rattle.raft_history.specs.WaitingGroups.{WaitingGroups, groups_in, known_of, whole_with, whole_groups, front_steps, stretch_steps, entry_by}
+use Rattle.raft_history.specs.WaitingGroups.{WaitingGroups, groups_in, known_of, whole_with, whole_groups, front_steps, stretch_steps, group_by}
 use Rattle.raft_history.proofs.EffectLemmas.{each-append, each_weaker, each_markers, each_open}
 use Rattle.raft_history.proofs.KnownLemmas.{known-groups_in, each_known}
 use Rattle.raft_history.proofs.QueueLemmas.{Holds, items_in_queue, known_holds}
 use Rattle.raft_history.proofs.SoundLemmas.{files-back, files_follow, without_marker}
-use Rattle.raft_history.proofs.TakenLaws.{IsNext}
+use Rattle.raft_history.proofs.TakenLaws.{IsNextEvent}
 use Rattle.raft_memtable.specs.MarkedTables.{AreStepsOfQueue}
 use Rattle.raft_memtable.specs.ReadStates.{CanTakeEffect, CanTakeEffectIfAny}
 
@@ -100,7 +100,7 @@ whole_takes n a b h k x y = go a.front a.stretch b.front h.1 k.0 x y
     go Begun s g a b x y = of s g a b x y
 
 -- the group that a batch makes whole
-pub batch_takes : (c : Context) (h : List Event) (e : Event) (m : GroupMarker) → StandsFor c h → IsNext c e → e.file.queue ≡ Rewrite → CanTakeEffectIfAny (whole_group (known_of c.groups m.group) (one_marker m.status (steps_of_items e.items) e.file.seq))
+pub batch_takes : (c : Context) (h : List Event) (e : Event) (m : GroupMarker) → StandsFor c h → IsNextEvent c e → e.file.queue ≡ Rewrite → CanTakeEffectIfAny (whole_group (known_of c.groups m.group) (one_marker m.status (steps_of_items e.items) e.file.seq))
 batch_takes c h e m st n queue = whole_takes (last_from 0 h) (known_of c.groups m.group) (one_marker m.status (steps_of_items e.items) e.file.seq)
     (subst (λ groups. Holds Rewrite (known_of groups m.group)) (sym st.groups) (known_holds Rewrite m.group h own.sound.files own.sound.items))
     (one m.status)
@@ -152,9 +152,9 @@ pub no_wholes : (older : WaitingGroups) (k : List Event) → FilesFrom Append 0 
 unfolding groups_in
 no_wholes older k f = ap (whole_with older) (none (batches k) (without_marker 0 k f))
   where
-    flat : (all bs : List BatchSteps) → AllByRecursion (λ (b : BatchSteps). b.marker ≡ None) bs → flat_map (λ (b : BatchSteps). entry_by all b.marker) bs ≡ []
+    flat : (all bs : List BatchSteps) → AllByRecursion (λ (b : BatchSteps). b.marker ≡ None) bs → flat_map (λ (b : BatchSteps). group_by all b.marker) bs ≡ []
     flat all [] u = refl
-    flat all (b ∷ bs) u = ap (λ m. entry_by all m ++ flat_map (λ (b : BatchSteps). entry_by all b.marker) bs) u.0 ∙ flat all bs u.1
+    flat all (b ∷ bs) u = ap (λ m. group_by all m ++ flat_map (λ (b : BatchSteps). group_by all b.marker) bs) u.0 ∙ flat all bs u.1
 
     empty : (es : List (ℕ × WaitingGroup)) → length es ≡ 0 → es ≡ []
     empty [] e = refl

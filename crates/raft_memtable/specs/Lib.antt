@@ -26,7 +26,7 @@ pub use Rattle.raft_table.specs.KeyValues
 pub use Rattle.raft_table.specs.LastWord
 pub use Rattle.raft_table.specs.Least
 pub use Rattle.raft_table.specs.MarkJoins
-pub use Rattle.raft_table.specs.MarkMerge
+pub use Rattle.raft_table.specs.MarkedJoins
 pub use Rattle.raft_table.specs.Marks
 pub use Rattle.raft_table.specs.Merge
 pub use Rattle.raft_table.specs.Overlay

@@ -34,12 +34,12 @@ pub record IsOfHistory (c : Context) : Type 0 where
   pub alone : AreAlone c.files c.regions.tables
   pub steps : AreOfSteps c.files c.regions
 
--- a group that is whole, as it is taken in: its steps are such as replays into the rewrite queue ask for, and the numbers of its files are in order
+-- a group that is whole, as it can take effect: its steps are such as replays into the rewrite queue ask for, and the numbers of its files are in order
 pub record CanTakeEffect (w : WholeGroup) : Type 0 where
   pub steps : AreStepsOfQueue Rewrite w.steps
   pub seqs : w.first_seq ≤ w.last_seq
 
--- a group, if there is one, may be taken in
+-- a group, if there is one, can take effect
 abbrev pub CanTakeEffectIfAny : Option WholeGroup → Type 0
 CanTakeEffectIfAny None = Unit {0}
 CanTakeEffectIfAny (Some w) = CanTakeEffect w

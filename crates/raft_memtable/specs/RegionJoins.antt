@@ -8,7 +8,7 @@ use Rattle.raft_history.specs.Joins.{IsJoinRefused}
 use Rattle.raft_history.specs.MarkedRegions.{Marks, MarkedRegions}
 use Rattle.raft_history.specs.Records.{all_records}
 use Rattle.raft_history.specs.RegionSteps.{Tables}
-use Rattle.raft_table.specs.MarkMerge.{IsRunOver}
+use Rattle.raft_table.specs.MarkedJoins.{IsRunOver}
 use Rattle.raft_table.specs.Marks.{Mark}
 use Rattle.raft_table.specs.Queues.{other}
 use Rattle.raft_accessor.specs.Accessor.{table_in, live_in_all}

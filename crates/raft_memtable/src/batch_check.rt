@@ -1,6 +1,6 @@
 //! Tests of a batch before it is taken in.
 
-ghost use Rattle.std.specs.Prelude.{◌≡◌, ◌≢◌, ◌↔◌, IsTrue, MatchBool, IfOk, IfErr, OnOk, None, map};
+ghost use Rattle.std.specs.Prelude.{◌≡◌, ◌≢◌, IsTrue, MatchBool, IfOk, IfErr, OnOk, None, map};
 ghost use Rattle.raft_base.specs.declared.pipe_log.LogQueue.TheVariants.{Append, Rewrite};
 ghost use Rattle.raft_records.specs.Faults.{IsAnyCorruption};
 ghost use Rattle.raft_records.specs.Group.{first_marker};
@@ -95,7 +95,7 @@ fn is_in_file(item: &LogItem, file: FileId) -> bool
         (IsInFile file (content_of item.now.content) → ⊥) }
 {
     match &item.content {
-        LogItemContent::EntryIndexes(entries) => is_run_in(&entries.0, file),
+        LogItemContent::EntryIndexes(entries) => is_run_in_file(&entries.0, file),
         LogItemContent::Command(_) => true,
         LogItemContent::Kv(kv) => is_pair_in(kv, file),
     }
@@ -118,16 +118,16 @@ fn is_pair_in(kv: &KeyValue, file: FileId) -> bool
     }
 }
 
-/// Whether entries are a run, and all their places are in the file.
-fn is_run_in(entries: &[EntryIndex], file: FileId) -> bool
+/// Whether entries are consecutive, and all their places are in the file.
+fn is_run_in_file(entries: &[EntryIndex], file: FileId) -> bool
     ensures { MatchBool result (IsInFile file (entries_of entries.now))
         (IsInFile file (entries_of entries.now) → ⊥) }
 {
-    is_consecutive(entries) && entries.iter().all(|entry| is_place_in(entry, file))
+    is_consecutive(entries) && entries.iter().all(|entry| is_place_in_file(entry, file))
 }
 
 /// Whether an entry's place is in the file.
-fn is_place_in(entry: &EntryIndex, file: FileId) -> bool
+fn is_place_in_file(entry: &EntryIndex, file: FileId) -> bool
     ensures { MatchBool result (IsPlaceInFile file entry.now.entries)
         (IsPlaceInFile file entry.now.entries → ⊥) }
 {

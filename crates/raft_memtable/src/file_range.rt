@@ -1,9 +1,7 @@
 //! The files of batches that were read.
 
-ghost use Rattle.std.specs.Prelude.{◌≡◌, ◌↔◌, [], ◌∷◌, IsTrue};
-ghost use Rattle.std.specs.Option.{option_map};
-ghost use Rattle.raft_history.specs.Contexts.{Suits, files_of, follows, joined_files};
-ghost use Rattle.raft_history.specs.ReplayMachine.{event};
+ghost use Rattle.std.specs.Prelude.{◌≡◌, ◌↔◌, IsTrue};
+ghost use Rattle.raft_history.specs.Contexts.{Suits, follows, joined_files};
 ghost use Rattle.raft_memtable.specs.FileRanges.{range_shown, ranges_shown};
 
 use raft_base::{FileId, FileSeq, LogQueue};

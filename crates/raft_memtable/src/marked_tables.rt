@@ -2,7 +2,7 @@
 
 ghost use Rattle.std.specs.Prelude.{◌≡◌, ◌≤◌, ◌++◌, [], ◌∷◌, map, Ok, OnOk, IfOk, IfErr, MatchBool, Some, None};
 ghost use Rattle.raft_base.specs.declared.pipe_log.LogQueue.TheVariants.{Append, Rewrite};
-ghost use Rattle.raft_records.specs.Item.{item_of, pair, pair_of};
+ghost use Rattle.raft_records.specs.Item.{item_of, pair_of};
 ghost use Rattle.raft_history.specs.Histories.{AreInFile};
 ghost use Rattle.raft_history.specs.MarkedRegions.{no_regions, regions_after, on_each, region_steps_of_whole};
 ghost use Rattle.raft_history.specs.RegionSteps.{steps_of_items, cleaned_by_steps};
@@ -154,8 +154,9 @@ impl MarkedTables {
         Ok(())
     }
 
-    /// Takes in an item: its step on the table and on the region mark. `RegionTables::replay_item` does the same without a region mark;
-    /// the law that both read items alike is [`items_are_read_as_steps`](crate::reading::items_are_read_as_steps).
+    /// Takes in an item: its step on the table and on the region mark. `RegionTables::replay_item` does the
+    /// same without a region mark; the law that both read items alike is
+    /// [`items_are_read_as_steps`](crate::reading::items_are_read_as_steps).
     fn take_item(&mut self, queue: LogQueue, item: LogItem) -> Result<()>
         requires { AreStepsOfQueue queue (steps_of_items (item_of item ∷ [])) }
         ensures { AreStepsTaken queue (steps_of_items (item_of item ∷ [])) result self.old

@@ -1,6 +1,6 @@
 //! What was read of a queue's batches.
 
-ghost use Rattle.std.specs.Prelude.{◌≡◌, ◌≢◌, ◌⊎◌, ◌+◌, ◌≤◌, ◌^◌, ℕ, [], ◌∷◌, OnOk, OnErr, IfOk, IfErr, Some, None, map};
+ghost use Rattle.std.specs.Prelude.{◌≡◌, ◌≢◌, ◌+◌, ◌≤◌, [], OnOk, OnErr, IfOk, IfErr, Some, None, map};
 ghost use Rattle.std.specs.List.{AllByRecursion};
 ghost use Rattle.std.specs.Option.{option_map};
 ghost use Rattle.raft_base.specs.declared.pipe_log.LogQueue.TheVariants.{Append, Rewrite};
@@ -173,7 +173,10 @@ impl ReadState {
             return Err(Error::invalid_argument(self.alloc, "a context of the other queue"));
         }
         if !FileRange::follows(self.files, newer.files) {
-            return Err(Error::corruption(self.alloc, "a context of a file below the last one"));
+            return Err(Error::corruption(
+                self.alloc,
+                "the newer context begins in a file below the last one",
+            ));
         }
         Ok(())
     }

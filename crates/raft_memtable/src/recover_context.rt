@@ -1,6 +1,6 @@
 //! Contexts, which rebuild the tables of all regions from the batches of a queue.
 
-ghost use Rattle.std.specs.Prelude.{ℕ, ◌≡◌, ◌≢◌, ◌⊎◌, [], ◌∷◌, ◌++◌, List, IfOk, IfErr, OnOk, OnErr};
+ghost use Rattle.std.specs.Prelude.{ℕ, ◌≡◌, ◌≢◌, ◌⊎◌, [], List, IfOk, IfErr, OnOk, OnErr};
 ghost use Rattle.raft_base.specs.declared.errors.Error.{Error};
 ghost use Rattle.raft_base.specs.declared.pipe_log.LogQueue.{LogQueue};
 ghost use Rattle.raft_base.specs.declared.pipe_log.LogQueue.TheVariants.{Append, Rewrite};
@@ -133,14 +133,13 @@ impl MemTableRecoverContext {
     }
 
     /// Takes in the context of the append queue; this one is that of the rewrite queue. A region that the
-    /// append queue names has then its table there over the rewritten one. The *cut* is the least of the
-    /// starts of its runs there and of the indexes of its truncations. Of the rewritten table the entries
-    /// stay from the region's greatest compaction on and below the cut, if there is one; but none where
-    /// the append queue has entries and these don't begin at the cut, or the rewritten ones don't reach
-    /// it. Key values stay that the append queue neither puts nor deletes. Nothing stays where the append
-    /// queue cleaned the region. The other regions keep their rewritten tables, and the cleaned regions are those of the
-    /// append queue. Groups that are not whole are dropped. The context then answers `kept` and `finish`
-    /// alone.
+    /// append queue names has then its table there over the rewritten one. The *cut* is the least of the starts
+    /// of its runs there and of the indexes of its truncations. Of the rewritten table the entries stay from
+    /// the region's greatest compaction on and below the cut, if there is one; but none where the append queue
+    /// has entries and these don't begin at the cut, or the rewritten ones don't reach it. Key values stay that
+    /// the append queue neither puts nor deletes. Nothing stays where the append queue cleaned the region. The
+    /// other regions keep their rewritten tables, and the cleaned regions are those of the append queue. Groups
+    /// that are not whole are dropped. The context then answers `kept` and `finish` alone.
     ///
     /// # Errors
     ///

@@ -1,6 +1,6 @@
 //! The region marks of some regions.
 
-ghost use Rattle.std.specs.Prelude.{◌≡◌, ℕ, nat_eq, OnOk, OnErr, Ok, Err, Some, None, MatchResult, option_map, alloc_error};
+ghost use Rattle.std.specs.Prelude.{◌≡◌, ℕ, nat_eq, OnOk, OnErr, Ok, Err, Some};
 ghost use Rattle.std.specs.FinMap as finite;
 ghost use Rattle.std.specs.FinSet as finset;
 ghost use Rattle.std.specs.List.{IsDistinct};
@@ -13,7 +13,7 @@ ghost use Rattle.raft_memtable.specs.RegionMarks.{mark_in, MayChangeMark, IsMark
 
 use raft_base::{AllocResult, LogQueue};
 use raft_table::Mark;
-use std::alloc::{AllocError, Global};
+use std::alloc::Global;
 use std::collections::HashMap;
 use std::collections::hash_map::IntoIter;
 use std::marker::Model;
@@ -51,13 +51,6 @@ impl RegionMarks {
         }
     }
 
-    /// The region mark of a region.
-    pub fn get(&self, id: u64) -> Option<&Mark>
-        ensures { option_map (λ m. m.now) result ≡ finite.get self.now id }
-    {
-        self.marks.get(&id)
-    }
-
     /// How many regions have a region mark.
     pub fn len(&self) -> usize
         ensures { result ≡ finite.len self.now }
@@ -88,8 +81,8 @@ impl RegionMarks {
         self.update(id, |_: &mut Mark| Ok(()))
     }
 
-    /// Joins the region mark of a run that starts at `start` to the region mark of a region, where the region's own entries
-    /// end at `end`.
+    /// Joins the region mark of a run that starts at `start` to the region mark of a region, where the region's
+    /// own entries end at `end`.
     ///
     /// # Errors
     ///
@@ -154,10 +147,7 @@ impl RegionMarks {
             (joined_at queue end (mark_in self.old id) (mark_of (Del key.items)))) }
         ensures err { OnErr result (self.new ≡ self.old) }
     {
-        self.update(
-            id,
-            move |mark: &mut Mark| without_error(mark.add_deleted(key)),
-        )
+        self.update(id, move |mark: &mut Mark| mark.add_deleted(key))
     }
 
     /// Joins the region mark of a clean to the region mark of a region.
@@ -178,8 +168,8 @@ impl RegionMarks {
         })
     }
 
-    /// Joins the region mark of newer steps to the region mark of a region, whose first run comes behind own entries of the
-    /// region that end at `end_at_reach`.
+    /// Joins the region mark of newer steps to the region mark of a region, whose first run comes behind own
+    /// entries of the region that end at `end_at_reach`.
     ///
     /// # Errors
     ///
@@ -197,7 +187,7 @@ impl RegionMarks {
     {
         self.update(id, move |mark: &mut Mark| {
             let mut newer = newer;
-            without_error(mark.join(queue, end_at_reach, &mut newer))
+            mark.join(queue, end_at_reach, &mut newer)
         })
     }
 
@@ -231,15 +221,5 @@ impl RegionMarks {
             Ok(_) => Ok(()),
             Err(_) => unreachable!(),
         }
-    }
-}
-
-/// What a call answers that is refused for want of memory alone.
-fn without_error(answer: raft_base::Result<()>) -> AllocResult<()>
-    ensures { MatchResult answer (λ u. result ≡ Ok tt) (λ e. result ≡ Err alloc_error) }
-{
-    match answer {
-        Ok(()) => Ok(()),
-        Err(_) => Err(AllocError),
     }
 }

@@ -167,8 +167,8 @@ fn replayed(
     Ok(context)
 }
 
-/// Whether a batch with these group markers takes effect at once, and its puts of the group markers' key in region 9 have
-/// none.
+/// Whether a batch with these group markers takes effect at once, and its puts of the group markers' key in
+/// region 9 have none.
 fn has_table(alloc: Global, markers: &[(u64, &[u8])], file: FileId) -> Result<bool> {
     let accessor = replayed(alloc, markers, file)?.finish()?;
     Ok(accessor.get(5).is_some() && accessor.get(9).is_none())

@@ -28,7 +28,7 @@ use Rattle.raft_records.specs.Entries.{Tile}
 use Rattle.raft_records.specs.Grammar.{tail_of, IsTail, AreIndexAndTails, IsPairOf, IsContent, IsItem, end_behind}
 use Rattle.raft_records.proofs.Names.{behind_entry, behind_item, placed_entry}
 use Rattle.raft_records.specs.Spelling.{IsWritableWith, tails_bytes, entries_bytes, item_bytes}
-use Rattle.raft_records.specs.ItemBatch.{FitsBehind, FitTogether, end_of_items, placed_item, IsKeptBeside, AreItems, signed_crc, checksum_bytes, IsItemBatch, HasSeal, AreItemsFault, batch_bytes}
+use Rattle.raft_records.specs.ItemBatch.{FitsBehind, FitTogether, end_of_items, placed_item, IsKeptBeside, AreItems, signed_crc, checksum_bytes, IsItemBatch, HasSeal, AreItemsFault, item_batch_bytes}
 use Rattle.raft_records.specs.Range.{IsInRange}
 use Rattle.raft_records.specs.Faults.{IsItemFault}
 use Rattle.raft_records.proofs.ContentLemmas.{item_one_front}
@@ -231,8 +231,8 @@ all_placed : (handle : FileBlockHandle) (c : CompressionType) (xs : List Item) �
 all_placed handle c [] = refl
 all_placed handle c (x ∷ xs) = ap (λ (t : List ℕ). t ++ flat_map item_bytes (map (placed_item handle c) xs)) (bytes_placed handle c x) ∙ ap (λ (t : List ℕ). item_bytes x ++ t) (all_placed handle c xs)
 
-pub batch_placed : (handle : FileBlockHandle) (c : CompressionType) (xs : List Item) → batch_bytes (map (placed_item handle c) xs) ≡ batch_bytes xs
-unfolding batch_bytes
+pub batch_placed : (handle : FileBlockHandle) (c : CompressionType) (xs : List Item) → item_batch_bytes (map (placed_item handle c) xs) ≡ item_batch_bytes xs
+unfolding item_batch_bytes
 batch_placed handle c xs = ap (λ (n : ℕ). varint n ++ flat_map item_bytes (map (placed_item handle c) xs)) (length-map xs (placed_item handle c)) ∙ ap (λ (t : List ℕ). varint (length xs) ++ t) (all_placed handle c xs)
 
 size_placed : (handle : FileBlockHandle) (c : CompressionType) (x : Item) → item_size (placed_item handle c x) ≡ item_size x

@@ -30,4 +30,4 @@ pub batch_in_file : (handle : FileBlockHandle) (c : CompressionType) (bytes rest
 batch_in_file handle c bytes rest signature items b = items_in_file handle c 0 b.counted.second items b.counted.second_spells.spelled
 
 pub decoded_in_file : (old new : List ℕ) (signature : Option ℕ) (handle : FileBlockHandle) (c : CompressionType) (items : List Item) → IsDecoded old signature handle c items new → AreDecodedIn handle.id items
-decoded_in_file old new signature handle c items d = rw d.places (batch_in_file handle c old new signature d.read d.batch)
+decoded_in_file old new signature handle c items d = rw d.places (batch_in_file handle c old new signature d.read d.item_batch)

@@ -13,7 +13,7 @@ use Rattle.raft_base.specs.Compression.{compression_byte}
 use Rattle.raft_records.specs.Item.{Item, Content, entries, command, pair, bare}
 use Rattle.raft_records.specs.Range.{AreInRange}
 use Rattle.raft_records.specs.Spelling.{content_bytes, item_bytes}
-use Rattle.raft_records.specs.ItemBatch.{signed_crc, checksum_bytes, batch_bytes, IsItemBatch}
+use Rattle.raft_records.specs.ItemBatch.{signed_crc, checksum_bytes, item_batch_bytes, IsItemBatch}
 use Rattle.raft_records.specs.LogBatch.{IsBatchOf, header_bytes, entry_block, item_offset, unsealed_bytes, encoded_length, log_batch_bytes, IsLaidOut, IsLogBatch, IsReadable}
 use Rattle.raft_records.specs.Header.{IsHeader, IsEntryBlockOf}
 use Rattle.raft_records.specs.Framing.{IsFramed, IsFramedWith}
@@ -182,8 +182,8 @@ pub count_le : (xs : List Item) → length xs ≤ length (flat_map item_bytes xs
 count_le [] = omega arith
 count_le (x ∷ xs) = omega (arith, count_le xs, item_some x, length-append (item_bytes x) (flat_map item_bytes xs))
 
-batch_count_le : (xs : List Item) → length xs ≤ length (batch_bytes xs)
-unfolding batch_bytes
+batch_count_le : (xs : List Item) → length xs ≤ length (item_batch_bytes xs)
+unfolding item_batch_bytes
 batch_count_le xs =
     omega (arith, count_le xs, length-append (varint (length xs)) (flat_map item_bytes xs))
 
@@ -194,7 +194,7 @@ log_batch_length signature (x ∷ xs) es =
     let items = x ∷ xs in
     let head = header_bytes (item_offset es) compressions.None (encoded_length items es) in
     let block = entry_block es in
-    let batch = batch_bytes items in
+    let batch = item_batch_bytes items in
     let seal = checksum_bytes signature batch in
     omega (arith, length-append (head ++ (block ++ batch)) seal, length-append head (block ++ batch), length-append block batch, header_len (item_offset es) compressions.None (encoded_length items es), four (signed_crc signature (crc32_of batch)))
 
@@ -205,7 +205,7 @@ log_batch_spelled signature (x ∷ xs) es b r some fits =
     let len = encoded_length items es in
     let head = header_bytes (item_offset es) compressions.None len in
     let block = entry_block es in
-    let batch = batch_bytes items in
+    let batch = item_batch_bytes items in
     let seal = checksum_bytes signature batch in
     let bytes = unsealed_bytes len items es ++ seal in
     let parted : bytes ≡ head ++ (block ++ (batch ++ seal)) = append_assoc head (block ++ batch) seal ∙ ap (λ (t : List ℕ). head ++ t) (append_assoc block batch seal) in

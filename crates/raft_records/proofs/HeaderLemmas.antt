@@ -10,7 +10,7 @@ use Rattle.raft_base.specs.declared.compression_type.CompressionType.TheVariants
 use Rattle.raft_base.specs.declared.errors.Error.{Error}
 use Rattle.raft_base.specs.Compression.{compression_byte, IsCompressionFault}
 use Rattle.raft_records.specs.LogBatch.{header_bytes}
-use Rattle.raft_records.specs.Header.{IsHeader, IsOffsetFault, IsWordsFault}
+use Rattle.raft_records.specs.Header.{IsHeader, IsOffsetFault, IsHeaderNumbersFault}
 use Rattle.raft_records.proofs.BufferLemmas.{header_len}
 
 pub byte_of_type : (c : CompressionType) → compression_byte c ≡ 0
@@ -73,8 +73,8 @@ offset_in_header bytes behind rest first second a b low front more h is split =
 pub type_ok : (c : CompressionType) (n : ℕ) → n ≡ compression_byte c → n ≡ 0
 type_ok c n e = e ∙ byte_of_type c
 
-pub words_fault : (bytes behind rest : List ℕ) (first second : ℕ) (e : Error) → Reads (IsBig 8) bytes behind first → Reads (IsBig 8) behind rest second → (IsCompressionFault (first % 256) e ⊎ ((first % 256 ≡ 0) × IsOffsetFault (first / 256) second e)) → IsWordsFault bytes e
-words_fault bytes behind rest first second e a b fault =
+pub header_numbers_fault : (bytes behind rest : List ℕ) (first second : ℕ) (e : Error) → Reads (IsBig 8) bytes behind first → Reads (IsBig 8) behind rest second → (IsCompressionFault (first % 256) e ⊎ ((first % 256 ≡ 0) × IsOffsetFault (first / 256) second e)) → IsHeaderNumbersFault bytes e
+header_numbers_fault bytes behind rest first second e a b fault =
     record {
       first = first;
       second = second;

@@ -8,7 +8,7 @@ use Rattle.raft_records.specs.Item.{Item, Content, entries, command, pair}
 use Rattle.raft_records.specs.Entries.{Tile}
 use Rattle.raft_records.specs.Grammar.{tail_of, end_behind}
 use Rattle.raft_records.proofs.Names.{behind_item}
-use Rattle.raft_records.specs.ItemBatch.{FitsBehind, FitTogether, end_of_items, entry_bytes_of, laid, entry_lengths, raised_entry, raised_content, raised_item, CanRaise, CanRaiseContent, IsKeptBeside}
+use Rattle.raft_records.specs.ItemBatch.{FitsBehind, FitTogether, end_of_items, entry_bytes_of, with_offsets_from, entry_lengths, raised_entry, raised_content, raised_item, CanRaise, CanRaiseContent, IsKeptBeside}
 use Rattle.raft_records.specs.Sizes.{item_size, items_size, at_most_usize}
 use Rattle.raft_records.proofs.InBytesLemmas.{in_bytes_append, in_bytes_raised}
 use Rattle.raft_records.proofs.RangeLemmas.{range_append, range_raised}
@@ -18,15 +18,15 @@ use Rattle.raft_records.proofs.RangeLemmas.{range_append, range_raised}
 abbrev pub laid_entry : ℕ → EntryIndex → EntryIndex
 laid_entry s e = record { index = e.index; entries = e.entries; compression_type = e.compression_type; entry_offset = s; entry_len = e.entry_len }
 
-pub length-laid : (s : ℕ) (es : List EntryIndex) → length (laid s es) ≡ length es
-length-laid s [] = refl
-length-laid s (e ∷ es) = ap suc (length-laid (s + e.entry_len) es)
+pub length-with_offsets_from : (s : ℕ) (es : List EntryIndex) → length (with_offsets_from s es) ≡ length es
+length-with_offsets_from s [] = refl
+length-with_offsets_from s (e ∷ es) = ap suc (length-with_offsets_from (s + e.entry_len) es)
 
-pub laid-push : (s : ℕ) (es : List EntryIndex) (e : EntryIndex) → laid s (es ++ e ∷ []) ≡ laid s es ++ laid_entry (s + entry_lengths es) e ∷ []
-laid-push s [] e = ap (λ (o : ℕ). laid_entry o e ∷ []) (omega arith)
-laid-push s (x ∷ xs) e =
+pub with_offsets_from-push : (s : ℕ) (es : List EntryIndex) (e : EntryIndex) → with_offsets_from s (es ++ e ∷ []) ≡ with_offsets_from s es ++ laid_entry (s + entry_lengths es) e ∷ []
+with_offsets_from-push s [] e = ap (λ (o : ℕ). laid_entry o e ∷ []) (omega arith)
+with_offsets_from-push s (x ∷ xs) e =
     let sum : s + x.entry_len + entry_lengths xs ≡ s + (x.entry_len + entry_lengths xs) = omega arith in
-    ap (λ (t : List EntryIndex). laid_entry s x ∷ t) (laid-push (s + x.entry_len) xs e ∙ ap (λ (o : ℕ). laid (s + x.entry_len) xs ++ laid_entry o e ∷ []) sum)
+    ap (λ (t : List EntryIndex). laid_entry s x ∷ t) (with_offsets_from-push (s + x.entry_len) xs e ∙ ap (λ (o : ℕ). with_offsets_from (s + x.entry_len) xs ++ laid_entry o e ∷ []) sum)
 
 pub entry_lengths-push : (es : List EntryIndex) (e : EntryIndex) → entry_lengths (es ++ e ∷ []) ≡ entry_lengths es + e.entry_len
 entry_lengths-push [] e = omega arith
@@ -42,30 +42,30 @@ pub rest_at : (front xs ys : List EntryIndex) (i : ℕ) (d : EntryIndex) → ys 
 rest_at front xs ys i d e len lt = ap (λ (t : List EntryIndex). get_or t i d) (e ∙ ap (λ (t : List EntryIndex). front ++ t) (drop_more xs i d lt)) ∙ get_or_at front (get_or xs i d) (drop (i + 1) xs) d i len
 
 -- the step of a loop that lays entries
-pub lay_more : (s i offset : ℕ) (xs ys : List EntryIndex) (x : EntryIndex) → i < length xs → ys ≡ laid s (take i xs) ++ drop i xs → x ≡ get_or ys i x → offset ≡ s + entry_lengths (take i xs) → (set ys i (laid_entry offset x) ≡ laid s (take (i + 1) xs) ++ drop (i + 1) xs) × (offset + x.entry_len ≡ s + entry_lengths (take (i + 1) xs)) × (offset + x.entry_len ≤ s + entry_lengths xs)
+pub lay_more : (s i offset : ℕ) (xs ys : List EntryIndex) (x : EntryIndex) → i < length xs → ys ≡ with_offsets_from s (take i xs) ++ drop i xs → x ≡ get_or ys i x → offset ≡ s + entry_lengths (take i xs) → (set ys i (laid_entry offset x) ≡ with_offsets_from s (take (i + 1) xs) ++ drop (i + 1) xs) × (offset + x.entry_len ≡ s + entry_lengths (take (i + 1) xs)) × (offset + x.entry_len ≤ s + entry_lengths xs)
 lay_more s i offset xs ys x lt e at ends =
-    let len : length (laid s (take i xs)) ≡ i = length-laid s (take i xs) ∙ length-take-le i xs (omega arith) in
-    let seen : x ≡ get_or xs i x = at ∙ rest_at (laid s (take i xs)) xs ys i x e len lt in
-    let split : ys ≡ laid s (take i xs) ++ x ∷ drop (i + 1) xs = e ∙ ap (λ (t : List EntryIndex). laid s (take i xs) ++ t) (drop_more xs i x lt ∙ ap (λ (v : EntryIndex). v ∷ drop (i + 1) xs) (sym seen)) in
+    let len : length (with_offsets_from s (take i xs)) ≡ i = length-with_offsets_from s (take i xs) ∙ length-take-le i xs (omega arith) in
+    let seen : x ≡ get_or xs i x = at ∙ rest_at (with_offsets_from s (take i xs)) xs ys i x e len lt in
+    let split : ys ≡ with_offsets_from s (take i xs) ++ x ∷ drop (i + 1) xs = e ∙ ap (λ (t : List EntryIndex). with_offsets_from s (take i xs) ++ t) (drop_more xs i x lt ∙ ap (λ (v : EntryIndex). v ∷ drop (i + 1) xs) (sym seen)) in
     let more : take (i + 1) xs ≡ take i xs ++ x ∷ [] = take_more xs i x lt ∙ ap (λ (v : EntryIndex). take i xs ++ v ∷ []) (sym seen) in
-    let whole : laid s (take (i + 1) xs) ≡ laid s (take i xs) ++ laid_entry offset x ∷ [] = ap (laid s) more ∙ laid-push s (take i xs) x ∙ ap (λ (o : ℕ). laid s (take i xs) ++ laid_entry o x ∷ []) (sym ends) in (
-      ap (λ (t : List EntryIndex). set t i (laid_entry offset x)) split ∙ set_at (laid s (take i xs)) x (drop (i + 1) xs) (laid_entry offset x) i len ∙ sym (ap (λ (t : List EntryIndex). t ++ drop (i + 1) xs) whole ∙ append_assoc (laid s (take i xs)) (laid_entry offset x ∷ []) (drop (i + 1) xs)),
+    let whole : with_offsets_from s (take (i + 1) xs) ≡ with_offsets_from s (take i xs) ++ laid_entry offset x ∷ [] = ap (with_offsets_from s) more ∙ with_offsets_from-push s (take i xs) x ∙ ap (λ (o : ℕ). with_offsets_from s (take i xs) ++ laid_entry o x ∷ []) (sym ends) in (
+      ap (λ (t : List EntryIndex). set t i (laid_entry offset x)) split ∙ set_at (with_offsets_from s (take i xs)) x (drop (i + 1) xs) (laid_entry offset x) i len ∙ sym (ap (λ (t : List EntryIndex). t ++ drop (i + 1) xs) whole ∙ append_assoc (with_offsets_from s (take i xs)) (laid_entry offset x ∷ []) (drop (i + 1) xs)),
       omega (arith, ap entry_lengths more, entry_lengths-push (take i xs) x),
       omega (arith, entry_lengths-split xs i x lt seen),
     )
 
-laid_from : (i s : ℕ) (es : List EntryIndex) → IsConsecutiveFrom i es → IsConsecutiveFrom i (laid s es)
+laid_from : (i s : ℕ) (es : List EntryIndex) → IsConsecutiveFrom i es → IsConsecutiveFrom i (with_offsets_from s es)
 laid_from i s [] h = tt
 laid_from i s (e ∷ es) h = (h.0, h.1, laid_from (i + 1) (s + e.entry_len) es h.2)
 
-laid_tile : (s : ℕ) (es : List EntryIndex) → s + entry_lengths es < 2 ^ 32 → Tile s (laid s es)
+laid_tile : (s : ℕ) (es : List EntryIndex) → s + entry_lengths es < 2 ^ 32 → Tile s (with_offsets_from s es)
 laid_tile s [] lt = tt
 laid_tile s (e ∷ es) lt = (refl, omega arith, laid_tile (s + e.entry_len) es (omega arith))
 
-pub laid_fits : (s : ℕ) (es : List EntryIndex) → IsConsecutive es → s + entry_lengths es < 2 ^ 32 → FitsBehind s (entries (laid s es))
-laid_fits s es h lt = (consecutive_from (started es h.run).start (laid s es) (laid_from (started es h.run).start s es (from_start es h)), laid_tile s es lt)
+pub laid_fits : (s : ℕ) (es : List EntryIndex) → IsConsecutive es → s + entry_lengths es < 2 ^ 32 → FitsBehind s (entries (with_offsets_from s es))
+laid_fits s es h lt = (consecutive_from (started es h.run).start (with_offsets_from s es) (laid_from (started es h.run).start s es (from_start es h)), laid_tile s es lt)
 
-pub end_of_laid : (s : ℕ) (es : List EntryIndex) → end_behind s (laid s es) ≡ s + entry_lengths es
+pub end_of_laid : (s : ℕ) (es : List EntryIndex) → end_behind s (with_offsets_from s es) ≡ s + entry_lengths es
 end_of_laid s [] = omega arith
 end_of_laid s (e ∷ es) = omega (arith, end_of_laid (s + e.entry_len) es)
 

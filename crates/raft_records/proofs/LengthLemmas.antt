@@ -13,8 +13,8 @@ use Rattle.raft_records.specs.Entries.{Tile}
 use Rattle.raft_records.specs.Grammar.{tail_of}
 use Rattle.raft_records.proofs.Names.{behind_item}
 use Rattle.raft_records.specs.Spelling.{byte_string, value_bytes, tails_bytes, entries_bytes, content_bytes, item_bytes}
-use Rattle.raft_records.specs.Sizes.{entries_size, value_length, content_size, item_size, items_size, batch_size, at_most_usize, AreSmallIndexes, HasSmallIndexes, HaveSmallNumbers}
-use Rattle.raft_records.specs.ItemBatch.{FitsBehind, FitTogether, checksum_bytes, batch_bytes}
+use Rattle.raft_records.specs.Sizes.{entries_size, value_length, content_size, item_size, items_size, item_batch_size, at_most_usize, AreSmallIndexes, HasSmallIndexes, HaveSmallNumbers}
+use Rattle.raft_records.specs.ItemBatch.{FitsBehind, FitTogether, checksum_bytes, item_batch_bytes}
 use Rattle.raft_records.specs.LogBatch.{item_offset, encoded_length}
 use Rattle.raft_records.proofs.BufferLemmas.{checksum_len}
 
@@ -76,8 +76,8 @@ items_len s (x ∷ xs) h small lt =
     (omega (arith, whole, rest.0, id, one x.raft_group_id (omega (arith, small.0))), omega (arith, whole, rest.1, item_len s x h.0 small.0 small.1 (omega (arith, whole, lt))))
 
 -- the approximate size of a batch that is no longer than log batches can be covers its bytes
-pub size_covers : (xs : List Item) → FitTogether 0 xs → HaveSmallNumbers xs → length (batch_bytes xs) < 2 ^ 56 → length (batch_bytes xs) + 4 ≤ at_most_usize (batch_size xs)
-unfolding batch_bytes
+pub size_covers : (xs : List Item) → FitTogether 0 xs → HaveSmallNumbers xs → length (item_batch_bytes xs) < 2 ^ 56 → length (item_batch_bytes xs) + 4 ≤ at_most_usize (item_batch_size xs)
+unfolding item_batch_bytes
 size_covers xs h small lt =
     let whole = length-append (varint (length xs)) (flat_map item_bytes xs) in
     let all = items_len 0 xs h small (omega (arith, whole, lt)) in
@@ -88,7 +88,7 @@ block_covered [] = omega arith
 block_covered (e ∷ es) = omega (arith, length-append (e ∷ es) (checksum_bytes None (e ∷ es)), checksum_len None (e ∷ es))
 
 -- the formula of an open batch covers its bytes, where that of its items covers theirs
-pub open_covers : (xs : List Item) (es : List ℕ) (size result : ℕ) → (length (batch_bytes xs) < 2 ^ 56 → length (batch_bytes xs) + 4 ≤ size) → result ≡ at_most_usize (size + (16 + length es + 4)) → encoded_length xs es < 2 ^ 56 → encoded_length xs es ≤ result
+pub open_covers : (xs : List Item) (es : List ℕ) (size result : ℕ) → (length (item_batch_bytes xs) < 2 ^ 56 → length (item_batch_bytes xs) + 4 ≤ size) → result ≡ at_most_usize (size + (16 + length es + 4)) → encoded_length xs es < 2 ^ 56 → encoded_length xs es ≤ result
 open_covers [] es size result covers e lt = omega arith
 open_covers (x ∷ xs) es size result covers e lt =
     let items = covers (omega (arith, lt)) in

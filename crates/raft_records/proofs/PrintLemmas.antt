@@ -10,7 +10,7 @@ use Rattle.raft_records.specs.Item.{Item, Content, entries, command, pair, item_
 use Rattle.raft_records.specs.Grammar.{end_behind}
 use Rattle.raft_records.specs.ItemBatch.{IsDecoded, placed_item, placed_content}
 use Rattle.raft_records.proofs.Names.{placed_entry}
-use Rattle.raft_records.specs.Lines.{IsTextOf, line_of, counts_line, content_text}
+use Rattle.raft_records.specs.Lines.{IsTextOf, line_of, last_line, content_text}
 
 end_placed : (handle : FileBlockHandle) (compression : CompressionType) (s : ℕ) (es : List EntryIndex) → end_behind s (map (placed_entry handle compression) es) ≡ end_behind s es
 end_placed handle compression s [] = refl
@@ -27,12 +27,12 @@ lines_placed handle compression [] = refl
 lines_placed handle compression (item ∷ items) = rw (content_placed handle compression item.content, lines_placed handle compression items) refl
 
 -- lines of the decoded items and a line of counts are the batch's text
-pub decoded_text : (bytes rest lines text : List ℕ) (signature : Option ℕ) (handle : FileBlockHandle) (compression : CompressionType) (decoded : List LogItem) (items : List Item) (count : ℕ) → IsDecoded bytes signature handle compression items rest → map item_of decoded ≡ items → count ≡ length decoded → lines ≡ flat_map line_of (map item_of decoded) → text ≡ lines ++ counts_line count (length rest) → IsTextOf bytes signature text
+pub decoded_text : (bytes rest lines text : List ℕ) (signature : Option ℕ) (handle : FileBlockHandle) (compression : CompressionType) (decoded : List LogItem) (items : List Item) (count : ℕ) → IsDecoded bytes signature handle compression items rest → map item_of decoded ≡ items → count ≡ length decoded → lines ≡ flat_map line_of (map item_of decoded) → text ≡ lines ++ last_line count (length rest) → IsTextOf bytes signature text
 decoded_text bytes rest lines text signature handle compression decoded items count d same n l t =
     let places : map item_of decoded ≡ map (placed_item handle compression) d.read = same ∙ d.places in
     let read_lines : lines ≡ flat_map line_of d.read = l ∙ (ap (flat_map line_of) places ∙ lines_placed handle compression d.read) in
     let read_count : count ≡ length d.read = n ∙ (sym (length-map decoded item_of) ∙ (ap length places ∙ length-map d.read (placed_item handle compression))) in
-    record { items = d.read; rest = rest; batch = d.batch; lines = rw (← read_lines, ← read_count) t }
+    record { items = d.read; rest = rest; item_batch = d.item_batch; lines = rw (← read_lines, ← read_count) t }
 
 -- what holds of all that was read into an empty vector holds of the input
 pub of_input : (P : List ℕ → Type 0) (input : Option (List ℕ)) (empty read bytes : List ℕ) → IfSome input (λ xs. read ≡ empty ++ xs) → empty ≡ [] → bytes ≡ read → P bytes → IfSome input P

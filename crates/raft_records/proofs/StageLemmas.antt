@@ -8,7 +8,7 @@ use Rattle.raft_records.specs.declared.log_batch.BufState.TheVariants as states
 use Rattle.raft_records.specs.LogBatchModel.{stage_of}
 use Rattle.raft_records.specs.Item.{Item}
 use Rattle.raft_records.proofs.Names.{behind_item}
-use Rattle.raft_records.specs.ItemBatch.{checksum_bytes, batch_bytes, entry_bytes_of, IsEncoded, signed_crc, no_checksum}
+use Rattle.raft_records.specs.ItemBatch.{checksum_bytes, item_batch_bytes, entry_bytes_of, IsEncoded, signed_crc, no_checksum}
 use Rattle.raft_records.specs.LogBatch.{Stage, Batch, populating, encoded, sealed, header_bytes, entry_block, item_offset, unsealed_bytes, encoded_length, log_batch_bytes, approximate_length}
 use Rattle.raft_records.specs.Buffer.{entry_bytes_in, IsUnsealed, IsHeldAt, IsShortAt, IsHeld}
 use Rattle.raft_records.proofs.SealLemmas.{four}
@@ -46,7 +46,7 @@ unsealed_len [] es buf some u = absurd (some refl)
 unsealed_len (x ∷ xs) es buf some u =
     let items = x ∷ xs in
     let header = header_bytes (item_offset es) compressions.None (encoded_length items es) in
-    omega (arith, ap length u.split, length-append (unsealed_bytes (encoded_length items es) items es) u.seal, length-append header (entry_block es ++ batch_bytes items), length-append (entry_block es) (batch_bytes items), header_len (item_offset es) compressions.None (encoded_length items es), u.four)
+    omega (arith, ap length u.split, length-append (unsealed_bytes (encoded_length items es) items es) u.seal, length-append header (entry_block es ++ item_batch_bytes items), length-append (entry_block es) (item_batch_bytes items), header_len (item_offset es) compressions.None (encoded_length items es), u.four)
 
 -- one more item, which has no entry bytes, or none where there was no memory
 pub item_kept : {E : Type 0} (r : Result (Unit {0}) E) (items new : List Item) (x : Item) → ((s : ℕ) → behind_item s x ≡ s) → OnOk r (new ≡ items ++ x ∷ []) → OnErr r (new ≡ items) → entry_bytes_of new ≡ entry_bytes_of items
@@ -64,10 +64,10 @@ item_view (Err e) now stage items new buf x same view ok = tt
 pub written_back : (n : ℕ) (new old : List ℕ) → length old ≡ n → length new ≡ length old → take n (new ++ drop (length new) old) ≡ new
 written_back n new old counted same = take_at new (drop (length new) old) n (same ∙ counted)
 
-pub encoded_whole : (items : List Item) (old closed whole slice new : List ℕ) (offset len n : ℕ) → items ≢ [] → 16 ≤ length old → closed ≡ take 16 old ++ entry_block (drop 16 old) → whole ≡ closed ++ (batch_bytes items ++ no_checksum) → offset ≡ length closed → len ≡ length whole → slice ≡ whole → length whole ≡ n → new ≡ header_bytes offset compressions.None len ++ drop 16 slice → IsUnsealed items (drop 16 old) (take n (new ++ drop (length new) whole))
+pub encoded_whole : (items : List Item) (old closed whole slice new : List ℕ) (offset len n : ℕ) → items ≢ [] → 16 ≤ length old → closed ≡ take 16 old ++ entry_block (drop 16 old) → whole ≡ closed ++ (item_batch_bytes items ++ no_checksum) → offset ≡ length closed → len ≡ length whole → slice ≡ whole → length whole ≡ n → new ≡ header_bytes offset compressions.None len ++ drop 16 slice → IsUnsealed items (drop 16 old) (take n (new ++ drop (length new) whole))
 encoded_whole items old closed whole slice new offset len n some room e f at size is counted written =
     let says = length_is items old closed whole some room e f in
-    let wide : 16 ≤ length whole = omega (arith, says.0, ap length f, length-append closed (batch_bytes items ++ no_checksum)) in
+    let wide : 16 ≤ length whole = omega (arith, says.0, ap length f, length-append closed (item_batch_bytes items ++ no_checksum)) in
     let placed : new ≡ header_bytes offset compressions.None len ++ drop 16 whole = written ∙ ap (λ (t : List ℕ). header_bytes offset compressions.None len ++ drop 16 t) is in
     let same : length new ≡ length whole = omega (arith, wide, ap length placed, length-append (header_bytes offset compressions.None len) (drop 16 whole), header_len offset compressions.None len, length-drop 16 whole) in
     subst (λ (t : List ℕ). IsUnsealed items (drop 16 old) t) (sym (written_back n new whole counted same)) (encoded_unsealed items old closed whole new offset len some room e f at size placed)
@@ -79,7 +79,7 @@ held_unsigned populating items es buf ne h = absurd (ne refl)
 held_unsigned encoded items es buf ne h = h
 held_unsigned (sealed s) [] es buf ne h = record { whole = h.whole; fits = h.fits; held = h.held; short = h.short }
 held_unsigned (sealed s) (x ∷ xs) es buf ne h =
-    record { whole = h.whole; fits = h.fits; held = record { seal = checksum_bytes s (batch_bytes (x ∷ xs)); four = four (signed_crc s (crc32_of (batch_bytes (x ∷ xs)))); split = h.held }; short = h.short }
+    record { whole = h.whole; fits = h.fits; held = record { seal = checksum_bytes s (item_batch_bytes (x ∷ xs)); four = four (signed_crc s (crc32_of (item_batch_bytes (x ∷ xs)))); split = h.held }; short = h.short }
 
 pub sealed_held : (signature : Option ℕ) (items : List Item) (es buf : List ℕ) → length es ≡ entry_bytes_of items → length es < 2 ^ 31 → buf ≡ log_batch_bytes signature items es → length buf < 2 ^ 56 → IsHeld (sealed signature) items (entry_bytes_in items buf) buf × (entry_bytes_in items buf ≡ es)
 sealed_held signature [] es buf counted lt h short =
@@ -112,8 +112,8 @@ sealed_len signature [] es buf new some u e = absurd (some refl)
 sealed_len signature (x ∷ xs) es buf new some u e =
     let items = x ∷ xs in
     let front = unsealed_bytes (encoded_length items es) items es in
-    let seal = checksum_bytes signature (batch_bytes items) in
-    omega (arith, ap length e, length-append front seal, four (signed_crc signature (crc32_of (batch_bytes items))), ap length u.split, length-append front u.seal, u.four)
+    let seal = checksum_bytes signature (item_batch_bytes items) in
+    omega (arith, ap length e, length-append front seal, four (signed_crc signature (crc32_of (item_batch_bytes items))), ap length u.split, length-append front u.seal, u.four)
 
 -- the signed bytes are as many as the unsigned ones
 pub sealed_short : (signature : Option ℕ) (items : List Item) (es buf new : List ℕ) → IsHeld encoded items es buf → new ≡ log_batch_bytes signature items es → length new < 2 ^ 56

@@ -8,7 +8,7 @@ use Rattle.raft_base.specs.declared.entry_index.EntryIndex.{EntryIndex}
 use Rattle.raft_base.specs.Runs.{IsConsecutive}
 use Rattle.raft_base.proofs.ConsecutiveLemmas.{IsConsecutiveFrom, from_start, consecutive_from, started}
 use Rattle.raft_records.specs.Item.{Item, entries_item}
-use Rattle.raft_records.specs.ItemBatch.{entry_bytes_of, entry_lengths, laid}
+use Rattle.raft_records.specs.ItemBatch.{entry_bytes_of, entry_lengths, with_offsets_from}
 use Rattle.raft_records.specs.LogBatch.{Stage, Batch, populating, with_entries_added}
 use Rattle.raft_records.specs.Buffer.{entry_bytes_in, IsHeld}
 use Rattle.raft_records.proofs.BatchLemmas.{end_push}
@@ -49,13 +49,13 @@ none_consecutive index_of (x ∷ xs) none = let len : length (x ∷ xs) ≡ 0 = 
 -- ---- the batch with these entries
 
 -- where the bytes of entries stand behind those of a batch
-pub added_end : (items : List Item) (region : ℕ) (es : List EntryIndex) (strings : List (List ℕ)) → length es ≡ length strings → entry_bytes_of (items ++ entries_item region (laid (entry_bytes_of items) (with_lengths es strings)) ∷ []) ≡ entry_bytes_of items + length (concat strings)
+pub added_end : (items : List Item) (region : ℕ) (es : List EntryIndex) (strings : List (List ℕ)) → length es ≡ length strings → entry_bytes_of (items ++ entries_item region (with_offsets_from (entry_bytes_of items) (with_lengths es strings)) ∷ []) ≡ entry_bytes_of items + length (concat strings)
 added_end items region es strings e =
-    end_push 0 items (entries_item region (laid (entry_bytes_of items) (with_lengths es strings)))
+    end_push 0 items (entries_item region (with_offsets_from (entry_bytes_of items) (with_lengths es strings)))
     ∙ end_of_laid (entry_bytes_of items) (with_lengths es strings)
     ∙ ap (λ (n : ℕ). entry_bytes_of items + n) (lengths_total es strings e)
 
-pub added_held : (stage : Stage) (items new : List Item) (region : ℕ) (es : List EntryIndex) (strings : List (List ℕ)) (buf mid bytes : List ℕ) → stage ≡ populating → IsHeld stage items (entry_bytes_in items buf) buf → 16 ≤ length mid → drop 16 mid ≡ drop 16 buf → length es ≡ length strings → new ≡ items ++ entries_item region (laid (entry_bytes_of items) (with_lengths es strings)) ∷ [] → bytes ≡ mid ++ concat strings → length bytes < 16 + 2 ^ 31 → IsHeld stage new (entry_bytes_in new bytes) bytes × (entry_bytes_in new bytes ≡ entry_bytes_in items buf ++ concat strings)
+pub added_held : (stage : Stage) (items new : List Item) (region : ℕ) (es : List EntryIndex) (strings : List (List ℕ)) (buf mid bytes : List ℕ) → stage ≡ populating → IsHeld stage items (entry_bytes_in items buf) buf → 16 ≤ length mid → drop 16 mid ≡ drop 16 buf → length es ≡ length strings → new ≡ items ++ entries_item region (with_offsets_from (entry_bytes_of items) (with_lengths es strings)) ∷ [] → bytes ≡ mid ++ concat strings → length bytes < 16 + 2 ^ 31 → IsHeld stage new (entry_bytes_in new bytes) bytes × (entry_bytes_in new bytes ≡ entry_bytes_in items buf ++ concat strings)
 added_held stage items new region es strings buf mid bytes e h room same counts added written fits =
     let behind : drop 16 bytes ≡ drop 16 buf ++ concat strings = ap (drop 16) written ∙ drop-append-le 16 mid (concat strings) room ∙ ap (λ (t : List ℕ). t ++ concat strings) same in
     let total : entry_bytes_of new ≡ entry_bytes_of items + length (concat strings) = ap entry_bytes_of added ∙ added_end items region es strings counts in
@@ -64,12 +64,12 @@ added_held stage items new region es strings buf mid bytes e h room same counts 
       open_entries (entry_bytes_of new) bytes len ∙ behind ∙ ap (λ (t : List ℕ). t ++ concat strings) (sym (entries_are stage items buf e h)),
     )
 
-pub added_view : (now : Batch) (stage : Stage) (items new : List Item) (region : ℕ) (es : List EntryIndex) (strings : List (List ℕ)) (old bytes : List ℕ) → batch_with items old stage ≡ now → length old ≡ entry_bytes_of items → es ≢ [] → new ≡ items ++ entries_item region (laid (entry_bytes_of items) (with_lengths es strings)) ∷ [] → bytes ≡ old ++ concat strings → batch_with new bytes stage ≡ with_entries_added now region es strings
+pub added_view : (now : Batch) (stage : Stage) (items new : List Item) (region : ℕ) (es : List EntryIndex) (strings : List (List ℕ)) (old bytes : List ℕ) → batch_with items old stage ≡ now → length old ≡ entry_bytes_of items → es ≢ [] → new ≡ items ++ entries_item region (with_offsets_from (entry_bytes_of items) (with_lengths es strings)) ∷ [] → bytes ≡ old ++ concat strings → batch_with new bytes stage ≡ with_entries_added now region es strings
 added_view now stage items new region [] strings old bytes view whole some added written = absurd (some refl)
 added_view now stage items new region (e ∷ es) strings old bytes view whole some added written =
     ap (λ (xs : List Item). batch_with xs bytes stage) added
-    ∙ ap (λ (t : List ℕ). batch_with (items ++ entries_item region (laid (entry_bytes_of items) (with_lengths (e ∷ es) strings)) ∷ []) t stage) written
-    ∙ ap (λ (n : ℕ). batch_with (items ++ entries_item region (laid n (with_lengths (e ∷ es) strings)) ∷ []) (old ++ concat strings) stage) (sym whole)
+    ∙ ap (λ (t : List ℕ). batch_with (items ++ entries_item region (with_offsets_from (entry_bytes_of items) (with_lengths (e ∷ es) strings)) ∷ []) t stage) written
+    ∙ ap (λ (n : ℕ). batch_with (items ++ entries_item region (with_offsets_from n (with_lengths (e ∷ es) strings)) ∷ []) (old ++ concat strings) stage) (sym whole)
     ∙ ap (λ (b : Batch). with_entries_added b region (e ∷ es) strings) view
 
 -- room for the header was made

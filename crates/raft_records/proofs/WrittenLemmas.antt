@@ -17,7 +17,7 @@ use Rattle.raft_records.specs.Entries.{Tile}
 use Rattle.raft_records.specs.Grammar.{op_type_byte, IsCommand, IsByteString, IsPairOf, tail_of, IsTail, AreIndexAndTails, IsEntries, IsContent, IsItem, end_behind}
 use Rattle.raft_records.proofs.Names.{behind_entry, behind_item}
 use Rattle.raft_records.specs.Spelling.{command_bytes, byte_string, value_bytes, pair_bytes, tails_bytes, run_bytes, entries_bytes, content_bytes, item_bytes, IsWritableWith}
-use Rattle.raft_records.specs.ItemBatch.{FitsBehind, FitTogether, AreItems, IsItemBatch, batch_bytes, checksum_bytes}
+use Rattle.raft_records.specs.ItemBatch.{FitsBehind, FitTogether, AreItems, IsItemBatch, item_batch_bytes, checksum_bytes}
 use Rattle.raft_records.specs.Range.{HasIndex, HasLength, IsContentInRange, IsInRange, AreInRange}
 
 pub command_spelled : (c : Command) → HasIndex c → IsCommand (command_bytes c) c
@@ -98,12 +98,12 @@ items_spelled s (x ∷ xs) f r =
       split = refl;
     }
 
-pub batch_spelled : (signature : Option ℕ) (items : List Item) → FitTogether 0 items → AreInRange items → length items < 2 ^ 64 → IsItemBatch (batch_bytes items ++ checksum_bytes signature (batch_bytes items)) signature (map bare items) []
-unfolding batch_bytes
+pub batch_spelled : (signature : Option ℕ) (items : List Item) → FitTogether 0 items → AreInRange items → length items < 2 ^ 64 → IsItemBatch (item_batch_bytes items ++ checksum_bytes signature (item_batch_bytes items)) signature (map bare items) []
+unfolding item_batch_bytes
 batch_spelled signature items f r lt =
-    let counted : IsFollowedBy IsVarint AreItems (batch_bytes items) (length items) (map bare items) = record { first = varint (length items); second = flat_map item_bytes items; first_spells = varint_spells (length items) lt; second_spells = record { spelled = items_spelled 0 items f r; count = length-map items bare }; split = refl } in
+    let counted : IsFollowedBy IsVarint AreItems (item_batch_bytes items) (length items) (map bare items) = record { first = varint (length items); second = flat_map item_bytes items; first_spells = varint_spells (length items) lt; second_spells = record { spelled = items_spelled 0 items f r; count = length-map items bare }; split = refl } in
     record {
-      front = batch_bytes items;
-      counted = subst (λ (n : ℕ). IsFollowedBy IsVarint AreItems (batch_bytes items) n (map bare items)) (sym (length-map items bare)) counted;
-      split = ap (λ (t : List ℕ). t ++ checksum_bytes signature t) (sym (append-nil (batch_bytes items)));
+      front = item_batch_bytes items;
+      counted = subst (λ (n : ℕ). IsFollowedBy IsVarint AreItems (item_batch_bytes items) n (map bare items)) (sym (length-map items bare)) counted;
+      split = ap (λ (t : List ℕ). t ++ checksum_bytes signature t) (sym (append-nil (item_batch_bytes items)));
     }

@@ -57,7 +57,7 @@ pub record IsCutShort (bytes : List ℕ) (e : Error) : Type 0 where
   pub error : IsAnyCorruption e
 
 -- a fault of the item batch of a batch that stands there whole
-pub record IsItemsFault (signature : Option ℕ) (bytes : List ℕ) (e : Error) : Type 0 where
+pub record HasItemBatchFault (signature : Option ℕ) (bytes : List ℕ) (e : Error) : Type 0 where
   pub offset : ℕ
   pub len : ℕ
   pub header : HasHeader bytes offset len
@@ -66,4 +66,4 @@ pub record IsItemsFault (signature : Option ℕ) (bytes : List ℕ) (e : Error) 
 
 -- why no batch is read there
 abbrev pub IsNextFault : Option ℕ → List ℕ → Error → Type 0
-IsNextFault signature bytes e = IsHeaderFault bytes e ⊎ IsCutShort bytes e ⊎ IsItemsFault signature bytes e
+IsNextFault signature bytes e = IsHeaderFault bytes e ⊎ IsCutShort bytes e ⊎ HasItemBatchFault signature bytes e

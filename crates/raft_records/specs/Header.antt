@@ -24,7 +24,7 @@ IsOffsetFault len offset e =
     ⊎ ((offset ≤ len) × (offset < 16) × IsCorruption (codes "Log item offset is smaller than log batch header length") e)
 
 -- two numbers of eight bytes that make no header: first the compression type is looked at, then the offset
-pub record IsWordsFault (bytes : List ℕ) (e : Error) : Type 0 where
+pub record IsHeaderNumbersFault (bytes : List ℕ) (e : Error) : Type 0 where
   pub first : ℕ
   pub second : ℕ
   pub rest : List ℕ
@@ -36,7 +36,7 @@ pub record IsWordsFault (bytes : List ℕ) (e : Error) : Type 0 where
 -- why no header stands in front
 abbrev pub IsHeaderFault : List ℕ → Error → Type 0
 IsHeaderFault bytes e =
-    ((length bytes < 16) × IsCorruption (codes "Log batch header too short: " ++ decimal (length bytes)) e) ⊎ IsWordsFault bytes e
+    ((length bytes < 16) × IsCorruption (codes "Log batch header too short: " ++ decimal (length bytes)) e) ⊎ IsHeaderNumbersFault bytes e
 
 -- the entry bytes that an entry block of this length, in front of the bytes, holds; one of length 0 holds none
 abbrev pub IsEntryBlockOf : ℕ → List ℕ → List ℕ → Type 0

@@ -43,8 +43,8 @@ pub record IsItemBatch (bytes : List ℕ) (signature : Option ℕ) (items : List
   pub split : bytes ≡ (front ++ rest) ++ checksum_bytes signature (front ++ rest)
 
 -- what an encoder writes before the checksum: count and items in shortest spelling
-unfoldable pub batch_bytes : List Item → List ℕ
-batch_bytes items = varint (length items) ++ flat_map item_bytes items
+unfoldable pub item_batch_bytes : List Item → List ℕ
+item_batch_bytes items = varint (length items) ++ flat_map item_bytes items
 
 -- what stands in the place of the checksum before it is written
 abbrev pub no_checksum : List ℕ
@@ -54,7 +54,7 @@ no_checksum = 0 ∷ 0 ∷ 0 ∷ 0 ∷ []
 pub record IsEncoded (items : List Item) (bytes : List ℕ) : Type 0 where
   pub seal : List ℕ
   pub four : length seal ≡ 4
-  pub split : bytes ≡ batch_bytes items ++ seal
+  pub split : bytes ≡ item_batch_bytes items ++ seal
 
 -- ---- places
 
@@ -72,7 +72,7 @@ placed_item place compression x = record x { content = placed_content place comp
 -- the items of an item batch were read, and each got its place; the new bytes are the batch's rest
 pub record IsDecoded (old : List ℕ) (signature : Option ℕ) (place : FileBlockHandle) (compression : CompressionType) (items : List Item) (new : List ℕ) : Type 0 where
   pub read : List Item
-  pub batch : IsItemBatch old signature read new
+  pub item_batch : IsItemBatch old signature read new
   pub places : items ≡ map (placed_item place compression) read
 
 -- ---- what a batch holds
@@ -98,10 +98,10 @@ end_of_items s (item ∷ items) = end_of_items (end_of_content s item.content) i
 abbrev pub entry_bytes_of : List Item → ℕ
 entry_bytes_of items = end_of_items 0 items
 
--- entries whose bytes are laid from s on
-abbrev pub laid : ℕ → List EntryIndex → List EntryIndex
-laid s [] = []
-laid s (e ∷ es) = record e { entry_offset = s } ∷ laid (s + e.entry_len) es
+-- entries whose bytes come one behind the other, from s on
+abbrev pub with_offsets_from : ℕ → List EntryIndex → List EntryIndex
+with_offsets_from s [] = []
+with_offsets_from s (e ∷ es) = record e { entry_offset = s } ∷ with_offsets_from (s + e.entry_len) es
 
 -- the bytes of these entries together
 abbrev pub entry_lengths : List EntryIndex → ℕ
@@ -188,4 +188,4 @@ pub record IsKeptBeside (items : List Item) (item_bytes entries_size : ℕ) (crc
   pub in_bytes : AreInBytes items
   pub size : item_bytes ≡ at_most_usize (items_size items)
   pub entry_bytes : entries_size ≡ entry_bytes_of items
-  pub checksum : (c : ℕ) → crc ≡ Some c → c ≡ crc32_of (batch_bytes items)
+  pub checksum : (c : ℕ) → crc ≡ Some c → c ≡ crc32_of (item_batch_bytes items)

@@ -1,4 +1,4 @@
-pub mod BatchModel
+pub mod ItemBatchModel
 pub mod Buffer
 pub mod DecodedIn
 pub mod Entries

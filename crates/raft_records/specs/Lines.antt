@@ -54,18 +54,18 @@ abbrev pub line_of : Item → List ℕ
 line_of item = decimal item.raft_group_id ++ codes " " ++ content_text item.content ++ codes "\n"
 
 -- the last line: how many items there were, and how many bytes are left unread
-abbrev pub counts_line : ℕ → ℕ → List ℕ
-counts_line items rest = codes "items " ++ decimal items ++ codes " rest " ++ decimal rest ++ codes "\n"
+abbrev pub last_line : ℕ → ℕ → List ℕ
+last_line items rest = codes "items " ++ decimal items ++ codes " rest " ++ decimal rest ++ codes "\n"
 
 -- the text of items with so many bytes left unread behind them
 abbrev pub text_of : List Item → ℕ → List ℕ
-text_of items rest = flat_map line_of items ++ counts_line (length items) rest
+text_of items rest = flat_map line_of items ++ last_line (length items) rest
 
 -- the text of the item batch that these bytes are
 pub record IsTextOf (bytes : List ℕ) (signature : Option ℕ) (text : List ℕ) : Type 0 where
   pub items : List Item
   pub rest : List ℕ
-  pub batch : IsItemBatch bytes signature items rest
+  pub item_batch : IsItemBatch bytes signature items rest
   pub lines : text ≡ text_of items (length rest)
 
 -- the text of an item batch was written behind the old bytes, where those are known

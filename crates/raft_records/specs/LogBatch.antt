@@ -13,8 +13,8 @@ use Rattle.raft_base.specs.Runs.{IsConsecutive}
 use Rattle.raft_records.specs.Entries.{with_lengths}
 use Rattle.raft_records.specs.Faults.{IsMemoryOrMessage}
 use Rattle.raft_records.specs.Item.{Item, entries_item}
-use Rattle.raft_records.specs.Sizes.{batch_size, at_most_usize}
-use Rattle.raft_records.specs.ItemBatch.{checksum_bytes, batch_bytes, entry_bytes_of, FitTogether, IsItemBatch, laid, raised_item}
+use Rattle.raft_records.specs.Sizes.{item_batch_size, at_most_usize}
+use Rattle.raft_records.specs.ItemBatch.{checksum_bytes, item_batch_bytes, entry_bytes_of, FitTogether, IsItemBatch, with_offsets_from, raised_item}
 
 -- how far a batch has come: it is open (items may be added); its bytes are made; they are signed for a file, or without a signature
 pub data Stage : Type 0 where
@@ -58,7 +58,7 @@ with_batch b more =
 abbrev pub with_entries_added : Batch → ℕ → List EntryIndex → List (List ℕ) → Batch
 with_entries_added b region [] strings = b
 with_entries_added b region (e ∷ es) strings =
-    record b { items = b.items ++ entries_item region (laid (length b.entry_bytes) (with_lengths (e ∷ es) strings)) ∷ []; entry_bytes = b.entry_bytes ++ concat strings }
+    record b { items = b.items ++ entries_item region (with_offsets_from (length b.entry_bytes) (with_lengths (e ∷ es) strings)) ∷ []; entry_bytes = b.entry_bytes ++ concat strings }
 
 -- why the bytes of entries are not added: they would pass the limit, a message refused to write itself with one of these codes, or there is no memory
 abbrev pub IsBytesFault : (ℕ → Type 0) → ℕ → Error → Type 0
@@ -100,17 +100,17 @@ item_offset entry_bytes = 16 + length (entry_block entry_bytes)
 -- header, entry block and item batch up to its checksum, where their length together is this
 abbrev pub unsealed_bytes : ℕ → List Item → List ℕ → List ℕ
 unsealed_bytes len items entry_bytes =
-    header_bytes (item_offset entry_bytes) compressions.None len ++ (entry_block entry_bytes ++ batch_bytes items)
+    header_bytes (item_offset entry_bytes) compressions.None len ++ (entry_block entry_bytes ++ item_batch_bytes items)
 
 -- how many bytes a batch has: none without items, and else four behind the items
 abbrev pub encoded_length : List Item → List ℕ → ℕ
 encoded_length [] entry_bytes = 0
-encoded_length (item ∷ items) entry_bytes = item_offset entry_bytes + length (batch_bytes (item ∷ items)) + 4
+encoded_length (item ∷ items) entry_bytes = item_offset entry_bytes + length (item_batch_bytes (item ∷ items)) + 4
 
 -- the approximate length: none without items; of an open batch header, entry bytes, their checksum and items as if each number took eight bytes; else the length itself
 abbrev pub approximate_length : Stage → List Item → List ℕ → ℕ
 approximate_length stage [] entry_bytes = 0
-approximate_length populating (item ∷ items) entry_bytes = at_most_usize (16 + length entry_bytes + 4 + batch_size (item ∷ items))
+approximate_length populating (item ∷ items) entry_bytes = at_most_usize (16 + length entry_bytes + 4 + item_batch_size (item ∷ items))
 approximate_length encoded (item ∷ items) entry_bytes = encoded_length (item ∷ items) entry_bytes
 approximate_length (sealed signature) (item ∷ items) entry_bytes = encoded_length (item ∷ items) entry_bytes
 
@@ -118,7 +118,7 @@ approximate_length (sealed signature) (item ∷ items) entry_bytes = encoded_len
 abbrev pub log_batch_bytes : Option ℕ → List Item → List ℕ → List ℕ
 log_batch_bytes signature [] entry_bytes = []
 log_batch_bytes signature (item ∷ items) entry_bytes =
-    unsealed_bytes (encoded_length (item ∷ items) entry_bytes) (item ∷ items) entry_bytes ++ checksum_bytes signature (batch_bytes (item ∷ items))
+    unsealed_bytes (encoded_length (item ∷ items) entry_bytes) (item ∷ items) entry_bytes ++ checksum_bytes signature (item_batch_bytes (item ∷ items))
 
 -- a header, these bytes and an item batch, one behind the other; the header says how many bytes there are and where the item batch begins
 pub record IsLaidOut (bytes : List ℕ) (signature : Option ℕ) (items : List Item) (between : List ℕ) : Type 0 where

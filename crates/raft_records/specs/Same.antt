@@ -13,19 +13,19 @@ use Rattle.raft_records.specs.Item.{Item, Content, entries, command, pair, Pair}
 use Rattle.raft_records.specs.LogBatch.{Batch, stage_number}
 
 -- the entries of a content, where it has entries
-abbrev pub entries_part : Content → Option (List EntryIndex)
-entries_part (entries es) = Some es
-entries_part _ = None
+abbrev pub entries_of_content : Content → Option (List EntryIndex)
+entries_of_content (entries es) = Some es
+entries_of_content _ = None
 
 -- the command of a content, where it has one
-abbrev pub command_part : Content → Option Command
-command_part (command c) = Some c
-command_part _ = None
+abbrev pub command_of_content : Content → Option Command
+command_of_content (command c) = Some c
+command_of_content _ = None
 
 -- the change of a key of a content, where it has one
-abbrev pub pair_part : Content → Option Pair
-pair_part (pair p) = Some p
-pair_part _ = None
+abbrev pub pair_of_content : Content → Option Pair
+pair_of_content (pair p) = Some p
+pair_of_content _ = None
 
 -- op type, key, value and file are the same
 abbrev pub same_pair : Pair → Pair → Bool
@@ -35,7 +35,7 @@ same_pair =
 -- the entries, the command and the change of a key are the same, of which each content has one
 abbrev pub same_content : Content → Content → Bool
 same_content =
-    eq_of_both (on entries_part (option_eq (pointwise entry_indexes.it))) (eq_of_both (on command_part (option_eq commands.it)) (on pair_part (option_eq same_pair)))
+    eq_of_both (on entries_of_content (option_eq (pointwise entry_indexes.it))) (eq_of_both (on command_of_content (option_eq commands.it)) (on pair_of_content (option_eq same_pair)))
 
 -- region and content are the same
 abbrev pub same_item : Item → Item → Bool

@@ -7,7 +7,7 @@ use Rattle.raft_records.specs.contracts.command.CommandEq.TheImpl.Laws.{laws-law
 use Rattle.raft_records.specs.contracts.key_value.OpTypeEq.TheImpl.Laws.{laws-law as op_type_laws}
 use Rattle.raft_records.specs.Item.{Item, Pair}
 use Rattle.raft_records.specs.LogBatch.{Batch, stage_number}
-use Rattle.raft_records.specs.Same.{entries_part, command_part, pair_part, same_pair, same_content, same_item, same_items, same_batch}
+use Rattle.raft_records.specs.Same.{entries_of_content, command_of_content, pair_of_content, same_pair, same_content, same_item, same_items, same_batch}
 
 -- `same_pair` is reflexive, symmetric and transitive
 same_pair_is_equivalence : IsEquivalence same_pair
@@ -17,7 +17,7 @@ same_pair_is_equivalence =
 -- so is `same_content`, by its three kinds
 same_content_is_equivalence : IsEquivalence same_content
 same_content_is_equivalence =
-    and_equiv (on_equiv entries_part (options_equiv (lists_equiv entry_index_laws))) (and_equiv (on_equiv command_part (options_equiv command_laws)) (on_equiv pair_part (options_equiv same_pair_is_equivalence)))
+    and_equiv (on_equiv entries_of_content (options_equiv (lists_equiv entry_index_laws))) (and_equiv (on_equiv command_of_content (options_equiv command_laws)) (on_equiv pair_of_content (options_equiv same_pair_is_equivalence)))
 
 -- so is `same_item`, by region and content
 same_item_is_equivalence : IsEquivalence same_item

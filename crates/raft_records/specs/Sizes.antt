@@ -45,8 +45,8 @@ abbrev pub at_most_usize : ℕ → ℕ
 at_most_usize n = min n (2 ^ 64 - 1)
 
 -- the count, the items and the checksum
-abbrev pub batch_size : List Item → ℕ
-batch_size items = 8 + items_size items + 4
+abbrev pub item_batch_size : List Item → ℕ
+item_batch_size items = 8 + items_size items + 4
 
 -- ---- numbers that eight bytes are enough for
 

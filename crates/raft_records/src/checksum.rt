@@ -1,6 +1,6 @@
 //! Checksums behind bytes.
 
-ghost use Rattle.std.specs.Prelude.{◌≡◌, ◌≢◌, List, ℕ, length, IfOk, IfErr};
+ghost use Rattle.std.specs.Prelude.{◌≡◌, List, ℕ, length, IfOk, IfErr};
 ghost use Rattle.byteorder.specs.Endian.{little_bytes};
 ghost use Rattle.raft_records.specs.ItemBatch.{signed_crc, HasSeal, IsSealFault};
 

@@ -300,12 +300,12 @@ fn parse_tail(alloc: Global, bytes: &[u8], index: u64, offset: u32) -> Result<(u
     ensures fault { IfErr result (IsTailFault (index, offset) bytes.now) }
 {
     if index == u64::MAX {
-        return Err(Error::Corruption(format!(in alloc; "an entry has no index below {index}")?));
+        return Err(Error::Corruption(format!(in alloc; "an entry would have the index {index}")?));
     }
     let (tail, rest) = codec::parse_var_u64(bytes)?;
     if tail < u64::from(offset) || tail > u64::from(u32::MAX) {
         return Err(Error::Corruption(format!(in alloc;
-            "a tail offset of {tail} behind {offset}"
+            "the tail offset {tail} is not from {offset} to 4294967295"
         )?));
     }
     Ok((tail as u32, rest))

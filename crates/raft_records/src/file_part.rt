@@ -1,6 +1,6 @@
 //! Parts of files, and the batches in them.
 
-ghost use Rattle.std.specs.Prelude.{◌≡◌, ◌≢◌, ℕ, ◌+◌, ◌^◌, ◌<◌, ◌≤◌, length, take, drop, IfOk, IfErr, IfSome, OnOk, OnErr};
+ghost use Rattle.std.specs.Prelude.{◌≡◌, ◌≢◌, ◌+◌, ◌^◌, ◌<◌, ◌≤◌, length, take, drop, IfOk, IfErr, IfSome, OnOk, OnErr};
 ghost use Rattle.raft_codec.specs.Reading.{HasNoFront};
 ghost use Rattle.raft_base.specs.Signature.{signature_in};
 ghost use Rattle.raft_records.specs.FilePart.{IsPartRefusal, IsNext, IsNextFault};
@@ -65,8 +65,8 @@ impl FilePart {
         })
     }
 
-    /// Cuts the part: the bytes in front of `at` stay, and those from there on are handed out as a part of their own. No
-    /// byte is copied.
+    /// Cuts the part: the bytes in front of `at` stay, and those from there on are handed out as a part of
+    /// their own. No byte is copied.
     ///
     /// # Errors
     ///

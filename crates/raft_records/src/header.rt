@@ -7,7 +7,7 @@ ghost use Rattle.raft_base.specs.declared.compression_type.CompressionType.TheVa
 ghost use Rattle.raft_records.specs.Header.{IsHeader, IsHeaderFault, IsEntryBlockOf, IsEntryBlockFault};
 ghost use Rattle.raft_records.specs.LogBatch.{header_bytes, entry_block, item_offset, encoded, encoded_length, log_batch_bytes};
 ghost use Rattle.raft_records.specs.Buffer.{IsUnsealed, IsHeld, entry_bytes_in};
-ghost use Rattle.raft_records.specs.ItemBatch.{IsEncoded, batch_bytes, checksum_bytes};
+ghost use Rattle.raft_records.specs.ItemBatch.{IsEncoded, item_batch_bytes, checksum_bytes};
 ghost use Rattle.raft_base.specs.Signature.{signature_of};
 ghost use Rattle.raft_records.specs.Spelling.{Keeps};
 
@@ -190,8 +190,8 @@ pub(crate) fn seal(item_batch: &LogItemBatch, buf: &mut Vec<u8>, context: &LogFi
 fn seal_behind(item_batch: &LogItemBatch, buf: &mut [u8], offset: usize, context: &LogFileContext)
     requires within { offset ≤ length buf.old }
     requires encoded { IsEncoded item_batch.now (drop offset buf.old) }
-    ensures { buf.new ≡ take offset buf.old ++ (batch_bytes item_batch.now
-        ++ checksum_bytes (signature_of context.now) (batch_bytes item_batch.now)) }
+    ensures { buf.new ≡ take offset buf.old ++ (item_batch_bytes item_batch.now
+        ++ checksum_bytes (signature_of context.now) (item_batch_bytes item_batch.now)) }
 {
     item_batch.prepare_write(&mut buf[offset..], context);
 }

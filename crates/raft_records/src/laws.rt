@@ -20,7 +20,7 @@ ghost use Rattle.raft_records.specs.Framing.{IsFramed, IsFramedWith, LogBatchIsS
 ghost use Rattle.raft_records.specs.Grammar.{IsCommand, IsEntries, IsItem, IsKeyValue};
 ghost use Rattle.raft_records.specs.Entries.{Tile};
 ghost use Rattle.raft_records.specs.Spelling.{IsWritablePair, command_bytes, entries_bytes, pair_bytes};
-ghost use Rattle.raft_records.specs.Written.{ItemIsSpelled, BatchIsSpelled};
+ghost use Rattle.raft_records.specs.Written.{ItemIsSpelled, ItemBatchIsSpelled};
 
 /// What is written of an item is a spelling of it, and no spelling of an item begins another, so it is
 /// read again, whatever follows it. What is written and signed of a batch is an item batch of its
@@ -28,7 +28,7 @@ ghost use Rattle.raft_records.specs.Written.{ItemIsSpelled, BatchIsSpelled};
 pub fn items_are_read_again()
     ensures item { ItemIsSpelled }
     ensures one_front { (s : ℕ) → HasOneFront (IsItem s) }
-    ensures batch { BatchIsSpelled }
+    ensures item_batch { ItemBatchIsSpelled }
     ensures one_batch { (bytes rest rest' : List ℕ) (signature : Option ℕ)
         (items items' : List Item) →
         IsItemBatch bytes signature items rest → IsItemBatch bytes signature items' rest' →
@@ -66,7 +66,7 @@ pub fn batches_belong_to_one_file()
 /// bytes.
 pub fn log_batches_are_read_again()
     ensures written { LogBatchIsSpelled }
-    ensures parts { (bytes : List ℕ) (signature : Option ℕ) (items : List Item)
+    ensures sections { (bytes : List ℕ) (signature : Option ℕ) (items : List Item)
         (entry_bytes : List ℕ) →
         IsLogBatch bytes signature items entry_bytes
         ↔ IsFramedWith bytes signature items entry_bytes }

@@ -171,7 +171,10 @@ impl LogItem {
         ensures fault { IfErr result (IsItemRefusal (item_of self.now)) }
     {
         if !self.is_writable() {
-            return Err(Error::invalid_argument(*buf.allocator(), "an item can't be written"));
+            return Err(Error::invalid_argument(
+                *buf.allocator(),
+                "an item's entries don't run on, or a put has no value",
+            ));
         }
         let len = buf.len();
         if let Err(e) = self.write(buf) {

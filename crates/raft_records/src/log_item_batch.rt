@@ -1,22 +1,19 @@
 //! Batches of log items, without entry bytes.
 
-ghost use Rattle.std.specs.Prelude.{◌≡◌, ◌≢◌, ℕ, ◌+◌, ◌%◌, ◌^◌, ◌<◌, ◌≤◌, length, Option, List, [], ◌∷◌, ◌++◌, map, Some, None, IfOk, IfErr, IfSome, OnOk, OnErr, ◌↔◌, IsTrue};
+ghost use Rattle.std.specs.Prelude.{◌≡◌, ◌≢◌, ℕ, ◌+◌, ◌^◌, ◌<◌, ◌≤◌, length, Option, List, [], ◌∷◌, ◌++◌, map, Some, None, IfOk, IfErr, IfSome, OnOk, OnErr, ◌↔◌, IsTrue};
 ghost use Rattle.std.specs.Vec.Iter.{into_iter_items};
 ghost use Rattle.std.specs.Slice.Iter.{iter_rest};
-ghost use Rattle.raft_base.specs.declared.pipe_log.Version.TheVariants.{V2};
-ghost use Rattle.raft_codec.specs.Reading.{Reads, HasNoFront, HasOneFront};
-ghost use Rattle.raft_base.specs.Signature.{signature_of, signature_in};
+ghost use Rattle.raft_codec.specs.Reading.{Reads, HasNoFront};
+ghost use Rattle.raft_base.specs.Signature.{signature_of};
 ghost use Rattle.raft_base.specs.Runs.{IsConsecutive};
-ghost use Rattle.raft_records.specs.Grammar.{IsCommand, IsEntries, IsItem, IsKeyValue, end_of_content};
+ghost use Rattle.raft_records.specs.Grammar.{end_of_content};
 ghost use Rattle.raft_records.specs.DecodedIn.{AreDecodedIn};
-ghost use Rattle.raft_records.specs.Item.{Item, Pair, bare, bare_entry, bare_pair, entries, command, pair, content_of, item_of, entries_item, command_item, pair_item, AreInBytes, IsInBytes};
-ghost use Rattle.raft_records.specs.Entries.{Tile};
-ghost use Rattle.raft_records.specs.ItemBatch.{AreItems, IsItemBatch, IsDecoded, AreItemsFault, IsItemBatchFault, checksum_bytes, batch_bytes, placed_item, raised_item, laid, entry_lengths, entry_bytes_of, end_of_items, FitsBehind, IsEncoded, no_checksum, FitTogether, first_entry};
+ghost use Rattle.raft_records.specs.Item.{Item, bare, entries, command, content_of, item_of, entries_item, command_item, pair_item, AreInBytes, IsInBytes};
+ghost use Rattle.raft_records.specs.ItemBatch.{AreItems, IsItemBatch, IsDecoded, AreItemsFault, IsItemBatchFault, checksum_bytes, item_batch_bytes, placed_item, raised_item, with_offsets_from, entry_lengths, entry_bytes_of, FitsBehind, IsEncoded, no_checksum, FitTogether, first_entry};
 ghost use Rattle.raft_records.specs.Faults.{IsMemoryOrMessage};
-ghost use Rattle.raft_records.specs.Spelling.{Keeps, IsWritablePair, command_bytes, entries_bytes, pair_bytes};
-ghost use Rattle.raft_records.specs.Sizes.{items_size, batch_size, at_most_usize, HaveSmallNumbers};
-ghost use Rattle.raft_records.specs.Range.{IsContentInRange, AreInRange};
-ghost use Rattle.raft_records.specs.Written.{ItemIsSpelled, BatchIsSpelled};
+ghost use Rattle.raft_records.specs.Spelling.{Keeps};
+ghost use Rattle.raft_records.specs.Sizes.{item_batch_size, at_most_usize, HaveSmallNumbers};
+ghost use Rattle.raft_records.specs.Range.{AreInRange};
 ghost use Rattle.raft_records.specs.declared.key_value.OpType.TheVariants.{Put, Del};
 
 mod places;
@@ -58,7 +55,7 @@ impl Model for LogItemBatch {
 
     ghost Value = { List Item };
 
-    ghost use Rattle.raft_records.specs.BatchModel.{items_in, IsWellFormed};
+    ghost use Rattle.raft_records.specs.ItemBatchModel.{items_in, IsWellFormed};
 
     ghost view = { items_in };
 
@@ -121,8 +118,8 @@ impl LogItemBatch {
         ensures in_range { AreInRange self.now }
         ensures in_bytes { AreInBytes self.now }
         ensures spelled { (signature : Option ℕ) →
-            IsItemBatch (batch_bytes self.now ++ checksum_bytes signature (batch_bytes self.now))
-            signature (map bare self.now) [] }
+            IsItemBatch (item_batch_bytes self.now
+            ++ checksum_bytes signature (item_batch_bytes self.now)) signature (map bare self.now) [] }
     {
         let _count = self.items.len();
     }
@@ -146,9 +143,9 @@ impl LogItemBatch {
     /// The approximate length of the batch's bytes, capped at `usize::MAX`. It is at least their length
     /// where all region ids and indexes are below 2^56, of bytes that a log batch can hold.
     pub fn approximate_size(&self) -> usize
-        ensures size { result ≡ at_most_usize (batch_size self.now) }
-        ensures covers { HaveSmallNumbers self.now → length (batch_bytes self.now) < 2 ^ 56 →
-            length (batch_bytes self.now) + 4 ≤ result }
+        ensures size { result ≡ at_most_usize (item_batch_size self.now) }
+        ensures covers { HaveSmallNumbers self.now → length (item_batch_bytes self.now) < 2 ^ 56 →
+            length (item_batch_bytes self.now) + 4 ≤ result }
     {
         self.item_size.saturating_add(8 + LOG_BATCH_CHECKSUM_LEN)
     }
@@ -180,7 +177,8 @@ impl LogItemBatch {
         requires consecutive { IsConsecutive entry_indexes.items }
         requires room { entry_bytes_of self.old + entry_lengths entry_indexes.items < 2 ^ 32 }
         ensures ok { OnOk result (self.new ≡ self.old
-            ++ entries_item region_id (laid (entry_bytes_of self.old) entry_indexes.items) ∷ []) }
+            ++ entries_item region_id
+            (with_offsets_from (entry_bytes_of self.old) entry_indexes.items) ∷ []) }
         ensures err { OnErr result (self.new ≡ self.old) }
         ensures memory { IfErr result (λ e. e ≡ Error.Memory) }
     {
@@ -324,7 +322,7 @@ impl LogItemBatch {
     /// `Memory`. The vector is then as it was.
     pub fn encode(&mut self, buf: &mut Vec<u8>) -> Result<()>
         ensures ok { OnOk result (buf.new.items
-            ≡ buf.old.items ++ (batch_bytes self.old ++ no_checksum)) }
+            ≡ buf.old.items ++ (item_batch_bytes self.old ++ no_checksum)) }
         ensures err { OnErr result (buf.new.items ≡ buf.old.items) }
         ensures same { self.new ≡ self.old }
         ensures memory { IfErr result (λ e. e ≡ Error.Memory) }
@@ -343,8 +341,8 @@ impl LogItemBatch {
     /// It may be repeated for other contexts.
     pub fn prepare_write(&self, buf: &mut [u8], context: &LogFileContext)
         requires { IsEncoded self.now buf.old }
-        ensures { buf.new ≡ batch_bytes self.now
-            ++ checksum_bytes (signature_of context.now) (batch_bytes self.now) }
+        ensures { buf.new ≡ item_batch_bytes self.now
+            ++ checksum_bytes (signature_of context.now) (item_batch_bytes self.now) }
     {
         let end = buf.len() - LOG_BATCH_CHECKSUM_LEN;
         let checksum = match self.checksum {
@@ -483,7 +481,8 @@ impl LogItemBatch {
 /// the vector.
 fn write_items(buf: &mut Vec<u8>, items: &[LogItem]) -> AllocResult<()>
     ensures ok { OnOk result
-        (buf.new.items ≡ buf.old.items ++ (batch_bytes (map item_of items.now) ++ no_checksum)) }
+        (buf.new.items
+        ≡ buf.old.items ++ (item_batch_bytes (map item_of items.now) ++ no_checksum)) }
     ensures err { OnErr result (Keeps buf.old.items buf.new.items) }
 {
     codec::append_var_u64(buf, items.len() as u64)?;

@@ -6,7 +6,7 @@ ghost use Rattle.std.specs.List.{flat_map};
 ghost use Rattle.raft_base.specs.Signature.{signature_of};
 ghost use Rattle.raft_records.specs.Grammar.{tail_of};
 ghost use Rattle.raft_records.specs.Item.{item_of, content_of, pair_of};
-ghost use Rattle.raft_records.specs.Lines.{bytes_text, entries_text, command_text, pair_text, content_text, line_of, counts_line, IsTextOf, Prints, IsNoItemBatch, IsPrintFault, IsWriteFailure, IsIoError, AppendsFront};
+ghost use Rattle.raft_records.specs.Lines.{bytes_text, entries_text, pair_text, content_text, line_of, last_line, IsTextOf, Prints, IsNoItemBatch, IsPrintFault, IsWriteFailure, IsIoError, AppendsFront};
 
 use crate::{Command, KeyValue, LogItem, LogItemBatch, LogItemContent, OpType};
 use raft_base::{
@@ -218,7 +218,7 @@ fn append_bytes(alloc: Global, bytes: &[u8], text: &mut String) -> AllocResult<(
 /// Appends the last line: how many items there are, and how many bytes are left behind them.
 fn append_counts(items: usize, rest: usize, text: &mut String) -> AllocResult<()>
     ensures { OnOk result (string_bytes text.new
-        ≡ string_bytes text.old ++ counts_line items rest) }
+        ≡ string_bytes text.old ++ last_line items rest) }
 {
     writeln!(text, "items {items} rest {rest}")
 }

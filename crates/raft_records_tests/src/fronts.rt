@@ -52,7 +52,8 @@ static CONTENTS: [(Form, &[u8]); 19] = [
     ),
 ];
 
-/// Bytes that are no such content, and how they are refused. A count and the lengths in some are of 2^63, and no bytes behind them.
+/// Bytes that are no such content, and how they are refused. A count and the lengths in some are of 2^63, and
+/// no bytes behind them.
 static NO_CONTENTS: [(Form, &[u8], Read); 21] = [
     (
         Form::KeyValue,

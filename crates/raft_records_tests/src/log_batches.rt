@@ -1,6 +1,6 @@
 //! Batches of items and entry bytes, as the Rust crate makes them.
 
-ghost use Rattle.std.specs.Prelude.{◌≡◌, [], IfOk, OnOk, OnErr};
+ghost use Rattle.std.specs.Prelude.{◌≡◌, [], IfOk};
 ghost use Rattle.raft_records.specs.LogBatch.{populating};
 
 mod rows;

@@ -310,8 +310,8 @@ fn is_item_batch_row(alloc: Global, row: &ItemBatchRow) -> Result<bool> {
     }
 }
 
-/// Sealed batches of the file 12 of version 1 that say they have more than they have: 2^40 items and none, 2^63 and one, 2^40
-/// entries and none, 2^63 and two.
+/// Sealed batches of the file 12 of version 1 that say they have more than they have: 2^40 items and none, 2^63
+/// and one, 2^40 entries and none, 2^63 and two.
 static COUNTS: [&[u8]; 4] = [
     b"\x80\x80\x80\x80\x80\x20\xd1\x10\x15\x12",
     b"\x80\x80\x80\x80\x80\x80\x80\x80\x80\x01\x01\x02\x01\x80\xa4\x5c\xb0",

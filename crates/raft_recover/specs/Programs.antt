@@ -28,7 +28,7 @@ pub record IsRecoveryPrinted (words : List (List ℕ)) (old new : Option (List �
   pub asked : AsksRecovery words recovery
   pub files : List NumberedBytes
   pub workers : (0 < recovery.workers) × (recovery.workers ≤ 256)
-  pub read : AreFilesOf recovery.paths files
+  pub of_paths : AreFilesOf recovery.paths files
   pub printed : PrintsRecovered recovery.queue recovery.version files old new
 
 -- for files under the numbers that were asked for, whatever bytes stood at their paths, a front of the lines of the files' tables is printed, and not all of them
@@ -36,7 +36,7 @@ pub record IsRecoveryFrontPrinted (words : List (List ℕ)) (old new : Option (L
   pub recovery : AskedRecovery
   pub asked : AsksRecovery words recovery
   pub files : List NumberedBytes
-  pub read : AreFilesOf recovery.paths files
+  pub of_paths : AreFilesOf recovery.paths files
   pub printed : PrintsFrontOfRecovered recovery.queue recovery.version files old new
 
 -- what was asked for is printed

@@ -1,6 +1,6 @@
 //! Files as segments.
 
-ghost use Rattle.std.specs.Prelude.{◌≡◌, ◌↔◌, ◌^◌, ◌<◌, List, IfOk, IfErr, length, map};
+ghost use Rattle.std.specs.Prelude.{◌≡◌, ◌↔◌, ◌<◌, List, IfOk, IfErr, length, map};
 ghost use Rattle.raft_history.specs.Batches.{Event};
 ghost use Rattle.raft_replay.specs.Segments.{SegmentsHold, SegmentsAreOf};
 ghost use Rattle.raft_recover.specs.Files.{FilesHold};

@@ -78,8 +78,8 @@ pub fn command_words<S: Env + AllocGlobal>(rt: &S) -> io::Result<Vec<String>> {
     Ok(words)
 }
 
-/// Says on `err` why the words of a command line aren't there, and answers the status to end with: 1 for want of memory,
-/// which is refused as any other, and 2 for a word that isn't UTF-8, with a hint at the words.
+/// Says on `err` why the words of a command line aren't there, and answers the status to end with: 1 for want
+/// of memory, which is refused as any other, and 2 for a word that isn't UTF-8, with a hint at the words.
 pub fn run_without_words<E: Write>(error: &io::Error, err: &mut E) -> u8
     ensures memory { error_kind error.now ≡ ErrorKind.OutOfMemory → result ≡ 1 }
     ensures misused { error_kind error.now ≢ ErrorKind.OutOfMemory → result ≡ 2 }

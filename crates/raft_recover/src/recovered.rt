@@ -5,7 +5,7 @@ ghost use Rattle.std.specs.List.Sorted.{IsPermutation, IsNonDecreasingBy};
 ghost use Rattle.std.specs.Io.KnownBytes.{Keeps};
 ghost use Rattle.std.specs.List.{flat_map};
 ghost use Rattle.raft_records.specs.Lines.{IsIoError};
-ghost use Rattle.raft_recover.specs.TableLines.{range_text, seq_text, region_text, table_line, cleaned_text, cleaned_line, live_line, IsTextOfTables, PrintsTables, PrintsFrontOfTables};
+ghost use Rattle.raft_recover.specs.TableLines.{range_text, seq_text, table_line, cleaned_line, live_line, IsTextOfTables, PrintsTables, PrintsFrontOfTables};
 
 use raft_accessor::MemTableAccessor;
 use raft_base::{AllocResult, Error, FileSeq, LogQueue, Result};

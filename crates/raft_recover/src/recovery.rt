@@ -1,21 +1,9 @@
 //! From the bytes of files to the tables of all regions.
 
-ghost use Rattle.std.specs.Prelude.{
-  ◌≡◌,
-  ◌≢◌,
-  ◌⊎◌,
-  ◌^◌,
-  ◌<◌,
-  ◌≤◌,
-  length,
-  IfOk,
-  IfErr,
-  OnOk,
-  map,
-};
+ghost use Rattle.std.specs.Prelude.{◌≢◌, ◌⊎◌, ◌^◌, ◌<◌, ◌≤◌, length, IfOk, IfErr, OnOk, map};
 ghost use Rattle.std.specs.Io.KnownBytes.{Keeps};
 ghost use Rattle.raft_base.specs.Errors.{IsInvalidArgument};
-ghost use Rattle.raft_replay.specs.Segments.{SegmentsHold, CannotBeRead, MayReplay, SegmentsAreOf};
+ghost use Rattle.raft_replay.specs.Segments.{SegmentsHold, CannotBeRead, MayReplay};
 ghost use Rattle.raft_recover.specs.Files.{FilesCannotBeRead, IsPrintFailure, PrintsRecovered};
 ghost use Rattle.raft_recover.specs.Recovery.{IsRecovered};
 ghost use Rattle.raft_recover.specs.AskedRequests.{file_shown};
@@ -34,20 +22,22 @@ use std::thread::Threads;
 /// About how many bytes a share has at least: for fewer a further piece costs more than its worker saves.
 const LEAST_SHARE: usize = 1 << 20;
 
-/// The tables of all regions, their cleaned regions and live counts: those of reading the batches of all segments, of
-/// one queue, in order. They are read by 1 to 256 workers. However the segments were cut, it makes at most one share for
-/// each worker, all of about the same number of bytes; each worker takes the next share that is left (see [`equal_shares`]).
+/// The tables of all regions, their cleaned regions and live counts: those of reading the batches of all
+/// segments, of one queue, in order. They are read by 1 to 256 workers. However the batches are divided into
+/// segments, it makes at most one share for each worker, all of about the same number of bytes; each worker
+/// takes the next share that is left (see [`equal_shares`]).
 ///
-/// What is proved of it: for every list of segments of the queue, for every number of workers and whatever their turns,
-/// an `Ok` has what one reading of all batches in order gives, and an `Err` other than `Memory` comes only where that
-/// reading is refused too. Premises: the batches name fewer than 2^63 entries and key values; in the rewrite queue, where
-/// the batches of a group overlap with others, they name no region that those name; the call returns.
+/// What is proved of it: for every list of segments of the queue, for every number of workers and whatever
+/// their turns, an `Ok` has what one reading of all batches in order gives, and an `Err` other than `Memory`
+/// comes only where that reading is refused too. Premises: the batches name fewer than 2^63 entries and key
+/// values; in the rewrite queue, where the batches of a group overlap with others, they name no region that
+/// those name; the call returns.
 ///
 /// # Errors
 ///
-/// `InvalidArgument` for another number of workers, for a part of another queue and for 2^62 segments and more, then whatever a
-/// reading answers: `Corruption`, `Codec`, or `Io` for an item that ends before its type, where a part isn't a row of
-/// readable batches or the batches in order can't be read. `Memory`.
+/// `InvalidArgument` for another number of workers, for a part of another queue and for 2^62 segments and more,
+/// then whatever a reading answers: `Corruption`, `Codec`, or `Io` for an item that ends before its type, where
+/// a part isn't a sequence of readable batches or the batches in order can't be read. `Memory`.
 pub fn recover<R: Threads + Sync>(
     rt: &R,
     alloc: Global,
@@ -95,12 +85,13 @@ pub fn recover_segments<R: Threads + Sync>(
     context.finish()
 }
 
-/// Prints the tables that the files of a queue give: what `raftlog recover` does once it has read them. The lines are those
-/// of [`print_recovered`].
+/// Prints the tables that the files of a queue give: what `raftlog recover` does once it has read them. The
+/// lines are those of [`print_recovered`].
 ///
 /// # Errors
 ///
-/// Those of [`recover`], with nothing written, and then `Io` where the writer fails: a front of the lines may stand then.
+/// Those of [`recover`], with nothing written, and then `Io` where the writer fails: a front of the lines may
+/// stand then.
 pub fn recover_bytes<R: Threads + Sync, W: Write>(
     rt: &R,
     alloc: Global,

@@ -55,7 +55,7 @@ impl<'a> Request<'a> {
 }
 
 /// The file whose item batch the words ask for.
-pub(crate) fn batch_request(words: &[String]) -> Option<LogFileContext>
+fn batch_request(words: &[String]) -> Option<LogFileContext>
     ensures asked { IfSome result (AsksBatch (map string_bytes words.now)) }
     ensures refused { IfNone result
         ((context : LogFileContext) → AsksBatch (map string_bytes words.now) context → ⊥) }

@@ -15,9 +15,9 @@ use std::mem;
 /// How many parts a part is cut into for each share that it fills, so that shares end near where they should.
 const PARTS_PER_SHARE: usize = 4;
 
-/// The parts of segments as `count` segments at most, the shares, of about one length each, and of `least` bytes or more
-/// where there are as many: neighboring parts are put together, and a part that is longer than a share is cut between
-/// batches. What is read of the shares is what is read of the segments. No byte is copied.
+/// The parts of segments as `count` segments at most, the shares, of about one length each, and of `least`
+/// bytes or more where there are as many: neighboring parts are put together, and a part that is longer than a
+/// share is cut between batches. What is read of the shares is what is read of the segments. No byte is copied.
 ///
 /// # Errors
 ///

@@ -114,7 +114,8 @@ fn cuttings(batches: usize) -> u64 {
     cuttings
 }
 
-/// Whether a history has these lines at each cutting, on one to four workers; where there are none, whether it is refused.
+/// Whether a history has these lines at each cutting, on one to four workers; where there are none, whether it
+/// is refused.
 fn at_each_cutting<R: Threads + Sync>(
     rt: &R,
     alloc: Global,
@@ -205,8 +206,8 @@ fn seq_of_entry(tables: &MemTableAccessor, index: u64) -> Option<FileSeq> {
     Some(entry.entries?.id.seq)
 }
 
-/// Whether, at each cutting of the first row, the entries below the truncation lie in its first file and those of the run behind
-/// it in its last.
+/// Whether, at each cutting of the first row, the entries below the truncation lie in its first file and those
+/// of the run behind it in its last.
 fn are_placed<R: Threads + Sync>(rt: &R, alloc: Global) -> Result<bool> {
     let Some(row) = truncations().first() else {
         return Ok(false);

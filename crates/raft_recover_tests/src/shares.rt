@@ -10,8 +10,8 @@ use std::process::Abort;
 const CLEAN: &[u8; 24] =
     b"\x00\x00\x00\x00\x00\x00\x18\x00\x00\x00\x00\x00\x00\x00\x00\x10\x01\x01\x02\x01\x5a\x80\x0b\xdd";
 
-/// How many files of four batches each there are, how many shares are asked for, of how many bytes at least, and how many
-/// bytes are in each.
+/// How many files of four batches each there are, how many shares are asked for, of how many bytes at least,
+/// and how many bytes are in each.
 type Row = (u64, usize, usize, &'static [usize]);
 
 static ROWS: [Row; 9] = [

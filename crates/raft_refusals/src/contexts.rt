@@ -108,8 +108,8 @@ fn appended_context(found: &mut Found, batches: &[Batch]) -> Result<MemTableReco
     merged(found, LogQueue::Append, segments.as_slice())
 }
 
-/// What a context holds after 20 batches that put one key, and after groups that aren't whole; where there is no memory to
-/// count it, it is counted again.
+/// What a context holds after 20 batches that put one key, and after groups that aren't whole; where there is
+/// no memory to count it, it is counted again.
 pub(crate) fn kept(found: &mut Found) -> Result<()> {
     let mut context = MemTableRecoverContext::new(found.alloc)?;
     for seq in 1..21u64 {

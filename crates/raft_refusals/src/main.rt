@@ -1,5 +1,5 @@
-//! Makes the calls of a row, each again where it finds no memory, and prints what they give: `raft_refusals ROW..`, and of all
-//! rows without a word. What has to stand after a refusal is looked at, by value.
+//! Makes the calls of a row, each again where it finds no memory, and prints what they give: `raft_refusals
+//! ROW..`, and of all rows without a word. What has to stand after a refusal is looked at, by value.
 #![tactic(auto)]
 
 mod batches;
@@ -79,8 +79,8 @@ fn main(rt: HostRuntime) -> io::Result<()> {
     }
 }
 
-/// Prints what a row finds; `memory` where it ends for want of it, `left otherwise` where a refusal left anything else than what
-/// has to stand.
+/// Prints what a row finds; `memory` where it ends for want of it, `left otherwise` where a refusal left
+/// anything else than what has to stand.
 fn print_row<R: Threads + Wait + Print + AllocGlobal + Sync>(rt: &R, row: &str) -> io::Result<()> {
     let mut found = Found::new(rt.alloc());
     println!(rt; "{row}:")?;

@@ -16,7 +16,8 @@ use std::alloc::Global;
 use std::io::ErrorKind;
 use std::thread::Threads;
 
-/// How segments are recovered: in shares by this many workers, each drawing the next segment, in given draws, or in pieces.
+/// How segments are recovered: in shares by this many workers, each drawing the next segment, in given draws,
+/// or in pieces.
 #[derive(Clone, Copy)]
 enum How {
     Shares(usize),
@@ -191,8 +192,8 @@ fn again(found: &mut Found, answer: Result<()>) -> Result<()> {
     answer
 }
 
-/// Prints an item batch of the append file 12; where there is no memory nothing is written, and a front of the lines where
-/// the writer finds none.
+/// Prints an item batch of the append file 12; where there is no memory nothing is written, and a front of the
+/// lines where the writer finds none.
 fn print_bytes(found: &mut Found, bytes: &[u8]) -> Result<()> {
     let context = LogFileContext::new(FileId::new(LogQueue::Append, 12), Version::V1);
     let mut out = Vec::new(found.alloc);

@@ -173,7 +173,8 @@ fn call_at<R: Wait>(rt: &R, alloc: Global, shared: &SharedAccessor, call: Call) 
     }
 }
 
-/// The cleaned regions are taken into a batch, a second time where there was no memory: each of them is there once then.
+/// The cleaned regions are taken into a batch, a second time where there was no memory: each of them is there
+/// once then.
 pub(crate) fn take<R: Wait>(rt: &R, found: &mut Found) -> Result<()> {
     let shared = shared_tables(found.alloc)?;
     let mut logs = LogBatch::default(found.alloc);

@@ -110,8 +110,9 @@ fn change_again(found: &mut Found, tables: &mut MemTableAccessor, change: Change
     print_answer(found, &answer, tables)
 }
 
-/// The word or the number of an answer, the first index and the one behind the last, how many blocks there are, the live
-/// number of the append queue, those of the rewrite queue that were written and deleted, and the least files, 0 for none.
+/// The word or the number of an answer, the first index and the one behind the last, how many blocks there are,
+/// the live number of the append queue, those of the rewrite queue that were written and deleted, and the least
+/// files, 0 for none.
 fn print_answer(found: &mut Found, answer: &Result<u64>, tables: &MemTableAccessor) -> Result<()> {
     let alloc = found.alloc;
     let (is, number) = match answer {

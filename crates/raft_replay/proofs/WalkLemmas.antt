@@ -11,7 +11,7 @@ use Rattle.raft_replay.specs.declared.pieces.Waiting.{Waiting}
 use Rattle.raft_replay.specs.declared.pieces.Waiting.TheVariants.{Unmerged, Merged}
 use Rattle.raft_replay.specs.Plans.{leaves}
 use Rattle.raft_replay.specs.PieceMerges.{IsMerged, CannotMerge}
-use Rattle.raft_replay.specs.PlanWalks.{Completes, IsNext, IsReached}
+use Rattle.raft_replay.specs.PlanWalks.{Completes, ArePlansNext, IsReached}
 use Rattle.raft_replay.proofs.MergeLemmas.{alone, front_refused, back_refused, merge_refused, both_merged}
 
 -- the last element of a list is the first one of it turned round
@@ -52,7 +52,7 @@ module _ {M : Type 0} (stands_for stands_exactly : M → List Event → Type 0) 
 
   -- the next plan is the first one of a join, and the second one waits
   pub turned : (plan left : Plan) (second : Bor Plan) (waiting : List (Waiting M)) (rest : List M) → leaves plan ≡ leaves left + leaves second.now
-      → IsNext stands_for stands_exactly all plan waiting rest → IsNext stands_for stands_exactly all left (Unmerged second ∷ waiting) rest
+      → ArePlansNext stands_for stands_exactly all plan waiting rest → ArePlansNext stands_for stands_exactly all left (Unmerged second ∷ waiting) rest
   turned plan left second waiting rest sum next =
       let two = cut_at next.hand (leaves left) (leaves second.now) (sym sum ∙ next.pieces) in
       record {
@@ -65,7 +65,7 @@ module _ {M : Type 0} (stands_for stands_exactly : M → List Event → Type 0) 
 
   -- one piece
   pub taken : (waiting : List (Waiting M)) (rest left : List M) (piece : M) → rest ≡ piece ∷ left
-      → IsNext stands_for stands_exactly all One waiting rest → IsReached stands_for stands_exactly all waiting left piece
+      → ArePlansNext stands_for stands_exactly all One waiting rest → IsReached stands_for stands_exactly all waiting left piece
   taken waiting rest left piece is next = at next.hand next.left (sym is ∙ next.split) next.pieces next.completes
     where
       at : (hand behind : List M) → piece ∷ left ≡ hand ++ behind → 1 ≡ length hand → Done waiting hand behind → IsReached stands_for stands_exactly all waiting left piece
@@ -81,7 +81,7 @@ module _ {M : Type 0} (stands_for stands_exactly : M → List Event → Type 0) 
 
   -- what is merged waits for the next plan
   pub waits : (plan : Bor Plan) (waiting : List (Waiting M)) (rest : List M) (merged : M) → IsReached stands_for stands_exactly all (Unmerged plan ∷ waiting) rest merged
-      → IsNext stands_for stands_exactly all plan.now (Merged merged ∷ waiting) rest
+      → ArePlansNext stands_for stands_exactly all plan.now (Merged merged ∷ waiting) rest
   waits plan waiting rest merged reached =
       let it = reached.completes in
       record {
@@ -93,7 +93,7 @@ module _ {M : Type 0} (stands_for stands_exactly : M → List Event → Type 0) 
       }
 
   -- a plan has no more pieces than are left
-  pub enough : (plan : Plan) (waiting : List (Waiting M)) (pieces : List M) → IsNext stands_for stands_exactly all plan waiting (reverse pieces) → leaves plan ≤ length pieces
+  pub enough : (plan : Plan) (waiting : List (Waiting M)) (pieces : List M) → ArePlansNext stands_for stands_exactly all plan waiting (reverse pieces) → leaves plan ≤ length pieces
   enough plan waiting pieces next =
       let lengths = ap length next.split in let sum = length-append next.hand next.left in let same = length-reverse pieces in let few = next.pieces in omega arith
 
@@ -138,15 +138,15 @@ module _ {M : Type 0} (stands_for stands_exactly : M → List Event → Type 0) 
 
 -- a plan of all pieces, for which nothing waits
 pub begun : {M : Type 0} (stands_for stands_exactly : M → List Event → Type 0) (all : List M) (plan : Plan) → leaves plan ≡ length all
-    → IsNext stands_for stands_exactly all plan [] all
+    → ArePlansNext stands_for stands_exactly all plan [] all
 begun stands_for stands_exactly all plan sum = record { hand = all; left = []; split = sym (append-nil all); pieces = sum; completes = (refl, refl) }
 
 pub all_begun : {M : Type 0} (stands_for stands_exactly : M → List Event → Type 0) (all turned_round : List M) (plan : Plan) (waiting : List (Waiting M))
     → leaves plan ≡ length all → turned_round ≡ reverse all → waiting ≡ []
-    → IsNext stands_for stands_exactly all plan (reverse waiting) (reverse turned_round)
+    → ArePlansNext stands_for stands_exactly all plan (reverse waiting) (reverse turned_round)
 all_begun {M} stands_for stands_exactly all turned_round plan waiting sum is none =
-    subst (λ (l : List M). IsNext stands_for stands_exactly all plan (reverse waiting) l) (sym (ap reverse is ∙ reverse-reverse all))
-    (subst (λ (l : List (Waiting M)). IsNext stands_for stands_exactly all plan l all) (sym (ap reverse none)) (begun stands_for stands_exactly all plan sum))
+    subst (λ (l : List M). ArePlansNext stands_for stands_exactly all plan (reverse waiting) l) (sym (ap reverse is ∙ reverse-reverse all))
+    (subst (λ (l : List (Waiting M)). ArePlansNext stands_for stands_exactly all plan l all) (sym (ap reverse none)) (begun stands_for stands_exactly all plan sum))
 
 pub on_ok : {T E P Q : Type 0} (r : Result T E) → (P → Q) → OnOk r P → OnOk r Q
 on_ok (Ok t) step p = step p

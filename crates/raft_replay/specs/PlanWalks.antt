@@ -17,7 +17,7 @@ module _ {M : Type 0} (stands_for stands_exactly : M → List Event → Type 0) 
       (next : List M) × ((left : List M) × (rest ≡ next ++ left) × (leaves plan.now ≡ length next) × Completes waiting (hand ++ next) left)
 
   -- the next pieces of the rest are a plan's, and what waits completes them
-  pub record IsNext (plan : Plan) (waiting : List (Waiting M)) (rest : List M) : Type 0 where
+  pub record ArePlansNext (plan : Plan) (waiting : List (Waiting M)) (rest : List M) : Type 0 where
     pub hand : List M
     pub left : List M
     pub split : rest ≡ hand ++ left

@@ -1,22 +1,6 @@
 //! Pieces of a queue that workers make.
 
-ghost use Rattle.std.specs.Prelude.{
-  ◌≡◌,
-  ◌≢◌,
-  ℕ,
-  ◌+◌,
-  ◌<◌,
-  ◌≤◌,
-  List,
-  [],
-  length,
-  All,
-  IfOk,
-  IfErr,
-  Vec,
-  vec_len,
-  map,
-};
+ghost use Rattle.std.specs.Prelude.{◌≡◌, ◌≢◌, ℕ, ◌+◌, ◌<◌, ◌≤◌, List, [], length, All, IfOk, IfErr, Vec, map};
 ghost use Rattle.std.specs.Global.{Global};
 ghost use Rattle.raft_records.specs.FilePart.{Part};
 ghost use Rattle.raft_replay.specs.MachineOrder.{AreInOrder};

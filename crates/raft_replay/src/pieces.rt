@@ -23,7 +23,7 @@ ghost use Rattle.std.specs.Thread.{IsSync};
 ghost use denote.Param.Send.{IsSend};
 ghost use Rattle.raft_base.specs.Errors.{IsInvalidArgument};
 ghost use Rattle.raft_replay.specs.PieceMerges.{IsMerged, CannotMerge, Merges};
-ghost use Rattle.raft_replay.specs.PlanWalks.{IsNext, IsReached, cost};
+ghost use Rattle.raft_replay.specs.PlanWalks.{ArePlansNext, IsReached, cost};
 ghost use Rattle.raft_replay.specs.Plans.{leaves};
 ghost use Rattle.raft_tickets.specs.Weights.{weigh};
 
@@ -35,9 +35,10 @@ use std::thread::{Threads, join};
 /// Through how many levels of joins the branches are merged at once: more than any plan by halves has.
 pub(crate) const MAX_LEVELS: usize = 64;
 
-/// Merges neighboring pieces as the plan says: both branches of a join at once, where both have pieces to merge, through
-/// 64 levels of the plan, which is more than any plan by halves has; what lies deeper is merged one after another. A
-/// branch for which no thread can be started is walked by the caller. However deep the plan is, little stack is needed.
+/// Merges neighboring pieces as the plan says: both branches of a join at once, where both have pieces to
+/// merge, through 64 levels of the plan, which is more than any plan by halves has; what lies deeper is merged
+/// one after another. A branch for which no thread can be started is walked by the caller. However deep the
+/// plan is, little stack is needed.
 ///
 /// # Errors
 ///
@@ -66,7 +67,7 @@ pub fn merge_pieces<M: ReplayMachine, R: Threads + Sync>(
 }
 
 /// Whether the plan is of these pieces.
-pub(crate) fn fits<M: ReplayMachine>(pieces: &Vec<M>, plan: &Plan) -> bool
+fn fits<M: ReplayMachine>(pieces: &Vec<M>, plan: &Plan) -> bool
     ensures { IsTrue result ↔ (leaves plan.now ≡ vec_len pieces.now) }
 {
     plan.leaves() == pieces.len()
@@ -104,7 +105,7 @@ fn oldest_of<'a, M: ReplayMachine>(
     pieces: &mut Vec<M>,
 ) -> Result<M>
     requires { leaves plan.now ≤ vec_len pieces.old }
-    ensures ok { (all : List M) → IsNext M.stands_for M.stands_exactly all plan.entry.now
+    ensures ok { (all : List M) → ArePlansNext M.stands_for M.stands_exactly all plan.entry.now
         (reverse waiting.old.items)
         (reverse pieces.old.items) → IfOk result (IsReached M.stands_for M.stands_exactly all
         (reverse waiting.new.items) (reverse pieces.new.items)) }
@@ -174,8 +175,8 @@ fn merge_next<'a, M: ReplayMachine>(
     }
 }
 
-/// As `merge_in_turn`, but through so many levels of the plan the pieces of both plans of a join are merged at once, where
-/// both have some to merge.
+/// As `merge_in_turn`, but through so many levels of the plan the pieces of both plans of a join are merged at
+/// once, where both have some to merge.
 pub(crate) fn merge_at_once<M: ReplayMachine, R: Threads + Sync>(
     rt: &R,
     pieces: Vec<M>,
@@ -190,7 +191,7 @@ pub(crate) fn merge_at_once<M: ReplayMachine, R: Threads + Sync>(
         Plan::Join(left, right) if levels > 0 => {
             let left: &Plan = left;
             let right: &Plan = right;
-            let (pieces, rest) = cut(pieces, left, right)?;
+            let (pieces, rest) = divide(pieces, left, right)?;
             let below = levels - 1;
             let front = move || -> Result<M>
                 requires { IsSync R.row × IsSend M.row × (leaves left.now ≡ vec_len pieces) }
@@ -232,11 +233,11 @@ fn both<R: Threads, F: FnOnce() -> A + Send, G: FnOnce() -> B, A: Send, B>(
 
 /// The pieces of the first plan, and those of the second.
 #[tactic(auto, using(crate::proofs::MergeLemmas::leaves_positive))]
-fn cut<M: ReplayMachine>(mut pieces: Vec<M>, left: &Plan, right: &Plan) -> Result<(Vec<M>, Vec<M>)>
+fn divide<M: ReplayMachine>(mut pieces: Vec<M>, left: &Plan, right: &Plan) -> Result<(Vec<M>, Vec<M>)>
     requires { leaves left.now + leaves right.now ≡ vec_len pieces }
-    ensures ok { IfOk result (λ cut. pieces.items ≡ cut.0.items ++ cut.1.items) }
-    ensures lengths { IfOk result (λ cut. (leaves left.entry.now ≡ vec_len cut.0)
-        × (leaves right.entry.now ≡ vec_len cut.1)) }
+    ensures ok { IfOk result (λ both. pieces.items ≡ both.0.items ++ both.1.items) }
+    ensures lengths { IfOk result (λ both. (leaves left.entry.now ≡ vec_len both.0)
+        × (leaves right.entry.now ≡ vec_len both.1)) }
     ensures some { (0 < leaves left.entry.now) × (0 < leaves right.entry.now) }
     ensures fault { IfErr result (λ e. e ≡ Error.Memory) }
 {

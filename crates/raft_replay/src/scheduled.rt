@@ -1,28 +1,6 @@
 //! Given schedules, on one thread.
 
-ghost use Rattle.std.specs.Prelude.{
-  ◌≡◌,
-  ◌≢◌,
-  ℕ,
-  ◌+◌,
-  ◌^◌,
-  ◌<◌,
-  ◌↔◌,
-  All,
-  EachIndex,
-  List,
-  [],
-  length,
-  take,
-  slice_index,
-  IfOk,
-  IfErr,
-  OnOk,
-  IsTrue,
-  if◌then◌else◌,
-  vec_len,
-  Vec,
-};
+ghost use Rattle.std.specs.Prelude.{◌≡◌, ◌≢◌, ◌+◌, ◌^◌, ◌<◌, ◌↔◌, All, EachIndex, List, [], length, slice_index, IfOk, IfErr, OnOk, IsTrue, if◌then◌else◌, vec_len, Vec};
 ghost use Rattle.std.specs.Global.{Global};
 ghost use Rattle.raft_records.specs.FilePart.{Part};
 ghost use Rattle.raft_base.specs.Errors.{IsInvalidArgument};
@@ -46,9 +24,9 @@ use std::alloc::Global;
 ///
 /// # Errors
 ///
-/// `InvalidArgument` for another number of workers than 1 to 256, for a part of another queue, for a worker that isn't
-/// there, and for a plan of another number of pieces; `Memory`; the factory's own. Any other comes only where a part isn't
-/// a row of readable batches or all batches, in order, can't be read.
+/// `InvalidArgument` for another number of workers than 1 to 256, for a part of another queue, for a worker
+/// that isn't there, and for a plan of another number of pieces; `Memory`; the factory's own. Any other comes
+/// only where a part isn't a sequence of readable batches or all batches, in order, can't be read.
 pub fn replay_scheduled<M: ReplayMachine, F: Factory<M>>(
     alloc: Global,
     factory: &F,
@@ -91,13 +69,13 @@ pub fn piece_count(segments: usize, draws: &[usize]) -> usize
     }
     let mut pieces = 1;
     for n in 1..segments {
-        pieces += usize::from(changes(draws, n));
+        pieces += usize::from(switches(draws, n));
     }
     pieces
 }
 
 /// Whether another worker draws this segment than the one before it.
-fn changes(draws: &[usize], n: usize) -> bool
+fn switches(draws: &[usize], n: usize) -> bool
     ensures { result ≡ switches draws.now n }
 {
     n > 0 && drawer(draws, n) != drawer(draws, n - 1)
@@ -176,7 +154,7 @@ fn replay_in_order<M: ReplayMachine, F: Factory<M>>(
 {
     let mut current = factory.new_target(alloc)?;
     for (n, segment) in segments.iter().enumerate() {
-        current = next_machine(alloc, factory, machines, current, changes(draws, n))?;
+        current = next_machine(alloc, factory, machines, current, switches(draws, n))?;
         replay_segment(&mut current, segment)?;
     }
     Ok(current)

@@ -18,8 +18,9 @@ pub type Segment = Vec<FilePart>;
 ///
 /// # Errors
 ///
-/// `Memory`. Any other comes only where a part isn't a row of readable batches, or where the batches behind those that the
-/// machine stands for can't be read. How many batches the machine has then replayed is not known.
+/// `Memory`. Any other comes only where a part isn't a sequence of readable batches, or where the batches behind
+/// those that the machine stands for can't be read. How many batches the machine has then replayed is not
+/// known.
 pub fn replay_segment<M: ReplayMachine>(machine: &mut M, segment: &Segment) -> Result<()>
     ensures ok { OnOk result
         (HasReplayed (EachHolds (λ part. HoldsFrom part 0) segment.entry.now.items) M.stands_for

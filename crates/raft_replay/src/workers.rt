@@ -1,32 +1,13 @@
 //! Segments that any number of workers replay, each the next one that is left.
 
-ghost use Rattle.std.specs.Prelude.{
-  ◌≡◌,
-  ◌≢◌,
-  ℕ,
-  ◌+◌,
-  ◌^◌,
-  ◌<◌,
-  ◌≤◌,
-  ◌↔◌,
-  IsTrue,
-  List,
-  [],
-  length,
-  All,
-  IfOk,
-  IfErr,
-  OnOk,
-  Vec,
-  vec_len,
-};
+ghost use Rattle.std.specs.Prelude.{◌≡◌, ◌≢◌, ◌+◌, ◌^◌, ◌<◌, ◌≤◌, ◌↔◌, IsTrue, List, [], length, All, IfOk, IfErr, OnOk, Vec, vec_len};
 ghost use Rattle.std.specs.Global.{Global};
 ghost use Rattle.raft_records.specs.FilePart.{Part};
 ghost use Rattle.raft_base.specs.Errors.{IsInvalidArgument};
 ghost use Rattle.raft_replay.specs.Covers.{IsPieceOf, CoverOnce, AreDone, Gives};
 ghost use Rattle.raft_tickets.specs.Draws.{TicketBook, IsSeatOf, IsNewSeatOf};
 ghost use Rattle.raft_replay.specs.WorkedWords.{IsBack, HasRefusal};
-ghost use Rattle.raft_replay.specs.Segments.{CannotBeRead, MayReplay, SegmentsAreOf};
+ghost use Rattle.raft_replay.specs.Segments.{CannotBeRead, MayReplay};
 ghost use Rattle.raft_replay.specs.Replays.{IsReplayed};
 
 use crate::piece::Piece;
@@ -46,17 +27,18 @@ pub const MAX_WORKERS: usize = 256;
 /// Segments must be fewer: workers draw their numbers from tickets, which are as many.
 pub const SEGMENT_LIMIT: usize = 1 << 62;
 
-/// Replays all segments by 1 to 256 workers, each of whom draws the next segment that is left, and merges the pieces by
-/// halves. No more workers are started than there are segments, and one for which no thread can be started is replaced by
-/// the caller. Each change of drawer makes a piece, and all pieces are held until the last segment is replayed: so hand in
-/// few segments, one to four for each worker, of about one size. The answer is the same for any cut into segments, and
-/// whatever the workers' turns: the machine stands for all batches in order, exactly where effects are apart.
+/// Replays all segments by 1 to 256 workers, each of whom draws the next segment that is left, and merges the
+/// pieces by halves. No more workers are started than there are segments, and one for which no thread can be
+/// started is replaced by the caller. Each change of drawer makes a piece, and all pieces are held until the
+/// last segment is replayed: so hand in few segments, one to four for each worker, of about one size. The
+/// answer is the same however the batches are divided into segments, and whatever the workers' turns: the
+/// machine stands for all batches in order, exactly where effects are apart.
 ///
 /// # Errors
 ///
-/// `InvalidArgument` for another number of workers, for 2^62 segments and more, and for a part of another queue; `Memory`;
-/// the factory's own. Any other comes only where a part isn't a row of readable batches or all batches, in order, can't be
-/// read.
+/// `InvalidArgument` for another number of workers, for 2^62 segments and more, and for a part of another
+/// queue; `Memory`; the factory's own. Any other comes only where a part isn't a sequence of readable batches or all
+/// batches, in order, can't be read.
 pub fn replay_segments<M: ReplayMachine, F: Factory<M>, G: Gate, R: Threads + Sync>(
     rt: &R,
     alloc: Global,
@@ -100,7 +82,8 @@ fn are_accepted(segments: &[Segment], queue: LogQueue, workers: usize) -> bool
     segments_are_of(segments, queue)
 }
 
-/// The pieces that the workers make: each segment is in one of them. No more workers are started than there are segments.
+/// The pieces that the workers make: each segment is in one of them. No more workers are started than there are
+/// segments.
 fn drawn_pieces<M: ReplayMachine, F: Factory<M>, G: Gate, R: Threads + Sync>(
     rt: &R,
     alloc: Global,

@@ -321,8 +321,8 @@ fn merges<R: Threads + Clock + Send + Sync + Copy + Drop>(rt: &R, alloc: Global)
     Ok(gate.seen.load(Ordering::SeqCst))
 }
 
-/// Where four workers replay four segments, how many of the four passes saw them all made, how many of the four replays saw
-/// that their segment was passed, and how many of the three merges saw that two had begun.
+/// Where four workers replay four segments, how many of the four passes saw them all made, how many of the four
+/// replays saw that their segment was passed, and how many of the three merges saw that two had begun.
 fn works<R: Threads + Clock + Send + Sync + Copy + Drop>(rt: &R, alloc: Global) -> Result<u64> {
     let four = segments(alloc, 4)?;
     let gate = WaitGate::new(*rt, alloc, (0, 4), 4)?;

@@ -85,8 +85,8 @@ impl<R: Clock + Send + Sync + Copy + Drop> Factory<Waits<R>> for WaitGate<R> {
     }
 }
 
-/// A machine whose replays look whether the segment of the file's number was passed, and whose merges wait until two have
-/// begun.
+/// A machine whose replays look whether the segment of the file's number was passed, and whose merges wait
+/// until two have begun.
 #[derive(Drop)]
 pub(crate) struct Waits<R: Drop> {
     rt: R,

@@ -8,7 +8,6 @@ ghost use Rattle.raft_records.specs.declared.log_item.LogItem.{LogItem};
 ghost use Rattle.raft_records.specs.Item.{item_of};
 ghost use Rattle.raft_records.specs.LogBatch.{populating};
 ghost use Rattle.raft_table.specs.declared.memtable.change.TableChange.{TableChange};
-ghost use Rattle.raft_table.specs.Change.{after_change, IsAnswer};
 ghost use Rattle.raft_table.specs.Table.{Table};
 ghost use Rattle.raft_accessor.specs.Accessor.{slot_of, table_in};
 ghost use Rattle.raft_shared.specs.Slot.{IsSlotTable};

@@ -40,12 +40,12 @@ digit_no_sign c cs digit = let r = digit_from_value c digit in (λ e. omega (ari
 
 -- ---- exponents
 
--- a mark, and a sign with digits behind it
+-- a letter, and a sign with digits behind it
 record PowerAt (text : List ℕ) (minus : Bool) (digits : List ℕ) : Type 0 where
-  mark : ℕ
+  letter : ℕ
   power : List ℕ
-  is_mark : (mark ≡ 101) ⊎ (mark ≡ 69)
-  split : text ≡ mark ∷ power
+  is_letter : (letter ≡ 101) ⊎ (letter ≡ 69)
+  split : text ≡ letter ∷ power
   minus_is : has_minus power ≡ minus
   digits_are : behind_sign power ≡ digits
   numeral : IsNumeral 10 digits
@@ -57,38 +57,38 @@ numeral_no_sign (c ∷ cs) h = digit_no_sign c cs h.1.0
 power_at : (text : List ℕ) (minus : Bool) (digits : List ℕ) → IsPower text minus digits → PowerAt text minus digits
 power_at text minus digits h =
     let found = sign_found h.sign digits minus h.is_sign (numeral_no_sign digits h.is_numeral) in
-    let at : (c : ℕ) → (c ≡ 101) ⊎ (c ≡ 69) → h.mark ≡ c ∷ [] → PowerAt text minus digits =
-    λ c is_mark e. record {
-      mark = c;
+    let at : (c : ℕ) → (c ≡ 101) ⊎ (c ≡ 69) → h.letter ≡ c ∷ [] → PowerAt text minus digits =
+    λ c is_letter e. record {
+      letter = c;
       power = h.sign ++ digits;
-      is_mark = is_mark;
-      split = h.split ∙ append_assoc h.mark h.sign digits ∙ ap (λ (m : List ℕ). m ++ (h.sign ++ digits)) e;
+      is_letter = is_letter;
+      split = h.split ∙ append_assoc h.letter h.sign digits ∙ ap (λ (m : List ℕ). m ++ (h.sign ++ digits)) e;
       minus_is = found.0;
       digits_are = found.1;
       numeral = h.is_numeral;
     } in
-    elim h.is_mark [ inl e ↦ at 101 (inl refl) e | inr e ↦ at 69 (inr refl) e ]
+    elim h.is_letter [ inl e ↦ at 101 (inl refl) e | inr e ↦ at 69 (inr refl) e ]
 
--- what stands behind a mark is the power
-pub power_behind : (mark : ℕ) (power : List ℕ) → (mark ≡ 101) ⊎ (mark ≡ 69) → IsNumeral 10 (behind_sign power) → IsExponent (mark ∷ power) (has_minus power) (behind_sign power)
-power_behind mark power is_mark numeral =
+-- what stands behind a letter is the power
+pub power_behind : (letter : ℕ) (power : List ℕ) → (letter ≡ 101) ⊎ (letter ≡ 69) → IsNumeral 10 (behind_sign power) → IsExponent (letter ∷ power) (has_minus power) (behind_sign power)
+power_behind letter power is_letter numeral =
     let sign = sign_split power in
     inr (record {
-      mark = mark ∷ [];
+      letter = letter ∷ [];
       sign = sign.0;
-      is_mark = elim is_mark [ inl e ↦ inl (ap (λ (c : ℕ). c ∷ []) e) | inr e ↦ inr (ap (λ (c : ℕ). c ∷ []) e) ];
+      is_letter = elim is_letter [ inl e ↦ inl (ap (λ (c : ℕ). c ∷ []) e) | inr e ↦ inr (ap (λ (c : ℕ). c ∷ []) e) ];
       is_sign = sign.1;
       is_numeral = numeral;
-      split = ap (λ (p : List ℕ). mark ∷ p) sign.2;
+      split = ap (λ (p : List ℕ). letter ∷ p) sign.2;
     })
 
--- an exponent begins with its mark
+-- an exponent begins with its letter
 pub exponent_marked : (c : ℕ) (cs : List ℕ) (minus : Bool) (digits : List ℕ) → IsExponent (c ∷ cs) minus digits → (c ≡ 101) ⊎ (c ≡ 69)
 exponent_marked c cs minus digits (inl h) = absurd (let e : c ∷ cs ≡ [] = h.0 in cc)
 exponent_marked c cs minus digits (inr h) =
     let p = power_at (c ∷ cs) minus digits h in
-    let same : c ≡ p.mark = cc in
-    elim p.is_mark [ inl e ↦ inl (same ∙ e) | inr e ↦ inr (same ∙ e) ]
+    let same : c ≡ p.letter = cc in
+    elim p.is_letter [ inl e ↦ inl (same ∙ e) | inr e ↦ inr (same ∙ e) ]
 
 pub exponent_stops : (text : List ℕ) (minus : Bool) (digits : List ℕ) → IsExponent text minus digits → NoDigitFirst text × NoPointFirst text
 exponent_stops [] minus digits h = (tt, tt)
@@ -110,13 +110,13 @@ exponent_once text a b ds es (inr h) (inr k) =
 -- ---- what the reader answers
 
 -- a text is its first byte and what stands behind it
-first_and_rest : (text : List ℕ) (mark : ℕ) → 1 ≤ length text → get_or text 0 0 ≡ mark → text ≡ mark ∷ take (length text - 1) (drop 1 text)
-first_and_rest [] mark some first = absurd (omega (arith, some))
-first_and_rest (c ∷ cs) mark some first = ap (λ (rest : List ℕ). c ∷ rest) (sym (take_rest (c ∷ cs) 1)) ∙ ap (λ (m : ℕ). m ∷ take (length (c ∷ cs) - 1) (drop 1 (c ∷ cs))) first
+first_and_rest : (text : List ℕ) (letter : ℕ) → 1 ≤ length text → get_or text 0 0 ≡ letter → text ≡ letter ∷ take (length text - 1) (drop 1 text)
+first_and_rest [] letter some first = absurd (omega (arith, some))
+first_and_rest (c ∷ cs) letter some first = ap (λ (rest : List ℕ). c ∷ rest) (sym (take_rest (c ∷ cs) 1)) ∙ ap (λ (m : ℕ). m ∷ take (length (c ∷ cs) - 1) (drop 1 (c ∷ cs))) first
 
-pub exponent_read : (r : Option (Bool × Bor (List ℕ))) (text : List ℕ) (mark : ℕ) → let power = take (length text - 1) (drop 1 text) in (mark ≡ 101) ⊎ (mark ≡ 69) → 1 ≤ length text → get_or text 0 0 ≡ mark
+pub exponent_read : (r : Option (Bool × Bor (List ℕ))) (text : List ℕ) (letter : ℕ) → let power = take (length text - 1) (drop 1 text) in (letter ≡ 101) ⊎ (letter ≡ 69) → 1 ≤ length text → get_or text 0 0 ≡ letter
     → IfSome r (λ p. p.0 ≡ has_minus power) → IfSome r (λ p. p.1.now ≡ behind_sign power) → IfSome r (λ p. IsNumeral 10 (behind_sign power)) → IfSome r (λ p. IsExponent text p.0 p.1.now)
-exponent_read None text mark is_mark some first minus digits numeral = tt
-exponent_read (Some p) text mark is_mark some first minus digits numeral =
+exponent_read None text letter is_letter some first minus digits numeral = tt
+exponent_read (Some p) text letter is_letter some first minus digits numeral =
     let power = take (length text - 1) (drop 1 text) in
-    rw (minus, digits) (subst (λ (t : List ℕ). IsExponent t (has_minus power) (behind_sign power)) (sym (first_and_rest text mark some first)) (power_behind mark power is_mark numeral))
+    rw (minus, digits) (subst (λ (t : List ℕ). IsExponent t (has_minus power) (behind_sign power)) (sym (first_and_rest text letter some first)) (power_behind letter power is_letter numeral))

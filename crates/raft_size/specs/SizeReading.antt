@@ -30,9 +30,9 @@ abbrev pub TakesFraction : List ℕ → List ℕ → List ℕ → Type 0
 TakesFraction behind fraction rest =
     (behind ≡ 46 ∷ (fraction ++ rest)) ⊎ ((behind ≡ rest) × (fraction ≡ []) × NoPointFirst rest)
 
--- the parts that the reader found
-abbrev pub parts_of : SizeNumber → Number
-parts_of n = record {
+-- the number that the reader found
+abbrev pub number_shown : SizeNumber → Number
+number_shown n = record {
   minus = n.is_negative;
   whole = n.whole.now;
   fraction = n.fraction.now;
@@ -40,7 +40,7 @@ parts_of n = record {
   exponent = n.exponent.now;
 }
 
--- nothing but digits in each part
+-- nothing but digits in each of the three
 pub record HasDigitsAlone (n : Number) : Type 0 where
   pub whole : AllDigits 10 n.whole
   pub fraction : AllDigits 10 n.fraction

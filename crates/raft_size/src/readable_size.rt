@@ -106,7 +106,7 @@ impl ReadableSize {
     }
 }
 
-/// A part of the size, rounded down.
+/// The size divided by a number, rounded down.
 impl Div<u64> for ReadableSize {
     type Output = ReadableSize;
 

@@ -1,9 +1,9 @@
 //! The number of a size's text.
 
-ghost use Rattle.std.specs.Prelude.{◌≡◌, ◌≤◌, ◌<◌, ◌-◌, ◌*◌, ◌^◌, ◌++◌, ◌↔◌, IsTrue, IfSome, IfNone, ℕ, Bool, List, min, length};
+ghost use Rattle.std.specs.Prelude.{◌≡◌, ◌≤◌, ◌<◌, ◌-◌, ◌*◌, ◌^◌, ◌++◌, IfSome, IfNone, ℕ, Bool, List, min, length};
 ghost use Rattle.std.specs.Str.Parse.{AllDigits, IsNumeral, digits_value, digits_value_after};
 ghost use Rattle.raft_size.specs.SizeNumber.{Number, IsNumber, IsExponent, digits_of, significant, size_of};
-ghost use Rattle.raft_size.specs.SizeReading.{has_minus, behind_sign, NoDigitFirst, TakesFraction, parts_of, HasDigitsAlone, scaled_size};
+ghost use Rattle.raft_size.specs.SizeReading.{has_minus, behind_sign, NoDigitFirst, TakesFraction, number_shown, HasDigitsAlone, scaled_size};
 
 /// Above every number of 20 digits.
 const SIGNIFICAND_LIMIT: u128 = 100_000_000_000_000_000_000;
@@ -24,8 +24,8 @@ pub(super) struct SizeNumber<'a> {
 impl<'a> SizeNumber<'a> {
     /// The number that the text is, if it is one.
     pub(super) fn parse(text: &'a [u8]) -> Option<SizeNumber<'a>>
-        ensures number { IfSome result (λ number. IsNumber text.now (parts_of number)) }
-        ensures digits { IfSome result (λ number. HasDigitsAlone (parts_of number)) }
+        ensures number { IfSome result (λ number. IsNumber text.now (number_shown number)) }
+        ensures digits { IfSome result (λ number. HasDigitsAlone (number_shown number)) }
         ensures none { IfNone result ((number : Number) → IsNumber text.now number → ⊥) }
     {
         let (is_negative, body) = split_sign(text);
@@ -46,13 +46,14 @@ impl<'a> SizeNumber<'a> {
 
     /// The number that the digits make with the point taken out, if they are few enough.
     pub(super) fn significand(&self) -> Option<u128>
-        requires { HasDigitsAlone (parts_of self.now) }
+        requires { HasDigitsAlone (number_shown self.now) }
         ensures value { IfSome result (λ value. value ≡ digits_value 10
-            (digits_of (parts_of self.now))) }
+            (digits_of (number_shown self.now))) }
         ensures bound { IfSome result (λ value. value < 10 ^ 20) }
-        ensures few { IfSome result (λ _. length (significant (digits_of (parts_of self.now)))
+        ensures few { IfSome result (λ _. length (significant (digits_of (number_shown self.now)))
             ≤ 20) }
-        ensures many { IfNone result (20 < length (significant (digits_of (parts_of self.now)))) }
+        ensures many { IfNone result
+            (20 < length (significant (digits_of (number_shown self.now)))) }
     {
         let whole = value_up_to(SIGNIFICAND_LIMIT, 0, self.whole);
         let value = value_up_to(SIGNIFICAND_LIMIT, whole, self.fraction);
@@ -65,11 +66,11 @@ impl<'a> SizeNumber<'a> {
 
     /// The size of so many units.
     pub(super) fn size(&self, significand: u128, factor: u64) -> u64
-        requires digits { HasDigitsAlone (parts_of self.now) }
-        requires significand { significand ≡ digits_value 10 (digits_of (parts_of self.now)) }
+        requires digits { HasDigitsAlone (number_shown self.now) }
+        requires significand { significand ≡ digits_value 10 (digits_of (number_shown self.now)) }
         requires few { significand < 10 ^ 20 }
         requires factor { factor ≤ 2 ^ 50 }
-        ensures { result ≡ size_of (parts_of self.now) factor }
+        ensures { result ≡ size_of (number_shown self.now) factor }
     {
         if self.is_negative {
             return 0;
@@ -167,7 +168,7 @@ fn value_up_to(limit: u128, start: u128, digits: &[u8]) -> u128
     value
 }
 
-/// The value times powers of ten and divided by others, cut down and capped at the greatest size.
+/// The value times powers of ten and divided by others, rounded down and capped at the greatest size.
 fn scaled(value: u128, up: u128, down: u128) -> u64
     requires { value < 2 ^ 120 }
     ensures { result ≡ scaled_size value up down }
@@ -179,7 +180,7 @@ fn scaled(value: u128, up: u128, down: u128) -> u64
     }
 }
 
-/// The value divided by a power of ten, cut down and capped at the greatest size.
+/// The value divided by a power of ten, rounded down and capped at the greatest size.
 fn lowered(value: u128, power: u128) -> u64
     requires { value < 2 ^ 120 }
     ensures { result ≡ scaled_size value 0 power }

@@ -1,5 +1,6 @@
-//! Every name that users import, from the crate that hands it on, with the type that it has there: a name that moves or a signature that
-//! changes is refused. What the names do is tested by the crates of tests of each library.
+//! Every name that users import, from the crate that hands it on, with the type that it has there: a name that
+//! moves or a signature that changes is refused. What the names do is tested by the crates of tests of each
+//! library.
 #![tactic(auto)]
 
 #[cfg(test)]

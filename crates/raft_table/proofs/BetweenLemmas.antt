@@ -4,9 +4,9 @@ use Rattle.std.proofs.lemmas.List.{append_assoc, length-append, length-drop, len
 use Rattle.std.proofs.lemmas.Bool.{cases_lt}
 use Rattle.raft_base.specs.declared.pipe_log.LogQueue.TheVariants.{Append, Rewrite}
 use Rattle.raft_table.specs.Blocks.{BlockSpans, entries_in_blocks, AreDistinctBlocks}
-use Rattle.raft_table.specs.BlockWords.{count, starts_of, AreKept, without_first_spans, cut_last, cut_first, joined_blocks, seam, IsAt}
+use Rattle.raft_table.specs.BlockWords.{count, starts_of, AreKept, without_first_spans, first_of_last, without_first_of_first, joined_blocks, seam, IsAt}
 use Rattle.raft_table.specs.TableEntries.{AreTableEntries, entry_count}
-use Rattle.raft_table.specs.Fetches.{is_same_handle}
+use Rattle.raft_table.specs.Fetches.{is_same_place}
 use Rattle.raft_table.proofs.RunLemmas.{RisesFrom-drop, start-of_rising}
 use Rattle.raft_table.proofs.PlaceLemmas.{entries_in_front, entry_count-append, entry_count-cut}
 use Rattle.raft_table.proofs.MovesLemmas.{behind_sound}
@@ -24,9 +24,9 @@ part_more a i xs x l m e =
 
 pub joined_some : (ys : List BlockSpans) (t : BlockSpans) → 0 < length (joined_blocks ys (t ∷ []))
 joined_some [] t = omega arith
-joined_some (b ∷ []) t = at (is_same_handle b.handle t.handle) refl
+joined_some (b ∷ []) t = at (is_same_place b.handle t.handle) refl
   where
-    at : (z : Bool) → is_same_handle b.handle t.handle ≡ z → 0 < length (joined_blocks (b ∷ []) (t ∷ []))
+    at : (z : Bool) → is_same_place b.handle t.handle ≡ z → 0 < length (joined_blocks (b ∷ []) (t ∷ []))
     at true h = rw h (omega arith)
     at false h = rw h (omega arith)
 joined_some (b ∷ d ∷ ys) t = omega arith
@@ -39,12 +39,12 @@ later_block p q k w o v bs a b l =
       | inr x ↦ x
     ]
 
-cut_first_is : (w o : ℕ) (bs : List BlockSpans) (b t : BlockSpans) → w < length bs → b ≡ get_or bs w b → t ≡ without_first_spans o b → cut_first o (drop w bs) ≡ t ∷ drop (w + 1) bs
-cut_first_is w o bs b t l e f =
-    ap (cut_first o) (drop_more bs w b l ∙ ap (λ y. y ∷ drop (w + 1) bs) (sym e)) ∙ ap (λ y. y ∷ drop (w + 1) bs) (sym f)
+without_first_of_first_is : (w o : ℕ) (bs : List BlockSpans) (b t : BlockSpans) → w < length bs → b ≡ get_or bs w b → t ≡ without_first_spans o b → without_first_of_first o (drop w bs) ≡ t ∷ drop (w + 1) bs
+without_first_of_first_is w o bs b t l e f =
+    ap (without_first_of_first o) (drop_more bs w b l ∙ ap (λ y. y ∷ drop (w + 1) bs) (sym e)) ∙ ap (λ y. y ∷ drop (w + 1) bs) (sym f)
 
 -- no entries in front
-pub front_none : (i m : ℕ) (bs : List BlockSpans) → IsFront i 0 0 bs (cut_last m (take 0 bs))
+pub front_none : (i m : ℕ) (bs : List BlockSpans) → IsFront i 0 0 bs (first_of_last m (take 0 bs))
 front_none i m bs = record { entries = refl; distinct = tt; starts = refl; count = refl }
 
 -- the first indexes of blocks with one more behind
@@ -72,7 +72,7 @@ kept_between {i} {n} {j} {m} {bs} {ys} {ss} {us} {r} {q} h g p k w o x front b t
     let rest = drop (w + 1) bs in
     let more = joined_blocks ys (t ∷ []) in
     let kd = kept_drop i n d w o bs ss r h a in
-    let is = cut_first_is w o bs b t a.block eb et in
+    let is = without_first_of_first_is w o bs b t a.block eb et in
     let behind : entries_in_blocks (i + d) (t ∷ rest) ≡ drop d es = subst (λ zs. entries_in_blocks (i + d) zs ≡ drop d es) is kd.1 in
     let back : AreDistinctBlocks (t ∷ rest) = subst AreDistinctBlocks is kd.0.distinct in
     let n0 = h.len in
@@ -133,20 +133,20 @@ between_fits {i} {n} {j} {m} h g p l f =
     (omega arith, omega arith, (kept_facts h).bounded (omega arith), omega arith, omega arith)
 
 -- the first entries as blocks, by where they end
-pub cut_front_at : (i p k v : ℕ) (bs : List BlockSpans) → AreDistinctBlocks bs → (p ≡ 0 → (k ≡ 0) × (v ≡ 0)) → (0 < p → IsAt (p - 1) bs (k - 1) (v - 1) × (0 < k) × (0 < v)) → IsFront i p k bs (cut_last v (take k bs))
-cut_front_at i zero k v bs str e f = let z = e refl in rw (z.0) (front_none i v bs)
-cut_front_at i (suc p) k v bs str e f =
+pub front_at_spot : (i p k v : ℕ) (bs : List BlockSpans) → AreDistinctBlocks bs → (p ≡ 0 → (k ≡ 0) × (v ≡ 0)) → (0 < p → IsAt (p - 1) bs (k - 1) (v - 1) × (0 < k) × (0 < v)) → IsFront i p k bs (first_of_last v (take k bs))
+front_at_spot i zero k v bs str e f = let z = e refl in rw (z.0) (front_none i v bs)
+front_at_spot i (suc p) k v bs str e f =
     let u = f (omega arith) in
     let a = u.1 in
     let b = u.2 in
     let x : k - 1 + 1 ≡ k = omega arith in
     let y : v - 1 + 1 ≡ v = omega arith in
-    subst (λ z. IsFront i (suc p) z bs (cut_last v (take z bs))) x
-    (subst (λ z. IsFront i (suc p) (k - 1 + 1) bs (cut_last z (take (k - 1 + 1) bs))) y (front_of i (suc p) (k - 1) (v - 1) bs str (omega arith) u.0))
+    subst (λ z. IsFront i (suc p) z bs (first_of_last v (take z bs))) x
+    (subst (λ z. IsFront i (suc p) (k - 1 + 1) bs (first_of_last z (take (k - 1 + 1) bs))) y (front_of i (suc p) (k - 1) (v - 1) bs str (omega arith) u.0))
 
-pub put_between : {i n j m : ℕ} {bs ys : List BlockSpans} {ss us : List ℕ} {r q : ℕ} → AreKept i n bs ss r → AreKept j m ys us q → (p k v w o x : ℕ) (b t : BlockSpans) → (p ≡ 0 → (k ≡ 0) × (v ≡ 0)) → (0 < p → IsAt (p - 1) bs (k - 1) (v - 1) × (0 < k) × (0 < v)) → IsAt (p + m) bs w o → 0 < m → x ≡ i + (p + m) → b ≡ get_or bs w b → t ≡ without_first_spans o b → AreTableEntries (take p (entries_in_blocks i bs) ++ entries_in_blocks j ys ++ drop (p + m) (entries_in_blocks i bs)) → IsKeptAs i n (joined_blocks (cut_last v (take k bs)) (joined_blocks ys (t ∷ [])) ++ drop (w + 1) bs) (take k ss ++ drop (seam (take k bs) (joined_blocks ys (t ∷ []))) (us ++ drop (seam ys (t ∷ [])) (x ∷ [])) ++ drop (w + 1) ss) (min r p + q + (r - min r (p + m))) (take p (entries_in_blocks i bs) ++ entries_in_blocks j ys ++ drop (p + m) (entries_in_blocks i bs))
+pub put_between : {i n j m : ℕ} {bs ys : List BlockSpans} {ss us : List ℕ} {r q : ℕ} → AreKept i n bs ss r → AreKept j m ys us q → (p k v w o x : ℕ) (b t : BlockSpans) → (p ≡ 0 → (k ≡ 0) × (v ≡ 0)) → (0 < p → IsAt (p - 1) bs (k - 1) (v - 1) × (0 < k) × (0 < v)) → IsAt (p + m) bs w o → 0 < m → x ≡ i + (p + m) → b ≡ get_or bs w b → t ≡ without_first_spans o b → AreTableEntries (take p (entries_in_blocks i bs) ++ entries_in_blocks j ys ++ drop (p + m) (entries_in_blocks i bs)) → IsKeptAs i n (joined_blocks (first_of_last v (take k bs)) (joined_blocks ys (t ∷ [])) ++ drop (w + 1) bs) (take k ss ++ drop (seam (take k bs) (joined_blocks ys (t ∷ []))) (us ++ drop (seam ys (t ∷ [])) (x ∷ [])) ++ drop (w + 1) ss) (min r p + q + (r - min r (p + m))) (take p (entries_in_blocks i bs) ++ entries_in_blocks j ys ++ drop (p + m) (entries_in_blocks i bs))
 put_between {i} {n} {j} {m} {bs} {ys} {ss} {us} {r} {q} h g p k v w o x b t e f a l ex eb et s =
-    rw (← seam_cut v (take k bs) (joined_blocks ys (t ∷ []))) (kept_between h g p k w o x (cut_last v (take k bs)) b t (cut_front_at i p k v bs h.distinct e f) a l ex eb et s)
+    rw (← seam_cut v (take k bs) (joined_blocks ys (t ∷ []))) (kept_between h g p k w o x (first_of_last v (take k bs)) b t (front_at_spot i p k v bs h.distinct e f) a l ex eb et s)
 
 -- a cut ends no later than a block behind it
 pub cut_order : (p q k v w o : ℕ) (bs : List BlockSpans) → (p ≡ 0 → (k ≡ 0) × (v ≡ 0)) → (0 < p → IsAt (p - 1) bs (k - 1) (v - 1) × (0 < k) × (0 < v)) → IsAt q bs w o → p ≤ q → k ≤ w + 1

@@ -5,7 +5,7 @@ use Rattle.raft_base.specs.declared.pipe_log.LogQueue.TheVariants.{Append, Rewri
 use Rattle.raft_base.specs.Runs.{end_of}
 use Rattle.raft_base.proofs.ConsecutiveLemmas.{end_bounded}
 use Rattle.raft_table.specs.Blocks.{BlockSpans, entries_of_block, entries_in_blocks, Differs, AreDistinctBlocks}
-use Rattle.raft_table.specs.BlockWords.{count, starts_of, AreKept, first_spans, without_first_spans, cut_last, cut_first, IsAt, IsIndexOf}
+use Rattle.raft_table.specs.BlockWords.{count, starts_of, AreKept, first_spans, without_first_spans, first_of_last, without_first_of_first, IsAt, IsIndexOf}
 use Rattle.raft_table.specs.TableEntries.{AreTableEntries, start_of, placed_in, entry_count}
 use Rattle.raft_table.proofs.PlaceLemmas.{entries_in_both}
 use Rattle.raft_table.proofs.RunLemmas.{start-of_rising, end_of-run}
@@ -67,10 +67,10 @@ Differs-same b c [] e h = tt
 Differs-same b c (x ∷ bs) e h = λ f. h (sym e ∙ f)
 
 -- the blocks from a spot on
-pub kept_drop : (i n p k o : ℕ) (bs : List BlockSpans) (ss : List ℕ) (r : ℕ) → AreKept i n bs ss r → IsAt p bs k o → AreKept (i + p) (n - p) (cut_first o (drop k bs)) (set (drop k ss) 0 (i + p)) (r - min r p) × (entries_in_blocks (i + p) (cut_first o (drop k bs)) ≡ drop p (entries_in_blocks i bs))
+pub kept_drop : (i n p k o : ℕ) (bs : List BlockSpans) (ss : List ℕ) (r : ℕ) → AreKept i n bs ss r → IsAt p bs k o → AreKept (i + p) (n - p) (without_first_of_first o (drop k bs)) (set (drop k ss) 0 (i + p)) (r - min r p) × (entries_in_blocks (i + p) (without_first_of_first o (drop k bs)) ≡ drop p (entries_in_blocks i bs))
 kept_drop i n p k o bs ss r h a = at (drop k bs) refl
   where
-    at : (back : List BlockSpans) → drop k bs ≡ back → AreKept (i + p) (n - p) (cut_first o back) (set (drop k ss) 0 (i + p)) (r - min r p) × (entries_in_blocks (i + p) (cut_first o back) ≡ drop p (entries_in_blocks i bs))
+    at : (back : List BlockSpans) → drop k bs ≡ back → AreKept (i + p) (n - p) (without_first_of_first o back) (set (drop k ss) 0 (i + p)) (r - min r p) × (entries_in_blocks (i + p) (without_first_of_first o back) ≡ drop p (entries_in_blocks i bs))
     at [] q = absurd (let l = a.block in omega (arith, ap length q, length-drop k bs))
     at (b ∷ rest) q =
         let s = split_drop k bs b rest b q in
@@ -111,16 +111,16 @@ pub record IsFront (i p k : ℕ) (bs front : List BlockSpans) : Type 0 where
   pub starts : starts_of i front ≡ take k (starts_of i bs)
   pub count : count front ≡ p
 
-cut_is : (k m : ℕ) (bs : List BlockSpans) (b : BlockSpans) (rest : List BlockSpans) → drop k bs ≡ b ∷ rest → cut_last m (take (suc k) bs) ≡ take k bs ++ first_spans m b ∷ []
+cut_is : (k m : ℕ) (bs : List BlockSpans) (b : BlockSpans) (rest : List BlockSpans) → drop k bs ≡ b ∷ rest → first_of_last m (take (suc k) bs) ≡ take k bs ++ first_spans m b ∷ []
 cut_is k m [] b rest h = none k h
   where
-    none : (k : ℕ) → drop k [] ≡ b ∷ rest → cut_last m (take (suc k) []) ≡ take k [] ++ first_spans m b ∷ []
+    none : (k : ℕ) → drop k [] ≡ b ∷ rest → first_of_last m (take (suc k) []) ≡ take k [] ++ first_spans m b ∷ []
     none zero h = absurd (omega (arith, ap length h))
     none (suc k) h = absurd (omega (arith, ap length h))
 cut_is zero m (x ∷ bs) b rest h = let s = split_drop 0 (x ∷ bs) b rest b h in ap (λ (y : BlockSpans). first_spans m y ∷ []) s.0
 cut_is (suc k) m (x ∷ []) b rest h = none k h
   where
-    none : (k : ℕ) → drop k [] ≡ b ∷ rest → cut_last m (take (suc (suc k)) (x ∷ [])) ≡ take (suc k) (x ∷ []) ++ first_spans m b ∷ []
+    none : (k : ℕ) → drop k [] ≡ b ∷ rest → first_of_last m (take (suc (suc k)) (x ∷ [])) ≡ take (suc k) (x ∷ []) ++ first_spans m b ∷ []
     none zero h = absurd (omega (arith, ap length h))
     none (suc k) h = absurd (omega (arith, ap length h))
 cut_is (suc k) m (x ∷ y ∷ bs) b rest h = ap (λ ys. x ∷ ys) (cut_is k m (y ∷ bs) b rest h)
@@ -134,10 +134,10 @@ starts_back : (i : ℕ) (front : List BlockSpans) (b c : BlockSpans) (rest : Lis
 starts_back i [] b c rest = refl
 starts_back i (x ∷ front) b c rest = ap (λ xs. i ∷ xs) (starts_back (i + length x.spans) front b c rest)
 
-pub front_at : (i p k o : ℕ) (bs : List BlockSpans) → AreDistinctBlocks bs → IsAt p bs k o → IsFront i (suc p) (suc k) bs (cut_last (suc o) (take (suc k) bs))
+pub front_at : (i p k o : ℕ) (bs : List BlockSpans) → AreDistinctBlocks bs → IsAt p bs k o → IsFront i (suc p) (suc k) bs (first_of_last (suc o) (take (suc k) bs))
 front_at i p k o bs str a = at (drop k bs) refl
   where
-    at : (back : List BlockSpans) → drop k bs ≡ back → IsFront i (suc p) (suc k) bs (cut_last (suc o) (take (suc k) bs))
+    at : (back : List BlockSpans) → drop k bs ≡ back → IsFront i (suc p) (suc k) bs (first_of_last (suc o) (take (suc k) bs))
     at [] q = absurd (let l = a.block in omega (arith, ap length q, length-drop k bs))
     at (b ∷ rest) q =
         let s = split_drop k bs b rest b q in
@@ -163,7 +163,7 @@ front_at i p k o bs str a = at (drop k bs) refl
         })
 
 -- the blocks up to a spot
-pub kept_take : (i n p k o : ℕ) (bs : List BlockSpans) (ss : List ℕ) (r : ℕ) → AreKept i n bs ss r → IsAt p bs k o → AreKept i (suc p) (cut_last (suc o) (take (suc k) bs)) (take (suc k) ss) (min r (suc p)) × (entries_in_blocks i (cut_last (suc o) (take (suc k) bs)) ≡ take (suc p) (entries_in_blocks i bs))
+pub kept_take : (i n p k o : ℕ) (bs : List BlockSpans) (ss : List ℕ) (r : ℕ) → AreKept i n bs ss r → IsAt p bs k o → AreKept i (suc p) (first_of_last (suc o) (take (suc k) bs)) (take (suc k) ss) (min r (suc p)) × (entries_in_blocks i (first_of_last (suc o) (take (suc k) bs)) ≡ take (suc p) (entries_in_blocks i bs))
 kept_take i n p k o bs ss r h a =
     let f = front_at i p k o bs h.distinct a in
     let es = entries_in_blocks i bs in
@@ -182,16 +182,16 @@ kept_take i n p k o bs ss r h a =
     )
 
 -- the same, told by how many stay
-pub front_of : (i w k o : ℕ) (bs : List BlockSpans) → AreDistinctBlocks bs → 0 < w → IsAt (w - 1) bs k o → IsFront i w (k + 1) bs (cut_last (o + 1) (take (k + 1) bs))
+pub front_of : (i w k o : ℕ) (bs : List BlockSpans) → AreDistinctBlocks bs → 0 < w → IsAt (w - 1) bs k o → IsFront i w (k + 1) bs (first_of_last (o + 1) (take (k + 1) bs))
 front_of i w k o bs str l a =
     let e : suc (w - 1) ≡ w = omega arith in
     let f : k + 1 ≡ suc k = omega arith in
     let g : o + 1 ≡ suc o = omega arith in
-    rw (f, g) (subst (λ n. IsFront i n (suc k) bs (cut_last (suc o) (take (suc k) bs))) e (front_at i (w - 1) k o bs str a))
+    rw (f, g) (subst (λ n. IsFront i n (suc k) bs (first_of_last (suc o) (take (suc k) bs))) e (front_at i (w - 1) k o bs str a))
 
-pub kept_front : {n r : ℕ} {ss : List ℕ} (i w k o : ℕ) (bs : List BlockSpans) → AreKept i n bs ss r → 0 < w → IsAt (w - 1) bs k o → AreKept i w (cut_last (o + 1) (take (k + 1) bs)) (take (k + 1) ss) (min r w) × (entries_in_blocks i (cut_last (o + 1) (take (k + 1) bs)) ≡ take w (entries_in_blocks i bs))
+pub kept_front : {n r : ℕ} {ss : List ℕ} (i w k o : ℕ) (bs : List BlockSpans) → AreKept i n bs ss r → 0 < w → IsAt (w - 1) bs k o → AreKept i w (first_of_last (o + 1) (take (k + 1) bs)) (take (k + 1) ss) (min r w) × (entries_in_blocks i (first_of_last (o + 1) (take (k + 1) bs)) ≡ take w (entries_in_blocks i bs))
 kept_front {n} {r} {ss} i w k o bs h l a =
     let e : suc (w - 1) ≡ w = omega arith in
     let f : k + 1 ≡ suc k = omega arith in
     let g : o + 1 ≡ suc o = omega arith in
-    rw (f, g) (subst (λ m. AreKept i m (cut_last (suc o) (take (suc k) bs)) (take (suc k) ss) (min r m) × (entries_in_blocks i (cut_last (suc o) (take (suc k) bs)) ≡ take m (entries_in_blocks i bs))) e (kept_take i n (w - 1) k o bs ss r h a))
+    rw (f, g) (subst (λ m. AreKept i m (first_of_last (suc o) (take (suc k) bs)) (take (suc k) ss) (min r m) × (entries_in_blocks i (first_of_last (suc o) (take (suc k) bs)) ≡ take m (entries_in_blocks i bs))) e (kept_take i n (w - 1) k o bs ss r h a))

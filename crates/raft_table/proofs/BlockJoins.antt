@@ -6,9 +6,9 @@ use Rattle.raft_base.specs.declared.pipe_log.FileBlockHandle.{FileBlockHandle}
 use Rattle.raft_base.specs.declared.pipe_log.LogQueue.{LogQueue}
 use Rattle.raft_base.specs.declared.pipe_log.LogQueue.TheVariants.{Append, Rewrite}
 use Rattle.raft_table.specs.Blocks.{BlockSpans, entries_of_block, entries_in_blocks, Differs, AreDistinctBlocks}
-use Rattle.raft_table.specs.BlockWords.{count, starts_of, AreKept, with_spans_behind, cut_last, joined_blocks, seam}
+use Rattle.raft_table.specs.BlockWords.{count, starts_of, AreKept, with_spans_behind, first_of_last, joined_blocks, seam}
 use Rattle.raft_table.specs.TableEntries.{AreTableEntries, entry_count}
-use Rattle.raft_table.specs.Fetches.{is_same_handle}
+use Rattle.raft_table.specs.Fetches.{is_same_place}
 use Rattle.raft_table.specs.Queues.{is_same}
 use Rattle.raft_table.proofs.BlockLemmas.{spread-append, length-expanded, count-append, expanded-append, starts-append}
 use Rattle.raft_table.proofs.BlockCuts.{IsFront, Differs-same}
@@ -26,11 +26,11 @@ same_queue_self Rewrite = refl
 same_number : (a : ℕ) → eqb a a ≡ true
 same_number a = grind (arith, nat_tests)
 
-pub same_handle_self : (a : FileBlockHandle) → is_same_handle a a ≡ true
-same_handle_self a = rw (same_queue_self a.id.queue, same_number a.id.seq, same_number a.offset, same_number a.len) refl
+pub same_place_self : (a : FileBlockHandle) → is_same_place a a ≡ true
+same_place_self a = rw (same_queue_self a.id.queue, same_number a.id.seq, same_number a.offset, same_number a.len) refl
 
-pub same_handle : (a b : FileBlockHandle) → is_same_handle a b ≡ true → a ≡ b
-same_handle a b h = at (is_same a.id.queue b.id.queue) (eqb a.id.seq b.id.seq) (eqb a.offset b.offset) (eqb a.len b.len) refl refl refl refl h
+pub same_place : (a b : FileBlockHandle) → is_same_place a b ≡ true → a ≡ b
+same_place a b h = at (is_same a.id.queue b.id.queue) (eqb a.id.seq b.id.seq) (eqb a.offset b.offset) (eqb a.len b.len) refl refl refl refl h
   where
     number : (x y : ℕ) → eqb x y ≡ true → x ≡ y
     number x y e = grind (arith, nat_tests)
@@ -43,29 +43,29 @@ same_handle a b h = at (is_same a.id.queue b.id.queue) (eqb a.id.seq b.id.seq) (
         ap (λ q. make q a.id.seq a.offset a.len) e ∙ ap (λ n. make b.id.queue n a.offset a.len) f
         ∙ ap (λ o. make b.id.queue b.id.seq o a.len) g ∙ ap (λ l. make b.id.queue b.id.seq b.offset l) k
 
-    at : (x y z w : Bool) → is_same a.id.queue b.id.queue ≡ x → eqb a.id.seq b.id.seq ≡ y → eqb a.offset b.offset ≡ z → eqb a.len b.len ≡ w → is_same_handle a b ≡ true → a ≡ b
+    at : (x y z w : Bool) → is_same a.id.queue b.id.queue ≡ x → eqb a.id.seq b.id.seq ≡ y → eqb a.offset b.offset ≡ z → eqb a.len b.len ≡ w → is_same_place a b ≡ true → a ≡ b
     at true true true true e f g k h = equal (same_queue _ _ e) (number _ _ f) (number _ _ g) (number _ _ k)
     at false y z w e f g k h = cc
     at true false z w e f g k h = cc
     at true true false w e f g k h = cc
     at true true true false e f g k h = cc
 
-pub other_handle : (a b : FileBlockHandle) → is_same_handle a b ≡ false → a ≢ b
-other_handle a b h e = let t : is_same_handle a b ≡ true = rw (← e) (same_handle_self a) in cc
+pub other_place : (a b : FileBlockHandle) → is_same_place a b ≡ false → a ≢ b
+other_place a b h e = let t : is_same_place a b ≡ true = rw (← e) (same_place_self a) in cc
 
-pub other_handle_is : (a b : FileBlockHandle) → a ≢ b → is_same_handle a b ≡ false
-other_handle_is a b n = at (is_same_handle a b) refl
+pub other_place_is : (a b : FileBlockHandle) → a ≢ b → is_same_place a b ≡ false
+other_place_is a b n = at (is_same_place a b) refl
   where
-    at : (t : Bool) → is_same_handle a b ≡ t → is_same_handle a b ≡ false
-    at true h = absurd (n (same_handle a b h))
+    at : (t : Bool) → is_same_place a b ≡ t → is_same_place a b ≡ false
+    at true h = absurd (n (same_place a b h))
     at false h = h
 
 pub joined_append : (f y r : List BlockSpans) → 0 < length y → joined_blocks f y ++ r ≡ joined_blocks f (y ++ r)
 joined_append f [] r l = absurd (omega arith)
 joined_append [] (c ∷ y) r l = refl
-joined_append (b ∷ []) (c ∷ y) r l = at (is_same_handle b.handle c.handle) refl
+joined_append (b ∷ []) (c ∷ y) r l = at (is_same_place b.handle c.handle) refl
   where
-    at : (t : Bool) → is_same_handle b.handle c.handle ≡ t → joined_blocks (b ∷ []) (c ∷ y) ++ r ≡ joined_blocks (b ∷ []) (c ∷ y ++ r)
+    at : (t : Bool) → is_same_place b.handle c.handle ≡ t → joined_blocks (b ∷ []) (c ∷ y) ++ r ≡ joined_blocks (b ∷ []) (c ∷ y ++ r)
     at true h = rw h refl
     at false h = rw h refl
 joined_append (b ∷ d ∷ f) (c ∷ y) r l = ap (λ ys. b ∷ ys) (joined_append (d ∷ f) (c ∷ y) r l)
@@ -73,15 +73,15 @@ joined_append (b ∷ d ∷ f) (c ∷ y) r l = ap (λ ys. b ∷ ys) (joined_appen
 pub joined_expanded : (i : ℕ) (f y : List BlockSpans) → entries_in_blocks i (joined_blocks f y) ≡ entries_in_blocks i f ++ entries_in_blocks (i + count f) y
 joined_expanded i [] y = ap (λ n. entries_in_blocks n y) (omega arith)
 joined_expanded i (b ∷ []) [] = sym (append-nil (entries_in_blocks i (b ∷ [])))
-joined_expanded i (b ∷ []) (c ∷ y) = at (is_same_handle b.handle c.handle) refl
+joined_expanded i (b ∷ []) (c ∷ y) = at (is_same_place b.handle c.handle) refl
   where
     n : i + (length b.spans + 0) ≡ i + length b.spans
     n = omega arith
 
-    at : (t : Bool) → is_same_handle b.handle c.handle ≡ t → entries_in_blocks i (joined_blocks (b ∷ []) (c ∷ y)) ≡ entries_in_blocks i (b ∷ []) ++ entries_in_blocks (i + (length b.spans + 0)) (c ∷ y)
+    at : (t : Bool) → is_same_place b.handle c.handle ≡ t → entries_in_blocks i (joined_blocks (b ∷ []) (c ∷ y)) ≡ entries_in_blocks i (b ∷ []) ++ entries_in_blocks (i + (length b.spans + 0)) (c ∷ y)
     at false h = rw (h, n) (ap (λ xs. xs ++ entries_in_blocks (i + length b.spans) (c ∷ y)) (sym (append-nil (entries_of_block i b.handle b.spans))))
     at true h =
-        let e = same_handle b.handle c.handle h in
+        let e = same_place b.handle c.handle h in
         let m : i + length (b.spans ++ c.spans) ≡ i + length b.spans + length c.spans = omega (arith, length-append b.spans c.spans) in
         rw (h, n, m, spread-append i b.handle b.spans c.spans, append-nil (entries_of_block i b.handle b.spans), ← e)
         (append_assoc (entries_of_block i b.handle b.spans) (entries_of_block (i + length b.spans) b.handle c.spans) (entries_in_blocks (i + length b.spans + length c.spans) y))
@@ -94,12 +94,12 @@ joined_expanded i (b ∷ d ∷ f) y =
 pub joined_starts : (i : ℕ) (f y : List BlockSpans) → starts_of i (joined_blocks f y) ≡ starts_of i f ++ drop (seam f y) (starts_of (i + count f) y)
 joined_starts i [] y = ap (λ n. starts_of n y) (omega arith)
 joined_starts i (b ∷ []) [] = refl
-joined_starts i (b ∷ []) (c ∷ y) = at (is_same_handle b.handle c.handle) refl
+joined_starts i (b ∷ []) (c ∷ y) = at (is_same_place b.handle c.handle) refl
   where
     n : i + (length b.spans + 0) ≡ i + length b.spans
     n = omega arith
 
-    at : (t : Bool) → is_same_handle b.handle c.handle ≡ t → starts_of i (joined_blocks (b ∷ []) (c ∷ y)) ≡ starts_of i (b ∷ []) ++ drop (seam (b ∷ []) (c ∷ y)) (starts_of (i + (length b.spans + 0)) (c ∷ y))
+    at : (t : Bool) → is_same_place b.handle c.handle ≡ t → starts_of i (joined_blocks (b ∷ []) (c ∷ y)) ≡ starts_of i (b ∷ []) ++ drop (seam (b ∷ []) (c ∷ y)) (starts_of (i + (length b.spans + 0)) (c ∷ y))
     at false h = rw (h, n) refl
     at true h =
         let m : i + length (b.spans ++ c.spans) ≡ i + length b.spans + length c.spans = omega (arith, length-append b.spans c.spans) in
@@ -121,25 +121,25 @@ joined_count f y =
 pub joined_stretches : (f y : List BlockSpans) → AreDistinctBlocks f → AreDistinctBlocks y → AreDistinctBlocks (joined_blocks f y)
 joined_stretches [] y h k = k
 joined_stretches (b ∷ []) [] h k = h
-joined_stretches (b ∷ []) (c ∷ y) h k = at (is_same_handle b.handle c.handle) refl
+joined_stretches (b ∷ []) (c ∷ y) h k = at (is_same_place b.handle c.handle) refl
   where
-    at : (t : Bool) → is_same_handle b.handle c.handle ≡ t → AreDistinctBlocks (joined_blocks (b ∷ []) (c ∷ y))
-    at false t = rw t (h.0, other_handle b.handle c.handle t, k)
+    at : (t : Bool) → is_same_place b.handle c.handle ≡ t → AreDistinctBlocks (joined_blocks (b ∷ []) (c ∷ y))
+    at false t = rw t (h.0, other_place b.handle c.handle t, k)
     at true t =
-        let e = same_handle b.handle c.handle t in
+        let e = same_place b.handle c.handle t in
         rw t (let l = h.0 in omega (arith, length-append b.spans c.spans), Differs-same c (with_spans_behind b c.spans) y e k.1, k.2)
 joined_stretches (b ∷ d ∷ f) y h k = (h.0, first d f y h.1, joined_stretches (d ∷ f) y h.2 k)
   where
     first : (d : BlockSpans) (f y : List BlockSpans) → b.handle ≢ d.handle → Differs b (joined_blocks (d ∷ f) y)
     first d [] [] n = n
-    first d [] (c ∷ y) n = at (is_same_handle d.handle c.handle) refl
+    first d [] (c ∷ y) n = at (is_same_place d.handle c.handle) refl
       where
-        at : (t : Bool) → is_same_handle d.handle c.handle ≡ t → Differs b (joined_blocks (d ∷ []) (c ∷ y))
+        at : (t : Bool) → is_same_place d.handle c.handle ≡ t → Differs b (joined_blocks (d ∷ []) (c ∷ y))
         at true t = rw t n
         at false t = rw t n
     first d (x ∷ f) y n = n
 
-pub seam_cut : (m : ℕ) (f y : List BlockSpans) → seam (cut_last m f) y ≡ seam f y
+pub seam_cut : (m : ℕ) (f y : List BlockSpans) → seam (first_of_last m f) y ≡ seam f y
 seam_cut m [] y = refl
 seam_cut m (b ∷ []) [] = refl
 seam_cut m (b ∷ []) (c ∷ y) = refl

@@ -9,7 +9,7 @@ use Rattle.raft_base.specs.declared.entry_index.EntryIndex.{EntryIndex}
 use Rattle.raft_base.specs.Runs.{RisesFrom}
 use Rattle.raft_base.proofs.ConsecutiveLemmas.{end_bounded}
 use Rattle.raft_table.specs.Blocks.{BlockSpans, entries_of_block, entries_in_blocks, AreDistinctBlocks}
-use Rattle.raft_table.specs.BlockWords.{count, starts_of, AreKept, cut_last, joined_blocks, seam}
+use Rattle.raft_table.specs.BlockWords.{count, starts_of, AreKept, first_of_last, joined_blocks, seam}
 use Rattle.raft_table.specs.TableEntries.{AreTableEntries, start_of, placed_in, is_placed_in, entry_count}
 use Rattle.raft_table.specs.Queues.{is_same, count_in}
 use Rattle.raft_table.proofs.RunLemmas.{start-of_rising, end_of-run}
@@ -127,13 +127,13 @@ pub record IsKeptAs (i n : ℕ) (bs : List BlockSpans) (ss : List ℕ) (r : ℕ)
   pub kept : AreKept i n bs ss r
   pub entries : entries_in_blocks i bs ≡ es
 
-pub kept_join : {i n j m : ℕ} {bs ys : List BlockSpans} {ss tt : List ℕ} {r q : ℕ} → AreKept i n bs ss r → AreKept j m ys tt q → (w k o rest : ℕ) → 0 < w → w ≤ n → IsFront i w k bs (cut_last o (take k bs)) → 0 < m → AreTableEntries (take w (entries_in_blocks i bs) ++ entries_in_blocks j ys) → rest ≡ length bs → IsKeptAs i (w + m) (joined_blocks (cut_last o (take k bs)) ys ++ drop rest bs) (take k ss ++ drop (seam (take k bs) ys) tt ++ drop rest ss) (min r w + q) (take w (entries_in_blocks i bs) ++ entries_in_blocks j ys)
+pub kept_join : {i n j m : ℕ} {bs ys : List BlockSpans} {ss tt : List ℕ} {r q : ℕ} → AreKept i n bs ss r → AreKept j m ys tt q → (w k o rest : ℕ) → 0 < w → w ≤ n → IsFront i w k bs (first_of_last o (take k bs)) → 0 < m → AreTableEntries (take w (entries_in_blocks i bs) ++ entries_in_blocks j ys) → rest ≡ length bs → IsKeptAs i (w + m) (joined_blocks (first_of_last o (take k bs)) ys ++ drop rest bs) (take k ss ++ drop (seam (take k bs) ys) tt ++ drop rest ss) (min r w + q) (take w (entries_in_blocks i bs) ++ entries_in_blocks j ys)
 kept_join {i} {n} {j} {m} {bs} {ys} {ss} {tt} {r} {q} h g w k o rest l d f p s e =
     let es = entries_in_blocks i bs in
     let le = (kept_facts h).length in
     let ly = (kept_facts g).length in
     let lt : length (take w es) ≡ w = length-take-le w es (omega arith) in
-    let front = cut_last o (take k bs) in
+    let front = first_of_last o (take k bs) in
     let up : RisesFrom i (take w es) = subst (RisesFrom i) f.entries (rises_expanded i front) in
     let y : j ≡ i + w = sym ((kept_facts g).start p) ∙ behind_index i (take w es) (entries_in_blocks j ys) s up (omega arith) (omega arith) ∙ omega arith in
     let gl = g.len in

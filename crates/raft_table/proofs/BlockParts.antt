@@ -7,12 +7,12 @@ use Rattle.raft_base.specs.declared.entry_index.EntryIndex.{EntryIndex}
 use Rattle.raft_table.specs.Blocks.{BlockSpans, entries_of_block, entries_in_blocks, AreDistinctBlocks}
 use Rattle.raft_table.specs.BlockWords.{count, IsAt}
 use Rattle.raft_table.specs.TableEntries.{start_of}
-use Rattle.raft_table.specs.Fetches.{change_count, block_count, entry_seq, is_same_place}
+use Rattle.raft_table.specs.Fetches.{change_count, block_count, entry_seq, are_same_places}
 use Rattle.raft_table.proofs.RunLemmas.{start-of_rising}
 use Rattle.raft_table.proofs.FetchLemmas.{slice_get_drop}
 use Rattle.raft_table.proofs.BlockLemmas.{length-spread, spread_take, rises_expanded}
 use Rattle.raft_table.proofs.BlockSearch.{at_spot, entry_of}
-use Rattle.raft_table.proofs.BlockJoins.{same_handle_self, other_handle_is}
+use Rattle.raft_table.proofs.BlockJoins.{same_place_self, other_place_is}
 
 -- the entries of blocks start where they do
 pub expanded_start : (i : ℕ) (bs : List BlockSpans) → AreDistinctBlocks bs → entries_in_blocks (start_of (entries_in_blocks i bs)) bs ≡ entries_in_blocks i bs
@@ -23,19 +23,19 @@ expanded_start i (b ∷ bs) h =
     let p = h.0 in
     ap (λ n. entries_in_blocks n (b ∷ bs)) (start-of_rising i (entries_in_blocks i (b ∷ bs)) (rises_expanded i (b ∷ bs)) (omega arith))
 
-same_step : (a b : EntryIndex) (es : List EntryIndex) → is_same_place a.entries b.entries ≡ true → change_count (a ∷ b ∷ es) ≡ change_count (b ∷ es)
+same_step : (a b : EntryIndex) (es : List EntryIndex) → are_same_places a.entries b.entries ≡ true → change_count (a ∷ b ∷ es) ≡ change_count (b ∷ es)
 same_step a b es h = rw h (omega arith)
 
-other_step : (a b : EntryIndex) (es : List EntryIndex) → is_same_place a.entries b.entries ≡ false → change_count (a ∷ b ∷ es) ≡ suc (change_count (b ∷ es))
+other_step : (a b : EntryIndex) (es : List EntryIndex) → are_same_places a.entries b.entries ≡ false → change_count (a ∷ b ∷ es) ≡ suc (change_count (b ∷ es))
 other_step a b es h = rw h (omega arith)
 
 changes : (i : ℕ) (h : FileBlockHandle) (s : ℕ × ℕ) (ss : List (ℕ × ℕ)) → change_count (entries_of_block i h (s ∷ ss)) ≡ 0
 changes i h s [] = refl
-changes i h s (t ∷ ss) = same_step (entry_of i h s) (entry_of (suc i) h t) (entries_of_block (suc (suc i)) h ss) (same_handle_self h) ∙ changes (suc i) h t ss
+changes i h s (t ∷ ss) = same_step (entry_of i h s) (entry_of (suc i) h t) (entries_of_block (suc (suc i)) h ss) (same_place_self h) ∙ changes (suc i) h t ss
 
-changes_more : (i : ℕ) (h : FileBlockHandle) (s : ℕ × ℕ) (ss : List (ℕ × ℕ)) (e : EntryIndex) (es : List EntryIndex) → is_same_place (Some h) e.entries ≡ false → change_count (entries_of_block i h (s ∷ ss) ++ e ∷ es) ≡ suc (change_count (e ∷ es))
+changes_more : (i : ℕ) (h : FileBlockHandle) (s : ℕ × ℕ) (ss : List (ℕ × ℕ)) (e : EntryIndex) (es : List EntryIndex) → are_same_places (Some h) e.entries ≡ false → change_count (entries_of_block i h (s ∷ ss) ++ e ∷ es) ≡ suc (change_count (e ∷ es))
 changes_more i h s [] e es d = other_step (entry_of i h s) e es d
-changes_more i h s (t ∷ ss) e es d = same_step (entry_of i h s) (entry_of (suc i) h t) (entries_of_block (suc (suc i)) h ss ++ e ∷ es) (same_handle_self h) ∙ changes_more (suc i) h t ss e es d
+changes_more i h s (t ∷ ss) e es d = same_step (entry_of i h s) (entry_of (suc i) h t) (entries_of_block (suc (suc i)) h ss ++ e ∷ es) (same_place_self h) ∙ changes_more (suc i) h t ss e es d
 
 -- a block in front of others
 changes_last : (i : ℕ) (h : FileBlockHandle) (ss : List (ℕ × ℕ)) → 0 < length ss → change_count (entries_of_block i h ss) ≡ 0
@@ -45,7 +45,7 @@ changes_last i h (s ∷ ss) l = changes i h s ss
 changes_front : (i : ℕ) (h : FileBlockHandle) (ss : List (ℕ × ℕ)) (j : ℕ) (g : FileBlockHandle) (ts : List (ℕ × ℕ)) (es : List EntryIndex) → 0 < length ss → 0 < length ts → h ≢ g → change_count (entries_of_block i h ss ++ (entries_of_block j g ts ++ es)) ≡ suc (change_count (entries_of_block j g ts ++ es))
 changes_front i h [] j g ts es l m d = absurd (omega arith)
 changes_front i h (s ∷ ss) j g [] es l m d = absurd (omega arith)
-changes_front i h (s ∷ ss) j g (t ∷ ts) es l m d = changes_more i h s ss (entry_of j g t) (entries_of_block (suc j) g ts ++ es) (other_handle_is h g d)
+changes_front i h (s ∷ ss) j g (t ∷ ts) es l m d = changes_more i h s ss (entry_of j g t) (entries_of_block (suc j) g ts ++ es) (other_place_is h g d)
 
 change_count_is : (i : ℕ) (b : BlockSpans) (bs : List BlockSpans) → AreDistinctBlocks (b ∷ bs) → change_count (entries_in_blocks i (b ∷ bs)) ≡ length bs
 change_count_is i b [] h = rw (append-nil (entries_of_block i b.handle b.spans)) (changes_last i b.handle b.spans h.0)

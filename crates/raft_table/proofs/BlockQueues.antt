@@ -4,10 +4,10 @@ use Rattle.std.proofs.lemmas.List.{append_assoc, length-append, length-drop, len
 use Rattle.raft_base.specs.declared.pipe_log.FileBlockHandle.{FileBlockHandle}
 use Rattle.raft_table.specs.declared.memtable.block.Block.{Block}
 use Rattle.raft_table.specs.Blocks.{BlockSpans, block_spans, blocks_shown}
-use Rattle.raft_table.specs.BlockWords.{first_spans, without_first_spans, with_spans_behind, cut_last, cut_first, joined_blocks, seam, IsAt}
-use Rattle.raft_table.specs.Fetches.{is_same_handle}
+use Rattle.raft_table.specs.BlockWords.{first_spans, without_first_spans, with_spans_behind, first_of_last, without_first_of_first, joined_blocks, seam, IsAt}
+use Rattle.raft_table.specs.Fetches.{is_same_place}
 use Rattle.raft_table.proofs.BlockSearch.{take_past}
-use Rattle.raft_table.proofs.BlockJoins.{same_handle_self, other_handle_is}
+use Rattle.raft_table.proofs.BlockJoins.{same_place_self, other_place_is}
 
 -- what a queue holds that was turned, cut, joined, and turned back
 pub spliced : {X : Type 0} (kept rest n : ℕ) (xs more a b c d : List X) → kept ≤ rest → rest ≤ length xs → n ≡ length xs - rest → a ≡ drop rest xs ++ take rest xs → b ≡ take (n + kept) a → c ≡ b ++ more → d ≡ drop n c ++ take n c → d ≡ take kept xs ++ more ++ drop rest xs
@@ -52,30 +52,30 @@ stretch_is c s h e = ap (λ x. make x c.spans.items) h ∙ ap (λ y. make s.hand
     make : FileBlockHandle → List (ℕ × ℕ) → BlockSpans
     make h ss = record { handle = h; spans = ss }
 
-cut_last_set : (k m : ℕ) (xs : List BlockSpans) (b : BlockSpans) → length xs ≡ suc k → b ≡ get_or xs k b → set xs k (first_spans m b) ≡ cut_last m xs
-cut_last_set k m [] b l e = absurd (omega arith)
-cut_last_set zero m (x ∷ []) b l e = ap (λ (y : BlockSpans). first_spans m y ∷ []) e
-cut_last_set zero m (x ∷ y ∷ xs) b l e = absurd (omega arith)
-cut_last_set (suc k) m (x ∷ []) b l e = absurd (omega arith)
-cut_last_set (suc k) m (x ∷ y ∷ xs) b l e = ap (λ ys. x ∷ ys) (cut_last_set k m (y ∷ xs) b (omega arith) e)
+first_of_last_set : (k m : ℕ) (xs : List BlockSpans) (b : BlockSpans) → length xs ≡ suc k → b ≡ get_or xs k b → set xs k (first_spans m b) ≡ first_of_last m xs
+first_of_last_set k m [] b l e = absurd (omega arith)
+first_of_last_set zero m (x ∷ []) b l e = ap (λ (y : BlockSpans). first_spans m y ∷ []) e
+first_of_last_set zero m (x ∷ y ∷ xs) b l e = absurd (omega arith)
+first_of_last_set (suc k) m (x ∷ []) b l e = absurd (omega arith)
+first_of_last_set (suc k) m (x ∷ y ∷ xs) b l e = ap (λ ys. x ∷ ys) (first_of_last_set k m (y ∷ xs) b (omega arith) e)
 
-pub cut_last_shown : (k m : ℕ) (bs : List Block) (b c : Block) → length bs ≡ suc k → b ≡ get_or bs k b → c.handle ≡ b.handle → c.spans.items ≡ take m b.spans.items → blocks_shown (set bs k c) ≡ cut_last m (blocks_shown bs)
-cut_last_shown k m bs b c l e h s =
+pub first_of_last_shown : (k m : ℕ) (bs : List Block) (b c : Block) → length bs ≡ suc k → b ≡ get_or bs k b → c.handle ≡ b.handle → c.spans.items ≡ take m b.spans.items → blocks_shown (set bs k c) ≡ first_of_last m (blocks_shown bs)
+first_of_last_shown k m bs b c l e h s =
     map-set block_spans bs k c
     ∙ ap (set (blocks_shown bs) k) (stretch_is c (first_spans m (block_spans b)) h s)
-    ∙ cut_last_set k m (blocks_shown bs) (block_spans b) (length-map bs block_spans ∙ l) (shown_at bs k b (omega arith) e)
+    ∙ first_of_last_set k m (blocks_shown bs) (block_spans b) (length-map bs block_spans ∙ l) (shown_at bs k b (omega arith) e)
 
-pub cut_back_shown : (k m : ℕ) (old bs : List Block) (b c : Block) → k < length old → bs ≡ take (k + 1) old → b ≡ get_or bs k b → c.handle ≡ b.handle → c.spans.items ≡ take m b.spans.items → blocks_shown (set bs k c) ≡ cut_last m (take (k + 1) (blocks_shown old))
-cut_back_shown k m old bs b c l t e h s =
+pub keep_front_blocks_shown : (k m : ℕ) (old bs : List Block) (b c : Block) → k < length old → bs ≡ take (k + 1) old → b ≡ get_or bs k b → c.handle ≡ b.handle → c.spans.items ≡ take m b.spans.items → blocks_shown (set bs k c) ≡ first_of_last m (take (k + 1) (blocks_shown old))
+keep_front_blocks_shown k m old bs b c l t e h s =
     let n : length bs ≡ suc k = ap length t ∙ length-take-le (k + 1) old (omega arith) ∙ omega arith in
-    cut_last_shown k m bs b c n e h s ∙ ap (cut_last m) (ap blocks_shown t ∙ sym (take-map block_spans (k + 1) old))
+    first_of_last_shown k m bs b c n e h s ∙ ap (first_of_last m) (ap blocks_shown t ∙ sym (take-map block_spans (k + 1) old))
 
-pub cut_front_shown : (k m : ℕ) (old bs : List Block) (b c : Block) → k < length old → bs ≡ drop k old → b ≡ get_or bs 0 b → c.handle ≡ b.handle → c.spans.items ≡ drop m b.spans.items → blocks_shown (set bs 0 c) ≡ cut_first m (drop k (blocks_shown old))
-cut_front_shown k m old bs b c l t e h s =
+pub drop_front_blocks_shown : (k m : ℕ) (old bs : List Block) (b c : Block) → k < length old → bs ≡ drop k old → b ≡ get_or bs 0 b → c.handle ≡ b.handle → c.spans.items ≡ drop m b.spans.items → blocks_shown (set bs 0 c) ≡ without_first_of_first m (drop k (blocks_shown old))
+drop_front_blocks_shown k m old bs b c l t e h s =
     let n : 0 < length bs = rw t (omega (arith, length-drop k old)) in
-    first bs n e ∙ ap (cut_first m) (ap blocks_shown t ∙ sym (drop-map block_spans k old))
+    first bs n e ∙ ap (without_first_of_first m) (ap blocks_shown t ∙ sym (drop-map block_spans k old))
   where
-    first : (bs : List Block) → 0 < length bs → b ≡ get_or bs 0 b → blocks_shown (set bs 0 c) ≡ cut_first m (blocks_shown bs)
+    first : (bs : List Block) → 0 < length bs → b ≡ get_or bs 0 b → blocks_shown (set bs 0 c) ≡ without_first_of_first m (blocks_shown bs)
     first [] l e = absurd (omega arith)
     first (x ∷ bs) l e = ap (λ y. y ∷ blocks_shown bs) (stretch_is c (without_first_spans m (block_spans b)) h s ∙ ap (λ (y : Block). without_first_spans m (block_spans y)) e)
 
@@ -108,34 +108,34 @@ seam_last [] b c cs = refl
 seam_last (x ∷ []) b c cs = refl
 seam_last (x ∷ y ∷ a) b c cs = seam_last (y ∷ a) b c cs
 
-cut_last_last : (m : ℕ) (a : List BlockSpans) (b : BlockSpans) → cut_last m (a ++ b ∷ []) ≡ a ++ first_spans m b ∷ []
-cut_last_last m [] b = refl
-cut_last_last m (x ∷ []) b = refl
-cut_last_last m (x ∷ y ∷ a) b = ap (λ ys. x ∷ ys) (cut_last_last m (y ∷ a) b)
+first_of_last_last : (m : ℕ) (a : List BlockSpans) (b : BlockSpans) → first_of_last m (a ++ b ∷ []) ≡ a ++ first_spans m b ∷ []
+first_of_last_last m [] b = refl
+first_of_last_last m (x ∷ []) b = refl
+first_of_last_last m (x ∷ y ∷ a) b = ap (λ ys. x ∷ ys) (first_of_last_last m (y ∷ a) b)
 
 -- two that meet, by whether they have the same handle
-pub meets_same : (k m : ℕ) (xs : List BlockSpans) (b c : BlockSpans) (cs : List BlockSpans) → k < length xs → b ≡ get_or xs k b → b.handle ≡ c.handle → joined_blocks (cut_last m (take (k + 1) xs)) (c ∷ cs) ≡ take (k + 1) (set xs k (with_spans_behind (first_spans m b) c.spans)) ++ cs
+pub meets_same : (k m : ℕ) (xs : List BlockSpans) (b c : BlockSpans) (cs : List BlockSpans) → k < length xs → b ≡ get_or xs k b → b.handle ≡ c.handle → joined_blocks (first_of_last m (take (k + 1) xs)) (c ∷ cs) ≡ take (k + 1) (set xs k (with_spans_behind (first_spans m b) c.spans)) ++ cs
 meets_same k m xs b c cs l e h =
-    let t : is_same_handle b.handle c.handle ≡ true = rw h (same_handle_self c.handle) in
+    let t : is_same_place b.handle c.handle ≡ true = rw h (same_place_self c.handle) in
     let w : take (k + 1) xs ≡ take k xs ++ b ∷ [] = take_more xs k b l ∙ ap (λ y. take k xs ++ y ∷ []) (sym e) in
-    ap (λ ys. joined_blocks (cut_last m ys) (c ∷ cs)) w ∙ ap (λ ys. joined_blocks ys (c ∷ cs)) (cut_last_last m (take k xs) b) ∙ joined_last (take k xs) (first_spans m b) c cs
+    ap (λ ys. joined_blocks (first_of_last m ys) (c ∷ cs)) w ∙ ap (λ ys. joined_blocks ys (c ∷ cs)) (first_of_last_last m (take k xs) b) ∙ joined_last (take k xs) (first_spans m b) c cs
     ∙ rw (t, take_more_set xs k (with_spans_behind (first_spans m b) c.spans) l) (sym (append_assoc (take k xs) (with_spans_behind (first_spans m b) c.spans ∷ []) cs))
 
-pub meets_other : (k m : ℕ) (xs : List BlockSpans) (b c : BlockSpans) (cs : List BlockSpans) → k < length xs → b ≡ get_or xs k b → b.handle ≢ c.handle → joined_blocks (cut_last m (take (k + 1) xs)) (c ∷ cs) ≡ take (k + 1) (set xs k (first_spans m b)) ++ c ∷ cs
+pub meets_other : (k m : ℕ) (xs : List BlockSpans) (b c : BlockSpans) (cs : List BlockSpans) → k < length xs → b ≡ get_or xs k b → b.handle ≢ c.handle → joined_blocks (first_of_last m (take (k + 1) xs)) (c ∷ cs) ≡ take (k + 1) (set xs k (first_spans m b)) ++ c ∷ cs
 meets_other k m xs b c cs l e h =
-    let t : is_same_handle b.handle c.handle ≡ false = other_handle_is b.handle c.handle h in
+    let t : is_same_place b.handle c.handle ≡ false = other_place_is b.handle c.handle h in
     let w : take (k + 1) xs ≡ take k xs ++ b ∷ [] = take_more xs k b l ∙ ap (λ y. take k xs ++ y ∷ []) (sym e) in
-    ap (λ ys. joined_blocks (cut_last m ys) (c ∷ cs)) w ∙ ap (λ ys. joined_blocks ys (c ∷ cs)) (cut_last_last m (take k xs) b) ∙ joined_last (take k xs) (first_spans m b) c cs
+    ap (λ ys. joined_blocks (first_of_last m ys) (c ∷ cs)) w ∙ ap (λ ys. joined_blocks ys (c ∷ cs)) (first_of_last_last m (take k xs) b) ∙ joined_last (take k xs) (first_spans m b) c cs
     ∙ rw (t, take_more_set xs k (first_spans m b) l) (sym (append_assoc (take k xs) (first_spans m b ∷ []) (c ∷ cs)))
 
 pub seam_same : (k : ℕ) (xs : List BlockSpans) (b c : BlockSpans) (cs : List BlockSpans) → k < length xs → b ≡ get_or xs k b → b.handle ≡ c.handle → seam (take (k + 1) xs) (c ∷ cs) ≡ 1
 seam_same k xs b c cs l e h =
-    let t : is_same_handle b.handle c.handle ≡ true = rw h (same_handle_self c.handle) in
+    let t : is_same_place b.handle c.handle ≡ true = rw h (same_place_self c.handle) in
     ap (λ ys. seam ys (c ∷ cs)) (take_more xs k b l ∙ ap (λ y. take k xs ++ y ∷ []) (sym e)) ∙ seam_last (take k xs) b c cs ∙ rw t refl
 
 pub seam_other : (k : ℕ) (xs : List BlockSpans) (b c : BlockSpans) (cs : List BlockSpans) → k < length xs → b ≡ get_or xs k b → b.handle ≢ c.handle → seam (take (k + 1) xs) (c ∷ cs) ≡ 0
 seam_other k xs b c cs l e h =
-    let t : is_same_handle b.handle c.handle ≡ false = other_handle_is b.handle c.handle h in
+    let t : is_same_place b.handle c.handle ≡ false = other_place_is b.handle c.handle h in
     ap (λ ys. seam ys (c ∷ cs)) (take_more xs k b l ∙ ap (λ y. take k xs ++ y ∷ []) (sym e)) ∙ seam_last (take k xs) b c cs ∙ rw t refl
 
 pub set_same : (bs : List Block) (k : ℕ) (b c : Block) → k < length bs → b ≡ get_or bs k b → c.handle ≡ b.handle → c.spans.items ≡ b.spans.items → blocks_shown (set bs k c) ≡ blocks_shown bs
@@ -162,7 +162,7 @@ pushed_same k bs b c y l e h g s =
     let xs = blocks_shown bs in
     let n : k + 1 ≡ length xs = l ∙ sym (length-map bs block_spans) in
     let at = shown_at bs k b (omega arith) e in
-    let t : is_same_handle b.handle y.handle ≡ true = rw h (same_handle_self y.handle) in
+    let t : is_same_place b.handle y.handle ≡ true = rw h (same_place_self y.handle) in
     let w : xs ≡ take k xs ++ block_spans b ∷ [] = sym (take_all (k + 1) xs (omega arith)) ∙ take_more xs k (block_spans b) (omega arith) ∙ ap (λ z. take k xs ++ z ∷ []) (sym at) in
     let new = with_spans_behind (block_spans b) y.spans.items in
     let left : blocks_shown (set bs k c) ≡ take k xs ++ new ∷ [] =
@@ -176,7 +176,7 @@ pushed_other k bs b y l e h =
     let xs = blocks_shown bs in
     let n : k + 1 ≡ length xs = l ∙ sym (length-map bs block_spans) in
     let at = shown_at bs k b (omega arith) e in
-    let t : is_same_handle b.handle y.handle ≡ false = other_handle_is b.handle y.handle h in
+    let t : is_same_place b.handle y.handle ≡ false = other_place_is b.handle y.handle h in
     let w : xs ≡ take k xs ++ block_spans b ∷ [] = sym (take_all (k + 1) xs (omega arith)) ∙ take_more xs k (block_spans b) (omega arith) ∙ ap (λ z. take k xs ++ z ∷ []) (sym at) in
     let right : joined_blocks xs (block_spans y ∷ []) ≡ xs ++ block_spans y ∷ [] =
     ap (λ ys. joined_blocks ys (block_spans y ∷ [])) w ∙ joined_last (take k xs) (block_spans b) (block_spans y) [] ∙ rw t (sym (append_assoc (take k xs) (block_spans b ∷ []) (block_spans y ∷ []))) ∙ ap (λ ys. ys ++ block_spans y ∷ []) (sym w) in
@@ -184,7 +184,7 @@ pushed_other k bs b y l e h =
 
 -- what meeting blocks leave
 pub record AreMet (kept m : ℕ) (old new more left : List BlockSpans) (gone : ℕ) : Type 0 where
-  pub front : take kept new ++ left ≡ joined_blocks (cut_last m (take kept old)) more
+  pub front : take kept new ++ left ≡ joined_blocks (first_of_last m (take kept old)) more
   pub behind : (n : ℕ) → kept ≤ n → drop n new ≡ drop n old
   pub seam : seam (take kept old) more ≡ gone
 

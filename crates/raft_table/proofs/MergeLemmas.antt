@@ -10,7 +10,7 @@ use Rattle.raft_base.specs.declared.entry_index.EntryIndex.{EntryIndex}
 use Rattle.raft_table.specs.TableEntries.{below, placed_in, entry_count}
 use Rattle.raft_table.specs.Queues.{is_same}
 use Rattle.raft_table.specs.Counts.{Counts}
-use Rattle.raft_table.specs.Merge.{after_join, IsTableMergeFault}
+use Rattle.raft_table.specs.Merge.{after_merge, IsTableMergeFault}
 use Rattle.raft_table.specs.Start.{entries_after_replay, leaves_hole, IsTableRunFault}
 use Rattle.raft_table.specs.Table.{Table, live_of}
 use Rattle.raft_table.specs.KeyValues.{Keys, Stored, pairs_over, with_pairs, pair_count}
@@ -39,7 +39,7 @@ none_bound q es = omega arith
 of_some : {X : Type 0} (x y : X) → Some x ≡ Some y → x ≡ y
 of_some x y h = cc
 
--- a join holds at most the records of both
+-- a merge holds at most the records of both
 pub joined_bound : (rule q : LogQueue) (es run after : List EntryIndex) → entries_after_replay rule es run ≡ Some after → entry_count q after ≤ entry_count q es + entry_count q run
 joined_bound Append q es [] after h = subst (λ xs. entry_count q xs ≤ entry_count q es + entry_count q []) (of_some es after h) (none_bound q es)
 joined_bound Rewrite q es [] after h = subst (λ xs. entry_count q xs ≤ entry_count q es + entry_count q []) (of_some es after h) (none_bound q es)
@@ -73,7 +73,7 @@ pairs_bound q keys (e ∷ es) =
     omega (arith, pairs_bound q (finite.insert keys e.0 e.1) es, pair_count-insert q keys e.0 e.1.value e.1.file, length-cond (is_same q e.1.file.queue) e (filter (λ e. is_same q e.1.file.queue) es))
 
 -- a joined table has at most the records of both in each queue
-pub joined_uncleaned : (rule q : LogQueue) (older newer w : Table) → after_join rule older newer ≡ Some w → live_of q w ≤ live_of q older + live_of q newer
+pub joined_uncleaned : (rule q : LogQueue) (older newer w : Table) → after_merge rule older newer ≡ Some w → live_of q w ≤ live_of q older + live_of q newer
 joined_uncleaned rule q older newer w e = go (entries_after_replay rule older.entries newer.entries) refl e
   where
     go : (o : Option (List EntryIndex)) → entries_after_replay rule older.entries newer.entries ≡ o → option_map {U = Table} (λ es. record older { entries = es; keys = pairs_over newer.keys older.keys }) o ≡ Some w → live_of q w ≤ live_of q older + live_of q newer

@@ -10,11 +10,11 @@ use Rattle.raft_base.specs.Runs.{RisesFrom, IsRun, end_of}
 use Rattle.raft_table.specs.TableEntries.{below, from, start_of}
 use Rattle.raft_table.specs.KeySets.{without}
 use Rattle.raft_table.specs.KeyValues.{pairs_over}
-use Rattle.raft_table.specs.MarkMerge.{left_by}
+use Rattle.raft_table.specs.MarkedJoins.{left_by}
 use Rattle.raft_table.specs.Marks.{Mark, entries_within}
 use Rattle.raft_table.specs.MarkFits.{FitsCut}
 use Rattle.raft_table.specs.Stands.{Stands}
-use Rattle.raft_table.specs.Merge.{after_join}
+use Rattle.raft_table.specs.Merge.{after_merge}
 use Rattle.raft_table.specs.Overlay.{has_clean, deleted_of, is_unjoined, rewritten_within, overlay, overlay_under, IsExactMark}
 use Rattle.raft_table.specs.Steps.{Step, table_of, AreSteps, IsTableOf}
 use Rattle.raft_table.specs.Table.{Table}
@@ -41,7 +41,7 @@ overlay_exact m ss a r h = go m.cleaned refl
 
 -- the code's way: what is left of the rewritten table, and the appended one behind it, but for the atomic group of a cleaned region
 pub over_rewritten : (m : Mark) (a r : Table) → IsRun (overlay_under m a r).entries
-    → after_join Rewrite (left_by (is_unjoined m.cut (end_of r.entries) a.entries) m r) a ≡ Some (record (overlay_under m a r) { atomic_group = cond m.cleaned None r.atomic_group })
+    → after_merge Rewrite (left_by (is_unjoined m.cut (end_of r.entries) a.entries) m r) a ≡ Some (record (overlay_under m a r) { atomic_group = cond m.cleaned None r.atomic_group })
 over_rewritten m a r run =
     let left = left_by (is_unjoined m.cut (end_of r.entries) a.entries) m r in
     let es = entries m.cleaned in

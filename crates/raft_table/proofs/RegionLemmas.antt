@@ -3,7 +3,7 @@ use Rattle.std.proofs.Common.{◌≡◌, ℕ, Bool, true, false, cond, ◌||◌,
 use Rattle.std.specs.Prelude.{is_some}
 use Rattle.std.specs.Option.{option_map}
 use Rattle.raft_base.specs.declared.pipe_log.LogQueue.{LogQueue}
-use Rattle.raft_table.specs.MarkMerge.{IsRunOver}
+use Rattle.raft_table.specs.MarkedJoins.{IsRunOver}
 use Rattle.raft_table.specs.Marks.{Mark, keys_over, atomic_group_over, table_over, is_there_over, table_over_older}
 use Rattle.raft_table.specs.Stands.{Stands}
 use Rattle.raft_table.specs.Steps.{Step, table_of, AreSteps, IsTableOf}

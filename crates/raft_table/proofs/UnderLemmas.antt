@@ -17,9 +17,9 @@ use Rattle.raft_table.specs.Counts.{Counts, live}
 use Rattle.raft_table.specs.TableEntries.{below}
 use Rattle.raft_table.specs.KeySets.{without}
 use Rattle.raft_table.specs.KeyValues.{Keys, Stored, pairs_over}
-use Rattle.raft_table.specs.MarkMerge.{left_by}
+use Rattle.raft_table.specs.MarkedJoins.{left_by}
 use Rattle.raft_table.specs.Marks.{Mark, entries_within, is_missed, is_barred, older_entries, is_refused_over, entries_over, table_over}
-use Rattle.raft_table.specs.Merge.{after_join, newer_atomic_group, with_newer_atomic_group, IsTableMergeFault}
+use Rattle.raft_table.specs.Merge.{after_merge, newer_atomic_group, with_newer_atomic_group, IsTableMergeFault}
 use Rattle.raft_table.specs.Start.{leaves_hole, entries_after_replay}
 use Rattle.raft_table.specs.Table.{Table, empty_table, live_of}
 use Rattle.raft_table.proofs.KeyValueLaws.{get-pairs_over}
@@ -83,7 +83,7 @@ whole_keys t = same_keys _ _ (λ q. get-pairs_over t finite.empty q ∙ ap (opti
 pub over_left : (q : LogQueue) (m : Mark) (own older : Table) → is_refused_over q m older.entries ≡ false → ((es : List EntryIndex) → entries_over q m own.entries older.entries ≡ Some es → IsRun es)
     → let left = left_by (is_missed m older.entries) m older in
     let es = left.entries ++ own.entries in
-    (after_join q left own ≡ Some (record left { entries = es; keys = pairs_over own.keys left.keys }))
+    (after_merge q left own ≡ Some (record left { entries = es; keys = pairs_over own.keys left.keys }))
     × (table_over q m own older ≡ Some (with_newer_atomic_group own (record left { entries = es; keys = pairs_over own.keys left.keys })))
 over_left q m own older e run =
     let left = left_by (is_missed m older.entries) m older in
@@ -100,8 +100,8 @@ over_left q m own older e run =
     atomic_group true = sym (own_span false own.atomic_group)
     atomic_group false = refl
 
--- a join that the start rule accepts, and that is counted, fails for want of memory alone
-pub join_memory : (q : LogQueue) (counts : Counts) (left own w : Table) (e : Error) → IsTableMergeFault counts left own (Some q) e → after_join q left own ≡ Some w → ((p : LogQueue) → live p counts + live_of p own < 2 ^ 64) → e ≡ errors.Memory
+-- a merge that the start rule accepts, and that is counted, fails for want of memory alone
+pub join_memory : (q : LogQueue) (counts : Counts) (left own w : Table) (e : Error) → IsTableMergeFault counts left own (Some q) e → after_merge q left own ≡ Some w → ((p : LogQueue) → live p counts + live_of p own < 2 ^ 64) → e ≡ errors.Memory
 join_memory q counts left own w (errors.Corruption text) r is room = absurd cc
 join_memory q counts left own w errors.Full r is room = absurd (let full = r.1 in let low = room r.0 in omega arith)
 join_memory q counts left own w errors.Memory r is room = refl

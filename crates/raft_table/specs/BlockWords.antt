@@ -4,7 +4,7 @@ use Rattle.raft_base.specs.declared.pipe_log.LogQueue.TheVariants.{Rewrite}
 use Rattle.raft_base.specs.declared.entry_index.EntryIndex.{EntryIndex}
 use Rattle.raft_table.specs.Blocks.{BlockSpans, entries_in_blocks, AreDistinctBlocks}
 use Rattle.raft_table.specs.TableEntries.{AreTableEntries, entry_count}
-use Rattle.raft_table.specs.Fetches.{is_same_handle}
+use Rattle.raft_table.specs.Fetches.{is_same_place}
 
 -- how many entries blocks have
 abbrev pub count : List BlockSpans → ℕ
@@ -16,8 +16,8 @@ abbrev pub spans_of : List EntryIndex → List (ℕ × ℕ)
 spans_of es = map (λ e. (e.entry_offset, e.entry_len)) es
 
 -- an entry without its span
-abbrev pub unset : EntryIndex → EntryIndex
-unset e = record e { entry_offset = 0; entry_len = 0 }
+abbrev pub without_span : EntryIndex → EntryIndex
+without_span e = record e { entry_offset = 0; entry_len = 0 }
 
 -- entries, the first of which get these spans
 abbrev pub with_spans : List (ℕ × ℕ) → List EntryIndex → List EntryIndex
@@ -51,28 +51,28 @@ abbrev pub with_spans_behind : BlockSpans → List (ℕ × ℕ) → BlockSpans
 with_spans_behind b more = record b { spans = b.spans ++ more }
 
 -- blocks, of the last of which so many entries
-abbrev pub cut_last : ℕ → List BlockSpans → List BlockSpans
-cut_last m [] = []
-cut_last m (b ∷ []) = first_spans m b ∷ []
-cut_last m (b ∷ c ∷ bs) = b ∷ cut_last m (c ∷ bs)
+abbrev pub first_of_last : ℕ → List BlockSpans → List BlockSpans
+first_of_last m [] = []
+first_of_last m (b ∷ []) = first_spans m b ∷ []
+first_of_last m (b ∷ c ∷ bs) = b ∷ first_of_last m (c ∷ bs)
 
 -- blocks, the first of which without so many entries
-abbrev pub cut_first : ℕ → List BlockSpans → List BlockSpans
-cut_first m [] = []
-cut_first m (b ∷ bs) = without_first_spans m b ∷ bs
+abbrev pub without_first_of_first : ℕ → List BlockSpans → List BlockSpans
+without_first_of_first m [] = []
+without_first_of_first m (b ∷ bs) = without_first_spans m b ∷ bs
 
 -- blocks behind others: the two at the seam are one where they have the same place
 abbrev pub joined_blocks : List BlockSpans → List BlockSpans → List BlockSpans
 joined_blocks [] cs = cs
 joined_blocks (b ∷ []) [] = b ∷ []
-joined_blocks (b ∷ []) (c ∷ cs) = if is_same_handle b.handle c.handle then with_spans_behind b c.spans ∷ cs else b ∷ c ∷ cs
+joined_blocks (b ∷ []) (c ∷ cs) = if is_same_place b.handle c.handle then with_spans_behind b c.spans ∷ cs else b ∷ c ∷ cs
 joined_blocks (b ∷ d ∷ bs) cs = b ∷ joined_blocks (d ∷ bs) cs
 
 -- how many blocks fewer that are
 abbrev pub seam : List BlockSpans → List BlockSpans → ℕ
 seam [] cs = 0
 seam (b ∷ []) [] = 0
-seam (b ∷ []) (c ∷ cs) = if is_same_handle b.handle c.handle then 1 else 0
+seam (b ∷ []) (c ∷ cs) = if is_same_place b.handle c.handle then 1 else 0
 seam (b ∷ d ∷ bs) cs = seam (d ∷ bs) cs
 
 -- an index at which the blocks with these first indexes have an entry

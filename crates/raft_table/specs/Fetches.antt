@@ -63,21 +63,21 @@ abbrev pub appended_before : ℕ → List EntryIndex → List EntryIndex
 appended_before gate es = take_while (is_placed_before gate) (placed_in Append es)
 
 -- whether two places are the same
-abbrev pub is_same_handle : FileBlockHandle → FileBlockHandle → Bool
-is_same_handle a b = is_same a.id.queue b.id.queue && a.id.seq == b.id.seq && a.offset == b.offset && a.len == b.len
+abbrev pub is_same_place : FileBlockHandle → FileBlockHandle → Bool
+is_same_place a b = is_same a.id.queue b.id.queue && a.id.seq == b.id.seq && a.offset == b.offset && a.len == b.len
 
 -- whether two places are the same, or both are missing
-abbrev pub is_same_place : Option FileBlockHandle → Option FileBlockHandle → Bool
-is_same_place None None = true
-is_same_place None (Some b) = false
-is_same_place (Some a) None = false
-is_same_place (Some a) (Some b) = is_same_handle a b
+abbrev pub are_same_places : Option FileBlockHandle → Option FileBlockHandle → Bool
+are_same_places None None = true
+are_same_places None (Some b) = false
+are_same_places (Some a) None = false
+are_same_places (Some a) (Some b) = is_same_place a b
 
 -- how many entries have another place than the entry before
 abbrev pub change_count : List EntryIndex → ℕ
 change_count [] = 0
 change_count (a ∷ []) = 0
-change_count (a ∷ b ∷ es) = (if is_same_place a.entries b.entries then 0 else 1) + change_count (b ∷ es)
+change_count (a ∷ b ∷ es) = (if are_same_places a.entries b.entries then 0 else 1) + change_count (b ∷ es)
 
 -- how many blocks the entries make: as many neighbors as have one place are one
 abbrev pub block_count : List EntryIndex → ℕ

@@ -10,8 +10,8 @@ use Rattle.raft_table.specs.Start.{entries_after_replay, counts_with_run}
 use Rattle.raft_table.specs.Table.{Table, live_of}
 
 -- a table with the run of a newer one, by the start rule of the replays into a queue, and its pairs over the own ones; none where that rule refuses the run
-abbrev pub after_join : LogQueue → Table → Table → Option Table
-after_join rule older newer = option_map (λ es. record older { entries = es; keys = pairs_over newer.keys older.keys }) (entries_after_replay rule older.entries newer.entries)
+abbrev pub after_merge : LogQueue → Table → Table → Option Table
+after_merge rule older newer = option_map (λ es. record older { entries = es; keys = pairs_over newer.keys older.keys }) (entries_after_replay rule older.entries newer.entries)
 
 -- the newer of two atomic groups, if there is one
 abbrev pub newer_atomic_group : Option (ℕ × ℕ) → Option (ℕ × ℕ) → Option (ℕ × ℕ)
@@ -33,7 +33,7 @@ joint_queue a b = if has_records Rewrite a b then (if has_records Append a b the
 -- a table after the merge with its newer neighbor in a queue, if they have one
 abbrev pub after_newer : Table → Table → Option LogQueue → Option Table
 after_newer older newer None = None
-after_newer older newer (Some queue) = option_map (with_newer_atomic_group newer) (after_join queue older newer)
+after_newer older newer (Some queue) = option_map (with_newer_atomic_group newer) (after_merge queue older newer)
 
 -- the start rule by which an append table joins a rewritten one: a hole drops all entries; none unless the first is rewritten alone, and the second appended alone and without an atomic group
 abbrev pub append_rule : Table → Table → Option LogQueue
@@ -42,7 +42,7 @@ append_rule older newer = if nat_lt 0 (live_of Append older) || nat_lt 0 (live_o
 -- a table after the merge with an append table, where that may join it
 abbrev pub after_appended : Table → Table → Option LogQueue → Option Table
 after_appended older newer None = None
-after_appended older newer (Some rule) = after_join rule older newer
+after_appended older newer (Some rule) = after_merge rule older newer
 
 -- the counts with so many records of a queue in place of others
 abbrev pub counts_with_others : LogQueue → ℕ → ℕ → Counts → Counts
@@ -63,7 +63,7 @@ counts_after_merge (Some queue) older newer counts =
 abbrev pub IsTableMergeFault : Counts → Table → Table → Option LogQueue → Error → Type 0
 IsTableMergeFault counts older newer None (errors.InvalidArgument text) = Unit {0}
 IsTableMergeFault counts older newer None errors.Memory = Unit {0}
-IsTableMergeFault counts older newer (Some rule) (errors.Corruption text) = after_join rule older newer ≡ None
+IsTableMergeFault counts older newer (Some rule) (errors.Corruption text) = after_merge rule older newer ≡ None
 IsTableMergeFault counts older newer (Some rule) errors.Full = (q : LogQueue) × (2 ^ 64 ≤ live q counts + live_of q newer)
 IsTableMergeFault counts older newer (Some rule) errors.Memory = Unit {0}
 IsTableMergeFault counts older newer rule _ = ⊥

@@ -1,6 +1,6 @@
 //! The table of a region: where its entries stand, its key values, and its atomic group.
 
-ghost use Rattle.std.specs.Prelude.{◌≡◌, ◌≢◌, ◌+◌, ◌≤◌, ◌^◌, false, length, MatchOption, OnOk, OnErr, IfErr, IfOk, Some, [], option_map, MatchBool};
+ghost use Rattle.std.specs.Prelude.{◌≡◌, ◌≢◌, ◌+◌, ◌≤◌, ◌^◌, false, length, MatchOption, OnOk, OnErr, IfErr, Some, [], option_map, MatchBool};
 ghost use Rattle.std.specs.FinMap as finite;
 ghost use Rattle.raft_base.specs.declared.pipe_log.LogQueue.{LogQueue};
 ghost use Rattle.raft_base.specs.declared.pipe_log.LogQueue.TheVariants.{Append, Rewrite};
@@ -36,6 +36,7 @@ use entries::Entries;
 use key_values::KeyValues;
 pub use laws::{
     entries_stand_by_index, last_words_stand, marks_stand_for_steps, overlays_by_marks,
+    overlays_reach_without_truncations,
 };
 pub use mark::Mark;
 use raft_base::{EntryIndex, Error, FileId, FileSeq, LogQueue, Result};
@@ -85,7 +86,7 @@ impl MemTable {
     }
 
     /// A table's entries are one run without gaps, each has a place, and the rewritten ones stand in
-    /// front of the appended ones.
+    /// front of the appended ones. This is a law: it computes nothing.
     pub fn holds_one_run(&self)
         ensures { AreTableEntries self.now.entries }
     {

@@ -1,6 +1,6 @@
 //! Random calls of a table, beside a plain list of its entries.
 
-ghost use Rattle.std.specs.Prelude.{◌≡◌, ◌<◌, IfOk};
+ghost use Rattle.std.specs.Prelude.{◌<◌, IfOk};
 ghost use Rattle.raft_base.specs.declared.pipe_log.LogQueue.{LogQueue};
 ghost use Rattle.raft_memtable.specs.TableEntries.{IsRunIn};
 
@@ -54,7 +54,7 @@ enum Call {
     /// The table of a run is merged as the appended one.
     MergeAppended(Run),
     /// The table of a run is merged under a region mark, before whose run the entries off some bounds are dropped.
-    MergeUnder(LogQueue, Bounds, Run),
+    JoinUnder(LogQueue, Bounds, Run),
 }
 
 /// The entries that a compaction and a truncation leave: from the first index on, and below the second.
@@ -119,8 +119,8 @@ impl Call {
             19 => Call::MergeNewer(LogQueue::Append, run),
             20 => Call::MergeNewer(LogQueue::Rewrite, run),
             21 => Call::MergeAppended(run),
-            22 => Call::MergeUnder(LogQueue::Rewrite, bounds, run),
-            23..=24 => Call::MergeUnder(LogQueue::Append, bounds, run),
+            22 => Call::JoinUnder(LogQueue::Rewrite, bounds, run),
+            23..=24 => Call::JoinUnder(LogQueue::Append, bounds, run),
             _ => Call::Truncate(run.first),
         }
     }
@@ -195,12 +195,12 @@ fn make(alloc: Global, store: &mut LogStore, call: Call) -> Result<()> {
             store.table.truncate_from(index, &mut store.stats);
             Ok(())
         }
-        Call::MergeUnder(queue, bounds, run) => merge_under(alloc, store, queue, bounds, run),
+        Call::JoinUnder(queue, bounds, run) => join_under(alloc, store, queue, bounds, run),
     }
 }
 
 /// Merges the table of a run under its region mark.
-fn merge_under(
+fn join_under(
     alloc: Global,
     store: &mut LogStore,
     queue: LogQueue,
@@ -211,7 +211,7 @@ fn merge_under(
     mark.add_compaction(bounds.floor);
     mark.add_truncation(bounds.cut);
     mark.add_run(queue, 0, run.first);
-    store.merge_under(queue, &mut table_of(alloc, queue, run)?, &mark)
+    store.join_under(queue, &mut table_of(alloc, queue, run)?, &mark)
 }
 
 /// The entries of a table, by rising index.
@@ -319,14 +319,14 @@ impl List {
             Call::Rewrite(run, gate) => self.may_rewrite(run, gate),
             Call::Compact(_) | Call::Truncate(_) => true,
             Call::MergeNewer(LogQueue::Append, run) => !rewritten && self.meets(run),
-            Call::MergeUnder(LogQueue::Append, bounds, run) => {
+            Call::JoinUnder(LogQueue::Append, bounds, run) => {
                 let end = self.end_within(bounds);
                 end == 0 || run.first <= end
             }
             Call::ReplayRewrite(_)
             | Call::MergeNewer(LogQueue::Rewrite, _)
             | Call::MergeAppended(_)
-            | Call::MergeUnder(LogQueue::Rewrite, ..) => !appended,
+            | Call::JoinUnder(LogQueue::Rewrite, ..) => !appended,
         }
     }
 
@@ -352,7 +352,7 @@ impl List {
                 self.entries.retain(|e| e.index < index);
                 Ok(())
             }
-            Call::MergeUnder(queue, bounds, run) => {
+            Call::JoinUnder(queue, bounds, run) => {
                 self.entries.retain(|e| bounds.hold(e));
                 self.put(queue, run)
             }

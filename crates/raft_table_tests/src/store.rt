@@ -1,6 +1,6 @@
 //! The log store of a Raft node: the table of its region, and the counts.
 
-ghost use Rattle.std.specs.Prelude.{◌≡◌, IfOk};
+ghost use Rattle.std.specs.Prelude.{IfOk};
 ghost use Rattle.raft_base.specs.declared.pipe_log.LogQueue.{LogQueue};
 ghost use Rattle.raft_memtable.specs.TableEntries.{IsRunIn};
 ghost use Rattle.raft_memtable.specs.Table.{IsCounted};
@@ -324,7 +324,7 @@ impl LogStore {
     }
 
     /// Merges a table of a queue into this store's, under its region mark.
-    pub fn merge_under(
+    pub fn join_under(
         &mut self,
         queue: LogQueue,
         newer: &mut MemTable,
@@ -340,7 +340,7 @@ impl LogStore {
         {
             return Err(Error::Failed);
         }
-        self.table.merge_under(queue, newer, mark, &mut self.stats)
+        self.table.join_under(queue, newer, mark, &mut self.stats)
     }
 
     pub fn shape(&self) -> Shape {

@@ -1,23 +1,6 @@
 //! Numbers that threads draw, each once.
 
-ghost use Rattle.std.specs.Prelude.{
-  ◌≡◌,
-  ℕ,
-  ◌+◌,
-  ◌^◌,
-  ◌<◌,
-  [],
-  ◌∷◌,
-  All,
-  IfOk,
-  IfErr,
-  OnOk,
-  List,
-  map,
-  replicate,
-  vec_len,
-};
-ghost use Rattle.atomic_table.specs.Seated.{TableId};
+ghost use Rattle.std.specs.Prelude.{◌≡◌, ℕ, ◌+◌, ◌^◌, ◌<◌, [], ◌∷◌, All, IfOk, IfErr, OnOk, List, replicate, vec_len};
 ghost use Rattle.raft_tickets.specs.Draws.{IsSeatOf, IsNewSeatOf, Rises, Draw, once_below, IsOpenRefusal};
 ghost use Rattle.raft_tickets.specs.Weights.{weigh, occurrences};
 
@@ -74,7 +57,7 @@ impl Tickets {
             seats: seats as u64,
         };
         let (table, root) = Table::of_words(alloc, &[0], &sizes)?;
-        let drawers = cut_seats(alloc, &table.shared, root, sizes.total, seats)?;
+        let drawers = split_seats(alloc, &table.shared, root, sizes.total, seats)?;
         let tickets = Tickets {
             table,
             total: sizes.total,
@@ -82,7 +65,8 @@ impl Tickets {
         Ok((tickets, drawers))
     }
 
-    /// The next number, by one step on the word. A seat that was answered nothing draws no more, and takes no step.
+    /// The next number, by one step on the word; nothing once all numbers below the total are drawn. A seat that
+    /// was answered nothing draws no more, and takes no step.
     pub fn draw(&self, seat: &mut TicketSeat) -> Option<usize>
         requires { IsSeatOf self.now seat.old }
         ensures same { IsSeatOf self.now seat.new }
@@ -121,7 +105,7 @@ impl Tickets {
 }
 
 /// Seats for the lists of `root`, one each.
-fn cut_seats(
+fn split_seats(
     alloc: Global,
     shared: &Shared<(), Lists, Sizes, Drawing>,
     mut root: Seat<(), Lists>,

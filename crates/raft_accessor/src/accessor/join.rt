@@ -16,7 +16,7 @@ impl MemTableAccessor {
     ///
     /// # Errors
     ///
-    /// Those of [`MemTable::merge_under`].
+    /// Those of [`MemTable::join_under`].
     pub fn join_table(
         &mut self,
         queue: LogQueue,

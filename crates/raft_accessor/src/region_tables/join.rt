@@ -1,12 +1,9 @@
 //! Tables of some regions joined with those of newer neighbors, each under its region mark.
 
-ghost use Rattle.std.specs.Prelude.{◌≡◌, ◌+◌, ◌≤◌, IfOk, IfErr, IfSome, OnOk, Some};
-ghost use Rattle.std.specs.FinMap as finite;
+ghost use Rattle.std.specs.Prelude.{◌≡◌, IfSome, Some};
 ghost use Rattle.raft_base.specs.declared.pipe_log.LogQueue.{LogQueue};
 ghost use Rattle.raft_base.specs.declared.pipe_log.LogQueue.TheVariants.{Append, Rewrite};
 ghost use Rattle.raft_table.specs.MarkJoins.{end_at_reach};
-ghost use Rattle.raft_table.specs.MarkMerge.{IsFaultUnder, IsRunOver};
-ghost use Rattle.raft_table.specs.Marks.{table_over};
 ghost use Rattle.raft_table.specs.Queues.{other};
 ghost use Rattle.raft_table.specs.Table.{live_of, IsCounted, IsRecounted};
 ghost use Rattle.raft_accessor.specs.Accessor.{table_in, live_in};
@@ -22,7 +19,7 @@ impl RegionTables {
     ///
     /// # Errors
     ///
-    /// Those of [`MemTable::merge_under`]. The counts then agree with the tables.
+    /// Those of [`MemTable::join_under`]. The counts then agree with the tables.
     pub(crate) fn join_table(
         &mut self,
         queue: LogQueue,
@@ -72,7 +69,7 @@ impl RegionTables {
                     table.new }
                 ensures region { table.new.region_id ≡ table.old.region_id }
                 ensures recounted { IsRecounted table.old table.new stats.old stats.new }
-            { merge_under(queue, table, newer, mark, stats) },
+            { join_under(queue, table, newer, mark, stats) },
         )
     }
 
@@ -104,7 +101,7 @@ impl RegionTables {
 
 /// Puts a newer table over an older one. The answer is the end of the older entries that the region
 /// mark's first run came behind.
-fn merge_under(
+fn join_under(
     queue: LogQueue,
     table: &mut MemTable,
     mut newer: MemTable,
@@ -120,6 +117,6 @@ fn merge_under(
     ensures recounted { IsRecounted table.old table.new stats.old stats.new }
 {
     let end = table.end_at_reach(mark);
-    table.merge_under(queue, &mut newer, mark, stats)?;
+    table.join_under(queue, &mut newer, mark, stats)?;
     Ok(end)
 }

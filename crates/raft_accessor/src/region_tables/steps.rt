@@ -234,13 +234,13 @@ fn replay_into(
     match queue {
         LogQueue::Append => {
             if table.records(LogQueue::Rewrite) > 0 {
-                return Err(Error::invalid_argument(alloc, "a table of the rewrite queue"));
+                return Err(Error::invalid_argument(alloc, "the table has rewritten records"));
             }
             table.replay_append(run, stats)
         }
         LogQueue::Rewrite => {
             if table.records(LogQueue::Append) > 0 {
-                return Err(Error::invalid_argument(alloc, "a table of the append queue"));
+                return Err(Error::invalid_argument(alloc, "the table has appended records"));
             }
             table.replay_rewrite(run, stats)
         }

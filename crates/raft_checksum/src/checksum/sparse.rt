@@ -3,7 +3,7 @@
 //! The multiple is 1 + y^145 + y^183 + y^211 + y^300, where y is a byte. Its quotient needs no
 //! look-up, and sixteen bytes of it can be found at once.
 
-ghost use Rattle.std.specs.Prelude.{◌≡◌, ℕ, ◌+◌, ◌<◌, ◌≤◌, length};
+ghost use Rattle.std.specs.Prelude.{◌≡◌, ◌+◌, ◌≤◌, length};
 ghost use Rattle.raft_checksum.specs.Checksum.{register_after};
 ghost use Rattle.raft_checksum.specs.SparseMultiple.{AreZeros, IsQuotient, IsRemainder, StartsAlike};
 
@@ -11,7 +11,7 @@ use super::words::by_words;
 use byteorder::{ByteOrder, LittleEndian};
 
 /// How far back the division looks, in bytes.
-pub const REACH: usize = 300;
+const REACH: usize = 300;
 
 /// The bytes that are divided at once.
 const CHUNK: usize = 2048;

@@ -3,7 +3,7 @@
 //! 1 + x^145 + x^183 + x^211 + x^300 is a multiple too. Its remainder needs five words only, which
 //! stay in registers.
 
-ghost use Rattle.std.specs.Prelude.{◌≡◌, ℕ, ◌+◌, ◌≤◌, bit_xor, length};
+ghost use Rattle.std.specs.Prelude.{◌≡◌, ℕ, ◌≤◌, bit_xor, length};
 ghost use Rattle.raft_checksum.specs.Checksum.{crc_steps, register_after};
 ghost use Rattle.raft_checksum.specs.SparseMultiple.{StandFor};
 

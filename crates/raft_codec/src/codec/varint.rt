@@ -1,6 +1,6 @@
 //! Numbers in base 128: seven bits a byte, lowest first, the top bit set on all bytes but the last.
 
-ghost use Rattle.std.specs.Prelude.{◌≡◌, ◌≢◌, ℕ, ◌+◌, ◌*◌, ◌%◌, ◌^◌, ◌<◌, ◌≤◌, ◌++◌, List, length, take, IfOk, IfErr, IfSome, IfNone, OnOk, OnErr, MatchBool, [], ◌∷◌};
+ghost use Rattle.std.specs.Prelude.{◌≡◌, ℕ, ◌+◌, ◌*◌, ◌%◌, ◌^◌, ◌<◌, ◌≤◌, ◌++◌, List, length, take, IfOk, IfErr, IfSome, IfNone, OnOk, OnErr, MatchBool, [], ◌∷◌};
 ghost use Rattle.std.specs.Io.KnownBytes.{Appends, Keeps};
 ghost use Rattle.raft_codec.specs.Errors.{IsIo};
 ghost use Rattle.raft_codec.specs.Reading.{Reads, HasNoFront, HasOneFront};
@@ -39,7 +39,7 @@ pub fn parse_var_u64(bytes: &[u8]) -> Result<(u64, &[u8])>
 {
     match parse_short_var_u64(bytes) {
         Some(read) => Ok(read),
-        None => parse_groups(bytes),
+        None => parse_septets(bytes),
     }
 }
 
@@ -53,17 +53,17 @@ pub fn parse_short_var_u64(bytes: &[u8]) -> Option<(u64, &[u8])>
     match bytes {
         [first, rest @ ..] if *first < 0x80 => Some((u64::from(*first), rest)),
         [first, second, rest @ ..] if *second < 0x80 => {
-            Some((two_groups(*first, *second), rest))
+            Some((two_septets(*first, *second), rest))
         }
         [first, second, third, rest @ ..] if *third < 0x80 => {
             Some((
-                two_groups(*first, *second) + (u64::from(*third) << 14),
+                two_septets(*first, *second) + (u64::from(*third) << 14),
                 rest,
             ))
         }
         [first, second, third, fourth, rest @ ..] if *fourth < 0x80 => {
             Some((
-                two_groups(*first, *second) + (two_groups(*third, *fourth) << 14),
+                two_septets(*first, *second) + (two_septets(*third, *fourth) << 14),
                 rest,
             ))
         }
@@ -73,15 +73,15 @@ pub fn parse_short_var_u64(bytes: &[u8]) -> Option<(u64, &[u8])>
 
 /// The low seven bits of two bytes, those of the second one above those of the first.
 #[inline(always)]
-fn two_groups(first: u8, second: u8) -> u64
+fn two_septets(first: u8, second: u8) -> u64
     ensures { result ≡ first % 128 + 128 * (second % 128) }
 {
     u64::from(first % 0x80) + (u64::from(second % 0x80) << 7)
 }
 
-/// What `parse_var_u64` reads, one group of seven bits after another.
+/// What `parse_var_u64` reads, one septet after another.
 #[inline(never)]
-fn parse_groups(bytes: &[u8]) -> Result<(u64, &[u8])>
+fn parse_septets(bytes: &[u8]) -> Result<(u64, &[u8])>
     ensures ok { IfOk result (λ read. Reads IsVarint bytes.now read.1.now read.0) }
     ensures refused { OnErr result (HasNoFront IsVarint bytes.now) }
     ensures fault { IfErr result (IsVarintFault bytes.now) }
@@ -100,10 +100,10 @@ fn parse_groups(bytes: &[u8]) -> Result<(u64, &[u8])>
     Err(Error::unexpected_eof())
 }
 
-/// A group of seven bits at its place.
+/// A septet at its place.
 #[inline]
 fn at_place(bits: u8, place: usize) -> u64
-    requires group { bits < 128 }
+    requires septet { bits < 128 }
     requires place { place < 10 }
     requires tenth { place ≡ 9 → bits ≤ 1 }
     ensures { result ≡ bits * 128 ^ place }
@@ -169,40 +169,40 @@ pub fn append_var_u64(buf: &mut Vec<u8>, number: u64) -> std::result::Result<(),
     buf.extend_from_slice(&bytes[..len])
 }
 
-/// The shortest spelling of a number of two groups.
+/// The shortest spelling of a number of two septets.
 fn in_two_bytes(number: u64) -> [u8; 2]
     requires least { 128 ≤ number }
     requires below { number < 16384 }
     ensures { result ≡ varint number }
 {
-    [group(number), (number >> 7) as u8]
+    [septet(number), (number >> 7) as u8]
 }
 
-/// The shortest spelling of a number of three groups.
+/// The shortest spelling of a number of three septets.
 fn in_three_bytes(number: u64) -> [u8; 3]
     requires least { 16384 ≤ number }
     requires below { number < 2097152 }
     ensures { result ≡ varint number }
 {
-    [group(number), group(number >> 7), (number >> 14) as u8]
+    [septet(number), septet(number >> 7), (number >> 14) as u8]
 }
 
-/// The shortest spelling of a number of four groups.
+/// The shortest spelling of a number of four septets.
 fn in_four_bytes(number: u64) -> [u8; 4]
     requires least { 2097152 ≤ number }
     requires below { number < 268435456 }
     ensures { result ≡ varint number }
 {
     [
-        group(number),
-        group(number >> 7),
-        group(number >> 14),
+        septet(number),
+        septet(number >> 7),
+        septet(number >> 14),
         (number >> 21) as u8,
     ]
 }
 
-/// The lowest group of a number, which has more.
-fn group(number: u64) -> u8
+/// The lowest septet of a number, which has more.
+fn septet(number: u64) -> u8
     ensures { result ≡ number % 128 + 128 }
 {
     (number % 0x80) as u8 + 0x80

@@ -5,7 +5,7 @@ ghost use Rattle.raft_base.specs.declared.pipe_log.LogQueue.{LogQueue};
 ghost use Rattle.raft_base.specs.declared.pipe_log.LogQueue.TheVariants.{Append, Rewrite};
 ghost use Rattle.raft_history.specs.Joins.{StandForSteps, AreJoined};
 ghost use Rattle.raft_history.specs.MarkedRegions.{region_in, with_region, joined_region};
-ghost use Rattle.raft_table.specs.MarkMerge.{IsFaultUnder, IsRunOver};
+ghost use Rattle.raft_table.specs.MarkedJoins.{IsFaultUnder, IsRunOver};
 ghost use Rattle.raft_table.specs.Queues.{other};
 ghost use Rattle.raft_table.specs.Steps.{table_of};
 ghost use Rattle.raft_accessor.specs.Accessor.{table_in, live_in, live_in_all, AreCountsOf};

@@ -1,12 +1,12 @@
 //! Entries with their bytes in batches, and batches put together.
 
-ghost use Rattle.std.specs.Prelude.{◌≡◌, ◌≢◌, ◌↔◌, ◌+◌, ◌-◌, ◌^◌, ◌<◌, ◌≤◌, [], ◌∷◌, ◌++◌, map, length, IsTrue, IfOk, IfErr, OnOk, OnErr, drop, vec_len, vec_capacity};
+ghost use Rattle.std.specs.Prelude.{◌≡◌, ◌≢◌, ◌+◌, ◌-◌, ◌^◌, ◌<◌, ◌≤◌, [], ◌∷◌, ◌++◌, map, length, IfOk, IfErr, OnOk, OnErr, drop, vec_capacity};
 ghost use Rattle.std.specs.List.{concat};
 ghost use Rattle.raft_base.specs.Runs.{IsConsecutive};
 ghost use Rattle.raft_records.specs.Entries.{entry_with_index, with_lengths};
 ghost use Rattle.raft_records.specs.Faults.{OneRefuses};
 ghost use Rattle.raft_records.specs.Item.{entries_item};
-ghost use Rattle.raft_records.specs.ItemBatch.{entry_bytes_of, laid};
+ghost use Rattle.raft_records.specs.ItemBatch.{entry_bytes_of, with_offsets_from};
 ghost use Rattle.raft_records.specs.LogBatch.{populating, with_entries_added, IsBytesFault, IsAddFault, empty_batch, with_batch};
 ghost use Rattle.raft_records.specs.Spelling.{Keeps};
 
@@ -158,7 +158,7 @@ fn write_strings(
     ensures bytes { OnOk result (buf.new.items
         ≡ buf.old.items ++ concat (map (λ e. e.items) entries.now)) }
     ensures items { OnOk result (item_batch.new ≡ item_batch.old
-        ++ entries_item region_id (laid (entry_bytes_of item_batch.old)
+        ++ entries_item region_id (with_offsets_from (entry_bytes_of item_batch.old)
         (with_lengths entry_indexes.items (map (λ e. e.items) entries.now))) ∷ []) }
     ensures accepted { OnOk result (length buf.new.items < 16 + 2 ^ 31) }
     ensures err { OnErr result (item_batch.new ≡ item_batch.old) }
@@ -212,7 +212,7 @@ fn write_messages<M: MessageExt>(
     ensures bytes { OnOk result
         (buf.new.items ≡ buf.old.items ++ concat (map M.Entry.bytes_of entries.now)) }
     ensures items { OnOk result (item_batch.new ≡ item_batch.old
-        ++ entries_item region_id (laid (entry_bytes_of item_batch.old)
+        ++ entries_item region_id (with_offsets_from (entry_bytes_of item_batch.old)
         (with_lengths (map (λ e. entry_with_index (M.index_of e)) entries.now)
         (map M.Entry.bytes_of entries.now))) ∷ []) }
     ensures consecutive { OnOk result (IsConsecutive

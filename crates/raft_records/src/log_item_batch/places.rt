@@ -2,7 +2,7 @@
 
 ghost use Rattle.std.specs.Prelude.{◌≡◌, ◌+◌, ◌^◌, ◌<◌, map};
 ghost use Rattle.raft_records.specs.Item.{item_of};
-ghost use Rattle.raft_records.specs.ItemBatch.{placed_item, raised_item, laid, entry_lengths, entry_bytes_of, FitTogether};
+ghost use Rattle.raft_records.specs.ItemBatch.{placed_item, raised_item, with_offsets_from, entry_lengths, entry_bytes_of, FitTogether};
 
 use crate::LogItem;
 use raft_base::{CompressionType, EntryIndex, FileBlockHandle};
@@ -25,7 +25,7 @@ pub(super) fn place_items(
 /// answers where they end.
 pub(super) fn set_offsets(entries: &mut Vec<EntryIndex>, start: u32) -> u32
     requires { start + entry_lengths entries.old.items < 2 ^ 32 }
-    ensures laid { entries.new.items ≡ laid start entries.old.items }
+    ensures offsets { entries.new.items ≡ with_offsets_from start entries.old.items }
     ensures end { result ≡ start + entry_lengths entries.old.items }
 {
     let mut offset = start;

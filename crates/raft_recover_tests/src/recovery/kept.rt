@@ -422,7 +422,8 @@ fn replay(context: &mut MemTableRecoverContext, written: &Written) -> Result<()>
     context.replay(written.batch.clone()?, written.file)
 }
 
-/// Whether a context holds no more than its row says, and just its region marks, also once it is merged with another like it.
+/// Whether a context holds no more than its row says, and just its region marks, also once it is merged with
+/// another like it.
 fn holds_no_more(alloc: Global, row: &Row) -> Result<bool> {
     let (queue, _, _, bound) = row;
     let mut context = replayed_often(alloc, row)?;

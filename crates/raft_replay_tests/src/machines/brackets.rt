@@ -10,8 +10,8 @@ use std::sync::atomic::Ordering;
 use std::thread::Threads;
 use std::time::Clock;
 
-/// A dot for a new machine, a stroke for each batch, and brackets round what was merged. A batch in a file below the one
-/// before it is refused.
+/// A dot for a new machine, a stroke for each batch, and brackets round what was merged. A batch in a file
+/// below the one before it is refused.
 #[derive(Drop)]
 pub(crate) struct Brackets {
     text: String,
@@ -139,9 +139,9 @@ fn pieces_are_merged_as_the_plan_says(rt: HostRuntime) {
     assert!(rt; matches!(rest, Ok(true)));
 }
 
-/// How many workers replay how many segments, how many of these from the first on wait until all are passed, and what is
-/// written down: a piece is the segments that one worker drew with none between them drawn by another, and pieces are
-/// merged by halves.
+/// How many workers replay how many segments, how many of these from the first on wait until all are passed,
+/// and what is written down: a piece is the segments that one worker drew with none between them drawn by
+/// another, and pieces are merged by halves.
 const WORKED: [(usize, u64, usize, &str); 3] = [
     (1, 5, 0, "./////"),
     (2, 5, 1, "(././///)"),

@@ -6,8 +6,8 @@ use raft_records::FilePart;
 use raft_recover::cut_part;
 use std::alloc::Global;
 
-/// How many batches of 24 bytes stand in a part, how many bytes that are no header behind them, into how many parts it is
-/// to be cut, and how long those are that it is cut into.
+/// How many batches of 24 bytes stand in a part, how many bytes that are no header behind them, into how many
+/// parts it is to be cut, and how long those are that it is cut into.
 static CUTS: [(usize, usize, usize, &[usize]); 9] = [
     (0, 0, 4, &[0]),
     (4, 0, 0, &[96]),

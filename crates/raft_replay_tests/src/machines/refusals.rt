@@ -56,8 +56,8 @@ const FALLING: &[(LogQueue, u64)] = &[
 
 const TWO: &[(LogQueue, u64)] = &[(LogQueue::Append, 0), (LogQueue::Append, 1)];
 
-/// Whether a worker replays the segments, or a schedule of two pieces, the first of one segment; the segments' files, how
-/// many machines are given, and what is refused.
+/// Whether a worker replays the segments, or a schedule of two pieces, the first of one segment; the segments'
+/// files, how many machines are given, and what is refused.
 const REFUSALS: [(bool, &[(LogQueue, u64)], u64, What); 8] = [
     (false, TWO, 0, What::Machine),
     (false, TWO, 1, What::Machine),

@@ -1,7 +1,6 @@
 //! A set of keys.
 
 ghost use Rattle.std.specs.Prelude.{◌≡◌, ◌<◌, ◌≤◌, OnOk, OnErr, IfSome, IfNone, map};
-ghost use Rattle.std.specs.FinMap as finite;
 ghost use Rattle.std.specs.FinSet as finset;
 ghost use Rattle.raft_base.specs.declared.pipe_log.LogQueue.{LogQueue};
 ghost use Rattle.raft_table.specs.KeySets.{without};
@@ -86,8 +85,7 @@ impl DeletedKeys {
             self.take_each(rhs)?;
             return Ok(());
         }
-        self.take_each(rhs)?;
-        Ok(())
+        self.take_each(rhs)
     }
 
     /// Takes over one key of `rhs` after another.

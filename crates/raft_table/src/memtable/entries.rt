@@ -1,11 +1,10 @@
 //! The entries of a region, in order of index.
 
-ghost use Rattle.std.specs.Prelude.{◌≡◌, ◌≢◌, ◌+◌, ◌<◌, ◌≤◌, [], length, take, drop, MatchOption, IfOk, IfErr};
+ghost use Rattle.std.specs.Prelude.{◌≡◌, ◌≢◌, ◌+◌, ◌<◌, [], length, MatchOption};
 ghost use Rattle.raft_table.specs.Blocks.{blocks_shown, entries_in_blocks, AreDistinctBlocks};
 ghost use Rattle.raft_table.specs.Fetches.{block_count};
 ghost use Rattle.raft_base.specs.Runs.{end_of};
-ghost use Rattle.raft_table.specs.Start.{counts_without};
-ghost use Rattle.raft_table.specs.TableEntries.{AreTableEntries, start_of, entry_at, entry_count, below, from, AreCounted, AreRecounted};
+ghost use Rattle.raft_table.specs.TableEntries.{AreTableEntries, start_of, entry_at, entry_count};
 ghost use Rattle.raft_base.specs.declared.pipe_log.LogQueue.TheVariants.{Rewrite};
 
 mod cuts;
@@ -16,10 +15,9 @@ mod places;
 mod runs;
 mod walks;
 
-use crate::global_stats::GlobalStats;
 use crate::memtable::block::Block;
 use crate::memtable::entries::lists::find;
-use raft_base::{CompressionType, EntryIndex, Error, LogQueue, Result};
+use raft_base::{CompressionType, EntryIndex, LogQueue};
 use std::alloc::Global;
 use std::collections::VecDeque;
 use std::marker::Model;
@@ -89,7 +87,7 @@ impl Entries {
     }
 
     /// The entries are one run without gaps, each has a place, and the rewritten ones stand in front
-    /// of the appended ones.
+    /// of the appended ones. This is a law: it computes nothing.
     pub fn holds_one_run(&self)
         ensures { AreTableEntries self.now }
     {
@@ -166,8 +164,8 @@ impl Entries {
         if index - self.first >= self.len as u64 {
             return None;
         }
-        let (whole, at) = find(&self.starts, self.first, self.len, index);
-        let block = &self.blocks[whole];
+        let (nth, at) = find(&self.starts, self.first, self.len, index);
+        let block = &self.blocks[nth];
         let span = block.spans[at];
         Some(EntryIndex {
             index,

@@ -5,7 +5,7 @@ ghost use Rattle.std.specs.FinSet as finset;
 ghost use Rattle.raft_base.specs.declared.pipe_log.LogQueue.{LogQueue};
 ghost use Rattle.raft_base.specs.declared.pipe_log.LogQueue.TheVariants.{Append, Rewrite};
 ghost use Rattle.raft_base.specs.declared.entry_index.EntryIndex.{EntryIndex};
-ghost use Rattle.raft_base.specs.Runs.{IsRun, end_of};
+ghost use Rattle.raft_base.specs.Runs.{IsRun};
 ghost use Rattle.raft_table.specs.TableEntries.{IsRunIn, StandsBehind, start_of, entry_at, below, from};
 ghost use Rattle.std.specs.FinMap as finite;
 ghost use Rattle.raft_table.specs.LastWord.{last_entry, last_pair};
@@ -40,10 +40,10 @@ pub fn entries_stand_by_index()
         → entry_at i (below index es) ≡ (if nat_lt i index then entry_at i es else None) }
 {}
 
-/// In the append queue the entry at an index is that of the last of a region's steps that speaks of the
-/// index: a run that starts at or below it, a compaction above it, a truncation at or below it, or a
-/// clean. In both queues the value and the file of a key are those of the last step that speaks of the key: a `Put` or a `Del` of it,
-/// or a clean.
+/// In the append queue the entry at an index is that of the last of a region's steps that speaks of the index:
+/// a run that starts at or below it, a compaction above it, a truncation at or below it, or a clean. In both
+/// queues the value and the file of a key are those of the last step that speaks of the key: a `Put` or a `Del`
+/// of it, or a clean.
 pub fn last_words_stand()
     ensures entries { (id i : ℕ) (t : Option Table) (ss : List Step) → AreSteps ss →
         after Append id None ss ≡ Some t → entry_at i (table_of id t).entries ≡ last_entry i ss }

@@ -1,17 +1,16 @@
 //! Region marks of regions, and tables merged under them.
 
-ghost use Rattle.std.specs.Prelude.{◌≡◌, ℕ, ◌<◌, ◌||◌, OnOk, OnErr, IfErr, Some, None, min};
-ghost use Rattle.std.specs.FinMap as finite;
+ghost use Rattle.std.specs.Prelude.{◌≡◌, ℕ, ◌<◌, ◌||◌, OnOk, OnErr, Some, None};
 ghost use Rattle.raft_base.specs.declared.pipe_log.LogQueue.TheVariants.{Append, Rewrite};
 ghost use Rattle.raft_table.specs.Marks.{misses};
-ghost use Rattle.raft_table.specs.MarkJoins.{fresh, is_settled, mark_of, end_at_reach, joined_at, joined_barred, joined_deleted, joined_floor, is_detached, at_most_bound, narrowed_bars};
+ghost use Rattle.raft_table.specs.MarkJoins.{fresh, is_settled, mark_of, end_at_reach, joined_at, joined_barred, joined_deleted, joined_floor, is_detached, narrowed_bars};
 ghost use Rattle.raft_table.specs.KeyValues.{lesser};
 ghost use Rattle.raft_base.specs.declared.pipe_log.LogQueue.{LogQueue};
 ghost use Rattle.raft_table.specs.Steps.{Compact, Truncate, Del, Clean};
 
 use crate::memtable::bounds::{capped, lesser};
 use crate::memtable::deleted_keys::DeletedKeys;
-use raft_base::{Error, LogQueue, Result};
+use raft_base::{AllocResult, LogQueue};
 use std::alloc::Global;
 use std::marker::Model;
 use std::mem;
@@ -129,15 +128,14 @@ impl Mark {
     ///
     /// # Errors
     ///
-    /// Where there is no memory for the newer deleted keys. Bounds and cleans are then as they were,
-    /// and the deleted keys are divided between both region marks, but for one that is lost: neither serves on.
-    pub fn join(&mut self, queue: LogQueue, end_at_reach: u64, newer: &mut Mark) -> Result<()>
+    /// Where there is no memory for the newer deleted keys. Bounds and cleans are then as they were, and the
+    /// deleted keys are divided between both region marks, but for one that is lost: neither serves on.
+    pub fn join(&mut self, queue: LogQueue, end_at_reach: u64, newer: &mut Mark) -> AllocResult<()>
         ensures ok { OnOk result (self.new ≡ joined_at queue end_at_reach self.old newer.old) }
         ensures err { OnErr result (self.new ≡ record self.old { deleted = self.new.deleted }) }
         ensures newer { newer.new ≡ record newer.old { deleted = newer.new.deleted } }
-        ensures memory { IfErr result (λ e. e ≡ Error.Memory) }
     {
-        if self.cleaned || self.reach.is_some() && self.cut.is_none() {
+        if self.is_settled() {
             return Ok(());
         }
         self.join_deleted(newer)?;
@@ -198,10 +196,9 @@ impl Mark {
     /// # Errors
     ///
     /// Where there is no memory for the key. The region mark is then as it was.
-    pub fn add_deleted(&mut self, key: Vec<u8>) -> Result<()>
+    pub fn add_deleted(&mut self, key: Vec<u8>) -> AllocResult<()>
         ensures ok { OnOk result ((queue : LogQueue) (end : ℕ)
             → self.new ≡ joined_at queue end self.old (mark_of (Del key.items))) }
-        ensures memory { IfErr result (λ e. e ≡ Error.Memory) }
         ensures err { OnErr result (self.new ≡ self.old) }
     {
         if self.is_settled() {
@@ -263,19 +260,17 @@ impl Mark {
     }
 
     /// Takes over the keys that the newer steps deleted.
-    fn join_deleted(&mut self, newer: &mut Mark) -> Result<()>
+    fn join_deleted(&mut self, newer: &mut Mark) -> AllocResult<()>
         ensures err { OnErr result (self.new ≡ record self.old { deleted = self.new.deleted }) }
         ensures ok { OnOk result (self.new ≡ record self.old
             { deleted = joined_deleted self.old newer.old }) }
         ensures newer { newer.new ≡ record newer.old { deleted = newer.new.deleted } }
-        ensures memory { IfErr result (λ e. e ≡ Error.Memory) }
     {
         if newer.cleaned {
             mem::swap(&mut self.deleted, &mut newer.deleted);
             return Ok(());
         }
-        self.deleted.absorb(&mut newer.deleted)?;
-        Ok(())
+        self.deleted.absorb(&mut newer.deleted)
     }
 }
 
@@ -293,10 +288,8 @@ fn misses(reach: Option<u64>, end: u64) -> bool
 fn narrowed(floor: u64, cut: Option<u64>, barred: Option<(u64, u64)>) -> Option<(u64, u64)>
     ensures { result ≡ narrowed_bars floor cut barred }
 {
-    match barred {
-        Some((from, below)) => Some((floor.max(from), capped(below, cut))),
-        None => None,
-    }
+    let (from, below) = barred?;
+    Some((floor.max(from), capped(below, cut)))
 }
 
 /// Whether a newer first run is detached: it comes behind no entry of the older table, whose entries it
@@ -314,10 +307,7 @@ fn is_detached(reach: Option<u64>, end: u64, bound: u64) -> bool
 fn drops_below(reach: Option<u64>, end: u64, bound: u64) -> bool
     ensures { result ≡ is_detached reach end bound || misses reach end }
 {
-    if is_detached(reach, end, bound) {
-        return true;
-    }
-    misses(reach, end)
+    is_detached(reach, end, bound) || misses(reach, end)
 }
 
 /// The barred indexes of two region marks: the older one's, else those that a newer first run which is detached

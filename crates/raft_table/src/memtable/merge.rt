@@ -1,13 +1,12 @@
 //! Merges of two tables of one region.
 
-ghost use Rattle.std.specs.Prelude.{◌≡◌, ◌≢◌, ◌+◌, ◌<◌, ◌≤◌, ◌^◌, [], OnOk, IfErr, Some, MatchBool};
+ghost use Rattle.std.specs.Prelude.{◌≡◌, ◌≢◌, ◌+◌, ◌<◌, ◌≤◌, ◌^◌, [], OnOk, IfErr, Some};
 ghost use Rattle.std.specs.FinMap as finite;
 ghost use Rattle.raft_base.specs.declared.pipe_log.LogQueue.{LogQueue};
 ghost use Rattle.raft_base.specs.declared.pipe_log.LogQueue.TheVariants.{Append, Rewrite};
 ghost use Rattle.raft_table.specs.Counts.{live};
-ghost use Rattle.raft_table.specs.TableEntries.{entry_count};
 ghost use Rattle.raft_table.specs.KeyValues.{pairs_over, pair_count};
-ghost use Rattle.raft_table.specs.Merge.{counts_after_merge, counts_with_keys, counts_with_others, joint_queue, append_rule, after_join, after_newer, after_appended, IsTableMergeFault};
+ghost use Rattle.raft_table.specs.Merge.{counts_after_merge, counts_with_keys, counts_with_others, joint_queue, append_rule, after_merge, after_newer, after_appended, IsTableMergeFault};
 ghost use Rattle.raft_table.specs.Queues.{count_in, other};
 ghost use Rattle.raft_table.specs.Table.{empty_table, live_of, IsCounted, IsRecounted};
 
@@ -53,10 +52,8 @@ impl MemTable {
                 "tables of two queues are no neighbors",
             ));
         };
-        self.join(queue, rhs, queue, stats)?;
-        if let Some(atomic_group) = rhs.atomic_group.take() {
-            self.atomic_group = Some(atomic_group);
-        }
+        self.merge_by_rule(queue, rhs, queue, stats)?;
+        self.take_atomic_group(rhs);
         Ok(())
     }
 
@@ -89,10 +86,10 @@ impl MemTable {
         let Some(rule) = self.append_rule(rhs) else {
             return Err(Error::invalid_argument(
                 self.entries.allocator(),
-                "a rewritten and an appended table are asked",
+                "only an appended table without atomic group merges into a rewritten one",
             ));
         };
-        self.join(rule, rhs, LogQueue::Append, stats)
+        self.merge_by_rule(rule, rhs, LogQueue::Append, stats)
     }
 
     /// The one queue of the records of two tables, if there is one.
@@ -123,7 +120,7 @@ impl MemTable {
 
     /// Moves the entries and pairs of `rhs`, which are in one queue, into this table: its run by a
     /// start rule, its pairs over the own ones.
-    pub(super) fn join(
+    pub(super) fn merge_by_rule(
         &mut self,
         rule: LogQueue,
         rhs: &mut MemTable,
@@ -133,7 +130,7 @@ impl MemTable {
         requires alone { live_of (other queue) rhs.old ≡ 0 }
         requires rewritten { queue ≡ Rewrite → live_of Append self.old ≡ 0 }
         requires counted { IsCounted self.old stats.old }
-        ensures ok { OnOk result (after_join rule self.old rhs.old ≡ Some self.new) }
+        ensures ok { OnOk result (after_merge rule self.old rhs.old ≡ Some self.new) }
         ensures emptied { OnOk result (rhs.new ≡ record rhs.old
             { entries = []; keys = finite.empty }) }
         ensures fault { IfErr result (IsTableMergeFault stats.old self.old rhs.old (Some rule)) }

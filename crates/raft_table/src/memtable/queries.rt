@@ -123,7 +123,7 @@ impl MemTable {
 
     /// Calls `f` at the keys from `start` on and below `end` with their values, in the order of the
     /// keys or, where `reverse`, from the last one back, until it answers false. A bound that is
-    /// `None` leaves its side open; where `start` is above `end` nothing is visited.
+    /// `None` leaves its side open; where `start` is above `end` nothing is visited. It is always `Ok`.
     pub fn scan<F: FnMut(&[u8], &[u8]) -> bool>(
         &self,
         start: Option<&[u8]>,

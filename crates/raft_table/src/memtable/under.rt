@@ -1,4 +1,4 @@
-//! Merges of two tables of one region under the newer one's region mark.
+//! Joins of two tables of one region under the newer one's region mark.
 
 ghost use Rattle.std.specs.Prelude.{◌≡◌, ◌≢◌, ◌+◌, ◌≤◌, false, [], if◌then◌else◌, MatchBool, OnOk, OnErr, IfErr, Some, None, ◌^◌};
 ghost use Rattle.std.specs.FinMap as finite;
@@ -9,7 +9,7 @@ ghost use Rattle.raft_table.specs.Counts.{live};
 ghost use Rattle.raft_table.specs.TableEntries.{IsRunIn};
 ghost use Rattle.raft_table.specs.KeySets.{without};
 ghost use Rattle.raft_table.specs.KeyValues.{pair_count};
-ghost use Rattle.raft_table.specs.MarkMerge.{IsMarkFault, IsFaultUnder, IsRunOver, left_by};
+ghost use Rattle.raft_table.specs.MarkedJoins.{IsMarkFault, IsFaultUnder, IsRunOver, left_by};
 ghost use Rattle.raft_table.specs.Marks.{entries_within, is_missed, is_barred, is_refused_over, table_over};
 ghost use Rattle.raft_table.specs.MarkJoins.{end_at_reach};
 ghost use Rattle.raft_table.specs.Merge.{newer_atomic_group};
@@ -45,7 +45,7 @@ impl MemTable {
     /// the older entries, `Full` where the live count of a queue and the
     /// records of `rhs` there would pass 2^64 - 1. Both tables and the counts are then as they were;
     /// after `Memory` the counts still agree with this table.
-    pub fn merge_under(
+    pub fn join_under(
         &mut self,
         queue: LogQueue,
         rhs: &mut MemTable,
@@ -78,7 +78,7 @@ impl MemTable {
         }
         self.check_newer_mark(queue, mark)?;
         self.drop_older(self.is_missed(mark), mark, stats);
-        self.join(queue, rhs, queue, stats)?;
+        self.merge_by_rule(queue, rhs, queue, stats)?;
         self.take_atomic_group(rhs);
         Ok(())
     }
@@ -117,7 +117,7 @@ impl MemTable {
             return Err(Error::Full);
         }
         self.drop_older(self.is_unjoined(rhs, mark), mark, stats);
-        self.join(LogQueue::Rewrite, rhs, LogQueue::Append, stats)?;
+        self.merge_by_rule(LogQueue::Rewrite, rhs, LogQueue::Append, stats)?;
         self.take_appended_group(rhs, mark);
         Ok(())
     }
@@ -163,7 +163,7 @@ impl MemTable {
     }
 
     /// Takes over the atomic group of a newer table, if it has one.
-    fn take_atomic_group(&mut self, rhs: &mut MemTable)
+    pub(super) fn take_atomic_group(&mut self, rhs: &mut MemTable)
         ensures atomic_group { self.new ≡ record self.old {
           atomic_group = newer_atomic_group rhs.old.atomic_group self.old.atomic_group;
         } }

@@ -56,7 +56,7 @@ returns-clause-ok c =
     let item_batch = c.split_at-3.ensures.back ∙ ap (drop c.in_ok-offset.offset) c.split_at-2.ensures.front in
     let signature = ap signature_of c.new-context.ensures ∙ ap part_signature c.part.view_is in
     let read = c.in_ok-batch.ensures.ok in
-    let items = subst (λ (xs : List ℕ). IsItemBatch xs (part_signature c.args.part.now) read.read c.decode.new.buf.now) item_batch (subst (λ s. IsItemBatch c.split_at-3.result.1.now s read.read c.decode.new.buf.now) signature read.batch) in
+    let items = subst (λ (xs : List ℕ). IsItemBatch xs (part_signature c.args.part.now) read.read c.decode.new.buf.now) item_batch (subst (λ s. IsItemBatch c.split_at-3.result.1.now s read.read c.decode.new.buf.now) signature read.item_batch) in
     let frame = batch_stands c.split_at.result.1.now c.in_ok-offset.field-0-1.now (part_signature c.args.part.now) c.in_ok-offset.offset c.in_ok-offset.len c.in_ok-offset.compression_type read.read c.decode.new.buf.now c.in_ok-offset.ensures.ok c.if-len-rest.false items in
     record {
       bytes = take c.in_ok-offset.len c.split_at.result.1.now;

@@ -1,6 +1,6 @@
 use Rattle.std.proofs.Common.{inl, inr}
 use Rattle.std.proofs.lemmas.Result.{err_from_is_err_and}
-use Rattle.raft_records.proofs.HeaderLemmas.{header_read, too_short_for_header, unknown_type, offset_past_end, offset_in_header, type_ok, words_fault}
+use Rattle.raft_records.proofs.HeaderLemmas.{header_read, too_short_for_header, unknown_type, offset_past_end, offset_in_header, type_ok, header_numbers_fault}
 use Rattle.raft_records.proofs.header.parse_header.Goals as goal
 
 pub returns-in_err-format-clause-refused : goal.returns-in_err-format-clause-refused
@@ -23,7 +23,7 @@ pub returns-in_err-compression_type-clause-fault :
     goal.returns-in_err-compression_type-clause-fault
 returns-in_err-compression_type-clause-fault c =
     let p = err_from_is_err_and c.from_residual-in_err-compression_type.result c.from_residual-in_err-compression_type.ensures.1 in
-    rw (p.1, p.2) (inr (words_fault _ _ _ _ _ _ c.parse_u64-len_and_type.ensures.read c.parse_u64-offset.ensures.read (inl c.in_err-compression_type.ensures.fault)))
+    rw (p.1, p.2) (inr (header_numbers_fault _ _ _ _ _ _ c.parse_u64-len_and_type.ensures.read c.parse_u64-offset.ensures.read (inl c.in_err-compression_type.ensures.fault)))
 
 pub returns-then-offset-len-clause-refused : goal.returns-then-offset-len-clause-refused
 returns-then-offset-len-clause-refused c =
@@ -31,7 +31,7 @@ returns-then-offset-len-clause-refused c =
 
 pub returns-then-offset-len-clause-fault : goal.returns-then-offset-len-clause-fault
 returns-then-offset-len-clause-fault c =
-    inr (words_fault _ _ _ _ _ _ c.parse_u64-len_and_type.ensures.read c.parse_u64-offset.ensures.read (inr (type_ok _ _ c.in_ok-compression_type.ensures.ok, inl (c.if-offset-len.true, c.corruption.ensures))))
+    inr (header_numbers_fault _ _ _ _ _ _ c.parse_u64-len_and_type.ensures.read c.parse_u64-offset.ensures.read (inr (type_ok _ _ c.in_ok-compression_type.ensures.ok, inl (c.if-offset-len.true, c.corruption.ensures))))
 
 pub returns-then-offset-clause-refused : goal.returns-then-offset-clause-refused
 returns-then-offset-clause-refused c =
@@ -39,7 +39,7 @@ returns-then-offset-clause-refused c =
 
 pub returns-then-offset-clause-fault : goal.returns-then-offset-clause-fault
 returns-then-offset-clause-fault c =
-    inr (words_fault _ _ _ _ _ _ c.parse_u64-len_and_type.ensures.read c.parse_u64-offset.ensures.read (inr (type_ok _ _ c.in_ok-compression_type.ensures.ok, inr (c.if-offset-len.false, c.if-offset.true, c.corruption-then-offset.ensures))))
+    inr (header_numbers_fault _ _ _ _ _ _ c.parse_u64-len_and_type.ensures.read c.parse_u64-offset.ensures.read (inr (type_ok _ _ c.in_ok-compression_type.ensures.ok, inr (c.if-offset-len.false, c.if-offset.true, c.corruption-then-offset.ensures))))
 
 pub returns-clause-ok : goal.returns-clause-ok
 returns-clause-ok c =

@@ -9,8 +9,8 @@ returns-clause-item c = item_spelled
 pub returns-clause-one_front : goal.returns-clause-one_front
 returns-clause-one_front c = item_one_front
 
-pub returns-clause-batch : goal.returns-clause-batch
-returns-clause-batch c = batch_spelled
+pub returns-clause-item_batch : goal.returns-clause-item_batch
+returns-clause-item_batch c = batch_spelled
 
 pub returns-clause-one_batch : goal.returns-clause-one_batch
 returns-clause-one_batch c = one_batch

@@ -4,8 +4,8 @@ use Rattle.raft_records.proofs.laws.log_batches_are_read_again.Goals as goal
 pub returns-clause-written : goal.returns-clause-written
 returns-clause-written c = log_batch_spelled
 
-pub returns-clause-parts : goal.returns-clause-parts
-returns-clause-parts c = parts
+pub returns-clause-sections : goal.returns-clause-sections
+returns-clause-sections c = parts
 
 pub returns-clause-readable : goal.returns-clause-readable
 returns-clause-readable c = readable

@@ -4,11 +4,11 @@ use Rattle.std.proofs.lemmas.List.{take_all, length-map}
 use Rattle.raft_codec.specs.Varint.{varint}
 use Rattle.raft_records.specs.Item.{item_of}
 use Rattle.raft_records.specs.Spelling.{item_bytes}
-use Rattle.raft_records.specs.ItemBatch.{batch_bytes, no_checksum}
+use Rattle.raft_records.specs.ItemBatch.{item_batch_bytes, no_checksum}
 use Rattle.raft_records.proofs.log_item_batch.write_items.Goals as goal
 
 pub returns-clause-ok : goal.returns-clause-ok
-unfolding batch_bytes
+unfolding item_batch_bytes
 returns-clause-ok c =
     let whole : take c.loop-item.item-index c.args.items.now ≡ c.args.items.now = take_all c.loop-item.item-index c.args.items.now (omega arith) in
     let written = c.loop-item.invariant ∙ ap (λ xs. c.args.buf.now.items ++ (varint (length c.args.items.now) ++ flat_map item_bytes (map item_of xs))) whole in

@@ -3,7 +3,7 @@ use Rattle.std.proofs.lemmas.Result.{err_from_is_err_and}
 use Rattle.raft_replay.specs.declared.pieces.Waiting.{Waiting}
 use Rattle.raft_replay.specs.declared.pieces.Waiting.TheVariants.{Merged}
 use Rattle.raft_replay.specs.Plans.{leaves}
-use Rattle.raft_replay.specs.PlanWalks.{IsNext, IsReached, cost}
+use Rattle.raft_replay.specs.PlanWalks.{ArePlansNext, IsReached, cost}
 use Rattle.raft_tickets.specs.Weights.{weigh}
 use Rattle.raft_tickets.proofs.WeightLemmas.{weigh-append}
 use Rattle.raft_replay.proofs.WalkLemmas.{last_first, waits, enough, joined, unjoined, on_ok}
@@ -38,7 +38,7 @@ returns-in_err-merge-in-Merged-clause-refused g c =
 pub returns-in_ok-push-in-Unmerged-clause-ok : goal.returns-in_ok-push-in-Unmerged-clause-ok
 returns-in_ok-push-in-Unmerged-clause-ok g c = λ all reached.
     c.oldest_of.ensures.ok all
-    (subst (λ (l : List (Waiting g.row.M.Denot)). IsNext g.M.ReplayMachine.stands_for g.M.ReplayMachine.stands_exactly all c.in-Unmerged.plan.now l (reverse c.args.pieces.now.items))
+    (subst (λ (l : List (Waiting g.row.M.Denot)). ArePlansNext g.M.ReplayMachine.stands_for g.M.ReplayMachine.stands_exactly all c.in-Unmerged.plan.now l (reverse c.args.pieces.now.items))
     (sym (last_first c.push.new.self.items c.args.waiting.now.items (Merged c.args.merged) c.in_ok-push-in-Unmerged.ensures.items))
     (waits g.M.ReplayMachine.stands_for g.M.ReplayMachine.stands_exactly all c.in-Unmerged.plan (reverse c.args.waiting.now.items) (reverse c.args.pieces.now.items) c.args.merged
     (subst (λ (n : Waiting g.row.M.Denot). IsReached g.M.ReplayMachine.stands_for g.M.ReplayMachine.stands_exactly all (n ∷ reverse c.args.waiting.now.items) (reverse c.args.pieces.now.items) c.args.merged)

@@ -3,7 +3,7 @@ use Rattle.raft_replay.specs.declared.plan.Plan.{Plan}
 use Rattle.raft_replay.specs.declared.pieces.Waiting.{Waiting}
 use Rattle.raft_replay.specs.declared.pieces.Waiting.TheVariants.{Unmerged}
 use Rattle.raft_replay.specs.Plans.{leaves}
-use Rattle.raft_replay.specs.PlanWalks.{IsNext, cost}
+use Rattle.raft_replay.specs.PlanWalks.{ArePlansNext, cost}
 use Rattle.raft_tickets.specs.Weights.{weigh}
 use Rattle.raft_tickets.proofs.WeightLemmas.{weigh-append}
 use Rattle.raft_replay.proofs.WalkLemmas.{last_first, turned, taken}
@@ -19,7 +19,7 @@ loop-plan-preserved g c =
     record {
       few = omega (arith, before.few, whole, first);
       next = λ all begun.
-          subst (λ (l : List (Waiting g.row.M.Denot)). IsNext g.M.ReplayMachine.stands_for g.M.ReplayMachine.stands_exactly all c.deref-plan.result.now l (reverse c.args.pieces.now.items))
+          subst (λ (l : List (Waiting g.row.M.Denot)). ArePlansNext g.M.ReplayMachine.stands_for g.M.ReplayMachine.stands_exactly all c.deref-plan.result.now l (reverse c.args.pieces.now.items))
           (sym (last_first c.push.new.self.items c.loop-plan.waiting.items (Unmerged c.deref.result) items))
           (turned g.M.ReplayMachine.stands_for g.M.ReplayMachine.stands_exactly all c.loop-plan.plan.now c.deref-plan.result.now c.deref.result
           (reverse c.loop-plan.waiting.items) (reverse c.args.pieces.now.items) (omega (arith, whole, first, second)) (before.next all begun));
@@ -35,5 +35,5 @@ pub returns-clause-ok : goal.returns-clause-ok
 returns-clause-ok g c = λ all begun.
     taken g.M.ReplayMachine.stands_for g.M.ReplayMachine.stands_exactly all (reverse c.loop-plan.waiting.items) (reverse c.args.pieces.now.items)
     (reverse c.pop.new.self.items) c.in-Some.piece (last_first c.args.pieces.now.items c.pop.new.self.items c.in-Some.piece c.in-Some.ensures.items)
-    (subst (λ (p : Plan). IsNext g.M.ReplayMachine.stands_for g.M.ReplayMachine.stands_exactly all p (reverse c.loop-plan.waiting.items) (reverse c.args.pieces.now.items))
+    (subst (λ (p : Plan). ArePlansNext g.M.ReplayMachine.stands_for g.M.ReplayMachine.stands_exactly all p (reverse c.loop-plan.waiting.items) (reverse c.args.pieces.now.items))
     c.in_default.is (c.loop-plan.invariant.next all begun))

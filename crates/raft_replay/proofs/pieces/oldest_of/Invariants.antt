@@ -1,6 +1,6 @@
 use Rattle.std.proofs.Common.{◌≡◌, ◌+◌, ◌*◌, ◌≤◌, List, reverse, vec_len}
 use Rattle.raft_replay.specs.Plans.{leaves}
-use Rattle.raft_replay.specs.PlanWalks.{IsNext, cost}
+use Rattle.raft_replay.specs.PlanWalks.{ArePlansNext, cost}
 use Rattle.raft_tickets.specs.Weights.{weigh}
 use Rattle.raft_replay.proofs.pieces.oldest_of.Given as goal
 
@@ -8,7 +8,7 @@ abbrev pub invariant-loop-plan : goal.invariant-loop-plan
 invariant-loop-plan g l = record {
   few : leaves l.plan ≤ vec_len l.fn.pieces;
   next :
-      (all : List g.row.M.Denot) → IsNext g.M.ReplayMachine.stands_for g.M.ReplayMachine.stands_exactly all l.fn.plan (reverse l.fn.waiting.items) (reverse l.fn.pieces.items)
-      → IsNext g.M.ReplayMachine.stands_for g.M.ReplayMachine.stands_exactly all l.plan (reverse l.waiting.items) (reverse l.fn.pieces.items);
+      (all : List g.row.M.Denot) → ArePlansNext g.M.ReplayMachine.stands_for g.M.ReplayMachine.stands_exactly all l.fn.plan (reverse l.fn.waiting.items) (reverse l.fn.pieces.items)
+      → ArePlansNext g.M.ReplayMachine.stands_for g.M.ReplayMachine.stands_exactly all l.plan (reverse l.waiting.items) (reverse l.fn.pieces.items);
   spent : weigh cost l.waiting.items + 2 * leaves l.plan ≡ weigh cost l.fn.waiting.items + 2 * leaves l.fn.plan;
 }

@@ -1,7 +1,7 @@
 use Rattle.std.proofs.Common.{◌≡◌, ℕ, List, subst, ◌∙◌, arith}
 use Rattle.std.proofs.lemmas.Str.{IsCharBoundary-from_ascii}
 use Rattle.raft_size.specs.SizeNumber.{Number, IsNumber}
-use Rattle.raft_size.specs.SizeReading.{parts_of}
+use Rattle.raft_size.specs.SizeReading.{number_shown}
 use Rattle.raft_size.specs.SizeText.{number_text, unit_text}
 use Rattle.raft_size.specs.SizeUnits.{IsUnit}
 use Rattle.raft_size.proofs.SizeTextLemmas.{number_len-le, front_len_is, number_text_is, unit_text_is, has_unit}
@@ -31,7 +31,7 @@ returns-in_default-parse-clause-fault c =
 pub returns-in_default-significand-clause-fault : goal.returns-in_default-significand-clause-fault
 returns-in_default-significand-clause-fault c =
     let text = c.args.text.now in
-    let number = parts_of c.in-Some-parse.number in
+    let number = number_shown c.in-Some-parse.number in
     let front : c.as_bytes-2.result.now ≡ number_text text = c.as_bytes-2.ensures.value ∙ number_text_is text _ _ _ c.as_bytes.ensures.value c.front_len.ensures c.split_at.ensures.front in
     record {
       factor = c.in-Some.factor;
@@ -44,7 +44,7 @@ returns-in_default-significand-clause-fault c =
 pub returns-clause-size : goal.returns-clause-size
 returns-clause-size c =
     let text = c.args.text.now in
-    let number = parts_of c.in-Some-parse.number in
+    let number = number_shown c.in-Some-parse.number in
     let front : c.as_bytes-2.result.now ≡ number_text text = c.as_bytes-2.ensures.value ∙ number_text_is text _ _ _ c.as_bytes.ensures.value c.front_len.ensures c.split_at.ensures.front in
     record {
       factor = c.in-Some.factor;

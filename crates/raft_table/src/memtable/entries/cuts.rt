@@ -2,7 +2,7 @@
 
 ghost use Rattle.std.specs.Prelude.{◌≡◌, ◌+◌, ◌≤◌, ◌<◌, [], length, take, drop, slice_index_or};
 ghost use Rattle.raft_table.specs.Blocks.{blocks_shown};
-ghost use Rattle.raft_table.specs.BlockWords.{cut_last, cut_first};
+ghost use Rattle.raft_table.specs.BlockWords.{first_of_last, without_first_of_first};
 ghost use Rattle.raft_base.specs.Runs.{end_of};
 ghost use Rattle.raft_table.specs.TableEntries.{below, from, AreCounted, AreRecounted};
 ghost use Rattle.raft_table.specs.Start.{counts_without};
@@ -105,9 +105,9 @@ impl Entries {
             return;
         }
         let index = self.first + count as u64;
-        let (whole, dropped) = find(&self.starts, self.first, self.len, index);
-        cut_front(&mut self.blocks, whole, dropped);
-        drop_first(&mut self.starts, whole);
+        let (nth, dropped) = find(&self.starts, self.first, self.len, index);
+        drop_front_blocks(&mut self.blocks, nth, dropped);
+        drop_first(&mut self.starts, nth);
         self.starts[0] = index;
         self.first = index;
         self.len -= count;
@@ -123,9 +123,9 @@ impl Entries {
             self.clear();
             return;
         }
-        let (whole, last) = search(&self.starts, self.first + (count - 1) as u64);
-        cut_back(&mut self.blocks, whole, last + 1);
-        self.starts.truncate(whole + 1);
+        let (nth, last) = search(&self.starts, self.first + (count - 1) as u64);
+        keep_front_blocks(&mut self.blocks, nth, last + 1);
+        self.starts.truncate(nth + 1);
         self.len = count;
         self.rewritten = self.rewritten.min(count);
     }
@@ -142,24 +142,24 @@ impl Entries {
 }
 
 /// Keeps so many whole blocks, and so many entries of the next one.
-fn cut_back(blocks: &mut VecDeque<Block>, whole: usize, kept: usize)
-    requires whole { whole < length blocks.old.items }
+fn keep_front_blocks(blocks: &mut VecDeque<Block>, nth: usize, kept: usize)
+    requires nth { nth < length blocks.old.items }
     ensures { blocks_shown blocks.new.items
-        ≡ cut_last kept (take (whole + 1) (blocks_shown blocks.old.items)) }
+        ≡ first_of_last kept (take (nth + 1) (blocks_shown blocks.old.items)) }
 {
-    blocks.truncate(whole + 1);
-    blocks[whole].spans.truncate(kept);
+    blocks.truncate(nth + 1);
+    blocks[nth].spans.truncate(kept);
 }
 
 /// Drops whole blocks from the front, and so many entries of the next one.
-fn cut_front(blocks: &mut VecDeque<Block>, whole: usize, dropped: usize)
-    requires whole { whole < length blocks.old.items }
+fn drop_front_blocks(blocks: &mut VecDeque<Block>, nth: usize, dropped: usize)
+    requires nth { nth < length blocks.old.items }
     requires dropped { (d : Block) → dropped
-        ≤ length (slice_index_or blocks.old.items whole d).spans.items }
+        ≤ length (slice_index_or blocks.old.items nth d).spans.items }
     ensures { blocks_shown blocks.new.items
-        ≡ cut_first dropped (drop whole (blocks_shown blocks.old.items)) }
+        ≡ without_first_of_first dropped (drop nth (blocks_shown blocks.old.items)) }
 {
-    drop_first(blocks, whole);
+    drop_first(blocks, nth);
     drop_spans(&mut blocks[0], dropped);
 }
 

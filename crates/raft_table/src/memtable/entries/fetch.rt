@@ -1,6 +1,6 @@
 //! Entries handed out of a table.
 
-ghost use Rattle.std.specs.Prelude.{◌≡◌, ◌+◌, ◌-◌, ◌≤◌, ◌<◌, ◌^◌, ◌++◌, take, drop, slice_index_or, length, OnOk, OnErr, IfErr};
+ghost use Rattle.std.specs.Prelude.{◌≡◌, ◌+◌, ◌-◌, ◌≤◌, ◌<◌, ◌++◌, take, drop, length, OnOk, OnErr, IfErr};
 ghost use Rattle.std.specs.List.{prefix_len, slice_get};
 ghost use Rattle.raft_base.specs.declared.pipe_log.LogQueue.TheVariants.{Append, Rewrite};
 ghost use Rattle.raft_table.specs.TableEntries.{placed_in};
@@ -72,8 +72,8 @@ impl Entries {
         if at >= self.len {
             return None;
         }
-        let (whole, _) = find(&self.starts, self.first, self.len, self.first + at as u64);
-        Some(self.blocks[whole].handle.id.seq)
+        let (nth, _) = find(&self.starts, self.first, self.len, self.first + at as u64);
+        Some(self.blocks[nth].handle.id.seq)
     }
 
     /// The file number of the first entry in `queue`.
@@ -132,7 +132,7 @@ impl Entries {
 
     /// Appends the entries behind the first `start`, among the first `end`, to a vector, which
     /// stays as it was where there is no memory.
-    pub(super) fn extend(&self, vec: &mut Vec<EntryIndex>, start: usize, end: usize) -> Result<()>
+    fn extend(&self, vec: &mut Vec<EntryIndex>, start: usize, end: usize) -> Result<()>
         requires order { start ≤ end }
         requires within { end ≤ length self.now }
         ensures ok { OnOk result (vec.new.items ≡ vec.old.items ++ drop start (take end self.now)) }

@@ -11,7 +11,7 @@ ghost use Rattle.raft_table.specs.Queues.{count_in};
 use crate::memtable::block::Block;
 use crate::memtable::entries::Entries;
 use crate::memtable::entries::lists::{
-    cut_at, find, is_same, push_block, put_blocks, search, spans_behind,
+    spot_behind, find, is_same, push_block, put_blocks, search, spans_behind,
 };
 use raft_base::{AllocResult, EntryIndex, FileBlockHandle, LogQueue};
 use std::alloc::Global;
@@ -111,12 +111,12 @@ impl Entries {
         ensures ok { OnOk result ((self.new ≡ take keep self.old ++ run.old) × (run.new ≡ [])) }
         ensures err { OnErr result ((self.new ≡ self.old) × (run.new ≡ run.old)) }
     {
-        let (whole, last) = search(&self.starts, self.first + (keep - 1) as u64);
+        let (nth, last) = search(&self.starts, self.first + (keep - 1) as u64);
         let rest = self.blocks.len();
         put_blocks(
             &mut self.blocks,
             &mut self.starts,
-            (whole + 1, last + 1),
+            (nth + 1, last + 1),
             rest,
             &mut run.blocks,
             &mut run.starts,
@@ -144,11 +144,11 @@ impl Entries {
         let moved = kept + run.rewritten;
         let rewritten = moved + (self.rewritten - passed);
         let index = self.first + end as u64;
-        let (whole, dropped) = find(&self.starts, self.first, self.len, index);
-        let block = &self.blocks[whole];
+        let (nth, dropped) = find(&self.starts, self.first, self.len, index);
+        let block = &self.blocks[nth];
         let handle = block.handle;
         let spans = spans_behind(*self.blocks.allocator(), &block.spans, dropped)?;
-        let spot = cut_at(&self.starts, self.first, at);
+        let spot = spot_behind(&self.starts, self.first, at);
         let mut blocks = run.blocks;
         let mut starts = run.starts;
         push_block(&mut blocks, &mut starts, index, Block { handle, spans })?;
@@ -156,7 +156,7 @@ impl Entries {
             &mut self.blocks,
             &mut self.starts,
             spot,
-            whole + 1,
+            nth + 1,
             &mut blocks,
             &mut starts,
         )?;

@@ -4,7 +4,7 @@ ghost use Rattle.std.specs.Prelude.{◌≡◌, ◌≢◌, ◌+◌, ◌⊎◌, �
 ghost use Rattle.std.specs.List.Sorted.{IsNonDecreasingBy};
 ghost use Rattle.std.specs.VecDeque.{deque_len, deque_capacity};
 ghost use Rattle.raft_table.specs.Blocks.{BlockSpans, block_spans, blocks_shown};
-ghost use Rattle.raft_table.specs.BlockWords.{count, starts_of, cut_last, joined_blocks, seam, IsIndexOf, IsAt};
+ghost use Rattle.raft_table.specs.BlockWords.{count, starts_of, first_of_last, joined_blocks, seam, IsIndexOf, IsAt};
 
 use crate::memtable::block::Block;
 use raft_base::{AllocResult, FileBlockHandle};
@@ -13,7 +13,7 @@ use std::collections::VecDeque;
 use std::mem::swap;
 
 /// How many starts are at or below an index.
-pub(super) fn count_at_or_below(starts: &VecDeque<u64>, index: u64) -> usize
+fn count_at_or_below(starts: &VecDeque<u64>, index: u64) -> usize
     requires { IsNonDecreasingBy (λ (y : ℕ). y) starts.now.items }
     ensures bound { result ≤ length starts.now.items }
     ensures below { (j d : ℕ) → j < result → slice_index_or starts.now.items j d ≤ index }
@@ -51,9 +51,9 @@ pub(super) fn search(starts: &VecDeque<u64>, index: u64) -> (usize, usize)
     if start <= index {
         return (last, (index - start) as usize);
     }
-    let whole = count_at_or_below(starts, index) - 1;
-    let start = starts[whole];
-    (whole, (index - start) as usize)
+    let nth = count_at_or_below(starts, index) - 1;
+    let start = starts[nth];
+    (nth, (index - start) as usize)
 }
 
 /// Behind how many of `count` blocks of one length an index stands, if they have `len` entries from
@@ -65,7 +65,7 @@ fn guess(first: u64, len: usize, count: usize, index: u64) -> usize {
 
 /// Behind how many blocks the first so many entries end, and behind how many of the last of those.
 /// `first` is the index of the first of all.
-pub(super) fn cut_at(starts: &VecDeque<u64>, first: u64, kept: usize) -> (usize, usize)
+pub(super) fn spot_behind(starts: &VecDeque<u64>, first: u64, kept: usize) -> (usize, usize)
     requires bounded { first + kept < 2 ^ 64 }
     requires within { 0 < kept → IsIndexOf starts.now.items (first + (kept - 1)) }
     ensures none { kept ≡ 0 → (result.0 ≡ 0) × (result.1 ≡ 0) }
@@ -76,8 +76,8 @@ pub(super) fn cut_at(starts: &VecDeque<u64>, first: u64, kept: usize) -> (usize,
     if kept == 0 {
         return (0, 0);
     }
-    let (whole, last) = search(starts, first + (kept - 1) as u64);
-    (whole + 1, last + 1)
+    let (nth, last) = search(starts, first + (kept - 1) as u64);
+    (nth + 1, last + 1)
 }
 
 /// The spans behind the first `dropped`.
@@ -122,7 +122,7 @@ pub(super) fn put_blocks(
     requires more { (0 < length more.old.items) ×
         (length more_starts.old.items ≡ length more.old.items) }
     ensures blocks { OnOk result (blocks_shown blocks.new.items
-        ≡ joined_blocks (cut_last spot.1 (take spot.0 (blocks_shown blocks.old.items)))
+        ≡ joined_blocks (first_of_last spot.1 (take spot.0 (blocks_shown blocks.old.items)))
         (blocks_shown more.old.items)
         ++ drop rest (blocks_shown blocks.old.items)) }
     ensures starts { OnOk result (starts.new.items ≡ take spot.0 starts.old.items
@@ -143,7 +143,7 @@ pub(super) fn put_blocks(
     Ok(())
 }
 
-/// Makes room for the elements of two queues in one of them: in the longer one where the first
+/// Makes room for the elements of two deques in one of them: in the longer one where the first
 /// lacks it.
 fn make_room<T>(deque: &mut VecDeque<T>, more: &mut VecDeque<T>) -> AllocResult<()>
     ensures items { (deque.new.items ≡ deque.old.items) × (more.new.items ≡ more.old.items) }
@@ -174,7 +174,7 @@ fn meet(
         (length more_starts.old.items ≡ length more.old.items) }
     ensures front { OnOk result (take spot.0 (blocks_shown blocks.new.items)
         ++ blocks_shown more.new.items
-        ≡ joined_blocks (cut_last spot.1 (take spot.0 (blocks_shown blocks.old.items)))
+        ≡ joined_blocks (first_of_last spot.1 (take spot.0 (blocks_shown blocks.old.items)))
         (blocks_shown more.old.items)) }
     ensures behind { OnOk result ((n : ℕ) → spot.0 ≤ n
         → drop n (blocks_shown blocks.new.items) ≡ drop n (blocks_shown blocks.old.items)) }
@@ -191,11 +191,11 @@ fn meet(
         × (blocks_shown more.new.items ≡ blocks_shown more.old.items)
         × (more_starts.new.items ≡ more_starts.old.items)) }
 {
-    let (whole, kept) = spot;
-    if whole == 0 {
+    let (nth, kept) = spot;
+    if nth == 0 {
         return Ok(());
     }
-    let last = whole - 1;
+    let last = nth - 1;
     if !is_same(&blocks[last].handle, &more[0].handle) {
         shorten(&mut blocks[last], kept);
         return Ok(());
@@ -272,7 +272,7 @@ fn shorten(block: &mut Block, kept: usize)
 }
 
 /// Keeps the first `kept` elements and those from `rest` on, and puts more between them. The shorter
-/// end is moved where either queue has room.
+/// end is moved where either deque has room.
 fn splice<T: Drop>(deque: &mut VecDeque<T>, kept: usize, rest: usize, more: &mut VecDeque<T>)
     requires order { kept ≤ rest }
     requires within { rest ≤ deque_len deque.old }

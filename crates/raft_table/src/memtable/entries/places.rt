@@ -1,6 +1,6 @@
 //! Places that move to the rewrite queue, or within it.
 
-ghost use Rattle.std.specs.Prelude.{◌≡◌, ◌≢◌, ◌⊎◌, ◌+◌, ◌<◌, ◌≤◌, ◌^◌, ◌++◌, length, take, drop, MatchOption, OnOk, OnErr, IfErr, false};
+ghost use Rattle.std.specs.Prelude.{◌≡◌, ◌⊎◌, ◌+◌, ◌<◌, ◌≤◌, ◌^◌, ◌++◌, length, take, drop, MatchOption, OnOk, OnErr, IfErr, false};
 ghost use Rattle.std.specs.List.{prefix_len};
 ghost use Rattle.raft_table.specs.Counts.{live, with_added, with_deleted};
 ghost use Rattle.raft_base.specs.Runs.{RisesFrom};
@@ -43,7 +43,7 @@ impl Entries {
         if self.is_misplaced(overlap.at, gate) {
             return Err(Error::corruption(
                 self.allocator(),
-                "a rewriting starts off the rewritten entries",
+                "a rewriting doesn't start where the rewritten entries end",
             ));
         }
         let places = &run[overlap.skipped..overlap.skipped + overlap.count];

@@ -47,7 +47,7 @@ impl Entries {
     /// # Errors
     ///
     /// `Corruption` where that rule refuses them, `Full` where more than 2^64 - 1 records would be
-    /// live in their queue.
+    /// live in their queue, `Memory`. Both lists and the counts are then as they were.
     pub fn absorb(
         &mut self,
         rule: LogQueue,

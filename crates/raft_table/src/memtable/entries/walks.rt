@@ -5,12 +5,12 @@ ghost use Rattle.std.specs.List.{prefix_len};
 ghost use Rattle.std.specs.Vec.{vec_len, vec_capacity};
 ghost use Rattle.raft_base.specs.declared.entry_index.EntryIndex.{EntryIndex};
 ghost use Rattle.raft_table.specs.Blocks.{BlockSpans, block_spans, blocks_shown, entries_of_block, entries_in_blocks, AreDistinctBlocks};
-ghost use Rattle.raft_table.specs.BlockWords.{count, unset, with_spans, IsAt};
+ghost use Rattle.raft_table.specs.BlockWords.{count, without_span, with_spans, IsAt};
 ghost use Rattle.raft_table.specs.Fetches.{IsLimitCount};
 ghost use Rattle.raft_table.specs.Rewriting.{may_move};
 
 use crate::memtable::block::Block;
-use raft_base::{CompressionType, EntryIndex, FileBlockHandle, FileSeq, LogQueue};
+use raft_base::{EntryIndex, FileBlockHandle, FileSeq, LogQueue};
 use std::collections::VecDeque;
 
 /// Appends the entries behind the first `start`, among the first `end`, to a vector with room for
@@ -36,12 +36,12 @@ pub(super) fn push_entries(
         (take end (entries_in_blocks first (blocks_shown blocks.now.items))) }
 {
     let len = vec.len();
-    push_unset(vec, first, blocks, spot, start, end);
+    push_without_spans(vec, first, blocks, spot, start, end);
     set_spans(vec, len, blocks, spot, start, end);
 }
 
 /// Appends those entries without their spans.
-fn push_unset(
+fn push_without_spans(
     vec: &mut Vec<EntryIndex>,
     first: u64,
     blocks: &VecDeque<Block>,
@@ -57,30 +57,36 @@ fn push_unset(
     requires room { vec_len vec.old + (end - start) ≤ vec_capacity vec.old }
     ensures { vec.new.items
         ≡ vec.old.items
-        ++ map unset
+        ++ map without_span
         (drop start (take end (entries_in_blocks first (blocks_shown blocks.now.items)))) }
 {
-    let (mut whole, mut at) = spot;
+    let (mut nth, mut at) = spot;
     let mut done = start;
     while done < end {
-        let block = &blocks[whole];
+        let block = &blocks[nth];
         let count = (block.spans.len() - at).min(end - done);
-        push_unset_of(vec, first + done as u64, block, at, count);
+        push_without_spans_of(vec, first + done as u64, block, at, count);
         done += count;
-        whole += 1;
+        nth += 1;
         at = 0;
     }
 }
 
 /// Appends so many entries of a block, behind the first `at`, without their spans to a vector with room
 /// for them. The first of them has the index `first`.
-fn push_unset_of(vec: &mut Vec<EntryIndex>, first: u64, block: &Block, at: usize, count: usize)
+fn push_without_spans_of(
+    vec: &mut Vec<EntryIndex>,
+    first: u64,
+    block: &Block,
+    at: usize,
+    count: usize,
+)
     requires within { at + count ≤ length block.now.spans.items }
     requires bounded { first + count < 2 ^ 64 }
     requires room { vec_len vec.old + count ≤ vec_capacity vec.old }
     ensures items { vec.new.items
         ≡ vec.old.items
-        ++ map unset
+        ++ map without_span
         (entries_of_block first block.now.handle (take count (drop at block.now.spans.items))) }
     ensures len { vec_len vec.new ≡ vec_len vec.old + count }
     ensures capacity { vec_capacity vec.new ≡ vec_capacity vec.old }
@@ -113,18 +119,19 @@ fn set_spans(
     ensures { (i : ℕ) (front : List EntryIndex) → length front ≡ len
         → vec.old.items
         ≡ front
-        ++ map unset (drop start (take end (entries_in_blocks i (blocks_shown blocks.now.items))))
+        ++ map without_span
+        (drop start (take end (entries_in_blocks i (blocks_shown blocks.now.items))))
         → vec.new.items
         ≡ front ++ drop start (take end (entries_in_blocks i (blocks_shown blocks.now.items))) }
 {
-    let (mut whole, mut at) = spot;
+    let (mut nth, mut at) = spot;
     let mut done = start;
     while done < end {
-        let block = &blocks[whole];
+        let block = &blocks[nth];
         let count = (block.spans.len() - at).min(end - done);
         set_spans_of(vec, len + (done - start), block, at, count);
         done += count;
-        whole += 1;
+        nth += 1;
         at = 0;
     }
 }
@@ -170,15 +177,15 @@ pub(super) fn movable_from(
         → result ≡ prefix_len (may_move gate)
         (drop start (take end (entries_in_blocks i (blocks_shown blocks.now.items)))) }
 {
-    let (mut whole, mut at) = spot;
+    let (mut nth, mut at) = spot;
     let mut done = start;
     while done < end {
-        let block = &blocks[whole];
+        let block = &blocks[nth];
         if !is_movable(&block.handle, gate) {
             return done - start;
         }
         done += (block.spans.len() - at).min(end - done);
-        whole += 1;
+        nth += 1;
         at = 0;
     }
     end - start
@@ -233,9 +240,9 @@ fn next(block: &Block, spot: (usize, usize)) -> (usize, usize)
         → p + 1 < count bs
         → IsAt (p + 1) bs result.0 result.1 }
 {
-    let (whole, at) = spot;
+    let (nth, at) = spot;
     if at + 1 < block.spans.len() {
-        return (whole, at + 1);
+        return (nth, at + 1);
     }
-    (whole + 1, 0)
+    (nth + 1, 0)
 }

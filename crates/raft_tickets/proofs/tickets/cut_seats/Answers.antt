@@ -3,7 +3,7 @@ use Rattle.std.proofs.lemmas.List.{length_push}
 use Rattle.std.proofs.lemmas.List.Elements.{All-push}
 use Rattle.raft_tickets.specs.Draws.{Drawer}
 use Rattle.raft_tickets.proofs.DrawingLemmas.{nothing, splits, first_left, last_left, fewer_left}
-use Rattle.raft_tickets.proofs.tickets.cut_seats.Goals as goal
+use Rattle.raft_tickets.proofs.tickets.split_seats.Goals as goal
 
 pub split_seat-seat-requires : goal.split_seat-seat-requires
 split_seat-seat-requires c =

@@ -1,5 +1,5 @@
 use Rattle.std.proofs.Common.{◌≡◌, ◌+◌, [], All, replicate, drop, length}
-use Rattle.raft_tickets.proofs.tickets.cut_seats.Given as goal
+use Rattle.raft_tickets.proofs.tickets.split_seats.Given as goal
 
 abbrev pub invariant-loop : goal.invariant-loop
 invariant-loop l = record {

@@ -1,5 +1,5 @@
 use Rattle.std.proofs.Common.{◌≡◌, ◌/◌, sym, arith}
-use Rattle.raft_codec.proofs.VarintLemmas.{four_groups}
+use Rattle.raft_codec.proofs.VarintLemmas.{four_septets}
 use Rattle.raft_codec.proofs.codec.varint.in_four_bytes.Goals as goal
 
 pub returns : goal.returns
@@ -7,4 +7,4 @@ returns c =
     let n = c.args.number in
     let e : n / 16384 ≡ n / 128 / 128 = omega arith in
     let f : n / 2097152 ≡ n / 128 / 128 / 128 = omega arith in
-    rw (c.group.ensures, c.group-2.ensures, c.group-3.ensures, e, f) (sym (four_groups n (omega (arith, c.requires.least)) (omega (arith, c.requires.below))))
+    rw (c.septet.ensures, c.septet-2.ensures, c.septet-3.ensures, e, f) (sym (four_septets n (omega (arith, c.requires.least)) (omega (arith, c.requires.below))))

@@ -1,5 +1,5 @@
 use Rattle.std.proofs.Common.{◌≡◌, ℕ, ◌*◌, ◌^◌, ◌≤◌, ◌++◌, take, ap, subst, refl, sym, arith, ◌-◌}
-use Rattle.raft_codec.specs.Varint.{varint, groups_of}
+use Rattle.raft_codec.specs.Varint.{varint, septets_of}
 use Rattle.raft_codec.proofs.VarintLemmas.{written_last, written_more, rest_falls}
 use Rattle.raft_codec.proofs.codec.varint.put_var_u64.Goals as goal
 
@@ -22,5 +22,5 @@ returns-clause-written c =
     let nine : c.loop-i.i ≡ 9 = omega arith in
     let power : 128 ^ c.loop-i.i ≡ 128 ^ 9 = ap (λ (k : ℕ). 128 ^ k) nine in
     let bound : c.loop-i.rest * 128 ^ 9 ≤ c.args.number = rw power at c.loop-i.invariant.1 in
-    let whole : take 9 c.loop-i.bytes ++ groups_of 0 c.loop-i.rest ≡ varint c.args.number = subst (λ (k : ℕ). take k c.loop-i.bytes ++ groups_of (9 - k) c.loop-i.rest ≡ varint c.args.number) nine (sym c.loop-i.invariant.0) in
+    let whole : take 9 c.loop-i.bytes ++ septets_of 0 c.loop-i.rest ≡ varint c.args.number = subst (λ (k : ℕ). take k c.loop-i.bytes ++ septets_of (9 - k) c.loop-i.rest ≡ varint c.args.number) nine (sym c.loop-i.invariant.0) in
     written_last c.loop-i.bytes _ 9 0 c.loop-i.rest (omega arith) (omega arith) whole

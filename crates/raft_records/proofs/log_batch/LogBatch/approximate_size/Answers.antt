@@ -1,6 +1,6 @@
 use Rattle.std.proofs.Common.{◌≡◌, ◌≢◌, ◌+◌, ◌^◌, ◌<◌, ◌≤◌, ◌∙◌, List, [], length, ap, sym, subst, arith, rules}
 use Rattle.raft_records.specs.Item.{Item}
-use Rattle.raft_records.specs.ItemBatch.{batch_bytes}
+use Rattle.raft_records.specs.ItemBatch.{item_batch_bytes}
 use Rattle.raft_records.specs.LogBatch.{Batch}
 use Rattle.raft_records.specs.LogBatchModel.{stage_of}
 use Rattle.raft_records.specs.Buffer.{entry_bytes_in}
@@ -29,7 +29,7 @@ pub returns-in-Open-clause-covers : goal.returns-in-Open-clause-covers
 returns-in-Open-clause-covers c small lt =
     let items = ap (λ (b : Batch). b.items) c.self.view_is in
     let size = c.approximate_size-items.result in
-    let covers = subst (λ (xs : List Item). length (batch_bytes xs) < 2 ^ 56 → length (batch_bytes xs) + 4 ≤ size) items (c.approximate_size-items.ensures.covers (subst HaveSmallNumbers (sym items) small)) in
+    let covers = subst (λ (xs : List Item). length (item_batch_bytes xs) < 2 ^ 56 → length (item_batch_bytes xs) + 4 ≤ size) items (c.approximate_size-items.ensures.covers (subst HaveSmallNumbers (sym items) small)) in
     let entry_bytes : c.entries_size-entry_bytes.result ≡ length c.args.self.now.entry_bytes = c.entries_size-entry_bytes.ensures ∙ sym c.self.invariant.whole ∙ ap (λ (b : Batch). length b.entry_bytes) c.self.view_is in
     let sum : c.saturating_add.result ≡ at_most_usize (size + (16 + length c.args.self.now.entry_bytes + 4)) = omega (arith, c.saturating_add.ensures, entry_bytes) in
     open_covers c.args.self.now.items c.args.self.now.entry_bytes size c.saturating_add.result covers sum lt

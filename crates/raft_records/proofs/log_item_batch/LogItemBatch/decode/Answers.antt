@@ -33,7 +33,7 @@ returns-clause-ok c =
     let counted = counted_read c.in_ok-count.count c.in_ok-content.content.now c.in_ok-count.behind.now c.in_ok-batch.rest.now items c.in_ok-count.ensures.ok c.in_ok-batch.ensures.ok.1 in
     record {
       read = items;
-      batch = batch_read (signature_of c.args.context.now) c.args.buf.now.now c.in_ok-content.content.now c.in_ok-batch.rest.now items sealed counted;
+      item_batch = batch_read (signature_of c.args.context.now) c.args.buf.now.now c.in_ok-content.content.now c.in_ok-batch.rest.now items sealed counted;
       places = c.with_file.ensures ∙ c.in_ok-batch.ensures.ok.2;
     }
 

@@ -1,7 +1,7 @@
 use Rattle.std.proofs.Common.{◌^◌, ◌<◌, List, [], ◌++◌, map, length, subst, arith}
 use Rattle.std.proofs.lemmas.List.{length-map}
 use Rattle.raft_records.specs.Item.{Item, bare, item_of}
-use Rattle.raft_records.specs.ItemBatch.{IsItemBatch, batch_bytes, checksum_bytes}
+use Rattle.raft_records.specs.ItemBatch.{IsItemBatch, item_batch_bytes, checksum_bytes}
 use Rattle.raft_records.proofs.WrittenLemmas.{batch_spelled}
 use Rattle.raft_records.proofs.log_item_batch.LogItemBatch.is_read_again.Goals as goal
 
@@ -9,4 +9,4 @@ pub returns-clause-spelled : goal.returns-clause-spelled
 returns-clause-spelled c signature =
     let items = map item_of c.self.inside.items.items in
     let count : length items < 2 ^ 64 = omega (arith, length-map c.self.inside.items.items item_of, c.len-count.ensures, c.len-count.type_inv) in
-    subst (λ (xs : List Item). IsItemBatch (batch_bytes xs ++ checksum_bytes signature (batch_bytes xs)) signature (map bare xs) []) c.self.view_is (batch_spelled signature items c.self.invariant.0.fit c.self.invariant.0.in_range count)
+    subst (λ (xs : List Item). IsItemBatch (item_batch_bytes xs ++ checksum_bytes signature (item_batch_bytes xs)) signature (map bare xs) []) c.self.view_is (batch_spelled signature items c.self.invariant.0.fit c.self.invariant.0.in_range count)

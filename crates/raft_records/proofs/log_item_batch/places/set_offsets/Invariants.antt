@@ -1,8 +1,8 @@
 use Rattle.std.proofs.Common.{◌≡◌, ◌+◌, ◌++◌, take, drop}
-use Rattle.raft_records.specs.ItemBatch.{laid, entry_lengths}
+use Rattle.raft_records.specs.ItemBatch.{with_offsets_from, entry_lengths}
 use Rattle.raft_records.proofs.log_item_batch.places.set_offsets.Given as goal
 
 -- the entries so far are laid, and end at the offset
 abbrev pub invariant-loop-entry : goal.invariant-loop-entry
 invariant-loop-entry l =
-    (l.entry-items ≡ laid l.start (take l.entry-index l.fn.entries.items) ++ drop l.entry-index l.fn.entries.items) × (l.offset ≡ l.start + entry_lengths (take l.entry-index l.fn.entries.items))
+    (l.entry-items ≡ with_offsets_from l.start (take l.entry-index l.fn.entries.items) ++ drop l.entry-index l.fn.entries.items) × (l.offset ≡ l.start + entry_lengths (take l.entry-index l.fn.entries.items))

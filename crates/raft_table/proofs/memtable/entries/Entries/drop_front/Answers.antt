@@ -11,24 +11,24 @@ returns-then-count-self c = let l = (kept_facts c.self.invariant).length in rw (
 pub overflow_add-index : goal.overflow_add-index
 overflow_add-index c = let f = (kept_facts c.self.invariant) in let l = f.length in let h = rw (← c.self.view_is) at c.requires in let b = f.bounded (omega arith) in omega arith
 
-pub find-whole-requires : goal.find-whole-requires
-find-whole-requires c = index_of c.self.invariant c.args.count refl (let l = (kept_facts c.self.invariant).length in let h = rw (← c.self.view_is) at c.requires in omega arith)
+pub find-nth-requires : goal.find-nth-requires
+find-nth-requires c = index_of c.self.invariant c.args.count refl (let l = (kept_facts c.self.invariant).length in let h = rw (← c.self.view_is) at c.requires in omega arith)
 
-pub cut_front-requires-clause-whole : goal.cut_front-requires-clause-whole
-cut_front-requires-clause-whole c = block_within c.self.inside.blocks.items (found c.self.invariant c.find-whole.ensures (c.args.count) refl (let l = (kept_facts c.self.invariant).length in let h = rw (← c.self.view_is) at c.requires in omega arith))
+pub drop_front_blocks-requires-clause-nth : goal.drop_front_blocks-requires-clause-nth
+drop_front_blocks-requires-clause-nth c = block_within c.self.inside.blocks.items (found c.self.invariant c.find-nth.ensures (c.args.count) refl (let l = (kept_facts c.self.invariant).length in let h = rw (← c.self.view_is) at c.requires in omega arith))
 
-pub cut_front-requires-clause-dropped : goal.cut_front-requires-clause-dropped
-cut_front-requires-clause-dropped c d = let w = spot_inside c.self.inside.blocks.items (found c.self.invariant c.find-whole.ensures (c.args.count) refl (let l = (kept_facts c.self.invariant).length in let h = rw (← c.self.view_is) at c.requires in omega arith)) d in omega arith
+pub drop_front_blocks-requires-clause-dropped : goal.drop_front_blocks-requires-clause-dropped
+drop_front_blocks-requires-clause-dropped c d = let w = spot_inside c.self.inside.blocks.items (found c.self.invariant c.find-nth.ensures (c.args.count) refl (let l = (kept_facts c.self.invariant).length in let h = rw (← c.self.view_is) at c.requires in omega arith)) d in omega arith
 
 pub drop_first-requires : goal.drop_first-requires
-drop_first-requires c = let a = (found c.self.invariant c.find-whole.ensures (c.args.count) refl (let l = (kept_facts c.self.invariant).length in let h = rw (← c.self.view_is) at c.requires in omega arith)) in let w = a.block in let n = kept_length c.self.invariant in omega arith
+drop_first-requires c = let a = (found c.self.invariant c.find-nth.ensures (c.args.count) refl (let l = (kept_facts c.self.invariant).length in let h = rw (← c.self.view_is) at c.requires in omega arith)) in let w = a.block in let n = kept_length c.self.invariant in omega arith
 
 pub index_mut-requires : goal.index_mut-requires
 index_mut-requires c =
-    let a = (found c.self.invariant c.find-whole.ensures (c.args.count) refl (let l = (kept_facts c.self.invariant).length in let h = rw (← c.self.view_is) at c.requires in omega arith)) in
+    let a = (found c.self.invariant c.find-nth.ensures (c.args.count) refl (let l = (kept_facts c.self.invariant).length in let h = rw (← c.self.view_is) at c.requires in omega arith)) in
     let w = a.block in
     let n = kept_length c.self.invariant in
-    let d = ap length c.drop_first.ensures ∙ length-drop c.find-whole.result.0 c.self.inside.starts.items in
+    let d = ap length c.drop_first.ensures ∙ length-drop c.find-nth.result.0 c.self.inside.starts.items in
     omega (arith, c.drop_first.new.deque.ok)
 
 pub overflow_sub-self : goal.overflow_sub-self
@@ -36,11 +36,11 @@ overflow_sub-self c = let l = (kept_facts c.self.invariant).length in let h = rw
 
 pub invariant_of-self : goal.invariant_of-self
 invariant_of-self c =
-    rw (c.cut_front.ensures, c.drop_first.ensures, c.min.ensures)
-    (kept_drop c.self.inside.first c.self.inside.len c.args.count c.find-whole.result.0 c.find-whole.result.1 (blocks_shown c.self.inside.blocks.items) c.self.inside.starts.items c.self.inside.rewritten c.self.invariant (found c.self.invariant c.find-whole.ensures (c.args.count) refl (let l = (kept_facts c.self.invariant).length in let h = rw (← c.self.view_is) at c.requires in omega arith))).0
+    rw (c.drop_front_blocks.ensures, c.drop_first.ensures, c.min.ensures)
+    (kept_drop c.self.inside.first c.self.inside.len c.args.count c.find-nth.result.0 c.find-nth.result.1 (blocks_shown c.self.inside.blocks.items) c.self.inside.starts.items c.self.inside.rewritten c.self.invariant (found c.self.invariant c.find-nth.ensures (c.args.count) refl (let l = (kept_facts c.self.invariant).length in let h = rw (← c.self.view_is) at c.requires in omega arith))).0
 
 pub returns : goal.returns
 returns c =
     rw (← c.self.view_is)
-    (ap (entries_in_blocks (c.self.inside.first + c.args.count)) c.cut_front.ensures
-    ∙ (kept_drop c.self.inside.first c.self.inside.len c.args.count c.find-whole.result.0 c.find-whole.result.1 (blocks_shown c.self.inside.blocks.items) c.self.inside.starts.items c.self.inside.rewritten c.self.invariant (found c.self.invariant c.find-whole.ensures (c.args.count) refl (let l = (kept_facts c.self.invariant).length in let h = rw (← c.self.view_is) at c.requires in omega arith))).1)
+    (ap (entries_in_blocks (c.self.inside.first + c.args.count)) c.drop_front_blocks.ensures
+    ∙ (kept_drop c.self.inside.first c.self.inside.len c.args.count c.find-nth.result.0 c.find-nth.result.1 (blocks_shown c.self.inside.blocks.items) c.self.inside.starts.items c.self.inside.rewritten c.self.invariant (found c.self.invariant c.find-nth.ensures (c.args.count) refl (let l = (kept_facts c.self.invariant).length in let h = rw (← c.self.view_is) at c.requires in omega arith))).1)

@@ -1,7 +1,7 @@
 use Rattle.std.proofs.Common.{◌≡◌, ◌+◌, ◌-◌, ◌<◌, ◌≤◌, min, ◌++◌, length, take, drop, get_or, arith, refl, ap, subst, ◌∙◌}
 use Rattle.std.proofs.lemmas.List.{length-append, length-map, length-take-le}
 use Rattle.raft_table.specs.Blocks.{block_spans, blocks_shown, entries_in_blocks}
-use Rattle.raft_table.specs.BlockWords.{cut_last, joined_blocks, seam}
+use Rattle.raft_table.specs.BlockWords.{first_of_last, joined_blocks, seam}
 use Rattle.raft_table.specs.TableEntries.{AreTableEntries, start_of}
 use Rattle.raft_table.proofs.SoundLemmas.{sound_rising}
 use Rattle.raft_table.proofs.BlockKept.{IsKeptAs, kept_join, sound_fits, blocks_filled}
@@ -12,22 +12,22 @@ use Rattle.raft_table.proofs.memtable.entries.Entries.join.Goals as goal
 pub overflow_add-self-inside : goal.overflow_add-self-inside
 overflow_add-self-inside c = let f = (kept_facts c.self.invariant) in let l = f.length in let h = rw (← c.self.view_is) at c.requires.keep.1 in let p = c.requires.keep.0 in let b = f.bounded (omega arith) in omega arith
 
-pub search-whole-requires : goal.search-whole-requires
-search-whole-requires c = index_of c.self.invariant (c.args.keep - 1) refl (let l = (kept_facts c.self.invariant).length in let h = (rw (← c.self.view_is) at c.requires.keep.1) in let p = c.requires.keep.0 in omega arith)
+pub search-nth-requires : goal.search-nth-requires
+search-nth-requires c = index_of c.self.invariant (c.args.keep - 1) refl (let l = (kept_facts c.self.invariant).length in let h = (rw (← c.self.view_is) at c.requires.keep.1) in let p = c.requires.keep.0 in omega arith)
 
 pub overflow_add-last : goal.overflow_add-last
-overflow_add-last c = let a = (found c.self.invariant c.search-whole.ensures (c.args.keep - 1) refl (let l = (kept_facts c.self.invariant).length in let h = (rw (← c.self.view_is) at c.requires.keep.1) in let p = c.requires.keep.0 in omega arith)) in let p = a.spot in omega arith
+overflow_add-last c = let a = (found c.self.invariant c.search-nth.ensures (c.args.keep - 1) refl (let l = (kept_facts c.self.invariant).length in let h = (rw (← c.self.view_is) at c.requires.keep.1) in let p = c.requires.keep.0 in omega arith)) in let p = a.spot in omega arith
 
-pub overflow_add-whole : goal.overflow_add-whole
-overflow_add-whole c = let w = block_within c.self.inside.blocks.items (found c.self.invariant c.search-whole.ensures (c.args.keep - 1) refl (let l = (kept_facts c.self.invariant).length in let h = (rw (← c.self.view_is) at c.requires.keep.1) in let p = c.requires.keep.0 in omega arith)) in omega (arith, c.self.inside.blocks.ok)
+pub overflow_add-nth : goal.overflow_add-nth
+overflow_add-nth c = let w = block_within c.self.inside.blocks.items (found c.self.invariant c.search-nth.ensures (c.args.keep - 1) refl (let l = (kept_facts c.self.invariant).length in let h = (rw (← c.self.view_is) at c.requires.keep.1) in let p = c.requires.keep.0 in omega arith)) in omega (arith, c.self.inside.blocks.ok)
 
 pub put_blocks-requires-clause-order : goal.put_blocks-requires-clause-order
-put_blocks-requires-clause-order c = let w = block_within c.self.inside.blocks.items (found c.self.invariant c.search-whole.ensures (c.args.keep - 1) refl (let l = (kept_facts c.self.invariant).length in let h = (rw (← c.self.view_is) at c.requires.keep.1) in let p = c.requires.keep.0 in omega arith)) in omega (arith, c.self.inside.blocks.ok)
+put_blocks-requires-clause-order c = let w = block_within c.self.inside.blocks.items (found c.self.invariant c.search-nth.ensures (c.args.keep - 1) refl (let l = (kept_facts c.self.invariant).length in let h = (rw (← c.self.view_is) at c.requires.keep.1) in let p = c.requires.keep.0 in omega arith)) in omega (arith, c.self.inside.blocks.ok)
 
 pub put_blocks-requires-clause-kept : goal.put_blocks-requires-clause-kept
 put_blocks-requires-clause-kept c d p =
-    let e : c.search-whole.result.0 ≡ c.search-whole.result.0 + 1 - 1 = omega arith in
-    subst (λ k. c.search-whole.result.1 + 1 ≤ length (get_or c.self.inside.blocks.items k d).spans.items) e (let w = spot_inside c.self.inside.blocks.items (found c.self.invariant c.search-whole.ensures (c.args.keep - 1) refl (let l = (kept_facts c.self.invariant).length in let h = (rw (← c.self.view_is) at c.requires.keep.1) in let p = c.requires.keep.0 in omega arith)) d in omega arith)
+    let e : c.search-nth.result.0 ≡ c.search-nth.result.0 + 1 - 1 = omega arith in
+    subst (λ k. c.search-nth.result.1 + 1 ≤ length (get_or c.self.inside.blocks.items k d).spans.items) e (let w = spot_inside c.self.inside.blocks.items (found c.self.invariant c.search-nth.ensures (c.args.keep - 1) refl (let l = (kept_facts c.self.invariant).length in let h = (rw (← c.self.view_is) at c.requires.keep.1) in let p = c.requires.keep.0 in omega arith)) d in omega arith)
 
 pub put_blocks-requires-clause-starts : goal.put_blocks-requires-clause-starts
 put_blocks-requires-clause-starts c = kept_length c.self.invariant ∙ length-map c.self.inside.blocks.items block_spans
@@ -67,14 +67,14 @@ overflow_add-self-2 c =
     let f = sound_fits (start_of es) es s (sound_rising es s) (omega arith) in
     omega arith
 
-put : (c : goal.After-run-2-1) → IsKeptAs c.self.inside.first (c.args.keep + c.run.inside.len) (joined_blocks (cut_last (c.search-whole.result.1 + 1) (take (c.search-whole.result.0 + 1) (blocks_shown c.self.inside.blocks.items))) (blocks_shown c.run.inside.blocks.items) ++ drop c.len-rest.result (blocks_shown c.self.inside.blocks.items))
-    (take (c.search-whole.result.0 + 1) c.self.inside.starts.items ++ drop (seam (take (c.search-whole.result.0 + 1) (blocks_shown c.self.inside.blocks.items)) (blocks_shown c.run.inside.blocks.items)) c.run.inside.starts.items ++ drop c.len-rest.result c.self.inside.starts.items)
+put : (c : goal.After-run-2-1) → IsKeptAs c.self.inside.first (c.args.keep + c.run.inside.len) (joined_blocks (first_of_last (c.search-nth.result.1 + 1) (take (c.search-nth.result.0 + 1) (blocks_shown c.self.inside.blocks.items))) (blocks_shown c.run.inside.blocks.items) ++ drop c.len-rest.result (blocks_shown c.self.inside.blocks.items))
+    (take (c.search-nth.result.0 + 1) c.self.inside.starts.items ++ drop (seam (take (c.search-nth.result.0 + 1) (blocks_shown c.self.inside.blocks.items)) (blocks_shown c.run.inside.blocks.items)) c.run.inside.starts.items ++ drop c.len-rest.result c.self.inside.starts.items)
     (min c.self.inside.rewritten c.args.keep + c.run.inside.rewritten) (take c.args.keep (entries_in_blocks c.self.inside.first (blocks_shown c.self.inside.blocks.items)) ++ entries_in_blocks c.run.inside.first (blocks_shown c.run.inside.blocks.items))
 put c =
     let s : AreTableEntries (take c.args.keep (entries_in_blocks c.self.inside.first (blocks_shown c.self.inside.blocks.items)) ++ entries_in_blocks c.run.inside.first (blocks_shown c.run.inside.blocks.items)) = rw (c.self.view_is, c.run.view_is) c.requires.table_entries in
-    kept_join c.self.invariant c.run.invariant c.args.keep (c.search-whole.result.0 + 1) (c.search-whole.result.1 + 1) c.len-rest.result c.requires.keep.0
+    kept_join c.self.invariant c.run.invariant c.args.keep (c.search-nth.result.0 + 1) (c.search-nth.result.1 + 1) c.len-rest.result c.requires.keep.0
     (let l = (kept_facts c.self.invariant).length in let h = rw (← c.self.view_is) at c.requires.keep.1 in omega arith)
-    (front_of c.self.inside.first c.args.keep c.search-whole.result.0 c.search-whole.result.1 (blocks_shown c.self.inside.blocks.items) c.self.invariant.distinct c.requires.keep.0 (found c.self.invariant c.search-whole.ensures (c.args.keep - 1) refl (let l = (kept_facts c.self.invariant).length in let h = (rw (← c.self.view_is) at c.requires.keep.1) in let p = c.requires.keep.0 in omega arith)))
+    (front_of c.self.inside.first c.args.keep c.search-nth.result.0 c.search-nth.result.1 (blocks_shown c.self.inside.blocks.items) c.self.invariant.distinct c.requires.keep.0 (found c.self.invariant c.search-nth.ensures (c.args.keep - 1) refl (let l = (kept_facts c.self.invariant).length in let h = (rw (← c.self.view_is) at c.requires.keep.1) in let p = c.requires.keep.0 in omega arith)))
     (let m = (kept_facts c.run.invariant).length in let h = rw (← c.run.view_is) at c.requires.run in omega arith)
     s (let n = length-map c.self.inside.blocks.items block_spans in omega (arith, c.self.inside.blocks.ok))
 

@@ -2,7 +2,7 @@ use Rattle.std.proofs.Common.{ℕ, ◌≡◌, ◌+◌, ◌-◌, inl, inr, min, L
 use Rattle.std.proofs.lemmas.List.{length-map}
 use Rattle.std.proofs.lemmas.Bool.{cases_lt}
 use Rattle.raft_table.specs.Blocks.{BlockSpans, block_spans, blocks_shown, entries_in_blocks}
-use Rattle.raft_table.specs.BlockWords.{without_first_spans, cut_last, joined_blocks, seam}
+use Rattle.raft_table.specs.BlockWords.{without_first_spans, first_of_last, joined_blocks, seam}
 use Rattle.raft_table.specs.TableEntries.{AreTableEntries}
 use Rattle.raft_table.proofs.BlockCuts.{found, index_of, kept_length, kept_facts}
 use Rattle.raft_table.proofs.BlockQueues.{block_at, block_within, spot_inside}
@@ -22,36 +22,36 @@ overflow_add-rewritten c = let f = (between_fits c.self.invariant c.run.invarian
 pub overflow_add-index : goal.overflow_add-index
 overflow_add-index c = let f = (between_fits c.self.invariant c.run.invariant c.args.at (rw (← c.run.view_is) at c.requires.run) (rw (← c.self.view_is, ← c.run.view_is) at c.requires.behind)) in let a = f.1 in let b = f.2 in omega arith
 
-pub find-whole-requires : goal.find-whole-requires
-find-whole-requires c = index_of c.self.invariant (c.args.at + c.run.inside.len) refl (between_fits c.self.invariant c.run.invariant c.args.at (rw (← c.run.view_is) at c.requires.run) (rw (← c.self.view_is, ← c.run.view_is) at c.requires.behind)).1
+pub find-nth-requires : goal.find-nth-requires
+find-nth-requires c = index_of c.self.invariant (c.args.at + c.run.inside.len) refl (between_fits c.self.invariant c.run.invariant c.args.at (rw (← c.run.view_is) at c.requires.run) (rw (← c.self.view_is, ← c.run.view_is) at c.requires.behind)).1
 
 pub index-block-requires : goal.index-block-requires
-index-block-requires c = let w = block_within c.self.inside.blocks.items (found c.self.invariant c.find-whole.ensures (c.args.at + c.run.inside.len) refl (between_fits c.self.invariant c.run.invariant c.args.at (rw (← c.run.view_is) at c.requires.run) (rw (← c.self.view_is, ← c.run.view_is) at c.requires.behind)).1) in omega (arith, c.self.inside.blocks.ok)
+index-block-requires c = let w = block_within c.self.inside.blocks.items (found c.self.invariant c.find-nth.ensures (c.args.at + c.run.inside.len) refl (between_fits c.self.invariant c.run.invariant c.args.at (rw (← c.run.view_is) at c.requires.run) (rw (← c.self.view_is, ← c.run.view_is) at c.requires.behind)).1) in omega (arith, c.self.inside.blocks.ok)
 
 pub spans_behind-requires : goal.spans_behind-requires
-spans_behind-requires c = let b = block_at c.self.inside.blocks.items c.index-block.result.now (found c.self.invariant c.find-whole.ensures (c.args.at + c.run.inside.len) refl (between_fits c.self.invariant c.run.invariant c.args.at (rw (← c.run.view_is) at c.requires.run) (rw (← c.self.view_is, ← c.run.view_is) at c.requires.behind)).1) c.index-block.ensures in let w = b.inside in omega arith
+spans_behind-requires c = let b = block_at c.self.inside.blocks.items c.index-block.result.now (found c.self.invariant c.find-nth.ensures (c.args.at + c.run.inside.len) refl (between_fits c.self.invariant c.run.invariant c.args.at (rw (← c.run.view_is) at c.requires.run) (rw (← c.self.view_is, ← c.run.view_is) at c.requires.behind)).1) c.index-block.ensures in let w = b.inside in omega arith
 
-pub cut_at-spot-requires-clause-bounded : goal.cut_at-spot-requires-clause-bounded
-cut_at-spot-requires-clause-bounded c = let f = (between_fits c.self.invariant c.run.invariant c.args.at (rw (← c.run.view_is) at c.requires.run) (rw (← c.self.view_is, ← c.run.view_is) at c.requires.behind)) in let a = f.1 in let b = f.2 in omega arith
+pub spot_behind-spot-requires-clause-bounded : goal.spot_behind-spot-requires-clause-bounded
+spot_behind-spot-requires-clause-bounded c = let f = (between_fits c.self.invariant c.run.invariant c.args.at (rw (← c.run.view_is) at c.requires.run) (rw (← c.self.view_is, ← c.run.view_is) at c.requires.behind)) in let a = f.1 in let b = f.2 in omega arith
 
-pub cut_at-spot-requires-clause-within : goal.cut_at-spot-requires-clause-within
-cut_at-spot-requires-clause-within c l = index_of c.self.invariant (c.args.at - 1) refl (let f = (between_fits c.self.invariant c.run.invariant c.args.at (rw (← c.run.view_is) at c.requires.run) (rw (← c.self.view_is, ← c.run.view_is) at c.requires.behind)) in let a = f.1 in omega arith)
+pub spot_behind-spot-requires-clause-within : goal.spot_behind-spot-requires-clause-within
+spot_behind-spot-requires-clause-within c l = index_of c.self.invariant (c.args.at - 1) refl (let f = (between_fits c.self.invariant c.run.invariant c.args.at (rw (← c.run.view_is) at c.requires.run) (rw (← c.self.view_is, ← c.run.view_is) at c.requires.behind)) in let a = f.1 in omega arith)
 
-pub overflow_add-whole : goal.overflow_add-whole
-overflow_add-whole c = let w = block_within c.self.inside.blocks.items (found c.self.invariant c.find-whole.ensures (c.args.at + c.run.inside.len) refl (between_fits c.self.invariant c.run.invariant c.args.at (rw (← c.run.view_is) at c.requires.run) (rw (← c.self.view_is, ← c.run.view_is) at c.requires.behind)).1) in omega (arith, c.self.inside.blocks.ok)
+pub overflow_add-nth : goal.overflow_add-nth
+overflow_add-nth c = let w = block_within c.self.inside.blocks.items (found c.self.invariant c.find-nth.ensures (c.args.at + c.run.inside.len) refl (between_fits c.self.invariant c.run.invariant c.args.at (rw (← c.run.view_is) at c.requires.run) (rw (← c.self.view_is, ← c.run.view_is) at c.requires.behind)).1) in omega (arith, c.self.inside.blocks.ok)
 
 pub put_blocks-requires-clause-order : goal.put_blocks-requires-clause-order
 put_blocks-requires-clause-order c =
-    cut_order c.args.at (c.args.at + c.run.inside.len) c.cut_at-spot.result.0 c.cut_at-spot.result.1 c.find-whole.result.0 c.find-whole.result.1 (blocks_shown c.self.inside.blocks.items) c.cut_at-spot.ensures.none (λ l. c.cut_at-spot.ensures.some (blocks_shown c.self.inside.blocks.items) l c.self.invariant.starts (let f = (between_fits c.self.invariant c.run.invariant c.args.at (rw (← c.run.view_is) at c.requires.run) (rw (← c.self.view_is, ← c.run.view_is) at c.requires.behind)) in let g = f.1 in let n = c.self.invariant.len in omega arith)) (found c.self.invariant c.find-whole.ensures (c.args.at + c.run.inside.len) refl (between_fits c.self.invariant c.run.invariant c.args.at (rw (← c.run.view_is) at c.requires.run) (rw (← c.self.view_is, ← c.run.view_is) at c.requires.behind)).1) (omega arith)
+    cut_order c.args.at (c.args.at + c.run.inside.len) c.spot_behind-spot.result.0 c.spot_behind-spot.result.1 c.find-nth.result.0 c.find-nth.result.1 (blocks_shown c.self.inside.blocks.items) c.spot_behind-spot.ensures.none (λ l. c.spot_behind-spot.ensures.some (blocks_shown c.self.inside.blocks.items) l c.self.invariant.starts (let f = (between_fits c.self.invariant c.run.invariant c.args.at (rw (← c.run.view_is) at c.requires.run) (rw (← c.self.view_is, ← c.run.view_is) at c.requires.behind)) in let g = f.1 in let n = c.self.invariant.len in omega arith)) (found c.self.invariant c.find-nth.ensures (c.args.at + c.run.inside.len) refl (between_fits c.self.invariant c.run.invariant c.args.at (rw (← c.run.view_is) at c.requires.run) (rw (← c.self.view_is, ← c.run.view_is) at c.requires.behind)).1) (omega arith)
 
 pub put_blocks-requires-clause-within : goal.put_blocks-requires-clause-within
-put_blocks-requires-clause-within c = let w = block_within c.self.inside.blocks.items (found c.self.invariant c.find-whole.ensures (c.args.at + c.run.inside.len) refl (between_fits c.self.invariant c.run.invariant c.args.at (rw (← c.run.view_is) at c.requires.run) (rw (← c.self.view_is, ← c.run.view_is) at c.requires.behind)).1) in omega arith
+put_blocks-requires-clause-within c = let w = block_within c.self.inside.blocks.items (found c.self.invariant c.find-nth.ensures (c.args.at + c.run.inside.len) refl (between_fits c.self.invariant c.run.invariant c.args.at (rw (← c.run.view_is) at c.requires.run) (rw (← c.self.view_is, ← c.run.view_is) at c.requires.behind)).1) in omega arith
 
 pub put_blocks-requires-clause-kept : goal.put_blocks-requires-clause-kept
 put_blocks-requires-clause-kept c d p =
     elim (cases_lt 0 c.args.at) [
-      | inl l ↦ let u = c.cut_at-spot.ensures.some (blocks_shown c.self.inside.blocks.items) l c.self.invariant.starts (let f = (between_fits c.self.invariant c.run.invariant c.args.at (rw (← c.run.view_is) at c.requires.run) (rw (← c.self.view_is, ← c.run.view_is) at c.requires.behind)) in let g = f.1 in let n = c.self.invariant.len in omega arith) in let w = spot_inside c.self.inside.blocks.items u.0 d in let v = u.2 in omega arith
-      | inr l ↦ let z = (c.cut_at-spot.ensures.none (omega arith)).0 in absurd (omega arith)
+      | inl l ↦ let u = c.spot_behind-spot.ensures.some (blocks_shown c.self.inside.blocks.items) l c.self.invariant.starts (let f = (between_fits c.self.invariant c.run.invariant c.args.at (rw (← c.run.view_is) at c.requires.run) (rw (← c.self.view_is, ← c.run.view_is) at c.requires.behind)) in let g = f.1 in let n = c.self.invariant.len in omega arith) in let w = spot_inside c.self.inside.blocks.items u.0 d in let v = u.2 in omega arith
+      | inr l ↦ let z = (c.spot_behind-spot.ensures.none (omega arith)).0 in absurd (omega arith)
     ]
 
 pub put_blocks-requires-clause-starts : goal.put_blocks-requires-clause-starts
@@ -66,17 +66,17 @@ put_blocks-requires-clause-more c =
     (rw n (joined_some ys t), m ∙ sym n)
 
 put : (c : goal.After-drop-blocks-2) → let es = entries_in_blocks c.self.inside.first (blocks_shown c.self.inside.blocks.items) in let ys = blocks_shown c.run.inside.blocks.items in
-    IsKeptAs c.self.inside.first c.self.inside.len (joined_blocks (cut_last c.cut_at-spot.result.1 (take c.cut_at-spot.result.0 (blocks_shown c.self.inside.blocks.items))) (joined_blocks ys ((record { handle = c.index-block.result.now.handle; spans = c.in_ok-spans.spans.items }) ∷ [])) ++ drop (c.find-whole.result.0 + 1) (blocks_shown c.self.inside.blocks.items))
-    (take c.cut_at-spot.result.0 c.self.inside.starts.items ++ drop (seam (take c.cut_at-spot.result.0 (blocks_shown c.self.inside.blocks.items)) (joined_blocks ys ((record { handle = c.index-block.result.now.handle; spans = c.in_ok-spans.spans.items }) ∷ []))) (c.run.inside.starts.items ++ drop (seam ys ((record { handle = c.index-block.result.now.handle; spans = c.in_ok-spans.spans.items }) ∷ [])) ((c.self.inside.first + (c.args.at + c.run.inside.len)) ∷ [])) ++ drop (c.find-whole.result.0 + 1) c.self.inside.starts.items)
+    IsKeptAs c.self.inside.first c.self.inside.len (joined_blocks (first_of_last c.spot_behind-spot.result.1 (take c.spot_behind-spot.result.0 (blocks_shown c.self.inside.blocks.items))) (joined_blocks ys ((record { handle = c.index-block.result.now.handle; spans = c.in_ok-spans.spans.items }) ∷ [])) ++ drop (c.find-nth.result.0 + 1) (blocks_shown c.self.inside.blocks.items))
+    (take c.spot_behind-spot.result.0 c.self.inside.starts.items ++ drop (seam (take c.spot_behind-spot.result.0 (blocks_shown c.self.inside.blocks.items)) (joined_blocks ys ((record { handle = c.index-block.result.now.handle; spans = c.in_ok-spans.spans.items }) ∷ []))) (c.run.inside.starts.items ++ drop (seam ys ((record { handle = c.index-block.result.now.handle; spans = c.in_ok-spans.spans.items }) ∷ [])) ((c.self.inside.first + (c.args.at + c.run.inside.len)) ∷ [])) ++ drop (c.find-nth.result.0 + 1) c.self.inside.starts.items)
     (min c.self.inside.rewritten c.args.at + c.run.inside.rewritten + (c.self.inside.rewritten - min c.self.inside.rewritten (c.args.at + c.run.inside.len)))
     (take c.args.at es ++ entries_in_blocks c.run.inside.first ys ++ drop (c.args.at + c.run.inside.len) es)
 put c =
     let es = entries_in_blocks c.self.inside.first (blocks_shown c.self.inside.blocks.items) in
     let fs = entries_in_blocks c.run.inside.first (blocks_shown c.run.inside.blocks.items) in
-    let b = block_at c.self.inside.blocks.items c.index-block.result.now (found c.self.invariant c.find-whole.ensures (c.args.at + c.run.inside.len) refl (between_fits c.self.invariant c.run.invariant c.args.at (rw (← c.run.view_is) at c.requires.run) (rw (← c.self.view_is, ← c.run.view_is) at c.requires.behind)).1) c.index-block.ensures in
+    let b = block_at c.self.inside.blocks.items c.index-block.result.now (found c.self.invariant c.find-nth.ensures (c.args.at + c.run.inside.len) refl (between_fits c.self.invariant c.run.invariant c.args.at (rw (← c.run.view_is) at c.requires.run) (rw (← c.self.view_is, ← c.run.view_is) at c.requires.behind)).1) c.index-block.ensures in
     let s : AreTableEntries (take c.args.at es ++ fs ++ drop (c.args.at + length fs) es) = rw (c.self.view_is, c.run.view_is) c.requires.table_entries in
-    put_between c.self.invariant c.run.invariant c.args.at c.cut_at-spot.result.0 c.cut_at-spot.result.1 c.find-whole.result.0 c.find-whole.result.1 (c.self.inside.first + (c.args.at + c.run.inside.len)) (block_spans c.index-block.result.now) (record { handle = c.index-block.result.now.handle; spans = c.in_ok-spans.spans.items })
-    c.cut_at-spot.ensures.none (λ l. c.cut_at-spot.ensures.some (blocks_shown c.self.inside.blocks.items) l c.self.invariant.starts (let f = (between_fits c.self.invariant c.run.invariant c.args.at (rw (← c.run.view_is) at c.requires.run) (rw (← c.self.view_is, ← c.run.view_is) at c.requires.behind)) in let g = f.1 in let n = c.self.invariant.len in omega arith)) (found c.self.invariant c.find-whole.ensures (c.args.at + c.run.inside.len) refl (between_fits c.self.invariant c.run.invariant c.args.at (rw (← c.run.view_is) at c.requires.run) (rw (← c.self.view_is, ← c.run.view_is) at c.requires.behind)).1) (between_fits c.self.invariant c.run.invariant c.args.at (rw (← c.run.view_is) at c.requires.run) (rw (← c.self.view_is, ← c.run.view_is) at c.requires.behind)).0 refl b.same
+    put_between c.self.invariant c.run.invariant c.args.at c.spot_behind-spot.result.0 c.spot_behind-spot.result.1 c.find-nth.result.0 c.find-nth.result.1 (c.self.inside.first + (c.args.at + c.run.inside.len)) (block_spans c.index-block.result.now) (record { handle = c.index-block.result.now.handle; spans = c.in_ok-spans.spans.items })
+    c.spot_behind-spot.ensures.none (λ l. c.spot_behind-spot.ensures.some (blocks_shown c.self.inside.blocks.items) l c.self.invariant.starts (let f = (between_fits c.self.invariant c.run.invariant c.args.at (rw (← c.run.view_is) at c.requires.run) (rw (← c.self.view_is, ← c.run.view_is) at c.requires.behind)) in let g = f.1 in let n = c.self.invariant.len in omega arith)) (found c.self.invariant c.find-nth.ensures (c.args.at + c.run.inside.len) refl (between_fits c.self.invariant c.run.invariant c.args.at (rw (← c.run.view_is) at c.requires.run) (rw (← c.self.view_is, ← c.run.view_is) at c.requires.behind)).1) (between_fits c.self.invariant c.run.invariant c.args.at (rw (← c.run.view_is) at c.requires.run) (rw (← c.self.view_is, ← c.run.view_is) at c.requires.behind)).0 refl b.same
     (ap (λ (ss : List (ℕ × ℕ)). without_first_spans 0 (record { handle = c.index-block.result.now.handle; spans = ss })) c.in_ok-spans.ensures.ok)
     (subst (λ k. AreTableEntries (take c.args.at es ++ fs ++ drop (c.args.at + k) es)) (kept_facts c.run.invariant).length s)
 
@@ -88,5 +88,5 @@ returns-clause-ok c =
     let es = entries_in_blocks c.self.inside.first (blocks_shown c.self.inside.blocks.items) in
     let fs = entries_in_blocks c.run.inside.first (blocks_shown c.run.inside.blocks.items) in
     rw (← c.self.view_is, ← c.run.view_is)
-    (ap (entries_in_blocks c.self.inside.first) (c.in_ok-put_blocks.ensures.blocks ∙ ap (λ ys. joined_blocks (cut_last c.cut_at-spot.result.1 (take c.cut_at-spot.result.0 (blocks_shown c.self.inside.blocks.items))) ys ++ drop (c.find-whole.result.0 + 1) (blocks_shown c.self.inside.blocks.items)) c.in_ok-push_block.ensures.blocks)
+    (ap (entries_in_blocks c.self.inside.first) (c.in_ok-put_blocks.ensures.blocks ∙ ap (λ ys. joined_blocks (first_of_last c.spot_behind-spot.result.1 (take c.spot_behind-spot.result.0 (blocks_shown c.self.inside.blocks.items))) ys ++ drop (c.find-nth.result.0 + 1) (blocks_shown c.self.inside.blocks.items)) c.in_ok-push_block.ensures.blocks)
     ∙ (put c).entries ∙ ap (λ k. take c.args.at es ++ fs ++ drop (c.args.at + k) es) (sym (kept_facts c.run.invariant).length))

@@ -12,16 +12,16 @@ returns-then-at-self c = let l = (kept_facts c.self.invariant).length in rw (←
 pub overflow_add-self-inside : goal.overflow_add-self-inside
 overflow_add-self-inside c = let b = (kept_facts c.self.invariant).bounded (omega arith) in omega arith
 
-pub find-whole-requires : goal.find-whole-requires
-find-whole-requires c = index_of c.self.invariant c.args.at refl (omega arith)
+pub find-nth-requires : goal.find-nth-requires
+find-nth-requires c = index_of c.self.invariant c.args.at refl (omega arith)
 
 pub index-requires : goal.index-requires
 index-requires c =
-    let w = block_within c.self.inside.blocks.items (found c.self.invariant c.find-whole.ensures c.args.at refl (omega arith)) in omega (arith, c.self.inside.blocks.ok)
+    let w = block_within c.self.inside.blocks.items (found c.self.invariant c.find-nth.ensures c.args.at refl (omega arith)) in omega (arith, c.self.inside.blocks.ok)
 
 pub returns : goal.returns
 returns c =
-    let a = found c.self.invariant c.find-whole.ensures c.args.at refl (omega arith) in
+    let a = found c.self.invariant c.find-nth.ensures c.args.at refl (omega arith) in
     let b = block_at c.self.inside.blocks.items c.index.result.now a c.index.ensures in
     rw (← c.self.view_is)
-    (seq_at_spot c.self.inside.first c.args.at c.find-whole.result.0 c.find-whole.result.1 (blocks_shown c.self.inside.blocks.items) (block_spans c.index.result.now) a b.same)
+    (seq_at_spot c.self.inside.first c.args.at c.find-nth.result.0 c.find-nth.result.1 (blocks_shown c.self.inside.blocks.items) (block_spans c.index.result.now) a b.same)

@@ -1,6 +1,6 @@
 use Rattle.std.proofs.Common.{◌++◌, take, drop, refl, ap, ◌∙◌}
 use Rattle.raft_table.specs.Blocks.{blocks_shown}
-use Rattle.raft_table.specs.BlockWords.{cut_last, joined_blocks}
+use Rattle.raft_table.specs.BlockWords.{first_of_last, joined_blocks}
 use Rattle.raft_table.proofs.BlockQueues.{room_left, shown_three}
 use Rattle.raft_table.proofs.memtable.entries.lists.put_blocks.Goals as goal
 
@@ -18,6 +18,6 @@ returns-clause-blocks c =
     let m = c.meet.new.more.items in
     ap blocks_shown c.splice.ensures.items ∙ shown_three c.args.spot.0 c.args.rest b m
     ∙ ap (λ ys. ys ++ drop c.args.rest (blocks_shown b)) c.in_ok-meet.ensures.front
-    ∙ ap (λ ys. joined_blocks (cut_last c.args.spot.1 (take c.args.spot.0 (blocks_shown c.make_room.new.deque.items))) (blocks_shown c.make_room.new.more.items) ++ ys) (c.in_ok-meet.ensures.behind c.args.rest c.requires.order)
-    ∙ ap (λ xs. joined_blocks (cut_last c.args.spot.1 (take c.args.spot.0 (blocks_shown xs))) (blocks_shown c.make_room.new.more.items) ++ drop c.args.rest (blocks_shown xs)) c.make_room.ensures.items.0
-    ∙ ap (λ ms. joined_blocks (cut_last c.args.spot.1 (take c.args.spot.0 (blocks_shown c.args.blocks.now.items))) (blocks_shown ms) ++ drop c.args.rest (blocks_shown c.args.blocks.now.items)) c.make_room.ensures.items.1
+    ∙ ap (λ ys. joined_blocks (first_of_last c.args.spot.1 (take c.args.spot.0 (blocks_shown c.make_room.new.deque.items))) (blocks_shown c.make_room.new.more.items) ++ ys) (c.in_ok-meet.ensures.behind c.args.rest c.requires.order)
+    ∙ ap (λ xs. joined_blocks (first_of_last c.args.spot.1 (take c.args.spot.0 (blocks_shown xs))) (blocks_shown c.make_room.new.more.items) ++ drop c.args.rest (blocks_shown xs)) c.make_room.ensures.items.0
+    ∙ ap (λ ms. joined_blocks (first_of_last c.args.spot.1 (take c.args.spot.0 (blocks_shown c.args.blocks.now.items))) (blocks_shown ms) ++ drop c.args.rest (blocks_shown c.args.blocks.now.items)) c.make_room.ensures.items.1

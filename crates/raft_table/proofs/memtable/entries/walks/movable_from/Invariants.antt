@@ -8,7 +8,7 @@ use Rattle.raft_table.proofs.memtable.entries.walks.movable_from.Given as goal
 abbrev pub invariant-loop-done : goal.invariant-loop-done
 invariant-loop-done l =
     (l.start ≤ l.done) × (l.done ≤ l.end)
-    × (l.done < l.end → IsAt l.done (blocks_shown l.blocks.items) l.whole l.at)
+    × (l.done < l.end → IsAt l.done (blocks_shown l.blocks.items) l.nth l.at)
     × ((i : ℕ) → prefix_len (may_move l.gate) (drop l.start (take l.end (entries_in_blocks i (blocks_shown l.blocks.items)))) + l.start
     ≡ l.done + prefix_len (may_move l.gate) (drop l.done (take l.end (entries_in_blocks i (blocks_shown l.blocks.items)))))
 

@@ -3,8 +3,8 @@ use Rattle.std.proofs.lemmas.Result.{err_from_is_err_and}
 use Rattle.raft_base.specs.declared.pipe_log.LogQueue.{LogQueue}
 use Rattle.raft_base.specs.declared.pipe_log.LogQueue.TheVariants.{Append, Rewrite}
 use Rattle.raft_table.specs.Counts.{live}
-use Rattle.raft_table.specs.MarkMerge.{left_by}
-use Rattle.raft_table.specs.Merge.{after_join, newer_atomic_group}
+use Rattle.raft_table.specs.MarkedJoins.{left_by}
+use Rattle.raft_table.specs.Merge.{after_merge, newer_atomic_group}
 use Rattle.raft_table.specs.Table.{Table, live_of}
 use Rattle.raft_table.proofs.PlaceLemmas.{each_queue}
 use Rattle.raft_table.proofs.MarkEntries.{same_some}
@@ -17,7 +17,7 @@ use Rattle.std.proofs.lemmas.Result.{IfErr-weaker}
 use Rattle.raft_table.specs.Marks.{table_over}
 use Rattle.raft_table.proofs.GoneLemmas.{on_ok}
 use Rattle.raft_table.proofs.MarkTables.{own_alone}
-use Rattle.raft_table.proofs.memtable.MemTable.merge_under.Goals as goal
+use Rattle.raft_table.proofs.memtable.MemTable.join_under.Goals as goal
 
 pub returns-then-is_blank-clause-ok : goal.returns-then-is_blank-clause-ok
 returns-then-is_blank-clause-ok c = λ run.
@@ -42,28 +42,28 @@ returns-then-is_blank-clause-err c = λ run. stays _ _ c.take_whole.result c.tak
 pub returns-then-is_blank-clause-few : goal.returns-then-is_blank-clause-few
 returns-then-is_blank-clause-few c = on_ok c.take_whole.result (λ w q. omega (arith, ap (live_of q) w)) c.take_whole.ensures.ok
 
-pub returns-in_err-join-clause-fault : goal.returns-in_err-join-clause-fault
-returns-in_err-join-clause-fault c = λ run.
-    let p = err_from_is_err_and c.from_residual-in_err-join.result c.from_residual-in_err-join.ensures.1 in
+pub returns-in_err-merge_by_rule-clause-fault : goal.returns-in_err-merge_by_rule-clause-fault
+returns-in_err-merge_by_rule-clause-fault c = λ run.
+    let p = err_from_is_err_and c.from_residual-in_err-merge_by_rule.result c.from_residual-in_err-merge_by_rule.ensures.1 in
     let ok = c.in_ok-check_newer_mark.ensures.ok in
     let left = c.drop_older.ensures.left ∙ ap (λ g. left_by g c.args.mark.now c.args.self.now) c.is_missed.ensures in
     let over = over_left c.args.queue c.args.mark.now c.args.rhs.now c.args.self.now ok run in
     let room : (q : LogQueue) → live q c.drop_older.new.stats + live_of q c.args.rhs.now < 2 ^ 64 = each_queue _
     (omega (arith, c.if-not-has_room.ensures, c.drop_older.ensures.fewer Append, c.drop_older.ensures.recounted Append))
     (omega (arith, c.if-not-has_room-2.ensures, c.drop_older.ensures.fewer Rewrite, c.drop_older.ensures.recounted Rewrite)) in
-    let memory = join_memory c.args.queue c.drop_older.new.stats c.drop_older.new.self c.args.rhs.now _ _ c.in_err-join.ensures.fault (ap (λ (t : Table). after_join c.args.queue t c.args.rhs.now) left ∙ over.0) room in
+    let memory = join_memory c.args.queue c.drop_older.new.stats c.drop_older.new.self c.args.rhs.now _ _ c.in_err-merge_by_rule.ensures.fault (ap (λ (t : Table). after_merge c.args.queue t c.args.rhs.now) left ∙ over.0) room in
     rw (p.1, p.2, memory) tt
 
-pub returns-in_err-join-clause-err : goal.returns-in_err-join-clause-err
-returns-in_err-join-clause-err c = λ run.
-    let p = err_from_is_err_and c.from_residual-in_err-join.result c.from_residual-in_err-join.ensures.1 in
+pub returns-in_err-merge_by_rule-clause-err : goal.returns-in_err-merge_by_rule-clause-err
+returns-in_err-merge_by_rule-clause-err c = λ run.
+    let p = err_from_is_err_and c.from_residual-in_err-merge_by_rule.result c.from_residual-in_err-merge_by_rule.ensures.1 in
     let ok = c.in_ok-check_newer_mark.ensures.ok in
     let left = c.drop_older.ensures.left ∙ ap (λ g. left_by g c.args.mark.now c.args.self.now) c.is_missed.ensures in
     let over = over_left c.args.queue c.args.mark.now c.args.rhs.now c.args.self.now ok run in
     let room : (q : LogQueue) → live q c.drop_older.new.stats + live_of q c.args.rhs.now < 2 ^ 64 = each_queue _
     (omega (arith, c.if-not-has_room.ensures, c.drop_older.ensures.fewer Append, c.drop_older.ensures.recounted Append))
     (omega (arith, c.if-not-has_room-2.ensures, c.drop_older.ensures.fewer Rewrite, c.drop_older.ensures.recounted Rewrite)) in
-    let memory = join_memory c.args.queue c.drop_older.new.stats c.drop_older.new.self c.args.rhs.now _ _ c.in_err-join.ensures.fault (ap (λ (t : Table). after_join c.args.queue t c.args.rhs.now) left ∙ over.0) room in
+    let memory = join_memory c.args.queue c.drop_older.new.stats c.drop_older.new.self c.args.rhs.now _ _ c.in_err-merge_by_rule.ensures.fault (ap (λ (t : Table). after_merge c.args.queue t c.args.rhs.now) left ∙ over.0) room in
     rw (p.1, p.2, memory) (λ n. absurd (n refl))
 
 pub returns-clause-ok : goal.returns-clause-ok
@@ -71,11 +71,11 @@ returns-clause-ok c = λ run.
     let ok = c.in_ok-check_newer_mark.ensures.ok in
     let left = c.drop_older.ensures.left ∙ ap (λ g. left_by g c.args.mark.now c.args.self.now) c.is_missed.ensures in
     let over = over_left c.args.queue c.args.mark.now c.args.rhs.now c.args.self.now ok run in
-    let joined = same_some _ _ (sym over.0 ∙ ap (λ (t : Table). after_join c.args.queue t c.args.rhs.now) (sym left) ∙ c.in_ok-join.ensures.ok) in
-    let atomic_group = ap (λ (t : Table). t.atomic_group) c.in_ok-join.ensures.emptied in
+    let joined = same_some _ _ (sym over.0 ∙ ap (λ (t : Table). after_merge c.args.queue t c.args.rhs.now) (sym left) ∙ c.in_ok-merge_by_rule.ensures.ok) in
+    let atomic_group = ap (λ (t : Table). t.atomic_group) c.in_ok-merge_by_rule.ensures.emptied in
     over.1 ∙ ap (λ (t : Table). Some (record t { atomic_group = newer_atomic_group c.args.rhs.now.atomic_group t.atomic_group })) joined
-    ∙ sym (ap (λ (t : Table). Some t) (c.take_atomic_group.ensures.atomic_group ∙ ap (λ s. record c.join.new.self { atomic_group = newer_atomic_group s c.join.new.self.atomic_group }) atomic_group))
+    ∙ sym (ap (λ (t : Table). Some t) (c.take_atomic_group.ensures.atomic_group ∙ ap (λ s. record c.merge_by_rule.new.self { atomic_group = newer_atomic_group s c.merge_by_rule.new.self.atomic_group }) atomic_group))
 
 pub returns-clause-few : goal.returns-clause-few
 returns-clause-few c = λ q.
-    omega (arith, c.drop_older.ensures.fewer q, joined_uncleaned c.args.queue q c.drop_older.new.self c.args.rhs.now _ c.in_ok-join.ensures.ok, ap (live_of q) c.take_atomic_group.ensures.atomic_group)
+    omega (arith, c.drop_older.ensures.fewer q, joined_uncleaned c.args.queue q c.drop_older.new.self c.args.rhs.now _ c.in_ok-merge_by_rule.ensures.ok, ap (live_of q) c.take_atomic_group.ensures.atomic_group)

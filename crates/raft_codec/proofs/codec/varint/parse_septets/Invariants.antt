@@ -1,6 +1,6 @@
 use Rattle.std.proofs.Common.{◌≡◌, ◌≤◌, take}
 use Rattle.raft_codec.specs.Varint.{AllContinue, base_128}
-use Rattle.raft_codec.proofs.codec.varint.parse_groups.Given as goal
+use Rattle.raft_codec.proofs.codec.varint.parse_septets.Given as goal
 
 -- the bytes so far continue, and spell the number so far
 abbrev pub invariant-loop-i : goal.invariant-loop-i

@@ -1,4 +1,4 @@
--- Merges of two tables of one region under the newer one's region mark.
+-- Joins of two tables of one region under the newer one's region mark.
 use Rattle.std.specs.Prelude.{◌≡◌, ◌+◌, ◌≤◌, ◌^◌, Bool, true, List, [], Some, None, if◌then◌else◌}
 use Rattle.std.specs.FinMap as finite
 use Rattle.raft_base.specs.declared.errors.Error.{Error}

@@ -4,7 +4,7 @@ use Rattle.std.proofs.lemmas.Iterator.{YieldsList-from_slice, cases_from_all}
 use Rattle.raft_base.specs.declared.entry_index.EntryIndex.{EntryIndex}
 use Rattle.raft_records.specs.DecodedIn.{IsPlaceInFile}
 use Rattle.raft_memtable.proofs.BatchCheckLemmas.{in_file_if_placed}
-use Rattle.raft_memtable.proofs.batch_check.is_run_in.Goals as goal
+use Rattle.raft_memtable.proofs.batch_check.is_run_in_file.Goals as goal
 
 pub returns-then-is_consecutive : goal.returns-then-is_consecutive
 returns-then-is_consecutive c =

@@ -1,26 +1,26 @@
 use Rattle.std.proofs.Common.{◌+◌, ◌++◌, map, take, drop, arith, sym, ap, ◌∙◌}
 use Rattle.std.proofs.lemmas.List.{append_assoc, map-append}
 use Rattle.raft_table.specs.Blocks.{block_spans, blocks_shown, entries_of_block, entries_in_blocks}
-use Rattle.raft_table.specs.BlockWords.{unset}
+use Rattle.raft_table.specs.BlockWords.{without_span}
 use Rattle.raft_table.proofs.BlockQueues.{block_at}
 use Rattle.raft_table.proofs.WalkLemmas.{IsStep, walk_step, walk_more}
-use Rattle.raft_table.proofs.memtable.entries.walks.push_unset.Goals as goal
+use Rattle.raft_table.proofs.memtable.entries.walks.push_without_spans.Goals as goal
 
 pub overflow_sub-len : goal.overflow_sub-len
 overflow_sub-len c =
     let b = block_at c.args.blocks.now.items c.index-block.result.now (c.loop-done.invariant.2 c.loop-done-test.true) c.index-block.ensures in
     let w = b.inside in omega (arith, c.index-block.result.now.spans.ok)
 
-pub push_unset_of-requires-clause-within : goal.push_unset_of-requires-clause-within
-push_unset_of-requires-clause-within c =
+pub push_without_spans_of-requires-clause-within : goal.push_without_spans_of-requires-clause-within
+push_without_spans_of-requires-clause-within c =
     let b = block_at c.args.blocks.now.items c.index-block.result.now (c.loop-done.invariant.2 c.loop-done-test.true) c.index-block.ensures in
     let w = b.inside in omega (arith, c.index-block.result.now.spans.ok)
 
-step : (c : goal.After-push_unset_of) → IsStep c.loop-done.done c.loop-done.whole c.loop-done.at c.min-count.result c.args.end (blocks_shown c.args.blocks.now.items) (block_spans c.index-block.result.now)
+step : (c : goal.After-push_without_spans_of) → IsStep c.loop-done.done c.loop-done.nth c.loop-done.at c.min-count.result c.args.end (blocks_shown c.args.blocks.now.items) (block_spans c.index-block.result.now)
 step c =
     let a = c.loop-done.invariant.2 c.loop-done-test.true in
     let b = block_at c.args.blocks.now.items c.index-block.result.now a c.index-block.ensures in
-    walk_step c.loop-done.done c.loop-done.whole c.loop-done.at c.min-count.result c.args.end c.len.result (blocks_shown c.args.blocks.now.items) (block_spans c.index-block.result.now) a c.requires.distinct b.same
+    walk_step c.loop-done.done c.loop-done.nth c.loop-done.at c.min-count.result c.args.end c.len.result (blocks_shown c.args.blocks.now.items) (block_spans c.index-block.result.now) a c.requires.distinct b.same
     (omega (arith, c.index-block.result.now.spans.ok)) c.min-count.ensures c.loop-done-test.true c.requires.within
 
 pub loop-done-smaller : goal.loop-done-smaller
@@ -41,9 +41,9 @@ loop-done-preserved c =
       omega arith,
       order,
       s.next,
-      (let l = c.loop-done.invariant.3 in omega (arith, c.push_unset_of.ensures.len)),
-      c.push_unset_of.ensures.capacity ∙ c.loop-done.invariant.4,
-      c.push_unset_of.ensures.items ∙ ap (λ zs. zs ++ map unset ys) c.loop-done.invariant.5 ∙ append_assoc c.args.vec.now.items (map unset xs) (map unset ys)
-          ∙ ap (λ zs. c.args.vec.now.items ++ zs) (sym (map-append unset xs ys)
-          ∙ ap (map unset) (sym (walk_more c.args.first c.args.start c.loop-done.done c.loop-done.whole c.loop-done.at c.min-count.result bs (block_spans c.index-block.result.now) low a b.same s.within (omega arith)))),
+      (let l = c.loop-done.invariant.3 in omega (arith, c.push_without_spans_of.ensures.len)),
+      c.push_without_spans_of.ensures.capacity ∙ c.loop-done.invariant.4,
+      c.push_without_spans_of.ensures.items ∙ ap (λ zs. zs ++ map without_span ys) c.loop-done.invariant.5 ∙ append_assoc c.args.vec.now.items (map without_span xs) (map without_span ys)
+          ∙ ap (λ zs. c.args.vec.now.items ++ zs) (sym (map-append without_span xs ys)
+          ∙ ap (map without_span) (sym (walk_more c.args.first c.args.start c.loop-done.done c.loop-done.nth c.loop-done.at c.min-count.result bs (block_spans c.index-block.result.now) low a b.same s.within (omega arith)))),
     )

@@ -3,7 +3,7 @@ use Rattle.std.proofs.lemmas.Result.{err_from_is_err_and}
 use Rattle.raft_base.specs.declared.pipe_log.LogQueue.TheVariants.{Append, Rewrite}
 use Rattle.raft_table.proofs.MergeLemmas.{joined_bound, merge_refused}
 use Rattle.raft_table.proofs.PlaceLemmas.{each_queue}
-use Rattle.raft_table.proofs.memtable.MemTable.join.Goals as goal
+use Rattle.raft_table.proofs.memtable.MemTable.merge_by_rule.Goals as goal
 
 pub returns-in_err-absorb-clause-fault : goal.returns-in_err-absorb-clause-fault
 returns-in_err-absorb-clause-fault c =

@@ -1,7 +1,7 @@
 use Rattle.std.proofs.Common.{arith, inl, inr}
 use Rattle.std.proofs.lemmas.List.{take_rest}
-use Rattle.raft_codec.proofs.VarintLemmas.{last_group, sum_fits, next_group, is_too_long, too_long, is_early, ends_early}
-use Rattle.raft_codec.proofs.codec.varint.parse_groups.Goals as goal
+use Rattle.raft_codec.proofs.VarintLemmas.{last_septet, sum_fits, next_septet, is_too_long, too_long, is_early, ends_early}
+use Rattle.raft_codec.proofs.codec.varint.parse_septets.Goals as goal
 
 pub returns-then-byte-gt1-clause-refused : goal.returns-then-byte-gt1-clause-refused
 returns-then-byte-gt1-clause-refused c =
@@ -17,11 +17,11 @@ overflow_add-number c =
 
 pub returns-then-byte-lt128-clause-ok : goal.returns-then-byte-lt128-clause-ok
 returns-then-byte-lt128-clause-ok c =
-    rw (take_rest, c.at_place-number.ensures) (last_group c.args.bytes.now c.loop-i.i c.loop-i.number (omega arith) c.loop-i.invariant.2 (λ nine. omega arith) c.loop-i.invariant.0 c.loop-i.invariant.1 c.if-byte-lt128.true)
+    rw (take_rest, c.at_place-number.ensures) (last_septet c.args.bytes.now c.loop-i.i c.loop-i.number (omega arith) c.loop-i.invariant.2 (λ nine. omega arith) c.loop-i.invariant.0 c.loop-i.invariant.1 c.if-byte-lt128.true)
 
 pub loop-i-preserved : goal.loop-i-preserved
 loop-i-preserved c =
-    let next = next_group c.args.bytes.now c.loop-i.i c.loop-i.number (omega arith) c.loop-i.invariant.0 c.loop-i.invariant.1 c.if-byte-lt128.false (omega (arith, c.type_inv.bytes c.loop-i.i)) in
+    let next = next_septet c.args.bytes.now c.loop-i.i c.loop-i.number (omega arith) c.loop-i.invariant.0 c.loop-i.invariant.1 c.if-byte-lt128.false (omega (arith, c.type_inv.bytes c.loop-i.i)) in
     (next.0, rw c.at_place-number.ensures next.1, omega arith)
 
 pub returns-clause-refused : goal.returns-clause-refused

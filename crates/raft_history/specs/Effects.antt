@@ -89,7 +89,7 @@ whole_steps r steps first_seq last_seq =
 abbrev pub steps_by : ℕ → List Numbered → Numbered → List Step
 steps_by r [] last = steps_on r last.batch.steps
 steps_by r (q ∷ qs) last =
-    whole_steps r (region_steps_in (record { earlier = q ∷ qs; last = last })) q.batch.seq last.batch.seq
+    whole_steps r (flat_map (λ p. p.batch.steps) (q ∷ qs) ++ last.batch.steps) q.batch.seq last.batch.seq
 
 -- the steps on a region of a history: those in its effects, in order
 abbrev pub steps_of : ℕ → List BatchSteps → List Step

@@ -4,6 +4,7 @@ ghost use Rattle.std.specs.Prelude.{◌≡◌, ℕ, ◌<◌, ◌||◌, OnOk, OnE
 ghost use Rattle.raft_base.specs.declared.pipe_log.LogQueue.TheVariants.{Append, Rewrite};
 ghost use Rattle.raft_table.specs.Marks.{misses};
 ghost use Rattle.raft_table.specs.MarkJoins.{fresh, is_settled, mark_of, end_at_reach, joined_at, joined_barred, joined_deleted, joined_floor, is_detached, narrowed_bars};
+ghost use Rattle.raft_table.specs.MarkBounds.{with_bounds};
 ghost use Rattle.raft_table.specs.KeyValues.{lesser};
 ghost use Rattle.raft_base.specs.declared.pipe_log.LogQueue.{LogQueue};
 ghost use Rattle.raft_table.specs.Steps.{Compact, Truncate, Del, Clean};
@@ -35,6 +36,29 @@ pub struct Mark {
     /// Keys that were deleted.
     deleted: DeletedKeys,
 }
+
+/// All of a region mark but its deleted keys.
+#[derive(Clone, Copy)]
+struct Bounds {
+    cleaned: bool,
+    reach: Option<u64>,
+    reach_floor: u64,
+    reach_cut: Option<u64>,
+    barred: Option<(u64, u64)>,
+    floor: u64,
+    cut: Option<u64>,
+}
+
+/// The bounds of no step.
+const NO_BOUNDS: Bounds = Bounds {
+    cleaned: false,
+    reach: None,
+    reach_floor: 0,
+    reach_cut: None,
+    barred: None,
+    floor: 0,
+    cut: None,
+};
 
 impl Model for Mark {
     ghost use Rattle.raft_table.specs.Marks.{Mark};
@@ -130,6 +154,7 @@ impl Mark {
     ///
     /// Where there is no memory for the newer deleted keys. Bounds and cleans are then as they were, and the
     /// deleted keys are divided between both region marks, but for one that is lost: neither serves on.
+    #[tactic(auto, using(crate::proofs::StepMarkLemmas::bounds_joined))]
     pub fn join(&mut self, queue: LogQueue, end_at_reach: u64, newer: &mut Mark) -> AllocResult<()>
         ensures ok { OnOk result (self.new ≡ joined_at queue end_at_reach self.old newer.old) }
         ensures err { OnErr result (self.new ≡ record self.old { deleted = self.new.deleted }) }
@@ -139,29 +164,7 @@ impl Mark {
             return Ok(());
         }
         self.join_deleted(newer)?;
-        let floor = self.floor.max(newer.floor);
-        match (self.reach, self.cut) {
-            (Some(_), Some(cut)) => {
-                let bound = capped(cut, newer.reach_cut);
-                let detached = is_detached(newer.reach, end_at_reach, bound);
-                let met = (self.floor.max(newer.reach_floor), bound);
-                let newer_barred = narrowed(self.floor, self.cut, newer.barred);
-                self.barred = joined_barred(queue, detached, self.barred, met, newer_barred);
-                let dropped = drops_below(newer.reach, end_at_reach, bound);
-                self.floor = joined_floor(queue, dropped, floor, cut);
-            }
-            (_, _) => {
-                self.reach = newer.reach;
-                if self.reach.is_some() {
-                    self.reach_floor = self.floor.max(newer.reach_floor);
-                    self.reach_cut = lesser(self.cut, newer.reach_cut);
-                }
-                self.barred = self.barred.or(narrowed(self.floor, self.cut, newer.barred));
-                self.floor = floor;
-            }
-        }
-        self.cut = lesser(self.cut, newer.cut);
-        self.cleaned = newer.cleaned;
+        self.join_bounds(queue, end_at_reach, newer.bounds());
         Ok(())
     }
 }
@@ -172,7 +175,12 @@ impl Mark {
         ensures { self.new
             ≡ joined_at queue end self.old (record fresh { reach = Some start; cut = Some start }) }
     {
-        self.add(queue, end, Some(start), 0, Some(start));
+        let run = Bounds {
+            reach: Some(start),
+            cut: Some(start),
+            ..NO_BOUNDS
+        };
+        self.join_bounds(queue, end, run);
     }
 
     /// Joins the region mark of a compaction.
@@ -180,7 +188,11 @@ impl Mark {
         ensures { (queue : LogQueue) (end : ℕ) →
             self.new ≡ joined_at queue end self.old (mark_of (Compact index)) }
     {
-        self.add(LogQueue::Append, 0, None, index, None);
+        let compaction = Bounds {
+            floor: index,
+            ..NO_BOUNDS
+        };
+        self.join_bounds(LogQueue::Append, 0, compaction);
     }
 
     /// Joins the region mark of a truncation.
@@ -188,7 +200,11 @@ impl Mark {
         ensures { (queue : LogQueue) (end : ℕ) →
             self.new ≡ joined_at queue end self.old (mark_of (Truncate index)) }
     {
-        self.add(LogQueue::Append, 0, None, 0, Some(index));
+        let truncation = Bounds {
+            cut: Some(index),
+            ..NO_BOUNDS
+        };
+        self.join_bounds(LogQueue::Append, 0, truncation);
     }
 
     /// Joins the region mark of a deleted key.
@@ -205,7 +221,7 @@ impl Mark {
             return Ok(());
         }
         self.deleted.insert(key)?;
-        self.add(LogQueue::Append, 0, None, 0, None);
+        self.join_bounds(LogQueue::Append, 0, NO_BOUNDS);
         Ok(())
     }
 
@@ -217,7 +233,7 @@ impl Mark {
         if self.is_settled() {
             return;
         }
-        self.add(LogQueue::Append, 0, None, 0, None);
+        self.join_bounds(LogQueue::Append, 0, NO_BOUNDS);
         self.cleaned = true;
         self.deleted.clear();
     }
@@ -229,34 +245,61 @@ impl Mark {
         self.cleaned || self.reach.is_some() && self.cut.is_none()
     }
 
-    /// Joins the numbers of one step.
-    fn add(&mut self, queue: LogQueue, end: u64, reach: Option<u64>, floor: u64, cut: Option<u64>)
-        ensures { self.new
-            ≡ record (joined_at queue end self.old
-            (record fresh { reach = reach; floor = floor; cut = cut }))
+    /// All but the deleted keys.
+    fn bounds(&self) -> Bounds
+        ensures { result ≡ record {
+          cleaned = self.now.cleaned;
+          reach = self.now.reach;
+          reach_floor = self.now.reach_floor;
+          reach_cut = self.now.reach_cut;
+          barred = self.now.barred;
+          floor = self.now.floor;
+          cut = self.now.cut;
+        } }
+    {
+        Bounds {
+            cleaned: self.cleaned,
+            reach: self.reach,
+            reach_floor: self.reach_floor,
+            reach_cut: self.reach_cut,
+            barred: self.barred,
+            floor: self.floor,
+            cut: self.cut,
+        }
+    }
+
+    /// Joins the bounds of newer steps, whose first run comes behind own entries that end at `end`.
+    #[inline(always)]
+    fn join_bounds(&mut self, queue: LogQueue, end: u64, newer: Bounds)
+        ensures { self.new ≡ record (joined_at queue end self.old (with_bounds newer))
             { deleted = self.old.deleted } }
     {
         if self.is_settled() {
             return;
         }
-        let joined = self.floor.max(floor);
+        let floor = self.floor.max(newer.floor);
         match (self.reach, self.cut) {
-            (Some(_), Some(bound)) => {
-                let detached = is_detached(reach, end, bound);
-                let met = (self.floor, bound);
-                self.barred = joined_barred(queue, detached, self.barred, met, None);
-                self.floor = joined_floor(queue, drops_below(reach, end, bound), joined, bound);
+            (Some(_), Some(cut)) => {
+                let bound = capped(cut, newer.reach_cut);
+                let detached = is_detached(newer.reach, end, bound);
+                let met = (self.floor.max(newer.reach_floor), bound);
+                let newer_barred = narrowed(self.floor, self.cut, newer.barred);
+                self.barred = joined_barred(queue, detached, self.barred, met, newer_barred);
+                let dropped = drops_below(newer.reach, end, bound);
+                self.floor = joined_floor(queue, dropped, floor, cut);
             }
             (_, _) => {
-                self.reach = reach;
-                if reach.is_some() {
-                    self.reach_floor = self.floor;
-                    self.reach_cut = self.cut;
+                self.reach = newer.reach;
+                if self.reach.is_some() {
+                    self.reach_floor = self.floor.max(newer.reach_floor);
+                    self.reach_cut = lesser(self.cut, newer.reach_cut);
                 }
-                self.floor = joined;
+                self.barred = self.barred.or(narrowed(self.floor, self.cut, newer.barred));
+                self.floor = floor;
             }
         }
-        self.cut = lesser(self.cut, cut);
+        self.cut = lesser(self.cut, newer.cut);
+        self.cleaned = newer.cleaned;
     }
 
     /// Takes over the keys that the newer steps deleted.

@@ -7,4 +7,4 @@ use Rattle.raft_table.proofs.memtable.mark.Mark.add_deleted.Goals as goal
 pub returns-clause-ok : goal.returns-clause-ok
 returns-clause-ok c = λ q x.
     rw (← c.self.view_is)
-    (c.add.ensures ∙ deleted_added q x (mark_shown c.self.inside) c.args.key.items c.insert.new.self c.in_ok-insert.ensures.ok (ap is_settled c.self.view_is ∙ sym c.is_settled.ensures ∙ c.if-is_settled.false))
+    (c.join_bounds.ensures ∙ deleted_added q x (mark_shown c.self.inside) c.args.key.items c.insert.new.self c.in_ok-insert.ensures.ok (ap is_settled c.self.view_is ∙ sym c.is_settled.ensures ∙ c.if-is_settled.false))

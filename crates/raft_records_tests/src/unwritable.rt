@@ -1,7 +1,6 @@
 //! What is refused before it is written: lists of entries that are no run, puts without a value. And which
 //! lists are consecutive, and which items are group markers.
 
-
 use raft_records::{
     ATOMIC_GROUP_KEY, AtomicGroupStatus, EntryIndex, EntryIndexes, Error, KeyValue, LogItem,
     OpType, Result, is_consecutive,

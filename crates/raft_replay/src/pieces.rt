@@ -233,7 +233,11 @@ fn both<R: Threads, F: FnOnce() -> A + Send, G: FnOnce() -> B, A: Send, B>(
 
 /// The pieces of the first plan, and those of the second.
 #[tactic(auto, using(crate::proofs::MergeLemmas::leaves_positive))]
-fn divide<M: ReplayMachine>(mut pieces: Vec<M>, left: &Plan, right: &Plan) -> Result<(Vec<M>, Vec<M>)>
+fn divide<M: ReplayMachine>(
+    mut pieces: Vec<M>,
+    left: &Plan,
+    right: &Plan,
+) -> Result<(Vec<M>, Vec<M>)>
     requires { leaves left.now + leaves right.now ≡ vec_len pieces }
     ensures ok { IfOk result (λ both. pieces.items ≡ both.0.items ++ both.1.items) }
     ensures lengths { IfOk result (λ both. (leaves left.entry.now ≡ vec_len both.0)

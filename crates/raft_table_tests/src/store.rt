@@ -324,12 +324,7 @@ impl LogStore {
     }
 
     /// Merges a table of a queue into this store's, under its region mark.
-    pub fn join_under(
-        &mut self,
-        queue: LogQueue,
-        newer: &mut MemTable,
-        mark: &Mark,
-    ) -> Result<()> {
+    pub fn join_under(&mut self, queue: LogQueue, newer: &mut MemTable, mark: &Mark) -> Result<()> {
         let other = match queue {
             LogQueue::Append => LogQueue::Rewrite,
             LogQueue::Rewrite => LogQueue::Append,

@@ -11,7 +11,7 @@ ghost use Rattle.raft_table.specs.Queues.{count_in};
 use crate::memtable::block::Block;
 use crate::memtable::entries::Entries;
 use crate::memtable::entries::lists::{
-    spot_behind, find, is_same, push_block, put_blocks, search, spans_behind,
+    find, is_same, push_block, put_blocks, search, spans_behind, spot_behind,
 };
 use raft_base::{AllocResult, EntryIndex, FileBlockHandle, LogQueue};
 use std::alloc::Global;

@@ -11,5 +11,5 @@ pub unreachable-requires : goal.unreachable-requires
 unreachable-requires c =
     let signed = signature_at c.args.batch.now.stage c.requires.sealed in
     let whole = c.encoded_bytes-bytes.ensures.read_again signed.0 signed.1 c.requires.some in
-    let read = (c.log_batches_are_read_again.ensures.parts _ _ _ _).0 whole in
+    let read = (c.log_batches_are_read_again.ensures.sections _ _ _ _).0 whole in
     c.in-Err.ensures.refused read.frame.header.front _ _ read.frame.header.spells read.frame.header.split

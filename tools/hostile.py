@@ -51,10 +51,10 @@ MARK = b"__\x01"
 
 def varint(chance, number):
     """A spelling of a number, now and then a longer one."""
-    groups = [number >> shift & 127 for shift in range(0, max(number.bit_length(), 1), 7)]
-    while chance.random() < 0.02 and len(groups) < 9:
-        groups.append(0)
-    return bytes(group | 128 for group in groups[:-1]) + bytes(groups[-1:])
+    septets = [number >> shift & 127 for shift in range(0, max(number.bit_length(), 1), 7)]
+    while chance.random() < 0.02 and len(septets) < 9:
+        septets.append(0)
+    return bytes(septet | 128 for septet in septets[:-1]) + bytes(septets[-1:])
 
 
 def text(chance, data):

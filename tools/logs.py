@@ -18,13 +18,13 @@ ENTRY_BYTES = 240
 
 
 def number(n):
-    """A number in groups of seven bits, the lowest first."""
-    groups = bytearray()
+    """A number in septets, the lowest first."""
+    septets = bytearray()
     while n >= 128:
-        groups.append(n % 128 + 128)
+        septets.append(n % 128 + 128)
         n //= 128
-    groups.append(n)
-    return bytes(groups)
+    septets.append(n)
+    return bytes(septets)
 
 
 def checksum(data, signature=0):

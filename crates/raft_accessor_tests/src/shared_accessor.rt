@@ -1,6 +1,7 @@
 //! What threads append at once stands, and closures on tables of different slots run at once.
 
 mod calls;
+mod every_slot;
 mod seen;
 mod slots;
 
@@ -135,6 +136,47 @@ fn reader_meets_writer<R: Threads + Wait + Clock + Sync>(rt: &R, alloc: Global) 
     Ok(read == Some(true) && written?)
 }
 
+/// Whether two closures that read one table see each other.
+fn readers_meet<R: Threads + Wait + Clock + Sync>(rt: &R, alloc: Global) -> Result<bool> {
+    let shared = SharedAccessor::new(alloc);
+    shared.get_or_insert(rt, 1)?;
+    let (one, two) = (AtomicU64::new(0), AtomicU64::new(0));
+    let read = thread::join(
+        rt,
+        || shared.with_table(rt, 1, |_: &MemTable| sees(rt, &one, &two)),
+        || shared.with_table(rt, 1, |_: &MemTable| sees(rt, &two, &one)),
+    );
+    Ok(read == (Some(true), Some(true)))
+}
+
+/// Walks over all tables once a closure that reads one of them has begun, and raises the other flag then.
+fn walk<R: Wait + Clock>(
+    rt: &R,
+    shared: &SharedAccessor,
+    begun: &AtomicU64,
+    walked: &AtomicU64,
+) -> Result<bool> {
+    let is_begun = is_reached(rt, begun, 1);
+    let ids = shared.collect(rt, |_: &MemTable| true)?;
+    let tables = shared.fold(rt, 0u64, |tables, _: &MemTable| tables.wrapping_add(1));
+    let is_met = !shared.is_empty(rt) && shared.live_entries(rt, LogQueue::Append) == 0;
+    walked.store(1, Ordering::SeqCst);
+    Ok(is_begun && ids.len() == 1 && tables == 1 && is_met)
+}
+
+/// Whether a closure that reads a table sees that all tables are walked over meanwhile.
+fn reader_meets_walks<R: Threads + Wait + Clock + Sync>(rt: &R, alloc: Global) -> Result<bool> {
+    let shared = SharedAccessor::new(alloc);
+    shared.get_or_insert(rt, 1)?;
+    let (one, two) = (AtomicU64::new(0), AtomicU64::new(0));
+    let (read, walked) = thread::join(
+        rt,
+        || shared.with_table(rt, 1, |_: &MemTable| sees(rt, &one, &two)),
+        || walk(rt, &shared, &one, &two),
+    );
+    Ok(walked? && read == Some(true))
+}
+
 /// Whether both pairs of closures meet.
 fn meet<R: Threads + Wait + Clock + Sync>(rt: &R, alloc: Global) -> Result<bool> {
     Ok(writers_meet(rt, alloc)? && reader_meets_writer(rt, alloc)?)
@@ -146,6 +188,20 @@ fn slots_lock_apart(rt: HostRuntime) {
     let mut met = meet(&rt, rt.alloc());
     if matches!(met, Err(Error::Memory)) {
         met = meet(&rt, rt.alloc());
+    }
+    assert!(rt; matches!(met, Ok(true)));
+}
+
+/// Whether those that read one table don't wait for each other.
+fn read_at_once<R: Threads + Wait + Clock + Sync>(rt: &R, alloc: Global) -> Result<bool> {
+    Ok(readers_meet(rt, alloc)? && reader_meets_walks(rt, alloc)?)
+}
+
+#[test]
+fn readers_lock_together(rt: HostRuntime) {
+    let mut met = read_at_once(&rt, rt.alloc());
+    if matches!(met, Err(Error::Memory)) {
+        met = read_at_once(&rt, rt.alloc());
     }
     assert!(rt; matches!(met, Ok(true)));
 }

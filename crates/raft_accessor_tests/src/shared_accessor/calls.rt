@@ -282,11 +282,28 @@ fn handed(called: Result<Option<MemTable>>) -> Result<Answer> {
     Ok((0, called?.as_ref().map(shape)))
 }
 
+/// Drops all entries but the last of a table with a key, and those below 12 of any other.
+fn compaction(table: &MemTable) -> TableChange {
+    match (table.last_index(), table.get(b"k")) {
+        (Some(index), Some(_)) => TableChange::Compact { index },
+        _ => TableChange::Compact { index: 12 },
+    }
+}
+
+/// Changes the table of an accessor as it is, an empty one where there is none.
+fn change_core(alloc: Global, core: &mut MemTableAccessor, id: u64) -> Result<u64> {
+    let change = match core.get(id) {
+        Some(table) => compaction(table),
+        None => compaction(&MemTable::new(alloc, id)),
+    };
+    core.change(id, change)
+}
+
 /// Calls an accessor.
 fn call_core(alloc: Global, core: &mut MemTableAccessor, call: Call) -> Result<Answer> {
     match call {
         Call::Nothing => Ok((0, None)),
-        Call::WithTableMut(id) => numbered(core.change(id, TableChange::Compact { index: 15 })),
+        Call::WithTableMut(id) => numbered(change_core(alloc, core, id)),
         Call::Truncate(id, index) => numbered(core.change(id, TableChange::Truncate { index })),
         Call::Put(id) => numbered(core.change(id, put(alloc, b"n".as_slice())?)),
         Call::Append(start, end, file) => {
@@ -316,10 +333,7 @@ fn call_shared<R: Wait>(
 ) -> Result<Answer> {
     match call {
         Call::Nothing => Ok((0, None)),
-        Call::WithTableMut(id) => {
-            let compaction = |_: &MemTable| TableChange::Compact { index: 15 };
-            numbered(shared.with_table_mut(rt, id, compaction))
-        }
+        Call::WithTableMut(id) => numbered(shared.with_table_mut(rt, id, compaction)),
         Call::Truncate(id, index) => {
             numbered(shared.change(rt, id, TableChange::Truncate { index }))
         }

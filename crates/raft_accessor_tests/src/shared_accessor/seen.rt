@@ -71,11 +71,34 @@ pub(super) struct Seen {
     found: Option<Shape>,
     tables: Vec<Shape>,
     walked: u64,
-    /// The sum of the ids of the regions that a walk meets.
-    regions: u64,
+    /// The sum of what a walk reads in the tables that it meets.
+    read: u64,
+    /// The regions whose tables have an entry and a key.
+    full: Vec<u64>,
     live: (u128, u128),
     is_empty: bool,
     cleaned: Vec<u64>,
+}
+
+impl Seen {
+    /// Whether there are so many tables and cleaned regions, and so many live records of both queues.
+    pub(super) fn has(&self, tables: usize, cleaned: usize, live: (u128, u128)) -> bool {
+        (self.tables.len(), self.cleaned.len(), self.live) == (tables, cleaned, live)
+    }
+}
+
+/// One number of a table's region, entries and keys.
+fn read(table: &MemTable) -> u64 {
+    let mut seen = pairs(table);
+    for index in &[table.first_index(), table.last_index()] {
+        seen = seen.wrapping_mul(257).wrapping_add(index.unwrap_or(0));
+    }
+    seen.wrapping_mul(257).wrapping_add(table.region_id())
+}
+
+/// Whether a table has an entry and a key.
+fn is_full(table: &MemTable) -> bool {
+    table.first_index().is_some() && pairs(table) != 0
 }
 
 /// The regions of the items of a batch, in order.
@@ -112,13 +135,25 @@ fn shapes_of(alloc: Global, core: &MemTableAccessor) -> Result<Vec<Shape>> {
     Ok(tables)
 }
 
-/// The sum of the ids of regions.
-fn sum(tables: &[Shape]) -> u64 {
+/// The sum of what is read in the tables of an accessor.
+fn read_of(core: &MemTableAccessor) -> Result<u64> {
     let mut sum = 0u64;
-    for table in tables {
-        sum = sum.wrapping_add(table.0);
+    for table in core.tables()? {
+        sum = sum.wrapping_add(read(table));
     }
-    sum
+    Ok(sum)
+}
+
+/// The regions of an accessor whose tables have an entry and a key.
+fn full_of(alloc: Global, core: &MemTableAccessor) -> Result<Vec<u64>> {
+    let mut full = Vec::new(alloc);
+    for table in core.tables()? {
+        if is_full(table) {
+            full.push(table.region_id())?;
+        }
+    }
+    full.sort()?;
+    Ok(full)
 }
 
 /// What an accessor shows. Its cleaned regions are taken.
@@ -130,7 +165,8 @@ pub(super) fn see_core(alloc: Global, core: &mut MemTableAccessor) -> Result<See
     Ok(Seen {
         found: core.get(REGION).map(shape),
         walked: tables.len() as u64,
-        regions: sum(tables.as_slice()),
+        read: read_of(core)?,
+        full: full_of(alloc, core)?,
         tables,
         live: (
             stats.live_entries(LogQueue::Append) as u128,
@@ -157,6 +193,13 @@ fn shapes_in<R: Wait>(rt: &R, alloc: Global, shared: &SharedAccessor) -> Result<
     Ok(tables)
 }
 
+/// The regions whose shared tables have an entry and a key.
+fn full_in<R: Wait>(rt: &R, shared: &SharedAccessor) -> Result<Vec<u64>> {
+    let mut full = shared.collect(rt, is_full)?;
+    full.sort()?;
+    Ok(full)
+}
+
 /// What shared tables show. Their cleaned regions are taken.
 pub(super) fn see_shared<R: Wait>(rt: &R, alloc: Global, shared: &SharedAccessor) -> Result<Seen> {
     let tables = shapes_in(rt, alloc, shared)?;
@@ -166,9 +209,10 @@ pub(super) fn see_shared<R: Wait>(rt: &R, alloc: Global, shared: &SharedAccessor
         found: shape_in(rt, shared, REGION),
         tables,
         walked: shared.fold(rt, 0u64, |walked, _: &MemTable| walked.wrapping_add(1)),
-        regions: shared.fold(rt, 0u64, |regions, table: &MemTable| {
-            regions.wrapping_add(table.region_id())
+        read: shared.fold(rt, 0u64, |sum, table: &MemTable| {
+            sum.wrapping_add(read(table))
         }),
+        full: full_in(rt, shared)?,
         live: (
             shared.live_entries(rt, LogQueue::Append),
             shared.live_entries(rt, LogQueue::Rewrite),

@@ -8,6 +8,7 @@ use raft_base::{
     unhash_u64, util,
 };
 use std::alloc::{AllocError, Global};
+use std::convert::AsSlice;
 use std::io;
 use std::ops::{Div, Mul};
 use std::str::FromStr;
@@ -27,6 +28,30 @@ fn word_of(error: &Error) -> &'static str {
         Error::Other(_) => "other",
         Error::Memory => "memory",
         Error::Failed => "failed",
+    }
+}
+
+/// What an error has inside, if it is a text.
+fn text_of(error: Error) -> Option<String> {
+    match error {
+        Error::InvalidArgument(text) => Some(text),
+        Error::Corruption(text) => Some(text),
+        Error::TryAgain(text) => Some(text),
+        Error::Other(text) => Some(text),
+        _ => None,
+    }
+}
+
+/// The errors that have another one inside.
+fn error_of(io: io::Error, codec: codec::Error, message: MessageError) -> [Error; 3] {
+    [Error::Io(io), Error::Codec(codec), Error::Message(message)]
+}
+
+/// The number that a message is refused with, and there is no other refusal.
+fn refused_with(error: MessageError) -> Option<u32> {
+    match error {
+        MessageError::Refused(number) => Some(number),
+        MessageError::Memory => None,
     }
 }
 
@@ -60,6 +85,14 @@ fn sizes() {
     let _product: fn(ReadableSize, u64) -> ReadableSize = <ReadableSize as Mul<u64>>::mul;
     let _from_str: fn(&str) -> std::result::Result<ReadableSize, SizeError> =
         <ReadableSize as FromStr>::from_str;
+    let _from_value: fn(&toml::Value) -> std::result::Result<ReadableSize, SizeError> =
+        size_from_value;
+}
+
+/// The bytes of a size.
+fn bytes_of(size: ReadableSize) -> u64 {
+    let ReadableSize(bytes) = size;
+    bytes
 }
 
 fn utilities() {
@@ -77,7 +110,8 @@ fn utilities_by_module() {
     let _round_up: fn(usize, usize) -> usize = util::round_up;
     let _kb: fn(u64) -> ReadableSize = util::ReadableSize::kb;
     let _number_of: fn(util::SizeError) -> u8 = number_of;
-    let _size_from_value = util::size_from_value;
+    let _from_value: fn(&toml::Value) -> std::result::Result<ReadableSize, SizeError> =
+        util::size_from_value;
     let _units: [u64; 6] = [
         util::B,
         util::KIB,
@@ -111,6 +145,27 @@ fn types_by_module() {
 
 fn ready_of_reactive_bytes<T: ReactiveBytes>(bytes: &T) -> bool {
     T::ready(bytes)
+}
+
+/// Bytes by a loan are always ready.
+fn as_bytes_of_loans<'a, T: AsSlice<u8>>(
+    bytes: &'a mut &'a T,
+    context: &LogFileContext,
+) -> &'a [u8] {
+    <&T as ReactiveBytes>::as_bytes(bytes, context)
+}
+
+fn append_of_pipes<P: PipeLog>(
+    pipe: &P,
+    queue: LogQueue,
+    bytes: &mut &Vec<u8>,
+) -> Result<FileBlockHandle> {
+    P::append::<&Vec<u8>>(pipe, queue, bytes)
+}
+
+fn file_at_of_pipes<P: PipeLog>(pipe: &P, queue: LogQueue, num: u64) -> FileSeq {
+    let den: u64 = 3;
+    P::file_at(pipe, queue, num, den)
 }
 
 fn read_bytes_of_pipes<P: PipeLog, T: ReactiveBytes>(
@@ -172,9 +227,31 @@ fn fields(entry: EntryIndex) -> u64 {
     let Some(FileBlockHandle { id, offset, len }) = entries else {
         return index;
     };
-    let FileId { queue: _, seq } = id;
-    let _place: (u64, usize, FileSeq) = (offset, len, seq);
+    let FileId { queue, seq } = id;
+    let _place: (LogQueue, u64, usize, FileSeq) = (queue, offset, len, seq);
     index
+}
+
+/// An entry, its place and its file, by name and type.
+fn entry(number: u64, seq: FileSeq, len: usize, entry_len: u32) -> (EntryIndex, LogFileContext) {
+    let id = FileId {
+        queue: LogQueue::Append,
+        seq,
+    };
+    let entries = Some(FileBlockHandle {
+        id,
+        offset: number,
+        len,
+    });
+    let entry = EntryIndex {
+        index: number,
+        entries,
+        compression_type: CompressionType::None,
+        entry_offset: 0u32,
+        entry_len,
+    };
+    let version = Version::V2;
+    (entry, LogFileContext { id, version })
 }
 
 #[test]
@@ -185,9 +262,12 @@ fn base_is_handed_on(rt: HostRuntime) {
     utilities_by_module();
     files();
     types_by_module();
-    let _size_from_value = size_from_value;
     let units: [u64; 6] = [B, KIB, MIB, GIB, TIB, PIB];
     assert!(rt; units[5] == 1 << 50 && word_of(&Error::Full) == "full");
     assert!(rt; number_of(SizeError::Kind) == 5 && fields(EntryIndex::default()) == 0);
-    assert!(rt; LogQueue::Rewrite as u8 == 1 && Version::V2 as u8 == 2);
+    assert!(rt; LogQueue::Append as u8 == 0 && LogQueue::Rewrite as u8 == 1);
+    assert!(rt; Version::V1 as u8 == 1 && Version::V2 as u8 == 2);
+    assert!(rt; bytes_of(ReadableSize(7)) == 7 && fields(entry(7, 1, 3, 2).0) == 7);
+    assert!(rt; refused_with(MessageError::Refused(7)) == Some(7));
+    assert!(rt; text_of(Error::Full).is_none());
 }

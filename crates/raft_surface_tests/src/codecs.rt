@@ -9,6 +9,18 @@ use raft_base::codec::{
 use raft_base::{AllocResult, codec};
 use std::io;
 
+/// What decoders read from are plain bytes.
+fn bytes_of<'a>(bytes: BytesSlice<'a>) -> &'a [u8] {
+    bytes
+}
+
+fn is_writer<W: io::Write>() {}
+
+/// What numbers are encoded by is a writer.
+fn is_encoder<W: NumberEncoder>() {
+    is_writer::<W>();
+}
+
 fn read_u8_of_fixed_decoders(bytes: &mut BytesSlice<'_>) -> Result<u8> {
     read_u8(bytes)
 }
@@ -142,6 +154,8 @@ fn word_of(error: &Error) -> &'static str {
 #[test]
 fn numbers_are_handed_on(rt: HostRuntime) {
     varint_decoders();
+    is_encoder::<Vec<u8>>();
+    assert!(rt; bytes_of(b"7".as_slice()) == b"7".as_slice());
     let eof: codec::Error = Error::unexpected_eof();
     assert!(rt; word_of(&eof) == "io");
 }

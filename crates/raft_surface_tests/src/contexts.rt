@@ -38,6 +38,13 @@ fn merge_of_machines<M: ReplayMachine>(machine: &mut M, rhs: M, queue: LogQueue)
     M::merge(machine, rhs, queue)
 }
 
+fn is_sent<T: Send>() {}
+
+/// What batches are replayed into may go to another thread.
+fn is_sent_machine<M: ReplayMachine>() {
+    is_sent::<M>();
+}
+
 fn factories() {
     let _new: fn() -> MemTableRecoverContextFactory = MemTableRecoverContextFactory::new;
     let _new_target: fn(&MemTableRecoverContextFactory, Global) -> Result<MemTableRecoverContext> =
@@ -59,7 +66,7 @@ fn numbers_of(kept: Kept) -> [u128; 6] {
     [
         kept.entries,
         kept.keys,
-        kept.regions_and_groups,
+        kept.marks,
         kept.deleted_keys,
         kept.cleaned,
         kept.waiting_items,
@@ -69,13 +76,14 @@ fn numbers_of(kept: Kept) -> [u128; 6] {
 #[test]
 fn contexts_are_handed_on(rt: HostRuntime) {
     contexts();
+    is_sent_machine::<MemTableRecoverContext>();
     factories();
     laws();
     let _stage: Option<ContextStage> = None;
     let kept = Kept {
         entries: 1,
         keys: 2,
-        regions_and_groups: 3,
+        marks: 3,
         deleted_keys: 4,
         cleaned: 5,
         waiting_items: 6,

@@ -4,7 +4,7 @@ use raft_records::codec::BytesSlice;
 use raft_records::{
     ATOMIC_GROUP_KEY, AtomicGroupBuilder, AtomicGroupStatus, Command, CompressionType, EntryIndex,
     EntryIndexes, FileBlockHandle, FileId, KeyValue, LogBatch, LogFileContext, LogItem,
-    LogItemBatch, LogItemContent, Message, OpType, Result, is_consecutive, is_reserved,
+    LogItemBatch, LogItemContent, LogQueue, Message, OpType, Result, is_consecutive, is_reserved,
 };
 use std::alloc::Global;
 use std::{slice, vec};
@@ -121,6 +121,46 @@ fn groups() {
     let _is_reserved: fn(&[u8]) -> bool = is_reserved;
 }
 
+/// A key value and an item, by name and type.
+fn item_of(raft_group_id: u64, key: Vec<u8>, value: Option<Vec<u8>>, file: FileId) -> LogItem {
+    let content = LogItemContent::Kv(KeyValue {
+        op_type: OpType::Put,
+        key,
+        value,
+        file_id: Some(file),
+    });
+    LogItem {
+        raft_group_id,
+        content,
+    }
+}
+
+/// The entries of an item, by type.
+fn entries_of(item: LogItem) -> Option<Vec<EntryIndex>> {
+    match item.content {
+        LogItemContent::EntryIndexes(EntryIndexes(entries)) => Some(entries),
+        _ => None,
+    }
+}
+
+/// The index of a command.
+fn index_of(command: &Command) -> Option<u64> {
+    match command {
+        Command::Clean => None,
+        Command::Compact { index } => Some(*index),
+        Command::Truncate { index } => Some(*index),
+    }
+}
+
+/// The number of each status, and there is no other.
+fn number_of(status: AtomicGroupStatus) -> u8 {
+    match status {
+        AtomicGroupStatus::Begin => AtomicGroupStatus::Begin as u8,
+        AtomicGroupStatus::Middle => AtomicGroupStatus::Middle as u8,
+        AtomicGroupStatus::End => AtomicGroupStatus::End as u8,
+    }
+}
+
 /// What kind of change an item is, and there is no other.
 fn kind_of(item: &LogItem) -> &'static str {
     let LogItem {
@@ -150,5 +190,11 @@ fn items_are_handed_on(rt: HostRuntime) {
     groups();
     let clean = LogItem::new_command(7, Command::Clean);
     assert!(rt; kind_of(&clean) == "clean" && is_reserved(&ATOMIC_GROUP_KEY));
-    assert!(rt; AtomicGroupStatus::Begin as u8 == 0 && AtomicGroupStatus::End as u8 == 2);
+    assert!(rt; number_of(AtomicGroupStatus::Begin) == 0 && OpType::Put as u8 == 1);
+    assert!(rt; number_of(AtomicGroupStatus::Middle) == 1 && OpType::Del as u8 == 2);
+    assert!(rt; number_of(AtomicGroupStatus::End) == 2 && entries_of(clean).is_none());
+    assert!(rt; index_of(&Command::Truncate { index: 7 }) == Some(7));
+    let file = FileId::new(LogQueue::Append, 1);
+    let put = item_of(7, Vec::new(rt.alloc()), None, file);
+    assert!(rt; kind_of(&put) == "put" && put.raft_group_id == 7);
 }

@@ -1,6 +1,7 @@
 //! Every name that users import, from the crate that hands it on, with the type that it has there: a name that
-//! moves or a signature that changes is refused. What the names do is tested by the crates of tests of each
-//! library.
+//! moves or a signature that changes is refused. These names are fixed, since programs stand on them: a rename
+//! elsewhere never edits a line of this crate; it is the rename that has to give way. What the names do is tested by
+//! the crates of tests of each library.
 #![tactic(auto)]
 
 #[cfg(test)]

@@ -2,8 +2,8 @@
 
 use raft_records::codec::BytesSlice;
 use raft_records::{
-    Command, CompressionType, EntryIndex, FileBlockHandle, LogBatch, LogFileContext, LogItem,
-    Message, MessageExt, ReactiveBytes, Result,
+    Command, CompressionType, EntryIndex, Error, FileBlockHandle, LogBatch, LogFileContext,
+    LogItem, Message, MessageExt, ReactiveBytes, Result,
 };
 use std::alloc::Global;
 use std::vec;
@@ -20,7 +20,7 @@ fn batches() {
     let _clone: fn(&LogBatch) -> Result<LogBatch> = LogBatch::clone;
 }
 
-fn changes<M: MessageExt, S: Message>() {
+fn changes() {
     let _add_raw_entries: fn(&mut LogBatch, u64, Vec<EntryIndex>, Vec<Vec<u8>>) -> Result<()> =
         LogBatch::add_raw_entries;
     let _add_command: fn(&mut LogBatch, u64, Command) -> Result<()> = LogBatch::add_command;
@@ -28,11 +28,49 @@ fn changes<M: MessageExt, S: Message>() {
     let _put: fn(&mut LogBatch, u64, Vec<u8>, Vec<u8>) -> Result<()> = LogBatch::put;
 }
 
+fn add_entries_of_changes<M: MessageExt>(
+    batch: &mut LogBatch,
+    region: u64,
+    entries: &[M::Entry],
+) -> Result<()> {
+    if !batch.is_open() {
+        return Err(Error::Failed);
+    }
+    LogBatch::add_entries::<M>(batch, region, entries)
+}
+
+fn put_message_of_changes<S: Message>(
+    batch: &mut LogBatch,
+    region: u64,
+    key: Vec<u8>,
+    message: &S,
+) -> Result<()> {
+    if !batch.is_open() {
+        return Err(Error::Failed);
+    }
+    LogBatch::put_message::<S>(batch, region, key, message)
+}
+
 fn writes() {
     let _finish_populate: fn(&mut LogBatch) -> Result<usize> = LogBatch::finish_populate;
     let _prepare_write: fn(&mut LogBatch, &LogFileContext) = LogBatch::prepare_write;
     let _finish_write: fn(&mut LogBatch, FileBlockHandle) = LogBatch::finish_write;
     let _ready: fn(&LogBatch) -> bool = <LogBatch as ReactiveBytes>::ready;
+}
+
+fn encoded_bytes_of_writes<'a>(batch: &'a LogBatch) -> Option<&'a [u8]> {
+    if !batch.is_sealed() {
+        return None;
+    }
+    Some(LogBatch::encoded_bytes(batch))
+}
+
+/// The bytes of a batch for a file.
+fn as_bytes_of_writes<'a>(batch: &'a mut LogBatch, context: &LogFileContext) -> Option<&'a [u8]> {
+    if !batch.ready() {
+        return None;
+    }
+    Some(<LogBatch as ReactiveBytes>::as_bytes(batch, context))
 }
 
 fn reads() {
@@ -50,8 +88,10 @@ fn header_of_reads(
 #[test]
 fn log_batches_are_handed_on(rt: HostRuntime) {
     batches();
+    changes();
     writes();
     reads();
     let batch = LogBatch::default(rt.alloc());
     assert!(rt; batch.is_open() && batch.is_empty());
+    assert!(rt; encoded_bytes_of_writes(&batch).is_none());
 }

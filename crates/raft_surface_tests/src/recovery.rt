@@ -4,12 +4,14 @@ use raft_recover::files::file_segments;
 use raft_recover::recovered::recovered_text;
 use raft_recover::{
     AllocResult, Error, Factory, FileId, FilePart, FileSeq, Gate, LogQueue, MAX_WORKERS, MemTable,
-    MemTableAccessor, OpenGate, Plan, ReplayMachine, Result, Segment, TicketSeat, Tickets, Version,
-    cut_part, merge_pieces, piece_count, print_recovered, recover, recover_bytes, replay_scheduled,
-    replay_segment, replay_segments, segments_read_as_one_history,
+    MemTableAccessor, MemTableRecoverContext, MemTableRecoverContextFactory, OpenGate, Plan,
+    ReplayMachine, Result, Segment, TicketSeat, Tickets, Version, cut_part, merge_pieces,
+    piece_count, print_recovered, recover, recover_bytes, replay_scheduled, replay_segment,
+    replay_segments, run, segments_read_as_one_history,
 };
 use std::alloc::Global;
-use std::io::Write;
+use std::io::{Read, Write};
+use std::rt::Files;
 use std::thread::Threads;
 
 fn tickets() {
@@ -43,6 +45,55 @@ fn merge_pieces_of_workers<M: ReplayMachine, F: Factory<M>, G: Gate, R: Threads 
     queue: LogQueue,
 ) -> Result<M> {
     merge_pieces::<M, R>(rt, pieces, plan, queue)
+}
+
+/// Machines as draws and a plan make them.
+fn replay_scheduled_of_schedules(
+    alloc: Global,
+    factory: &MemTableRecoverContextFactory,
+    segments: &[Segment],
+    queue: LogQueue,
+    workers: usize,
+    draws: &[usize],
+    plan: &Plan,
+) -> Result<MemTableRecoverContext> {
+    replay_scheduled(alloc, factory, segments, queue, workers, draws, plan)
+}
+
+/// Machines as workers make them.
+fn replay_segments_of_workers<R: Threads + Sync, G: Gate>(
+    rt: &R,
+    alloc: Global,
+    factory: &MemTableRecoverContextFactory,
+    segments: &[Segment],
+    queue: LogQueue,
+    workers: usize,
+    gate: &G,
+) -> Result<MemTableRecoverContext> {
+    replay_segments(rt, alloc, factory, segments, queue, workers, gate)
+}
+
+fn is_shared<T: Send + Sync>() {}
+
+/// What workers pass is seen by all of them.
+fn is_shared_gate<G: Gate>() {
+    is_shared::<G>();
+}
+
+/// The status that the program ends with.
+fn run_of_programs<S: Files + AllocGlobal + Threads + Sync, R: Read, W: Write, E: Write>(
+    rt: &S,
+    words: &[String],
+    input: &mut R,
+    out: &mut W,
+    err: &mut E,
+) -> u8 {
+    run::<S, R, W, E>(rt, words, input, out, err)
+}
+
+/// The parts of a segment.
+fn parts_of(segment: Segment) -> Vec<FilePart> {
+    segment
 }
 
 fn get_or_insert_of_recoveries<'a>(
@@ -100,6 +151,8 @@ fn leaves_of(plan: &Plan) -> usize {
 fn recovery_is_handed_on(rt: HostRuntime) {
     tickets();
     plans();
+    is_shared_gate::<OpenGate>();
+    assert!(rt; parts_of(Vec::new(rt.alloc())).is_empty());
     segments_read_as_one_history();
     let file = FileId::new(LogQueue::Append, 1);
     assert!(rt; file.seq == 1 && MAX_WORKERS == 256 && leaves_of(&Plan::One) == 1);

@@ -49,9 +49,62 @@ fn changes() {
         MemTableAccessor::merge_append_table;
 }
 
+fn apply_append_writes_of_items(
+    accessor: &mut MemTableAccessor,
+    items: Vec<LogItem>,
+) -> Result<()> {
+    MemTableAccessor::apply_append_writes(accessor, items)
+}
+
+fn replay_append_writes_of_items(
+    accessor: &mut MemTableAccessor,
+    items: Vec<LogItem>,
+) -> Result<()> {
+    MemTableAccessor::replay_append_writes(accessor, items)
+}
+
+fn replay_rewrite_writes_of_items(
+    accessor: &mut MemTableAccessor,
+    items: Vec<LogItem>,
+) -> Result<()> {
+    MemTableAccessor::replay_rewrite_writes(accessor, items)
+}
+
+fn apply_rewrite_writes_of_items(
+    accessor: &mut MemTableAccessor,
+    items: Vec<LogItem>,
+    watermark: Option<FileSeq>,
+    new_file: FileSeq,
+) -> Result<()> {
+    MemTableAccessor::apply_rewrite_writes(accessor, items, watermark, new_file)
+}
+
+/// How many tables a walk meets.
+fn fold_of_walks(accessor: &MemTableAccessor) -> u64 {
+    let init: u64 = 0;
+    MemTableAccessor::fold(accessor, init, |count: u64, _: &MemTable| -> u64 {
+        count.wrapping_add(1)
+    })
+}
+
+/// The tables of a region.
+fn collect_of_walks<'a>(accessor: &'a MemTableAccessor, id: u64) -> Result<Vec<&'a MemTable>> {
+    MemTableAccessor::collect(accessor, |table: &MemTable| -> bool {
+        table.region_id() == id
+    })
+}
+
+/// How many tables are met in none.
+fn met_in_none(alloc: Global) -> Result<u64> {
+    let mut accessor = MemTableAccessor::new(alloc)?;
+    apply_append_writes_of_items(&mut accessor, Vec::new(alloc))?;
+    Ok(fold_of_walks(&accessor))
+}
+
 #[test]
 fn regions_are_handed_on(rt: HostRuntime) {
     tables();
     changes();
     assert!(rt; slot_of(0) == 0);
+    assert!(rt; matches!(met_in_none(rt.alloc()), Ok(0) | Err(_)));
 }

@@ -56,6 +56,93 @@ fn get_or_insert_of_tables<R: Wait>(shared: &SharedAccessor, rt: &R, number: u64
     SharedAccessor::get_or_insert::<R>(shared, rt, number)
 }
 
+fn insert_of_tables<R: Wait>(
+    shared: &SharedAccessor,
+    rt: &R,
+    number: u64,
+    table: MemTable,
+) -> Result<Option<MemTable>> {
+    if table.region_id() != number {
+        return Ok(None);
+    }
+    SharedAccessor::insert::<R>(shared, rt, number, table)
+}
+
+/// A region's id, if it has a table.
+fn with_table_of_tables<R: Wait>(shared: &SharedAccessor, rt: &R, number: u64) -> Option<u64> {
+    SharedAccessor::with_table(shared, rt, number, |table: &MemTable| -> u64 {
+        table.region_id()
+    })
+}
+
+/// How many entries are dropped up to the last one.
+fn with_table_mut_of_tables<R: Wait>(shared: &SharedAccessor, rt: &R, number: u64) -> Result<u64> {
+    let compact = |table: &MemTable| -> TableChange {
+        match table.last_index() {
+            Some(index) => TableChange::Compact { index },
+            None => TableChange::Keep,
+        }
+    };
+    SharedAccessor::with_table_mut(shared, rt, number, compact)
+}
+
+/// How many tables a walk meets.
+fn fold_of_tables<R: Wait>(shared: &SharedAccessor, rt: &R) -> u64 {
+    let init: u64 = 0;
+    SharedAccessor::fold(shared, rt, init, |count: u64, _: &MemTable| -> u64 {
+        count.wrapping_add(1)
+    })
+}
+
+/// The ids of tables without entries.
+fn collect_of_tables<R: Wait>(shared: &SharedAccessor, rt: &R) -> Result<Vec<u64>> {
+    SharedAccessor::collect(shared, rt, |table: &MemTable| -> bool {
+        table.last_index().is_none()
+    })
+}
+
+fn apply_append_writes_of_items<R: Wait>(
+    shared: &SharedAccessor,
+    rt: &R,
+    items: Vec<LogItem>,
+) -> Result<()> {
+    SharedAccessor::apply_append_writes(shared, rt, items)
+}
+
+fn apply_rewrite_writes_of_items<R: Wait>(
+    shared: &SharedAccessor,
+    rt: &R,
+    items: Vec<LogItem>,
+    watermark: Option<FileSeq>,
+    new_file: FileSeq,
+) -> Result<()> {
+    SharedAccessor::apply_rewrite_writes(shared, rt, items, watermark, new_file)
+}
+
+fn apply_rewrite_atomic_group_of_items<R: Wait>(
+    shared: &SharedAccessor,
+    rt: &R,
+    number: u64,
+    start: FileSeq,
+    end: FileSeq,
+) -> Result<()> {
+    if start > end {
+        return Ok(());
+    }
+    SharedAccessor::apply_rewrite_atomic_group::<R>(shared, rt, number, start, end)
+}
+
+fn take_cleaned_region_logs_of_tables<R: Wait>(
+    shared: &SharedAccessor,
+    rt: &R,
+    logs: &mut LogBatch,
+) -> Result<()> {
+    if !logs.is_open() {
+        return Ok(());
+    }
+    SharedAccessor::take_cleaned_region_logs::<R>(shared, rt, logs)
+}
+
 fn remove_of_tables<R: Wait>(
     shared: &SharedAccessor,
     rt: &R,
@@ -79,5 +166,6 @@ fn shared_tables_are_handed_on(rt: HostRuntime) {
     changes_of_slots();
     tables::<HostRuntime>();
     let shared = SharedAccessor::new(rt.alloc());
-    assert!(rt; shared.is_empty(&rt));
+    assert!(rt; shared.is_empty(&rt) && fold_of_tables(&shared, &rt) == 0);
+    assert!(rt; with_table_of_tables(&shared, &rt, 7).is_none());
 }

@@ -68,6 +68,18 @@ fn get_of_keys<'a>(table: &'a MemTable, bytes: &[u8]) -> Option<&'a [u8]> {
     MemTable::get(table, bytes)
 }
 
+/// The keys between two bounds, in order or reversed, until one is refused.
+fn scan_of_keys(table: &MemTable, start: Option<&[u8]>, end: Option<&[u8]>) -> Result<()> {
+    let reverse: bool = true;
+    MemTable::scan(
+        table,
+        start,
+        end,
+        reverse,
+        |key: &[u8], value: &[u8]| key.len() == value.len(),
+    )
+}
+
 fn fetches() {
     let _fetch_entries_to: fn(
         &MemTable,
@@ -98,6 +110,43 @@ fn merges() {
     let _change: fn(&mut MemTable, TableChange, &mut GlobalStats) -> Result<u64> = MemTable::change;
     let _mark: fn(Global) -> Mark = Mark::new;
     let _deleted_keys: fn(Global) -> DeletedKeys = DeletedKeys::new;
+}
+
+/// The fields of a block, by name and type.
+fn spans_of(block: Block) -> VecDeque<(u32, u32)> {
+    let Block { handle, spans } = block;
+    let _handle: FileBlockHandle = handle;
+    spans
+}
+
+/// Changes, by name and type.
+fn put_change(key: Vec<u8>, value: Vec<u8>, file_id: FileId) -> TableChange {
+    TableChange::Put {
+        key,
+        value,
+        file_id,
+    }
+}
+
+fn run_changes(run: Vec<EntryIndex>, entries: Vec<EntryIndex>) -> (TableChange, TableChange) {
+    let gate: Option<FileSeq> = None;
+    (
+        TableChange::Append(run),
+        TableChange::Rewrite { entries, gate },
+    )
+}
+
+fn key_changes(key: Vec<u8>, other: Vec<u8>, seq: FileSeq) -> (TableChange, TableChange) {
+    let gate = Some(seq);
+    let rewriting = TableChange::RewriteKey { key, gate, seq };
+    (rewriting, TableChange::Delete { key: other })
+}
+
+fn index_changes(index: u64) -> (TableChange, TableChange) {
+    (
+        TableChange::Compact { index },
+        TableChange::Truncate { index },
+    )
 }
 
 /// What kind of change it is, and there is no other.
@@ -138,4 +187,6 @@ fn tables_are_handed_on(rt: HostRuntime) {
     let table: memtable::MemTable = MemTable::new(rt.alloc(), 7);
     assert!(rt; table.region_id() == 7 && kind_of(&TableChange::Keep) == "keep");
     assert!(rt; matches!(Error::Full, raft_base::Error::Full));
+    assert!(rt; kind_of(&index_changes(7).1) == "truncate");
+    assert!(rt; matches!(scan_of_keys(&table, None, None), Ok(())));
 }

@@ -2,13 +2,15 @@
 
 use raft_memtable::{
     ContextStage, GlobalStats, Kept, MemTable, MemTableAccessor, MemTableRecoverContext,
-    ReplayMachine,
+    MemTableRecoverContextFactory, ReplayMachine,
 };
 use raft_records::{
-    AtomicGroupStatus, Command, CompressionType, EntryIndex, EntryIndexes, Error, FileBlockHandle,
-    FileId, KeyValue, LogBatch, LogFileContext, LogItem, LogItemBatch, LogItemContent, LogQueue,
-    MessageError, OpType, ReadableSize, SizeError, Version,
+    AtomicGroupBuilder, AtomicGroupStatus, Command, CompressionType, EntryIndex, EntryIndexes,
+    Error, Factory, FileBlockHandle, FileId, FilePart, KeyValue, LogBatch, LogFileContext, LogItem,
+    LogItemBatch, LogItemContent, LogQueue, Message, MessageError, MessageExt, OpType,
+    ReactiveBytes, ReadableSize, SizeError, Version,
 };
+use serde::{DeserializeOwned, Serialize};
 use std::fmt::{Debug, Display};
 use std::hash::Hash;
 
@@ -25,6 +27,27 @@ fn is_hashed<T: Hash>() {}
 fn is_printed<T: Display>() {}
 
 fn is_default<T: Default>() {}
+
+fn is_debugged<T: Debug>() {}
+
+fn is_serialized<T: Serialize + DeserializeOwned>() {}
+
+fn is_message<T: Message + Clone + PartialEq>() {}
+
+/// The entries of a `MessageExt` are messages, which is known in all threads.
+fn is_message_ext<M: MessageExt>() {
+    is_message::<M::Entry>();
+    is_sent::<M>();
+    is_shared::<M>();
+}
+
+/// A factory is known in all threads.
+fn is_factory<T, F: Factory<T>>() {
+    is_sent::<F>();
+    is_shared::<F>();
+}
+
+fn is_reactive<T: ReactiveBytes>() {}
 
 fn is_cloned<T: Clone + PartialEq + Eq + Debug>() {}
 
@@ -77,6 +100,20 @@ fn printed_types() {
     is_default::<GlobalStats>();
 }
 
+fn debugged_types() {
+    is_debugged::<Error>();
+    is_debugged::<raft_base::codec::Error>();
+    is_debugged::<MessageError>();
+    is_debugged::<SizeError>();
+    is_debugged::<AtomicGroupBuilder>();
+    is_debugged::<FilePart>();
+    is_serialized::<ReadableSize>();
+    is_serialized::<Version>();
+    is_reactive::<LogBatch>();
+    is_reactive::<&Vec<u8>>();
+    is_factory::<MemTableRecoverContext, MemTableRecoverContextFactory>();
+}
+
 fn types_with_vectors() {
     is_cloned::<Command>();
     is_cloned::<EntryIndexes>();
@@ -100,6 +137,7 @@ fn types_have_their_traits(_rt: HostRuntime) {
     plain_types();
     compared_types();
     printed_types();
+    debugged_types();
     types_with_vectors();
     types_of_threads();
 }

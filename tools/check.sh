@@ -21,6 +21,6 @@ fi
 tools/frames.py "$program" --show 3 --limit "$frame_limit"
 tools/stack.py "$program"
 if command -v cc > "$room/compiler"; then
-  tools/refused_memory.py --rows-alone --every 5 --row batches --row tables --row contexts --row take --row shared
+  tools/refused_memory.py --rows-alone --every 5 --row batches --row tables --row contexts --row take --row shared --row shared-take
 fi
 tail -n 1 "$room/proved"

@@ -173,10 +173,19 @@ fn call_at<R: Wait>(rt: &R, alloc: Global, shared: &SharedAccessor, call: Call) 
     }
 }
 
-/// The cleaned regions are taken into a batch, a second time where there was no memory: each of them is there
-/// once then.
+/// Tables with cleaned regions in the slots 0, 92, 112 and 127, in slot 112 the same one twice.
+fn cleaned_tables<R: Wait>(rt: &R, alloc: Global) -> Result<SharedAccessor> {
+    let shared = shared_tables(alloc)?;
+    for &region in &[105, 69, 3] {
+        let _removed = shared.remove(rt, region, true)?;
+    }
+    Ok(shared)
+}
+
+/// The cleaned regions are taken into a batch, a second time where there was no memory: none is lost then, and none
+/// is there more often than it was listed.
 pub(crate) fn take<R: Wait>(rt: &R, found: &mut Found) -> Result<()> {
-    let shared = shared_tables(found.alloc)?;
+    let shared = cleaned_tables(rt, found.alloc)?;
     let mut logs = LogBatch::default(found.alloc);
     let mut answer = take_into(rt, &shared, &mut logs);
     if is_refused(&answer) {

@@ -314,6 +314,39 @@ fn write<S: Files + AllocGlobal>(rt: &S, path: &str, digits: &str, length: usize
     fs::write(rt, path, bytes.as_slice()).ok()
 }
 
+/// Words whose paths begin and end with a space.
+fn spaced_words(alloc: Global) -> Result<Vec<String>> {
+    let mut words = words_of(alloc, "recover append 1 1")?;
+    for &word in &["12= spaced.log", "13=spaced.log "] {
+        words.push(String::from_str(alloc, word)?)?;
+    }
+    Ok(words)
+}
+
+/// What is answered where there are files at these paths, and none at the path without spaces.
+fn run_on_spaced_files<S: Files + AllocGlobal + Threads + Sync>(rt: &S) -> Option<Answer> {
+    let words = spaced_words(rt.alloc()).ok()?;
+    write(rt, " spaced.log", TWO_ENTRIES, usize::MAX)?;
+    write(rt, "spaced.log ", CLEAN, usize::MAX)?;
+    let answer = answer_of(rt, words.as_slice(), &mut b"".as_slice());
+    for &path in &[" spaced.log", "spaced.log "] {
+        fs::remove_file(rt, path).ok()?;
+    }
+    answer
+}
+
+#[test]
+fn paths_keep_their_spaces(rt: HostRuntime) {
+    let mut answer = run_on_spaced_files(&rt);
+    if answer
+        .as_ref()
+        .is_none_or(|answer| answer.found_no_memory())
+    {
+        answer = run_on_spaced_files(&rt);
+    }
+    assert!(rt; answer.is_some_and(|answer| answer.is(0, BOTH_LINES, "")));
+}
+
 /// Where an allocation is refused the row runs again, and has to find memory.
 #[test]
 fn files(rt: HostRuntime) {

@@ -20,6 +20,7 @@ demo-recover:
 
 # Runs the example. Nothing is proved.
 example:
+	@echo "raft_example, compiled with checks at run time, which takes a minute, and run without a proof:"
 	@mkdir -p crates/raft_example/out
 	@cd crates/raft_example && $(RT) try 2> out/example.log || { cat out/example.log; exit 1; }
 
@@ -36,7 +37,8 @@ LANES = $(shell awk -v n="$$(nproc)" '/^MemAvailable/ { m = int($$2 / 4000000); 
 test:
 	@RT_JOBS=$(LANES) tools/check.sh
 
-# Runs `raftlog recover` over 2,000 files with little stack, and lists its largest frames. `make raftlog` builds it first.
+# Runs `raftlog recover` over 2,000 files with little stack, and lists its largest frames. `make raftlog` builds it first;
+# `objdump` is needed.
 stack:
 	@tools/frames.py crates/raftlog/out/raftlog
 	@tools/stack.py crates/raftlog/out/raftlog
@@ -72,6 +74,7 @@ bench:
 WORKERS ?= 1
 PROGRAM ?= crates/raftlog/out/raftlog
 compare:
+	@test -n "$(CASES)" || { echo "make compare CASES=folder: the folder with the cases has to be named"; exit 1; }
 	@tools/compare.py $(CASES) $(PROGRAM) $(WORKERS)
 
 # Proves `raft_cuttings` and the crates below it, builds it, and says where it lies.

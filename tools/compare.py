@@ -55,8 +55,10 @@ def main():
     folder = Path(sys.argv[1])
     program = Path(sys.argv[2]).resolve() if len(sys.argv) > 2 else RAFTLOG
     numbers = (sys.argv[3] if len(sys.argv) > 3 else "1").split(",")
+    if not folder.is_dir():
+        sys.exit(f"{folder}: there is no such folder of cases")
     if not program.exists():
-        sys.exit(f"{program} isn't there: make raftlog")
+        sys.exit(f"{program} isn't there: make raftlog, or make cuttings")
     cases = sorted(path.parent for path in folder.rglob("args"))
     with ThreadPoolExecutor(os.cpu_count()) as pool:
         differing = [line for lines in pool.map(lambda case: differences(program, numbers, case), cases) for line in lines]

@@ -9,6 +9,7 @@ the loop are taken off another register first. The registers that a function sav
 """
 import argparse
 import re
+import shutil
 import subprocess
 import sys
 from pathlib import Path
@@ -40,6 +41,10 @@ def main():
     words.add_argument("--show", type=int, default=12)
     words.add_argument("--limit", type=int)
     asked = words.parse_args()
+    if not asked.program.exists():
+        sys.exit(f"{asked.program} isn't there: make raftlog")
+    if not shutil.which("objdump"):
+        sys.exit("objdump (of binutils) isn't there, which lists the functions")
     found = sorted(frames(asked.program).items(), key=lambda frame: -frame[1])
     if not found:
         sys.exit(f"{asked.program}: no function has a frame, so they can't be read")

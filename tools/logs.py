@@ -3,12 +3,13 @@
 
     tools/logs.py FOLDER [--files N] [--megabytes N] [--regions N]
 
-Into FOLDER, which is made, go the files `1`, `2`, .., `args` (the queue, the version, then `<seq>=<path>` for each file)
+Into FOLDER, which is made or is empty, go the files `1`, `2`, .., `args` (the queue, the version, then `<seq>=<path>` for each file)
 and `expect`, the lines that `raftlog recover` owes: a case for tools/compare.py. The bytes are those of docs/FORMAT.md
 in version 2. Each batch appends entries to some regions, and now and then puts a key or drops entries from the front.
 """
 import argparse
 import random
+import sys
 import zlib
 from pathlib import Path
 
@@ -86,7 +87,7 @@ def batch_of(dice, regions, seq):
 
 def write(folder, files, size, regions):
     """Writes so many files, of about so many bytes together, over so many regions."""
-    folder.mkdir(parents=True)
+    folder.mkdir(parents=True, exist_ok=True)
     dice, held = random.Random(1), [Region() for _ in range(regions)]
     for seq in range(1, files + 1):
         with open(folder / str(seq), "wb") as log:
@@ -106,6 +107,8 @@ def main():
     words.add_argument("--megabytes", type=int, default=16)
     words.add_argument("--regions", type=int, default=1000)
     asked = words.parse_args()
+    if asked.folder.exists() and (not asked.folder.is_dir() or any(asked.folder.iterdir())):
+        sys.exit(f"{asked.folder}: no folder, or not an empty one")
     write(asked.folder, asked.files, asked.megabytes << 20, asked.regions)
 
 

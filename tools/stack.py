@@ -61,6 +61,8 @@ def main():
     words.add_argument("--megabytes", type=int, default=47)
     words.add_argument("--regions", type=int, default=3000)
     asked = words.parse_args()
+    if not asked.program.exists():
+        sys.exit(f"{asked.program} isn't there: make raftlog")
     wrongs = 0
     with tempfile.TemporaryDirectory(prefix="raftlog-stack-") as room:
         folder = Path(room) / "logs"

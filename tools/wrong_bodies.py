@@ -1,11 +1,12 @@
 #!/usr/bin/env python3
 """Tries wrong bodies: edits of a crate's source that the prover has to refuse.
 
-    tools/wrong_bodies.py [--applies] [--folder NAME] [CRATE..]
+    tools/wrong_bodies.py [--applies] [--folder NAME] [CRATE..] [CRATE/EDIT..]
 
 tries crates/CRATE/wrong-bodies/*.edit of the crates that are named, or of all, over a copy of the repository, and lists
 those that are not refused, and those that are refused by a proof file alone: it names a step that the wrong body took
-away, which says nothing of the contract. --applies only looks whether each edit can be applied, in must-fail/ too, and proves nothing.
+away, which says nothing of the contract. CRATE/EDIT is one of them, as `raft_table/absorb_by_own_queue`, with or without
+`.edit`. --applies only looks whether each edit can be applied, in must-fail/ too, and proves nothing.
 --folder must-fail tries that folder's edits in the same way. RT names the toolchain's command, where it is not `rt`.
 
 Wrong bodies of different functions go into one check, since a function is proved from its own body and the contracts of
@@ -230,13 +231,35 @@ def with_lower(names):
     return found
 
 
-def applies(names):
+def asked_of(words):
+    """The crates that words name, each with the names of the edits that are asked for, of which none stands for all; every crate
+    where there is no word."""
+    asked = {}
+    for word in words:
+        crate, _, edit = word.partition("/")
+        if crate not in libraries():
+            sys.exit(f"{crate}: crates.txt has no such crate")
+        asked.setdefault(crate, set()).add(edit.removesuffix(".edit"))
+    return {crate: edits - {""} if "" not in edits else set() for crate, edits in asked.items()} or {it: set() for it in libraries()}
+
+
+def with_edits(asked, folders):
+    """Ends the program where an edit that is asked for is in none of the folders."""
+    for crate, edits in asked.items():
+        found = {it.name for folder in folders for it in edits_in(crate, folder)}
+        for edit in sorted(edits - found):
+            sys.exit(f"{crate}/{edit}: there is no such edit in {' or '.join(folders)}/")
+
+
+def applies(asked):
     """Answers a line for each edit that can't be applied."""
     faults, count = [], 0
-    for name in names:
+    for name, edits in asked.items():
         texts = sources(f"{ROOT}/crates/{name}")
         for folder in ("must-fail", "wrong-bodies"):
             for edit in edits_in(name, folder):
+                if edits and edit.name not in edits:
+                    continue
                 count += 1
                 why = edit.apply(dict(texts))
                 if why:
@@ -249,22 +272,25 @@ def main(words):
     folder = "wrong-bodies"
     if "--folder" in words:
         at = words.index("--folder")
-        folder = words[at + 1]
+        folder = "".join(words[at + 1 : at + 2])
         del words[at : at + 2]
+        if folder not in ("must-fail", "wrong-bodies"):
+            sys.exit("--folder: must-fail or wrong-bodies")
     only_looks = "--applies" in words
-    names = [it for it in words if it != "--applies"] or list(libraries())
-    faults, by_proof = applies(names), []
+    asked = asked_of([it for it in words if it != "--applies"])
+    with_edits(asked, ("must-fail", "wrong-bodies") if only_looks else (folder,))
+    faults, by_proof = applies(asked), []
     if not only_looks and not faults:
         with tempfile.TemporaryDirectory(prefix="wrong-bodies-") as room:
-            copied = with_lower(names)
+            copied = with_lower(asked)
             os.mkdir(f"{room}/crates")
             for name in copied:
                 subprocess.run(["cp", "-a", "--reflink=auto", f"{ROOT}/crates/{name}", f"{room}/crates/"], check=True)
             with open(f"{room}/crates.txt", "w", encoding="utf-8") as lines:
                 lines.writelines(f"{name}: {' '.join(libraries()[name])}\n" for name in copied)
             shutil.copy(f"{ROOT}/HANDLES", room)
-            for name in names:
-                edits = edits_in(name, folder)
+            for name, named in asked.items():
+                edits = [it for it in edits_in(name, folder) if not named or it.name in named]
                 if edits:
                     missed, by_file = tried(Crate(name, f"{room}/crates/{name}"), edits)
                     faults += missed

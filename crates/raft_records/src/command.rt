@@ -26,7 +26,8 @@ pub enum Command {
     Clean,
     /// The entries below `index` go.
     Compact { index: u64 },
-    /// The entries at or above `index` go.
+    /// The entries at or above `index` go. Older files may still hold them, so where some stand in the
+    /// rewrite queue it is to hold the command too, before the append file with it is purged.
     Truncate { index: u64 },
 }
 

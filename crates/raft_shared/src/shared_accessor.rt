@@ -204,7 +204,8 @@ impl SharedAccessor {
     }
 
     /// Sets the first and the last file of a region's atomic group; its table is made where there is
-    /// none.
+    /// none. It is called once the group's End is written, for each region that the group names (see
+    /// [`MemTable::apply_rewrite_atomic_group`]).
     ///
     /// # Errors
     ///

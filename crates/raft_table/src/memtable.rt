@@ -302,6 +302,9 @@ impl MemTable {
     }
 
     /// Drops the entries at or above an index, and answers how many those were.
+    ///
+    /// Entries that stand in the rewrite queue stay in its files. Where the append file with the
+    /// truncation is purged before the rewrite queue has the same command, a recovery gives them back.
     pub fn truncate_from(&mut self, index: u64, stats: &mut GlobalStats) -> u64
         requires { IsCounted self.old stats.old }
         ensures truncated { self.new ≡ record self.old { entries = below index self.old.entries } }
@@ -429,6 +432,10 @@ impl MemTable {
     }
 
     /// Sets the first and the last file of the region's atomic group in the rewrite queue.
+    ///
+    /// A recovery takes a group whole or not at all. So whoever writes one calls this once its End is
+    /// written, for each region that the group names: [`MemTable::min_file_seq`] then keeps the files
+    /// from its Begin on, as long as the table needs one up to its End.
     pub fn apply_rewrite_atomic_group(&mut self, first_seq: FileSeq, last_seq: FileSeq)
         requires { first_seq ≤ last_seq }
         ensures group { self.new ≡ record self.old { atomic_group = Some (first_seq, last_seq) } }

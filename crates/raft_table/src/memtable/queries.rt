@@ -144,6 +144,11 @@ impl MemTable {
     /// The least of the file of the first entry in `queue` and the files of the pairs in it. In the
     /// rewrite queue one at or below the last file of the region's atomic group is lowered to at
     /// most the group's first.
+    ///
+    /// No record of a recovered table is in a file below it. In a table that is kept, that holds
+    /// where the files of the entries in the queue don't fall from one index to the next. They fall
+    /// where rewritten entries are rewritten again from the first on, but not up to the last one: the
+    /// others lie in older files. So these are rewritten all at once, in one batch or one whole group.
     pub fn min_file_seq(&self, queue: LogQueue) -> Option<FileSeq>
         ensures { result ≡ least_of queue self.now }
     {

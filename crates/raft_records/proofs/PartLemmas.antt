@@ -2,13 +2,13 @@
 use Rattle.std.proofs.Common.{◌≡◌, ◌≢◌, ℕ, ◌+◌, ◌-◌, ◌^◌, ◌<◌, ◌≤◌, List, [], ◌∷◌, ◌++◌, map, length, take, drop, Option, Some, None, refl, sym, ap, ◌∙◌, subst, append_assoc, arith}
 use Rattle.raft_base.specs.declared.pipe_log.FileBlockHandle.{FileBlockHandle}
 use Rattle.raft_base.specs.declared.compression_type.CompressionType.TheVariants as compressions
-use Rattle.raft_records.specs.FilePart.{Part, IsNext}
+use Rattle.raft_records.specs.FilePart.{Part, IsBatchAt, IsNext}
 use Rattle.raft_records.proofs.Names.{part_signature, entries_place}
 use Rattle.raft_records.specs.Range.{AreInRange}
 use Rattle.raft_records.proofs.BatchLemmas.{one_batch}
 use Rattle.raft_records.proofs.ItemLemmas.{same_length}
 use Rattle.raft_records.proofs.ReadPlaceLemmas.{items_read}
-use Rattle.std.proofs.lemmas.List.{length-append, length-drop, length-take-le, take-append-drop, take_at, drop-take, drop-drop}
+use Rattle.std.proofs.lemmas.List.{length-append, length-drop, length-take-le, take-append-drop, take_at, drop_at, drop-take, drop-drop}
 use Rattle.std.proofs.Math.Seq.{take-add}
 use Rattle.raft_codec.specs.Reading.{Reads, HasNoFront}
 use Rattle.raft_base.specs.declared.compression_type.CompressionType.{CompressionType}
@@ -116,6 +116,29 @@ written_next part at handle items es rest (Some next) b r held some fits id offs
     ap (λ p. map (placed_item p n.frame.compression) n.read) moved_to ∙ ap (λ c. map (placed_item (entry_place handle es) c) n.read) (one_type n.frame.compression) ∙ ap (map (placed_item (entry_place handle es) compressions.None)) one.3 in
     let items_are : next.0 ≡ map (placed_item (entry_place handle es) compressions.None) items = n.places ∙ moved ∙ items_read (entry_place handle es) compressions.None items held in
     λ i. Some (items_are i, ends i)
+
+-- the batch stands there
+pub written_stands : (part : Part) (at : ℕ) (handle : FileBlockHandle) (items : List Item) (es rest : List ℕ) → IsBatchOf items es → AreInRange items → AreInBytes items → items ≢ [] → encoded_length items es < 2 ^ 56 → handle.id ≡ part.id → handle.offset ≡ part.offset + at → drop at part.bytes ≡ log_batch_bytes (part_signature part) items es ++ rest → IsBatchAt part at (map (placed_item (entry_place handle es) compressions.None) items) (at + encoded_length items es)
+written_stands part at handle items es rest b r held some fits id offset stands =
+    let bytes = log_batch_bytes (part_signature part) items es in
+    let long : length bytes ≡ encoded_length items es = log_batch_length (part_signature part) items es in
+    let frame = written_framed (part_signature part) items es b r some fits in
+    let begin : part.offset + at + 16 ≡ handle.offset + 16 = omega (arith, offset) in
+    let len : item_offset es - 16 ≡ length (entry_block es) = omega arith in
+    let place : entry_place handle es ≡ entries_place part at (item_offset es) = λ i. record { id = id i; offset = sym begin i; len = sym len i } in
+    let behind : drop (at + encoded_length items es) part.bytes ≡ rest =
+    sym (drop-drop (encoded_length items es) at part.bytes) ∙ ap (drop (encoded_length items es)) stands ∙ drop_at bytes rest (encoded_length items es) long in
+    record {
+      bytes = bytes;
+      read = map bare items;
+      offset = item_offset es;
+      frame = frame;
+      stands = stands ∙ ap (λ (t : List ℕ). bytes ++ t) (sym behind);
+      ends = ap (λ (k : ℕ). at + k) (sym long);
+      places = sym (items_read (entry_place handle es) compressions.None items held)
+          ∙ ap (λ p. map (placed_item p compressions.None) (map bare items)) place
+          ∙ ap (λ c. map (placed_item (entries_place part at (item_offset es)) c) (map bare items)) (sym (one_type frame.compression));
+    }
 
 pub written_accepted : (part : Part) (at : ℕ) (items : List Item) (es rest : List ℕ) → IsBatchOf items es → AreInRange items → items ≢ [] → encoded_length items es < 2 ^ 56 → drop at part.bytes ≡ log_batch_bytes (part_signature part) items es ++ rest → HasNoFront (λ bytes. IsReadable bytes (part_signature part)) (drop at part.bytes) → ⊥
 written_accepted part at items es rest b r some fits stands none =

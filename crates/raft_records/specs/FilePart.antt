@@ -1,16 +1,20 @@
 -- Parts of files, and the log batches that stand in them one behind the other.
-use Rattle.std.specs.Prelude.{◌≡◌, ℕ, ◌+◌, ◌-◌, ◌^◌, ◌<◌, ◌≤◌, ◌⊎◌, List, ◌++◌, length, map, drop, take, Option, Some, None}
+use Rattle.std.specs.Prelude.{◌≡◌, ◌≢◌, ℕ, ◌+◌, ◌-◌, ◌^◌, ◌<◌, ◌≤◌, ◌⊎◌, List, [], ◌++◌, length, map, drop, take, Option, Some, None}
 use Rattle.raft_base.specs.declared.errors.Error.{Error}
 use Rattle.raft_base.specs.declared.errors.Error.TheVariants as errors
+use Rattle.raft_base.specs.declared.pipe_log.FileBlockHandle.{FileBlockHandle}
 use Rattle.raft_base.specs.declared.pipe_log.FileId.{FileId}
 use Rattle.raft_base.specs.declared.pipe_log.Version.{Version}
 use Rattle.raft_codec.specs.Reading.{Reads}
 use Rattle.raft_base.specs.Signature.{signature_in}
 use Rattle.raft_base.specs.declared.compression_type.CompressionType.{CompressionType}
+use Rattle.raft_base.specs.declared.compression_type.CompressionType.TheVariants as compressions
 use Rattle.raft_records.specs.Faults.{IsMemory, IsAnyCorruption}
 use Rattle.raft_records.specs.Header.{IsHeader, IsHeaderFault}
-use Rattle.raft_records.specs.Item.{Item}
+use Rattle.raft_records.specs.Item.{Item, AreInBytes}
 use Rattle.raft_records.specs.ItemBatch.{placed_item, IsItemBatchFault}
+use Rattle.raft_records.specs.LogBatch.{IsBatchOf, encoded_length, entry_place, log_batch_bytes}
+use Rattle.raft_records.specs.Range.{AreInRange}
 use Rattle.raft_records.specs.Framing.{IsFramed}
 
 -- bytes of a file, from this offset on
@@ -36,6 +40,15 @@ pub record IsBatchAt (part : Part) (at : ℕ) (items : List Item) (next : ℕ) :
   pub ends : next ≡ at + length bytes
   pub places : items ≡
       map (placed_item (record { id = part.id; offset = part.offset + at + 16; len = offset - 16 }) frame.compression) read
+
+-- where the bytes of a written batch that has items stand in a part of the file that they are signed for, at the offset of the place that they were written to, the batch stands there, with its items as the write has placed them
+abbrev pub WrittenBatchStands : Type 0
+WrittenBatchStands =
+    (part : Part) (at : ℕ) (handle : FileBlockHandle) (items : List Item) (entry_bytes rest : List ℕ)
+    → IsBatchOf items entry_bytes → AreInRange items → AreInBytes items → items ≢ [] → encoded_length items entry_bytes < 2 ^ 56
+    → handle.id ≡ part.id → handle.offset ≡ part.offset + at
+    → drop at part.bytes ≡ log_batch_bytes (signature_in part.version part.id.seq) items entry_bytes ++ rest
+    → IsBatchAt part at (map (placed_item (entry_place handle entry_bytes) compressions.None) items) (at + encoded_length items entry_bytes)
 
 -- the end of the part, or the batch that stands there
 abbrev pub IsNext : Part → ℕ → Option (List Item × ℕ) → Type 0

@@ -10,7 +10,7 @@ ghost use Rattle.raft_base.specs.declared.entry_index.EntryIndex.{EntryIndex};
 ghost use Rattle.raft_base.specs.Runs.{IsConsecutive};
 ghost use Rattle.raft_base.specs.declared.compression_type.CompressionType.TheVariants as compressions;
 ghost use Rattle.raft_records.specs.declared.command.Command.{Command};
-ghost use Rattle.raft_records.specs.FilePart.{Part, IsNext};
+ghost use Rattle.raft_records.specs.FilePart.{Part, IsNext, WrittenBatchStands};
 ghost use Rattle.raft_records.specs.Item.{Item, bare, Pair, bare_entry, bare_pair, entries, command, pair, AreInBytes};
 ghost use Rattle.raft_records.specs.ItemBatch.{placed_item, IsItemBatch};
 ghost use Rattle.raft_records.specs.LogBatch.{IsBatchOf, IsLogBatch, IsReadable, encoded_length, entry_place, log_batch_bytes};
@@ -95,11 +95,12 @@ pub fn log_batches_belong_to_one_file()
         IsLogBatch bytes (signature_in V2 seq') items entry_bytes }
 {}
 
-/// A written batch that stands in a part of the file that it is signed for, at the offset of the place
-/// that it was written to, is never refused there: `next_batch` answers exactly the items that
-/// `finish_write` leaves, and where the bytes end. What is asked of the items holds of every batch, as
-/// its `is_read_again` tells.
+/// The bytes of a written batch, in a part of the file that they are signed for, at the offset of the place
+/// that they were written to, are never refused there: `next_batch` returns exactly the items that
+/// `finish_write` leaves, and where the bytes end. So the batch stands there. What is asked of the items holds
+/// of every batch, as its `is_read_again` tells.
 pub fn written_batches_are_next()
+    ensures stands { WrittenBatchStands }
     ensures next { (part : Part) (at : ℕ) (handle : FileBlockHandle) (items : List Item)
         (entry_bytes rest : List ℕ) (answer : Option (List Item × ℕ)) →
         IsBatchOf items entry_bytes → AreInRange items → AreInBytes items → items ≢ [] →

@@ -1,9 +1,9 @@
 //! Batches of log items with the bytes of their entries.
 
-ghost use Rattle.std.specs.Prelude.{◌≡◌, ◌≢◌, ℕ, ◌+◌, ◌-◌, ◌^◌, ◌<◌, ◌≤◌, ◌↔◌, List, [], ◌∷◌, ◌++◌, map, IfOk, IfErr, OnOk, OnErr, IsTrue, Option, Some, None};
+ghost use Rattle.std.specs.Prelude.{◌≡◌, ◌≢◌, ℕ, ◌+◌, ◌-◌, ◌^◌, ◌<◌, ◌≤◌, ◌↔◌, List, [], ◌∷◌, ◌++◌, length, map, IfOk, IfErr, OnOk, OnErr, IsTrue, Option, Some, None};
 ghost use Rattle.raft_codec.specs.Reading.{Reads, HasNoFront};
 ghost use Rattle.raft_base.specs.Signature.{signature_of};
-ghost use Rattle.std.specs.Vec.Iter.{into_iter_items};
+ghost use Rattle.std.specs.Vec.Iter.{into_iter_items, into_iter_len};
 ghost use Rattle.raft_base.specs.declared.compression_type.CompressionType.TheVariants as compressions;
 ghost use Rattle.raft_records.specs.Item.{bare, command_item, item_of, pair_item, AreInBytes};
 ghost use Rattle.raft_records.specs.LogBatch.{populating, encoded, sealed, IsSealedStage, empty_batch, IsBatchOf, encoded_length, log_batch_bytes, IsLogBatch, approximate_length, entry_place};
@@ -166,9 +166,17 @@ impl LogBatch {
         }
     }
 
+    /// Returns the items, in order.
+    pub fn items(&self) -> &[LogItem]
+        ensures { map item_of result.now ≡ self.now.items }
+    {
+        self.item_batch.as_slice()
+    }
+
     /// Hands out the items in order, and leaves the batch open and empty.
     pub fn drain(&mut self) -> vec::IntoIter<LogItem>
         ensures items { map item_of (into_iter_items result) ≡ self.old.items }
+        ensures len { into_iter_len result ≡ length self.old.items }
         ensures emptied { self.new ≡ empty_batch }
     {
         self.buf.clear();

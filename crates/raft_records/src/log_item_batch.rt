@@ -1,7 +1,7 @@
 //! Batches of log items, without entry bytes.
 
 ghost use Rattle.std.specs.Prelude.{◌≡◌, ◌≢◌, ℕ, ◌+◌, ◌^◌, ◌<◌, ◌≤◌, length, Option, List, [], ◌∷◌, ◌++◌, map, Some, None, IfOk, IfErr, IfSome, OnOk, OnErr, ◌↔◌, IsTrue};
-ghost use Rattle.std.specs.Vec.Iter.{into_iter_items};
+ghost use Rattle.std.specs.Vec.Iter.{into_iter_items, into_iter_len};
 ghost use Rattle.std.specs.Slice.Iter.{iter_rest};
 ghost use Rattle.raft_codec.specs.Reading.{Reads, HasNoFront};
 ghost use Rattle.raft_base.specs.Signature.{signature_of};
@@ -108,6 +108,13 @@ impl LogItemBatch {
         ensures { map item_of (iter_rest result) ≡ self.now }
     {
         self.items.iter()
+    }
+
+    /// Returns the items, in order.
+    pub fn as_slice(&self) -> &[LogItem]
+        ensures { map item_of result.now ≡ self.now }
+    {
+        self.items.as_slice()
     }
 
     /// What is written and signed of a batch is read again: its items fit together, their numbers are
@@ -296,6 +303,7 @@ impl LogItemBatch {
     /// Hands out the items in order, and leaves the batch empty.
     pub fn drain(&mut self) -> vec::IntoIter<LogItem>
         ensures items { map item_of (into_iter_items result) ≡ self.old }
+        ensures len { into_iter_len result ≡ length self.old }
         ensures emptied { self.new ≡ [] }
     {
         let alloc = *self.items.allocator();

@@ -6,6 +6,7 @@ pub mod EffectFileLemmas
 pub mod EffectLemmas
 pub mod FileOrderLemmas
 pub mod FoldLaws
+pub mod GoingOnLemmas
 pub mod IncompleteLemmas
 pub mod JoinLemmas
 pub mod JoinedLemmas
@@ -19,6 +20,7 @@ pub mod MergeLaws
 pub mod MoreLemmas
 pub mod NamedLemmas
 pub mod NewLaws
+pub mod PlacedItemLemmas
 pub mod QueueLemmas
 pub mod ReadItemLemmas
 pub mod ReadLemmas

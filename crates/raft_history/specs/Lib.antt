@@ -6,6 +6,7 @@ pub mod Histories
 -- the same in other words, and what else is said of histories
 pub mod Stretches
 pub mod LeastFiles
+pub mod GoingOn
 pub mod BothQueues
 pub mod ReplayMachine
 -- what contexts hold of histories, which recovery's promise doesn't name

@@ -13,6 +13,7 @@ ghost use Rattle.raft_table.specs.Steps.{after, table_of};
 ghost use Rattle.raft_history.specs.RegionSteps.{RegionStep, Tables, steps_on, steps_of_items, tables_after};
 ghost use Rattle.raft_history.specs.Batches.{Event};
 ghost use Rattle.raft_history.specs.BothQueues.{IsReadingOfBoth};
+ghost use Rattle.raft_history.specs.GoingOn.{PlacedItemsAreInFile, ReadingGoesOn, SoundHistoryGoesOn};
 ghost use Rattle.raft_history.specs.LeastFiles.{AreLeastFiles, HasNoneBelow};
 ghost use Rattle.raft_history.specs.Histories.{IsSmall, Sound, IsSoundIn, Apart, AreInFile, IsOfQueue, IsOneReading};
 
@@ -87,4 +88,25 @@ pub fn least_files_of_both_are_least()
 /// nothing that was read.
 pub fn read_items_are_in_their_file()
     ensures { (file : FileId) (items : List Item) → AreDecodedIn file items → AreInFile file items }
+{}
+
+/// The items of a batch, once a write has placed them in a file, may stand in it, as histories ask.
+pub fn placed_items_are_in_their_file()
+    ensures { PlacedItemsAreInFile }
+{}
+
+/// One reading of a sound history of the append queue goes on with one batch more. If the batch's file is not
+/// below the last one, its items may stand in that file and its steps aren't refused, the longer history is
+/// sound, and the tables after these steps are those of one reading of it.
+pub fn readings_go_on()
+    ensures sound { SoundHistoryGoesOn }
+    ensures reading { ReadingGoesOn }
+{}
+
+/// Two readings of one history give the same tables and cleaned regions.
+pub fn readings_agree()
+    ensures tables { (queue : LogQueue) (h : List Event) (m n : Tables) (a b : List ℕ)
+        → IsOneReading queue h m a → IsOneReading queue h n b → m ≡ n }
+    ensures cleaned { (queue : LogQueue) (h : List Event) (m n : Tables) (a b : List ℕ)
+        → IsOneReading queue h m a → IsOneReading queue h n b → a ≡ b }
 {}

@@ -20,6 +20,7 @@ mod bounds;
 mod change;
 mod deleted_keys;
 mod entries;
+mod hole;
 mod key_values;
 mod laws;
 mod mark;
@@ -166,7 +167,8 @@ impl MemTable {
     ///
     /// # Errors
     ///
-    /// `Corruption` where the run starts below all entries or leaves a hole behind them, `Full`
+    /// `Corruption` where the run starts below all entries or leaves a hole behind them, which names the
+    /// region, where the run starts and the end of the entries; `Full`
     /// where more than 2^64 - 1 records would be live in the append queue, `Memory`. The table and the
     /// counts are then as they were.
     pub fn append(&mut self, run: Vec<EntryIndex>, stats: &mut GlobalStats) -> Result<()>
@@ -181,7 +183,7 @@ impl MemTable {
         ensures recounted { IsRecounted self.old self.new stats.old stats.new }
         ensures region { self.new.region_id ≡ self.old.region_id }
     {
-        self.entries.append(run, stats)
+        self.entries.append(self.region_id, run, stats)
     }
 
     /// Puts a run of the append queue that is read again behind the entries below its start. All
@@ -204,7 +206,8 @@ impl MemTable {
         ensures recounted { IsRecounted self.old self.new stats.old stats.new }
         ensures region { self.new.region_id ≡ self.old.region_id }
     {
-        self.entries.replay_run(&run, LogQueue::Append, stats)
+        self.entries
+            .replay_run(self.region_id, &run, LogQueue::Append, stats)
     }
 
     /// Puts a run of the rewrite queue that is read again behind the entries below its start, or
@@ -227,7 +230,8 @@ impl MemTable {
         ensures recounted { IsRecounted self.old self.new stats.old stats.new }
         ensures region { self.new.region_id ≡ self.old.region_id }
     {
-        self.entries.replay_run(&run, LogQueue::Rewrite, stats)
+        self.entries
+            .replay_run(self.region_id, &run, LogQueue::Rewrite, stats)
     }
 
     /// Puts a run of `queue` as [`MemTable::replay_append`] and [`MemTable::replay_rewrite`] do, and

@@ -119,6 +119,13 @@ impl Mark {
         self.barred
     }
 
+    /// The start of the first run, if there was one.
+    pub fn reach(&self) -> Option<u64>
+        ensures { result ≡ self.now.reach }
+    {
+        self.reach
+    }
+
     /// Where older entries begin that stay.
     pub fn floor(&self) -> u64
         ensures { result ≡ self.now.floor }

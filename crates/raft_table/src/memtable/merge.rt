@@ -145,7 +145,8 @@ impl MemTable {
         if !stats.has_room(rhs, LogQueue::Append) || !stats.has_room(rhs, LogQueue::Rewrite) {
             return Err(Error::Full);
         }
-        self.entries.absorb(rule, &mut rhs.entries, queue, stats)?;
+        self.entries
+            .absorb(self.region_id, rule, &mut rhs.entries, queue, stats)?;
         absorb_keys(&mut self.keys, &mut rhs.keys, stats)
     }
 }

@@ -1,12 +1,14 @@
 //! Joins of two tables of one region under the newer one's region mark.
 
-ghost use Rattle.std.specs.Prelude.{◌≡◌, ◌≢◌, ◌+◌, ◌≤◌, false, [], if◌then◌else◌, MatchBool, OnOk, OnErr, IfErr, Some, None, ◌^◌};
+ghost use Rattle.std.specs.Prelude.{◌≡◌, ◌≢◌, ℕ, ◌+◌, ◌≤◌, false, [], if◌then◌else◌, MatchBool, OnOk, OnErr, IfErr, Some, None, ◌^◌};
 ghost use Rattle.std.specs.FinMap as finite;
 ghost use Rattle.raft_base.specs.declared.pipe_log.LogQueue.{LogQueue};
 ghost use Rattle.raft_base.specs.declared.entry_index.EntryIndex.{EntryIndex};
+ghost use Rattle.raft_base.specs.Corruption.{IsCorruption};
 ghost use Rattle.raft_base.specs.Runs.{IsRun, end_of};
 ghost use Rattle.raft_table.specs.Counts.{live};
 ghost use Rattle.raft_table.specs.TableEntries.{IsRunIn};
+ghost use Rattle.raft_table.specs.Holes.{hole_text, hole_text_above};
 ghost use Rattle.raft_table.specs.KeySets.{without};
 ghost use Rattle.raft_table.specs.KeyValues.{pair_count};
 ghost use Rattle.raft_table.specs.MarkedJoins.{IsMarkFault, IsFaultUnder, IsRunOver, left_by};
@@ -22,6 +24,7 @@ ghost use Rattle.raft_base.specs.declared.pipe_log.LogQueue.TheVariants.{Append,
 use crate::global_stats::GlobalStats;
 use crate::memtable::MemTable;
 use crate::memtable::deleted_keys::DeletedKeys;
+use crate::memtable::hole::{hole_error, hole_error_above};
 use crate::memtable::mark::Mark;
 use raft_base::{EntryIndex, Error, LogQueue, Result};
 use std::mem;
@@ -234,33 +237,57 @@ impl MemTable {
         ensures fault { IfErr result (IsMarkFault
             (is_refused_over queue mark.now self.now.entries)) }
     {
-        if self.refuses(queue, mark) {
-            return Err(Error::corruption(
-                self.entries.allocator(),
-                "a run leaves a hole behind older entries",
-            ));
-        }
-        Ok(())
-    }
-
-    /// Whether a newer region mark's steps are refused over these entries.
-    fn refuses(&self, queue: LogQueue, mark: &Mark) -> bool
-        ensures { result ≡ is_refused_over queue mark.now self.now.entries }
-    {
         match queue {
-            LogQueue::Append => self.is_missed(mark) || self.is_barred(mark),
-            LogQueue::Rewrite => false,
+            LogQueue::Append => {
+                self.check_first_run(mark)?;
+                self.check_barred(mark)
+            }
+            LogQueue::Rewrite => Ok(()),
         }
     }
 
-    /// Whether an entry stands where a newer region mark lets none stand.
-    fn is_barred(&self, mark: &Mark) -> bool
-        ensures { result ≡ is_barred mark.now.barred self.now.entries }
+    /// Refuses a newer region mark whose first run leaves a hole behind the entries that it meets.
+    ///
+    /// # Errors
+    ///
+    /// `Corruption`, or `Memory` where its text finds none.
+    fn check_first_run(&self, mark: &Mark) -> Result<()>
+        ensures ok { OnOk result (is_missed mark.now self.now.entries ≡ false) }
+        ensures fault { IfErr result (IsMarkFault (is_missed mark.now self.now.entries)) }
+        ensures text { IfErr result (λ e. (start : ℕ) × (mark.now.reach ≡ Some start)
+            × IsCorruption (hole_text self.now.region_id start (end_at_reach mark.now self.now)) e) }
     {
-        match mark.barred() {
-            Some((from, below)) => self.entries.end_within(from, Some(below)) > 0,
-            None => false,
+        let Some(start) = mark.reach() else {
+            return Ok(());
+        };
+        let end = self.end_at_reach(mark);
+        if !mark.misses(end) {
+            return Ok(());
         }
+        Err(hole_error(self.entries.allocator(), self.region_id, start, end))
+    }
+
+    /// Refuses a newer region mark over an entry where it lets none stand: a later run leaves a hole behind it.
+    ///
+    /// # Errors
+    ///
+    /// `Corruption`, or `Memory` where its text finds none.
+    fn check_barred(&self, mark: &Mark) -> Result<()>
+        ensures ok { OnOk result (is_barred mark.now.barred self.now.entries ≡ false) }
+        ensures fault { IfErr result (IsMarkFault
+            (is_barred mark.now.barred self.now.entries)) }
+        ensures text { IfErr result (λ e. (from below : ℕ) × (mark.now.barred ≡ Some (from, below))
+            × IsCorruption (hole_text_above self.now.region_id below
+            (end_of (entries_within from (Some below) self.now.entries))) e) }
+    {
+        let Some((from, below)) = mark.barred() else {
+            return Ok(());
+        };
+        let end = self.entries.end_within(from, Some(below));
+        if end == 0 {
+            return Ok(());
+        }
+        Err(hole_error_above(self.entries.allocator(), self.region_id, below, end))
     }
 
     /// Drops what a newer region mark drops: all where the region was cleaned, else the entries off its

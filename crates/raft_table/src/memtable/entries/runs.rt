@@ -1,11 +1,13 @@
 //! Runs that are put behind a table's entries.
 
-ghost use Rattle.std.specs.Prelude.{◌≡◌, ◌+◌, ◌≤◌, ◌<◌, ◌^◌, [], ◌++◌, length, take, drop, codes, true, OnOk, OnErr, IfErr, MatchBool, MatchOption, Some};
+ghost use Rattle.std.specs.Prelude.{◌≡◌, ◌+◌, ◌≤◌, ◌<◌, ◌^◌, [], ◌++◌, length, take, drop, true, OnOk, OnErr, IfErr, MatchBool, MatchOption, Some};
 ghost use Rattle.raft_base.specs.Corruption.{IsCorruption};
+ghost use Rattle.raft_base.specs.Runs.{end_of};
 ghost use Rattle.std.specs.List.{AllByRecursion};
 ghost use Rattle.raft_table.specs.Counts.{live, with_added, with_deleted};
 ghost use Rattle.raft_table.specs.Queues.{count_in, of_queue, other};
 ghost use Rattle.raft_table.specs.TableEntries.{AreTableEntries, IsRunIn, is_placed_in, entry_count, AreCounted, AreRecounted};
+ghost use Rattle.raft_table.specs.Holes.{hole_text};
 ghost use Rattle.raft_table.specs.Start.{entries_after_append, entries_after_replay, counts_with_run, counts_without, IsTableRunFault};
 ghost use Rattle.raft_table.specs.StartOf.{IsStart, IsKeptUnder};
 ghost use Rattle.raft_base.specs.declared.pipe_log.LogQueue.{LogQueue};
@@ -13,11 +15,17 @@ ghost use Rattle.raft_base.specs.declared.pipe_log.LogQueue.TheVariants.{Append,
 
 use crate::global_stats::GlobalStats;
 use crate::memtable::entries::{Entries, Start};
+use crate::memtable::hole::hole_error;
 use raft_base::{AllocResult, EntryIndex, Error, LogQueue, Result};
 
 impl Entries {
-    /// What [`MemTable::append`](crate::MemTable::append) does to the entries.
-    pub fn append(&mut self, run: Vec<EntryIndex>, stats: &mut GlobalStats) -> Result<()>
+    /// What [`MemTable::append`](crate::MemTable::append) does to the entries, those of this region.
+    pub fn append(
+        &mut self,
+        region_id: u64,
+        run: Vec<EntryIndex>,
+        stats: &mut GlobalStats,
+    ) -> Result<()>
         requires run { IsRunIn Append run.items }
         requires counted { AreCounted self.old stats.old }
         ensures ok { OnOk result (entries_after_append self.old run.items ≡ Some self.new) }
@@ -37,11 +45,11 @@ impl Entries {
                 self.allocator(),
                 "a run starts below the first entry",
             )),
-            Start::BehindHole => Err(self.hole_error()),
+            Start::BehindHole => Err(self.hole_error(region_id, first.index)),
         }
     }
 
-    /// Moves all entries of `rhs`, which are in one queue, behind the entries below their start, by
+    /// Moves all entries of `rhs`, which are in one queue, behind this region's entries below their start, by
     /// the start rule of the replays into `rule`. All others go, and `rhs` is left empty.
     ///
     /// # Errors
@@ -50,6 +58,7 @@ impl Entries {
     /// live in their queue, `Memory`. Both lists and the counts are then as they were.
     pub fn absorb(
         &mut self,
+        region_id: u64,
         rule: LogQueue,
         rhs: &mut Entries,
         queue: LogQueue,
@@ -73,14 +82,16 @@ impl Entries {
             return Ok(());
         };
         let Some(keep) = self.kept_under(rule, first) else {
-            return Err(self.hole_error());
+            return Err(self.hole_error(region_id, first));
         };
         self.put_behind(keep, rhs, queue, stats)
     }
 
-    /// What the replays of [`MemTable`](crate::MemTable) do to the entries with a run of `queue`.
+    /// What the replays of [`MemTable`](crate::MemTable) do to the entries, those of this region, with a
+    /// run of `queue`.
     pub fn replay_run(
         &mut self,
+        region_id: u64,
         run: &[EntryIndex],
         queue: LogQueue,
         stats: &mut GlobalStats,
@@ -100,7 +111,7 @@ impl Entries {
             return Ok(());
         };
         let Some(keep) = self.kept_under(queue, first.index) else {
-            return Err(self.hole_error());
+            return Err(self.hole_error(region_id, first.index));
         };
         self.put_run_behind(keep, run, queue, stats)
     }
@@ -137,14 +148,11 @@ impl Entries {
         }
     }
 
-    /// Why a run is refused that leaves a hole behind the last entry.
-    fn hole_error(&self) -> Error
-        ensures { IsCorruption (codes "a run leaves a hole behind the last entry") result }
+    /// Why a run of the region, from `start` on, is refused that leaves a hole behind the last entry.
+    fn hole_error(&self, region_id: u64, start: u64) -> Error
+        ensures { IsCorruption (hole_text region_id start (end_of self.now)) result }
     {
-        Error::corruption(
-            self.allocator(),
-            "a run leaves a hole behind the last entry",
-        )
+        hole_error(self.allocator(), region_id, start, self.end())
     }
 
     /// How many entries, from the first on, stay under a run from `index` on that is read again, by

@@ -2,7 +2,7 @@
 use Rattle.std.proofs.Common.{◌≡◌, ◌≢◌, ℕ, ◌+◌, ◌-◌, ◌^◌, ◌<◌, ◌≤◌, List, [], ◌∷◌, ◌++◌, map, length, take, drop, Option, Some, None, refl, sym, ap, ◌∙◌, subst, append_assoc, arith}
 use Rattle.raft_base.specs.declared.pipe_log.FileBlockHandle.{FileBlockHandle}
 use Rattle.raft_base.specs.declared.compression_type.CompressionType.TheVariants as compressions
-use Rattle.raft_records.specs.FilePart.{Part, IsBatchAt, IsNext}
+use Rattle.raft_records.specs.FilePart.{Part, IsBatchAt, IsNext, StandBetween, AreBatchesUpTo}
 use Rattle.raft_records.proofs.Names.{part_signature, entries_place}
 use Rattle.raft_records.specs.Range.{AreInRange}
 use Rattle.raft_records.proofs.BatchLemmas.{one_batch}
@@ -143,3 +143,30 @@ written_stands part at handle items es rest b r held some fits id offset stands 
 pub written_accepted : (part : Part) (at : ℕ) (items : List Item) (es rest : List ℕ) → IsBatchOf items es → AreInRange items → items ≢ [] → encoded_length items es < 2 ^ 56 → drop at part.bytes ≡ log_batch_bytes (part_signature part) items es ++ rest → HasNoFront (λ bytes. IsReadable bytes (part_signature part)) (drop at part.bytes) → ⊥
 written_accepted part at items es rest b r some fits stands none =
     none (log_batch_bytes (part_signature part) items es) rest (map bare items) (entry_block es, log_batch_spelled (part_signature part) items es b r some fits) stands
+
+-- ---- batches one behind the other
+
+-- a batch is longer than nothing, and ends where the part does or before
+pub batch_inside : (part : Part) (at : ℕ) (items : List Item) (next : ℕ) → IsBatchAt part at items next → (at < next) × (next ≤ length part.bytes)
+batch_inside part at items next b =
+    let header = b.frame.header.spells in
+    let least : 16 ≤ b.offset = header.behind_header in
+    let long : b.offset ≤ length b.bytes = header.inside in
+    let lengths = ap length b.stands in
+    let ends = b.ends in (
+      omega arith,
+      omega (arith, length-drop at part.bytes, length-drop next part.bytes, length-append b.bytes (drop next part.bytes)),
+    )
+
+-- one batch more stands behind others
+stand_longer : (part : Part) (from at next : ℕ) (batches : List (List Item)) (items : List Item) → StandBetween part from at batches → IsBatchAt part at items next → StandBetween part from next (batches ++ items ∷ [])
+stand_longer part from at next [] items stand b = (next, subst (λ (n : ℕ). IsBatchAt part n items next) (sym stand) b, refl)
+stand_longer part from at next (first ∷ batches) items stand b = (stand.0, stand.1, stand_longer part stand.0 at next batches items stand.2 b)
+
+-- behind batches one more is readable
+pub one_batch_more : (part : Part) (at : ℕ) (items : List Item) (next : ℕ) → AreBatchesUpTo part at → IsBatchAt part at items next → AreBatchesUpTo part next
+one_batch_more part at items next up_to b = (up_to.0 ++ items ∷ [], stand_longer part 0 at next up_to.0 items up_to.1 b)
+
+-- no batch stands in front of the first byte
+pub no_batches : (part : Part) → AreBatchesUpTo part 0
+no_batches part = ([], refl)

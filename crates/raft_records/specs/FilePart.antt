@@ -1,9 +1,10 @@
 -- Parts of files, and the log batches that stand in them one behind the other.
-use Rattle.std.specs.Prelude.{◌≡◌, ◌≢◌, ℕ, ◌+◌, ◌-◌, ◌^◌, ◌<◌, ◌≤◌, ◌⊎◌, List, [], ◌++◌, length, map, drop, take, Option, Some, None}
+use Rattle.std.specs.Prelude.{◌≡◌, ◌≢◌, ℕ, ◌+◌, ◌-◌, ◌^◌, ◌<◌, ◌≤◌, ◌⊎◌, List, [], ◌∷◌, ◌++◌, length, map, drop, take, Option, Some, None}
 use Rattle.raft_base.specs.declared.errors.Error.{Error}
 use Rattle.raft_base.specs.declared.errors.Error.TheVariants as errors
 use Rattle.raft_base.specs.declared.pipe_log.FileBlockHandle.{FileBlockHandle}
 use Rattle.raft_base.specs.declared.pipe_log.FileId.{FileId}
+use Rattle.raft_base.specs.declared.pipe_log.LogFileContext.{LogFileContext}
 use Rattle.raft_base.specs.declared.pipe_log.Version.{Version}
 use Rattle.raft_codec.specs.Reading.{Reads}
 use Rattle.raft_base.specs.Signature.{signature_in}
@@ -23,6 +24,10 @@ pub record Part : Type 0 where
   pub version : Version
   pub offset : ℕ
   pub bytes : List ℕ
+
+-- these bytes of a file, from an offset on
+abbrev pub part_of : LogFileContext → ℕ → List ℕ → Part
+part_of file offset bytes = record { id = file.id; version = file.version; offset = offset; bytes = bytes }
 
 -- a part ends past the last offset
 abbrev pub IsPartRefusal : ℕ → Error → Type 0
@@ -54,6 +59,15 @@ WrittenBatchStands =
 abbrev pub IsNext : Part → ℕ → Option (List Item × ℕ) → Type 0
 IsNext part at None = at ≡ length part.bytes
 IsNext part at (Some next) = IsBatchAt part at next.0 next.1
+
+-- batches of these items stand one behind the other, from the first byte up to the second
+abbrev pub StandBetween : Part → ℕ → ℕ → List (List Item) → Type 0
+StandBetween part from end [] = from ≡ end
+StandBetween part from end (items ∷ batches) = (next : ℕ) × IsBatchAt part from items next × StandBetween part next end batches
+
+-- what stands before this byte of a part are readable batches
+abbrev pub AreBatchesUpTo : Part → ℕ → Type 0
+AreBatchesUpTo part end = (batches : List (List Item)) × StandBetween part 0 end batches
 
 -- a header that stands in front: where its item batch begins, and how long its batch is
 pub record HasHeader (bytes : List ℕ) (offset len : ℕ) : Type 0 where

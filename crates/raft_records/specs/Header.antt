@@ -43,7 +43,11 @@ abbrev pub IsEntryBlockOf : ℕ → List ℕ → List ℕ → Type 0
 IsEntryBlockOf len bytes entry_bytes =
     ((len ≡ 0) × (entry_bytes ≡ [])) ⊎ ((0 < len) × (len ≤ length bytes) × HasSeal None (take len bytes) entry_bytes)
 
--- the bytes are shorter than the entry block, or it doesn't end in its checksum, or there is no memory for its entry bytes
+-- the bytes are shorter than the entry block, or it doesn't end in its checksum
+abbrev pub IsLentBlockFault : ℕ → List ℕ → Error → Type 0
+IsLentBlockFault len bytes e =
+    ((length bytes < len) × IsAnyCorruption e) ⊎ ((0 < len) × (len ≤ length bytes) × IsSealFault None (take len bytes) e)
+
+-- the same, or there is no memory for its entry bytes
 abbrev pub IsEntryBlockFault : ℕ → List ℕ → Error → Type 0
-IsEntryBlockFault len bytes e =
-    IsMemory e ⊎ ((length bytes < len) × IsAnyCorruption e) ⊎ ((0 < len) × (len ≤ length bytes) × IsSealFault None (take len bytes) e)
+IsEntryBlockFault len bytes e = IsMemory e ⊎ IsLentBlockFault len bytes e

@@ -2,6 +2,7 @@ pub mod ItemBatchModel
 pub mod Buffer
 pub mod DecodedIn
 pub mod Entries
+pub mod EntryBlock
 pub mod Faults
 pub mod FilePart
 pub mod FilePartModel

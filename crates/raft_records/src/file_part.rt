@@ -1,9 +1,9 @@
 //! Parts of files, and the batches in them.
 
-ghost use Rattle.std.specs.Prelude.{◌≡◌, ◌≢◌, ◌+◌, ◌^◌, ◌<◌, ◌≤◌, length, take, drop, IfOk, IfErr, IfSome, OnOk, OnErr};
+ghost use Rattle.std.specs.Prelude.{◌≡◌, ◌≢◌, ◌+◌, ◌^◌, ◌<◌, ◌≤◌, length, take, drop, IfOk, IfErr, IfSome, OnOk, OnErr, MatchOption};
 ghost use Rattle.raft_codec.specs.Reading.{HasNoFront};
-ghost use Rattle.raft_base.specs.Signature.{signature_in};
-ghost use Rattle.raft_records.specs.FilePart.{IsPartRefusal, IsNext, IsNextFault};
+ghost use Rattle.raft_base.specs.Signature.{signature_in, signature_of};
+ghost use Rattle.raft_records.specs.FilePart.{IsPartRefusal, part_of, IsNext, IsNextFault, AreBatchesUpTo};
 ghost use Rattle.raft_records.specs.DecodedIn.{AreDecodedIn};
 ghost use Rattle.raft_records.specs.LogBatch.{IsReadable};
 
@@ -122,9 +122,10 @@ impl FilePart {
         self.version
     }
 
-    /// Where in the file the bytes begin.
+    /// Where in the file the bytes begin. They end at 2^64 - 1 at most.
     pub fn offset(&self) -> u64
-        ensures { result ≡ self.now.offset }
+        ensures value { result ≡ self.now.offset }
+        ensures ends { self.now.offset + length self.now.bytes < 2 ^ 64 }
     {
         self.offset
     }
@@ -134,6 +135,11 @@ impl FilePart {
         ensures { result.now ≡ self.now.bytes }
     {
         self.bytes.as_slice()
+    }
+
+    /// The allocator that the part was made with.
+    pub fn allocator(&self) -> Global {
+        self.alloc
     }
 }
 
@@ -157,25 +163,73 @@ pub fn next_batch(part: &FilePart, at: usize) -> Result<Option<(LogItemBatch, us
     ensures fault { IfErr result
         (IsNextFault (signature_in part.now.version part.now.id.seq) (drop at part.now.bytes)) }
 {
-    if at == part.bytes.len() {
+    let file = LogFileContext::new(part.id, part.version);
+    next_in(part.alloc, &file, part.offset, part.bytes.as_slice(), at)
+}
+
+/// Does what [`next_batch`] does, of bytes that are lent: those of the file from `offset` on.
+///
+/// # Errors
+///
+/// Those of [`next_batch`].
+pub fn next_in(
+    alloc: Global,
+    file: &LogFileContext,
+    offset: u64,
+    bytes: &[u8],
+    at: usize,
+) -> Result<Option<(LogItemBatch, usize)>>
+    requires inside { at ≤ length bytes.now }
+    requires ends { offset + length bytes.now < 2 ^ 64 }
+    ensures ok { IfOk result (IsNext (part_of file.now offset bytes.now) at) }
+    ensures in_file { IfOk result
+        (λ next. IfSome next (λ batch. AreDecodedIn file.now.id batch.0)) }
+    ensures some { OnErr result (at < length bytes.now) }
+    ensures refused { IfErr result (λ e. e ≢ Error.Memory
+        → HasNoFront (λ xs. IsReadable xs (signature_of file.now)) (drop at bytes.now)) }
+    ensures fault { IfErr result (IsNextFault (signature_of file.now) (drop at bytes.now)) }
+{
+    if at == bytes.len() {
         return Ok(None);
     }
-    let alloc = part.alloc;
-    let (_, rest) = part.bytes().split_at(at);
-    let ((offset, compression_type, len), _) = parse_header(alloc, rest)?;
+    let (_, rest) = bytes.split_at(at);
+    let ((items_at, compression_type, len), _) = parse_header(alloc, rest)?;
     if len > rest.len() {
         return Err(Error::Corruption(format!(in alloc;
             "a log batch of {len} bytes is cut short"
         )?));
     }
     let place = FileBlockHandle {
-        id: part.id,
-        offset: part.offset + at as u64 + LOG_BATCH_HEADER_LEN as u64,
-        len: offset - LOG_BATCH_HEADER_LEN,
+        id: file.id,
+        offset: offset + at as u64 + LOG_BATCH_HEADER_LEN as u64,
+        len: items_at - LOG_BATCH_HEADER_LEN,
     };
-    let context = LogFileContext::new(part.id, part.version);
-    let (bytes, _) = rest.split_at(len);
-    let (_, mut item_bytes) = bytes.split_at(offset);
-    let batch = LogItemBatch::decode(alloc, &mut item_bytes, place, compression_type, &context)?;
-    Ok(Some((batch, at + len)))
+    let (batch, _) = rest.split_at(len);
+    let (_, mut item_bytes) = batch.split_at(items_at);
+    let items = LogItemBatch::decode(alloc, &mut item_bytes, place, compression_type, file)?;
+    Ok(Some((items, at + len)))
+}
+
+/// Returns how many bytes of the part, from its first on, are readable batches, one behind the other, and
+/// why the batch there can't be read; no reason where that is the end of the part. So a torn tail of a file
+/// begins there. After the reason `Memory` more of the part may be readable.
+pub fn readable_front(part: &FilePart) -> (usize, Option<Error>)
+    ensures readable { AreBatchesUpTo part.now result.0 }
+    ensures whole { MatchOption result.1 (result.0 ≡ length part.now.bytes)
+        (λ e. result.0 < length part.now.bytes) }
+    ensures refused { IfSome result.1 (λ e. e ≢ Error.Memory
+        → HasNoFront (λ bytes. IsReadable bytes (signature_in part.now.version part.now.id.seq))
+        (drop result.0 part.now.bytes)) }
+    ensures fault { IfSome result.1
+        (IsNextFault (signature_in part.now.version part.now.id.seq)
+        (drop result.0 part.now.bytes)) }
+{
+    let mut at = 0;
+    loop {
+        match next_batch(part, at) {
+            Ok(Some((_, next))) => at = next,
+            Ok(None) => return (at, None),
+            Err(error) => return (at, Some(error)),
+        }
+    }
 }

@@ -4,7 +4,7 @@ ghost use Rattle.std.specs.Prelude.{◌≡◌, ◌≢◌, ℕ, ◌+◌, ◌≤�
 ghost use Rattle.raft_codec.specs.Reading.{Reads, HasNoFront};
 ghost use Rattle.raft_codec.specs.Fixed.{IsBig};
 ghost use Rattle.raft_base.specs.declared.compression_type.CompressionType.TheVariants as compressions;
-ghost use Rattle.raft_records.specs.Header.{IsHeader, IsHeaderFault, IsEntryBlockOf, IsEntryBlockFault};
+ghost use Rattle.raft_records.specs.Header.{IsHeader, IsHeaderFault, IsEntryBlockOf, IsLentBlockFault, IsEntryBlockFault};
 ghost use Rattle.raft_records.specs.LogBatch.{header_bytes, entry_block, item_offset, encoded, encoded_length, log_batch_bytes};
 ghost use Rattle.raft_records.specs.Buffer.{IsUnsealed, IsHeld, entry_bytes_in};
 ghost use Rattle.raft_records.specs.ItemBatch.{IsEncoded, item_batch_bytes, checksum_bytes};
@@ -132,8 +132,24 @@ pub(crate) fn parse_entry_block(
         (entries : List ℕ) → IsEntryBlockOf len bytes.now entries → ⊥) }
     ensures fault { IfErr result (IsEntryBlockFault len bytes.now) }
 {
-    if len == 0 {
+    let content = lent_entry_block(alloc, bytes, len)?;
+    if content.is_empty() {
         return Ok(Vec::new(alloc));
+    }
+    match compression_type {
+        CompressionType::None => Ok(Vec::from_slice(alloc, content)?),
+    }
+}
+
+/// The entry bytes in the entry block of `len` bytes in front of `bytes`, as they stand there; one of length 0
+/// holds none. Success takes no memory.
+pub(crate) fn lent_entry_block(alloc: Global, bytes: &[u8], len: usize) -> Result<&[u8]>
+    ensures ok { IfOk result (λ entries. IsEntryBlockOf len bytes.now entries.now) }
+    ensures refused { OnErr result ((entries : List ℕ) → IsEntryBlockOf len bytes.now entries → ⊥) }
+    ensures fault { IfErr result (IsLentBlockFault len bytes.now) }
+{
+    if len == 0 {
+        return Ok(&[]);
     }
     if bytes.len() < len {
         return Err(Error::Corruption(format!(in alloc;
@@ -141,10 +157,7 @@ pub(crate) fn parse_entry_block(
         )?));
     }
     let (block, _) = bytes.split_at(len);
-    let content = verify_checksum(alloc, block, None)?;
-    match compression_type {
-        CompressionType::None => Ok(Vec::from_slice(alloc, content)?),
-    }
+    verify_checksum(alloc, block, None)
 }
 
 /// Writes the bytes of a batch around the entry bytes that stand behind the header's sixteen.

@@ -4,6 +4,7 @@
 pub mod atomic_group;
 mod checksum;
 pub mod command;
+pub mod entry_block;
 pub mod entry_indexes;
 pub mod file_part;
 pub(crate) mod header;
@@ -16,8 +17,9 @@ pub mod print;
 
 pub use atomic_group::{ATOMIC_GROUP_KEY, AtomicGroupBuilder, AtomicGroupStatus, is_reserved};
 pub use command::Command;
+pub use entry_block::{entries_block_in, entry_bytes};
 pub use entry_indexes::EntryIndexes;
-pub use file_part::{FilePart, next_batch};
+pub use file_part::{FilePart, next_batch, next_in, readable_front};
 pub use key_value::{KeyValue, OpType};
 pub use log_batch::LogBatch;
 pub use log_item::{LogItem, LogItemContent};

@@ -1,8 +1,9 @@
 //! Batches read one after another, whole and damaged.
 
 use raft_records::{
-    Command, CompressionType, Error, FileBlockHandle, FileId, FilePart, LogBatch, LogItemContent,
-    LogQueue, Result, Version, next_batch,
+    Command, CompressionType, EntryIndex, Error, FileBlockHandle, FileId, FilePart, LogBatch,
+    LogItemContent, LogQueue, Result, Version, entries_block_in, entry_bytes, next_batch,
+    readable_front,
 };
 use std::alloc::Global;
 use std::process::Abort;
@@ -75,7 +76,36 @@ fn batches_stand_one_behind_the_other(rt: &impl Abort, alloc: Global) -> Result<
     }
     assert!(rt; has_block(&part)?);
     assert!(rt; knows_its_file(&part)?);
+    assert!(rt; lends_entries(alloc, &part)?);
     Ok(())
+}
+
+/// Whether the entry bytes of the first batch are lent, and those of each of its entries.
+fn lends_entries(alloc: Global, part: &FilePart) -> Result<bool> {
+    let Some((batch, _)) = next_batch(part, 0)? else {
+        return Ok(false);
+    };
+    for item in batch.iter() {
+        if let LogItemContent::EntryIndexes(entries) = &item.content {
+            return are_lent(alloc, part, entries.0.as_slice());
+        }
+    }
+    Ok(false)
+}
+
+fn are_lent(alloc: Global, part: &FilePart, entries: &[EntryIndex]) -> Result<bool> {
+    let [first, second] = entries else {
+        return Ok(false);
+    };
+    let Some(place) = first.entries else {
+        return Ok(false);
+    };
+    let block = entries_block_in(part, place)?;
+    let read = (
+        entry_bytes(alloc, block, first)?,
+        entry_bytes(alloc, block, second)?,
+    );
+    Ok(block == b"abc".as_slice() && read == (b"ab".as_slice(), b"c".as_slice()))
 }
 
 fn has_place(part: &FilePart) -> bool {
@@ -175,4 +205,38 @@ fn parts_end_at_the_last_offset(rt: &impl Abort, alloc: Global) -> Result<()> {
         }
     }
     Ok(())
+}
+
+#[test]
+fn fronts(rt: HostRuntime) {
+    let answer = match fronts_end_at_damage(&rt, rt.alloc()) {
+        Err(Error::Memory) => fronts_end_at_damage(&rt, rt.alloc()),
+        answer => answer,
+    };
+    assert!(rt; answer.is_ok());
+}
+
+/// The front of so many bytes ends where its last whole batch does, and the reason is that of the decoders.
+fn fronts_end_at_damage(rt: &impl Abort, alloc: Global) -> Result<()> {
+    for &(len, front, reason) in &[
+        (0, 0, ""),
+        (FIRST - 1, 0, "a log batch of 34 bytes is cut short"),
+        (FIRST, FIRST, ""),
+        (FIRST + 6, FIRST, "Log batch header too short: 6"),
+        (58, 58, ""),
+    ] {
+        let part = part(alloc, BATCHES.get(..len).unwrap_or(&[]))?;
+        let (readable, error) = readable_front(&part);
+        assert!(rt; readable == front && is_reason(error, reason)?, "{len} bytes");
+    }
+    Ok(())
+}
+
+/// Whether there is this reason, and none where it is empty.
+fn is_reason(error: Option<Error>, reason: &str) -> Result<bool> {
+    match error {
+        None => Ok(reason.is_empty()),
+        Some(Error::Corruption(text)) => Ok(text.as_str() == reason),
+        Some(e) => Err(e),
+    }
 }

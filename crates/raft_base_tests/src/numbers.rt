@@ -125,13 +125,18 @@ fn i32_rows(rt: HostRuntime) -> Result<(), Fail> {
     Ok(())
 }
 
-/// Whether the number is written so, and read back.
+/// Whether the number is written so, with nothing behind it, and read back.
 fn is_var_u64_row(number: u64, spelling: &[u8]) -> codec::Result<bool> {
-    let mut bytes = [0; 10];
+    let mut bytes = [0; 16];
     let mut out: &mut [u8] = &mut bytes;
     out.encode_var_u64(number)?;
+    let written = 16usize.saturating_sub(out.len());
     let mut buf = spelling;
-    Ok(bytes.starts_with(spelling) && decode_var_u64(&mut buf)? == number && buf.is_empty())
+    Ok(
+        bytes.get(..written) == Some(spelling)
+            && decode_var_u64(&mut buf)? == number
+            && buf.is_empty(),
+    )
 }
 
 #[test]
@@ -142,13 +147,18 @@ fn var_u64_rows(rt: HostRuntime) -> Result<(), Fail> {
     Ok(())
 }
 
-/// Whether the number is written so, and read back.
+/// Whether the number is written so, with nothing behind it, and read back.
 fn is_var_i64_row(number: i64, spelling: &[u8]) -> codec::Result<bool> {
-    let mut bytes = [0; 10];
+    let mut bytes = [0; 16];
     let mut out: &mut [u8] = &mut bytes;
     out.encode_var_i64(number)?;
+    let written = 16usize.saturating_sub(out.len());
     let mut buf = spelling;
-    Ok(bytes.starts_with(spelling) && decode_var_i64(&mut buf)? == number && buf.is_empty())
+    Ok(
+        bytes.get(..written) == Some(spelling)
+            && decode_var_i64(&mut buf)? == number
+            && buf.is_empty(),
+    )
 }
 
 #[test]

@@ -1,0 +1,110 @@
+//! What the batches of the histories say.
+
+ghost use Rattle.std.specs.Prelude.{◌≡◌, OnOk};
+ghost use Rattle.raft_records.specs.LogBatch.{populating};
+
+use raft_base::{Message, MessageError, MessageExt};
+use raft_records::{AtomicGroupBuilder, Command, LogBatch, Result};
+use std::alloc::Global;
+
+/// The region of all histories.
+pub const REGION: u64 = 1;
+
+/// An item of a batch.
+#[derive(Clone, Copy)]
+pub enum Part {
+    /// Entries from the first index on and below the second.
+    Entries(u64, u64),
+    /// A value of the key `k`.
+    Put(&'static str),
+    Delete,
+    Compact(u64),
+    Truncate(u64),
+    Clean,
+    /// The first group marker of a group.
+    Begin(u64),
+    /// The last one.
+    End(u64),
+}
+
+/// The bytes of an entry.
+#[derive(Clone, Copy, PartialEq, Debug, Drop)]
+struct Entry {
+    index: u64,
+}
+
+impl Message for Entry {
+    ghost bytes_of = { λ entry. 120 ∷ [] };
+
+    ghost refuses = { λ entry code. ⊥ };
+
+    fn write_to_vec(&self, buf: &mut Vec<u8>) -> std::result::Result<(), MessageError> {
+        match buf.push(b'x') {
+            Ok(()) => Ok(()),
+            Err(_) => Err(MessageError::Memory),
+        }
+    }
+}
+
+/// Logs of such entries.
+struct Entries;
+
+impl MessageExt for Entries {
+    type Entry = Entry;
+
+    ghost index_of = { λ entry. entry.index };
+
+    fn index(entry: &Entry) -> u64 {
+        entry.index
+    }
+}
+
+/// A batch of these items.
+pub fn batch_of(alloc: Global, parts: &[Part]) -> Result<LogBatch>
+    ensures { IfOk result (λ batch. batch.stage ≡ populating) }
+{
+    let mut batch = LogBatch::default(alloc);
+    for part in parts {
+        add(alloc, &mut batch, *part)?;
+    }
+    Ok(batch)
+}
+
+fn add(alloc: Global, batch: &mut LogBatch, part: Part) -> Result<()>
+    requires { batch.old.stage ≡ populating }
+    ensures { OnOk result (batch.new.stage ≡ populating) }
+{
+    match part {
+        Part::Entries(first, end) => {
+            batch.add_entries::<Entries>(REGION, entries(alloc, first, end)?.as_slice())
+        }
+        Part::Put(value) => {
+            let value = Vec::from_slice(alloc, value.as_bytes())?;
+            batch.put(REGION, Vec::from_slice(alloc, b"k")?, value)
+        }
+        Part::Delete => batch.delete(REGION, Vec::from_slice(alloc, b"k")?),
+        Part::Compact(index) => batch.add_command(REGION, Command::Compact { index }),
+        Part::Truncate(index) => batch.add_command(REGION, Command::Truncate { index }),
+        Part::Clean => batch.add_command(REGION, Command::Clean),
+        Part::Begin(id) => AtomicGroupBuilder::with_id(id).begin(batch),
+        Part::End(id) => end(alloc, batch, id),
+    }
+}
+
+fn entries(alloc: Global, first: u64, end: u64) -> Result<Vec<Entry>> {
+    let mut entries = Vec::new(alloc);
+    for index in first..end {
+        entries.push(Entry { index })?;
+    }
+    Ok(entries)
+}
+
+/// Ends a group that another batch began.
+fn end(alloc: Global, batch: &mut LogBatch, id: u64) -> Result<()>
+    requires { batch.old.stage ≡ populating }
+    ensures { OnOk result (batch.new.stage ≡ populating) }
+{
+    let mut group = AtomicGroupBuilder::with_id(id);
+    group.begin(&mut LogBatch::default(alloc))?;
+    group.end(batch)
+}

@@ -439,7 +439,9 @@ impl MemTable {
     ///
     /// A recovery takes a group whole or not at all. So whoever writes one calls this once its End is
     /// written, for each region that the group names: [`MemTable::min_file_seq`] then keeps the files
-    /// from its Begin on, as long as the table needs one up to its End.
+    /// from its Begin on, as long as the table needs one up to its End. The table remembers one group:
+    /// none may begin that leaves records of the region in an older one, whose Begin would no longer be
+    /// kept.
     pub fn apply_rewrite_atomic_group(&mut self, first_seq: FileSeq, last_seq: FileSeq)
         requires { first_seq ≤ last_seq }
         ensures group { self.new ≡ record self.old { atomic_group = Some (first_seq, last_seq) } }

@@ -14,3 +14,8 @@ mod TakenLemmas
 mod GroupFiles
 mod RegionOverlayLemmas
 mod ReadOverlayLemmas
+mod OneKeyLemmas
+mod RunCutLemmas
+mod MovedEntryLemmas
+mod MovedTableLemmas
+mod AppendedLemmas

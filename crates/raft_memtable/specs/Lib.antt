@@ -4,6 +4,8 @@ pub mod WaitingItems
 pub mod WaitingItemsView
 pub mod WaitingShown
 pub mod MarkedTables
+pub mod MovedPlaces
+pub mod ReadItems
 pub mod RegionMarks
 pub mod RegionMarksView
 pub mod FileRanges
@@ -43,6 +45,7 @@ pub use Rattle.raft_history.specs.Batches
 pub use Rattle.raft_history.specs.BothQueues
 pub use Rattle.raft_history.specs.Contexts
 pub use Rattle.raft_history.specs.Effects
+pub use Rattle.raft_history.specs.GoingOn
 pub use Rattle.raft_history.specs.Histories
 pub use Rattle.raft_history.specs.Joins
 pub use Rattle.raft_history.specs.Kept
@@ -56,6 +59,7 @@ pub use Rattle.raft_history.specs.WaitingGroup
 pub use Rattle.raft_history.specs.WaitingGroups
 pub use Rattle.raft_accessor.specs.Accessor
 pub use Rattle.raft_accessor.specs.AccessorCalls
+pub use Rattle.raft_accessor.specs.AccessorCode
 pub use Rattle.raft_accessor.specs.ItemWrites
 pub use Rattle.raft_accessor.specs.Merges
 pub use Rattle.raft_accessor.specs.TableJoins

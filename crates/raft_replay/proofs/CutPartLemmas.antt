@@ -14,7 +14,7 @@ use Rattle.raft_replay.specs.Cuts.{bytes_before, rest_of, BatchesMeet}
 use Rattle.raft_replay.specs.Segments.{AreHeldInTurn, HoldsFrom, AreCutFrom}
 use Rattle.raft_replay.proofs.Words.{PartHolds, PartsHold}
 use Rattle.raft_replay.proofs.MachineOrderLemmas.{each_join, each_cut, each_single}
-use Rattle.raft_replay.proofs.SegmentLemmas.{batch_inside}
+use Rattle.raft_records.proofs.PartLemmas.{batch_inside}
 
 -- ---- one batch
 
@@ -109,7 +109,7 @@ of_rest part at j k items b = record {
 }
 
 -- the batch that begins at a byte is as long as the header there says
-header_ends : (part : Part) (i next offset len : ℕ) (items : List Item) → HasHeader (drop i part.bytes) offset len → IsBatchAt part i items next → next ≡ i + len
+pub header_ends : (part : Part) (i next offset len : ℕ) (items : List Item) → HasHeader (drop i part.bytes) offset len → IsBatchAt part i items next → next ≡ i + len
 header_ends part i next offset len items h b =
     let f = b.frame.header in
     let split = sym h.header.split ∙ b.stands ∙ ap (λ (t : List ℕ). t ++ drop next part.bytes) f.split ∙ append_assoc f.front (drop 16 b.bytes) (drop next part.bytes) in

@@ -14,6 +14,7 @@ use Rattle.raft_records.specs.Framing.{IsFramed}
 use Rattle.raft_records.proofs.BatchLemmas.{one_batch}
 use Rattle.raft_records.proofs.FrameLemmas.{header_one, readable}
 use Rattle.raft_records.proofs.ItemLemmas.{same_length}
+use Rattle.raft_records.proofs.PartLemmas.{batch_inside}
 use Rattle.raft_history.specs.Batches.{Event}
 use Rattle.raft_history.specs.Histories.{IsSmall, Sound}
 use Rattle.raft_history.specs.ReplayMachine.{event}
@@ -56,18 +57,6 @@ pub batch_none : (part : Part) (at : ℕ) (items : List Item) (next : ℕ)
     → HasNoFront (λ bytes. IsReadable bytes (part_signature part)) (drop at part.bytes) → ¬ (IsBatchAt part at items next)
 batch_none part at items next none b =
     none b.bytes (drop next part.bytes) b.read ((readable b.bytes (part_signature part) b.read).1 (b.offset, b.frame)) b.stands
-
--- a batch is longer than nothing, so none stands at the end
-pub batch_inside : (part : Part) (at : ℕ) (items : List Item) (next : ℕ) → IsBatchAt part at items next → (at < next) × (next ≤ length part.bytes)
-batch_inside part at items next b =
-    let header = b.frame.header.spells in
-    let least : 16 ≤ b.offset = header.behind_header in
-    let long : b.offset ≤ length b.bytes = header.inside in
-    let lengths = ap length b.stands in
-    let ends = b.ends in (
-      omega arith,
-      omega (arith, length-drop at part.bytes, length-drop next part.bytes, length-append b.bytes (drop next part.bytes)),
-    )
 
 -- ---- what is read is read in one way
 

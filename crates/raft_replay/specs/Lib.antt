@@ -7,4 +7,5 @@ pub mod Plans
 pub mod Replays
 pub mod Schedules
 pub mod Segments
+pub mod Stops
 pub mod WorkedWords

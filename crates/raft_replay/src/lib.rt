@@ -15,5 +15,5 @@ pub use gate::{Gate, OpenGate};
 pub use pieces::merge_pieces;
 pub use plan::Plan;
 pub use scheduled::{piece_count, replay_scheduled};
-pub use segment::{Segment, replay_segment, segments_read_as_one_history};
+pub use segment::{Segment, replay_bytes, replay_segment, segments_read_as_one_history};
 pub use workers::{MAX_WORKERS, SEGMENT_LIMIT, replay_segments};

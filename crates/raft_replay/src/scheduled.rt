@@ -11,7 +11,7 @@ ghost use Rattle.raft_replay.specs.Replays.{IsReplayed};
 ghost use Rattle.raft_replay.specs.Schedules.{IsSchedule, switches, count_below, pieces_in};
 
 use crate::pieces::merge_in_turn;
-use crate::workers::MAX_WORKERS;
+use crate::workers::{MAX_WORKERS, argument_fault};
 use crate::{Plan, Segment, replay_segment};
 use raft_base::{Error, Factory, LogQueue, Result};
 use raft_history::ReplayMachine;
@@ -47,9 +47,8 @@ pub fn replay_scheduled<M: ReplayMachine, F: Factory<M>>(
         → IfErr result (λ e. e ≢ Error.Memory → IsInvalidArgument e) }
 {
     if !is_schedule(segments, queue, workers, draws, plan) {
-        return Err(Error::InvalidArgument(format!(in alloc;
-            "{workers} workers, parts of another queue, a worker that isn't there, or a plan of other pieces"
-        )?));
+        let fault = schedule_fault(segments, queue, workers, draws);
+        return Err(Error::InvalidArgument(String::from_str(alloc, fault)?));
     }
     let mut machines = Vec::new(alloc);
     let last = replay_in_order(alloc, factory, segments, draws, &mut machines)?;
@@ -105,6 +104,23 @@ fn is_schedule(
         return false;
     }
     fits_pieces(plan, segments.len(), draws)
+}
+
+/// Says why a schedule may not be replayed: as [`argument_fault`], or since a worker isn't there, or else since the
+/// plan is of other pieces.
+fn schedule_fault(
+    segments: &[Segment],
+    queue: LogQueue,
+    workers: usize,
+    draws: &[usize],
+) -> &'static str {
+    if workers == 0 || workers > MAX_WORKERS || !segments_are_of(segments, queue) {
+        return argument_fault(segments, queue, workers);
+    }
+    if !are_known(draws, workers) {
+        return "a draw of a worker that isn't there";
+    }
+    "a plan of another number of pieces"
 }
 
 /// Whether each of the workers is one of so many.

@@ -1,15 +1,17 @@
 //! Segments of a queue, and their replay into a machine.
 
-ghost use Rattle.std.specs.Prelude.{◌≡◌, ◌≢◌, List, Vec, OnOk, IfErr};
+ghost use Rattle.std.specs.Prelude.{◌≡◌, ◌≢◌, ◌+◌, ◌^◌, ◌<◌, Any, List, Vec, length, OnOk, IfErr};
 ghost use Rattle.std.specs.Global.{Global};
-ghost use Rattle.raft_records.specs.FilePart.{Part};
+ghost use Rattle.raft_records.specs.FilePart.{Part, part_of};
 ghost use Rattle.raft_history.specs.Batches.{Event};
 ghost use Rattle.raft_replay.specs.Replays.{HasReplayed, CannotFollow};
 ghost use Rattle.raft_replay.specs.Segments.{HoldsFrom, EachHolds, SegmentsHold};
+ghost use Rattle.raft_replay.specs.Stops.{queue_text, IsPlaced, StopsIn};
 
-use raft_base::{Error, Result};
+use raft_base::{Error, FileId, LogFileContext, LogQueue, Result};
 use raft_history::ReplayMachine;
-use raft_records::{FilePart, next_batch};
+use raft_records::{FilePart, next_in};
+use std::alloc::Global;
 
 /// Parts of files of a queue, one behind the other.
 pub type Segment = Vec<FilePart>;
@@ -19,8 +21,9 @@ pub type Segment = Vec<FilePart>;
 /// # Errors
 ///
 /// `Memory`. Any other comes only where a part isn't a sequence of readable batches, or where the batches behind
-/// those that the machine stands for can't be read. How many batches the machine has then replayed is not
-/// known.
+/// those that the machine stands for can't be read. The text of a `Corruption` begins with the queue, the file and the
+/// offset of the batch that was refused, as `append file 3, offset 1024: `. How many batches the machine has then
+/// replayed is not known.
 pub fn replay_segment<M: ReplayMachine>(machine: &mut M, segment: &Segment) -> Result<()>
     ensures ok { OnOk result
         (HasReplayed (EachHolds (λ part. HoldsFrom part 0) segment.entry.now.items) M.stands_for
@@ -28,6 +31,7 @@ pub fn replay_segment<M: ReplayMachine>(machine: &mut M, segment: &Segment) -> R
     ensures refused { IfErr result (λ e. e ≢ Error.Memory
         → CannotFollow (EachHolds (λ part. HoldsFrom part 0) segment.entry.now.items)
         (M.stands_for machine.old)) }
+    ensures place { IfErr result (λ e. Any (λ part. StopsIn part e) segment.entry.now.items) }
 {
     for part in segment {
         replay_part(machine, part)?;
@@ -41,13 +45,78 @@ fn replay_part<M: ReplayMachine>(machine: &mut M, part: &FilePart) -> Result<()>
         machine.old machine.new) }
     ensures refused { IfErr result
         (λ e. e ≢ Error.Memory → CannotFollow (HoldsFrom part.now 0) (M.stands_for machine.old)) }
+    ensures place { IfErr result (StopsIn part.now) }
+{
+    let file = LogFileContext::new(part.id(), part.version());
+    replay_bytes(
+        machine,
+        part.allocator(),
+        &file,
+        part.offset(),
+        part.bytes(),
+    )
+}
+
+/// Replays the batches of bytes that are lent: those of the file from `offset` on.
+///
+/// # Errors
+///
+/// Those of [`replay_segment`] for a part of these bytes.
+pub fn replay_bytes<M: ReplayMachine>(
+    machine: &mut M,
+    alloc: Global,
+    file: &LogFileContext,
+    offset: u64,
+    bytes: &[u8],
+) -> Result<()>
+    requires ends { offset + length bytes.now < 2 ^ 64 }
+    ensures ok { OnOk result (HasReplayed (HoldsFrom (part_of file.now offset bytes.now) 0)
+        M.stands_for M.stands_exactly machine.old machine.new) }
+    ensures refused { IfErr result (λ e. e ≢ Error.Memory
+        → CannotFollow (HoldsFrom (part_of file.now offset bytes.now) 0)
+        (M.stands_for machine.old)) }
+    ensures place { IfErr result (StopsIn (part_of file.now offset bytes.now)) }
 {
     let mut at = 0;
-    while let Some((batch, next)) = next_batch(part, at)? {
-        machine.replay(batch, part.id())?;
-        at = next;
+    loop {
+        match next_in(alloc, file, offset, bytes, at) {
+            Ok(Some((batch, next))) => {
+                if let Err(error) = machine.replay(batch, file.id) {
+                    return Err(placed(alloc, error, file.id, offset + at as u64));
+                }
+                at = next;
+            }
+            Ok(None) => return Ok(()),
+            Err(error) => return Err(placed(alloc, error, file.id, offset + at as u64)),
+        }
     }
-    Ok(())
+}
+
+/// The refusal of a batch: a `Corruption` with the file and the offset in it in front of its text.
+fn placed(alloc: Global, error: Error, id: FileId, offset: u64) -> Error
+    ensures placed { IsPlaced id offset result }
+    ensures memory { result ≢ Error.Memory → error ≢ Error.Memory }
+{
+    match error {
+        Error::Corruption(reason) => {
+            let queue = queue_name(id.queue);
+            match format!(in alloc; "{queue} file {}, offset {offset}: {reason}", id.seq) {
+                Ok(text) => Error::Corruption(text),
+                Err(_) => Error::Memory,
+            }
+        }
+        other => other,
+    }
+}
+
+/// The name of a queue in texts.
+fn queue_name(queue: LogQueue) -> &'static str
+    ensures { result.now ≡ queue_text queue }
+{
+    match queue {
+        LogQueue::Append => "append",
+        LogQueue::Rewrite => "rewrite",
+    }
 }
 
 /// The parts of segments read as one history at most.

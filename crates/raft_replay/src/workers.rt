@@ -58,9 +58,8 @@ pub fn replay_segments<M: ReplayMachine, F: Factory<M>, G: Gate, R: Threads + Sy
         → IfErr result (λ e. e ≢ Error.Memory → IsInvalidArgument e) }
 {
     if !are_accepted(segments, queue, workers) {
-        return Err(Error::InvalidArgument(format!(in alloc;
-            "{workers} workers, 2^62 segments or more, or parts of another queue"
-        )?));
+        let fault = argument_fault(segments, queue, workers);
+        return Err(Error::InvalidArgument(String::from_str(alloc, fault)?));
     }
     let pieces = drawn_pieces(rt, alloc, factory, segments, workers, gate)?;
     let machines = Piece::line_up(alloc, pieces)?;
@@ -80,6 +79,22 @@ fn are_accepted(segments: &[Segment], queue: LogQueue, workers: usize) -> bool
         return false;
     }
     segments_are_of(segments, queue)
+}
+
+/// Says why workers may not replay segments: there are too many or too few of them, a part is of another queue, or
+/// else there are too many segments.
+pub(crate) fn argument_fault(
+    segments: &[Segment],
+    queue: LogQueue,
+    workers: usize,
+) -> &'static str {
+    if workers == 0 || workers > MAX_WORKERS {
+        return "another number of workers than 1 to 256";
+    }
+    if !segments_are_of(segments, queue) {
+        return "a part of another queue";
+    }
+    "2^62 segments or more"
 }
 
 /// The pieces that the workers make: each segment is in one of them. No more workers are started than there are

@@ -1,39 +1,41 @@
 use Rattle.std.proofs.Common.{[], ◌∷◌, refl}
-use Rattle.std.proofs.lemmas.Result.{err_from_is_err_and}
 use Rattle.raft_history.specs.ReplayMachine.{event}
+use Rattle.raft_records.proofs.PartLemmas.{batch_inside, one_batch_more}
+use Rattle.raft_records.specs.FilePart.{Part, part_of}
 use Rattle.raft_replay.proofs.MidwayLemmas.{advance, refused, first_refused, replayed}
-use Rattle.raft_replay.proofs.SegmentLemmas.{batch_inside, first_batch, unreadable, event_refused}
-use Rattle.raft_replay.proofs.segment.replay_part.Goals as goal
+use Rattle.raft_replay.proofs.SegmentLemmas.{first_batch, unreadable, event_refused}
+use Rattle.raft_replay.proofs.segment.replay_bytes.Goals as goal
 
-pub returns-in_err-batch-clause-refused : goal.returns-in_err-batch-clause-refused
-returns-in_err-batch-clause-refused g c =
-    let p = err_from_is_err_and c.from_residual.result c.from_residual.ensures.1 in
-    rw (p.1, p.2)
-    (λ not_memory. refused c.loop-batch.invariant.midway
-    (unreadable c.args.part.now c.loop-batch.at _ c.in_err-batch.ensures.some (c.in_err-batch.ensures.refused not_memory)))
+pub returns-in-Err-clause-refused : goal.returns-in-Err-clause-refused
+returns-in-Err-clause-refused g c =
+    let part = part_of c.args.file.now c.args.offset c.args.bytes.now in
+    λ not_memory. refused c.loop-batch.invariant.midway
+    (unreadable part c.loop-batch.at _ c.in-Err.ensures.some (c.in-Err.ensures.refused (c.placed-in-Err.ensures.memory not_memory)))
 
-pub returns-in_err-replay-clause-refused : goal.returns-in_err-replay-clause-refused
-returns-in_err-replay-clause-refused g c =
-    let p = err_from_is_err_and c.from_residual-in_err-replay.result c.from_residual-in_err-replay.ensures.1 in
-    let stands = rw c.in-Some.is at c.in_ok-batch.ensures.ok in
-    let cut = first_batch c.args.part.now c.loop-batch.at c.in-Some.batch c.id.result c.in-Some.next stands c.id.ensures in
-    rw (p.1, p.2)
-    (λ not_memory. refused c.loop-batch.invariant.midway
-    (first_refused (λ g rest. let found = cut.cuts g rest in (event c.in-Some.batch c.id.result ∷ [], found.0, refl, found.2))
-    (event_refused (event c.in-Some.batch c.id.result) _ (c.in_err-replay.ensures.refused not_memory))))
+pub returns-in-Err-replay-clause-refused : goal.returns-in-Err-replay-clause-refused
+returns-in-Err-replay-clause-refused g c =
+    let part = part_of c.args.file.now c.args.offset c.args.bytes.now in
+    let stands = rw c.in-Ok-Some.field-0-is at c.in-Ok-Some.ensures.ok in
+    let cut = first_batch part c.loop-batch.at _ part.id c.in-Ok-Some.next stands refl in
+    λ not_memory. refused c.loop-batch.invariant.midway
+    (first_refused (λ g rest. let found = cut.cuts g rest in (event _ part.id ∷ [], found.0, refl, found.2))
+    (event_refused (event _ part.id) _ (c.in-Err-replay.ensures.refused (c.placed.ensures.memory not_memory))))
 
 pub loop-batch-preserved : goal.loop-batch-preserved
 loop-batch-preserved g c =
-    let stands = rw c.in-Some.is at c.in_ok-batch.ensures.ok in
+    let part = part_of c.args.file.now c.args.offset c.args.bytes.now in
+    let stands = rw c.in-Ok-Some.field-0-is at c.in-Ok-Some.ensures.ok in
     record {
-      inside = (batch_inside c.args.part.now c.loop-batch.at c.in-Some.batch c.in-Some.next stands).1;
+      inside = (batch_inside part c.loop-batch.at _ c.in-Ok-Some.next stands).1;
+      readable = one_batch_more part c.loop-batch.at _ c.in-Ok-Some.next c.loop-batch.invariant.readable stands;
       midway =
-          advance c.loop-batch.invariant.midway (event c.in-Some.batch c.id.result ∷ [])
-          (first_batch c.args.part.now c.loop-batch.at c.in-Some.batch c.id.result c.in-Some.next stands c.id.ensures)
-          c.in_ok-replay.ensures.stands c.in_ok-replay.ensures.exact;
+          advance c.loop-batch.invariant.midway (event _ part.id ∷ [])
+          (first_batch part c.loop-batch.at _ part.id c.in-Ok-Some.next stands refl)
+          (λ h small stood. rw c.in_default.is at (c.replay.ensures.stands h small stood))
+          (λ h small stood. rw c.in_default.is at (c.replay.ensures.exact h small stood));
     }
 
-pub returns-clause-ok : goal.returns-clause-ok
-returns-clause-ok g c =
+pub returns-in-Ok-None-clause-ok : goal.returns-in-Ok-None-clause-ok
+returns-in-Ok-None-clause-ok g c =
     replayed g.M.ReplayMachine.stands_for g.M.ReplayMachine.stands_exactly c.args.machine.now c.loop-batch.machine c.loop-batch.invariant.midway
-    (rw c.in_default.is at c.in_ok-batch.ensures.ok)
+    (rw c.in-Ok-None.field-0-is at c.in-Ok-None.ensures.ok)

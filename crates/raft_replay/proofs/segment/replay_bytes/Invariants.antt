@@ -1,17 +1,19 @@
 use Rattle.std.proofs.Common.{◌-◌, ◌≤◌, length}
+use Rattle.raft_records.specs.FilePart.{part_of, AreBatchesUpTo}
 use Rattle.raft_replay.specs.Segments.{HoldsFrom}
 use Rattle.raft_replay.proofs.Words.{PartHolds}
 use Rattle.raft_replay.proofs.MidwayLemmas.{Midway}
-use Rattle.raft_replay.proofs.segment.replay_part.Given as goal
+use Rattle.raft_replay.proofs.segment.replay_bytes.Given as goal
 
 abbrev pub invariant-loop-batch : goal.invariant-loop-batch
 invariant-loop-batch g l = record {
-  inside : l.at ≤ length l.part.bytes;
+  inside : l.at ≤ length l.bytes;
+  readable : AreBatchesUpTo (part_of l.file l.offset l.bytes) l.at;
   midway :
-      Midway (PartHolds l.part) (HoldsFrom l.part l.at)
+      Midway (PartHolds (part_of l.file l.offset l.bytes)) (HoldsFrom (part_of l.file l.offset l.bytes) l.at)
       (g.M.ReplayMachine.stands_for l.fn.machine) (g.M.ReplayMachine.stands_for l.machine)
       (g.M.ReplayMachine.stands_exactly l.fn.machine) (g.M.ReplayMachine.stands_exactly l.machine);
 }
 
 abbrev pub decreases-loop-batch : goal.decreases-loop-batch
-decreases-loop-batch g l = length l.part.bytes - l.at
+decreases-loop-batch g l = length l.bytes - l.at

@@ -1,4 +1,4 @@
-use Rattle.std.proofs.Common.{◌≡◌, ℕ, ◌+◌, ◌<◌, List, ◌∷◌, length, get_or, drop, ap, subst, arith}
+use Rattle.std.proofs.Common.{◌≡◌, ℕ, ◌+◌, ◌<◌, List, ◌∷◌, length, get_or, drop, ap, sym, subst, arith}
 use Rattle.std.proofs.lemmas.Result.{err_from_is_err_and}
 use Rattle.raft_records.specs.FilePart.{Part}
 use Rattle.raft_replay.proofs.Words.{PartHolds}
@@ -18,6 +18,14 @@ returns-in_err-replay_part-clause-refused g c =
     (cut_refused PartHolds _ (drop (c.loop-part.part-index + 1) c.args.segment.now.items) c.part-item.result _
     (item_here c.deref-part-items.ensures.value (let t = c.loop-part-test.true in omega arith) c.part-item.is)
     (c.in_err-replay_part.ensures.refused not_memory)))
+
+pub returns-in_err-replay_part-clause-place : goal.returns-in_err-replay_part-clause-place
+returns-in_err-replay_part-clause-place g c =
+    let p = err_from_is_err_and c.from_residual.result c.from_residual.ensures.1 in
+    let e = c.deref-part-items.ensures.value in
+    let here : c.loop-part.part-index < length c.args.segment.now.items = let n = ap length e in let t = c.loop-part-test.true in omega arith in
+    rw (p.1, p.2)
+    (c.loop-part.part-index, c.part-item.result, here, sym (subst (λ (l : List Part). c.part-item.result ≡ get_or l c.loop-part.part-index c.part-item.result) e c.part-item.is), c.in_err-replay_part.ensures.place)
 
 pub loop-part-preserved : goal.loop-part-preserved
 loop-part-preserved g c =

@@ -1,5 +1,7 @@
 mod AccessorLemmas
+mod AppendCheckLemmas
 pub mod CleanLemmas
+mod ExtentLemmas
 pub mod LiveLemmas
 pub mod MapLemmas
 mod MergeLemmas

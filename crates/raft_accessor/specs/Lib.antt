@@ -2,6 +2,8 @@ pub mod Accessor
 pub mod AccessorCalls
 pub mod AccessorCode
 pub mod AccessorView
+pub mod AppendChecks
+pub mod Extents
 pub mod ItemWrites
 pub mod Merges
 pub mod RegionTablesView

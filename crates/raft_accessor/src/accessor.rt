@@ -25,6 +25,7 @@ use raft_base::{AllocResult, Error, FileSeq, Result, hash_u64};
 use raft_table::{GlobalStats, MemTable, TableChange};
 use std::alloc::{AllocError, Global};
 use std::marker::Model;
+pub use writes::accepted_items_lack_room_alone;
 
 /// The number of the slot that holds a region's table: the low 7 bits of the hash of the region's id.
 #[tactic(auto, unfolding(crate::specs::Accessor::slot_of))]

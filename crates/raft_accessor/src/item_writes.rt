@@ -1,21 +1,42 @@
 //! Log items written to the tables of their regions.
 
-ghost use Rattle.std.specs.Prelude.{◌≡◌, ℕ, List, Option, MatchBool};
+ghost use Rattle.std.specs.Prelude.{◌≡◌, ◌≢◌, ℕ, List, map, Option, MatchBool, OnOk, IfErr};
 ghost use Rattle.raft_base.specs.declared.pipe_log.LogQueue.TheVariants.{Append, Rewrite};
 ghost use Rattle.raft_records.specs.Item.{item_of, entries_item, command_item, pair_of};
 ghost use Rattle.raft_records.specs.declared.command.Command.TheVariants.{Clean};
 ghost use Rattle.raft_table.specs.Counts.{Counts};
 ghost use Rattle.raft_table.specs.Table.{IsCounted};
 ghost use Rattle.raft_accessor.specs.Accessor.{table_in};
+ghost use Rattle.raft_accessor.specs.AppendChecks.{AreAcceptedOncePlaced, AreRefusedOncePlaced, IsAppendCheckFault};
 ghost use Rattle.raft_accessor.specs.ItemWrites.{IsItemWritten, pair_change};
 ghost use Rattle.raft_accessor.specs.Writes.{Appending, Replaying, Rewriting};
 
+use crate::append_check::AppendCheck;
 use crate::region_tables::RegionTables;
 use raft_base::{EntryIndex, Error, FileId, FileSeq, LogQueue, Result};
 use raft_records::{Command, KeyValue, LogItem, LogItemContent, OpType, is_reserved};
 use raft_table::{GlobalStats, MemTable, is_run};
 
 impl RegionTables {
+    /// Tests whether [`append_item`](RegionTables::append_item) would accept these items, one after another, once
+    /// their entries have a place and their key values a file in the append queue. It changes nothing.
+    ///
+    /// # Errors
+    ///
+    /// `Corruption` where it would refuse an item: the text names the region, the index and the reason. `Memory`.
+    pub fn check_append_items(&self, items: &[LogItem]) -> Result<()>
+        ensures ok { OnOk result (AreAcceptedOncePlaced self.now (map item_of items.now)) }
+        ensures refused { IfErr result (λ e. e ≢ Error.Memory
+            → AreRefusedOncePlaced self.now (map item_of items.now)) }
+        ensures fault { IfErr result (IsAppendCheckFault self.now (map item_of items.now)) }
+    {
+        let mut check = AppendCheck::new(self.allocator());
+        for item in items {
+            check.take(item, self.get(item.raft_group_id))?;
+        }
+        Ok(())
+    }
+
     /// Writes a new item of the append queue to its region's table, and lists the region where the
     /// item cleans it.
     ///

@@ -2,6 +2,7 @@
 #![tactic(auto)]
 
 pub mod accessor;
+mod append_check;
 pub mod item_writes;
 pub mod region_tables;
 

@@ -60,6 +60,7 @@ pub use Rattle.raft_history.specs.WaitingGroups
 pub use Rattle.raft_accessor.specs.Accessor
 pub use Rattle.raft_accessor.specs.AccessorCalls
 pub use Rattle.raft_accessor.specs.AccessorCode
+pub use Rattle.raft_accessor.specs.AppendChecks
 pub use Rattle.raft_accessor.specs.ItemWrites
 pub use Rattle.raft_accessor.specs.Merges
 pub use Rattle.raft_accessor.specs.TableJoins

@@ -1,19 +1,43 @@
 //! Items written to the tables of their regions.
 
-ghost use Rattle.std.specs.Prelude.{List, map, OnOk, IfErr};
+ghost use Rattle.std.specs.Prelude.{◌≡◌, ◌≢◌, ◌⊎◌, List, ◌++◌, map, OnOk, IfErr};
 ghost use Rattle.std.specs.Iterator.{Drains, Yields, IsFinite};
 ghost use Rattle.raft_base.specs.declared.pipe_log.LogQueue.{LogQueue};
 ghost use Rattle.raft_base.specs.declared.pipe_log.LogQueue.TheVariants.{Append, Rewrite};
 ghost use Rattle.raft_records.specs.declared.log_item.LogItem.{LogItem};
-ghost use Rattle.raft_records.specs.Item.{item_of};
+ghost use Rattle.raft_base.specs.declared.errors.Error.{Error};
+ghost use Rattle.raft_records.specs.Item.{Item, item_of};
+ghost use Rattle.raft_accessor.specs.Accessor.{Accessor};
 ghost use Rattle.raft_accessor.specs.AccessorCalls.{IsWritten};
+ghost use Rattle.raft_accessor.specs.AppendChecks.{AreAccepted, AreAcceptedOncePlaced, AreRefusedOncePlaced, IsAppendCheckFault};
 ghost use Rattle.raft_accessor.specs.Writes.{Appending, Replaying, Rewriting, AreWritten, AreItemsRefused};
 
 use crate::accessor::{MemTableAccessor, slot_of};
-use raft_base::{FileSeq, LogQueue, Result};
+use crate::append_check::AppendCheck;
+use raft_base::{Error, FileSeq, LogQueue, Result};
 use raft_records::LogItem;
 
 impl MemTableAccessor {
+    /// Tests whether [`apply_append_writes`](MemTableAccessor::apply_append_writes) would accept these items once
+    /// their entries have a place and their key values a file in the append queue, whatever place and file. It
+    /// looks at indexes and values, walks over the items once, and changes nothing.
+    ///
+    /// # Errors
+    ///
+    /// `Corruption` where it would refuse an item: the text names the region, the index and the reason. `Memory`.
+    pub fn check_append_writes(&self, items: &[LogItem]) -> Result<()>
+        ensures ok { OnOk result (AreAcceptedOncePlaced self.now.tables (map item_of items.now)) }
+        ensures refused { IfErr result (λ e. e ≢ Error.Memory
+            → AreRefusedOncePlaced self.now.tables (map item_of items.now)) }
+        ensures fault { IfErr result (IsAppendCheckFault self.now.tables (map item_of items.now)) }
+    {
+        let mut check = AppendCheck::new(*self.cleaned.allocator());
+        for item in items {
+            check.take(item, self.get(item.raft_group_id))?;
+        }
+        Ok(())
+    }
+
     /// Writes new items of the append queue to the tables, in order.
     ///
     /// # Errors
@@ -133,3 +157,11 @@ impl MemTableAccessor {
         self.slots[slot_of(id)].rewrite_item(item, gate, seq, &mut self.stats)
     }
 }
+
+/// Items that are accepted are refused only for want of memory or of room in the counts, whichever of them is refused.
+/// This is a law: it computes nothing.
+pub fn accepted_items_lack_room_alone()
+    ensures { (items rest : List Item) (old new : Accessor) (e : Error)
+        → AreAccepted old.tables (items ++ rest) → AreItemsRefused Appending items old new e
+        → (e ≡ Error.Memory) ⊎ (e ≡ Error.Full) }
+{}

@@ -1,0 +1,10 @@
+use Rattle.std.proofs.Common.{refl, sym, subst}
+use Rattle.raft_accessor.specs.Extents.{IsExtentOf}
+use Rattle.raft_accessor.proofs.ExtentLemmas.{truncated_none, truncated_some}
+use Rattle.raft_accessor.proofs.append_check.Extent.truncated.Goals as goal
+
+pub returns-then-index-self : goal.returns-then-index-self
+returns-then-index-self c = λ es at. subst (IsExtentOf c.of_none.result) (sym (truncated_none c.args.self c.args.index es at c.if-index-self.true)) c.of_none.ensures
+
+pub returns : goal.returns
+returns c = λ es at. truncated_some c.args.self _ c.args.index es at c.if-index-self.false refl c.min.ensures

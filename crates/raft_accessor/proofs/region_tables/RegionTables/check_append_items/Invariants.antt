@@ -1,0 +1,7 @@
+use Rattle.std.proofs.Common.{map, drop}
+use Rattle.raft_records.specs.Item.{item_of}
+use Rattle.raft_accessor.proofs.AppendCheckLemmas.{IsCheck}
+use Rattle.raft_accessor.proofs.region_tables.RegionTables.check_append_items.Given as goal
+
+abbrev pub invariant-loop-item : goal.invariant-loop-item
+invariant-loop-item l = IsCheck l.check.extents.entries l.fn.self (map item_of l.fn.items) (map item_of (drop l.item-index l.items))

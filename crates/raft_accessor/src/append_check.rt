@@ -1,0 +1,204 @@
+//! A test of new items: whether the tables would accept them.
+
+ghost use Rattle.std.specs.Prelude.{◌≡◌, ℕ, List, [], IfOk, IfErr, OnOk, option_map};
+ghost use Rattle.raft_base.specs.declared.entry_index.EntryIndex.{EntryIndex};
+ghost use Rattle.raft_records.specs.Item.{item_of, pair_of};
+ghost use Rattle.raft_table.specs.Steps.{table_of};
+ghost use Rattle.raft_table.specs.TableEntries.{below, from};
+ghost use Rattle.raft_history.specs.RegionSteps.{Tables};
+ghost use Rattle.raft_accessor.specs.Accessor.{table_in};
+ghost use Rattle.raft_accessor.specs.Extents.{IsExtentOf, commanded, TakesRun, IsRunCheckFault, AreBefore, TakesNext, IsNextFault, IsPairAccepted, IsPairCheckFault};
+
+use raft_base::{EntryIndex, Error, Result, is_consecutive};
+use raft_records::{Command, KeyValue, LogItem, LogItemContent, OpType, is_reserved};
+use raft_table::MemTable;
+use std::alloc::Global;
+use std::collections::HashMap;
+
+/// The first index of a region's entries, and the last one plus one. Both are 0 where there are none.
+#[derive(Clone, Copy, Debug)]
+pub(crate) struct Extent {
+    first: u64,
+    end: u64,
+}
+
+impl Extent {
+    /// No entries.
+    fn of_none() -> Extent
+        ensures { IsExtentOf result [] }
+    {
+        Extent { first: 0, end: 0 }
+    }
+
+    /// Where the entries of a table begin and end.
+    fn of_table(table: Option<&MemTable>) -> Extent
+        ensures { (id : ℕ) → IsExtentOf result
+            (table_of id (option_map (λ t. t.now) table.entry)).entries }
+    {
+        let Some(table) = table else {
+            return Extent::of_none();
+        };
+        table.holds_one_run();
+        match table.first_index() {
+            Some(first) => Extent {
+                first,
+                end: table.end(),
+            },
+            None => Extent::of_none(),
+        }
+    }
+
+    /// Without the entries below an index.
+    fn compacted(self, index: u64) -> Extent
+        ensures { (es : List EntryIndex) → IsExtentOf self es → IsExtentOf result (from index es) }
+    {
+        if self.end <= index {
+            return Extent::of_none();
+        }
+        Extent {
+            first: self.first.max(index),
+            end: self.end,
+        }
+    }
+
+    /// Without the entries from an index on.
+    fn truncated(self, index: u64) -> Extent
+        ensures { (es : List EntryIndex) → IsExtentOf self es → IsExtentOf result (below index es) }
+    {
+        if index <= self.first {
+            return Extent::of_none();
+        }
+        Extent {
+            first: self.first,
+            end: self.end.min(index),
+        }
+    }
+
+    /// After a command.
+    fn commanded(self, command: &Command) -> Extent
+        ensures { (es : List EntryIndex) → IsExtentOf self es
+            → IsExtentOf result (commanded command.now es) }
+    {
+        match command {
+            Command::Clean => Extent::of_none(),
+            Command::Compact { index } => self.compacted(*index),
+            Command::Truncate { index } => self.truncated(*index),
+        }
+    }
+
+    /// With a new run of a region.
+    ///
+    /// # Errors
+    ///
+    /// `Corruption` where it isn't a run or the start rule of [`MemTable::append`] refuses it; `Memory` for the
+    /// text.
+    fn with_run(self, alloc: Global, id: u64, run: &[EntryIndex]) -> Result<Extent>
+        ensures ok { IfOk result (TakesRun self run.now) }
+        ensures fault { IfErr result (IsRunCheckFault self run.now) }
+    {
+        let Some(first) = run.first() else {
+            return Ok(self);
+        };
+        let start = first.index;
+        if !is_consecutive(run) {
+            return Err(Error::Corruption(format!(in alloc;
+                "region {id}: the indexes of a run from {start} on are not consecutive"
+            )?));
+        }
+        if start < self.first {
+            let first = self.first;
+            return Err(Error::Corruption(format!(in alloc;
+                "region {id}: a run from index {start} on begins in front of the first entry {first}"
+            )?));
+        }
+        let end = self.end;
+        if 0 < end && end < start {
+            return Err(Error::Corruption(format!(in alloc;
+                "region {id}: a run from index {start} on leaves a hole behind the entries, which end at {end}"
+            )?));
+        }
+        Ok(Extent {
+            first: if end == 0 { start } else { self.first },
+            end: start + run.len() as u64,
+        })
+    }
+}
+
+/// Where the entries of regions begin and end after the items so far. A region that isn't there has the
+/// entries of its table.
+#[derive(Drop)]
+pub(crate) struct AppendCheck {
+    extents: HashMap<u64, Extent>,
+    alloc: Global,
+}
+
+impl AppendCheck {
+    /// In front of all items.
+    pub(crate) fn new(alloc: Global) -> AppendCheck
+        ensures { result.extents.entries ≡ [] }
+    {
+        AppendCheck {
+            extents: HashMap::new(alloc),
+            alloc,
+        }
+    }
+
+    /// Takes in the next item, whose region had this table in front of all items.
+    ///
+    /// # Errors
+    ///
+    /// `Corruption` where the item would be refused; `Memory`.
+    pub(crate) fn take(&mut self, item: &LogItem, table: Option<&MemTable>) -> Result<()>
+        ensures ok { OnOk result (TakesNext self.old.extents.entries
+            (option_map (λ t. t.now) table.entry) (item_of item.now) self.new.extents.entries) }
+        ensures fault { IfErr result (IsNextFault self.old.extents.entries
+            (option_map (λ t. t.now) table.entry) (item_of item.now)) }
+    {
+        let id = item.raft_group_id;
+        match &item.content {
+            LogItemContent::EntryIndexes(entries) => {
+                let extent = self.extent(id, table).with_run(self.alloc, id, &entries.0)?;
+                self.extents.insert(id, extent)?;
+                Ok(())
+            }
+            LogItemContent::Command(command) => {
+                let extent = self.extent(id, table).commanded(command);
+                self.extents.insert(id, extent)?;
+                Ok(())
+            }
+            LogItemContent::Kv(kv) => check_pair(self.alloc, id, kv),
+        }
+    }
+
+    /// Where the entries of a region begin and end.
+    fn extent(&self, id: u64, table: Option<&MemTable>) -> Extent
+        ensures { (before now : Tables)
+            → AreBefore self.now.extents.entries id (option_map (λ t. t.now) table.entry) before now
+            → IsExtentOf result (table_in now id).entries }
+    {
+        match self.extents.get(&id) {
+            Some(extent) => *extent,
+            None => Extent::of_table(table),
+        }
+    }
+}
+
+/// Tests whether a change of a key would be accepted.
+///
+/// # Errors
+///
+/// `Corruption` for a `Put` without a value, unless its key is reserved; `Memory` for the text.
+fn check_pair(alloc: Global, id: u64, kv: &KeyValue) -> Result<()>
+    ensures ok { OnOk result (IsPairAccepted (pair_of kv.now)) }
+    ensures fault { IfErr result (IsPairCheckFault (pair_of kv.now)) }
+{
+    if is_reserved(&kv.key) || kv.value.is_some() {
+        return Ok(());
+    }
+    match kv.op_type {
+        OpType::Put => Err(Error::Corruption(format!(in alloc;
+            "region {id}: a key is put without value"
+        )?)),
+        OpType::Del => Ok(()),
+    }
+}

@@ -1,6 +1,8 @@
 //! Items, as the Rust crate writes and reads them.
 
-use raft_records::{Command, EntryIndex, EntryIndexes, Error, KeyValue, LogItem, OpType, Result};
+use raft_records::{
+    Command, EntryIndex, EntryIndexes, Error, KeyValue, LogItem, LogItemContent, OpType, Result,
+};
 use std::alloc::Global;
 use std::process::Abort;
 
@@ -232,7 +234,7 @@ pub(crate) enum Read {
     Io,
 }
 
-/// Whether this is read in front of the bytes, and an item is written as it was read. What is refused stays.
+/// Whether this is read in front of the bytes, and an item is written as it was read, and cloned. What is refused stays.
 fn is_item_row(alloc: Global, bytes: &[u8], read: Read) -> Result<bool> {
     let mut rest = bytes;
     let mut size = 0;
@@ -241,7 +243,7 @@ fn is_item_row(alloc: Global, bytes: &[u8], read: Read) -> Result<bool> {
             let front = bytes.strip_suffix(rest).unwrap_or(bytes);
             let read_so =
                 matches!(read, Read::Item(end, left) if size == end && rest.len() == left);
-            Ok(read_so && is_written(alloc, &item, front)?)
+            Ok(read_so && is_written(alloc, &item, front)? && is_cloned(&item)?)
         }
         Err(Error::Memory) => Err(Error::Memory),
         Err(e) => Ok(is_fault(read, &e) && rest == bytes && size == 0),
@@ -252,6 +254,16 @@ fn is_written(alloc: Global, item: &LogItem, bytes: &[u8]) -> Result<bool> {
     let mut buf = Vec::new(alloc);
     item.encode(&mut buf)?;
     Ok(buf.as_slice() == bytes)
+}
+
+/// Whether the clones of an item, its content and what that has are equal to them.
+fn is_cloned(item: &LogItem) -> Result<bool> {
+    let is_content_cloned = match &item.content {
+        LogItemContent::EntryIndexes(entries) => entries.clone()? == *entries,
+        LogItemContent::Command(command) => command.clone()? == *command,
+        LogItemContent::Kv(kv) => kv.clone()? == *kv,
+    };
+    Ok(is_content_cloned && item.content.clone()? == item.content && item.clone()? == *item)
 }
 
 pub(crate) fn is_fault(read: Read, e: &Error) -> bool {
@@ -267,7 +279,7 @@ pub(crate) fn is_fault(read: Read, e: &Error) -> bool {
 /// Bytes, and what is read in front of them.
 pub(crate) type ItemRow = (&'static [u8], Read);
 
-static ITEMS: [ItemRow; 35] = [
+static ITEMS: [ItemRow; 36] = [
     (b"", Read::Codec),
     (b"\x01", Read::Io),
     (b"\x01\x01", Read::Codec),
@@ -304,6 +316,7 @@ static ITEMS: [ItemRow; 35] = [
         Read::Unrecognized("Unrecognized op type: 3"),
     ),
     (b"\x01\x03\x01\x03put\x05put_v", Read::Item(0, 0)),
+    (b"\x09\x03\x01\x03__\x01\x01\x00", Read::Item(0, 0)),
     (b"\x01\x03\x01\x05p", Read::Corruption),
     (
         b"\x01\x04",

@@ -12,6 +12,8 @@ mod item_batches;
 #[cfg(test)]
 mod items;
 #[cfg(test)]
+mod large;
+#[cfg(test)]
 mod log_batches;
 #[cfg(test)]
 mod printing;

@@ -268,7 +268,7 @@ fn put_line(alloc: Global, batch: &mut LogBatch, key: &[u8], text: &'static [u8]
 fn put_empty(alloc: Global, batch: &mut LogBatch, key: &[u8]) -> Result<()>
     requires { batch.old.stage ≡ populating }
 {
-    batch.put(1, Vec::from_slice(alloc, key)?, Vec::new(alloc))
+    batch.put(0, Vec::from_slice(alloc, key)?, Vec::new(alloc))
 }
 
 /// One of nine calls, of which the last four are not refused.
@@ -286,7 +286,7 @@ fn attempt(alloc: Global, batch: &mut LogBatch, number: usize) -> Result<()> {
         5 => put_line(alloc, batch, b"a", b""),
         6 => batch.add_entries::<Lines>(1, &[]),
         7 => put_empty(alloc, batch, b"__\x00"),
-        _ => batch.delete(1, Vec::from_slice(alloc, b"__\x01")?),
+        _ => batch.delete(0, Vec::from_slice(alloc, b"__\x01")?),
     }
 }
 
@@ -321,6 +321,39 @@ fn refused_additions_leave_the_batch(rt: &impl Abort, alloc: Global) -> Result<(
         );
     }
     Ok(())
+}
+
+/// A batch with a command and two lines, between which a list may be refused whose second line refuses to write itself;
+/// nothing if that is answered otherwise, or if it changed the batch.
+fn with_refused_lines(alloc: Global, is_tried: bool) -> Result<Option<LogBatch>> {
+    let mut batch = with_command(alloc, 8, Command::Clean)?;
+    if is_tried {
+        let before = batch.clone()?;
+        let called = batch.add_entries::<Lines>(7, &[line_of(10, b"a"), line_of(11, b"")]);
+        if refusal_of(called)? != Refusal::Message || batch != before || !batch.is_open() {
+            return Ok(None);
+        }
+    }
+    if !batch.is_open() {
+        return Ok(None);
+    }
+    batch.add_entries::<Lines>(7, &[line_of(10, b"ab"), line_of(11, b"c")])?;
+    Ok(Some(batch))
+}
+
+/// Whether a batch is as if a list that was refused had not been tried.
+fn is_left_by_refusals(alloc: Global) -> Result<bool> {
+    let tried = with_refused_lines(alloc, true)?;
+    Ok(tried.is_some() && tried == with_refused_lines(alloc, false)?)
+}
+
+#[test]
+fn refused_messages_leave_the_batch(rt: HostRuntime) {
+    let answer = match is_left_by_refusals(rt.alloc()) {
+        Err(Error::Memory) => is_left_by_refusals(rt.alloc()),
+        answer => answer,
+    };
+    assert!(rt; matches!(answer, Ok(true)));
 }
 
 /// Whether the items of a log batch are read from its bytes in a file, behind these entry bytes.

@@ -1,9 +1,11 @@
-//! A long text, whole.
+//! A long text, whole; and readers and writers that are interrupted, or fail.
 
 use raft_records::{
     Error, FileId, LogFileContext, LogItemBatch, LogQueue, Result, Version, batch_text, print_batch,
 };
 use std::alloc::Global;
+use std::io;
+use std::io::{ErrorKind, Read, Write};
 
 /// A batch that puts a value of 100,000 bytes.
 fn long_batch(alloc: Global) -> Result<LogItemBatch> {
@@ -50,4 +52,116 @@ fn long_batches_are_printed(rt: HostRuntime) {
         && text.as_str().starts_with("1 put 6b abab")
         && text.as_str().ends_with("ab\nitems 1 rest 0\n"))
     );
+}
+
+/// Bytes that are read or written a few at a time, interrupted before each time, and not behind so many times.
+#[derive(Drop)]
+struct Halting {
+    bytes: Vec<u8>,
+    /// How many of the bytes were read.
+    read: usize,
+    times: usize,
+    fails_behind: usize,
+    is_interrupted: bool,
+}
+
+impl Halting {
+    fn new(bytes: Vec<u8>, fails_behind: usize) -> Halting {
+        Halting {
+            bytes,
+            read: 0,
+            times: 0,
+            fails_behind,
+            is_interrupted: false,
+        }
+    }
+
+    /// Refuses each second call as interrupted, and those behind so many.
+    fn go_on(&mut self) -> io::Result<()> {
+        self.is_interrupted = !self.is_interrupted;
+        if self.is_interrupted {
+            return Err(io::Error::from(ErrorKind::Interrupted));
+        }
+        if self.times == self.fails_behind {
+            return Err(io::Error::from(ErrorKind::BrokenPipe));
+        }
+        self.times = self.times.saturating_add(1);
+        Ok(())
+    }
+}
+
+impl Read for Halting {
+    fn read(&mut self, buf: &mut [u8]) -> io::Result<usize> {
+        self.go_on()?;
+        let left = self.bytes.get(self.read..).unwrap_or(&[]);
+        let count = left.len().min(buf.len()).min(3);
+        let (front, _) = buf.split_at_mut(count);
+        let (taken, _) = left.split_at(count);
+        front.copy_from_slice(taken);
+        self.read = self.read.saturating_add(count);
+        Ok(count)
+    }
+}
+
+impl Write for Halting {
+    fn write(&mut self, buf: &[u8]) -> io::Result<usize> {
+        self.go_on()?;
+        let (taken, _) = buf.split_at(buf.len().min(3));
+        self.bytes.extend_from_slice(taken)?;
+        Ok(taken.len())
+    }
+
+    fn flush(&mut self) -> io::Result<()> {
+        Ok(())
+    }
+}
+
+/// A batch of 8 bytes, which are read at the third time, and nothing more at the fourth.
+const CLEAN: &[u8; 8] = b"\x01\x01\x02\x01\x5a\x80\x0b\xdd";
+
+/// Its lines, of 23 bytes, which are written at the eighth time.
+const LINES: &str = "1 clean\nitems 1 rest 0\n";
+
+/// What is written of the lines where the reader fails behind so many reads and the writer behind so many writes, and
+/// whether one of them fails and that is handed on.
+fn printed(alloc: Global, reads: usize, writes: usize) -> Result<(Vec<u8>, bool)> {
+    let context = LogFileContext::new(FileId::new(LogQueue::Append, 12), Version::V1);
+    let mut reader = Halting::new(Vec::from_slice(alloc, CLEAN)?, reads);
+    let mut writer = Halting::new(Vec::with_capacity(alloc, LINES.len())?, writes);
+    match print_batch(alloc, &mut reader, &mut writer, &context) {
+        Ok(()) => Ok((writer.bytes, false)),
+        Err(Error::Io(error)) if error.kind() == ErrorKind::BrokenPipe => Ok((writer.bytes, true)),
+        Err(Error::Io(_)) => Err(Error::Memory),
+        Err(error) => Err(error),
+    }
+}
+
+/// Whether so many bytes of the lines are written, all of them without a failure.
+fn are_printed(alloc: Global, reads: usize, writes: usize, len: usize) -> Result<bool> {
+    let (written, is_refused) = printed(alloc, reads, writes)?;
+    Ok(LINES.as_bytes().get(..len) == Some(written.as_slice()) && is_refused == (len < LINES.len()))
+}
+
+/// Nothing is written where a read fails, and what the writes before have taken where a write does.
+fn failures_are_handed_on(alloc: Global) -> Result<bool> {
+    for reads in 0..4 {
+        if !are_printed(alloc, reads, 8, 0)? {
+            return Ok(false);
+        }
+    }
+    for writes in 0..9 {
+        if !are_printed(alloc, 4, writes, LINES.len().min(writes.saturating_mul(3)))? {
+            return Ok(false);
+        }
+    }
+    Ok(true)
+}
+
+#[test]
+fn each_failing_read_and_write_is_handed_on(rt: HostRuntime) {
+    let mut answer = failures_are_handed_on(rt.alloc());
+    if matches!(&answer, Err(Error::Memory)) {
+        answer = failures_are_handed_on(rt.alloc());
+    }
+    assert!(rt; matches!(answer, Ok(true)));
 }
